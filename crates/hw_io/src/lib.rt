@@ -1,6 +1,7 @@
 //! The outside as a program sees it: traits with counts of faults, forms of them in memory, and adapters over std.
 #![tactic(auto)]
 
+mod failing;
 mod memory_sink;
 mod memory_source;
 mod standard;

@@ -1,11 +1,19 @@
-ghost use Rattle.std.specs.Prelude.{◌≡◌, ◌+◌, ◌-◌, ◌^◌, ◌<◌, ◌≤◌, ◌↔◌, ◌∷◌, ◌++◌, [], length, take, drop, min, Contains, IsErr, IfOk, OnOk, OnErr, Some};
-ghost use Rattle.hw_io.specs.Memory.{MemoryInput, MemoryOutput};
+ghost use Rattle.std.specs.Prelude.{◌≡◌, ◌+◌, ◌-◌, ◌^◌, ◌<◌, ◌≤◌, ◌↔◌, ◌++◌, length, take, drop, min, Contains, IsErr, IfOk, OnErr, Some};
+ghost use Rattle.std.specs.Io.{ReadsAtMost};
+ghost use Rattle.std.specs.Io.KnownBytes.{ReadConsumes};
+ghost use Rattle.hw_io.specs.Causes.{HasCause};
+ghost use Rattle.hw_io.specs.Memory.{MemoryInput, SourceFails, source_after_failure, source_after_giving};
 
-use crate::traits::{Failed, Sink, Source};
-use std::alloc::{AllocError, Global};
+use crate::failing::is_to_fail;
+use crate::traits::{Failed, Source};
+use std::alloc::AllocError;
 use std::marker::Model;
 
-/// A source in memory, some of whose calls fail.
+/// A source in memory, for tests: it gives the bytes that it was made with, and fails at the
+/// calls of chosen numbers.
+///
+/// The calls of `take` are counted from 0, those that fail among them. The count holds 64 bits
+/// and stays at 2^64 - 1.
 #[derive(Drop)]
 pub struct MemorySource {
     bytes: Vec<u8>,
@@ -27,7 +35,10 @@ impl Model for MemorySource {
 }
 
 impl MemorySource {
-    /// Gives these bytes, and fails at the calls of these numbers.
+    /// Makes a source that has `bytes` to give, and that fails at the calls of the numbers in
+    /// `failing`, in any order.
+    ///
+    /// It takes no memory of its own; its `AllocError` leaves room for a form that does.
     pub fn start(bytes: Vec<u8>, failing: Vec<u64>) -> Result<MemorySource, AllocError>
         ensures { IfOk result (λ s. s ≡ record { left = bytes.items; failing = failing.items; calls = 0; faults = 0 }) }
     {
@@ -44,7 +55,8 @@ impl MemorySource {
 /// Copies as much as there is room for, and answers how much.
 fn copy_front(bytes: &[u8], buf: &mut [u8]) -> usize
     ensures count { result ≡ min (length bytes.now) (length buf.old) }
-    ensures copied { take result buf.new ≡ take result bytes.now }
+    ensures front { take result buf.new ≡ take result bytes.now }
+    ensures copied { buf.new ≡ take result bytes.now ++ drop result buf.old }
 {
     let count = bytes.len().min(buf.len());
     buf[..count].copy_from_slice(&bytes[..count]);
@@ -56,10 +68,22 @@ impl Source for MemorySource {
 
     ghost faults = { λ s. s.faults };
 
-    fn take(&mut self, buf: &mut [u8]) -> Result<usize, Failed> {
+    /// Gives as many of the bytes left as `buf` has room for, and leaves the rest of `buf` as it
+    /// was. It fails exactly at the calls that are to fail, and then leaves `buf` as it was.
+    fn take(&mut self, buf: &mut [u8]) -> Result<usize, Failed>
+        ensures bound { ReadsAtMost result buf.new }
+        ensures bytes { ReadConsumes (Some self.old.left) (Some self.new.left) result buf.new }
+        ensures cause { HasCause self.old.faults self.new.faults result }
+        ensures fails { IsErr result ↔ SourceFails self.old }
+        ensures failed { OnErr result (self.new ≡ source_after_failure self.old) }
+        ensures untouched { OnErr result (buf.new ≡ buf.old) }
+        ensures count { IfOk result (λ count. count ≡ min (length self.old.left) (length buf.old)) }
+        ensures given { IfOk result (λ count. self.new ≡ source_after_giving count self.old) }
+        ensures copied { IfOk result (λ count. buf.new ≡ take count self.old.left ++ drop count buf.old) }
+    {
         let call = self.calls;
         self.calls = call.saturating_add(1);
-        if self.failing.contains(&call) {
+        if is_to_fail(&self.failing, call) {
             self.faults = self.faults.saturating_add(1);
             return Err(Failed);
         }
