@@ -10,6 +10,7 @@ returns-clause-bytes c =
     let bytes = c.self.inside.bytes.items in
     let given = rw (c.deref-2.ensures.value, take_rest) at c.copy_front-count.ensures.front in
     let most = rw (c.deref-2.ensures.value, take_rest) at c.copy_front-count.ensures.count in
-    rw (← c.self.view_is)
-        (front_then_rest at count bytes c.copy_front-count.new.buf given,
-        λ none room. drop_all (at + count) bytes (omega (arith, most, length-drop at bytes)))
+    rw (← c.self.view_is) (
+      front_then_rest at count bytes c.copy_front-count.new.buf given,
+      λ none room. drop_all (at + count) bytes (omega (arith, most, length-drop at bytes)),
+    )
