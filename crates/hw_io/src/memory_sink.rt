@@ -28,7 +28,13 @@ impl Model for MemorySink {
 
     ghost Value = { MemoryOutput };
 
-    ghost view = { λ s. record { holds = s.bytes.items; room = s.room; failing = s.failing.items; calls = s.calls; faults = s.faults } };
+    ghost view = { λ s. record {
+      holds = s.bytes.items;
+      room = s.room;
+      failing = s.failing.items;
+      calls = s.calls;
+      faults = s.faults;
+    } };
 
     ghost invariant = { λ s. (length s.bytes.items ≤ s.room) × (s.room ≤ vec_capacity s.bytes) };
 }
@@ -37,7 +43,13 @@ impl MemorySink {
     /// Makes a sink with room for `room` bytes, which it reserves, and that fails at the calls of
     /// the numbers in `failing`, in any order.
     pub fn start(alloc: Global, room: usize, failing: Vec<u64>) -> Result<MemorySink, AllocError>
-        ensures { IfOk result (λ s. s ≡ record { holds = []; room = room; failing = failing.items; calls = 0; faults = 0 }) }
+        ensures { IfOk result (λ s. s ≡ record {
+          holds = [];
+          room = room;
+          failing = failing.items;
+          calls = 0;
+          faults = 0;
+        }) }
     {
         Ok(MemorySink {
             bytes: Vec::with_capacity(alloc, room)?,

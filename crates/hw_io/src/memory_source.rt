@@ -29,7 +29,12 @@ impl Model for MemorySource {
 
     ghost Value = { MemoryInput };
 
-    ghost view = { λ s. record { left = drop s.at s.bytes.items; failing = s.failing.items; calls = s.calls; faults = s.faults } };
+    ghost view = { λ s. record {
+      left = drop s.at s.bytes.items;
+      failing = s.failing.items;
+      calls = s.calls;
+      faults = s.faults;
+    } };
 
     ghost invariant = { λ s. s.at ≤ length s.bytes.items };
 }
@@ -38,9 +43,14 @@ impl MemorySource {
     /// Makes a source that has `bytes` to give, and that fails at the calls of the numbers in
     /// `failing`, in any order.
     ///
-    /// It takes no memory of its own; its `AllocError` leaves room for a form that does.
+    /// It keeps the two vectors and takes no memory of its own.
     pub fn start(bytes: Vec<u8>, failing: Vec<u64>) -> Result<MemorySource, AllocError>
-        ensures { IfOk result (λ s. s ≡ record { left = bytes.items; failing = failing.items; calls = 0; faults = 0 }) }
+        ensures { IfOk result (λ s. s ≡ record {
+          left = bytes.items;
+          failing = failing.items;
+          calls = 0;
+          faults = 0;
+        }) }
     {
         Ok(MemorySource {
             bytes,
@@ -79,7 +89,8 @@ impl Source for MemorySource {
         ensures untouched { OnErr result (buf.new ≡ buf.old) }
         ensures count { IfOk result (λ count. count ≡ min (length self.old.left) (length buf.old)) }
         ensures given { IfOk result (λ count. self.new ≡ source_after_giving count self.old) }
-        ensures copied { IfOk result (λ count. buf.new ≡ take count self.old.left ++ drop count buf.old) }
+        ensures copied { IfOk result
+            (λ count. buf.new ≡ take count self.old.left ++ drop count buf.old) }
     {
         let call = self.calls;
         self.calls = call.saturating_add(1);
