@@ -1,0 +1,4 @@
+pub mod Cuts
+pub mod Held
+pub mod Laws
+pub mod Marks

@@ -1,0 +1,210 @@
+ghost use Rattle.std.specs.Prelude.{◌≡◌, ◌≢◌, ◌+◌, ◌-◌, ◌<◌, ◌≤◌, ℕ, List, [], ◌∷◌, ◌++◌, length, take, drop, slice_index, IsTrue, ◌↔◌, IsSome, IsNone, IfSome, IfNone, IfOk, IfErr, OnErr, IsErr, IsOkAnd, vec_len, vec_capacity};
+ghost use Rattle.hf_split.specs.Cuts.{Spelled, Framings, BeginsWith, IsTooLong, IsWaiting, Cuts};
+ghost use Rattle.hf_split.specs.Held.{Stands, IsInStep, IsNext, fresh, taken, fed, past};
+ghost use Rattle.hf_split.specs.Marks.{IsFirstMark, IsMarked};
+
+use crate::framing::{Framing, SEPARATOR};
+use memchr::memchr;
+use std::alloc::{AllocError, Global};
+use std::marker::Model;
+
+/// A stream that goes on with no frame.
+#[derive(Clone, Copy, Debug, PartialEq, Eq)]
+pub enum SplitFault {
+    /// No frame within the limit begins at this place: the number of bytes of the stream before it, or 2^64-1 where
+    /// that is more.
+    TooLong { at: u64 },
+}
+
+/// Cuts a stream into frames. It holds the bytes that were fed and not passed, at most `most + 5` of them, in memory
+/// that is reserved at the start.
+///
+/// After `frame` gave a fault it gives the same fault, and `feed` takes nothing, until `reset`.
+#[derive(Drop)]
+pub struct Splitter {
+    framing: Framing,
+    most: usize,
+    place: u64,
+    buffer: Vec<u8>,
+    // where the bytes held begin in the buffer
+    start: usize,
+    // where their first separator stands, if one stands within the limit
+    mark: Option<usize>,
+}
+
+impl Model for Splitter {
+    ghost use Rattle.std.specs.Prelude.{drop, vec_capacity};
+    ghost use Rattle.hf_split.specs.Held.{Held};
+    ghost use Rattle.hf_split.specs.Marks.{IsBuffer};
+
+    ghost Value = { Held };
+
+    ghost view = { λ s. record { framing = s.framing; most = s.most; place = s.place; bytes = drop s.start s.buffer.items } };
+
+    ghost invariant = { λ s. IsBuffer s.most s.start (vec_capacity s.buffer) s.buffer.items s.mark };
+}
+
+/// The place of the first separator.
+fn first_mark(bytes: &[u8]) -> Option<usize>
+    ensures { IsFirstMark bytes.now result }
+{
+    memchr(SEPARATOR, bytes)
+}
+
+/// Drops the first `count` bytes, in the memory that is there.
+fn drop_front(buffer: &mut Vec<u8>, count: usize)
+    requires { count ≤ vec_len buffer.old }
+    ensures items { buffer.new.items ≡ drop count buffer.old.items }
+    ensures capacity { vec_capacity buffer.new ≡ vec_capacity buffer.old }
+{
+    let rest = buffer.len() - count;
+    buffer.copy_within(count.., 0);
+    buffer.truncate(rest);
+}
+
+/// Drops what was passed where the buffer is longer than this, and answers where the bytes held begin then.
+fn make_room(buffer: &mut Vec<u8>, start: usize, longest: usize) -> usize
+    requires inside { start ≤ vec_len buffer.old }
+    requires room { vec_len buffer.old - start ≤ longest }
+    ensures inside { result ≤ vec_len buffer.new }
+    ensures bytes { drop result buffer.new.items ≡ drop start buffer.old.items }
+    ensures room { vec_len buffer.new ≤ longest }
+    ensures capacity { vec_capacity buffer.new ≡ vec_capacity buffer.old }
+{
+    if buffer.len() <= longest {
+        return start;
+    }
+    drop_front(buffer, start);
+    0
+}
+
+/// Whether no frame can come.
+fn is_stuck(mark: Option<usize>, held: usize, most: usize) -> bool
+    ensures { IsTrue result ↔ (IsNone mark × (most < held)) }
+{
+    mark.is_none() && held > most
+}
+
+/// The place of the first separator that ends a frame within the limit.
+fn mark_within(bytes: &[u8], most: usize) -> Option<usize>
+    requires { most ≤ 16777216 }
+    ensures { IsMarked most bytes.now result }
+{
+    first_mark(&bytes[..bytes.len().min(most + 1)])
+}
+
+/// The same after a piece was added to `held` bytes.
+fn mark_after(mark: Option<usize>, most: usize, held: usize, piece: &[u8]) -> Option<usize>
+    requires limit { most ≤ 16777216 }
+    requires short { IsNone mark → held ≤ most }
+    ensures { (bytes : List ℕ) → length bytes ≡ held → IsMarked most bytes mark → IsMarked most (bytes ++ piece.now) result }
+{
+    if mark.is_some() {
+        return mark;
+    }
+    match first_mark(piece) {
+        Some(place) if place <= most - held => Some(held + place),
+        _ => None,
+    }
+}
+
+impl Splitter {
+    /// A splitter at the beginning of a stream. `most` is the greatest length of a frame in bytes, without its
+    /// framing; `most + 5` bytes are reserved, and no more are ever taken.
+    pub fn start(alloc: Global, framing: Framing, most: usize) -> Result<Splitter, AllocError>
+        requires positive { 1 ≤ most }
+        requires limit { most ≤ 16777216 }
+        ensures empty { IfOk result (λ splitter. splitter ≡ fresh framing most) }
+        ensures stands { IfOk result (λ splitter. (framings : Framings) → Stands framings splitter [] []) }
+    {
+        Ok(Splitter {
+            framing,
+            most,
+            place: 0,
+            buffer: Vec::with_capacity(alloc, most + 5)?,
+            start: 0,
+            mark: None,
+        })
+    }
+
+    /// Takes the first bytes of the piece, and answers how many: as many as there is room for, and none after a fault.
+    pub fn feed(&mut self, piece: &[u8]) -> usize
+        ensures within { result ≤ length piece.now }
+        ensures refused { IsTooLong self.old.framing self.old.most self.old.bytes → result ≡ 0 }
+        ensures count { (IsTooLong self.old.framing self.old.most self.old.bytes → ⊥) → result ≡ taken self.old (length piece.now) }
+        ensures fed { self.new ≡ fed self.old (take result piece.now) }
+        ensures room { length self.new.bytes ≤ self.new.most + 5 }
+
+        // The stream is longer by what was taken.
+        ensures stands { (framings : Framings) (stream : List ℕ) (passed : List Spelled) →
+            Stands framings self.old stream passed → Stands framings self.new (stream ++ take result piece.now) passed }
+    {
+        let held = self.buffer.len() - self.start;
+        if is_stuck(self.mark, held, self.most) {
+            return 0;
+        }
+        let count = piece.len().min(self.most + 5 - held);
+        let piece = &piece[..count];
+        self.start = make_room(&mut self.buffer, self.start, self.most + 5 - count);
+        self.mark = mark_after(self.mark, self.most, held, piece);
+        self.buffer.extend_from_slice(piece).unwrap();
+        count
+    }
+
+    /// Lends the next frame, without its framing, and its place: the number of bytes of the stream before the frame as
+    /// it is spelled there, or 2^64-1 where that is more. `None` waits for more bytes.
+    pub fn frame(&self) -> Result<Option<(u64, &[u8])>, SplitFault>
+        ensures lent { IfOk result (λ next. IfSome next (λ found. (found.0 ≡ self.now.place) × ((spelling : List ℕ) ×
+            BeginsWith self.now.framing self.now.most self.now.bytes (record { spelling = spelling; frame = found.1.now })))) }
+        ensures waiting { IfOk result (λ next. IfNone next (IsWaiting self.now.framing self.now.most self.now.bytes)) }
+        ensures too_long { IfErr result (λ fault.
+            (fault ≡ SplitFault.TooLong self.now.place) × IsTooLong self.now.framing self.now.most self.now.bytes) }
+
+        // A full buffer gives a frame or a fault.
+        ensures not_full { IfOk result (λ next. IfNone next (length self.now.bytes < self.now.most + 5)) }
+
+        // Of the whole stream: the frame is the next of it, or what is held is its rest.
+        ensures next_of_stream { IfOk result (λ next. IfSome next (λ found. (framings : Framings) (stream : List ℕ) (passed : List Spelled) →
+            Stands framings self.now stream passed → IsInStep framings self.now passed →
+            (spelling : List ℕ) × IsNext framings self.now.most stream passed found.0 (record { spelling = spelling; frame = found.1.now }))) }
+        ensures rest_of_stream { IfOk result (λ next. IfNone next ((framings : Framings) (stream : List ℕ) (passed : List Spelled) →
+            Stands framings self.now stream passed → IsInStep framings self.now passed → Cuts framings self.now.most stream passed self.now.bytes)) }
+        ensures fault_of_stream { OnErr result ((framings : Framings) (stream : List ℕ) (passed : List Spelled) →
+            Stands framings self.now stream passed → IsInStep framings self.now passed → Cuts framings self.now.most stream passed self.now.bytes) }
+    {
+        if let Some(end) = self.mark {
+            return Ok(Some((self.place, &self.buffer[self.start..self.start + end])));
+        }
+        if self.buffer.len() - self.start > self.most {
+            return Err(SplitFault::TooLong { at: self.place });
+        }
+        Ok(None)
+    }
+
+    /// Moves past the frame that `frame` lends.
+    pub fn pass(&mut self)
+        requires { (item : Spelled) × BeginsWith self.old.framing self.old.most self.old.bytes item }
+        ensures past { (item : Spelled) → BeginsWith self.old.framing self.old.most self.old.bytes item → self.new ≡ past self.old item }
+        ensures stands { (framings : Framings) (stream : List ℕ) (passed : List Spelled) (item : Spelled) →
+            Stands framings self.old stream passed → IsInStep framings self.old passed →
+            BeginsWith self.old.framing self.old.most self.old.bytes item → Stands framings self.new stream (passed ++ item ∷ []) }
+    {
+        if let Some(end) = self.mark {
+            self.start += end + 1;
+            self.place = self.place.saturating_add(end as u64 + 1);
+            self.mark = mark_within(&self.buffer[self.start..], self.most);
+        }
+    }
+
+    /// Drops what is held, and begins a new stream, in this framing and with the same limit.
+    pub fn reset(&mut self, framing: Framing)
+        ensures empty { self.new ≡ fresh framing self.old.most }
+        ensures stands { (framings : Framings) → Stands framings self.new [] [] }
+    {
+        self.framing = framing;
+        self.buffer.clear();
+        self.start = 0;
+        self.place = 0;
+        self.mark = None;
+    }
+}
