@@ -94,15 +94,37 @@ pub marked_kept : (most : ℕ) (bytes piece : List ℕ) (mark : Option ℕ) → 
 marked_kept most bytes piece None some marked = cc
 marked_kept most bytes piece (Some n) some marked = mark_kept most bytes piece n marked
 
+-- no separator in front, and the first of what follows
+mark_behind : (front bytes : List ℕ) (n : ℕ) → IsPlain front → IsMarkAt bytes n → IsMarkAt (front ++ bytes) (length front + n)
+mark_behind front bytes n plain at = record {
+  inside = omega (arith, at.inside, length-append front bytes);
+  mark = get_or-append-add front bytes n 0 ∙ at.mark;
+  plain = subst IsPlain (sym (take-append-add front bytes n)) (All-append (λ b. b ≢ 30) front (take n bytes) plain at.plain);
+}
+
+-- the first separator of the bytes is the first of their front, where it stands there
+mark_in_front : (limit : ℕ) (bytes : List ℕ) (n : ℕ) → n < limit → IsMarkAt bytes n → IsMarkAt (take limit bytes) n
+mark_in_front limit bytes n within at = record {
+  inside = omega (arith, at.inside, length-take limit bytes);
+  mark = get_or-take limit bytes n 0 within ∙ at.mark;
+  plain = subst IsPlain (sym (take-take n limit bytes (omega arith))) at.plain;
+}
+
+-- none among the first bytes, and what stands behind them
+pub mark_past_front : (near : ℕ) (bytes : List ℕ) (n : ℕ) → near ≤ length bytes → IsPlain (take near bytes) → IsMarkAt (drop near bytes) n → IsMarkAt bytes (near + n)
+mark_past_front near bytes n inside plain at =
+    let size : length (take near bytes) ≡ near = length-take-le near bytes inside in
+    subst (λ (xs : List ℕ). IsMarkAt xs (near + n)) (take-append-drop near bytes)
+    (subst (λ (k : ℕ). IsMarkAt (take near bytes ++ drop near bytes) (k + n)) size (mark_behind (take near bytes) (drop near bytes) n plain at))
+
+pub plain_past_front : (near : ℕ) (bytes : List ℕ) → IsPlain (take near bytes) → IsPlain (drop near bytes) → IsPlain bytes
+plain_past_front near bytes front rest = subst IsPlain (take-append-drop near bytes) (All-append (λ b. b ≢ 30) (take near bytes) (drop near bytes) front rest)
+
 -- no separator so far, and the first of the piece within the limit
 pub marked_new : (most : ℕ) (bytes piece : List ℕ) (n : ℕ) → IsMarked most bytes None → length bytes + n ≤ most → IsMarkAt piece n → IsMarkAt (take (most + 1) (bytes ++ piece)) (length bytes + n)
 marked_new most bytes piece n plain within at =
-    let within' : length bytes + n < most + 1 = omega arith in record {
-      inside = omega (arith, at.inside, length-take (most + 1) (bytes ++ piece), length-append bytes piece);
-      mark = get_or-take (most + 1) (bytes ++ piece) (length bytes + n) 0 within' ∙ get_or-append-add bytes piece n 0 ∙ at.mark;
-      plain = subst IsPlain (sym (take-take (length bytes + n) (most + 1) (bytes ++ piece) (omega arith) ∙ take-append-add bytes piece n))
-          (All-append (λ b. b ≢ 30) bytes (take n piece) (subst IsPlain (take_all (most + 1) bytes (omega arith)) plain) at.plain);
-    }
+    mark_in_front (most + 1) (bytes ++ piece) (length bytes + n) (omega arith)
+    (mark_behind bytes piece n (subst IsPlain (take_all (most + 1) bytes (omega arith)) plain) at)
 
 -- none within the limit
 pub marked_none : (most : ℕ) (bytes piece : List ℕ) (n : ℕ) → IsMarked most bytes None → length bytes ≤ most → most < length bytes + n → IsPlain (take n piece) → IsPlain (take (most + 1) (bytes ++ piece))
