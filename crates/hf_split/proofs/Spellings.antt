@@ -7,6 +7,7 @@ use Rattle.hf_split.specs.declared.framing.Framing.{Framing}
 use Rattle.hf_split.specs.declared.framing.Framing.TheVariants.{Record}
 use Rattle.hf_split.specs.Cuts.{Spelled, IsPlain, IsSpelling, IsFrame, BeginsWith, IsTooLong}
 
+-- two are one by their parts
 pub same_spelled : (a b : Spelled) → a.spelling ≡ b.spelling → a.frame ≡ b.frame → a ≡ b
 same_spelled a b s f =
     let by_spelling : List ℕ → Spelled = λ x. record { spelling = x; frame = a.frame } in
@@ -63,7 +64,7 @@ ended most bytes item begins =
 pub plain_not : (bytes : List ℕ) (k : ℕ) → IsPlain bytes → k < length bytes → get_or bytes k 0 ≡ 30 → ⊥
 plain_not bytes k plain inside at = plain k 0 inside at
 
--- bytes of which the first within the limit are plain begin with no frame, if they have as many or are plain to the end
+-- bytes with no separator within the limit begin with no frame
 pub plain_begins_none : (most : ℕ) (bytes : List ℕ) (item : Spelled) → IsPlain (take (most + 1) bytes) → BeginsWith Record most bytes item → ⊥
 plain_begins_none most bytes item plain begins =
     let end = ended most bytes item begins in

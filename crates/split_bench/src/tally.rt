@@ -1,9 +1,10 @@
-ghost use Rattle.std.specs.Prelude.{◌≡◌, ◌+◌, ◌<◌, length, IfErr, OnOk};
+ghost use Rattle.std.specs.Prelude.{◌≡◌, ◌+◌, ◌<◌, ℕ, List, ◌++◌, length, Some, IfOk, IfErr, OnOk};
 ghost use Rattle.hf_split.specs.Cuts.{IsTooLong, IsWaiting};
+ghost use Rattle.split_bench.specs.Counts.{IsCounted, IsOutcome};
 
-use hf_split::{Framing, SplitFault, Splitter};
+use hf_split::{Framing, SplitFault, Splitter, too_long_begins_none};
 use std::alloc::Global;
-use std::io::{self, Read};
+use std::io::{self, ErrorKind, Read};
 
 /// The greatest length of a frame, in bytes.
 const MOST: usize = 32_768;
@@ -15,7 +16,7 @@ pub struct Tally {
     pub bytes: u64,
 }
 
-/// What standard input holds.
+/// What an input holds.
 #[derive(Drop)]
 pub enum Outcome {
     Whole(Tally),
@@ -29,6 +30,7 @@ fn add_frames(splitter: &mut Splitter, tally: &mut Tally) -> Result<(), SplitFau
     ensures room { OnOk result (length splitter.new.bytes < splitter.new.most + 5) }
     ensures too_long { IfErr result (λ fault.
         (fault ≡ SplitFault.TooLong splitter.new.place) × IsTooLong splitter.new.framing splitter.new.most splitter.new.bytes) }
+    ensures counted { (most : ℕ) (stream : List ℕ) → IsCounted most splitter.old tally.old stream → IsCounted most splitter.new tally.new stream }
 {
     while let Some((_, frame)) = splitter.frame()? {
         tally.frames = tally.frames.saturating_add(1);
@@ -38,11 +40,15 @@ fn add_frames(splitter: &mut Splitter, tally: &mut Tally) -> Result<(), SplitFau
     Ok(())
 }
 
-/// Feeds the whole piece, and passes each frame that it makes whole.
+/// Feeds the whole piece, and passes each frame that it makes whole. After an error a front of the piece is fed.
 fn add_piece(splitter: &mut Splitter, tally: &mut Tally, piece: &[u8]) -> Result<(), SplitFault>
     ensures waiting { OnOk result (IsWaiting splitter.new.framing splitter.new.most splitter.new.bytes) }
     ensures too_long { IfErr result (λ fault.
         (fault ≡ SplitFault.TooLong splitter.new.place) × IsTooLong splitter.new.framing splitter.new.most splitter.new.bytes) }
+    ensures counted { (most : ℕ) (stream : List ℕ) → IsCounted most splitter.old tally.old stream →
+        OnOk result (IsCounted most splitter.new tally.new (stream ++ piece.now)) }
+    ensures counted_front { (most : ℕ) (stream : List ℕ) → IsCounted most splitter.old tally.old stream →
+        (front rest : List ℕ) × (piece.now ≡ front ++ rest) × IsCounted most splitter.new tally.new (stream ++ front) }
 {
     let mut left = piece;
     add_frames(splitter, tally)?;
@@ -54,8 +60,11 @@ fn add_piece(splitter: &mut Splitter, tally: &mut Tally, piece: &[u8]) -> Result
     Ok(())
 }
 
-/// Reads to the end, or to a frame that is too long.
-pub fn count(alloc: Global, input: &mut impl Read) -> io::Result<Outcome> {
+/// Reads to the end, or to a frame that is too long. An error is the input's own or want of memory, or
+/// `FileTooLarge` at an input that goes on after 2^64-1 reads.
+pub fn count<R: Read>(alloc: Global, input: &mut R) -> io::Result<Outcome>
+    ensures { (bytes : List ℕ) → R.remaining input.old ≡ Some bytes → IfOk result (IsOutcome 32768 bytes) }
+{
     let mut splitter = Splitter::start(alloc, Framing::Record, MOST)?;
     let mut tally = Tally {
         frames: 0,
@@ -64,16 +73,18 @@ pub fn count(alloc: Global, input: &mut impl Read) -> io::Result<Outcome> {
     let mut piece = [0u8; 4096];
     for _ in 0..u64::MAX {
         let size = input.read(&mut piece)?;
-        if size == 0 {
-            break;
-        }
         if let Err(SplitFault::TooLong { at }) = add_piece(
             &mut splitter,
             &mut tally,
             &piece[..size],
         ) {
+            // The law that what is not read yet makes no frame of these bytes either.
+            too_long_begins_none();
             return Ok(Outcome::TooLong(at));
         }
+        if size == 0 {
+            return Ok(Outcome::Whole(tally));
+        }
     }
-    Ok(Outcome::Whole(tally))
+    Err(io::Error::from(ErrorKind::FileTooLarge))
 }
