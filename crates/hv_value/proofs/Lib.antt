@@ -1,0 +1,6 @@
+pub mod Depths
+pub mod Puts
+pub mod Lookups
+pub mod Lengths
+pub mod Images
+pub mod Orders

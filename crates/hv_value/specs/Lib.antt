@@ -1,0 +1,9 @@
+pub mod Whole
+pub mod Tree
+pub mod Stored
+pub mod View
+pub mod Falls
+pub mod Same
+pub mod SameLaws
+pub mod Order
+pub mod Image
