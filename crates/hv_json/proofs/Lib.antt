@@ -1,0 +1,4 @@
+pub mod Judged
+pub mod Steps
+pub mod Members
+pub mod Again

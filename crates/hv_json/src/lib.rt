@@ -1,0 +1,11 @@
+//! Values as JSON text: RFC 8259, as `serde_json` reads and writes it.
+#![tactic(auto)]
+
+mod reading;
+mod writing;
+
+pub use reading::{JsonError, read_value};
+pub use writing::write_value;
+
+#[cfg(test)]
+mod tests;

@@ -1,0 +1,133 @@
+use super::*;
+use hv_value::{Blob, Items, Value};
+use std::test::Fail;
+
+/// Reads the text and writes what was read.
+fn again(rt: &HostRuntime, bytes: &[u8]) -> Result<Vec<u8>, JsonError> {
+    let value = read_value(rt.alloc(), bytes)?;
+    let mut out = Vec::new(rt.alloc());
+    write_value(rt.alloc(), &value, &mut out)?;
+    Ok(out)
+}
+
+/// Arrays in one another around the text.
+fn nested(rt: &HostRuntime, depth: usize, inside: &str) -> Result<Vec<u8>, Fail> {
+    let mut text = Vec::new(rt.alloc());
+    for _ in 0..depth {
+        text.push(b'[')?;
+    }
+    text.extend_from_slice(inside.as_bytes())?;
+    for _ in 0..depth {
+        text.push(b']')?;
+    }
+    Ok(text)
+}
+
+/// The first is the first example of RFC 8259, section 13, and the surrogate pair is of its
+/// section 7.
+#[test]
+fn texts(rt: HostRuntime) -> Result<(), Fail> {
+    let cases: [(&str, &str); 14] = [
+        (
+            "{ \"Image\": { \"Width\":  800, \"Height\": 600,
+                \"Title\":  \"View from 15th Floor\",
+                \"Thumbnail\": { \"Url\":    \"http://www.example.com/image/481989943\",
+                    \"Height\": 125, \"Width\":  100 },
+                \"Animated\" : false, \"IDs\": [116, 943, 234, 38793] } }",
+            "{\"Image\":{\"Animated\":false,\"Height\":600,\"IDs\":[116,943,234,38793],\
+             \"Thumbnail\":{\"Height\":125,\"Url\":\"http://www.example.com/image/481989943\",\
+             \"Width\":100},\"Title\":\"View from 15th Floor\",\"Width\":800}}",
+        ),
+        ("\"Hello world!\"", "\"Hello world!\""),
+        ("42", "42"),
+        ("true", "true"),
+        ("\"\\uD834\\uDD1E\"", "\"\u{1d11e}\""),
+        ("\"\\u0041\\/\\u000a\\u0000\"", "\"A/\\n\\u0000\""),
+        ("18446744073709551615", "18446744073709551615"),
+        ("-9223372036854775808", "-9223372036854775808"),
+        ("0", "0"),
+        ("\t[ ]\r\n", "[]"),
+        ("{}", "{}"),
+        (
+            "{\"b\" : 1, \"a\":[null,true], \"b\":2}",
+            "{\"a\":[null,true],\"b\":2}",
+        ),
+        ("{\"a\":1.5,\"a\":2}", "{\"a\":2}"),
+        (
+            "{\"\u{e9}\":1,\"z\":2,\"Z\":3}",
+            "{\"Z\":3,\"z\":2,\"\u{e9}\":1}",
+        ),
+    ];
+    for (text, out) in cases {
+        let found = again(&rt, text.as_bytes()).ok().ok_or("a value")?;
+        assert_eq!(rt; found.as_slice(), out.as_bytes());
+    }
+    Ok(())
+}
+
+#[test]
+fn refusals(rt: HostRuntime) -> Result<(), Fail> {
+    let cases: [(&[u8], JsonError); 22] = [
+        (b"", JsonError::NotJson),
+        (b"1 2", JsonError::NotJson),
+        (b"{} x", JsonError::NotJson),
+        (b"01", JsonError::NotJson),
+        (b"[1,]", JsonError::NotJson),
+        (b"'a'", JsonError::NotJson),
+        (b"\xef\xbb\xbf1", JsonError::NotJson),
+        (b"\"\xff\"", JsonError::NotJson),
+        (b"\"\\ud800\"", JsonError::NotJson),
+        (b"\"\\udc00\\ud800\"", JsonError::NotJson),
+        (b"\"\n\"", JsonError::NotJson),
+        (b"1e400", JsonError::NotJson),
+        (&[b'7'; 400], JsonError::NotJson),
+        (b"[1,NaN]", JsonError::NotJson),
+        (b"[1.5", JsonError::NotJson),
+        (b"-0", JsonError::Fraction),
+        (b"1e3", JsonError::Fraction),
+        (b"1.0", JsonError::Fraction),
+        (b"18446744073709551616", JsonError::Fraction),
+        (b"-9223372036854775809", JsonError::Fraction),
+        (b"{\"Latitude\":37.7668}", JsonError::Fraction),
+        (b"{\"a\":2,\"a\":1.5}", JsonError::Fraction),
+    ];
+    for (i, (bytes, error)) in cases.into_iter().enumerate() {
+        assert_eq!(rt;
+            read_value(rt.alloc(), bytes).err(),
+            Some(error),
+            "in case {i}"
+        );
+    }
+    let deep: [(usize, &str, Option<JsonError>); 7] = [
+        (64, "", None),
+        (65, "", Some(JsonError::TooDeep)),
+        (127, "", Some(JsonError::TooDeep)),
+        (128, "", Some(JsonError::NotJson)),
+        (64, "1.5", Some(JsonError::Fraction)),
+        (65, "1.5", Some(JsonError::Fraction)),
+        (65, "1.5 x", Some(JsonError::NotJson)),
+    ];
+    for (depth, inside, error) in deep {
+        let text = nested(&rt, depth, inside)?;
+        assert_eq!(rt; read_value(rt.alloc(), &text).err(), error);
+    }
+    Ok(())
+}
+
+/// The vectors of RFC 4648, section 10.
+#[test]
+fn bytes(rt: HostRuntime) -> Result<(), Fail> {
+    let mut values = Vec::new(rt.alloc());
+    for bytes in ["f", "fo", "foo", "foob", ""] {
+        values.push(Value::Bytes(Blob::of(rt.alloc(), bytes.as_bytes())?))?;
+    }
+    let list = Value::List(Items::of(values).ok().ok_or("a list")?);
+    let mut out = Vec::new(rt.alloc());
+    out.extend_from_slice(b"out: ")?;
+    write_value(rt.alloc(), &list, &mut out)?;
+    let wanted = "out: [\"Zg==\",\"Zm8=\",\"Zm9v\",\"Zm9vYg==\",\"\"]";
+    assert_eq!(rt; out.as_slice(), wanted.as_bytes());
+    let image = read_value(rt.alloc(), &out[5..]).ok().ok_or("a value")?;
+    assert!(rt; image == list.json_image()?);
+    Ok(())
+}
