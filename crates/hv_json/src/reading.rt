@@ -38,8 +38,8 @@ fn has_fraction(json: &Json) -> bool
 }
 
 #[cycle(fraction)]
-fn some_fraction(items: &Vec<Json>) -> bool
-    ensures { result ≡ items_have_float (items_view items.now.items) }
+fn some_fraction(items: &[Json]) -> bool
+    ensures { result ≡ items_have_float (items_view items.now) }
 {
     for item in items {
         if has_fraction(item) {
@@ -75,9 +75,9 @@ fn depth_of(json: &Json) -> u32
 }
 
 #[cycle(depth)]
-fn deepest(items: &Vec<Json>) -> u32
-    requires { items_depth (items_view items.now.items) ≤ 126 }
-    ensures { result ≡ items_depth (items_view items.now.items) }
+fn deepest(items: &[Json]) -> u32
+    requires { items_depth (items_view items.now) ≤ 126 }
+    ensures { result ≡ items_depth (items_view items.now) }
 {
     let mut deepest = 0;
     for item in items {
@@ -149,11 +149,12 @@ fn whole(n: Number) -> Whole
 }
 
 #[cycle(convert)]
-fn convert_items(alloc: Global, items: &Vec<Json>) -> Result<Vec<Value>, AllocError>
-    requires whole { items_have_float (items_view items.now.items) ≡ false }
-    requires shallow { items_depth (items_view items.now.items) ≤ 63 }
-    ensures ok { IfOk result (λ v. values_of v.items ≡ trees_of (items_view items.now.items)) }
-    ensures depth { IfOk result (λ v. depth_of_all (values_of v.items) ≤ items_depth (items_view items.now.items)) }
+fn convert_items(alloc: Global, items: &[Json]) -> Result<Vec<Value>, AllocError>
+    requires whole { items_have_float (items_view items.now) ≡ false }
+    requires shallow { items_depth (items_view items.now) ≤ 63 }
+    ensures ok { IfOk result (λ v. values_of v.items ≡ trees_of (items_view items.now)) }
+    ensures depth { IfOk result
+        (λ v. depth_of_all (values_of v.items) ≤ items_depth (items_view items.now)) }
 {
     let mut values = Vec::new(alloc);
     for item in items {
@@ -170,7 +171,8 @@ fn convert_members(
     requires whole { members_have_float (members_view members.now.entries) ≡ false }
     requires shallow { members_depth (members_view members.now.entries) ≤ 63 }
     ensures ok { IfOk result (λ v. entries v.items ≡ pairs_of (members_view members.now.entries)) }
-    ensures depth { IfOk result (λ v. depth_of_values (entries v.items) ≤ members_depth (members_view members.now.entries)) }
+    ensures depth { IfOk result
+        (λ v. depth_of_values (entries v.items) ≤ members_depth (members_view members.now.entries)) }
 {
     let mut pairs = Vec::new(alloc);
     for (key, member) in members.iter() {

@@ -6,7 +6,7 @@ use Rattle.hv_json.proofs.reading.+convert.Goals as goal
 
 pub convert_items-loop-item-preserved : goal.convert_items-loop-item-preserved
 convert_items-loop-item-preserved t c =
-    let xs = c.deref-item-items.result.now in
+    let xs = c.args.items.now in
     let more : drop c.loop-item.item-index xs ≡ c.item-item.result ∷ drop (c.loop-item.item-index + 1) xs =
     rw (drop_more xs c.loop-item.item-index c.item-item.result c.loop-item-test.true, ← c.item-item.is) refl in
     rw c.in_ok-push.ensures.items
