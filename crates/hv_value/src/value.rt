@@ -247,9 +247,7 @@ impl Items {
             depth: self.depth,
         })
     }
-}
 
-impl Items {
     #[cycle(image)]
     fn image(&self) -> Result<Items, AllocError>
         ensures { IfOk result (λ items. items ≡ images self.now) }
@@ -260,22 +258,6 @@ impl Items {
         }
         Ok(Items {
             values,
-            depth: self.depth,
-        })
-    }
-}
-
-impl Entries {
-    #[cycle(image)]
-    fn image(&self) -> Result<Entries, AllocError>
-        ensures { IfOk result (λ es. es ≡ entry_images self.now) }
-    {
-        let mut pairs = Vec::with_capacity(*self.pairs.allocator(), self.pairs.len())?;
-        for (key, value) in &self.pairs {
-            pairs.push((key.copy()?, value.json_image()?))?;
-        }
-        Ok(Entries {
-            pairs,
             depth: self.depth,
         })
     }
@@ -300,13 +282,13 @@ impl Entries {
     fn of(pairs: Vec<(Text, Value)>) -> Result<Entries, ValueError>
         requires { depth_of_values (entries pairs.items) ≤ 63 }
         ensures ok { IfOk result (λ es. es ≡ put_all [] (entries pairs.items)) }
-        ensures shallow { IfOk result (λ es. depth_of_values es ≤ depth_of_values (entries pairs.items)) }
+        ensures shallow { IfOk result
+            (λ es. depth_of_values es ≤ depth_of_values (entries pairs.items)) }
         ensures memory { IfErr result (λ e. e ≡ NoMemory) }
     {
         let alloc = *pairs.allocator();
         let mut map = BTreeMap::new(alloc);
-        let mut rest = pairs.into_iter();
-        while let Some((key, value)) = rest.next() {
+        for (key, value) in pairs {
             drop(map.insert(key, value)?);
         }
         let pairs: Vec<(Text, Value)> = map.into_iter().collect(alloc)?;
@@ -329,6 +311,20 @@ impl Entries {
         let mut pairs = Vec::with_capacity(*self.pairs.allocator(), self.pairs.len())?;
         for (key, value) in &self.pairs {
             pairs.push((key.copy()?, value.copy()?))?;
+        }
+        Ok(Entries {
+            pairs,
+            depth: self.depth,
+        })
+    }
+
+    #[cycle(image)]
+    fn image(&self) -> Result<Entries, AllocError>
+        ensures { IfOk result (λ es. es ≡ entry_images self.now) }
+    {
+        let mut pairs = Vec::with_capacity(*self.pairs.allocator(), self.pairs.len())?;
+        for (key, value) in &self.pairs {
+            pairs.push((key.copy()?, value.json_image()?))?;
         }
         Ok(Entries {
             pairs,

@@ -8,7 +8,7 @@ use Rattle.hv_value.proofs.value.Entries.of.Goals as goal
 
 pub loop-key-preserved : goal.loop-key-preserved
 loop-key-preserved c =
-    let first : into_iter_items c.loop-key.rest ≡ (c.in-Some.key, c.in-Some.value) ∷ into_iter_items c.next.new.self = search rules in
+    let first : into_iter_items c.loop-key.key-iterator ≡ (c.in-Some.key, c.in-Some.value) ∷ into_iter_items c.next.new.self = search rules in
     let shallow = rw first at c.loop-key.invariant.rest_shallow in
     let put = rw first at c.loop-key.invariant.put in
     let after : entries c.insert.new.self.entries ≡ insert_entry key_cmp (entries c.loop-key.map.entries) c.in-Some.key (tree c.in-Some.value) =
