@@ -44,7 +44,10 @@ json b = if is_utf8 b then read b else None
 -- the refusals, of which the first that holds is given
 abbrev pub judged : Option Data → Result Tree JsonError
 judged None = Err errors.NotJson
-judged (Some d) = if has_float d then Err errors.Fraction else (if nat_lt 64 (depth d) then Err errors.TooDeep else Ok (tree_of d))
+judged (Some d) =
+    if has_float d then Err errors.Fraction
+    else (if nat_lt 64 (depth d) then Err errors.TooDeep
+    else Ok (tree_of d))
 
 unfoldable pub reading : List ℕ → Result Tree JsonError
 reading b = judged (json b)

@@ -1,7 +1,7 @@
 ghost use Rattle.std.specs.Prelude.{◌≡◌, IfOk, string_bytes};
 ghost use Rattle.std.specs.Cmp.Lexicographic.{pointwise, lists_equiv, slice_cmp, nat_list_eq_equiv, nat_list_cmp_total, texts_po, texts_ties};
 ghost use Rattle.std.specs.Cmp.{partial_equiv_from_equiv};
-ghost use Rattle.std.specs.Ordering.{nat_cmp, as_partial_cmp};
+ghost use Rattle.std.specs.Ordering.{nat_cmp};
 ghost use Rattle.std.specs.Prelude.{◌==◌, Some, refl};
 
 use std::alloc::{AllocError, Global};
@@ -32,6 +32,7 @@ impl Text {
         })
     }
 
+    /// The text itself, which takes no memory.
     pub(crate) fn from_string(text: String) -> Text
         ensures { result ≡ string_bytes text }
     {

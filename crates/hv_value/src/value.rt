@@ -1,10 +1,10 @@
-ghost use Rattle.std.specs.Prelude.{◌≡◌, ◌≤◌, ◌↔◌, ℕ, List, IfOk, IfErr, [], ◌&&◌, ◌+◌};
+ghost use Rattle.std.specs.Prelude.{◌≡◌, ◌≤◌, ◌↔◌, ℕ, List, IfOk, IfErr, [], ◌+◌};
 ghost use Rattle.std.specs.Map.{keys_of};
 ghost use Rattle.std.specs.List.Sorted.{IsStrictlySortedBy};
 ghost use Rattle.hv_value.specs.Tree.{depth, depth_of_all, depth_of_values, put_all, key_cmp, map_of, value_at, last_of, trees, map, pairs, pairs as pairs_in};
 ghost use Rattle.hv_value.specs.Order.{IsInOrder, AllInOrder, PairsInOrder};
 ghost use Rattle.hv_value.specs.Image.{base64, image, images, entry_images};
-ghost use Rattle.hv_value.specs.Same.{same_bytes, same_tree, same_trees, same_pairs};
+ghost use Rattle.hv_value.specs.Same.{same_tree, same_trees, same_pairs};
 ghost use Rattle.hv_value.specs.View.{tree, trees_of, entries};
 ghost use Rattle.hv_value.specs.declared.value.ValueError.TheVariants.{TooDeep, NoMemory};
 
