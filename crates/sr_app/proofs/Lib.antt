@@ -1,0 +1,9 @@
+pub mod Answering
+pub mod Frames
+pub mod Grammar
+pub mod Link
+pub mod Moving
+pub mod Opening
+pub mod Parsing
+pub mod Replaying
+pub mod Texts

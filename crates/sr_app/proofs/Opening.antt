@@ -1,0 +1,127 @@
+-- The handshakes, each of which is read whole, and the messages of a script, which are frames too.
+use Rattle.std.proofs.Common.{◌≡◌, ◌≢◌, ◌≤◌, ◌+◌, ℕ, Bool, true, false, cond, nat_eq, List, [], ◌∷◌, ◌++◌, length, take, drop, refl, sym, ◌∙◌, ap, subst, arith, length-append, All}
+use Rattle.std.specs.List.{AllByRecursion}
+use Rattle.std.proofs.lemmas.List.{append-nil, take_all, drop_all}
+use Rattle.std.proofs.lemmas.List.Elements.{All-append, All-weaker, All-from_recursion}
+use Rattle.hf_split.specs.declared.framing.Framing.{Framing}
+use Rattle.hf_split.specs.declared.framing.Framing.TheVariants.{Record}
+use Rattle.hf_split.specs.Cuts.{Spelled, IsPlain, BeginsWith, IsTooLong, IsWaiting, always, wrapped}
+use Rattle.hf_split.specs.Held.{Held, Stands, IsInStep, fresh, taken, fed, past}
+use Rattle.hf_split.proofs.Streams.{begins_once}
+use Rattle.hf_split.proofs.Beginnings.{too_long_begins_none, wrapped_begins}
+use Rattle.sr_app.specs.Script.{IsLetter, IsMessage, before_target, after_target}
+use Rattle.sr_app.specs.World.{request, response, written_of}
+use Rattle.sr_app.specs.Follows.{IsShort, IsReader, Waits, items_of}
+use Rattle.sr_app.proofs.Link.{waits_by}
+
+-- a test that no byte is the separator
+no_mark : List ℕ → Bool
+no_mark [] = true
+no_mark (b ∷ bytes) = cond (nat_eq b 30) false (no_mark bytes)
+
+neither : (t r : Bool) → cond t false r ≡ true → (t ≡ false) × (r ≡ true)
+neither true r e = cc
+neither false r e = (refl, e)
+
+no_mark_by : (bytes : List ℕ) → no_mark bytes ≡ true → AllByRecursion (λ b. b ≢ 30) bytes
+unfolding no_mark
+no_mark_by [] e = tt
+no_mark_by (b ∷ bytes) e =
+    let parts = neither (nat_eq b 30) (no_mark bytes) e in
+    (λ same. (let h : nat_eq 30 30 ≡ false = subst (λ (x : ℕ). nat_eq x 30 ≡ false) same parts.0 in cc), no_mark_by bytes parts.1)
+
+plain_by : (bytes : List ℕ) → no_mark bytes ≡ true → IsPlain bytes
+plain_by bytes e = All-from_recursion (λ b. b ≢ 30) bytes (no_mark_by bytes e)
+
+pub request_short : IsShort request
+unfolding no_mark
+request_short = record { short = omega arith; plain = plain_by request refl }
+
+pub response_short : IsShort response
+unfolding no_mark
+response_short = record { short = omega arith; plain = plain_by response refl }
+
+letters_plain : (target : List ℕ) → All IsLetter target → IsPlain target
+letters_plain target letters = All-weaker IsLetter (λ b. b ≢ 30) (λ b letter same. omega (arith, letter.0)) target letters
+
+-- a message of a script is a frame
+pub message_short : (message : List ℕ) → IsMessage message → IsShort message
+unfolding no_mark
+message_short message is =
+    let size : length message ≡ length before_target + (length is.target + length after_target) =
+    ap length is.spelled ∙ length-append before_target (is.target ++ after_target) ∙ ap (λ (n : ℕ). length before_target + n) (length-append is.target after_target) in
+    let short : length is.target ≤ 59 = is.is_target.short in
+    record {
+      short = omega (arith, size);
+      plain = subst IsPlain (sym is.spelled)
+          (All-append (λ b. b ≢ 30) before_target (is.target ++ after_target) (plain_by before_target refl)
+          (All-append (λ b. b ≢ 30) is.target after_target (letters_plain is.target is.is_target.letters) (plain_by after_target refl)));
+    }
+
+-- a reader that holds these bytes, which are all that it was fed
+pub holding : List ℕ → Held
+holding bytes = record { framing = Record; most = 32768; place = 0; bytes = bytes }
+
+-- the whole handshake is taken
+pub fed_whole : (held next : Held) (lane handshake : List ℕ) (n : ℕ) → IsShort handshake → lane ≡ written_of (handshake ∷ []) → held ≡ fresh Record 32768
+    → ((IsTooLong held.framing held.most held.bytes → ⊥) → n ≡ taken held (length lane)) → next ≡ fed held (take n lane)
+    → (next ≡ holding lane) × (take n lane ≡ lane)
+unfolding holding
+fed_whole held next lane handshake n short is start count after =
+    let empty : held.bytes ≡ [] = ap (λ (h : Held). h.bytes) start in
+    let most : held.most ≡ 32768 = ap (λ (h : Held). h.most) start in
+    let size : length lane ≡ length handshake + 1 = ap length is ∙ length-append (handshake ++ 30 ∷ []) [] ∙ (let h : length (handshake ++ 30 ∷ []) + 0 ≡ length handshake + 1 = omega (arith, length-append handshake (30 ∷ [])) in h) in
+    let not_long : IsTooLong held.framing held.most held.bytes → ⊥ = subst (λ (h : Held). IsTooLong h.framing h.most h.bytes → ⊥) (sym start) (λ long. omega (arith, long.0)) in
+    let all : n ≡ length lane = omega (arith, count not_long, ap length empty, most, size, short.short) in
+    let whole : take n lane ≡ lane = take_all n lane (omega arith) in
+    (after ∙ ap (λ (h : Held). fed h (take n lane)) start ∙ ap (λ (xs : List ℕ). fed (fresh Record 32768) xs) whole, whole)
+
+-- what it holds begins with the handshake
+handshake_begins : (lane handshake : List ℕ) → IsShort handshake → lane ≡ written_of (handshake ∷ []) → BeginsWith Record 32768 lane (wrapped Record handshake)
+handshake_begins lane handshake short is = subst (λ (xs : List ℕ). BeginsWith Record 32768 xs (wrapped Record handshake)) (sym is) (wrapped_begins Record 32768 handshake [] short.plain short.short)
+
+pub handshake_not_long : (next : Held) (lane handshake : List ℕ) → IsShort handshake → lane ≡ written_of (handshake ∷ []) → next ≡ holding lane → IsTooLong next.framing next.most next.bytes → ⊥
+unfolding holding
+handshake_not_long next lane handshake short is e long =
+    too_long_begins_none Record 32768 lane [] (wrapped Record handshake) (subst (λ (h : Held). IsTooLong h.framing h.most h.bytes) e long)
+    (subst (λ (xs : List ℕ). BeginsWith Record 32768 xs (wrapped Record handshake)) (sym (append-nil lane)) (handshake_begins lane handshake short is))
+
+pub handshake_there : (next : Held) (lane handshake : List ℕ) → IsShort handshake → lane ≡ written_of (handshake ∷ []) → next ≡ holding lane → IsWaiting next.framing next.most next.bytes → ⊥
+unfolding holding
+handshake_there next lane handshake short is e waiting =
+    let waits : IsWaiting Record 32768 lane = subst (λ (h : Held). IsWaiting h.framing h.most h.bytes) e waiting in
+    waits.no_frame (wrapped Record handshake) (handshake_begins lane handshake short is)
+
+pub handshake_is : (next : Held) (lane handshake : List ℕ) (item : Spelled) → IsShort handshake → lane ≡ written_of (handshake ∷ []) → next ≡ holding lane
+    → BeginsWith next.framing next.most next.bytes item → item ≡ wrapped Record handshake
+unfolding holding
+handshake_is next lane handshake item short is e begins =
+    begins_once Record 32768 lane [] item (wrapped Record handshake) (subst (λ (h : Held). BeginsWith h.framing h.most h.bytes item) e begins)
+    (subst (λ (xs : List ℕ). BeginsWith Record 32768 xs (wrapped Record handshake)) (sym (append-nil lane)) (handshake_begins lane handshake short is))
+
+-- past it nothing is left
+pub shaken : (held next after : Held) (lane handshake : List ℕ) (n : ℕ) (item : Spelled) → IsShort handshake → lane ≡ written_of (handshake ∷ []) → next ≡ holding lane → take n lane ≡ lane
+    → Stands (always Record) held [] []
+    → ((stream : List ℕ) (passed : List Spelled) → Stands (always Record) held stream passed → Stands (always Record) next (stream ++ take n lane) passed)
+    → BeginsWith next.framing next.most next.bytes item
+    → (BeginsWith next.framing next.most next.bytes item → after ≡ past next item)
+    → ((stream : List ℕ) (passed : List Spelled) → Stands (always Record) next stream passed → IsInStep (always Record) next passed → BeginsWith next.framing next.most next.bytes item
+    → Stands (always Record) after stream (passed ++ item ∷ []))
+    → Waits after lane (handshake ∷ [])
+unfolding holding
+shaken held next after lane handshake n item short is e whole empty feeds begins goes stands =
+    let wrap : item ≡ wrapped Record handshake = handshake_is next lane handshake item short is e begins in
+    let there : Stands (always Record) next lane [] = subst (λ (xs : List ℕ). Stands (always Record) next xs []) whole (feeds [] [] empty) in
+    let framing : next.framing ≡ Record = ap (λ (h : Held). h.framing) e in
+    let most : next.most ≡ 32768 = ap (λ (h : Held). h.most) e in
+    let done : Stands (always Record) after lane (items_of (handshake ∷ [])) =
+    subst (λ (x : Spelled). Stands (always Record) after lane (x ∷ [])) wrap (stands lane [] there (sym framing) begins) in
+    let none : after.bytes ≡ [] = ap (λ (h : Held). h.bytes) (goes begins) ∙ ap (λ (s : Spelled). drop (length s.spelling) next.bytes) wrap ∙ ap (λ (h : Held). drop (length (handshake ++ 30 ∷ [])) h.bytes) e
+    ∙ drop_all (length (handshake ++ 30 ∷ [])) lane (omega (arith, ap length is, length-append (handshake ++ 30 ∷ []) [])) in
+    let reader : IsReader after = record { framing = ap (λ (h : Held). h.framing) (goes begins) ∙ framing; most = ap (λ (h : Held). h.most) (goes begins) ∙ most } in
+    let waiting : IsWaiting after.framing after.most after.bytes = subst (λ (xs : List ℕ). IsWaiting after.framing after.most xs) (sym none)
+    (subst (λ (f : Framing). IsWaiting f after.most []) (sym reader.framing) (record {
+      no_frame = λ x b. omega (arith, ap length b.front, length-append x.spelling (drop (length x.spelling) []), ap length b.is_frame.spells.0, length-append x.frame (30 ∷ []));
+      no_fault = λ long. omega (arith, long.0);
+    })) in
+    waits_by after lane (handshake ∷ []) reader done waiting (omega (arith, ap length none))

@@ -1,0 +1,9 @@
+pub mod Follows
+pub mod Lines
+pub mod Reading
+pub mod Refusal
+pub mod Report
+pub mod Run
+pub mod Script
+pub mod Unique
+pub mod World

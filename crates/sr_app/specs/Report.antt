@@ -1,0 +1,66 @@
+-- What is reported of a script.
+use Rattle.std.specs.Prelude.{◌≡◌, ℕ, suc, List, [], ◌∷◌, ◌++◌, length, codes}
+use Rattle.std.specs.Fmt.{decimal}
+use Rattle.hf_split.specs.declared.framing.Framing.TheVariants.{Record}
+use Rattle.hf_split.specs.Cuts.{Spelled, Cuts, always, frames_of}
+use Rattle.sr_app.specs.declared.command.Command.{Command}
+use Rattle.sr_app.specs.declared.command.Command.TheVariants.{Send, Write, Read}
+use Rattle.sr_app.specs.World.{World, opened, after, world_of, request, sent_by}
+
+-- both ends have read the other's handshake
+abbrev pub shaken_lines : List ℕ
+shaken_lines = codes "s shaken\nc shaken\n"
+
+abbrev pub sent_line : ℕ → List ℕ
+sent_line n = codes "c sent " ++ (decimal n ++ codes "\n")
+
+abbrev pub got_line : ℕ → List ℕ → List ℕ
+got_line n message = codes "s got " ++ (decimal n ++ (codes " " ++ (message ++ codes "\n")))
+
+-- these messages, after so many others
+abbrev pub got_lines : ℕ → List (List ℕ) → List ℕ
+got_lines n [] = []
+got_lines n (message ∷ messages) = got_line (suc n) message ++ got_lines (suc n) messages
+
+-- the last two lines, by how many messages were sent and how many got
+abbrev pub client_line : ℕ → List ℕ
+client_line sent = codes "client Ready sent " ++ (decimal sent ++ (codes " processed 0 held " ++ (decimal sent ++ codes "\n")))
+
+abbrev pub server_line : ℕ → List ℕ
+server_line got = codes "server Ready sent 0 processed " ++ (decimal got ++ codes " held 0\n")
+
+-- the line of a command that sent the last of these messages
+abbrev pub command_line : List (List ℕ) → Command → List ℕ
+command_line sent (Send message) = sent_line (length sent)
+command_line sent Write = []
+command_line sent (Read count) = []
+
+-- The frames that stand whole in these bytes are the handshake and then these messages.
+pub record Carries (bytes : List ℕ) (messages : List (List ℕ)) : Type 0 where
+  pub items : List Spelled
+  pub rest : List ℕ
+  pub cut : Cuts (always Record) 32768 bytes items rest
+  pub frames : frames_of items ≡ request ∷ messages
+
+-- The lines of these commands and the last two, where the server got the messages `got` before them, and `all` after them.
+abbrev pub Reports : World → List (List ℕ) → List Command → List (List ℕ) → List ℕ → Type 0
+Reports w got [] all text = (all ≡ got) × (text ≡ client_line (length w.sent) ++ server_line (length got))
+Reports w got (command ∷ commands) all text =
+    (new : List (List ℕ)) × (more : List ℕ) × Carries (after w command).read (got ++ new)
+    × (text ≡ command_line (after w command).sent command ++ (got_lines (length got) new ++ more))
+    × Reports (after w command) (got ++ new) commands all more
+
+-- the report of a script, by which the server got these messages
+abbrev pub IsReport : List Command → List (List ℕ) → List ℕ → Type 0
+IsReport commands got text = (lines : List ℕ) × (text ≡ shaken_lines ++ lines) × Reports opened [] commands got lines
+
+-- The messages that the server got are the first of those that the client sent, each once and in order, and they are
+-- the frames that stand whole in the bytes that it read.
+pub record IsDelivered (commands : List Command) (got : List (List ℕ)) : Type 0 where
+  pub later : List (List ℕ)
+  pub front : sent_by commands ≡ got ++ later
+  pub found : Carries (world_of commands).read got
+
+-- the report of a script, whose messages were delivered
+abbrev pub IsReportOf : List Command → List ℕ → Type 0
+IsReportOf commands text = (got : List (List ℕ)) × IsReport commands got text × IsDelivered commands got

@@ -1,0 +1,71 @@
+-- The grammar of a script: the six lines that open the link, and then the lines of commands.
+use Rattle.std.specs.Prelude.{◌≡◌, ◌≤◌, ◌<◌, ◌^◌, ℕ, List, [], ◌∷◌, ◌++◌, length, map, codes, All, Bool, true, false}
+use Rattle.std.specs.List.{count_by}
+use Rattle.std.specs.Fmt.{decimal}
+use Rattle.sr_app.specs.declared.command.Command.{Command}
+use Rattle.sr_app.specs.declared.command.Command.TheVariants.{Send, Write, Read}
+use Rattle.sr_app.specs.declared.command.Count.{Count}
+use Rattle.sr_app.specs.declared.command.Count.TheVariants.{UpTo, Everything}
+use Rattle.sr_app.specs.Lines.{lines_of}
+
+-- the six lines with which a script opens its link
+abbrev pub opening : List (List ℕ)
+opening = codes "open" ∷ codes "accept 0" ∷ codes "c write *" ∷ codes "s read *" ∷ codes "s write *" ∷ codes "c read *" ∷ []
+
+abbrev pub before_target : List ℕ
+before_target = codes "{\"arguments\":[],\"target\":\""
+
+abbrev pub after_target : List ℕ
+after_target = codes "\",\"type\":1}"
+
+-- a to z
+abbrev pub IsLetter : ℕ → Type 0
+IsLetter b = (97 ≤ b) × (b ≤ 122)
+
+-- 1 to 59 letters from a to z
+pub record IsTarget (target : List ℕ) : Type 0 where
+  pub some : 1 ≤ length target
+  pub short : length target ≤ 59
+  pub letters : All IsLetter target
+
+-- an invocation of such a target, without arguments
+pub record IsMessage (message : List ℕ) : Type 0 where
+  pub target : List ℕ
+  pub is_target : IsTarget target
+  pub spelled : message ≡ before_target ++ (target ++ after_target)
+
+-- digits without needless zeros, or a star
+abbrev pub count_text : Count → List ℕ
+count_text (UpTo n) = decimal n
+count_text Everything = codes "*"
+
+abbrev pub line_of : Command → List ℕ
+line_of (Send message) = codes "c send " ++ message
+line_of Write = codes "c write *"
+line_of (Read count) = codes "s read " ++ count_text count
+
+abbrev pub IsCount : Count → Type 0
+IsCount (UpTo n) = n < 2 ^ 64
+IsCount Everything = Unit {0}
+
+-- a command that has a line
+abbrev pub IsCommand : Command → Type 0
+IsCommand (Send message) = IsMessage message
+IsCommand Write = Unit {0}
+IsCommand (Read count) = IsCount count
+
+abbrev pub is_send : Command → Bool
+is_send (Send message) = true
+is_send Write = false
+is_send (Read count) = false
+
+-- these lines are the opening, and then one line for each of these commands; at most 1,024 of them send
+pub record IsScript (lines : List (List ℕ)) (commands : List Command) : Type 0 where
+  pub spelled : lines ≡ opening ++ map line_of commands
+  pub each : All IsCommand commands
+  pub few : count_by is_send commands ≤ 1024
+
+-- the text, of at most 16 MiB, is the script of these commands
+pub record Parses (text : List ℕ) (commands : List Command) : Type 0 where
+  pub short : length text ≤ 16777216
+  pub script : IsScript (lines_of text) commands

@@ -1,0 +1,58 @@
+-- The two ends of one link, by the commands that drove them: whole lists of messages and bytes.
+use Rattle.std.specs.Prelude.{ℕ, List, [], ◌∷◌, ◌++◌, length, take, drop, map, codes}
+use Rattle.hf_split.specs.declared.framing.Framing.TheVariants.{Record}
+use Rattle.hf_split.specs.Cuts.{wrapped, stream_of}
+use Rattle.sr_app.specs.declared.command.Command.{Command}
+use Rattle.sr_app.specs.declared.command.Command.TheVariants.{Send, Write, Read}
+use Rattle.sr_app.specs.declared.command.Count.{Count}
+use Rattle.sr_app.specs.declared.command.Count.TheVariants.{UpTo, Everything}
+
+-- the client's handshake
+abbrev pub request : List ℕ
+request = codes "{\"protocol\":\"json\",\"version\":2}"
+
+-- the server's answer to it
+abbrev pub response : List ℕ
+response = codes "{}"
+
+-- these frames, each as it is written onto the link
+abbrev pub written_of : List (List ℕ) → List ℕ
+written_of frames = stream_of (map (wrapped Record) frames)
+
+-- the messages that the client sent, those of them that it wrote onto the link, and the bytes of the link that the
+-- server has read
+pub record World : Type 0 where
+  pub sent : List (List ℕ)
+  pub written : List (List ℕ)
+  pub read : List ℕ
+
+-- what the client wrote: the handshake, and then messages
+abbrev pub link : World → List ℕ
+link w = written_of (request ∷ w.written)
+
+abbrev pub part_of : Count → List ℕ → List ℕ
+part_of (UpTo n) bytes = take n bytes
+part_of Everything bytes = bytes
+
+abbrev pub after : World → Command → World
+after w (Send message) = record w { sent = w.sent ++ message ∷ [] }
+after w Write = record w { written = w.sent }
+after w (Read count) = record w { read = w.read ++ part_of count (drop (length w.read) (link w)) }
+
+-- after the six opening lines: the client has written its handshake, and the server has read all that is there
+abbrev pub opened : World
+opened = after (record { sent = []; written = []; read = [] }) (Read Everything)
+
+abbrev pub after_all : World → List Command → World
+after_all w [] = w
+after_all w (command ∷ commands) = after_all (after w command) commands
+
+-- what a script comes to
+abbrev pub world_of : List Command → World
+world_of commands = after_all opened commands
+
+-- the messages that a script sends
+abbrev pub sent_by : List Command → List (List ℕ)
+sent_by [] = []
+sent_by (Send message ∷ commands) = message ∷ sent_by commands
+sent_by (_ ∷ commands) = sent_by commands

@@ -1,0 +1,223 @@
+ghost use Rattle.std.specs.Prelude.{◌≡◌, ◌-◌, ◌<◌, ◌≤◌, ◌+◌, ◌^◌, ℕ, List, [], ◌∷◌, ◌++◌, length, take, All, OnOk, IfOk, vec_len};
+ghost use Rattle.hf_split.specs.declared.framing.Framing.TheVariants.{Record};
+ghost use Rattle.hf_split.specs.Cuts.{always};
+ghost use Rattle.hf_split.specs.Held.{Stands};
+ghost use Rattle.sr_app.specs.Unique.{IsTheOne};
+ghost use Rattle.sr_app.specs.Script.{IsCommand, IsMessage};
+ghost use Rattle.sr_app.specs.World.{World, request, written_of, opened, after, part_of};
+ghost use Rattle.sr_app.specs.Report.{shaken_lines, sent_line, command_line, IsReportOf};
+ghost use Rattle.sr_app.specs.Follows.{IsShort, IsReader, IsFront, IsReading, IsRunning, Waits, Takes, Follows, Moves, items_of};
+
+use crate::command::{Command, Count};
+use crate::report::{push_client, push_got, push_sent, push_server};
+use hf_split::{Framing, SplitFault, Splitter, wrap};
+use hv_value::Text;
+use std::alloc::{AllocError, Global};
+
+/// The greatest frame, without its framing.
+const MOST_FRAME: usize = 32768;
+
+/// The client's handshake (HubProtocol.md, "Handshake").
+const REQUEST: &[u8] = b"{\"protocol\":\"json\",\"version\":2}";
+
+/// The server's answer to it.
+const RESPONSE: &[u8] = b"{}";
+
+/// An end that has read the other's handshake, which is all that the other has written.
+fn shake(alloc: Global, lane: &[u8], handshake: &'static [u8]) -> Result<Splitter, AllocError>
+    requires short { IsShort handshake.now }
+    requires lane { lane.now ≡ written_of (handshake.now ∷ []) }
+    ensures { IfOk result (λ splitter. Waits splitter lane.now (handshake.now ∷ [])) }
+{
+    let mut splitter = Splitter::start(alloc, Framing::Record, MOST_FRAME)?;
+    splitter.feed(lane);
+    match splitter.frame() {
+        Ok(Some((_, frame))) => prove!(frame == handshake),
+        Ok(None) => unreachable!(),
+        Err(SplitFault::TooLong { .. }) => unreachable!(),
+    }
+    splitter.pass();
+    Ok(splitter)
+}
+
+/// Takes each whole frame that the splitter holds as a message, and answers how many there are since the handshake.
+fn take_messages(
+    alloc: Global,
+    splitter: &mut Splitter,
+    processed: u64,
+    report: &mut Vec<u8>,
+) -> Result<u64, AllocError>
+    requires reader { IsReader splitter.old }
+    requires front { IsFront splitter.old.bytes }
+    requires few { processed + length splitter.old.bytes < 2 ^ 64 }
+    ensures { IfOk result (λ total. (stream : List ℕ) (got : List (List ℕ)) →
+        Stands (always Record) splitter.old stream (items_of (request ∷ got)) → processed ≡ length got →
+        Takes splitter.new stream got report.old.items report.new.items total) }
+{
+    let mut total = processed;
+    loop {
+        match splitter.frame() {
+            Ok(Some((_, frame))) => {
+                total += 1;
+                push_got(alloc, report, total, frame)?;
+                splitter.pass();
+            }
+            Ok(None) => return Ok(total),
+            Err(SplitFault::TooLong { .. }) => unreachable!(),
+        }
+    }
+}
+
+/// Reads the link from a place to its end, and answers how many messages there are since the handshake.
+fn read_link(
+    alloc: Global,
+    splitter: &mut Splitter,
+    link: &[u8],
+    from: usize,
+    processed: u64,
+    report: &mut Vec<u8>,
+) -> Result<u64, AllocError>
+    requires { IsReading splitter.old link.now from processed }
+    ensures { IfOk result (λ total. (got : List (List ℕ)) →
+        Waits splitter.old (take from link.now) (request ∷ got) → processed ≡ length got →
+        Takes splitter.new link.now got report.old.items report.new.items total) }
+{
+    let mut at = from;
+    let mut total = processed;
+    while at < link.len() {
+        at += splitter.feed(&link[at..]);
+        total = take_messages(alloc, splitter, total, report)?;
+    }
+    Ok(total)
+}
+
+/// How many of the bytes that are left are read.
+fn amount(count: Count, left: usize) -> usize
+    ensures inside { result ≤ left }
+    ensures part { (bytes : List ℕ) → length bytes ≡ left → take result bytes ≡ part_of count bytes }
+{
+    match count {
+        Count::UpTo(n) => (left as u64).min(n) as usize,
+        Count::Everything => left,
+    }
+}
+
+/// The two ends of one link, and what is reported of them.
+#[derive(Drop)]
+struct Pair {
+    // how many messages the client has sent
+    sent: u64,
+    // what the client has sent and not written yet
+    waiting: Vec<u8>,
+    // what the client has written
+    link: Vec<u8>,
+    // how many bytes of it the server has read
+    read: usize,
+    server: Splitter,
+    // how many messages the server has processed
+    processed: u64,
+    client: Splitter,
+    report: Vec<u8>,
+}
+
+impl Pair {
+    /// The client writes its handshake, the server reads it and answers, and the client reads the answer.
+    fn open(alloc: Global) -> Result<Pair, AllocError>
+        ensures follows { IfOk result (λ pair. Follows pair opened []) }
+        ensures report { IfOk result (λ pair. pair.report.items ≡ shaken_lines) }
+    {
+        let mut report = Vec::new(alloc);
+        let mut link = Vec::new(alloc);
+        wrap(Framing::Record, REQUEST, &mut link)?;
+        let server = shake(alloc, &link, REQUEST)?;
+        report.extend_from_slice(b"s shaken\n")?;
+        let mut answer = Vec::new(alloc);
+        wrap(Framing::Record, RESPONSE, &mut answer)?;
+        let client = shake(alloc, &answer, RESPONSE)?;
+        report.extend_from_slice(b"c shaken\n")?;
+        Ok(Pair {
+            sent: 0,
+            waiting: Vec::new(alloc),
+            read: link.len(),
+            link,
+            server,
+            processed: 0,
+            client,
+            report,
+        })
+    }
+
+    /// Does what a command says.
+    fn run_command(&mut self, alloc: Global, command: &Command) -> Result<(), AllocError>
+        requires running { IsRunning self.old }
+        requires command { IsCommand command.now }
+        requires few { self.old.sent < 2 ^ 64 - 1 }
+        ensures { OnOk result ((w : World) (got : List (List ℕ)) → Follows self.old w got →
+            Moves self.old self.new (after w command.now) got (command_line (after w command.now).sent command.now)) }
+    {
+        match command {
+            Command::Send(message) => self.send(alloc, message),
+            Command::Write => self.write(),
+            Command::Read(count) => self.read_part(alloc, *count),
+        }
+    }
+
+    /// Sends a message: the client keeps it until it writes.
+    fn send(&mut self, alloc: Global, message: &Text) -> Result<(), AllocError>
+        requires message { IsMessage message.now }
+        requires few { self.old.sent < 2 ^ 64 - 1 }
+        ensures { OnOk result ((w : World) (got : List (List ℕ)) → Follows self.old w got →
+            Moves self.old self.new (after w (Command.Send message.now)) got (sent_line (length (w.sent ++ message.now ∷ [])))) }
+    {
+        wrap(
+            Framing::Record,
+            message.as_str().as_bytes(),
+            &mut self.waiting,
+        )?;
+        self.sent += 1;
+        push_sent(alloc, &mut self.report, self.sent)
+    }
+
+    /// Writes what was sent onto the link.
+    fn write(&mut self) -> Result<(), AllocError>
+        ensures { OnOk result ((w : World) (got : List (List ℕ)) → Follows self.old w got →
+            Moves self.old self.new (after w Command.Write) got []) }
+    {
+        self.link.append(&mut self.waiting)?;
+        Ok(())
+    }
+
+    /// The server reads from the link.
+    fn read_part(&mut self, alloc: Global, count: Count) -> Result<(), AllocError>
+        requires running { IsRunning self.old }
+        ensures { OnOk result ((w : World) (got : List (List ℕ)) → Follows self.old w got →
+            Moves self.old self.new (after w (Command.Read count)) got []) }
+    {
+        let end = self.read + amount(count, self.link.len() - self.read);
+        self.processed = read_link(
+            alloc,
+            &mut self.server,
+            &self.link[..end],
+            self.read,
+            self.processed,
+            &mut self.report,
+        )?;
+        self.read = end;
+        Ok(())
+    }
+}
+
+/// The report of the commands of a script.
+pub(crate) fn replay(alloc: Global, commands: &[Command]) -> Result<Vec<u8>, AllocError>
+    requires { All IsCommand commands.now }
+    ensures { IfOk result (λ text. IsTheOne (IsReportOf commands.now) text.items) }
+{
+    let mut pair = Pair::open(alloc)?;
+    for command in commands {
+        pair.run_command(alloc, command)?;
+    }
+    let mut report = pair.report;
+    push_client(alloc, &mut report, pair.sent)?;
+    push_server(alloc, &mut report, pair.processed)?;
+    Ok(report)
+}

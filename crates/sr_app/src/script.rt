@@ -1,0 +1,262 @@
+ghost use Rattle.std.specs.Prelude.{◌≡◌, ◌<◌, ◌≤◌, ◌+◌, ◌^◌, ◌↔◌, ℕ, List, [], ◌∷◌, ◌++◌, IsTrue, IfOk, IfErr, IfSome, IfNone, OnOk, length, suc, slice_get, if◌then◌else◌};
+ghost use Rattle.std.specs.Option.{option_copied};
+ghost use Rattle.std.specs.Fmt.{decimal};
+ghost use Rattle.sr_app.specs.declared.command.Command.{Command};
+ghost use Rattle.sr_app.specs.declared.script.ScriptError.TheVariants.{NoMemory};
+ghost use Rattle.sr_app.specs.Unique.{IsTheOne};
+ghost use Rattle.sr_app.specs.Script.{IsTarget, IsMessage, IsCount, IsCommand, Parses, opening, count_text, line_of, is_send};
+ghost use Rattle.sr_app.specs.Reading.{HasRead, IsNoLine, IsLineEnd, RefusesNext, RefusesText};
+
+use crate::command::{Command, Count};
+use hv_value::Text;
+use std::alloc::{AllocError, AllocFailed, Global};
+
+/// The most bytes of a script: 16 MiB.
+pub(crate) const MOST_BYTES: usize = 16777216;
+
+/// The most messages that a script sends.
+const MOST_SENDS: u64 = 1024;
+
+/// What stands before and after a message's target.
+const BEFORE_TARGET: &[u8] = b"{\"arguments\":[],\"target\":\"";
+
+const AFTER_TARGET: &[u8] = b"\",\"type\":1}";
+
+/// Why a text is no script.
+#[derive(Clone, Copy, Debug, PartialEq, Eq)]
+pub enum ScriptError {
+    /// The number of the first line that the grammar lacks, counted from 1.
+    Line(u64),
+    NoMemory,
+}
+
+impl From<AllocError> for ScriptError {
+    ghost from_gives = { λ _ e. e ≡ NoMemory };
+
+    fn from(_e: AllocError) -> ScriptError {
+        ScriptError::NoMemory
+    }
+}
+
+impl<T: Drop> From<AllocFailed<T>> for ScriptError {
+    ghost from_gives = { λ _ e. e ≡ NoMemory };
+
+    fn from(_e: AllocFailed<T>) -> ScriptError {
+        ScriptError::NoMemory
+    }
+}
+
+/// Whether these bytes are 1 to 59 letters from a to z.
+fn is_target(bytes: &[u8]) -> bool
+    ensures { IsTrue result ↔ IsTarget bytes.now }
+{
+    !bytes.is_empty() && bytes.len() <= 59 && bytes.iter().all(|b| *b >= b'a' && *b <= b'z')
+}
+
+/// Whether these bytes are a message that a script may send.
+fn is_message(bytes: &[u8]) -> bool
+    ensures { IsTrue result ↔ IsMessage bytes.now }
+{
+    let Some(rest) = bytes.strip_prefix(BEFORE_TARGET) else {
+        return false;
+    };
+    let Some(target) = rest.strip_suffix(AFTER_TARGET) else {
+        return false;
+    };
+    is_target(target)
+}
+
+/// The message that these bytes are.
+fn parse_message(alloc: Global, bytes: &[u8]) -> Result<Option<Text>, AllocError>
+    ensures found { IfOk result (λ r. IfSome r (λ text. (bytes.now ≡ text) × IsMessage text)) }
+    ensures none { IfOk result (λ r. IfNone r (IsMessage bytes.now → ⊥)) }
+{
+    if !is_message(bytes) {
+        return Ok(None);
+    }
+    match str::from_utf8(bytes) {
+        Ok(text) => Ok(Some(Text::of(alloc, text)?)),
+        Err(_) => Ok(None),
+    }
+}
+
+/// The number whose digits these are, without needless zeros.
+fn parse_number(alloc: Global, digits: &[u8]) -> Result<Option<u64>, AllocError>
+    ensures found { IfOk result (λ r. IfSome r (λ n. (digits.now ≡ decimal n) × (n < 2 ^ 64))) }
+    ensures none { IfOk result (λ r. IfNone r ((n : ℕ) → n < 2 ^ 64 → digits.now ≡ decimal n → ⊥)) }
+{
+    let Ok(text) = str::from_utf8(digits) else {
+        return Ok(None);
+    };
+    let Ok(n) = text.parse::<u64>() else {
+        return Ok(None);
+    };
+    let printed = n.to_string(alloc)?;
+    if printed.as_bytes() == digits {
+        Ok(Some(n))
+    } else {
+        Ok(None)
+    }
+}
+
+/// The count that these bytes say.
+fn parse_count(alloc: Global, bytes: &[u8]) -> Result<Option<Count>, AllocError>
+    ensures found { IfOk result (λ r. IfSome r (λ count. (bytes.now ≡ count_text count) × IsCount count)) }
+    ensures none { IfOk result (λ r. IfNone r ((count : Count) → IsCount count → bytes.now ≡ count_text count → ⊥)) }
+{
+    if bytes == b"*".as_slice() {
+        return Ok(Some(Count::Everything));
+    }
+    Ok(parse_number(alloc, bytes)?.map(Count::UpTo))
+}
+
+/// The command of a line.
+fn parse_line(alloc: Global, line: &[u8]) -> Result<Option<Command>, AllocError>
+    ensures found { IfOk result (λ r. IfSome r (λ command. (line.now ≡ line_of command) × IsCommand command)) }
+    ensures none { IfOk result (λ r. IfNone r (IsNoLine line.now)) }
+{
+    if line == b"c write *".as_slice() {
+        return Ok(Some(Command::Write));
+    }
+    if let Some(count) = line.strip_prefix(b"s read ") {
+        return match parse_count(alloc, count)? {
+            Some(count) => Ok(Some(Command::Read(count))),
+            None => Ok(None),
+        };
+    }
+    if let Some(message) = line.strip_prefix(b"c send ") {
+        return match parse_message(alloc, message)? {
+            Some(message) => Ok(Some(Command::Send(message))),
+            None => Ok(None),
+        };
+    }
+    Ok(None)
+}
+
+/// The opening line that comes after so many of them.
+fn opening_line(done: usize) -> Option<&'static [u8]>
+    ensures { option_copied result ≡ slice_get opening done }
+{
+    match done {
+        0 => Some(b"open"),
+        1 => Some(b"accept 0"),
+        2 => Some(b"c write *"),
+        3 => Some(b"s read *"),
+        4 => Some(b"s write *"),
+        5 => Some(b"c read *"),
+        _ => None,
+    }
+}
+
+/// How many messages are sent with this command, where it isn't one too many.
+fn count_send(sends: u64, command: &Command) -> Option<u64>
+    requires { sends ≤ 1024 }
+    ensures counted { IfSome result (λ n. (n ≡ sends + (if is_send command.now then 1 else 0)) × (n ≤ 1024)) }
+    ensures one_too_many { IfNone result (1025 ≤ sends + (if is_send command.now then 1 else 0)) }
+{
+    match command {
+        Command::Send(_) if sends == MOST_SENDS => None,
+        Command::Send(_) => Some(sends + 1),
+        _ => Some(sends),
+    }
+}
+
+/// The length of the first line, without its end.
+fn line_end(text: &[u8]) -> usize
+    ensures { IsLineEnd text.now result }
+{
+    for (i, byte) in text.iter().enumerate() {
+        if *byte == b'\n' {
+            return i;
+        }
+    }
+    text.len()
+}
+
+/// A script as far as it was read.
+#[derive(Drop)]
+struct Reader {
+    // how many of the opening lines were read
+    opened: usize,
+    // how many of the commands send
+    sends: u64,
+    commands: Vec<Command>,
+}
+
+impl Reader {
+    /// Before the first line.
+    fn start(alloc: Global) -> Reader
+        ensures { HasRead result [] }
+    {
+        Reader {
+            opened: 0,
+            sends: 0,
+            commands: Vec::new(alloc),
+        }
+    }
+
+    /// The number of the line that comes next, counted from 1.
+    fn number(&self) -> u64
+        requires { (lines : List (List ℕ)) × HasRead self.now lines }
+        ensures { (lines : List (List ℕ)) → HasRead self.now lines → result ≡ suc (length lines) }
+    {
+        (self.opened + self.commands.len() + 1) as u64
+    }
+
+    /// Reads a line.
+    fn line(&mut self, alloc: Global, line: &[u8]) -> Result<(), ScriptError>
+        requires { (lines : List (List ℕ)) × HasRead self.old lines }
+        ensures ok { OnOk result ((lines : List (List ℕ)) → HasRead self.old lines → HasRead self.new (lines ++ line.now ∷ [])) }
+        ensures refused { IfErr result (λ e. (lines : List (List ℕ)) → HasRead self.old lines → RefusesNext e lines line.now) }
+    {
+        let Some(wanted) = opening_line(self.opened) else {
+            return self.command(alloc, line);
+        };
+        if wanted != line {
+            return Err(ScriptError::Line(self.number()));
+        }
+        self.opened += 1;
+        Ok(())
+    }
+
+    /// Reads the line of a command.
+    fn command(&mut self, alloc: Global, line: &[u8]) -> Result<(), ScriptError>
+        requires read { (lines : List (List ℕ)) × HasRead self.old lines }
+        requires opened { self.old.opened ≡ 6 }
+        ensures ok { OnOk result ((lines : List (List ℕ)) → HasRead self.old lines → HasRead self.new (lines ++ line.now ∷ [])) }
+        ensures refused { IfErr result (λ e. (lines : List (List ℕ)) → HasRead self.old lines → RefusesNext e lines line.now) }
+    {
+        let number = self.number();
+        let Some(command) = parse_line(alloc, line)? else {
+            return Err(ScriptError::Line(number));
+        };
+        let Some(sends) = count_send(self.sends, &command) else {
+            return Err(ScriptError::Line(number));
+        };
+        self.commands.push(command)?;
+        self.sends = sends;
+        Ok(())
+    }
+}
+
+/// The commands of a script. A line with the byte 16,777,217 isn't one of a script.
+pub fn parse(alloc: Global, text: &[u8]) -> Result<Vec<Command>, ScriptError>
+    ensures ok { IfOk result (λ commands. IsTheOne (Parses text.now) commands.items) }
+    ensures refused { IfErr result (λ e. RefusesText e text.now) }
+{
+    let mut reader = Reader::start(alloc);
+    let mut at = 0;
+    while at < text.len() {
+        let rest = &text[at..];
+        let end = line_end(rest);
+        at += (end + 1).min(rest.len());
+        if at > MOST_BYTES {
+            return Err(ScriptError::Line(reader.number()));
+        }
+        reader.line(alloc, &rest[..end])?;
+    }
+    if opening_line(reader.opened).is_some() {
+        return Err(ScriptError::Line(reader.number()));
+    }
+    Ok(reader.commands)
+}
