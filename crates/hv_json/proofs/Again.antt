@@ -87,3 +87,22 @@ unfolding reading
 is_read_again s t e order deep =
     let shallow : nat_lt 64 (json.depth (json_of t)) ≡ false = le-ltb _ _ (omega (arith, depth-json_of t, deep)) in
     rw (e, has_float-json_of t, shallow, tree_of-json_of t order) refl
+
+-- the image has the same JSON
+mutual
+  pub json_of-image : (t : Tree) → json_of t ≡ json_of (image t)
+  json_of-image null = refl
+  json_of-image (boolean b) = refl
+  json_of-image (int z) = refl
+  json_of-image (text s) = refl
+  json_of-image (bytes s) = refl
+  json_of-image (list ts) = ap json.array (items_of-image ts)
+  json_of-image (map ps) = ap json.object (members_of-image ps)
+
+  items_of-image : (ts : Trees) → items_of ts ≡ items_of (trees_image ts)
+  items_of-image no_trees = refl
+  items_of-image (more t ts) = λ i. json.item (json_of-image t i) (items_of-image ts i)
+
+  members_of-image : (ps : Pairs) → members_of ps ≡ members_of (pairs_image ps)
+  members_of-image no_pairs = refl
+  members_of-image (pair k t ps) = λ i. json.member k (json_of-image t i) (members_of-image ps i)

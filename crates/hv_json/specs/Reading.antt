@@ -15,7 +15,8 @@ int_of (unsigned n) = tree.int (pos n)
 int_of (negative z) = tree.int z
 int_of (float x) = tree.null
 
--- the value that JSON is, if none of its numbers has a fraction
+-- The value that JSON is, if none of its numbers has a fraction. The members that were read are distinct and in order
+-- already; `map_of` serves those too that were not read.
 abbrev mutual
   pub tree_of : Data → Tree
   tree_of null = tree.null

@@ -17,7 +17,7 @@ pub enum JsonError {
     /// They aren't JSON text (RFC 8259) that `serde_json` reads. This is also said of a
     /// number that no finite double is near, and of more than 127 levels.
     NotJson,
-    /// A number in it has a fraction or an exponent, is `-0`, or is whole and not from
+    /// A number of what is read has a fraction or an exponent, is `-0`, or is whole and not from
     /// -2^63 to 2^64 - 1.
     Fraction,
     /// Its arrays and objects nest deeper than 64.
@@ -198,8 +198,8 @@ fn parse(alloc: Global, bytes: &[u8]) -> Result<Option<Json>, AllocError>
 }
 
 /// The value of JSON text (RFC 8259) in UTF-8. Of the members of an object with one name
-/// the last counts, and a member that it replaces isn't judged. No `Bytes` are read: a
-/// string is `Text`, also where it is base64.
+/// the last counts; one that it replaces must be JSON that `serde_json` reads, but is neither
+/// `Fraction` nor `TooDeep`. No `Bytes` are read: a string is `Text`, also where it is base64.
 #[tactic(auto, unfolding(crate::specs::Reading::reading))]
 pub fn read_value(alloc: Global, bytes: &[u8]) -> Result<Value, JsonError>
     ensures ok { IfOk result (λ v. reading bytes.now ≡ Ok (tree v)) }

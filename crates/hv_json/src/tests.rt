@@ -67,7 +67,7 @@ fn texts(rt: HostRuntime) -> Result<(), Fail> {
 
 #[test]
 fn refusals(rt: HostRuntime) -> Result<(), Fail> {
-    let cases: [(&[u8], JsonError); 22] = [
+    let cases: [(&[u8], JsonError); 23] = [
         (b"", JsonError::NotJson),
         (b"1 2", JsonError::NotJson),
         (b"{} x", JsonError::NotJson),
@@ -90,6 +90,7 @@ fn refusals(rt: HostRuntime) -> Result<(), Fail> {
         (b"-9223372036854775809", JsonError::Fraction),
         (b"{\"Latitude\":37.7668}", JsonError::Fraction),
         (b"{\"a\":2,\"a\":1.5}", JsonError::Fraction),
+        (b"{\"a\":1e400,\"a\":2}", JsonError::NotJson),
     ];
     for (i, (bytes, error)) in cases.into_iter().enumerate() {
         assert_eq!(rt;
@@ -98,7 +99,12 @@ fn refusals(rt: HostRuntime) -> Result<(), Fail> {
             "in case {i}"
         );
     }
-    let deep: [(usize, &str, Option<JsonError>); 7] = [
+    Ok(())
+}
+
+#[test]
+fn depths(rt: HostRuntime) -> Result<(), Fail> {
+    let cases: [(usize, &str, Option<JsonError>); 9] = [
         (64, "", None),
         (65, "", Some(JsonError::TooDeep)),
         (127, "", Some(JsonError::TooDeep)),
@@ -106,8 +112,10 @@ fn refusals(rt: HostRuntime) -> Result<(), Fail> {
         (64, "1.5", Some(JsonError::Fraction)),
         (65, "1.5", Some(JsonError::Fraction)),
         (65, "1.5 x", Some(JsonError::NotJson)),
+        (63, "{\"a\":1}", None),
+        (64, "{\"a\":1}", Some(JsonError::TooDeep)),
     ];
-    for (depth, inside, error) in deep {
+    for (depth, inside, error) in cases {
         let text = nested(&rt, depth, inside)?;
         assert_eq!(rt; read_value(rt.alloc(), &text).err(), error);
     }

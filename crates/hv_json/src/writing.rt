@@ -78,12 +78,14 @@ fn members_of(alloc: Global, members: &[(Text, Value)]) -> Result<Map<String, Js
     Ok(map)
 }
 
-/// Appends the value as JSON (RFC 8259) with no spaces. Its `Bytes` are written as strings of
-/// their standard base64 with padding (RFC 4648, section 4).
+/// Appends the compact text of the value's image (RFC 8259): no space between tokens, keys in
+/// byte order, and `Bytes` as strings of their standard base64 with padding (RFC 4648, section 4).
+/// After want of memory `out` holds what it held.
 #[tactic(auto, unfolding(crate::specs::Writing::json_text))]
 pub fn write_value(alloc: Global, v: &Value, out: &mut Vec<u8>) -> Result<(), AllocError>
     ensures ok { OnOk result (out.new.items ≡ out.old.items ++ json_text (tree v.now)) }
-    // What is written is read again, as the value's image.
+    // It is the text of the image, and is read again as the image.
+    ensures of_image { OnOk result (json_text (tree v.now) ≡ json_text (image (tree v.now))) }
     ensures again { OnOk result (reading (json_text (tree v.now)) ≡ Ok (image (tree v.now))) }
     ensures err { OnErr result (out.new.items ≡ out.old.items) }
 {

@@ -39,7 +39,7 @@ impl Blob {
         *self.bytes.allocator()
     }
 
-    /// A copy, in the memory that the bytes themselves came from.
+    /// A copy. It takes no `alloc`: the bytes keep theirs.
     pub fn copy(&self) -> Result<Blob, AllocError>
         ensures { IfOk result (λ b. b ≡ self.now) }
     {

@@ -1,5 +1,5 @@
 //! Values: what a hub's arguments, items and results are. They are trees of
-//! numbers, texts, bytes, lists and maps, which no more than 64 levels nest.
+//! numbers, texts, bytes, lists and maps, which nest at most 64 deep.
 #![tactic(auto)]
 
 mod blob;

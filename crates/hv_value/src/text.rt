@@ -45,7 +45,7 @@ impl Text {
         self.text.as_str()
     }
 
-    /// A copy, in the memory that the text itself came from.
+    /// A copy. It takes no `alloc`: the text keeps its own.
     pub fn copy(&self) -> Result<Text, AllocError>
         ensures { IfOk result (λ t. t ≡ self.now) }
     {
@@ -121,8 +121,7 @@ impl Texts {
         self.texts.as_slice()
     }
 
-    /// A copy, in the memory that the text itself came from.
-    /// A copy, in the memory that the list itself came from.
+    /// A copy. It takes no `alloc`: the list keeps its own.
     pub fn copy(&self) -> Result<Texts, AllocError>
         ensures { IfOk result (λ t. t ≡ self.now) }
     {

@@ -16,11 +16,11 @@ use std::alloc::{AllocError, AllocFailed, Global};
 use std::collections::BTreeMap;
 use std::marker::Model;
 
-/// An argument, an item or a result. Lists and maps nest at most 64 deep in
+/// An argument, an item or a result of a hub call (HubProtocol.md of ASP.NET
+/// Core), of those with no fraction. Lists and maps nest at most 64 deep in
 /// every value, and each of its maps has its keys in byte order.
 ///
-/// It is what HubProtocol.md of ASP.NET Core sends as an argument: `Bytes` are
-/// of MessagePack alone, and stand in JSON as their base64.
+/// `Bytes` come from MessagePack alone; JSON holds them as base64.
 #[cycle(value)]
 #[derive(Drop)]
 pub enum Value {
@@ -114,8 +114,8 @@ impl Model for Entries {
 }
 
 impl Value {
-    /// How deep lists and maps nest, in constant time: one that is empty has
-    /// depth 1, and a value that is neither has depth 0.
+    /// How deep lists and maps nest: one that is empty has depth 1, and a value
+    /// that is neither has depth 0. It is stored, and takes no recursion.
     pub fn depth(&self) -> u32
         ensures exact { result ≡ depth (tree self.now) }
         ensures bound { result ≤ 64 }
@@ -129,7 +129,7 @@ impl Value {
         }
     }
 
-    /// A copy, in the memory that the value's own parts came from.
+    /// A copy. It takes no `alloc`: its parts keep theirs.
     #[cycle(copy)]
     pub fn copy(&self) -> Result<Value, AllocError>
         ensures { IfOk result (λ v. tree v ≡ tree self.now) }
@@ -163,7 +163,7 @@ impl Value {
     }
 
     /// The map of these pairs, in which the last pair of a key counts. It is
-    /// `TooDeep` even where a later pair would have replaced the value that is.
+    /// `TooDeep` also where a later pair would have replaced the value that is.
     /// After an error the pairs are dropped.
     pub fn map_from(pairs: Vec<(Text, Value)>) -> Result<Value, ValueError>
         ensures ok { IfOk result (λ v. tree v ≡ map_of (entries pairs.items)) }

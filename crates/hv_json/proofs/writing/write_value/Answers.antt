@@ -8,7 +8,7 @@ use Rattle.serde_json.specs.Written.{has_float, compact_text}
 use Rattle.hv_json.specs.Reading.{reading}
 use Rattle.hv_json.specs.Writing.{json_of, json_text}
 use Rattle.hv_json.proofs.Judged.{is_json}
-use Rattle.hv_json.proofs.Again.{is_read_again, depth-json_of, has_float-json_of}
+use Rattle.hv_json.proofs.Again.{is_read_again, depth-json_of, has_float-json_of, json_of-image}
 use Rattle.hv_json.proofs.writing.write_value.Goals as goal
 
 pub returns-clause-ok : goal.returns-clause-ok
@@ -17,6 +17,10 @@ returns-clause-ok c =
     let whole = ap has_float c.in_ok-json.ensures ∙ has_float-json_of (tree c.args.v.now) in
     let text = c.in_ok-text.ensures.text whole in
     rw (c.in_ok-extend_from_slice.ensures.items, c.deref.ensures.value, text, c.in_ok-json.ensures) refl
+
+pub returns-clause-of_image : goal.returns-clause-of_image
+unfolding json_text
+returns-clause-of_image c = ap compact_text (json_of-image (tree c.args.v.now))
 
 pub returns-clause-again : goal.returns-clause-again
 unfolding json_text
