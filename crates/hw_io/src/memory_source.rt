@@ -1,4 +1,4 @@
-ghost use Rattle.std.specs.Prelude.{◌≡◌, ◌+◌, ◌-◌, ◌^◌, ◌<◌, ◌≤◌, ◌↔◌, ◌++◌, length, take, drop, min, Contains, IsErr, IfOk, OnErr, Some};
+ghost use Rattle.std.specs.Prelude.{◌≡◌, ◌+◌, ◌-◌, ◌^◌, ◌<◌, ◌≤◌, ◌↔◌, ◌++◌, length, take, drop, min, Contains, IsErr, IfOk, IsOkAnd, OnErr, Some};
 ghost use Rattle.std.specs.Io.{ReadsAtMost};
 ghost use Rattle.std.specs.Io.KnownBytes.{ReadConsumes};
 ghost use Rattle.hw_io.specs.Causes.{HasCause};
@@ -43,9 +43,9 @@ impl MemorySource {
     /// Makes a source that has `bytes` to give, and that fails at the calls of the numbers in
     /// `failing`, in any order.
     ///
-    /// It keeps the two vectors and takes no memory of its own.
+    /// It keeps the two vectors and takes no memory of its own, so it is always Ok.
     pub fn start(bytes: Vec<u8>, failing: Vec<u64>) -> Result<MemorySource, AllocError>
-        ensures { IfOk result (λ s. s ≡ record {
+        ensures { IsOkAnd result (λ s. s ≡ record {
           left = bytes.items;
           failing = failing.items;
           calls = 0;
