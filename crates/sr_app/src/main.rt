@@ -26,7 +26,7 @@ fn words(rt: &HostRuntime) -> Result<Vec<String>, AllocError> {
 
 fn main(rt: HostRuntime) -> ExitCode {
     let Ok(words) = words(&rt) else {
-        return ExitCode::from(run::NO_MEMORY);
+        return ExitCode::from(run::Status::NoMemory as u8);
     };
     let mut input = StdSource::new(rt.stdin());
     let mut out = StdSink::new(rt.stdout());

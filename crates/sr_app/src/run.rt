@@ -11,15 +11,12 @@ use std::alloc::{AllocError, Global};
 
 const USAGE: &[u8] = b"usage: sr replay, soak, serve, client, check or convert\n";
 
-/// The exit status at a want of memory.
-pub const NO_MEMORY: u8 = 7;
-
 /// How many bytes are read at a time.
 const PIECE: usize = 4096;
 
 /// How a command ended, by its exit status.
 #[derive(Clone, Copy, Debug, PartialEq, Eq)]
-enum Status {
+pub(crate) enum Status {
     Done = 0,
     Usage = 1,
     Refused = 2,
