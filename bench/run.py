@@ -1,0 +1,81 @@
+#!/usr/bin/env python3
+"""Measures the splitter and `sr replay` beside a plain scan of the same bytes, in one run. It is no test.
+
+    bench/run.py [--rounds N] [--mebibytes N]
+
+The splitter (crates/split_bench) counts the frames of 64 MiB, fed in pieces of 4,096 bytes, for frames of 3, 60 and
+32,768 bytes, each followed by the separator. `wc -l` and `grep -c` count the lines of the same bytes with line ends in
+the separators' place. `sr replay` replays a script of 16 MiB, and `wc -l` counts its lines. Of each the best of N
+rounds counts, in processor time (user and system). The ratio is the scan's time by ours: 1.00 is as fast, 0.50 takes
+twice as long. Needs the built programs: `rt run` in crates/split_bench and in crates/sr_app, which this does first."""
+import argparse
+import os
+import pathlib
+import resource
+import subprocess
+import tempfile
+
+TOP = pathlib.Path(__file__).resolve().parent.parent
+OPENING = b"open\naccept 0\nc write *\ns read *\ns write *\nc read *\n"
+SEND = b'c send {"arguments":[],"target":"%s","type":1}\nc write *\n' % (b"a" * 59)
+
+
+def built(crate):
+    """The program of a crate, proved and built where that is not done yet."""
+    folder = TOP / "crates" / crate
+    args = (folder / "args").read_text().split() if (folder / "args").exists() else []
+    with open(folder / "stdin", "rb") as stdin:
+        subprocess.run(["rt", "run", "--", *args], cwd=folder, stdin=stdin, stdout=subprocess.DEVNULL, stderr=subprocess.DEVNULL, check=True)
+    return str(folder / "out" / crate)
+
+
+def seconds(command, path, rounds):
+    """The least processor time of so many runs over the file."""
+    least = float("inf")
+    for _ in range(rounds):
+        before = resource.getrusage(resource.RUSAGE_CHILDREN)
+        with open(path, "rb") as stdin:
+            subprocess.run(command, stdin=stdin, stdout=subprocess.DEVNULL, env={**os.environ, "LC_ALL": "C"}, check=True)
+        after = resource.getrusage(resource.RUSAGE_CHILDREN)
+        least = min(least, after.ru_utime + after.ru_stime - before.ru_utime - before.ru_stime)
+    return least
+
+
+def row(name, size, ours, scans):
+    rates = [f"{name:<34}{size / ours / 1e6:>8.0f} MB/s"]
+    rates += [f"{scan} {size / time / 1e6:.0f} MB/s, ratio {time / ours:.2f}" for scan, time in scans]
+    print("   ".join(rates))
+
+
+def frames(length, total):
+    frame = (b"frame " * (length // 6 + 1))[:length] + b"\x1e"
+    return frame * (total // len(frame))
+
+
+def script(total):
+    lines = OPENING + SEND * 1000
+    return lines + b"s read 12345\n" * ((total - len(lines)) // 13)
+
+
+def main():
+    words = argparse.ArgumentParser(description=__doc__, formatter_class=argparse.RawDescriptionHelpFormatter)
+    words.add_argument("--rounds", type=int, default=5)
+    words.add_argument("--mebibytes", type=int, default=64)
+    asked = words.parse_args()
+    splitter, replay = built("split_bench"), built("sr_app")
+    with tempfile.TemporaryDirectory() as folder:
+        path, lines = os.path.join(folder, "frames"), os.path.join(folder, "lines")
+        for length in (3, 60, 32768):
+            data = frames(length, asked.mebibytes << 20)
+            pathlib.Path(path).write_bytes(data)
+            pathlib.Path(lines).write_bytes(data.replace(b"\x1e", b"\n"))
+            scans = [(scan, seconds(command, lines, asked.rounds)) for scan, command in (("wc -l", ["wc", "-l"]), ("grep -c", ["grep", "-c", "x"]))]
+            row(f"splitter, frames of {length:,}", len(data), seconds([splitter], path, asked.rounds), scans)
+        text = script(16 << 20)
+        pathlib.Path(lines).write_bytes(text)
+        scans = [("wc -l", seconds(["wc", "-l"], lines, asked.rounds)), ("grep -c", seconds(["grep", "-c", "x"], lines, asked.rounds))]
+        row("replay of 16 MiB", len(text), seconds([replay, "replay"], lines, asked.rounds), scans)
+
+
+if __name__ == "__main__":
+    main()
