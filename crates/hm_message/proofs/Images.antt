@@ -1,0 +1,40 @@
+-- A value and its tree.
+use Rattle.std.proofs.Common.{◌≡◌, ap, refl, sym, ◌∙◌}
+use Rattle.hv_value.specs.Tree as tree
+use Rattle.hv_value.specs.Tree.{Tree, Trees, no_trees, more, Pairs, no_pairs, pair, trees, pairs}
+use Rattle.hv_value.specs.View as seen
+use Rattle.hv_value.specs.declared.value.Value.{Value}
+use Rattle.hv_value.specs.declared.value.Value.TheVariants as value
+use Rattle.hm_message.specs.Fields.{trees_in, pairs_in}
+use Rattle.hm_message.specs.Message.{value_of}
+use Rattle.hm_message.proofs.Collected.{trees_in-trees, pairs_in-pairs}
+
+pub value_of-tree : (v : Value) → value_of (seen.tree v) ≡ v
+value_of-tree value.Null = refl
+value_of-tree (value.Bool b) = refl
+value_of-tree (value.Int z) = refl
+value_of-tree (value.Text s) = refl
+value_of-tree (value.Bytes s) = refl
+value_of-tree (value.List ts) = ap value.List (trees_in-trees ts)
+value_of-tree (value.Map ps) = ap value.Map (pairs_in-pairs ps)
+
+trees-trees_in : (ts : Trees) → trees (trees_in ts) ≡ ts
+trees-trees_in no_trees = refl
+trees-trees_in (more t ts) = ap (λ (x : Trees). more t x) (trees-trees_in ts)
+
+pairs-pairs_in : (ps : Pairs) → pairs (pairs_in ps) ≡ ps
+pairs-pairs_in no_pairs = refl
+pairs-pairs_in (pair k t ps) = ap (λ (x : Pairs). pair k t x) (pairs-pairs_in ps)
+
+pub tree-value_of : (t : Tree) → seen.tree (value_of t) ≡ t
+tree-value_of tree.null = refl
+tree-value_of (tree.boolean b) = refl
+tree-value_of (tree.int z) = refl
+tree-value_of (tree.text s) = refl
+tree-value_of (tree.bytes s) = refl
+tree-value_of (tree.list ts) = ap tree.list (trees-trees_in ts)
+tree-value_of (tree.map ps) = ap tree.map (pairs-pairs_in ps)
+
+-- a value is known by its tree
+pub tree-inj : (v w : Value) → seen.tree v ≡ seen.tree w → v ≡ w
+tree-inj v w e = sym (value_of-tree v) ∙ ap value_of e ∙ value_of-tree w

@@ -1,0 +1,4 @@
+pub mod Collected
+pub mod Puts
+pub mod Images
+pub mod Shallow

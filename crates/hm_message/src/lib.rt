@@ -1,0 +1,16 @@
+//! The messages of the hub protocol (HubProtocol.md of ASP.NET Core), whatever encoding carries
+//! them, and what every encoding of them asks of a value.
+#![tactic(auto)]
+
+mod fields;
+mod headers;
+mod kind;
+mod message;
+
+pub use fields::{headers_in, items_in, number_in, text_in, texts_in};
+pub use headers::Headers;
+pub use kind::Kind;
+pub use message::{Codec, Ending, Field, Message, Read};
+
+#[cfg(test)]
+mod tests;
