@@ -1,0 +1,126 @@
+-- How deep a message nests, as it is read and as it is written.
+use Rattle.std.proofs.Common.{◌≡◌, ℕ, ◌≤◌, max, true, false, List, [], ◌∷◌, ◌++◌, Option, Some, None, Ok, refl, ap, sym, ◌∙◌, arith}
+use Rattle.hv_value.specs.Tree.{Tree, null, boolean, int, text, bytes, list, map, Trees, no_trees, more, Pairs, Pair, trees, depth, depths_of_pairs, depth_of_all, depth_of_values, value_at}
+use Rattle.hv_value.specs.View as seen
+use Rattle.hm_message.specs.Fields.{trees_in, items_in}
+use Rattle.hm_message.specs.Headers.{Header}
+use Rattle.hm_message.specs.Kind.{number, kind_of}
+use Rattle.hm_message.specs.Message.{Fits, ending_depth}
+use Rattle.hm_message.specs.Name.{field_name}
+use Rattle.hm_message.specs.declared.message.Field.{Field}
+use Rattle.hm_message.specs.declared.message.Field.TheVariants as field
+use Rattle.hm_message.specs.declared.message.Message.{Message}
+use Rattle.hm_message.specs.declared.message.Message.TheVariants.{Invocation, StreamItem, Completion, StreamInvocation, CancelInvocation, Ping, Close, Ack, Sequence}
+use Rattle.hm_message.specs.declared.message.Ending.{Ending}
+use Rattle.hm_message.specs.declared.message.Ending.TheVariants as ending
+use Rattle.hm_json.specs.Properties as property
+use Rattle.hm_json.specs.Properties.{needed}
+use Rattle.hm_json.specs.Says.{Holds, Ends}
+use Rattle.hm_json.specs.Spell.{property_of, texts, header_pairs, headers_written, streams_written, text_written, call_written, ending_written, allow_written, written}
+use Rattle.hm_json.proofs.Lookups.{depth_at}
+
+-- ---- what is read
+
+trees-trees_in : (ts : Trees) → trees (trees_in ts) ≡ ts
+trees-trees_in no_trees = refl
+trees-trees_in (more t ts) = ap (λ (x : Trees). more t x) (trees-trees_in ts)
+
+arguments_depth : (ps : Pairs) (xs : List Tree) → property.arguments (map ps) ≡ Ok xs → depth (list (trees xs)) ≤ depths_of_pairs ps
+arguments_depth ps xs h = go (value_at (field_name field.Arguments) (map ps)) refl h
+  where
+    go : (o : Option Tree) → value_at (field_name field.Arguments) (map ps) ≡ o → needed field.Arguments items_in o ≡ Ok xs → depth (list (trees xs)) ≤ depths_of_pairs ps
+    go None e h = absurd cc
+    go (Some (list ts)) e h =
+        let same : trees_in ts ≡ xs = cc in
+        let all : trees xs ≡ ts = ap trees (sym same) ∙ trees-trees_in ts in
+        rw all (depth_at (field_name field.Arguments) ps (list ts) e)
+    go (Some null) e h = absurd cc
+    go (Some (boolean b)) e h = absurd cc
+    go (Some (int z)) e h = absurd cc
+    go (Some (text s)) e h = absurd cc
+    go (Some (bytes s)) e h = absurd cc
+    go (Some (map qs)) e h = absurd cc
+
+item_depth : (ps : Pairs) (t : Tree) → property.item (map ps) ≡ Ok t → depth t ≤ depths_of_pairs ps
+item_depth ps t h = go (value_at (field_name field.Item) (map ps)) refl h
+  where
+    go : (o : Option Tree) → value_at (field_name field.Item) (map ps) ≡ o → needed field.Item Some o ≡ Ok t → depth t ≤ depths_of_pairs ps
+    go None e h = absurd cc
+    go (Some u) e h = let same : u ≡ t = cc in rw (← same) (depth_at (field_name field.Item) ps u e)
+
+ending_fits : (ps : Pairs) (e : Ending) → Ends (map ps) e → ending_depth e ≤ depths_of_pairs ps
+ending_fits ps ending.Void h = omega arith
+ending_fits ps (ending.Result v) h = depth_at (field_name field.Ending) ps (seen.tree v) h.1
+ending_fits ps (ending.Error s) h = omega arith
+
+-- what an object says that isn't too deep fits
+pub read_fits : (ps : Pairs) (m : Message) → depth (map ps) ≤ 64 → Holds (map ps) m → Fits m
+read_fits ps (Invocation headers id target arguments streams) d h = omega (arith, arguments_depth ps arguments h.3)
+read_fits ps (StreamItem headers id v) d h = omega (arith, item_depth ps (seen.tree v) h.2)
+read_fits ps (Completion headers id e) d h = omega (arith, ending_fits ps e h.2)
+read_fits ps (StreamInvocation headers id target arguments streams) d h = omega (arith, arguments_depth ps arguments h.3)
+read_fits ps (CancelInvocation headers id) d h = omega arith
+read_fits ps Ping d h = omega arith
+read_fits ps (Close error allow) d h = omega arith
+read_fits ps (Ack upto) d h = omega arith
+read_fits ps (Sequence first received) d h = omega arith
+
+-- ---- what is written
+
+both_depths : (ps qs : List Pair) → depth_of_values (ps ++ qs) ≡ max (depth_of_values ps) (depth_of_values qs)
+both_depths [] qs = omega arith
+both_depths (p ∷ ps) qs = omega (arith, both_depths ps qs)
+
+pub depth-header_pairs : (hs : List Header) → depth_of_values (header_pairs hs) ≡ 0
+depth-header_pairs [] = refl
+depth-header_pairs (h ∷ hs) = omega (arith, depth-header_pairs hs)
+
+pub depth-texts : (ss : List (List ℕ)) → depth_of_all (texts ss) ≡ 0
+depth-texts [] = refl
+depth-texts (s ∷ ss) = omega (arith, depth-texts ss)
+
+headers_depth : (hs : List Header) → depth_of_values (headers_written hs) ≤ 1
+headers_depth [] = omega arith
+headers_depth (h ∷ hs) = omega (arith, depth-header_pairs hs)
+
+streams_depth : (ss : List (List ℕ)) → depth_of_values (streams_written ss) ≤ 1
+streams_depth [] = omega arith
+streams_depth (s ∷ ss) = omega (arith, depth-texts ss)
+
+text_depth : (f : Field) (s : Option (List ℕ)) → depth_of_values (text_written f s) ≤ 0
+text_depth f None = omega arith
+text_depth f (Some s) = omega arith
+
+call_depth : (s : List ℕ) (xs : List Tree) (ss : List (List ℕ)) → depth (list (trees xs)) ≤ 63 → depth_of_values (call_written s xs ss) ≤ 63
+call_depth s xs ss h =
+    omega (arith, streams_depth ss, both_depths (property_of field.Target (text s) ++ property_of field.Arguments (list (trees xs))) (streams_written ss))
+
+ended_depth : (e : Ending) → ending_depth e ≤ 63 → depth_of_values (ending_written e) ≤ 63
+ended_depth ending.Void h = omega arith
+ended_depth (ending.Result v) h = omega arith
+ended_depth (ending.Error s) h = omega arith
+
+-- what stands before, an id, and what stands behind
+three_depths : (a b c : List Pair) → depth_of_values a ≤ 1 → depth_of_values b ≤ 0 → depth_of_values c ≤ 63 → depth_of_values (a ++ b ++ c) ≤ 63
+three_depths a b c x y z = omega (arith, both_depths (a ++ b) c, both_depths a b)
+
+written_depth : (m : Message) → Fits m → depth_of_values (written m) ≤ 63
+written_depth (Invocation headers id target arguments streams) h =
+    three_depths (headers_written headers) (text_written field.InvocationId id) _ (headers_depth headers) (text_depth field.InvocationId id) (call_depth target arguments streams h)
+written_depth (StreamItem headers id v) h =
+    three_depths (headers_written headers) (property_of field.InvocationId (text id)) (property_of field.Item (seen.tree v)) (headers_depth headers) (omega arith) (omega arith)
+written_depth (Completion headers id e) h =
+    three_depths (headers_written headers) (property_of field.InvocationId (text id)) _ (headers_depth headers) (omega arith) (ended_depth e h)
+written_depth (StreamInvocation headers id target arguments streams) h =
+    three_depths (headers_written headers) (property_of field.InvocationId (text id)) _ (headers_depth headers) (omega arith) (call_depth target arguments streams h)
+written_depth (CancelInvocation headers id) h =
+    omega (arith, headers_depth headers, both_depths (headers_written headers) (property_of field.InvocationId (text id)))
+written_depth Ping h = omega arith
+written_depth (Close error true) h = omega (arith, text_depth field.Error error, both_depths (text_written field.Error error) (allow_written true))
+written_depth (Close error false) h = omega (arith, text_depth field.Error error, both_depths (text_written field.Error error) (allow_written false))
+written_depth (Ack upto) h = omega arith
+written_depth (Sequence first None) h = omega arith
+written_depth (Sequence first (Some n)) h = omega arith
+
+pub object_depth : (m : Message) → Fits m → depth_of_values (property_of field.Kind (int (number (kind_of m))) ++ written m) ≤ 63
+object_depth m h = omega (arith, written_depth m h)

@@ -1,0 +1,15 @@
+//! The hub's messages as JSON frames: HubProtocol.md of ASP.NET Core, "JSON Encoding". A frame is
+//! without the separator that ends it.
+#![tactic(auto)]
+
+mod properties;
+mod reading;
+mod refusal;
+mod writing;
+
+pub use reading::{exactly_one, read_message};
+pub use refusal::Refusal;
+pub use writing::write_message;
+
+#[cfg(test)]
+mod tests;

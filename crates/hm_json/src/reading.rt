@@ -1,0 +1,178 @@
+ghost use Rattle.std.specs.Prelude.{◌≡◌, IfOk, IfErr, Ok, Err, Some, None, option_map};
+ghost use Rattle.hv_value.specs.Tree.{map, pairs};
+ghost use Rattle.hv_value.specs.View.{tree};
+ghost use Rattle.hm_message.specs.Kind.{kind_of, number as number_of};
+ghost use Rattle.hm_message.specs.Message.{Fits};
+ghost use Rattle.hm_message.specs.declared.kind.Kind.TheVariants as kinds;
+ghost use Rattle.hm_json.specs.Properties.{error as error_of, outcome, type_of, faults, first};
+ghost use Rattle.hm_json.specs.Refusals.{MemoryOr};
+ghost use Rattle.hm_json.specs.Says.{Says, Unknown, Why, Holds, Ends, IsMessage, IsUnknown, IsFaulty};
+ghost use Rattle.hm_json.specs.ExactlyOne.{ExactlyOne};
+ghost use Rattle.hm_json.specs.ReadForms.{MessageIs, UnknownIs};
+
+use crate::properties::{
+    any, flag, headers, items, number, optional_text, property, text, texts, whole,
+};
+use crate::refusal::Refusal;
+use hm_message::{Ending, Field, Kind, Message, Read, number_in};
+use hv_json::read_value;
+use hv_value::{Entries, Text, Value};
+use std::alloc::{AllocError, Global};
+
+/// Each frame says exactly one message, is of exactly one type that no message has, or is refused
+/// for exactly one reason. It is a law, and calls for no work.
+pub fn exactly_one(frame: &[u8])
+    ensures { ExactlyOne frame.now }
+{
+    let _ = frame;
+}
+
+fn invocation(alloc: Global, object: &Entries) -> Result<Message, Refusal>
+    ensures kind { IfOk result (λ m. kind_of m ≡ kinds.Invocation) }
+    ensures ok { IfOk result (λ m. Holds (map (pairs object.now)) m) }
+    ensures err { IfErr result
+        (λ e. MemoryOr e (first (faults kinds.Invocation (map (pairs object.now))) ≡ Some e)) }
+{
+    Ok(Message::Invocation {
+        headers: headers(alloc, object)?,
+        id: optional_text(object, Field::InvocationId)?,
+        target: text(object, Field::Target)?,
+        arguments: items(object, Field::Arguments)?,
+        streams: texts(alloc, object, Field::StreamIds)?,
+    })
+}
+
+fn stream_item(alloc: Global, object: &Entries) -> Result<Message, Refusal>
+    ensures kind { IfOk result (λ m. kind_of m ≡ kinds.StreamItem) }
+    ensures ok { IfOk result (λ m. Holds (map (pairs object.now)) m) }
+    ensures err { IfErr result
+        (λ e. MemoryOr e (first (faults kinds.StreamItem (map (pairs object.now))) ≡ Some e)) }
+{
+    Ok(Message::StreamItem {
+        headers: headers(alloc, object)?,
+        id: text(object, Field::InvocationId)?,
+        item: any(object, Field::Item)?,
+    })
+}
+
+fn completion(alloc: Global, object: &Entries) -> Result<Message, Refusal>
+    ensures kind { IfOk result (λ m. kind_of m ≡ kinds.Completion) }
+    ensures ok { IfOk result (λ m. Holds (map (pairs object.now)) m) }
+    ensures err { IfErr result
+        (λ e. MemoryOr e (first (faults kinds.Completion (map (pairs object.now))) ≡ Some e)) }
+{
+    let headers = headers(alloc, object)?;
+    let id = text(object, Field::InvocationId)?;
+    let error = optional_text(object, Field::Error)?;
+    let ending = match (error, property(object, "result")) {
+        (Some(_), Some(_)) => return Err(Refusal::Both),
+        (Some(error), None) => Ending::Error(error),
+        (None, Some(result)) => Ending::Result(result.copy()?),
+        (None, None) => Ending::Void,
+    };
+    Ok(Message::Completion {
+        headers,
+        id,
+        ending,
+    })
+}
+
+fn stream_invocation(alloc: Global, object: &Entries) -> Result<Message, Refusal>
+    ensures kind { IfOk result (λ m. kind_of m ≡ kinds.StreamInvocation) }
+    ensures ok { IfOk result (λ m. Holds (map (pairs object.now)) m) }
+    ensures err { IfErr result
+        (λ e. MemoryOr e (first (faults kinds.StreamInvocation (map (pairs object.now))) ≡ Some e)) }
+{
+    Ok(Message::StreamInvocation {
+        headers: headers(alloc, object)?,
+        id: text(object, Field::InvocationId)?,
+        target: text(object, Field::Target)?,
+        arguments: items(object, Field::Arguments)?,
+        streams: texts(alloc, object, Field::StreamIds)?,
+    })
+}
+
+fn cancel_invocation(alloc: Global, object: &Entries) -> Result<Message, Refusal>
+    ensures kind { IfOk result (λ m. kind_of m ≡ kinds.CancelInvocation) }
+    ensures ok { IfOk result (λ m. Holds (map (pairs object.now)) m) }
+    ensures err { IfErr result
+        (λ e. MemoryOr e (first (faults kinds.CancelInvocation (map (pairs object.now))) ≡ Some e)) }
+{
+    Ok(Message::CancelInvocation {
+        headers: headers(alloc, object)?,
+        id: text(object, Field::InvocationId)?,
+    })
+}
+
+fn close(object: &Entries) -> Result<Message, Refusal>
+    ensures kind { IfOk result (λ m. kind_of m ≡ kinds.Close) }
+    ensures ok { IfOk result (λ m. Holds (map (pairs object.now)) m) }
+    ensures err { IfErr result
+        (λ e. MemoryOr e (first (faults kinds.Close (map (pairs object.now))) ≡ Some e)) }
+{
+    Ok(Message::Close {
+        error: optional_text(object, Field::Error)?,
+        allow: flag(object, Field::AllowReconnect)?,
+    })
+}
+
+fn sequence(object: &Entries) -> Result<Message, Refusal>
+    ensures kind { IfOk result (λ m. kind_of m ≡ kinds.Sequence) }
+    ensures ok { IfOk result (λ m. Holds (map (pairs object.now)) m) }
+    ensures err { IfErr result
+        (λ e. first (faults kinds.Sequence (map (pairs object.now))) ≡ Some e) }
+{
+    let first = number(object, Field::SequenceId)?;
+    let received = match property(object, "received") {
+        Some(value) => number_in(value),
+        None => None,
+    };
+    Ok(Message::Sequence { first, received })
+}
+
+/// The message of this type.
+fn message(alloc: Global, object: &Entries, kind: Kind) -> Result<Message, Refusal>
+    ensures kind { IfOk result (λ m. kind_of m ≡ kind) }
+    ensures ok { IfOk result (λ m. Holds (map (pairs object.now)) m) }
+    ensures err { IfErr result
+        (λ e. MemoryOr e (first (faults kind (map (pairs object.now))) ≡ Some e)) }
+{
+    match kind {
+        Kind::Invocation => invocation(alloc, object),
+        Kind::StreamItem => stream_item(alloc, object),
+        Kind::Completion => completion(alloc, object),
+        Kind::StreamInvocation => stream_invocation(alloc, object),
+        Kind::CancelInvocation => cancel_invocation(alloc, object),
+        Kind::Ping => Ok(Message::Ping),
+        Kind::Close => close(object),
+        Kind::Ack => {
+            let upto = number(object, Field::SequenceId)?;
+            Ok(Message::Ack { upto })
+        }
+        Kind::Sequence => sequence(object),
+    }
+}
+
+/// What a frame of one JSON object says (HubProtocol.md, "JSON Encoding"). Properties come in any
+/// order, and those that aren't of the message's type are ignored. Headers are read of every type
+/// that has an id, as the document says that messages can carry them.
+///
+/// A refusal is the first in this order: of the text, of the type, of the other properties in the
+/// order in which [`Message`] has them. `NoMemory` may come at any point.
+pub fn read_message(alloc: Global, frame: &[u8]) -> Result<Read, Refusal>
+    ensures message { IfOk result (λ r. MessageIs r (λ m. Says frame.now m × Fits m)) }
+    ensures unknown { IfOk result (λ r. UnknownIs r (λ n. Unknown frame.now n)) }
+    ensures refused { IfErr result (λ e. MemoryOr e (Why frame.now e)) }
+{
+    let value = read_value(alloc, frame)?;
+    // So what was read fits, and can be written again.
+    prove!(value.depth() <= 64);
+    let Value::Map(object) = &value else {
+        return Err(Refusal::NotObject);
+    };
+    let n = whole(object, Field::Kind)?;
+    let Some(kind) = Kind::numbered(n) else {
+        return Ok(Read::Unknown(n));
+    };
+    Ok(Read::Message(message(alloc, object, kind)?))
+}
