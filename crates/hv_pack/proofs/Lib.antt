@@ -1,0 +1,14 @@
+pub mod Texts
+pub mod Loop
+pub mod Takes
+pub mod Again
+pub mod Lists
+pub mod Placed
+pub mod Heads
+pub mod Least
+pub mod NoShorter
+pub mod Shortest
+pub mod Fails
+pub mod Stops
+pub mod Whole
+pub mod Writable

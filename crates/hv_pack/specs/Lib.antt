@@ -1,0 +1,6 @@
+pub mod Marker
+pub mod Reading
+pub mod Packs
+pub mod Writing
+pub mod Why
+pub mod Laws

@@ -1,0 +1,44 @@
+ghost use Rattle.std.specs.Prelude.{◌≡◌};
+ghost use Rattle.hv_pack.specs.declared.error.PackError.TheVariants.{NoMemory};
+
+use std::alloc::{AllocError, AllocFailed};
+
+/// Why no value was read. But for `NoMemory` it is the first refusal in reading order, and `at`
+/// counts from the start of the whole slice and is the place of the marker concerned. At one marker
+/// `TooDeep` and `Key` come before `Short`, and `Short` before `NotUtf8`.
+#[derive(Clone, Copy, Debug, PartialEq, Eq)]
+pub enum PackError {
+    /// The bytes of this marker's number, count, text or bytes run past the end. Where a marker is
+    /// due at the end, as where a list lacks values, `at` is the length of the slice.
+    Short { at: usize },
+    /// c1, which the MessagePack specification leaves unused.
+    Never { at: usize },
+    /// ca or cb, a float.
+    Fraction { at: usize },
+    /// c7 to c9 or d4 to d8, an extension.
+    Ext { at: usize },
+    /// A map's key that is no text.
+    Key { at: usize },
+    /// A text that is not UTF-8.
+    NotUtf8 { at: usize },
+    /// A list or map with 64 others round it.
+    TooDeep { at: usize },
+    /// Memory ran out; this says nothing of the bytes.
+    NoMemory,
+}
+
+impl From<AllocError> for PackError {
+    ghost from_gives = { λ _ e. e ≡ NoMemory };
+
+    fn from(_e: AllocError) -> PackError {
+        PackError::NoMemory
+    }
+}
+
+impl<T: Drop> From<AllocFailed<T>> for PackError {
+    ghost from_gives = { λ _ e. e ≡ NoMemory };
+
+    fn from(_e: AllocFailed<T>) -> PackError {
+        PackError::NoMemory
+    }
+}
