@@ -218,6 +218,20 @@ impl Splitter {
         }
     }
 
+    /// The place of the first byte held: the number of bytes of the stream before it, or 2^64-1 where that is more.
+    pub fn place(&self) -> u64
+        ensures { result ≡ self.now.place }
+    {
+        self.place
+    }
+
+    /// How many bytes are held: those that were fed since the start or the last reset and not passed.
+    pub fn held(&self) -> usize
+        ensures { result ≡ length self.now.bytes }
+    {
+        self.buffer.len() - self.start
+    }
+
     /// Drops what is held, and begins a new stream, in this framing and with the same limit.
     pub fn reset(&mut self, framing: Framing)
         ensures empty { self.new ≡ fresh framing self.old.most }
