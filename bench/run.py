@@ -1,16 +1,19 @@
 #!/usr/bin/env python3
-"""Measures the splitter and `sr replay` beside a plain scan of the same bytes, in one run. It is no test.
+"""Measures the splitter, `sr replay` and `sr check json` beside a plain scan of the same bytes, in one run. It is no test.
 
     bench/run.py [--rounds N] [--mebibytes N]
 
 The splitter (crates/split_bench) counts the frames of 64 MiB, fed in pieces of 4,096 bytes, for frames of 3, 60 and
 32,768 bytes, each followed by the separator. `wc -l` and `grep -c` count the lines of the same bytes with line ends in
-the separators' place. `sr replay` replays a script of 16 MiB, and `wc -l` counts its lines. Of each the best of N
-rounds counts, in processor time (user and system). The ratio is the scan's time by ours: 1.00 is as fast, 0.50 takes
+the separators' place. `sr replay` replays a script of 16 MiB, and `wc -l` counts its lines. `sr check json` checks
+64 MiB of invocations of 60 to 300 bytes; its peak memory is told too. Of each the best of N rounds counts, in
+processor time (user and system). The ratio is the scan's time by ours: 1.00 is as fast, 0.50 takes
 twice as long. Needs the built programs: `rt run` in crates/split_bench and in crates/sr_app, which this does first."""
 import argparse
+import json
 import os
 import pathlib
+import random
 import resource
 import subprocess
 import tempfile
@@ -52,6 +55,24 @@ def frames(length, total):
     return frame * (total // len(frame))
 
 
+def peak(command, path):
+    """The most memory that a run over the file had, in MiB."""
+    with open(path, "rb") as stdin:
+        run = subprocess.Popen(command, stdin=stdin, stdout=subprocess.DEVNULL)
+        usage = os.wait4(run.pid, 0)[2]
+    return usage.ru_maxrss / 1024
+
+
+def invocations(total):
+    draw = random.Random(1)
+    frames = []
+    while sum(map(len, frames)) < 1 << 20:
+        arguments = [draw.choice([draw.randrange(10**6), "text %x" % draw.getrandbits(80), None, {"room": draw.randrange(99), "by": "ann"}]) for _ in range(draw.randrange(2, 8))]
+        frames.append(json.dumps({"type": 1, "invocationId": str(draw.randrange(10**4)), "target": "Send", "arguments": arguments}, separators=(",", ":")).encode() + b"\x1e")
+    piece = b"".join(frames)
+    return piece * (total // len(piece))
+
+
 def script(total):
     lines = OPENING + SEND * 1000
     return lines + b"s read 12345\n" * ((total - len(lines)) // 13)
@@ -62,7 +83,7 @@ def main():
     words.add_argument("--rounds", type=int, default=5)
     words.add_argument("--mebibytes", type=int, default=64)
     asked = words.parse_args()
-    splitter, replay = built("split_bench"), built("sr_app")
+    splitter, program = built("split_bench"), built("sr_app")
     with tempfile.TemporaryDirectory() as folder:
         path, lines = os.path.join(folder, "frames"), os.path.join(folder, "lines")
         for length in (3, 60, 32768):
@@ -74,7 +95,13 @@ def main():
         text = script(16 << 20)
         pathlib.Path(lines).write_bytes(text)
         scans = [("wc -l", seconds(["wc", "-l"], lines, asked.rounds)), ("grep -c", seconds(["grep", "-c", "x"], lines, asked.rounds))]
-        row("replay of 16 MiB", len(text), seconds([replay, "replay"], lines, asked.rounds), scans)
+        row("replay of 16 MiB", len(text), seconds([program, "replay"], lines, asked.rounds), scans)
+        data = invocations(asked.mebibytes << 20)
+        pathlib.Path(path).write_bytes(data)
+        pathlib.Path(lines).write_bytes(data.replace(b"\x1e", b"\n"))
+        check = [program, "check", "json"]
+        row("check json of invocations", len(data), seconds(check, path, asked.rounds), [("wc -l", seconds(["wc", "-l"], lines, asked.rounds))])
+        print(f"check json held {peak(check, path):.1f} MiB at most")
 
 
 if __name__ == "__main__":

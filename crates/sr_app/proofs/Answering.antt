@@ -1,5 +1,5 @@
 -- What is answered to the bytes that were read is the answer to the whole input.
-use Rattle.std.proofs.Common.{◌≡◌, ◌<◌, ◌≤◌, ℕ, ◌⊎◌, inl, inr, List, [], ◌++◌, length, take, Option, Some, None, refl, sym, ◌∙◌, ap, subst}
+use Rattle.std.proofs.Common.{◌≡◌, ◌<◌, ◌≤◌, ℕ, ◌⊎◌, inl, inr, List, [], ◌++◌, length, take, Option, Some, None, refl, sym, ◌∙◌, ap, subst, append_assoc}
 use Rattle.std.specs.Io.KnownBytes.{Appends, Consumes, IsAtEnd}
 use Rattle.std.proofs.lemmas.Bool.{cases_lt}
 use Rattle.std.proofs.lemmas.List.{append-nil}
@@ -7,11 +7,19 @@ use Rattle.sr_app.specs.declared.run.Status.{Status}
 use Rattle.sr_app.specs.declared.run.Status.TheVariants.{Done, Usage, Refused, ReadFault, WriteFault, NoMemory}
 use Rattle.sr_app.specs.Unique.{IsTheOne}
 use Rattle.sr_app.specs.Refusal.{IsRefusedAt}
-use Rattle.sr_app.specs.Run.{IsReplayed, IsRefused, IsText, IsTextAnswer, AnswersWith, Writes, WritesPart}
+use Rattle.sr_app.specs.Run.{IsReplayed, IsRefused, IsTextAnswer, AnswersWith}
+use Rattle.sr_app.specs.Writes.{IsText, Writes, WritesPart}
 use Rattle.sr_app.proofs.Parsing.{refused_front}
 
--- a text within the limit is the whole input
-text_told : (input left : Option (List ℕ)) (text : List ℕ) → Consumes input left text → IsAtEnd left → IsText input text
+-- bytes that were read behind others
+pub consumes_more : (a b c : Option (List ℕ)) (xs ys : List ℕ) → Consumes a b xs → Consumes b c ys → Consumes a c (xs ++ ys)
+consumes_more None b c xs ys p q = tt
+consumes_more (Some a) None c xs ys p q = absurd p
+consumes_more (Some a) (Some b) None xs ys p q = absurd q
+consumes_more (Some a) (Some b) (Some c) xs ys p q = p ∙ ap (λ zs. xs ++ zs) q ∙ sym (append_assoc xs ys c)
+
+-- a text that was read to the end is the whole input
+pub text_told : (input left : Option (List ℕ)) (text : List ℕ) → Consumes input left text → IsAtEnd left → IsText input text
 text_told None left text read ended = tt
 text_told (Some bytes) None text read ended = absurd read
 text_told (Some bytes) (Some rest) text read ended = read ∙ ap (λ xs. text ++ xs) ended ∙ append-nil text

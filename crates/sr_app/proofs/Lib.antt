@@ -1,4 +1,5 @@
 pub mod Answering
+pub mod Checking
 pub mod Frames
 pub mod Grammar
 pub mod Link

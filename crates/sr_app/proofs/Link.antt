@@ -26,10 +26,10 @@ pub record Taking (first held : Held) (processed total : ℕ) (before now : List
       → Goes held stream got before now total
 
 -- what is said of a reader's framing and limit
-with_reader : (P : Framing → ℕ → Type 0) (held : Held) → IsReader held → P held.framing held.most → P Record 32768
+pub with_reader : (P : Framing → ℕ → Type 0) (held : Held) → IsReader held → P held.framing held.most → P Record 32768
 with_reader P held reader fact = subst (λ (m : ℕ). P Record m) reader.most (subst (λ (f : Framing). P f held.most) reader.framing fact)
 
-from_reader : (P : Framing → ℕ → Type 0) (held : Held) → IsReader held → P Record 32768 → P held.framing held.most
+pub from_reader : (P : Framing → ℕ → Type 0) (held : Held) → IsReader held → P Record 32768 → P held.framing held.most
 from_reader P held reader fact = subst (λ (f : Framing). P f held.most) (sym reader.framing) (subst (λ (m : ℕ). P Record m) (sym reader.most) fact)
 
 pub in_step : (held : Held) (items : List Spelled) → IsReader held → IsInStep (always Record) held items

@@ -1,5 +1,7 @@
+pub mod Check
 pub mod Follows
 pub mod Lines
+pub mod Listing
 pub mod Reading
 pub mod Refusal
 pub mod Report
@@ -7,3 +9,4 @@ pub mod Run
 pub mod Script
 pub mod Unique
 pub mod World
+pub mod Writes

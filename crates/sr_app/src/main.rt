@@ -1,6 +1,7 @@
-//! The program `sr`: it replays a script over the two ends of one link.
+//! The program `sr`: it replays a script over the two ends of one link, and checks frames of messages.
 #![tactic(auto)]
 
+mod check;
 mod command;
 mod pair;
 mod report;

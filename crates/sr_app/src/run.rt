@@ -2,8 +2,11 @@ ghost use Rattle.std.specs.Prelude.{◌≡◌, ◌≢◌, ◌≤◌, ◌+◌, �
 ghost use Rattle.std.specs.Io.KnownBytes.{Appends, Consumes, IsAtEnd};
 ghost use Rattle.hw_io.specs.Causes.{Rose};
 ghost use Rattle.hw_io.specs.Known.{PutAppends};
-ghost use Rattle.sr_app.specs.Run.{IsReplay, IsReplayed, IsRefused, IsTextAnswer, AnswersWith, Writes, WritesPart, WritesPartFor, ReadsBounded, usage_line};
+ghost use Rattle.sr_app.specs.Run.{IsReplay, IsCheckJson, IsNoCommand, IsReplayed, IsRefused, IsTextAnswer, AnswersWith, WritesDone, WritesRefused, WritesPartFor, ReadsBounded, usage_line};
+ghost use Rattle.sr_app.specs.Check.{IsListed, IsListedAll};
+ghost use Rattle.sr_app.specs.Writes.{Writes, WritesPart, WritesOfRead};
 
+use crate::check::check_json;
 use crate::pair::replay;
 use crate::script::{MOST_BYTES, ScriptError, parse};
 use hw_io::{Failed, Sink, Source};
@@ -113,32 +116,44 @@ fn is_replay(words: &[String]) -> bool
     words.len() == 1 && words[0].as_str() == "replay"
 }
 
+/// Whether the words are those of the command `check json`.
+fn is_check_json(words: &[String]) -> bool
+    ensures { IsTrue result ↔ IsCheckJson words.now }
+{
+    words.len() == 2 && words[0].as_str() == "check" && words[1].as_str() == "json"
+}
+
 /// Does what the words say, over this input and this output, and answers the exit status.
 ///
 /// | status | where |
 /// |---|---|
-/// | 0 | the input is a script; its report was written |
+/// | 0 | the input is what the command asks for; its whole answer was written |
 /// | 1 | the words are no command; the usage line was written |
-/// | 2 | the input is no script; the line that is refused was written |
-/// | 3 | the input failed; nothing was written |
+/// | 2 | the input is refused; the refusal was written, behind the lines of the frames that were checked |
+/// | 3 | the input failed; nothing was written but the lines of the frames that were checked |
 /// | 4 | the output failed; it took a first part of what was to be written |
-/// | 7 | memory is wanting; nothing was written |
+/// | 7 | memory is wanting; nothing was written but the lines of the frames that were checked |
 pub fn run<S: Source, K: Sink>(alloc: Global, words: &[String], input: &mut S, out: &mut K) -> u8
     ensures status { (result ≡ 0) ⊎ (result ≡ 1) ⊎ (result ≡ 2) ⊎ (result ≡ 3) ⊎ (result ≡ 4) ⊎ (result ≡ 7) }
-    ensures done { result ≡ 0 → IsReplay words.now × IsAtEnd (S.left input.new)
-        × Writes IsReplayed (S.left input.old) (K.holds out.old) (K.holds out.new) }
-    ensures usage { result ≡ 1 → (IsReplay words.now → ⊥) × Appends (K.holds out.old) (K.holds out.new) usage_line }
-    ensures wrong_words { (IsReplay words.now → ⊥) → (result ≡ 1) ⊎ (result ≡ 4) }
-    ensures refused { result ≡ 2 → IsReplay words.now × Writes IsRefused (S.left input.old) (K.holds out.old) (K.holds out.new) }
-    ensures read_fault { result ≡ 3 → Rose (S.faults input.old) (S.faults input.new) × (out.new ≡ out.old) }
+    ensures done { result ≡ 0 → IsAtEnd (S.left input.new) × WritesDone words.now (S.left input.old) (K.holds out.old) (K.holds out.new) }
+    ensures usage { result ≡ 1 → IsNoCommand words.now × Appends (K.holds out.old) (K.holds out.new) usage_line }
+    ensures wrong_words { IsNoCommand words.now → (result ≡ 1) ⊎ (result ≡ 4) }
+    ensures refused { result ≡ 2 → WritesRefused words.now (S.left input.old) (K.holds out.old) (K.holds out.new) }
+    ensures read_fault { result ≡ 3 → Rose (S.faults input.old) (S.faults input.new)
+        × ((IsReplay words.now × (out.new ≡ out.old))
+        ⊎ (IsCheckJson words.now × WritesOfRead IsListedAll (S.left input.old) (S.left input.new) (K.holds out.old) (K.holds out.new))) }
     ensures write_fault { result ≡ 4 → Rose (K.faults out.old) (K.faults out.new)
         × WritesPartFor words.now (S.left input.old) (K.holds out.old) (K.holds out.new) }
-    ensures no_memory { result ≡ 7 → out.new ≡ out.old }
-    ensures bounded { ReadsBounded (S.left input.old) (S.left input.new) }
-    ensures unread { (IsReplay words.now → ⊥) → input.new ≡ input.old }
+    ensures no_memory { result ≡ 7 → (IsReplay words.now × (out.new ≡ out.old))
+        ⊎ (IsCheckJson words.now × Writes IsListed (S.left input.old) (K.holds out.old) (K.holds out.new)) }
+    ensures bounded { IsReplay words.now → ReadsBounded (S.left input.old) (S.left input.new) }
+    ensures unread { IsNoCommand words.now → input.new ≡ input.old }
 {
     if is_replay(words) {
         return run_replay(alloc, input, out) as u8;
+    }
+    if is_check_json(words) {
+        return check_json(alloc, input, out) as u8;
     }
     write(out, USAGE, Status::Usage) as u8
 }

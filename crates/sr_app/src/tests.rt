@@ -21,17 +21,16 @@ fn one(alloc: Global, number: Option<u64>) -> Result<Vec<u64>, Fail> {
 /// The status and what was written, where the source's or the sink's call of a number fails.
 fn outcome(
     alloc: Global,
-    word: &str,
-    script: &[u8],
+    command: &[&str],
+    bytes: &[u8],
     source_fails: Option<u64>,
     sink_fails: Option<u64>,
 ) -> Result<(u8, Vec<u8>), Fail> {
     let mut words = Vec::new(alloc);
-    words.push(String::from_str(alloc, word)?)?;
-    let mut input = MemorySource::start(
-        Vec::from_slice(alloc, script)?,
-        one(alloc, source_fails)?,
-    )?;
+    for word in command {
+        words.push(String::from_str(alloc, word)?)?;
+    }
+    let mut input = MemorySource::start(Vec::from_slice(alloc, bytes)?, one(alloc, source_fails)?)?;
     let mut out = MemorySink::start(alloc, 1000, one(alloc, sink_fails)?)?;
     let status = run(alloc, &words, &mut input, &mut out);
     Ok((status, Vec::from_slice(alloc, out.bytes())?))
@@ -57,7 +56,7 @@ fn answers_words_and_scripts(rt: HostRuntime) -> Result<(), Fail> {
         ),
     ];
     for (word, script, status, written) in cases {
-        let got = outcome(rt.alloc(), word, script, None, None)?;
+        let got = outcome(rt.alloc(), &[word], script, None, None)?;
         assert_eq!(rt; got.0, status, "{word}");
         assert_eq!(rt; got.1.as_slice(), written, "{word}");
     }
@@ -74,13 +73,81 @@ fn fails_with_its_source_and_its_sink(rt: HostRuntime) -> Result<(), Fail> {
         (None, Some(1), 0),
     ];
     for (source_fails, sink_fails, status) in cases {
-        let got = outcome(rt.alloc(), "replay", SCRIPT, source_fails, sink_fails)?;
+        let got = outcome(rt.alloc(), &["replay"], SCRIPT, source_fails, sink_fails)?;
         assert_eq!(rt; got.0, status, "{source_fails:?} {sink_fails:?}");
         assert_eq!(rt;
             got.1.is_empty(),
             status != 0,
             "{source_fails:?} {sink_fails:?}"
         );
+    }
+    Ok(())
+}
+
+#[test]
+fn checks_frames(rt: HostRuntime) -> Result<(), Fail> {
+    let cases: [(&[u8], u8, &[u8]); 8] = [
+        (b"", 0, b""),
+        (
+            b"{\"type\":6}\x1e{\"type\":10}\x1e{\"type\":6}\x1e",
+            0,
+            b"0 message {\"type\":6}\n11 unknown 10\n23 message {\"type\":6}\n",
+        ),
+        (
+            b"{\"type\":6}\x1e{\"type\":3,\"invocationId\":\"1\",\"result\":1,\"error\":\"e\"}\x1e{\"type\":6}\x1e",
+            2,
+            b"0 message {\"type\":6}\n11 refused Both\n",
+        ),
+        (
+            b"{\"type\":3,\"invocationId\":\"1\",\"result\":1,\"error\":null}\x1e",
+            0,
+            b"0 message {\"invocationId\":\"1\",\"result\":1,\"type\":3}\n",
+        ),
+        (
+            b"{\"type\":2,\"invocationId\":\"1\",\"item\":1.5}\x1e",
+            2,
+            b"0 refused Fraction\n",
+        ),
+        (b"[1]\x1e", 2, b"0 refused NotObject\n"),
+        (b"{\"type\":8}\x1e", 2, b"0 refused Missing sequenceId\n"),
+        (
+            b"{\"type\":6}\x1e{\"type\"",
+            2,
+            b"0 message {\"type\":6}\n11 unfinished 7\n",
+        ),
+    ];
+    for (bytes, status, written) in cases {
+        let got = outcome(rt.alloc(), &["check", "json"], bytes, None, None)?;
+        assert_eq!(rt; got.0, status);
+        assert_eq!(rt; got.1.as_slice(), written);
+    }
+    Ok(())
+}
+
+#[test]
+fn checking_fails_with_its_source_and_its_sink(rt: HostRuntime) -> Result<(), Fail> {
+    let frames = b"{\"type\":6}\x1e{\"type\":6}\x1e";
+    let cases: [(Option<u64>, Option<u64>, u8, &[u8]); 4] = [
+        (Some(0), None, 3, b""),
+        (
+            Some(1),
+            None,
+            3,
+            b"0 message {\"type\":6}\n11 message {\"type\":6}\n",
+        ),
+        (None, Some(0), 4, b""),
+        (None, Some(1), 4, b"0 message {\"type\":6}\n"),
+    ];
+    for (source_fails, sink_fails, status, written) in cases {
+        let got = outcome(
+            rt.alloc(),
+            &["check", "json"],
+            frames,
+            source_fails,
+            sink_fails,
+        )?;
+        assert_eq!(rt; got.0, status);
+        assert_eq!(rt; got.1.as_slice(), written);
     }
     Ok(())
 }
