@@ -15,6 +15,7 @@ import os
 import pathlib
 import random
 import resource
+import shutil
 import subprocess
 import tempfile
 
@@ -33,12 +34,12 @@ def built(crate):
 
 
 def seconds(command, path, rounds):
-    """The least processor time of so many runs over the file."""
+    """The least processor time of so many runs over the file, into another file: at /dev/null grep stops early."""
     least = float("inf")
     for _ in range(rounds):
         before = resource.getrusage(resource.RUSAGE_CHILDREN)
-        with open(path, "rb") as stdin:
-            subprocess.run(command, stdin=stdin, stdout=subprocess.DEVNULL, env={**os.environ, "LC_ALL": "C"}, check=True)
+        with open(path, "rb") as stdin, open(path + ".out", "wb") as stdout:
+            subprocess.run(command, stdin=stdin, stdout=stdout, env={**os.environ, "LC_ALL": "C"}, check=True)
         after = resource.getrusage(resource.RUSAGE_CHILDREN)
         least = min(least, after.ru_utime + after.ru_stime - before.ru_utime - before.ru_stime)
     return least
@@ -56,11 +57,14 @@ def frames(length, total):
 
 
 def peak(command, path):
-    """The most memory that a run over the file had, in MiB."""
-    with open(path, "rb") as stdin:
-        run = subprocess.Popen(command, stdin=stdin, stdout=subprocess.DEVNULL)
-        usage = os.wait4(run.pid, 0)[2]
-    return usage.ru_maxrss / 1024
+    """The most memory that a run had when it was handed the whole file, in MiB."""
+    run = subprocess.Popen(command, stdin=subprocess.PIPE, stdout=subprocess.DEVNULL)
+    with open(path, "rb") as data:
+        shutil.copyfileobj(data, run.stdin)
+    status = pathlib.Path(f"/proc/{run.pid}/status").read_text()
+    run.stdin.close()
+    run.wait()
+    return int(status.split("VmHWM:")[1].split()[0]) / 1024
 
 
 def invocations(total):
@@ -90,11 +94,11 @@ def main():
             data = frames(length, asked.mebibytes << 20)
             pathlib.Path(path).write_bytes(data)
             pathlib.Path(lines).write_bytes(data.replace(b"\x1e", b"\n"))
-            scans = [(scan, seconds(command, lines, asked.rounds)) for scan, command in (("wc -l", ["wc", "-l"]), ("grep -c", ["grep", "-c", "x"]))]
+            scans = [(scan, seconds(command, lines, asked.rounds)) for scan, command in (("wc -l", ["wc", "-l"]), ("grep -c", ["grep", "-c", "r"]))]
             row(f"splitter, frames of {length:,}", len(data), seconds([splitter], path, asked.rounds), scans)
         text = script(16 << 20)
         pathlib.Path(lines).write_bytes(text)
-        scans = [("wc -l", seconds(["wc", "-l"], lines, asked.rounds)), ("grep -c", seconds(["grep", "-c", "x"], lines, asked.rounds))]
+        scans = [("wc -l", seconds(["wc", "-l"], lines, asked.rounds)), ("grep -c", seconds(["grep", "-c", "r"], lines, asked.rounds))]
         row("replay of 16 MiB", len(text), seconds([program, "replay"], lines, asked.rounds), scans)
         data = invocations(asked.mebibytes << 20)
         pathlib.Path(path).write_bytes(data)
