@@ -18,7 +18,8 @@ fn told(alloc: Global, frame: &str) -> Result<Vec<u8>, AllocError> {
     Vec::from_slice(alloc, words.as_bytes())
 }
 
-/// The frames of HubProtocol.md, "JSON Encoding".
+/// Frames after the examples of HubProtocol.md, "JSON Encoding", as remembered: no copy of it was at
+/// hand.
 #[test]
 fn examples(rt: HostRuntime) -> Result<(), Fail> {
     let cases: [(&str, &str); 16] = [
