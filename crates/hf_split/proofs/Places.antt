@@ -1,16 +1,15 @@
 -- Where the first separator stands, and what it says of the frames.
-use Rattle.std.proofs.Common.{◌≡◌, ◌≢◌, ◌<◌, ◌≤◌, ◌+◌, ◌-◌, ℕ, List, [], ◌∷◌, ◌++◌, length, take, drop, get_or, refl, sym, ◌∙◌, ap, subst, arith, length-append, length-take, Option, Some, None, IsSome}
+use Rattle.std.proofs.Common.{◌≡◌, ◌≢◌, ◌<◌, ◌≤◌, ◌+◌, ◌-◌, ◌⊎◌, inl, inr, ℕ, suc, min, List, [], ◌∷◌, ◌++◌, length, take, drop, get_or, sym, ◌∙◌, ap, subst, arith, length-append, length-take, Option, Some, None}
 use Rattle.std.proofs.Math.Seq.{take-append-add}
 use Rattle.memchr.specs.Find.{IsFirstByte, is_byte}
-use Rattle.std.proofs.lemmas.Bool.{eqb-true, eq-eqb}
-use Rattle.std.proofs.lemmas.List.{get_or_default, take_all, take-take, length-take-le, take_more, take-append-drop, get_or-take, drop-append-le, take-append-le, drop-drop, get_or_append_left, get_or-append-add}
-use Rattle.std.proofs.lemmas.List.Elements.{All-append, All-take}
-use Rattle.hf_split.specs.declared.framing.Framing.{Framing}
+use Rattle.std.proofs.lemmas.Bool.{eqb-true, eq-eqb, cases_eq, cases_lt}
+use Rattle.std.proofs.lemmas.List.{get_or_default, take_min, take_all, take-take, length-take-le, take_more, take-append-drop, get_or-take, drop-take, get_or-append-add}
+use Rattle.std.proofs.lemmas.List.Elements.{All-append, All-nil, All-cons, All-take}
 use Rattle.hf_split.specs.declared.framing.Framing.TheVariants.{Record}
-use Rattle.hf_split.specs.Cuts.{Spelled, IsPlain, BeginsWith, IsTooLong, IsWaiting}
-use Rattle.hf_split.specs.Held.{Held, place_of, past}
-use Rattle.hf_split.specs.Marks.{IsMarkAt, IsFirstMark, IsMarked}
-use Rattle.hf_split.proofs.Spellings.{ended, plain_not, plain_begins_none, read_once}
+use Rattle.hf_split.specs.Cuts.{IsPlain, BeginsWith, IsFaulty, IsWaiting}
+use Rattle.hf_split.specs.Marks.{IsMarkAt, IsFirstMark}
+use Rattle.hf_split.specs.Nexts.{IsFrameAt}
+use Rattle.hf_split.proofs.Spellings.{plain_begins_none}
 
 -- what a search for the separator finds
 pub first_mark : (bytes : List ℕ) (found : Option ℕ) → IsFirstByte (is_byte 30) bytes found → IsFirstMark bytes found
@@ -25,9 +24,9 @@ first_mark bytes (Some n) found = record {
 }
 
 -- a separator within the limit ends a frame
-pub begins_at : (framing : Framing) (most : ℕ) (bytes : List ℕ) (n : ℕ) → IsMarkAt (take (most + 1) bytes) n
-    → BeginsWith framing most bytes (record { spelling = take (n + 1) bytes; frame = take n bytes })
-begins_at Record most bytes n mark =
+begins_at : (most : ℕ) (bytes : List ℕ) (n : ℕ) → IsMarkAt (take (most + 1) bytes) n
+    → BeginsWith Record most bytes (record { spelling = take (n + 1) bytes; frame = take n bytes })
+begins_at most bytes n mark =
     let short : n ≤ most = omega (arith, mark.inside, length-take (most + 1) bytes) in
     let inside : n < length bytes = omega (arith, mark.inside, length-take (most + 1) bytes) in
     let size : length (take n bytes) ≡ n = length-take-le n bytes (omega arith) in
@@ -41,58 +40,25 @@ begins_at Record most bytes n mark =
       front = rw sized (sym (take-append-drop (n + 1) bytes));
     }
 
--- the mark of a frame is its length
-pub mark_of : (framing : Framing) (most : ℕ) (bytes : List ℕ) (item : Spelled) (mark : Option ℕ) → IsMarked most bytes mark → BeginsWith framing most bytes item
-    → (mark ≡ Some (length item.frame)) × (length item.spelling ≡ length item.frame + 1)
-mark_of Record most bytes item None plain begins = absurd (plain_begins_none most bytes item plain begins)
-mark_of Record most bytes item (Some n) at begins =
-    let inside : n < length bytes = omega (arith, at.inside, length-take (most + 1) bytes) in
-    let found = begins_at Record most bytes n at in
-    let first : Spelled = record { spelling = take (n + 1) bytes; frame = take n bytes } in
-    let same : first ≡ item = read_once Record first item (drop (length first.spelling) bytes) (drop (length item.spelling) bytes) found.is_frame.spells begins.is_frame.spells
-    (sym found.front ∙ begins.front) in
-    let end = ended most bytes item begins in
-    (ap (λ (k : ℕ). Some k) (sym (length-take-le n bytes (omega arith)) ∙ ap (λ (x : Spelled). length x.frame) same), end.spelling)
-
-pub not_marked : (framing : Framing) (most : ℕ) (bytes : List ℕ) (item : Spelled) (mark : Option ℕ) → IsMarked most bytes mark → BeginsWith framing most bytes item → mark ≡ None → ⊥
-not_marked framing most bytes item mark marked begins none =
-    let some : mark ≡ Some (length item.frame) = (mark_of framing most bytes item mark marked begins).0 in
-    cc
-
--- no separator within the limit
-pub unmarked_begins_none : (framing : Framing) (most : ℕ) (bytes : List ℕ) → IsPlain (take (most + 1) bytes) → (item : Spelled) → BeginsWith framing most bytes item → ⊥
-unmarked_begins_none Record most bytes plain item begins = plain_begins_none most bytes item plain begins
-
-pub is_too_long : (framing : Framing) (most : ℕ) (bytes : List ℕ) → IsPlain (take (most + 1) bytes) → most < length bytes → IsTooLong framing most bytes
-is_too_long Record most bytes plain long = (long, plain)
-
-pub too_long_more : (framing : Framing) (most : ℕ) (bytes : List ℕ) → IsTooLong framing most bytes → most < length bytes
-too_long_more Record most bytes long = long.0
-
-pub too_long_plain : (framing : Framing) (most : ℕ) (bytes : List ℕ) (mark : Option ℕ) → IsMarked most bytes mark → IsTooLong framing most bytes → mark ≡ None
-too_long_plain Record most bytes None marked long = refl
-too_long_plain Record most bytes (Some n) at long = absurd (plain_not (take (most + 1) bytes) n long.1 at.inside at.mark)
-
-pub is_waiting : (framing : Framing) (most : ℕ) (bytes : List ℕ) → IsPlain (take (most + 1) bytes) → length bytes ≤ most → IsWaiting framing most bytes
-is_waiting framing most bytes plain short = record {
-  no_frame = unmarked_begins_none framing most bytes plain;
-  no_fault = λ long. let more : most < length bytes = too_long_more framing most bytes long in absurd (omega arith);
+pub marked_frame : (most : ℕ) (bytes : List ℕ) (n : ℕ) → IsMarkAt (take (most + 1) bytes) n → IsFrameAt Record most bytes 0 n (n + 1)
+marked_frame most bytes n mark = record {
+  some = omega arith;
+  in_order = omega arith;
+  within = omega arith;
+  inside = omega (arith, mark.inside, length-take (most + 1) bytes);
+  begins = let e : n - 0 ≡ n = omega arith in
+      subst (λ (k : ℕ). BeginsWith Record most bytes (record { spelling = take (n + 1) bytes; frame = take k bytes })) (sym e) (begins_at most bytes n mark);
 }
 
--- marks after a piece
-mark_kept : (most : ℕ) (bytes piece : List ℕ) (n : ℕ) → IsMarkAt (take (most + 1) bytes) n → IsMarkAt (take (most + 1) (bytes ++ piece)) n
-mark_kept most bytes piece n at =
-    let inside : n < length bytes = omega (arith, at.inside, length-take (most + 1) bytes) in
-    let within : n < most + 1 = omega (arith, at.inside, length-take (most + 1) bytes) in
-    record {
-      inside = omega (arith, length-take (most + 1) (bytes ++ piece), length-append bytes piece);
-      mark = get_or-take (most + 1) (bytes ++ piece) n 0 within ∙ get_or_append_left bytes piece 0 n inside ∙ sym (get_or-take (most + 1) bytes n 0 within) ∙ at.mark;
-      plain = subst IsPlain (take-take n (most + 1) bytes (omega arith) ∙ sym (take-append-le n bytes piece (omega arith)) ∙ sym (take-take n (most + 1) (bytes ++ piece) (omega arith))) at.plain;
-    }
-
-pub marked_kept : (most : ℕ) (bytes piece : List ℕ) (mark : Option ℕ) → IsSome mark → IsMarked most bytes mark → IsMarked most (bytes ++ piece) mark
-marked_kept most bytes piece None some marked = cc
-marked_kept most bytes piece (Some n) some marked = mark_kept most bytes piece n marked
+-- no separator, and room for one
+pub plain_waits : (most : ℕ) (bytes : List ℕ) → IsPlain (take (most + 1) bytes) → length bytes ≤ most → IsWaiting Record most bytes
+plain_waits most bytes plain short = record {
+  no_frame = λ item. plain_begins_none most bytes item plain;
+  no_fault = not_faulty;
+} where
+  not_faulty : IsFaulty Record most bytes → ⊥
+  not_faulty (inl long) = absurd (omega (arith, long.0))
+  not_faulty (inr bad) = bad
 
 -- no separator in front, and the first of what follows
 mark_behind : (front bytes : List ℕ) (n : ℕ) → IsPlain front → IsMarkAt bytes n → IsMarkAt (front ++ bytes) (length front + n)
@@ -100,14 +66,6 @@ mark_behind front bytes n plain at = record {
   inside = omega (arith, at.inside, length-append front bytes);
   mark = get_or-append-add front bytes n 0 ∙ at.mark;
   plain = subst IsPlain (sym (take-append-add front bytes n)) (All-append (λ b. b ≢ 30) front (take n bytes) plain at.plain);
-}
-
--- the first separator of the bytes is the first of their front, where it stands there
-mark_in_front : (limit : ℕ) (bytes : List ℕ) (n : ℕ) → n < limit → IsMarkAt bytes n → IsMarkAt (take limit bytes) n
-mark_in_front limit bytes n within at = record {
-  inside = omega (arith, at.inside, length-take limit bytes);
-  mark = get_or-take limit bytes n 0 within ∙ at.mark;
-  plain = subst IsPlain (sym (take-take n limit bytes (omega arith))) at.plain;
 }
 
 -- none among the first bytes, and what stands behind them
@@ -120,37 +78,56 @@ mark_past_front near bytes n inside plain at =
 pub plain_past_front : (near : ℕ) (bytes : List ℕ) → IsPlain (take near bytes) → IsPlain (drop near bytes) → IsPlain bytes
 plain_past_front near bytes front rest = subst IsPlain (take-append-drop near bytes) (All-append (λ b. b ≢ 30) (take near bytes) (drop near bytes) front rest)
 
--- no separator so far, and the first of the piece within the limit
-pub marked_new : (most : ℕ) (bytes piece : List ℕ) (n : ℕ) → IsMarked most bytes None → length bytes + n ≤ most → IsMarkAt piece n → IsMarkAt (take (most + 1) (bytes ++ piece)) (length bytes + n)
-marked_new most bytes piece n plain within at =
-    mark_in_front (most + 1) (bytes ++ piece) (length bytes + n) (omega arith)
-    (mark_behind bytes piece n (subst IsPlain (take_all (most + 1) bytes (omega arith)) plain) at)
+-- bytes hold a first separator or none
+mark_more : (b : ℕ) (bytes : List ℕ) (n : ℕ) → b ≢ 30 → IsMarkAt bytes n → IsMarkAt (b ∷ bytes) (suc n)
+mark_more b bytes n other at = record {
+  inside = omega (arith, at.inside);
+  mark = at.mark;
+  plain = All-cons (λ x. x ≢ 30) b (take n bytes) other at.plain;
+}
 
--- none within the limit
-pub marked_none : (most : ℕ) (bytes piece : List ℕ) (n : ℕ) → IsMarked most bytes None → length bytes ≤ most → most < length bytes + n → IsPlain (take n piece) → IsPlain (take (most + 1) (bytes ++ piece))
-marked_none most bytes piece n plain short past front =
-    subst IsPlain (ap (λ xs. take (most + 1) xs) (sym (take-append-add bytes piece n)) ∙ take-take (most + 1) (length bytes + n) (bytes ++ piece) (omega arith))
-    (All-take (λ b. b ≢ 30) (most + 1) (bytes ++ take n piece)
-    (All-append (λ b. b ≢ 30) bytes (take n piece) (subst IsPlain (take_all (most + 1) bytes (omega arith)) plain) front))
+find_by : (b : ℕ) (bytes : List ℕ) → (b ≡ 30) ⊎ (b ≡ 30 → ⊥) → ((n : ℕ) × IsMarkAt bytes n) ⊎ IsPlain bytes → ((n : ℕ) × IsMarkAt (b ∷ bytes) n) ⊎ IsPlain (b ∷ bytes)
+find_by b bytes (inl here) rest = inl (0, record { inside = omega arith; mark = here; plain = All-nil (λ x. x ≢ 30) })
+find_by b bytes (inr other) (inl found) = inl (suc found.0, mark_more b bytes found.0 other found.1)
+find_by b bytes (inr other) (inr plain) = inr (All-cons (λ x. x ≢ 30) b bytes other plain)
 
--- what is lent is the frame
-pub lent_begins : (framing : Framing) (most start end : ℕ) (items : List ℕ) → IsMarkAt (take (most + 1) (drop start items)) end
-    → BeginsWith framing most (drop start items) (record { spelling = take (end + 1) (drop start items); frame = take (start + end - start) (drop start items) })
-lent_begins framing most start end items mark =
-    let e : end ≡ start + end - start = omega arith in
-    subst (λ (n : ℕ). BeginsWith framing most (drop start items) (record { spelling = take (end + 1) (drop start items); frame = take n (drop start items) })) e
-    (begins_at framing most (drop start items) end mark)
+pub find_mark : (bytes : List ℕ) → ((n : ℕ) × IsMarkAt bytes n) ⊎ IsPlain bytes
+find_mark [] = inr (All-nil (λ x. x ≢ 30))
+find_mark (b ∷ bytes) = find_by b bytes (cases_eq b 30) (find_mark bytes)
 
--- the fields past a frame
-pub past_view : (framing : Framing) (most place start end total : ℕ) (items : List ℕ) (item : Spelled) → length item.spelling ≡ end + 1 → total ≡ place_of (place + (end + 1))
-    → (let h : Held = record { framing = framing; most = most; place = total; bytes = drop (start + (end + 1)) items } in h)
-    ≡ past (record { framing = framing; most = most; place = place; bytes = drop start items }) item
-past_view framing most place start end total items item same sum =
-    let e : total ≡ place_of (place + length item.spelling) = omega arith in
-    let b : drop (start + (end + 1)) items ≡ drop (length item.spelling) (drop start items) = ap (λ (n : ℕ). drop (start + n) items) (sym same) ∙ sym (drop-drop (length item.spelling) start items) in
-    cc
+-- what waits for a separator holds none
+pub waiting_plain : (most : ℕ) (bytes : List ℕ) → IsWaiting Record most bytes → IsPlain bytes
+waiting_plain most bytes waiting = by (find_mark (take (most + 1) bytes)) where
+  by : ((n : ℕ) × IsMarkAt (take (most + 1) bytes) n) ⊎ IsPlain (take (most + 1) bytes) → IsPlain bytes
+  by (inl found) = absurd (waiting.no_frame _ (begins_at most bytes found.0 found.1))
+  by (inr plain) = whole (cases_lt most (length bytes)) where
+    whole : (most < length bytes) ⊎ (length bytes ≤ most) → IsPlain bytes
+    whole (inl long) = absurd (waiting.no_fault (inl (long, plain)))
+    whole (inr short) = subst IsPlain (take_all (most + 1) bytes (omega arith)) plain
 
--- the bytes held after a piece was added behind them
-pub held_more : (start start' : ℕ) (items items' after piece : List ℕ) → start' ≤ length items' → drop start' items' ≡ drop start items → after ≡ items' ++ piece → drop start' after ≡ drop start items ++ piece
-held_more start start' items items' after piece inside same e =
-    ap (λ xs. drop start' xs) e ∙ drop-append-le start' items' piece inside ∙ ap (λ xs. xs ++ piece) same
+-- a search behind the first bytes of those within the limit
+within_limit : (most seen : ℕ) (bytes : List ℕ) → seen ≤ min (length bytes) (most + 1)
+    → take (min (length bytes) (most + 1) - seen) (drop seen bytes) ≡ drop seen (take (most + 1) bytes)
+within_limit most seen bytes inside =
+    let limit : ℕ = min (length bytes) (most + 1) in
+    let whole : seen + (min (length bytes) (most + 1) - seen) ≡ min (length bytes) (most + 1) = omega arith in
+    sym (drop-take seen (min (length bytes) (most + 1) - seen) bytes) ∙ ap (λ (k : ℕ). drop seen (take k bytes)) whole
+    ∙ ap (λ xs. drop seen xs) (take_front most bytes) where
+      take_front : (m : ℕ) (xs : List ℕ) → take (min (length xs) (m + 1)) xs ≡ take (m + 1) xs
+      take_front m xs = let e : min (length xs) (m + 1) ≡ min (m + 1) (length xs) = omega arith in rw e (take_min (m + 1) xs)
+
+seen_plain : (most plain seen : ℕ) (bytes : List ℕ) → seen ≡ min plain (min (length bytes) (most + 1)) → IsPlain (take plain bytes) → IsPlain (take seen (take (most + 1) bytes))
+seen_plain most plain seen bytes is front =
+    subst IsPlain (take-take seen plain bytes (omega arith) ∙ sym (take-take seen (most + 1) bytes (omega arith))) (All-take (λ b. b ≢ 30) seen (take plain bytes) front)
+
+pub mark_within : (most plain seen : ℕ) (bytes : List ℕ) (n : ℕ) → seen ≡ min plain (min (length bytes) (most + 1)) → IsPlain (take plain bytes)
+    → IsMarkAt (take (min (length bytes) (most + 1) - seen) (drop seen bytes)) n → IsMarkAt (take (most + 1) bytes) (seen + n)
+mark_within most plain seen bytes n is front at =
+    mark_past_front seen (take (most + 1) bytes) n (omega (arith, length-take (most + 1) bytes)) (seen_plain most plain seen bytes is front)
+    (subst (λ (xs : List ℕ). IsMarkAt xs n) (within_limit most seen bytes (omega arith)) at)
+
+pub plain_within : (most plain seen : ℕ) (bytes : List ℕ) → seen ≡ min plain (min (length bytes) (most + 1)) → IsPlain (take plain bytes)
+    → IsPlain (take (min (length bytes) (most + 1) - seen) (drop seen bytes)) → IsPlain (take (most + 1) bytes)
+plain_within most plain seen bytes is front rest =
+    plain_past_front seen (take (most + 1) bytes) (seen_plain most plain seen bytes is front)
+    (subst IsPlain (within_limit most seen bytes (omega arith)) rest)

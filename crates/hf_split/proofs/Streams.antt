@@ -1,11 +1,12 @@
 -- Cuttings of a stream, in any framing: they begin with the same frames.
-use Rattle.std.proofs.Common.{◌≡◌, ◌+◌, ℕ, suc, List, [], ◌∷◌, ◌++◌, length, take, drop, refl, sym, ◌∙◌, ap, subst, arith, append_assoc, length-append}
+use Rattle.std.proofs.Common.{◌≡◌, ◌+◌, ◌<◌, ◌≤◌, ◌⊎◌, inl, inr, ℕ, zero, suc, List, [], ◌∷◌, ◌++◌, length, take, drop, refl, sym, ◌∙◌, ap, subst, arith, append_assoc, length-append, length-drop}
 use Rattle.std.proofs.lemmas.List.{flat_map_more, append_cancel_left}
 use Rattle.hf_split.specs.declared.framing.Framing.{Framing}
 use Rattle.hf_split.specs.Cuts.{Spelled, Framings, AreFrames, IsFrame, BeginsWith, Cuts, later, stream_of}
 use Rattle.hf_split.specs.Held.{Held, Stands, IsInStep, IsNext, place_of, past}
-use Rattle.hf_split.specs.Laws.{BeginsOnce, HasOneCutting}
-use Rattle.hf_split.proofs.Spellings.{read_once, begins_front}
+use Rattle.hf_split.specs.Laws.{BeginsOnce, HasOneCutting, HasCutting}
+use Rattle.hf_split.proofs.Spellings.{read_once, begins_front, spelling_some}
+use Rattle.hf_split.proofs.Finding.{find_frame}
 
 pub begins_once : BeginsOnce
 begins_once framing most bytes more item other x y =
@@ -95,3 +96,50 @@ stands_past framings held stream passed item stands step begins =
       place = place_more held.place (length (stream_of passed)) (length item.spelling) (length (stream_of (passed ++ item ∷ []))) stands.place
           (ap length more ∙ length-append (stream_of passed) item.spelling);
     }
+
+-- each stream has a cutting
+frame_inside : (framing : Framing) (most : ℕ) (bytes : List ℕ) (item : Spelled) → BeginsWith framing most bytes item → (0 < length item.spelling) × (length item.spelling ≤ length bytes)
+frame_inside framing most bytes item begins = (
+  spelling_some framing item.spelling item.frame begins.is_frame.spells,
+  omega (arith, ap length begins.front, length-append item.spelling (drop (length item.spelling) bytes)),
+)
+
+HasCuts : Framings → ℕ → List ℕ → Type 0
+HasCuts framings most stream = (items : List Spelled) × ((rest : List ℕ) × Cuts framings most stream items rest)
+
+no_items : (framings : Framings) (most : ℕ) (stream : List ℕ) → ((item : Spelled) → BeginsWith (framings 0) most stream item → ⊥) → HasCuts framings most stream
+unfolding HasCuts
+no_items framings most stream none = ([], (stream, record { whole = refl; each = tt; ends = none }))
+
+one_more : (framings : Framings) (most : ℕ) (stream : List ℕ) (item : Spelled) → BeginsWith (framings 0) most stream item
+    → HasCuts (later framings) most (drop (length item.spelling) stream) → HasCuts framings most stream
+unfolding HasCuts
+one_more framings most stream item begins cut = (
+  item ∷ cut.0,
+  (
+    cut.1.0,
+    record {
+      whole = begins.front ∙ ap (λ xs. item.spelling ++ xs) cut.1.1.whole ∙ sym (append_assoc item.spelling (stream_of cut.0) cut.1.0);
+      each = (begins.is_frame, cut.1.1.each);
+      ends = cut.1.1.ends;
+    },
+  ),
+)
+
+cut_by : (size : ℕ) (framings : Framings) (most : ℕ) (stream : List ℕ) → length stream ≤ suc size
+    → ((item : Spelled) × BeginsWith (framings 0) most stream item) ⊎ ((item : Spelled) → BeginsWith (framings 0) most stream item → ⊥)
+    → ((xs : List ℕ) → length xs ≤ size → HasCuts (later framings) most xs) → HasCuts framings most stream
+cut_by size framings most stream short (inr none) rest = no_items framings most stream none
+cut_by size framings most stream short (inl found) rest =
+    let inside = frame_inside (framings 0) most stream found.0 found.1 in
+    one_more framings most stream found.0 found.1 (rest (drop (length found.0.spelling) stream) (omega (arith, length-drop (length found.0.spelling) stream, inside.0, inside.1)))
+
+cut_within : (size : ℕ) (framings : Framings) (most : ℕ) (stream : List ℕ) → length stream ≤ size → HasCuts framings most stream
+cut_within zero framings most stream short =
+    no_items framings most stream (λ item begins. let inside = frame_inside (framings 0) most stream item begins in absurd (omega (arith, inside.0, inside.1)))
+cut_within (suc size) framings most stream short =
+    cut_by size framings most stream short (find_frame (framings 0) most stream) (λ xs less. cut_within size (later framings) most xs less)
+
+pub has_cutting : HasCutting
+unfolding HasCuts
+has_cutting framings most stream = cut_within (length stream) framings most stream (omega arith)

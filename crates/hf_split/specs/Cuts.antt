@@ -1,8 +1,9 @@
 -- The frames of a whole stream of bytes, however it was cut into pieces.
-use Rattle.std.specs.Prelude.{◌≡◌, ◌≢◌, ◌<◌, ◌≤◌, ◌+◌, ℕ, suc, List, [], ◌∷◌, ◌++◌, length, take, drop, map}
+use Rattle.std.specs.Prelude.{◌≡◌, ◌≢◌, ◌<◌, ◌≤◌, ◌+◌, ◌^◌, ◌⊎◌, ℕ, suc, List, [], ◌∷◌, ◌++◌, length, take, drop, map}
 use Rattle.std.specs.List.{All, flat_map}
 use Rattle.hf_split.specs.declared.framing.Framing.{Framing}
-use Rattle.hf_split.specs.declared.framing.Framing.TheVariants.{Record}
+use Rattle.hf_split.specs.declared.framing.Framing.TheVariants.{Record, Length}
+use Rattle.hf_split.specs.VarInts.{IsVarInt, BeginsWithVarInt, BeginsWithNoEnd, shortest}
 
 -- no record separator, the byte 1E (30), among the bytes
 abbrev pub IsPlain : List ℕ → Type 0
@@ -16,6 +17,7 @@ pub record Spelled : Type 0 where
 -- these bytes are a spelling of the frame
 abbrev pub IsSpelling : Framing → List ℕ → List ℕ → Type 0
 IsSpelling Record spelling frame = (spelling ≡ frame ++ 30 ∷ []) × IsPlain frame
+IsSpelling Length spelling frame = (prefix : List ℕ) × (IsVarInt prefix (length frame) × (spelling ≡ prefix ++ frame))
 
 -- a frame within the limit, with a spelling of it
 pub record IsFrame (framing : Framing) (most : ℕ) (item : Spelled) : Type 0 where
@@ -30,11 +32,20 @@ pub record BeginsWith (framing : Framing) (most : ℕ) (bytes : List ℕ) (item 
 -- no frame within the limit can begin here, whatever comes behind these bytes
 abbrev pub IsTooLong : Framing → ℕ → List ℕ → Type 0
 IsTooLong Record most bytes = (most < length bytes) × IsPlain (take (most + 1) bytes)
+IsTooLong Length most bytes = (number : ℕ) × ((most < number) × BeginsWithVarInt bytes number)
+
+-- no length can begin here
+abbrev pub IsBadLength : Framing → List ℕ → Type 0
+IsBadLength Record bytes = ⊥
+IsBadLength Length bytes = BeginsWithNoEnd bytes
+
+abbrev pub IsFaulty : Framing → ℕ → List ℕ → Type 0
+IsFaulty framing most bytes = IsTooLong framing most bytes ⊎ IsBadLength framing bytes
 
 -- the bytes begin with no whole frame, and with no fault
 pub record IsWaiting (framing : Framing) (most : ℕ) (bytes : List ℕ) : Type 0 where
   pub no_frame : (item : Spelled) → BeginsWith framing most bytes item → ⊥
-  pub no_fault : IsTooLong framing most bytes → ⊥
+  pub no_fault : IsFaulty framing most bytes → ⊥
 
 -- the framing of each frame of a stream, by the frame's number from 0
 abbrev pub Framings : Type 0
@@ -69,7 +80,9 @@ pub record Cuts (framings : Framings) (most : ℕ) (stream : List ℕ) (items : 
 -- the frame with the spelling that is written of it
 abbrev pub wrapped : Framing → List ℕ → Spelled
 wrapped Record frame = record { spelling = frame ++ 30 ∷ []; frame = frame }
+wrapped Length frame = record { spelling = shortest (length frame) ++ frame; frame = frame }
 
 -- the frame can be written
 abbrev pub CanWrap : Framing → List ℕ → Type 0
 CanWrap Record frame = IsPlain frame
+CanWrap Length frame = length frame < 2 ^ 35

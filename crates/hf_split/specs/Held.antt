@@ -1,7 +1,9 @@
 -- What a splitter is at a moment, and the stream that it stands for.
 use Rattle.std.specs.Prelude.{◌≡◌, ◌+◌, ◌-◌, ◌^◌, ℕ, min, List, [], ◌∷◌, ◌++◌, length, take, drop}
 use Rattle.hf_split.specs.declared.framing.Framing.{Framing}
-use Rattle.hf_split.specs.Cuts.{Spelled, Framings, AreFrames, Cuts, stream_of}
+use Rattle.hf_split.specs.declared.splitter.SplitFault.{SplitFault}
+use Rattle.hf_split.specs.declared.splitter.SplitFault.TheVariants.{TooLong, BadLength}
+use Rattle.hf_split.specs.Cuts.{Spelled, Framings, AreFrames, Cuts, IsTooLong, IsBadLength, stream_of}
 
 -- the framing of the next frame, the limit of a frame's length, the place of the first byte held, and the bytes held
 pub record Held : Type 0 where
@@ -19,6 +21,11 @@ pub record Stands (framings : Framings) (held : Held) (stream : List ℕ) (passe
   pub whole : stream ≡ stream_of passed ++ held.bytes
   pub each : AreFrames framings held.most passed
   pub place : held.place ≡ place_of (length (stream_of passed))
+
+-- the bytes held begin with this fault, at the place of the first of them
+abbrev pub IsFaultOf : Held → SplitFault → Type 0
+IsFaultOf held (TooLong at) = (at ≡ held.place) × IsTooLong held.framing held.most held.bytes
+IsFaultOf held (BadLength at) = (at ≡ held.place) × IsBadLength held.framing held.bytes
 
 -- the splitter looks for its next frame in the framing that this frame has
 abbrev pub IsInStep : Framings → Held → List Spelled → Type 0

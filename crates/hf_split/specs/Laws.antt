@@ -1,12 +1,16 @@
 -- What holds of all streams.
 use Rattle.std.specs.Prelude.{◌≡◌, ◌≤◌, ℕ, List, ◌++◌, length}
 use Rattle.hf_split.specs.declared.framing.Framing.{Framing}
-use Rattle.hf_split.specs.Cuts.{Spelled, Framings, BeginsWith, IsTooLong, CanWrap, Cuts, wrapped}
+use Rattle.hf_split.specs.Cuts.{Spelled, Framings, IsSpelling, BeginsWith, IsTooLong, IsBadLength, CanWrap, Cuts, wrapped}
 
 -- a stream is cut in one way
 abbrev pub HasOneCutting : Type 0
 HasOneCutting = (framings : Framings) (most : ℕ) (stream : List ℕ) (items others : List Spelled) (rest more : List ℕ) →
     Cuts framings most stream items rest → Cuts framings most stream others more → (items ≡ others) × (rest ≡ more)
+
+-- each stream has a cutting
+abbrev pub HasCutting : Type 0
+HasCutting = (framings : Framings) (most : ℕ) (stream : List ℕ) → (items : List Spelled) × ((rest : List ℕ) × Cuts framings most stream items rest)
 
 -- bytes begin with one frame at most, and still do with more behind them
 abbrev pub BeginsOnce : Type 0
@@ -18,7 +22,27 @@ abbrev pub TooLongBeginsNone : Type 0
 TooLongBeginsNone = (framing : Framing) (most : ℕ) (bytes more : List ℕ) (item : Spelled) →
     IsTooLong framing most bytes → BeginsWith framing most (bytes ++ more) item → ⊥
 
+-- nor do bytes with a bad length
+abbrev pub BadLengthBeginsNone : Type 0
+BadLengthBeginsNone = (framing : Framing) (most : ℕ) (bytes more : List ℕ) (item : Spelled) →
+    IsBadLength framing bytes → BeginsWith framing most (bytes ++ more) item → ⊥
+
+-- bytes that are too long still are with more behind them
+abbrev pub TooLongStays : Type 0
+TooLongStays = (framing : Framing) (most : ℕ) (bytes more : List ℕ) →
+    IsTooLong framing most bytes → IsTooLong framing most (bytes ++ more)
+
+-- bytes with a bad length still have it with more behind them
+abbrev pub BadLengthStays : Type 0
+BadLengthStays = (framing : Framing) (bytes more : List ℕ) →
+    IsBadLength framing bytes → IsBadLength framing (bytes ++ more)
+
 -- what is written of a frame within the limit begins with that frame, whatever stands behind it
 abbrev pub WrappedBegins : Type 0
 WrappedBegins = (framing : Framing) (most : ℕ) (frame more : List ℕ) →
     CanWrap framing frame → length frame ≤ most → BeginsWith framing most ((wrapped framing frame).spelling ++ more) (wrapped framing frame)
+
+-- a frame that has a spelling can be written, and no spelling of it is shorter than what is written
+abbrev pub WrappedIsShortest : Type 0
+WrappedIsShortest = (framing : Framing) (spelling frame : List ℕ) →
+    IsSpelling framing spelling frame → CanWrap framing frame × (length (wrapped framing frame).spelling ≤ length spelling)

@@ -1,6 +1,7 @@
-ghost use Rattle.std.specs.Prelude.{◌≡◌, ◌++◌, OnOk, OnErr};
-ghost use Rattle.hf_split.specs.Cuts.{CanWrap, wrapped};
+ghost use Rattle.std.specs.Prelude.{◌≡◌, ◌<◌, ◌^◌, ◌++◌, length, OnOk, OnErr};
+ghost use Rattle.hf_split.specs.Cuts.{IsPlain, CanWrap, wrapped};
 
+use crate::var_int::{LONGEST, put_shortest};
 use std::alloc::AllocError;
 
 /// The byte that ends a frame in `Framing::Record`: the record separator, 1E.
@@ -12,6 +13,32 @@ pub enum Framing {
     /// Each frame is followed by the record separator, the byte 1E, and holds none itself
     /// (HubProtocol.md, "Text-based encodings").
     Record,
+    /// Each frame follows its length in bytes, a VarInt: 7 bits a byte, the lowest first, the top bit set on all but the
+    /// last, five bytes at most (HubProtocol.md, "MessagePack (MsgPack) encoding"). A length is read in every such
+    /// spelling, and written in the shortest.
+    Length,
+}
+
+fn wrap_record(body: &[u8], out: &mut Vec<u8>) -> Result<(), AllocError>
+    requires { IsPlain body.now }
+    ensures ok { OnOk result (out.new.items ≡ out.old.items ++ (wrapped Framing.Record body.now).spelling) }
+    ensures err { OnErr result (out.new.items ≡ out.old.items) }
+{
+    out.reserve(body.len() + 1)?;
+    out.extend_from_slice(body)?;
+    out.push(SEPARATOR)?;
+    Ok(())
+}
+
+fn wrap_length(body: &[u8], out: &mut Vec<u8>) -> Result<(), AllocError>
+    requires { length body.now < 2 ^ 35 }
+    ensures ok { OnOk result (out.new.items ≡ out.old.items ++ (wrapped Framing.Length body.now).spelling) }
+    ensures err { OnErr result (out.new.items ≡ out.old.items) }
+{
+    out.reserve(LONGEST + body.len())?;
+    put_shortest(body.len(), out);
+    out.extend_from_slice(body).unwrap();
+    Ok(())
 }
 
 /// Appends the body as it stands on a stream. After want of memory `out` is as before.
@@ -20,9 +47,8 @@ pub fn wrap(framing: Framing, body: &[u8], out: &mut Vec<u8>) -> Result<(), Allo
     ensures ok { OnOk result (out.new.items ≡ out.old.items ++ (wrapped framing body.now).spelling) }
     ensures err { OnErr result (out.new.items ≡ out.old.items) }
 {
-    let Framing::Record = framing;
-    out.reserve(body.len() + 1)?;
-    out.extend_from_slice(body)?;
-    out.push(SEPARATOR)?;
-    Ok(())
+    match framing {
+        Framing::Record => wrap_record(body, out),
+        Framing::Length => wrap_length(body, out),
+    }
 }

@@ -1,25 +1,26 @@
-ghost use Rattle.std.specs.Prelude.{◌≡◌, ◌≢◌, ◌+◌, ◌-◌, ◌<◌, ◌≤◌, ℕ, List, [], ◌∷◌, ◌++◌, length, take, drop, slice_index, IsTrue, ◌↔◌, IsSome, IsNone, IfSome, IfNone, IfOk, IfErr, OnErr, IsErr, IsOkAnd, vec_len, vec_capacity};
-ghost use Rattle.hf_split.specs.Cuts.{Spelled, Framings, BeginsWith, IsTooLong, IsWaiting, Cuts};
-ghost use Rattle.hf_split.specs.Held.{Stands, IsInStep, IsNext, fresh, taken, fed, past};
-ghost use Rattle.hf_split.specs.Marks.{IsFirstMark, IsMarked};
+ghost use Rattle.std.specs.Prelude.{◌≡◌, ◌+◌, ◌-◌, ◌<◌, ◌≤◌, ℕ, List, [], ◌∷◌, ◌++◌, length, take, drop, IfSome, IfNone, IfOk, IfErr, OnErr, vec_len, vec_capacity};
+ghost use Rattle.hf_split.specs.Cuts.{Spelled, Framings, BeginsWith, IsFaulty, IsWaiting, Cuts};
+ghost use Rattle.hf_split.specs.Held.{Stands, IsFaultOf, IsInStep, IsNext, fresh, taken, fed, past};
 
-use crate::framing::{Framing, SEPARATOR};
-use memchr::memchr;
+use crate::framing::Framing;
+use crate::next::{Next, next_after, next_of};
 use std::alloc::{AllocError, Global};
 use std::marker::Model;
 
 /// A stream that goes on with no frame.
 #[derive(Clone, Copy, Debug, PartialEq, Eq)]
 pub enum SplitFault {
-    /// No frame within the limit begins at this place: the number of bytes of the stream before it, or 2^64-1 where
-    /// that is more.
+    /// The frame that begins at this place is longer than the limit: its first `most + 1` bytes hold no separator, or
+    /// its length says so. The place is the number of bytes of the stream before it, or 2^64-1 where that is more.
     TooLong { at: u64 },
+    /// No length begins at this place, where `Framing::Length` wants one: five bytes have their top bit set.
+    BadLength { at: u64 },
 }
 
 /// Cuts a stream into frames. It holds the bytes that were fed and not passed, at most `most + 5` of them, in memory
 /// that is reserved at the start.
 ///
-/// After `frame` gave a fault it gives the same fault, and `feed` takes nothing, until `reset`.
+/// After `frame` gave a fault it gives the same fault, and `feed` takes nothing, until `reset` or `reframe`.
 #[derive(Drop)]
 pub struct Splitter {
     framing: Framing,
@@ -28,47 +29,20 @@ pub struct Splitter {
     buffer: Vec<u8>,
     // where the bytes held begin in the buffer
     start: usize,
-    // where their first separator stands, if one stands within the limit
-    mark: Option<usize>,
+    // what they begin with
+    next: Next,
 }
 
 impl Model for Splitter {
     ghost use Rattle.std.specs.Prelude.{drop, vec_capacity};
     ghost use Rattle.hf_split.specs.Held.{Held};
-    ghost use Rattle.hf_split.specs.Marks.{IsBuffer};
+    ghost use Rattle.hf_split.specs.Nexts.{IsBuffer};
 
     ghost Value = { Held };
 
     ghost view = { λ s. record { framing = s.framing; most = s.most; place = s.place; bytes = drop s.start s.buffer.items } };
 
-    ghost invariant = { λ s. IsBuffer s.most s.start (vec_capacity s.buffer) s.buffer.items s.mark };
-}
-
-// How many bytes are looked at one by one: `memchr` looks at 64 at once, which is slow for short frames.
-const NEAR: usize = 8;
-
-/// The place of the first separator, looking at one byte after the other.
-fn near_mark(bytes: &[u8]) -> Option<usize>
-    ensures { IsFirstMark bytes.now result }
-{
-    for (i, byte) in bytes.iter().enumerate() {
-        if *byte == SEPARATOR {
-            return Some(i);
-        }
-    }
-    None
-}
-
-/// The place of the first separator.
-fn first_mark(bytes: &[u8]) -> Option<usize>
-    ensures { IsFirstMark bytes.now result }
-{
-    let near = bytes.len().min(NEAR);
-    if let Some(place) = near_mark(&bytes[..near]) {
-        return Some(place);
-    }
-    let place = memchr(SEPARATOR, &bytes[near..])?;
-    Some(near + place)
+    ghost invariant = { λ s. IsBuffer s.framing s.most s.start (vec_capacity s.buffer) s.buffer.items s.next };
 }
 
 /// Drops the first `count` bytes, in the memory that is there.
@@ -99,36 +73,6 @@ fn make_room(buffer: &mut Vec<u8>, start: usize, longest: usize) -> usize
     0
 }
 
-/// Whether no frame can come.
-fn is_stuck(mark: Option<usize>, held: usize, most: usize) -> bool
-    ensures { IsTrue result ↔ (IsNone mark × (most < held)) }
-{
-    mark.is_none() && held > most
-}
-
-/// The place of the first separator that ends a frame within the limit.
-fn mark_within(bytes: &[u8], most: usize) -> Option<usize>
-    requires { most ≤ 16777216 }
-    ensures { IsMarked most bytes.now result }
-{
-    first_mark(&bytes[..bytes.len().min(most + 1)])
-}
-
-/// The same after a piece was added to `held` bytes.
-fn mark_after(mark: Option<usize>, most: usize, held: usize, piece: &[u8]) -> Option<usize>
-    requires limit { most ≤ 16777216 }
-    requires short { IsNone mark → held ≤ most }
-    ensures { (bytes : List ℕ) → length bytes ≡ held → IsMarked most bytes mark → IsMarked most (bytes ++ piece.now) result }
-{
-    if mark.is_some() {
-        return mark;
-    }
-    match first_mark(piece) {
-        Some(place) if place <= most - held => Some(held + place),
-        _ => None,
-    }
-}
-
 impl Splitter {
     /// A splitter at the beginning of a stream. `most` is the greatest length of a frame in bytes, without its
     /// framing; `most + 5` bytes are reserved, and no more are ever taken.
@@ -144,15 +88,15 @@ impl Splitter {
             place: 0,
             buffer: Vec::with_capacity(alloc, most + 5)?,
             start: 0,
-            mark: None,
+            next: Next::Waiting,
         })
     }
 
     /// Takes the first bytes of the piece, and answers how many: as many as there is room for, and none after a fault.
     pub fn feed(&mut self, piece: &[u8]) -> usize
         ensures within { result ≤ length piece.now }
-        ensures refused { IsTooLong self.old.framing self.old.most self.old.bytes → result ≡ 0 }
-        ensures count { (IsTooLong self.old.framing self.old.most self.old.bytes → ⊥) → result ≡ taken self.old (length piece.now) }
+        ensures refused { IsFaulty self.old.framing self.old.most self.old.bytes → result ≡ 0 }
+        ensures count { (IsFaulty self.old.framing self.old.most self.old.bytes → ⊥) → result ≡ taken self.old (length piece.now) }
         ensures fed { self.new ≡ fed self.old (take result piece.now) }
         ensures room { length self.new.bytes ≤ self.new.most + 5 }
 
@@ -160,15 +104,20 @@ impl Splitter {
         ensures stands { (framings : Framings) (stream : List ℕ) (passed : List Spelled) →
             Stands framings self.old stream passed → Stands framings self.new (stream ++ take result piece.now) passed }
     {
-        let held = self.buffer.len() - self.start;
-        if is_stuck(self.mark, held, self.most) {
+        if self.next.is_fault() {
             return 0;
         }
+        let held = self.buffer.len() - self.start;
         let count = piece.len().min(self.most + 5 - held);
-        let piece = &piece[..count];
         self.start = make_room(&mut self.buffer, self.start, self.most + 5 - count);
-        self.mark = mark_after(self.mark, self.most, held, piece);
-        self.buffer.extend_from_slice(piece).unwrap();
+        self.buffer.extend_from_slice(&piece[..count]).unwrap();
+        self.next = next_after(
+            self.framing,
+            self.most,
+            self.next,
+            held,
+            &self.buffer[self.start..],
+        );
         count
     }
 
@@ -178,8 +127,7 @@ impl Splitter {
         ensures lent { IfOk result (λ next. IfSome next (λ found. (found.0 ≡ self.now.place) × ((spelling : List ℕ) ×
             BeginsWith self.now.framing self.now.most self.now.bytes (record { spelling = spelling; frame = found.1.now })))) }
         ensures waiting { IfOk result (λ next. IfNone next (IsWaiting self.now.framing self.now.most self.now.bytes)) }
-        ensures too_long { IfErr result (λ fault.
-            (fault ≡ SplitFault.TooLong self.now.place) × IsTooLong self.now.framing self.now.most self.now.bytes) }
+        ensures fault { IfErr result (IsFaultOf self.now) }
 
         // A full buffer gives a frame or a fault.
         ensures not_full { IfOk result (λ next. IfNone next (length self.now.bytes < self.now.most + 5)) }
@@ -193,13 +141,15 @@ impl Splitter {
         ensures fault_of_stream { OnErr result ((framings : Framings) (stream : List ℕ) (passed : List Spelled) →
             Stands framings self.now stream passed → IsInStep framings self.now passed → Cuts framings self.now.most stream passed self.now.bytes) }
     {
-        if let Some(end) = self.mark {
-            return Ok(Some((self.place, &self.buffer[self.start..self.start + end])));
+        match self.next {
+            Next::Waiting => Ok(None),
+            Next::Frame { from, to, .. } => Ok(Some((
+                self.place,
+                &self.buffer[self.start + from..self.start + to],
+            ))),
+            Next::TooLong => Err(SplitFault::TooLong { at: self.place }),
+            Next::BadLength => Err(SplitFault::BadLength { at: self.place }),
         }
-        if self.buffer.len() - self.start > self.most {
-            return Err(SplitFault::TooLong { at: self.place });
-        }
-        Ok(None)
     }
 
     /// Moves past the frame that `frame` lends.
@@ -211,11 +161,21 @@ impl Splitter {
             Stands framings self.old stream passed → IsInStep framings self.old passed →
             BeginsWith self.old.framing self.old.most self.old.bytes item → Stands framings self.new stream (passed ++ item ∷ []) }
     {
-        if let Some(end) = self.mark {
-            self.start += end + 1;
-            self.place = self.place.saturating_add(end as u64 + 1);
-            self.mark = mark_within(&self.buffer[self.start..], self.most);
+        if let Next::Frame { past, .. } = self.next {
+            self.start += past;
+            self.place = self.place.saturating_add(past as u64);
+            self.next = next_of(self.framing, self.most, &self.buffer[self.start..]);
         }
+    }
+
+    /// Reads what follows in this framing. The bytes held stay, and so may begin a fault or end one.
+    pub fn reframe(&mut self, framing: Framing)
+        ensures reframed { self.new ≡ record self.old { framing = framing } }
+        ensures stands { (framings : Framings) (stream : List ℕ) (passed : List Spelled) →
+            Stands framings self.old stream passed → Stands framings self.new stream passed }
+    {
+        self.framing = framing;
+        self.next = next_of(framing, self.most, &self.buffer[self.start..]);
     }
 
     /// The place of the first byte held: the number of bytes of the stream before it, or 2^64-1 where that is more.
@@ -241,6 +201,6 @@ impl Splitter {
         self.buffer.clear();
         self.start = 0;
         self.place = 0;
-        self.mark = None;
+        self.next = Next::Waiting;
     }
 }

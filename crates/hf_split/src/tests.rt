@@ -1,5 +1,6 @@
 use super::*;
 use std::alloc::{AllocError, Global};
+use std::process::Abort;
 use std::test::Fail;
 
 /// The length of the ping `{"type":6}` of HubProtocol.md.
@@ -7,44 +8,53 @@ const MOST: usize = 10;
 
 /// A stream, the frames of it with their places, and the fault that it ends in.
 struct Case {
+    framing: Framing,
     stream: &'static [u8],
     frames: &'static [(u64, &'static [u8])],
     fault: Option<SplitFault>,
 }
 
-/// The frames are what Python's `stream.split(b"\x1e")[:-1]` gives, up to the first that is longer than `MOST`.
-const CASES: [Case; 7] = [
+/// With `Record` the frames are what Python's `stream.split(b"\x1e")[:-1]` gives, up to the first that is longer than
+/// `MOST`. With `Length` the lengths are base-128 numbers as in Protocol Buffers' "Base 128 Varints".
+const CASES: [Case; 18] = [
     Case {
+        framing: Framing::Record,
         stream: b"",
         frames: &[],
         fault: None,
     },
     Case {
+        framing: Framing::Record,
         stream: b"{}\x1e{\"type\":6}\x1e",
         frames: &[(0, b"{}"), (3, b"{\"type\":6}")],
         fault: None,
     },
     Case {
+        framing: Framing::Record,
         stream: b"\x1e\x1e{\"type\":6",
         frames: &[(0, b""), (1, b"")],
         fault: None,
     },
     Case {
+        framing: Framing::Record,
         stream: b"{\"type\":6}\x1e{\"type\":66}\x1e{}\x1e",
         frames: &[(0, b"{\"type\":6}")],
         fault: Some(SplitFault::TooLong { at: 11 }),
     },
     Case {
+        framing: Framing::Record,
         stream: b"{}\x1e01234567890",
         frames: &[(0, b"{}")],
         fault: Some(SplitFault::TooLong { at: 3 }),
     },
     Case {
+        framing: Framing::Record,
         stream: b"{}\x1e0123456789",
         frames: &[(0, b"{}")],
         fault: None,
     },
     Case {
+        framing: Framing::Record,
         stream: b"a\x1ebc\x1edef\x1eghij\x1eklmno\x1epqrstu\x1evwxyz01\x1e2345",
         frames: &[
             (0, b"a"),
@@ -57,6 +67,104 @@ const CASES: [Case; 7] = [
         ],
         fault: None,
     },
+    Case {
+        framing: Framing::Length,
+        stream: b"",
+        frames: &[],
+        fault: None,
+    },
+    Case {
+        framing: Framing::Length,
+        stream: b"\x00\x02{}\x0a{\"type\":6}\x03{}",
+        frames: &[(0, b""), (1, b"{}"), (4, b"{\"type\":6}")],
+        fault: None,
+    },
+    // a separator is a byte as any other
+    Case {
+        framing: Framing::Length,
+        stream: b"\x03\x1e\x80\xff\x01\x1e",
+        frames: &[(0, b"\x1e\x80\xff"), (4, b"\x1e")],
+        fault: None,
+    },
+    // lengths of 0, 1 and 2 in more bytes than they need
+    Case {
+        framing: Framing::Length,
+        stream: b"\x80\x00\x81\x80\x80\x80\x00a\x82\x80\x00bc",
+        frames: &[(0, b""), (2, b"a"), (8, b"bc")],
+        fault: None,
+    },
+    // a length of 11 with nothing behind it
+    Case {
+        framing: Framing::Length,
+        stream: b"\x01a\x0b",
+        frames: &[(0, b"a")],
+        fault: Some(SplitFault::TooLong { at: 2 }),
+    },
+    Case {
+        framing: Framing::Length,
+        stream: b"\x01a\x8b\x80\x80\x80\x00",
+        frames: &[(0, b"a")],
+        fault: Some(SplitFault::TooLong { at: 2 }),
+    },
+    // 2^31-1 and 2^35-1
+    Case {
+        framing: Framing::Length,
+        stream: b"\xff\xff\xff\xff\x07",
+        frames: &[],
+        fault: Some(SplitFault::TooLong { at: 0 }),
+    },
+    Case {
+        framing: Framing::Length,
+        stream: b"\x01a\xff\xff\xff\xff\x7f",
+        frames: &[(0, b"a")],
+        fault: Some(SplitFault::TooLong { at: 2 }),
+    },
+    Case {
+        framing: Framing::Length,
+        stream: b"\x01a\x80\x80\x80\x80\x80\x00",
+        frames: &[(0, b"a")],
+        fault: Some(SplitFault::BadLength { at: 2 }),
+    },
+    Case {
+        framing: Framing::Length,
+        stream: b"\x02ab\xff\xff\xff\xff",
+        frames: &[(0, b"ab")],
+        fault: None,
+    },
+    Case {
+        framing: Framing::Length,
+        stream: b"\x02ab\x03cd",
+        frames: &[(0, b"ab")],
+        fault: None,
+    },
+];
+
+/// Bytes that begin with a length, and the length, from Protocol Buffers' "Base 128 Varints" and its rule for others.
+const LENGTHS: [(&[u8], usize); 11] = [
+    (b"\x00", 0),
+    (b"\x80\x00", 0),
+    (b"\x01", 1),
+    (b"\x81\x80\x80\x80\x00", 1),
+    (b"\x7f", 127),
+    (b"\x80\x01", 128),
+    (b"\x96\x01", 150),
+    (b"\xac\x02", 300),
+    (b"\xff\x7f", 16383),
+    (b"\x80\x80\x01", 16384),
+    (b"\x80\x80\x02", 32768),
+];
+
+/// Lengths and the fewest bytes of them, by the same rule.
+const SHORTEST: [(usize, &[u8]); 9] = [
+    (0, b"\x00"),
+    (1, b"\x01"),
+    (127, b"\x7f"),
+    (128, b"\x80\x01"),
+    (300, b"\xac\x02"),
+    (16383, b"\xff\x7f"),
+    (16384, b"\x80\x80\x01"),
+    (2097151, b"\xff\xff\x7f"),
+    (2097152, b"\x80\x80\x80\x01"),
 ];
 
 /// Passes each whole frame and keeps it with its place, and answers the fault behind them.
@@ -76,36 +184,64 @@ fn take_whole(
     Ok(None)
 }
 
-/// The frames of the stream with their places, fed in pieces of this size, and the fault that it ends in.
-fn split(
+/// Feeds the whole piece, or up to a fault, and keeps each frame that it makes whole.
+fn feed_whole(
     alloc: Global,
-    stream: &[u8],
-    size: usize,
-) -> Result<(Vec<(u64, Vec<u8>)>, Option<SplitFault>), AllocError> {
-    let mut splitter = Splitter::start(alloc, Framing::Record, MOST)?;
-    let mut seen = Vec::new(alloc);
-    let mut left = stream;
+    splitter: &mut Splitter,
+    piece: &[u8],
+    seen: &mut Vec<(u64, Vec<u8>)>,
+) -> Result<Option<SplitFault>, AllocError> {
+    let mut left = piece;
     for _ in 0..100u32 {
-        let count = splitter.feed(&left[..size.min(left.len())]);
+        let count = splitter.feed(left);
         left = &left[count..];
-        let fault = take_whole(alloc, &mut splitter, &mut seen)?;
-        if fault.is_some() {
-            return Ok((seen, fault));
+        let fault = take_whole(alloc, splitter, seen)?;
+        if fault.is_some() || left.is_empty() {
+            return Ok(fault);
         }
     }
-    Ok((seen, None))
+    Ok(None)
+}
+
+/// Checks the frames and the fault of the case, fed in these pieces.
+fn check(rt: &impl Abort, alloc: Global, case: &Case, pieces: &[&[u8]]) -> Result<(), Fail> {
+    let mut splitter = Splitter::start(alloc, case.framing, MOST)?;
+    let mut seen = Vec::new(alloc);
+    let mut fault = None;
+    for piece in pieces {
+        fault = feed_whole(alloc, &mut splitter, piece, &mut seen)?;
+    }
+    assert_eq!(rt; fault, case.fault, "of {:?}", pieces);
+    assert_eq!(rt; seen.len(), case.frames.len(), "of {:?}", pieces);
+    for ((place, frame), wanted) in seen.iter().zip(case.frames) {
+        assert_eq!(rt; *place, wanted.0, "of {:?}", pieces);
+        assert_eq!(rt; frame.as_slice(), wanted.1, "of {:?}", pieces);
+    }
+    Ok(())
 }
 
 #[test]
 fn cuts_in_pieces_of_any_size(rt: HostRuntime) -> Result<(), Fail> {
     for case in &CASES {
         for size in 1..13usize {
-            let (seen, fault) = split(rt.alloc(), case.stream, size)?;
-            assert_eq!(rt; fault, case.fault, "in pieces of {size}");
-            assert_eq!(rt; seen.len(), case.frames.len(), "in pieces of {size}");
-            for ((place, frame), wanted) in seen.iter().zip(case.frames) {
-                assert_eq!(rt; *place, wanted.0, "in pieces of {size}");
-                assert_eq!(rt; frame.as_slice(), wanted.1, "in pieces of {size}");
+            let mut pieces = Vec::new(rt.alloc());
+            for piece in case.stream.chunks(size) {
+                pieces.push(piece)?;
+            }
+            check(&rt, rt.alloc(), case, &pieces)?;
+        }
+    }
+    Ok(())
+}
+
+#[test]
+fn cuts_in_any_three_pieces(rt: HostRuntime) -> Result<(), Fail> {
+    for case in &CASES {
+        for second in 0..case.stream.len() + 1 {
+            for first in 0..second + 1 {
+                let (front, end) = case.stream.split_at(second);
+                let (first, middle) = front.split_at(first);
+                check(&rt, rt.alloc(), case, &[first, middle, end])?;
             }
         }
     }
@@ -140,14 +276,123 @@ fn begins_again_after_a_fault(rt: HostRuntime) -> Result<(), Fail> {
 }
 
 #[test]
+fn reads_a_length_in_every_spelling(rt: HostRuntime) -> Result<(), Fail> {
+    for (prefix, length) in &LENGTHS {
+        let mut splitter = Splitter::start(rt.alloc(), Framing::Length, 32768)?;
+        let body = vec![in rt.alloc(); b'a'; *length]?;
+        assert_eq!(rt;
+            splitter.feed(prefix),
+            prefix.len(),
+            "of a length of {length}"
+        );
+        if *length > 0 {
+            assert_eq!(rt; splitter.frame(), Ok(None), "at a length of {length}");
+        }
+        assert_eq!(rt; splitter.feed(&body), *length, "after a length of {length}");
+        assert_eq!(rt;
+            splitter.frame(),
+            Ok(Some((0, body.as_slice()))),
+            "after a length of {length}"
+        );
+        splitter.pass();
+        assert_eq!(rt;
+            splitter.place(),
+            (prefix.len() + length) as u64,
+            "past a length of {length}"
+        );
+        assert_eq!(rt; splitter.held(), 0, "past a length of {length}");
+    }
+    Ok(())
+}
+
+#[test]
+fn a_length_above_the_limit_is_too_long(rt: HostRuntime) -> Result<(), Fail> {
+    let mut splitter = Splitter::start(rt.alloc(), Framing::Length, 32768)?;
+    assert_eq!(rt; splitter.feed(b"\x81\x80\x02"), 3);
+    assert_eq!(rt; splitter.frame(), Err(SplitFault::TooLong { at: 0 }));
+    splitter.reset(Framing::Length);
+    assert_eq!(rt; splitter.feed(b"\xff\xff\xff\xff\x07"), 5);
+    assert_eq!(rt; splitter.frame(), Err(SplitFault::TooLong { at: 0 }));
+    assert_eq!(rt; splitter.feed(b"a"), 0);
+    Ok(())
+}
+
+#[test]
+fn the_framing_changes_after_the_first_frame(rt: HostRuntime) -> Result<(), Fail> {
+    let mut splitter = Splitter::start(rt.alloc(), Framing::Record, MOST)?;
+    assert_eq!(rt; splitter.feed(b"{}\x1e\x02hi\x81\x00a"), 9);
+    assert_eq!(rt; splitter.frame(), Ok(Some((0, b"{}".as_slice()))));
+    if let Ok(Some(_)) = splitter.frame() {
+        splitter.pass();
+    }
+    splitter.reframe(Framing::Length);
+    assert_eq!(rt; splitter.place(), 3);
+    assert_eq!(rt; splitter.held(), 6);
+    assert_eq!(rt; splitter.frame(), Ok(Some((3, b"hi".as_slice()))));
+    if let Ok(Some(_)) = splitter.frame() {
+        splitter.pass();
+    }
+    assert_eq!(rt; splitter.frame(), Ok(Some((6, b"a".as_slice()))));
+    Ok(())
+}
+
+/// `abcd` is a front of a frame with `Record`, and a length of 97 with `Length`.
+#[test]
+fn a_framing_begins_a_fault_and_ends_it(rt: HostRuntime) -> Result<(), Fail> {
+    let mut splitter = Splitter::start(rt.alloc(), Framing::Record, MOST)?;
+    assert_eq!(rt; splitter.feed(b"abcd"), 4);
+    assert_eq!(rt; splitter.frame(), Ok(None));
+    splitter.reframe(Framing::Length);
+    assert_eq!(rt; splitter.frame(), Err(SplitFault::TooLong { at: 0 }));
+    assert_eq!(rt; splitter.feed(b"\x1e"), 0);
+    splitter.reframe(Framing::Record);
+    assert_eq!(rt; splitter.frame(), Ok(None));
+    assert_eq!(rt; splitter.feed(b"\x1e"), 1);
+    assert_eq!(rt; splitter.frame(), Ok(Some((0, b"abcd".as_slice()))));
+    splitter.reset(Framing::Length);
+    assert_eq!(rt; splitter.feed(b"\x80\x80\x80\x80"), 4);
+    assert_eq!(rt; splitter.frame(), Ok(None));
+    assert_eq!(rt; splitter.feed(b"\x80"), 1);
+    assert_eq!(rt; splitter.frame(), Err(SplitFault::BadLength { at: 0 }));
+    Ok(())
+}
+
+#[test]
 fn wraps(rt: HostRuntime) -> Result<(), Fail> {
     let mut out = Vec::new(rt.alloc());
     wrap(Framing::Record, b"{}", &mut out)?;
     wrap(Framing::Record, b"{\"type\":6}", &mut out)?;
     assert_eq!(rt; out.as_slice(), b"{}\x1e{\"type\":6}\x1e".as_slice());
+    wrap(Framing::Length, b"{}\x1e", &mut out)?;
+    assert_eq!(rt;
+        out.as_slice(),
+        b"{}\x1e{\"type\":6}\x1e\x03{}\x1e".as_slice()
+    );
+    Ok(())
+}
+
+#[test]
+fn wraps_after_the_shortest_length(rt: HostRuntime) -> Result<(), Fail> {
+    for (length, prefix) in &SHORTEST {
+        let body = vec![in rt.alloc(); b'a'; *length]?;
+        let mut out = Vec::new(rt.alloc());
+        wrap(Framing::Length, &body, &mut out)?;
+        assert!(rt; out.starts_with(prefix), "of a length of {length}");
+        assert_eq!(rt; out.len(), prefix.len() + length, "of a length of {length}");
+        assert!(rt; out.ends_with(&body), "of a length of {length}");
+    }
+    Ok(())
+}
+
+#[test]
+fn laws_are_no_work() {
+    has_cutting();
     one_cutting();
     begins_once();
     too_long_begins_none();
+    bad_length_begins_none();
+    too_long_stays();
+    bad_length_stays();
     wrapped_begins();
-    Ok(())
+    wrapped_is_shortest();
 }

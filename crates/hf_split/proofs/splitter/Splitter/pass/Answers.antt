@@ -1,31 +1,26 @@
-use Rattle.std.proofs.Common.{◌≡◌, ◌+◌, ◌∷◌, ◌++◌, [], length, Some, sym, subst, arith}
+use Rattle.std.proofs.Common.{◌≡◌, ◌∷◌, ◌++◌, [], drop, length, sym, subst}
 use Rattle.hf_split.specs.Held.{Held, Stands}
-use Rattle.hf_split.proofs.Places.{mark_of, past_view, not_marked}
+use Rattle.hf_split.proofs.Finding.{next_is_frame, spelling_of_frame, past_view}
 use Rattle.hf_split.proofs.Streams.{stands_past}
 use Rattle.hf_split.proofs.splitter.Splitter.pass.Goals as goal
 
-pub returns-in-Some-clause-past : goal.returns-in-Some-clause-past
-returns-in-Some-clause-past c = rw (← c.self.view_is) (λ item begins.
-    let found = mark_of c.self.inside.framing c.self.inside.most _ item c.self.inside.mark c.self.invariant.marked begins in
-    let is : c.self.inside.mark ≡ Some (length item.frame) = found.0 in
-    let same : c.in-Some.end ≡ length item.frame = cc in
-    let size : length item.spelling ≡ c.in-Some.end + 1 = omega (arith, found.1) in
-    past_view c.self.inside.framing c.self.inside.most c.self.inside.place c.self.inside.start c.in-Some.end c.saturating_add-self-inside.result c.self.inside.buffer.items item size c.saturating_add-self-inside.ensures)
+pub returns-in-Frame-clause-past : goal.returns-in-Frame-clause-past
+returns-in-Frame-clause-past c = rw (← c.self.view_is) (λ item begins.
+    let size : length item.spelling ≡ c.in-Frame.past =
+    spelling_of_frame c.self.inside.framing c.self.inside.most (drop c.self.inside.start c.self.inside.buffer.items) c.in-Frame.from c.in-Frame.to c.in-Frame.past item
+    (rw c.in-Frame.is at c.self.invariant.found) begins in
+    past_view c.self.inside.framing c.self.inside.most c.self.inside.place c.self.inside.start c.in-Frame.past c.saturating_add-self-inside.result c.self.inside.buffer.items item size c.saturating_add-self-inside.ensures)
 
-pub returns-in-Some-clause-stands : goal.returns-in-Some-clause-stands
-returns-in-Some-clause-stands c = rw (← c.self.view_is) (λ framings stream passed item stands step begins.
-    let found = mark_of c.self.inside.framing c.self.inside.most _ item c.self.inside.mark c.self.invariant.marked begins in
-    let is : c.self.inside.mark ≡ Some (length item.frame) = found.0 in
-    let same : c.in-Some.end ≡ length item.frame = cc in
-    let size : length item.spelling ≡ c.in-Some.end + 1 = omega (arith, found.1) in
+pub returns-in-Frame-clause-stands : goal.returns-in-Frame-clause-stands
+returns-in-Frame-clause-stands c = rw (← c.self.view_is) (λ framings stream passed item stands step begins.
+    let size : length item.spelling ≡ c.in-Frame.past =
+    spelling_of_frame c.self.inside.framing c.self.inside.most (drop c.self.inside.start c.self.inside.buffer.items) c.in-Frame.from c.in-Frame.to c.in-Frame.past item
+    (rw c.in-Frame.is at c.self.invariant.found) begins in
     subst (λ (h : Held). Stands framings h stream (passed ++ item ∷ []))
-    (sym (past_view c.self.inside.framing c.self.inside.most c.self.inside.place c.self.inside.start c.in-Some.end c.saturating_add-self-inside.result c.self.inside.buffer.items item size c.saturating_add-self-inside.ensures))
+    (sym (past_view c.self.inside.framing c.self.inside.most c.self.inside.place c.self.inside.start c.in-Frame.past c.saturating_add-self-inside.result c.self.inside.buffer.items item size c.saturating_add-self-inside.ensures))
     (stands_past framings _ stream passed item stands step begins))
 
-pub returns-in_default-clause-past : goal.returns-in_default-clause-past
-returns-in_default-clause-past c = rw (← c.self.view_is) (λ item begins.
-    absurd (not_marked c.self.inside.framing c.self.inside.most _ item c.self.inside.mark c.self.invariant.marked begins c.in_default.is))
-
-pub returns-in_default-clause-stands : goal.returns-in_default-clause-stands
-returns-in_default-clause-stands c = rw (← c.self.view_is) (λ framings stream passed item stands step begins.
-    absurd (not_marked c.self.inside.framing c.self.inside.most _ item c.self.inside.mark c.self.invariant.marked begins c.in_default.is))
+pub returns-in_default : goal.returns-in_default
+returns-in_default c =
+    let can = rw (← c.self.view_is) at c.requires in
+    absurd (next_is_frame c.self.inside.framing c.self.inside.most (drop c.self.inside.start c.self.inside.buffer.items) c.self.inside.next can.0 c.self.invariant.found can.1 c.in_default.not-Frame)
