@@ -1,5 +1,6 @@
 ghost use Rattle.std.specs.Prelude.{◌≡◌, ◌+◌, ◌<◌, ℕ, List, ◌++◌, length, Some, IfOk, IfErr, OnOk};
-ghost use Rattle.hf_split.specs.Cuts.{IsTooLong, IsWaiting};
+ghost use Rattle.hf_split.specs.Cuts.{IsWaiting};
+ghost use Rattle.hf_split.specs.Held.{IsFaultOf};
 ghost use Rattle.split_bench.specs.Counts.{IsCounted, IsOutcome};
 
 use hf_split::{Framing, SplitFault, Splitter, too_long_begins_none};
@@ -28,8 +29,8 @@ pub enum Outcome {
 fn add_frames(splitter: &mut Splitter, tally: &mut Tally) -> Result<(), SplitFault>
     ensures waiting { OnOk result (IsWaiting splitter.new.framing splitter.new.most splitter.new.bytes) }
     ensures room { OnOk result (length splitter.new.bytes < splitter.new.most + 5) }
-    ensures too_long { IfErr result (λ fault.
-        (fault ≡ SplitFault.TooLong splitter.new.place) × IsTooLong splitter.new.framing splitter.new.most splitter.new.bytes) }
+    ensures fault { IfErr result (IsFaultOf splitter.new) }
+    ensures framing { splitter.new.framing ≡ splitter.old.framing }
     ensures counted { (most : ℕ) (stream : List ℕ) → IsCounted most splitter.old tally.old stream → IsCounted most splitter.new tally.new stream }
 {
     while let Some((_, frame)) = splitter.frame()? {
@@ -43,8 +44,8 @@ fn add_frames(splitter: &mut Splitter, tally: &mut Tally) -> Result<(), SplitFau
 /// Feeds the whole piece, and passes each frame that it makes whole. After an error a front of the piece is fed.
 fn add_piece(splitter: &mut Splitter, tally: &mut Tally, piece: &[u8]) -> Result<(), SplitFault>
     ensures waiting { OnOk result (IsWaiting splitter.new.framing splitter.new.most splitter.new.bytes) }
-    ensures too_long { IfErr result (λ fault.
-        (fault ≡ SplitFault.TooLong splitter.new.place) × IsTooLong splitter.new.framing splitter.new.most splitter.new.bytes) }
+    ensures fault { IfErr result (IsFaultOf splitter.new) }
+    ensures framing { splitter.new.framing ≡ splitter.old.framing }
     ensures counted { (most : ℕ) (stream : List ℕ) → IsCounted most splitter.old tally.old stream →
         OnOk result (IsCounted most splitter.new tally.new (stream ++ piece.now)) }
     ensures counted_front { (most : ℕ) (stream : List ℕ) → IsCounted most splitter.old tally.old stream →
@@ -73,14 +74,14 @@ pub fn count<R: Read>(alloc: Global, input: &mut R) -> io::Result<Outcome>
     let mut piece = [0u8; 4096];
     for _ in 0..u64::MAX {
         let size = input.read(&mut piece)?;
-        if let Err(SplitFault::TooLong { at }) = add_piece(
-            &mut splitter,
-            &mut tally,
-            &piece[..size],
-        ) {
-            // The law that what is not read yet makes no frame of these bytes either.
-            too_long_begins_none();
-            return Ok(Outcome::TooLong(at));
+        match add_piece(&mut splitter, &mut tally, &piece[..size]) {
+            Ok(()) => {}
+            Err(SplitFault::TooLong { at }) => {
+                // The law that what is not read yet makes no frame of these bytes either.
+                too_long_begins_none();
+                return Ok(Outcome::TooLong(at));
+            }
+            Err(SplitFault::BadLength { .. }) => unreachable!(),
         }
         if size == 0 {
             return Ok(Outcome::Whole(tally));

@@ -1,12 +1,14 @@
-use Rattle.std.proofs.Common.{◌++◌, ◌-◌, [], refl, ℕ, List, length, take, drop}
+use Rattle.std.proofs.Common.{◌++◌, ◌-◌, [], refl, ap, ◌∙◌, ℕ, List, length, take, drop}
 use Rattle.hf_split.specs.declared.framing.Framing.TheVariants.{Record}
 use Rattle.hf_split.specs.Cuts.{always}
+use Rattle.hf_split.specs.Held.{Held}
 use Rattle.split_bench.specs.Counts.{IsCounted}
 use Rattle.split_bench.proofs.Counting.{counted_fed, counted_front, split_more}
 use Rattle.split_bench.proofs.tally.add_piece.Goals as goal
 
 pub loop-left-init : goal.loop-left-init
 loop-left-init c = record {
+  framing = c.add_frames.ensures.framing;
   waiting = c.in_ok-add_frames.ensures.waiting;
   room = c.in_ok-add_frames.ensures.room;
   counted = λ most stream begun. ([], refl, counted_front most stream c.add_frames.new.splitter c.add_frames.new.tally (c.add_frames.ensures.counted most stream begun));
@@ -14,6 +16,7 @@ loop-left-init c = record {
 
 pub loop-left-preserved : goal.loop-left-preserved
 loop-left-preserved c = record {
+  framing = c.add_frames-in-loop-left.ensures.framing ∙ ap (λ (h : Held). h.framing) c.feed-fed.ensures.fed ∙ c.loop-left.invariant.framing;
   waiting = c.in_ok-add_frames-2.ensures.waiting;
   room = c.in_ok-add_frames-2.ensures.room;
   counted = λ most stream begun.

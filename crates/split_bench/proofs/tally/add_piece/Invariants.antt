@@ -5,6 +5,7 @@ use Rattle.split_bench.proofs.tally.add_piece.Given as goal
 
 abbrev pub invariant-loop-left : goal.invariant-loop-left
 invariant-loop-left l = record {
+  framing : l.splitter.framing ≡ l.fn.splitter.framing;
   waiting : IsWaiting l.splitter.framing l.splitter.most l.splitter.bytes;
   room : length l.splitter.bytes < l.splitter.most + 5;
   counted : (most : ℕ) (stream : List ℕ) → IsCounted most l.fn.splitter l.fn.tally stream →
