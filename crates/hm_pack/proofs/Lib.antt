@@ -1,0 +1,4 @@
+pub mod Depths
+pub mod Faults
+pub mod Meanings
+pub mod Again

@@ -1,0 +1,7 @@
+pub mod Words
+pub mod Refusals
+pub mod Elements
+pub mod Says
+pub mod Spell
+pub mod ExactlyOne
+pub mod ReadForms

@@ -1,0 +1,191 @@
+ghost use Rattle.std.specs.Prelude.{◌≡◌, ◌≢◌, IfOk, IfErr, Ok, Err, Some, None};
+ghost use Rattle.hm_message.specs.Kind.{kind_of, number as number_of};
+ghost use Rattle.hm_message.specs.Message.{Fits};
+ghost use Rattle.hm_message.specs.declared.kind.Kind.TheVariants as kinds;
+ghost use Rattle.hv_pack.specs.declared.error.PackError.TheVariants as errors;
+ghost use Rattle.hm_pack.specs.declared.refusal.PackRefusal.TheVariants as refusals;
+ghost use Rattle.hm_pack.specs.Elements.{ending as ending_of, type_of, faults, first};
+ghost use Rattle.hm_pack.specs.Refusals.{MemoryOr};
+ghost use Rattle.hm_pack.specs.Says.{Says, Unknown, Why, Holds, Ends};
+ghost use Rattle.hm_pack.specs.ExactlyOne.{ExactlyOne};
+ghost use Rattle.hm_pack.specs.ReadForms.{MessageIs, UnknownIs};
+
+use crate::elements::{
+    any, element, flag, headers, items, number, optional_text, text, texts, whole,
+};
+use crate::refusal::PackRefusal;
+use hm_message::{Ending, Field, Kind, Message, Read, number_in};
+use hv_pack::{
+    is_spelled_or_refused, one_reading, one_refusal, read_value, spelled_is_not_refused,
+};
+use hv_value::{Items, Value};
+use std::alloc::Global;
+
+/// Each frame says exactly one message, is of exactly one type that no message has, or is refused
+/// for exactly one reason. It is a law, and calls for no work.
+pub fn exactly_one(frame: &[u8])
+    ensures { ExactlyOne frame.now }
+{
+    let _ = frame;
+    one_reading();
+    one_refusal();
+    spelled_is_not_refused();
+    is_spelled_or_refused();
+}
+
+fn invocation(alloc: Global, array: &Items) -> Result<Message, PackRefusal>
+    ensures kind { IfOk result (λ m. kind_of m ≡ kinds.Invocation) }
+    ensures ok { IfOk result (λ m. Holds array.now m) }
+    ensures err { IfErr result
+        (λ e. MemoryOr e (first (faults kinds.Invocation array.now) ≡ Some e)) }
+{
+    Ok(Message::Invocation {
+        headers: headers(alloc, array)?,
+        id: optional_text(array, 2, Field::InvocationId)?,
+        target: text(array, 3, Field::Target)?,
+        arguments: items(array, 4, Field::Arguments)?,
+        streams: texts(alloc, array, 5, Field::StreamIds)?,
+    })
+}
+
+fn stream_item(alloc: Global, array: &Items) -> Result<Message, PackRefusal>
+    ensures kind { IfOk result (λ m. kind_of m ≡ kinds.StreamItem) }
+    ensures ok { IfOk result (λ m. Holds array.now m) }
+    ensures err { IfErr result
+        (λ e. MemoryOr e (first (faults kinds.StreamItem array.now) ≡ Some e)) }
+{
+    Ok(Message::StreamItem {
+        headers: headers(alloc, array)?,
+        id: text(array, 2, Field::InvocationId)?,
+        item: any(array, 3, Field::Item)?,
+    })
+}
+
+/// How an invocation ends, by the kind of result and what stands behind it.
+fn ending(array: &Items) -> Result<Ending, PackRefusal>
+    ensures ok { IfOk result (λ e. Ends array.now e) }
+    ensures err { IfErr result (λ e. MemoryOr e (ending_of array.now ≡ Some e)) }
+{
+    match whole(array, 3, Field::Ending)? {
+        1 => Ok(Ending::Error(text(array, 4, Field::Error)?)),
+        2 => Ok(Ending::Void),
+        3 => Ok(Ending::Result(any(array, 4, Field::Ending)?)),
+        n => Err(PackRefusal::ResultKind(n)),
+    }
+}
+
+fn completion(alloc: Global, array: &Items) -> Result<Message, PackRefusal>
+    ensures kind { IfOk result (λ m. kind_of m ≡ kinds.Completion) }
+    ensures ok { IfOk result (λ m. Holds array.now m) }
+    ensures err { IfErr result
+        (λ e. MemoryOr e (first (faults kinds.Completion array.now) ≡ Some e)) }
+{
+    Ok(Message::Completion {
+        headers: headers(alloc, array)?,
+        id: text(array, 2, Field::InvocationId)?,
+        ending: ending(array)?,
+    })
+}
+
+fn stream_invocation(alloc: Global, array: &Items) -> Result<Message, PackRefusal>
+    ensures kind { IfOk result (λ m. kind_of m ≡ kinds.StreamInvocation) }
+    ensures ok { IfOk result (λ m. Holds array.now m) }
+    ensures err { IfErr result
+        (λ e. MemoryOr e (first (faults kinds.StreamInvocation array.now) ≡ Some e)) }
+{
+    Ok(Message::StreamInvocation {
+        headers: headers(alloc, array)?,
+        id: text(array, 2, Field::InvocationId)?,
+        target: text(array, 3, Field::Target)?,
+        arguments: items(array, 4, Field::Arguments)?,
+        streams: texts(alloc, array, 5, Field::StreamIds)?,
+    })
+}
+
+fn cancel_invocation(alloc: Global, array: &Items) -> Result<Message, PackRefusal>
+    ensures kind { IfOk result (λ m. kind_of m ≡ kinds.CancelInvocation) }
+    ensures ok { IfOk result (λ m. Holds array.now m) }
+    ensures err { IfErr result
+        (λ e. MemoryOr e (first (faults kinds.CancelInvocation array.now) ≡ Some e)) }
+{
+    Ok(Message::CancelInvocation {
+        headers: headers(alloc, array)?,
+        id: text(array, 2, Field::InvocationId)?,
+    })
+}
+
+fn close(array: &Items) -> Result<Message, PackRefusal>
+    ensures kind { IfOk result (λ m. kind_of m ≡ kinds.Close) }
+    ensures ok { IfOk result (λ m. Holds array.now m) }
+    ensures err { IfErr result (λ e. MemoryOr e (first (faults kinds.Close array.now) ≡ Some e)) }
+{
+    Ok(Message::Close {
+        error: optional_text(array, 1, Field::Error)?,
+        allow: flag(array, 2, Field::AllowReconnect)?,
+    })
+}
+
+fn sequence(array: &Items) -> Result<Message, PackRefusal>
+    ensures kind { IfOk result (λ m. kind_of m ≡ kinds.Sequence) }
+    ensures ok { IfOk result (λ m. Holds array.now m) }
+    ensures err { IfErr result (λ e. first (faults kinds.Sequence array.now) ≡ Some e) }
+{
+    let first = number(array, 1, Field::SequenceId)?;
+    let received = match element(array, 2) {
+        Some(value) => number_in(value),
+        None => None,
+    };
+    Ok(Message::Sequence { first, received })
+}
+
+/// The message of this type.
+fn message(alloc: Global, array: &Items, kind: Kind) -> Result<Message, PackRefusal>
+    ensures kind { IfOk result (λ m. kind_of m ≡ kind) }
+    ensures ok { IfOk result (λ m. Holds array.now m) }
+    ensures err { IfErr result (λ e. MemoryOr e (first (faults kind array.now) ≡ Some e)) }
+{
+    match kind {
+        Kind::Invocation => invocation(alloc, array),
+        Kind::StreamItem => stream_item(alloc, array),
+        Kind::Completion => completion(alloc, array),
+        Kind::StreamInvocation => stream_invocation(alloc, array),
+        Kind::CancelInvocation => cancel_invocation(alloc, array),
+        Kind::Ping => Ok(Message::Ping),
+        Kind::Close => close(array),
+        Kind::Ack => {
+            let upto = number(array, 1, Field::SequenceId)?;
+            Ok(Message::Ack { upto })
+        }
+        Kind::Sequence => sequence(array),
+    }
+}
+
+/// What a frame of one MessagePack array says (HubProtocol.md, "MessagePack (MsgPack) encoding"),
+/// in any spelling. An Invocation and a StreamInvocation may end before their stream ids, a Close
+/// before its `AllowReconnect`; elements past those of the message are dropped. Nil stands for an
+/// Invocation's id and a Close's error that aren't there, and nowhere else.
+///
+/// A refusal is the first in this order: of the value, of what stands behind it, of its being no
+/// array, of the elements from left to right. `NoMemory` may come at any point.
+pub fn read_message(alloc: Global, frame: &[u8]) -> Result<Read, PackRefusal>
+    ensures message { IfOk result (λ r. MessageIs r (λ m. Says frame.now m × Fits m)) }
+    ensures unknown { IfOk result (λ r. UnknownIs r (λ n. Unknown frame.now n)) }
+    ensures refused { IfErr result (λ e. MemoryOr e (Why frame.now e)) }
+    // Want of memory has one name.
+    ensures no_memory { IfErr result (λ e. e ≢ refusals.Value errors.NoMemory) }
+{
+    let (value, end) = read_value(alloc, frame, 0)?;
+    // So what was read fits, and can be written again.
+    prove!(value.depth() <= 64);
+    if end < frame.len() {
+        return Err(PackRefusal::Trailing { at: end });
+    }
+    let Value::List(array) = &value else {
+        return Err(PackRefusal::NotArray);
+    };
+    let n = whole(array, 0, Field::Kind)?;
+    let Some(kind) = Kind::numbered(n) else {
+        return Ok(Read::Unknown(n));
+    };
+    Ok(Read::Message(message(alloc, array, kind)?))
+}

@@ -1,0 +1,78 @@
+ghost use Rattle.std.specs.Prelude.{◌≡◌};
+ghost use Rattle.hm_pack.specs.Words.{refusal_words};
+ghost use Rattle.hm_pack.specs.Refusals.{of_value};
+
+use hm_message::Field;
+use hv_pack::PackError;
+use std::alloc::AllocError;
+use std::fmt;
+
+/// Why a frame is no message: the first of the reasons that holds, or `NoMemory`. Places count from
+/// the frame's first byte.
+#[derive(Clone, Copy, Debug, PartialEq, Eq)]
+pub enum PackRefusal {
+    /// It begins with no value (the MessagePack specification). Want of memory is never in here.
+    Value(PackError),
+    /// Its one value ends at this place, and bytes stand behind it.
+    Trailing { at: usize },
+    /// Its value is no array.
+    NotArray,
+    /// The array ends before an element that must be there.
+    Missing(Field),
+    /// An element is of another kind than its place wants.
+    Wrong(Field),
+    /// A Completion's kind of result is a number that means nothing.
+    ResultKind(i128),
+    NoMemory,
+}
+
+impl From<AllocError> for PackRefusal {
+    ghost use Rattle.std.specs.Prelude.{◌≡◌};
+    ghost use Rattle.hm_pack.specs.declared.refusal.PackRefusal.TheVariants.{NoMemory};
+
+    ghost from_gives = { λ _ e. e ≡ NoMemory };
+
+    fn from(_e: AllocError) -> PackRefusal {
+        PackRefusal::NoMemory
+    }
+}
+
+impl From<PackError> for PackRefusal {
+    ghost use Rattle.std.specs.Prelude.{◌≡◌};
+    ghost use Rattle.hm_pack.specs.Refusals.{of_value};
+
+    ghost from_gives = { λ e r. r ≡ of_value e };
+
+    fn from(e: PackError) -> PackRefusal {
+        match e {
+            PackError::NoMemory => PackRefusal::NoMemory,
+            e => PackRefusal::Value(e),
+        }
+    }
+}
+
+impl fmt::Display for PackRefusal {
+    ghost use Rattle.std.specs.Prelude.{Some};
+    ghost use Rattle.hm_pack.specs.Words.{refusal_words};
+
+    ghost output = { λ refusal. Some (refusal_words refusal) };
+
+    fn fmt<W: fmt::Write>(&self, f: &mut fmt::Formatter<W>) -> fmt::Result {
+        match self {
+            PackRefusal::Value(PackError::Short { at }) => write!(f, "Short {at}"),
+            PackRefusal::Value(PackError::Never { at }) => write!(f, "Never {at}"),
+            PackRefusal::Value(PackError::Fraction { at }) => write!(f, "Fraction {at}"),
+            PackRefusal::Value(PackError::Ext { at }) => write!(f, "Ext {at}"),
+            PackRefusal::Value(PackError::Key { at }) => write!(f, "Key {at}"),
+            PackRefusal::Value(PackError::NotUtf8 { at }) => write!(f, "NotUtf8 {at}"),
+            PackRefusal::Value(PackError::TooDeep { at }) => write!(f, "TooDeep {at}"),
+            PackRefusal::Value(PackError::NoMemory) => f.write_str("NoMemory"),
+            PackRefusal::Trailing { at } => write!(f, "Trailing {at}"),
+            PackRefusal::NotArray => f.write_str("NotArray"),
+            PackRefusal::Missing(field) => write!(f, "Missing {field}"),
+            PackRefusal::Wrong(field) => write!(f, "Wrong {field}"),
+            PackRefusal::ResultKind(n) => write!(f, "ResultKind {n}"),
+            PackRefusal::NoMemory => f.write_str("NoMemory"),
+        }
+    }
+}
