@@ -10,3 +10,6 @@ mod writing;
 pub use reading::{exactly_one, read_message};
 pub use refusal::PackRefusal;
 pub use writing::write_message;
+
+#[cfg(test)]
+mod tests;
