@@ -1,9 +1,9 @@
 -- What is written says the message.
-use Rattle.std.proofs.Common.{◌≡◌, ℕ, ◌<◌, ◌^◌, true, pos, List, [], ◌∷◌, ◌++◌, length, Option, Some, None, Ok, refl, sym, ap, ◌∙◌, arith}
+use Rattle.std.proofs.Common.{◌≡◌, ℕ, ◌<◌, ◌^◌, true, pos, List, [], ◌∷◌, length, Option, Some, None, Ok, refl, sym, ap, arith}
 use Rattle.std.specs.Prelude.{nat_lt}
 use Rattle.std.specs.Map.{keys_of}
 use Rattle.std.specs.List.Sorted.{IsStrictlySortedBy}
-use Rattle.std.specs.Option.{ok_or, option_and_then}
+use Rattle.std.specs.Option.{ok_or}
 use Rattle.std.proofs.lemmas.Bool.{lt-ltb}
 use Rattle.std.proofs.lemmas.List.{append-nil}
 use Rattle.hv_value.specs.Tree.{Tree, int, map, trees, pairs, key_cmp, map_of}
@@ -20,7 +20,7 @@ use Rattle.hm_message.specs.declared.message.Ending.{Ending}
 use Rattle.hm_message.specs.declared.message.Ending.TheVariants as ending
 use Rattle.hm_pack.specs.Elements as element
 use Rattle.hm_pack.specs.Elements.{text_or_nil}
-use Rattle.hm_pack.specs.Says.{Says, Holds, Ends, IsMessage}
+use Rattle.hm_pack.specs.Says.{Says, Holds, Ends}
 use Rattle.hm_pack.specs.Spell.{texts, header_pairs, text_written, elements_of, array_of, AreInRange, IsInRange, Spell}
 use Rattle.hm_pack.specs.declared.refusal.PackRefusal.TheVariants.{Wrong}
 

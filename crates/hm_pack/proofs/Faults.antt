@@ -1,12 +1,9 @@
 -- What may be wrong with elements: that they are missing, wrong, or a kind of result that means nothing.
-use Rattle.std.proofs.Common.{◌≡◌, ◌≢◌, ℕ, ℤ, pos, Bool, true, false, cond, List, [], ◌∷◌, Option, Some, None, Result, Ok, Err, refl, subst, inr}
+use Rattle.std.proofs.Common.{◌≡◌, ℕ, ℤ, pos, Bool, true, false, cond, List, [], ◌∷◌, Option, Some, None, Result, Ok, Err, refl, subst, inr}
 use Rattle.std.specs.Option.{ok_or}
 use Rattle.std.specs.Ordering.{int_eq}
 use Rattle.std.specs.Result.{result_err}
 use Rattle.hv_value.specs.Tree.{Tree}
-use Rattle.hv_pack.specs.Why.{IsRefused}
-use Rattle.hv_pack.specs.declared.error.PackError.{PackError}
-use Rattle.hv_pack.specs.declared.error.PackError.TheVariants as errors
 use Rattle.hm_message.specs.Fields.{text_in, items_in, flag_in, whole_in, number_in, texts_in, headers_in}
 use Rattle.hm_message.specs.Headers.{Header}
 use Rattle.hm_message.specs.Kind.{number}
@@ -17,7 +14,7 @@ use Rattle.hm_message.specs.declared.message.Field.TheVariants as field
 use Rattle.hm_pack.specs.Elements as element
 use Rattle.hm_pack.specs.Elements.{needed, optional, must, may, text_or_nil, type_of, behind, kind_or_behind, faults, first}
 use Rattle.hm_pack.specs.Says.{IsArray, IsFaulty, Why}
-use Rattle.hm_pack.specs.Refusals.{MemoryOr, of_value}
+use Rattle.hm_pack.specs.Refusals.{MemoryOr}
 use Rattle.hm_pack.specs.declared.refusal.PackRefusal.{PackRefusal}
 use Rattle.hm_pack.specs.declared.refusal.PackRefusal.TheVariants.{Value, Trailing, NotArray, Missing, Wrong, ResultKind, NoMemory}
 
