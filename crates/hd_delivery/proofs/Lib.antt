@@ -1,0 +1,10 @@
+pub mod Lists
+pub mod Local
+pub mod Carries
+pub mod Pair
+pub mod Run
+pub mod World
+pub mod Still
+pub mod Final
+pub mod Cuts
+pub mod OverBytes

@@ -1,0 +1,84 @@
+-- What is said on a link, frame by frame.
+-- The messages and their names are those of HubProtocol.md, "Overview". This project's own rules: that numbers begin with 1 and the
+-- handshake counts as the Sequence of 1; that a Sequence may stand anywhere on a link and says the next number anew; that it may also
+-- tell how much its writer has processed (version 3).
+use Rattle.std.specs.Prelude.{ℕ, suc, ℤ, max, Bool, List, [], ◌∷◌, fold, codes, Option, Some, None}
+use Rattle.hm_message.specs.declared.message.Codec.{Codec}
+use Rattle.hm_message.specs.declared.message.Message.{Message}
+use Rattle.hm_message.specs.declared.message.Message.TheVariants as message
+
+-- one frame of a link, as its reader takes it
+pub data Frame : Type 0 where
+  Request : (codec : Codec) → (version : ℕ) → Frame  -- the client's handshake
+  Response : Frame  -- the server's handshake
+  Refusal : (text : List ℕ) → Frame  -- the server's answer to a request that it refuses
+  Numbered : (m : Message) → Frame  -- a sequenced message
+  Ack : (upto : ℕ) → Frame
+  Sequence : (first : ℕ) → (received : Option ℕ) → Frame
+  Ping : Frame
+  Close : (error : Option (List ℕ)) → (allow : Bool) → Frame
+  Foreign : (n : ℤ) → Frame  -- of a type that no message has
+  Strange : (why : List ℕ) → (answer : Option (List ℕ)) → Frame  -- refused as a handshake, in the words of a report, with the text that a server answers
+  Unreadable : (at : ℕ) → (why : List ℕ) → Frame  -- refused at this place of the link, in the words of a report
+
+-- what a message is on a link
+abbrev pub frame_of : Message → Frame
+frame_of message.Ping = Ping
+frame_of (message.Close error allow) = Close error allow
+frame_of (message.Ack upto) = Ack upto
+frame_of (message.Sequence first received) = Sequence first received
+frame_of m = Numbered m
+
+-- why an end is closed by its own side
+pub data Reason : Type 0 where
+  Done : Reason
+  Protocol : Reason  -- the other end broke the protocol
+  InUse : Reason
+  TooMany : Reason
+  Flood : Reason
+  Slow : Reason
+  Expired : Reason
+
+-- the error of the Close that tells the reason
+abbrev pub error_of : Reason → Option (List ℕ)
+error_of Done = None
+error_of Protocol = Some (codes "Protocol error.")
+error_of InUse = Some (codes "Id in use.")
+error_of TooMany = Some (codes "Too many calls.")
+error_of Flood = Some (codes "Too many inputs.")
+error_of Slow = Some (codes "Too slow.")
+error_of Expired = Some (codes "Connection expired.")
+
+-- ---- the numbers of sequenced messages
+
+abbrev pub one_more : Option ℕ → Option ℕ
+one_more None = None
+one_more (Some n) = Some (suc n)
+
+-- the number of the next sequenced message, after one more frame
+abbrev pub count : Option ℕ → Frame → Option ℕ
+count n (Request codec version) = Some 1
+count n Response = Some 1
+count n (Sequence first received) = Some first
+count n (Numbered m) = one_more n
+count n _ = n
+
+-- the number of the sequenced message that comes next after these frames of a link, where it has one
+abbrev pub number : List Frame → Option ℕ
+number frames = fold count None frames
+
+-- ---- how much of the other end's messages is told
+
+abbrev pub received_of : Option ℕ → ℕ
+received_of None = 0
+received_of (Some n) = n
+
+abbrev pub told : Frame → ℕ
+told (Ack upto) = upto
+told (Sequence first received) = received_of received
+told _ = 0
+
+-- the most that is told in these frames
+abbrev pub most_told : List Frame → ℕ
+most_told [] = 0
+most_told (f ∷ frames) = max (told f) (most_told frames)

@@ -1,0 +1,6 @@
+pub mod Frames
+pub mod Histories
+pub mod Due
+pub mod Processes
+pub mod Worlds
+pub mod Bytes

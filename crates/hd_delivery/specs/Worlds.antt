@@ -1,0 +1,183 @@
+-- Worlds of two ends over links that come and go, and what holds in each.
+-- HubProtocol.md, "Overview", says which messages are sequenced. This project's own rules: the limits of what an end holds, which links it
+-- may name, and 2^62 messages at most.
+use Rattle.std.specs.Prelude.{◌≡◌, ◌⊎◌, ℕ, suc, ◌+◌, ◌^◌, ◌<◌, ◌≤◌, Bool, true, false, List, [], ◌∷◌, ◌++◌, length, sum_by, Some, None}
+use Rattle.hm_message.specs.declared.message.Codec.{Codec}
+use Rattle.hm_message.specs.declared.message.Codec.TheVariants.{Json, Pack}
+use Rattle.hm_message.specs.declared.message.Message.{Message}
+use Rattle.hm_message.specs.Message.{is_sequenced, Fits, message_image}
+use Rattle.hd_delivery.specs.Frames.{Frame, Ack, Sequence, received_of}
+use Rattle.hd_delivery.specs.Histories.{Side, Client, Server, Duplicate, Skipped, Step, Attached, Detached, Fed, Took, Failed, Sent, Lent, Ticked, Silenced, Closed, Config, here, was_on, first_link, fed, lent, taken, sent, processed, codec_of, shaken, kept, closed, moment, is_silence, Ready, state, held}
+use Rattle.hd_delivery.specs.Due.{due}
+use Rattle.hd_delivery.specs.Processes.{processes}
+
+abbrev pub IsPrefixOf : {A : Type 0} → List A → List A → Type 0
+IsPrefixOf {A} xs ys = (rest : List A) × (xs ++ rest ≡ ys)
+
+-- ---- which step may come
+
+-- the most bytes of a frame, and the most messages and framed bytes that an end holds
+pub record Limits : Type 0 where
+  pub frame : ℕ
+  pub count : ℕ
+  pub bytes : ℕ
+
+-- how many bytes a message's frame has, without its framing and with it
+pub record Sizes : Type 0 where
+  pub frame : Codec → Message → ℕ
+  pub framed : Codec → Message → ℕ
+
+-- the end holds fewer messages than it may, and this many framed bytes more don't pass the limit
+pub record HasRoom (limits : Limits) (sizes : Sizes) (c : Config) (h : List Step) (size : ℕ) : Type 0 where
+  pub of_count : length (held c h) < limits.count
+  pub of_bytes : sum_by (sizes.framed (codec_of c h)) (held c h) + size ≤ limits.bytes
+
+-- in JSON bytes are read as the text of their base64, so what is sent is the image
+abbrev pub IsAsRead : Codec → Message → Type 0
+IsAsRead Json m = message_image m ≡ m
+IsAsRead Pack m = Unit {0}
+
+-- the message can be sent in this codec
+pub record CanBeSent (limits : Limits) (sizes : Sizes) (codec : Codec) (m : Message) : Type 0 where
+  pub sequenced : is_sequenced m ≡ true
+  pub fits : Fits m
+  pub as_read : IsAsRead codec m
+  pub short : sizes.frame codec m ≤ limits.frame
+
+-- the end may send the message now
+pub record MaySend (limits : Limits) (sizes : Sizes) (c : Config) (h : List Step) (m : Message) : Type 0 where
+  pub unclosed : closed c h ≡ false
+  pub shakes : shaken h ≡ true
+  pub few : length (sent h) < 2 ^ 62
+  pub can_be : CanBeSent limits sizes (codec_of c h) m
+  pub room : HasRoom limits sizes c h (sizes.framed (codec_of c h) m)
+
+-- how a link may be named: the client's names rise; the server takes each link of the client's at most once, in any order
+abbrev pub MayName : Side → ℕ → List Step → List Step → Type 0
+MayName Client l own other = (k : ℕ) → was_on k own ≡ true → k < l
+MayName Server l own other = (was_on l other ≡ true) × (was_on l own ≡ false)
+
+-- the end may take a new link: it is the first, or the connection is kept
+pub record MayAttach (c : Config) (h other : List Step) (l now : ℕ) : Type 0 where
+  pub unclosed : closed c h ≡ false
+  pub granted : (first_link h ≡ None) ⊎ (kept c h ≡ true)
+  pub named : MayName c.side l h other
+  pub in_time : moment h ≤ now
+
+-- what is fed is the next of what the other end lent on the link
+pub record MayFeed (c : Config) (h other : List Step) (piece : List Frame) : Type 0 where
+  pub link : ℕ
+  pub at : here h ≡ Some link
+  pub unclosed : closed c h ≡ false
+  pub front : IsPrefixOf (fed link h ++ piece) (lent link other)
+
+-- the step may come next, after the end's own history and beside the other's. An end's moments never fall
+abbrev pub Allowed : Limits → Sizes → Config → List Step → List Step → Step → Type 0
+Allowed limits sizes c h other (Attached l now) = MayAttach c h other l now
+Allowed limits sizes c h other (Detached now) = (l : ℕ) × (here h ≡ Some l) × (moment h ≤ now)
+Allowed limits sizes c h other (Fed piece) = MayFeed c h other piece
+Allowed limits sizes c h other (Took got) = processes c h ≡ Some (Took got)
+Allowed limits sizes c h other (Failed fault) = processes c h ≡ Some (Failed fault)
+Allowed limits sizes c h other (Sent m) = MaySend limits sizes c h m
+Allowed limits sizes c h other (Lent f) = due c h ≡ Some f
+Allowed limits sizes c h other (Ticked now) = (is_silence c now h ≡ false) × (moment h ≤ now)
+Allowed limits sizes c h other (Silenced now) = (is_silence c now h ≡ true) × (moment h ≤ now)
+Allowed limits sizes c h other (Closed reason allow) = closed c h ≡ false
+
+-- ---- worlds
+
+-- how the two ends are begun. A server's own codec and version stand only until it took a request
+pub record Terms : Type 0 where
+  pub codec : Codec
+  pub version : ℕ
+  pub server_codec : Codec
+  pub server_version : ℕ
+  pub reconnect : Bool
+
+abbrev pub codec_at : Side → Terms → Codec
+codec_at Client t = t.codec
+codec_at Server t = t.server_codec
+
+abbrev pub version_at : Side → Terms → ℕ
+version_at Client t = t.version
+version_at Server t = t.server_version
+
+abbrev pub config : Side → Terms → Config
+config side t = record { side = side; codec = codec_at side t; version = version_at side t; reconnect = t.reconnect }
+
+-- one step of one end
+pub data Event : Type 0 where
+  ByClient : Step → Event
+  ByServer : Step → Event
+
+-- the steps of each end; the latest event comes first
+abbrev pub client_of : List Event → List Step
+client_of [] = []
+client_of (ByClient s ∷ w) = s ∷ client_of w
+client_of (ByServer s ∷ w) = client_of w
+
+abbrev pub server_of : List Event → List Step
+server_of [] = []
+server_of (ByClient s ∷ w) = server_of w
+server_of (ByServer s ∷ w) = s ∷ server_of w
+
+abbrev pub IsWorld : Limits → Sizes → Terms → List Event → Type 0
+IsWorld limits sizes t [] = Unit {0}
+IsWorld limits sizes t (ByClient s ∷ w) = IsWorld limits sizes t w × Allowed limits sizes (config Client t) (client_of w) (server_of w) s
+IsWorld limits sizes t (ByServer s ∷ w) = IsWorld limits sizes t w × Allowed limits sizes (config Server t) (server_of w) (client_of w) s
+
+-- both ends stand on one link and are Ready, each has been fed all that the other lent there and has taken every frame, and nothing is due
+pub record Still (cc cs : Config) (c s : List Step) : Type 0 where
+  pub link : ℕ
+  pub client_here : here c ≡ Some link
+  pub server_here : here s ≡ Some link
+  pub client_ready : state cc c ≡ Ready
+  pub server_ready : state cs s ≡ Ready
+  pub client_fed : fed link c ≡ lent link s
+  pub server_fed : fed link s ≡ lent link c
+  pub client_taken : taken link c ≡ length (fed link c)
+  pub server_taken : taken link s ≡ length (fed link s)
+  pub client_due : due cc c ≡ None
+  pub server_due : due cs s ≡ None
+
+-- ---- what holds in each
+
+-- no failed step, and only duplicates are passed over
+abbrev pub IsFaultless : List Step → Type 0
+IsFaultless [] = Unit {0}
+IsFaultless (Failed fault ∷ h) = ⊥
+IsFaultless (Took (Skipped (Duplicate n)) ∷ h) = IsFaultless h
+IsFaultless (Took (Skipped why) ∷ h) = ⊥
+IsFaultless (_ ∷ h) = IsFaultless h
+
+-- no frame is passed over
+abbrev pub SkipsNone : List Step → Type 0
+SkipsNone [] = Unit {0}
+SkipsNone (Took (Skipped why) ∷ h) = ⊥
+SkipsNone (_ ∷ h) = SkipsNone h
+
+-- each count that is told is at most p, and each Sequence at most one above q
+abbrev pub IsSound : ℕ → ℕ → List Frame → Type 0
+IsSound p q [] = Unit {0}
+IsSound p q (Ack upto ∷ frames) = (upto ≤ p) × IsSound p q frames
+IsSound p q (Sequence first received ∷ frames) = (first ≤ suc q) × (received_of received ≤ p) × IsSound p q frames
+IsSound p q (_ ∷ frames) = IsSound p q frames
+
+-- what x sent is processed by y in order, each message once; and on each link what x tells is sound
+pub record Delivers (x y : List Step) : Type 0 where
+  pub in_order : IsPrefixOf (processed y) (sent x)
+  pub sound : (l : ℕ) → IsSound (length (processed x)) (length (processed y)) (lent l x)
+
+pub record Headline (t : Terms) (c s : List Step) : Type 0 where
+  pub to_server : Delivers c s
+  pub to_client : Delivers s c
+  pub client_faultless : IsFaultless c
+  pub server_faultless : IsFaultless s
+  pub client_skips_none : t.version ≡ 3 → SkipsNone c
+  pub server_skips_none : t.version ≡ 3 → SkipsNone s
+  pub all_to_server : Still (config Client t) (config Server t) c s → (processed s ≡ sent c) × (held (config Client t) c ≡ [])
+  pub all_to_client : Still (config Client t) (config Server t) c s → (processed c ≡ sent s) × (held (config Server t) s ≡ [])
+
+-- the headline holds in every world
+abbrev pub HoldsInEveryWorld : Type 0
+HoldsInEveryWorld = (limits : Limits) (sizes : Sizes) (t : Terms) (w : List Event) → IsWorld limits sizes t w → Headline t (client_of w) (server_of w)
