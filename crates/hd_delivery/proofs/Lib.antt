@@ -8,3 +8,5 @@ pub mod Still
 pub mod Final
 pub mod Cuts
 pub mod OverBytes
+pub mod Examples
+pub mod ExamplesOverBytes

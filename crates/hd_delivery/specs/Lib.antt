@@ -4,3 +4,5 @@ pub mod Due
 pub mod Processes
 pub mod Worlds
 pub mod Bytes
+pub mod Examples
+pub mod ExamplesOverBytes

@@ -1,17 +1,27 @@
-//! Two ends of a hub connection, each with messages that it keeps until the other has them, over
-//! links that come and go: what each of them says and takes, and that every message arrives once
-//! and in order.
+//! Two ends of a hub connection (HubProtocol.md of ASP.NET Core), each of which keeps its messages
+//! until the other has them, over links that come and go: what an end says, what it makes of what
+//! it reads, and that every message arrives once and in order.
+//!
+//! The definitions stand in `specs/`. Each function here does nothing; its contract is a theorem
+//! about them.
 #![tactic(auto)]
 
-ghost use Rattle.hd_delivery.specs.Worlds.{HoldsInEveryWorld};
-ghost use Rattle.hd_delivery.specs.Bytes.{HoldsOverBytes};
+mod worked;
 
-/// In every world of two ends each has processed a first part of what the other sent.
+pub use worked::{one_server, worked_over_bytes, worked_worlds};
+
+ghost use Rattle.hd_delivery.specs.Bytes.{HoldsOverBytes};
+ghost use Rattle.hd_delivery.specs.Worlds.{HoldsInEveryWorld};
+
+/// In every world of two ends, what each has processed is a first part of what the other sent, and
+/// all of it once nothing is left to say or read. Neither refuses what the other says, and what
+/// each tells of its progress is true.
 pub fn headline()
     ensures { HoldsInEveryWorld }
 {}
 
-/// The same where links carry bytes, and lose them at any place.
+/// The same where links carry bytes, are cut anywhere, and lose what isn't read: for any way to
+/// write frames, and any readers that read what is written of a frame as that frame.
 pub fn headline_over_bytes()
     ensures { HoldsOverBytes }
 {}

@@ -1,0 +1,100 @@
+-- The worked worlds over bytes are worlds, and their readers are faithful.
+use Rattle.std.proofs.Common.{inl, inr, ◌≡◌, ℕ, zero, suc, ◌<◌, ◌≤◌, ◌^◌, ◌+◌, Bool, true, false, List, [], ◌∷◌, ◌++◌, length, length-append, refl, arith, subst, sym, ap, ◌∙◌, Option, Some, None}
+use Rattle.std.specs.Prelude.{reverse, Contains, slice_index_or}
+use Rattle.hm_message.specs.declared.message.Message.{Message}
+use Rattle.hm_message.specs.declared.message.Codec.TheVariants.{Json}
+use Rattle.hd_delivery.specs.Frames.{Frame, Request, Response, Numbered, Ack, Sequence, Ping, Close, Reason, Done, Protocol, InUse, TooMany, Flood, Slow, Expired, error_of}
+use Rattle.hd_delivery.specs.Histories.{Client, Server}
+use Rattle.hd_delivery.specs.Worlds.{CanBeSent}
+use Rattle.hd_delivery.specs.Bytes.{Reading, Waits, Reads, sizes_of, IsRead, IsFaithful, IsWorldOverBytes}
+use Rattle.hd_delivery.specs.Examples.{a, b, c, usual, terms}
+use Rattle.hd_delivery.specs.ExamplesOverBytes.{flag_number, error_number, four_of, spell_four, read_four, error_numbered, first_of_four, later_of_four, four, bytewise}
+use Rattle.hd_delivery.proofs.Examples.{below}
+
+module _ (says : ℕ → ℕ → ℕ → ℕ → Reading) where
+  waits_for_four : (kind x y z : ℕ) (front rest : List ℕ) → front ++ rest ≡ four_of kind x y z → 0 < length rest → read_four says front ≡ Waits
+  waits_for_four kind x y z [] rest e h = refl
+  waits_for_four kind x y z (p ∷ []) rest e h = refl
+  waits_for_four kind x y z (p ∷ q ∷ []) rest e h = refl
+  waits_for_four kind x y z (p ∷ q ∷ r ∷ []) rest e h = refl
+  waits_for_four kind x y z (p ∷ q ∷ r ∷ s ∷ front) [] e h = absurd (omega arith)
+  waits_for_four kind x y z (p ∷ q ∷ r ∷ s ∷ front) (t ∷ rest) e h = absurd (let z = ap length e in let w = length-append front (t ∷ rest) in omega arith)
+
+  is_read : (kind x y z : ℕ) (f : Frame) → says kind x y z ≡ Reads f 4 → IsRead (read_four says) (four_of kind x y z) f
+  is_read kind x y z f e = record { some = omega arith; whole = λ rest. e; waits = waits_for_four kind x y z }
+
+number_is : (reason : Reason) → error_numbered (error_number (error_of reason)) ≡ error_of reason
+number_is Done = refl
+number_is Protocol = refl
+number_is InUse = refl
+number_is TooMany = refl
+number_is Flood = refl
+number_is Slow = refl
+number_is Expired = refl
+
+closes : (reason : Reason) (allow : Bool) → later_of_four 7 (error_number (error_of reason)) (flag_number allow) 0 ≡ Reads (Close (error_of reason) allow) 4
+closes reason true = ap (λ e. Reads (Close e true) 4) (number_is reason)
+closes reason false = ap (λ e. Reads (Close e false) 4) (number_is reason)
+
+sequences : (first : ℕ) (received : Option ℕ) → IsRead (read_four later_of_four) (spell_four (Sequence first received)) (Sequence first received)
+sequences first None = is_read later_of_four 5 first 0 0 (Sequence first None) refl
+sequences first (Some n) = is_read later_of_four 5 first 1 n (Sequence first (Some n)) refl
+
+messages_of : (m : Message) → Contains (a ∷ b ∷ c ∷ []) m → IsRead (read_four later_of_four) (spell_four (Numbered m)) (Numbered m)
+messages_of m (zero, h, e) = subst (λ m. IsRead (read_four later_of_four) (spell_four (Numbered m)) (Numbered m)) e (is_read later_of_four 3 97 0 0 (Numbered a) refl)
+messages_of m (suc zero, h, e) = subst (λ m. IsRead (read_four later_of_four) (spell_four (Numbered m)) (Numbered m)) e (is_read later_of_four 3 98 0 0 (Numbered b) refl)
+messages_of m (suc (suc zero), h, e) = subst (λ m. IsRead (read_four later_of_four) (spell_four (Numbered m)) (Numbered m)) e (is_read later_of_four 3 99 0 0 (Numbered c) refl)
+messages_of m (suc (suc (suc k)), h, e) = absurd (omega arith)
+
+pub four_is_faithful : IsFaithful usual four Json (a ∷ b ∷ c ∷ [])
+four_is_faithful = record {
+  request = λ version low high. is_read (first_of_four Server) 1 version 0 0 (Request Json version) refl;
+  response = is_read (first_of_four Client) 2 0 0 0 Response refl;
+  message = λ m e can. messages_of m e;
+  ack = λ upto h. is_read later_of_four 4 upto 0 0 (Ack upto) refl;
+  sequence = λ first received h g. sequences first received;
+  ping = is_read later_of_four 6 0 0 0 Ping refl;
+  close = λ reason allow. is_read later_of_four 7 (error_number (error_of reason)) (flag_number allow) 0 (Close (error_of reason) allow) (closes reason allow);
+}
+
+a_goes : CanBeSent usual (sizes_of four) Json a
+a_goes = record { sequenced = refl; fits = omega arith; as_read = refl; short = omega arith }
+
+b_goes : CanBeSent usual (sizes_of four) Json b
+b_goes = record { sequenced = refl; fits = omega arith; as_read = refl; short = omega arith }
+
+c_goes : CanBeSent usual (sizes_of four) Json c
+c_goes = record { sequenced = refl; fits = omega arith; as_read = refl; short = omega arith }
+
+pub bytewise_is_world : IsWorldOverBytes usual four (terms 2 true) (reverse bytewise)
+bytewise_is_world =
+    (((((((((((((((((((((((((((((tt,
+    record { unclosed = refl; granted = inl refl; named = below 0 [] refl; in_time = omega arith }),
+    refl),
+    record { unclosed = refl; granted = inl refl; named = (refl, refl); in_time = omega arith }),
+    record { link = 0; at = refl; unclosed = refl; front = ([], refl); few = omega arith }),
+    refl),
+    refl),
+    record { link = 0; at = refl; unclosed = refl; front = ([], refl); few = omega arith }),
+    refl),
+    record { unclosed = refl; shakes = refl; few = omega arith; can_be = a_goes; room = record { of_count = omega arith; of_bytes = omega arith } }),
+    record { unclosed = refl; shakes = refl; few = omega arith; can_be = b_goes; room = record { of_count = omega arith; of_bytes = omega arith } }),
+    record { unclosed = refl; shakes = refl; few = omega arith; can_be = c_goes; room = record { of_count = omega arith; of_bytes = omega arith } }),
+    refl),
+    refl),
+    refl),
+    record { link = 0; at = refl; unclosed = refl; front = (97 ∷ 0 ∷ 0 ∷ 3 ∷ 98 ∷ 0 ∷ 0 ∷ 3 ∷ 99 ∷ 0 ∷ 0 ∷ [], refl); few = omega arith }),
+    record { link = 0; at = refl; unclosed = refl; front = (0 ∷ 0 ∷ 3 ∷ 98 ∷ 0 ∷ 0 ∷ 3 ∷ 99 ∷ 0 ∷ 0 ∷ [], refl); few = omega arith }),
+    record { link = 0; at = refl; unclosed = refl; front = (0 ∷ 3 ∷ 98 ∷ 0 ∷ 0 ∷ 3 ∷ 99 ∷ 0 ∷ 0 ∷ [], refl); few = omega arith }),
+    record { link = 0; at = refl; unclosed = refl; front = (3 ∷ 98 ∷ 0 ∷ 0 ∷ 3 ∷ 99 ∷ 0 ∷ 0 ∷ [], refl); few = omega arith }),
+    refl),
+    record { link = 0; at = refl; unclosed = refl; front = (98 ∷ 0 ∷ 0 ∷ 3 ∷ 99 ∷ 0 ∷ 0 ∷ [], refl); few = omega arith }),
+    record { link = 0; at = refl; unclosed = refl; front = (0 ∷ 0 ∷ 3 ∷ 99 ∷ 0 ∷ 0 ∷ [], refl); few = omega arith }),
+    record { link = 0; at = refl; unclosed = refl; front = (0 ∷ 3 ∷ 99 ∷ 0 ∷ 0 ∷ [], refl); few = omega arith }),
+    record { link = 0; at = refl; unclosed = refl; front = (3 ∷ 99 ∷ 0 ∷ 0 ∷ [], refl); few = omega arith }),
+    refl),
+    record { link = 0; at = refl; unclosed = refl; front = (99 ∷ 0 ∷ 0 ∷ [], refl); few = omega arith }),
+    record { link = 0; at = refl; unclosed = refl; front = (0 ∷ 0 ∷ [], refl); few = omega arith }),
+    record { link = 0; at = refl; unclosed = refl; front = (0 ∷ [], refl); few = omega arith }),
+    record { link = 0; at = refl; unclosed = refl; front = ([], refl); few = omega arith }),
+    refl)

@@ -1,0 +1,145 @@
+-- Worked worlds over bytes, with a small way to write frames: each frame is four numbers, the first of which tells its kind.
+use Rattle.std.specs.Prelude.{◌≡◌, ℕ, ◌+◌, ◌==◌, Bool, true, false, List, [], ◌∷◌, ◌++◌, map, reverse, codes, Option, Some, None, if◌then◌else◌}
+use Rattle.hm_message.specs.declared.message.Codec.{Codec}
+use Rattle.hm_message.specs.declared.message.Codec.TheVariants.{Json, Pack}
+use Rattle.hm_message.specs.declared.message.Message.{Message}
+use Rattle.hm_message.specs.declared.message.Message.TheVariants.{Invocation}
+use Rattle.hd_delivery.specs.Frames.{Frame, Request, Response, Numbered, Ack, Sequence, Ping, Close, Strange, Reason, Done, Protocol, InUse, TooMany, Flood, Slow, Expired, error_of}
+use Rattle.hd_delivery.specs.Histories.{Side, Client, Server, Config, State, Step, Shaken, Processed, Acked, Sequenced, Attached, Took, Sent, Lent}
+use Rattle.hd_delivery.specs.Processes.{processes}
+use Rattle.hd_delivery.specs.Worlds.{Terms, config}
+use Rattle.hd_delivery.specs.Bytes.{Reading, Waits, Reads, Refuses, Wire, ByteStep, Bytes, Does, in_frames, ByteEvent, AtClient, AtServer, client_bytes, server_bytes, IsWorldOverBytes}
+use Rattle.hd_delivery.specs.Examples.{call, a, b, c, usual, terms, summary}
+
+-- ---- what is written
+
+abbrev pub codec_number : Codec → ℕ
+codec_number Json = 0
+codec_number Pack = 1
+
+abbrev pub flag_number : Bool → ℕ
+flag_number true = 1
+flag_number false = 0
+
+abbrev pub first_letter : List ℕ → ℕ
+first_letter [] = 0
+first_letter (x ∷ xs) = x
+
+-- the first letter of what is called
+abbrev pub letter_of : Message → ℕ
+letter_of (Invocation headers id target arguments streams) = first_letter target
+letter_of m = 0
+
+-- the errors of the reasons differ in the sum of their first letters and lengths
+abbrev pub text_length : List ℕ → ℕ
+text_length [] = 0
+text_length (x ∷ xs) = text_length xs + 1
+
+abbrev pub error_number : Option (List ℕ) → ℕ
+error_number None = 0
+error_number (Some s) = first_letter s + text_length s
+
+abbrev pub four_of : ℕ → ℕ → ℕ → ℕ → List ℕ
+four_of kind x y z = kind ∷ x ∷ y ∷ z ∷ []
+
+abbrev pub spell_four : Frame → List ℕ
+spell_four (Request codec version) = four_of 1 version (codec_number codec) 0
+spell_four Response = four_of 2 0 0 0
+spell_four (Numbered m) = four_of 3 (letter_of m) 0 0
+spell_four (Ack upto) = four_of 4 upto 0 0
+spell_four (Sequence first None) = four_of 5 first 0 0
+spell_four (Sequence first (Some received)) = four_of 5 first 1 received
+spell_four Ping = four_of 6 0 0 0
+spell_four (Close error allow) = four_of 7 (error_number error) (flag_number allow) 0
+spell_four f = four_of 0 0 0 0
+
+-- ---- what is read
+
+-- four numbers are a frame, of which this is said
+abbrev pub read_four : (ℕ → ℕ → ℕ → ℕ → Reading) → List ℕ → Reading
+read_four says (kind ∷ x ∷ y ∷ z ∷ rest) = says kind x y z
+read_four says _ = Waits
+
+abbrev pub codec_numbered : ℕ → Codec
+codec_numbered n = if n == 0 then Json else Pack
+
+abbrev pub error_numbered : ℕ → Option (List ℕ)
+error_numbered n =
+    if n == 0 then None else
+    (if n == 95 then error_of Protocol else
+    (if n == 83 then error_of InUse else
+    (if n == 99 then error_of TooMany else
+    (if n == 100 then error_of Flood else
+    (if n == 93 then error_of Slow else error_of Expired)))))
+
+abbrev pub received_numbered : ℕ → ℕ → Option ℕ
+received_numbered y z = if y == 0 then None else Some z
+
+abbrev pub no_handshake : Reading
+no_handshake = Reads (Strange (codes "NotJson") None) 4
+
+abbrev pub first_of_four : Side → ℕ → ℕ → ℕ → ℕ → Reading
+first_of_four Client kind x y z = if kind == 2 then Reads Response 4 else no_handshake
+first_of_four Server kind x y z = if kind == 1 then Reads (Request (codec_numbered y) x) 4 else no_handshake
+
+abbrev pub later_of_four : ℕ → ℕ → ℕ → ℕ → Reading
+later_of_four kind x y z =
+    if kind == 3 then Reads (Numbered (call (x ∷ []))) 4 else
+    (if kind == 4 then Reads (Ack x) 4 else
+    (if kind == 5 then Reads (Sequence x (received_numbered y z)) 4 else
+    (if kind == 6 then Reads Ping 4 else
+    (if kind == 7 then Reads (Close (error_numbered x) (y == 1)) 4 else
+    Refuses (codes "NotJson") 4))))
+
+abbrev pub four : Wire
+four = record { spell = λ codec. spell_four; frame_size = λ codec m. 4; first = λ side. read_four (first_of_four side); later = λ codec. read_four later_of_four }
+
+-- ---- the worlds, the oldest event first
+
+abbrev pub client : List ByteStep → List ByteEvent
+client steps = map AtClient steps
+
+abbrev pub server : List ByteStep → List ByteEvent
+server steps = map AtServer steps
+
+-- Three messages, fed one number at a time.
+abbrev pub bytewise : List ByteEvent
+bytewise =
+    client (Does (Attached 0 0) ∷ Does (Lent (Request Json 2)) ∷ [])
+    ++ server (Does (Attached 0 0) ∷ Bytes (1 ∷ 2 ∷ 0 ∷ 0 ∷ []) ∷ Does (Took (Shaken Json 2)) ∷ Does (Lent Response) ∷ [])
+    ++ client (Bytes (2 ∷ 0 ∷ 0 ∷ 0 ∷ []) ∷ Does (Took (Shaken Json 2)) ∷ Does (Sent a) ∷ Does (Sent b) ∷ Does (Sent c) ∷ Does (Lent (Numbered a)) ∷ Does (Lent (Numbered b)) ∷ Does (Lent (Numbered c)) ∷ [])
+    ++ server (Bytes (3 ∷ []) ∷ Bytes (97 ∷ []) ∷ Bytes (0 ∷ []) ∷ Bytes (0 ∷ []) ∷ Does (Took (Processed a)) ∷ Bytes (3 ∷ []) ∷ Bytes (98 ∷ []) ∷ Bytes (0 ∷ []) ∷ Bytes (0 ∷ []) ∷ Does (Took (Processed b)) ∷ Bytes (3 ∷ []) ∷ Bytes (99 ∷ []) ∷ Bytes (0 ∷ []) ∷ Bytes (0 ∷ []) ∷ Does (Took (Processed c)) ∷ [])
+
+-- The second message is cut in its middle by the loss of its link. What was read of it is dropped, and the next link has it whole.
+abbrev pub cut_by_a_loss : List ByteEvent
+cut_by_a_loss =
+    client (Does (Attached 0 0) ∷ Does (Lent (Request Json 2)) ∷ [])
+    ++ server (Does (Attached 0 0) ∷ Bytes (1 ∷ 2 ∷ 0 ∷ 0 ∷ []) ∷ Does (Took (Shaken Json 2)) ∷ Does (Lent Response) ∷ [])
+    ++ client (Bytes (2 ∷ 0 ∷ 0 ∷ 0 ∷ []) ∷ Does (Took (Shaken Json 2)) ∷ Does (Sent a) ∷ Does (Sent b) ∷ Does (Lent (Numbered a)) ∷ Does (Lent (Numbered b)) ∷ [])
+    ++ server (Bytes (3 ∷ 97 ∷ 0 ∷ 0 ∷ 3 ∷ 98 ∷ []) ∷ Does (Took (Processed a)) ∷ Does (Lent (Ack 1)) ∷ [])
+    ++ client (Bytes (4 ∷ 1 ∷ 0 ∷ 0 ∷ []) ∷ Does (Took (Acked 1)) ∷ Does (Attached 1 0) ∷ [])
+    ++ server (Does (Attached 1 0) ∷ [])
+    ++ client (Does (Lent (Sequence 2 None)) ∷ Does (Lent (Numbered b)) ∷ [])
+    ++ server (Bytes (5 ∷ 2 ∷ 0 ∷ 0 ∷ 3 ∷ 98 ∷ 0 ∷ 0 ∷ []) ∷ Does (Took (Sequenced 2)) ∷ Does (Took (Processed b)) ∷ [])
+
+-- the state, and how many messages were sent, processed and are held
+abbrev pub summary_over_bytes : Config → List ByteStep → State × ℕ × ℕ × ℕ
+summary_over_bytes config h = summary config (in_frames four config h)
+
+-- these events are a world over bytes, at whose end the two ends are so
+pub record IsWorkedOverBytes (t : Terms) (events : List ByteEvent) (of_client of_server : State × ℕ × ℕ × ℕ) : Type 0 where
+  pub is_world : IsWorldOverBytes usual four t (reverse events)
+  pub at_client : summary_over_bytes (config Client t) (client_bytes (reverse events)) ≡ of_client
+  pub at_server : summary_over_bytes (config Server t) (server_bytes (reverse events)) ≡ of_server
+
+-- a server is fed the handshake, a message and four numbers that are no frame, in pieces
+abbrev pub unreadable : List ByteStep
+unreadable =
+    Does (Attached 0 0) ∷ Bytes (1 ∷ 2 ∷ 0 ∷ 0 ∷ 3 ∷ 97 ∷ []) ∷ Does (Took (Shaken Json 2)) ∷ Bytes (0 ∷ 0 ∷ 9 ∷ []) ∷ Does (Took (Processed a)) ∷ Bytes (9 ∷ 9 ∷ []) ∷ []
+
+abbrev pub unreadable_whole : List ByteStep
+unreadable_whole = unreadable ++ Bytes (6 ∷ []) ∷ []
+
+-- what the server's next frame makes after these steps
+abbrev pub NextStepOverBytes : List ByteStep → Option Step → Type 0
+NextStepOverBytes steps step = processes (config Server (terms 2 true)) (in_frames four (config Server (terms 2 true)) (reverse steps)) ≡ step
