@@ -92,12 +92,12 @@ module _ (wire : Wire) (codec : Codec) where
     cut_later [] p rest zero at g h e = refl
     cut_later [] [] rest (suc n) at g h e = rw later_waits refl
     cut_later [] (a ∷ p) rest (suc n) at g h e = absurd (cc)
-    cut_later (t ∷ ts) p rest zero at g h e = sym (within_no (wire.spell codec) t ts (length p) (let s = g.0.some in omega arith))
+    cut_later (t ∷ ts) p rest zero at g h e = sym (within_no (wire.spell codec) t ts (length p) (let s = g.0.nonempty in omega arith))
     cut_later (t ∷ ts) p rest (suc n) at g h e = ⊎_elim
         (λ f. let q = under p rest (wire.spell codec t) (spelled wire codec ts) e f in
         ap (λ o. frames (cut_by o at p (λ f. cut_all (wire.later codec) n))) (g.0.waits p q.0 q.1 q.2) ∙ sym (within_no (wire.spell codec) t ts (length p) f))
         (λ f. let q = over p rest (wire.spell codec t) (spelled wire codec ts) e f in
-        let some = g.0.some in
+        let some = g.0.nonempty in
         let len : length p ≡ length (wire.spell codec t) + length q.0 = ap length q.1 ∙ length-append (wire.spell codec t) q.0 in
         let left : length q.0 ≡ length p - length (wire.spell codec t) = omega arith in
         let gone : drop (length (wire.spell codec t)) p ≡ q.0 = ap (drop (length (wire.spell codec t))) q.1 ∙ drop_front (wire.spell codec t) q.0 in

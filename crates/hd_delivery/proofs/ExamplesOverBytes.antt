@@ -2,13 +2,14 @@
 use Rattle.std.proofs.Common.{inl, inr, ◌≡◌, ℕ, zero, suc, ◌<◌, ◌≤◌, ◌^◌, ◌+◌, Bool, true, false, List, [], ◌∷◌, ◌++◌, length, length-append, refl, arith, subst, sym, ap, ◌∙◌, Option, Some, None}
 use Rattle.std.specs.Prelude.{reverse, Contains, slice_index_or}
 use Rattle.hm_message.specs.declared.message.Message.{Message}
-use Rattle.hm_message.specs.declared.message.Codec.TheVariants.{Json}
+use Rattle.hm_message.specs.declared.message.Codec.{Codec}
+use Rattle.hm_message.specs.declared.message.Codec.TheVariants.{Json, Pack}
 use Rattle.hd_delivery.specs.Frames.{Frame, Request, Response, Numbered, Ack, Sequence, Ping, Close, Reason, Done, Protocol, InUse, TooMany, Flood, Slow, Expired, error_of}
 use Rattle.hd_delivery.specs.Histories.{Client, Server}
-use Rattle.hd_delivery.specs.Worlds.{CanBeSent}
+use Rattle.hd_delivery.specs.Worlds.{Limits, CanBeSent}
 use Rattle.hd_delivery.specs.Bytes.{Reading, Waits, Reads, sizes_of, IsRead, IsFaithful, IsWorldOverBytes}
-use Rattle.hd_delivery.specs.Examples.{a, b, c, usual, terms}
-use Rattle.hd_delivery.specs.ExamplesOverBytes.{flag_number, error_number, four_of, spell_four, read_four, error_numbered, first_of_four, later_of_four, four, bytewise}
+use Rattle.hd_delivery.specs.Examples.{a, b, c, limits_of, usual, terms}
+use Rattle.hd_delivery.specs.ExamplesOverBytes.{flag_number, error_number, four_of, spell_four, read_four, error_numbered, first_of_four, later_of_four, four, bytewise, unread_nine}
 use Rattle.hd_delivery.proofs.Examples.{below}
 
 module _ (says : ℕ → ℕ → ℕ → ℕ → Reading) where
@@ -21,7 +22,7 @@ module _ (says : ℕ → ℕ → ℕ → ℕ → Reading) where
   waits_for_four kind x y z (p ∷ q ∷ r ∷ s ∷ front) (t ∷ rest) e h = absurd (let z = ap length e in let w = length-append front (t ∷ rest) in omega arith)
 
   is_read : (kind x y z : ℕ) (f : Frame) → says kind x y z ≡ Reads f 4 → IsRead (read_four says) (four_of kind x y z) f
-  is_read kind x y z f e = record { some = omega arith; whole = λ rest. e; waits = waits_for_four kind x y z }
+  is_read kind x y z f e = record { nonempty = omega arith; whole = λ rest. e; waits = waits_for_four kind x y z }
 
 number_is : (reason : Reason) → error_numbered (error_number (error_of reason)) ≡ error_of reason
 number_is Done = refl
@@ -46,9 +47,13 @@ messages_of m (suc zero, h, e) = subst (λ m. IsRead (read_four later_of_four) (
 messages_of m (suc (suc zero), h, e) = subst (λ m. IsRead (read_four later_of_four) (spell_four (Numbered m)) (Numbered m)) e (is_read later_of_four 3 99 0 0 (Numbered c) refl)
 messages_of m (suc (suc (suc k)), h, e) = absurd (omega arith)
 
-pub four_is_faithful : IsFaithful usual four Json (a ∷ b ∷ c ∷ [])
-four_is_faithful = record {
-  request = λ version low high. is_read (first_of_four Server) 1 version 0 0 (Request Json version) refl;
+request_of : (codec : Codec) → IsRead (read_four (first_of_four Server)) (spell_four (Request codec 2)) (Request codec 2)
+request_of Json = is_read (first_of_four Server) 1 2 0 0 (Request Json 2) refl
+request_of Pack = is_read (first_of_four Server) 1 2 1 0 (Request Pack 2) refl
+
+pub four_is_faithful : (codec : Codec) → IsFaithful usual four codec 2 (a ∷ b ∷ c ∷ [])
+four_is_faithful codec = record {
+  request = request_of codec;
   response = is_read (first_of_four Client) 2 0 0 0 Response refl;
   message = λ m e can. messages_of m e;
   ack = λ upto h. is_read later_of_four 4 upto 0 0 (Ack upto) refl;
@@ -57,14 +62,15 @@ four_is_faithful = record {
   close = λ reason allow. is_read later_of_four 7 (error_number (error_of reason)) (flag_number allow) 0 (Close (error_of reason) allow) (closes reason allow);
 }
 
-a_goes : CanBeSent usual (sizes_of four) Json a
-a_goes = record { sequenced = refl; fits = omega arith; as_read = refl; short = omega arith }
+module _ (limits : Limits) (short : 4 ≤ limits.frame) where
+  a_goes : CanBeSent limits (sizes_of four) Json a
+  a_goes = record { sequenced = refl; fits = omega arith; as_read = refl; short = short }
 
-b_goes : CanBeSent usual (sizes_of four) Json b
-b_goes = record { sequenced = refl; fits = omega arith; as_read = refl; short = omega arith }
+  b_goes : CanBeSent limits (sizes_of four) Json b
+  b_goes = record { sequenced = refl; fits = omega arith; as_read = refl; short = short }
 
-c_goes : CanBeSent usual (sizes_of four) Json c
-c_goes = record { sequenced = refl; fits = omega arith; as_read = refl; short = omega arith }
+  c_goes : CanBeSent limits (sizes_of four) Json c
+  c_goes = record { sequenced = refl; fits = omega arith; as_read = refl; short = short }
 
 pub bytewise_is_world : IsWorldOverBytes usual four (terms 2 true) (reverse bytewise)
 bytewise_is_world =
@@ -77,9 +83,9 @@ bytewise_is_world =
     refl),
     record { link = 0; at = refl; unclosed = refl; front = ([], refl); few = omega arith }),
     refl),
-    record { unclosed = refl; shakes = refl; few = omega arith; can_be = a_goes; room = record { of_count = omega arith; of_bytes = omega arith } }),
-    record { unclosed = refl; shakes = refl; few = omega arith; can_be = b_goes; room = record { of_count = omega arith; of_bytes = omega arith } }),
-    record { unclosed = refl; shakes = refl; few = omega arith; can_be = c_goes; room = record { of_count = omega arith; of_bytes = omega arith } }),
+    record { unclosed = refl; shakes = refl; few = omega arith; can_be = a_goes usual (omega arith); room = record { of_count = omega arith; of_bytes = omega arith } }),
+    record { unclosed = refl; shakes = refl; few = omega arith; can_be = b_goes usual (omega arith); room = record { of_count = omega arith; of_bytes = omega arith } }),
+    record { unclosed = refl; shakes = refl; few = omega arith; can_be = c_goes usual (omega arith); room = record { of_count = omega arith; of_bytes = omega arith } }),
     refl),
     refl),
     refl),
@@ -98,3 +104,22 @@ bytewise_is_world =
     record { link = 0; at = refl; unclosed = refl; front = (0 ∷ [], refl); few = omega arith }),
     record { link = 0; at = refl; unclosed = refl; front = ([], refl); few = omega arith }),
     refl)
+
+pub unread_nine_is_world : IsWorldOverBytes (limits_of 4 1024 100000) four (terms 2 true) (reverse unread_nine)
+unread_nine_is_world =
+    (((((((((((((((tt,
+    record { unclosed = refl; granted = inl refl; named = below 0 [] refl; in_time = omega arith }),
+    refl),
+    record { unclosed = refl; granted = inl refl; named = (refl, refl); in_time = omega arith }),
+    record { link = 0; at = refl; unclosed = refl; front = ([], refl); few = omega arith }),
+    refl),
+    refl),
+    record { link = 0; at = refl; unclosed = refl; front = ([], refl); few = omega arith }),
+    refl),
+    record { unclosed = refl; shakes = refl; few = omega arith; can_be = a_goes (limits_of 4 1024 100000) (omega arith); room = record { of_count = omega arith; of_bytes = omega arith } }),
+    record { unclosed = refl; shakes = refl; few = omega arith; can_be = b_goes (limits_of 4 1024 100000) (omega arith); room = record { of_count = omega arith; of_bytes = omega arith } }),
+    record { unclosed = refl; shakes = refl; few = omega arith; can_be = c_goes (limits_of 4 1024 100000) (omega arith); room = record { of_count = omega arith; of_bytes = omega arith } }),
+    refl),
+    refl),
+    refl),
+    record { link = 0; at = refl; unclosed = refl; front = (99 ∷ 0 ∷ 0 ∷ [], refl); few = omega arith })

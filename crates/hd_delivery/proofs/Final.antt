@@ -1,9 +1,9 @@
--- What holds in every world gives the headline.
+-- What holds in every world gives delivery.
 use Rattle.std.proofs.Common.{ℕ, Bool, List, None}
 use Rattle.std.specs.Prelude.{◌&&◌}
 use Rattle.std.proofs.lemmas.Bool.{eq-eqb}
 use Rattle.hd_delivery.specs.Histories.{Side, Client, Server, Step, lent}
-use Rattle.hd_delivery.specs.Worlds.{Terms, Delivers, Headline}
+use Rattle.hd_delivery.specs.Worlds.{Terms, Delivers, Delivery}
 use Rattle.hd_delivery.proofs.Carries.{facts, MayCarry-sound}
 use Rattle.hd_delivery.proofs.Pair.{Way}
 use Rattle.hd_delivery.proofs.World.{Together, to_server}
@@ -12,9 +12,9 @@ use Rattle.hd_delivery.proofs.Still.{arrived}
 delivers : (side : Side) (terms : Terms) (x y : List Step) → Way side terms x y → Delivers x y
 delivers side terms x y w = record { in_order = w.in_order; sound = λ l. MayCarry-sound (facts side terms x y) l None (lent l x) (w.good l) }
 
--- the headline, from what holds in every world
-pub headline_holds : (terms : Terms) (c s : List Step) → Together terms c s → Headline terms c s
-headline_holds terms c s t =
+-- delivery, from what holds in every world
+pub delivery_holds : (terms : Terms) (c s : List Step) → Together terms c s → Delivery terms c s
+delivery_holds terms c s t =
     let back = to_server terms c s t.ends in
     record {
       to_server = delivers Client terms c s t.ends.pair.to;

@@ -2,6 +2,8 @@ pub mod Lists
 pub mod Local
 pub mod Carries
 pub mod Pair
+pub mod WhatIsRead
+pub mod WhatIsSaid
 pub mod Run
 pub mod World
 pub mod Still

@@ -12,7 +12,8 @@ use Rattle.hd_delivery.specs.Bytes.{Waits, Wire, sizes_of, IsRead, IsFaithful, c
 use Rattle.hd_delivery.proofs.Lists.{append_none}
 use Rattle.hd_delivery.proofs.Local.{is_this-true, is_this-same, both, or_parts, here_was, has_first, none_was, lent_was}
 use Rattle.hd_delivery.proofs.Carries.{Facts, facts, HasNumber, MayStand, MayCarry, MayStand-count}
-use Rattle.hd_delivery.proofs.Pair.{messages, other, Pair, not_failed, messages-push, same_first, says_due}
+use Rattle.hd_delivery.proofs.Pair.{messages, other, Pair, messages-push, same_first}
+use Rattle.hd_delivery.proofs.WhatIsSaid.{not_failed, says_due}
 use Rattle.hd_delivery.proofs.World.{Together, to_server, start, client_steps, server_steps, together}
 use Rattle.hd_delivery.proofs.Cuts.{drop_front, within_bytes, within_more, within_prefix, within_all, AreRead, AreReadFirst, link_cut, AreReadOn, cut_front, cut_none}
 
@@ -84,13 +85,13 @@ module _ (side : Side) (terms : Terms) (x y : List Step) (i : Pair side terms x 
           (o s)
 
 -- readers that are faithful to these messages
-module _ (limits : Limits) (wire : Wire) (terms : Terms) (all : List Message) (low : 0 < terms.version) (high : terms.version ≤ 3) (law : IsFaithful limits wire terms.codec all) where
+module _ (limits : Limits) (wire : Wire) (terms : Terms) (all : List Message) (law : IsFaithful limits wire terms.codec terms.version all) where
   later_waits : wire.later terms.codec [] ≡ Waits
-  later_waits = law.ping.waits [] (wire.spell terms.codec Ping) refl law.ping.some
+  later_waits = law.ping.waits [] (wire.spell terms.codec Ping) refl law.ping.nonempty
 
   first_waits : (side : Side) → wire.first side [] ≡ Waits
-  first_waits Client = law.response.waits [] (wire.spell terms.codec Response) refl law.response.some
-  first_waits Server = let r = law.request terms.version low high in r.waits [] (wire.spell terms.codec (Request terms.codec terms.version)) refl r.some
+  first_waits Client = law.response.waits [] (wire.spell terms.codec Response) refl law.response.nonempty
+  first_waits Server = let r = law.request in r.waits [] (wire.spell terms.codec (Request terms.codec terms.version)) refl r.nonempty
 
   -- each of these messages is read as itself
   abbrev AllRead : List Message → Type 0
@@ -148,7 +149,7 @@ module _ (limits : Limits) (wire : Wire) (terms : Terms) (all : List Message) (l
       let a = sym (o.4 ∙ c) in
       let b = sym (o.3 ∙ e) in (
         subst (λ v. IsRead (wire.first Server) (wire.spell terms.codec (Request k v)) (Request k v)) b
-        (subst (λ k. IsRead (wire.first Server) (wire.spell terms.codec (Request k terms.version)) (Request k terms.version)) a (law.request terms.version low high)),
+        (subst (λ k. IsRead (wire.first Server) (wire.spell terms.codec (Request k terms.version)) (Request k terms.version)) a (law.request)),
         o.4 ∙ c,
       )
   read_handshake Server F l Response s e c f o = absurd (let a : F.side ≡ Server = o.0 in cc)

@@ -13,7 +13,8 @@ use Rattle.hd_delivery.specs.Bytes.{unread}
 use Rattle.hd_delivery.proofs.Lists.{take_split, get_front, append_none}
 use Rattle.hd_delivery.proofs.Local.{is_this-true, is_this-same, both, here_was, nothing_lent, nothing_taken, has_first, none_was, first_was}
 use Rattle.hd_delivery.proofs.Carries.{Facts, facts, MayStand, MayCarry, MayCarry-prefix, MayStand-count, MayCarry-any, number-push, most_told_at, MayCarry-told}
-use Rattle.hd_delivery.proofs.Pair.{messages, is_seq, other, Pair, Fit, opening_ok, most_lent-more, messages-push, lent_unwritten, Says, same_read, read_on, read_off, the_fed, next_ok, next_lent, same_first, three_is, shaken_next, lent_on, lent_off}
+use Rattle.hd_delivery.proofs.Pair.{messages, is_seq, other, Pair, Fit, opening_ok, most_lent-more, messages-push, lent_unwritten, Says, same_read, read_on, read_off, the_fed, next_ok, next_lent, same_first, three_is, lent_on, lent_off}
+use Rattle.hd_delivery.proofs.WhatIsSaid.{shaken_next}
 
 -- what was received by the time of the first Sequence
 abbrev pub opened : List Frame → Option ℕ

@@ -10,7 +10,8 @@ use Rattle.hd_delivery.specs.Worlds.{Terms, config, IsFaultless}
 use Rattle.hd_delivery.proofs.Lists.{take_whole, drop_all, get_none, prefix_whole}
 use Rattle.hd_delivery.proofs.Local.{is_this-same, both, or_right, or_left}
 use Rattle.hd_delivery.proofs.Carries.{facts, MayCarry-any}
-use Rattle.hd_delivery.proofs.Pair.{messages, Placed, other, not_failed, three_is}
+use Rattle.hd_delivery.proofs.Pair.{messages, Placed, other, three_is}
+use Rattle.hd_delivery.proofs.WhatIsSaid.{not_failed}
 use Rattle.hd_delivery.proofs.Run.{their_base}
 use Rattle.hd_delivery.proofs.World.{Inv}
 

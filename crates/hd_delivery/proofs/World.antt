@@ -7,7 +7,9 @@ use Rattle.hd_delivery.specs.Histories.{Side, Client, Server, Step, Attached, De
 use Rattle.hd_delivery.specs.Processes.{next_number, resumes, reads}
 use Rattle.hd_delivery.specs.Worlds.{Limits, Sizes, MayAttach, Allowed, Terms, config, Event, ByClient, ByServer, client_of, server_of, IsWorld}
 use Rattle.hd_delivery.proofs.Local.{or_right, none_was, first_was}
-use Rattle.hd_delivery.proofs.Pair.{Own, Way, Pair, read_step, detached, was_sent, was_fed, was_read, read_any, was_attached, says_due, was_lent}
+use Rattle.hd_delivery.proofs.Pair.{Own, Way, Pair, detached, was_sent, was_fed, was_read, was_attached, was_lent}
+use Rattle.hd_delivery.proofs.WhatIsRead.{read_step, read_any}
+use Rattle.hd_delivery.proofs.WhatIsSaid.{says_due}
 use Rattle.hd_delivery.proofs.Run.{Run, writes_detached, writes_sent, writes_fed, writes_attached, writes_read, writes_lent, reads_detached, reads_fed, reads_read, reads_attached, reads_lent, third}
 
 -- what holds of two ends in every world

@@ -7,14 +7,14 @@ use Rattle.hm_message.specs.declared.message.Message.{Message}
 use Rattle.hd_delivery.specs.Frames.{Frame, Request, Response, Numbered, Ack, Sequence, Ping, Close, Unreadable, Reason, error_of, received_of}
 use Rattle.hd_delivery.specs.Histories.{Side, Client, Server, Step, Fed, Config, is_this, here, stands_on, first_link, as_told, fed, lent, taken, sent, codec_of, closed, state, Ready}
 use Rattle.hd_delivery.specs.Due.{due}
-use Rattle.hd_delivery.specs.Worlds.{IsPrefixOf, Limits, Sizes, CanBeSent, Allowed, Terms, config, Still, Headline}
+use Rattle.hd_delivery.specs.Worlds.{IsPrefixOf, Limits, Sizes, CanBeSent, Allowed, Terms, config, Still, Delivery}
 
 -- ---- readers
 
 -- what a reader says of the bytes before it
 pub data Reading : Type 0 where
   Waits : Reading  -- no whole frame yet
-  Reads : (f : Frame) → (size : ℕ) → Reading  -- first comes this frame, of so many bytes with its framing
+  Reads : (f : Frame) → (size : ℕ) → Reading  -- first comes this frame, of so many bytes with its framing. It is a handshake exactly where one has to come, and never Unreadable
   Refuses : (why : List ℕ) → (size : ℕ) → Reading  -- first comes a whole frame that can't be read
   Stops : (why : List ℕ) → Reading  -- no frame can come here
 
@@ -30,13 +30,13 @@ sizes_of wire = record { frame = wire.frame_size; framed = λ codec m. length (w
 
 -- the frame, spelled in these bytes, is read as itself whatever comes behind it, and not before it is whole
 pub record IsRead (read : List ℕ → Reading) (bytes : List ℕ) (f : Frame) : Type 0 where
-  pub some : 0 < length bytes
+  pub nonempty : 0 < length bytes
   pub whole : (rest : List ℕ) → read (bytes ++ rest) ≡ Reads f (length bytes)
   pub waits : (front rest : List ℕ) → front ++ rest ≡ bytes → 0 < length rest → read front ≡ Waits
 
--- what two ends say in the codec, these messages among it, is read as itself
-pub record IsFaithful (limits : Limits) (wire : Wire) (codec : Codec) (messages : List Message) : Type 0 where
-  pub request : (version : ℕ) → 0 < version → version ≤ 3 → IsRead (wire.first Server) (wire.spell codec (Request codec version)) (Request codec version)
+-- what two ends say in the codec and version, these messages among it, is read as itself
+pub record IsFaithful (limits : Limits) (wire : Wire) (codec : Codec) (version : ℕ) (messages : List Message) : Type 0 where
+  pub request : IsRead (wire.first Server) (wire.spell codec (Request codec version)) (Request codec version)
   pub response : IsRead (wire.first Client) (wire.spell codec Response) Response
   pub message : (m : Message) → Contains messages m → CanBeSent limits (sizes_of wire) codec m → IsRead (wire.later codec) (wire.spell codec (Numbered m)) (Numbered m)
   pub ack : (upto : ℕ) → upto ≤ 2 ^ 62 → IsRead (wire.later codec) (wire.spell codec (Ack upto)) (Ack upto)
@@ -60,7 +60,7 @@ cut_by (Stops why) at bytes rest = (Unreadable (as_told at) why, 0) ∷ []
 -- at most so many frames, from a place on
 abbrev pub cut_all : (List ℕ → Reading) → ℕ → ℕ → List ℕ → List Cut
 cut_all read zero at bytes = []
-cut_all read (suc most) at bytes = cut_by (read bytes) at bytes (λ f. cut_all read most)
+cut_all read (suc left) at bytes = cut_by (read bytes) at bytes (λ f. cut_all read left)
 
 -- a server goes on in the codec of the request
 abbrev pub codec_after : Codec → Frame → Codec
@@ -74,6 +74,7 @@ cut wire c h l bytes =
     then cut_by (wire.first c.side bytes) 0 bytes (λ f at rest. cut_all (wire.later (codec_after c.codec f)) (length rest) at rest)
     else cut_all (wire.later (codec_of c h)) (length bytes) 0 bytes
 
+-- the frames alone
 abbrev pub frames : List Cut → List Frame
 frames cuts = map (λ x. x.0) cuts
 
@@ -116,7 +117,7 @@ spelled wire codec frames = flat_map (wire.spell codec) frames
 
 -- ---- worlds over bytes
 
--- what an end lent on a link, in bytes
+-- what an end lent on a link, in the bytes of its codec. Before the codec is agreed only a handshake is lent, which every codec writes alike
 abbrev pub lent_bytes : Wire → Config → ℕ → List ByteStep → List ℕ
 lent_bytes wire c l h = spelled wire (codec_of c (in_frames wire c h)) (lent l (in_frames wire c h))
 
@@ -173,13 +174,13 @@ pub record StillOverBytes (wire : Wire) (cc cs : Config) (c s : List ByteStep) :
   pub client_due : due cc (in_frames wire cc c) ≡ None
   pub server_due : due cs (in_frames wire cs s) ≡ None
 
--- the headline of the histories in frames, which are still where every byte was fed
-pub record HeadlineOverBytes (wire : Wire) (t : Terms) (w : List ByteEvent) : Type 0 where
-  pub holds : Headline t (client_in_frames wire t w) (server_in_frames wire t w)
+-- the same of the histories in frames, which are still where every byte was fed
+pub record DeliveryOverBytes (wire : Wire) (t : Terms) (w : List ByteEvent) : Type 0 where
+  pub holds : Delivery t (client_in_frames wire t w) (server_in_frames wire t w)
   pub still : StillOverBytes wire (config Client t) (config Server t) (client_bytes w) (server_bytes w) → Still (config Client t) (config Server t) (client_in_frames wire t w) (server_in_frames wire t w)
 
 -- it holds in every world over bytes whose readers are faithful to what is sent there
 abbrev pub HoldsOverBytes : Type 0
-HoldsOverBytes = (limits : Limits) (wire : Wire) (t : Terms) (w : List ByteEvent) → 0 < t.version → t.version ≤ 3
-    → IsFaithful limits wire t.codec (sent (client_in_frames wire t w) ++ sent (server_in_frames wire t w))
-    → IsWorldOverBytes limits wire t w → HeadlineOverBytes wire t w
+HoldsOverBytes = (limits : Limits) (wire : Wire) (t : Terms) (w : List ByteEvent)
+    → IsFaithful limits wire t.codec t.version (sent (client_in_frames wire t w) ++ sent (server_in_frames wire t w))
+    → IsWorldOverBytes limits wire t w → DeliveryOverBytes wire t w

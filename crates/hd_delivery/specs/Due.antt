@@ -1,13 +1,13 @@
 -- What an end has to say next on its link: the first of a list of things that are due.
 -- HubProtocol.md, "Overview", has the handshake, the Sequence that opens a later link, the Acks, the Ping and the Close. This project's
--- own rules: the order of what is due; a further Sequence on the same link; version 3, in which each end waits for the other's opening;
--- a Ping after 15,000 ms; what a closed end still says.
+-- own rules: the order of what is due; that nothing is due before the opening of a link; a further Sequence on the same link; version 3,
+-- in which each end waits for the other's opening; a Ping after 15,000 ms; what a closed end still says.
 use Rattle.std.specs.Prelude.{ℕ, suc, ◌+◌, max, Bool, true, false, not, ◌&&◌, ◌||◌, nat_lt, nat_le, List, [], ◌∷◌, length, Option, Some, None, is_some, option_map, slice_get, if◌then◌else◌}
 use Rattle.hm_message.specs.declared.message.Message.{Message}
 use Rattle.hd_delivery.specs.Frames.{Frame, Request, Response, Refusal, Numbered, Ack, Sequence, Ping, Close, Protocol, error_of, number, most_told}
 use Rattle.hd_delivery.specs.Histories.{Side, Client, Server, Shake, Step, Attached, Failed, Lent, Ticked, Closed, Config, State, Ready, is_this, first_of, here, first_link, lent, sent, processed, acked, written, next_place, shaken, is_three, kept, closed, state, resumed, wrote}
 
--- the handshake: a client asks at once, a server answers once it took the request
+-- the handshake: a client asks at once, unless it is closed; a server answers once it took the request, closed or not
 abbrev pub handshake : Side → Config → List Step → Option Frame
 handshake Client c h = if closed c h then None else Some (Request c.codec c.version)
 handshake Server c h = if shaken h then Some Response else None
@@ -20,11 +20,11 @@ opening c h l = if is_this l (first_link h) then handshake c.side c h else Some 
 abbrev pub next_message : List Step → Option Message
 next_message h = slice_get (sent h) (max (acked h) (written h))
 
--- a further Sequence, where the other end would count the next message as another number than its place
+-- up to version 2, a further Sequence, where the other end would count the next message as another number than its place
 abbrev pub sequence_due : List Step → List Frame → Option Frame
 sequence_due h said = if not (is_three h) && (is_some (next_message h) && not (is_this (next_place h) (number said))) then Some (Sequence (next_place h) None) else None
 
--- how many messages were processed, where that isn't told on this link yet
+-- of a kept end that isn't closed: how many messages were processed, where that isn't told on this link yet
 abbrev pub ack_due : Config → List Step → List Frame → Option Frame
 ack_due c h said = if (kept c h && not (closed c h)) && nat_lt (most_told said) (length (processed h)) then Some (Ack (length (processed h))) else None
 
@@ -32,6 +32,7 @@ ack_due c h said = if (kept c h && not (closed c h)) && nat_lt (most_told said) 
 abbrev pub may_write : List Step → ℕ → Bool
 may_write h l = not (is_three h) || (is_this l (first_link h) || resumed h)
 
+-- the next message, where the link may have it
 abbrev pub message_due : List Step → ℕ → Option Frame
 message_due h l = if may_write h l then option_map Numbered (next_message h) else None
 
@@ -43,14 +44,16 @@ is_quiet (Lent f ∷ h) = false
 is_quiet (Ticked now ∷ h) = nat_le (wrote h + 15000) now || is_quiet h
 is_quiet (_ ∷ h) = is_quiet h
 
+-- the state is Ready
 abbrev pub is_ready : State → Bool
 is_ready Ready = true
 is_ready _ = false
 
+-- a Ping of an end that is Ready and was quiet
 abbrev pub ping_due : Config → List Step → Option Frame
 ping_due c h = if is_ready (state c h) && is_quiet h then Some Ping else None
 
--- the Close of an end that its own side closed, or that failed after the handshake
+-- the Close of an end that its own side closed, or that met a fault of another kind than a refused handshake
 abbrev pub farewell : List Step → Option Frame
 farewell [] = None
 farewell (Closed reason allow ∷ h) = Some (Close (error_of reason) allow)
@@ -58,11 +61,13 @@ farewell (Failed (Shake why answer) ∷ h) = farewell h
 farewell (Failed fault ∷ h) = Some (Close (error_of Protocol) false)
 farewell (_ ∷ h) = farewell h
 
+-- whether a Close was said
 abbrev pub has_close : List Frame → Bool
 has_close [] = false
 has_close (Close error allow ∷ frames) = true
 has_close (_ ∷ frames) = has_close frames
 
+-- after the handshake, the Close, once
 abbrev pub close_due : List Step → List Frame → Option Frame
 close_due h said = if shaken h && not (has_close said) then farewell h else None
 
@@ -87,10 +92,12 @@ abbrev pub answer_due : List ℕ → List Frame → Option Frame
 answer_due text [] = Some (Refusal text)
 answer_due text (f ∷ frames) = None
 
+-- on this link, where a request was refused with this text or none was
 abbrev pub due_there : Config → List Step → ℕ → Option (List ℕ) → Option Frame
 due_there c h l None = due_after c h l (lent l h)
 due_there c h l (Some text) = answer_due text (lent l h)
 
+-- nothing without a link
 abbrev pub due_on : Config → List Step → Option ℕ → Option Frame
 due_on c h None = None
 due_on c h (Some l) = due_there c h l (answer h)

@@ -1,13 +1,12 @@
 -- Worked worlds: what two ends do in cases that tell versions, losses and resumptions apart. Each list has the oldest event first.
-use Rattle.std.specs.Prelude.{◌≡◌, ℕ, pos, Bool, true, false, List, [], ◌∷◌, ◌++◌, map, reverse, codes, length, Option, Some, None}
+use Rattle.std.specs.Prelude.{◌≡◌, ℕ, Bool, false, List, [], ◌∷◌, ◌++◌, map, reverse, codes, length, Some, None}
+use Rattle.hm_message.specs.declared.message.Codec.{Codec}
 use Rattle.hm_message.specs.declared.message.Codec.TheVariants.{Json, Pack}
 use Rattle.hm_message.specs.declared.message.Message.{Message}
 use Rattle.hm_message.specs.declared.message.Message.TheVariants.{Invocation}
-use Rattle.hd_delivery.specs.Frames.{Frame, Request, Response, Refusal, Numbered, Ack, Sequence, Ping, Close, Foreign, Strange, Unreadable, Done, Slow}
-use Rattle.hd_delivery.specs.Histories.{Fault, Unread, Shake, Duplicate, Unknown, NotUsed, Shaken, Processed, Acked, Sequenced, Resumed, Pinged, Skipped, Ended, Step, Attached, Detached, Fed, Took, Failed, Sent, Lent, Ticked, Silenced, Closed, Client, Server, Config, State, sent, processed, state, held}
-use Rattle.hd_delivery.specs.Due.{due}
-use Rattle.hd_delivery.specs.Processes.{processes}
-use Rattle.hd_delivery.specs.Worlds.{Limits, Sizes, Terms, config, Event, ByClient, ByServer, client_of, server_of, IsWorld}
+use Rattle.hd_delivery.specs.Frames.{Request, Response, Numbered, Ack, Sequence, Ping, Close, Done}
+use Rattle.hd_delivery.specs.Histories.{Duplicate, Shaken, Processed, Acked, Sequenced, Resumed, Pinged, Skipped, Ended, Step, Attached, Detached, Fed, Took, Sent, Lent, Ticked, Silenced, Closed, Client, Server, Config, State, sent, processed, state, held}
+use Rattle.hd_delivery.specs.Worlds.{Limits, Sizes, Terms, config, Event, ByClient, ByServer, client_of, server_of, IsWorld, IsOnOneClock, Still}
 
 -- an invocation of no id and with no arguments
 abbrev pub call : List ℕ → Message
@@ -22,17 +21,27 @@ b = call (codes "b")
 abbrev pub c : Message
 c = call (codes "c")
 
+abbrev pub limits_of : ℕ → ℕ → ℕ → Limits
+limits_of frame count bytes = record { frame = frame; count = count; bytes = bytes }
+
 -- the limits of a connection, where nothing else is asked for
 abbrev pub usual : Limits
-usual = record { frame = 32768; count = 1024; bytes = 100000 }
+usual = limits_of 32768 1024 100000
 
 -- of these messages in JSON
 abbrev pub sizes : Sizes
 sizes = record { frame = λ codec m. 38; framed = λ codec m. 39 }
 
+abbrev pub other_codec : Codec → Codec
+other_codec Json = Pack
+other_codec Pack = Json
+
 -- the server is begun with another codec and version than the client asks for
+abbrev pub terms_in : Codec → ℕ → Bool → Terms
+terms_in codec version reconnect = record { codec = codec; version = version; server_codec = other_codec codec; server_version = 1; reconnect = reconnect }
+
 abbrev pub terms : ℕ → Bool → Terms
-terms version reconnect = record { codec = Json; version = version; server_codec = Pack; server_version = 1; reconnect = reconnect }
+terms version reconnect = terms_in Json version reconnect
 
 abbrev pub client : List Step → List Event
 client steps = map ByClient steps
@@ -140,7 +149,7 @@ silence =
     ++ client (Silenced 30000 ∷ [])
     ++ server (Ticked 30000 ∷ [])
 
--- A plain connection ends with its link.
+-- A plain connection ends at a silence.
 abbrev pub plain_silence : List Event
 plain_silence =
     opened 2
@@ -159,6 +168,35 @@ closed_before_response =
     ++ server (Attached 0 0 ∷ Fed (Request Json 2 ∷ []) ∷ Took (Shaken Json 2) ∷ Sent a ∷ Closed Done false ∷ Lent Response ∷ Lent (Numbered a) ∷ Lent (Close None false) ∷ [])
     ++ client (Fed (Response ∷ Numbered a ∷ Close None false ∷ []) ∷ Took (Shaken Json 2) ∷ Took (Processed a) ∷ Took (Ended None false) ∷ [])
 
+-- A message was processed and acknowledged: both ends are still.
+abbrev pub acknowledged : List Event
+acknowledged =
+    opened 2
+    ++ client (Sent a ∷ Lent (Numbered a) ∷ [])
+    ++ server (Fed (Numbered a ∷ []) ∷ Took (Processed a) ∷ Lent (Ack 1) ∷ [])
+    ++ client (Fed (Ack 1 ∷ []) ∷ Took (Acked 1) ∷ [])
+
+-- On a plain connection nothing is acknowledged, and nothing is held that was lent.
+abbrev pub plain_delivered : List Event
+plain_delivered =
+    opened 2
+    ++ client (Sent a ∷ Lent (Numbered a) ∷ [])
+    ++ server (Fed (Numbered a ∷ []) ∷ Took (Processed a) ∷ [])
+
+-- A plain connection has room again once a message was lent, here for one at a time.
+abbrev pub plain_room : List Event
+plain_room =
+    opened 2
+    ++ client (Sent a ∷ Lent (Numbered a) ∷ Sent b ∷ [])
+
+-- Three messages of 39 framed bytes each, where there is room for just these.
+abbrev pub filled : List Event
+filled =
+    opened 2
+    ++ client (Sent a ∷ Sent b ∷ Sent c ∷ [])
+
+-- ---- what is said of them
+
 -- the steps of each end, the latest first
 abbrev pub client_after : List Event → List Step
 client_after events = client_of (reverse events)
@@ -171,94 +209,12 @@ abbrev pub summary : Config → List Step → State × ℕ × ℕ × ℕ
 summary config h = (state config h, length (sent h), length (processed h), length (held config h))
 
 -- these events are a world, at whose end the two ends are so
-pub record IsWorked (t : Terms) (events : List Event) (of_client of_server : State × ℕ × ℕ × ℕ) : Type 0 where
-  pub is_world : IsWorld usual sizes t (reverse events)
+pub record IsWorked (limits : Limits) (t : Terms) (events : List Event) (of_client of_server : State × ℕ × ℕ × ℕ) : Type 0 where
+  pub is_world : IsWorld limits sizes t (reverse events)
+  pub on_one_clock : IsOnOneClock (reverse events)
   pub at_client : summary (config Client t) (client_after events) ≡ of_client
   pub at_server : summary (config Server t) (server_after events) ≡ of_server
 
--- ---- what a server does with frames that no client of this kind says
-
--- the server's steps of the handshake
-abbrev pub opened_server : ℕ → List Step
-opened_server version = Attached 0 0 ∷ Fed (Request Json version ∷ []) ∷ Took (Shaken Json version) ∷ Lent Response ∷ []
-
--- a Sequence that leaves a gap, on the second link
-abbrev pub gap : List Step
-gap =
-    opened_server 2
-    ++ Fed (Numbered a ∷ Numbered b ∷ Numbered c ∷ []) ∷ Took (Processed a) ∷ Took (Processed b) ∷ Took (Processed c)
-    ∷ Attached 1 0 ∷ Fed (Sequence 5 None ∷ []) ∷ []
-
-abbrev pub eight : {A : Type 0} → A → List A
-eight x = x ∷ x ∷ x ∷ x ∷ x ∷ x ∷ x ∷ x ∷ []
-
--- an Ack of nine messages, where eight were lent
-abbrev pub beyond : List Step
-beyond = opened_server 2 ++ map Sent (eight a) ++ map Lent (eight (Numbered a)) ++ Fed (Ack 9 ∷ []) ∷ []
-
--- at version 3 the same is told as received
-abbrev pub received_beyond : List Step
-received_beyond = opened_server 3 ++ Attached 1 0 ∷ Fed (Sequence 1 (Some 1) ∷ []) ∷ []
-
--- a later link on which a message comes before any Sequence
-abbrev pub early : List Step
-early = opened_server 2 ++ Attached 1 0 ∷ Fed (Numbered a ∷ []) ∷ []
-
--- at version 3 a message that comes before this end has lent its own opening
-abbrev pub early_three : List Step
-early_three = opened_server 3 ++ Attached 1 0 ∷ Fed (Sequence 1 (Some 0) ∷ Numbered a ∷ []) ∷ Took (Resumed 1 0) ∷ []
-
--- an Ack on a plain connection, and a Sequence there
-abbrev pub plain_ack : List Step
-plain_ack = opened_server 1 ++ Fed (Ack 9 ∷ Sequence 5 None ∷ Numbered a ∷ []) ∷ []
-
-abbrev pub plain_sequence : List Step
-plain_sequence = plain_ack ++ Took (Skipped NotUsed) ∷ []
-
--- a message that is the next one all the same
-abbrev pub plain_message : List Step
-plain_message = plain_sequence ++ Took (Skipped NotUsed) ∷ []
-
--- a handshake and a Ping in one piece
-abbrev pub at_once : List Step
-at_once = Attached 0 0 ∷ Fed (Request Json 1 ∷ Ping ∷ []) ∷ []
-
-abbrev pub pinged : List Step
-pinged = at_once ++ Took (Shaken Json 1) ∷ []
-
--- a request of a version that isn't known
-abbrev pub unknown_version : Fault
-unknown_version = Shake (codes "Version 9") (Some (codes "The version is not known."))
-
-abbrev pub refused : List Step
-refused = Attached 0 0 ∷ Fed (Strange (codes "Version 9") (Some (codes "The version is not known.")) ∷ Ping ∷ []) ∷ []
-
-abbrev pub refused_failed : List Step
-refused_failed = refused ++ Failed unknown_version ∷ []
-
-abbrev pub refused_answered : List Step
-refused_answered = refused_failed ++ Lent (Refusal (codes "The version is not known.")) ∷ []
-
--- frames on the second link: one of a type that no message has, and one that can't be read
-abbrev pub odd : List Step
-odd = opened_server 2 ++ Attached 7 0 ∷ Fed (Foreign (pos 10) ∷ Unreadable 20 (codes "NotJson") ∷ []) ∷ []
-
-abbrev pub odd_skipped : List Step
-odd_skipped = odd ++ Took (Skipped (Unknown (pos 10))) ∷ []
-
-abbrev pub odd_failed : List Step
-odd_failed = odd_skipped ++ Failed (Unread 1 20 (codes "NotJson")) ∷ []
-
--- closed for a reason, after all that was sent
-abbrev pub slow : List Step
-slow = opened_server 2 ++ Sent a ∷ Closed Slow false ∷ Lent (Numbered a) ∷ []
-
-abbrev pub slow_told : List Step
-slow_told = slow ++ Lent (Close (Some (codes "Too slow.")) false) ∷ []
-
--- after these steps of a server that is begun with reconnect, this step comes next
-abbrev pub NextStep : List Step → Option Step → Type 0
-NextStep steps step = processes (config Server (terms 2 true)) (reverse steps) ≡ step
-
-abbrev pub NextDue : List Step → Option Frame → Type 0
-NextDue steps frame = due (config Server (terms 2 true)) (reverse steps) ≡ frame
+-- at their end both are still
+abbrev pub IsStill : Terms → List Event → Type 0
+IsStill t events = Still (config Client t) (config Server t) (client_after events) (server_after events)

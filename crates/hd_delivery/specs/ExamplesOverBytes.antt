@@ -5,11 +5,11 @@ use Rattle.hm_message.specs.declared.message.Codec.TheVariants.{Json, Pack}
 use Rattle.hm_message.specs.declared.message.Message.{Message}
 use Rattle.hm_message.specs.declared.message.Message.TheVariants.{Invocation}
 use Rattle.hd_delivery.specs.Frames.{Frame, Request, Response, Numbered, Ack, Sequence, Ping, Close, Strange, Reason, Done, Protocol, InUse, TooMany, Flood, Slow, Expired, error_of}
-use Rattle.hd_delivery.specs.Histories.{Side, Client, Server, Config, State, Step, Shaken, Processed, Acked, Sequenced, Attached, Took, Sent, Lent}
+use Rattle.hd_delivery.specs.Histories.{Side, Client, Server, Config, State, Step, Shaken, Processed, Acked, Sequenced, Pinged, Attached, Took, Sent, Lent}
 use Rattle.hd_delivery.specs.Processes.{processes}
-use Rattle.hd_delivery.specs.Worlds.{Terms, config}
-use Rattle.hd_delivery.specs.Bytes.{Reading, Waits, Reads, Refuses, Wire, ByteStep, Bytes, Does, in_frames, ByteEvent, AtClient, AtServer, client_bytes, server_bytes, IsWorldOverBytes}
-use Rattle.hd_delivery.specs.Examples.{call, a, b, c, usual, terms, summary}
+use Rattle.hd_delivery.specs.Worlds.{Limits, Terms, config}
+use Rattle.hd_delivery.specs.Bytes.{Reading, Waits, Reads, Refuses, Stops, Wire, ByteStep, Bytes, Does, in_frames, ByteEvent, AtClient, AtServer, client_bytes, server_bytes, MayFeedBytes, IsWorldOverBytes, StillOverBytes}
+use Rattle.hd_delivery.specs.Examples.{call, a, b, c, terms, summary}
 
 -- ---- what is written
 
@@ -76,7 +76,7 @@ abbrev pub received_numbered : ℕ → ℕ → Option ℕ
 received_numbered y z = if y == 0 then None else Some z
 
 abbrev pub no_handshake : Reading
-no_handshake = Reads (Strange (codes "NotJson") None) 4
+no_handshake = Reads (Strange (codes "NotJson") (codes "The handshake is not JSON.")) 4
 
 abbrev pub first_of_four : Side → ℕ → ℕ → ℕ → ℕ → Reading
 first_of_four Client kind x y z = if kind == 2 then Reads Response 4 else no_handshake
@@ -89,7 +89,8 @@ later_of_four kind x y z =
     (if kind == 5 then Reads (Sequence x (received_numbered y z)) 4 else
     (if kind == 6 then Reads Ping 4 else
     (if kind == 7 then Reads (Close (error_numbered x) (y == 1)) 4 else
-    Refuses (codes "NotJson") 4))))
+    (if kind == 8 then Refuses (codes "NotJson") 4 else
+    Stops (codes "BadLength"))))))
 
 abbrev pub four : Wire
 four = record { spell = λ codec. spell_four; frame_size = λ codec m. 4; first = λ side. read_four (first_of_four side); later = λ codec. read_four later_of_four }
@@ -110,35 +111,72 @@ bytewise =
     ++ client (Bytes (2 ∷ 0 ∷ 0 ∷ 0 ∷ []) ∷ Does (Took (Shaken Json 2)) ∷ Does (Sent a) ∷ Does (Sent b) ∷ Does (Sent c) ∷ Does (Lent (Numbered a)) ∷ Does (Lent (Numbered b)) ∷ Does (Lent (Numbered c)) ∷ [])
     ++ server (Bytes (3 ∷ []) ∷ Bytes (97 ∷ []) ∷ Bytes (0 ∷ []) ∷ Bytes (0 ∷ []) ∷ Does (Took (Processed a)) ∷ Bytes (3 ∷ []) ∷ Bytes (98 ∷ []) ∷ Bytes (0 ∷ []) ∷ Bytes (0 ∷ []) ∷ Does (Took (Processed b)) ∷ Bytes (3 ∷ []) ∷ Bytes (99 ∷ []) ∷ Bytes (0 ∷ []) ∷ Bytes (0 ∷ []) ∷ Does (Took (Processed c)) ∷ [])
 
--- The second message is cut in its middle by the loss of its link. What was read of it is dropped, and the next link has it whole.
+-- In MessagePack. The second message is cut in its middle by the loss of its link. What was read of it is dropped, and the next link has it whole.
 abbrev pub cut_by_a_loss : List ByteEvent
 cut_by_a_loss =
-    client (Does (Attached 0 0) ∷ Does (Lent (Request Json 2)) ∷ [])
-    ++ server (Does (Attached 0 0) ∷ Bytes (1 ∷ 2 ∷ 0 ∷ 0 ∷ []) ∷ Does (Took (Shaken Json 2)) ∷ Does (Lent Response) ∷ [])
-    ++ client (Bytes (2 ∷ 0 ∷ 0 ∷ 0 ∷ []) ∷ Does (Took (Shaken Json 2)) ∷ Does (Sent a) ∷ Does (Sent b) ∷ Does (Lent (Numbered a)) ∷ Does (Lent (Numbered b)) ∷ [])
+    client (Does (Attached 0 0) ∷ Does (Lent (Request Pack 2)) ∷ [])
+    ++ server (Does (Attached 0 0) ∷ Bytes (1 ∷ 2 ∷ 1 ∷ 0 ∷ []) ∷ Does (Took (Shaken Pack 2)) ∷ Does (Lent Response) ∷ [])
+    ++ client (Bytes (2 ∷ 0 ∷ 0 ∷ 0 ∷ []) ∷ Does (Took (Shaken Pack 2)) ∷ Does (Sent a) ∷ Does (Sent b) ∷ Does (Lent (Numbered a)) ∷ Does (Lent (Numbered b)) ∷ [])
     ++ server (Bytes (3 ∷ 97 ∷ 0 ∷ 0 ∷ 3 ∷ 98 ∷ []) ∷ Does (Took (Processed a)) ∷ Does (Lent (Ack 1)) ∷ [])
     ++ client (Bytes (4 ∷ 1 ∷ 0 ∷ 0 ∷ []) ∷ Does (Took (Acked 1)) ∷ Does (Attached 1 0) ∷ [])
     ++ server (Does (Attached 1 0) ∷ [])
     ++ client (Does (Lent (Sequence 2 None)) ∷ Does (Lent (Numbered b)) ∷ [])
     ++ server (Bytes (5 ∷ 2 ∷ 0 ∷ 0 ∷ 3 ∷ 98 ∷ 0 ∷ 0 ∷ []) ∷ Does (Took (Sequenced 2)) ∷ Does (Took (Processed b)) ∷ [])
 
+-- A message was processed and acknowledged: both ends are still.
+abbrev pub acknowledged_over_bytes : List ByteEvent
+acknowledged_over_bytes =
+    client (Does (Attached 0 0) ∷ Does (Lent (Request Json 2)) ∷ [])
+    ++ server (Does (Attached 0 0) ∷ Bytes (1 ∷ 2 ∷ 0 ∷ 0 ∷ []) ∷ Does (Took (Shaken Json 2)) ∷ Does (Lent Response) ∷ [])
+    ++ client (Bytes (2 ∷ 0 ∷ 0 ∷ 0 ∷ []) ∷ Does (Took (Shaken Json 2)) ∷ Does (Sent a) ∷ Does (Lent (Numbered a)) ∷ [])
+    ++ server (Bytes (3 ∷ 97 ∷ 0 ∷ 0 ∷ []) ∷ Does (Took (Processed a)) ∷ Does (Lent (Ack 1)) ∷ [])
+    ++ client (Bytes (4 ∷ 1 ∷ 0 ∷ 0 ∷ []) ∷ Does (Took (Acked 1)) ∷ [])
+
+-- An end whose frames have four bytes at most has nine unread.
+abbrev pub unread_nine : List ByteEvent
+unread_nine =
+    client (Does (Attached 0 0) ∷ Does (Lent (Request Json 2)) ∷ [])
+    ++ server (Does (Attached 0 0) ∷ Bytes (1 ∷ 2 ∷ 0 ∷ 0 ∷ []) ∷ Does (Took (Shaken Json 2)) ∷ Does (Lent Response) ∷ [])
+    ++ client (Bytes (2 ∷ 0 ∷ 0 ∷ 0 ∷ []) ∷ Does (Took (Shaken Json 2)) ∷ Does (Sent a) ∷ Does (Sent b) ∷ Does (Sent c) ∷ Does (Lent (Numbered a)) ∷ Does (Lent (Numbered b)) ∷ Does (Lent (Numbered c)) ∷ [])
+    ++ server (Bytes (3 ∷ 97 ∷ 0 ∷ 0 ∷ 3 ∷ 98 ∷ 0 ∷ 0 ∷ 3 ∷ []) ∷ [])
+
+-- ---- what is said of them
+
 -- the state, and how many messages were sent, processed and are held
 abbrev pub summary_over_bytes : Config → List ByteStep → State × ℕ × ℕ × ℕ
 summary_over_bytes config h = summary config (in_frames four config h)
 
 -- these events are a world over bytes, at whose end the two ends are so
-pub record IsWorkedOverBytes (t : Terms) (events : List ByteEvent) (of_client of_server : State × ℕ × ℕ × ℕ) : Type 0 where
-  pub is_world : IsWorldOverBytes usual four t (reverse events)
+pub record IsWorkedOverBytes (limits : Limits) (t : Terms) (events : List ByteEvent) (of_client of_server : State × ℕ × ℕ × ℕ) : Type 0 where
+  pub is_world : IsWorldOverBytes limits four t (reverse events)
   pub at_client : summary_over_bytes (config Client t) (client_bytes (reverse events)) ≡ of_client
   pub at_server : summary_over_bytes (config Server t) (server_bytes (reverse events)) ≡ of_server
+
+-- at their end both are still
+abbrev pub IsStillOverBytes : Terms → List ByteEvent → Type 0
+IsStillOverBytes t events = StillOverBytes four (config Client t) (config Server t) (client_bytes (reverse events)) (server_bytes (reverse events))
+
+-- where they end, the server may not be fed this much more
+abbrev pub IsFullFor : Limits → Terms → List ByteEvent → List ℕ → Type 0
+IsFullFor limits t events piece = MayFeedBytes limits four (config Server t) (config Client t) (server_bytes (reverse events)) (client_bytes (reverse events)) piece → ⊥
+
+-- ---- places
 
 -- a server is fed the handshake, a message and four numbers that are no frame, in pieces
 abbrev pub unreadable : List ByteStep
 unreadable =
-    Does (Attached 0 0) ∷ Bytes (1 ∷ 2 ∷ 0 ∷ 0 ∷ 3 ∷ 97 ∷ []) ∷ Does (Took (Shaken Json 2)) ∷ Bytes (0 ∷ 0 ∷ 9 ∷ []) ∷ Does (Took (Processed a)) ∷ Bytes (9 ∷ 9 ∷ []) ∷ []
+    Does (Attached 0 0) ∷ Bytes (1 ∷ 2 ∷ 0 ∷ 0 ∷ 3 ∷ 97 ∷ []) ∷ Does (Took (Shaken Json 2)) ∷ Bytes (0 ∷ 0 ∷ 8 ∷ []) ∷ Does (Took (Processed a)) ∷ Bytes (8 ∷ 8 ∷ []) ∷ []
 
 abbrev pub unreadable_whole : List ByteStep
-unreadable_whole = unreadable ++ Bytes (6 ∷ []) ∷ []
+unreadable_whole = unreadable ++ Bytes (8 ∷ []) ∷ []
+
+-- on the second link places begin again
+abbrev pub unreadable_later : List ByteStep
+unreadable_later = unreadable ++ Does (Lent Response) ∷ Does (Attached 1 0) ∷ Bytes (6 ∷ 0 ∷ 0 ∷ 0 ∷ 8 ∷ 8 ∷ 8 ∷ 8 ∷ []) ∷ Does (Took Pinged) ∷ []
+
+-- numbers with which no frame begins
+abbrev pub stopped : List ByteStep
+stopped = unreadable ++ Does (Lent Response) ∷ Does (Attached 1 0) ∷ Bytes (9 ∷ 9 ∷ 9 ∷ 9 ∷ 6 ∷ 0 ∷ 0 ∷ 0 ∷ []) ∷ []
 
 -- what the server's next frame makes after these steps
 abbrev pub NextStepOverBytes : List ByteStep → Option Step → Type 0

@@ -1,7 +1,7 @@
 -- What is said on a link, frame by frame.
--- The messages and their names are those of HubProtocol.md, "Overview". This project's own rules: that numbers begin with 1 and the
--- handshake counts as the Sequence of 1; that a Sequence may stand anywhere on a link and says the next number anew; that it may also
--- tell how much its writer has processed (version 3).
+-- The messages and their names are those of HubProtocol.md, "Overview". This project's own rules: which messages are numbered; that
+-- numbers begin with 1, so that the handshake counts as the Sequence of 1; that a Sequence may stand anywhere on a link and says the next
+-- number anew; that it may also tell how much its writer has processed (version 3); the reasons and their texts.
 use Rattle.std.specs.Prelude.{ℕ, suc, ℤ, max, Bool, List, [], ◌∷◌, fold, codes, Option, Some, None}
 use Rattle.hm_message.specs.declared.message.Codec.{Codec}
 use Rattle.hm_message.specs.declared.message.Message.{Message}
@@ -18,7 +18,7 @@ pub data Frame : Type 0 where
   Ping : Frame
   Close : (error : Option (List ℕ)) → (allow : Bool) → Frame
   Foreign : (n : ℤ) → Frame  -- of a type that no message has
-  Strange : (why : List ℕ) → (answer : Option (List ℕ)) → Frame  -- refused as a handshake, in the words of a report, with the text that a server answers
+  Strange : (why answer : List ℕ) → Frame  -- refused as a handshake, in the words of a report, with the text that a server answers
   Unreadable : (at : ℕ) → (why : List ℕ) → Frame  -- refused at this place of the link, in the words of a report
 
 -- what a message is on a link
@@ -51,6 +51,7 @@ error_of Expired = Some (codes "Connection expired.")
 
 -- ---- the numbers of sequenced messages
 
+-- where the next message has a number, the one after it
 abbrev pub one_more : Option ℕ → Option ℕ
 one_more None = None
 one_more (Some n) = Some (suc n)
@@ -69,10 +70,12 @@ number frames = fold count None frames
 
 -- ---- how much of the other end's messages is told
 
+-- what a Sequence tells as received, where nothing counts as 0
 abbrev pub received_of : Option ℕ → ℕ
 received_of None = 0
 received_of (Some n) = n
 
+-- how many messages a frame tells to be processed
 abbrev pub told : Frame → ℕ
 told (Ack upto) = upto
 told (Sequence first received) = received_of received

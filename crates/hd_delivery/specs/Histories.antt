@@ -42,6 +42,7 @@ pub data Fault : Type 0 where
   Gap : (got most : ℕ) → Fault
   AckBeyond : (got most : ℕ) → Fault
 
+-- one step of an end
 pub data Step : Type 0 where
   Attached : (link now : ℕ) → Step
   Detached : (now : ℕ) → Step
@@ -76,6 +77,7 @@ here (Detached now ∷ h) = None
 here (Silenced now ∷ h) = None
 here (_ ∷ h) = here h
 
+-- whether the end stands on the link
 abbrev pub stands_on : ℕ → List Step → Bool
 stands_on l h = is_this l (here h)
 
@@ -85,6 +87,7 @@ was_on l [] = false
 was_on l (Attached k now ∷ h) = (l == k) || was_on l h
 was_on l (_ ∷ h) = was_on l h
 
+-- the link on which the end stood first
 abbrev pub first_link : List Step → Option ℕ
 first_link [] = None
 first_link (Attached l now ∷ h) = first_of (first_link h) (Some l)
@@ -127,11 +130,13 @@ read l h = take (taken l h) (fed l h)
 
 -- ---- messages
 
+-- the messages that were sent, the first first
 abbrev pub sent : List Step → List Message
 sent [] = []
 sent (Sent m ∷ h) = sent h ++ m ∷ []
 sent (_ ∷ h) = sent h
 
+-- the messages of the other end that were handed out
 abbrev pub processed : List Step → List Message
 processed [] = []
 processed (Took (Processed m) ∷ h) = processed h ++ m ∷ []
@@ -163,6 +168,7 @@ most_lent (_ ∷ h) = most_lent h
 
 -- ---- the handshake and the state
 
+-- whether the handshake is complete
 abbrev pub shaken : List Step → Bool
 shaken [] = false
 shaken (Took (Shaken codec version) ∷ h) = true
@@ -174,6 +180,7 @@ agreed [] = 0
 agreed (Took (Shaken codec version) ∷ h) = version
 agreed (_ ∷ h) = agreed h
 
+-- version 3, in which each later link begins after what was received
 abbrev pub is_three : List Step → Bool
 is_three h = agreed h == 3
 
@@ -193,6 +200,7 @@ kept c [] = false
 kept c (Took (Shaken codec version) ∷ h) = c.reconnect && can_keep version
 kept c (_ ∷ h) = kept c h
 
+-- closed for good: by its own side, by a fault, by the other end's Close, or by the loss of a link that isn't survived
 abbrev pub closed : Config → List Step → Bool
 closed c [] = false
 closed c (Closed reason allow ∷ h) = true
@@ -206,7 +214,7 @@ pub data State : Type 0 where
   Opening : State  -- before the handshake is complete
   Ready : State  -- on a link
   Away : State  -- without a link
-  Over : State  -- closed
+  Over : State  -- closed, as a report says
 
 abbrev pub state_of : Bool → Bool → Option ℕ → State
 state_of true s l = Over
@@ -214,6 +222,7 @@ state_of false false l = Opening
 state_of false true None = Away
 state_of false true (Some l) = Ready
 
+-- the state of an end
 abbrev pub state : Config → List Step → State
 state c h = state_of (closed c h) (shaken h) (here h)
 
@@ -239,7 +248,8 @@ moment (Ticked now ∷ h) = max now (moment h)
 moment (Silenced now ∷ h) = max now (moment h)
 moment (_ ∷ h) = moment h
 
--- when the present link was last heard, as ticks tell it: the moment of the first tick after what was fed last, or of the link's beginning
+-- when the present link was last heard, as ticks tell it: the moment of the first tick after what was fed last, and none before that
+-- tick; where nothing was fed, the moment of the link's beginning
 abbrev pub heard : List Step → Option ℕ
 heard [] = None
 heard (Attached l now ∷ h) = Some (max now (moment h))
@@ -254,10 +264,11 @@ wrote (Attached l now ∷ h) = max now (moment h)
 wrote (Lent f ∷ h) = moment h
 wrote (_ ∷ h) = wrote h
 
+-- 30,000 ms after the moment, where there is one
 abbrev pub is_late : ℕ → Option ℕ → Bool
 is_late now None = false
 is_late now (Some moment) = nat_le (moment + 30000) now
 
--- a tick at this moment is a silence: an end that isn't closed has heard nothing on its link for 30,000 ms
+-- a tick at this moment is a silence: an end that isn't closed heard nothing on its link for 30,000 ms, as its ticks tell
 abbrev pub is_silence : Config → ℕ → List Step → Bool
 is_silence c now h = (is_some (here h) && not (closed c h)) && is_late now (heard h)

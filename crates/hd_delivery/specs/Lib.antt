@@ -5,4 +5,5 @@ pub mod Processes
 pub mod Worlds
 pub mod Bytes
 pub mod Examples
+pub mod OneEnd
 pub mod ExamplesOverBytes

@@ -1,18 +1,18 @@
 -- The step that the next frame of a link makes.
--- HubProtocol.md, "Overview", has the messages; that those from Invocation to CancelInvocation are numbered, and that a number which was
--- processed is passed over, is what its Sequence is for. This project's own rules: a later link's messages before its first Sequence are
--- passed over; a Sequence past the next number, and a count of messages that were never lent, end the connection; the greatest number;
--- version 3, in which each message that is taken is the next one.
+-- HubProtocol.md, "Overview", has the messages, and that a message which comes again after a Sequence is passed over. This project's own
+-- rules: a later link's messages before its first Sequence are passed over; a Sequence past the next number, and a count of messages that
+-- were never lent, end the connection; the greatest number; version 3, in which each message that is taken is the next one.
 use Rattle.std.specs.Prelude.{ℕ, suc, ◌+◌, ◌^◌, Bool, true, false, not, ◌||◌, ◌&&◌, ◌==◌, nat_le, List, [], ◌∷◌, length, Option, Some, None, is_some, option_map, slice_get, if◌then◌else◌}
 use Rattle.hm_message.specs.declared.message.Message.{Message}
 use Rattle.hd_delivery.specs.Frames.{Frame, Request, Response, Numbered, Ack, Sequence, Ping, Close, Foreign, Strange, Unreadable, number, received_of}
 use Rattle.hd_delivery.specs.Histories.{Client, Server, Duplicate, Unknown, BeforeSequence, NotUsed, Shaken, Processed, Acked, Sequenced, Resumed, Pinged, Skipped, Ended, Unread, Shake, Gap, AckBeyond, Step, Took, Failed, Config, Side, is_this, here, first_link, own_number, fed, lent, taken, read, processed, most_lent, shaken, kept, closed, is_three}
 
--- the first frame of the first link. No reader of handshakes gives one of the frames of the last case
+-- the first frame of the first link; a server answers what it refuses. No reader of handshakes gives a frame of the last case
 abbrev pub reads_handshake : Side → Config → List Step → Frame → Step
 reads_handshake Client c h Response = Took (Shaken c.codec c.version)
 reads_handshake Server c h (Request codec version) = Took (Shaken codec version)
-reads_handshake side c h (Strange why answer) = Failed (Shake why answer)
+reads_handshake Client c h (Strange why text) = Failed (Shake why None)
+reads_handshake Server c h (Strange why text) = Failed (Shake why (Some text))
 reads_handshake side c h (Unreadable at why) = Failed (Unread (own_number h) at why)
 reads_handshake side c h _ = Failed (Shake [] None)
 
@@ -28,13 +28,15 @@ abbrev pub spoke : List Frame → Bool
 spoke [] = false
 spoke (f ∷ frames) = true
 
--- the number of a sequenced message that comes next on the link. At version 3 and on a plain connection it is the one after those processed, on a later link once both openings were read and lent
+-- the number of a sequenced message that comes next on the link. At version 3 and on a plain connection it is the one after those
+-- processed, on a later link once the other end's opening was read and the end's own was lent
 abbrev pub next_number : Config → List Step → ℕ → Option ℕ
 next_number c h l =
     if is_three h || not (kept c h)
     then (if is_some (number (read l h)) && (is_this l (first_link h) || spoke (lent l h)) then Some (suc (length (processed h))) else None)
     else number (read l h)
 
+-- an Ack of messages that were lent
 abbrev pub reads_ack : List Step → ℕ → Step
 reads_ack h n = if nat_le n (most_lent h) then Took (Acked n) else Failed (AckBeyond n (most_lent h))
 
@@ -45,6 +47,7 @@ resumes h first received =
     then (if nat_le received (most_lent h) then Took (Resumed first received) else Failed (AckBeyond received (most_lent h)))
     else Took (Sequenced first)
 
+-- a Sequence, of the next number at most
 abbrev pub reads_sequence : List Step → ℕ → ℕ → Step
 reads_sequence h first received =
     if nat_le first (suc (length (processed h))) then resumes h first received else Failed (Gap first (suc (length (processed h))))
@@ -60,9 +63,11 @@ reads_frame keeps h n (Foreign k) = Took (Skipped (Unknown k))
 reads_frame keeps h n (Unreadable at why) = Failed (Unread (own_number h) at why)
 reads_frame keeps h n _ = Failed (Unread (own_number h) 0 [])
 
+-- the step that a frame makes, where a sequenced message has this number
 abbrev pub reads : Config → List Step → Option ℕ → Frame → Step
 reads c h n f = if shaken h then reads_frame (kept c h) h n f else reads_handshake c.side c h f
 
+-- the step that the next frame of this link makes
 abbrev pub next_frame : Config → List Step → Option ℕ → Option Step
 next_frame c h None = None
 next_frame c h (Some l) = option_map (reads c h (next_number c h l)) (slice_get (fed l h) (taken l h))

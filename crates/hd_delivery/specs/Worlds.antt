@@ -1,7 +1,7 @@
 -- Worlds of two ends over links that come and go, and what holds in each.
--- HubProtocol.md, "Overview", says which messages are sequenced. This project's own rules: the limits of what an end holds, which links it
--- may name, and 2^62 messages at most.
-use Rattle.std.specs.Prelude.{◌≡◌, ◌⊎◌, ℕ, suc, ◌+◌, ◌^◌, ◌<◌, ◌≤◌, Bool, true, false, List, [], ◌∷◌, ◌++◌, length, sum_by, Some, None}
+-- This project's own rules: which messages can be sent, the limits of what an end holds, which links it may name, and 2^62 messages at
+-- most. Each end has its own clock.
+use Rattle.std.specs.Prelude.{◌≡◌, ◌⊎◌, ℕ, suc, ◌+◌, ◌^◌, ◌<◌, ◌≤◌, max, Bool, true, false, List, [], ◌∷◌, ◌++◌, length, sum_by, Some, None}
 use Rattle.hm_message.specs.declared.message.Codec.{Codec}
 use Rattle.hm_message.specs.declared.message.Codec.TheVariants.{Json, Pack}
 use Rattle.hm_message.specs.declared.message.Message.{Message}
@@ -11,6 +11,7 @@ use Rattle.hd_delivery.specs.Histories.{Side, Client, Server, Duplicate, Skipped
 use Rattle.hd_delivery.specs.Due.{due}
 use Rattle.hd_delivery.specs.Processes.{processes}
 
+-- xs is a first part of ys, or all of it
 abbrev pub IsPrefixOf : {A : Type 0} → List A → List A → Type 0
 IsPrefixOf {A} xs ys = (rest : List A) × (xs ++ rest ≡ ys)
 
@@ -126,6 +127,30 @@ IsWorld limits sizes t [] = Unit {0}
 IsWorld limits sizes t (ByClient s ∷ w) = IsWorld limits sizes t w × Allowed limits sizes (config Client t) (client_of w) (server_of w) s
 IsWorld limits sizes t (ByServer s ∷ w) = IsWorld limits sizes t w × Allowed limits sizes (config Server t) (server_of w) (client_of w) s
 
+-- ---- one clock
+
+-- the moment of a step, or the last one where it has none
+abbrev pub moment_of : Step → ℕ → ℕ
+moment_of (Attached l now) last = now
+moment_of (Detached now) last = now
+moment_of (Ticked now) last = now
+moment_of (Silenced now) last = now
+moment_of _ last = last
+
+-- the greatest moment so far at either end
+abbrev pub latest : List Event → ℕ
+latest [] = 0
+latest (ByClient s ∷ w) = max (moment_of s (latest w)) (latest w)
+latest (ByServer s ∷ w) = max (moment_of s (latest w)) (latest w)
+
+-- the moments of both ends, in one order, never fall. No world has to be so
+abbrev pub IsOnOneClock : List Event → Type 0
+IsOnOneClock [] = Unit {0}
+IsOnOneClock (ByClient s ∷ w) = IsOnOneClock w × (latest w ≤ moment_of s (latest w))
+IsOnOneClock (ByServer s ∷ w) = IsOnOneClock w × (latest w ≤ moment_of s (latest w))
+
+-- ---- stillness
+
 -- both ends stand on one link and are Ready, each has been fed all that the other lent there and has taken every frame, and nothing is due
 pub record Still (cc cs : Config) (c s : List Step) : Type 0 where
   pub link : ℕ
@@ -168,7 +193,8 @@ pub record Delivers (x y : List Step) : Type 0 where
   pub in_order : IsPrefixOf (processed y) (sent x)
   pub sound : (l : ℕ) → IsSound (length (processed x)) (length (processed y)) (lent l x)
 
-pub record Headline (t : Terms) (c s : List Step) : Type 0 where
+-- both ways: nothing is refused, each message is processed once and in order, and all of them where the two ends are still
+pub record Delivery (t : Terms) (c s : List Step) : Type 0 where
   pub to_server : Delivers c s
   pub to_client : Delivers s c
   pub client_faultless : IsFaultless c
@@ -178,6 +204,6 @@ pub record Headline (t : Terms) (c s : List Step) : Type 0 where
   pub all_to_server : Still (config Client t) (config Server t) c s → (processed s ≡ sent c) × (held (config Client t) c ≡ [])
   pub all_to_client : Still (config Client t) (config Server t) c s → (processed c ≡ sent s) × (held (config Server t) s ≡ [])
 
--- the headline holds in every world
+-- so it is in every world
 abbrev pub HoldsInEveryWorld : Type 0
-HoldsInEveryWorld = (limits : Limits) (sizes : Sizes) (t : Terms) (w : List Event) → IsWorld limits sizes t w → Headline t (client_of w) (server_of w)
+HoldsInEveryWorld = (limits : Limits) (sizes : Sizes) (t : Terms) (w : List Event) → IsWorld limits sizes t w → Delivery t (client_of w) (server_of w)

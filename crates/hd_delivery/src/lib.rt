@@ -6,9 +6,11 @@
 //! about them.
 #![tactic(auto)]
 
-mod worked;
+mod one_end;
+mod worlds;
 
-pub use worked::{one_server, worked_over_bytes, worked_worlds};
+pub use one_end::{closings, first_frames, moments, numbers};
+pub use worlds::{still_worlds, what_may_not_come, worked_over_bytes, worked_worlds};
 
 ghost use Rattle.hd_delivery.specs.Bytes.{HoldsOverBytes};
 ghost use Rattle.hd_delivery.specs.Worlds.{HoldsInEveryWorld};
@@ -16,12 +18,12 @@ ghost use Rattle.hd_delivery.specs.Worlds.{HoldsInEveryWorld};
 /// In every world of two ends, what each has processed is a first part of what the other sent, and
 /// all of it once nothing is left to say or read. Neither refuses what the other says, and what
 /// each tells of its progress is true.
-pub fn headline()
+pub fn delivery()
     ensures { HoldsInEveryWorld }
 {}
 
 /// The same where links carry bytes, are cut anywhere, and lose what isn't read: for any way to
 /// write frames, and any readers that read what is written of a frame as that frame.
-pub fn headline_over_bytes()
+pub fn delivery_over_bytes()
     ensures { HoldsOverBytes }
 {}

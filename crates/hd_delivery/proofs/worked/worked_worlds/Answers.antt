@@ -1,6 +1,0 @@
-use Rattle.std.proofs.Common.{refl}
-use Rattle.hd_delivery.proofs.Examples.{older_link_later_is_world}
-use Rattle.hd_delivery.proofs.worked.worked_worlds.Goals as goal
-
-pub returns-clause-older_link_later : goal.returns-clause-older_link_later
-returns-clause-older_link_later c = record { is_world = older_link_later_is_world; at_client = refl; at_server = refl }

@@ -1,0 +1,215 @@
+-- Worked cases of one end: what it makes of a frame that no other end of this kind says, and what it says then. Each list has the oldest
+-- step first.
+use Rattle.std.specs.Prelude.{◌≡◌, ℕ, pos, Bool, true, false, List, [], ◌∷◌, ◌++◌, map, reverse, codes, Option, Some, None}
+use Rattle.hm_message.specs.declared.message.Codec.TheVariants.{Json}
+use Rattle.hd_delivery.specs.Frames.{Frame, Request, Response, Refusal, Numbered, Ack, Sequence, Ping, Close, Foreign, Strange, Unreadable, Protocol, Done, Slow}
+use Rattle.hd_delivery.specs.Histories.{Fault, Unread, Shake, Gap, Duplicate, Unknown, NotUsed, Shaken, Processed, Sequenced, Resumed, Skipped, Ended, Step, Attached, Detached, Fed, Took, Failed, Sent, Lent, Ticked, Silenced, Closed, Side, Client, State, state, is_silence}
+use Rattle.hd_delivery.specs.Due.{due}
+use Rattle.hd_delivery.specs.Processes.{processes}
+use Rattle.hd_delivery.specs.Worlds.{config}
+use Rattle.hd_delivery.specs.Examples.{a, b, c, terms}
+
+-- the steps of the handshake
+abbrev pub opened_client : ℕ → List Step
+opened_client version = Attached 0 0 ∷ Lent (Request Json version) ∷ Fed (Response ∷ []) ∷ Took (Shaken Json version) ∷ []
+
+abbrev pub opened_server : ℕ → List Step
+opened_server version = Attached 0 0 ∷ Fed (Request Json version ∷ []) ∷ Took (Shaken Json version) ∷ Lent Response ∷ []
+
+-- ---- numbers
+
+-- a Sequence that leaves a gap, on the second link
+abbrev pub gap : List Step
+gap =
+    opened_server 2
+    ++ Fed (Numbered a ∷ Numbered b ∷ Numbered c ∷ []) ∷ Took (Processed a) ∷ Took (Processed b) ∷ Took (Processed c)
+    ∷ Attached 1 0 ∷ Fed (Sequence 5 None ∷ []) ∷ []
+
+-- the end is closed: its opening and its Close come, and no Ack
+abbrev pub gap_failed : List Step
+gap_failed = gap ++ Failed (Gap 5 4) ∷ []
+
+abbrev pub gap_opened : List Step
+gap_opened = gap_failed ++ Lent (Sequence 1 None) ∷ []
+
+abbrev pub gap_told : List Step
+gap_told = gap_opened ++ Lent (Close (Some (codes "Protocol error.")) false) ∷ []
+
+-- a Sequence of 0, and the message after it
+abbrev pub from_zero : List Step
+from_zero = opened_server 2 ++ Attached 1 0 ∷ Fed (Sequence 0 None ∷ Numbered a ∷ []) ∷ []
+
+abbrev pub from_zero_on : List Step
+from_zero_on = from_zero ++ Took (Sequenced 0) ∷ []
+
+abbrev pub eight : {A : Type 0} → A → List A
+eight x = x ∷ x ∷ x ∷ x ∷ x ∷ x ∷ x ∷ x ∷ []
+
+-- an Ack of nine messages, where eight were lent
+abbrev pub beyond : List Step
+beyond = opened_server 2 ++ map Sent (eight a) ++ map Lent (eight (Numbered a)) ++ Fed (Ack 9 ∷ []) ∷ []
+
+-- at version 3 the same is told as received
+abbrev pub received_beyond : List Step
+received_beyond = opened_server 3 ++ Attached 1 0 ∷ Fed (Sequence 1 (Some 1) ∷ []) ∷ []
+
+-- a gap comes before that
+abbrev pub gap_beyond : List Step
+gap_beyond = opened_server 3 ++ Attached 1 0 ∷ Fed (Sequence 9 (Some 9) ∷ []) ∷ []
+
+-- a later link on which a message comes before any Sequence
+abbrev pub early : List Step
+early = opened_server 2 ++ Attached 1 0 ∷ Fed (Numbered a ∷ []) ∷ []
+
+-- at version 3 a message that comes before this end has lent its own opening
+abbrev pub early_three : List Step
+early_three = opened_server 3 ++ Attached 1 0 ∷ Fed (Sequence 1 (Some 0) ∷ Numbered a ∷ []) ∷ Took (Resumed 1 0) ∷ []
+
+-- an Ack, a Sequence and a message on a plain connection
+abbrev pub plain_ack : List Step
+plain_ack = opened_server 1 ++ Fed (Ack 9 ∷ Sequence 5 None ∷ Numbered a ∷ []) ∷ []
+
+abbrev pub plain_sequence : List Step
+plain_sequence = plain_ack ++ Took (Skipped NotUsed) ∷ []
+
+abbrev pub plain_message : List Step
+plain_message = plain_sequence ++ Took (Skipped NotUsed) ∷ []
+
+-- a message that was fed and isn't taken, and one that is
+abbrev pub not_taken : List Step
+not_taken = opened_server 2 ++ Fed (Numbered a ∷ []) ∷ []
+
+abbrev pub taken_now : List Step
+taken_now = not_taken ++ Took (Processed a) ∷ []
+
+-- at version 3, a later link on which the other end's opening isn't read, and one on which it is
+abbrev pub waits : List Step
+waits = opened_server 3 ++ Sent a ∷ Attached 1 0 ∷ Lent (Sequence 1 (Some 0)) ∷ []
+
+abbrev pub waits_no_more : List Step
+waits_no_more = waits ++ Fed (Sequence 1 (Some 0) ∷ []) ∷ Took (Resumed 1 0) ∷ []
+
+-- ---- the handshake
+
+-- a handshake and a Ping in one piece
+abbrev pub at_once : List Step
+at_once = Attached 0 0 ∷ Fed (Request Json 1 ∷ Ping ∷ []) ∷ []
+
+abbrev pub pinged : List Step
+pinged = at_once ++ Took (Shaken Json 1) ∷ []
+
+-- a first frame that is refused
+abbrev pub strange : Frame
+strange = Strange (codes "Version 9") (codes "The version is not known.")
+
+abbrev pub refused_request : List Step
+refused_request = Attached 0 0 ∷ Fed (strange ∷ Ping ∷ []) ∷ []
+
+abbrev pub unknown_version : Fault
+unknown_version = Shake (codes "Version 9") (Some (codes "The version is not known."))
+
+abbrev pub refused_failed : List Step
+refused_failed = refused_request ++ Failed unknown_version ∷ []
+
+abbrev pub refused_answered : List Step
+refused_answered = refused_failed ++ Lent (Refusal (codes "The version is not known.")) ∷ []
+
+-- a client answers nothing
+abbrev pub refused_response : List Step
+refused_response = Attached 0 0 ∷ Lent (Request Json 2) ∷ Fed (strange ∷ []) ∷ []
+
+abbrev pub refused_unanswered : List Step
+refused_unanswered = refused_response ++ Failed (Shake (codes "Version 9") None) ∷ []
+
+-- a server that is closed before it takes a request, and a client that is closed before it asks
+abbrev pub closed_unasked : List Step
+closed_unasked = Attached 0 0 ∷ Fed (Request Json 2 ∷ []) ∷ Closed Done false ∷ []
+
+abbrev pub closed_unsaid : List Step
+closed_unsaid = Attached 0 0 ∷ Closed Done false ∷ []
+
+-- a client that took a response before it asked, and was closed then: nothing comes before the opening
+abbrev pub closed_unopened : List Step
+closed_unopened = Attached 0 0 ∷ Fed (Response ∷ []) ∷ Took (Shaken Json 2) ∷ Sent a ∷ Closed Done false ∷ []
+
+-- a link that is lost before the handshake is complete
+abbrev pub lost_early : List Step
+lost_early = Attached 0 0 ∷ Detached 0 ∷ []
+
+abbrev pub silent_early : List Step
+silent_early = Attached 0 0 ∷ Silenced 30000 ∷ []
+
+-- ---- frames that can't be read
+
+-- on the second link, a frame of a type that no message has, and one that can't be read
+abbrev pub odd : List Step
+odd = opened_server 2 ++ Attached 7 0 ∷ Fed (Foreign (pos 10) ∷ Unreadable 20 (codes "NotJson") ∷ []) ∷ []
+
+abbrev pub odd_skipped : List Step
+odd_skipped = odd ++ Took (Skipped (Unknown (pos 10))) ∷ []
+
+-- ---- the Close
+
+-- closed for a reason: what was sent comes first
+abbrev pub slow : List Step
+slow = opened_server 2 ++ Sent a ∷ Closed Slow false ∷ []
+
+abbrev pub slow_last : List Step
+slow_last = slow ++ Lent (Numbered a) ∷ []
+
+abbrev pub slow_told : List Step
+slow_told = slow_last ++ Lent (Close (Some (codes "Too slow.")) false) ∷ []
+
+-- closed by the other end's Close: what was sent comes, and no Close
+abbrev pub left : List Step
+left = opened_client 2 ++ Sent a ∷ Fed (Close None false ∷ []) ∷ Took (Ended None false) ∷ []
+
+abbrev pub left_told : List Step
+left_told = left ++ Lent (Numbered a) ∷ []
+
+-- at version 3, closed on a later link on which the other end's opening isn't read
+abbrev pub closed_waiting : List Step
+closed_waiting = opened_server 3 ++ Sent a ∷ Attached 1 0 ∷ Closed Done false ∷ []
+
+abbrev pub closed_opened : List Step
+closed_opened = closed_waiting ++ Lent (Sequence 1 (Some 0)) ∷ []
+
+abbrev pub closed_told : List Step
+closed_told = closed_opened ++ Lent (Close None false) ∷ []
+
+-- ---- moments
+
+-- after the handshake nothing was lent
+abbrev pub quiet_until : ℕ → List Step
+quiet_until now = opened_client 2 ++ Ticked now ∷ []
+
+abbrev pub quiet_pinged : List Step
+quiet_pinged = quiet_until 15000 ++ Lent Ping ∷ []
+
+abbrev pub quiet_opening : List Step
+quiet_opening = Attached 0 0 ∷ Lent (Request Json 2) ∷ Ticked 15000 ∷ []
+
+abbrev pub quiet_closed : List Step
+quiet_closed = quiet_until 15000 ++ Closed Done false ∷ []
+
+-- an empty piece counts as heard
+abbrev pub heard_nothing : List Step
+heard_nothing = quiet_until 0 ++ Fed [] ∷ []
+
+-- ---- what is said of them: the end is begun with reconnect, and asks for version 2
+
+-- after these steps the next frame makes this step
+abbrev pub NextStep : Side → List Step → Option Step → Type 0
+NextStep side steps step = processes (config side (terms 2 true)) (reverse steps) ≡ step
+
+-- after these steps this frame is due
+abbrev pub NextDue : Side → List Step → Option Frame → Type 0
+NextDue side steps frame = due (config side (terms 2 true)) (reverse steps) ≡ frame
+
+-- after these steps a client's tick at this moment is a silence, or isn't
+abbrev pub SilentAt : List Step → ℕ → Bool → Type 0
+SilentAt steps now silent = is_silence (config Client (terms 2 true)) now (reverse steps) ≡ silent
+
+-- after these steps a client's state is this
+abbrev pub StateIs : List Step → State → Type 0
+StateIs steps s = state (config Client (terms 2 true)) (reverse steps) ≡ s
