@@ -1,5 +1,5 @@
 -- The worked worlds are worlds.
-use Rattle.std.proofs.Common.{inl, inr, ⊎_elim, ◌≡◌, ℕ, ◌<◌, Bool, true, false, List, [], ◌∷◌, refl, arith, subst, sym, ◌∙◌, Some, None}
+use Rattle.std.proofs.Common.{inl, inr, ⊎_elim, ◌≡◌, ℕ, ◌<◌, Bool, true, false, List, [], ◌∷◌, refl, arith}
 use Rattle.std.specs.Prelude.{◌==◌, ◌||◌, ◌&&◌, nat_lt, reverse}
 use Rattle.std.proofs.lemmas.Bool.{eqb-true, or_cases, and_parts, ltb-true}
 use Rattle.hm_message.specs.declared.message.Codec.TheVariants.{Json}
@@ -31,31 +31,82 @@ c_can_be : CanBeSent usual sizes Json c
 c_can_be = record { sequenced = refl; fits = omega arith; as_read = refl; short = omega arith }
 
 pub older_link_later_is_world : IsWorld usual sizes (terms 2 true) (reverse older_link_later)
-older_link_later_is_world =
-    ((((((((((((((((((((((((((tt,
-    record { unclosed = refl; granted = inl refl; named = below 0 [] refl; in_time = omega arith }),
-    refl),
-    record { unclosed = refl; granted = inl refl; named = (refl, refl); in_time = omega arith }),
-    record { link = 0; at = refl; unclosed = refl; front = ([], refl) }),
-    refl),
-    refl),
-    record { link = 0; at = refl; unclosed = refl; front = ([], refl) }),
-    refl),
-    record { unclosed = refl; shakes = refl; few = omega arith; can_be = a_can_be; room = record { of_count = omega arith; of_bytes = omega arith } }),
-    refl),
-    record { link = 0; at = refl; unclosed = refl; front = ([], refl) }),
-    refl),
-    record { unclosed = refl; granted = inr refl; named = below 1 (0 ∷ []) refl; in_time = omega arith }),
-    refl),
-    refl),
-    record { unclosed = refl; granted = inr refl; named = below 2 (1 ∷ 0 ∷ []) refl; in_time = omega arith }),
-    refl),
-    refl),
-    record { unclosed = refl; granted = inr refl; named = (refl, refl); in_time = omega arith }),
-    record { link = 2; at = refl; unclosed = refl; front = ([], refl) }),
-    refl),
-    refl),
-    record { unclosed = refl; granted = inr refl; named = (refl, refl); in_time = omega arith }),
-    record { link = 1; at = refl; unclosed = refl; front = ([], refl) }),
-    refl),
-    refl)
+older_link_later_is_world = (
+  (
+    (
+      (
+        (
+          (
+            (
+              (
+                (
+                  (
+                    (
+                      (
+                        (
+                          (
+                            (
+                              (
+                                (
+                                  (
+                                    (
+                                      (
+                                        (
+                                          (
+                                            (
+                                              (
+                                                (
+                                                  (
+                                                    tt,
+                                                    record { unclosed = refl; granted = inl refl; named = below 0 [] refl; in_time = omega arith },
+                                                  ),
+                                                  refl,
+                                                ),
+                                                record { unclosed = refl; granted = inl refl; named = (refl, refl); in_time = omega arith },
+                                              ),
+                                              record { link = 0; at = refl; unclosed = refl; front = ([], refl) },
+                                            ),
+                                            refl,
+                                          ),
+                                          refl,
+                                        ),
+                                        record { link = 0; at = refl; unclosed = refl; front = ([], refl) },
+                                      ),
+                                      refl,
+                                    ),
+                                    record { unclosed = refl; shakes = refl; few = omega arith; can_be = a_can_be; room = record { of_count = omega arith; of_bytes = omega arith } },
+                                  ),
+                                  refl,
+                                ),
+                                record { link = 0; at = refl; unclosed = refl; front = ([], refl) },
+                              ),
+                              refl,
+                            ),
+                            record { unclosed = refl; granted = inr refl; named = below 1 (0 ∷ []) refl; in_time = omega arith },
+                          ),
+                          refl,
+                        ),
+                        refl,
+                      ),
+                      record { unclosed = refl; granted = inr refl; named = below 2 (1 ∷ 0 ∷ []) refl; in_time = omega arith },
+                    ),
+                    refl,
+                  ),
+                  refl,
+                ),
+                record { unclosed = refl; granted = inr refl; named = (refl, refl); in_time = omega arith },
+              ),
+              record { link = 2; at = refl; unclosed = refl; front = ([], refl) },
+            ),
+            refl,
+          ),
+          refl,
+        ),
+        record { unclosed = refl; granted = inr refl; named = (refl, refl); in_time = omega arith },
+      ),
+      record { link = 1; at = refl; unclosed = refl; front = ([], refl) },
+    ),
+    refl,
+  ),
+  refl,
+)

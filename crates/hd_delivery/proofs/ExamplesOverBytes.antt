@@ -1,6 +1,6 @@
 -- The worked worlds over bytes are worlds, and their readers are faithful.
-use Rattle.std.proofs.Common.{inl, inr, ◌≡◌, ℕ, zero, suc, ◌<◌, ◌≤◌, ◌^◌, ◌+◌, Bool, true, false, List, [], ◌∷◌, ◌++◌, length, length-append, refl, arith, subst, sym, ap, ◌∙◌, Option, Some, None}
-use Rattle.std.specs.Prelude.{reverse, Contains, slice_index_or}
+use Rattle.std.proofs.Common.{inl, ◌≡◌, ℕ, zero, suc, ◌<◌, ◌≤◌, Bool, true, false, List, [], ◌∷◌, ◌++◌, length, length-append, refl, arith, subst, ap, Option, Some, None}
+use Rattle.std.specs.Prelude.{reverse, Contains}
 use Rattle.hm_message.specs.declared.message.Message.{Message}
 use Rattle.hm_message.specs.declared.message.Codec.{Codec}
 use Rattle.hm_message.specs.declared.message.Codec.TheVariants.{Json, Pack}
@@ -73,53 +73,139 @@ module _ (limits : Limits) (short : 4 ≤ limits.frame) where
   c_goes = record { sequenced = refl; fits = omega arith; as_read = refl; short = short }
 
 pub bytewise_is_world : IsWorldOverBytes usual four (terms 2 true) (reverse bytewise)
-bytewise_is_world =
-    (((((((((((((((((((((((((((((tt,
-    record { unclosed = refl; granted = inl refl; named = below 0 [] refl; in_time = omega arith }),
-    refl),
-    record { unclosed = refl; granted = inl refl; named = (refl, refl); in_time = omega arith }),
-    record { link = 0; at = refl; unclosed = refl; front = ([], refl); few = omega arith }),
-    refl),
-    refl),
-    record { link = 0; at = refl; unclosed = refl; front = ([], refl); few = omega arith }),
-    refl),
-    record { unclosed = refl; shakes = refl; few = omega arith; can_be = a_goes usual (omega arith); room = record { of_count = omega arith; of_bytes = omega arith } }),
-    record { unclosed = refl; shakes = refl; few = omega arith; can_be = b_goes usual (omega arith); room = record { of_count = omega arith; of_bytes = omega arith } }),
-    record { unclosed = refl; shakes = refl; few = omega arith; can_be = c_goes usual (omega arith); room = record { of_count = omega arith; of_bytes = omega arith } }),
-    refl),
-    refl),
-    refl),
-    record { link = 0; at = refl; unclosed = refl; front = (97 ∷ 0 ∷ 0 ∷ 3 ∷ 98 ∷ 0 ∷ 0 ∷ 3 ∷ 99 ∷ 0 ∷ 0 ∷ [], refl); few = omega arith }),
-    record { link = 0; at = refl; unclosed = refl; front = (0 ∷ 0 ∷ 3 ∷ 98 ∷ 0 ∷ 0 ∷ 3 ∷ 99 ∷ 0 ∷ 0 ∷ [], refl); few = omega arith }),
-    record { link = 0; at = refl; unclosed = refl; front = (0 ∷ 3 ∷ 98 ∷ 0 ∷ 0 ∷ 3 ∷ 99 ∷ 0 ∷ 0 ∷ [], refl); few = omega arith }),
-    record { link = 0; at = refl; unclosed = refl; front = (3 ∷ 98 ∷ 0 ∷ 0 ∷ 3 ∷ 99 ∷ 0 ∷ 0 ∷ [], refl); few = omega arith }),
-    refl),
-    record { link = 0; at = refl; unclosed = refl; front = (98 ∷ 0 ∷ 0 ∷ 3 ∷ 99 ∷ 0 ∷ 0 ∷ [], refl); few = omega arith }),
-    record { link = 0; at = refl; unclosed = refl; front = (0 ∷ 0 ∷ 3 ∷ 99 ∷ 0 ∷ 0 ∷ [], refl); few = omega arith }),
-    record { link = 0; at = refl; unclosed = refl; front = (0 ∷ 3 ∷ 99 ∷ 0 ∷ 0 ∷ [], refl); few = omega arith }),
-    record { link = 0; at = refl; unclosed = refl; front = (3 ∷ 99 ∷ 0 ∷ 0 ∷ [], refl); few = omega arith }),
-    refl),
-    record { link = 0; at = refl; unclosed = refl; front = (99 ∷ 0 ∷ 0 ∷ [], refl); few = omega arith }),
-    record { link = 0; at = refl; unclosed = refl; front = (0 ∷ 0 ∷ [], refl); few = omega arith }),
-    record { link = 0; at = refl; unclosed = refl; front = (0 ∷ [], refl); few = omega arith }),
-    record { link = 0; at = refl; unclosed = refl; front = ([], refl); few = omega arith }),
-    refl)
+bytewise_is_world = (
+  (
+    (
+      (
+        (
+          (
+            (
+              (
+                (
+                  (
+                    (
+                      (
+                        (
+                          (
+                            (
+                              (
+                                (
+                                  (
+                                    (
+                                      (
+                                        (
+                                          (
+                                            (
+                                              (
+                                                (
+                                                  (
+                                                    (
+                                                      (
+                                                        (
+                                                          tt,
+                                                          record { unclosed = refl; granted = inl refl; named = below 0 [] refl; in_time = omega arith },
+                                                        ),
+                                                        refl,
+                                                      ),
+                                                      record { unclosed = refl; granted = inl refl; named = (refl, refl); in_time = omega arith },
+                                                    ),
+                                                    record { link = 0; at = refl; unclosed = refl; front = ([], refl); few = omega arith },
+                                                  ),
+                                                  refl,
+                                                ),
+                                                refl,
+                                              ),
+                                              record { link = 0; at = refl; unclosed = refl; front = ([], refl); few = omega arith },
+                                            ),
+                                            refl,
+                                          ),
+                                          record { unclosed = refl; shakes = refl; few = omega arith; can_be = a_goes usual (omega arith); room = record { of_count = omega arith; of_bytes = omega arith } },
+                                        ),
+                                        record { unclosed = refl; shakes = refl; few = omega arith; can_be = b_goes usual (omega arith); room = record { of_count = omega arith; of_bytes = omega arith } },
+                                      ),
+                                      record { unclosed = refl; shakes = refl; few = omega arith; can_be = c_goes usual (omega arith); room = record { of_count = omega arith; of_bytes = omega arith } },
+                                    ),
+                                    refl,
+                                  ),
+                                  refl,
+                                ),
+                                refl,
+                              ),
+                              record { link = 0; at = refl; unclosed = refl; front = (97 ∷ 0 ∷ 0 ∷ 3 ∷ 98 ∷ 0 ∷ 0 ∷ 3 ∷ 99 ∷ 0 ∷ 0 ∷ [], refl); few = omega arith },
+                            ),
+                            record { link = 0; at = refl; unclosed = refl; front = (0 ∷ 0 ∷ 3 ∷ 98 ∷ 0 ∷ 0 ∷ 3 ∷ 99 ∷ 0 ∷ 0 ∷ [], refl); few = omega arith },
+                          ),
+                          record { link = 0; at = refl; unclosed = refl; front = (0 ∷ 3 ∷ 98 ∷ 0 ∷ 0 ∷ 3 ∷ 99 ∷ 0 ∷ 0 ∷ [], refl); few = omega arith },
+                        ),
+                        record { link = 0; at = refl; unclosed = refl; front = (3 ∷ 98 ∷ 0 ∷ 0 ∷ 3 ∷ 99 ∷ 0 ∷ 0 ∷ [], refl); few = omega arith },
+                      ),
+                      refl,
+                    ),
+                    record { link = 0; at = refl; unclosed = refl; front = (98 ∷ 0 ∷ 0 ∷ 3 ∷ 99 ∷ 0 ∷ 0 ∷ [], refl); few = omega arith },
+                  ),
+                  record { link = 0; at = refl; unclosed = refl; front = (0 ∷ 0 ∷ 3 ∷ 99 ∷ 0 ∷ 0 ∷ [], refl); few = omega arith },
+                ),
+                record { link = 0; at = refl; unclosed = refl; front = (0 ∷ 3 ∷ 99 ∷ 0 ∷ 0 ∷ [], refl); few = omega arith },
+              ),
+              record { link = 0; at = refl; unclosed = refl; front = (3 ∷ 99 ∷ 0 ∷ 0 ∷ [], refl); few = omega arith },
+            ),
+            refl,
+          ),
+          record { link = 0; at = refl; unclosed = refl; front = (99 ∷ 0 ∷ 0 ∷ [], refl); few = omega arith },
+        ),
+        record { link = 0; at = refl; unclosed = refl; front = (0 ∷ 0 ∷ [], refl); few = omega arith },
+      ),
+      record { link = 0; at = refl; unclosed = refl; front = (0 ∷ [], refl); few = omega arith },
+    ),
+    record { link = 0; at = refl; unclosed = refl; front = ([], refl); few = omega arith },
+  ),
+  refl,
+)
 
 pub unread_nine_is_world : IsWorldOverBytes (limits_of 4 1024 100000) four (terms 2 true) (reverse unread_nine)
-unread_nine_is_world =
-    (((((((((((((((tt,
-    record { unclosed = refl; granted = inl refl; named = below 0 [] refl; in_time = omega arith }),
-    refl),
-    record { unclosed = refl; granted = inl refl; named = (refl, refl); in_time = omega arith }),
-    record { link = 0; at = refl; unclosed = refl; front = ([], refl); few = omega arith }),
-    refl),
-    refl),
-    record { link = 0; at = refl; unclosed = refl; front = ([], refl); few = omega arith }),
-    refl),
-    record { unclosed = refl; shakes = refl; few = omega arith; can_be = a_goes (limits_of 4 1024 100000) (omega arith); room = record { of_count = omega arith; of_bytes = omega arith } }),
-    record { unclosed = refl; shakes = refl; few = omega arith; can_be = b_goes (limits_of 4 1024 100000) (omega arith); room = record { of_count = omega arith; of_bytes = omega arith } }),
-    record { unclosed = refl; shakes = refl; few = omega arith; can_be = c_goes (limits_of 4 1024 100000) (omega arith); room = record { of_count = omega arith; of_bytes = omega arith } }),
-    refl),
-    refl),
-    refl),
-    record { link = 0; at = refl; unclosed = refl; front = (99 ∷ 0 ∷ 0 ∷ [], refl); few = omega arith })
+unread_nine_is_world = (
+  (
+    (
+      (
+        (
+          (
+            (
+              (
+                (
+                  (
+                    (
+                      (
+                        (
+                          (
+                            (
+                              tt,
+                              record { unclosed = refl; granted = inl refl; named = below 0 [] refl; in_time = omega arith },
+                            ),
+                            refl,
+                          ),
+                          record { unclosed = refl; granted = inl refl; named = (refl, refl); in_time = omega arith },
+                        ),
+                        record { link = 0; at = refl; unclosed = refl; front = ([], refl); few = omega arith },
+                      ),
+                      refl,
+                    ),
+                    refl,
+                  ),
+                  record { link = 0; at = refl; unclosed = refl; front = ([], refl); few = omega arith },
+                ),
+                refl,
+              ),
+              record { unclosed = refl; shakes = refl; few = omega arith; can_be = a_goes (limits_of 4 1024 100000) (omega arith); room = record { of_count = omega arith; of_bytes = omega arith } },
+            ),
+            record { unclosed = refl; shakes = refl; few = omega arith; can_be = b_goes (limits_of 4 1024 100000) (omega arith); room = record { of_count = omega arith; of_bytes = omega arith } },
+          ),
+          record { unclosed = refl; shakes = refl; few = omega arith; can_be = c_goes (limits_of 4 1024 100000) (omega arith); room = record { of_count = omega arith; of_bytes = omega arith } },
+        ),
+        refl,
+      ),
+      refl,
+    ),
+    refl,
+  ),
+  record { link = 0; at = refl; unclosed = refl; front = (99 ∷ 0 ∷ 0 ∷ [], refl); few = omega arith },
+)

@@ -1,6 +1,5 @@
 -- What holds in every world gives delivery.
-use Rattle.std.proofs.Common.{ℕ, Bool, List, None}
-use Rattle.std.specs.Prelude.{◌&&◌}
+use Rattle.std.proofs.Common.{List, None}
 use Rattle.std.proofs.lemmas.Bool.{eq-eqb}
 use Rattle.hd_delivery.specs.Histories.{Side, Client, Server, Step, lent}
 use Rattle.hd_delivery.specs.Worlds.{Terms, Delivers, Delivery}

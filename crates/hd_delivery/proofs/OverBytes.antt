@@ -1,6 +1,6 @@
 -- A world over bytes is a world over frames.
-use Rattle.std.proofs.Common.{inl, inr, ⊎_elim, ◌≡◌, ℕ, zero, suc, ◌<◌, ◌≤◌, Bool, true, false, List, [], ◌∷◌, ◌++◌, length, drop, Option, Some, None, refl, sym, ap, ◌∙◌, subst, arith, length-append, append_assoc, ◌^◌}
-use Rattle.std.specs.Prelude.{slice_get, ◌⊎◌, ◌==◌, ◌&&◌, Contains, if◌then◌else◌}
+use Rattle.std.proofs.Common.{inl, inr, ⊎_elim, ◌≡◌, ℕ, zero, suc, ◌≤◌, Bool, true, false, List, [], ◌∷◌, ◌++◌, length, drop, Option, Some, None, refl, sym, ap, ◌∙◌, subst, arith, length-append, append_assoc, ◌^◌}
+use Rattle.std.specs.Prelude.{slice_get, ◌⊎◌, ◌==◌, Contains, if◌then◌else◌}
 use Rattle.std.proofs.lemmas.List.Elements.{Contains-append_left, Contains-append_right}
 use Rattle.hm_message.specs.declared.message.Message.{Message}
 use Rattle.hm_message.specs.declared.message.Codec.{Codec}
@@ -14,7 +14,7 @@ use Rattle.hd_delivery.proofs.Local.{is_this-true, is_this-same, both, or_parts,
 use Rattle.hd_delivery.proofs.Carries.{Facts, facts, HasNumber, MayStand, MayCarry, MayStand-count}
 use Rattle.hd_delivery.proofs.Pair.{messages, other, Pair, messages-push, same_first}
 use Rattle.hd_delivery.proofs.WhatIsSaid.{not_failed, says_due}
-use Rattle.hd_delivery.proofs.World.{Together, to_server, start, client_steps, server_steps, together}
+use Rattle.hd_delivery.proofs.World.{Together, to_server, start, client_steps, server_steps}
 use Rattle.hd_delivery.proofs.Cuts.{drop_front, within_bytes, within_more, within_prefix, within_all, AreRead, AreReadFirst, link_cut, AreReadOn, cut_front, cut_none}
 
 bare_here : (wire : Wire) (c : Config) (h : List ByteStep) → here (bare h) ≡ here (in_frames wire c h)
@@ -149,7 +149,7 @@ module _ (limits : Limits) (wire : Wire) (terms : Terms) (all : List Message) (l
       let a = sym (o.4 ∙ c) in
       let b = sym (o.3 ∙ e) in (
         subst (λ v. IsRead (wire.first Server) (wire.spell terms.codec (Request k v)) (Request k v)) b
-        (subst (λ k. IsRead (wire.first Server) (wire.spell terms.codec (Request k terms.version)) (Request k terms.version)) a (law.request)),
+            (subst (λ k. IsRead (wire.first Server) (wire.spell terms.codec (Request k terms.version)) (Request k terms.version)) a (law.request)),
         o.4 ∙ c,
       )
   read_handshake Server F l Response s e c f o = absurd (let a : F.side ≡ Server = o.0 in cc)
@@ -296,7 +296,7 @@ module _ (limits : Limits) (wire : Wire) (terms : Terms) (all : List Message) (l
   says_step side x y i q (Sent m) within a = (
     read_push (sent x) (m ∷ []) q.0 (
       law.message m (within m (Contains-append_right (sent x) (m ∷ []) m (0, omega arith, refl)))
-      (subst (λ k. CanBeSent limits (sizes_of wire) k m) (i.own.speaks a.shakes) a.can_be),
+          (subst (λ k. CanBeSent limits (sizes_of wire) k m) (i.own.speaks a.shakes) a.can_be),
       tt,
     ),
     q.1,

@@ -1,13 +1,11 @@
 -- What holds of two ends in every world, but for the runs of version 3.
-use Rattle.std.proofs.Common.{inl, inr, ⊎_elim, ◌≡◌, ℕ, suc, ◌+◌, ◌<◌, ◌≤◌, Bool, true, false, List, [], ◌∷◌, ◌++◌, length, take, drop, Option, Some, None, refl, sym, ap, ◌∙◌, subst, arith, leb, ◌^◌, length-append}
-use Rattle.std.specs.Prelude.{slice_get, ◌⊎◌, option_map, is_some, not, nat_lt, max, ◌==◌, ◌||◌, ◌&&◌, if◌then◌else◌}
-use Rattle.std.proofs.lemmas.List.{length-take-le}
-use Rattle.std.proofs.lemmas.Bool.{or_cases, and_parts, not-true, eqb-true, eqb-false, leb-false}
+use Rattle.std.proofs.Common.{inl, inr, ⊎_elim, ◌≡◌, ℕ, suc, ◌+◌, ◌<◌, ◌≤◌, Bool, true, false, List, [], ◌∷◌, ◌++◌, length, take, Option, Some, None, refl, sym, ap, ◌∙◌, subst, arith, ◌^◌, length-append}
+use Rattle.std.specs.Prelude.{slice_get, ◌⊎◌, max, ◌==◌, ◌||◌}
+use Rattle.std.proofs.lemmas.Bool.{or_cases, eqb-true}
 use Rattle.hm_message.specs.declared.message.Message.{Message}
 use Rattle.hd_delivery.specs.Frames.{Frame, Request, Response, Refusal, Numbered, Ack, Sequence, Ping, Close, Foreign, Strange, Unreadable, count, number, told, most_told}
-use Rattle.hd_delivery.specs.Histories.{Side, Client, Server, Got, Step, Attached, Detached, Fed, Took, Sent, Lent, first_of, here, stands_on, was_on, first_link, fed, lent, taken, read, sent, processed, acked, written, most_lent, shaken, agreed, is_three, codec_of, kept, resumed, heard}
+use Rattle.hd_delivery.specs.Histories.{Side, Client, Server, Got, Step, Attached, Detached, Fed, Took, Sent, Lent, first_of, here, stands_on, was_on, first_link, fed, lent, taken, read, sent, processed, acked, written, most_lent, shaken, agreed, is_three, codec_of, kept, resumed}
 use Rattle.hd_delivery.specs.Due.{answer}
-use Rattle.hd_delivery.specs.Processes.{resumes}
 use Rattle.hd_delivery.specs.Worlds.{IsPrefixOf, Terms, config, IsFaultless, SkipsNone}
 use Rattle.hd_delivery.proofs.Lists.{take_next, take_front, get_front, get_within, append_none, prefix_more}
 use Rattle.hd_delivery.proofs.Local.{is_this-true, is_this-same, both, or_parts, or_right, here_was, nothing_lent, nothing_taken, has_first, none_was, lent_was, kept_shaken}

@@ -5,11 +5,10 @@ use Rattle.std.proofs.lemmas.List.{length-take-le}
 use Rattle.std.proofs.lemmas.Bool.{or_cases, cases_eq}
 use Rattle.hm_message.specs.declared.message.Message.{Message}
 use Rattle.hd_delivery.specs.Frames.{Frame, Request, Response, Refusal, Numbered, Ack, Sequence, Ping, Close, Foreign, Strange, Unreadable, number, received_of, told, most_told}
-use Rattle.hd_delivery.specs.Histories.{Side, Got, Step, Attached, Detached, Fed, Took, Sent, Lent, is_this, first_of, here, stands_on, was_on, first_link, fed, lent, taken, read, sent, processed, acked, written, most_lent, shaken, is_three, kept, resumed, heard}
+use Rattle.hd_delivery.specs.Histories.{Side, Got, Step, Attached, Detached, Fed, Took, Sent, Lent, is_this, first_of, here, stands_on, was_on, first_link, fed, lent, taken, read, sent, processed, acked, written, most_lent, shaken, is_three, kept, resumed}
 use Rattle.hd_delivery.specs.Due.{answer}
 use Rattle.hd_delivery.specs.Processes.{spoke, next_number}
 use Rattle.hd_delivery.specs.Worlds.{IsPrefixOf, Terms, config}
-use Rattle.hd_delivery.specs.Bytes.{unread}
 use Rattle.hd_delivery.proofs.Lists.{take_split, get_front, append_none}
 use Rattle.hd_delivery.proofs.Local.{is_this-true, is_this-same, both, here_was, nothing_lent, nothing_taken, has_first, none_was, first_was}
 use Rattle.hd_delivery.proofs.Carries.{Facts, facts, MayStand, MayCarry, MayCarry-prefix, MayStand-count, MayCarry-any, number-push, most_told_at, MayCarry-told}

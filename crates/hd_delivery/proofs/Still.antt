@@ -1,7 +1,7 @@
 -- Where nothing is left to be said or read, all has arrived.
 use Rattle.std.proofs.Common.{inl, inr, ⊎_elim, ◌≡◌, ℕ, suc, ◌<◌, ◌≤◌, Bool, true, false, List, [], ◌∷◌, length, take, drop, Option, Some, None, refl, sym, ap, ◌∙◌, subst, arith}
 use Rattle.std.specs.Prelude.{◌⊎◌, ◌==◌, ◌||◌, ◌&&◌, not, max, nat_lt, option_map, if◌then◌else◌}
-use Rattle.std.proofs.lemmas.Bool.{and_parts, ltb-false}
+use Rattle.std.proofs.lemmas.Bool.{ltb-false}
 use Rattle.hm_message.specs.declared.message.Message.{Message}
 use Rattle.hd_delivery.specs.Frames.{Frame, Request, Response, Numbered, Ack, Sequence, number, most_told}
 use Rattle.hd_delivery.specs.Histories.{Side, Client, Server, Config, Step, is_this, first_of, here, first_link, fed, lent, taken, read, sent, processed, acked, written, most_lent, shaken, is_three, kept, closed, Ready, state_of, state, resumed, held}

@@ -1,13 +1,13 @@
 -- What the next frame makes keeps what has to hold.
-use Rattle.std.proofs.Common.{inl, inr, ⊎_elim, ◌≡◌, ℕ, suc, ◌+◌, ◌<◌, ◌≤◌, Bool, true, false, List, [], ◌∷◌, ◌++◌, length, take, drop, Option, Some, None, refl, sym, ap, ◌∙◌, subst, arith, leb, ◌^◌, length-append}
-use Rattle.std.specs.Prelude.{slice_get, ◌⊎◌, option_map, is_some, not, nat_lt, max, ◌==◌, ◌||◌, ◌&&◌, if◌then◌else◌}
+use Rattle.std.proofs.Common.{⊎_elim, ◌≡◌, ℕ, suc, ◌+◌, ◌<◌, ◌≤◌, Bool, true, false, List, [], ◌∷◌, length, take, drop, Option, Some, None, refl, sym, ap, ◌∙◌, subst, arith, leb, ◌^◌, length-append}
+use Rattle.std.specs.Prelude.{slice_get, option_map, is_some, ◌==◌, ◌||◌, if◌then◌else◌}
 use Rattle.std.proofs.lemmas.List.{length-take-le}
-use Rattle.std.proofs.lemmas.Bool.{or_cases, and_parts, not-true, eqb-true, eqb-false, leb-false}
+use Rattle.std.proofs.lemmas.Bool.{eqb-true, eqb-false, leb-false}
 use Rattle.hm_message.specs.declared.message.Message.{Message}
 use Rattle.hd_delivery.specs.Frames.{Frame, Request, Response, Refusal, Numbered, Ack, Sequence, Ping, Close, Foreign, Strange, Unreadable, one_more, count, number, received_of, told}
 use Rattle.hd_delivery.specs.Histories.{Side, Client, Server, Config, Duplicate, Shaken, Processed, Acked, Sequenced, Resumed, Pinged, Skipped, Ended, Step, Took, is_this, here, first_link, fed, taken, read, sent, processed, most_lent, shaken, is_three, kept, closed, resumed}
 use Rattle.hd_delivery.specs.Due.{answer}
-use Rattle.hd_delivery.specs.Processes.{reads_handshake, reads_message, next_number, resumes, reads_frame, reads, next_frame, processes}
+use Rattle.hd_delivery.specs.Processes.{reads_handshake, reads_message, next_number, reads_frame, reads, next_frame, processes}
 use Rattle.hd_delivery.specs.Worlds.{Terms, config}
 use Rattle.hd_delivery.proofs.Lists.{take_split, get_within, prefix_next}
 use Rattle.hd_delivery.proofs.Local.{is_this-same, both, here_was}

@@ -1,8 +1,7 @@
 -- What is due may be said.
-use Rattle.std.proofs.Common.{inl, inr, ⊎_elim, ◌≡◌, ℕ, suc, ◌+◌, ◌<◌, ◌≤◌, Bool, true, false, List, [], ◌∷◌, ◌++◌, length, take, drop, Option, Some, None, refl, sym, ap, ◌∙◌, subst, arith, leb, ◌^◌, length-append}
+use Rattle.std.proofs.Common.{inl, inr, ⊎_elim, ◌≡◌, ℕ, suc, ◌<◌, ◌≤◌, Bool, true, false, List, [], ◌∷◌, length, Option, Some, None, refl, sym, ap, ◌∙◌, subst, arith}
 use Rattle.std.specs.Prelude.{slice_get, ◌⊎◌, option_map, is_some, not, nat_lt, max, ◌==◌, ◌||◌, ◌&&◌, if◌then◌else◌}
-use Rattle.std.proofs.lemmas.List.{length-take-le}
-use Rattle.std.proofs.lemmas.Bool.{or_cases, and_parts, not-true, eqb-true, eqb-false, leb-false}
+use Rattle.std.proofs.lemmas.Bool.{or_cases, and_parts, not-true, eqb-false}
 use Rattle.hm_message.specs.declared.message.Message.{Message}
 use Rattle.hd_delivery.specs.Frames.{Frame, Request, Response, Numbered, Ack, Sequence, Ping, Close, Reason, Protocol, error_of, count, number, received_of, told, most_told}
 use Rattle.hd_delivery.specs.Histories.{Side, Client, Server, Duplicate, Unknown, BeforeSequence, NotUsed, Skipped, Shake, Step, Took, Failed, Lent, Closed, is_this, first_of, here, first_link, lent, sent, processed, acked, written, next_place, most_lent, shaken, is_three, kept, closed, state, resumed}

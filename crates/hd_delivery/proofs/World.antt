@@ -1,10 +1,10 @@
 -- The invariant holds in every world.
 use Rattle.std.proofs.Common.{⊎_elim, ◌≡◌, ℕ, ◌<◌, Bool, true, false, List, [], ◌∷◌, Option, Some, None, refl, sym, ◌∙◌, subst, arith}
-use Rattle.std.specs.Prelude.{slice_get, ◌⊎◌, ◌==◌, ◌&&◌}
+use Rattle.std.specs.Prelude.{slice_get, ◌⊎◌, ◌==◌}
 use Rattle.std.proofs.lemmas.Bool.{or_cases, eqb-true}
 use Rattle.hd_delivery.specs.Frames.{Frame}
-use Rattle.hd_delivery.specs.Histories.{Side, Client, Server, Step, Attached, Detached, Fed, Took, Failed, Sent, Lent, Ticked, Silenced, Closed, first_of, here, was_on, first_link, fed, taken, shaken, kept, heard}
-use Rattle.hd_delivery.specs.Processes.{next_number, resumes, reads}
+use Rattle.hd_delivery.specs.Histories.{Side, Client, Server, Step, Attached, Detached, Fed, Took, Failed, Sent, Lent, Ticked, Silenced, Closed, first_of, here, was_on, first_link, fed, taken, shaken, kept}
+use Rattle.hd_delivery.specs.Processes.{next_number, reads}
 use Rattle.hd_delivery.specs.Worlds.{Limits, Sizes, MayAttach, Allowed, Terms, config, Event, ByClient, ByServer, client_of, server_of, IsWorld}
 use Rattle.hd_delivery.proofs.Local.{or_right, none_was, first_was}
 use Rattle.hd_delivery.proofs.Pair.{Own, Way, Pair, detached, was_sent, was_fed, was_read, was_attached, was_lent}

@@ -11,10 +11,10 @@ use Rattle.hd_delivery.specs.Worlds.{IsPrefixOf, Limits, Sizes, CanBeSent, Allow
 
 -- ---- readers
 
--- what a reader says of the bytes before it
+-- what a reader says of the bytes before it. What it reads is a handshake exactly where one has to come, and never Unreadable
 pub data Reading : Type 0 where
   Waits : Reading  -- no whole frame yet
-  Reads : (f : Frame) → (size : ℕ) → Reading  -- first comes this frame, of so many bytes with its framing. It is a handshake exactly where one has to come, and never Unreadable
+  Reads : (f : Frame) → (size : ℕ) → Reading  -- first comes this frame, of so many bytes with its framing
   Refuses : (why : List ℕ) → (size : ℕ) → Reading  -- first comes a whole frame that can't be read
   Stops : (why : List ℕ) → Reading  -- no frame can come here
 
@@ -25,6 +25,7 @@ pub record Wire : Type 0 where
   pub first : Side → List ℕ → Reading  -- at this side, the first frame of a first link
   pub later : Codec → List ℕ → Reading  -- each later frame
 
+-- the sizes of what is written
 abbrev pub sizes_of : Wire → Sizes
 sizes_of wire = record { frame = wire.frame_size; framed = λ codec m. length (wire.spell codec (Numbered m)) }
 
@@ -38,9 +39,11 @@ pub record IsRead (read : List ℕ → Reading) (bytes : List ℕ) (f : Frame) :
 pub record IsFaithful (limits : Limits) (wire : Wire) (codec : Codec) (version : ℕ) (messages : List Message) : Type 0 where
   pub request : IsRead (wire.first Server) (wire.spell codec (Request codec version)) (Request codec version)
   pub response : IsRead (wire.first Client) (wire.spell codec Response) Response
-  pub message : (m : Message) → Contains messages m → CanBeSent limits (sizes_of wire) codec m → IsRead (wire.later codec) (wire.spell codec (Numbered m)) (Numbered m)
+  pub message : (m : Message) → Contains messages m → CanBeSent limits (sizes_of wire) codec m
+      → IsRead (wire.later codec) (wire.spell codec (Numbered m)) (Numbered m)
   pub ack : (upto : ℕ) → upto ≤ 2 ^ 62 → IsRead (wire.later codec) (wire.spell codec (Ack upto)) (Ack upto)
-  pub sequence : (first : ℕ) (received : Option ℕ) → first ≤ 2 ^ 62 + 1 → received_of received ≤ 2 ^ 62 → IsRead (wire.later codec) (wire.spell codec (Sequence first received)) (Sequence first received)
+  pub sequence : (first : ℕ) (received : Option ℕ) → first ≤ 2 ^ 62 + 1 → received_of received ≤ 2 ^ 62
+      → IsRead (wire.later codec) (wire.spell codec (Sequence first received)) (Sequence first received)
   pub ping : IsRead (wire.later codec) (wire.spell codec Ping) Ping
   pub close : (reason : Reason) (allow : Bool) → IsRead (wire.later codec) (wire.spell codec (Close (error_of reason) allow)) (Close (error_of reason) allow)
 
@@ -80,6 +83,7 @@ frames cuts = map (λ x. x.0) cuts
 
 -- ---- histories over bytes
 
+-- a step of an end that is fed bytes
 pub data ByteStep : Type 0 where
   Bytes : (piece : List ℕ) → ByteStep  -- these were fed
   Does : Step → ByteStep
@@ -129,34 +133,42 @@ pub record MayFeedBytes (limits : Limits) (wire : Wire) (c oc : Config) (h other
   pub front : IsPrefixOf (bytes_on link h ++ piece) (lent_bytes wire oc link other)
   pub few : unread wire c link (Bytes piece ∷ h) ≤ limits.frame + 5
 
+-- the step may come next; what is fed is bytes
 abbrev pub AllowedOverBytes : Limits → Wire → Config → Config → List ByteStep → List ByteStep → ByteStep → Type 0
 AllowedOverBytes limits wire c oc h other (Bytes piece) = MayFeedBytes limits wire c oc h other piece
 AllowedOverBytes limits wire c oc h other (Does (Fed piece)) = ⊥
 AllowedOverBytes limits wire c oc h other (Does s) = Allowed limits (sizes_of wire) c (in_frames wire c h) (in_frames wire oc other) s
 
+-- one such step of one end
 pub data ByteEvent : Type 0 where
   AtClient : ByteStep → ByteEvent
   AtServer : ByteStep → ByteEvent
 
+-- the steps of the client
 abbrev pub client_bytes : List ByteEvent → List ByteStep
 client_bytes [] = []
 client_bytes (AtClient s ∷ w) = s ∷ client_bytes w
 client_bytes (AtServer s ∷ w) = client_bytes w
 
+-- the steps of the server
 abbrev pub server_bytes : List ByteEvent → List ByteStep
 server_bytes [] = []
 server_bytes (AtClient s ∷ w) = server_bytes w
 server_bytes (AtServer s ∷ w) = s ∷ server_bytes w
 
+-- each event is a step that was allowed after those before it
 abbrev pub IsWorldOverBytes : Limits → Wire → Terms → List ByteEvent → Type 0
 IsWorldOverBytes limits wire t [] = Unit {0}
-IsWorldOverBytes limits wire t (AtClient s ∷ w) = IsWorldOverBytes limits wire t w × AllowedOverBytes limits wire (config Client t) (config Server t) (client_bytes w) (server_bytes w) s
-IsWorldOverBytes limits wire t (AtServer s ∷ w) = IsWorldOverBytes limits wire t w × AllowedOverBytes limits wire (config Server t) (config Client t) (server_bytes w) (client_bytes w) s
+IsWorldOverBytes limits wire t (AtClient s ∷ w) =
+    IsWorldOverBytes limits wire t w × AllowedOverBytes limits wire (config Client t) (config Server t) (client_bytes w) (server_bytes w) s
+IsWorldOverBytes limits wire t (AtServer s ∷ w) =
+    IsWorldOverBytes limits wire t w × AllowedOverBytes limits wire (config Server t) (config Client t) (server_bytes w) (client_bytes w) s
 
--- the two histories of a world, in frames
+-- the client's history in frames
 abbrev pub client_in_frames : Wire → Terms → List ByteEvent → List Step
 client_in_frames wire t w = in_frames wire (config Client t) (client_bytes w)
 
+-- the server's history in frames
 abbrev pub server_in_frames : Wire → Terms → List ByteEvent → List Step
 server_in_frames wire t w = in_frames wire (config Server t) (server_bytes w)
 
@@ -177,7 +189,8 @@ pub record StillOverBytes (wire : Wire) (cc cs : Config) (c s : List ByteStep) :
 -- the same of the histories in frames, which are still where every byte was fed
 pub record DeliveryOverBytes (wire : Wire) (t : Terms) (w : List ByteEvent) : Type 0 where
   pub holds : Delivery t (client_in_frames wire t w) (server_in_frames wire t w)
-  pub still : StillOverBytes wire (config Client t) (config Server t) (client_bytes w) (server_bytes w) → Still (config Client t) (config Server t) (client_in_frames wire t w) (server_in_frames wire t w)
+  pub still : StillOverBytes wire (config Client t) (config Server t) (client_bytes w) (server_bytes w)
+      → Still (config Client t) (config Server t) (client_in_frames wire t w) (server_in_frames wire t w)
 
 -- it holds in every world over bytes whose readers are faithful to what is sent there
 abbrev pub HoldsOverBytes : Type 0

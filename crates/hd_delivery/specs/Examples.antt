@@ -76,7 +76,9 @@ resume_duplicates =
     ++ client (Attached 1 0 ∷ [])
     ++ server (Attached 1 0 ∷ [])
     ++ client (Lent (Sequence 1 None) ∷ Lent (Numbered a) ∷ Lent (Numbered b) ∷ [])
-    ++ server (Fed (Sequence 1 None ∷ Numbered a ∷ Numbered b ∷ []) ∷ Took (Sequenced 1) ∷ Took (Skipped (Duplicate 1)) ∷ Took (Skipped (Duplicate 2)) ∷ [])
+    ++ server (
+    Fed (Sequence 1 None ∷ Numbered a ∷ Numbered b ∷ []) ∷ Took (Sequenced 1) ∷ Took (Skipped (Duplicate 1)) ∷
+    Took (Skipped (Duplicate 2)) ∷ [])
 
 -- Two links with the same message: the server takes the newer one first.
 abbrev pub older_link_later : List Event
@@ -84,8 +86,11 @@ older_link_later =
     opened 2
     ++ client (Sent a ∷ Lent (Numbered a) ∷ [])
     ++ server (Fed (Numbered a ∷ []) ∷ Took (Processed a) ∷ [])
-    ++ client (Attached 1 0 ∷ Lent (Sequence 1 None) ∷ Lent (Numbered a) ∷ Attached 2 0 ∷ Lent (Sequence 1 None) ∷ Lent (Numbered a) ∷ [])
-    ++ server (Attached 2 0 ∷ Fed (Sequence 1 None ∷ Numbered a ∷ []) ∷ Took (Sequenced 1) ∷ Took (Skipped (Duplicate 1)) ∷ Attached 1 0 ∷ Fed (Sequence 1 None ∷ Numbered a ∷ []) ∷ Took (Sequenced 1) ∷ Took (Skipped (Duplicate 1)) ∷ [])
+    ++ client (
+    Attached 1 0 ∷ Lent (Sequence 1 None) ∷ Lent (Numbered a) ∷ Attached 2 0 ∷ Lent (Sequence 1 None) ∷ Lent (Numbered a) ∷ [])
+    ++ server (
+    Attached 2 0 ∷ Fed (Sequence 1 None ∷ Numbered a ∷ []) ∷ Took (Sequenced 1) ∷ Took (Skipped (Duplicate 1)) ∷ Attached 1 0 ∷
+    Fed (Sequence 1 None ∷ Numbered a ∷ []) ∷ Took (Sequenced 1) ∷ Took (Skipped (Duplicate 1)) ∷ [])
 
 -- An Ack takes out two messages that the later link has not carried yet, so a further Sequence says that the third one comes next.
 abbrev pub further_sequence : List Event
@@ -95,8 +100,10 @@ further_sequence =
     ++ server (Fed (Numbered a ∷ Numbered b ∷ []) ∷ Took (Processed a) ∷ Took (Processed b) ∷ [])
     ++ client (Attached 1 0 ∷ Lent (Sequence 1 None) ∷ [])
     ++ server (Attached 1 0 ∷ Lent (Sequence 1 None) ∷ Lent (Ack 2) ∷ [])
-    ++ client (Fed (Sequence 1 None ∷ Ack 2 ∷ []) ∷ Took (Sequenced 1) ∷ Took (Acked 2) ∷ Lent (Sequence 3 None) ∷ Lent (Numbered c) ∷ [])
-    ++ server (Fed (Sequence 1 None ∷ Sequence 3 None ∷ Numbered c ∷ []) ∷ Took (Sequenced 1) ∷ Took (Sequenced 3) ∷ Took (Processed c) ∷ [])
+    ++ client (
+    Fed (Sequence 1 None ∷ Ack 2 ∷ []) ∷ Took (Sequenced 1) ∷ Took (Acked 2) ∷ Lent (Sequence 3 None) ∷ Lent (Numbered c) ∷ [])
+    ++ server (
+    Fed (Sequence 1 None ∷ Sequence 3 None ∷ Numbered c ∷ []) ∷ Took (Sequenced 1) ∷ Took (Sequenced 3) ∷ Took (Processed c) ∷ [])
 
 -- Where the Ack is read before the opening is written, the opening alone says the number.
 abbrev pub one_sequence : List Event
@@ -108,7 +115,8 @@ one_sequence =
     ++ server (Attached 1 0 ∷ [])
     ++ client (Sent a ∷ [])
     ++ server (Lent (Sequence 1 None) ∷ Lent (Ack 2) ∷ [])
-    ++ client (Fed (Sequence 1 None ∷ Ack 2 ∷ []) ∷ Took (Sequenced 1) ∷ Took (Acked 2) ∷ Lent (Sequence 3 None) ∷ Lent (Numbered a) ∷ [])
+    ++ client (
+    Fed (Sequence 1 None ∷ Ack 2 ∷ []) ∷ Took (Sequenced 1) ∷ Took (Acked 2) ∷ Lent (Sequence 3 None) ∷ Lent (Numbered a) ∷ [])
     ++ server (Fed (Sequence 3 None ∷ Numbered a ∷ []) ∷ Took (Sequenced 3) ∷ Took (Processed a) ∷ [])
 
 -- Version 3: both messages were processed, as the other end's opening says, so none comes again. Both ends are then still.
@@ -165,8 +173,11 @@ plain_loss =
 abbrev pub closed_before_response : List Event
 closed_before_response =
     client (Attached 0 0 ∷ Lent (Request Json 2) ∷ [])
-    ++ server (Attached 0 0 ∷ Fed (Request Json 2 ∷ []) ∷ Took (Shaken Json 2) ∷ Sent a ∷ Closed Done false ∷ Lent Response ∷ Lent (Numbered a) ∷ Lent (Close None false) ∷ [])
-    ++ client (Fed (Response ∷ Numbered a ∷ Close None false ∷ []) ∷ Took (Shaken Json 2) ∷ Took (Processed a) ∷ Took (Ended None false) ∷ [])
+    ++ server (
+    Attached 0 0 ∷ Fed (Request Json 2 ∷ []) ∷ Took (Shaken Json 2) ∷ Sent a ∷ Closed Done false ∷ Lent Response ∷
+    Lent (Numbered a) ∷ Lent (Close None false) ∷ [])
+    ++ client (
+    Fed (Response ∷ Numbered a ∷ Close None false ∷ []) ∷ Took (Shaken Json 2) ∷ Took (Processed a) ∷ Took (Ended None false) ∷ [])
 
 -- A message was processed and acknowledged: both ends are still.
 abbrev pub acknowledged : List Event

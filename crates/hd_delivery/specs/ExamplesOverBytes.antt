@@ -4,7 +4,7 @@ use Rattle.hm_message.specs.declared.message.Codec.{Codec}
 use Rattle.hm_message.specs.declared.message.Codec.TheVariants.{Json, Pack}
 use Rattle.hm_message.specs.declared.message.Message.{Message}
 use Rattle.hm_message.specs.declared.message.Message.TheVariants.{Invocation}
-use Rattle.hd_delivery.specs.Frames.{Frame, Request, Response, Numbered, Ack, Sequence, Ping, Close, Strange, Reason, Done, Protocol, InUse, TooMany, Flood, Slow, Expired, error_of}
+use Rattle.hd_delivery.specs.Frames.{Frame, Request, Response, Numbered, Ack, Sequence, Ping, Close, Strange, Protocol, InUse, TooMany, Flood, Slow, Expired, error_of}
 use Rattle.hd_delivery.specs.Histories.{Side, Client, Server, Config, State, Step, Shaken, Processed, Acked, Sequenced, Pinged, Attached, Took, Sent, Lent}
 use Rattle.hd_delivery.specs.Processes.{processes}
 use Rattle.hd_delivery.specs.Worlds.{Limits, Terms, config}
@@ -39,9 +39,11 @@ abbrev pub error_number : Option (List ℕ) → ℕ
 error_number None = 0
 error_number (Some s) = first_letter s + text_length s
 
+-- four numbers
 abbrev pub four_of : ℕ → ℕ → ℕ → ℕ → List ℕ
 four_of kind x y z = kind ∷ x ∷ y ∷ z ∷ []
 
+-- how a frame is written. A handshake that is refused is never written
 abbrev pub spell_four : Frame → List ℕ
 spell_four (Request codec version) = four_of 1 version (codec_number codec) 0
 spell_four Response = four_of 2 0 0 0
@@ -63,6 +65,7 @@ read_four says _ = Waits
 abbrev pub codec_numbered : ℕ → Codec
 codec_numbered n = if n == 0 then Json else Pack
 
+-- the error of this number
 abbrev pub error_numbered : ℕ → Option (List ℕ)
 error_numbered n =
     if n == 0 then None else
@@ -75,13 +78,16 @@ error_numbered n =
 abbrev pub received_numbered : ℕ → ℕ → Option ℕ
 received_numbered y z = if y == 0 then None else Some z
 
+-- what is no handshake
 abbrev pub no_handshake : Reading
 no_handshake = Reads (Strange (codes "NotJson") (codes "The handshake is not JSON.")) 4
 
+-- what four numbers are as the first frame of a first link
 abbrev pub first_of_four : Side → ℕ → ℕ → ℕ → ℕ → Reading
 first_of_four Client kind x y z = if kind == 2 then Reads Response 4 else no_handshake
 first_of_four Server kind x y z = if kind == 1 then Reads (Request (codec_numbered y) x) 4 else no_handshake
 
+-- what they are on each other place. A number from 9 on begins no frame
 abbrev pub later_of_four : ℕ → ℕ → ℕ → ℕ → Reading
 later_of_four kind x y z =
     if kind == 3 then Reads (Numbered (call (x ∷ []))) 4 else
@@ -92,6 +98,7 @@ later_of_four kind x y z =
     (if kind == 8 then Refuses (codes "NotJson") 4 else
     Stops (codes "BadLength"))))))
 
+-- the whole of it, alike in both codecs
 abbrev pub four : Wire
 four = record { spell = λ codec. spell_four; frame_size = λ codec m. 4; first = λ side. read_four (first_of_four side); later = λ codec. read_four later_of_four }
 
@@ -108,15 +115,22 @@ abbrev pub bytewise : List ByteEvent
 bytewise =
     client (Does (Attached 0 0) ∷ Does (Lent (Request Json 2)) ∷ [])
     ++ server (Does (Attached 0 0) ∷ Bytes (1 ∷ 2 ∷ 0 ∷ 0 ∷ []) ∷ Does (Took (Shaken Json 2)) ∷ Does (Lent Response) ∷ [])
-    ++ client (Bytes (2 ∷ 0 ∷ 0 ∷ 0 ∷ []) ∷ Does (Took (Shaken Json 2)) ∷ Does (Sent a) ∷ Does (Sent b) ∷ Does (Sent c) ∷ Does (Lent (Numbered a)) ∷ Does (Lent (Numbered b)) ∷ Does (Lent (Numbered c)) ∷ [])
-    ++ server (Bytes (3 ∷ []) ∷ Bytes (97 ∷ []) ∷ Bytes (0 ∷ []) ∷ Bytes (0 ∷ []) ∷ Does (Took (Processed a)) ∷ Bytes (3 ∷ []) ∷ Bytes (98 ∷ []) ∷ Bytes (0 ∷ []) ∷ Bytes (0 ∷ []) ∷ Does (Took (Processed b)) ∷ Bytes (3 ∷ []) ∷ Bytes (99 ∷ []) ∷ Bytes (0 ∷ []) ∷ Bytes (0 ∷ []) ∷ Does (Took (Processed c)) ∷ [])
+    ++ client (
+    Bytes (2 ∷ 0 ∷ 0 ∷ 0 ∷ []) ∷ Does (Took (Shaken Json 2)) ∷ Does (Sent a) ∷ Does (Sent b) ∷ Does (Sent c) ∷
+    Does (Lent (Numbered a)) ∷ Does (Lent (Numbered b)) ∷ Does (Lent (Numbered c)) ∷ [])
+    ++ server (
+    Bytes (3 ∷ []) ∷ Bytes (97 ∷ []) ∷ Bytes (0 ∷ []) ∷ Bytes (0 ∷ []) ∷ Does (Took (Processed a)) ∷ Bytes (3 ∷ []) ∷
+    Bytes (98 ∷ []) ∷ Bytes (0 ∷ []) ∷ Bytes (0 ∷ []) ∷ Does (Took (Processed b)) ∷ Bytes (3 ∷ []) ∷ Bytes (99 ∷ []) ∷
+    Bytes (0 ∷ []) ∷ Bytes (0 ∷ []) ∷ Does (Took (Processed c)) ∷ [])
 
 -- In MessagePack. The second message is cut in its middle by the loss of its link. What was read of it is dropped, and the next link has it whole.
 abbrev pub cut_by_a_loss : List ByteEvent
 cut_by_a_loss =
     client (Does (Attached 0 0) ∷ Does (Lent (Request Pack 2)) ∷ [])
     ++ server (Does (Attached 0 0) ∷ Bytes (1 ∷ 2 ∷ 1 ∷ 0 ∷ []) ∷ Does (Took (Shaken Pack 2)) ∷ Does (Lent Response) ∷ [])
-    ++ client (Bytes (2 ∷ 0 ∷ 0 ∷ 0 ∷ []) ∷ Does (Took (Shaken Pack 2)) ∷ Does (Sent a) ∷ Does (Sent b) ∷ Does (Lent (Numbered a)) ∷ Does (Lent (Numbered b)) ∷ [])
+    ++ client (
+    Bytes (2 ∷ 0 ∷ 0 ∷ 0 ∷ []) ∷ Does (Took (Shaken Pack 2)) ∷ Does (Sent a) ∷ Does (Sent b) ∷ Does (Lent (Numbered a)) ∷
+    Does (Lent (Numbered b)) ∷ [])
     ++ server (Bytes (3 ∷ 97 ∷ 0 ∷ 0 ∷ 3 ∷ 98 ∷ []) ∷ Does (Took (Processed a)) ∷ Does (Lent (Ack 1)) ∷ [])
     ++ client (Bytes (4 ∷ 1 ∷ 0 ∷ 0 ∷ []) ∷ Does (Took (Acked 1)) ∷ Does (Attached 1 0) ∷ [])
     ++ server (Does (Attached 1 0) ∷ [])
@@ -137,7 +151,9 @@ abbrev pub unread_nine : List ByteEvent
 unread_nine =
     client (Does (Attached 0 0) ∷ Does (Lent (Request Json 2)) ∷ [])
     ++ server (Does (Attached 0 0) ∷ Bytes (1 ∷ 2 ∷ 0 ∷ 0 ∷ []) ∷ Does (Took (Shaken Json 2)) ∷ Does (Lent Response) ∷ [])
-    ++ client (Bytes (2 ∷ 0 ∷ 0 ∷ 0 ∷ []) ∷ Does (Took (Shaken Json 2)) ∷ Does (Sent a) ∷ Does (Sent b) ∷ Does (Sent c) ∷ Does (Lent (Numbered a)) ∷ Does (Lent (Numbered b)) ∷ Does (Lent (Numbered c)) ∷ [])
+    ++ client (
+    Bytes (2 ∷ 0 ∷ 0 ∷ 0 ∷ []) ∷ Does (Took (Shaken Json 2)) ∷ Does (Sent a) ∷ Does (Sent b) ∷ Does (Sent c) ∷
+    Does (Lent (Numbered a)) ∷ Does (Lent (Numbered b)) ∷ Does (Lent (Numbered c)) ∷ [])
     ++ server (Bytes (3 ∷ 97 ∷ 0 ∷ 0 ∷ 3 ∷ 98 ∷ 0 ∷ 0 ∷ 3 ∷ []) ∷ [])
 
 -- ---- what is said of them

@@ -6,6 +6,7 @@ use Rattle.hm_message.specs.declared.message.Codec.{Codec}
 use Rattle.hm_message.specs.declared.message.Message.{Message}
 use Rattle.hd_delivery.specs.Frames.{Frame, Numbered, Reason}
 
+-- which end it is
 pub data Side : Type 0 where
   Client : Side
   Server : Side
@@ -107,17 +108,19 @@ as_told n = min n (2 ^ 64 - 1)
 abbrev pub own_number : List Step → ℕ
 own_number h = as_told (link_count h - 1)
 
--- the frames fed and lent on a link, and how many of those fed were dealt with
+-- the frames fed on a link
 abbrev pub fed : ℕ → List Step → List Frame
 fed l [] = []
 fed l (Fed piece ∷ h) = if stands_on l h then fed l h ++ piece else fed l h
 fed l (_ ∷ h) = fed l h
 
+-- the frames lent on a link
 abbrev pub lent : ℕ → List Step → List Frame
 lent l [] = []
 lent l (Lent f ∷ h) = if stands_on l h then lent l h ++ f ∷ [] else lent l h
 lent l (_ ∷ h) = lent l h
 
+-- how many frames of a link were dealt with
 abbrev pub taken : ℕ → List Step → ℕ
 taken l [] = 0
 taken l (Took got ∷ h) = if stands_on l h then suc (taken l h) else taken l h
@@ -210,12 +213,14 @@ closed c (Detached now ∷ h) = if kept c h then closed c h else true
 closed c (Silenced now ∷ h) = if kept c h then closed c h else true
 closed c (_ ∷ h) = closed c h
 
+-- what an end can do
 pub data State : Type 0 where
   Opening : State  -- before the handshake is complete
   Ready : State  -- on a link
   Away : State  -- without a link
   Over : State  -- closed, as a report says
 
+-- by whether it is closed, whether the handshake is complete, and the link
 abbrev pub state_of : Bool → Bool → Option ℕ → State
 state_of true s l = Over
 state_of false false l = Opening

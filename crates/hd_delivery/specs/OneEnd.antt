@@ -2,8 +2,8 @@
 -- step first.
 use Rattle.std.specs.Prelude.{◌≡◌, ℕ, pos, Bool, true, false, List, [], ◌∷◌, ◌++◌, map, reverse, codes, Option, Some, None}
 use Rattle.hm_message.specs.declared.message.Codec.TheVariants.{Json}
-use Rattle.hd_delivery.specs.Frames.{Frame, Request, Response, Refusal, Numbered, Ack, Sequence, Ping, Close, Foreign, Strange, Unreadable, Protocol, Done, Slow}
-use Rattle.hd_delivery.specs.Histories.{Fault, Unread, Shake, Gap, Duplicate, Unknown, NotUsed, Shaken, Processed, Sequenced, Resumed, Skipped, Ended, Step, Attached, Detached, Fed, Took, Failed, Sent, Lent, Ticked, Silenced, Closed, Side, Client, State, state, is_silence}
+use Rattle.hd_delivery.specs.Frames.{Frame, Request, Response, Refusal, Numbered, Ack, Sequence, Ping, Close, Foreign, Strange, Unreadable, Done, Slow}
+use Rattle.hd_delivery.specs.Histories.{Fault, Shake, Gap, Unknown, NotUsed, Shaken, Processed, Sequenced, Resumed, Skipped, Ended, Step, Attached, Detached, Fed, Took, Failed, Sent, Lent, Ticked, Silenced, Closed, Side, Client, State, state, is_silence}
 use Rattle.hd_delivery.specs.Due.{due}
 use Rattle.hd_delivery.specs.Processes.{processes}
 use Rattle.hd_delivery.specs.Worlds.{config}
@@ -29,9 +29,11 @@ gap =
 abbrev pub gap_failed : List Step
 gap_failed = gap ++ Failed (Gap 5 4) ∷ []
 
+-- with its opening said
 abbrev pub gap_opened : List Step
 gap_opened = gap_failed ++ Lent (Sequence 1 None) ∷ []
 
+-- with its Close said
 abbrev pub gap_told : List Step
 gap_told = gap_opened ++ Lent (Close (Some (codes "Protocol error.")) false) ∷ []
 
@@ -42,6 +44,7 @@ from_zero = opened_server 2 ++ Attached 1 0 ∷ Fed (Sequence 0 None ∷ Numbere
 abbrev pub from_zero_on : List Step
 from_zero_on = from_zero ++ Took (Sequenced 0) ∷ []
 
+-- the same eight times
 abbrev pub eight : {A : Type 0} → A → List A
 eight x = x ∷ x ∷ x ∷ x ∷ x ∷ x ∷ x ∷ x ∷ []
 
@@ -75,17 +78,19 @@ plain_sequence = plain_ack ++ Took (Skipped NotUsed) ∷ []
 abbrev pub plain_message : List Step
 plain_message = plain_sequence ++ Took (Skipped NotUsed) ∷ []
 
--- a message that was fed and isn't taken, and one that is
+-- a message that was fed and isn't taken
 abbrev pub not_taken : List Step
 not_taken = opened_server 2 ++ Fed (Numbered a ∷ []) ∷ []
 
+-- the message is taken
 abbrev pub taken_now : List Step
 taken_now = not_taken ++ Took (Processed a) ∷ []
 
--- at version 3, a later link on which the other end's opening isn't read, and one on which it is
+-- at version 3, a later link on which the other end's opening isn't read
 abbrev pub waits : List Step
 waits = opened_server 3 ++ Sent a ∷ Attached 1 0 ∷ Lent (Sequence 1 (Some 0)) ∷ []
 
+-- it is read
 abbrev pub waits_no_more : List Step
 waits_no_more = waits ++ Fed (Sequence 1 (Some 0) ∷ []) ∷ Took (Resumed 1 0) ∷ []
 
@@ -121,10 +126,11 @@ refused_response = Attached 0 0 ∷ Lent (Request Json 2) ∷ Fed (strange ∷ [
 abbrev pub refused_unanswered : List Step
 refused_unanswered = refused_response ++ Failed (Shake (codes "Version 9") None) ∷ []
 
--- a server that is closed before it takes a request, and a client that is closed before it asks
+-- a server that is closed before it takes a request
 abbrev pub closed_unasked : List Step
 closed_unasked = Attached 0 0 ∷ Fed (Request Json 2 ∷ []) ∷ Closed Done false ∷ []
 
+-- a client that is closed before it asks
 abbrev pub closed_unsaid : List Step
 closed_unsaid = Attached 0 0 ∷ Closed Done false ∷ []
 

@@ -95,14 +95,17 @@ pub record Terms : Type 0 where
   pub server_version : ℕ
   pub reconnect : Bool
 
+-- the codec that a side is begun with
 abbrev pub codec_at : Side → Terms → Codec
 codec_at Client t = t.codec
 codec_at Server t = t.server_codec
 
+-- the version that a side is begun with
 abbrev pub version_at : Side → Terms → ℕ
 version_at Client t = t.version
 version_at Server t = t.server_version
 
+-- how a side is begun
 abbrev pub config : Side → Terms → Config
 config side t = record { side = side; codec = codec_at side t; version = version_at side t; reconnect = t.reconnect }
 
@@ -111,17 +114,19 @@ pub data Event : Type 0 where
   ByClient : Step → Event
   ByServer : Step → Event
 
--- the steps of each end; the latest event comes first
+-- the steps of the client; the latest event comes first
 abbrev pub client_of : List Event → List Step
 client_of [] = []
 client_of (ByClient s ∷ w) = s ∷ client_of w
 client_of (ByServer s ∷ w) = client_of w
 
+-- the steps of the server
 abbrev pub server_of : List Event → List Step
 server_of [] = []
 server_of (ByClient s ∷ w) = server_of w
 server_of (ByServer s ∷ w) = s ∷ server_of w
 
+-- each event is a step that was allowed after those before it
 abbrev pub IsWorld : Limits → Sizes → Terms → List Event → Type 0
 IsWorld limits sizes t [] = Unit {0}
 IsWorld limits sizes t (ByClient s ∷ w) = IsWorld limits sizes t w × Allowed limits sizes (config Client t) (client_of w) (server_of w) s

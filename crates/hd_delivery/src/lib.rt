@@ -9,11 +9,11 @@
 mod one_end;
 mod worlds;
 
-pub use one_end::{closings, first_frames, moments, numbers};
-pub use worlds::{still_worlds, what_may_not_come, worked_over_bytes, worked_worlds};
-
 ghost use Rattle.hd_delivery.specs.Bytes.{HoldsOverBytes};
 ghost use Rattle.hd_delivery.specs.Worlds.{HoldsInEveryWorld};
+
+pub use one_end::{closings, first_frames, moments, numbers};
+pub use worlds::{still_worlds, what_may_not_come, worked_over_bytes, worked_worlds};
 
 /// In every world of two ends, what each has processed is a first part of what the other sent, and
 /// all of it once nothing is left to say or read. Neither refuses what the other says, and what

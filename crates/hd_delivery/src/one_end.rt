@@ -11,11 +11,13 @@ ghost use Rattle.hd_delivery.specs.OneEnd.{NextDue, NextStep, SilentAt, StateIs,
 pub fn numbers()
     ensures gap { NextStep Server gap (Some (Failed (Gap 5 4))) }
     ensures gap_failed { NextDue Server gap_failed (Some (Sequence 1 None)) }
-    ensures gap_opened { NextDue Server gap_opened (Some (Close (Some (codes "Protocol error.")) false)) }
+    ensures gap_opened { NextDue Server gap_opened
+        (Some (Close (Some (codes "Protocol error.")) false)) }
     ensures gap_told { NextDue Server gap_told None }
     ensures from_zero { NextStep Server from_zero (Some (Took (Sequenced 0))) }
     ensures from_zero_on { NextStep Server from_zero_on (Some (Took (Skipped (Duplicate 0)))) }
-    ensures greatest { reads_message (2 ^ 62) (Some (2 ^ 62 + 1)) a ≡ Failed (Gap (2 ^ 62 + 1) (2 ^ 62)) }
+    ensures greatest { reads_message (2 ^ 62) (Some (2 ^ 62 + 1)) a ≡ Failed
+        (Gap (2 ^ 62 + 1) (2 ^ 62)) }
     ensures beyond { NextStep Server beyond (Some (Failed (AckBeyond 9 8))) }
     ensures received_beyond { NextStep Server received_beyond (Some (Failed (AckBeyond 1 0))) }
     ensures gap_beyond { NextStep Server gap_beyond (Some (Failed (Gap 9 1))) }
@@ -36,9 +38,11 @@ pub fn first_frames()
     ensures pinged { NextStep Server pinged (Some (Took Pinged)) }
     ensures refused { NextStep Server refused_request (Some (Failed unknown_version)) }
     ensures over { NextStep Server refused_failed None }
-    ensures answer { NextDue Server refused_failed (Some (Refusal (codes "The version is not known."))) }
+    ensures answer { NextDue Server refused_failed
+        (Some (Refusal (codes "The version is not known."))) }
     ensures answered { NextDue Server refused_answered None }
-    ensures response { NextStep Client refused_response (Some (Failed (Shake (codes "Version 9") None))) }
+    ensures response { NextStep Client refused_response
+        (Some (Failed (Shake (codes "Version 9") None))) }
     ensures unanswered { NextDue Client refused_unanswered None }
     ensures closed_unasked { NextDue Server closed_unasked None }
     ensures not_taken_any_more { NextStep Server closed_unasked None }

@@ -10,21 +10,35 @@ ghost use Rattle.hd_delivery.specs.ExamplesOverBytes.{IsFullFor, IsStillOverByte
 /// Whole worlds, and what the client and the server are in the end: the state, and how many
 /// messages were sent, processed and are held.
 pub fn worked_worlds()
-    ensures acknowledged { IsWorked usual (terms 2 true) acknowledged (Ready, 1, 0, 0) (Ready, 0, 1, 0) }
-    ensures resume_after_ack { IsWorked usual (terms 2 true) resume_after_ack (Ready, 2, 0, 1) (Ready, 0, 2, 0) }
-    ensures resume_duplicates { IsWorked usual (terms 2 true) resume_duplicates (Ready, 2, 0, 2) (Ready, 0, 2, 0) }
-    ensures older_link_later { IsWorked usual (terms 2 true) older_link_later (Ready, 1, 0, 1) (Ready, 0, 1, 0) }
-    ensures further_sequence { IsWorked usual (terms 2 true) further_sequence (Ready, 3, 0, 1) (Ready, 0, 3, 0) }
-    ensures one_sequence { IsWorked usual (terms 2 true) one_sequence (Ready, 3, 0, 1) (Ready, 0, 3, 0) }
-    ensures resumed_with_none { IsWorked usual (terms 3 true) resumed_with_none (Ready, 2, 0, 0) (Ready, 0, 2, 0) }
-    ensures resumed_with_one { IsWorked usual (terms 3 true) resumed_with_one (Ready, 2, 0, 1) (Ready, 0, 2, 0) }
+    ensures acknowledged { IsWorked usual (terms 2 true) acknowledged
+        (Ready, 1, 0, 0) (Ready, 0, 1, 0) }
+    ensures resume_after_ack { IsWorked usual (terms 2 true) resume_after_ack
+        (Ready, 2, 0, 1) (Ready, 0, 2, 0) }
+    ensures resume_duplicates { IsWorked usual (terms 2 true) resume_duplicates
+        (Ready, 2, 0, 2) (Ready, 0, 2, 0) }
+    ensures older_link_later { IsWorked usual (terms 2 true) older_link_later
+        (Ready, 1, 0, 1) (Ready, 0, 1, 0) }
+    ensures further_sequence { IsWorked usual (terms 2 true) further_sequence
+        (Ready, 3, 0, 1) (Ready, 0, 3, 0) }
+    ensures one_sequence { IsWorked usual (terms 2 true) one_sequence
+        (Ready, 3, 0, 1) (Ready, 0, 3, 0) }
+    ensures resumed_with_none { IsWorked usual (terms 3 true) resumed_with_none
+        (Ready, 2, 0, 0) (Ready, 0, 2, 0) }
+    ensures resumed_with_one { IsWorked usual (terms 3 true) resumed_with_one
+        (Ready, 2, 0, 1) (Ready, 0, 2, 0) }
     ensures silence { IsWorked usual (terms 2 true) silence (Away, 0, 0, 0) (Ready, 0, 0, 0) }
-    ensures plain_silence { IsWorked usual (terms 2 false) plain_silence (Over, 0, 0, 0) (Ready, 0, 0, 0) }
-    ensures plain_loss { IsWorked usual (terms 2 false) plain_loss (Over, 0, 0, 0) (Ready, 0, 0, 0) }
-    ensures plain_delivered { IsWorked usual (terms 2 false) plain_delivered (Ready, 1, 0, 0) (Ready, 0, 1, 0) }
-    ensures plain_room { IsWorked (limits_of 38 1 39) (terms 2 false) plain_room (Ready, 2, 0, 1) (Ready, 0, 0, 0) }
-    ensures filled { IsWorked (limits_of 38 3 117) (terms 2 true) filled (Ready, 3, 0, 3) (Ready, 0, 0, 0) }
-    ensures closed_before_response { IsWorked usual (terms 2 true) closed_before_response (Over, 0, 1, 0) (Over, 1, 0, 1) }
+    ensures plain_silence { IsWorked usual (terms 2 false) plain_silence
+        (Over, 0, 0, 0) (Ready, 0, 0, 0) }
+    ensures plain_loss { IsWorked usual (terms 2 false) plain_loss
+        (Over, 0, 0, 0) (Ready, 0, 0, 0) }
+    ensures plain_delivered { IsWorked usual (terms 2 false) plain_delivered
+        (Ready, 1, 0, 0) (Ready, 0, 1, 0) }
+    ensures plain_room { IsWorked (limits_of 38 1 39) (terms 2 false) plain_room
+        (Ready, 2, 0, 1) (Ready, 0, 0, 0) }
+    ensures filled { IsWorked (limits_of 38 3 117) (terms 2 true) filled
+        (Ready, 3, 0, 3) (Ready, 0, 0, 0) }
+    ensures closed_before_response { IsWorked usual (terms 2 true) closed_before_response
+        (Over, 0, 1, 0) (Over, 1, 0, 1) }
 {}
 
 /// Where both ends are still, so that all has arrived and nothing is held.
@@ -36,19 +50,24 @@ pub fn still_worlds()
 
 /// What may not come: a send past a limit, a link or a send after a plain connection was lost.
 pub fn what_may_not_come()
-    ensures count { MaySend (limits_of 38 3 156) sizes (config Client (terms 2 true)) (client_after filled) a → ⊥ }
-    ensures bytes { MaySend (limits_of 38 4 117) sizes (config Client (terms 2 true)) (client_after filled) a → ⊥ }
-    ensures frame { MaySend (limits_of 37 4 156) sizes (config Client (terms 2 true)) (client_after filled) a → ⊥ }
+    ensures count { MaySend (limits_of 38 3 156) sizes (config Client (terms 2 true))
+        (client_after filled) a → ⊥ }
+    ensures bytes { MaySend (limits_of 38 4 117) sizes (config Client (terms 2 true))
+        (client_after filled) a → ⊥ }
+    ensures frame { MaySend (limits_of 37 4 156) sizes (config Client (terms 2 true))
+        (client_after filled) a → ⊥ }
     ensures link { (l now : ℕ) → MayAttach (config Client (terms 2 false)) (client_after plain_loss)
         (server_after plain_loss) l now → ⊥ }
-    ensures send { MaySend usual sizes (config Client (terms 2 false)) (client_after plain_loss) a → ⊥ }
+    ensures send { MaySend usual sizes (config Client (terms 2 false)) (client_after plain_loss) a →
+        ⊥ }
 {}
 
 /// The same over bytes, for a way to write frames that is faithful.
 pub fn worked_over_bytes()
     ensures json { IsFaithful usual four Json 2 (a ∷ b ∷ c ∷ []) }
     ensures pack { IsFaithful usual four Pack 2 (a ∷ b ∷ c ∷ []) }
-    ensures bytewise { IsWorkedOverBytes usual (terms 2 true) bytewise (Ready, 3, 0, 3) (Ready, 0, 3, 0) }
+    ensures bytewise { IsWorkedOverBytes usual (terms 2 true) bytewise
+        (Ready, 3, 0, 3) (Ready, 0, 3, 0) }
     ensures cut_by_a_loss { IsWorkedOverBytes usual (terms_in Pack 2 true) cut_by_a_loss
         (Ready, 2, 0, 1) (Ready, 0, 2, 0) }
     ensures acknowledged { IsWorkedOverBytes usual (terms 2 true) acknowledged_over_bytes
@@ -58,7 +77,9 @@ pub fn worked_over_bytes()
         (Ready, 3, 0, 3) (Ready, 0, 0, 0) }
     ensures no_more { IsFullFor (limits_of 4 1024 100000) (terms 2 true) unread_nine (99 ∷ []) }
     ensures unreadable { NextStepOverBytes unreadable None }
-    ensures place { NextStepOverBytes unreadable_whole (Some (Failed (Unread 0 8 (codes "NotJson")))) }
-    ensures place_later { NextStepOverBytes unreadable_later (Some (Failed (Unread 1 4 (codes "NotJson")))) }
+    ensures place { NextStepOverBytes unreadable_whole
+        (Some (Failed (Unread 0 8 (codes "NotJson")))) }
+    ensures place_later { NextStepOverBytes unreadable_later
+        (Some (Failed (Unread 1 4 (codes "NotJson")))) }
     ensures stopped { NextStepOverBytes stopped (Some (Failed (Unread 1 0 (codes "BadLength")))) }
 {}
