@@ -1,0 +1,22 @@
+-- Names that differ, and what a name says of its codec.
+use Rattle.std.proofs.Common.{◌≡◌, ◌∙◌, Some, true, false, codes, refl, sym}
+use Rattle.std.specs.Str.{bytes_eq}
+use Rattle.std.proofs.lemmas.Slice.Eq.{bytes_eq-Decides}
+use Rattle.clap.specs.Words.{Text}
+use Rattle.hm_message.specs.declared.message.Codec.{Codec}
+use Rattle.hm_message.specs.declared.message.Codec.TheVariants.{Json, Pack}
+use Rattle.sr_words.specs.Words.{codec_name}
+
+pub apart : (a b : Text) → bytes_eq a b ≡ false → a ≡ b → ⊥
+apart a b differ same =
+    let bad : true ≡ false = sym ((bytes_eq-Decides a b).1 same) ∙ differ in
+    cc
+
+inside : {a b : Text} → Some a ≡ Some b → a ≡ b
+inside e = cc
+
+pub same_codec : (a b : Codec) → Some (codec_name a) ≡ Some (codec_name b) → a ≡ b
+same_codec Json Json e = refl
+same_codec Json Pack e = absurd (apart (codes "json") (codes "pack") refl (inside e))
+same_codec Pack Json e = absurd (apart (codes "pack") (codes "json") refl (inside e))
+same_codec Pack Pack e = refl

@@ -1,0 +1,4 @@
+pub mod Unique
+pub mod Clap
+pub mod Words
+pub mod Errors

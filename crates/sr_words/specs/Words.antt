@@ -1,0 +1,45 @@
+-- What the words of the command line ask for.
+use Rattle.std.specs.Prelude.{◌≡◌, ◌≢◌, List, ◌∷◌, map, codes, String, string_bytes}
+use Rattle.std.specs.declared.alloc.Global.{Global}
+use Rattle.clap.specs.Words.{App, Text, with_rule}
+use Rattle.hm_message.specs.declared.message.Codec.{Codec}
+use Rattle.hm_message.specs.declared.message.Codec.TheVariants.{Json, Pack}
+use Rattle.sr_words.specs.declared.commands.Asked.{Asked}
+use Rattle.sr_words.specs.declared.commands.Asked.TheVariants.{Replay, Check, Convert}
+use Rattle.sr_words.specs.Clap.{Gives, Takes, bare_app, required}
+
+abbrev pub codec_name : Codec → Text
+codec_name Json = codes "json"
+codec_name Pack = codes "pack"
+
+-- what clap is told of the words after each name
+abbrev pub replay_app : App
+replay_app = bare_app (codes "replay")
+
+abbrev pub check_app : App
+check_app = with_rule (bare_app (codes "check")) (required (codes "codec"))
+
+abbrev pub convert_app : App
+convert_app = with_rule (with_rule (bare_app (codes "convert")) (required (codes "from"))) (required (codes "to"))
+
+-- the command of this name, with these words after it, asks for this
+abbrev pub AsksAfter : Text → List Text → Asked → Type 0
+AsksAfter name rest Replay = (name ≡ codes "replay") × Takes replay_app rest
+AsksAfter name rest (Check codec) =
+    (name ≡ codes "check") × Takes check_app rest × Gives check_app rest (codes "codec") (codec_name codec)
+AsksAfter name rest (Convert from to) =
+    (name ≡ codes "convert") × Takes convert_app rest × Gives convert_app rest (codes "from") (codec_name from)
+    × Gives convert_app rest (codes "to") (codec_name to) × (from ≢ to)
+
+abbrev pub AsksNothingAfter : Text → List Text → Type 0
+AsksNothingAfter name rest = (asked : Asked) → AsksAfter name rest asked → ⊥
+
+abbrev pub texts : List (String Global) → List Text
+texts = map string_bytes
+
+-- the words of the command line, without the program's name, ask for this
+abbrev pub Asks : List (String Global) → Asked → Type 0
+Asks words asked = (name : Text) × (rest : List Text) × (texts words ≡ name ∷ rest) × AsksAfter name rest asked
+
+abbrev pub IsNoCommand : List (String Global) → Type 0
+IsNoCommand words = (asked : Asked) → Asks words asked → ⊥

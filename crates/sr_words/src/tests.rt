@@ -1,0 +1,76 @@
+use super::*;
+use hm_message::Codec;
+use std::alloc::{AllocError, Global};
+use std::test::Fail;
+
+const JSON: Codec = Codec::Json;
+
+const PACK: Codec = Codec::Pack;
+
+const NONE: Result<Asked, WordsError> = Err(WordsError::NotACommand);
+
+fn owned(alloc: Global, words: &[&str]) -> Result<Vec<String>, AllocError> {
+    let mut owned = Vec::new(alloc);
+    for word in words {
+        owned.push(String::from_str(alloc, word)?)?;
+    }
+    Ok(owned)
+}
+
+/// `--` ends the options, and what begins with `-` before it is an option (the argument syntax
+/// conventions of POSIX and GNU, as `clap` keeps them). No command has an option.
+#[test]
+fn words_ask(rt: HostRuntime) -> Result<(), Fail> {
+    let cases: [(&[&str], Result<Asked, WordsError>); 31] = [
+        (&["replay"], Ok(Asked::Replay)),
+        (&["replay", "--"], Ok(Asked::Replay)),
+        (&["replay", "x"], NONE),
+        (&["replay", ""], NONE),
+        (&["replay", "--", "x"], NONE),
+        (&["replay", "--help"], NONE),
+        (&["check", "json"], Ok(Asked::Check { codec: JSON })),
+        (&["check", "pack"], Ok(Asked::Check { codec: PACK })),
+        (&["check", "--", "json"], Ok(Asked::Check { codec: JSON })),
+        (&["check", "json", "--"], Ok(Asked::Check { codec: JSON })),
+        (&["check"], NONE),
+        (&["check", "--"], NONE),
+        (&["check", "json", "pack"], NONE),
+        (&["check", "xml"], NONE),
+        (&["check", "JSON"], NONE),
+        (&["check", ""], NONE),
+        (&["check", "--help"], NONE),
+        (&["check", "-h"], NONE),
+        (&["check", "--version"], NONE),
+        (&["check", "--codec", "json"], NONE),
+        (
+            &["convert", "json", "pack"],
+            Ok(Asked::Convert {
+                from: JSON,
+                to: PACK,
+            }),
+        ),
+        (
+            &["convert", "pack", "json"],
+            Ok(Asked::Convert {
+                from: PACK,
+                to: JSON,
+            }),
+        ),
+        (&["convert", "json", "json"], NONE),
+        (&["convert", "pack", "pack"], NONE),
+        (&["convert", "json"], NONE),
+        (&["convert"], NONE),
+        (&["convert", "json", "pack", "json"], NONE),
+        (&["help"], NONE),
+        (&[], NONE),
+        (&["Replay"], NONE),
+        (&["--", "replay"], NONE),
+    ];
+    for (words, wanted) in cases {
+        assert!(rt;
+            asked(rt.alloc(), &owned(rt.alloc(), words)?) == wanted,
+            "{words:?}"
+        );
+    }
+    Ok(())
+}
