@@ -1,32 +1,25 @@
 -- Frames as they are written one after the other, and fronts of them.
 use Rattle.std.proofs.Common.{◌≡◌, ◌≤◌, ℕ, List, [], ◌∷◌, ◌++◌, length, take, drop, refl, sym, ◌∙◌, ap, subst, arith, append_assoc, length-append, All}
-use Rattle.std.proofs.lemmas.List.{append_cancel_left, take-append-drop, drop-append-le, drop_at, append-nil}
-use Rattle.std.proofs.lemmas.List.Elements.{All-nil, All-cons, All-head, All-tail, All-drop}
+use Rattle.std.specs.Prelude.{map}
+use Rattle.std.proofs.lemmas.List.{append_cancel_left, take-append-drop, drop-append-le, drop_at, append-nil, length-map, drop-map}
+use Rattle.std.proofs.lemmas.List.Elements.{All-nil, All-cons, All-head, All-tail, All-drop, All-map, All-weaker}
 use Rattle.hf_split.specs.declared.framing.Framing.TheVariants.{Record}
 use Rattle.hf_split.specs.Cuts.{Spelled, AreFrames, IsFrame, BeginsWith, IsTooLong, always, wrapped, frames_of}
 use Rattle.hf_split.specs.Held.{Held, Stands}
 use Rattle.hf_split.proofs.Streams.{begins_once}
 use Rattle.hf_split.proofs.Beginnings.{too_long_begins_none, wrapped_begins}
-use Rattle.sr_app.specs.World.{written_of}
-use Rattle.sr_app.specs.Follows.{IsShort, IsFront, items_of}
-
--- a frame is spelled in one way
-pub is_wrapped : (item : Spelled) → IsFrame Record 32768 item → item ≡ wrapped Record item.frame
-is_wrapped item is = ap (λ (s : List ℕ). let x : Spelled = record { spelling = s; frame = item.frame } in x) is.spells.0
+use Rattle.hm_message.specs.declared.message.Message.{Message}
+use Rattle.hm_json.specs.Spell.{Spell}
+use Rattle.sr_app.specs.World.{request, written_of, client_frames}
+use Rattle.sr_app.specs.Follows.{IsShort, IsCarried, IsFront, items_of}
+use Rattle.sr_app.proofs.Short.{request_short}
 
 pub is_short : (frame : List ℕ) → IsFrame Record 32768 (wrapped Record frame) → IsShort frame
 is_short frame is = record { short = is.short; plain = is.spells.1 }
 
-pub is_frame : (frame : List ℕ) → IsShort frame → IsFrame Record 32768 (wrapped Record frame)
-is_frame frame is = record { short = is.short; spells = (refl, is.plain) }
-
 pub are_short : (frames : List (List ℕ)) → AreFrames (always Record) 32768 (items_of frames) → All IsShort frames
 are_short [] each = All-nil IsShort
 are_short (f ∷ frames) each = All-cons IsShort f frames (is_short f each.0) (are_short frames each.1)
-
-pub are_frames : (frames : List (List ℕ)) → All IsShort frames → AreFrames (always Record) 32768 (items_of frames)
-are_frames [] each = tt
-are_frames (f ∷ frames) each = (is_frame f (All-head IsShort f frames each), are_frames frames (All-tail IsShort f frames each))
 
 pub frames_of-items_of : (frames : List (List ℕ)) → frames_of (items_of frames) ≡ frames
 frames_of-items_of [] = refl
@@ -62,45 +55,70 @@ same_front (f ∷ frames) (g ∷ all) s each whole e =
     let both : f ∷ frames ≡ g ∷ take (length frames) all = ap (λ (x : List ℕ). x ∷ frames) same ∙ ap (λ (x : List (List ℕ)). g ∷ x) rest.0 in
     (both, rest.1)
 
--- what a reader holds of a front is a front
-pub held_front : (held : Held) (link : List ℕ) (n : ℕ) (frames : List (List ℕ)) → Stands (always Record) held (take n link) (items_of frames)
-    → All IsShort frames → IsFront link → IsFront held.bytes
-held_front held link n frames stands each front =
-    let whole : written_of frames ++ (held.bytes ++ (drop n link ++ front.more)) ≡ written_of front.all =
-    sym (append_assoc (written_of frames) held.bytes (drop n link ++ front.more)) ∙ ap (λ xs. xs ++ (drop n link ++ front.more)) (sym stands.whole)
+-- the frames of a client are short
+pub client_short : (messages : List Message) → All IsCarried messages → All IsShort (client_frames messages)
+client_short messages each =
+    All-cons IsShort request (map Spell messages) request_short
+    (All-map IsShort Spell messages (All-weaker IsCarried (λ m. IsShort (Spell m)) (λ m carried. carried.short) messages each))
+
+-- what a reader holds of a link, past the handshake, is a front of messages
+pub held_front : (held : Held) (link : List ℕ) (n : ℕ) (got : List Message) → Stands (always Record) held (take n link) (items_of (client_frames got))
+    → All IsShort (client_frames got) → IsFront (request ∷ []) link → IsFront [] held.bytes
+held_front held link n got stands each front =
+    let whole : written_of (client_frames got) ++ (held.bytes ++ (drop n link ++ front.more)) ≡ written_of (client_frames front.all) =
+    sym (append_assoc (written_of (client_frames got)) held.bytes (drop n link ++ front.more)) ∙ ap (λ xs. xs ++ (drop n link ++ front.more)) (sym stands.whole)
     ∙ sym (append_assoc (take n link) (drop n link) front.more) ∙ ap (λ xs. xs ++ front.more) (take-append-drop n link) ∙ front.whole in
-    let parts = same_front frames front.all (held.bytes ++ (drop n link ++ front.more)) each front.each whole in
-    record { all = drop (length frames) front.all; more = drop n link ++ front.more; each = All-drop IsShort (length frames) front.all front.each; whole = parts.1 }
+    let parts = same_front (client_frames got) (client_frames front.all) (held.bytes ++ (drop n link ++ front.more)) each (client_short front.all front.each) whole in
+    let rest : drop (length (map Spell got)) (map Spell front.all) ≡ map Spell (drop (length got) front.all) =
+    ap (λ (k : ℕ). drop k (map Spell front.all)) (length-map got Spell) ∙ drop-map Spell (length got) front.all in
+    record {
+      all = drop (length got) front.all;
+      more = drop n link ++ front.more;
+      each = All-drop IsCarried (length got) front.all front.each;
+      whole = parts.1 ∙ ap written_of rest;
+    }
 
 -- a front is never too long
-pub front_short : (bytes : List ℕ) → IsFront bytes → IsTooLong Record 32768 bytes → ⊥
+pub front_short : (bytes : List ℕ) → IsFront [] bytes → IsTooLong Record 32768 bytes → ⊥
 front_short bytes front long = by_all front.all front.each front.whole where
-  by_all : (all : List (List ℕ)) → All IsShort all → bytes ++ front.more ≡ written_of all → ⊥
+  by_all : (all : List Message) → All IsCarried all → bytes ++ front.more ≡ written_of (map Spell all) → ⊥
   by_all [] each whole = omega (arith, long.0, ap length whole, length-append bytes front.more)
-  by_all (f ∷ all) each whole =
-      let is : IsShort f = All-head IsShort f all each in
-      let begins : BeginsWith Record 32768 (bytes ++ front.more) (wrapped Record f) =
-      subst (λ (xs : List ℕ). BeginsWith Record 32768 xs (wrapped Record f)) (sym whole) (wrapped_begins Record 32768 f (written_of all) is.plain is.short) in
-      too_long_begins_none Record 32768 bytes front.more (wrapped Record f) long begins
+  by_all (m ∷ all) each whole =
+      let is : IsShort (Spell m) = (All-head IsCarried m all each).short in
+      let begins : BeginsWith Record 32768 (bytes ++ front.more) (wrapped Record (Spell m)) =
+      subst (λ (xs : List ℕ). BeginsWith Record 32768 xs (wrapped Record (Spell m))) (sym whole) (wrapped_begins Record 32768 (Spell m) (written_of (map Spell all)) is.plain is.short) in
+      too_long_begins_none Record 32768 bytes front.more (wrapped Record (Spell m)) long begins
 
--- past a frame the front goes on
-pub front_past : (bytes : List ℕ) (item : Spelled) → IsFront bytes → BeginsWith Record 32768 bytes item → IsFront (drop (length item.spelling) bytes)
-front_past bytes item front begins = by_all front.all front.each front.whole where
+-- the first frame of a front is that of a message, and past it the front goes on
+pub record FrontFirst (bytes : List ℕ) (item : Spelled) : Type 0 where
+  pub message : Message
+  pub carried : IsCarried message
+  pub is : item ≡ wrapped Record (Spell message)
+  pub rest : IsFront [] (drop (length item.spelling) bytes)
+
+pub front_first : (bytes : List ℕ) (item : Spelled) → IsFront [] bytes → BeginsWith Record 32768 bytes item → FrontFirst bytes item
+front_first bytes item front begins = by_all front.all front.each front.whole where
   size : length item.spelling ≤ length bytes
   size = omega (arith, ap length begins.front, length-append item.spelling (drop (length item.spelling) bytes))
 
-  by_all : (all : List (List ℕ)) → All IsShort all → bytes ++ front.more ≡ written_of all → IsFront (drop (length item.spelling) bytes)
+  by_all : (all : List Message) → All IsCarried all → bytes ++ front.more ≡ written_of (map Spell all) → FrontFirst bytes item
   by_all [] each whole = absurd (omega (arith, ap length whole, length-append bytes front.more, size, ap length begins.is_frame.spells.0, length-append item.frame (30 ∷ [])))
-  by_all (f ∷ all) each whole =
-      let is : IsShort f = All-head IsShort f all each in
-      let other : BeginsWith Record 32768 (bytes ++ front.more) (wrapped Record f) =
-      subst (λ (xs : List ℕ). BeginsWith Record 32768 xs (wrapped Record f)) (sym whole) (wrapped_begins Record 32768 f (written_of all) is.plain is.short) in
-      let same : item ≡ wrapped Record f = begins_once Record 32768 bytes front.more item (wrapped Record f) begins other in
-      let sizes : length ((wrapped Record f).spelling) ≡ length item.spelling = ap (λ (s : Spelled). length s.spelling) (sym same) in
+  by_all (m ∷ all) each whole =
+      let carried : IsCarried m = All-head IsCarried m all each in
+      let other : BeginsWith Record 32768 (bytes ++ front.more) (wrapped Record (Spell m)) =
+      subst (λ (xs : List ℕ). BeginsWith Record 32768 xs (wrapped Record (Spell m))) (sym whole)
+      (wrapped_begins Record 32768 (Spell m) (written_of (map Spell all)) carried.short.plain carried.short.short) in
+      let same : item ≡ wrapped Record (Spell m) = begins_once Record 32768 bytes front.more item (wrapped Record (Spell m)) begins other in
+      let sizes : length ((wrapped Record (Spell m)).spelling) ≡ length item.spelling = ap (λ (s : Spelled). length s.spelling) (sym same) in
       record {
-        all = all;
-        more = front.more;
-        each = All-tail IsShort f all each;
-        whole = sym (drop-append-le (length item.spelling) bytes front.more size) ∙ ap (λ xs. drop (length item.spelling) xs) whole
-            ∙ drop_at ((wrapped Record f).spelling) (written_of all) (length item.spelling) sizes;
+        message = m;
+        carried = carried;
+        is = same;
+        rest = record {
+          all = all;
+          more = front.more;
+          each = All-tail IsCarried m all each;
+          whole = sym (drop-append-le (length item.spelling) bytes front.more size) ∙ ap (λ xs. drop (length item.spelling) xs) whole
+              ∙ drop_at ((wrapped Record (Spell m)).spelling) (written_of (map Spell all)) (length item.spelling) sizes;
+        };
       }

@@ -5,7 +5,7 @@ use Rattle.std.specs.Fmt.{decimal}
 use Rattle.std.specs.Int.{IsInRange}
 use Rattle.std.proofs.lemmas.Fmt.{decimal_injective, decimal_is_IsNumeral, decimal_nonempty}
 use Rattle.std.proofs.lemmas.Str.Parse.{digit_at}
-use Rattle.std.proofs.lemmas.List.{append_cancel_left, append-nil}
+use Rattle.std.proofs.lemmas.List.{append_cancel_left, append_cancel_right, append-nil}
 use Rattle.std.proofs.lemmas.List.Elements.{All-head, All-tail}
 use Rattle.std.proofs.lemmas.List.Sums.{sum_by-append}
 use Rattle.sr_app.specs.declared.command.Command.{Command}
@@ -13,7 +13,7 @@ use Rattle.sr_app.specs.declared.command.Command.TheVariants.{Send, Write, Read}
 use Rattle.sr_app.specs.declared.command.Count.{Count}
 use Rattle.sr_app.specs.declared.command.Count.TheVariants.{UpTo, Everything}
 use Rattle.sr_app.specs.declared.script.Reader.{Reader}
-use Rattle.sr_app.specs.Script.{opening, IsCommand, IsCount, IsScript, count_text, line_of, is_send}
+use Rattle.sr_app.specs.Script.{opening, IsCommand, IsCount, IsScript, before_target, after_target, message_text, count_text, line_of, is_send}
 use Rattle.sr_app.specs.Refusal.{BeginsScript}
 use Rattle.sr_app.specs.Reading.{HasRead, IsNoLine}
 
@@ -30,13 +30,17 @@ same_count (UpTo n) Everything p q e = absurd (no_star n p e)
 same_count Everything (UpTo m) p q e = absurd (no_star m q (sym e))
 same_count Everything Everything p q e = refl
 
+-- a message's text has one target
+pub same_target : (a b : List ℕ) → message_text a ≡ message_text b → a ≡ b
+same_target a b e = append_cancel_right a b after_target (append_cancel_left before_target (a ++ after_target) (b ++ after_target) e)
+
 -- the third byte of two lines that are one
 third : (f g : List ℕ) (x y : ℕ) → f ≡ g → get_or f 2 0 ≡ x → get_or g 2 0 ≡ y → x ≡ y
 third f g x y e p q = sym p ∙ ap (λ (xs : List ℕ). get_or xs 2 0) e ∙ q
 
 -- a line is that of one command
 pub same_command : (a b : Command) → IsCommand a → IsCommand b → line_of a ≡ line_of b → a ≡ b
-same_command (Send m) (Send n) p q e = ap (λ (xs : List ℕ). Send xs) (append_cancel_left (99 ∷ 32 ∷ 115 ∷ 101 ∷ 110 ∷ 100 ∷ 32 ∷ []) m n e)
+same_command (Send m) (Send n) p q e = ap (λ (xs : List ℕ). Send xs) (same_target m n (append_cancel_left (99 ∷ 32 ∷ 115 ∷ 101 ∷ 110 ∷ 100 ∷ 32 ∷ []) (message_text m) (message_text n) e))
 same_command (Send m) Write p q e = absurd (let h : 115 ≡ 119 = third (line_of (Send m)) (line_of Write) 115 119 e refl refl in omega arith)
 same_command (Send m) (Read n) p q e = absurd (let h : 115 ≡ 114 = third (line_of (Send m)) (line_of (Read n)) 115 114 e refl refl in omega arith)
 same_command Write (Send m) p q e = absurd (let h : 119 ≡ 115 = third (line_of Write) (line_of (Send m)) 119 115 e refl refl in omega arith)

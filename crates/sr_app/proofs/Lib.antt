@@ -7,4 +7,6 @@ pub mod Moving
 pub mod Opening
 pub mod Parsing
 pub mod Replaying
+pub mod Short
+pub mod Spelling
 pub mod Texts

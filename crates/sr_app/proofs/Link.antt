@@ -1,28 +1,33 @@
 -- A link that is read piece by piece.
 use Rattle.std.proofs.Common.{◌≡◌, ◌<◌, ◌≤◌, ◌+◌, ◌-◌, ◌^◌, ℕ, suc, min, List, [], ◌∷◌, ◌++◌, length, take, drop, refl, sym, ◌∙◌, ap, subst, arith, append_assoc, length-append, length-take, length-drop, All}
-use Rattle.std.proofs.lemmas.List.{append-nil, take-append-drop, take_all, drop-take, take-take, map-append}
+use Rattle.std.proofs.lemmas.List.{append-nil, take-append-drop, take_all, drop-take, take-take, map-append, length-map}
+use Rattle.std.proofs.lemmas.List.Elements.{All-nil, All-push, All-append}
 use Rattle.hf_split.specs.declared.framing.Framing.{Framing}
 use Rattle.hf_split.specs.declared.framing.Framing.TheVariants.{Record}
 use Rattle.hf_split.specs.Cuts.{Spelled, AreFrames, BeginsWith, IsTooLong, IsWaiting, always, wrapped}
 use Rattle.hf_split.specs.Held.{Held, Stands, IsInStep, fed, past}
-use Rattle.sr_app.specs.World.{request, written_of}
+use Rattle.hm_message.specs.declared.message.Message.{Message}
+use Rattle.hm_json.specs.Says.{Says}
+use Rattle.hm_json.specs.Spell.{Spell}
+use Rattle.sr_app.specs.World.{request, written_of, client_frames}
 use Rattle.sr_app.specs.Report.{got_line, got_lines}
-use Rattle.sr_app.specs.Follows.{IsShort, IsFront, IsReader, IsReading, Waits, Takes, items_of}
-use Rattle.sr_app.proofs.Frames.{is_wrapped, are_short, held_front, front_short, front_past}
+use Rattle.sr_app.specs.Follows.{IsShort, IsCarried, IsFront, IsReader, IsReading, Waits, Takes, items_of}
+use Rattle.sr_app.proofs.Frames.{FrontFirst, are_short, held_front, front_short, front_first}
 
 -- further messages were taken and reported, so that there are this many in all
-pub record Goes (held : Held) (stream : List ℕ) (got : List (List ℕ)) (before now : List ℕ) (total : ℕ) : Type 0 where
-  pub new : List (List ℕ)
-  pub stands : Stands (always Record) held stream (items_of (request ∷ (got ++ new)))
+pub record Goes (held : Held) (stream : List ℕ) (got : List Message) (before now : List ℕ) (total : ℕ) : Type 0 where
+  pub new : List Message
+  pub each : All IsCarried new
+  pub stands : Stands (always Record) held stream (items_of (client_frames (got ++ new)))
   pub text : now ≡ before ++ got_lines (length got) new
   pub count : total ≡ length got + length new
 
 -- messages are being taken
 pub record Taking (first held : Held) (processed total : ℕ) (before now : List ℕ) : Type 0 where
   pub reader : IsReader held
-  pub front : IsFront held.bytes
+  pub front : IsFront [] held.bytes
   pub few : total + length held.bytes < 2 ^ 64
-  pub goes : (stream : List ℕ) (got : List (List ℕ)) → Stands (always Record) first stream (items_of (request ∷ got)) → processed ≡ length got
+  pub goes : (stream : List ℕ) (got : List Message) → Stands (always Record) first stream (items_of (client_frames got)) → processed ≡ length got
       → Goes held stream got before now total
 
 -- what is said of a reader's framing and limit
@@ -64,59 +69,72 @@ pub few_frames : (held : Held) (stream : List ℕ) (frames : List (List ℕ)) �
 few_frames held stream frames stands = omega (arith, count_frames frames, ap length stands.whole, length-append (written_of frames) held.bytes)
 
 -- a reader begins to take messages
-pub taking_first : (held : Held) (processed : ℕ) (before : List ℕ) → IsReader held → IsFront held.bytes → processed + length held.bytes < 2 ^ 64 → Taking held held processed processed before before
+pub taking_first : (held : Held) (processed : ℕ) (before : List ℕ) → IsReader held → IsFront [] held.bytes → processed + length held.bytes < 2 ^ 64 → Taking held held processed processed before before
 taking_first held processed before reader front few = record {
   reader = reader;
   front = front;
   few = few;
   goes = λ stream got stands count. record {
     new = [];
-    stands = subst (λ (fs : List (List ℕ)). Stands (always Record) held stream (items_of (request ∷ fs))) (sym (append-nil got)) stands;
+    each = All-nil IsCarried;
+    stands = subst (λ (ms : List Message). Stands (always Record) held stream (items_of (client_frames ms))) (sym (append-nil got)) stands;
     text = sym (append-nil before);
     count = omega (arith, count);
   };
 }
 
-pub got_lines-append : (n k : ℕ) (new more : List (List ℕ)) → k ≡ n + length new → got_lines n (new ++ more) ≡ got_lines n new ++ got_lines k more
+pub got_lines-append : (n k : ℕ) (new more : List Message) → k ≡ n + length new → got_lines n (new ++ more) ≡ got_lines n new ++ got_lines k more
 got_lines-append n k [] more e = let same : n ≡ k = omega arith in ap (λ (i : ℕ). got_lines i more) same
-got_lines-append n k (f ∷ new) more e =
+got_lines-append n k (m ∷ new) more e =
     let next : k ≡ suc n + length new = omega arith in
-    ap (λ xs. got_line (suc n) f ++ xs) (got_lines-append (suc n) k new more next) ∙ sym (append_assoc (got_line (suc n) f) (got_lines (suc n) new) (got_lines k more))
+    ap (λ xs. got_line (suc n) m ++ xs) (got_lines-append (suc n) k new more next) ∙ sym (append_assoc (got_line (suc n) m) (got_lines (suc n) new) (got_lines k more))
 
 -- one more frame is spelled behind those before it
-items_more : (got new : List (List ℕ)) (item : Spelled) → item ≡ wrapped Record item.frame
-    → items_of (request ∷ (got ++ new)) ++ item ∷ [] ≡ items_of (request ∷ (got ++ (new ++ item.frame ∷ [])))
-items_more got new item is =
-    ap (λ (x : Spelled). items_of (request ∷ (got ++ new)) ++ x ∷ []) is ∙ sym (map-append (wrapped Record) (request ∷ (got ++ new)) (item.frame ∷ []))
-    ∙ ap (λ (fs : List (List ℕ)). items_of (request ∷ fs)) (append_assoc got new (item.frame ∷ []))
+items_more : (got new : List Message) (item : Spelled) (message : Message) → item ≡ wrapped Record (Spell message)
+    → items_of (client_frames (got ++ new)) ++ item ∷ [] ≡ items_of (client_frames (got ++ (new ++ message ∷ [])))
+items_more got new item message is =
+    ap (λ (x : Spelled). items_of (client_frames (got ++ new)) ++ x ∷ []) is
+    ∙ sym (map-append (wrapped Record) (client_frames (got ++ new)) (Spell message ∷ []))
+    ∙ ap (λ (fs : List (List ℕ)). items_of (request ∷ fs)) (sym (map-append Spell (got ++ new) (message ∷ [])))
+    ∙ ap (λ (ms : List Message). items_of (client_frames ms)) (append_assoc got new (message ∷ []))
 
-goes_next : (held next : Held) (stream : List ℕ) (got : List (List ℕ)) (before now now' : List ℕ) (total : ℕ) (item : Spelled) → item ≡ wrapped Record item.frame
-    → now' ≡ now ++ got_line (total + 1) item.frame
+goes_next : (held next : Held) (stream : List ℕ) (got : List Message) (before now now' : List ℕ) (total : ℕ) (item : Spelled) (message : Message) → IsCarried message
+    → item ≡ wrapped Record (Spell message) → now' ≡ now ++ got_line (total + 1) message
     → ((passed : List Spelled) → Stands (always Record) held stream passed → Stands (always Record) next stream (passed ++ item ∷ []))
     → Goes held stream got before now total → Goes next stream got before now' (total + 1)
-goes_next held next stream got before now now' total item is text stands goes =
+goes_next held next stream got before now now' total item message carried is text stands goes =
     let number : total + 1 ≡ suc (length got + length goes.new) = omega (arith, goes.count) in
     record {
-      new = goes.new ++ item.frame ∷ [];
-      stands = subst (λ (items : List Spelled). Stands (always Record) next stream items) (items_more got goes.new item is) (stands (items_of (request ∷ (got ++ goes.new))) goes.stands);
-      text = text ∙ ap (λ xs. xs ++ got_line (total + 1) item.frame) goes.text ∙ append_assoc before (got_lines (length got) goes.new) (got_line (total + 1) item.frame)
-          ∙ ap (λ xs. before ++ (got_lines (length got) goes.new ++ xs)) (ap (λ (n : ℕ). got_line n item.frame) number ∙ sym (append-nil (got_line (suc (length got + length goes.new)) item.frame)))
-          ∙ ap (λ xs. before ++ xs) (sym (got_lines-append (length got) (length got + length goes.new) goes.new (item.frame ∷ []) refl));
-      count = omega (arith, goes.count, length-append goes.new (item.frame ∷ []));
+      new = goes.new ++ message ∷ [];
+      each = All-push IsCarried goes.new message goes.each carried;
+      stands = subst (λ (items : List Spelled). Stands (always Record) next stream items) (items_more got goes.new item message is) (stands (items_of (client_frames (got ++ goes.new))) goes.stands);
+      text = text ∙ ap (λ xs. xs ++ got_line (total + 1) message) goes.text ∙ append_assoc before (got_lines (length got) goes.new) (got_line (total + 1) message)
+          ∙ ap (λ xs. before ++ (got_lines (length got) goes.new ++ xs)) (ap (λ (n : ℕ). got_line n message) number ∙ sym (append-nil (got_line (suc (length got + length goes.new)) message)))
+          ∙ ap (λ xs. before ++ xs) (sym (got_lines-append (length got) (length got + length goes.new) goes.new (message ∷ []) refl));
+      count = omega (arith, goes.count, length-append goes.new (message ∷ []));
     }
+
+-- the frame that comes next is that of a message
+pub taking_frame : (first held : Held) (processed total : ℕ) (before now : List ℕ) (item : Spelled) → Taking first held processed total before now
+    → BeginsWith held.framing held.most held.bytes item → FrontFirst held.bytes item
+taking_frame first held processed total before now item t begins =
+    front_first held.bytes item t.front (with_reader (λ f m. BeginsWith f m held.bytes item) held t.reader begins)
+
+-- which it says
+pub frame_says : (bytes : List ℕ) (item : Spelled) → (f : FrontFirst bytes item) → Says item.frame f.message
+frame_says bytes item f = subst (λ (x : Spelled). Says x.frame f.message) (sym f.is) f.carried.said
 
 -- a message is taken
 pub taking_next : (first held next : Held) (processed total : ℕ) (before now now' : List ℕ) (item : Spelled) → Taking first held processed total before now
-    → BeginsWith held.framing held.most held.bytes item → now' ≡ now ++ got_line (total + 1) item.frame → next ≡ past held item
+    → BeginsWith held.framing held.most held.bytes item → (f : FrontFirst held.bytes item) → now' ≡ now ++ got_line (total + 1) f.message → next ≡ past held item
     → ((stream : List ℕ) (passed : List Spelled) → Stands (always Record) held stream passed → IsInStep (always Record) held passed → Stands (always Record) next stream (passed ++ item ∷ []))
     → Taking first next processed (total + 1) before now'
-taking_next first held next processed total before now now' item t begins text is stands =
+taking_next first held next processed total before now now' item t begins f text is stands =
     let begins' : BeginsWith Record 32768 held.bytes item = with_reader (λ f m. BeginsWith f m held.bytes item) held t.reader begins in
-    let wrap : item ≡ wrapped Record item.frame = is_wrapped item begins'.is_frame in
     let bytes : next.bytes ≡ drop (length item.spelling) held.bytes = ap (λ (h : Held). h.bytes) is in
     record {
       reader = record { framing = ap (λ (h : Held). h.framing) is ∙ t.reader.framing; most = ap (λ (h : Held). h.most) is ∙ t.reader.most };
-      front = subst IsFront (sym bytes) (front_past held.bytes item t.front begins');
+      front = subst (IsFront []) (sym bytes) f.rest;
       few = omega (
         arith,
         t.few,
@@ -127,7 +145,7 @@ taking_next first held next processed total before now now' item t begins text i
         ap length begins'.is_frame.spells.0,
         length-append item.frame (30 ∷ []),
       );
-      goes = λ stream got s count. goes_next held next stream got before now now' total item wrap text
+      goes = λ stream got s count. goes_next held next stream got before now now' total item f.message f.carried f.is text
           (λ passed p. stands stream passed p (in_step held passed t.reader)) (t.goes stream got s count);
     }
 
@@ -158,15 +176,15 @@ taking_not_long first held processed total before now t long = front_short held.
 -- no whole frame is left
 pub takes_all : (first held : Held) (processed total : ℕ) (before now : List ℕ) → Taking first held processed total before now
     → IsWaiting held.framing held.most held.bytes → length held.bytes < held.most + 5
-    → (stream : List ℕ) (got : List (List ℕ)) → Stands (always Record) first stream (items_of (request ∷ got)) → processed ≡ length got → Takes held stream got before now total
+    → (stream : List ℕ) (got : List Message) → Stands (always Record) first stream (items_of (client_frames got)) → processed ≡ length got → Takes held stream got before now total
 takes_all first held processed total before now t waiting room stream got stands count =
     let goes = t.goes stream got stands count in
-    record { new = goes.new; waits = waits_by held stream (request ∷ (got ++ goes.new)) t.reader goes.stands waiting room; text = goes.text; count = goes.count }
+    record { new = goes.new; each = goes.each; waits = waits_by held stream (client_frames (got ++ goes.new)) t.reader goes.stands waiting room; text = goes.text; count = goes.count }
 
 -- a link is being read: so far up to `at`
 pub record IsReadUpTo (first held : Held) (link : List ℕ) (from at processed total : ℕ) (before now : List ℕ) : Type 0 where
   pub reading : IsReading held link at total
-  pub takes : (got : List (List ℕ)) → Waits first (take from link) (request ∷ got) → processed ≡ length got → Takes held (take at link) got before now total
+  pub takes : (got : List Message) → Waits first (take from link) (client_frames got) → processed ≡ length got → Takes held (take at link) got before now total
 
 pub read_first : (held : Held) (link : List ℕ) (from processed : ℕ) (before : List ℕ) → IsReading held link from processed
     → IsReadUpTo held held link from from processed processed before before
@@ -174,7 +192,8 @@ read_first held link from processed before reading = record {
   reading = reading;
   takes = λ got waits count. record {
     new = [];
-    waits = subst (λ (fs : List (List ℕ)). Waits held (take from link) (request ∷ fs)) (sym (append-nil got)) waits;
+    each = All-nil IsCarried;
+    waits = subst (λ (ms : List Message). Waits held (take from link) (client_frames ms)) (sym (append-nil got)) waits;
     text = sym (append-nil before);
     count = omega (arith, count);
   };
@@ -199,22 +218,23 @@ fed_stands : (held fed : Held) (link : List ℕ) (at n : ℕ) (frames : List (Li
 fed_stands held fed link at n frames is stands =
     subst (λ (xs : List ℕ). Stands (always Record) fed xs (items_of frames)) (take_piece at n link) (is.stands (take at link) (items_of frames) stands)
 
-pub fed_front : (held fed : Held) (link : List ℕ) (at n total : ℕ) → IsFed held fed link at n → IsReading held link at total → IsFront fed.bytes
+pub fed_front : (held fed : Held) (link : List ℕ) (at n total : ℕ) → IsFed held fed link at n → IsReading held link at total → IsFront [] fed.bytes
 fed_front held fed link at n total is reading =
-    let stands = fed_stands held fed link at n (request ∷ reading.got) is reading.waits.stands in
-    held_front fed link (at + n) (request ∷ reading.got) stands (stands_short fed (take (at + n) link) (request ∷ reading.got) is.reader stands) reading.front
+    let stands = fed_stands held fed link at n (client_frames reading.got) is reading.waits.stands in
+    held_front fed link (at + n) reading.got stands (stands_short fed (take (at + n) link) (client_frames reading.got) is.reader stands) reading.front
 
 pub fed_few : (held fed : Held) (link : List ℕ) (at n total : ℕ) → IsFed held fed link at n → IsReading held link at total → length link < 2 ^ 64 → total + length fed.bytes < 2 ^ 64
 fed_few held fed link at n total is reading small =
-    let stands = fed_stands held fed link at n (request ∷ reading.got) is reading.waits.stands in
-    omega (arith, few_frames fed (take (at + n) link) (request ∷ reading.got) stands, reading.count, length-take (at + n) link)
+    let stands = fed_stands held fed link at n (client_frames reading.got) is reading.waits.stands in
+    omega (arith, few_frames fed (take (at + n) link) (client_frames reading.got) stands, reading.count, length-map reading.got Spell, length-take (at + n) link)
 
 -- taken in two turns
-takes_more : (held next : Held) (stream stream' : List ℕ) (got : List (List ℕ)) (before now now' : List ℕ) (total total' : ℕ)
+takes_more : (held next : Held) (stream stream' : List ℕ) (got : List Message) (before now now' : List ℕ) (total total' : ℕ)
     → (t : Takes held stream got before now total) → Takes next stream' (got ++ t.new) now now' total' → Takes next stream' got before now' total'
 takes_more held next stream stream' got before now now' total total' t more = record {
   new = t.new ++ more.new;
-  waits = subst (λ (fs : List (List ℕ)). Waits next stream' (request ∷ fs)) (append_assoc got t.new more.new) more.waits;
+  each = All-append IsCarried t.new more.new t.each more.each;
+  waits = subst (λ (ms : List Message). Waits next stream' (client_frames ms)) (append_assoc got t.new more.new) more.waits;
   text = more.text ∙ ap (λ xs. xs ++ got_lines (length (got ++ t.new)) more.new) t.text
       ∙ append_assoc before (got_lines (length got) t.new) (got_lines (length (got ++ t.new)) more.new)
       ∙ ap (λ xs. before ++ xs) (sym (got_lines-append (length got) (length (got ++ t.new)) t.new more.new (length-append got t.new)));
@@ -224,17 +244,18 @@ takes_more held next stream stream' got before now now' total total' t more = re
 -- one turn: a piece is fed, and messages are taken
 pub read_next : (first held fed next : Held) (link : List ℕ) (from at n processed total total' : ℕ) (before now now' : List ℕ)
     → IsReadUpTo first held link from at processed total before now → IsFed held fed link at n
-    → ((stream : List ℕ) (got : List (List ℕ)) → Stands (always Record) fed stream (items_of (request ∷ got)) → total ≡ length got → Takes next stream got now now' total')
+    → ((stream : List ℕ) (got : List Message) → Stands (always Record) fed stream (items_of (client_frames got)) → total ≡ length got → Takes next stream got now now' total')
     → IsReadUpTo first next link from (at + n) processed total' before now'
 read_next first held fed next link from at n processed total total' before now now' read is takes =
     let reading = read.reading in
     let size : length (drop at link) ≡ length link - at = length-drop at link in
     let t : Takes next (take (at + n) link) reading.got now now' total' =
-    takes (take (at + n) link) reading.got (fed_stands held fed link at n (request ∷ reading.got) is reading.waits.stands) reading.count in
+    takes (take (at + n) link) reading.got (fed_stands held fed link at n (client_frames reading.got) is reading.waits.stands) reading.count in
     record {
       reading = record {
         got = reading.got ++ t.new;
         waits = t.waits;
+        each = All-append IsCarried reading.got t.new reading.each t.each;
         count = t.count ∙ sym (length-append reading.got t.new);
         inside = omega (arith, is.inside, size, reading.inside);
         front = reading.front;
@@ -243,13 +264,13 @@ read_next first held fed next link from at n processed total total' before now n
           (let before_it : Takes held (take at link) got before now total = read.takes got waits count in
           takes_more held next (take at link) (take (at + n) link) got before now now' total total' before_it
           (takes (take (at + n) link) (got ++ before_it.new)
-          (fed_stands held fed link at n (request ∷ (got ++ before_it.new)) is before_it.waits.stands)
+          (fed_stands held fed link at n (client_frames (got ++ before_it.new)) is before_it.waits.stands)
           (before_it.count ∙ sym (length-append got before_it.new))));
     }
 
 -- the whole link was read
 pub read_whole : (first held : Held) (link : List ℕ) (from at processed total : ℕ) (before now : List ℕ) → IsReadUpTo first held link from at processed total before now
-    → length link ≤ at → (got : List (List ℕ)) → Waits first (take from link) (request ∷ got) → processed ≡ length got → Takes held link got before now total
+    → length link ≤ at → (got : List Message) → Waits first (take from link) (client_frames got) → processed ≡ length got → Takes held link got before now total
 read_whole first held link from at processed total before now read past got waits count =
     subst (λ (xs : List ℕ). Takes held xs got before now total) (take_all at link past) (read.takes got waits count)
 

@@ -1,62 +1,15 @@
--- The handshakes, each of which is read whole, and the messages of a script, which are frames too.
-use Rattle.std.proofs.Common.{◌≡◌, ◌≢◌, ◌≤◌, ◌+◌, ℕ, Bool, true, false, cond, nat_eq, List, [], ◌∷◌, ◌++◌, length, take, drop, refl, sym, ◌∙◌, ap, subst, arith, length-append, All}
-use Rattle.std.specs.List.{AllByRecursion}
+-- The handshakes, each of which is read whole.
+use Rattle.std.proofs.Common.{◌≡◌, ◌+◌, ℕ, List, [], ◌∷◌, ◌++◌, length, take, drop, sym, ◌∙◌, ap, subst, arith, length-append}
 use Rattle.std.proofs.lemmas.List.{append-nil, take_all, drop_all}
-use Rattle.std.proofs.lemmas.List.Elements.{All-append, All-weaker, All-from_recursion}
 use Rattle.hf_split.specs.declared.framing.Framing.{Framing}
 use Rattle.hf_split.specs.declared.framing.Framing.TheVariants.{Record}
-use Rattle.hf_split.specs.Cuts.{Spelled, IsPlain, BeginsWith, IsTooLong, IsWaiting, always, wrapped}
+use Rattle.hf_split.specs.Cuts.{Spelled, BeginsWith, IsTooLong, IsWaiting, always, wrapped}
 use Rattle.hf_split.specs.Held.{Held, Stands, IsInStep, fresh, taken, fed, past}
 use Rattle.hf_split.proofs.Streams.{begins_once}
 use Rattle.hf_split.proofs.Beginnings.{too_long_begins_none, wrapped_begins}
-use Rattle.sr_app.specs.Script.{IsLetter, IsMessage, before_target, after_target}
-use Rattle.sr_app.specs.World.{request, response, written_of}
+use Rattle.sr_app.specs.World.{written_of}
 use Rattle.sr_app.specs.Follows.{IsShort, IsReader, Waits, items_of}
 use Rattle.sr_app.proofs.Link.{waits_by}
-
--- a test that no byte is the separator
-no_mark : List ℕ → Bool
-no_mark [] = true
-no_mark (b ∷ bytes) = cond (nat_eq b 30) false (no_mark bytes)
-
-neither : (t r : Bool) → cond t false r ≡ true → (t ≡ false) × (r ≡ true)
-neither true r e = cc
-neither false r e = (refl, e)
-
-no_mark_by : (bytes : List ℕ) → no_mark bytes ≡ true → AllByRecursion (λ b. b ≢ 30) bytes
-unfolding no_mark
-no_mark_by [] e = tt
-no_mark_by (b ∷ bytes) e =
-    let parts = neither (nat_eq b 30) (no_mark bytes) e in
-    (λ same. (let h : nat_eq 30 30 ≡ false = subst (λ (x : ℕ). nat_eq x 30 ≡ false) same parts.0 in cc), no_mark_by bytes parts.1)
-
-plain_by : (bytes : List ℕ) → no_mark bytes ≡ true → IsPlain bytes
-plain_by bytes e = All-from_recursion (λ b. b ≢ 30) bytes (no_mark_by bytes e)
-
-pub request_short : IsShort request
-unfolding no_mark
-request_short = record { short = omega arith; plain = plain_by request refl }
-
-pub response_short : IsShort response
-unfolding no_mark
-response_short = record { short = omega arith; plain = plain_by response refl }
-
-letters_plain : (target : List ℕ) → All IsLetter target → IsPlain target
-letters_plain target letters = All-weaker IsLetter (λ b. b ≢ 30) (λ b letter same. omega (arith, letter.0)) target letters
-
--- a message of a script is a frame
-pub message_short : (message : List ℕ) → IsMessage message → IsShort message
-unfolding no_mark
-message_short message is =
-    let size : length message ≡ length before_target + (length is.target + length after_target) =
-    ap length is.spelled ∙ length-append before_target (is.target ++ after_target) ∙ ap (λ (n : ℕ). length before_target + n) (length-append is.target after_target) in
-    let short : length is.target ≤ 59 = is.is_target.short in
-    record {
-      short = omega (arith, size);
-      plain = subst IsPlain (sym is.spelled)
-          (All-append (λ b. b ≢ 30) before_target (is.target ++ after_target) (plain_by before_target refl)
-          (All-append (λ b. b ≢ 30) is.target after_target (letters_plain is.target is.is_target.letters) (plain_by after_target refl)));
-    }
 
 -- a reader that holds these bytes, which are all that it was fed
 pub holding : List ℕ → Held

@@ -1,7 +1,8 @@
 -- A script that is replayed command by command, and its one report.
-use Rattle.std.proofs.Common.{◌≡◌, ◌≤◌, ◌+◌, ℕ, List, [], ◌∷◌, ◌++◌, length, take, drop, refl, sym, ◌∙◌, ap, subst, arith, append_assoc, length-append}
-use Rattle.std.proofs.lemmas.List.{append-nil, append_cancel_left, take-append-drop}
-use Rattle.std.proofs.lemmas.List.Elements.{All-cons}
+use Rattle.std.proofs.Common.{◌≡◌, ◌≤◌, ◌+◌, ℕ, List, [], ◌∷◌, ◌++◌, length, take, drop, refl, sym, ◌∙◌, ap, subst, arith, append_assoc, length-append, get_or, All}
+use Rattle.std.specs.Prelude.{map}
+use Rattle.std.proofs.lemmas.List.{append-nil, append_cancel_left, take-append-drop, take-map, length-map}
+use Rattle.std.proofs.lemmas.List.Elements.{All-head, All-tail, All-take, All-weaker}
 use Rattle.hf_split.specs.declared.framing.Framing.TheVariants.{Record}
 use Rattle.hf_split.specs.Cuts.{always, frames_of}
 use Rattle.hf_split.proofs.Streams.{one_cutting}
@@ -9,50 +10,73 @@ use Rattle.sr_app.specs.declared.command.Command.{Command}
 use Rattle.sr_app.specs.declared.command.Command.TheVariants.{Send, Write, Read}
 use Rattle.sr_app.specs.declared.pair.Pair.{Pair}
 use Rattle.sr_app.specs.Unique.{IsTheOne}
-use Rattle.sr_app.specs.World.{World, request, written_of, opened, after, after_all, world_of, sent_by}
-use Rattle.sr_app.specs.Report.{shaken_lines, command_line, got_lines, client_line, server_line, Carries, Reports, IsReport, IsDelivered, IsReportOf}
-use Rattle.sr_app.specs.Follows.{IsShort, Follows, Moves, IsRunning, items_of}
-use Rattle.sr_app.proofs.Opening.{request_short}
-use Rattle.sr_app.proofs.Frames.{frames_of-items_of, same_front}
+use Rattle.hm_message.specs.declared.message.Message.{Message}
+use Rattle.hm_json.specs.Says.{Says}
+use Rattle.hm_json.specs.Spell.{Spell}
+use Rattle.hm_json.proofs.Meanings.{one_meaning}
+use Rattle.sr_app.specs.World.{World, written_of, client_frames, invocation, opened, after, after_all, world_of, sent_by}
+use Rattle.sr_app.specs.Report.{shaken_lines, command_line, got_lines, client_line, server_line, IsSaid, Carries, Reports, IsReport, IsDelivered, IsReportOf}
+use Rattle.sr_app.specs.Follows.{IsCarried, Follows, Moves, IsRunning, items_of}
+use Rattle.sr_app.proofs.Frames.{frames_of-items_of, same_front, client_short}
 use Rattle.sr_app.proofs.Link.{stands_short}
 
+are_said : (messages : List Message) → All IsCarried messages → All IsSaid messages
+are_said messages each = All-weaker IsCarried IsSaid (λ m carried. carried.said) messages each
+
+-- messages that their frames say are told apart by these
+same_messages : (messages others : List Message) → All IsSaid messages → All IsSaid others → map Spell messages ≡ map Spell others → messages ≡ others
+same_messages [] [] said said' e = refl
+same_messages [] (n ∷ others) said said' e = absurd (omega (arith, ap length e))
+same_messages (m ∷ messages) [] said said' e = absurd (omega (arith, ap length e))
+same_messages (m ∷ messages) (n ∷ others) said said' e =
+    let frame : Spell m ≡ Spell n = ap (λ (fs : List (List ℕ)). get_or fs 0 []) e in
+    let frames : map Spell messages ≡ map Spell others = ap (λ (fs : List (List ℕ)). drop 1 fs) e in
+    let first : m ≡ n =
+    (one_meaning (Spell m)).one_message m n (All-head IsSaid m messages said) (subst (λ (f : List ℕ). Says f n) (sym frame) (All-head IsSaid n others said')) in
+    ap (λ (x : Message). x ∷ messages) first
+    ∙ ap (λ (xs : List Message). n ∷ xs) (same_messages messages others (All-tail IsSaid m messages said) (All-tail IsSaid n others said') frames)
+
 -- what the server has read carries what it got
-carries_of : (pair : Pair) (w : World) (got : List (List ℕ)) → Follows pair w got → Carries w.read got
+carries_of : (pair : Pair) (w : World) (got : List Message) → Follows pair w got → Carries w.read got
 carries_of pair w got follows = record {
-  items = items_of (request ∷ got);
+  items = items_of (client_frames got);
   rest = pair.server.bytes;
   cut = follows.waits.cut;
-  frames = frames_of-items_of (request ∷ got);
+  frames = frames_of-items_of (client_frames got);
+  said = are_said got follows.each_got;
 }
 
 -- what it got are the first of the messages that were sent
-sent_first : (pair : Pair) (w : World) (got : List (List ℕ)) → Follows pair w got → (later : List (List ℕ)) × (w.sent ≡ got ++ later)
+sent_first : (pair : Pair) (w : World) (got : List Message) → Follows pair w got → (later : List Message) × (w.sent ≡ got ++ later)
 sent_first pair w got follows =
-    let whole : written_of (request ∷ got) ++ (pair.server.bytes ++ (drop pair.read pair.link.items ++ pair.waiting.items)) ≡ written_of (request ∷ w.sent) =
-    sym (append_assoc (written_of (request ∷ got)) pair.server.bytes (drop pair.read pair.link.items ++ pair.waiting.items))
+    let whole : written_of (client_frames got) ++ (pair.server.bytes ++ (drop pair.read pair.link.items ++ pair.waiting.items)) ≡ written_of (client_frames w.sent) =
+    sym (append_assoc (written_of (client_frames got)) pair.server.bytes (drop pair.read pair.link.items ++ pair.waiting.items))
     ∙ ap (λ xs. xs ++ (drop pair.read pair.link.items ++ pair.waiting.items)) (sym follows.waits.stands.whole ∙ follows.read_is)
     ∙ sym (append_assoc (take pair.read pair.link.items) (drop pair.read pair.link.items) pair.waiting.items)
     ∙ ap (λ xs. xs ++ pair.waiting.items) (take-append-drop pair.read pair.link.items) ∙ follows.waiting in
-    let parts = same_front (request ∷ got) (request ∷ w.sent) (pair.server.bytes ++ (drop pair.read pair.link.items ++ pair.waiting.items))
-    (stands_short pair.server w.read (request ∷ got) follows.waits.reader follows.waits.stands) (All-cons IsShort request w.sent request_short follows.each_sent) whole in
-    let first : got ≡ take (length got) w.sent = cc (parts.0) in
-    (drop (length got) w.sent, sym (take-append-drop (length got) w.sent) ∙ ap (λ (xs : List (List ℕ)). xs ++ drop (length got) w.sent) (sym first))
+    let parts = same_front (client_frames got) (client_frames w.sent) (pair.server.bytes ++ (drop pair.read pair.link.items ++ pair.waiting.items))
+    (stands_short pair.server w.read (client_frames got) follows.waits.reader follows.waits.stands) (client_short w.sent follows.each_sent) whole in
+    let frames : map Spell got ≡ map Spell (take (length got) w.sent) =
+    ap (λ (fs : List (List ℕ)). drop 1 fs) parts.0 ∙ ap (λ (n : ℕ). take n (map Spell w.sent)) (length-map got Spell) ∙ take-map Spell (length got) w.sent in
+    let first : got ≡ take (length got) w.sent =
+    same_messages got (take (length got) w.sent) (are_said got follows.each_got) (All-take IsSaid (length got) w.sent (are_said w.sent follows.each_sent)) frames in
+    (drop (length got) w.sent, sym (take-append-drop (length got) w.sent) ∙ ap (λ (xs : List Message). xs ++ drop (length got) w.sent) (sym first))
 
 -- bytes carry one list of messages
-carries_once : (bytes : List ℕ) (got others : List (List ℕ)) → Carries bytes got → Carries bytes others → others ≡ got
+carries_once : (bytes : List ℕ) (got others : List Message) → Carries bytes got → Carries bytes others → others ≡ got
 carries_once bytes got others a b =
     let same : a.items ≡ b.items = (one_cutting (always Record) 32768 bytes a.items b.items a.rest b.rest a.cut b.cut).0 in
-    let frames : request ∷ others ≡ request ∷ got = sym b.frames ∙ ap frames_of (sym same) ∙ a.frames in
-    cc
+    let frames : client_frames others ≡ client_frames got = sym b.frames ∙ ap frames_of (sym same) ∙ a.frames in
+    same_messages others got b.said a.said (ap (λ (fs : List (List ℕ)). drop 1 fs) frames)
 
 -- commands have one report
-reports_once : (commands : List Command) (w : World) (got all others : List (List ℕ)) (text other : List ℕ) → Reports w got commands all text → Reports w got commands others other → other ≡ text
+reports_once : (commands : List Command) (w : World) (got all others : List Message) (text other : List ℕ) → Reports w got commands all text → Reports w got commands others other → other ≡ text
 reports_once [] w got all others text other a b = b.1 ∙ sym a.1
 reports_once (command ∷ commands) w got all others text other a b =
     let new : b.0 ≡ a.0 = append_cancel_left got b.0 a.0 (carries_once (after w command).read (got ++ a.0) (got ++ b.0) a.2 b.2) in
-    let rest : Reports (after w command) (got ++ a.0) commands others b.1 = subst (λ (xs : List (List ℕ)). Reports (after w command) (got ++ xs) commands others b.1) new b.4 in
+    let rest : Reports (after w command) (got ++ a.0) commands others b.1 = subst (λ (xs : List Message). Reports (after w command) (got ++ xs) commands others b.1) new b.4 in
     let more : b.1 ≡ a.1 = reports_once commands (after w command) (got ++ a.0) all others a.1 b.1 a.4 rest in
-    b.3 ∙ ap (λ (xs : List (List ℕ)). command_line (after w command).sent command ++ (got_lines (length got) xs ++ b.1)) new
+    b.3 ∙ ap (λ (xs : List Message). command_line (after w command).sent command ++ (got_lines (length got) xs ++ b.1)) new
     ∙ ap (λ xs. command_line (after w command).sent command ++ (got_lines (length got) a.0 ++ xs)) more ∙ sym a.3
 
 one_report : (commands : List Command) (text other : List ℕ) → IsReportOf commands text → IsReportOf commands other → other ≡ text
@@ -62,9 +86,9 @@ one_report commands text other a b =
 -- What is reported so far goes on with the report of what is left.
 pub record Told (commands rest : List Command) (pair : Pair) : Type 0 where
   pub world : World
-  pub got : List (List ℕ)
+  pub got : List Message
   pub follows : Follows pair world got
-  pub told : (all : List (List ℕ)) (more : List ℕ) → Reports world got rest all more → IsReport commands all (pair.report.items ++ more)
+  pub told : (all : List Message) (more : List ℕ) → Reports world got rest all more → IsReport commands all (pair.report.items ++ more)
   pub ends : after_all world rest ≡ world_of commands
   pub sent : world.sent ++ sent_by rest ≡ sent_by commands
   pub few : length world.sent + length rest ≤ length commands
@@ -81,12 +105,12 @@ told_first commands pair follows shaken = record {
 }
 
 sent_after : (w : World) (command : Command) (commands : List Command) → w.sent ++ sent_by (command ∷ commands) ≡ (after w command).sent ++ sent_by commands
-sent_after w (Send message) commands = sym (append_assoc w.sent (message ∷ []) (sent_by commands))
+sent_after w (Send target) commands = sym (append_assoc w.sent (invocation target ∷ []) (sent_by commands))
 sent_after w Write commands = refl
 sent_after w (Read count) commands = refl
 
 sent_grows : (w : World) (command : Command) → length (after w command).sent ≤ length w.sent + 1
-sent_grows w (Send message) = omega (arith, length-append w.sent (message ∷ []))
+sent_grows w (Send target) = omega (arith, length-append w.sent (invocation target ∷ []))
 sent_grows w Write = omega arith
 sent_grows w (Read count) = omega arith
 

@@ -4,8 +4,10 @@ use Rattle.hf_split.specs.declared.framing.Framing.TheVariants.{Record}
 use Rattle.hf_split.specs.Cuts.{Spelled, CanWrap, IsWaiting, Cuts, always, wrapped}
 use Rattle.hf_split.specs.Held.{Held, Stands}
 use Rattle.sr_app.specs.declared.pair.Pair.{Pair}
-use Rattle.sr_app.specs.World.{World, request, response, link, written_of}
-use Rattle.sr_app.specs.Report.{got_lines}
+use Rattle.hm_message.specs.declared.message.Message.{Message}
+use Rattle.hm_json.specs.Spell.{Spell}
+use Rattle.sr_app.specs.World.{World, request, response, link, written_of, client_frames}
+use Rattle.sr_app.specs.Report.{IsSaid, got_lines}
 
 -- a frame that can be written and read again
 pub record IsShort (frame : List ℕ) : Type 0 where
@@ -16,12 +18,17 @@ pub record IsShort (frame : List ℕ) : Type 0 where
 abbrev pub items_of : List (List ℕ) → List Spelled
 items_of frames = map (wrapped Record) frames
 
--- the bytes are a front of whole frames
-pub record IsFront (bytes : List ℕ) : Type 0 where
-  pub all : List (List ℕ)
+-- a message whose frame can be written and read again, and says it
+pub record IsCarried (message : Message) : Type 0 where
+  pub short : IsShort (Spell message)
+  pub said : IsSaid message
+
+-- the bytes are a front of these frames and then those of messages
+pub record IsFront (first : List (List ℕ)) (bytes : List ℕ) : Type 0 where
+  pub all : List Message
   pub more : List ℕ
-  pub each : All IsShort all
-  pub whole : bytes ++ more ≡ written_of all
+  pub each : All IsCarried all
+  pub whole : bytes ++ more ≡ written_of (first ++ map Spell all)
 
 -- an end that reads frames of at most 32,768 bytes, each ended by the separator
 pub record IsReader (held : Held) : Type 0 where
@@ -37,40 +44,43 @@ pub record Waits (held : Held) (stream : List ℕ) (frames : List (List ℕ)) : 
   pub cut : Cuts (always Record) 32768 stream (items_of frames) held.bytes
 
 -- Further messages were taken and reported, so that there are this many in all, and no whole frame is left.
-pub record Takes (held : Held) (stream : List ℕ) (got : List (List ℕ)) (before now : List ℕ) (total : ℕ) : Type 0 where
-  pub new : List (List ℕ)
-  pub waits : Waits held stream (request ∷ (got ++ new))
+pub record Takes (held : Held) (stream : List ℕ) (got : List Message) (before now : List ℕ) (total : ℕ) : Type 0 where
+  pub new : List Message
+  pub each : All IsCarried new
+  pub waits : Waits held stream (client_frames (got ++ new))
   pub text : now ≡ before ++ got_lines (length got) new
   pub count : total ≡ length got + length new
 
 -- the server has read the link up to a place
 pub record IsReading (held : Held) (link : List ℕ) (at processed : ℕ) : Type 0 where
-  pub got : List (List ℕ)
-  pub waits : Waits held (take at link) (request ∷ got)
+  pub got : List Message
+  pub waits : Waits held (take at link) (client_frames got)
+  pub each : All IsCarried got
   pub count : processed ≡ length got
   pub inside : at ≤ length link
-  pub front : IsFront link
+  pub front : IsFront (request ∷ []) link
 
-pub record Follows (pair : Pair) (w : World) (got : List (List ℕ)) : Type 0 where
+pub record Follows (pair : Pair) (w : World) (got : List Message) : Type 0 where
   pub sent : pair.sent ≡ length w.sent
   pub link_is : pair.link.items ≡ link w
-  pub waiting : pair.link.items ++ pair.waiting.items ≡ written_of (request ∷ w.sent)
+  pub waiting : pair.link.items ++ pair.waiting.items ≡ written_of (client_frames w.sent)
   pub inside : pair.read ≤ length pair.link.items
   pub read_is : w.read ≡ take pair.read pair.link.items
-  pub waits : Waits pair.server w.read (request ∷ got)
+  pub waits : Waits pair.server w.read (client_frames got)
   pub processed : pair.processed ≡ length got
   pub answered : Waits pair.client (written_of (response ∷ [])) (response ∷ [])
-  pub each_sent : All IsShort w.sent
-  pub each_written : All IsShort w.written
+  pub each_sent : All IsCarried w.sent
+  pub each_written : All IsCarried w.written
+  pub each_got : All IsCarried got
 
 -- it stands for some world
 pub record IsRunning (pair : Pair) : Type 0 where
   pub world : World
-  pub got : List (List ℕ)
+  pub got : List Message
   pub follows : Follows pair world got
 
 -- It stands for this world now, with further messages, and reported this line and theirs.
-pub record Moves (old now : Pair) (w : World) (got : List (List ℕ)) (line : List ℕ) : Type 0 where
-  pub new : List (List ℕ)
+pub record Moves (old now : Pair) (w : World) (got : List Message) (line : List ℕ) : Type 0 where
+  pub new : List Message
   pub follows : Follows now w (got ++ new)
   pub text : now.report.items ≡ old.report.items ++ (line ++ got_lines (length got) new)

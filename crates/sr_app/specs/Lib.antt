@@ -1,5 +1,6 @@
 pub mod Check
 pub mod Follows
+pub mod Laws
 pub mod Lines
 pub mod Listing
 pub mod Reading

@@ -1,11 +1,14 @@
 -- What is reported of a script.
-use Rattle.std.specs.Prelude.{◌≡◌, ℕ, suc, List, [], ◌∷◌, ◌++◌, length, codes}
+use Rattle.std.specs.Prelude.{◌≡◌, ℕ, suc, List, [], ◌∷◌, ◌++◌, length, codes, All}
 use Rattle.std.specs.Fmt.{decimal}
 use Rattle.hf_split.specs.declared.framing.Framing.TheVariants.{Record}
 use Rattle.hf_split.specs.Cuts.{Spelled, Cuts, always, frames_of}
+use Rattle.hm_message.specs.declared.message.Message.{Message}
+use Rattle.hm_json.specs.Says.{Says}
+use Rattle.hm_json.specs.Spell.{Spell}
 use Rattle.sr_app.specs.declared.command.Command.{Command}
 use Rattle.sr_app.specs.declared.command.Command.TheVariants.{Send, Write, Read}
-use Rattle.sr_app.specs.World.{World, opened, after, world_of, request, sent_by}
+use Rattle.sr_app.specs.World.{World, opened, after, world_of, client_frames, sent_by}
 
 -- both ends have read the other's handshake
 abbrev pub shaken_lines : List ℕ
@@ -14,11 +17,11 @@ shaken_lines = codes "s shaken\nc shaken\n"
 abbrev pub sent_line : ℕ → List ℕ
 sent_line n = codes "c sent " ++ (decimal n ++ codes "\n")
 
-abbrev pub got_line : ℕ → List ℕ → List ℕ
-got_line n message = codes "s got " ++ (decimal n ++ (codes " " ++ (message ++ codes "\n")))
+abbrev pub got_line : ℕ → Message → List ℕ
+got_line n message = codes "s got " ++ (decimal n ++ (codes " " ++ (Spell message ++ codes "\n")))
 
 -- these messages, after so many others
-abbrev pub got_lines : ℕ → List (List ℕ) → List ℕ
+abbrev pub got_lines : ℕ → List Message → List ℕ
 got_lines n [] = []
 got_lines n (message ∷ messages) = got_line (suc n) message ++ got_lines (suc n) messages
 
@@ -30,37 +33,42 @@ abbrev pub server_line : ℕ → List ℕ
 server_line got = codes "server Ready sent 0 processed " ++ (decimal got ++ codes " held 0\n")
 
 -- the line of a command that sent the last of these messages
-abbrev pub command_line : List (List ℕ) → Command → List ℕ
-command_line sent (Send message) = sent_line (length sent)
+abbrev pub command_line : List Message → Command → List ℕ
+command_line sent (Send target) = sent_line (length sent)
 command_line sent Write = []
 command_line sent (Read count) = []
 
--- The frames that stand whole in these bytes are the handshake and then these messages.
-pub record Carries (bytes : List ℕ) (messages : List (List ℕ)) : Type 0 where
+-- the message's frame says it
+abbrev pub IsSaid : Message → Type 0
+IsSaid message = Says (Spell message) message
+
+-- The frames that stand whole in these bytes are the handshake and then those of these messages, each of which says it.
+pub record Carries (bytes : List ℕ) (messages : List Message) : Type 0 where
   pub items : List Spelled
   pub rest : List ℕ
   pub cut : Cuts (always Record) 32768 bytes items rest
-  pub frames : frames_of items ≡ request ∷ messages
+  pub frames : frames_of items ≡ client_frames messages
+  pub said : All IsSaid messages
 
 -- The lines of these commands and the last two, where the server got the messages `got` before them, and `all` after them.
-abbrev pub Reports : World → List (List ℕ) → List Command → List (List ℕ) → List ℕ → Type 0
+abbrev pub Reports : World → List Message → List Command → List Message → List ℕ → Type 0
 Reports w got [] all text = (all ≡ got) × (text ≡ client_line (length w.sent) ++ server_line (length got))
 Reports w got (command ∷ commands) all text =
-    (new : List (List ℕ)) × (more : List ℕ) × Carries (after w command).read (got ++ new)
+    (new : List Message) × (more : List ℕ) × Carries (after w command).read (got ++ new)
     × (text ≡ command_line (after w command).sent command ++ (got_lines (length got) new ++ more))
     × Reports (after w command) (got ++ new) commands all more
 
 -- the report of a script, by which the server got these messages
-abbrev pub IsReport : List Command → List (List ℕ) → List ℕ → Type 0
+abbrev pub IsReport : List Command → List Message → List ℕ → Type 0
 IsReport commands got text = (lines : List ℕ) × (text ≡ shaken_lines ++ lines) × Reports opened [] commands got lines
 
 -- The messages that the server got are the first of those that the client sent, each once and in order, and they are
 -- the frames that stand whole in the bytes that it read.
-pub record IsDelivered (commands : List Command) (got : List (List ℕ)) : Type 0 where
-  pub later : List (List ℕ)
+pub record IsDelivered (commands : List Command) (got : List Message) : Type 0 where
+  pub later : List Message
   pub front : sent_by commands ≡ got ++ later
   pub found : Carries (world_of commands).read got
 
 -- the report of a script, whose messages were delivered
 abbrev pub IsReportOf : List Command → List ℕ → Type 0
-IsReportOf commands text = (got : List (List ℕ)) × IsReport commands got text × IsDelivered commands got
+IsReportOf commands text = (got : List Message) × IsReport commands got text × IsDelivered commands got

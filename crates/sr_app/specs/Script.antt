@@ -28,11 +28,9 @@ pub record IsTarget (target : List ℕ) : Type 0 where
   pub short : length target ≤ 59
   pub letters : All IsLetter target
 
--- an invocation of such a target, without arguments
-pub record IsMessage (message : List ℕ) : Type 0 where
-  pub target : List ℕ
-  pub is_target : IsTarget target
-  pub spelled : message ≡ before_target ++ (target ++ after_target)
+-- the message that a script sends, by its target
+abbrev pub message_text : List ℕ → List ℕ
+message_text target = before_target ++ (target ++ after_target)
 
 -- digits without needless zeros, or a star
 abbrev pub count_text : Count → List ℕ
@@ -40,7 +38,7 @@ count_text (UpTo n) = decimal n
 count_text Everything = codes "*"
 
 abbrev pub line_of : Command → List ℕ
-line_of (Send message) = codes "c send " ++ message
+line_of (Send target) = codes "c send " ++ message_text target
 line_of Write = codes "c write *"
 line_of (Read count) = codes "s read " ++ count_text count
 
@@ -50,12 +48,12 @@ IsCount Everything = Unit {0}
 
 -- a command that has a line
 abbrev pub IsCommand : Command → Type 0
-IsCommand (Send message) = IsMessage message
+IsCommand (Send target) = IsTarget target
 IsCommand Write = Unit {0}
 IsCommand (Read count) = IsCount count
 
 abbrev pub is_send : Command → Bool
-is_send (Send message) = true
+is_send (Send target) = true
 is_send Write = false
 is_send (Read count) = false
 

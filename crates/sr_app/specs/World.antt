@@ -1,7 +1,10 @@
 -- The two ends of one link, by the commands that drove them: whole lists of messages and bytes.
-use Rattle.std.specs.Prelude.{ℕ, List, [], ◌∷◌, ◌++◌, length, take, drop, map, codes}
+use Rattle.std.specs.Prelude.{ℕ, List, [], ◌∷◌, ◌++◌, length, take, drop, map, codes, None}
 use Rattle.hf_split.specs.declared.framing.Framing.TheVariants.{Record}
 use Rattle.hf_split.specs.Cuts.{wrapped, stream_of}
+use Rattle.hm_message.specs.declared.message.Message.{Message}
+use Rattle.hm_message.specs.declared.message.Message.TheVariants.{Invocation}
+use Rattle.hm_json.specs.Spell.{Spell}
 use Rattle.sr_app.specs.declared.command.Command.{Command}
 use Rattle.sr_app.specs.declared.command.Command.TheVariants.{Send, Write, Read}
 use Rattle.sr_app.specs.declared.command.Count.{Count}
@@ -19,23 +22,31 @@ response = codes "{}"
 abbrev pub written_of : List (List ℕ) → List ℕ
 written_of frames = stream_of (map (wrapped Record) frames)
 
+-- the message that invokes a target, with no arguments and no answer wanted
+abbrev pub invocation : List ℕ → Message
+invocation target = Invocation [] None target [] []
+
+-- the frames of a client that sends these messages: its handshake, and then theirs
+abbrev pub client_frames : List Message → List (List ℕ)
+client_frames messages = request ∷ map Spell messages
+
 -- the messages that the client sent, those of them that it wrote onto the link, and the bytes of the link that the
 -- server has read
 pub record World : Type 0 where
-  pub sent : List (List ℕ)
-  pub written : List (List ℕ)
+  pub sent : List Message
+  pub written : List Message
   pub read : List ℕ
 
--- what the client wrote: the handshake, and then messages
+-- what the client wrote
 abbrev pub link : World → List ℕ
-link w = written_of (request ∷ w.written)
+link w = written_of (client_frames w.written)
 
 abbrev pub part_of : Count → List ℕ → List ℕ
 part_of (UpTo n) bytes = take n bytes
 part_of Everything bytes = bytes
 
 abbrev pub after : World → Command → World
-after w (Send message) = record w { sent = w.sent ++ message ∷ [] }
+after w (Send target) = record w { sent = w.sent ++ invocation target ∷ [] }
 after w Write = record w { written = w.sent }
 after w (Read count) = record w { read = w.read ++ part_of count (drop (length w.read) (link w)) }
 
@@ -52,7 +63,7 @@ abbrev pub world_of : List Command → World
 world_of commands = after_all opened commands
 
 -- the messages that a script sends
-abbrev pub sent_by : List Command → List (List ℕ)
+abbrev pub sent_by : List Command → List Message
 sent_by [] = []
-sent_by (Send message ∷ commands) = message ∷ sent_by commands
+sent_by (Send target ∷ commands) = invocation target ∷ sent_by commands
 sent_by (_ ∷ commands) = sent_by commands

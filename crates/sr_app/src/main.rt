@@ -3,6 +3,7 @@
 
 mod check;
 mod command;
+mod laws;
 mod pair;
 mod report;
 mod run;

@@ -3,15 +3,20 @@ ghost use Rattle.hf_split.specs.declared.framing.Framing.TheVariants.{Record};
 ghost use Rattle.hf_split.specs.Cuts.{always};
 ghost use Rattle.hf_split.specs.Held.{Stands};
 ghost use Rattle.sr_app.specs.Unique.{IsTheOne};
-ghost use Rattle.sr_app.specs.Script.{IsCommand, IsMessage};
-ghost use Rattle.sr_app.specs.World.{World, request, written_of, opened, after, part_of};
-ghost use Rattle.sr_app.specs.Report.{shaken_lines, sent_line, command_line, IsReportOf};
+ghost use Rattle.hm_message.specs.declared.message.Message.{Message};
+ghost use Rattle.hm_json.specs.Says.{Says};
+ghost use Rattle.hm_json.specs.Spell.{Spell};
+ghost use Rattle.sr_app.specs.Script.{IsCommand, IsTarget};
+ghost use Rattle.sr_app.specs.World.{World, invocation, client_frames, written_of, opened, after, part_of};
+ghost use Rattle.sr_app.specs.Report.{shaken_lines, sent_line, got_line, command_line, IsReportOf};
 ghost use Rattle.sr_app.specs.Follows.{IsShort, IsReader, IsFront, IsReading, IsRunning, Waits, Takes, Follows, Moves, items_of};
 
 use crate::command::{Command, Count};
 use crate::report::{push_client, push_got, push_sent, push_server};
 use hf_split::{Framing, SplitFault, Splitter, wrap};
-use hv_value::Text;
+use hm_json::{Refusal, read_message, write_message};
+use hm_message::{Headers, Message, Read};
+use hv_value::{Items, Text, Texts};
 use std::alloc::{AllocError, Global};
 
 /// The greatest frame, without its framing.
@@ -40,6 +45,24 @@ fn shake(alloc: Global, lane: &[u8], handshake: &'static [u8]) -> Result<Splitte
     Ok(splitter)
 }
 
+/// Takes a frame as the message that it says, the one of this number.
+fn take_message(
+    alloc: Global,
+    frame: &[u8],
+    number: u64,
+    report: &mut Vec<u8>,
+) -> Result<(), AllocError>
+    requires { (message : Message) × Says frame.now message }
+    ensures { OnOk result ((message : Message) → Says frame.now message →
+        report.new.items ≡ report.old.items ++ got_line number message) }
+{
+    match read_message(alloc, frame) {
+        Ok(Read::Message(message)) => push_got(alloc, report, number, &message),
+        Err(Refusal::NoMemory) => Err(AllocError),
+        _ => unreachable!(),
+    }
+}
+
 /// Takes each whole frame that the splitter holds as a message, and answers how many there are since the handshake.
 fn take_messages(
     alloc: Global,
@@ -48,10 +71,10 @@ fn take_messages(
     report: &mut Vec<u8>,
 ) -> Result<u64, AllocError>
     requires reader { IsReader splitter.old }
-    requires front { IsFront splitter.old.bytes }
+    requires front { IsFront [] splitter.old.bytes }
     requires few { processed + length splitter.old.bytes < 2 ^ 64 }
-    ensures { IfOk result (λ total. (stream : List ℕ) (got : List (List ℕ)) →
-        Stands (always Record) splitter.old stream (items_of (request ∷ got)) → processed ≡ length got →
+    ensures { IfOk result (λ total. (stream : List ℕ) (got : List Message) →
+        Stands (always Record) splitter.old stream (items_of (client_frames got)) → processed ≡ length got →
         Takes splitter.new stream got report.old.items report.new.items total) }
 {
     let mut total = processed;
@@ -59,7 +82,7 @@ fn take_messages(
         match splitter.frame() {
             Ok(Some((_, frame))) => {
                 total += 1;
-                push_got(alloc, report, total, frame)?;
+                take_message(alloc, frame, total, report)?;
                 splitter.pass();
             }
             Ok(None) => return Ok(total),
@@ -78,8 +101,8 @@ fn read_link(
     report: &mut Vec<u8>,
 ) -> Result<u64, AllocError>
     requires { IsReading splitter.old link.now from processed }
-    ensures { IfOk result (λ total. (got : List (List ℕ)) →
-        Waits splitter.old (take from link.now) (request ∷ got) → processed ≡ length got →
+    ensures { IfOk result (λ total. (got : List Message) →
+        Waits splitter.old (take from link.now) (client_frames got) → processed ≡ length got →
         Takes splitter.new link.now got report.old.items report.new.items total) }
 {
     let mut at = from;
@@ -100,6 +123,33 @@ fn amount(count: Count, left: usize) -> usize
         Count::UpTo(n) => (left as u64).min(n) as usize,
         Count::Everything => left,
     }
+}
+
+/// The message that invokes a target.
+fn invoke(alloc: Global, target: &Text) -> Result<Message, AllocError>
+    ensures { IfOk result (λ message. message ≡ invocation target.now) }
+{
+    let Ok(arguments) = Items::of(Vec::new(alloc)) else {
+        unreachable!()
+    };
+    Ok(Message::Invocation {
+        headers: Headers::of(Vec::new(alloc))?,
+        id: None,
+        target: target.copy()?,
+        arguments,
+        streams: Texts::of(Vec::new(alloc)),
+    })
+}
+
+/// The frame of the message that invokes a target.
+fn invocation_frame(alloc: Global, target: &Text) -> Result<Vec<u8>, AllocError>
+    ensures spelled { IfOk result (λ frame. frame.items ≡ Spell (invocation target.now)) }
+    ensures said { IfOk result (λ frame. Says frame.items (invocation target.now)) }
+{
+    let message = invoke(alloc, target)?;
+    let mut frame = Vec::new(alloc);
+    write_message(alloc, &message, &mut frame)?;
+    Ok(frame)
 }
 
 /// The two ends of one link, and what is reported of them.
@@ -152,35 +202,32 @@ impl Pair {
         requires running { IsRunning self.old }
         requires command { IsCommand command.now }
         requires few { self.old.sent < 2 ^ 64 - 1 }
-        ensures { OnOk result ((w : World) (got : List (List ℕ)) → Follows self.old w got →
+        ensures { OnOk result ((w : World) (got : List Message) → Follows self.old w got →
             Moves self.old self.new (after w command.now) got (command_line (after w command.now).sent command.now)) }
     {
         match command {
-            Command::Send(message) => self.send(alloc, message),
+            Command::Send(target) => self.send(alloc, target),
             Command::Write => self.write(),
             Command::Read(count) => self.read_part(alloc, *count),
         }
     }
 
-    /// Sends a message: the client keeps it until it writes.
-    fn send(&mut self, alloc: Global, message: &Text) -> Result<(), AllocError>
-        requires message { IsMessage message.now }
+    /// Sends the message that invokes a target: the client keeps it until it writes.
+    fn send(&mut self, alloc: Global, target: &Text) -> Result<(), AllocError>
+        requires target { IsTarget target.now }
         requires few { self.old.sent < 2 ^ 64 - 1 }
-        ensures { OnOk result ((w : World) (got : List (List ℕ)) → Follows self.old w got →
-            Moves self.old self.new (after w (Command.Send message.now)) got (sent_line (length (w.sent ++ message.now ∷ [])))) }
+        ensures { OnOk result ((w : World) (got : List Message) → Follows self.old w got →
+            Moves self.old self.new (after w (Command.Send target.now)) got (sent_line (length (w.sent ++ invocation target.now ∷ [])))) }
     {
-        wrap(
-            Framing::Record,
-            message.as_str().as_bytes(),
-            &mut self.waiting,
-        )?;
+        let frame = invocation_frame(alloc, target)?;
+        wrap(Framing::Record, &frame, &mut self.waiting)?;
         self.sent += 1;
         push_sent(alloc, &mut self.report, self.sent)
     }
 
     /// Writes what was sent onto the link.
     fn write(&mut self) -> Result<(), AllocError>
-        ensures { OnOk result ((w : World) (got : List (List ℕ)) → Follows self.old w got →
+        ensures { OnOk result ((w : World) (got : List Message) → Follows self.old w got →
             Moves self.old self.new (after w Command.Write) got []) }
     {
         self.link.append(&mut self.waiting)?;
@@ -190,7 +237,7 @@ impl Pair {
     /// The server reads from the link.
     fn read_part(&mut self, alloc: Global, count: Count) -> Result<(), AllocError>
         requires running { IsRunning self.old }
-        ensures { OnOk result ((w : World) (got : List (List ℕ)) → Follows self.old w got →
+        ensures { OnOk result ((w : World) (got : List Message) → Follows self.old w got →
             Moves self.old self.new (after w (Command.Read count)) got []) }
     {
         let end = self.read + amount(count, self.link.len() - self.read);

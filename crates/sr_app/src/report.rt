@@ -1,6 +1,9 @@
 ghost use Rattle.std.specs.Prelude.{◌≡◌, ◌++◌, OnOk};
+ghost use Rattle.hm_message.specs.Message.{Fits};
 ghost use Rattle.sr_app.specs.Report.{sent_line, got_line, client_line, server_line};
 
+use hm_json::write_message;
+use hm_message::Message;
 use std::alloc::{AllocError, Global};
 
 /// Appends the line of the client's message of this number.
@@ -16,13 +19,14 @@ pub(crate) fn push_got(
     alloc: Global,
     report: &mut Vec<u8>,
     number: u64,
-    message: &[u8],
+    message: &Message,
 ) -> Result<(), AllocError>
+    requires { Fits message.now }
     ensures { OnOk result (report.new.items ≡ report.old.items ++ got_line number message.now) }
 {
     let line = format!(in alloc; "s got {number} ")?;
     report.extend_from_slice(line.as_bytes())?;
-    report.extend_from_slice(message)?;
+    write_message(alloc, message, report)?;
     report.push(b'\n')?;
     Ok(())
 }

@@ -4,7 +4,7 @@ ghost use Rattle.std.specs.Fmt.{decimal};
 ghost use Rattle.sr_app.specs.declared.command.Command.{Command};
 ghost use Rattle.sr_app.specs.declared.script.ScriptError.TheVariants.{NoMemory};
 ghost use Rattle.sr_app.specs.Unique.{IsTheOne};
-ghost use Rattle.sr_app.specs.Script.{IsTarget, IsMessage, IsCount, IsCommand, Parses, opening, count_text, line_of, is_send};
+ghost use Rattle.sr_app.specs.Script.{IsTarget, IsCount, IsCommand, Parses, opening, message_text, count_text, line_of, is_send};
 ghost use Rattle.sr_app.specs.Reading.{HasRead, IsNoLine, IsLineEnd, RefusesNext, RefusesText};
 
 use crate::command::{Command, Count};
@@ -53,30 +53,30 @@ fn is_target(bytes: &[u8]) -> bool
     !bytes.is_empty() && bytes.len() <= 59 && bytes.iter().all(|b| *b >= b'a' && *b <= b'z')
 }
 
-/// Whether these bytes are a message that a script may send.
-fn is_message(bytes: &[u8]) -> bool
-    ensures { IsTrue result ↔ IsMessage bytes.now }
+/// What stands where a message has its target.
+fn target_in(message: &[u8]) -> Option<&[u8]>
+    ensures found { IfSome result (λ target. message.now ≡ message_text target.now) }
+    ensures none { IfNone result ((target : List ℕ) → message.now ≡ message_text target → ⊥) }
 {
-    let Some(rest) = bytes.strip_prefix(BEFORE_TARGET) else {
-        return false;
-    };
-    let Some(target) = rest.strip_suffix(AFTER_TARGET) else {
-        return false;
-    };
-    is_target(target)
+    message
+        .strip_prefix(BEFORE_TARGET)?
+        .strip_suffix(AFTER_TARGET)
 }
 
-/// The message that these bytes are.
-fn parse_message(alloc: Global, bytes: &[u8]) -> Result<Option<Text>, AllocError>
-    ensures found { IfOk result (λ r. IfSome r (λ text. (bytes.now ≡ text) × IsMessage text)) }
-    ensures none { IfOk result (λ r. IfNone r (IsMessage bytes.now → ⊥)) }
+/// The target of the message that these bytes are.
+fn parse_target(alloc: Global, message: &[u8]) -> Result<Option<Text>, AllocError>
+    ensures found { IfOk result (λ r. IfSome r (λ target. (message.now ≡ message_text target) × IsTarget target)) }
+    ensures none { IfOk result (λ r. IfNone r ((target : List ℕ) → IsTarget target → message.now ≡ message_text target → ⊥)) }
 {
-    if !is_message(bytes) {
+    let Some(target) = target_in(message) else {
+        return Ok(None);
+    };
+    if !is_target(target) {
         return Ok(None);
     }
-    match str::from_utf8(bytes) {
-        Ok(text) => Ok(Some(Text::of(alloc, text)?)),
-        Err(_) => Ok(None),
+    match str::from_utf8(target) {
+        Ok(target) => Ok(Some(Text::of(alloc, target)?)),
+        Err(_) => unreachable!(),
     }
 }
 
@@ -125,8 +125,8 @@ fn parse_line(alloc: Global, line: &[u8]) -> Result<Option<Command>, AllocError>
         };
     }
     if let Some(message) = line.strip_prefix(b"c send ") {
-        return match parse_message(alloc, message)? {
-            Some(message) => Ok(Some(Command::Send(message))),
+        return match parse_target(alloc, message)? {
+            Some(target) => Ok(Some(Command::Send(target))),
             None => Ok(None),
         };
     }

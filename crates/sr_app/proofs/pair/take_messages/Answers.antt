@@ -1,10 +1,17 @@
 use Rattle.hf_split.specs.declared.framing.Framing.TheVariants.{Record}
 use Rattle.hf_split.specs.Cuts.{Spelled, always}
-use Rattle.sr_app.proofs.Link.{taking_first, taking_next, taking_shorter, taking_not_long, takes_all}
+use Rattle.sr_app.proofs.Link.{taking_first, taking_frame, frame_says, taking_next, taking_shorter, taking_not_long, takes_all}
 use Rattle.sr_app.proofs.pair.take_messages.Goals as goal
 
 pub loop-frame-init : goal.loop-frame-init
 loop-frame-init c = taking_first c.args.splitter.now c.args.processed c.args.report.now.items c.requires.reader c.requires.front c.requires.few
+
+pub take_message-requires : goal.take_message-requires
+take_message-requires c =
+    let lent = rw c.in-Ok-Some.field-0-is at c.in-Ok-Some.ensures.lent in
+    let item : Spelled = record { spelling = lent.1.0; frame = c.in-Ok-Some.frame.now } in
+    let first = taking_frame c.args.splitter.now c.loop-frame.splitter c.args.processed c.loop-frame.total c.args.report.now.items c.loop-frame.report.items item c.loop-frame.invariant lent.1.1 in
+    (first.message, frame_says c.loop-frame.splitter.bytes item first)
 
 pub loop-frame-smaller : goal.loop-frame-smaller
 loop-frame-smaller c =
@@ -17,8 +24,9 @@ pub loop-frame-preserved : goal.loop-frame-preserved
 loop-frame-preserved c =
     let lent = rw c.in-Ok-Some.field-0-is at c.in-Ok-Some.ensures.lent in
     let item : Spelled = record { spelling = lent.1.0; frame = c.in-Ok-Some.frame.now } in
-    taking_next c.args.splitter.now c.loop-frame.splitter c.pass.new.self c.args.processed c.loop-frame.total c.args.report.now.items c.loop-frame.report.items c.push_got.new.report.items item
-    c.loop-frame.invariant lent.1.1 c.in_ok-push_got-in-Ok-Some.ensures (c.pass.ensures.past item lent.1.1)
+    let first = taking_frame c.args.splitter.now c.loop-frame.splitter c.args.processed c.loop-frame.total c.args.report.now.items c.loop-frame.report.items item c.loop-frame.invariant lent.1.1 in
+    taking_next c.args.splitter.now c.loop-frame.splitter c.pass.new.self c.args.processed c.loop-frame.total c.args.report.now.items c.loop-frame.report.items c.take_message.new.report.items item
+    c.loop-frame.invariant lent.1.1 first (c.in_ok-take_message-in-Ok-Some.ensures first.message (frame_says c.loop-frame.splitter.bytes item first)) (c.pass.ensures.past item lent.1.1)
     (λ stream passed stands step. c.pass.ensures.stands (always Record) stream passed item stands step lent.1.1)
 
 pub returns-in-Ok-None : goal.returns-in-Ok-None

@@ -1,4 +1,4 @@
-use Rattle.sr_app.proofs.Opening.{request_short}
+use Rattle.sr_app.proofs.Short.{request_short}
 use Rattle.sr_app.proofs.pair.Pair.open.Goals as goal
 
 pub wrap-requires : goal.wrap-requires

@@ -1,6 +1,7 @@
-use Rattle.std.proofs.Common.{◌+◌, ◌++◌, ◌∷◌, List, ℕ, take, subst, sym, ap, ◌∙◌, arith, length-append}
-use Rattle.sr_app.specs.World.{request}
-use Rattle.sr_app.specs.Follows.{Waits}
+use Rattle.std.proofs.Common.{◌+◌, ◌++◌, List, ℕ, take, subst, sym, ap, ◌∙◌, arith, length-append}
+use Rattle.std.proofs.lemmas.List.Elements.{All-append}
+use Rattle.sr_app.specs.World.{client_frames}
+use Rattle.sr_app.specs.Follows.{IsCarried, Waits}
 use Rattle.sr_app.proofs.Moving.{reading_of, waits_front, read_more}
 use Rattle.sr_app.proofs.pair.Pair.read_part.Goals as goal
 
@@ -25,11 +26,12 @@ returns c =
         waiting = follows.waiting;
         inside = omega (arith, follows.inside, c.amount.ensures.inside, size);
         read_is = more;
-        waits = subst (λ (xs : List ℕ). Waits c.read_link.new.splitter xs (request ∷ (got ++ takes.new))) (ap (λ xs. take end xs) c.deref.ensures.value ∙ sym more) takes.waits;
+        waits = subst (λ (xs : List ℕ). Waits c.read_link.new.splitter xs (client_frames (got ++ takes.new))) (ap (λ xs. take end xs) c.deref.ensures.value ∙ sym more) takes.waits;
         processed = takes.count ∙ sym (length-append got takes.new);
         answered = follows.answered;
         each_sent = follows.each_sent;
         each_written = follows.each_written;
+        each_got = All-append IsCarried got takes.new follows.each_got takes.each;
       };
       text = takes.text;
     }

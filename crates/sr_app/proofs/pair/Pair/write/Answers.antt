@@ -1,13 +1,13 @@
-use Rattle.std.proofs.Common.{◌≡◌, ◌++◌, ◌∷◌, length, take, sym, ap, ◌∙◌, arith, length-append}
+use Rattle.std.proofs.Common.{◌≡◌, ◌++◌, length, take, sym, ap, ◌∙◌, arith, length-append}
 use Rattle.std.proofs.lemmas.List.{append-nil}
-use Rattle.sr_app.specs.World.{request, written_of}
+use Rattle.sr_app.specs.World.{written_of, client_frames}
 use Rattle.sr_app.proofs.Moving.{moves_none, read_stays}
 use Rattle.sr_app.proofs.pair.Pair.write.Goals as goal
 
 pub returns : goal.returns
 returns c =
     λ w got follows.
-    let all : c.append.new.self.items ≡ written_of (request ∷ w.sent) = c.in_ok-append.ensures.items ∙ follows.waiting in
+    let all : c.append.new.self.items ≡ written_of (client_frames w.sent) = c.in_ok-append.ensures.items ∙ follows.waiting in
     moves_none _ _ _ got _ (record {
       sent = follows.sent;
       link_is = all;
@@ -19,4 +19,5 @@ returns c =
       answered = follows.answered;
       each_sent = follows.each_sent;
       each_written = follows.each_sent;
+      each_got = follows.each_got;
     }) (sym (append-nil c.args.self.now.report.items))
