@@ -4,6 +4,7 @@ pub mod Frames
 pub mod Grammar
 pub mod Link
 pub mod Moving
+pub mod OneAnswer
 pub mod Opening
 pub mod Parsing
 pub mod Replaying
