@@ -10,6 +10,13 @@ const SCRIPT: &[u8] =
 const REPORT: &[u8] =
     b"s shaken\nc shaken\nc sent 1\nclient Ready sent 1 processed 0 held 1\nserver Ready sent 0 processed 0 held 0\n";
 
+/// Two messages, of which the server reads the first alone and then the rest.
+const READ_IN_TWO: &[u8] =
+    b"open\naccept 0\nc write *\ns read *\ns write *\nc read *\nc send {\"arguments\":[],\"target\":\"a\",\"type\":1}\nc send {\"arguments\":[],\"target\":\"zz\",\"type\":1}\nc write *\ns read 40\ns read *\n";
+
+const READ_IN_TWO_REPORT: &[u8] =
+    b"s shaken\nc shaken\nc sent 1\nc sent 2\ns got 1 {\"arguments\":[],\"target\":\"a\",\"type\":1}\ns got 2 {\"arguments\":[],\"target\":\"zz\",\"type\":1}\nclient Ready sent 2 processed 0 held 2\nserver Ready sent 0 processed 2 held 0\n";
+
 fn one(alloc: Global, number: Option<u64>) -> Result<Vec<u64>, Fail> {
     let mut numbers = Vec::new(alloc);
     if let Some(number) = number {
@@ -38,8 +45,9 @@ fn outcome(
 
 #[test]
 fn answers_words_and_scripts(rt: HostRuntime) -> Result<(), Fail> {
-    let cases: [(&str, &[u8], u8, &[u8]); 5] = [
+    let cases: [(&str, &[u8], u8, &[u8]); 6] = [
         ("replay", SCRIPT, 0, REPORT),
+        ("replay", READ_IN_TWO, 0, READ_IN_TWO_REPORT),
         ("replay", b"open\naccept 0\nfoo\n", 2, b"line 3 refused\n"),
         ("replay", b"", 2, b"line 1 refused\n"),
         (
