@@ -1,0 +1,219 @@
+-- A stream whose frames are dealt with one by one.
+use Rattle.std.proofs.Common.{codes, ◌≡◌, ◌<◌, ◌+◌, ℕ, inl, inr, List, [], ◌∷◌, ◌++◌, length, take, drop, Option, Some, None, refl, sym, ◌∙◌, ap, subst, arith, append_assoc, length-append}
+use Rattle.std.specs.Io.KnownBytes.{Appends}
+use Rattle.std.proofs.Math.Seq.{take-append-add}
+use Rattle.std.proofs.lemmas.List.{append-nil}
+use Rattle.hf_split.specs.declared.framing.Framing.{Framing}
+use Rattle.hf_split.specs.Cuts.{Spelled, AreFrames, IsFrame, BeginsWith, IsWaiting, always, stream_of}
+use Rattle.hf_split.specs.Held.{Held, Stands, IsInStep, past}
+use Rattle.hf_split.proofs.Beginnings.{too_long_begins_none, bad_length_begins_none}
+use Rattle.sr_check.specs.declared.task.Task.{Task}
+use Rattle.sr_check.specs.declared.task.Stop.{Stop}
+use Rattle.sr_check.specs.declared.task.Stop.TheVariants as stop
+use Rattle.sr_check.specs.Frames.{RefusesRest}
+use Rattle.sr_check.specs.Output.{framing, IsWritten, last_text}
+use Rattle.sr_check.specs.Stream.{Written, BeginsFrames, IsFront}
+use Rattle.sr_check.specs.Going.{IsRefusal, IsReader, IsAt, IsResting, IsSoFar, IsBegunSoFar, IsStoppedSoFar, IsLastPut, Ends}
+
+pub with_reader : (t : Task) (P : Framing → ℕ → Type 0) (held : Held) → IsReader t held → P held.framing held.most → P (framing t) 32768
+with_reader t P held reader fact = subst (λ (m : ℕ). P (framing t) m) reader.most (subst (λ (f : Framing). P f held.most) reader.framing_is fact)
+
+-- ---- what was written
+
+pub appends_more : (a b c : Option (List ℕ)) (xs ys : List ℕ) → Appends a b xs → Appends b c ys → Appends a c (xs ++ ys)
+appends_more None b c xs ys p q = tt
+appends_more (Some a) None c xs ys p q = absurd p
+appends_more (Some a) (Some b) None xs ys p q = absurd q
+appends_more (Some a) (Some b) (Some c) xs ys p q = q ∙ ap (λ zs. zs ++ ys) p ∙ append_assoc a xs ys
+
+-- a part of a text behind a whole one
+pub appends_part : (a b c : Option (List ℕ)) (text last : List ℕ) (n : ℕ) → Appends a b text → Appends b c (take n last) → (m : ℕ) × Appends a c (take m (text ++ last))
+appends_part a b c text last n p q =
+    (length text + n, subst (λ (xs : List ℕ). Appends a c xs) (sym (take-append-add text last n)) (appends_more a b c text (take n last) p q))
+
+pub stream-append : (items more : List Spelled) → stream_of (items ++ more) ≡ stream_of items ++ stream_of more
+stream-append [] more = refl
+stream-append (item ∷ items) more = ap (λ xs. item.spelling ++ xs) (stream-append items more) ∙ sym (append_assoc item.spelling (stream_of items) (stream_of more))
+
+written-append : (t : Task) (at : ℕ) (items more : List Spelled) (a b : List ℕ) → Written t at items a → Written t (at + length (stream_of items)) more b → Written t at (items ++ more) (a ++ b)
+written-append t at [] more a b p q =
+    subst (λ (xs : List ℕ). Written t at more xs) (ap (λ xs. xs ++ b) (sym p)) (subst (λ (n : ℕ). Written t n more b) (let e : at + 0 ≡ at = omega arith in e) q)
+written-append t at (item ∷ items) more a b p q =
+    let place : at + length (stream_of (item ∷ items)) ≡ at + length item.spelling + length (stream_of items) = omega (arith, length-append item.spelling (stream_of items)) in (
+      p.0,
+      p.1 ++ b,
+      p.2,
+      ap (λ xs. xs ++ b) p.3 ∙ append_assoc p.0 p.1 b,
+      written-append t (at + length item.spelling) items more p.1 b p.4 (subst (λ (n : ℕ). Written t n more b) place q),
+    )
+
+written-next : (t : Task) (items : List Spelled) (item : Spelled) (text piece : List ℕ) → Written t 0 items text → IsWritten t (length (stream_of items)) item.frame piece → Written t 0 (items ++ item ∷ []) (text ++ piece)
+written-next t items item text piece written is =
+    let place : 0 + length (stream_of items) ≡ length (stream_of items) = omega arith in
+    written-append t 0 items (item ∷ []) text piece written
+    (piece, [], subst (λ (n : ℕ). IsWritten t n item.frame piece) (sym place) is, sym (append-nil piece), refl)
+
+frames-next : (f : Framing) (items : List Spelled) (item : Spelled) → AreFrames (always f) 32768 items → IsFrame f 32768 item → AreFrames (always f) 32768 (items ++ item ∷ [])
+frames-next f [] item each is = (is, tt)
+frames-next f (x ∷ items) item each is = (each.0, frames-next f items item each.1 is)
+
+-- ---- where the splitter stands
+
+pub frames_at : (t : Task) (held : Held) (stream : List ℕ) (items : List Spelled) (text : List ℕ) → IsAt t held stream items text → AreFrames (always (framing t)) 32768 items
+frames_at t held stream items text at = subst (λ (m : ℕ). AreFrames (always (framing t)) m items) at.reader.most at.stands.each
+
+pub front_at : (t : Task) (held : Held) (stream : List ℕ) (items : List Spelled) (text : List ℕ) → IsAt t held stream items text → IsFront t stream items text
+front_at t held stream items text at = record {
+  begins = record { more = held.bytes; whole = at.stands.whole; each = frames_at t held stream items text at };
+  written = at.written;
+}
+
+next-begins : (t : Task) (held : Held) (stream : List ℕ) (items : List Spelled) (text : List ℕ) (item : Spelled) → IsAt t held stream items text → BeginsWith (framing t) 32768 held.bytes item → BeginsFrames t stream (items ++ item ∷ [])
+next-begins t held stream items text item at begins = record {
+  more = drop (length item.spelling) held.bytes;
+  whole = at.stands.whole ∙ ap (λ xs. stream_of items ++ xs) begins.front ∙ sym (append_assoc (stream_of items) item.spelling (drop (length item.spelling) held.bytes))
+      ∙ ap (λ xs. xs ++ drop (length item.spelling) held.bytes) (ap (λ xs. stream_of items ++ xs) (sym (append-nil item.spelling)) ∙ sym (stream-append items (item ∷ [])));
+  each = frames-next (framing t) items item (frames_at t held stream items text at) begins.is_frame;
+}
+
+-- the splitter tells the number of bytes before the next frame
+pub place_is : (t : Task) (held : Held) (stream : List ℕ) (items : List Spelled) (text : List ℕ) → IsAt t held stream items text → held.place ≡ length (stream_of items)
+place_is t held stream items text at = omega (arith, at.stands.place, at.short, ap length at.stands.whole, length-append (stream_of items) held.bytes)
+
+begins-of : (t : Task) (held : Held) (item : Spelled) → IsReader t held → BeginsWith held.framing held.most held.bytes item → BeginsWith (framing t) 32768 held.bytes item
+begins-of t held item reader begins = with_reader t (λ f m. BeginsWith f m held.bytes item) held reader begins
+
+-- a frame was written of and passed
+at-next : (t : Task) (held next : Held) (stream : List ℕ) (items : List Spelled) (text piece : List ℕ) (item : Spelled) → IsAt t held stream items text
+    → IsWritten t held.place item.frame piece → next ≡ past held item
+    → (IsInStep (always (framing t)) held items → Stands (always (framing t)) next stream (items ++ item ∷ []))
+    → IsAt t next stream (items ++ item ∷ []) (text ++ piece)
+at-next t held next stream items text piece item at good is stands = record {
+  reader = record { framing_is = ap (λ (h : Held). h.framing) is ∙ at.reader.framing_is; most = ap (λ (h : Held). h.most) is ∙ at.reader.most };
+  stands = stands (sym at.reader.framing_is);
+  written = written-next t items item text piece at.written (subst (λ (n : ℕ). IsWritten t n item.frame piece) (place_is t held stream items text at) good);
+  short = at.short;
+}
+
+-- a frame was written of, and not passed
+pub begun_next : (t : Task) (held : Held) (stream : List ℕ) (items : List Spelled) (text piece : List ℕ) (item : Spelled) → IsAt t held stream items text
+    → BeginsWith held.framing held.most held.bytes item → IsWritten t held.place item.frame piece → IsBegunSoFar t stream (text ++ piece)
+begun_next t held stream items text piece item at begins good = (
+  items ++ item ∷ [],
+  record {
+    begins = next-begins t held stream items text item at (begins-of t held item at.reader begins);
+    written = written-next t items item text piece at.written (subst (λ (n : ℕ). IsWritten t n item.frame piece) (place_is t held stream items text at) good);
+  },
+)
+
+-- a frame is refused
+pub bad_frame : (t : Task) (held : Held) (stream : List ℕ) (items : List Spelled) (text last : List ℕ) (item : Spelled) → IsAt t held stream items text
+    → BeginsWith held.framing held.most held.bytes item → IsRefusal t held.place item.frame last → IsStoppedSoFar t stream (text ++ last)
+bad_frame t held stream items text last item at begins bad = (
+  items,
+  text,
+  last,
+  front_at t held stream items text at,
+  inl (record {
+    item = item;
+    next = next-begins t held stream items text item at (begins-of t held item at.reader begins);
+    words = bad.0;
+    refused = bad.1;
+    text_is = bad.2 ∙ ap (λ (n : ℕ). last_text t n (codes "refused " ++ bad.0)) (place_is t held stream items text at);
+  }),
+  refl,
+)
+
+-- with bytes that are refused no frame begins
+pub refused_begins_none : (f : Framing) (bytes words : List ℕ) (item : Spelled) → RefusesRest f 32768 bytes words → BeginsWith f 32768 bytes item → ⊥
+refused_begins_none f bytes words item (inl long) begins =
+    too_long_begins_none f 32768 bytes [] item long.0 (subst (λ (xs : List ℕ). BeginsWith f 32768 xs item) (sym (append-nil bytes)) begins)
+refused_begins_none f bytes words item (inr bad) begins =
+    bad_length_begins_none f 32768 bytes [] item bad.0 (subst (λ (xs : List ℕ). BeginsWith f 32768 xs item) (sym (append-nil bytes)) begins)
+
+-- what is left is refused
+pub bad_rest : (t : Task) (held : Held) (stream : List ℕ) (items : List Spelled) (text words last : List ℕ) → IsAt t held stream items text
+    → RefusesRest held.framing held.most held.bytes words → last ≡ last_text t held.place (codes "refused " ++ words) → IsStoppedSoFar t stream (text ++ last)
+bad_rest t held stream items text words last at refused is =
+    let bad : RefusesRest (framing t) 32768 held.bytes words = with_reader t (λ f m. RefusesRest f m held.bytes words) held at.reader refused in (
+      items,
+      text,
+      last,
+      front_at t held stream items text at,
+      inr (record {
+        rest = held.bytes;
+        cut = record {
+          whole = at.stands.whole;
+          each = frames_at t held stream items text at;
+          ends = λ item begins. refused_begins_none (framing t) held.bytes words item bad begins;
+        };
+        words = words;
+        refused = bad;
+        text_is = is ∙ ap (λ (n : ℕ). last_text t n (codes "refused " ++ words)) (place_is t held stream items text at);
+      }),
+      refl,
+    )
+
+-- ---- frames are being written of
+
+pub record IsGoing (t : Task) (first held : Held) (start now : Option (List ℕ)) : Type 0 where
+  pub reader : IsReader t held
+  pub goes : (stream : List ℕ) (before : Option (List ℕ)) → IsSoFar t first stream before start → IsSoFar t held stream before now
+
+pub going_first : (t : Task) (held : Held) (now : Option (List ℕ)) → IsReader t held → IsGoing t held held now now
+going_first t held now reader = record { reader = reader; goes = λ stream before far. far }
+
+pub going_next : (t : Task) (first held next : Held) (start now then_ : Option (List ℕ)) (piece : List ℕ) (item : Spelled) → IsGoing t first held start now
+    → IsWritten t held.place item.frame piece → next ≡ past held item
+    → ((stream : List ℕ) (passed : List Spelled) → Stands (always (framing t)) held stream passed → IsInStep (always (framing t)) held passed → Stands (always (framing t)) next stream (passed ++ item ∷ []))
+    → Appends now then_ piece → IsGoing t first next start then_
+going_next t first held next start now then_ piece item going good is stands wrote = record {
+  reader = record { framing_is = ap (λ (h : Held). h.framing) is ∙ going.reader.framing_is; most = ap (λ (h : Held). h.most) is ∙ going.reader.most };
+  goes = λ stream before first_far.
+      (let far = going.goes stream before first_far in record {
+        items = far.items ++ item ∷ [];
+        text = far.text ++ piece;
+        at = at-next t held next stream far.items far.text piece item far.at good is (λ step. stands stream far.items far.at.stands step);
+        wrote = appends_more before now then_ far.text piece far.wrote wrote;
+      });
+}
+
+-- no whole frame is left
+pub rests : (t : Task) (held : Held) → IsReader t held → IsWaiting held.framing held.most held.bytes → length held.bytes < held.most + 5 → IsResting t held
+rests t held reader waiting room = record {
+  reader = reader;
+  waiting = with_reader t (λ f m. IsWaiting f m held.bytes) held reader waiting;
+  room = omega (arith, room, reader.most);
+}
+
+-- ---- the task ends
+
+pub ends_memory : (t : Task) (first held : Held) (start now : Option (List ℕ)) (how : Stop) → how ≡ stop.NoMemory → IsGoing t first held start now
+    → (stream : List ℕ) (before : Option (List ℕ)) → IsSoFar t first stream before start → Ends t how stream before now
+ends_memory t first held start now how is going stream before first_far =
+    let far = going.goes stream before first_far in
+    rw is (far.text, (far.items, front_at t held stream far.items far.text far.at), far.wrote)
+
+-- in what is written of a good frame
+pub ends_write : (t : Task) (first held : Held) (start now then_ : Option (List ℕ)) (piece : List ℕ) (n : ℕ) (how : Stop) → how ≡ stop.WriteFault → IsGoing t first held start now
+    → ((stream : List ℕ) (items : List Spelled) (text : List ℕ) → IsAt t held stream items text → IsBegunSoFar t stream (text ++ piece)) → Appends now then_ (take n piece)
+    → (stream : List ℕ) (before : Option (List ℕ)) → IsSoFar t first stream before start → Ends t how stream before then_
+ends_write t first held start now then_ piece n how is going begun wrote stream before first_far =
+    let far = going.goes stream before first_far in
+    rw is (far.text ++ piece, inl (begun stream far.items far.text far.at), appends_part before now then_ far.text piece n far.wrote wrote)
+
+-- with what is written last
+pub ends_last : (t : Task) (first held : Held) (start now then_ : Option (List ℕ)) (last : List ℕ) (how : Stop) → IsGoing t first held start now
+    → ((stream : List ℕ) (items : List Spelled) (text : List ℕ) → IsAt t held stream items text → IsStoppedSoFar t stream (text ++ last))
+    → IsLastPut how last now then_
+    → (stream : List ℕ) (before : Option (List ℕ)) → IsSoFar t first stream before start → Ends t how stream before then_
+ends_last t first held start now then_ last stop.Refused going stopped put stream before first_far =
+    let far = going.goes stream before first_far in
+    (far.text ++ last, stopped stream far.items far.text far.at, appends_more before now then_ far.text last far.wrote put)
+ends_last t first held start now then_ last stop.WriteFault going stopped put stream before first_far =
+    let far = going.goes stream before first_far in
+    (far.text ++ last, inr (stopped stream far.items far.text far.at), appends_part before now then_ far.text last put.0 far.wrote put.1)
+ends_last t first held start now then_ last stop.NoMemory going stopped put stream before first_far =
+    let far = going.goes stream before first_far in
+    (far.text, (far.items, front_at t held stream far.items far.text far.at), subst (λ (xs : List ℕ). Appends before then_ xs) (append-nil far.text) (appends_more before now then_ far.text [] far.wrote put))
+ends_last t first held start now then_ last stop.ReadFault going stopped put stream before first_far = absurd put

@@ -1,0 +1,20 @@
+-- What was written for an input, where the source and the sink tell their bytes.
+use Rattle.std.specs.Prelude.{◌≡◌, ℕ, List, take, Option, IfSome}
+use Rattle.std.specs.Io.KnownBytes.{Appends, Consumes}
+
+-- The input is this text, where it is told.
+abbrev pub IsText : Option (List ℕ) → List ℕ → Type 0
+IsText input text = IfSome input (λ bytes. bytes ≡ text)
+
+-- the answer that has this meaning for the input was written, whole and nothing else
+abbrev pub Writes : (List ℕ → List ℕ → Type 0) → Option (List ℕ) → Option (List ℕ) → Option (List ℕ) → Type 0
+Writes Means input before now = (text : List ℕ) × (answer : List ℕ) × IsText input text × Means text answer × Appends before now answer
+
+-- a first part of such an answer was written, and nothing else
+abbrev pub WritesPart : (List ℕ → List ℕ → Type 0) → Option (List ℕ) → Option (List ℕ) → Option (List ℕ) → Type 0
+WritesPart Means input before now =
+    (text : List ℕ) × (answer : List ℕ) × IsText input text × Means text answer × ((n : ℕ) × Appends before now (take n answer))
+
+-- the answer that has this meaning for the bytes that were read was written, whole and nothing else
+abbrev pub WritesOfRead : (List ℕ → List ℕ → Type 0) → Option (List ℕ) → Option (List ℕ) → Option (List ℕ) → Option (List ℕ) → Type 0
+WritesOfRead Means input left before now = (text : List ℕ) × (answer : List ℕ) × Consumes input left text × Means text answer × Appends before now answer
