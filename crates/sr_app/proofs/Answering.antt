@@ -1,31 +1,22 @@
 -- What is answered to the bytes that were read is the answer to the whole input.
-use Rattle.std.proofs.Common.{◌≡◌, ◌<◌, ◌≤◌, ℕ, ◌⊎◌, inl, inr, List, [], ◌++◌, length, take, Option, Some, None, refl, sym, ◌∙◌, ap, subst, append_assoc}
+use Rattle.std.proofs.Common.{◌≡◌, ◌<◌, ◌≤◌, ℕ, ◌⊎◌, inl, inr, List, [], ◌++◌, length, take, Option, Some, None, refl, sym, ◌∙◌, ap, subst, arith}
 use Rattle.std.specs.Io.KnownBytes.{Appends, Consumes, IsAtEnd}
 use Rattle.std.proofs.lemmas.Bool.{cases_lt}
 use Rattle.std.proofs.lemmas.List.{append-nil}
 use Rattle.sr_app.specs.declared.run.Status.{Status}
 use Rattle.sr_app.specs.declared.run.Status.TheVariants.{Done, Usage, Refused, ReadFault, WriteFault, NoMemory}
-use Rattle.sr_app.specs.Unique.{IsTheOne}
+use Rattle.sr_words.specs.Unique.{IsTheOne}
 use Rattle.sr_app.specs.Refusal.{IsRefusedAt}
-use Rattle.sr_app.specs.Run.{IsReplayed, IsRefused, IsTextAnswer, AnswersWith}
-use Rattle.sr_app.specs.Writes.{IsText, Writes, WritesPart}
+use Rattle.sr_app.specs.Run.{IsReplayed, IsRefused, IsTextAnswer, AnswersWith, IsNothing, ReadsBounded, ReadsWithin}
+use Rattle.sr_check.specs.declared.task.Task.TheVariants as task
+use Rattle.sr_words.specs.declared.commands.Asked.{Asked}
+use Rattle.sr_words.specs.declared.commands.Asked.TheVariants.{Replay, Check, Convert}
+use Rattle.sr_check.specs.Writes.{IsText, Writes, WritesPart, WritesOfRead}
+use Rattle.sr_check.proofs.Inputs.{consumes_none, told, behind, whole_told, appends_none, read_nothing}
 use Rattle.sr_app.proofs.Parsing.{refused_front}
 
--- bytes that were read behind others
-pub consumes_more : (a b c : Option (List ℕ)) (xs ys : List ℕ) → Consumes a b xs → Consumes b c ys → Consumes a c (xs ++ ys)
-consumes_more None b c xs ys p q = tt
-consumes_more (Some a) None c xs ys p q = absurd p
-consumes_more (Some a) (Some b) None xs ys p q = absurd q
-consumes_more (Some a) (Some b) (Some c) xs ys p q = p ∙ ap (λ zs. xs ++ zs) q ∙ sym (append_assoc xs ys c)
-
--- a text that was read to the end is the whole input
-pub text_told : (input left : Option (List ℕ)) (text : List ℕ) → Consumes input left text → IsAtEnd left → IsText input text
-text_told None left text read ended = tt
-text_told (Some bytes) None text read ended = absurd read
-text_told (Some bytes) (Some rest) text read ended = read ∙ ap (λ xs. text ++ xs) ended ∙ append-nil text
-
 pub replayed_told : (input left : Option (List ℕ)) (text report : List ℕ) → Consumes input left text → (length text ≤ 16777216 → IsAtEnd left) → IsReplayed text report → IsText input text
-replayed_told input left text report read ended replayed = text_told input left text read (ended replayed.script.holds.short)
+replayed_told input left text report read ended replayed = whole_told input left text read (ended replayed.script.holds.short)
 
 -- the input, and its refusal
 record IsRefusedInput (input : Option (List ℕ)) (answer : List ℕ) : Type 0 where
@@ -71,3 +62,15 @@ writes_part input left before now text answer n Usage read ended none appends = 
 writes_part input left before now text answer n ReadFault read ended none appends = absurd none
 writes_part input left before now text answer n WriteFault read ended none appends = absurd none
 writes_part input left before now text answer n NoMemory read ended none appends = absurd none
+
+-- nothing was written
+pub nothing_written : (input now : Option (List ℕ)) → Writes IsNothing input now now
+nothing_written input now = (behind input, [], told input input [] (consumes_none input), refl, appends_none now)
+
+pub nothing_of_read : (input left now : Option (List ℕ)) → ReadsBounded input left → WritesOfRead IsNothing input left now now
+nothing_of_read input left now bounded = (bounded.0, [], bounded.1, refl, appends_none now)
+
+pub reads_nothing : (asked : Asked) (input : Option (List ℕ)) → ReadsWithin asked input input
+reads_nothing Replay input = ([], consumes_none input, omega arith)
+reads_nothing (Check codec) input = read_nothing (task.Check codec) input
+reads_nothing (Convert from to) input = read_nothing (task.Convert from to) input

@@ -1,11 +1,13 @@
 -- Frames as they are written one after the other, and fronts of them.
-use Rattle.std.proofs.Common.{◌≡◌, ◌≤◌, ℕ, List, [], ◌∷◌, ◌++◌, length, take, drop, refl, sym, ◌∙◌, ap, subst, arith, append_assoc, length-append, All}
+use Rattle.std.proofs.Common.{inl, inr, ◌≡◌, ◌≤◌, ℕ, List, [], ◌∷◌, ◌++◌, length, take, drop, refl, sym, ◌∙◌, ap, subst, arith, append_assoc, length-append, All}
 use Rattle.std.specs.Prelude.{map}
 use Rattle.std.proofs.lemmas.List.{append_cancel_left, take-append-drop, drop-append-le, drop_at, append-nil, length-map, drop-map}
 use Rattle.std.proofs.lemmas.List.Elements.{All-nil, All-cons, All-head, All-tail, All-drop, All-map, All-weaker}
 use Rattle.hf_split.specs.declared.framing.Framing.TheVariants.{Record}
-use Rattle.hf_split.specs.Cuts.{Spelled, AreFrames, IsFrame, BeginsWith, IsTooLong, always, wrapped, frames_of}
-use Rattle.hf_split.specs.Held.{Held, Stands}
+use Rattle.hf_split.specs.Cuts.{Spelled, AreFrames, IsFrame, BeginsWith, IsTooLong, IsFaulty, always, wrapped, frames_of}
+use Rattle.hf_split.specs.Held.{Held, Stands, IsFaultOf}
+use Rattle.hf_split.specs.declared.splitter.SplitFault.{SplitFault}
+use Rattle.hf_split.specs.declared.splitter.SplitFault.TheVariants.{TooLong, BadLength}
 use Rattle.hf_split.proofs.Streams.{begins_once}
 use Rattle.hf_split.proofs.Beginnings.{too_long_begins_none, wrapped_begins}
 use Rattle.hm_message.specs.declared.message.Message.{Message}
@@ -78,9 +80,22 @@ held_front held link n got stands each front =
       whole = parts.1 ∙ ap written_of rest;
     }
 
+-- with the separator no other fault is there
+pub record_fault : (most : ℕ) (bytes : List ℕ) → IsFaulty Record most bytes → IsTooLong Record most bytes
+record_fault most bytes (inl long) = long
+record_fault most bytes (inr bad) = absurd bad
+
+-- what a splitter says is at fault is
+pub faulty_by : (held : Held) (fault : SplitFault) → IsFaultOf held fault → IsFaulty held.framing held.most held.bytes
+faulty_by held (TooLong at) is = inl is.1
+faulty_by held (BadLength at) is = inr is.1
+
 -- a front is never too long
-pub front_short : (bytes : List ℕ) → IsFront [] bytes → IsTooLong Record 32768 bytes → ⊥
-front_short bytes front long = by_all front.all front.each front.whole where
+pub front_short : (bytes : List ℕ) → IsFront [] bytes → IsFaulty Record 32768 bytes → ⊥
+front_short bytes front fault = by_all front.all front.each front.whole where
+  long : IsTooLong Record 32768 bytes
+  long = record_fault 32768 bytes fault
+
   by_all : (all : List Message) → All IsCarried all → bytes ++ front.more ≡ written_of (map Spell all) → ⊥
   by_all [] each whole = omega (arith, long.0, ap length whole, length-append bytes front.more)
   by_all (m ∷ all) each whole =

@@ -1,10 +1,8 @@
 pub mod Answering
-pub mod Checking
 pub mod Frames
 pub mod Grammar
 pub mod Link
 pub mod Moving
-pub mod OneAnswer
 pub mod Opening
 pub mod Parsing
 pub mod Replaying

@@ -4,7 +4,7 @@ use Rattle.std.proofs.lemmas.List.{append-nil, take-append-drop, take_all, drop-
 use Rattle.std.proofs.lemmas.List.Elements.{All-nil, All-push, All-append}
 use Rattle.hf_split.specs.declared.framing.Framing.{Framing}
 use Rattle.hf_split.specs.declared.framing.Framing.TheVariants.{Record}
-use Rattle.hf_split.specs.Cuts.{Spelled, AreFrames, BeginsWith, IsTooLong, IsWaiting, always, wrapped}
+use Rattle.hf_split.specs.Cuts.{Spelled, AreFrames, BeginsWith, IsFaulty, IsWaiting, always, wrapped}
 use Rattle.hf_split.specs.Held.{Held, Stands, IsInStep, fed, past}
 use Rattle.hm_message.specs.declared.message.Message.{Message}
 use Rattle.hm_json.specs.Says.{Says}
@@ -170,8 +170,8 @@ taking_shorter first held next processed total before now item t begins is =
       length-append item.frame (30 ∷ []),
     )
 
-pub taking_not_long : (first held : Held) (processed total : ℕ) (before now : List ℕ) → Taking first held processed total before now → IsTooLong held.framing held.most held.bytes → ⊥
-taking_not_long first held processed total before now t long = front_short held.bytes t.front (with_reader (λ f m. IsTooLong f m held.bytes) held t.reader long)
+pub taking_not_long : (first held : Held) (processed total : ℕ) (before now : List ℕ) → Taking first held processed total before now → IsFaulty held.framing held.most held.bytes → ⊥
+taking_not_long first held processed total before now t long = front_short held.bytes t.front (with_reader (λ f m. IsFaulty f m held.bytes) held t.reader long)
 
 -- no whole frame is left
 pub takes_all : (first held : Held) (processed total : ℕ) (before now : List ℕ) → Taking first held processed total before now
@@ -276,10 +276,10 @@ read_whole first held link from at processed total before now read past got wait
 
 -- a piece that was fed to a reader that waits isn't empty
 pub fed_some : (held : Held) (link : List ℕ) (at total n size : ℕ) → IsReading held link at total → 0 < size
-    → ((IsTooLong held.framing held.most held.bytes → ⊥) → n ≡ min size (held.most + 5 - length held.bytes)) → 0 < n
+    → ((IsFaulty held.framing held.most held.bytes → ⊥) → n ≡ min size (held.most + 5 - length held.bytes)) → 0 < n
 fed_some held link at total n size reading some count =
     let waits = reading.waits in
-    let not_long : IsTooLong held.framing held.most held.bytes → ⊥ = λ long. waits.waiting.no_fault (with_reader (λ f m. IsTooLong f m held.bytes) held waits.reader long) in
+    let not_long : IsFaulty held.framing held.most held.bytes → ⊥ = λ long. waits.waiting.no_fault (with_reader (λ f m. IsFaulty f m held.bytes) held waits.reader long) in
     omega (arith, count not_long, waits.room, waits.reader.most)
 
 pub is_fed : (held next : Held) (link : List ℕ) (at n : ℕ) → IsReader held → next ≡ fed held (take n (drop at link)) → n ≤ length (drop at link)

@@ -3,12 +3,13 @@ use Rattle.std.proofs.Common.{◌≡◌, ◌+◌, ℕ, List, [], ◌∷◌, ◌+
 use Rattle.std.proofs.lemmas.List.{append-nil, take_all, drop_all}
 use Rattle.hf_split.specs.declared.framing.Framing.{Framing}
 use Rattle.hf_split.specs.declared.framing.Framing.TheVariants.{Record}
-use Rattle.hf_split.specs.Cuts.{Spelled, BeginsWith, IsTooLong, IsWaiting, always, wrapped}
+use Rattle.hf_split.specs.Cuts.{Spelled, BeginsWith, IsFaulty, IsWaiting, always, wrapped}
 use Rattle.hf_split.specs.Held.{Held, Stands, IsInStep, fresh, taken, fed, past}
 use Rattle.hf_split.proofs.Streams.{begins_once}
 use Rattle.hf_split.proofs.Beginnings.{too_long_begins_none, wrapped_begins}
 use Rattle.sr_app.specs.World.{written_of}
 use Rattle.sr_app.specs.Follows.{IsShort, IsReader, Waits, items_of}
+use Rattle.sr_app.proofs.Frames.{record_fault}
 use Rattle.sr_app.proofs.Link.{waits_by}
 
 -- a reader that holds these bytes, which are all that it was fed
@@ -17,14 +18,14 @@ holding bytes = record { framing = Record; most = 32768; place = 0; bytes = byte
 
 -- the whole handshake is taken
 pub fed_whole : (held next : Held) (lane handshake : List ℕ) (n : ℕ) → IsShort handshake → lane ≡ written_of (handshake ∷ []) → held ≡ fresh Record 32768
-    → ((IsTooLong held.framing held.most held.bytes → ⊥) → n ≡ taken held (length lane)) → next ≡ fed held (take n lane)
+    → ((IsFaulty held.framing held.most held.bytes → ⊥) → n ≡ taken held (length lane)) → next ≡ fed held (take n lane)
     → (next ≡ holding lane) × (take n lane ≡ lane)
 unfolding holding
 fed_whole held next lane handshake n short is start count after =
     let empty : held.bytes ≡ [] = ap (λ (h : Held). h.bytes) start in
     let most : held.most ≡ 32768 = ap (λ (h : Held). h.most) start in
     let size : length lane ≡ length handshake + 1 = ap length is ∙ length-append (handshake ++ 30 ∷ []) [] ∙ (let h : length (handshake ++ 30 ∷ []) + 0 ≡ length handshake + 1 = omega (arith, length-append handshake (30 ∷ [])) in h) in
-    let not_long : IsTooLong held.framing held.most held.bytes → ⊥ = subst (λ (h : Held). IsTooLong h.framing h.most h.bytes → ⊥) (sym start) (λ long. omega (arith, long.0)) in
+    let not_long : IsFaulty held.framing held.most held.bytes → ⊥ = subst (λ (h : Held). IsFaulty h.framing h.most h.bytes → ⊥) (sym start) (λ fault. let long = record_fault 32768 [] fault in omega (arith, long.0)) in
     let all : n ≡ length lane = omega (arith, count not_long, ap length empty, most, size, short.short) in
     let whole : take n lane ≡ lane = take_all n lane (omega arith) in
     (after ∙ ap (λ (h : Held). fed h (take n lane)) start ∙ ap (λ (xs : List ℕ). fed (fresh Record 32768) xs) whole, whole)
@@ -33,10 +34,10 @@ fed_whole held next lane handshake n short is start count after =
 handshake_begins : (lane handshake : List ℕ) → IsShort handshake → lane ≡ written_of (handshake ∷ []) → BeginsWith Record 32768 lane (wrapped Record handshake)
 handshake_begins lane handshake short is = subst (λ (xs : List ℕ). BeginsWith Record 32768 xs (wrapped Record handshake)) (sym is) (wrapped_begins Record 32768 handshake [] short.plain short.short)
 
-pub handshake_not_long : (next : Held) (lane handshake : List ℕ) → IsShort handshake → lane ≡ written_of (handshake ∷ []) → next ≡ holding lane → IsTooLong next.framing next.most next.bytes → ⊥
+pub handshake_not_long : (next : Held) (lane handshake : List ℕ) → IsShort handshake → lane ≡ written_of (handshake ∷ []) → next ≡ holding lane → IsFaulty next.framing next.most next.bytes → ⊥
 unfolding holding
-handshake_not_long next lane handshake short is e long =
-    too_long_begins_none Record 32768 lane [] (wrapped Record handshake) (subst (λ (h : Held). IsTooLong h.framing h.most h.bytes) e long)
+handshake_not_long next lane handshake short is e fault =
+    too_long_begins_none Record 32768 lane [] (wrapped Record handshake) (record_fault 32768 lane (subst (λ (h : Held). IsFaulty h.framing h.most h.bytes) e fault))
     (subst (λ (xs : List ℕ). BeginsWith Record 32768 xs (wrapped Record handshake)) (sym (append-nil lane)) (handshake_begins lane handshake short is))
 
 pub handshake_there : (next : Held) (lane handshake : List ℕ) → IsShort handshake → lane ≡ written_of (handshake ∷ []) → next ≡ holding lane → IsWaiting next.framing next.most next.bytes → ⊥
@@ -75,6 +76,6 @@ shaken held next after lane handshake n item short is e whole empty feeds begins
     let waiting : IsWaiting after.framing after.most after.bytes = subst (λ (xs : List ℕ). IsWaiting after.framing after.most xs) (sym none)
     (subst (λ (f : Framing). IsWaiting f after.most []) (sym reader.framing) (record {
       no_frame = λ x b. omega (arith, ap length b.front, length-append x.spelling (drop (length x.spelling) []), ap length b.is_frame.spells.0, length-append x.frame (30 ∷ []));
-      no_fault = λ long. omega (arith, long.0);
+      no_fault = λ fault. let long = record_fault after.most [] fault in omega (arith, long.0);
     })) in
     waits_by after lane (handshake ∷ []) reader done waiting (omega (arith, ap length none))

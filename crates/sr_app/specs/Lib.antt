@@ -1,13 +1,9 @@
-pub mod Check
 pub mod Follows
 pub mod Laws
 pub mod Lines
-pub mod Listing
 pub mod Reading
 pub mod Refusal
 pub mod Report
 pub mod Run
 pub mod Script
-pub mod Unique
 pub mod World
-pub mod Writes

@@ -4,23 +4,20 @@ use Rattle.std.specs.Io.KnownBytes.{Appends, Consumes}
 use Rattle.std.specs.declared.alloc.Global.{Global}
 use Rattle.sr_app.specs.declared.command.Command.{Command}
 use Rattle.sr_app.specs.declared.run.Status.{Status}
-use Rattle.sr_app.specs.declared.run.Status.TheVariants.{Done, Refused}
-use Rattle.sr_app.specs.Unique.{IsTheOne}
+use Rattle.sr_app.specs.declared.run.Status.TheVariants.{Done, Refused, ReadFault, WriteFault, NoMemory}
+use Rattle.sr_words.specs.Unique.{IsTheOne}
 use Rattle.sr_app.specs.Script.{Parses}
 use Rattle.sr_app.specs.Refusal.{IsRefusedAt, refusal_line}
 use Rattle.sr_app.specs.Report.{IsReportOf}
-use Rattle.sr_app.specs.Writes.{Writes, WritesPart}
-use Rattle.sr_app.specs.Check.{IsChecked, IsStopped, IsCheckPart}
-
--- the words of the commands
-abbrev pub IsReplay : List (String Global) → Type 0
-IsReplay words = (word : String Global) × (words ≡ word ∷ []) × (string_bytes word ≡ codes "replay")
-
-abbrev pub IsCheckJson : List (String Global) → Type 0
-IsCheckJson words = (first second : String Global) × (words ≡ first ∷ second ∷ []) × (string_bytes first ≡ codes "check") × (string_bytes second ≡ codes "json")
-
-abbrev pub IsNoCommand : List (String Global) → Type 0
-IsNoCommand words = (IsReplay words → ⊥) × (IsCheckJson words → ⊥)
+use Rattle.sr_check.specs.Writes.{Writes, WritesPart, WritesOfRead}
+use Rattle.sr_check.specs.declared.task.Task.{Task}
+use Rattle.sr_check.specs.declared.task.Task.TheVariants as task
+use Rattle.sr_check.specs.declared.task.Stop.{Stop}
+use Rattle.sr_check.specs.declared.task.Stop.TheVariants as stop
+use Rattle.sr_check.specs.Stream.{IsDone, IsStopped, IsBegun, IsAllSoFar, IsPart, ReadsNoFurther}
+use Rattle.sr_words.specs.declared.commands.Asked.{Asked}
+use Rattle.sr_words.specs.declared.commands.Asked.TheVariants.{Replay, Check, Convert}
+use Rattle.sr_words.specs.Words.{Asks, IsNoCommand}
 
 abbrev pub usage_line : List ℕ
 usage_line = codes "usage: sr replay, soak, serve, client, check or convert\n"
@@ -47,23 +44,72 @@ AnswersWith Done text answer = IsReplayed text answer
 AnswersWith Refused text answer = IsRefused text answer
 AnswersWith _ text answer = ⊥
 
--- what was asked for was done, and its whole answer written
-abbrev pub WritesDone : List (String Global) → Option (List ℕ) → Option (List ℕ) → Option (List ℕ) → Type 0
-WritesDone words input before now =
-    (IsReplay words × Writes IsReplayed input before now) ⊎ (IsCheckJson words × Writes IsChecked input before now)
+-- ---- what is written, by the command
 
--- the input was refused, and the refusal written
-abbrev pub WritesRefused : List (String Global) → Option (List ℕ) → Option (List ℕ) → Option (List ℕ) → Type 0
-WritesRefused words input before now =
-    (IsReplay words × Writes IsRefused input before now) ⊎ (IsCheckJson words × Writes IsStopped input before now)
+-- what is written for an input
+abbrev pub Meaning : Type 1
+Meaning = List ℕ → List ℕ → Type 0
 
--- a first part of what these words ask for was written, and nothing else
+-- `replay` has this meaning, and a task over frames that one
+abbrev pub by_command : Meaning → (Task → Meaning) → Asked → Meaning
+by_command replay tasks Replay = replay
+by_command replay tasks (Check codec) = tasks (task.Check codec)
+by_command replay tasks (Convert from to) = tasks (task.Convert from to)
+
+abbrev pub IsNothing : Meaning
+IsNothing text answer = answer ≡ []
+
+-- where it was done: the whole answer
+abbrev pub DoneMeans : Asked → Meaning
+DoneMeans = by_command IsReplayed IsDone
+
+-- where the input is refused: the refusal, behind what is written of the frames before
+abbrev pub RefusedMeans : Asked → Meaning
+RefusedMeans = by_command IsRefused IsStopped
+
+-- whatever is written, of which a first part may be
+abbrev pub PartMeans : Asked → Meaning
+PartMeans = by_command IsTextAnswer IsPart
+
+-- where memory is wanting: what is written of some frames
+abbrev pub BegunMeans : Asked → Meaning
+BegunMeans = by_command IsNothing IsBegun
+
+-- where the input failed: what is written of the frames that were read
+abbrev pub ReadMeans : Asked → Meaning
+ReadMeans = by_command IsNothing IsAllSoFar
+
+-- ---- what is written, by the words
+
+-- the words ask for one thing, and what is written for the input has the meaning that this has
+abbrev pub WritesFor : (Asked → Meaning) → List (String Global) → Option (List ℕ) → Option (List ℕ) → Option (List ℕ) → Type 0
+WritesFor Means words input before now = (asked : Asked) × IsTheOne (Asks words) asked × Writes (Means asked) input before now
+
+-- the same for what was read of the input
+abbrev pub WritesOfReadFor : List (String Global) → Option (List ℕ) → Option (List ℕ) → Option (List ℕ) → Option (List ℕ) → Type 0
+WritesOfReadFor words input left before now = (asked : Asked) × IsTheOne (Asks words) asked × WritesOfRead (ReadMeans asked) input left before now
+
+-- a first part of what is written for these words, and nothing else
 abbrev pub WritesPartFor : List (String Global) → Option (List ℕ) → Option (List ℕ) → Option (List ℕ) → Type 0
 WritesPartFor words input before now =
-    (IsReplay words × WritesPart IsTextAnswer input before now)
-    ⊎ ((IsCheckJson words × WritesPart IsCheckPart input before now)
-    ⊎ (IsNoCommand words × ((n : ℕ) × Appends before now (take n usage_line))))
+    ((asked : Asked) × IsTheOne (Asks words) asked × WritesPart (PartMeans asked) input before now)
+    ⊎ (IsNoCommand words × ((n : ℕ) × Appends before now (take n usage_line)))
+
+-- ---- how far the input is read
 
 -- of the bytes that are told no more were read than a script may have, and one piece of 4,096
 abbrev pub ReadsBounded : Option (List ℕ) → Option (List ℕ) → Type 0
 ReadsBounded before now = (taken : List ℕ) × Consumes before now taken × (length taken ≤ 16777216 + 4096)
+
+-- no more was read than a script may have and one piece, or one piece past frames of which none is refused
+abbrev pub ReadsWithin : Asked → Option (List ℕ) → Option (List ℕ) → Type 0
+ReadsWithin Replay before now = ReadsBounded before now
+ReadsWithin (Check codec) before now = ReadsNoFurther (task.Check codec) before now
+ReadsWithin (Convert from to) before now = ReadsNoFurther (task.Convert from to) before now
+
+-- the status that goes with how a task ended
+abbrev pub status_of : Stop → Status
+status_of stop.Refused = Refused
+status_of stop.ReadFault = ReadFault
+status_of stop.WriteFault = WriteFault
+status_of stop.NoMemory = NoMemory

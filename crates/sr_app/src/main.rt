@@ -1,7 +1,6 @@
-//! The program `sr`: it replays a script over the two ends of one link, and checks frames of messages.
+//! The program `sr`: it replays a script over the two ends of one link, and checks and converts frames of messages.
 #![tactic(auto)]
 
-mod check;
 mod command;
 mod laws;
 mod pair;

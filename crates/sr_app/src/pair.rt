@@ -2,7 +2,7 @@ ghost use Rattle.std.specs.Prelude.{◌≡◌, ◌-◌, ◌<◌, ◌≤◌, ◌+
 ghost use Rattle.hf_split.specs.declared.framing.Framing.TheVariants.{Record};
 ghost use Rattle.hf_split.specs.Cuts.{always};
 ghost use Rattle.hf_split.specs.Held.{Stands};
-ghost use Rattle.sr_app.specs.Unique.{IsTheOne};
+ghost use Rattle.sr_words.specs.Unique.{IsTheOne};
 ghost use Rattle.hm_message.specs.declared.message.Message.{Message};
 ghost use Rattle.hm_json.specs.Says.{Says};
 ghost use Rattle.hm_json.specs.Spell.{Spell};
@@ -13,7 +13,7 @@ ghost use Rattle.sr_app.specs.Follows.{IsShort, IsReader, IsFront, IsReading, Is
 
 use crate::command::{Command, Count};
 use crate::report::{push_client, push_got, push_sent, push_server};
-use hf_split::{Framing, SplitFault, Splitter, wrap};
+use hf_split::{Framing, Splitter, wrap};
 use hm_json::{Refusal, read_message, write_message};
 use hm_message::{Headers, Message, Read};
 use hv_value::{Items, Text, Texts};
@@ -39,7 +39,7 @@ fn shake(alloc: Global, lane: &[u8], handshake: &'static [u8]) -> Result<Splitte
     match splitter.frame() {
         Ok(Some((_, frame))) => prove!(frame == handshake),
         Ok(None) => unreachable!(),
-        Err(SplitFault::TooLong { .. }) => unreachable!(),
+        Err(_) => unreachable!(),
     }
     splitter.pass();
     Ok(splitter)
@@ -86,7 +86,7 @@ fn take_messages(
                 splitter.pass();
             }
             Ok(None) => return Ok(total),
-            Err(SplitFault::TooLong { .. }) => unreachable!(),
+            Err(_) => unreachable!(),
         }
     }
 }

@@ -1,15 +1,16 @@
-ghost use Rattle.std.specs.Prelude.{◌≡◌, ◌≢◌, ◌≤◌, ◌+◌, ◌↔◌, ◌⊎◌, ℕ, IsTrue, IfOk, IfSome, OnOk, Err, length, take};
+ghost use Rattle.std.specs.Prelude.{◌≡◌, ◌≢◌, ◌≤◌, ◌+◌, ◌⊎◌, ℕ, IfOk, Err, length, take};
 ghost use Rattle.std.specs.Io.KnownBytes.{Appends, Consumes, IsAtEnd};
 ghost use Rattle.hw_io.specs.Causes.{Rose};
-ghost use Rattle.hw_io.specs.Known.{PutAppends};
-ghost use Rattle.sr_app.specs.Run.{IsReplay, IsCheckJson, IsNoCommand, IsReplayed, IsRefused, IsTextAnswer, AnswersWith, WritesDone, WritesRefused, WritesPartFor, ReadsBounded, usage_line};
-ghost use Rattle.sr_app.specs.Check.{IsListed, IsListedAll};
-ghost use Rattle.sr_app.specs.Writes.{Writes, WritesPart, WritesOfRead};
+ghost use Rattle.sr_check.specs.Stream.{IsDone, IsStopped, IsBegun, IsAllSoFar, IsPart, ReadsNoFurther};
+ghost use Rattle.sr_check.specs.Writes.{Writes, WritesPart, WritesOfRead};
+ghost use Rattle.sr_words.specs.Words.{Asks, IsNoCommand};
+ghost use Rattle.sr_app.specs.Run.{IsReplayed, IsRefused, IsTextAnswer, AnswersWith, DoneMeans, RefusedMeans, PartMeans, BegunMeans, ReadMeans, WritesFor, WritesPartFor, WritesOfReadFor, ReadsBounded, ReadsWithin, usage_line};
 
-use crate::check::check_json;
 use crate::pair::replay;
 use crate::script::{MOST_BYTES, ScriptError, parse};
 use hw_io::{Failed, Sink, Source};
+use sr_check::{Stop, Task};
+use sr_words::{Asked, WordsError, asked};
 use std::alloc::{AllocError, Global};
 
 const USAGE: &[u8] = b"usage: sr replay, soak, serve, client, check or convert\n";
@@ -109,18 +110,58 @@ fn run_replay<S: Source, K: Sink>(alloc: Global, input: &mut S, out: &mut K) -> 
     }
 }
 
-/// Whether the words are those of the command `replay`.
-fn is_replay(words: &[String]) -> bool
-    ensures { IsTrue result ↔ IsReplay words.now }
-{
-    words.len() == 1 && words[0].as_str() == "replay"
+impl From<Stop> for Status {
+    ghost use Rattle.std.specs.Prelude.{◌≡◌};
+    ghost use Rattle.sr_app.specs.Run.{status_of};
+
+    ghost from_gives = { λ stop status. status ≡ status_of stop };
+
+    fn from(stop: Stop) -> Status {
+        match stop {
+            Stop::Refused => Status::Refused,
+            Stop::ReadFault => Status::ReadFault,
+            Stop::WriteFault => Status::WriteFault,
+            Stop::NoMemory => Status::NoMemory,
+        }
+    }
 }
 
-/// Whether the words are those of the command `check json`.
-fn is_check_json(words: &[String]) -> bool
-    ensures { IsTrue result ↔ IsCheckJson words.now }
+/// Does a task over the frames that the input holds.
+fn run_task<S: Source, K: Sink>(alloc: Global, task: Task, input: &mut S, out: &mut K) -> Status
+    ensures done { result ≡ Status.Done → IsAtEnd (S.left input.new) × Writes (IsDone task) (S.left input.old) (K.holds out.old) (K.holds out.new) }
+    ensures usage { result ≢ Status.Usage }
+    ensures refused { result ≡ Status.Refused → Writes (IsStopped task) (S.left input.old) (K.holds out.old) (K.holds out.new) }
+    ensures read_fault { result ≡ Status.ReadFault → Rose (S.faults input.old) (S.faults input.new)
+        × WritesOfRead (IsAllSoFar task) (S.left input.old) (S.left input.new) (K.holds out.old) (K.holds out.new) }
+    ensures write_fault { result ≡ Status.WriteFault → Rose (K.faults out.old) (K.faults out.new)
+        × WritesPart (IsPart task) (S.left input.old) (K.holds out.old) (K.holds out.new) }
+    ensures no_memory { result ≡ Status.NoMemory → Writes (IsBegun task) (S.left input.old) (K.holds out.old) (K.holds out.new) }
+    ensures no_further { ReadsNoFurther task (S.left input.old) (S.left input.new) }
 {
-    words.len() == 2 && words[0].as_str() == "check" && words[1].as_str() == "json"
+    match task.run(alloc, input, out) {
+        Ok(()) => Status::Done,
+        Err(stop) => Status::from(stop),
+    }
+}
+
+/// Carries out a command.
+fn carry_out<S: Source, K: Sink>(alloc: Global, asked: Asked, input: &mut S, out: &mut K) -> Status
+    ensures done { result ≡ Status.Done → IsAtEnd (S.left input.new) × Writes (DoneMeans asked) (S.left input.old) (K.holds out.old) (K.holds out.new) }
+    ensures usage { result ≢ Status.Usage }
+    ensures refused { result ≡ Status.Refused → Writes (RefusedMeans asked) (S.left input.old) (K.holds out.old) (K.holds out.new) }
+    ensures read_fault { result ≡ Status.ReadFault → Rose (S.faults input.old) (S.faults input.new)
+        × WritesOfRead (ReadMeans asked) (S.left input.old) (S.left input.new) (K.holds out.old) (K.holds out.new) }
+    ensures write_fault { result ≡ Status.WriteFault → Rose (K.faults out.old) (K.faults out.new)
+        × WritesPart (PartMeans asked) (S.left input.old) (K.holds out.old) (K.holds out.new) }
+    ensures no_memory { result ≡ Status.NoMemory → Writes (BegunMeans asked) (S.left input.old) (K.holds out.old) (K.holds out.new) }
+    ensures untouched { asked ≡ Asked.Replay → (result ≡ Status.ReadFault) ⊎ (result ≡ Status.NoMemory) → out.new ≡ out.old }
+    ensures within { ReadsWithin asked (S.left input.old) (S.left input.new) }
+{
+    match asked {
+        Asked::Replay => run_replay(alloc, input, out),
+        Asked::Check { codec } => run_task(alloc, Task::Check { codec }, input, out),
+        Asked::Convert { from, to } => run_task(alloc, Task::Convert { from, to }, input, out),
+    }
 }
 
 /// Does what the words say, over this input and this output, and answers the exit status.
@@ -129,31 +170,28 @@ fn is_check_json(words: &[String]) -> bool
 /// |---|---|
 /// | 0 | the input is what the command asks for; its whole answer was written |
 /// | 1 | the words are no command; the usage line was written |
-/// | 2 | the input is refused; the refusal was written, behind the lines of the frames that were checked |
-/// | 3 | the input failed; nothing was written but the lines of the frames that were checked |
+/// | 2 | the input is refused; what is written of the frames before, and the refusal, was written |
+/// | 3 | the input failed; nothing was written but what is written of the frames that were read |
 /// | 4 | the output failed; it took a first part of what was to be written |
-/// | 7 | memory is wanting; nothing was written but the lines of the frames that were checked |
+/// | 7 | memory is wanting; nothing was written but what is written of some frames that were read |
 pub fn run<S: Source, K: Sink>(alloc: Global, words: &[String], input: &mut S, out: &mut K) -> u8
     ensures status { (result ≡ 0) ⊎ (result ≡ 1) ⊎ (result ≡ 2) ⊎ (result ≡ 3) ⊎ (result ≡ 4) ⊎ (result ≡ 7) }
-    ensures done { result ≡ 0 → IsAtEnd (S.left input.new) × WritesDone words.now (S.left input.old) (K.holds out.old) (K.holds out.new) }
+    ensures done { result ≡ 0 → IsAtEnd (S.left input.new) × WritesFor DoneMeans words.now (S.left input.old) (K.holds out.old) (K.holds out.new) }
     ensures usage { result ≡ 1 → IsNoCommand words.now × Appends (K.holds out.old) (K.holds out.new) usage_line }
-    ensures wrong_words { IsNoCommand words.now → (result ≡ 1) ⊎ (result ≡ 4) }
-    ensures refused { result ≡ 2 → WritesRefused words.now (S.left input.old) (K.holds out.old) (K.holds out.new) }
+    ensures wrong_words { IsNoCommand words.now → (result ≡ 1) ⊎ (result ≡ 4) ⊎ (result ≡ 7) }
+    ensures refused { result ≡ 2 → WritesFor RefusedMeans words.now (S.left input.old) (K.holds out.old) (K.holds out.new) }
     ensures read_fault { result ≡ 3 → Rose (S.faults input.old) (S.faults input.new)
-        × ((IsReplay words.now × (out.new ≡ out.old))
-        ⊎ (IsCheckJson words.now × WritesOfRead IsListedAll (S.left input.old) (S.left input.new) (K.holds out.old) (K.holds out.new))) }
+        × WritesOfReadFor words.now (S.left input.old) (S.left input.new) (K.holds out.old) (K.holds out.new) }
     ensures write_fault { result ≡ 4 → Rose (K.faults out.old) (K.faults out.new)
         × WritesPartFor words.now (S.left input.old) (K.holds out.old) (K.holds out.new) }
-    ensures no_memory { result ≡ 7 → (IsReplay words.now × (out.new ≡ out.old))
-        ⊎ (IsCheckJson words.now × Writes IsListed (S.left input.old) (K.holds out.old) (K.holds out.new)) }
-    ensures bounded { IsReplay words.now → ReadsBounded (S.left input.old) (S.left input.new) }
+    ensures no_memory { result ≡ 7 → (out.new ≡ out.old) ⊎ WritesFor BegunMeans words.now (S.left input.old) (K.holds out.old) (K.holds out.new) }
+    ensures untouched { Asks words.now Asked.Replay → (result ≡ 3) ⊎ (result ≡ 7) → out.new ≡ out.old }
+    ensures within { (command : Asked) → Asks words.now command → ReadsWithin command (S.left input.old) (S.left input.new) }
     ensures unread { IsNoCommand words.now → input.new ≡ input.old }
 {
-    if is_replay(words) {
-        return run_replay(alloc, input, out) as u8;
+    match asked(alloc, words) {
+        Ok(command) => carry_out(alloc, command, input, out) as u8,
+        Err(WordsError::NotACommand) => write(out, USAGE, Status::Usage) as u8,
+        Err(WordsError::NoMemory) => Status::NoMemory as u8,
     }
-    if is_check_json(words) {
-        return check_json(alloc, input, out) as u8;
-    }
-    write(out, USAGE, Status::Usage) as u8
 }

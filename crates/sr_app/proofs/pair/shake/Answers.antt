@@ -3,6 +3,7 @@ use Rattle.std.proofs.lemmas.Slice.Eq.{bytes_eq-Decides}
 use Rattle.std.specs.Str.{bytes_eq}
 use Rattle.hf_split.specs.declared.framing.Framing.TheVariants.{Record}
 use Rattle.hf_split.specs.Cuts.{Spelled, always}
+use Rattle.sr_app.proofs.Frames.{faulty_by}
 use Rattle.sr_app.proofs.Opening.{fed_whole, handshake_not_long, handshake_there, handshake_is, shaken}
 use Rattle.sr_app.proofs.pair.shake.Goals as goal
 
@@ -23,11 +24,11 @@ unreachable-requires c =
     c.feed.ensures.count c.feed.ensures.fed in
     handshake_there c.feed.new.self c.args.lane.now c.args.handshake.now c.requires.short c.requires.lane whole.0 (rw c.in-Ok-None.field-0-is at c.in-Ok-None.ensures.waiting)
 
-pub unreachable-requires-in-Err-TooLong : goal.unreachable-requires-in-Err-TooLong
-unreachable-requires-in-Err-TooLong c =
+pub unreachable-requires-in-Err : goal.unreachable-requires-in-Err
+unreachable-requires-in-Err c =
     let whole = fed_whole c.in_ok-splitter.splitter c.feed.new.self c.args.lane.now c.args.handshake.now c.feed.result c.requires.short c.requires.lane c.in_ok-splitter.ensures.empty
     c.feed.ensures.count c.feed.ensures.fed in
-    handshake_not_long c.feed.new.self c.args.lane.now c.args.handshake.now c.requires.short c.requires.lane whole.0 c.in-Err-TooLong.ensures.too_long.1
+    handshake_not_long c.feed.new.self c.args.lane.now c.args.handshake.now c.requires.short c.requires.lane whole.0 (faulty_by c.feed.new.self c.in-Err.field-0 c.in-Err.ensures.fault)
 
 pub returns : goal.returns
 returns c =

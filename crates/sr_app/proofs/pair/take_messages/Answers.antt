@@ -1,5 +1,6 @@
 use Rattle.hf_split.specs.declared.framing.Framing.TheVariants.{Record}
 use Rattle.hf_split.specs.Cuts.{Spelled, always}
+use Rattle.sr_app.proofs.Frames.{faulty_by}
 use Rattle.sr_app.proofs.Link.{taking_first, taking_frame, frame_says, taking_next, taking_shorter, taking_not_long, takes_all}
 use Rattle.sr_app.proofs.pair.take_messages.Goals as goal
 
@@ -35,4 +36,4 @@ returns-in-Ok-None c =
     (rw c.in-Ok-None.field-0-is at c.in-Ok-None.ensures.waiting) (rw c.in-Ok-None.field-0-is at c.in-Ok-None.ensures.not_full)
 
 pub unreachable-requires : goal.unreachable-requires
-unreachable-requires c = taking_not_long c.args.splitter.now c.loop-frame.splitter c.args.processed c.loop-frame.total c.args.report.now.items c.loop-frame.report.items c.loop-frame.invariant c.in-Err-TooLong.ensures.too_long.1
+unreachable-requires c = taking_not_long c.args.splitter.now c.loop-frame.splitter c.args.processed c.loop-frame.total c.args.report.now.items c.loop-frame.report.items c.loop-frame.invariant (faulty_by c.loop-frame.splitter c.in-Err.field-0 c.in-Err.ensures.fault)

@@ -1,5 +1,5 @@
 use Rattle.std.proofs.Common.{◌++◌, take, arith, length-append, length-take}
-use Rattle.sr_app.proofs.Answering.{consumes_more}
+use Rattle.sr_check.proofs.Inputs.{consumes_more}
 use Rattle.sr_app.proofs.run.read_all.Goals as goal
 
 pub returns-then-is_err-clause-bounded : goal.returns-then-is_err-clause-bounded

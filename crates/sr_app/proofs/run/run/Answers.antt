@@ -1,12 +1,58 @@
-use Rattle.std.proofs.Common.{◌≡◌, inl, rules}
-use Rattle.sr_app.specs.declared.run.Status.TheVariants.{Done, Refused}
+use Rattle.std.proofs.Common.{◌≡◌, ◌∙◌, ap, inr, rules, Result, Err}
+use Rattle.sr_words.specs.declared.commands.Asked.{Asked}
+use Rattle.sr_words.specs.declared.error.WordsError.{WordsError}
+use Rattle.sr_words.specs.declared.error.WordsError.TheVariants.{NotACommand}
+use Rattle.sr_words.specs.Words.{IsNoCommand}
+use Rattle.sr_app.specs.declared.run.Status.TheVariants.{Usage, WriteFault}
+use Rattle.sr_app.proofs.Answering.{reads_nothing}
 use Rattle.sr_app.proofs.run.run.Goals as goal
 
-pub returns-then-is_replay-clause-done : goal.returns-then-is_replay-clause-done
-returns-then-is_replay-clause-done g c = λ _.
-    let status : c.run_replay.result ≡ Done = search rules in
-    let done = c.run_replay.ensures.done status in (done.0, inl (c.is_replay.ensures.0 c.if-is_replay.true, done.1))
+failed : (result : Result Asked WordsError) (e : WordsError) → result ≡ Err e → e ≡ NotACommand → result ≡ Err NotACommand
+failed result e is was = is ∙ ap (λ (x : WordsError). let y : Result Asked WordsError = Err x in y) was
 
-pub returns-then-is_replay-3-clause-refused : goal.returns-then-is_replay-3-clause-refused
-returns-then-is_replay-3-clause-refused g c = λ _.
-    let status : c.run_replay.result ≡ Refused = search rules in inl (c.is_replay.ensures.0 c.if-is_replay.true, c.run_replay.ensures.refused status)
+pub returns-in-Ok-clause-wrong_words : goal.returns-in-Ok-clause-wrong_words
+returns-in-Ok-clause-wrong_words g c = λ none. absurd (none c.in-Ok.command c.in-Ok.ensures.asked.holds)
+
+pub returns-in-Ok-clause-unread : goal.returns-in-Ok-clause-unread
+returns-in-Ok-clause-unread g c = λ none. absurd (none c.in-Ok.command c.in-Ok.ensures.asked.holds)
+
+pub returns-in-Ok-3-clause-wrong_words : goal.returns-in-Ok-3-clause-wrong_words
+returns-in-Ok-3-clause-wrong_words g c = λ none. absurd (none c.in-Ok.command c.in-Ok.ensures.asked.holds)
+
+pub returns-in-Ok-3-clause-within : goal.returns-in-Ok-3-clause-within
+returns-in-Ok-3-clause-within g c = λ command asks. rw (c.in-Ok.ensures.asked.only command asks) c.carry_out.ensures.within
+
+pub returns-in-Ok-3-clause-unread : goal.returns-in-Ok-3-clause-unread
+returns-in-Ok-3-clause-unread g c = λ none. absurd (none c.in-Ok.command c.in-Ok.ensures.asked.holds)
+
+pub returns-in-Ok-4-clause-wrong_words : goal.returns-in-Ok-4-clause-wrong_words
+returns-in-Ok-4-clause-wrong_words g c = λ none. absurd (none c.in-Ok.command c.in-Ok.ensures.asked.holds)
+
+pub returns-in-Ok-4-clause-unread : goal.returns-in-Ok-4-clause-unread
+returns-in-Ok-4-clause-unread g c = λ none. absurd (none c.in-Ok.command c.in-Ok.ensures.asked.holds)
+
+pub returns-in-Ok-5-clause-unread : goal.returns-in-Ok-5-clause-unread
+returns-in-Ok-5-clause-unread g c = λ none. absurd (none c.in-Ok.command c.in-Ok.ensures.asked.holds)
+
+pub returns-in-Ok-6-clause-unread : goal.returns-in-Ok-6-clause-unread
+returns-in-Ok-6-clause-unread g c = λ none. absurd (none c.in-Ok.command c.in-Ok.ensures.asked.holds)
+
+pub returns-in-Err-NotACommand-2-clause-usage : goal.returns-in-Err-NotACommand-2-clause-usage
+returns-in-Err-NotACommand-2-clause-usage g c = λ _.
+    let status : c.write.result ≡ Usage = search rules in
+    let none : IsNoCommand c.args.words.now = c.asked.ensures.none (failed c.asked.result c.in-Err-NotACommand.field-0 c.in-Err-NotACommand.is c.in-Err-NotACommand.field-0-is) in (none, c.write.ensures.whole status)
+
+pub returns-in-Err-NotACommand-2-clause-within : goal.returns-in-Err-NotACommand-2-clause-within
+returns-in-Err-NotACommand-2-clause-within g c = λ command _. reads_nothing command (g.S.Source.left c.args.input.now)
+
+pub returns-in-Err-NotACommand-5-clause-write_fault : goal.returns-in-Err-NotACommand-5-clause-write_fault
+returns-in-Err-NotACommand-5-clause-write_fault g c = λ _.
+    let status : c.write.result ≡ WriteFault = search rules in
+    let none : IsNoCommand c.args.words.now = c.asked.ensures.none (failed c.asked.result c.in-Err-NotACommand.field-0 c.in-Err-NotACommand.is c.in-Err-NotACommand.field-0-is) in
+    let part = c.write.ensures.part status in (part.0, inr (none, part.1))
+
+pub returns-in-Err-NotACommand-5-clause-within : goal.returns-in-Err-NotACommand-5-clause-within
+returns-in-Err-NotACommand-5-clause-within g c = λ command _. reads_nothing command (g.S.Source.left c.args.input.now)
+
+pub returns-in-Err-NoMemory-clause-within : goal.returns-in-Err-NoMemory-clause-within
+returns-in-Err-NoMemory-clause-within g c = λ command _. reads_nothing command (g.S.Source.left c.args.input.now)

@@ -1,7 +1,0 @@
--- One value alone.
-use Rattle.std.specs.Prelude.{◌≡◌}
-
--- the fact holds of this value, and of no other
-pub record IsTheOne {A : Type 0} (P : A → Type 0) (value : A) : Type 0 where
-  pub holds : P value
-  pub only : (other : A) → P other → other ≡ value
