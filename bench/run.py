@@ -1,12 +1,14 @@
 #!/usr/bin/env python3
-"""Measures the splitter, `sr replay` and `sr check json` beside a plain scan of the same bytes, in one run. It is no test.
+"""Measures the splitter, `sr replay`, `sr check` and `sr convert` beside others over the same bytes, in one run. It is no test.
 
     bench/run.py [--rounds N] [--mebibytes N]
 
 The splitter (crates/split_bench) counts the frames of 64 MiB, fed in pieces of 4,096 bytes, for frames of 3, 60 and
 32,768 bytes, each followed by the separator. `wc -l` and `grep -c` count the lines of the same bytes with line ends in
-the separators' place. `sr replay` replays a script of 16 MiB, and `wc -l` counts its lines. `sr check json` checks
-64 MiB of invocations of 60 to 300 bytes; its peak memory is told too. Of each the best of N rounds counts, in
+the separators' place. `sr replay` replays a script of 16 MiB, and `wc -l` counts its lines. `sr check json`, `sr check
+pack` and `sr convert` both ways run over 64 MiB of invocations of 60 to 300 bytes, beside bench/peer, a Rust program over
+Debian's librust-serde-json-dev and librust-rmp-serde-dev that writes the same; where these aren't installed it is left
+out. Peak memory of both is told. Of each the best of N rounds counts, in
 processor time (user and system). The ratio is the scan's time by ours: 1.00 is as fast, 0.50 takes
 twice as long. Needs the built programs: `rt run` in crates/split_bench and in crates/sr_app, which this does first."""
 import argparse
@@ -67,6 +69,32 @@ def peak(command, path):
     return int(status.split("VmHWM:")[1].split()[0]) / 1024
 
 
+def peer():
+    """The Rust program to measure beside, or None where its crates aren't there."""
+    registry = "/usr/share/cargo/registry"
+    if not list(pathlib.Path("/usr/share/cargo").glob("registry/serde_json*")) or not list(pathlib.Path("/usr/share/cargo").glob("registry/rmp-serde*")):
+        return None
+    target = pathlib.Path(tempfile.gettempdir()) / "sr-bench-peer"
+    source = ['source.crates-io.replace-with="debian"', f'source.debian.directory="{registry}"']
+    options = [option for setting in source for option in ("--config", setting)]
+    subprocess.run(["cargo", "build", "--quiet", "--release", "--offline", "--target-dir", target, *options], cwd=TOP / "bench" / "peer", check=True)
+    return str(target / "release" / "peer")
+
+
+def tasks(program, other, json_path, pack_path, rounds):
+    """Each task over a stream, beside the other program: rates, the ratio, and peak memory."""
+    for words, path in ((["check", "json"], json_path), (["check", "pack"], pack_path), (["convert", "json", "pack"], json_path), (["convert", "pack", "json"], pack_path)):
+        size = os.path.getsize(path)
+        ours = [program, *words]
+        beside = [("serde", seconds([other, *words], path, rounds))] if other else []
+        row(" ".join(words), size, seconds(ours, path, rounds), beside)
+        if other:
+            same = subprocess.run(ours, stdin=open(path, "rb"), capture_output=True).stdout == subprocess.run([other, *words], stdin=open(path, "rb"), capture_output=True).stdout
+            print(f"    the same output: {same}; {peak(ours, path):.1f} MiB at most, the other {peak([other, *words], path):.1f} MiB")
+        else:
+            print(f"    {peak(ours, path):.1f} MiB at most")
+
+
 def invocations(total):
     draw = random.Random(1)
     frames = []
@@ -100,12 +128,11 @@ def main():
         pathlib.Path(lines).write_bytes(text)
         scans = [("wc -l", seconds(["wc", "-l"], lines, asked.rounds)), ("grep -c", seconds(["grep", "-c", "r"], lines, asked.rounds))]
         row("replay of 16 MiB", len(text), seconds([program, "replay"], lines, asked.rounds), scans)
-        data = invocations(asked.mebibytes << 20)
-        pathlib.Path(path).write_bytes(data)
-        pathlib.Path(lines).write_bytes(data.replace(b"\x1e", b"\n"))
-        check = [program, "check", "json"]
-        row("check json of invocations", len(data), seconds(check, path, asked.rounds), [("wc -l", seconds(["wc", "-l"], lines, asked.rounds))])
-        print(f"check json held {peak(check, path):.1f} MiB at most")
+        pathlib.Path(path).write_bytes(invocations(asked.mebibytes << 20))
+        packed = os.path.join(folder, "packed")
+        with open(path, "rb") as stdin, open(packed, "wb") as stdout:
+            subprocess.run([program, "convert", "json", "pack"], stdin=stdin, stdout=stdout, check=True)
+        tasks(program, peer(), path, packed, asked.rounds)
 
 
 if __name__ == "__main__":
