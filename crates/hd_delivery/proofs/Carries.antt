@@ -6,7 +6,8 @@ use Rattle.hm_message.specs.declared.message.Codec.{Codec}
 use Rattle.hd_delivery.specs.Frames.{Frame, Request, Response, Refusal, Numbered, Ack, Sequence, Ping, Close, Foreign, Strange, Unreadable, Reason, error_of, one_more, count, number, received_of, told, most_told}
 use Rattle.hd_delivery.specs.Histories.{Side, Client, Server, Step, first_link, sent, processed, most_lent, can_keep}
 use Rattle.hd_delivery.specs.Due.{answer}
-use Rattle.hd_delivery.specs.Worlds.{IsPrefixOf, Terms, IsSound}
+use Rattle.hd_facts.specs.Prefixes.{IsPrefix}
+use Rattle.hd_delivery.specs.Worlds.{Terms, IsSound}
 use Rattle.hd_delivery.proofs.Lists.{fold-append, get_front}
 
 -- what is known of the end that writes, and how much the two have processed
@@ -62,7 +63,7 @@ pub MayCarry-front : (F : Facts) (l : ℕ) (n : Option ℕ) (ts us : List Frame)
 MayCarry-front F l n [] us g = tt
 MayCarry-front F l n (u ∷ ts) us g = (g.0, MayCarry-front F l (count n u) ts us g.1)
 
-pub MayCarry-prefix : (F : Facts) (l : ℕ) (ts us : List Frame) → IsPrefixOf ts us → MayCarry F l None us → MayCarry F l None ts
+pub MayCarry-prefix : (F : Facts) (l : ℕ) (ts us : List Frame) → IsPrefix ts us → MayCarry F l None us → MayCarry F l None ts
 MayCarry-prefix F l ts us p g = MayCarry-front F l None ts p.0 (subst (λ x. MayCarry F l None x) (sym p.1) g)
 
 pub MayStand-count : (F : Facts) (l : ℕ) (n : Option ℕ) (t : Frame) → MayStand F l n t → HasNumber (count n t)
@@ -97,7 +98,7 @@ pub record Grows (F G : Facts) : Type 0 where
   pub version : F.version ≡ G.version
   pub keeps : F.keeps ≡ G.keeps
   pub first : F.first ≡ G.first
-  pub sent : IsPrefixOf F.sent G.sent
+  pub sent : IsPrefix F.sent G.sent
   pub most : F.most ≤ G.most
   pub writer : F.writer ≤ G.writer
   pub reader : F.reader ≤ G.reader

@@ -5,7 +5,7 @@ use Rattle.std.proofs.lemmas.Bool.{cases_lt, lt-leb, le-leb}
 use Rattle.hm_message.specs.declared.message.Codec.{Codec}
 use Rattle.hd_delivery.specs.Frames.{Frame}
 use Rattle.hd_delivery.specs.Histories.{Side}
-use Rattle.hd_delivery.specs.Worlds.{IsPrefixOf}
+use Rattle.hd_facts.specs.Prefixes.{IsPrefix}
 use Rattle.hd_delivery.specs.Bytes.{Waits, Wire, IsRead, Cut, cut_by, cut_all, codec_after, frames, spelled}
 
 -- a front of two parts reaches the second, or is a proper part of the first
@@ -43,7 +43,7 @@ within_no : (spell : Frame → List ℕ) (t : Frame) (ts : List Frame) (n : ℕ)
 within_no spell t ts n h = rw (lt-leb (length (spell t)) n h) refl
 
 -- more bytes end more frames
-pub within_more : (spell : Frame → List ℕ) (ts : List Frame) (m n : ℕ) → m ≤ n → IsPrefixOf (within_bytes spell ts m) (within_bytes spell ts n)
+pub within_more : (spell : Frame → List ℕ) (ts : List Frame) (m n : ℕ) → m ≤ n → IsPrefix (within_bytes spell ts m) (within_bytes spell ts n)
 within_more spell [] m n h = ([], refl)
 within_more spell (t ∷ ts) m n h = ⊎_elim
     (λ e. rw (within_no spell t ts m e) (within_bytes spell (t ∷ ts) n, refl))
@@ -51,7 +51,7 @@ within_more spell (t ∷ ts) m n h = ⊎_elim
     (let p = within_more spell ts (m - length (spell t)) (n - length (spell t)) (omega arith) in (p.0, ap (λ us. t ∷ us) p.1))))
     (cases_lt m (length (spell t)))
 
-pub within_prefix : (spell : Frame → List ℕ) (ts : List Frame) (n : ℕ) → IsPrefixOf (within_bytes spell ts n) ts
+pub within_prefix : (spell : Frame → List ℕ) (ts : List Frame) (n : ℕ) → IsPrefix (within_bytes spell ts n) ts
 within_prefix spell [] n = ([], refl)
 within_prefix spell (t ∷ ts) n = ⊎_elim
     (λ e. rw (within_no spell t ts n e) (t ∷ ts, refl))

@@ -1,7 +1,7 @@
 -- Lists, folds and tests.
 use Rattle.std.proofs.Common.{◌≡◌, ℕ, zero, suc, ◌<◌, ◌≤◌, List, [], ◌∷◌, ◌++◌, length, take, drop, Some, None, refl, sym, ap, ◌∙◌, subst, arith, append_assoc, length-append}
 use Rattle.std.specs.Prelude.{slice_get, fold}
-use Rattle.hd_delivery.specs.Worlds.{IsPrefixOf}
+use Rattle.hd_facts.specs.Prefixes.{IsPrefix}
 
 pub fold-append : {A B : Type 0} (f : B → A → B) (n : B) (xs ys : List A) → fold f n (xs ++ ys) ≡ fold f (fold f n xs) ys
 fold-append f n [] ys = refl
@@ -48,22 +48,22 @@ get_none (x ∷ xs) zero e = absurd (cc)
 get_none (x ∷ xs) (suc k) e = let h = get_none xs k e in omega arith
 
 -- a prefix grows by the next element of the whole
-seam : {A : Type 0} (xs rest : List A) (x : A) → slice_get (xs ++ rest) (length xs) ≡ Some x → IsPrefixOf (xs ++ x ∷ []) (xs ++ rest)
+seam : {A : Type 0} (xs rest : List A) (x : A) → slice_get (xs ++ rest) (length xs) ≡ Some x → IsPrefix (xs ++ x ∷ []) (xs ++ rest)
 seam [] [] x e = absurd (cc)
 seam [] (y ∷ rest) x e = (rest, cc)
 seam (z ∷ xs) rest x e = let p = seam xs rest x e in (p.0, ap (λ zs. z ∷ zs) p.1)
 
-pub prefix_next : {A : Type 0} (xs ys : List A) (x : A) → IsPrefixOf xs ys → slice_get ys (length xs) ≡ Some x → IsPrefixOf (xs ++ x ∷ []) ys
-prefix_next xs ys x p g = subst (λ zs. IsPrefixOf (xs ++ x ∷ []) zs) p.1 (seam xs p.0 x (rw p.1 g))
+pub prefix_next : {A : Type 0} (xs ys : List A) (x : A) → IsPrefix xs ys → slice_get ys (length xs) ≡ Some x → IsPrefix (xs ++ x ∷ []) ys
+prefix_next xs ys x p g = subst (λ zs. IsPrefix (xs ++ x ∷ []) zs) p.1 (seam xs p.0 x (rw p.1 g))
 
 pub append_none : {A : Type 0} (xs : List A) → xs ++ [] ≡ xs
 append_none [] = refl
 append_none (x ∷ xs) = ap (λ zs. x ∷ zs) (append_none xs)
 
-pub prefix_more : {A : Type 0} (xs ys zs : List A) → IsPrefixOf xs ys → IsPrefixOf xs (ys ++ zs)
+pub prefix_more : {A : Type 0} (xs ys zs : List A) → IsPrefix xs ys → IsPrefix xs (ys ++ zs)
 prefix_more xs ys zs p = (p.0 ++ zs, sym (append_assoc xs p.0 zs) ∙ ap (λ ws. ws ++ zs) p.1)
 
-pub prefix_length : {A : Type 0} (xs ys : List A) → IsPrefixOf xs ys → length xs ≤ length ys
+pub prefix_length : {A : Type 0} (xs ys : List A) → IsPrefix xs ys → length xs ≤ length ys
 prefix_length xs ys p = let e = sym (length-append xs p.0) ∙ ap length p.1 in omega arith
 
 -- a prefix that is as long is the whole
@@ -71,5 +71,5 @@ whole : {A : Type 0} (xs rest : List A) → length rest ≤ 0 → xs ≡ xs ++ r
 whole xs [] l = sym (append_none xs)
 whole xs (x ∷ rest) l = absurd (omega arith)
 
-pub prefix_whole : {A : Type 0} (xs ys : List A) → IsPrefixOf xs ys → length ys ≤ length xs → xs ≡ ys
+pub prefix_whole : {A : Type 0} (xs ys : List A) → IsPrefix xs ys → length ys ≤ length xs → xs ≡ ys
 prefix_whole xs ys p h = let e = sym (length-append xs p.0) ∙ ap length p.1 in whole xs p.0 (omega arith) ∙ p.1

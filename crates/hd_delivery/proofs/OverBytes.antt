@@ -7,7 +7,8 @@ use Rattle.hm_message.specs.declared.message.Codec.{Codec}
 use Rattle.hd_delivery.specs.Frames.{Frame, Request, Response, Refusal, Numbered, Ack, Sequence, Ping, Close, Foreign, Strange, Unreadable, count}
 use Rattle.hd_delivery.specs.Histories.{Side, Client, Server, Config, Shaken, Step, Attached, Detached, Fed, Took, Sent, Lent, Silenced, is_this, first_of, here, stands_on, was_on, first_link, fed, lent, sent, processed, shaken, codec_of}
 use Rattle.hd_delivery.specs.Due.{handshake, due_after, due_there, due_on, due}
-use Rattle.hd_delivery.specs.Worlds.{IsPrefixOf, Limits, Sizes, CanBeSent, Allowed, Terms, codec_at, config, Still}
+use Rattle.hd_facts.specs.Prefixes.{IsPrefix}
+use Rattle.hd_delivery.specs.Worlds.{Limits, Sizes, CanBeSent, Allowed, Terms, codec_at, config, Still}
 use Rattle.hd_delivery.specs.Bytes.{Waits, Wire, sizes_of, IsRead, IsFaithful, cut_all, codec_after, cut, frames, ByteStep, Bytes, Does, bare, bytes_on, new_frames, in_frames, spelled, AllowedOverBytes, ByteEvent, AtClient, AtServer, client_bytes, server_bytes, IsWorldOverBytes, StillOverBytes}
 use Rattle.hd_delivery.proofs.Lists.{append_none}
 use Rattle.hd_delivery.proofs.Local.{is_this-true, is_this-same, both, or_parts, here_was, has_first, none_was, lent_was}
@@ -197,7 +198,7 @@ module _ (limits : Limits) (wire : Wire) (terms : Terms) (all : List Message) (l
   -- what x was fed is the front of what y lent, and its frames are those that end there
   abbrev Follows : Side → List ByteStep → List ByteStep → Type 0
   Follows side x y = (l : ℕ)
-      → IsPrefixOf (bytes_on l x) (spelled wire terms.codec (lent l (in_frames wire (config (other side) terms) y)))
+      → IsPrefix (bytes_on l x) (spelled wire terms.codec (lent l (in_frames wire (config (other side) terms) y)))
       × (fed l (in_frames wire (config side terms) x) ≡ frames (link_cut wire terms.codec side (codec_at side terms) (is_this l (first_link (in_frames wire (config side terms) x))) (bytes_on l x)))
 
   module _ (side : Side) (x y : List ByteStep) (i : Pair side terms (in_frames wire (config side terms) x) (in_frames wire (config (other side) terms) y))
@@ -224,9 +225,9 @@ module _ (limits : Limits) (wire : Wire) (terms : Terms) (all : List Message) (l
     -- a piece makes some frames whole
     record Completes (l : ℕ) (piece : List ℕ) (new : List Frame) : Type 0 where
       whole : fed l reader ++ new ≡ frames (link_cut wire terms.codec side (codec_at side terms) (is_this l (first_link reader)) (bytes_on l x ++ piece))
-      front : IsPrefixOf (fed l reader ++ new) (lent l writer)
+      front : IsPrefix (fed l reader ++ new) (lent l writer)
 
-    completes : (l : ℕ) (piece : List ℕ) → here reader ≡ Some l → IsPrefixOf (bytes_on l x ++ piece) (spelled wire terms.codec (lent l writer))
+    completes : (l : ℕ) (piece : List ℕ) → here reader ≡ Some l → IsPrefix (bytes_on l x ++ piece) (spelled wire terms.codec (lent l writer))
         → Completes l piece (new_frames wire (config side terms) x reader (here reader) piece)
     completes l piece at front =
         let b = is_this l (first_link reader) in
@@ -240,7 +241,7 @@ module _ (limits : Limits) (wire : Wire) (terms : Terms) (all : List Message) (l
         ap (λ o. new_frames wire (config side terms) x reader o piece) at
         ∙ (ap (drop (length (fed l reader))) (cut_here l (bytes_on l x ++ piece) at ∙ sym all) ∙ drop_front (fed l reader) more.0) in
         let whole : fed l reader ++ new_frames wire (config side terms) x reader (here reader) piece ≡ frames (link_cut wire terms.codec side (codec_at side terms) b (bytes_on l x ++ piece)) = ap (λ us. fed l reader ++ us) new ∙ all in
-        record { whole = whole; front = subst (λ us. IsPrefixOf us ts) (sym (whole ∙ now)) (within_prefix (wire.spell terms.codec) ts (length (bytes_on l x ++ piece))) }
+        record { whole = whole; front = subst (λ us. IsPrefix us ts) (sym (whole ∙ now)) (within_prefix (wire.spell terms.codec) ts (length (bytes_on l x ++ piece))) }
 
     -- where all bytes were fed, all frames were
     pub fed_whole : (l : ℕ) → here reader ≡ Some l → bytes_on l x ≡ spelled wire terms.codec (lent l writer) → fed l reader ≡ lent l writer
@@ -250,19 +251,19 @@ module _ (limits : Limits) (wire : Wire) (terms : Terms) (all : List Message) (l
         ∙ (ap (λ bs. within_bytes (wire.spell terms.codec) (lent l writer) (length bs)) e ∙ within_all wire terms.codec (lent l writer)))
 
     -- the reader's bytes
-    fed_bytes : (l : ℕ) (piece : List ℕ) → here reader ≡ Some l → IsPrefixOf (bytes_on l x ++ piece) (spelled wire terms.codec (lent l writer)) → Follows side (Bytes piece ∷ x) y
+    fed_bytes : (l : ℕ) (piece : List ℕ) → here reader ≡ Some l → IsPrefix (bytes_on l x ++ piece) (spelled wire terms.codec (lent l writer)) → Follows side (Bytes piece ∷ x) y
     fed_bytes l piece at front k = go (stands_on k reader) refl
       where
         same : stands_on k (bare x) ≡ stands_on k reader
         same = ap (is_this k) (bare_here wire (config side terms) x)
 
-        go : (b : Bool) → stands_on k reader ≡ b → IsPrefixOf (bytes_on k (Bytes piece ∷ x)) (spelled wire terms.codec (lent k writer)) × (fed k (in_frames wire (config side terms) (Bytes piece ∷ x)) ≡ frames (link_cut wire terms.codec side (codec_at side terms) (is_this k (first_link reader)) (bytes_on k (Bytes piece ∷ x))))
+        go : (b : Bool) → stands_on k reader ≡ b → IsPrefix (bytes_on k (Bytes piece ∷ x)) (spelled wire terms.codec (lent k writer)) × (fed k (in_frames wire (config side terms) (Bytes piece ∷ x)) ≡ frames (link_cut wire terms.codec side (codec_at side terms) (is_this k (first_link reader)) (bytes_on k (Bytes piece ∷ x))))
         go true e =
             let f = is_this-true k (here reader) e in
             let g : l ≡ k = cc in
             let n = completes l piece at front in
             rw (same ∙ e, e) (
-              subst (λ k. IsPrefixOf (bytes_on k x ++ piece) (spelled wire terms.codec (lent k writer))) g front,
+              subst (λ k. IsPrefix (bytes_on k x ++ piece) (spelled wire terms.codec (lent k writer))) g front,
               subst (λ k. fed k reader ++ new_frames wire (config side terms) x reader (here reader) piece ≡ frames (link_cut wire terms.codec side (codec_at side terms) (is_this k (first_link reader)) (bytes_on k x ++ piece))) g n.whole,
             )
         go false e = rw (same ∙ e, e) (c k)
@@ -280,7 +281,7 @@ module _ (limits : Limits) (wire : Wire) (terms : Terms) (all : List Message) (l
     -- the writer's steps
     writer_does : (s : Step) → Follows side x (Does s ∷ y)
     writer_does (Lent t) k = (
-      both (λ ts. IsPrefixOf (bytes_on k x) (spelled wire terms.codec ts)) (stands_on k writer) (lent k writer ++ t ∷ []) (lent k writer)
+      both (λ ts. IsPrefix (bytes_on k x) (spelled wire terms.codec ts)) (stands_on k writer) (lent k writer ++ t ∷ []) (lent k writer)
           (λ e. let p = (c k).0 in (p.0 ++ spelled wire terms.codec (t ∷ []), sym (append_assoc (bytes_on k x) p.0 (spelled wire terms.codec (t ∷ []))) ∙ (ap (λ bs. bs ++ spelled wire terms.codec (t ∷ [])) p.1 ∙ sym (spelled-append wire terms.codec (lent k writer) (t ∷ [])))))
           (λ e. (c k).0),
       (c k).1,
@@ -346,7 +347,7 @@ module _ (limits : Limits) (wire : Wire) (terms : Terms) (all : List Message) (l
 
     client_does : (step : ByteStep) → Within Client (step ∷ c) → AllowedOverBytes limits wire (config Client terms) (config Server terms) c s step → TogetherOverBytes (step ∷ c) s
     client_does (Bytes piece) within a =
-        let front = subst (λ bs. IsPrefixOf (bytes_on a.link c ++ piece) bs) (spoken Server terms server client from_server wire t.server_opens a.link) a.front in
+        let front = subst (λ bs. IsPrefix (bytes_on a.link c ++ piece) bs) (spoken Server terms server client from_server wire t.server_opens a.link) a.front in
         let n = completes Client c s from_client t.server_says t.client_follows a.link piece a.at front in
         record {
           together = client_steps limits (sizes_of wire) terms client server t.together (Fed (new_frames wire (config Client terms) c client (here client) piece)) (record { link = a.link; at = a.at; unclosed = a.unclosed; front = n.front });
@@ -370,7 +371,7 @@ module _ (limits : Limits) (wire : Wire) (terms : Terms) (all : List Message) (l
 
     server_does : (step : ByteStep) → Within Server (step ∷ s) → AllowedOverBytes limits wire (config Server terms) (config Client terms) s c step → TogetherOverBytes c (step ∷ s)
     server_does (Bytes piece) within a =
-        let front = subst (λ bs. IsPrefixOf (bytes_on a.link s ++ piece) bs) (spoken Client terms client server from_client wire t.client_opens a.link) a.front in
+        let front = subst (λ bs. IsPrefix (bytes_on a.link s ++ piece) bs) (spoken Client terms client server from_client wire t.client_opens a.link) a.front in
         let n = completes Server s c from_server t.client_says t.server_follows a.link piece a.at front in
         record {
           together = server_steps limits (sizes_of wire) terms client server t.together (Fed (new_frames wire (config Server terms) s server (here server) piece)) (record { link = a.link; at = a.at; unclosed = a.unclosed; front = n.front });

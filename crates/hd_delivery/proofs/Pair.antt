@@ -6,7 +6,8 @@ use Rattle.hm_message.specs.declared.message.Message.{Message}
 use Rattle.hd_delivery.specs.Frames.{Frame, Request, Response, Refusal, Numbered, Ack, Sequence, Ping, Close, Foreign, Strange, Unreadable, count, number, told, most_told}
 use Rattle.hd_delivery.specs.Histories.{Side, Client, Server, Got, Step, Attached, Detached, Fed, Took, Sent, Lent, first_of, here, stands_on, was_on, first_link, fed, lent, taken, read, sent, processed, acked, written, most_lent, shaken, agreed, is_three, codec_of, kept, resumed}
 use Rattle.hd_delivery.specs.Due.{answer}
-use Rattle.hd_delivery.specs.Worlds.{IsPrefixOf, Terms, config, IsFaultless, SkipsNone}
+use Rattle.hd_facts.specs.Prefixes.{IsPrefix}
+use Rattle.hd_delivery.specs.Worlds.{Terms, config, IsFaultless, SkipsNone}
 use Rattle.hd_delivery.proofs.Lists.{take_next, take_front, get_front, get_within, append_none, prefix_more}
 use Rattle.hd_delivery.proofs.Local.{is_this-true, is_this-same, both, or_parts, or_right, here_was, nothing_lent, nothing_taken, has_first, none_was, lent_was, kept_shaken}
 use Rattle.hd_delivery.proofs.Carries.{Facts, uses, facts, MayStand, MayCarry, MayCarry-at, MayCarry-push, MayCarry-prefix, MayCarry-more, number-push, most_told-push}
@@ -59,10 +60,10 @@ Own side terms h = record {
 abbrev pub Way : Side → Terms → List Step → List Step → Type 0
 Way side terms x y = record {
   good : (l : ℕ) → MayCarry (facts side terms x y) l None (lent l x);
-  in_order : IsPrefixOf (processed y) (sent x);
+  in_order : IsPrefix (processed y) (sent x);
   most : length (processed y) ≤ most_lent x;
   acks : acked x ≤ length (processed y);
-  feeds : (l : ℕ) → IsPrefixOf (fed l y) (lent l x);
+  feeds : (l : ℕ) → IsPrefix (fed l y) (lent l x);
   numbers : (l n : ℕ) → here y ≡ Some l → number (read l y) ≡ Some n → n ≤ suc (length (processed y));
   exact : uses terms ≡ false → (l n : ℕ) → here y ≡ Some l → number (read l y) ≡ Some n → n ≡ suc (length (processed y));
   heard : (l : ℕ) → most_told (read l y) ≤ acked y;
@@ -93,7 +94,7 @@ pub record Fit (side : Side) (terms : Terms) (x y : List Step) (l : ℕ) (t : Fr
   pub faultless : IsFaultless (Took got ∷ x)
   pub unskipped : (terms.version == 3) ≡ true → SkipsNone (Took got ∷ x)
   pub grows : length (processed x) ≤ length (processed (Took got ∷ x))
-  pub in_order : IsPrefixOf (processed (Took got ∷ x)) (sent y)
+  pub in_order : IsPrefix (processed (Took got ∷ x)) (sent y)
   pub most : length (processed (Took got ∷ x)) ≤ most_lent y
   pub acks_grow : acked x ≤ acked (Took got ∷ x)
   pub acks : acked (Took got ∷ x) ≤ length (processed y)
@@ -240,7 +241,7 @@ module _ (side : Side) (terms : Terms) (x y : List Step) (i : Pair side terms x 
   pub same_read : (piece : List Frame) (k : ℕ) → read k (Fed piece ∷ x) ≡ read k x
   same_read piece k = both (λ ts. take (taken k x) ts ≡ read k x) (stands_on k x) (fed k x ++ piece) (fed k x) (λ e. take_front (fed k x) piece (taken k x) (i.own.within k)) (λ e. refl)
 
-  pub was_fed : (piece : List Frame) (l : ℕ) → here x ≡ Some l → IsPrefixOf (fed l x ++ piece) (lent l y) → Pair side terms (Fed piece ∷ x) y
+  pub was_fed : (piece : List Frame) (l : ℕ) → here x ≡ Some l → IsPrefix (fed l x ++ piece) (lent l y) → Pair side terms (Fed piece ∷ x) y
   was_fed piece l at front = record {
     own = record {
       one_link = i.own.one_link;
@@ -271,8 +272,8 @@ module _ (side : Side) (terms : Terms) (x y : List Step) (i : Pair side terms x 
       in_order = i.from.in_order;
       most = i.from.most;
       acks = i.from.acks;
-      feeds = λ k. both (λ ts. IsPrefixOf ts (lent k y)) (stands_on k x) (fed k x ++ piece) (fed k x)
-          (λ e. let f = is_this-true k (here x) e in let g : l ≡ k = cc in subst (λ j. IsPrefixOf (fed j x ++ piece) (lent j y)) g front)
+      feeds = λ k. both (λ ts. IsPrefix ts (lent k y)) (stands_on k x) (fed k x ++ piece) (fed k x)
+          (λ e. let f = is_this-true k (here x) e in let g : l ≡ k = cc in subst (λ j. IsPrefix (fed j x ++ piece) (lent j y)) g front)
           (λ e. i.from.feeds k);
       numbers = λ k n e f. i.from.numbers k n e (ap number (sym (same_read piece k)) ∙ f);
       exact = λ b k n e f. i.from.exact b k n e (ap number (sym (same_read piece k)) ∙ f);
@@ -505,7 +506,7 @@ module _ (side : Side) (terms : Terms) (x y : List Step) (i : Pair side terms x 
       in_order = i.to.in_order;
       most = omega (arith, i.to.most, most_lent-more t x);
       acks = i.to.acks;
-      feeds = λ k. both (λ ts. IsPrefixOf (fed k y) ts) (stands_on k x) (lent k x ++ t ∷ []) (lent k x) (λ s. prefix_more (fed k y) (lent k x) (t ∷ []) (i.to.feeds k)) (λ s. i.to.feeds k);
+      feeds = λ k. both (λ ts. IsPrefix (fed k y) ts) (stands_on k x) (lent k x ++ t ∷ []) (lent k x) (λ s. prefix_more (fed k y) (lent k x) (t ∷ []) (i.to.feeds k)) (λ s. i.to.feeds k);
       numbers = i.to.numbers;
       exact = i.to.exact;
       heard = i.to.heard;

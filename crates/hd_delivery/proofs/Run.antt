@@ -8,7 +8,8 @@ use Rattle.hd_delivery.specs.Frames.{Frame, Request, Response, Refusal, Numbered
 use Rattle.hd_delivery.specs.Histories.{Side, Got, Step, Attached, Detached, Fed, Took, Sent, Lent, is_this, first_of, here, stands_on, was_on, first_link, fed, lent, taken, read, sent, processed, acked, written, most_lent, shaken, is_three, kept, resumed}
 use Rattle.hd_delivery.specs.Due.{answer}
 use Rattle.hd_delivery.specs.Processes.{spoke, next_number}
-use Rattle.hd_delivery.specs.Worlds.{IsPrefixOf, Terms, config}
+use Rattle.hd_facts.specs.Prefixes.{IsPrefix}
+use Rattle.hd_delivery.specs.Worlds.{Terms, config}
 use Rattle.hd_delivery.proofs.Lists.{take_split, get_front, append_none}
 use Rattle.hd_delivery.proofs.Local.{is_this-true, is_this-same, both, here_was, nothing_lent, nothing_taken, has_first, none_was, first_was}
 use Rattle.hd_delivery.proofs.Carries.{Facts, facts, MayStand, MayCarry, MayCarry-prefix, MayStand-count, MayCarry-any, number-push, most_told_at, MayCarry-told}
@@ -522,7 +523,7 @@ module _ (side : Side) (terms : Terms) (x y : List Step) (i : Pair side terms x 
       there : slice_get (fed l x) (taken l x) ≡ Some (Numbered m)
       there = is ∙ ap Some e
 
-      feeds : IsPrefixOf (fed l x) (lent l y)
+      feeds : IsPrefix (fed l x) (lent l y)
       feeds = i.from.feeds l
 
       stands : slice_get (messages (lent l y)) (length (messages (read l x))) ≡ Some m

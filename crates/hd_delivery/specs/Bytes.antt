@@ -7,7 +7,8 @@ use Rattle.hm_message.specs.declared.message.Message.{Message}
 use Rattle.hd_delivery.specs.Frames.{Frame, Request, Response, Numbered, Ack, Sequence, Ping, Close, Unreadable, Reason, error_of, received_of}
 use Rattle.hd_delivery.specs.Histories.{Side, Client, Server, Step, Fed, Config, is_this, here, stands_on, first_link, as_told, fed, lent, taken, sent, codec_of, closed, state, Ready}
 use Rattle.hd_delivery.specs.Due.{due}
-use Rattle.hd_delivery.specs.Worlds.{IsPrefixOf, Limits, Sizes, CanBeSent, Allowed, Terms, config, Still, Delivery}
+use Rattle.hd_facts.specs.Prefixes.{IsPrefix}
+use Rattle.hd_delivery.specs.Worlds.{Limits, Sizes, CanBeSent, Allowed, Terms, config, Still, Delivery}
 
 -- ---- readers
 
@@ -130,7 +131,7 @@ pub record MayFeedBytes (limits : Limits) (wire : Wire) (c oc : Config) (h other
   pub link : ℕ
   pub at : here (in_frames wire c h) ≡ Some link
   pub unclosed : closed c (in_frames wire c h) ≡ false
-  pub front : IsPrefixOf (bytes_on link h ++ piece) (lent_bytes wire oc link other)
+  pub front : IsPrefix (bytes_on link h ++ piece) (lent_bytes wire oc link other)
   pub few : unread wire c link (Bytes piece ∷ h) ≤ limits.frame + 5
 
 -- the step may come next; what is fed is bytes

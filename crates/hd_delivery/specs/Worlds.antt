@@ -2,6 +2,7 @@
 -- This project's own rules: which messages can be sent, the limits of what an end holds, which links it may name, and 2^62 messages at
 -- most. Each end has its own clock.
 use Rattle.std.specs.Prelude.{◌≡◌, ◌⊎◌, ℕ, suc, ◌+◌, ◌^◌, ◌<◌, ◌≤◌, max, Bool, true, false, List, [], ◌∷◌, ◌++◌, length, sum_by, Some, None}
+use Rattle.hd_facts.specs.Prefixes.{IsPrefix}
 use Rattle.hm_message.specs.declared.message.Codec.{Codec}
 use Rattle.hm_message.specs.declared.message.Codec.TheVariants.{Json, Pack}
 use Rattle.hm_message.specs.declared.message.Message.{Message}
@@ -10,10 +11,6 @@ use Rattle.hd_delivery.specs.Frames.{Frame, Ack, Sequence, received_of}
 use Rattle.hd_delivery.specs.Histories.{Side, Client, Server, Duplicate, Skipped, Step, Attached, Detached, Fed, Took, Failed, Sent, Lent, Ticked, Silenced, Closed, Config, here, was_on, first_link, fed, lent, taken, sent, processed, codec_of, shaken, kept, closed, moment, is_silence, Ready, state, held}
 use Rattle.hd_delivery.specs.Due.{due}
 use Rattle.hd_delivery.specs.Processes.{processes}
-
--- xs is a first part of ys, or all of it
-abbrev pub IsPrefixOf : {A : Type 0} → List A → List A → Type 0
-IsPrefixOf {A} xs ys = (rest : List A) × (xs ++ rest ≡ ys)
 
 -- ---- which step may come
 
@@ -70,7 +67,7 @@ pub record MayFeed (c : Config) (h other : List Step) (piece : List Frame) : Typ
   pub link : ℕ
   pub at : here h ≡ Some link
   pub unclosed : closed c h ≡ false
-  pub front : IsPrefixOf (fed link h ++ piece) (lent link other)
+  pub front : IsPrefix (fed link h ++ piece) (lent link other)
 
 -- the step may come next, after the end's own history and beside the other's. An end's moments never fall
 abbrev pub Allowed : Limits → Sizes → Config → List Step → List Step → Step → Type 0
@@ -195,7 +192,7 @@ IsSound p q (_ ∷ frames) = IsSound p q frames
 
 -- what x sent is processed by y in order, each message once; and on each link what x tells is sound
 pub record Delivers (x y : List Step) : Type 0 where
-  pub in_order : IsPrefixOf (processed y) (sent x)
+  pub in_order : IsPrefix (processed y) (sent x)
   pub sound : (l : ℕ) → IsSound (length (processed x)) (length (processed y)) (lent l x)
 
 -- both ways: nothing is refused, each message is processed once and in order, and all of them where the two ends are still

@@ -4,4 +4,3 @@ pub mod Properties
 pub mod Says
 pub mod Spell
 pub mod ExactlyOne
-pub mod ReadForms

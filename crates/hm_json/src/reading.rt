@@ -8,7 +8,7 @@ ghost use Rattle.hm_json.specs.Properties.{error as error_of, outcome, type_of, 
 ghost use Rattle.hm_json.specs.Refusals.{MemoryOr};
 ghost use Rattle.hm_json.specs.Says.{Says, Unknown, Why, Holds, Ends, IsMessage, IsUnknown, IsFaulty};
 ghost use Rattle.hm_json.specs.ExactlyOne.{ExactlyOne};
-ghost use Rattle.hm_json.specs.ReadForms.{MessageIs, UnknownIs};
+ghost use Rattle.hm_message.specs.Reads.{MessageIs, UnknownIs};
 
 use crate::properties::{
     any, flag, headers, items, number, optional_text, property, text, texts, whole,

@@ -4,3 +4,4 @@ pub mod Fields
 pub mod Same
 pub mod Kind
 pub mod Name
+pub mod Reads

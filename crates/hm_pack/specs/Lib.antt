@@ -4,4 +4,3 @@ pub mod Elements
 pub mod Says
 pub mod Spell
 pub mod ExactlyOne
-pub mod ReadForms

@@ -8,7 +8,7 @@ ghost use Rattle.hm_pack.specs.Elements.{ending as ending_of, type_of, faults, f
 ghost use Rattle.hm_pack.specs.Refusals.{MemoryOr};
 ghost use Rattle.hm_pack.specs.Says.{Says, Unknown, Why, Holds, Ends};
 ghost use Rattle.hm_pack.specs.ExactlyOne.{ExactlyOne};
-ghost use Rattle.hm_pack.specs.ReadForms.{MessageIs, UnknownIs};
+ghost use Rattle.hm_message.specs.Reads.{MessageIs, UnknownIs};
 
 use crate::elements::{
     any, element, flag, headers, items, number, optional_text, text, texts, whole,

@@ -1,6 +1,6 @@
 -- Sources and sinks in memory, as contracts see them.
 use Rattle.std.specs.Prelude.{ℕ, ◌+◌, ◌<◌, ◌⊎◌, List, ◌++◌, length, drop, Contains}
-use Rattle.hw_io.specs.Causes.{one_more}
+use Rattle.hd_facts.specs.Counts.{one_more}
 
 -- the bytes left to give, the numbers of the calls that are to fail, the number of the next call, and the count of faults
 pub record MemoryInput : Type 0 where

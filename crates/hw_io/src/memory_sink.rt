@@ -1,6 +1,6 @@
 ghost use Rattle.std.specs.Prelude.{◌≡◌, ◌+◌, ◌-◌, ◌^◌, ◌<◌, ◌≤◌, ◌↔◌, ◌++◌, ◌⊎◌, [], length, take, Contains, IsErr, IfOk, OnOk, OnErr, Some};
-ghost use Rattle.hw_io.specs.Causes.{HasCause};
-ghost use Rattle.hw_io.specs.Known.{PutAppends};
+ghost use Rattle.hd_facts.specs.Counts.{HasCause};
+ghost use Rattle.hd_facts.specs.Writes.{PutAppends};
 ghost use Rattle.hw_io.specs.Memory.{MemoryOutput, SinkFails, sink_after_failure, sink_after_taking};
 
 use crate::failing::is_to_fail;

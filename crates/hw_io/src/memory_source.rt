@@ -1,7 +1,7 @@
 ghost use Rattle.std.specs.Prelude.{◌≡◌, ◌+◌, ◌-◌, ◌^◌, ◌<◌, ◌≤◌, ◌↔◌, ◌++◌, length, take, drop, min, Contains, IsErr, IfOk, IsOkAnd, OnErr, Some};
 ghost use Rattle.std.specs.Io.{ReadsAtMost};
 ghost use Rattle.std.specs.Io.KnownBytes.{ReadConsumes};
-ghost use Rattle.hw_io.specs.Causes.{HasCause};
+ghost use Rattle.hd_facts.specs.Counts.{HasCause};
 ghost use Rattle.hw_io.specs.Memory.{MemoryInput, SourceFails, source_after_failure, source_after_giving};
 
 use crate::failing::is_to_fail;

@@ -5,13 +5,13 @@ use Rattle.std.proofs.lemmas.Bool.{cases_lt}
 use Rattle.std.proofs.lemmas.List.{append-nil}
 use Rattle.sr_app.specs.declared.run.Status.{Status}
 use Rattle.sr_app.specs.declared.run.Status.TheVariants.{Done, Usage, Refused, ReadFault, WriteFault, NoMemory}
-use Rattle.sr_words.specs.Unique.{IsTheOne}
+use Rattle.hd_facts.specs.Unique.{IsTheOne}
 use Rattle.sr_app.specs.Refusal.{IsRefusedAt}
 use Rattle.sr_app.specs.Run.{IsReplayed, IsRefused, IsTextAnswer, AnswersWith, IsNothing, ReadsBounded, ReadsWithin}
 use Rattle.sr_check.specs.declared.task.Task.TheVariants as task
 use Rattle.sr_words.specs.declared.commands.Asked.{Asked}
 use Rattle.sr_words.specs.declared.commands.Asked.TheVariants.{Replay, Check, Convert}
-use Rattle.sr_check.specs.Writes.{IsText, Writes, WritesPart, WritesOfRead}
+use Rattle.hd_facts.specs.Writes.{IsText, Writes, WritesPart, WritesOfRead}
 use Rattle.sr_check.proofs.Inputs.{consumes_none, told, behind, whole_told, appends_none, read_nothing}
 use Rattle.sr_app.proofs.Parsing.{refused_front}
 

@@ -8,7 +8,7 @@ use Rattle.sr_app.specs.declared.command.Command.{Command}
 use Rattle.sr_app.specs.declared.script.Reader.{Reader}
 use Rattle.sr_app.specs.declared.script.ScriptError.{ScriptError}
 use Rattle.sr_app.specs.declared.script.ScriptError.TheVariants.{Line, NoMemory}
-use Rattle.sr_words.specs.Unique.{IsTheOne}
+use Rattle.hd_facts.specs.Unique.{IsTheOne}
 use Rattle.sr_app.specs.Lines.{lines_of, text_of}
 use Rattle.sr_app.specs.Script.{opening, IsScript, Parses, line_of}
 use Rattle.sr_app.specs.Refusal.{BeginsScript, IsScriptUpTo, IsRefusedAt}

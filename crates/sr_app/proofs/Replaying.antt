@@ -9,7 +9,7 @@ use Rattle.hf_split.proofs.Streams.{one_cutting}
 use Rattle.sr_app.specs.declared.command.Command.{Command}
 use Rattle.sr_app.specs.declared.command.Command.TheVariants.{Send, Write, Read}
 use Rattle.sr_app.specs.declared.pair.Pair.{Pair}
-use Rattle.sr_words.specs.Unique.{IsTheOne}
+use Rattle.hd_facts.specs.Unique.{IsTheOne}
 use Rattle.hm_message.specs.declared.message.Message.{Message}
 use Rattle.hm_json.specs.Says.{Says}
 use Rattle.hm_json.specs.Spell.{Spell}

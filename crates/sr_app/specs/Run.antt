@@ -5,11 +5,11 @@ use Rattle.std.specs.declared.alloc.Global.{Global}
 use Rattle.sr_app.specs.declared.command.Command.{Command}
 use Rattle.sr_app.specs.declared.run.Status.{Status}
 use Rattle.sr_app.specs.declared.run.Status.TheVariants.{Done, Refused, ReadFault, WriteFault, NoMemory}
-use Rattle.sr_words.specs.Unique.{IsTheOne}
+use Rattle.hd_facts.specs.Unique.{IsTheOne}
 use Rattle.sr_app.specs.Script.{Parses}
 use Rattle.sr_app.specs.Refusal.{IsRefusedAt, refusal_line}
 use Rattle.sr_app.specs.Report.{IsReportOf}
-use Rattle.sr_check.specs.Writes.{Writes, WritesPart, WritesOfRead}
+use Rattle.hd_facts.specs.Writes.{Writes, WritesPart, WritesOfRead}
 use Rattle.sr_check.specs.declared.task.Task.{Task}
 use Rattle.sr_check.specs.declared.task.Task.TheVariants as task
 use Rattle.sr_check.specs.declared.task.Stop.{Stop}

@@ -2,7 +2,7 @@ ghost use Rattle.std.specs.Prelude.{◌≡◌, ◌-◌, ◌<◌, ◌≤◌, ◌+
 ghost use Rattle.hf_split.specs.declared.framing.Framing.TheVariants.{Record};
 ghost use Rattle.hf_split.specs.Cuts.{always};
 ghost use Rattle.hf_split.specs.Held.{Stands};
-ghost use Rattle.sr_words.specs.Unique.{IsTheOne};
+ghost use Rattle.hd_facts.specs.Unique.{IsTheOne};
 ghost use Rattle.hm_message.specs.declared.message.Message.{Message};
 ghost use Rattle.hm_json.specs.Says.{Says};
 ghost use Rattle.hm_json.specs.Spell.{Spell};

@@ -1,8 +1,8 @@
 ghost use Rattle.std.specs.Prelude.{◌≡◌, ◌≢◌, ◌≤◌, ◌+◌, ◌⊎◌, ℕ, IfOk, Err, length, take};
 ghost use Rattle.std.specs.Io.KnownBytes.{Appends, Consumes, IsAtEnd};
-ghost use Rattle.hw_io.specs.Causes.{Rose};
+ghost use Rattle.hd_facts.specs.Counts.{Rose};
 ghost use Rattle.sr_check.specs.Stream.{IsDone, IsStopped, IsBegun, IsAllSoFar, IsPart, ReadsNoFurther};
-ghost use Rattle.sr_check.specs.Writes.{Writes, WritesPart, WritesOfRead};
+ghost use Rattle.hd_facts.specs.Writes.{Writes, WritesPart, WritesOfRead};
 ghost use Rattle.sr_words.specs.Words.{Asks, IsNoCommand};
 ghost use Rattle.sr_app.specs.Run.{IsReplayed, IsRefused, IsTextAnswer, AnswersWith, DoneMeans, RefusedMeans, PartMeans, BegunMeans, ReadMeans, WritesFor, WritesPartFor, WritesOfReadFor, ReadsBounded, ReadsWithin, usage_line};
 

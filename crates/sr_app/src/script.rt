@@ -3,7 +3,7 @@ ghost use Rattle.std.specs.Option.{option_copied};
 ghost use Rattle.std.specs.Fmt.{decimal};
 ghost use Rattle.sr_app.specs.declared.command.Command.{Command};
 ghost use Rattle.sr_app.specs.declared.script.ScriptError.TheVariants.{NoMemory};
-ghost use Rattle.sr_words.specs.Unique.{IsTheOne};
+ghost use Rattle.hd_facts.specs.Unique.{IsTheOne};
 ghost use Rattle.sr_app.specs.Script.{IsTarget, IsCount, IsCommand, Parses, opening, message_text, count_text, line_of, is_send};
 ghost use Rattle.sr_app.specs.Reading.{HasRead, IsNoLine, IsLineEnd, RefusesNext, RefusesText};
 

@@ -14,7 +14,7 @@ use Rattle.sr_check.specs.declared.task.Stop.TheVariants as stop
 use Rattle.sr_check.specs.Output.{framing, last_text}
 use Rattle.sr_check.specs.Stream.{IsFront, IsCut, IsStop, IsDone, IsStopped, IsBegun, IsPart, IsAllSoFar, ReadsNoFurther, most_bytes, followed}
 use Rattle.sr_check.specs.Going.{IsAt, IsResting, IsSoFar, IsWholeSoFar, IsBegunSoFar, IsStoppedSoFar, IsPartSoFar, IsLastPut, Ends, EndsAt, EndsInput}
-use Rattle.sr_check.specs.Writes.{IsText, Writes, WritesOfRead}
+use Rattle.hd_facts.specs.Writes.{IsText, Writes, WritesOfRead}
 use Rattle.sr_check.proofs.Following.{appends_more, appends_part, front_at, frames_at, place_is}
 use Rattle.sr_check.proofs.Pieces.{front_more, stop_more}
 

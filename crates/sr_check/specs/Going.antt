@@ -15,7 +15,7 @@ use Rattle.sr_check.specs.declared.task.Stop.TheVariants as stop
 use Rattle.sr_check.specs.Frames as frames
 use Rattle.sr_check.specs.Output.{codec_of, framing, IsWritten, last_text}
 use Rattle.sr_check.specs.Stream.{most_frame, Written, IsFront, IsBegun, IsStop, IsStopped, IsPart}
-use Rattle.sr_check.specs.Writes.{Writes, WritesPart}
+use Rattle.hd_facts.specs.Writes.{Writes, WritesPart}
 
 -- this is what the frame says
 abbrev pub IsJudged : Codec → List ℕ → Judged → Type 0

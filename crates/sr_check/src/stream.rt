@@ -1,11 +1,11 @@
 ghost use Rattle.std.specs.Prelude.{◌≡◌, ◌≢◌, ◌<◌, ◌≤◌, ◌+◌, ◌^◌, ℕ, List, ◌++◌, length, take, Option, IfErr, OnOk, OnErr, Err, codes};
 ghost use Rattle.std.specs.Io.KnownBytes.{Appends, IsAtEnd};
-ghost use Rattle.hw_io.specs.Causes.{Rose};
+ghost use Rattle.hd_facts.specs.Counts.{Rose};
 ghost use Rattle.hf_split.specs.Held.{fresh};
 ghost use Rattle.sr_check.specs.Output.{framing, last_text};
 ghost use Rattle.sr_check.specs.Stream.{IsDone, IsAllSoFar, ReadsNoFurther};
 ghost use Rattle.sr_check.specs.Going.{IsReader, IsResting, IsSoFar, IsWholeSoFar, IsLastPut, Ends, EndsAt, EndsInput};
-ghost use Rattle.sr_check.specs.Writes.{Writes, WritesOfRead};
+ghost use Rattle.hd_facts.specs.Writes.{Writes, WritesOfRead};
 
 use crate::output::{Piece, frame_piece, last_text};
 use crate::task::{Stop, Task};

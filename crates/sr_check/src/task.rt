@@ -1,9 +1,9 @@
 ghost use Rattle.std.specs.Prelude.{◌≡◌, OnOk, Err};
 ghost use Rattle.std.specs.Io.KnownBytes.{IsAtEnd};
-ghost use Rattle.hw_io.specs.Causes.{Rose};
+ghost use Rattle.hd_facts.specs.Counts.{Rose};
 ghost use Rattle.sr_check.specs.Output.{codec_of, framing};
 ghost use Rattle.sr_check.specs.Stream.{IsDone, IsStopped, IsBegun, IsAllSoFar, IsPart, ReadsNoFurther};
-ghost use Rattle.sr_check.specs.Writes.{Writes, WritesPart, WritesOfRead};
+ghost use Rattle.hd_facts.specs.Writes.{Writes, WritesPart, WritesOfRead};
 
 use crate::stream::follow;
 use hf_split::{Framing, Splitter};

@@ -1,4 +1,3 @@
-pub mod Unique
 pub mod Clap
 pub mod Words
 pub mod Errors

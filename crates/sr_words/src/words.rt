@@ -1,6 +1,6 @@
 ghost use Rattle.std.specs.Prelude.{◌≡◌, Err, IfOk, IfErr, Some, true, false, codes};
 ghost use Rattle.clap.specs.Words.{app_of, rule_of, first_of, found_of, is_simple_and_free, matches_of, rows_of};
-ghost use Rattle.sr_words.specs.Unique.{IsTheOne};
+ghost use Rattle.hd_facts.specs.Unique.{IsTheOne};
 ghost use Rattle.sr_words.specs.Clap.{Takes, bare_app, required};
 ghost use Rattle.sr_words.specs.Words.{Asks, AsksAfter, AsksNothingAfter, IsNoCommand, check_app, codec_name, convert_app, replay_app, texts};
 ghost use Rattle.hm_message.specs.declared.message.Codec.{Codec};

@@ -3,7 +3,7 @@ use Rattle.clap.specs.Words.{App, Row, Text, first_of, matches_of}
 use Rattle.hm_message.specs.declared.message.Codec.{Codec}
 use Rattle.sr_words.specs.declared.commands.Asked.{Asked}
 use Rattle.sr_words.specs.declared.commands.Asked.TheVariants.{Replay, Check, Convert}
-use Rattle.sr_words.specs.Unique.{IsTheOne}
+use Rattle.hd_facts.specs.Unique.{IsTheOne}
 use Rattle.sr_words.specs.Clap.{Gives, Takes}
 use Rattle.sr_words.specs.Words.{AsksAfter, codec_name, convert_app, texts}
 use Rattle.sr_words.proofs.Names.{apart, same_codec}

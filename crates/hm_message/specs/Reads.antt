@@ -1,4 +1,4 @@
--- A fact of what was read, where that is a message or of an unknown type.
+-- What holds of what was read, if that is a message or of an unknown type.
 use Rattle.std.specs.Prelude.{ℤ}
 use Rattle.hm_message.specs.declared.message.Message.{Message}
 use Rattle.hm_message.specs.declared.message.Read.{Read}

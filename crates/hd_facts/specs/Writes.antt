@@ -1,8 +1,12 @@
 -- What was written for an input, where the source and the sink tell their bytes.
-use Rattle.std.specs.Prelude.{◌≡◌, ℕ, List, take, Option, IfSome}
+use Rattle.std.specs.Prelude.{◌≡◌, ℕ, List, take, Result, MatchResult, Option, IfSome}
 use Rattle.std.specs.Io.KnownBytes.{Appends, Consumes}
 
--- The input is this text, where it is told.
+-- all of the bytes at Ok, and a first part of them at Err
+abbrev pub PutAppends : {T E : Type 0} → Option (List ℕ) → Option (List ℕ) → Result T E → List ℕ → Type 0
+PutAppends old new result bytes = MatchResult result (λ _. Appends old new bytes) (λ _. (n : ℕ) × Appends old new (take n bytes))
+
+-- the input is this text, where it is told
 abbrev pub IsText : Option (List ℕ) → List ℕ → Type 0
 IsText input text = IfSome input (λ bytes. bytes ≡ text)
 

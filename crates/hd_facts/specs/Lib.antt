@@ -1,0 +1,4 @@
+pub mod Unique
+pub mod Prefixes
+pub mod Counts
+pub mod Writes
