@@ -5,7 +5,7 @@ mod laws;
 mod reading;
 mod writing;
 
-pub use laws::text_has_no_control;
+pub use laws::{reading_takes_no_memory, text_has_no_control};
 pub use reading::{JsonError, read_value};
 pub use writing::write_value;
 

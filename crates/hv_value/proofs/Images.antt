@@ -1,4 +1,4 @@
--- An image is as deep as its value and has its keys.
+-- An image is as deep as its value, has its keys and is its own image.
 use Rattle.std.proofs.Common.{◌≡◌, ℕ, suc, max, List, [], ◌∷◌, ◌++◌, refl, ap, ◌∙◌}
 use Rattle.std.specs.Map.{keys_of}
 use Rattle.hv_value.specs.Tree.{Tree, null, boolean, int, text, bytes, list, map, Trees, no_trees, more, Pairs, no_pairs, pair, Pair, trees, pairs, depth, depths, depths_of_pairs, depth_of_all, depth_of_values}
@@ -24,6 +24,24 @@ mutual
   pub depths-pairs_image : (ps : Pairs) → depths_of_pairs (pairs_image ps) ≡ depths_of_pairs ps
   depths-pairs_image no_pairs = refl
   depths-pairs_image (pair k t ps) = λ i. max (depth-image t i) (depths-pairs_image ps i)
+
+mutual
+  pub image-image : (t : Tree) → image (image t) ≡ image t
+  image-image null = refl
+  image-image (boolean b) = refl
+  image-image (int z) = refl
+  image-image (text s) = refl
+  image-image (bytes s) = refl
+  image-image (list ts) = ap list (trees_image-trees_image ts)
+  image-image (map ps) = ap map (pairs_image-pairs_image ps)
+
+  trees_image-trees_image : (ts : Trees) → trees_image (trees_image ts) ≡ trees_image ts
+  trees_image-trees_image no_trees = refl
+  trees_image-trees_image (more t ts) = λ i. more (image-image t i) (trees_image-trees_image ts i)
+
+  pairs_image-pairs_image : (ps : Pairs) → pairs_image (pairs_image ps) ≡ pairs_image ps
+  pairs_image-pairs_image no_pairs = refl
+  pairs_image-pairs_image (pair k t ps) = λ i. pair k (image-image t i) (pairs_image-pairs_image ps i)
 
 pub trees-images : (ts : List Tree) → trees (images ts) ≡ trees_image (trees ts)
 trees-images [] = refl

@@ -7,3 +7,4 @@ pub mod Same
 pub mod SameLaws
 pub mod Order
 pub mod Image
+pub mod Laws

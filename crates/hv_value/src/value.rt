@@ -234,6 +234,14 @@ impl Items {
         self.values.as_slice()
     }
 
+    /// The values themselves, which takes no memory.
+    pub fn into_values(self) -> Vec<Value>
+        ensures values { trees_of result.items ≡ self }
+        ensures shallow { depth_of_all self ≤ 63 }
+    {
+        self.values
+    }
+
     #[cycle(copy)]
     pub fn copy(&self) -> Result<Items, AllocError>
         ensures { IfOk result (λ items. items ≡ self.now) }
@@ -302,6 +310,15 @@ impl Entries {
         ensures in_order { IsStrictlySortedBy key_cmp (keys_of self.now) }
     {
         self.pairs.as_slice()
+    }
+
+    /// The pairs themselves, which takes no memory.
+    pub fn into_pairs(self) -> Vec<(Text, Value)>
+        ensures pairs { entries result.items ≡ self }
+        ensures shallow { depth_of_values self ≤ 63 }
+        ensures in_order { IsStrictlySortedBy key_cmp (keys_of self) }
+    {
+        self.pairs
     }
 
     #[cycle(copy)]
