@@ -1,5 +1,6 @@
 pub mod Words
 pub mod Refusals
+pub mod Places
 pub mod Elements
 pub mod Says
 pub mod Spell

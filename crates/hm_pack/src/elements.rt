@@ -1,3 +1,4 @@
+//! Elements of a message's array, each as the value that its place wants or the refusal.
 ghost use Rattle.std.specs.Prelude.{◌≡◌, ℕ, List, Option, IfOk, IfErr, None, Ok, Err, Some, [], false, option_map, slice_get};
 ghost use Rattle.hm_pack.specs.declared.refusal.PackRefusal.TheVariants.{Missing};
 ghost use Rattle.hv_value.specs.View.{tree};
@@ -6,6 +7,7 @@ ghost use Rattle.hm_pack.specs.Elements.{must, may, text_or_nil};
 ghost use Rattle.hm_pack.specs.Refusals.{MemoryOr};
 ghost use Rattle.hm_message.specs.declared.message.Field.TheVariants as fields;
 
+use crate::places;
 use crate::refusal::PackRefusal;
 use hm_message::{Field, Headers, headers_in, items_in, number_in, text_in, texts_in};
 use hv_value::{Items, Text, Texts, Value};
@@ -104,7 +106,7 @@ pub(crate) fn headers(alloc: Global, array: &Items) -> Result<Headers, PackRefus
     ensures err { IfErr result
         (λ e. MemoryOr e (must 1 fields.Headers headers_of array.now ≡ Err e)) }
 {
-    let value = needed(array, 1, Field::Headers)?;
+    let value = needed(array, places::HEADERS, Field::Headers)?;
     headers_in(alloc, value)?.ok_or(PackRefusal::Wrong(Field::Headers))
 }
 

@@ -3,6 +3,7 @@
 #![tactic(auto)]
 
 mod elements;
+mod places;
 mod reading;
 mod refusal;
 mod writing;

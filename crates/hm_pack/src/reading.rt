@@ -1,3 +1,4 @@
+//! Reads frames: one array, whose type says what its other elements must be.
 ghost use Rattle.std.specs.Prelude.{◌≡◌, ◌≢◌, IfOk, IfErr, Ok, Err, Some, None};
 ghost use Rattle.hm_message.specs.Kind.{kind_of, number as number_of};
 ghost use Rattle.hm_message.specs.Message.{Fits};
@@ -13,6 +14,7 @@ ghost use Rattle.hm_message.specs.Reads.{MessageIs, UnknownIs};
 use crate::elements::{
     any, element, flag, headers, items, number, optional_text, text, texts, whole,
 };
+use crate::places;
 use crate::refusal::PackRefusal;
 use hm_message::{Ending, Field, Kind, Message, Read, number_in};
 use hv_pack::{
@@ -41,10 +43,10 @@ fn invocation(alloc: Global, array: &Items) -> Result<Message, PackRefusal>
 {
     Ok(Message::Invocation {
         headers: headers(alloc, array)?,
-        id: optional_text(array, 2, Field::InvocationId)?,
-        target: text(array, 3, Field::Target)?,
-        arguments: items(array, 4, Field::Arguments)?,
-        streams: texts(alloc, array, 5, Field::StreamIds)?,
+        id: optional_text(array, places::ID, Field::InvocationId)?,
+        target: text(array, places::TARGET, Field::Target)?,
+        arguments: items(array, places::ARGUMENTS, Field::Arguments)?,
+        streams: texts(alloc, array, places::STREAMS, Field::StreamIds)?,
     })
 }
 
@@ -56,20 +58,20 @@ fn stream_item(alloc: Global, array: &Items) -> Result<Message, PackRefusal>
 {
     Ok(Message::StreamItem {
         headers: headers(alloc, array)?,
-        id: text(array, 2, Field::InvocationId)?,
-        item: any(array, 3, Field::Item)?,
+        id: text(array, places::ID, Field::InvocationId)?,
+        item: any(array, places::ITEM, Field::Item)?,
     })
 }
 
-/// How an invocation ends, by the kind of result and what stands behind it.
+/// How an invocation ends, by the kind of result and what stands after it.
 fn ending(array: &Items) -> Result<Ending, PackRefusal>
     ensures ok { IfOk result (λ e. Ends array.now e) }
     ensures err { IfErr result (λ e. MemoryOr e (ending_of array.now ≡ Some e)) }
 {
-    match whole(array, 3, Field::Ending)? {
-        1 => Ok(Ending::Error(text(array, 4, Field::Error)?)),
-        2 => Ok(Ending::Void),
-        3 => Ok(Ending::Result(any(array, 4, Field::Ending)?)),
+    match whole(array, places::RESULT_KIND, Field::Ending)? {
+        places::ERROR_RESULT => Ok(Ending::Error(text(array, places::OUTCOME, Field::Error)?)),
+        places::VOID_RESULT => Ok(Ending::Void),
+        places::VALUE_RESULT => Ok(Ending::Result(any(array, places::OUTCOME, Field::Ending)?)),
         n => Err(PackRefusal::ResultKind(n)),
     }
 }
@@ -82,7 +84,7 @@ fn completion(alloc: Global, array: &Items) -> Result<Message, PackRefusal>
 {
     Ok(Message::Completion {
         headers: headers(alloc, array)?,
-        id: text(array, 2, Field::InvocationId)?,
+        id: text(array, places::ID, Field::InvocationId)?,
         ending: ending(array)?,
     })
 }
@@ -95,10 +97,10 @@ fn stream_invocation(alloc: Global, array: &Items) -> Result<Message, PackRefusa
 {
     Ok(Message::StreamInvocation {
         headers: headers(alloc, array)?,
-        id: text(array, 2, Field::InvocationId)?,
-        target: text(array, 3, Field::Target)?,
-        arguments: items(array, 4, Field::Arguments)?,
-        streams: texts(alloc, array, 5, Field::StreamIds)?,
+        id: text(array, places::ID, Field::InvocationId)?,
+        target: text(array, places::TARGET, Field::Target)?,
+        arguments: items(array, places::ARGUMENTS, Field::Arguments)?,
+        streams: texts(alloc, array, places::STREAMS, Field::StreamIds)?,
     })
 }
 
@@ -110,7 +112,7 @@ fn cancel_invocation(alloc: Global, array: &Items) -> Result<Message, PackRefusa
 {
     Ok(Message::CancelInvocation {
         headers: headers(alloc, array)?,
-        id: text(array, 2, Field::InvocationId)?,
+        id: text(array, places::ID, Field::InvocationId)?,
     })
 }
 
@@ -120,8 +122,8 @@ fn close(array: &Items) -> Result<Message, PackRefusal>
     ensures err { IfErr result (λ e. MemoryOr e (first (faults kinds.Close array.now) ≡ Some e)) }
 {
     Ok(Message::Close {
-        error: optional_text(array, 1, Field::Error)?,
-        allow: flag(array, 2, Field::AllowReconnect)?,
+        error: optional_text(array, places::CLOSE_ERROR, Field::Error)?,
+        allow: flag(array, places::ALLOW, Field::AllowReconnect)?,
     })
 }
 
@@ -130,8 +132,8 @@ fn sequence(array: &Items) -> Result<Message, PackRefusal>
     ensures ok { IfOk result (λ m. Holds array.now m) }
     ensures err { IfErr result (λ e. first (faults kinds.Sequence array.now) ≡ Some e) }
 {
-    let first = number(array, 1, Field::SequenceId)?;
-    let received = match element(array, 2) {
+    let first = number(array, places::SEQUENCE_ID, Field::SequenceId)?;
+    let received = match element(array, places::RECEIVED) {
         Some(value) => number_in(value),
         None => None,
     };
@@ -153,7 +155,7 @@ fn message(alloc: Global, array: &Items, kind: Kind) -> Result<Message, PackRefu
         Kind::Ping => Ok(Message::Ping),
         Kind::Close => close(array),
         Kind::Ack => {
-            let upto = number(array, 1, Field::SequenceId)?;
+            let upto = number(array, places::SEQUENCE_ID, Field::SequenceId)?;
             Ok(Message::Ack { upto })
         }
         Kind::Sequence => sequence(array),
@@ -183,7 +185,7 @@ pub fn read_message(alloc: Global, frame: &[u8]) -> Result<Read, PackRefusal>
     let Value::List(array) = &value else {
         return Err(PackRefusal::NotArray);
     };
-    let n = whole(array, 0, Field::Kind)?;
+    let n = whole(array, places::KIND, Field::Kind)?;
     let Some(kind) = Kind::numbered(n) else {
         return Ok(Read::Unknown(n));
     };

@@ -1,3 +1,4 @@
+//! Why a frame is no message, and its words.
 ghost use Rattle.std.specs.Prelude.{◌≡◌};
 ghost use Rattle.hm_pack.specs.Words.{refusal_words};
 ghost use Rattle.hm_pack.specs.Refusals.{of_value};
@@ -5,15 +6,17 @@ ghost use Rattle.hm_pack.specs.Refusals.{of_value};
 use hm_message::Field;
 use hv_pack::PackError;
 use std::alloc::AllocError;
+use std::error::Error;
 use std::fmt;
 
 /// Why a frame is no message: the first of the reasons that holds, or `NoMemory`. Places count from
 /// the frame's first byte.
 #[derive(Clone, Copy, Debug, PartialEq, Eq)]
 pub enum PackRefusal {
-    /// It begins with no value (the MessagePack specification). Want of memory is never in here.
+    /// It begins with no value (the MessagePack specification). `PackError::NoMemory` is never in
+    /// here.
     Value(PackError),
-    /// Its one value ends at this place, and bytes stand behind it.
+    /// Its first value ends at this place, and bytes stand after it.
     Trailing { at: usize },
     /// Its value is no array.
     NotArray,
@@ -23,6 +26,7 @@ pub enum PackRefusal {
     Wrong(Field),
     /// A Completion's kind of result is a number that means nothing.
     ResultKind(i128),
+    /// Out of memory. The frame may be a message.
     NoMemory,
 }
 
@@ -76,3 +80,5 @@ impl fmt::Display for PackRefusal {
         }
     }
 }
+
+impl Error for PackRefusal {}

@@ -1,3 +1,4 @@
+//! Writes a message as one frame, in the shortest spelling.
 ghost use Rattle.std.specs.Prelude.{◌≡◌, ◌<◌, ◌^◌, ◌++◌, ◌∷◌, [], pos, IfOk, OnOk, OnErr};
 ghost use Rattle.hv_value.specs.Tree.{int, list, text, trees};
 ghost use Rattle.hv_value.specs.View.{tree, trees_of};
@@ -6,6 +7,7 @@ ghost use Rattle.hm_message.specs.Message.{Fits};
 ghost use Rattle.hm_pack.specs.Says.{Says};
 ghost use Rattle.hm_pack.specs.Spell.{Spell, texts, headers_written, text_written, received_written, call_written, ending_written, written, elements_of, array_of, IsInRange, AreInRange};
 
+use crate::places;
 use hm_message::{Ending, Headers, Message};
 use hv_pack::write_value;
 use hv_value::{Items, Text, Texts, Value, ValueError, Whole};
@@ -82,12 +84,12 @@ fn put_ending(elements: &mut Vec<Value>, ending: &Ending) -> Result<(), AllocErr
 {
     match ending {
         Ending::Error(error) => {
-            elements.push(number_value(1))?;
+            elements.push(number_value(places::ERROR_RESULT as u64))?;
             elements.push(text_value(error)?)?;
         }
-        Ending::Void => elements.push(number_value(2))?,
+        Ending::Void => elements.push(number_value(places::VOID_RESULT as u64))?,
         Ending::Result(result) => {
-            elements.push(number_value(3))?;
+            elements.push(number_value(places::VALUE_RESULT as u64))?;
             elements.push(result.copy()?)?;
         }
     }
