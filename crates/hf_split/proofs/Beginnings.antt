@@ -5,10 +5,18 @@ use Rattle.hf_split.specs.declared.framing.Framing.{Framing}
 use Rattle.hf_split.specs.declared.framing.Framing.TheVariants.{Record, Length}
 use Rattle.hf_split.specs.VarInts.{shortest}
 use Rattle.hf_split.specs.Cuts.{IsPlain, IsFrame, CanWrap, wrapped}
-use Rattle.hf_split.specs.Laws.{TooLongBeginsNone, BadLengthBeginsNone, TooLongStays, BadLengthStays, WrappedBegins, WrappedIsShortest}
+use Rattle.hf_split.specs.Laws.{HasOneBeginning, TooLongBeginsNone, BadLengthBeginsNone, TooLongStays, BadLengthStays, WrappedBegins, WrappedIsShortest}
 use Rattle.hf_split.proofs.VarIntFronts.{var_int_more, no_end_more}
 use Rattle.hf_split.proofs.Digits.{var_int_below, shortest_is_var_int, shortest_is_shortest}
+use Rattle.hf_split.proofs.Finding.{start_of, frame_not_faulty, one_fault}
 use Rattle.hf_split.proofs.Spellings.{begins_front, too_long_begins_none as none_begins, bad_length_begins_none as none_begins_bad}
+
+pub one_beginning : HasOneBeginning
+one_beginning framing most bytes = record {
+  some = start_of framing most bytes;
+  frame_is_no_fault = frame_not_faulty framing most bytes;
+  one_fault = one_fault framing most bytes;
+}
 
 pub too_long_stays : TooLongStays
 too_long_stays Record most bytes more long =

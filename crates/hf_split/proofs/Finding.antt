@@ -3,23 +3,23 @@ use Rattle.std.proofs.Common.{◌≡◌, ◌≢◌, ◌<◌, ◌≤◌, ◌+◌,
 use Rattle.std.specs.List.{All}
 use Rattle.std.proofs.Math.Seq.{take-append-add}
 use Rattle.std.proofs.lemmas.Bool.{cases_lt}
-use Rattle.std.proofs.lemmas.List.{length-take-le, take-append-drop, take-append-le, drop-append-le, drop-drop}
+use Rattle.std.proofs.lemmas.List.{length-take-le, take_all, take-append-drop, take-append-le, drop-append-le, drop-drop}
 use Rattle.hf_split.specs.declared.framing.Framing.{Framing}
 use Rattle.hf_split.specs.declared.framing.Framing.TheVariants.{Record, Length}
 use Rattle.hf_split.specs.declared.next.Next.{Next}
 use Rattle.hf_split.specs.declared.next.Next.TheVariants.{Waiting, Frame, TooLong, BadLength}
 use Rattle.hf_split.specs.VarInts.{HasMore, BeginsWithVarInt}
-use Rattle.hf_split.specs.Cuts.{Spelled, IsPlain, BeginsWith, IsTooLong, IsFaulty, IsWaiting}
-use Rattle.hf_split.specs.Held.{Held, place_of, past}
+use Rattle.hf_split.specs.Cuts.{Spelled, IsPlain, BeginsWith, IsTooLong, IsBadLength, IsFaulty, IsWaiting}
+use Rattle.hf_split.specs.Held.{Held, place_of, after_pass}
 use Rattle.hf_split.specs.Marks.{IsMarkAt}
 use Rattle.hf_split.specs.Nexts.{IsWholeAt, IsFrameAt, IsNextOf}
-use Rattle.hf_split.proofs.VarIntFronts.{find_var_int, whole_begins, ends_before, var_int_once, one_number, no_end_begins_none, open_begins_none}
-use Rattle.hf_split.proofs.Spellings.{read_once, begins_more, spelling_some, length_first, begins_with_length, length_is, plain_begins_none, too_long_begins_none, bad_length_begins_none}
+use Rattle.hf_split.proofs.VarIntFronts.{find_var_int, whole_begins, var_int_once, one_number, no_end_begins_none, open_begins_none}
+use Rattle.hf_split.proofs.Spellings.{read_once, begins_more, spelling_some, length_first, begins_with_length, length_is, too_long_begins_none, bad_length_begins_none}
 use Rattle.std.proofs.lemmas.List.Elements.{All-take}
-use Rattle.hf_split.proofs.Places.{marked_frame, find_mark, waiting_plain}
+use Rattle.hf_split.proofs.Places.{marked_frame, find_mark, plain_waits, waiting_plain}
 
 -- a frame is no fault
-frame_not_faulty : (framing : Framing) (most : ℕ) (bytes : List ℕ) (item : Spelled) → BeginsWith framing most bytes item → IsFaulty framing most bytes → ⊥
+pub frame_not_faulty : (framing : Framing) (most : ℕ) (bytes : List ℕ) (item : Spelled) → BeginsWith framing most bytes item → IsFaulty framing most bytes → ⊥
 frame_not_faulty framing most bytes item begins (inl long) = too_long_begins_none framing most bytes item long begins
 frame_not_faulty framing most bytes item begins (inr bad) = bad_length_begins_none framing most bytes item bad begins
 
@@ -159,30 +159,47 @@ next_stays framing most held bytes (Frame from to end) at sound not_waiting =
 next_stays framing most held bytes TooLong long sound not_waiting = absurd (sound (inl refl))
 next_stays framing most held bytes BadLength bad sound not_waiting = absurd (sound (inr refl))
 
--- bytes begin with a frame or with none
-find_after_length : (most : ℕ) (bytes : List ℕ) → ((size n : ℕ) × IsWholeAt bytes size n) ⊎ All HasMore (take 5 bytes)
-    → ((item : Spelled) × BeginsWith Length most bytes item) ⊎ ((item : Spelled) → BeginsWith Length most bytes item → ⊥)
-find_after_length most bytes (inl at) = by (cases_lt most at.1) (cases_lt (length bytes) (at.0 + at.1)) where
-  by : (most < at.1) ⊎ (at.1 ≤ most) → (length bytes < at.0 + at.1) ⊎ (at.0 + at.1 ≤ length bytes)
-      → ((item : Spelled) × BeginsWith Length most bytes item) ⊎ ((item : Spelled) → BeginsWith Length most bytes item → ⊥)
-  by (inl long) room = inr (λ item. too_long_begins_none Length most bytes item (length_too_long most at.0 at.1 bytes at.2 long))
-  by (inr short) (inl less) = inr (waits_for_body most at.0 at.1 bytes at.2 short less).no_frame
+-- bytes begin with a frame, with a fault or with neither
+abbrev Start : Framing → ℕ → List ℕ → Type 0
+Start framing most bytes = ((item : Spelled) × BeginsWith framing most bytes item) ⊎ (IsFaulty framing most bytes ⊎ IsWaiting framing most bytes)
+
+start_after_length : (most : ℕ) (bytes : List ℕ) → ((size n : ℕ) × IsWholeAt bytes size n) ⊎ All HasMore (take 5 bytes) → Start Length most bytes
+start_after_length most bytes (inl at) = by (cases_lt most at.1) (cases_lt (length bytes) (at.0 + at.1)) where
+  by : (most < at.1) ⊎ (at.1 ≤ most) → (length bytes < at.0 + at.1) ⊎ (at.0 + at.1 ≤ length bytes) → Start Length most bytes
+  by (inl long) room = inr (inl (inl (length_too_long most at.0 at.1 bytes at.2 long)))
+  by (inr short) (inl less) = inr (inr (waits_for_body most at.0 at.1 bytes at.2 short less))
   by (inr short) (inr more) = inl (_, (frame_after_length most at.0 at.1 (at.0 + at.1) bytes at.2 short refl more).begins)
-find_after_length most bytes (inr more) = inr no_frame where
-  no_frame : (item : Spelled) → BeginsWith Length most bytes item → ⊥
-  no_frame item begins =
-      let at = begins_with_length most bytes item begins in
-      ends_before bytes (length item.frame) 5 at at.is_var_int.short more
+start_after_length most bytes (inr more) = by (cases_lt (length bytes) 5) where
+  by : (length bytes < 5) ⊎ (5 ≤ length bytes) → Start Length most bytes
+  by (inl short) = inr (inr (open_waits most bytes short (subst (All HasMore) (take_all 5 bytes (omega (arith, short))) more)))
+  by (inr long) = inr (inl (inr (long, more)))
 
-find_before_mark : (most : ℕ) (bytes : List ℕ) → ((n : ℕ) × IsMarkAt (take (most + 1) bytes) n) ⊎ IsPlain (take (most + 1) bytes)
-    → ((item : Spelled) × BeginsWith Record most bytes item) ⊎ ((item : Spelled) → BeginsWith Record most bytes item → ⊥)
-find_before_mark most bytes (inl found) = inl (_, (marked_frame most bytes found.0 found.1).begins)
-find_before_mark most bytes (inr plain) = inr (λ item. plain_begins_none most bytes item plain)
+start_before_mark : (most : ℕ) (bytes : List ℕ) → ((n : ℕ) × IsMarkAt (take (most + 1) bytes) n) ⊎ IsPlain (take (most + 1) bytes) → Start Record most bytes
+start_before_mark most bytes (inl found) = inl (_, (marked_frame most bytes found.0 found.1).begins)
+start_before_mark most bytes (inr plain) = by (cases_lt most (length bytes)) where
+  by : (most < length bytes) ⊎ (length bytes ≤ most) → Start Record most bytes
+  by (inl long) = inr (inl (inl (long, plain)))
+  by (inr short) = inr (inr (plain_waits most bytes plain short))
 
+pub start_of : (framing : Framing) (most : ℕ) (bytes : List ℕ)
+    → ((item : Spelled) × BeginsWith framing most bytes item) ⊎ (IsFaulty framing most bytes ⊎ IsWaiting framing most bytes)
+start_of Record most bytes = start_before_mark most bytes (find_mark (take (most + 1) bytes))
+start_of Length most bytes = start_after_length most bytes (find_var_int bytes)
+
+-- bytes begin with a frame or with none
 pub find_frame : (framing : Framing) (most : ℕ) (bytes : List ℕ)
     → ((item : Spelled) × BeginsWith framing most bytes item) ⊎ ((item : Spelled) → BeginsWith framing most bytes item → ⊥)
-find_frame Record most bytes = find_before_mark most bytes (find_mark (take (most + 1) bytes))
-find_frame Length most bytes = find_after_length most bytes (find_var_int bytes)
+find_frame framing most bytes = by (start_of framing most bytes) where
+  by : Start framing most bytes → ((item : Spelled) × BeginsWith framing most bytes item) ⊎ ((item : Spelled) → BeginsWith framing most bytes item → ⊥)
+  by (inl found) = inl found
+  by (inr (inl (inl long))) = inr (λ item. too_long_begins_none framing most bytes item long)
+  by (inr (inl (inr bad))) = inr (λ item. bad_length_begins_none framing most bytes item bad)
+  by (inr (inr waiting)) = inr waiting.no_frame
+
+-- and with one fault at most
+pub one_fault : (framing : Framing) (most : ℕ) (bytes : List ℕ) → IsTooLong framing most bytes → IsBadLength framing bytes → ⊥
+one_fault Record most bytes long bad = bad
+one_fault Length most bytes long bad = no_end_begins_none bytes long.0 bad long.1.1
 
 -- what is lent is the frame
 pub lent_begins : (framing : Framing) (most start from to past : ℕ) (items : List ℕ) → IsFrameAt framing most (drop start items) from to past
@@ -194,7 +211,7 @@ lent_begins framing most start from to past items at =
 -- the fields past a frame
 pub past_view : (framing : Framing) (most place start past_it total : ℕ) (items : List ℕ) (item : Spelled) → length item.spelling ≡ past_it → total ≡ place_of (place + past_it)
     → (let h : Held = record { framing = framing; most = most; place = total; bytes = drop (start + past_it) items } in h)
-    ≡ past (record { framing = framing; most = most; place = place; bytes = drop start items }) item
+    ≡ after_pass (record { framing = framing; most = most; place = place; bytes = drop start items }) item
 past_view framing most place start past_it total items item same sum =
     let e : total ≡ place_of (place + length item.spelling) = omega arith in
     let b : drop (start + past_it) items ≡ drop (length item.spelling) (drop start items) = ap (λ (n : ℕ). drop (start + n) items) (sym same) ∙ sym (drop-drop (length item.spelling) start items) in

@@ -3,7 +3,7 @@ use Rattle.std.proofs.Common.{◌≡◌, ◌+◌, ◌<◌, ◌≤◌, ◌⊎◌,
 use Rattle.std.proofs.lemmas.List.{flat_map_more, append_cancel_left}
 use Rattle.hf_split.specs.declared.framing.Framing.{Framing}
 use Rattle.hf_split.specs.Cuts.{Spelled, Framings, AreFrames, IsFrame, BeginsWith, Cuts, later, stream_of}
-use Rattle.hf_split.specs.Held.{Held, Stands, IsInStep, IsNext, place_of, past}
+use Rattle.hf_split.specs.Held.{Held, Stands, IsInStep, IsNext, place_of, after_pass}
 use Rattle.hf_split.specs.Laws.{BeginsOnce, HasOneCutting, HasCutting}
 use Rattle.hf_split.proofs.Spellings.{read_once, begins_front, spelling_some}
 use Rattle.hf_split.proofs.Finding.{find_frame}
@@ -86,7 +86,7 @@ place_more place n k m p e = omega arith
 
 -- the splitter past the frame that it held
 pub stands_past : (framings : Framings) (held : Held) (stream : List ℕ) (passed : List Spelled) (item : Spelled) → Stands framings held stream passed
-    → IsInStep framings held passed → BeginsWith held.framing held.most held.bytes item → Stands framings (past held item) stream (passed ++ item ∷ [])
+    → IsInStep framings held passed → BeginsWith held.framing held.most held.bytes item → Stands framings (after_pass held item) stream (passed ++ item ∷ [])
 stands_past framings held stream passed item stands step begins =
     let more : stream_of (passed ++ item ∷ []) ≡ stream_of passed ++ item.spelling = sym (flat_map_more (λ (x : Spelled). x.spelling) [] passed item) in
     record {

@@ -1,13 +1,17 @@
 -- The frames of a whole stream of bytes, however it was cut into pieces.
-use Rattle.std.specs.Prelude.{◌≡◌, ◌≢◌, ◌<◌, ◌≤◌, ◌+◌, ◌^◌, ◌⊎◌, ℕ, suc, List, [], ◌∷◌, ◌++◌, length, take, drop, map}
+use Rattle.std.specs.Prelude.{◌≡◌, ◌≢◌, ◌<◌, ◌≤◌, ◌+◌, ◌⊎◌, ℕ, suc, List, [], ◌∷◌, ◌++◌, length, take, drop, map}
 use Rattle.std.specs.List.{All, flat_map}
 use Rattle.hf_split.specs.declared.framing.Framing.{Framing}
 use Rattle.hf_split.specs.declared.framing.Framing.TheVariants.{Record, Length}
-use Rattle.hf_split.specs.VarInts.{IsVarInt, BeginsWithVarInt, BeginsWithNoEnd, shortest}
+use Rattle.hf_split.specs.VarInts.{IsVarInt, BeginsWithVarInt, BeginsWithNoEnd, shortest, var_int_bound}
 
--- no record separator, the byte 1E (30), among the bytes
+-- the record separator, the byte 1E
+abbrev pub separator : ℕ
+separator = 30
+
+-- no record separator stands among the bytes
 abbrev pub IsPlain : List ℕ → Type 0
-IsPlain bytes = All (λ b. b ≢ 30) bytes
+IsPlain bytes = All (λ b. b ≢ separator) bytes
 
 -- a frame, and the bytes that spell it on a stream
 pub record Spelled : Type 0 where
@@ -16,7 +20,7 @@ pub record Spelled : Type 0 where
 
 -- these bytes are a spelling of the frame
 abbrev pub IsSpelling : Framing → List ℕ → List ℕ → Type 0
-IsSpelling Record spelling frame = (spelling ≡ frame ++ 30 ∷ []) × IsPlain frame
+IsSpelling Record spelling frame = (spelling ≡ frame ++ separator ∷ []) × IsPlain frame
 IsSpelling Length spelling frame = (prefix : List ℕ) × (IsVarInt prefix (length frame) × (spelling ≡ prefix ++ frame))
 
 -- a frame within the limit, with a spelling of it
@@ -39,6 +43,7 @@ abbrev pub IsBadLength : Framing → List ℕ → Type 0
 IsBadLength Record bytes = ⊥
 IsBadLength Length bytes = BeginsWithNoEnd bytes
 
+-- the bytes begin with a fault
 abbrev pub IsFaulty : Framing → ℕ → List ℕ → Type 0
 IsFaulty framing most bytes = IsTooLong framing most bytes ⊎ IsBadLength framing bytes
 
@@ -68,6 +73,7 @@ AreFrames framings most (item ∷ items) = IsFrame (framings 0) most item × Are
 abbrev pub stream_of : List Spelled → List ℕ
 stream_of items = flat_map (λ item. item.spelling) items
 
+-- the frames alone
 abbrev pub frames_of : List Spelled → List (List ℕ)
 frames_of items = map (λ item. item.frame) items
 
@@ -79,10 +85,10 @@ pub record Cuts (framings : Framings) (most : ℕ) (stream : List ℕ) (items : 
 
 -- the frame with the spelling that is written of it
 abbrev pub wrapped : Framing → List ℕ → Spelled
-wrapped Record frame = record { spelling = frame ++ 30 ∷ []; frame = frame }
+wrapped Record frame = record { spelling = frame ++ separator ∷ []; frame = frame }
 wrapped Length frame = record { spelling = shortest (length frame) ++ frame; frame = frame }
 
 -- the frame can be written
 abbrev pub CanWrap : Framing → List ℕ → Type 0
 CanWrap Record frame = IsPlain frame
-CanWrap Length frame = length frame < 2 ^ 35
+CanWrap Length frame = length frame < var_int_bound

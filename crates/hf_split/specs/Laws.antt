@@ -1,7 +1,7 @@
 -- What holds of all streams.
-use Rattle.std.specs.Prelude.{◌≡◌, ◌≤◌, ℕ, List, ◌++◌, length}
+use Rattle.std.specs.Prelude.{◌≡◌, ◌≤◌, ◌⊎◌, ℕ, List, [], ◌++◌, length}
 use Rattle.hf_split.specs.declared.framing.Framing.{Framing}
-use Rattle.hf_split.specs.Cuts.{Spelled, Framings, IsSpelling, BeginsWith, IsTooLong, IsBadLength, CanWrap, Cuts, wrapped}
+use Rattle.hf_split.specs.Cuts.{Spelled, Framings, IsSpelling, BeginsWith, IsTooLong, IsBadLength, IsFaulty, IsWaiting, CanWrap, Cuts, wrapped}
 
 -- a stream is cut in one way
 abbrev pub HasOneCutting : Type 0
@@ -16,6 +16,21 @@ HasCutting = (framings : Framings) (most : ℕ) (stream : List ℕ) → (items :
 abbrev pub BeginsOnce : Type 0
 BeginsOnce = (framing : Framing) (most : ℕ) (bytes more : List ℕ) (item other : Spelled) →
     BeginsWith framing most bytes item → BeginsWith framing most (bytes ++ more) other → item ≡ other
+
+-- The bytes begin with a frame, or with a fault, or wait, and no two of these: IsWaiting itself says that it is neither
+-- of the others. A fault is a frame that is too long or a bad length, and not both.
+pub record BeginsInOneWay (framing : Framing) (most : ℕ) (bytes : List ℕ) : Type 0 where
+  pub some : ((item : Spelled) × BeginsWith framing most bytes item) ⊎ (IsFaulty framing most bytes ⊎ IsWaiting framing most bytes)
+  pub frame_is_no_fault : (item : Spelled) → BeginsWith framing most bytes item → IsFaulty framing most bytes → ⊥
+  pub one_fault : IsTooLong framing most bytes → IsBadLength framing bytes → ⊥
+
+-- all bytes begin in one way
+abbrev pub HasOneBeginning : Type 0
+HasOneBeginning = (framing : Framing) (most : ℕ) (bytes : List ℕ) → BeginsInOneWay framing most bytes
+
+-- no bytes at all wait
+abbrev pub EmptyWaits : Type 0
+EmptyWaits = (framing : Framing) (most : ℕ) → IsWaiting framing most []
 
 -- bytes that are too long begin with no frame, nor do they with more behind them
 abbrev pub TooLongBeginsNone : Type 0

@@ -1,5 +1,5 @@
 -- What bytes begin with, as the code keeps it.
-use Rattle.std.specs.Prelude.{◌<◌, ◌≤◌, ◌+◌, ◌-◌, ℕ, List, length, take, drop}
+use Rattle.std.specs.Prelude.{◌<◌, ◌≤◌, ◌-◌, ℕ, List, length, take, drop}
 use Rattle.std.specs.List.{All}
 use Rattle.hf_split.specs.declared.framing.Framing.{Framing}
 use Rattle.hf_split.specs.declared.next.Next.{Next}
@@ -7,17 +7,20 @@ use Rattle.hf_split.specs.declared.next.Next.TheVariants.{Waiting, Frame, TooLon
 use Rattle.hf_split.specs.declared.var_int.Prefix.{Prefix}
 use Rattle.hf_split.specs.declared.var_int.Prefix.TheVariants.{Open, Whole, Endless}
 use Rattle.hf_split.specs.Cuts.{BeginsWith, IsTooLong, IsBadLength, IsWaiting}
-use Rattle.hf_split.specs.VarInts.{HasMore, IsVarInt, BeginsWithNoEnd}
+use Rattle.hf_split.specs.VarInts.{HasMore, IsVarInt, BeginsWithNoEnd, longest_var_int}
+use Rattle.hf_split.specs.Held.{room_for}
+use Rattle.hf_split.specs.declared.splitter.TheConstants.{GREATEST_LIMIT}
 
--- the bytes begin with a VarInt of so many bytes
+-- the bytes begin with a VarInt of this size
 pub record IsWholeAt (bytes : List ℕ) (size number : ℕ) : Type 0 where
   pub inside : size ≤ length bytes
   pub is_var_int : IsVarInt (take size bytes) number
 
-abbrev pub IsPrefixOf : List ℕ → Prefix → Type 0
-IsPrefixOf bytes Open = (length bytes < 5) × All HasMore bytes
-IsPrefixOf bytes (Whole size number) = IsWholeAt bytes size number
-IsPrefixOf bytes Endless = BeginsWithNoEnd bytes
+-- what was read of the length that bytes should begin with
+abbrev pub IsLengthAt : List ℕ → Prefix → Type 0
+IsLengthAt bytes Open = (length bytes < longest_var_int) × All HasMore bytes
+IsLengthAt bytes (Whole size number) = IsWholeAt bytes size number
+IsLengthAt bytes Endless = BeginsWithNoEnd bytes
 
 -- the bytes begin with a frame that stands from one place to another, and its spelling ends at a third
 pub record IsFrameAt (framing : Framing) (most : ℕ) (bytes : List ℕ) (from to past : ℕ) : Type 0 where
@@ -27,6 +30,7 @@ pub record IsFrameAt (framing : Framing) (most : ℕ) (bytes : List ℕ) (from t
   pub inside : past ≤ length bytes
   pub begins : BeginsWith framing most bytes (record { spelling = take past bytes; frame = take (to - from) (drop from bytes) })
 
+-- the bytes begin with this
 abbrev pub IsNextOf : Framing → ℕ → List ℕ → Next → Type 0
 IsNextOf framing most bytes Waiting = IsWaiting framing most bytes
 IsNextOf framing most bytes (Frame from to past) = IsFrameAt framing most bytes from to past
@@ -36,8 +40,8 @@ IsNextOf framing most bytes BadLength = IsBadLength framing bytes
 -- what a splitter's fields keep
 pub record IsBuffer (framing : Framing) (most start capacity : ℕ) (items : List ℕ) (next : Next) : Type 0 where
   pub positive : 1 ≤ most
-  pub limit : most ≤ 16777216
-  pub reserved : most + 5 ≤ capacity
-  pub filled : length items ≤ most + 5
+  pub limit : most ≤ GREATEST_LIMIT
+  pub reserved : room_for most ≤ capacity
+  pub filled : length items ≤ room_for most
   pub inside : start ≤ length items
   pub found : IsNextOf framing most (drop start items) next

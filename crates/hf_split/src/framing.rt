@@ -1,11 +1,12 @@
-ghost use Rattle.std.specs.Prelude.{◌≡◌, ◌<◌, ◌^◌, ◌++◌, length, OnOk, OnErr};
+ghost use Rattle.std.specs.Prelude.{◌≡◌, ◌<◌, ◌++◌, length, OnOk, OnErr};
+ghost use Rattle.hf_split.specs.VarInts.{var_int_bound};
 ghost use Rattle.hf_split.specs.Cuts.{IsPlain, CanWrap, wrapped};
 
-use crate::var_int::{LONGEST, put_shortest};
+use crate::var_int::{LONGEST_VAR_INT, put_shortest};
 use std::alloc::AllocError;
 
 /// The byte that ends a frame in `Framing::Record`: the record separator, 1E.
-pub(crate) const SEPARATOR: u8 = 0x1e;
+pub const SEPARATOR: u8 = 0x1e;
 
 /// How frames stand on a stream.
 #[derive(Clone, Copy, Debug, PartialEq, Eq)]
@@ -31,11 +32,11 @@ fn wrap_record(body: &[u8], out: &mut Vec<u8>) -> Result<(), AllocError>
 }
 
 fn wrap_length(body: &[u8], out: &mut Vec<u8>) -> Result<(), AllocError>
-    requires { length body.now < 2 ^ 35 }
+    requires { length body.now < var_int_bound }
     ensures ok { OnOk result (out.new.items ≡ out.old.items ++ (wrapped Framing.Length body.now).spelling) }
     ensures err { OnErr result (out.new.items ≡ out.old.items) }
 {
-    out.reserve(LONGEST + body.len())?;
+    out.reserve(LONGEST_VAR_INT + body.len())?;
     put_shortest(body.len(), out);
     out.extend_from_slice(body).unwrap();
     Ok(())

@@ -4,6 +4,7 @@ ghost use Rattle.hf_split.specs.Nexts.{IsNextOf};
 
 use crate::framing::Framing;
 use crate::mark::first_mark;
+use crate::splitter::GREATEST_LIMIT;
 use crate::var_int::{Prefix, read_prefix};
 
 /// What the bytes held begin with.
@@ -32,7 +33,7 @@ impl Next {
 /// What bytes begin with in `Framing::Record`. The first `plain` of them, which hold no separator, aren't looked at.
 #[inline(always)]
 fn next_record(most: usize, bytes: &[u8], plain: usize) -> Next
-    requires limit { most ≤ 16777216 }
+    requires limit { most ≤ GREATEST_LIMIT }
     requires plain { IsPlain (take plain bytes.now) }
     ensures { IsNextOf Framing.Record most bytes.now result }
 {
@@ -51,7 +52,7 @@ fn next_record(most: usize, bytes: &[u8], plain: usize) -> Next
 
 /// What bytes begin with in `Framing::Length`.
 fn next_length(most: usize, bytes: &[u8]) -> Next
-    requires { most ≤ 16777216 }
+    requires { most ≤ GREATEST_LIMIT }
     ensures { IsNextOf Framing.Length most bytes.now result }
 {
     let (size, number) = match read_prefix(bytes) {
@@ -75,7 +76,7 @@ fn next_length(most: usize, bytes: &[u8]) -> Next
 
 /// What bytes begin with.
 pub(crate) fn next_of(framing: Framing, most: usize, bytes: &[u8]) -> Next
-    requires { most ≤ 16777216 }
+    requires { most ≤ GREATEST_LIMIT }
     ensures { IsNextOf framing most bytes.now result }
 {
     match framing {
@@ -92,7 +93,7 @@ pub(crate) fn next_after(
     held: usize,
     bytes: &[u8],
 ) -> Next
-    requires limit { most ≤ 16777216 }
+    requires limit { most ≤ GREATEST_LIMIT }
     requires next { IsNextOf framing most (take held bytes.now) next }
     requires no_fault { ((next ≡ Next.TooLong) ⊎ (next ≡ Next.BadLength)) → ⊥ }
     ensures { IsNextOf framing most bytes.now result }

@@ -1,11 +1,15 @@
 ghost use Rattle.std.specs.Prelude.{◌≡◌, ◌+◌, ◌-◌, ◌<◌, ◌≤◌, ℕ, List, [], ◌∷◌, ◌++◌, length, take, drop, IfSome, IfNone, IfOk, IfErr, OnErr, vec_len, vec_capacity};
 ghost use Rattle.hf_split.specs.Cuts.{Spelled, Framings, BeginsWith, IsFaulty, IsWaiting, Cuts};
-ghost use Rattle.hf_split.specs.Held.{Stands, IsFaultOf, IsInStep, IsNext, fresh, taken, fed, past};
+ghost use Rattle.hf_split.specs.Held.{Stands, IsFaultOf, IsInStep, IsNext, room_for, at_start, taken_by_feed, after_feed, after_pass};
 
 use crate::framing::Framing;
 use crate::next::{Next, next_after, next_of};
+use crate::var_int::LONGEST_VAR_INT;
 use std::alloc::{AllocError, Global};
 use std::marker::Model;
+
+/// The greatest limit of a frame's length, in bytes: 16 MiB.
+pub const GREATEST_LIMIT: usize = 16_777_216;
 
 /// A stream that goes on with no frame.
 #[derive(Clone, Copy, Debug, PartialEq, Eq)]
@@ -78,15 +82,15 @@ impl Splitter {
     /// framing; `most + 5` bytes are reserved, and no more are ever taken.
     pub fn start(alloc: Global, framing: Framing, most: usize) -> Result<Splitter, AllocError>
         requires positive { 1 ≤ most }
-        requires limit { most ≤ 16777216 }
-        ensures empty { IfOk result (λ splitter. splitter ≡ fresh framing most) }
+        requires limit { most ≤ GREATEST_LIMIT }
+        ensures empty { IfOk result (λ splitter. splitter ≡ at_start framing most) }
         ensures stands { IfOk result (λ splitter. (framings : Framings) → Stands framings splitter [] []) }
     {
         Ok(Splitter {
             framing,
             most,
             place: 0,
-            buffer: Vec::with_capacity(alloc, most + 5)?,
+            buffer: Vec::with_capacity(alloc, most + LONGEST_VAR_INT)?,
             start: 0,
             next: Next::Waiting,
         })
@@ -96,9 +100,9 @@ impl Splitter {
     pub fn feed(&mut self, piece: &[u8]) -> usize
         ensures within { result ≤ length piece.now }
         ensures refused { IsFaulty self.old.framing self.old.most self.old.bytes → result ≡ 0 }
-        ensures count { (IsFaulty self.old.framing self.old.most self.old.bytes → ⊥) → result ≡ taken self.old (length piece.now) }
-        ensures fed { self.new ≡ fed self.old (take result piece.now) }
-        ensures room { length self.new.bytes ≤ self.new.most + 5 }
+        ensures count { (IsFaulty self.old.framing self.old.most self.old.bytes → ⊥) → result ≡ taken_by_feed self.old (length piece.now) }
+        ensures fed { self.new ≡ after_feed self.old (take result piece.now) }
+        ensures room { length self.new.bytes ≤ room_for self.new.most }
 
         // The stream is longer by what was taken.
         ensures stands { (framings : Framings) (stream : List ℕ) (passed : List Spelled) →
@@ -108,8 +112,12 @@ impl Splitter {
             return 0;
         }
         let held = self.buffer.len() - self.start;
-        let count = piece.len().min(self.most + 5 - held);
-        self.start = make_room(&mut self.buffer, self.start, self.most + 5 - count);
+        let count = piece.len().min(self.most + LONGEST_VAR_INT - held);
+        self.start = make_room(
+            &mut self.buffer,
+            self.start,
+            self.most + LONGEST_VAR_INT - count,
+        );
         self.buffer.extend_from_slice(&piece[..count]).unwrap();
         self.next = next_after(
             self.framing,
@@ -130,7 +138,7 @@ impl Splitter {
         ensures fault { IfErr result (IsFaultOf self.now) }
 
         // A full buffer gives a frame or a fault.
-        ensures not_full { IfOk result (λ next. IfNone next (length self.now.bytes < self.now.most + 5)) }
+        ensures not_full { IfOk result (λ next. IfNone next (length self.now.bytes < room_for self.now.most)) }
 
         // Of the whole stream: the frame is the next of it, or what is held is its rest.
         ensures next_of_stream { IfOk result (λ next. IfSome next (λ found. (framings : Framings) (stream : List ℕ) (passed : List Spelled) →
@@ -155,7 +163,7 @@ impl Splitter {
     /// Moves past the frame that `frame` lends.
     pub fn pass(&mut self)
         requires { (item : Spelled) × BeginsWith self.old.framing self.old.most self.old.bytes item }
-        ensures past { (item : Spelled) → BeginsWith self.old.framing self.old.most self.old.bytes item → self.new ≡ past self.old item }
+        ensures past { (item : Spelled) → BeginsWith self.old.framing self.old.most self.old.bytes item → self.new ≡ after_pass self.old item }
         ensures shorter { length self.new.bytes < length self.old.bytes }
         ensures stands { (framings : Framings) (stream : List ℕ) (passed : List Spelled) (item : Spelled) →
             Stands framings self.old stream passed → IsInStep framings self.old passed →
@@ -194,7 +202,7 @@ impl Splitter {
 
     /// Drops what is held, and begins a new stream, in this framing and with the same limit.
     pub fn reset(&mut self, framing: Framing)
-        ensures empty { self.new ≡ fresh framing self.old.most }
+        ensures empty { self.new ≡ at_start framing self.old.most }
         ensures stands { (framings : Framings) → Stands framings self.new [] [] }
     {
         self.framing = framing;

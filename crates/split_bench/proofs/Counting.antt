@@ -5,7 +5,7 @@ use Rattle.std.proofs.lemmas.List.Sums.{sum_by_push}
 use Rattle.hf_split.specs.declared.framing.Framing.{Framing}
 use Rattle.hf_split.specs.declared.framing.Framing.TheVariants.{Record}
 use Rattle.hf_split.specs.Cuts.{Spelled, AreFrames, BeginsWith, IsTooLong, IsWaiting, always, stream_of}
-use Rattle.hf_split.specs.Held.{Held, Stands, fed, fresh, past}
+use Rattle.hf_split.specs.Held.{Held, Stands, after_feed, at_start, after_pass}
 use Rattle.split_bench.specs.declared.tally.Tally.{Tally}
 use Rattle.split_bench.specs.declared.tally.Outcome.TheVariants.{Whole, TooLong}
 use Rattle.std.specs.Io.KnownBytes.{Consumes, IsAtEnd}
@@ -16,7 +16,7 @@ tally_more : (n k m t : ℕ) → t ≡ counted n → m ≡ n + k → counted (t 
 tally_more n k m t same sum = omega arith
 
 pub counted_past : (most : ℕ) (stream : List ℕ) (old new : Held) (tally : Tally) (frames bytes : ℕ) (item : Spelled) (at : IsCounted most old tally stream)
-    → new ≡ past old item → Stands (always Record) new stream (at.passed ++ item ∷ [])
+    → new ≡ after_pass old item → Stands (always Record) new stream (at.passed ++ item ∷ [])
     → frames ≡ counted (tally.frames + 1) → bytes ≡ counted (tally.bytes + length item.frame)
     → IsCounted most new (record { frames = frames; bytes = bytes }) stream
 counted_past most stream old new tally frames bytes item at is stands one more = record {
@@ -32,7 +32,7 @@ counted_past most stream old new tally frames bytes item at is stands one more =
 }
 
 pub counted_fed : (most : ℕ) (stream front more : List ℕ) (old new : Held) (tally : Tally) (at : IsCounted most old tally (stream ++ front))
-    → new ≡ fed old more → Stands (always Record) new (stream ++ front ++ more) at.passed → IsCounted most new tally (stream ++ (front ++ more))
+    → new ≡ after_feed old more → Stands (always Record) new (stream ++ front ++ more) at.passed → IsCounted most new tally (stream ++ (front ++ more))
 counted_fed most stream front more old new tally at is stands = record {
   limit = ap (λ (h : Held). h.most) is ∙ at.limit;
   framing = ap (λ (h : Held). h.framing) is ∙ at.framing;
@@ -50,7 +50,7 @@ split_more piece front left n same =
     ∙ sym (append_assoc front (take n left) (take (length left - n) (drop n left)))
 
 -- nothing is counted at the start
-pub counted_fresh : (most : ℕ) (splitter : Held) → splitter ≡ fresh Record most → Stands (always Record) splitter [] []
+pub counted_fresh : (most : ℕ) (splitter : Held) → splitter ≡ at_start Record most → Stands (always Record) splitter [] []
     → IsCounted most splitter (record { frames = 0; bytes = 0 }) []
 counted_fresh most splitter is stands = record {
   limit = ap (λ (h : Held). h.most) is;

@@ -5,7 +5,7 @@ use Rattle.std.proofs.lemmas.List.Elements.{All-nil, All-push, All-append}
 use Rattle.hf_split.specs.declared.framing.Framing.{Framing}
 use Rattle.hf_split.specs.declared.framing.Framing.TheVariants.{Record}
 use Rattle.hf_split.specs.Cuts.{Spelled, AreFrames, BeginsWith, IsFaulty, IsWaiting, always, wrapped}
-use Rattle.hf_split.specs.Held.{Held, Stands, IsInStep, fed, past}
+use Rattle.hf_split.specs.Held.{Held, Stands, IsInStep, after_feed, after_pass}
 use Rattle.hm_message.specs.declared.message.Message.{Message}
 use Rattle.hm_json.specs.Says.{Says}
 use Rattle.hm_json.specs.Spell.{Spell}
@@ -126,7 +126,7 @@ frame_says bytes item f = subst (λ (x : Spelled). Says x.frame f.message) (sym 
 
 -- a message is taken
 pub taking_next : (first held next : Held) (processed total : ℕ) (before now now' : List ℕ) (item : Spelled) → Taking first held processed total before now
-    → BeginsWith held.framing held.most held.bytes item → (f : FrontFirst held.bytes item) → now' ≡ now ++ got_line (total + 1) f.message → next ≡ past held item
+    → BeginsWith held.framing held.most held.bytes item → (f : FrontFirst held.bytes item) → now' ≡ now ++ got_line (total + 1) f.message → next ≡ after_pass held item
     → ((stream : List ℕ) (passed : List Spelled) → Stands (always Record) held stream passed → IsInStep (always Record) held passed → Stands (always Record) next stream (passed ++ item ∷ []))
     → Taking first next processed (total + 1) before now'
 taking_next first held next processed total before now now' item t begins f text is stands =
@@ -157,7 +157,7 @@ taking_fits first held processed total before now item t begins =
     omega (arith, t.few, ap length begins'.front, length-append item.spelling (drop (length item.spelling) held.bytes), ap length begins'.is_frame.spells.0, length-append item.frame (30 ∷ []))
 
 pub taking_shorter : (first held next : Held) (processed total : ℕ) (before now : List ℕ) (item : Spelled) → Taking first held processed total before now
-    → BeginsWith held.framing held.most held.bytes item → next ≡ past held item → length next.bytes < length held.bytes
+    → BeginsWith held.framing held.most held.bytes item → next ≡ after_pass held item → length next.bytes < length held.bytes
 taking_shorter first held next processed total before now item t begins is =
     let begins' : BeginsWith Record 32768 held.bytes item = with_reader (λ f m. BeginsWith f m held.bytes item) held t.reader begins in
     omega (
@@ -282,7 +282,7 @@ fed_some held link at total n size reading some count =
     let not_long : IsFaulty held.framing held.most held.bytes → ⊥ = λ long. waits.waiting.no_fault (with_reader (λ f m. IsFaulty f m held.bytes) held waits.reader long) in
     omega (arith, count not_long, waits.room, waits.reader.most)
 
-pub is_fed : (held next : Held) (link : List ℕ) (at n : ℕ) → IsReader held → next ≡ fed held (take n (drop at link)) → n ≤ length (drop at link)
+pub is_fed : (held next : Held) (link : List ℕ) (at n : ℕ) → IsReader held → next ≡ after_feed held (take n (drop at link)) → n ≤ length (drop at link)
     → ((stream : List ℕ) (passed : List Spelled) → Stands (always Record) held stream passed → Stands (always Record) next (stream ++ take n (drop at link)) passed)
     → IsFed held next link at n
 is_fed held next link at n reader is inside stands = record {

@@ -4,7 +4,7 @@ use Rattle.std.proofs.lemmas.List.{append-nil, take_all, drop_all}
 use Rattle.hf_split.specs.declared.framing.Framing.{Framing}
 use Rattle.hf_split.specs.declared.framing.Framing.TheVariants.{Record}
 use Rattle.hf_split.specs.Cuts.{Spelled, BeginsWith, IsFaulty, IsWaiting, always, wrapped}
-use Rattle.hf_split.specs.Held.{Held, Stands, IsInStep, fresh, taken, fed, past}
+use Rattle.hf_split.specs.Held.{Held, Stands, IsInStep, at_start, taken_by_feed, after_feed, after_pass}
 use Rattle.hf_split.proofs.Streams.{begins_once}
 use Rattle.hf_split.proofs.Beginnings.{too_long_begins_none, wrapped_begins}
 use Rattle.sr_app.specs.World.{written_of}
@@ -17,8 +17,8 @@ pub holding : List ℕ → Held
 holding bytes = record { framing = Record; most = 32768; place = 0; bytes = bytes }
 
 -- the whole handshake is taken
-pub fed_whole : (held next : Held) (lane handshake : List ℕ) (n : ℕ) → IsShort handshake → lane ≡ written_of (handshake ∷ []) → held ≡ fresh Record 32768
-    → ((IsFaulty held.framing held.most held.bytes → ⊥) → n ≡ taken held (length lane)) → next ≡ fed held (take n lane)
+pub fed_whole : (held next : Held) (lane handshake : List ℕ) (n : ℕ) → IsShort handshake → lane ≡ written_of (handshake ∷ []) → held ≡ at_start Record 32768
+    → ((IsFaulty held.framing held.most held.bytes → ⊥) → n ≡ taken_by_feed held (length lane)) → next ≡ after_feed held (take n lane)
     → (next ≡ holding lane) × (take n lane ≡ lane)
 unfolding holding
 fed_whole held next lane handshake n short is start count after =
@@ -28,7 +28,7 @@ fed_whole held next lane handshake n short is start count after =
     let not_long : IsFaulty held.framing held.most held.bytes → ⊥ = subst (λ (h : Held). IsFaulty h.framing h.most h.bytes → ⊥) (sym start) (λ fault. let long = record_fault 32768 [] fault in omega (arith, long.0)) in
     let all : n ≡ length lane = omega (arith, count not_long, ap length empty, most, size, short.short) in
     let whole : take n lane ≡ lane = take_all n lane (omega arith) in
-    (after ∙ ap (λ (h : Held). fed h (take n lane)) start ∙ ap (λ (xs : List ℕ). fed (fresh Record 32768) xs) whole, whole)
+    (after ∙ ap (λ (h : Held). after_feed h (take n lane)) start ∙ ap (λ (xs : List ℕ). after_feed (at_start Record 32768) xs) whole, whole)
 
 -- what it holds begins with the handshake
 handshake_begins : (lane handshake : List ℕ) → IsShort handshake → lane ≡ written_of (handshake ∷ []) → BeginsWith Record 32768 lane (wrapped Record handshake)
@@ -58,7 +58,7 @@ pub shaken : (held next after : Held) (lane handshake : List ℕ) (n : ℕ) (ite
     → Stands (always Record) held [] []
     → ((stream : List ℕ) (passed : List Spelled) → Stands (always Record) held stream passed → Stands (always Record) next (stream ++ take n lane) passed)
     → BeginsWith next.framing next.most next.bytes item
-    → (BeginsWith next.framing next.most next.bytes item → after ≡ past next item)
+    → (BeginsWith next.framing next.most next.bytes item → after ≡ after_pass next item)
     → ((stream : List ℕ) (passed : List Spelled) → Stands (always Record) next stream passed → IsInStep (always Record) next passed → BeginsWith next.framing next.most next.bytes item
     → Stands (always Record) after stream (passed ++ item ∷ []))
     → Waits after lane (handshake ∷ [])

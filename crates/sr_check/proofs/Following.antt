@@ -5,7 +5,7 @@ use Rattle.std.proofs.Math.Seq.{take-append-add}
 use Rattle.std.proofs.lemmas.List.{append-nil}
 use Rattle.hf_split.specs.declared.framing.Framing.{Framing}
 use Rattle.hf_split.specs.Cuts.{Spelled, AreFrames, IsFrame, BeginsWith, IsWaiting, always, stream_of}
-use Rattle.hf_split.specs.Held.{Held, Stands, IsInStep, past}
+use Rattle.hf_split.specs.Held.{Held, Stands, IsInStep, after_pass}
 use Rattle.hf_split.proofs.Beginnings.{too_long_begins_none, bad_length_begins_none}
 use Rattle.sr_check.specs.declared.task.Task.{Task}
 use Rattle.sr_check.specs.declared.task.Stop.{Stop}
@@ -85,7 +85,7 @@ begins-of t held item reader begins = with_reader t (λ f m. BeginsWith f m held
 
 -- a frame was written of and passed
 at-next : (t : Task) (held next : Held) (stream : List ℕ) (items : List Spelled) (text piece : List ℕ) (item : Spelled) → IsAt t held stream items text
-    → IsWritten t held.place item.frame piece → next ≡ past held item
+    → IsWritten t held.place item.frame piece → next ≡ after_pass held item
     → (IsInStep (always (framing t)) held items → Stands (always (framing t)) next stream (items ++ item ∷ []))
     → IsAt t next stream (items ++ item ∷ []) (text ++ piece)
 at-next t held next stream items text piece item at good is stands = record {
@@ -164,7 +164,7 @@ pub going_first : (t : Task) (held : Held) (now : Option (List ℕ)) → IsReade
 going_first t held now reader = record { reader = reader; goes = λ stream before far. far }
 
 pub going_next : (t : Task) (first held next : Held) (start now then_ : Option (List ℕ)) (piece : List ℕ) (item : Spelled) → IsGoing t first held start now
-    → IsWritten t held.place item.frame piece → next ≡ past held item
+    → IsWritten t held.place item.frame piece → next ≡ after_pass held item
     → ((stream : List ℕ) (passed : List Spelled) → Stands (always (framing t)) held stream passed → IsInStep (always (framing t)) held passed → Stands (always (framing t)) next stream (passed ++ item ∷ []))
     → Appends now then_ piece → IsGoing t first next start then_
 going_next t first held next start now then_ piece item going good is stands wrote = record {

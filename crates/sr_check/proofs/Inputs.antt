@@ -7,7 +7,7 @@ use Rattle.std.proofs.lemmas.List.{nil_from_length, take-take, take_at, append-n
 use Rattle.hf_split.specs.declared.framing.Framing.{Framing}
 use Rattle.hf_split.specs.declared.framing.Framing.TheVariants.{Record, Length}
 use Rattle.hf_split.specs.Cuts.{Spelled, BeginsWith, IsFaulty}
-use Rattle.hf_split.specs.Held.{Held, fresh}
+use Rattle.hf_split.specs.Held.{Held, at_start}
 use Rattle.sr_check.specs.declared.task.Task.{Task}
 use Rattle.sr_check.specs.declared.task.Stop.{Stop}
 use Rattle.sr_check.specs.declared.task.Stop.TheVariants as stop
@@ -210,7 +210,7 @@ none-faulty Length (inl long) =
     omega (arith, ap length begins.whole, length-append begins.prefix begins.rest, ap length var_int.parts, length-append var_int.front (var_int.last ∷ []))
 none-faulty Length (inr bad) = omega (arith, bad.0)
 
-pub reading_first : (t : Task) (held : Held) (input now : Option (List ℕ)) → held ≡ fresh (framing t) 32768 → IsReading t held input input 1099511627776 now now
+pub reading_first : (t : Task) (held : Held) (input now : Option (List ℕ)) → held ≡ at_start (framing t) 32768 → IsReading t held input input 1099511627776 now now
 reading_first t held input now is = rw is (record {
   resting = record {
     reader = record { framing_is = refl; most = refl };

@@ -3,7 +3,7 @@ use Rattle.std.proofs.Common.{◌≡◌, ◌<◌, ◌≤◌, ◌+◌, ◌-◌, �
 use Rattle.std.proofs.lemmas.List.{take-append-drop, take-take, drop-take, append-nil, take_all}
 use Rattle.hf_split.specs.declared.framing.Framing.{Framing}
 use Rattle.hf_split.specs.Cuts.{Spelled, IsFaulty, always, stream_of}
-use Rattle.hf_split.specs.Held.{Held, Stands, fed}
+use Rattle.hf_split.specs.Held.{Held, Stands, after_feed}
 use Rattle.hf_split.proofs.Beginnings.{too_long_stays, bad_length_stays}
 use Rattle.sr_check.specs.declared.task.Task.{Task}
 use Rattle.sr_check.specs.declared.task.Stop.{Stop}
@@ -147,5 +147,5 @@ resting_feeds t held n size resting some count =
     let no_fault : IsFaulty held.framing held.most held.bytes → ⊥ = λ fault. resting.waiting.no_fault (with_reader t (λ f m. IsFaulty f m held.bytes) held resting.reader fault) in
     omega (arith, count no_fault, resting.room, resting.reader.most)
 
-pub fed_reader : (t : Task) (held next : Held) (piece : List ℕ) → IsReader t held → next ≡ fed held piece → IsReader t next
+pub fed_reader : (t : Task) (held next : Held) (piece : List ℕ) → IsReader t held → next ≡ after_feed held piece → IsReader t next
 fed_reader t held next piece reader is = record { framing_is = ap (λ (h : Held). h.framing) is ∙ reader.framing_is; most = ap (λ (h : Held). h.most) is ∙ reader.most }

@@ -1,7 +1,7 @@
 ghost use Rattle.std.specs.Prelude.{◌≡◌, ◌≢◌, ◌<◌, ◌≤◌, ◌+◌, ◌^◌, ℕ, List, ◌++◌, length, take, Option, IfErr, OnOk, OnErr, Err, codes};
 ghost use Rattle.std.specs.Io.KnownBytes.{Appends, IsAtEnd};
 ghost use Rattle.hd_facts.specs.Counts.{Rose};
-ghost use Rattle.hf_split.specs.Held.{fresh};
+ghost use Rattle.hf_split.specs.Held.{at_start};
 ghost use Rattle.sr_check.specs.Output.{framing, last_text};
 ghost use Rattle.sr_check.specs.Stream.{IsDone, IsAllSoFar, ReadsNoFurther};
 ghost use Rattle.sr_check.specs.Going.{IsReader, IsResting, IsSoFar, IsWholeSoFar, IsLastPut, Ends, EndsAt, EndsInput};
@@ -153,7 +153,7 @@ pub(crate) fn follow<S: Source, K: Sink>(
     input: &mut S,
     out: &mut K,
 ) -> Result<(), Stop>
-    requires { splitter.old ≡ fresh (framing task) 32768 }
+    requires { splitter.old ≡ at_start (framing task) 32768 }
     ensures done { OnOk result (IsAtEnd (S.left input.new) × Writes (IsDone task) (S.left input.old) (K.holds out.old) (K.holds out.new)) }
     ensures ended { IfErr result (λ stop. (stop ≢ Stop.ReadFault) → EndsInput task stop (S.left input.old) (K.holds out.old) (K.holds out.new)) }
     ensures read_fault { result ≡ Err Stop.ReadFault → Rose (S.faults input.old) (S.faults input.new)
