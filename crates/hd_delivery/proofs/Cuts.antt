@@ -3,10 +3,10 @@ use Rattle.std.proofs.Common.{⊎_elim, ◌≡◌, ℕ, zero, suc, ◌+◌, ◌-
 use Rattle.std.specs.Prelude.{nat_le, if◌then◌else◌}
 use Rattle.std.proofs.lemmas.Bool.{cases_lt, lt-leb, le-leb}
 use Rattle.hm_message.specs.declared.message.Codec.{Codec}
-use Rattle.hd_delivery.specs.Frames.{Frame}
-use Rattle.hd_delivery.specs.Histories.{Side}
+use Rattle.hd_delivery.specs.declared.vocabulary.Side.{Side}
+use Rattle.hd_delivery.specs.Frames.{LinkFrame}
 use Rattle.hd_facts.specs.Prefixes.{IsPrefix}
-use Rattle.hd_delivery.specs.Bytes.{Waits, Wire, IsRead, Cut, cut_by, cut_all, codec_after, frames, spelled}
+use Rattle.hd_delivery.specs.Bytes.{Waits, Wire, IsRead, Cut, cut_by, cut_all, codec_after, frames, spelling_of}
 
 -- a front of two parts reaches the second, or is a proper part of the first
 over : (p rest s u : List ℕ) → p ++ rest ≡ s ++ u → length s ≤ length p → (q : List ℕ) × (p ≡ s ++ q) × (q ++ rest ≡ u)
@@ -32,18 +32,18 @@ drop_front [] ys = refl
 drop_front (x ∷ xs) ys = drop_front xs ys
 
 -- the frames that end within this many bytes
-abbrev pub within_bytes : (Frame → List ℕ) → List Frame → ℕ → List Frame
+abbrev pub within_bytes : (LinkFrame → List ℕ) → List LinkFrame → ℕ → List LinkFrame
 within_bytes spell [] n = []
 within_bytes spell (t ∷ ts) n = if nat_le (length (spell t)) n then t ∷ within_bytes spell ts (n - length (spell t)) else []
 
-within_yes : (spell : Frame → List ℕ) (t : Frame) (ts : List Frame) (n : ℕ) → length (spell t) ≤ n → within_bytes spell (t ∷ ts) n ≡ t ∷ within_bytes spell ts (n - length (spell t))
+within_yes : (spell : LinkFrame → List ℕ) (t : LinkFrame) (ts : List LinkFrame) (n : ℕ) → length (spell t) ≤ n → within_bytes spell (t ∷ ts) n ≡ t ∷ within_bytes spell ts (n - length (spell t))
 within_yes spell t ts n h = rw (le-leb (length (spell t)) n h) refl
 
-within_no : (spell : Frame → List ℕ) (t : Frame) (ts : List Frame) (n : ℕ) → n < length (spell t) → within_bytes spell (t ∷ ts) n ≡ []
+within_no : (spell : LinkFrame → List ℕ) (t : LinkFrame) (ts : List LinkFrame) (n : ℕ) → n < length (spell t) → within_bytes spell (t ∷ ts) n ≡ []
 within_no spell t ts n h = rw (lt-leb (length (spell t)) n h) refl
 
 -- more bytes end more frames
-pub within_more : (spell : Frame → List ℕ) (ts : List Frame) (m n : ℕ) → m ≤ n → IsPrefix (within_bytes spell ts m) (within_bytes spell ts n)
+pub within_more : (spell : LinkFrame → List ℕ) (ts : List LinkFrame) (m n : ℕ) → m ≤ n → IsPrefix (within_bytes spell ts m) (within_bytes spell ts n)
 within_more spell [] m n h = ([], refl)
 within_more spell (t ∷ ts) m n h = ⊎_elim
     (λ e. rw (within_no spell t ts m e) (within_bytes spell (t ∷ ts) n, refl))
@@ -51,7 +51,7 @@ within_more spell (t ∷ ts) m n h = ⊎_elim
     (let p = within_more spell ts (m - length (spell t)) (n - length (spell t)) (omega arith) in (p.0, ap (λ us. t ∷ us) p.1))))
     (cases_lt m (length (spell t)))
 
-pub within_prefix : (spell : Frame → List ℕ) (ts : List Frame) (n : ℕ) → IsPrefix (within_bytes spell ts n) ts
+pub within_prefix : (spell : LinkFrame → List ℕ) (ts : List LinkFrame) (n : ℕ) → IsPrefix (within_bytes spell ts n) ts
 within_prefix spell [] n = ([], refl)
 within_prefix spell (t ∷ ts) n = ⊎_elim
     (λ e. rw (within_no spell t ts n e) (t ∷ ts, refl))
@@ -59,22 +59,22 @@ within_prefix spell (t ∷ ts) n = ⊎_elim
     (cases_lt n (length (spell t)))
 
 -- all the bytes end all the frames
-pub within_all : (wire : Wire) (codec : Codec) (ts : List Frame) → within_bytes (wire.spell codec) ts (length (spelled wire codec ts)) ≡ ts
+pub within_all : (wire : Wire) (codec : Codec) (ts : List LinkFrame) → within_bytes (wire.spell codec) ts (length (spelling_of wire codec ts)) ≡ ts
 within_all wire codec [] = refl
 within_all wire codec (t ∷ ts) =
-    let e = length-append (wire.spell codec t) (spelled wire codec ts) in
-    let left : length (wire.spell codec t ++ spelled wire codec ts) - length (wire.spell codec t) ≡ length (spelled wire codec ts) = omega arith in
-    within_yes (wire.spell codec) t ts (length (wire.spell codec t ++ spelled wire codec ts)) (omega arith)
+    let e = length-append (wire.spell codec t) (spelling_of wire codec ts) in
+    let left : length (wire.spell codec t ++ spelling_of wire codec ts) - length (wire.spell codec t) ≡ length (spelling_of wire codec ts) = omega arith in
+    within_yes (wire.spell codec) t ts (length (wire.spell codec t ++ spelling_of wire codec ts)) (omega arith)
     ∙ ap (λ us. t ∷ us) (ap (within_bytes (wire.spell codec) ts) left ∙ within_all wire codec ts)
 
 module _ (wire : Wire) (codec : Codec) where
   -- each frame is read as itself
-  abbrev pub AreRead : List Frame → Type 0
+  abbrev pub AreRead : List LinkFrame → Type 0
   AreRead [] = Unit {0}
   AreRead (t ∷ ts) = IsRead (wire.later codec) (wire.spell codec t) t × AreRead ts
 
   -- the first one is read as a handshake after which the codec is this
-  abbrev pub AreReadFirst : Side → Codec → List Frame → Type 0
+  abbrev pub AreReadFirst : Side → Codec → List LinkFrame → Type 0
   AreReadFirst side own [] = Unit {0}
   AreReadFirst side own (t ∷ ts) = IsRead (wire.first side) (wire.spell codec t) t × (codec_after own t ≡ codec) × AreRead ts
 
@@ -83,20 +83,20 @@ module _ (wire : Wire) (codec : Codec) where
   link_cut side own true bytes = cut_by (wire.first side bytes) 0 bytes (λ f at rest. cut_all (wire.later (codec_after own f)) (length rest) at rest)
   link_cut side own false bytes = cut_all (wire.later codec) (length bytes) 0 bytes
 
-  abbrev pub AreReadOn : Side → Codec → Bool → List Frame → Type 0
+  abbrev pub AreReadOn : Side → Codec → Bool → List LinkFrame → Type 0
   AreReadOn side own true ts = AreReadFirst side own ts
   AreReadOn side own false ts = AreRead ts
 
   module _ (later_waits : wire.later codec [] ≡ Waits) where
-    cut_later : (ts : List Frame) (p rest : List ℕ) (n at : ℕ) → AreRead ts → length p ≤ n → p ++ rest ≡ spelled wire codec ts → frames (cut_all (wire.later codec) n at p) ≡ within_bytes (wire.spell codec) ts (length p)
+    cut_later : (ts : List LinkFrame) (p rest : List ℕ) (n at : ℕ) → AreRead ts → length p ≤ n → p ++ rest ≡ spelling_of wire codec ts → frames (cut_all (wire.later codec) n at p) ≡ within_bytes (wire.spell codec) ts (length p)
     cut_later [] p rest zero at g h e = refl
     cut_later [] [] rest (suc n) at g h e = rw later_waits refl
     cut_later [] (a ∷ p) rest (suc n) at g h e = absurd (cc)
     cut_later (t ∷ ts) p rest zero at g h e = sym (within_no (wire.spell codec) t ts (length p) (let s = g.0.nonempty in omega arith))
     cut_later (t ∷ ts) p rest (suc n) at g h e = ⊎_elim
-        (λ f. let q = under p rest (wire.spell codec t) (spelled wire codec ts) e f in
+        (λ f. let q = under p rest (wire.spell codec t) (spelling_of wire codec ts) e f in
         ap (λ o. frames (cut_by o at p (λ f. cut_all (wire.later codec) n))) (g.0.waits p q.0 q.1 q.2) ∙ sym (within_no (wire.spell codec) t ts (length p) f))
-        (λ f. let q = over p rest (wire.spell codec t) (spelled wire codec ts) e f in
+        (λ f. let q = over p rest (wire.spell codec t) (spelling_of wire codec ts) e f in
         let some = g.0.nonempty in
         let len : length p ≡ length (wire.spell codec t) + length q.0 = ap length q.1 ∙ length-append (wire.spell codec t) q.0 in
         let left : length q.0 ≡ length p - length (wire.spell codec t) = omega arith in
@@ -108,13 +108,13 @@ module _ (wire : Wire) (codec : Codec) where
         (cases_lt (length p) (length (wire.spell codec t)))
 
     module _ (side : Side) (own : Codec) (first_waits : wire.first side [] ≡ Waits) where
-      cut_first : (ts : List Frame) (p rest : List ℕ) → AreReadFirst side own ts → p ++ rest ≡ spelled wire codec ts → frames (link_cut side own true p) ≡ within_bytes (wire.spell codec) ts (length p)
+      cut_first : (ts : List LinkFrame) (p rest : List ℕ) → AreReadFirst side own ts → p ++ rest ≡ spelling_of wire codec ts → frames (link_cut side own true p) ≡ within_bytes (wire.spell codec) ts (length p)
       cut_first [] [] rest g e = ap (λ o. frames (cut_by o 0 [] (λ f at rest. cut_all (wire.later (codec_after own f)) (length rest) at rest))) first_waits
       cut_first [] (a ∷ p) rest g e = absurd (cc)
       cut_first (t ∷ ts) p rest g e = ⊎_elim
-          (λ f. let q = under p rest (wire.spell codec t) (spelled wire codec ts) e f in
+          (λ f. let q = under p rest (wire.spell codec t) (spelling_of wire codec ts) e f in
           ap (λ o. frames (cut_by o 0 p (λ f at rest. cut_all (wire.later (codec_after own f)) (length rest) at rest))) (g.0.waits p q.0 q.1 q.2) ∙ sym (within_no (wire.spell codec) t ts (length p) f))
-          (λ f. let q = over p rest (wire.spell codec t) (spelled wire codec ts) e f in
+          (λ f. let q = over p rest (wire.spell codec t) (spelling_of wire codec ts) e f in
           let len : length p ≡ length (wire.spell codec t) + length q.0 = ap length q.1 ∙ length-append (wire.spell codec t) q.0 in
           let left : length q.0 ≡ length p - length (wire.spell codec t) = omega arith in
           let gone : drop (length (wire.spell codec t)) p ≡ q.0 = ap (drop (length (wire.spell codec t))) q.1 ∙ drop_front (wire.spell codec t) q.0 in
@@ -126,7 +126,7 @@ module _ (wire : Wire) (codec : Codec) where
           (cases_lt (length p) (length (wire.spell codec t)))
 
       -- what is cut of a front of the bytes are the frames that end in it
-      pub cut_front : (b : Bool) (ts : List Frame) (p rest : List ℕ) → AreReadOn side own b ts → p ++ rest ≡ spelled wire codec ts → frames (link_cut side own b p) ≡ within_bytes (wire.spell codec) ts (length p)
+      pub cut_front : (b : Bool) (ts : List LinkFrame) (p rest : List ℕ) → AreReadOn side own b ts → p ++ rest ≡ spelling_of wire codec ts → frames (link_cut side own b p) ≡ within_bytes (wire.spell codec) ts (length p)
       cut_front true ts p rest g e = cut_first ts p rest g e
       cut_front false ts p rest g e = cut_later ts p rest (length p) 0 g (omega arith) e
 

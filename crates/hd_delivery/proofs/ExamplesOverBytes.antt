@@ -4,8 +4,10 @@ use Rattle.std.specs.Prelude.{reverse, Contains}
 use Rattle.hm_message.specs.declared.message.Message.{Message}
 use Rattle.hm_message.specs.declared.message.Codec.{Codec}
 use Rattle.hm_message.specs.declared.message.Codec.TheVariants.{Json, Pack}
-use Rattle.hd_delivery.specs.Frames.{Frame, Request, Response, Numbered, Ack, Sequence, Ping, Close, Reason, Done, Protocol, InUse, TooMany, Flood, Slow, Expired, error_of}
-use Rattle.hd_delivery.specs.Histories.{Client, Server}
+use Rattle.hd_delivery.specs.declared.vocabulary.Reason.{Reason}
+use Rattle.hd_delivery.specs.declared.vocabulary.Reason.TheVariants.{Done, Protocol, InUse, TooMany, Flood, Slow, Expired}
+use Rattle.hd_delivery.specs.declared.vocabulary.Side.TheVariants.{Client, Server}
+use Rattle.hd_delivery.specs.Frames.{LinkFrame, Request, Response, Numbered, Ack, Sequence, Ping, Close, error_of}
 use Rattle.hd_delivery.specs.Worlds.{Limits, CanBeSent}
 use Rattle.hd_delivery.specs.Bytes.{Reading, Waits, Reads, sizes_of, IsRead, IsFaithful, IsWorldOverBytes}
 use Rattle.hd_delivery.specs.Examples.{a, b, c, limits_of, usual, terms}
@@ -21,7 +23,7 @@ module _ (says : ℕ → ℕ → ℕ → ℕ → Reading) where
   waits_for_four kind x y z (p ∷ q ∷ r ∷ s ∷ front) [] e h = absurd (omega arith)
   waits_for_four kind x y z (p ∷ q ∷ r ∷ s ∷ front) (t ∷ rest) e h = absurd (let z = ap length e in let w = length-append front (t ∷ rest) in omega arith)
 
-  is_read : (kind x y z : ℕ) (f : Frame) → says kind x y z ≡ Reads f 4 → IsRead (read_four says) (four_of kind x y z) f
+  is_read : (kind x y z : ℕ) (f : LinkFrame) → says kind x y z ≡ Reads f 4 → IsRead (read_four says) (four_of kind x y z) f
   is_read kind x y z f e = record { nonempty = omega arith; whole = λ rest. e; waits = waits_for_four kind x y z }
 
 number_is : (reason : Reason) → error_numbered (error_number (error_of reason)) ≡ error_of reason

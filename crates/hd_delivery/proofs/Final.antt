@@ -1,7 +1,9 @@
 -- What holds in every world gives delivery.
 use Rattle.std.proofs.Common.{List, None}
 use Rattle.std.proofs.lemmas.Bool.{eq-eqb}
-use Rattle.hd_delivery.specs.Histories.{Side, Client, Server, Step, lent}
+use Rattle.hd_delivery.specs.declared.vocabulary.Side.{Side}
+use Rattle.hd_delivery.specs.declared.vocabulary.Side.TheVariants.{Client, Server}
+use Rattle.hd_delivery.specs.Histories.{Step, lent_frames}
 use Rattle.hd_delivery.specs.Worlds.{Terms, Delivers, Delivery}
 use Rattle.hd_delivery.proofs.Carries.{facts, MayCarry-sound}
 use Rattle.hd_delivery.proofs.Pair.{Way}
@@ -9,7 +11,7 @@ use Rattle.hd_delivery.proofs.World.{Together, to_server}
 use Rattle.hd_delivery.proofs.Still.{arrived}
 
 delivers : (side : Side) (terms : Terms) (x y : List Step) → Way side terms x y → Delivers x y
-delivers side terms x y w = record { in_order = w.in_order; sound = λ l. MayCarry-sound (facts side terms x y) l None (lent l x) (w.good l) }
+delivers side terms x y w = record { in_order = w.in_order; sound = λ l. MayCarry-sound (facts side terms x y) l None (lent_frames l x) (w.good l) }
 
 -- delivery, from what holds in every world
 pub delivery_holds : (terms : Terms) (c s : List Step) → Together terms c s → Delivery terms c s

@@ -2,8 +2,10 @@
 use Rattle.std.proofs.Common.{⊎_elim, ◌≡◌, ℕ, ◌<◌, Bool, true, false, List, [], ◌∷◌, Option, Some, None, refl, sym, ◌∙◌, subst, arith}
 use Rattle.std.specs.Prelude.{slice_get, ◌⊎◌, ◌==◌}
 use Rattle.std.proofs.lemmas.Bool.{or_cases, eqb-true}
-use Rattle.hd_delivery.specs.Frames.{Frame}
-use Rattle.hd_delivery.specs.Histories.{Side, Client, Server, Step, Attached, Detached, Fed, Took, Failed, Sent, Lent, Ticked, Silenced, Closed, first_of, here, was_on, first_link, fed, taken, shaken, kept}
+use Rattle.hd_delivery.specs.declared.vocabulary.Side.{Side}
+use Rattle.hd_delivery.specs.declared.vocabulary.Side.TheVariants.{Client, Server}
+use Rattle.hd_delivery.specs.Frames.{LinkFrame}
+use Rattle.hd_delivery.specs.Histories.{Step, Attached, Detached, Fed, Took, Failed, Sent, Lent, Ticked, Silenced, Closed, first_of, present_link, was_on, first_link, fed_frames, taken_count, is_shaken, is_kept}
 use Rattle.hd_delivery.specs.Processes.{next_number, reads}
 use Rattle.hd_delivery.specs.Worlds.{Limits, Sizes, MayAttach, Allowed, Terms, config, Event, ByClient, ByServer, client_of, server_of, IsWorld}
 use Rattle.hd_delivery.proofs.Local.{or_right, none_was, first_was}
@@ -21,7 +23,7 @@ Inv side terms x y = record {
 }
 
 module _ (limits : Limits) (sizes : Sizes) (side : Side) (terms : Terms) (x y : List Step) (i : Inv side terms x y) where
-  pub links : (l : ℕ) → was_on l x ≡ false → (first_link x ≡ None) ⊎ (kept (config side terms) x ≡ true)
+  pub links : (l : ℕ) → was_on l x ≡ false → (first_link x ≡ None) ⊎ (is_kept (config side terms) x ≡ true)
       → ((k j : ℕ) → first_of (first_link x) (Some l) ≡ Some k → first_link y ≡ Some j → k ≡ j)
       → Inv side terms (Attached l 0 ∷ x) y
   links l fresh may agree = record {
@@ -30,7 +32,7 @@ module _ (limits : Limits) (sizes : Sizes) (side : Side) (terms : Terms) (x y : 
     runs_back = λ b. reads_attached side terms x y i.pair b l fresh (i.runs_back b);
   }
 
-  reads_one : (s : Step) → (l : ℕ) (t : Frame) → here x ≡ Some l → slice_get (fed l x) (taken l x) ≡ Some t → reads (config side terms) x (next_number (config side terms) x l) t ≡ s → Inv side terms (s ∷ x) y
+  reads_one : (s : Step) → (l : ℕ) (t : LinkFrame) → present_link x ≡ Some l → slice_get (fed_frames l x) (taken_count l x) ≡ Some t → reads (config side terms) x (next_number (config side terms) x l) t ≡ s → Inv side terms (s ∷ x) y
   reads_one s l t at next is =
       let f = read_any side terms x y i.pair l t at next (λ b s m e. third side terms x y i.pair b (i.runs_back b) l t at next b s m e) in
       subst (λ s. Inv side terms (s ∷ x) y) (sym f.1 ∙ is) (record {
@@ -183,9 +185,9 @@ module _ (limits : Limits) (sizes : Sizes) (terms : Terms) (c s : List Step) (t 
   }
     where
       agree : (o : Option ℕ) → first_link s ≡ o → (k j : ℕ) → first_of o (Some l) ≡ Some k → first_link c ≡ Some j → k ≡ j
-      agree None e k j f g = go (shaken c) refl
+      agree None e k j f g = go (is_shaken c) refl
         where
-          go : (b : Bool) → shaken c ≡ b → k ≡ j
+          go : (b : Bool) → is_shaken c ≡ b → k ≡ j
           go true h = let p = t.ends.pair.met h in let z : None ≡ Some p.0 = sym e ∙ p.1 in absurd (cc)
           go false h = let p : first_link c ≡ Some l = t.ends.pair.own.one_link h l a.named.0 in cc
       agree (Some i) e k j f g = let f' : i ≡ k = cc in sym f' ∙ sym (t.ends.pair.agree j i g e)

@@ -1,11 +1,16 @@
 -- The same worlds over bytes: what is fed are bytes, and readers cut them into frames.
 -- HubProtocol.md, "Overview": the handshake ends with the record separator whatever the codec is; "JSON Encoding" and "MessagePack
 -- (MsgPack) encoding" frame all later messages. Here any spelling and any readers may stand for these, if they are faithful.
-use Rattle.std.specs.Prelude.{◌≡◌, ℕ, zero, suc, ◌+◌, ◌-◌, ◌^◌, ◌<◌, ◌≤◌, Bool, false, List, [], ◌∷◌, ◌++◌, length, take, drop, map, sum_by, flat_map, Contains, Option, Some, None, if◌then◌else◌}
+use Rattle.std.specs.Prelude.{◌≡◌, ℕ, zero, suc, ◌+◌, ◌-◌, ◌<◌, ◌≤◌, Bool, false, List, [], ◌∷◌, ◌++◌, length, take, drop, map, sum_by, flat_map, Contains, Option, Some, None, if◌then◌else◌}
 use Rattle.hm_message.specs.declared.message.Codec.{Codec}
 use Rattle.hm_message.specs.declared.message.Message.{Message}
-use Rattle.hd_delivery.specs.Frames.{Frame, Request, Response, Numbered, Ack, Sequence, Ping, Close, Unreadable, Reason, error_of, received_of}
-use Rattle.hd_delivery.specs.Histories.{Side, Client, Server, Step, Fed, Config, is_this, here, stands_on, first_link, as_told, fed, lent, taken, sent, codec_of, closed, state, Ready}
+use Rattle.hd_delivery.specs.declared.vocabulary.Reason.{Reason}
+use Rattle.hd_delivery.specs.declared.vocabulary.Side.{Side}
+use Rattle.hd_delivery.specs.declared.vocabulary.Side.TheVariants.{Client, Server}
+use Rattle.hd_delivery.specs.declared.vocabulary.State.TheVariants.{Ready}
+use Rattle.hd_delivery.specs.Numbers.{most_messages, most_framing}
+use Rattle.hd_delivery.specs.Frames.{LinkFrame, Request, Response, Numbered, Ack, Sequence, Ping, Close, Unreadable, error_of, received_of}
+use Rattle.hd_delivery.specs.Histories.{Step, Fed, Config, is_this, present_link, stands_on, first_link, as_told, fed_frames, lent_frames, taken_count, sent_messages, codec_of, is_closed, state}
 use Rattle.hd_delivery.specs.Due.{due}
 use Rattle.hd_facts.specs.Prefixes.{IsPrefix}
 use Rattle.hd_delivery.specs.Worlds.{Limits, Sizes, CanBeSent, Allowed, Terms, config, Still, Delivery}
@@ -15,13 +20,13 @@ use Rattle.hd_delivery.specs.Worlds.{Limits, Sizes, CanBeSent, Allowed, Terms, c
 -- what a reader says of the bytes before it. What it reads is a handshake exactly where one has to come, and never Unreadable
 pub data Reading : Type 0 where
   Waits : Reading  -- no whole frame yet
-  Reads : (f : Frame) → (size : ℕ) → Reading  -- first comes this frame, of so many bytes with its framing
+  Reads : (f : LinkFrame) → (size : ℕ) → Reading  -- first comes this frame, of so many bytes with its framing
   Refuses : (why : List ℕ) → (size : ℕ) → Reading  -- first comes a whole frame that can't be read
   Stops : (why : List ℕ) → Reading  -- no frame can come here
 
 -- how frames are written and read
 pub record Wire : Type 0 where
-  pub spell : Codec → Frame → List ℕ  -- with its framing
+  pub spell : Codec → LinkFrame → List ℕ  -- with its framing
   pub frame_size : Codec → Message → ℕ  -- of a message's frame, without its framing
   pub first : Side → List ℕ → Reading  -- at this side, the first frame of a first link
   pub later : Codec → List ℕ → Reading  -- each later frame
@@ -31,10 +36,10 @@ abbrev pub sizes_of : Wire → Sizes
 sizes_of wire = record { frame = wire.frame_size; framed = λ codec m. length (wire.spell codec (Numbered m)) }
 
 -- the frame, spelled in these bytes, is read as itself whatever comes behind it, and not before it is whole
-pub record IsRead (read : List ℕ → Reading) (bytes : List ℕ) (f : Frame) : Type 0 where
+pub record IsRead (reader : List ℕ → Reading) (bytes : List ℕ) (f : LinkFrame) : Type 0 where
   pub nonempty : 0 < length bytes
-  pub whole : (rest : List ℕ) → read (bytes ++ rest) ≡ Reads f (length bytes)
-  pub waits : (front rest : List ℕ) → front ++ rest ≡ bytes → 0 < length rest → read front ≡ Waits
+  pub whole : (rest : List ℕ) → reader (bytes ++ rest) ≡ Reads f (length bytes)
+  pub waits : (front rest : List ℕ) → front ++ rest ≡ bytes → 0 < length rest → reader front ≡ Waits
 
 -- what two ends say in the codec and version, these messages among it, is read as itself
 pub record IsFaithful (limits : Limits) (wire : Wire) (codec : Codec) (version : ℕ) (messages : List Message) : Type 0 where
@@ -42,8 +47,8 @@ pub record IsFaithful (limits : Limits) (wire : Wire) (codec : Codec) (version :
   pub response : IsRead (wire.first Client) (wire.spell codec Response) Response
   pub message : (m : Message) → Contains messages m → CanBeSent limits (sizes_of wire) codec m
       → IsRead (wire.later codec) (wire.spell codec (Numbered m)) (Numbered m)
-  pub ack : (upto : ℕ) → upto ≤ 2 ^ 62 → IsRead (wire.later codec) (wire.spell codec (Ack upto)) (Ack upto)
-  pub sequence : (first : ℕ) (received : Option ℕ) → first ≤ 2 ^ 62 + 1 → received_of received ≤ 2 ^ 62
+  pub ack : (upto : ℕ) → upto ≤ most_messages → IsRead (wire.later codec) (wire.spell codec (Ack upto)) (Ack upto)
+  pub sequence : (first : ℕ) (received : Option ℕ) → first ≤ most_messages + 1 → received_of received ≤ most_messages
       → IsRead (wire.later codec) (wire.spell codec (Sequence first received)) (Sequence first received)
   pub ping : IsRead (wire.later codec) (wire.spell codec Ping) Ping
   pub close : (reason : Reason) (allow : Bool) → IsRead (wire.later codec) (wire.spell codec (Close (error_of reason) allow)) (Close (error_of reason) allow)
@@ -52,10 +57,10 @@ pub record IsFaithful (limits : Limits) (wire : Wire) (codec : Codec) (version :
 
 -- a frame, and how many bytes of the link it takes
 abbrev pub Cut : Type 0
-Cut = Frame × ℕ
+Cut = LinkFrame × ℕ
 
 -- by what the reader says at a place: a frame, and then what comes after it
-abbrev pub cut_by : Reading → ℕ → List ℕ → (Frame → ℕ → List ℕ → List Cut) → List Cut
+abbrev pub cut_by : Reading → ℕ → List ℕ → (LinkFrame → ℕ → List ℕ → List Cut) → List Cut
 cut_by Waits at bytes rest = []
 cut_by (Reads f size) at bytes rest = (f, size) ∷ rest f (at + size) (drop size bytes)
 cut_by (Refuses why size) at bytes rest = (Unreadable (as_told at) why, size) ∷ rest (Unreadable (as_told at) why) (at + size) (drop size bytes)
@@ -63,11 +68,11 @@ cut_by (Stops why) at bytes rest = (Unreadable (as_told at) why, 0) ∷ []
 
 -- at most so many frames, from a place on
 abbrev pub cut_all : (List ℕ → Reading) → ℕ → ℕ → List ℕ → List Cut
-cut_all read zero at bytes = []
-cut_all read (suc left) at bytes = cut_by (read bytes) at bytes (λ f. cut_all read left)
+cut_all reader zero at bytes = []
+cut_all reader (suc left) at bytes = cut_by (reader bytes) at bytes (λ f. cut_all reader left)
 
 -- a server goes on in the codec of the request
-abbrev pub codec_after : Codec → Frame → Codec
+abbrev pub codec_after : Codec → LinkFrame → Codec
 codec_after own (Request codec version) = codec
 codec_after own _ = own
 
@@ -79,7 +84,7 @@ cut wire c h l bytes =
     else cut_all (wire.later (codec_of c h)) (length bytes) 0 bytes
 
 -- the frames alone
-abbrev pub frames : List Cut → List Frame
+abbrev pub frames : List Cut → List LinkFrame
 frames cuts = map (λ x. x.0) cuts
 
 -- ---- histories over bytes
@@ -90,49 +95,49 @@ pub data ByteStep : Type 0 where
   Does : Step → ByteStep
 
 -- the steps without the bytes
-abbrev pub bare : List ByteStep → List Step
-bare [] = []
-bare (Bytes piece ∷ h) = Fed [] ∷ bare h
-bare (Does s ∷ h) = s ∷ bare h
+abbrev pub bare_steps : List ByteStep → List Step
+bare_steps [] = []
+bare_steps (Bytes piece ∷ h) = Fed [] ∷ bare_steps h
+bare_steps (Does s ∷ h) = s ∷ bare_steps h
 
 -- the bytes that were fed on a link
 abbrev pub bytes_on : ℕ → List ByteStep → List ℕ
 bytes_on l [] = []
-bytes_on l (Bytes piece ∷ h) = if stands_on l (bare h) then bytes_on l h ++ piece else bytes_on l h
+bytes_on l (Bytes piece ∷ h) = if stands_on l (bare_steps h) then bytes_on l h ++ piece else bytes_on l h
 bytes_on l (Does s ∷ h) = bytes_on l h
 
 -- the frames that become whole with a piece
-abbrev pub new_frames : Wire → Config → List ByteStep → List Step → Option ℕ → List ℕ → List Frame
+abbrev pub new_frames : Wire → Config → List ByteStep → List Step → Option ℕ → List ℕ → List LinkFrame
 new_frames wire c h steps None piece = []
-new_frames wire c h steps (Some l) piece = drop (length (fed l steps)) (frames (cut wire c steps l (bytes_on l h ++ piece)))
+new_frames wire c h steps (Some l) piece = drop (length (fed_frames l steps)) (frames (cut wire c steps l (bytes_on l h ++ piece)))
 
 -- the history in frames
 abbrev pub in_frames : Wire → Config → List ByteStep → List Step
 in_frames wire c [] = []
-in_frames wire c (Bytes piece ∷ h) = let steps = in_frames wire c h in Fed (new_frames wire c h steps (here steps) piece) ∷ steps
+in_frames wire c (Bytes piece ∷ h) = let steps = in_frames wire c h in Fed (new_frames wire c h steps (present_link steps) piece) ∷ steps
 in_frames wire c (Does s ∷ h) = s ∷ in_frames wire c h
 
 -- how many bytes of a link aren't taken
-abbrev pub unread : Wire → Config → ℕ → List ByteStep → ℕ
-unread wire c l h = length (bytes_on l h) - sum_by (λ x. x.1) (take (taken l (bare h)) (cut wire c (bare h) l (bytes_on l h)))
+abbrev pub unread_count : Wire → Config → ℕ → List ByteStep → ℕ
+unread_count wire c l h = length (bytes_on l h) - sum_by (λ x. x.1) (take (taken_count l (bare_steps h)) (cut wire c (bare_steps h) l (bytes_on l h)))
 
 -- the bytes of these frames
-abbrev pub spelled : Wire → Codec → List Frame → List ℕ
-spelled wire codec frames = flat_map (wire.spell codec) frames
+abbrev pub spelling_of : Wire → Codec → List LinkFrame → List ℕ
+spelling_of wire codec frames = flat_map (wire.spell codec) frames
 
 -- ---- worlds over bytes
 
 -- what an end lent on a link, in the bytes of its codec. Before the codec is agreed only a handshake is lent, which every codec writes alike
 abbrev pub lent_bytes : Wire → Config → ℕ → List ByteStep → List ℕ
-lent_bytes wire c l h = spelled wire (codec_of c (in_frames wire c h)) (lent l (in_frames wire c h))
+lent_bytes wire c l h = spelling_of wire (codec_of c (in_frames wire c h)) (lent_frames l (in_frames wire c h))
 
 -- what is fed is the next of what the other end lent on the link, and an end has no more than a frame and its framing unread
 pub record MayFeedBytes (limits : Limits) (wire : Wire) (c oc : Config) (h other : List ByteStep) (piece : List ℕ) : Type 0 where
   pub link : ℕ
-  pub at : here (in_frames wire c h) ≡ Some link
-  pub unclosed : closed c (in_frames wire c h) ≡ false
+  pub at : present_link (in_frames wire c h) ≡ Some link
+  pub unclosed : is_closed c (in_frames wire c h) ≡ false
   pub front : IsPrefix (bytes_on link h ++ piece) (lent_bytes wire oc link other)
-  pub few : unread wire c link (Bytes piece ∷ h) ≤ limits.frame + 5
+  pub few : unread_count wire c link (Bytes piece ∷ h) ≤ limits.frame + most_framing
 
 -- the step may come next; what is fed is bytes
 abbrev pub AllowedOverBytes : Limits → Wire → Config → Config → List ByteStep → List ByteStep → ByteStep → Type 0
@@ -176,14 +181,14 @@ server_in_frames wire t w = in_frames wire (config Server t) (server_bytes w)
 -- as `Still`, where each end has been fed every byte that the other lent
 pub record StillOverBytes (wire : Wire) (cc cs : Config) (c s : List ByteStep) : Type 0 where
   pub link : ℕ
-  pub client_here : here (in_frames wire cc c) ≡ Some link
-  pub server_here : here (in_frames wire cs s) ≡ Some link
+  pub client_here : present_link (in_frames wire cc c) ≡ Some link
+  pub server_here : present_link (in_frames wire cs s) ≡ Some link
   pub client_ready : state cc (in_frames wire cc c) ≡ Ready
   pub server_ready : state cs (in_frames wire cs s) ≡ Ready
   pub client_fed : bytes_on link c ≡ lent_bytes wire cs link s
   pub server_fed : bytes_on link s ≡ lent_bytes wire cc link c
-  pub client_taken : taken link (in_frames wire cc c) ≡ length (fed link (in_frames wire cc c))
-  pub server_taken : taken link (in_frames wire cs s) ≡ length (fed link (in_frames wire cs s))
+  pub client_taken : taken_count link (in_frames wire cc c) ≡ length (fed_frames link (in_frames wire cc c))
+  pub server_taken : taken_count link (in_frames wire cs s) ≡ length (fed_frames link (in_frames wire cs s))
   pub client_due : due cc (in_frames wire cc c) ≡ None
   pub server_due : due cs (in_frames wire cs s) ≡ None
 
@@ -196,5 +201,5 @@ pub record DeliveryOverBytes (wire : Wire) (t : Terms) (w : List ByteEvent) : Ty
 -- it holds in every world over bytes whose readers are faithful to what is sent there
 abbrev pub HoldsOverBytes : Type 0
 HoldsOverBytes = (limits : Limits) (wire : Wire) (t : Terms) (w : List ByteEvent)
-    → IsFaithful limits wire t.codec t.version (sent (client_in_frames wire t w) ++ sent (server_in_frames wire t w))
+    → IsFaithful limits wire t.codec t.version (sent_messages (client_in_frames wire t w) ++ sent_messages (server_in_frames wire t w))
     → IsWorldOverBytes limits wire t w → DeliveryOverBytes wire t w

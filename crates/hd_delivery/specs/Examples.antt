@@ -4,8 +4,14 @@ use Rattle.hm_message.specs.declared.message.Codec.{Codec}
 use Rattle.hm_message.specs.declared.message.Codec.TheVariants.{Json, Pack}
 use Rattle.hm_message.specs.declared.message.Message.{Message}
 use Rattle.hm_message.specs.declared.message.Message.TheVariants.{Invocation}
-use Rattle.hd_delivery.specs.Frames.{Request, Response, Numbered, Ack, Sequence, Ping, Close, Done}
-use Rattle.hd_delivery.specs.Histories.{Duplicate, Shaken, Processed, Acked, Sequenced, Resumed, Pinged, Skipped, Ended, Step, Attached, Detached, Fed, Took, Sent, Lent, Ticked, Silenced, Closed, Client, Server, Config, State, sent, processed, state, held}
+use Rattle.hd_delivery.specs.declared.vocabulary.Got.TheVariants.{Shaken, Acked, Sequenced, Resumed, Skipped}
+use Rattle.hd_delivery.specs.declared.vocabulary.Reason.TheVariants.{Done}
+use Rattle.hd_delivery.specs.declared.vocabulary.Side.TheVariants.{Client, Server}
+use Rattle.hd_delivery.specs.declared.vocabulary.State.{State}
+use Rattle.hd_delivery.specs.declared.vocabulary.Why.TheVariants.{Duplicate}
+use Rattle.hd_delivery.specs.declared.vocabulary.Got.TheVariants as gives
+use Rattle.hd_delivery.specs.Frames.{Request, Response, Numbered, Ack, Sequence, Ping, Close}
+use Rattle.hd_delivery.specs.Histories.{Step, Attached, Detached, Fed, Took, Sent, Lent, Ticked, Silenced, Closed, Config, sent_messages, processed_messages, state, held_messages}
 use Rattle.hd_delivery.specs.Worlds.{Limits, Sizes, Terms, config, Event, ByClient, ByServer, client_of, server_of, IsWorld, IsOnOneClock, Still}
 
 -- an invocation of no id and with no arguments
@@ -61,18 +67,18 @@ abbrev pub resume_after_ack : List Event
 resume_after_ack =
     opened 2
     ++ client (Sent a ∷ Sent b ∷ Lent (Numbered a) ∷ Lent (Numbered b) ∷ [])
-    ++ server (Fed (Numbered a ∷ []) ∷ Took (Processed a) ∷ Lent (Ack 1) ∷ [])
+    ++ server (Fed (Numbered a ∷ []) ∷ Took (gives.Message a) ∷ Lent (Ack 1) ∷ [])
     ++ client (Fed (Ack 1 ∷ []) ∷ Took (Acked 1) ∷ Attached 1 0 ∷ [])
     ++ server (Attached 1 0 ∷ [])
     ++ client (Lent (Sequence 2 None) ∷ Lent (Numbered b) ∷ [])
-    ++ server (Fed (Sequence 2 None ∷ Numbered b ∷ []) ∷ Took (Sequenced 2) ∷ Took (Processed b) ∷ [])
+    ++ server (Fed (Sequence 2 None ∷ Numbered b ∷ []) ∷ Took (Sequenced 2) ∷ Took (gives.Message b) ∷ [])
 
 -- Both messages were processed and neither was acknowledged, so the next link has them again, and they are passed over.
 abbrev pub resume_duplicates : List Event
 resume_duplicates =
     opened 2
     ++ client (Sent a ∷ Sent b ∷ Lent (Numbered a) ∷ Lent (Numbered b) ∷ [])
-    ++ server (Fed (Numbered a ∷ Numbered b ∷ []) ∷ Took (Processed a) ∷ Took (Processed b) ∷ [])
+    ++ server (Fed (Numbered a ∷ Numbered b ∷ []) ∷ Took (gives.Message a) ∷ Took (gives.Message b) ∷ [])
     ++ client (Attached 1 0 ∷ [])
     ++ server (Attached 1 0 ∷ [])
     ++ client (Lent (Sequence 1 None) ∷ Lent (Numbered a) ∷ Lent (Numbered b) ∷ [])
@@ -85,7 +91,7 @@ abbrev pub older_link_later : List Event
 older_link_later =
     opened 2
     ++ client (Sent a ∷ Lent (Numbered a) ∷ [])
-    ++ server (Fed (Numbered a ∷ []) ∷ Took (Processed a) ∷ [])
+    ++ server (Fed (Numbered a ∷ []) ∷ Took (gives.Message a) ∷ [])
     ++ client (
     Attached 1 0 ∷ Lent (Sequence 1 None) ∷ Lent (Numbered a) ∷ Attached 2 0 ∷ Lent (Sequence 1 None) ∷ Lent (Numbered a) ∷ [])
     ++ server (
@@ -97,34 +103,34 @@ abbrev pub further_sequence : List Event
 further_sequence =
     opened 2
     ++ client (Sent a ∷ Sent b ∷ Sent c ∷ Lent (Numbered a) ∷ Lent (Numbered b) ∷ Lent (Numbered c) ∷ [])
-    ++ server (Fed (Numbered a ∷ Numbered b ∷ []) ∷ Took (Processed a) ∷ Took (Processed b) ∷ [])
+    ++ server (Fed (Numbered a ∷ Numbered b ∷ []) ∷ Took (gives.Message a) ∷ Took (gives.Message b) ∷ [])
     ++ client (Attached 1 0 ∷ Lent (Sequence 1 None) ∷ [])
     ++ server (Attached 1 0 ∷ Lent (Sequence 1 None) ∷ Lent (Ack 2) ∷ [])
     ++ client (
     Fed (Sequence 1 None ∷ Ack 2 ∷ []) ∷ Took (Sequenced 1) ∷ Took (Acked 2) ∷ Lent (Sequence 3 None) ∷ Lent (Numbered c) ∷ [])
     ++ server (
-    Fed (Sequence 1 None ∷ Sequence 3 None ∷ Numbered c ∷ []) ∷ Took (Sequenced 1) ∷ Took (Sequenced 3) ∷ Took (Processed c) ∷ [])
+    Fed (Sequence 1 None ∷ Sequence 3 None ∷ Numbered c ∷ []) ∷ Took (Sequenced 1) ∷ Took (Sequenced 3) ∷ Took (gives.Message c) ∷ [])
 
 -- Where the Ack is read before the opening is written, the opening alone says the number.
 abbrev pub one_sequence : List Event
 one_sequence =
     opened 2
     ++ client (Sent a ∷ Sent a ∷ Lent (Numbered a) ∷ Lent (Numbered a) ∷ [])
-    ++ server (Fed (Numbered a ∷ Numbered a ∷ []) ∷ Took (Processed a) ∷ Took (Processed a) ∷ [])
+    ++ server (Fed (Numbered a ∷ Numbered a ∷ []) ∷ Took (gives.Message a) ∷ Took (gives.Message a) ∷ [])
     ++ client (Attached 1 0 ∷ [])
     ++ server (Attached 1 0 ∷ [])
     ++ client (Sent a ∷ [])
     ++ server (Lent (Sequence 1 None) ∷ Lent (Ack 2) ∷ [])
     ++ client (
     Fed (Sequence 1 None ∷ Ack 2 ∷ []) ∷ Took (Sequenced 1) ∷ Took (Acked 2) ∷ Lent (Sequence 3 None) ∷ Lent (Numbered a) ∷ [])
-    ++ server (Fed (Sequence 3 None ∷ Numbered a ∷ []) ∷ Took (Sequenced 3) ∷ Took (Processed a) ∷ [])
+    ++ server (Fed (Sequence 3 None ∷ Numbered a ∷ []) ∷ Took (Sequenced 3) ∷ Took (gives.Message a) ∷ [])
 
 -- Version 3: both messages were processed, as the other end's opening says, so none comes again. Both ends are then still.
 abbrev pub resumed_with_none : List Event
 resumed_with_none =
     opened 3
     ++ client (Sent a ∷ Sent b ∷ Lent (Numbered a) ∷ Lent (Numbered b) ∷ [])
-    ++ server (Fed (Numbered a ∷ Numbered b ∷ []) ∷ Took (Processed a) ∷ Took (Processed b) ∷ [])
+    ++ server (Fed (Numbered a ∷ Numbered b ∷ []) ∷ Took (gives.Message a) ∷ Took (gives.Message b) ∷ [])
     ++ client (Attached 1 0 ∷ [])
     ++ server (Attached 1 0 ∷ [])
     ++ client (Lent (Sequence 1 (Some 0)) ∷ [])
@@ -136,13 +142,13 @@ abbrev pub resumed_with_one : List Event
 resumed_with_one =
     opened 3
     ++ client (Sent a ∷ Sent b ∷ Lent (Numbered a) ∷ Lent (Numbered b) ∷ [])
-    ++ server (Fed (Numbered a ∷ []) ∷ Took (Processed a) ∷ [])
+    ++ server (Fed (Numbered a ∷ []) ∷ Took (gives.Message a) ∷ [])
     ++ client (Attached 1 0 ∷ [])
     ++ server (Attached 1 0 ∷ [])
     ++ client (Lent (Sequence 1 (Some 0)) ∷ [])
     ++ server (Lent (Sequence 1 (Some 1)) ∷ Fed (Sequence 1 (Some 0) ∷ []) ∷ Took (Resumed 1 0) ∷ [])
     ++ client (Fed (Sequence 1 (Some 1) ∷ []) ∷ Took (Resumed 1 1) ∷ Lent (Numbered b) ∷ [])
-    ++ server (Fed (Numbered b ∷ []) ∷ Took (Processed b) ∷ [])
+    ++ server (Fed (Numbered b ∷ []) ∷ Took (gives.Message b) ∷ [])
 
 -- The client hears nothing for 30,000 ms. Before that it owed a Ping.
 abbrev pub silence : List Event
@@ -153,7 +159,7 @@ silence =
     ++ client (Ticked 15000 ∷ [])
     ++ server (Ticked 15000 ∷ [])
     ++ client (Lent Ping ∷ [])
-    ++ server (Fed (Ping ∷ []) ∷ Took Pinged ∷ [])
+    ++ server (Fed (Ping ∷ []) ∷ Took gives.Ping ∷ [])
     ++ client (Silenced 30000 ∷ [])
     ++ server (Ticked 30000 ∷ [])
 
@@ -177,14 +183,14 @@ closed_before_response =
     Attached 0 0 ∷ Fed (Request Json 2 ∷ []) ∷ Took (Shaken Json 2) ∷ Sent a ∷ Closed Done false ∷ Lent Response ∷
     Lent (Numbered a) ∷ Lent (Close None false) ∷ [])
     ++ client (
-    Fed (Response ∷ Numbered a ∷ Close None false ∷ []) ∷ Took (Shaken Json 2) ∷ Took (Processed a) ∷ Took (Ended None false) ∷ [])
+    Fed (Response ∷ Numbered a ∷ Close None false ∷ []) ∷ Took (Shaken Json 2) ∷ Took (gives.Message a) ∷ Took (gives.Closed None false) ∷ [])
 
 -- A message was processed and acknowledged: both ends are still.
 abbrev pub acknowledged : List Event
 acknowledged =
     opened 2
     ++ client (Sent a ∷ Lent (Numbered a) ∷ [])
-    ++ server (Fed (Numbered a ∷ []) ∷ Took (Processed a) ∷ Lent (Ack 1) ∷ [])
+    ++ server (Fed (Numbered a ∷ []) ∷ Took (gives.Message a) ∷ Lent (Ack 1) ∷ [])
     ++ client (Fed (Ack 1 ∷ []) ∷ Took (Acked 1) ∷ [])
 
 -- On a plain connection nothing is acknowledged, and nothing is held that was lent.
@@ -192,7 +198,7 @@ abbrev pub plain_delivered : List Event
 plain_delivered =
     opened 2
     ++ client (Sent a ∷ Lent (Numbered a) ∷ [])
-    ++ server (Fed (Numbered a ∷ []) ∷ Took (Processed a) ∷ [])
+    ++ server (Fed (Numbered a ∷ []) ∷ Took (gives.Message a) ∷ [])
 
 -- A plain connection has room again once a message was lent, here for one at a time.
 abbrev pub plain_room : List Event
@@ -217,7 +223,7 @@ server_after events = server_of (reverse events)
 
 -- the state, and how many messages were sent, processed and are held
 abbrev pub summary : Config → List Step → State × ℕ × ℕ × ℕ
-summary config h = (state config h, length (sent h), length (processed h), length (held config h))
+summary config h = (state config h, length (sent_messages h), length (processed_messages h), length (held_messages config h))
 
 -- these events are a world, at whose end the two ends are so
 pub record IsWorked (limits : Limits) (t : Terms) (events : List Event) (of_client of_server : State × ℕ × ℕ × ℕ) : Type 0 where

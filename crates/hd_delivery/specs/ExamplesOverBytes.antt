@@ -4,8 +4,14 @@ use Rattle.hm_message.specs.declared.message.Codec.{Codec}
 use Rattle.hm_message.specs.declared.message.Codec.TheVariants.{Json, Pack}
 use Rattle.hm_message.specs.declared.message.Message.{Message}
 use Rattle.hm_message.specs.declared.message.Message.TheVariants.{Invocation}
-use Rattle.hd_delivery.specs.Frames.{Frame, Request, Response, Numbered, Ack, Sequence, Ping, Close, Strange, Protocol, InUse, TooMany, Flood, Slow, Expired, error_of}
-use Rattle.hd_delivery.specs.Histories.{Side, Client, Server, Config, State, Step, Shaken, Processed, Acked, Sequenced, Pinged, Attached, Took, Sent, Lent}
+use Rattle.hd_delivery.specs.declared.vocabulary.Got.TheVariants.{Shaken, Acked, Sequenced}
+use Rattle.hd_delivery.specs.declared.vocabulary.Reason.TheVariants.{Protocol, InUse, TooMany, Flood, Slow, Expired}
+use Rattle.hd_delivery.specs.declared.vocabulary.Side.{Side}
+use Rattle.hd_delivery.specs.declared.vocabulary.Side.TheVariants.{Client, Server}
+use Rattle.hd_delivery.specs.declared.vocabulary.State.{State}
+use Rattle.hd_delivery.specs.declared.vocabulary.Got.TheVariants as gives
+use Rattle.hd_delivery.specs.Frames.{LinkFrame, Request, Response, Numbered, Ack, Sequence, Ping, Close, Strange, error_of}
+use Rattle.hd_delivery.specs.Histories.{Config, Step, Attached, Took, Sent, Lent}
 use Rattle.hd_delivery.specs.Processes.{processes}
 use Rattle.hd_delivery.specs.Worlds.{Limits, Terms, config}
 use Rattle.hd_delivery.specs.Bytes.{Reading, Waits, Reads, Refuses, Stops, Wire, ByteStep, Bytes, Does, in_frames, ByteEvent, AtClient, AtServer, client_bytes, server_bytes, MayFeedBytes, IsWorldOverBytes, StillOverBytes}
@@ -44,7 +50,7 @@ abbrev pub four_of : ℕ → ℕ → ℕ → ℕ → List ℕ
 four_of kind x y z = kind ∷ x ∷ y ∷ z ∷ []
 
 -- how a frame is written. A handshake that is refused is never written
-abbrev pub spell_four : Frame → List ℕ
+abbrev pub spell_four : LinkFrame → List ℕ
 spell_four (Request codec version) = four_of 1 version (codec_number codec) 0
 spell_four Response = four_of 2 0 0 0
 spell_four (Numbered m) = four_of 3 (letter_of m) 0 0
@@ -119,9 +125,9 @@ bytewise =
     Bytes (2 ∷ 0 ∷ 0 ∷ 0 ∷ []) ∷ Does (Took (Shaken Json 2)) ∷ Does (Sent a) ∷ Does (Sent b) ∷ Does (Sent c) ∷
     Does (Lent (Numbered a)) ∷ Does (Lent (Numbered b)) ∷ Does (Lent (Numbered c)) ∷ [])
     ++ server (
-    Bytes (3 ∷ []) ∷ Bytes (97 ∷ []) ∷ Bytes (0 ∷ []) ∷ Bytes (0 ∷ []) ∷ Does (Took (Processed a)) ∷ Bytes (3 ∷ []) ∷
-    Bytes (98 ∷ []) ∷ Bytes (0 ∷ []) ∷ Bytes (0 ∷ []) ∷ Does (Took (Processed b)) ∷ Bytes (3 ∷ []) ∷ Bytes (99 ∷ []) ∷
-    Bytes (0 ∷ []) ∷ Bytes (0 ∷ []) ∷ Does (Took (Processed c)) ∷ [])
+    Bytes (3 ∷ []) ∷ Bytes (97 ∷ []) ∷ Bytes (0 ∷ []) ∷ Bytes (0 ∷ []) ∷ Does (Took (gives.Message a)) ∷ Bytes (3 ∷ []) ∷
+    Bytes (98 ∷ []) ∷ Bytes (0 ∷ []) ∷ Bytes (0 ∷ []) ∷ Does (Took (gives.Message b)) ∷ Bytes (3 ∷ []) ∷ Bytes (99 ∷ []) ∷
+    Bytes (0 ∷ []) ∷ Bytes (0 ∷ []) ∷ Does (Took (gives.Message c)) ∷ [])
 
 -- In MessagePack. The second message is cut in its middle by the loss of its link. What was read of it is dropped, and the next link has it whole.
 abbrev pub cut_by_a_loss : List ByteEvent
@@ -131,11 +137,11 @@ cut_by_a_loss =
     ++ client (
     Bytes (2 ∷ 0 ∷ 0 ∷ 0 ∷ []) ∷ Does (Took (Shaken Pack 2)) ∷ Does (Sent a) ∷ Does (Sent b) ∷ Does (Lent (Numbered a)) ∷
     Does (Lent (Numbered b)) ∷ [])
-    ++ server (Bytes (3 ∷ 97 ∷ 0 ∷ 0 ∷ 3 ∷ 98 ∷ []) ∷ Does (Took (Processed a)) ∷ Does (Lent (Ack 1)) ∷ [])
+    ++ server (Bytes (3 ∷ 97 ∷ 0 ∷ 0 ∷ 3 ∷ 98 ∷ []) ∷ Does (Took (gives.Message a)) ∷ Does (Lent (Ack 1)) ∷ [])
     ++ client (Bytes (4 ∷ 1 ∷ 0 ∷ 0 ∷ []) ∷ Does (Took (Acked 1)) ∷ Does (Attached 1 0) ∷ [])
     ++ server (Does (Attached 1 0) ∷ [])
     ++ client (Does (Lent (Sequence 2 None)) ∷ Does (Lent (Numbered b)) ∷ [])
-    ++ server (Bytes (5 ∷ 2 ∷ 0 ∷ 0 ∷ 3 ∷ 98 ∷ 0 ∷ 0 ∷ []) ∷ Does (Took (Sequenced 2)) ∷ Does (Took (Processed b)) ∷ [])
+    ++ server (Bytes (5 ∷ 2 ∷ 0 ∷ 0 ∷ 3 ∷ 98 ∷ 0 ∷ 0 ∷ []) ∷ Does (Took (Sequenced 2)) ∷ Does (Took (gives.Message b)) ∷ [])
 
 -- A message was processed and acknowledged: both ends are still.
 abbrev pub acknowledged_over_bytes : List ByteEvent
@@ -143,7 +149,7 @@ acknowledged_over_bytes =
     client (Does (Attached 0 0) ∷ Does (Lent (Request Json 2)) ∷ [])
     ++ server (Does (Attached 0 0) ∷ Bytes (1 ∷ 2 ∷ 0 ∷ 0 ∷ []) ∷ Does (Took (Shaken Json 2)) ∷ Does (Lent Response) ∷ [])
     ++ client (Bytes (2 ∷ 0 ∷ 0 ∷ 0 ∷ []) ∷ Does (Took (Shaken Json 2)) ∷ Does (Sent a) ∷ Does (Lent (Numbered a)) ∷ [])
-    ++ server (Bytes (3 ∷ 97 ∷ 0 ∷ 0 ∷ []) ∷ Does (Took (Processed a)) ∷ Does (Lent (Ack 1)) ∷ [])
+    ++ server (Bytes (3 ∷ 97 ∷ 0 ∷ 0 ∷ []) ∷ Does (Took (gives.Message a)) ∷ Does (Lent (Ack 1)) ∷ [])
     ++ client (Bytes (4 ∷ 1 ∷ 0 ∷ 0 ∷ []) ∷ Does (Took (Acked 1)) ∷ [])
 
 -- An end whose frames have four bytes at most has nine unread.
@@ -181,14 +187,14 @@ IsFullFor limits t events piece = MayFeedBytes limits four (config Server t) (co
 -- a server is fed the handshake, a message and four numbers that are no frame, in pieces
 abbrev pub unreadable : List ByteStep
 unreadable =
-    Does (Attached 0 0) ∷ Bytes (1 ∷ 2 ∷ 0 ∷ 0 ∷ 3 ∷ 97 ∷ []) ∷ Does (Took (Shaken Json 2)) ∷ Bytes (0 ∷ 0 ∷ 8 ∷ []) ∷ Does (Took (Processed a)) ∷ Bytes (8 ∷ 8 ∷ []) ∷ []
+    Does (Attached 0 0) ∷ Bytes (1 ∷ 2 ∷ 0 ∷ 0 ∷ 3 ∷ 97 ∷ []) ∷ Does (Took (Shaken Json 2)) ∷ Bytes (0 ∷ 0 ∷ 8 ∷ []) ∷ Does (Took (gives.Message a)) ∷ Bytes (8 ∷ 8 ∷ []) ∷ []
 
 abbrev pub unreadable_whole : List ByteStep
 unreadable_whole = unreadable ++ Bytes (8 ∷ []) ∷ []
 
 -- on the second link places begin again
 abbrev pub unreadable_later : List ByteStep
-unreadable_later = unreadable ++ Does (Lent Response) ∷ Does (Attached 1 0) ∷ Bytes (6 ∷ 0 ∷ 0 ∷ 0 ∷ 8 ∷ 8 ∷ 8 ∷ 8 ∷ []) ∷ Does (Took Pinged) ∷ []
+unreadable_later = unreadable ++ Does (Lent Response) ∷ Does (Attached 1 0) ∷ Bytes (6 ∷ 0 ∷ 0 ∷ 0 ∷ 8 ∷ 8 ∷ 8 ∷ 8 ∷ []) ∷ Does (Took gives.Ping) ∷ []
 
 -- numbers with which no frame begins
 abbrev pub stopped : List ByteStep

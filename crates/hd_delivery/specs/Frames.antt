@@ -6,38 +6,30 @@ use Rattle.std.specs.Prelude.{ℕ, suc, ℤ, max, Bool, List, [], ◌∷◌, fol
 use Rattle.hm_message.specs.declared.message.Codec.{Codec}
 use Rattle.hm_message.specs.declared.message.Message.{Message}
 use Rattle.hm_message.specs.declared.message.Message.TheVariants as message
+use Rattle.hd_delivery.specs.declared.vocabulary.Reason.{Reason}
+use Rattle.hd_delivery.specs.declared.vocabulary.Reason.TheVariants.{Done, Protocol, InUse, TooMany, Flood, Slow, Expired}
 
 -- one frame of a link, as its reader takes it
-pub data Frame : Type 0 where
-  Request : (codec : Codec) → (version : ℕ) → Frame  -- the client's handshake
-  Response : Frame  -- the server's handshake
-  Refusal : (text : List ℕ) → Frame  -- the server's answer to a request that it refuses
-  Numbered : (m : Message) → Frame  -- a sequenced message
-  Ack : (upto : ℕ) → Frame
-  Sequence : (first : ℕ) → (received : Option ℕ) → Frame
-  Ping : Frame
-  Close : (error : Option (List ℕ)) → (allow : Bool) → Frame
-  Foreign : (n : ℤ) → Frame  -- of a type that no message has
-  Strange : (why answer : List ℕ) → Frame  -- refused as a handshake, in the words of a report, with the text that a server answers
-  Unreadable : (at : ℕ) → (why : List ℕ) → Frame  -- refused at this place of the link, in the words of a report
+pub data LinkFrame : Type 0 where
+  Request : (codec : Codec) → (version : ℕ) → LinkFrame  -- the client's handshake
+  Response : LinkFrame  -- the server's handshake
+  Refusal : (text : List ℕ) → LinkFrame  -- the server's answer to a request that it refuses
+  Numbered : (m : Message) → LinkFrame  -- a sequenced message
+  Ack : (upto : ℕ) → LinkFrame
+  Sequence : (first : ℕ) → (received : Option ℕ) → LinkFrame
+  Ping : LinkFrame
+  Close : (error : Option (List ℕ)) → (allow : Bool) → LinkFrame
+  Foreign : (n : ℤ) → LinkFrame  -- of a type that no message has
+  Strange : (why answer : List ℕ) → LinkFrame  -- refused as a handshake, in the words of a report, with the text that a server answers
+  Unreadable : (at : ℕ) → (why : List ℕ) → LinkFrame  -- refused at this place of the link, in the words of a report
 
 -- what a message is on a link
-abbrev pub frame_of : Message → Frame
+abbrev pub frame_of : Message → LinkFrame
 frame_of message.Ping = Ping
 frame_of (message.Close error allow) = Close error allow
 frame_of (message.Ack upto) = Ack upto
 frame_of (message.Sequence first received) = Sequence first received
 frame_of m = Numbered m
-
--- why an end is closed by its own side
-pub data Reason : Type 0 where
-  Done : Reason
-  Protocol : Reason  -- the other end broke the protocol
-  InUse : Reason
-  TooMany : Reason
-  Flood : Reason
-  Slow : Reason
-  Expired : Reason
 
 -- the error of the Close that tells the reason
 abbrev pub error_of : Reason → Option (List ℕ)
@@ -57,7 +49,7 @@ one_more None = None
 one_more (Some n) = Some (suc n)
 
 -- the number of the next sequenced message, after one more frame
-abbrev pub count : Option ℕ → Frame → Option ℕ
+abbrev pub count : Option ℕ → LinkFrame → Option ℕ
 count n (Request codec version) = Some 1
 count n Response = Some 1
 count n (Sequence first received) = Some first
@@ -65,7 +57,7 @@ count n (Numbered m) = one_more n
 count n _ = n
 
 -- the number of the sequenced message that comes next after these frames of a link, where it has one
-abbrev pub number : List Frame → Option ℕ
+abbrev pub number : List LinkFrame → Option ℕ
 number frames = fold count None frames
 
 -- ---- how much of the other end's messages is told
@@ -76,12 +68,12 @@ received_of None = 0
 received_of (Some n) = n
 
 -- how many messages a frame tells to be processed
-abbrev pub told : Frame → ℕ
-told (Ack upto) = upto
-told (Sequence first received) = received_of received
-told _ = 0
+abbrev pub told_count : LinkFrame → ℕ
+told_count (Ack upto) = upto
+told_count (Sequence first received) = received_of received
+told_count _ = 0
 
 -- the most that is told in these frames
-abbrev pub most_told : List Frame → ℕ
+abbrev pub most_told : List LinkFrame → ℕ
 most_told [] = 0
-most_told (f ∷ frames) = max (told f) (most_told frames)
+most_told (f ∷ frames) = max (told_count f) (most_told frames)

@@ -1,15 +1,18 @@
 -- What an end did, step by step, and what is read off that.
 -- Whole lists of messages and frames stand here. HubProtocol.md, "Overview", has the Ack; that it takes out what the sender keeps is
 -- its meaning there. This project's own rules: the versions in which a connection is kept, what closes an end, and silences.
-use Rattle.std.specs.Prelude.{ℕ, suc, ℤ, ◌+◌, ◌-◌, ◌^◌, min, max, Bool, true, false, not, ◌&&◌, ◌||◌, ◌==◌, List, [], ◌∷◌, ◌++◌, take, drop, Option, Some, None, is_some, nat_le, if◌then◌else◌}
+use Rattle.std.specs.Prelude.{ℕ, suc, ◌+◌, ◌-◌, min, max, Bool, true, false, not, ◌&&◌, ◌||◌, ◌==◌, List, [], ◌∷◌, ◌++◌, take, drop, Option, Some, None, is_some, nat_le, if◌then◌else◌}
 use Rattle.hm_message.specs.declared.message.Codec.{Codec}
 use Rattle.hm_message.specs.declared.message.Message.{Message}
-use Rattle.hd_delivery.specs.Frames.{Frame, Numbered, Reason}
-
--- which end it is
-pub data Side : Type 0 where
-  Client : Side
-  Server : Side
+use Rattle.hd_delivery.specs.declared.vocabulary.Side.{Side}
+use Rattle.hd_delivery.specs.declared.vocabulary.State.{State}
+use Rattle.hd_delivery.specs.declared.vocabulary.State.TheVariants as states
+use Rattle.hd_delivery.specs.declared.vocabulary.Reason.{Reason}
+use Rattle.hd_delivery.specs.declared.vocabulary.Got.{Got}
+use Rattle.hd_delivery.specs.declared.vocabulary.Got.TheVariants as gives
+use Rattle.hd_delivery.specs.declared.vocabulary.Got.TheVariants.{Shaken, Acked, Resumed}
+use Rattle.hd_delivery.specs.Numbers.{most_of_64_bits, silence_after}
+use Rattle.hd_delivery.specs.Frames.{LinkFrame, Numbered}
 
 -- how an end is begun. A server takes codec and version from the request
 pub record Config : Type 0 where
@@ -17,24 +20,6 @@ pub record Config : Type 0 where
   pub codec : Codec
   pub version : ℕ
   pub reconnect : Bool
-
--- why a frame is passed over
-pub data Why : Type 0 where
-  Duplicate : (n : ℕ) → Why
-  Unknown : (n : ℤ) → Why
-  BeforeSequence : Why
-  NotUsed : Why
-
--- what a frame gives
-pub data Got : Type 0 where
-  Shaken : (codec : Codec) → (version : ℕ) → Got  -- the handshake is complete
-  Processed : (m : Message) → Got
-  Acked : (upto : ℕ) → Got
-  Sequenced : (first : ℕ) → Got
-  Resumed : (first received : ℕ) → Got
-  Pinged : Got
-  Skipped : (why : Why) → Got
-  Ended : (error : Option (List ℕ)) → (allow : Bool) → Got  -- the other end said Close
 
 -- why a frame can't be taken
 pub data Fault : Type 0 where
@@ -47,11 +32,11 @@ pub data Fault : Type 0 where
 pub data Step : Type 0 where
   Attached : (link now : ℕ) → Step
   Detached : (now : ℕ) → Step
-  Fed : (piece : List Frame) → Step
+  Fed : (piece : List LinkFrame) → Step
   Took : (got : Got) → Step
   Failed : (fault : Fault) → Step
   Sent : (m : Message) → Step  -- as the other end reads it
-  Lent : (f : Frame) → Step
+  Lent : (f : LinkFrame) → Step
   Ticked : (now : ℕ) → Step
   Silenced : (now : ℕ) → Step  -- a tick that ended the link
   Closed : (reason : Reason) → (allow : Bool) → Step
@@ -71,16 +56,16 @@ first_of (Some x) o = Some x
 -- ---- links
 
 -- the link on which the end stands
-abbrev pub here : List Step → Option ℕ
-here [] = None
-here (Attached l now ∷ h) = Some l
-here (Detached now ∷ h) = None
-here (Silenced now ∷ h) = None
-here (_ ∷ h) = here h
+abbrev pub present_link : List Step → Option ℕ
+present_link [] = None
+present_link (Attached l now ∷ h) = Some l
+present_link (Detached now ∷ h) = None
+present_link (Silenced now ∷ h) = None
+present_link (_ ∷ h) = present_link h
 
 -- whether the end stands on the link
 abbrev pub stands_on : ℕ → List Step → Bool
-stands_on l h = is_this l (here h)
+stands_on l h = is_this l (present_link h)
 
 -- whether the end ever stood on the link
 abbrev pub was_on : ℕ → List Step → Bool
@@ -102,66 +87,66 @@ link_count (_ ∷ h) = link_count h
 
 -- a number as 64 bits can tell it
 abbrev pub as_told : ℕ → ℕ
-as_told n = min n (2 ^ 64 - 1)
+as_told n = min n most_of_64_bits
 
 -- the end's own number of its present link, from 0
 abbrev pub own_number : List Step → ℕ
 own_number h = as_told (link_count h - 1)
 
 -- the frames fed on a link
-abbrev pub fed : ℕ → List Step → List Frame
-fed l [] = []
-fed l (Fed piece ∷ h) = if stands_on l h then fed l h ++ piece else fed l h
-fed l (_ ∷ h) = fed l h
+abbrev pub fed_frames : ℕ → List Step → List LinkFrame
+fed_frames l [] = []
+fed_frames l (Fed piece ∷ h) = if stands_on l h then fed_frames l h ++ piece else fed_frames l h
+fed_frames l (_ ∷ h) = fed_frames l h
 
 -- the frames lent on a link
-abbrev pub lent : ℕ → List Step → List Frame
-lent l [] = []
-lent l (Lent f ∷ h) = if stands_on l h then lent l h ++ f ∷ [] else lent l h
-lent l (_ ∷ h) = lent l h
+abbrev pub lent_frames : ℕ → List Step → List LinkFrame
+lent_frames l [] = []
+lent_frames l (Lent f ∷ h) = if stands_on l h then lent_frames l h ++ f ∷ [] else lent_frames l h
+lent_frames l (_ ∷ h) = lent_frames l h
 
 -- how many frames of a link were dealt with
-abbrev pub taken : ℕ → List Step → ℕ
-taken l [] = 0
-taken l (Took got ∷ h) = if stands_on l h then suc (taken l h) else taken l h
-taken l (Failed fault ∷ h) = if stands_on l h then suc (taken l h) else taken l h
-taken l (_ ∷ h) = taken l h
+abbrev pub taken_count : ℕ → List Step → ℕ
+taken_count l [] = 0
+taken_count l (Took got ∷ h) = if stands_on l h then suc (taken_count l h) else taken_count l h
+taken_count l (Failed fault ∷ h) = if stands_on l h then suc (taken_count l h) else taken_count l h
+taken_count l (_ ∷ h) = taken_count l h
 
 -- the frames of a link that were dealt with
-abbrev pub read : ℕ → List Step → List Frame
-read l h = take (taken l h) (fed l h)
+abbrev pub read_frames : ℕ → List Step → List LinkFrame
+read_frames l h = take (taken_count l h) (fed_frames l h)
 
 -- ---- messages
 
 -- the messages that were sent, the first first
-abbrev pub sent : List Step → List Message
-sent [] = []
-sent (Sent m ∷ h) = sent h ++ m ∷ []
-sent (_ ∷ h) = sent h
+abbrev pub sent_messages : List Step → List Message
+sent_messages [] = []
+sent_messages (Sent m ∷ h) = sent_messages h ++ m ∷ []
+sent_messages (_ ∷ h) = sent_messages h
 
 -- the messages of the other end that were handed out
-abbrev pub processed : List Step → List Message
-processed [] = []
-processed (Took (Processed m) ∷ h) = processed h ++ m ∷ []
-processed (_ ∷ h) = processed h
+abbrev pub processed_messages : List Step → List Message
+processed_messages [] = []
+processed_messages (Took (gives.Message m) ∷ h) = processed_messages h ++ m ∷ []
+processed_messages (_ ∷ h) = processed_messages h
 
 -- how many of the messages sent the other end is known to have processed: the most that was told
-abbrev pub acked : List Step → ℕ
-acked [] = 0
-acked (Took (Acked n) ∷ h) = max n (acked h)
-acked (Took (Resumed first n) ∷ h) = max n (acked h)
-acked (_ ∷ h) = acked h
+abbrev pub acked_count : List Step → ℕ
+acked_count [] = 0
+acked_count (Took (Acked n) ∷ h) = max n (acked_count h)
+acked_count (Took (Resumed first n) ∷ h) = max n (acked_count h)
+acked_count (_ ∷ h) = acked_count h
 
 -- the greatest place in `sent` of a message that was lent on the present link. A message that is lent is the first past it that is held
-abbrev pub written : List Step → ℕ
-written [] = 0
-written (Attached l now ∷ h) = 0
-written (Lent (Numbered m) ∷ h) = suc (max (acked h) (written h))
-written (_ ∷ h) = written h
+abbrev pub written_place : List Step → ℕ
+written_place [] = 0
+written_place (Attached l now ∷ h) = 0
+written_place (Lent (Numbered m) ∷ h) = suc (max (acked_count h) (written_place h))
+written_place (_ ∷ h) = written_place h
 
 -- the place of the next message that is to be lent on the present link
 abbrev pub next_place : List Step → ℕ
-next_place h = suc (max (acked h) (written h))
+next_place h = suc (max (acked_count h) (written_place h))
 
 -- the greatest place that was ever lent
 abbrev pub most_lent : List Step → ℕ
@@ -172,20 +157,20 @@ most_lent (_ ∷ h) = most_lent h
 -- ---- the handshake and the state
 
 -- whether the handshake is complete
-abbrev pub shaken : List Step → Bool
-shaken [] = false
-shaken (Took (Shaken codec version) ∷ h) = true
-shaken (_ ∷ h) = shaken h
+abbrev pub is_shaken : List Step → Bool
+is_shaken [] = false
+is_shaken (Took (Shaken codec version) ∷ h) = true
+is_shaken (_ ∷ h) = is_shaken h
 
 -- the version that the handshake gave, or 0
-abbrev pub agreed : List Step → ℕ
-agreed [] = 0
-agreed (Took (Shaken codec version) ∷ h) = version
-agreed (_ ∷ h) = agreed h
+abbrev pub agreed_version : List Step → ℕ
+agreed_version [] = 0
+agreed_version (Took (Shaken codec version) ∷ h) = version
+agreed_version (_ ∷ h) = agreed_version h
 
 -- version 3, in which each later link begins after what was received
 abbrev pub is_three : List Step → Bool
-is_three h = agreed h == 3
+is_three h = agreed_version h == 3
 
 -- the codec in which the end writes and reads
 abbrev pub codec_of : Config → List Step → Codec
@@ -198,49 +183,42 @@ abbrev pub can_keep : ℕ → Bool
 can_keep version = (version == 2) || (version == 3)
 
 -- the connection is kept across links; else it is plain
-abbrev pub kept : Config → List Step → Bool
-kept c [] = false
-kept c (Took (Shaken codec version) ∷ h) = c.reconnect && can_keep version
-kept c (_ ∷ h) = kept c h
+abbrev pub is_kept : Config → List Step → Bool
+is_kept c [] = false
+is_kept c (Took (Shaken codec version) ∷ h) = c.reconnect && can_keep version
+is_kept c (_ ∷ h) = is_kept c h
 
 -- closed for good: by its own side, by a fault, by the other end's Close, or by the loss of a link that isn't survived
-abbrev pub closed : Config → List Step → Bool
-closed c [] = false
-closed c (Closed reason allow ∷ h) = true
-closed c (Failed fault ∷ h) = true
-closed c (Took (Ended error allow) ∷ h) = true
-closed c (Detached now ∷ h) = if kept c h then closed c h else true
-closed c (Silenced now ∷ h) = if kept c h then closed c h else true
-closed c (_ ∷ h) = closed c h
-
--- what an end can do
-pub data State : Type 0 where
-  Opening : State  -- before the handshake is complete
-  Ready : State  -- on a link
-  Away : State  -- without a link
-  Over : State  -- closed, as a report says
+abbrev pub is_closed : Config → List Step → Bool
+is_closed c [] = false
+is_closed c (Closed reason allow ∷ h) = true
+is_closed c (Failed fault ∷ h) = true
+is_closed c (Took (gives.Closed error allow) ∷ h) = true
+is_closed c (Detached now ∷ h) = if is_kept c h then is_closed c h else true
+is_closed c (Silenced now ∷ h) = if is_kept c h then is_closed c h else true
+is_closed c (_ ∷ h) = is_closed c h
 
 -- by whether it is closed, whether the handshake is complete, and the link
 abbrev pub state_of : Bool → Bool → Option ℕ → State
-state_of true s l = Over
-state_of false false l = Opening
-state_of false true None = Away
-state_of false true (Some l) = Ready
+state_of true s l = states.Closed
+state_of false false l = states.Opening
+state_of false true None = states.Away
+state_of false true (Some l) = states.Ready
 
 -- the state of an end
 abbrev pub state : Config → List Step → State
-state c h = state_of (closed c h) (shaken h) (here h)
+state c h = state_of (is_closed c h) (is_shaken h) (present_link h)
 
 -- whether the other end has said on the present link how much it has processed (version 3)
-abbrev pub resumed : List Step → Bool
-resumed [] = false
-resumed (Attached l now ∷ h) = false
-resumed (Took (Resumed first n) ∷ h) = true
-resumed (_ ∷ h) = resumed h
+abbrev pub is_resumed : List Step → Bool
+is_resumed [] = false
+is_resumed (Attached l now ∷ h) = false
+is_resumed (Took (Resumed first n) ∷ h) = true
+is_resumed (_ ∷ h) = is_resumed h
 
 -- the messages that the end has to keep: those that the other end may not have; on a plain connection, those that aren't lent yet
-abbrev pub held : Config → List Step → List Message
-held c h = if kept c h then drop (acked h) (sent h) else drop (most_lent h) (sent h)
+abbrev pub held_messages : Config → List Step → List Message
+held_messages c h = if is_kept c h then drop (acked_count h) (sent_messages h) else drop (most_lent h) (sent_messages h)
 
 -- ---- moments, in milliseconds
 
@@ -255,25 +233,25 @@ moment (_ ∷ h) = moment h
 
 -- when the present link was last heard, as ticks tell it: the moment of the first tick after what was fed last, and none before that
 -- tick; where nothing was fed, the moment of the link's beginning
-abbrev pub heard : List Step → Option ℕ
-heard [] = None
-heard (Attached l now ∷ h) = Some (max now (moment h))
-heard (Fed piece ∷ h) = None
-heard (Ticked now ∷ h) = first_of (heard h) (Some (max now (moment h)))
-heard (_ ∷ h) = heard h
+abbrev pub heard_moment : List Step → Option ℕ
+heard_moment [] = None
+heard_moment (Attached l now ∷ h) = Some (max now (moment h))
+heard_moment (Fed piece ∷ h) = None
+heard_moment (Ticked now ∷ h) = first_of (heard_moment h) (Some (max now (moment h)))
+heard_moment (_ ∷ h) = heard_moment h
 
 -- the moment of what was lent last on the present link, or of the link's beginning
-abbrev pub wrote : List Step → ℕ
-wrote [] = 0
-wrote (Attached l now ∷ h) = max now (moment h)
-wrote (Lent f ∷ h) = moment h
-wrote (_ ∷ h) = wrote h
+abbrev pub written_moment : List Step → ℕ
+written_moment [] = 0
+written_moment (Attached l now ∷ h) = max now (moment h)
+written_moment (Lent f ∷ h) = moment h
+written_moment (_ ∷ h) = written_moment h
 
--- 30,000 ms after the moment, where there is one
+-- the moment, where there is one, is `silence_after` milliseconds or more ago
 abbrev pub is_late : ℕ → Option ℕ → Bool
 is_late now None = false
-is_late now (Some moment) = nat_le (moment + 30000) now
+is_late now (Some moment) = nat_le (moment + silence_after) now
 
--- a tick at this moment is a silence: an end that isn't closed heard nothing on its link for 30,000 ms, as its ticks tell
+-- a tick at this moment is a silence: an end that isn't closed heard nothing on its link for `silence_after` milliseconds, as its ticks tell
 abbrev pub is_silence : Config → ℕ → List Step → Bool
-is_silence c now h = (is_some (here h) && not (closed c h)) && is_late now (heard h)
+is_silence c now h = (is_some (present_link h) && not (is_closed c h)) && is_late now (heard_moment h)

@@ -2,8 +2,15 @@
 -- step first.
 use Rattle.std.specs.Prelude.{◌≡◌, ℕ, pos, Bool, true, false, List, [], ◌∷◌, ◌++◌, map, reverse, codes, Option, Some, None}
 use Rattle.hm_message.specs.declared.message.Codec.TheVariants.{Json}
-use Rattle.hd_delivery.specs.Frames.{Frame, Request, Response, Refusal, Numbered, Ack, Sequence, Ping, Close, Foreign, Strange, Unreadable, Done, Slow}
-use Rattle.hd_delivery.specs.Histories.{Fault, Shake, Gap, Unknown, NotUsed, Shaken, Processed, Sequenced, Resumed, Skipped, Ended, Step, Attached, Detached, Fed, Took, Failed, Sent, Lent, Ticked, Silenced, Closed, Side, Client, State, state, is_silence}
+use Rattle.hd_delivery.specs.declared.vocabulary.Got.TheVariants.{Shaken, Sequenced, Resumed, Skipped}
+use Rattle.hd_delivery.specs.declared.vocabulary.Reason.TheVariants.{Done, Slow}
+use Rattle.hd_delivery.specs.declared.vocabulary.Side.{Side}
+use Rattle.hd_delivery.specs.declared.vocabulary.Side.TheVariants.{Client}
+use Rattle.hd_delivery.specs.declared.vocabulary.State.{State}
+use Rattle.hd_delivery.specs.declared.vocabulary.Why.TheVariants.{Unknown, NotUsed}
+use Rattle.hd_delivery.specs.declared.vocabulary.Got.TheVariants as gives
+use Rattle.hd_delivery.specs.Frames.{LinkFrame, Request, Response, Refusal, Numbered, Ack, Sequence, Ping, Close, Foreign, Strange, Unreadable}
+use Rattle.hd_delivery.specs.Histories.{Fault, Shake, Gap, Step, Attached, Detached, Fed, Took, Failed, Sent, Lent, Ticked, Silenced, Closed, state, is_silence}
 use Rattle.hd_delivery.specs.Due.{due}
 use Rattle.hd_delivery.specs.Processes.{processes}
 use Rattle.hd_delivery.specs.Worlds.{config}
@@ -22,7 +29,7 @@ opened_server version = Attached 0 0 ∷ Fed (Request Json version ∷ []) ∷ T
 abbrev pub gap : List Step
 gap =
     opened_server 2
-    ++ Fed (Numbered a ∷ Numbered b ∷ Numbered c ∷ []) ∷ Took (Processed a) ∷ Took (Processed b) ∷ Took (Processed c)
+    ++ Fed (Numbered a ∷ Numbered b ∷ Numbered c ∷ []) ∷ Took (gives.Message a) ∷ Took (gives.Message b) ∷ Took (gives.Message c)
     ∷ Attached 1 0 ∷ Fed (Sequence 5 None ∷ []) ∷ []
 
 -- the end is closed: its opening and its Close come, and no Ack
@@ -84,7 +91,7 @@ not_taken = opened_server 2 ++ Fed (Numbered a ∷ []) ∷ []
 
 -- the message is taken
 abbrev pub taken_now : List Step
-taken_now = not_taken ++ Took (Processed a) ∷ []
+taken_now = not_taken ++ Took (gives.Message a) ∷ []
 
 -- at version 3, a later link on which the other end's opening isn't read
 abbrev pub waits : List Step
@@ -104,7 +111,7 @@ abbrev pub pinged : List Step
 pinged = at_once ++ Took (Shaken Json 1) ∷ []
 
 -- a first frame that is refused
-abbrev pub strange : Frame
+abbrev pub strange : LinkFrame
 strange = Strange (codes "Version 9") (codes "The version is not known.")
 
 abbrev pub refused_request : List Step
@@ -168,7 +175,7 @@ slow_told = slow_last ++ Lent (Close (Some (codes "Too slow.")) false) ∷ []
 
 -- closed by the other end's Close: what was sent comes, and no Close
 abbrev pub left : List Step
-left = opened_client 2 ++ Sent a ∷ Fed (Close None false ∷ []) ∷ Took (Ended None false) ∷ []
+left = opened_client 2 ++ Sent a ∷ Fed (Close None false ∷ []) ∷ Took (gives.Closed None false) ∷ []
 
 abbrev pub left_told : List Step
 left_told = left ++ Lent (Numbered a) ∷ []
@@ -209,7 +216,7 @@ abbrev pub NextStep : Side → List Step → Option Step → Type 0
 NextStep side steps step = processes (config side (terms 2 true)) (reverse steps) ≡ step
 
 -- after these steps this frame is due
-abbrev pub NextDue : Side → List Step → Option Frame → Type 0
+abbrev pub NextDue : Side → List Step → Option LinkFrame → Type 0
 NextDue side steps frame = due (config side (terms 2 true)) (reverse steps) ≡ frame
 
 -- after these steps a client's tick at this moment is a silence, or isn't

@@ -2,13 +2,19 @@
 -- HubProtocol.md, "Overview", has the messages, and that a message which comes again after a Sequence is passed over. This project's own
 -- rules: a later link's messages before its first Sequence are passed over; a Sequence past the next number, and a count of messages that
 -- were never lent, end the connection; the greatest number; version 3, in which each message that is taken is the next one.
-use Rattle.std.specs.Prelude.{ℕ, suc, ◌+◌, ◌^◌, Bool, true, false, not, ◌||◌, ◌&&◌, ◌==◌, nat_le, List, [], ◌∷◌, length, Option, Some, None, is_some, option_map, slice_get, if◌then◌else◌}
+use Rattle.std.specs.Prelude.{ℕ, suc, ◌+◌, Bool, true, false, not, ◌||◌, ◌&&◌, ◌==◌, nat_le, List, [], ◌∷◌, length, Option, Some, None, is_some, option_map, slice_get, if◌then◌else◌}
 use Rattle.hm_message.specs.declared.message.Message.{Message}
-use Rattle.hd_delivery.specs.Frames.{Frame, Request, Response, Numbered, Ack, Sequence, Ping, Close, Foreign, Strange, Unreadable, number, received_of}
-use Rattle.hd_delivery.specs.Histories.{Client, Server, Duplicate, Unknown, BeforeSequence, NotUsed, Shaken, Processed, Acked, Sequenced, Resumed, Pinged, Skipped, Ended, Unread, Shake, Gap, AckBeyond, Step, Took, Failed, Config, Side, is_this, here, first_link, own_number, fed, lent, taken, read, processed, most_lent, shaken, kept, closed, is_three}
+use Rattle.hd_delivery.specs.declared.vocabulary.Got.TheVariants.{Shaken, Acked, Sequenced, Resumed, Skipped}
+use Rattle.hd_delivery.specs.declared.vocabulary.Side.{Side}
+use Rattle.hd_delivery.specs.declared.vocabulary.Side.TheVariants.{Client, Server}
+use Rattle.hd_delivery.specs.declared.vocabulary.Why.TheVariants.{Duplicate, Unknown, BeforeSequence, NotUsed}
+use Rattle.hd_delivery.specs.declared.vocabulary.Got.TheVariants as gives
+use Rattle.hd_delivery.specs.Numbers.{most_messages}
+use Rattle.hd_delivery.specs.Frames.{LinkFrame, Request, Response, Numbered, Ack, Sequence, Ping, Close, Foreign, Strange, Unreadable, number, received_of}
+use Rattle.hd_delivery.specs.Histories.{Unread, Shake, Gap, AckBeyond, Step, Took, Failed, Config, is_this, present_link, first_link, own_number, fed_frames, lent_frames, taken_count, read_frames, processed_messages, most_lent, is_shaken, is_kept, is_closed, is_three}
 
 -- the first frame of the first link; a server answers what it refuses. No reader of handshakes gives a frame of the last case
-abbrev pub reads_handshake : Side → Config → List Step → Frame → Step
+abbrev pub reads_handshake : Side → Config → List Step → LinkFrame → Step
 reads_handshake Client c h Response = Took (Shaken c.codec c.version)
 reads_handshake Server c h (Request codec version) = Took (Shaken codec version)
 reads_handshake Client c h (Strange why text) = Failed (Shake why None)
@@ -20,21 +26,21 @@ reads_handshake side c h _ = Failed (Shake [] None)
 abbrev pub reads_message : ℕ → Option ℕ → Message → Step
 reads_message p None m = Took (Skipped BeforeSequence)
 reads_message p (Some n) m =
-    if n == 2 ^ 62 + 1 then Failed (Gap (2 ^ 62 + 1) (2 ^ 62))
-    else (if n == suc p then Took (Processed m) else Took (Skipped (Duplicate n)))
+    if n == most_messages + 1 then Failed (Gap (most_messages + 1) most_messages)
+    else (if n == suc p then Took (gives.Message m) else Took (Skipped (Duplicate n)))
 
 -- whether anything was said
-abbrev pub spoke : List Frame → Bool
-spoke [] = false
-spoke (f ∷ frames) = true
+abbrev pub has_frames : List LinkFrame → Bool
+has_frames [] = false
+has_frames (f ∷ frames) = true
 
 -- the number of a sequenced message that comes next on the link. At version 3 and on a plain connection it is the one after those
 -- processed, on a later link once the other end's opening was read and the end's own was lent
 abbrev pub next_number : Config → List Step → ℕ → Option ℕ
 next_number c h l =
-    if is_three h || not (kept c h)
-    then (if is_some (number (read l h)) && (is_this l (first_link h) || spoke (lent l h)) then Some (suc (length (processed h))) else None)
-    else number (read l h)
+    if is_three h || not (is_kept c h)
+    then (if is_some (number (read_frames l h)) && (is_this l (first_link h) || has_frames (lent_frames l h)) then Some (suc (length (processed_messages h))) else None)
+    else number (read_frames l h)
 
 -- an Ack of messages that were lent
 abbrev pub reads_ack : List Step → ℕ → Step
@@ -50,28 +56,28 @@ resumes h first received =
 -- a Sequence, of the next number at most
 abbrev pub reads_sequence : List Step → ℕ → ℕ → Step
 reads_sequence h first received =
-    if nat_le first (suc (length (processed h))) then resumes h first received else Failed (Gap first (suc (length (processed h))))
+    if nat_le first (suc (length (processed_messages h))) then resumes h first received else Failed (Gap first (suc (length (processed_messages h))))
 
 -- a frame after the handshake, where the connection is kept or not and a sequenced message has this number. No reader gives a handshake there
-abbrev pub reads_frame : Bool → List Step → Option ℕ → Frame → Step
-reads_frame keeps h n (Numbered m) = reads_message (length (processed h)) n m
+abbrev pub reads_frame : Bool → List Step → Option ℕ → LinkFrame → Step
+reads_frame keeps h n (Numbered m) = reads_message (length (processed_messages h)) n m
 reads_frame keeps h n (Ack upto) = if keeps then reads_ack h upto else Took (Skipped NotUsed)
 reads_frame keeps h n (Sequence first received) = if keeps then reads_sequence h first (received_of received) else Took (Skipped NotUsed)
-reads_frame keeps h n Ping = Took Pinged
-reads_frame keeps h n (Close error allow) = Took (Ended error allow)
+reads_frame keeps h n Ping = Took gives.Ping
+reads_frame keeps h n (Close error allow) = Took (gives.Closed error allow)
 reads_frame keeps h n (Foreign k) = Took (Skipped (Unknown k))
 reads_frame keeps h n (Unreadable at why) = Failed (Unread (own_number h) at why)
 reads_frame keeps h n _ = Failed (Unread (own_number h) 0 [])
 
 -- the step that a frame makes, where a sequenced message has this number
-abbrev pub reads : Config → List Step → Option ℕ → Frame → Step
-reads c h n f = if shaken h then reads_frame (kept c h) h n f else reads_handshake c.side c h f
+abbrev pub reads : Config → List Step → Option ℕ → LinkFrame → Step
+reads c h n f = if is_shaken h then reads_frame (is_kept c h) h n f else reads_handshake c.side c h f
 
 -- the step that the next frame of this link makes
 abbrev pub next_frame : Config → List Step → Option ℕ → Option Step
 next_frame c h None = None
-next_frame c h (Some l) = option_map (reads c h (next_number c h l)) (slice_get (fed l h) (taken l h))
+next_frame c h (Some l) = option_map (reads c h (next_number c h l)) (slice_get (fed_frames l h) (taken_count l h))
 
 -- the step that the next frame of the present link makes, where there is one and the end isn't closed
 abbrev pub processes : Config → List Step → Option Step
-processes c h = if closed c h then None else next_frame c h (here h)
+processes c h = if is_closed c h then None else next_frame c h (present_link h)

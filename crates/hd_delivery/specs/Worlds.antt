@@ -1,14 +1,20 @@
 -- Worlds of two ends over links that come and go, and what holds in each.
 -- This project's own rules: which messages can be sent, the limits of what an end holds, which links it may name, and 2^62 messages at
 -- most. Each end has its own clock.
-use Rattle.std.specs.Prelude.{◌≡◌, ◌⊎◌, ℕ, suc, ◌+◌, ◌^◌, ◌<◌, ◌≤◌, max, Bool, true, false, List, [], ◌∷◌, ◌++◌, length, sum_by, Some, None}
+use Rattle.std.specs.Prelude.{◌≡◌, ◌⊎◌, ℕ, suc, ◌+◌, ◌<◌, ◌≤◌, max, Bool, true, false, List, [], ◌∷◌, ◌++◌, length, sum_by, Some, None}
 use Rattle.hd_facts.specs.Prefixes.{IsPrefix}
 use Rattle.hm_message.specs.declared.message.Codec.{Codec}
 use Rattle.hm_message.specs.declared.message.Codec.TheVariants.{Json, Pack}
 use Rattle.hm_message.specs.declared.message.Message.{Message}
 use Rattle.hm_message.specs.Message.{is_sequenced, Fits, message_image}
-use Rattle.hd_delivery.specs.Frames.{Frame, Ack, Sequence, received_of}
-use Rattle.hd_delivery.specs.Histories.{Side, Client, Server, Duplicate, Skipped, Step, Attached, Detached, Fed, Took, Failed, Sent, Lent, Ticked, Silenced, Closed, Config, here, was_on, first_link, fed, lent, taken, sent, processed, codec_of, shaken, kept, closed, moment, is_silence, Ready, state, held}
+use Rattle.hd_delivery.specs.declared.vocabulary.Got.TheVariants.{Skipped}
+use Rattle.hd_delivery.specs.declared.vocabulary.Side.{Side}
+use Rattle.hd_delivery.specs.declared.vocabulary.Side.TheVariants.{Client, Server}
+use Rattle.hd_delivery.specs.declared.vocabulary.State.TheVariants.{Ready}
+use Rattle.hd_delivery.specs.declared.vocabulary.Why.TheVariants.{Duplicate}
+use Rattle.hd_delivery.specs.Numbers.{most_messages}
+use Rattle.hd_delivery.specs.Frames.{LinkFrame, Ack, Sequence, received_of}
+use Rattle.hd_delivery.specs.Histories.{Step, Attached, Detached, Fed, Took, Failed, Sent, Lent, Ticked, Silenced, Closed, Config, present_link, was_on, first_link, fed_frames, lent_frames, taken_count, sent_messages, processed_messages, codec_of, is_shaken, is_kept, is_closed, moment, is_silence, state, held_messages}
 use Rattle.hd_delivery.specs.Due.{due}
 use Rattle.hd_delivery.specs.Processes.{processes}
 
@@ -27,8 +33,8 @@ pub record Sizes : Type 0 where
 
 -- the end holds fewer messages than it may, and this many framed bytes more don't pass the limit
 pub record HasRoom (limits : Limits) (sizes : Sizes) (c : Config) (h : List Step) (size : ℕ) : Type 0 where
-  pub of_count : length (held c h) < limits.count
-  pub of_bytes : sum_by (sizes.framed (codec_of c h)) (held c h) + size ≤ limits.bytes
+  pub of_count : length (held_messages c h) < limits.count
+  pub of_bytes : sum_by (sizes.framed (codec_of c h)) (held_messages c h) + size ≤ limits.bytes
 
 -- in JSON bytes are read as the text of their base64, so what is sent is the image
 abbrev pub IsAsRead : Codec → Message → Type 0
@@ -44,9 +50,9 @@ pub record CanBeSent (limits : Limits) (sizes : Sizes) (codec : Codec) (m : Mess
 
 -- the end may send the message now
 pub record MaySend (limits : Limits) (sizes : Sizes) (c : Config) (h : List Step) (m : Message) : Type 0 where
-  pub unclosed : closed c h ≡ false
-  pub shakes : shaken h ≡ true
-  pub few : length (sent h) < 2 ^ 62
+  pub unclosed : is_closed c h ≡ false
+  pub shakes : is_shaken h ≡ true
+  pub few : length (sent_messages h) < most_messages
   pub can_be : CanBeSent limits sizes (codec_of c h) m
   pub room : HasRoom limits sizes c h (sizes.framed (codec_of c h) m)
 
@@ -57,22 +63,22 @@ MayName Server l own other = (was_on l other ≡ true) × (was_on l own ≡ fals
 
 -- the end may take a new link: it is the first, or the connection is kept
 pub record MayAttach (c : Config) (h other : List Step) (l now : ℕ) : Type 0 where
-  pub unclosed : closed c h ≡ false
-  pub granted : (first_link h ≡ None) ⊎ (kept c h ≡ true)
+  pub unclosed : is_closed c h ≡ false
+  pub granted : (first_link h ≡ None) ⊎ (is_kept c h ≡ true)
   pub named : MayName c.side l h other
   pub in_time : moment h ≤ now
 
 -- what is fed is the next of what the other end lent on the link
-pub record MayFeed (c : Config) (h other : List Step) (piece : List Frame) : Type 0 where
+pub record MayFeed (c : Config) (h other : List Step) (piece : List LinkFrame) : Type 0 where
   pub link : ℕ
-  pub at : here h ≡ Some link
-  pub unclosed : closed c h ≡ false
-  pub front : IsPrefix (fed link h ++ piece) (lent link other)
+  pub at : present_link h ≡ Some link
+  pub unclosed : is_closed c h ≡ false
+  pub front : IsPrefix (fed_frames link h ++ piece) (lent_frames link other)
 
 -- the step may come next, after the end's own history and beside the other's. An end's moments never fall
 abbrev pub Allowed : Limits → Sizes → Config → List Step → List Step → Step → Type 0
 Allowed limits sizes c h other (Attached l now) = MayAttach c h other l now
-Allowed limits sizes c h other (Detached now) = (l : ℕ) × (here h ≡ Some l) × (moment h ≤ now)
+Allowed limits sizes c h other (Detached now) = (l : ℕ) × (present_link h ≡ Some l) × (moment h ≤ now)
 Allowed limits sizes c h other (Fed piece) = MayFeed c h other piece
 Allowed limits sizes c h other (Took got) = processes c h ≡ Some (Took got)
 Allowed limits sizes c h other (Failed fault) = processes c h ≡ Some (Failed fault)
@@ -80,7 +86,7 @@ Allowed limits sizes c h other (Sent m) = MaySend limits sizes c h m
 Allowed limits sizes c h other (Lent f) = due c h ≡ Some f
 Allowed limits sizes c h other (Ticked now) = (is_silence c now h ≡ false) × (moment h ≤ now)
 Allowed limits sizes c h other (Silenced now) = (is_silence c now h ≡ true) × (moment h ≤ now)
-Allowed limits sizes c h other (Closed reason allow) = closed c h ≡ false
+Allowed limits sizes c h other (Closed reason allow) = is_closed c h ≡ false
 
 -- ---- worlds
 
@@ -156,14 +162,14 @@ IsOnOneClock (ByServer s ∷ w) = IsOnOneClock w × (latest w ≤ moment_of s (l
 -- both ends stand on one link and are Ready, each has been fed all that the other lent there and has taken every frame, and nothing is due
 pub record Still (cc cs : Config) (c s : List Step) : Type 0 where
   pub link : ℕ
-  pub client_here : here c ≡ Some link
-  pub server_here : here s ≡ Some link
+  pub client_here : present_link c ≡ Some link
+  pub server_here : present_link s ≡ Some link
   pub client_ready : state cc c ≡ Ready
   pub server_ready : state cs s ≡ Ready
-  pub client_fed : fed link c ≡ lent link s
-  pub server_fed : fed link s ≡ lent link c
-  pub client_taken : taken link c ≡ length (fed link c)
-  pub server_taken : taken link s ≡ length (fed link s)
+  pub client_fed : fed_frames link c ≡ lent_frames link s
+  pub server_fed : fed_frames link s ≡ lent_frames link c
+  pub client_taken : taken_count link c ≡ length (fed_frames link c)
+  pub server_taken : taken_count link s ≡ length (fed_frames link s)
   pub client_due : due cc c ≡ None
   pub server_due : due cs s ≡ None
 
@@ -184,7 +190,7 @@ SkipsNone (Took (Skipped why) ∷ h) = ⊥
 SkipsNone (_ ∷ h) = SkipsNone h
 
 -- each count that is told is at most p, and each Sequence at most one above q
-abbrev pub IsSound : ℕ → ℕ → List Frame → Type 0
+abbrev pub IsSound : ℕ → ℕ → List LinkFrame → Type 0
 IsSound p q [] = Unit {0}
 IsSound p q (Ack upto ∷ frames) = (upto ≤ p) × IsSound p q frames
 IsSound p q (Sequence first received ∷ frames) = (first ≤ suc q) × (received_of received ≤ p) × IsSound p q frames
@@ -192,8 +198,8 @@ IsSound p q (_ ∷ frames) = IsSound p q frames
 
 -- what x sent is processed by y in order, each message once; and on each link what x tells is sound
 pub record Delivers (x y : List Step) : Type 0 where
-  pub in_order : IsPrefix (processed y) (sent x)
-  pub sound : (l : ℕ) → IsSound (length (processed x)) (length (processed y)) (lent l x)
+  pub in_order : IsPrefix (processed_messages y) (sent_messages x)
+  pub sound : (l : ℕ) → IsSound (length (processed_messages x)) (length (processed_messages y)) (lent_frames l x)
 
 -- both ways: nothing is refused, each message is processed once and in order, and all of them where the two ends are still
 pub record Delivery (t : Terms) (c s : List Step) : Type 0 where
@@ -203,8 +209,8 @@ pub record Delivery (t : Terms) (c s : List Step) : Type 0 where
   pub server_faultless : IsFaultless s
   pub client_skips_none : t.version ≡ 3 → SkipsNone c
   pub server_skips_none : t.version ≡ 3 → SkipsNone s
-  pub all_to_server : Still (config Client t) (config Server t) c s → (processed s ≡ sent c) × (held (config Client t) c ≡ [])
-  pub all_to_client : Still (config Client t) (config Server t) c s → (processed c ≡ sent s) × (held (config Server t) s ≡ [])
+  pub all_to_server : Still (config Client t) (config Server t) c s → (processed_messages s ≡ sent_messages c) × (held_messages (config Client t) c ≡ [])
+  pub all_to_client : Still (config Client t) (config Server t) c s → (processed_messages c ≡ sent_messages s) × (held_messages (config Server t) s ≡ [])
 
 -- so it is in every world
 abbrev pub HoldsInEveryWorld : Type 0

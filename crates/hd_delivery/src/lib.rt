@@ -7,12 +7,16 @@
 #![tactic(auto)]
 
 mod one_end;
+mod vocabulary;
 mod worlds;
 
 ghost use Rattle.hd_delivery.specs.Bytes.{HoldsOverBytes};
 ghost use Rattle.hd_delivery.specs.Worlds.{HoldsInEveryWorld};
 
 pub use one_end::{closings, first_frames, moments, numbers};
+pub use vocabulary::{
+    Got, MOST_FRAMING, MOST_MESSAGES, PING_AFTER, Reason, SILENCE_AFTER, Side, State, Why,
+};
 pub use worlds::{still_worlds, what_may_not_come, worked_over_bytes, worked_worlds};
 
 /// In every world of two ends, what each has processed is a first part of what the other sent, and

@@ -1,8 +1,14 @@
 //! Worked cases of one end, some with frames that no other end of this kind says.
 ghost use Rattle.std.specs.Prelude.{◌≡◌, ◌^◌, ◌+◌, pos, true, false, Some, None, [], ◌∷◌, codes};
 ghost use Rattle.hm_message.specs.declared.message.Codec.TheVariants.{Json};
-ghost use Rattle.hd_delivery.specs.Frames.{Ack, Close, Numbered, Ping, Protocol, Refusal, Sequence};
-ghost use Rattle.hd_delivery.specs.Histories.{AckBeyond, Attached, BeforeSequence, Client, Duplicate, Failed, Gap, NotUsed, Over, Pinged, Processed, Sequenced, Server, Shake, Shaken, Skipped, Took, Unknown, Unread};
+ghost use Rattle.hd_delivery.specs.declared.vocabulary.Got.TheVariants.{Sequenced, Shaken, Skipped};
+ghost use Rattle.hd_delivery.specs.declared.vocabulary.Reason.TheVariants.{Protocol};
+ghost use Rattle.hd_delivery.specs.declared.vocabulary.Side.TheVariants.{Client, Server};
+ghost use Rattle.hd_delivery.specs.declared.vocabulary.Why.TheVariants.{BeforeSequence, Duplicate, NotUsed, Unknown};
+ghost use Rattle.hd_delivery.specs.declared.vocabulary.Got.TheVariants as gives;
+ghost use Rattle.hd_delivery.specs.declared.vocabulary.State.TheVariants as states;
+ghost use Rattle.hd_delivery.specs.Frames.{Ack, Close, Numbered, Ping, Refusal, Sequence};
+ghost use Rattle.hd_delivery.specs.Histories.{AckBeyond, Attached, Failed, Gap, Shake, Took, Unread};
 ghost use Rattle.hd_delivery.specs.Processes.{reads_message};
 ghost use Rattle.hd_delivery.specs.Examples.{a};
 ghost use Rattle.hd_delivery.specs.OneEnd.{NextDue, NextStep, SilentAt, StateIs, at_once, beyond, closed_opened, closed_told, closed_unasked, closed_unopened, closed_unsaid, closed_waiting, early, early_three, from_zero, from_zero_on, gap, gap_beyond, gap_failed, gap_opened, gap_told, heard_nothing, left, left_told, lost_early, not_taken, odd, odd_skipped, opened_client, pinged, plain_ack, plain_message, plain_sequence, quiet_closed, quiet_opening, quiet_pinged, quiet_until, received_beyond, refused_answered, refused_failed, refused_request, refused_response, refused_unanswered, silent_early, slow, slow_last, slow_told, taken_now, unknown_version, waits, waits_no_more};
@@ -25,7 +31,7 @@ pub fn numbers()
     ensures early_three { NextStep Server early_three (Some (Took (Skipped BeforeSequence))) }
     ensures plain_ack { NextStep Server plain_ack (Some (Took (Skipped NotUsed))) }
     ensures plain_sequence { NextStep Server plain_sequence (Some (Took (Skipped NotUsed))) }
-    ensures plain_message { NextStep Server plain_message (Some (Took (Processed a))) }
+    ensures plain_message { NextStep Server plain_message (Some (Took (gives.Message a))) }
     ensures not_taken { NextDue Server not_taken None }
     ensures taken { NextDue Server taken_now (Some (Ack 1)) }
     ensures waits { NextDue Server waits None }
@@ -35,7 +41,7 @@ pub fn numbers()
 /// The handshake, and frames that cannot be read.
 pub fn first_frames()
     ensures at_once { NextStep Server at_once (Some (Took (Shaken Json 1))) }
-    ensures pinged { NextStep Server pinged (Some (Took Pinged)) }
+    ensures pinged { NextStep Server pinged (Some (Took gives.Ping)) }
     ensures refused { NextStep Server refused_request (Some (Failed unknown_version)) }
     ensures over { NextStep Server refused_failed None }
     ensures answer { NextDue Server refused_failed
@@ -48,8 +54,8 @@ pub fn first_frames()
     ensures not_taken_any_more { NextStep Server closed_unasked None }
     ensures closed_unsaid { NextDue Client closed_unsaid None }
     ensures closed_unopened { NextDue Client closed_unopened None }
-    ensures lost_early { StateIs lost_early Over }
-    ensures silent_early { StateIs silent_early Over }
+    ensures lost_early { StateIs lost_early states.Closed }
+    ensures silent_early { StateIs silent_early states.Closed }
     ensures odd { NextStep Server odd (Some (Took (Skipped (Unknown (pos 10))))) }
     ensures unread { NextStep Server odd_skipped (Some (Failed (Unread 1 20 (codes "NotJson")))) }
 {}

@@ -1,7 +1,10 @@
 //! Worked worlds, over frames and over bytes, which the checker computes.
 ghost use Rattle.std.specs.Prelude.{ℕ, true, false, Some, None, [], ◌∷◌, codes};
 ghost use Rattle.hm_message.specs.declared.message.Codec.TheVariants.{Json, Pack};
-ghost use Rattle.hd_delivery.specs.Histories.{Away, Client, Failed, Over, Ready, Unread};
+ghost use Rattle.hd_delivery.specs.declared.vocabulary.Side.TheVariants.{Client};
+ghost use Rattle.hd_delivery.specs.declared.vocabulary.State.TheVariants.{Away, Ready};
+ghost use Rattle.hd_delivery.specs.declared.vocabulary.State.TheVariants as states;
+ghost use Rattle.hd_delivery.specs.Histories.{Failed, Unread};
 ghost use Rattle.hd_delivery.specs.Worlds.{MayAttach, MaySend, config};
 ghost use Rattle.hd_delivery.specs.Bytes.{IsFaithful};
 ghost use Rattle.hd_delivery.specs.Examples.{IsStill, IsWorked, a, acknowledged, b, c, client_after, closed_before_response, filled, further_sequence, limits_of, older_link_later, one_sequence, plain_delivered, plain_loss, plain_room, plain_silence, resume_after_ack, resume_duplicates, resumed_with_none, resumed_with_one, server_after, silence, sizes, terms, terms_in, usual};
@@ -28,9 +31,9 @@ pub fn worked_worlds()
         (Ready, 2, 0, 1) (Ready, 0, 2, 0) }
     ensures silence { IsWorked usual (terms 2 true) silence (Away, 0, 0, 0) (Ready, 0, 0, 0) }
     ensures plain_silence { IsWorked usual (terms 2 false) plain_silence
-        (Over, 0, 0, 0) (Ready, 0, 0, 0) }
+        (states.Closed, 0, 0, 0) (Ready, 0, 0, 0) }
     ensures plain_loss { IsWorked usual (terms 2 false) plain_loss
-        (Over, 0, 0, 0) (Ready, 0, 0, 0) }
+        (states.Closed, 0, 0, 0) (Ready, 0, 0, 0) }
     ensures plain_delivered { IsWorked usual (terms 2 false) plain_delivered
         (Ready, 1, 0, 0) (Ready, 0, 1, 0) }
     ensures plain_room { IsWorked (limits_of 38 1 39) (terms 2 false) plain_room
@@ -38,7 +41,7 @@ pub fn worked_worlds()
     ensures filled { IsWorked (limits_of 38 3 117) (terms 2 true) filled
         (Ready, 3, 0, 3) (Ready, 0, 0, 0) }
     ensures closed_before_response { IsWorked usual (terms 2 true) closed_before_response
-        (Over, 0, 1, 0) (Over, 1, 0, 1) }
+        (states.Closed, 0, 1, 0) (states.Closed, 1, 0, 1) }
 {}
 
 /// Where both ends are still, so that all has arrived and nothing is held.

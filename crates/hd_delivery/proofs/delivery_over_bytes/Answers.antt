@@ -1,6 +1,6 @@
 use Rattle.std.proofs.Common.{◌++◌}
 use Rattle.std.proofs.lemmas.List.Elements.{Contains-append_left, Contains-append_right}
-use Rattle.hd_delivery.specs.Histories.{sent}
+use Rattle.hd_delivery.specs.Histories.{sent_messages}
 use Rattle.hd_delivery.specs.Bytes.{client_bytes, server_bytes, client_in_frames, server_in_frames}
 use Rattle.hd_delivery.proofs.Final.{delivery_holds}
 use Rattle.hd_delivery.proofs.OverBytes.{together_over_bytes, still_in_frames}
@@ -8,8 +8,8 @@ use Rattle.hd_delivery.proofs.delivery_over_bytes.Goals as goal
 
 pub returns : goal.returns
 returns c limits wire terms w law world =
-    let by_client = sent (client_in_frames wire terms w) in
-    let by_server = sent (server_in_frames wire terms w) in
+    let by_client = sent_messages (client_in_frames wire terms w) in
+    let by_server = sent_messages (server_in_frames wire terms w) in
     let t = together_over_bytes limits wire terms (by_client ++ by_server) law w (λ m e. Contains-append_left by_client by_server m e) (λ m e. Contains-append_right by_client by_server m e) world in
     record {
       holds = delivery_holds terms (client_in_frames wire terms w) (server_in_frames wire terms w) t.together;
