@@ -9,8 +9,8 @@ use Rattle.hd_facts.specs.Unique.{IsTheOne}
 use Rattle.sr_app.specs.Refusal.{IsRefusedAt}
 use Rattle.sr_app.specs.Run.{IsReplayed, IsRefused, IsTextAnswer, AnswersWith, IsNothing, ReadsBounded, ReadsWithin}
 use Rattle.sr_check.specs.declared.task.Task.TheVariants as task
-use Rattle.sr_words.specs.declared.commands.Asked.{Asked}
-use Rattle.sr_words.specs.declared.commands.Asked.TheVariants.{Replay, Check, Convert}
+use Rattle.sr_words.specs.declared.commands.Command.{Command}
+use Rattle.sr_words.specs.declared.commands.Command.TheVariants.{Replay, Check, Convert}
 use Rattle.hd_facts.specs.Writes.{IsText, Writes, WritesPart, WritesOfRead}
 use Rattle.sr_check.proofs.Inputs.{consumes_none, told, behind, whole_told, appends_none, read_nothing}
 use Rattle.sr_app.proofs.Parsing.{refused_front}
@@ -70,7 +70,7 @@ nothing_written input now = (behind input, [], told input input [] (consumes_non
 pub nothing_of_read : (input left now : Option (List ℕ)) → ReadsBounded input left → WritesOfRead IsNothing input left now now
 nothing_of_read input left now bounded = (bounded.0, [], bounded.1, refl, appends_none now)
 
-pub reads_nothing : (asked : Asked) (input : Option (List ℕ)) → ReadsWithin asked input input
+pub reads_nothing : (command : Command) (input : Option (List ℕ)) → ReadsWithin command input input
 reads_nothing Replay input = ([], consumes_none input, omega arith)
 reads_nothing (Check codec) input = read_nothing (task.Check codec) input
 reads_nothing (Convert from to) input = read_nothing (task.Convert from to) input

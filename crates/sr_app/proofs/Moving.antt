@@ -1,9 +1,9 @@
--- What a command leaves.
+-- What a step leaves.
 use Rattle.std.proofs.Common.{◌≡◌, ◌≤◌, ◌+◌, ◌-◌, ℕ, List, [], ◌∷◌, ◌++◌, length, take, drop, sym, ◌∙◌, ap, subst, arith, append_assoc, length-take, length-drop}
 use Rattle.std.proofs.lemmas.List.{append-nil, take-append-le, take-take, take-append-drop, length-take-le, map-append}
 use Rattle.hf_split.specs.declared.framing.Framing.TheVariants.{Record}
 use Rattle.hf_split.specs.Cuts.{wrapped}
-use Rattle.sr_app.specs.declared.command.Count.{Count}
+use Rattle.sr_app.specs.declared.step.Count.{Count}
 use Rattle.sr_app.specs.declared.pair.Pair.{Pair}
 use Rattle.hm_message.specs.declared.message.Message.{Message}
 use Rattle.hm_json.specs.Spell.{Spell}

@@ -4,7 +4,7 @@ use Rattle.std.specs.Option.{option_copied}
 use Rattle.std.proofs.lemmas.Option.{slice_get_past, slice_get-get_or}
 use Rattle.std.proofs.lemmas.Bool.{cases_lt}
 use Rattle.std.proofs.lemmas.List.{append-nil, take-append-drop, take_at, take_all, drop_all, drop-drop, take-take, flat_map_more}
-use Rattle.sr_app.specs.declared.command.Command.{Command}
+use Rattle.sr_app.specs.declared.step.Step.{Step}
 use Rattle.sr_app.specs.declared.script.Reader.{Reader}
 use Rattle.sr_app.specs.declared.script.ScriptError.{ScriptError}
 use Rattle.sr_app.specs.declared.script.ScriptError.TheVariants.{Line, NoMemory}
@@ -60,16 +60,16 @@ parsing_next text at end reader next inside is within p read =
 -- what was read begins a script
 read_begins : (reader : Reader) (lines : List (List ℕ)) → HasRead reader lines → BeginsScript lines
 read_begins reader lines read = by_opened (cases_lt reader.opened 6) where
-  script : (more : List (List ℕ)) → lines ++ more ≡ opening ++ map line_of reader.commands.items → BeginsScript lines
-  script more e = record { more = more; commands = reader.commands.items; script = record { spelled = e; each = read.each; few = omega (arith, read.sends, read.few) } }
+  script : (more : List (List ℕ)) → lines ++ more ≡ opening ++ map line_of reader.steps.items → BeginsScript lines
+  script more e = record { more = more; steps = reader.steps.items; script = record { spelled = e; each = read.each; few = omega (arith, read.sends, read.few) } }
 
   by_opened : (reader.opened < 6) ⊎ (6 ≤ reader.opened) → BeginsScript lines
   by_opened (inl less) = script (drop reader.opened opening)
-      (let none : map line_of reader.commands.items ≡ [] = ap (map line_of) (read.opening_first less) in
+      (let none : map line_of reader.steps.items ≡ [] = ap (map line_of) (read.opening_first less) in
       let here : lines ≡ take reader.opened opening = read.lines_are ∙ ap (λ xs. take reader.opened opening ++ xs) none ∙ append-nil (take reader.opened opening) in
       ap (λ xs. xs ++ drop reader.opened opening) here ∙ take-append-drop reader.opened opening ∙ sym (append-nil opening) ∙ ap (λ xs. opening ++ xs) (sym none))
   by_opened (inr all) = script []
-      (append-nil lines ∙ read.lines_are ∙ ap (λ xs. xs ++ map line_of reader.commands.items) (take_all reader.opened opening all))
+      (append-nil lines ∙ read.lines_are ∙ ap (λ xs. xs ++ map line_of reader.steps.items) (take_all reader.opened opening all))
 
 -- the lines before a place are in the grammar
 good_lines : (text : List ℕ) (at : ℕ) (reader : Reader) (p : Parsing text at reader) → IsScriptUpTo text (length p.lines)
@@ -111,7 +111,7 @@ refused_once text number refused = record { holds = refused; only = λ other is.
 
 -- the next line isn't in the grammar
 refused_at : (text : List ℕ) (at : ℕ) (reader : Reader) (number : ℕ) (p : Parsing text at reader) → number ≡ suc (length p.lines)
-    → (IsScriptUpTo text (suc (length p.lines)) → ⊥) → ((commands : List Command) → Parses text commands → ⊥) → IsTheOne (IsRefusedAt text) number
+    → (IsScriptUpTo text (suc (length p.lines)) → ⊥) → ((steps : List Step) → Parses text steps → ⊥) → IsTheOne (IsRefusedAt text) number
 refused_at text at reader number p e bad none =
     refused_once text number (record { before = length p.lines; next = e; good = good_lines text at reader p; bad = rw e bad; no_script = none })
 
@@ -131,7 +131,7 @@ refused_past text at end reader number p inside is past e =
     let stands = stands_next text at end p.lines inside is (stands_of text at reader p) in
     refused_at text at reader number p e
     (λ has. omega (arith, has.within, stands.place, past, ap (λ (ls : List (List ℕ)). length (text_of ls)) (with_next text at end reader p inside is)))
-    (λ commands parses. omega (arith, parses.short, stands.place, past))
+    (λ steps parses. omega (arith, parses.short, stands.place, past))
 
 -- no script begins with it
 pub refused_line : (text : List ℕ) (at end : ℕ) (reader : Reader) (error : ScriptError) (p : Parsing text at reader) → at < length text → IsLineEnd (drop at text) end
@@ -141,10 +141,10 @@ refused_line text at end reader (Line number) p inside is refuses =
     let stands = stands_next text at end p.lines inside is (stands_of text at reader p) in
     refused_at text at reader number p refuses.0
     (λ has. refuses.1 (subst BeginsScript (with_next text at end reader p inside is) has.begins))
-    (λ commands parses. refuses.1 (record {
+    (λ steps parses. refuses.1 (record {
       more = lines_of (drop (at + min (end + 1) (length (drop at text))) text);
-      commands = commands;
-      script = subst (λ (ls : List (List ℕ)). IsScript ls commands) stands.whole parses.script;
+      steps = steps;
+      script = subst (λ (ls : List (List ℕ)). IsScript ls steps) stands.whole parses.script;
     }))
 refused_line text at end reader NoMemory p inside is refuses = tt
 
@@ -159,28 +159,28 @@ refused_end text at reader number p past less e =
     let all : lines_of text ≡ p.lines = all_lines text at reader p past in
     refused_at text at reader number p e
     (λ has. omega (arith, has.there, ap length all))
-    (λ commands parses. omega (arith, ap length (sym all ∙ parses.script.spelled), length-append opening (map line_of commands), few_lines)) where
+    (λ steps parses. omega (arith, ap length (sym all ∙ parses.script.spelled), length-append opening (map line_of steps), few_lines)) where
       few_lines : length p.lines < 6
       few_lines = omega (
         arith,
         less,
         ap length p.read.lines_are,
-        length-append (take reader.opened opening) (map line_of reader.commands.items),
+        length-append (take reader.opened opening) (map line_of reader.steps.items),
         length-take reader.opened opening,
-        ap (λ (cs : List Command). length (map line_of cs)) (p.read.opening_first less),
+        ap (λ (cs : List Step). length (map line_of cs)) (p.read.opening_first less),
       )
 
 -- the text is a script
 pub parsed : (text : List ℕ) (at : ℕ) (reader : Reader) → Parsing text at reader → length text ≤ at → 6 ≤ reader.opened
-    → IsTheOne (Parses text) reader.commands.items
+    → IsTheOne (Parses text) reader.steps.items
 parsed text at reader p past opened =
     let all : lines_of text ≡ p.lines = all_lines text at reader p past in
-    let spelled : lines_of text ≡ opening ++ map line_of reader.commands.items =
-    all ∙ p.read.lines_are ∙ ap (λ xs. xs ++ map line_of reader.commands.items) (take_all reader.opened opening opened) in
-    let script : IsScript (lines_of text) reader.commands.items = record { spelled = spelled; each = p.read.each; few = omega (arith, p.read.sends, p.read.few) } in
+    let spelled : lines_of text ≡ opening ++ map line_of reader.steps.items =
+    all ∙ p.read.lines_are ∙ ap (λ xs. xs ++ map line_of reader.steps.items) (take_all reader.opened opening opened) in
+    let script : IsScript (lines_of text) reader.steps.items = record { spelled = spelled; each = p.read.each; few = omega (arith, p.read.sends, p.read.few) } in
     record {
       holds = record { short = omega (arith, p.place, p.within, past); script = script };
-      only = λ other parses. one_script (lines_of text) reader.commands.items other script parses.script;
+      only = λ other parses. one_script (lines_of text) reader.steps.items other script parses.script;
     }
 
 -- What comes behind a front that is longer than the limit changes no line within it.
@@ -203,7 +203,7 @@ refused_front front more number long refused =
       next = at.next;
       good = has_same front [] more at.before long at.good;
       bad = λ has. at.bad (has_same front more [] number long has);
-      no_script = λ commands parses. omega (arith, parses.short, length-append front more);
+      no_script = λ steps parses. omega (arith, parses.short, length-append front more);
     })
 
 -- an opening line is still to come

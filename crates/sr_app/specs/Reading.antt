@@ -1,12 +1,12 @@
 -- A script that is read line by line.
 use Rattle.std.specs.Prelude.{◌≡◌, ◌≢◌, ◌≤◌, ◌<◌, ℕ, suc, List, [], ◌∷◌, ◌++◌, length, take, map, slice_index, All}
 use Rattle.std.specs.List.{count_by}
-use Rattle.sr_app.specs.declared.command.Command.{Command}
+use Rattle.sr_app.specs.declared.step.Step.{Step}
 use Rattle.sr_app.specs.declared.script.Reader.{Reader}
 use Rattle.sr_app.specs.declared.script.ScriptError.{ScriptError}
 use Rattle.sr_app.specs.declared.script.ScriptError.TheVariants.{Line, NoMemory}
 use Rattle.hd_facts.specs.Unique.{IsTheOne}
-use Rattle.sr_app.specs.Script.{opening, IsCommand, is_send, line_of}
+use Rattle.sr_app.specs.Script.{opening, IsStep, is_send, line_of}
 use Rattle.sr_app.specs.Refusal.{BeginsScript, IsRefusedAt}
 
 -- no end of a line among the bytes
@@ -19,18 +19,18 @@ pub record IsLineEnd (bytes : List ℕ) (n : ℕ) : Type 0 where
   pub line : IsOneLine (take n bytes)
   pub ended : n < length bytes → slice_index bytes n ≡ 10
 
--- the line of no command
+-- the line of no step
 abbrev pub IsNoLine : List ℕ → Type 0
-IsNoLine line = (command : Command) → IsCommand command → line ≡ line_of command → ⊥
+IsNoLine line = (step : Step) → IsStep step → line ≡ line_of step → ⊥
 
 -- it has read these lines, with which a script may begin
 pub record HasRead (reader : Reader) (lines : List (List ℕ)) : Type 0 where
   pub opened : reader.opened ≤ 6
-  pub lines_are : lines ≡ take reader.opened opening ++ map line_of reader.commands.items
-  pub each : All IsCommand reader.commands.items
-  pub sends : reader.sends ≡ count_by is_send reader.commands.items
+  pub lines_are : lines ≡ take reader.opened opening ++ map line_of reader.steps.items
+  pub each : All IsStep reader.steps.items
+  pub sends : reader.sends ≡ count_by is_send reader.steps.items
   pub few : reader.sends ≤ 1024
-  pub opening_first : reader.opened < 6 → reader.commands.items ≡ []
+  pub opening_first : reader.opened < 6 → reader.steps.items ≡ []
 
 -- where it isn't for want of memory, the line after these is refused: no script begins with it too
 abbrev pub RefusesNext : ScriptError → List (List ℕ) → List ℕ → Type 0

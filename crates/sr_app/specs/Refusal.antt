@@ -1,15 +1,15 @@
 -- The line at which a text stops being a script.
 use Rattle.std.specs.Prelude.{◌≡◌, ◌≤◌, ℕ, suc, min, List, ◌++◌, length, take, codes}
 use Rattle.std.specs.Fmt.{decimal}
-use Rattle.sr_app.specs.declared.command.Command.{Command}
+use Rattle.sr_app.specs.declared.step.Step.{Step}
 use Rattle.sr_app.specs.Lines.{lines_of, text_of}
 use Rattle.sr_app.specs.Script.{IsScript, Parses}
 
 -- some script begins with these lines
 pub record BeginsScript (lines : List (List ℕ)) : Type 0 where
   pub more : List (List ℕ)
-  pub commands : List Command
-  pub script : IsScript (lines ++ more) commands
+  pub steps : List Step
+  pub script : IsScript (lines ++ more) steps
 
 -- The first n lines of the text are there, none of them has byte 16,777,217 or a later one, and they begin a script.
 pub record IsScriptUpTo (text : List ℕ) (n : ℕ) : Type 0 where
@@ -24,7 +24,7 @@ pub record IsRefusedAt (text : List ℕ) (number : ℕ) : Type 0 where
   pub next : number ≡ suc before
   pub good : IsScriptUpTo text before
   pub bad : IsScriptUpTo text number → ⊥
-  pub no_script : (commands : List Command) → Parses text commands → ⊥
+  pub no_script : (steps : List Step) → Parses text steps → ⊥
 
 abbrev pub refusal_line : ℕ → List ℕ
 refusal_line number = codes "line " ++ (decimal number ++ codes " refused\n")

@@ -6,8 +6,8 @@ use Rattle.hf_split.specs.Cuts.{Spelled, Cuts, always, frames_of}
 use Rattle.hm_message.specs.declared.message.Message.{Message}
 use Rattle.hm_json.specs.Says.{Says}
 use Rattle.hm_json.specs.Spell.{Spell}
-use Rattle.sr_app.specs.declared.command.Command.{Command}
-use Rattle.sr_app.specs.declared.command.Command.TheVariants.{Send, Write, Read}
+use Rattle.sr_app.specs.declared.step.Step.{Step}
+use Rattle.sr_app.specs.declared.step.Step.TheVariants.{Send, Write, Read}
 use Rattle.sr_app.specs.World.{World, opened, after, world_of, client_frames, sent_by}
 
 -- both ends have read the other's handshake
@@ -32,11 +32,11 @@ client_line sent = codes "client Ready sent " ++ (decimal sent ++ (codes " proce
 abbrev pub server_line : ℕ → List ℕ
 server_line got = codes "server Ready sent 0 processed " ++ (decimal got ++ codes " held 0\n")
 
--- the line of a command that sent the last of these messages
-abbrev pub command_line : List Message → Command → List ℕ
-command_line sent (Send target) = sent_line (length sent)
-command_line sent Write = []
-command_line sent (Read count) = []
+-- the line of a step that sent the last of these messages
+abbrev pub step_line : List Message → Step → List ℕ
+step_line sent (Send target) = sent_line (length sent)
+step_line sent Write = []
+step_line sent (Read count) = []
 
 -- the message's frame says it
 abbrev pub IsSaid : Message → Type 0
@@ -50,25 +50,25 @@ pub record Carries (bytes : List ℕ) (messages : List Message) : Type 0 where
   pub frames : frames_of items ≡ client_frames messages
   pub said : All IsSaid messages
 
--- The lines of these commands and the last two, where the server got the messages `got` before them, and `all` after them.
-abbrev pub Reports : World → List Message → List Command → List Message → List ℕ → Type 0
+-- The lines of these steps and the last two, where the server got the messages `got` before them, and `all` after them.
+abbrev pub Reports : World → List Message → List Step → List Message → List ℕ → Type 0
 Reports w got [] all text = (all ≡ got) × (text ≡ client_line (length w.sent) ++ server_line (length got))
-Reports w got (command ∷ commands) all text =
-    (new : List Message) × (more : List ℕ) × Carries (after w command).read (got ++ new)
-    × (text ≡ command_line (after w command).sent command ++ (got_lines (length got) new ++ more))
-    × Reports (after w command) (got ++ new) commands all more
+Reports w got (step ∷ steps) all text =
+    (new : List Message) × (more : List ℕ) × Carries (after w step).read (got ++ new)
+    × (text ≡ step_line (after w step).sent step ++ (got_lines (length got) new ++ more))
+    × Reports (after w step) (got ++ new) steps all more
 
 -- the report of a script, by which the server got these messages
-abbrev pub IsReport : List Command → List Message → List ℕ → Type 0
-IsReport commands got text = (lines : List ℕ) × (text ≡ shaken_lines ++ lines) × Reports opened [] commands got lines
+abbrev pub IsReport : List Step → List Message → List ℕ → Type 0
+IsReport steps got text = (lines : List ℕ) × (text ≡ shaken_lines ++ lines) × Reports opened [] steps got lines
 
 -- The messages that the server got are the first of those that the client sent, each once and in order, and they are
 -- the frames that stand whole in the bytes that it read.
-pub record IsDelivered (commands : List Command) (got : List Message) : Type 0 where
+pub record IsDelivered (steps : List Step) (got : List Message) : Type 0 where
   pub later : List Message
-  pub front : sent_by commands ≡ got ++ later
-  pub found : Carries (world_of commands).read got
+  pub front : sent_by steps ≡ got ++ later
+  pub found : Carries (world_of steps).read got
 
 -- the report of a script, whose messages were delivered
-abbrev pub IsReportOf : List Command → List ℕ → Type 0
-IsReportOf commands text = (got : List Message) × IsReport commands got text × IsDelivered commands got
+abbrev pub IsReportOf : List Step → List ℕ → Type 0
+IsReportOf steps text = (got : List Message) × IsReport steps got text × IsDelivered steps got

@@ -2,7 +2,7 @@
 use Rattle.std.specs.Prelude.{◌≡◌, ◌≤◌, ◌+◌, ℕ, List, [], ◌∷◌, length, take, codes, string_bytes, String, Option, ◌⊎◌}
 use Rattle.std.specs.Io.KnownBytes.{Appends, Consumes}
 use Rattle.std.specs.declared.alloc.Global.{Global}
-use Rattle.sr_app.specs.declared.command.Command.{Command}
+use Rattle.sr_app.specs.declared.step.Step.{Step}
 use Rattle.sr_app.specs.declared.run.Status.{Status}
 use Rattle.sr_app.specs.declared.run.Status.TheVariants.{Done, Refused, ReadFault, WriteFault, NoMemory}
 use Rattle.hd_facts.specs.Unique.{IsTheOne}
@@ -15,8 +15,8 @@ use Rattle.sr_check.specs.declared.task.Task.TheVariants as task
 use Rattle.sr_check.specs.declared.task.Stop.{Stop}
 use Rattle.sr_check.specs.declared.task.Stop.TheVariants as stop
 use Rattle.sr_check.specs.Stream.{IsDone, IsStopped, IsBegun, IsAllSoFar, IsPart, ReadsNoFurther}
-use Rattle.sr_words.specs.declared.commands.Asked.{Asked}
-use Rattle.sr_words.specs.declared.commands.Asked.TheVariants.{Replay, Check, Convert}
+use Rattle.sr_words.specs.declared.commands.Command.{Command}
+use Rattle.sr_words.specs.declared.commands.Command.TheVariants.{Replay, Check, Convert}
 use Rattle.sr_words.specs.Words.{Asks, IsNoCommand}
 
 abbrev pub usage_line : List ℕ
@@ -24,9 +24,9 @@ usage_line = codes "usage: sr replay, soak, serve, client, check or convert\n"
 
 -- the text is a script, and this is its report; it has one parse, and that has one report
 pub record IsReplayed (text report : List ℕ) : Type 0 where
-  pub commands : List Command
-  pub script : IsTheOne (Parses text) commands
-  pub report_is : IsTheOne (IsReportOf commands) report
+  pub steps : List Step
+  pub script : IsTheOne (Parses text) steps
+  pub report_is : IsTheOne (IsReportOf steps) report
 
 -- the text is none, and this is its refusal
 pub record IsRefused (text answer : List ℕ) : Type 0 where
@@ -51,7 +51,7 @@ abbrev pub Meaning : Type 1
 Meaning = List ℕ → List ℕ → Type 0
 
 -- `replay` has this meaning, and a task over frames that one
-abbrev pub by_command : Meaning → (Task → Meaning) → Asked → Meaning
+abbrev pub by_command : Meaning → (Task → Meaning) → Command → Meaning
 by_command replay tasks Replay = replay
 by_command replay tasks (Check codec) = tasks (task.Check codec)
 by_command replay tasks (Convert from to) = tasks (task.Convert from to)
@@ -60,39 +60,39 @@ abbrev pub IsNothing : Meaning
 IsNothing text answer = answer ≡ []
 
 -- where it was done: the whole answer
-abbrev pub DoneMeans : Asked → Meaning
+abbrev pub DoneMeans : Command → Meaning
 DoneMeans = by_command IsReplayed IsDone
 
 -- where the input is refused: the refusal, behind what is written of the frames before
-abbrev pub RefusedMeans : Asked → Meaning
+abbrev pub RefusedMeans : Command → Meaning
 RefusedMeans = by_command IsRefused IsStopped
 
 -- whatever is written, of which a first part may be
-abbrev pub PartMeans : Asked → Meaning
+abbrev pub PartMeans : Command → Meaning
 PartMeans = by_command IsTextAnswer IsPart
 
 -- where memory is wanting: what is written of some frames
-abbrev pub BegunMeans : Asked → Meaning
+abbrev pub BegunMeans : Command → Meaning
 BegunMeans = by_command IsNothing IsBegun
 
 -- where the input failed: what is written of the frames that were read
-abbrev pub ReadMeans : Asked → Meaning
+abbrev pub ReadMeans : Command → Meaning
 ReadMeans = by_command IsNothing IsAllSoFar
 
 -- ---- what is written, by the words
 
 -- the words ask for one thing, and what is written for the input has the meaning that this has
-abbrev pub WritesFor : (Asked → Meaning) → List (String Global) → Option (List ℕ) → Option (List ℕ) → Option (List ℕ) → Type 0
-WritesFor Means words input before now = (asked : Asked) × IsTheOne (Asks words) asked × Writes (Means asked) input before now
+abbrev pub WritesFor : (Command → Meaning) → List (String Global) → Option (List ℕ) → Option (List ℕ) → Option (List ℕ) → Type 0
+WritesFor Means words input before now = (command : Command) × IsTheOne (Asks words) command × Writes (Means command) input before now
 
 -- the same for what was read of the input
 abbrev pub WritesOfReadFor : List (String Global) → Option (List ℕ) → Option (List ℕ) → Option (List ℕ) → Option (List ℕ) → Type 0
-WritesOfReadFor words input left before now = (asked : Asked) × IsTheOne (Asks words) asked × WritesOfRead (ReadMeans asked) input left before now
+WritesOfReadFor words input left before now = (command : Command) × IsTheOne (Asks words) command × WritesOfRead (ReadMeans command) input left before now
 
 -- a first part of what is written for these words, and nothing else
 abbrev pub WritesPartFor : List (String Global) → Option (List ℕ) → Option (List ℕ) → Option (List ℕ) → Type 0
 WritesPartFor words input before now =
-    ((asked : Asked) × IsTheOne (Asks words) asked × WritesPart (PartMeans asked) input before now)
+    ((command : Command) × IsTheOne (Asks words) command × WritesPart (PartMeans command) input before now)
     ⊎ (IsNoCommand words × ((n : ℕ) × Appends before now (take n usage_line)))
 
 -- ---- how far the input is read
@@ -102,7 +102,7 @@ abbrev pub ReadsBounded : Option (List ℕ) → Option (List ℕ) → Type 0
 ReadsBounded before now = (taken : List ℕ) × Consumes before now taken × (length taken ≤ 16777216 + 4096)
 
 -- no more was read than a script may have and one piece, or one piece past frames of which none is refused
-abbrev pub ReadsWithin : Asked → Option (List ℕ) → Option (List ℕ) → Type 0
+abbrev pub ReadsWithin : Command → Option (List ℕ) → Option (List ℕ) → Type 0
 ReadsWithin Replay before now = ReadsBounded before now
 ReadsWithin (Check codec) before now = ReadsNoFurther (task.Check codec) before now
 ReadsWithin (Convert from to) before now = ReadsNoFurther (task.Convert from to) before now

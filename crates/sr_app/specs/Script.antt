@@ -1,11 +1,11 @@
--- The grammar of a script: the six lines that open the link, and then the lines of commands.
+-- The grammar of a script: the six lines that open the link, and then the lines of steps.
 use Rattle.std.specs.Prelude.{◌≡◌, ◌≤◌, ◌<◌, ◌^◌, ℕ, List, [], ◌∷◌, ◌++◌, length, map, codes, All, Bool, true, false}
 use Rattle.std.specs.List.{count_by}
 use Rattle.std.specs.Fmt.{decimal}
-use Rattle.sr_app.specs.declared.command.Command.{Command}
-use Rattle.sr_app.specs.declared.command.Command.TheVariants.{Send, Write, Read}
-use Rattle.sr_app.specs.declared.command.Count.{Count}
-use Rattle.sr_app.specs.declared.command.Count.TheVariants.{UpTo, Everything}
+use Rattle.sr_app.specs.declared.step.Step.{Step}
+use Rattle.sr_app.specs.declared.step.Step.TheVariants.{Send, Write, Read}
+use Rattle.sr_app.specs.declared.step.Count.{Count}
+use Rattle.sr_app.specs.declared.step.Count.TheVariants.{UpTo, Everything}
 use Rattle.sr_app.specs.Lines.{lines_of}
 
 -- the six lines with which a script opens its link
@@ -37,7 +37,7 @@ abbrev pub count_text : Count → List ℕ
 count_text (UpTo n) = decimal n
 count_text Everything = codes "*"
 
-abbrev pub line_of : Command → List ℕ
+abbrev pub line_of : Step → List ℕ
 line_of (Send target) = codes "c send " ++ message_text target
 line_of Write = codes "c write *"
 line_of (Read count) = codes "s read " ++ count_text count
@@ -46,24 +46,24 @@ abbrev pub IsCount : Count → Type 0
 IsCount (UpTo n) = n < 2 ^ 64
 IsCount Everything = Unit {0}
 
--- a command that has a line
-abbrev pub IsCommand : Command → Type 0
-IsCommand (Send target) = IsTarget target
-IsCommand Write = Unit {0}
-IsCommand (Read count) = IsCount count
+-- a step that has a line
+abbrev pub IsStep : Step → Type 0
+IsStep (Send target) = IsTarget target
+IsStep Write = Unit {0}
+IsStep (Read count) = IsCount count
 
-abbrev pub is_send : Command → Bool
+abbrev pub is_send : Step → Bool
 is_send (Send target) = true
 is_send Write = false
 is_send (Read count) = false
 
--- these lines are the opening, and then one line for each of these commands; at most 1,024 of them send
-pub record IsScript (lines : List (List ℕ)) (commands : List Command) : Type 0 where
-  pub spelled : lines ≡ opening ++ map line_of commands
-  pub each : All IsCommand commands
-  pub few : count_by is_send commands ≤ 1024
+-- these lines are the opening, and then one line for each of these steps; at most 1,024 of them send
+pub record IsScript (lines : List (List ℕ)) (steps : List Step) : Type 0 where
+  pub spelled : lines ≡ opening ++ map line_of steps
+  pub each : All IsStep steps
+  pub few : count_by is_send steps ≤ 1024
 
--- the text, of at most 16 MiB, is the script of these commands
-pub record Parses (text : List ℕ) (commands : List Command) : Type 0 where
+-- the text, of at most 16 MiB, is the script of these steps
+pub record Parses (text : List ℕ) (steps : List Step) : Type 0 where
   pub short : length text ≤ 16777216
-  pub script : IsScript (lines_of text) commands
+  pub script : IsScript (lines_of text) steps

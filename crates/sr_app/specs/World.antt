@@ -1,14 +1,14 @@
--- The two ends of one link, by the commands that drove them: whole lists of messages and bytes.
+-- The two ends of one link, by the steps that drove them: whole lists of messages and bytes.
 use Rattle.std.specs.Prelude.{ℕ, List, [], ◌∷◌, ◌++◌, length, take, drop, map, codes, None}
 use Rattle.hf_split.specs.declared.framing.Framing.TheVariants.{Record}
 use Rattle.hf_split.specs.Cuts.{wrapped, stream_of}
 use Rattle.hm_message.specs.declared.message.Message.{Message}
 use Rattle.hm_message.specs.declared.message.Message.TheVariants.{Invocation}
 use Rattle.hm_json.specs.Spell.{Spell}
-use Rattle.sr_app.specs.declared.command.Command.{Command}
-use Rattle.sr_app.specs.declared.command.Command.TheVariants.{Send, Write, Read}
-use Rattle.sr_app.specs.declared.command.Count.{Count}
-use Rattle.sr_app.specs.declared.command.Count.TheVariants.{UpTo, Everything}
+use Rattle.sr_app.specs.declared.step.Step.{Step}
+use Rattle.sr_app.specs.declared.step.Step.TheVariants.{Send, Write, Read}
+use Rattle.sr_app.specs.declared.step.Count.{Count}
+use Rattle.sr_app.specs.declared.step.Count.TheVariants.{UpTo, Everything}
 
 -- the client's handshake
 abbrev pub request : List ℕ
@@ -45,7 +45,7 @@ abbrev pub part_of : Count → List ℕ → List ℕ
 part_of (UpTo n) bytes = take n bytes
 part_of Everything bytes = bytes
 
-abbrev pub after : World → Command → World
+abbrev pub after : World → Step → World
 after w (Send target) = record w { sent = w.sent ++ invocation target ∷ [] }
 after w Write = record w { written = w.sent }
 after w (Read count) = record w { read = w.read ++ part_of count (drop (length w.read) (link w)) }
@@ -54,16 +54,16 @@ after w (Read count) = record w { read = w.read ++ part_of count (drop (length w
 abbrev pub opened : World
 opened = after (record { sent = []; written = []; read = [] }) (Read Everything)
 
-abbrev pub after_all : World → List Command → World
+abbrev pub after_all : World → List Step → World
 after_all w [] = w
-after_all w (command ∷ commands) = after_all (after w command) commands
+after_all w (step ∷ steps) = after_all (after w step) steps
 
 -- what a script comes to
-abbrev pub world_of : List Command → World
-world_of commands = after_all opened commands
+abbrev pub world_of : List Step → World
+world_of steps = after_all opened steps
 
 -- the messages that a script sends
-abbrev pub sent_by : List Command → List Message
+abbrev pub sent_by : List Step → List Message
 sent_by [] = []
-sent_by (Send target ∷ commands) = invocation target ∷ sent_by commands
-sent_by (_ ∷ commands) = sent_by commands
+sent_by (Send target ∷ steps) = invocation target ∷ sent_by steps
+sent_by (_ ∷ steps) = sent_by steps

@@ -6,13 +6,13 @@ ghost use Rattle.hd_facts.specs.Unique.{IsTheOne};
 ghost use Rattle.hm_message.specs.declared.message.Message.{Message};
 ghost use Rattle.hm_json.specs.Says.{Says};
 ghost use Rattle.hm_json.specs.Spell.{Spell};
-ghost use Rattle.sr_app.specs.Script.{IsCommand, IsTarget};
+ghost use Rattle.sr_app.specs.Script.{IsStep, IsTarget};
 ghost use Rattle.sr_app.specs.World.{World, invocation, client_frames, written_of, opened, after, part_of};
-ghost use Rattle.sr_app.specs.Report.{shaken_lines, sent_line, got_line, command_line, IsReportOf};
+ghost use Rattle.sr_app.specs.Report.{shaken_lines, sent_line, got_line, step_line, IsReportOf};
 ghost use Rattle.sr_app.specs.Follows.{IsShort, IsReader, IsFront, IsReading, IsRunning, Waits, Takes, Follows, Moves, items_of};
 
-use crate::command::{Command, Count};
 use crate::report::{push_client, push_got, push_sent, push_server};
+use crate::step::{Count, Step};
 use hf_split::{Framing, Splitter, wrap};
 use hm_json::{Refusal, read_message, write_message};
 use hm_message::{Headers, Message, Read};
@@ -197,18 +197,18 @@ impl Pair {
         })
     }
 
-    /// Does what a command says.
-    fn run_command(&mut self, alloc: Global, command: &Command) -> Result<(), AllocError>
+    /// Does what a step says.
+    fn run_step(&mut self, alloc: Global, step: &Step) -> Result<(), AllocError>
         requires running { IsRunning self.old }
-        requires command { IsCommand command.now }
+        requires step { IsStep step.now }
         requires few { self.old.sent < 2 ^ 64 - 1 }
         ensures { OnOk result ((w : World) (got : List Message) → Follows self.old w got →
-            Moves self.old self.new (after w command.now) got (command_line (after w command.now).sent command.now)) }
+            Moves self.old self.new (after w step.now) got (step_line (after w step.now).sent step.now)) }
     {
-        match command {
-            Command::Send(target) => self.send(alloc, target),
-            Command::Write => self.write(),
-            Command::Read(count) => self.read_part(alloc, *count),
+        match step {
+            Step::Send(target) => self.send(alloc, target),
+            Step::Write => self.write(),
+            Step::Read(count) => self.read_part(alloc, *count),
         }
     }
 
@@ -217,7 +217,7 @@ impl Pair {
         requires target { IsTarget target.now }
         requires few { self.old.sent < 2 ^ 64 - 1 }
         ensures { OnOk result ((w : World) (got : List Message) → Follows self.old w got →
-            Moves self.old self.new (after w (Command.Send target.now)) got (sent_line (length (w.sent ++ invocation target.now ∷ [])))) }
+            Moves self.old self.new (after w (Step.Send target.now)) got (sent_line (length (w.sent ++ invocation target.now ∷ [])))) }
     {
         let frame = invocation_frame(alloc, target)?;
         wrap(Framing::Record, &frame, &mut self.waiting)?;
@@ -228,7 +228,7 @@ impl Pair {
     /// Writes what was sent onto the link.
     fn write(&mut self) -> Result<(), AllocError>
         ensures { OnOk result ((w : World) (got : List Message) → Follows self.old w got →
-            Moves self.old self.new (after w Command.Write) got []) }
+            Moves self.old self.new (after w Step.Write) got []) }
     {
         self.link.append(&mut self.waiting)?;
         Ok(())
@@ -238,7 +238,7 @@ impl Pair {
     fn read_part(&mut self, alloc: Global, count: Count) -> Result<(), AllocError>
         requires running { IsRunning self.old }
         ensures { OnOk result ((w : World) (got : List Message) → Follows self.old w got →
-            Moves self.old self.new (after w (Command.Read count)) got []) }
+            Moves self.old self.new (after w (Step.Read count)) got []) }
     {
         let end = self.read + amount(count, self.link.len() - self.read);
         self.processed = read_link(
@@ -254,14 +254,14 @@ impl Pair {
     }
 }
 
-/// The report of the commands of a script.
-pub(crate) fn replay(alloc: Global, commands: &[Command]) -> Result<Vec<u8>, AllocError>
-    requires { All IsCommand commands.now }
-    ensures { IfOk result (λ text. IsTheOne (IsReportOf commands.now) text.items) }
+/// The report of the steps of a script.
+pub(crate) fn replay(alloc: Global, steps: &[Step]) -> Result<Vec<u8>, AllocError>
+    requires { All IsStep steps.now }
+    ensures { IfOk result (λ text. IsTheOne (IsReportOf steps.now) text.items) }
 {
     let mut pair = Pair::open(alloc)?;
-    for command in commands {
-        pair.run_command(alloc, command)?;
+    for step in steps {
+        pair.run_step(alloc, step)?;
     }
     let mut report = pair.report;
     push_client(alloc, &mut report, pair.sent)?;

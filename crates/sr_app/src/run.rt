@@ -7,10 +7,10 @@ ghost use Rattle.sr_words.specs.Words.{Asks, IsNoCommand};
 ghost use Rattle.sr_app.specs.Run.{IsReplayed, IsRefused, IsTextAnswer, AnswersWith, DoneMeans, RefusedMeans, PartMeans, BegunMeans, ReadMeans, WritesFor, WritesPartFor, WritesOfReadFor, ReadsBounded, ReadsWithin, usage_line};
 
 use crate::pair::replay;
-use crate::script::{MOST_BYTES, ScriptError, parse};
+use crate::script::{self, MOST_BYTES, ScriptError};
 use hw_io::{Failed, Sink, Source};
 use sr_check::{Stop, Task};
-use sr_words::{Asked, WordsError, asked};
+use sr_words::{Command, WordsError};
 use std::alloc::{AllocError, Global};
 
 const USAGE: &[u8] = b"usage: sr replay, soak, serve, client, check or convert\n";
@@ -78,8 +78,8 @@ fn write<K: Sink>(out: &mut K, bytes: &[u8], status: Status) -> Status
 fn answer(alloc: Global, text: &[u8]) -> Result<(Vec<u8>, Status), AllocError>
     ensures { IfOk result (λ a. AnswersWith a.1 text.now a.0.items) }
 {
-    match parse(alloc, text) {
-        Ok(commands) => Ok((replay(alloc, &commands)?, Status::Done)),
+    match script::parse(alloc, text) {
+        Ok(steps) => Ok((replay(alloc, &steps)?, Status::Done)),
         Err(ScriptError::Line(number)) => {
             let line = format!(in alloc; "line {number} refused\n")?;
             Ok((line.into_bytes(), Status::Refused))
@@ -145,22 +145,27 @@ fn run_task<S: Source, K: Sink>(alloc: Global, task: Task, input: &mut S, out: &
 }
 
 /// Carries out a command.
-fn carry_out<S: Source, K: Sink>(alloc: Global, asked: Asked, input: &mut S, out: &mut K) -> Status
-    ensures done { result ≡ Status.Done → IsAtEnd (S.left input.new) × Writes (DoneMeans asked) (S.left input.old) (K.holds out.old) (K.holds out.new) }
+fn carry_out<S: Source, K: Sink>(
+    alloc: Global,
+    command: Command,
+    input: &mut S,
+    out: &mut K,
+) -> Status
+    ensures done { result ≡ Status.Done → IsAtEnd (S.left input.new) × Writes (DoneMeans command) (S.left input.old) (K.holds out.old) (K.holds out.new) }
     ensures usage { result ≢ Status.Usage }
-    ensures refused { result ≡ Status.Refused → Writes (RefusedMeans asked) (S.left input.old) (K.holds out.old) (K.holds out.new) }
+    ensures refused { result ≡ Status.Refused → Writes (RefusedMeans command) (S.left input.old) (K.holds out.old) (K.holds out.new) }
     ensures read_fault { result ≡ Status.ReadFault → Rose (S.faults input.old) (S.faults input.new)
-        × WritesOfRead (ReadMeans asked) (S.left input.old) (S.left input.new) (K.holds out.old) (K.holds out.new) }
+        × WritesOfRead (ReadMeans command) (S.left input.old) (S.left input.new) (K.holds out.old) (K.holds out.new) }
     ensures write_fault { result ≡ Status.WriteFault → Rose (K.faults out.old) (K.faults out.new)
-        × WritesPart (PartMeans asked) (S.left input.old) (K.holds out.old) (K.holds out.new) }
-    ensures no_memory { result ≡ Status.NoMemory → Writes (BegunMeans asked) (S.left input.old) (K.holds out.old) (K.holds out.new) }
-    ensures untouched { asked ≡ Asked.Replay → (result ≡ Status.ReadFault) ⊎ (result ≡ Status.NoMemory) → out.new ≡ out.old }
-    ensures within { ReadsWithin asked (S.left input.old) (S.left input.new) }
+        × WritesPart (PartMeans command) (S.left input.old) (K.holds out.old) (K.holds out.new) }
+    ensures no_memory { result ≡ Status.NoMemory → Writes (BegunMeans command) (S.left input.old) (K.holds out.old) (K.holds out.new) }
+    ensures untouched { command ≡ Command.Replay → (result ≡ Status.ReadFault) ⊎ (result ≡ Status.NoMemory) → out.new ≡ out.old }
+    ensures within { ReadsWithin command (S.left input.old) (S.left input.new) }
 {
-    match asked {
-        Asked::Replay => run_replay(alloc, input, out),
-        Asked::Check { codec } => run_task(alloc, Task::Check { codec }, input, out),
-        Asked::Convert { from, to } => run_task(alloc, Task::Convert { from, to }, input, out),
+    match command {
+        Command::Replay => run_replay(alloc, input, out),
+        Command::Check { codec } => run_task(alloc, Task::Check { codec }, input, out),
+        Command::Convert { from, to } => run_task(alloc, Task::Convert { from, to }, input, out),
     }
 }
 
@@ -185,13 +190,13 @@ pub fn run<S: Source, K: Sink>(alloc: Global, words: &[String], input: &mut S, o
     ensures write_fault { result ≡ 4 → Rose (K.faults out.old) (K.faults out.new)
         × WritesPartFor words.now (S.left input.old) (K.holds out.old) (K.holds out.new) }
     ensures no_memory { result ≡ 7 → (out.new ≡ out.old) ⊎ WritesFor BegunMeans words.now (S.left input.old) (K.holds out.old) (K.holds out.new) }
-    ensures untouched { Asks words.now Asked.Replay → (result ≡ 3) ⊎ (result ≡ 7) → out.new ≡ out.old }
-    ensures within { (command : Asked) → Asks words.now command → ReadsWithin command (S.left input.old) (S.left input.new) }
+    ensures untouched { Asks words.now Command.Replay → (result ≡ 3) ⊎ (result ≡ 7) → out.new ≡ out.old }
+    ensures within { (command : Command) → Asks words.now command → ReadsWithin command (S.left input.old) (S.left input.new) }
     ensures unread { IsNoCommand words.now → input.new ≡ input.old }
 {
-    match asked(alloc, words) {
+    match sr_words::parse(alloc, words) {
         Ok(command) => carry_out(alloc, command, input, out) as u8,
-        Err(WordsError::NotACommand) => write(out, USAGE, Status::Usage) as u8,
+        Err(WordsError::NoCommand) => write(out, USAGE, Status::Usage) as u8,
         Err(WordsError::NoMemory) => Status::NoMemory as u8,
     }
 }

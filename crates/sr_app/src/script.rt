@@ -1,13 +1,13 @@
 ghost use Rattle.std.specs.Prelude.{◌≡◌, ◌<◌, ◌≤◌, ◌+◌, ◌^◌, ◌↔◌, ℕ, List, [], ◌∷◌, ◌++◌, IsTrue, IfOk, IfErr, IfSome, IfNone, OnOk, length, suc, slice_get, if◌then◌else◌};
 ghost use Rattle.std.specs.Option.{option_copied};
 ghost use Rattle.std.specs.Fmt.{decimal};
-ghost use Rattle.sr_app.specs.declared.command.Command.{Command};
+ghost use Rattle.sr_app.specs.declared.step.Step.{Step};
 ghost use Rattle.sr_app.specs.declared.script.ScriptError.TheVariants.{NoMemory};
 ghost use Rattle.hd_facts.specs.Unique.{IsTheOne};
-ghost use Rattle.sr_app.specs.Script.{IsTarget, IsCount, IsCommand, Parses, opening, message_text, count_text, line_of, is_send};
+ghost use Rattle.sr_app.specs.Script.{IsTarget, IsCount, IsStep, Parses, opening, message_text, count_text, line_of, is_send};
 ghost use Rattle.sr_app.specs.Reading.{HasRead, IsNoLine, IsLineEnd, RefusesNext, RefusesText};
 
-use crate::command::{Command, Count};
+use crate::step::{Count, Step};
 use hv_value::Text;
 use std::alloc::{AllocError, AllocFailed, Global};
 
@@ -110,23 +110,23 @@ fn parse_count(alloc: Global, bytes: &[u8]) -> Result<Option<Count>, AllocError>
     Ok(parse_number(alloc, bytes)?.map(Count::UpTo))
 }
 
-/// The command of a line.
-fn parse_line(alloc: Global, line: &[u8]) -> Result<Option<Command>, AllocError>
-    ensures found { IfOk result (λ r. IfSome r (λ command. (line.now ≡ line_of command) × IsCommand command)) }
+/// The step of a line.
+fn parse_line(alloc: Global, line: &[u8]) -> Result<Option<Step>, AllocError>
+    ensures found { IfOk result (λ r. IfSome r (λ step. (line.now ≡ line_of step) × IsStep step)) }
     ensures none { IfOk result (λ r. IfNone r (IsNoLine line.now)) }
 {
     if line == b"c write *".as_slice() {
-        return Ok(Some(Command::Write));
+        return Ok(Some(Step::Write));
     }
     if let Some(count) = line.strip_prefix(b"s read ") {
         return match parse_count(alloc, count)? {
-            Some(count) => Ok(Some(Command::Read(count))),
+            Some(count) => Ok(Some(Step::Read(count))),
             None => Ok(None),
         };
     }
     if let Some(message) = line.strip_prefix(b"c send ") {
         return match parse_target(alloc, message)? {
-            Some(target) => Ok(Some(Command::Send(target))),
+            Some(target) => Ok(Some(Step::Send(target))),
             None => Ok(None),
         };
     }
@@ -148,15 +148,15 @@ fn opening_line(done: usize) -> Option<&'static [u8]>
     }
 }
 
-/// How many messages are sent with this command, where it isn't one too many.
-fn count_send(sends: u64, command: &Command) -> Option<u64>
+/// How many messages are sent with this step, where it isn't one too many.
+fn count_send(sends: u64, step: &Step) -> Option<u64>
     requires { sends ≤ 1024 }
-    ensures counted { IfSome result (λ n. (n ≡ sends + (if is_send command.now then 1 else 0)) × (n ≤ 1024)) }
-    ensures one_too_many { IfNone result (1025 ≤ sends + (if is_send command.now then 1 else 0)) }
+    ensures counted { IfSome result (λ n. (n ≡ sends + (if is_send step.now then 1 else 0)) × (n ≤ 1024)) }
+    ensures one_too_many { IfNone result (1025 ≤ sends + (if is_send step.now then 1 else 0)) }
 {
-    match command {
-        Command::Send(_) if sends == MOST_SENDS => None,
-        Command::Send(_) => Some(sends + 1),
+    match step {
+        Step::Send(_) if sends == MOST_SENDS => None,
+        Step::Send(_) => Some(sends + 1),
         _ => Some(sends),
     }
 }
@@ -178,9 +178,9 @@ fn line_end(text: &[u8]) -> usize
 struct Reader {
     // how many of the opening lines were read
     opened: usize,
-    // how many of the commands send
+    // how many of the steps send
     sends: u64,
-    commands: Vec<Command>,
+    steps: Vec<Step>,
 }
 
 impl Reader {
@@ -191,7 +191,7 @@ impl Reader {
         Reader {
             opened: 0,
             sends: 0,
-            commands: Vec::new(alloc),
+            steps: Vec::new(alloc),
         }
     }
 
@@ -200,7 +200,7 @@ impl Reader {
         requires { (lines : List (List ℕ)) × HasRead self.now lines }
         ensures { (lines : List (List ℕ)) → HasRead self.now lines → result ≡ suc (length lines) }
     {
-        (self.opened + self.commands.len() + 1) as u64
+        (self.opened + self.steps.len() + 1) as u64
     }
 
     /// Reads a line.
@@ -210,7 +210,7 @@ impl Reader {
         ensures refused { IfErr result (λ e. (lines : List (List ℕ)) → HasRead self.old lines → RefusesNext e lines line.now) }
     {
         let Some(wanted) = opening_line(self.opened) else {
-            return self.command(alloc, line);
+            return self.step(alloc, line);
         };
         if wanted != line {
             return Err(ScriptError::Line(self.number()));
@@ -219,29 +219,29 @@ impl Reader {
         Ok(())
     }
 
-    /// Reads the line of a command.
-    fn command(&mut self, alloc: Global, line: &[u8]) -> Result<(), ScriptError>
+    /// Reads the line of a step.
+    fn step(&mut self, alloc: Global, line: &[u8]) -> Result<(), ScriptError>
         requires read { (lines : List (List ℕ)) × HasRead self.old lines }
         requires opened { self.old.opened ≡ 6 }
         ensures ok { OnOk result ((lines : List (List ℕ)) → HasRead self.old lines → HasRead self.new (lines ++ line.now ∷ [])) }
         ensures refused { IfErr result (λ e. (lines : List (List ℕ)) → HasRead self.old lines → RefusesNext e lines line.now) }
     {
         let number = self.number();
-        let Some(command) = parse_line(alloc, line)? else {
+        let Some(step) = parse_line(alloc, line)? else {
             return Err(ScriptError::Line(number));
         };
-        let Some(sends) = count_send(self.sends, &command) else {
+        let Some(sends) = count_send(self.sends, &step) else {
             return Err(ScriptError::Line(number));
         };
-        self.commands.push(command)?;
+        self.steps.push(step)?;
         self.sends = sends;
         Ok(())
     }
 }
 
-/// The commands of a script. A line with the byte 16,777,217 isn't one of a script.
-pub fn parse(alloc: Global, text: &[u8]) -> Result<Vec<Command>, ScriptError>
-    ensures ok { IfOk result (λ commands. IsTheOne (Parses text.now) commands.items) }
+/// The steps of a script. A line with the byte 16,777,217 isn't one of a script.
+pub fn parse(alloc: Global, text: &[u8]) -> Result<Vec<Step>, ScriptError>
+    ensures ok { IfOk result (λ steps. IsTheOne (Parses text.now) steps.items) }
     ensures refused { IfErr result (λ e. RefusesText e text.now) }
 {
     let mut reader = Reader::start(alloc);
@@ -258,5 +258,5 @@ pub fn parse(alloc: Global, text: &[u8]) -> Result<Vec<Command>, ScriptError>
     if opening_line(reader.opened).is_some() {
         return Err(ScriptError::Line(reader.number()));
     }
-    Ok(reader.commands)
+    Ok(reader.steps)
 }

@@ -4,8 +4,8 @@ use Rattle.std.specs.declared.alloc.Global.{Global}
 use Rattle.clap.specs.Words.{App, Text, with_rule}
 use Rattle.hm_message.specs.declared.message.Codec.{Codec}
 use Rattle.hm_message.specs.declared.message.Codec.TheVariants.{Json, Pack}
-use Rattle.sr_words.specs.declared.commands.Asked.{Asked}
-use Rattle.sr_words.specs.declared.commands.Asked.TheVariants.{Replay, Check, Convert}
+use Rattle.sr_words.specs.declared.commands.Command.{Command}
+use Rattle.sr_words.specs.declared.commands.Command.TheVariants.{Replay, Check, Convert}
 use Rattle.sr_words.specs.Clap.{Gives, Takes, bare_app, required}
 
 abbrev pub codec_name : Codec → Text
@@ -23,7 +23,7 @@ abbrev pub convert_app : App
 convert_app = with_rule (with_rule (bare_app (codes "convert")) (required (codes "from"))) (required (codes "to"))
 
 -- the command of this name, with these words after it, asks for this
-abbrev pub AsksAfter : Text → List Text → Asked → Type 0
+abbrev pub AsksAfter : Text → List Text → Command → Type 0
 AsksAfter name rest Replay = (name ≡ codes "replay") × Takes replay_app rest
 AsksAfter name rest (Check codec) =
     (name ≡ codes "check") × Takes check_app rest × Gives check_app rest (codes "codec") (codec_name codec)
@@ -32,14 +32,14 @@ AsksAfter name rest (Convert from to) =
     × Gives convert_app rest (codes "to") (codec_name to) × (from ≢ to)
 
 abbrev pub AsksNothingAfter : Text → List Text → Type 0
-AsksNothingAfter name rest = (asked : Asked) → AsksAfter name rest asked → ⊥
+AsksNothingAfter name rest = (command : Command) → AsksAfter name rest command → ⊥
 
 abbrev pub texts : List (String Global) → List Text
 texts = map string_bytes
 
 -- the words of the command line, without the program's name, ask for this
-abbrev pub Asks : List (String Global) → Asked → Type 0
-Asks words asked = (name : Text) × (rest : List Text) × (texts words ≡ name ∷ rest) × AsksAfter name rest asked
+abbrev pub Asks : List (String Global) → Command → Type 0
+Asks words command = (name : Text) × (rest : List Text) × (texts words ≡ name ∷ rest) × AsksAfter name rest command
 
 abbrev pub IsNoCommand : List (String Global) → Type 0
-IsNoCommand words = (asked : Asked) → Asks words asked → ⊥
+IsNoCommand words = (command : Command) → Asks words command → ⊥

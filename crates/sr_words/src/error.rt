@@ -1,3 +1,5 @@
+//! Why words are no command, and which of clap's errors say so.
+
 ghost use Rattle.std.specs.Prelude.{◌≡◌};
 ghost use Rattle.sr_words.specs.Errors.{of_kind};
 ghost use Rattle.sr_words.specs.declared.error.WordsError.TheVariants.{NoMemory};
@@ -6,14 +8,27 @@ ghost use Rattle.clap.specs.Words.{kind_of};
 use clap::Error;
 use clap::error::ErrorKind;
 use std::alloc::AllocError;
+use std::fmt;
 
-/// Why words ask for nothing.
+/// Why no command was read from the words.
 #[derive(Clone, Copy, Debug, PartialEq, Eq)]
 pub enum WordsError {
-    NotACommand,
-    /// Memory ran out; this says nothing of the words.
+    /// The words are no command.
+    NoCommand,
+    /// Memory ran out, which says nothing of the words.
     NoMemory,
 }
+
+impl fmt::Display for WordsError {
+    fn fmt<W: fmt::Write>(&self, f: &mut fmt::Formatter<W>) -> fmt::Result {
+        match self {
+            WordsError::NoCommand => write!(f, "the words are no command"),
+            WordsError::NoMemory => write!(f, "out of memory"),
+        }
+    }
+}
+
+impl std::error::Error for WordsError {}
 
 impl From<AllocError> for WordsError {
     ghost from_gives = { λ _ e. e ≡ NoMemory };
@@ -29,7 +44,7 @@ impl From<Error> for WordsError {
     fn from(e: Error) -> WordsError {
         match e.kind() {
             ErrorKind::OutOfMemory => WordsError::NoMemory,
-            _ => WordsError::NotACommand,
+            _ => WordsError::NoCommand,
         }
     }
 }

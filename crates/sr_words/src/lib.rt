@@ -1,13 +1,16 @@
-//! What the words of the command line ask for.
+//! What the words of the command line ask for: `parse` makes a `Command` of them, or says that they are none.
+//!
+//! `clap` reads the words that follow a command's name. The contract says which words ask for which command in terms of
+//! `clap`'s own specification, and that they ask for one command at most. This crate doesn't know what a command does.
 #![tactic(auto)]
 
 mod commands;
 mod error;
 mod words;
 
-pub use commands::Asked;
+pub use commands::Command;
 pub use error::WordsError;
-pub use words::asked;
+pub use words::parse;
 
 #[cfg(test)]
 mod tests;

@@ -7,7 +7,7 @@ const JSON: Codec = Codec::Json;
 
 const PACK: Codec = Codec::Pack;
 
-const NONE: Result<Asked, WordsError> = Err(WordsError::NotACommand);
+const NONE: Result<Command, WordsError> = Err(WordsError::NoCommand);
 
 fn owned(alloc: Global, words: &[&str]) -> Result<Vec<String>, AllocError> {
     let mut owned = Vec::new(alloc);
@@ -21,17 +21,17 @@ fn owned(alloc: Global, words: &[&str]) -> Result<Vec<String>, AllocError> {
 /// conventions of POSIX and GNU, as `clap` keeps them). No command has an option.
 #[test]
 fn words_ask(rt: HostRuntime) -> Result<(), Fail> {
-    let cases: [(&[&str], Result<Asked, WordsError>); 31] = [
-        (&["replay"], Ok(Asked::Replay)),
-        (&["replay", "--"], Ok(Asked::Replay)),
+    let cases: [(&[&str], Result<Command, WordsError>); 31] = [
+        (&["replay"], Ok(Command::Replay)),
+        (&["replay", "--"], Ok(Command::Replay)),
         (&["replay", "x"], NONE),
         (&["replay", ""], NONE),
         (&["replay", "--", "x"], NONE),
         (&["replay", "--help"], NONE),
-        (&["check", "json"], Ok(Asked::Check { codec: JSON })),
-        (&["check", "pack"], Ok(Asked::Check { codec: PACK })),
-        (&["check", "--", "json"], Ok(Asked::Check { codec: JSON })),
-        (&["check", "json", "--"], Ok(Asked::Check { codec: JSON })),
+        (&["check", "json"], Ok(Command::Check { codec: JSON })),
+        (&["check", "pack"], Ok(Command::Check { codec: PACK })),
+        (&["check", "--", "json"], Ok(Command::Check { codec: JSON })),
+        (&["check", "json", "--"], Ok(Command::Check { codec: JSON })),
         (&["check"], NONE),
         (&["check", "--"], NONE),
         (&["check", "json", "pack"], NONE),
@@ -44,14 +44,14 @@ fn words_ask(rt: HostRuntime) -> Result<(), Fail> {
         (&["check", "--codec", "json"], NONE),
         (
             &["convert", "json", "pack"],
-            Ok(Asked::Convert {
+            Ok(Command::Convert {
                 from: JSON,
                 to: PACK,
             }),
         ),
         (
             &["convert", "pack", "json"],
-            Ok(Asked::Convert {
+            Ok(Command::Convert {
                 from: PACK,
                 to: JSON,
             }),
@@ -68,7 +68,7 @@ fn words_ask(rt: HostRuntime) -> Result<(), Fail> {
     ];
     for (words, wanted) in cases {
         assert!(rt;
-            asked(rt.alloc(), &owned(rt.alloc(), words)?) == wanted,
+            parse(rt.alloc(), &owned(rt.alloc(), words)?) == wanted,
             "{words:?}"
         );
     }

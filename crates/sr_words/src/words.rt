@@ -1,3 +1,5 @@
+//! What the words of a command line ask for, command by command.
+
 ghost use Rattle.std.specs.Prelude.{◌≡◌, Err, IfOk, IfErr, Some, true, false, codes};
 ghost use Rattle.clap.specs.Words.{app_of, rule_of, first_of, found_of, is_simple_and_free, matches_of, rows_of};
 ghost use Rattle.hd_facts.specs.Unique.{IsTheOne};
@@ -5,23 +7,23 @@ ghost use Rattle.sr_words.specs.Clap.{Takes, bare_app, required};
 ghost use Rattle.sr_words.specs.Words.{Asks, AsksAfter, AsksNothingAfter, IsNoCommand, check_app, codec_name, convert_app, replay_app, texts};
 ghost use Rattle.hm_message.specs.declared.message.Codec.{Codec};
 
-use crate::commands::Asked;
+use crate::commands::Command;
 use crate::error::WordsError;
-use clap::{Arg, ArgAction, ArgMatches, Command};
+use clap::{Arg, ArgAction, ArgMatches};
 use hm_message::Codec;
 use std::alloc::{AllocError, Global};
 
 /// A command whose words begin with its arguments, and that has none of clap's own.
-fn bare<'a>(alloc: Global, name: &'a str) -> Command<'a>
+fn bare<'a>(alloc: Global, name: &'a str) -> clap::Command<'a>
     ensures { app_of result ≡ bare_app name.now }
 {
-    Command::new(alloc, name)
+    clap::Command::new(alloc, name)
         .disable_help_flag(true)
         .disable_version_flag(true)
         .no_binary_name(true)
 }
 
-/// An argument of one value that must be there.
+/// A required argument of one value.
 fn required<'a>(alloc: Global, id: &'a str) -> Arg<'a>
     ensures rule { rule_of result ≡ required id.now }
     ensures local { result.global ≡ false }
@@ -30,11 +32,14 @@ fn required<'a>(alloc: Global, id: &'a str) -> Arg<'a>
 }
 
 /// What clap makes of these words.
-fn parse<'a>(command: Command<'a>, words: &'a [String]) -> Result<ArgMatches<'a>, WordsError>
+fn matches_in<'a>(
+    command: clap::Command<'a>,
+    words: &'a [String],
+) -> Result<ArgMatches<'a>, WordsError>
     requires { is_simple_and_free (app_of command) ≡ true }
     ensures taken { IfOk result (λ m. Takes (app_of command.entry) (texts words.now)) }
     ensures rows { IfOk result (λ m. rows_of (found_of m) ≡ matches_of (app_of command.entry) (texts words.now)) }
-    ensures refused { result ≡ Err WordsError.NotACommand → Takes (app_of command.entry) (texts words.now) → ⊥ }
+    ensures refused { result ≡ Err WordsError.NoCommand → Takes (app_of command.entry) (texts words.now) → ⊥ }
 {
     Ok(command.try_get_matches_from(words)?)
 }
@@ -42,51 +47,51 @@ fn parse<'a>(command: Command<'a>, words: &'a [String]) -> Result<ArgMatches<'a>
 /// The codec that this argument names.
 fn codec(matches: &ArgMatches, id: &str) -> Result<Codec, WordsError>
     ensures named { IfOk result (λ codec. first_of id.now (rows_of (found_of matches.now)) ≡ Some (codec_name codec)) }
-    ensures none { IfErr result (λ e. (e ≡ WordsError.NotACommand)
+    ensures none { IfErr result (λ e. (e ≡ WordsError.NoCommand)
         × ((codec : Codec) → first_of id.now (rows_of (found_of matches.now)) ≡ Some (codec_name codec) → ⊥)) }
 {
     match matches.get_str(id) {
         Some("json") => Ok(Codec::Json),
         Some("pack") => Ok(Codec::Pack),
-        _ => Err(WordsError::NotACommand),
+        _ => Err(WordsError::NoCommand),
     }
 }
 
 /// The command `replay`, which has no arguments.
-fn replay_command<'a>(alloc: Global) -> Command<'a>
+fn replay_command<'a>(alloc: Global) -> clap::Command<'a>
     ensures { app_of result ≡ replay_app }
 {
     bare(alloc, "replay")
 }
 
 /// What `replay` asks for with these words after it.
-fn replay_words(alloc: Global, words: &[String]) -> Result<Asked, WordsError>
-    ensures asked { IfOk result (IsTheOne (AsksAfter (codes "replay") (texts words.now))) }
-    ensures none { result ≡ Err WordsError.NotACommand → AsksNothingAfter (codes "replay") (texts words.now) }
+fn replay_words(alloc: Global, words: &[String]) -> Result<Command, WordsError>
+    ensures ok { IfOk result (IsTheOne (AsksAfter (codes "replay") (texts words.now))) }
+    ensures no_command { result ≡ Err WordsError.NoCommand → AsksNothingAfter (codes "replay") (texts words.now) }
 {
-    parse(replay_command(alloc), words)?;
-    Ok(Asked::Replay)
+    matches_in(replay_command(alloc), words)?;
+    Ok(Command::Replay)
 }
 
 /// The command `check CODEC`.
-fn check_command<'a>(alloc: Global) -> Result<Command<'a>, AllocError>
+fn check_command<'a>(alloc: Global) -> Result<clap::Command<'a>, AllocError>
     ensures { IfOk result (λ command. app_of command ≡ check_app) }
 {
     bare(alloc, "check").arg(required(alloc, "codec"))
 }
 
 /// What `check` asks for with these words after it.
-fn check_words(alloc: Global, words: &[String]) -> Result<Asked, WordsError>
-    ensures asked { IfOk result (IsTheOne (AsksAfter (codes "check") (texts words.now))) }
-    ensures none { result ≡ Err WordsError.NotACommand → AsksNothingAfter (codes "check") (texts words.now) }
+fn check_words(alloc: Global, words: &[String]) -> Result<Command, WordsError>
+    ensures ok { IfOk result (IsTheOne (AsksAfter (codes "check") (texts words.now))) }
+    ensures no_command { result ≡ Err WordsError.NoCommand → AsksNothingAfter (codes "check") (texts words.now) }
 {
-    let matches = parse(check_command(alloc)?, words)?;
+    let matches = matches_in(check_command(alloc)?, words)?;
     let codec = codec(&matches, "codec")?;
-    Ok(Asked::Check { codec })
+    Ok(Command::Check { codec })
 }
 
 /// The command `convert FROM TO`.
-fn convert_command<'a>(alloc: Global) -> Result<Command<'a>, AllocError>
+fn convert_command<'a>(alloc: Global) -> Result<clap::Command<'a>, AllocError>
     ensures { IfOk result (λ command. app_of command ≡ convert_app) }
 {
     let command = bare(alloc, "convert").arg(required(alloc, "from"))?;
@@ -94,37 +99,36 @@ fn convert_command<'a>(alloc: Global) -> Result<Command<'a>, AllocError>
 }
 
 /// What `convert` asks for with these words after it.
-fn convert_words(alloc: Global, words: &[String]) -> Result<Asked, WordsError>
-    ensures asked { IfOk result (IsTheOne (AsksAfter (codes "convert") (texts words.now))) }
-    ensures none { result ≡ Err WordsError.NotACommand → AsksNothingAfter (codes "convert") (texts words.now) }
+fn convert_words(alloc: Global, words: &[String]) -> Result<Command, WordsError>
+    ensures ok { IfOk result (IsTheOne (AsksAfter (codes "convert") (texts words.now))) }
+    ensures no_command { result ≡ Err WordsError.NoCommand → AsksNothingAfter (codes "convert") (texts words.now) }
 {
-    let matches = parse(convert_command(alloc)?, words)?;
+    let matches = matches_in(convert_command(alloc)?, words)?;
     let from = codec(&matches, "from")?;
     let to = codec(&matches, "to")?;
     if from == to {
-        return Err(WordsError::NotACommand);
+        return Err(WordsError::NoCommand);
     }
-    Ok(Asked::Convert { from, to })
+    Ok(Command::Convert { from, to })
 }
 
-/// What these words ask for, which are those of the command line without the program's name.
+/// The command that the words of a command line ask for, without the program's name among them.
 ///
 /// # Errors
 ///
-/// `NotACommand` where they ask for nothing: where the first is none of the names, the words after
-/// it are none that its command takes, or they ask to convert from a codec to itself. `NoMemory`
-/// where memory ran out, which says nothing of the words.
-pub fn asked(alloc: Global, words: &[String]) -> Result<Asked, WordsError>
-    ensures asked { IfOk result (IsTheOne (Asks words.now)) }
-    ensures none { result ≡ Err WordsError.NotACommand → IsNoCommand words.now }
+/// `NoCommand` if they ask for none: the first is no command's name, the words after it are none that the command
+/// takes, or they ask to convert from a codec to itself. `NoMemory` if memory ran out, which says nothing of the words.
+pub fn parse(alloc: Global, words: &[String]) -> Result<Command, WordsError>
+    ensures ok { IfOk result (IsTheOne (Asks words.now)) }
+    ensures no_command { result ≡ Err WordsError.NoCommand → IsNoCommand words.now }
 {
     let [name, rest @ ..] = words else {
-        return Err(WordsError::NotACommand);
+        return Err(WordsError::NoCommand);
     };
     match name.as_str() {
         "replay" => replay_words(alloc, rest),
         "check" => check_words(alloc, rest),
         "convert" => convert_words(alloc, rest),
-        _ => Err(WordsError::NotACommand),
+        _ => Err(WordsError::NoCommand),
     }
 }

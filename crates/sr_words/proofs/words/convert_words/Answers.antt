@@ -1,8 +1,8 @@
 use Rattle.std.proofs.Common.{◌≡◌, ◌≢◌, ◌∙◌, List, Some, codes, ap, ap₂, refl, sym, subst, rules}
 use Rattle.clap.specs.Words.{App, Row, Text, first_of, matches_of}
 use Rattle.hm_message.specs.declared.message.Codec.{Codec}
-use Rattle.sr_words.specs.declared.commands.Asked.{Asked}
-use Rattle.sr_words.specs.declared.commands.Asked.TheVariants.{Replay, Check, Convert}
+use Rattle.sr_words.specs.declared.commands.Command.{Command}
+use Rattle.sr_words.specs.declared.commands.Command.TheVariants.{Replay, Check, Convert}
 use Rattle.hd_facts.specs.Unique.{IsTheOne}
 use Rattle.sr_words.specs.Clap.{Gives, Takes}
 use Rattle.sr_words.specs.Words.{AsksAfter, codec_name, convert_app, texts}
@@ -13,7 +13,7 @@ the_one : (rest : List Text) (from to : Codec) → Takes convert_app rest → Gi
     → Gives convert_app rest (codes "to") (codec_name to) → from ≢ to → IsTheOne (AsksAfter (codes "convert") rest) (Convert from to)
 the_one rest from to takes from_is to_is differ = record { holds = (refl, takes, from_is, to_is, differ); only = only }
   where
-    only : (other : Asked) → AsksAfter (codes "convert") rest other → other ≡ Convert from to
+    only : (other : Command) → AsksAfter (codes "convert") rest other → other ≡ Convert from to
     only Replay asks = absurd (apart (codes "convert") (codes "replay") refl asks.0)
     only (Check codec) asks = absurd (apart (codes "convert") (codes "check") refl asks.0)
     only (Convert a b) asks = ap₂ Convert (same_codec a from (sym asks.2 ∙ from_is)) (same_codec b to (sym asks.3 ∙ to_is))
@@ -22,8 +22,8 @@ gives : (own app : App) (words : List Text) (rows : List Row) (id value : Text) 
     → first_of id rows ≡ Some value → Gives app words id value
 gives own app words rows id value same found first = ap (first_of id) (sym (found ∙ ap (λ a. matches_of a words) same)) ∙ first
 
-pub returns-clause-asked : goal.returns-clause-asked
-returns-clause-asked c =
+pub returns-clause-ok : goal.returns-clause-ok
+returns-clause-ok c =
     let app_is = c.in_ok-convert_command.ensures in
     let words = texts c.args.words.now in
     the_one words _ _ (subst (λ (app : App). Takes app words) app_is c.in_ok-matches.ensures.taken)

@@ -1,5 +1,5 @@
 use Rattle.std.proofs.Common.{◌≡◌, ◌&&◌, Bool, true, false, refl}
-use Rattle.sr_words.proofs.words.parse.Goals as goal
+use Rattle.sr_words.proofs.words.matches_in.Goals as goal
 
 left : (a b : Bool) → (a && b) ≡ true → a ≡ true
 left true b e = refl

@@ -11,7 +11,7 @@ pub enum Count {
 
 /// What a line of a script does, after the lines that open the link.
 #[derive(Drop)]
-pub enum Command {
+pub enum Step {
     /// The client sends the message that invokes this target, and keeps it until it writes.
     Send(Text),
     /// The client writes all that it has sent onto the link.
