@@ -7,15 +7,17 @@ The splitter (crates/split_bench) counts the frames of 64 MiB, fed in pieces of 
 32,768 bytes, each followed by the separator. `wc -l` and `grep -c` count the lines of the same bytes with line ends in
 the separators' place. `sr replay` replays a script of 16 MiB, and `wc -l` counts its lines. `sr check json`, `sr check
 pack` and `sr convert` both ways run over 64 MiB of invocations of 60 to 300 bytes, beside bench/peer, a Rust program over
-Debian's librust-serde-json-dev and librust-rmp-serde-dev that writes the same; where these aren't installed it is left
-out. Peak memory of both is told. Of each the best of N rounds counts, in
-processor time (user and system). The ratio is the scan's time by ours: 1.00 is as fast, 0.50 takes
-twice as long. Needs the built programs: `rt run` in crates/split_bench and in crates/sr_app, which this does first."""
+Debian's librust-serde-json-dev and librust-rmp-serde-dev that writes the same; if these aren't installed it is left
+out. Peak memory of both is told. Then each of the nine messages and an invocation of 32 KiB: a MiB of it alone, checked and
+converted. Of each the best of N rounds counts, in processor time (user and system). The ratio is the other's time by ours:
+1.00 is as fast, 0.50 takes twice as long. If valgrind is there, instructions are counted as well, over a MiB; they are the same in each
+run. Needs the built programs: `rt run` in crates/split_bench and in crates/sr_app, which this does first."""
 import argparse
 import json
 import os
 import pathlib
 import random
+import re
 import resource
 import shutil
 import subprocess
@@ -81,18 +83,72 @@ def peer():
     return str(target / "release" / "peer")
 
 
-def tasks(program, other, json_path, pack_path, rounds):
-    """Each task over a stream, beside the other program: rates, the ratio, and peak memory."""
-    for words, path in ((["check", "json"], json_path), (["check", "pack"], pack_path), (["convert", "json", "pack"], json_path), (["convert", "pack", "json"], pack_path)):
-        size = os.path.getsize(path)
-        ours = [program, *words]
-        beside = [("serde", seconds([other, *words], path, rounds))] if other else []
-        row(" ".join(words), size, seconds(ours, path, rounds), beside)
-        if other:
-            same = subprocess.run(ours, stdin=open(path, "rb"), capture_output=True).stdout == subprocess.run([other, *words], stdin=open(path, "rb"), capture_output=True).stdout
-            print(f"    the same output: {same}; {peak(ours, path):.1f} MiB at most, the other {peak([other, *words], path):.1f} MiB")
-        else:
+def instructions(command, path):
+    """How many instructions a run over the file takes, or None if valgrind isn't there."""
+    if not shutil.which("valgrind"):
+        return None
+    with open(path, "rb") as stdin:
+        counting = ["valgrind", "--tool=callgrind", "--callgrind-out-file=/dev/null", *command]
+        ran = subprocess.run(counting, stdin=stdin, stdout=subprocess.DEVNULL, stderr=subprocess.PIPE, text=True)
+    return int(re.search(r"Collected : (\d+)", ran.stderr)[1])
+
+
+def output(command, path):
+    with open(path, "rb") as stdin:
+        return subprocess.run(command, stdin=stdin, stdout=subprocess.PIPE).stdout
+
+
+def packed(program, path):
+    """The same stream as MessagePack, in a file beside it."""
+    pathlib.Path(path + ".pack").write_bytes(output([program, "convert", "json", "pack"], path))
+    return path + ".pack"
+
+
+def tasks_over(program, json_path):
+    """The words of each task, and the stream that it reads."""
+    pack_path = packed(program, json_path)
+    return ((["check", "json"], json_path), (["check", "pack"], pack_path), (["convert", "json", "pack"], json_path), (["convert", "pack", "json"], pack_path))
+
+
+def tasks(program, other, json_path, mebibyte, rounds):
+    """Each task over a stream, beside the other program: rates, the ratio, peak memory; and instructions over a MiB."""
+    for (words, path), (_, short) in zip(tasks_over(program, json_path), tasks_over(program, mebibyte)):
+        ours, theirs = [program, *words], [other, *words]
+        beside = [("serde", seconds(theirs, path, rounds))] if other else []
+        row(" ".join(words), os.path.getsize(path), seconds(ours, path, rounds), beside)
+        if not other:
             print(f"    {peak(ours, path):.1f} MiB at most")
+            continue
+        counts = [instructions(command, short) for command in (ours, theirs)]
+        if None not in counts:
+            print(f"    {counts[0] / 1e6:.1f} million instructions for a MiB, the other {counts[1] / 1e6:.1f}, ratio {counts[1] / counts[0]:.2f}")
+        print(f"    the same output: {output(ours, path) == output(theirs, path)}; {peak(ours, path):.1f} MiB at most, the other {peak(theirs, path):.1f} MiB")
+
+
+EACH = (
+    ("Invocation", {"type": 1, "invocationId": "12", "target": "Send", "arguments": [42, "a text", {"room": 7}]}),
+    ("StreamItem", {"type": 2, "invocationId": "12", "item": [1, 2, 3]}),
+    ("Completion", {"type": 3, "invocationId": "12", "result": {"sum": 12345}}),
+    ("StreamInvocation", {"type": 4, "invocationId": "12", "target": "Count", "arguments": [1000]}),
+    ("CancelInvocation", {"type": 5, "invocationId": "12"}),
+    ("Ping", {"type": 6}),
+    ("Close", {"type": 7, "error": "Connection closed.", "allowReconnect": True}),
+    ("Ack", {"type": 8, "sequenceId": 1394}),
+    ("Sequence", {"type": 9, "sequenceId": 1234}),
+    ("Invocation of 32 KiB", {"type": 1, "target": "Send", "arguments": ["some text " * 3200]}),
+)
+
+
+def each_message(program, other, path):
+    """The ratios of each task for each message alone, by instructions over a MiB of it, or by time if valgrind isn't there."""
+    for name, message in EACH:
+        frame = json.dumps(message, separators=(",", ":")).encode() + b"\x1e"
+        pathlib.Path(path).write_bytes(frame * ((1 << 20) // len(frame)))
+        ratios = []
+        for words, stream in tasks_over(program, path):
+            cost = [instructions([it, *words], stream) or seconds([it, *words], stream, 3) for it in (program, other)]
+            ratios.append(f"{' '.join(words)} {cost[1] / cost[0]:.2f}")
+        print(f"{name:<22} {', '.join(ratios)}")
 
 
 def invocations(total):
@@ -128,11 +184,12 @@ def main():
         pathlib.Path(lines).write_bytes(text)
         scans = [("wc -l", seconds(["wc", "-l"], lines, asked.rounds)), ("grep -c", seconds(["grep", "-c", "r"], lines, asked.rounds))]
         row("replay of 16 MiB", len(text), seconds([program, "replay"], lines, asked.rounds), scans)
+        other, mebibyte = peer(), os.path.join(folder, "mebibyte")
         pathlib.Path(path).write_bytes(invocations(asked.mebibytes << 20))
-        packed = os.path.join(folder, "packed")
-        with open(path, "rb") as stdin, open(packed, "wb") as stdout:
-            subprocess.run([program, "convert", "json", "pack"], stdin=stdin, stdout=stdout, check=True)
-        tasks(program, peer(), path, packed, asked.rounds)
+        pathlib.Path(mebibyte).write_bytes(invocations(1 << 20))
+        tasks(program, other, path, mebibyte, asked.rounds)
+        if other:
+            each_message(program, other, path)
 
 
 if __name__ == "__main__":

@@ -1,5 +1,5 @@
 //! What a Rust program over serde_json and rmp-serde takes for the same streams: `peer check json`, `peer check pack`,
-//! `peer convert json pack`, `peer convert pack json`. It holds invocations alone, and judges nothing else: a yardstick
+//! `peer convert json pack`, `peer convert pack json`. It takes the nine messages as they are, and judges nothing: a yardstick
 //! for `bench/run.py`, no part of the product.
 use serde_json::{json, Map, Value};
 use std::io::{self, BufWriter, Read, Write};
@@ -55,15 +55,38 @@ fn length_frame(bytes: &[u8]) -> Option<(usize, usize, usize)> {
     None
 }
 
-const NAMES: [&str; 6] = ["type", "headers", "invocationId", "target", "arguments", "streamIds"];
+const CALL: [&str; 6] = ["type", "headers", "invocationId", "target", "arguments", "streamIds"];
+const ITEM: [&str; 4] = ["type", "headers", "invocationId", "item"];
+const CLOSE: [&str; 3] = ["type", "error", "allowReconnect"];
+const COUNT: [&str; 3] = ["type", "sequenceId", "received"];
 
-fn object(elements: Vec<Value>) -> Value {
+/// The properties of a type of message, by the places of an array. Those of a Completion depend on its kind of result.
+fn names(kind: u64) -> &'static [&'static str] {
+    match kind {
+        1 | 4 => &CALL,
+        2 => &ITEM,
+        5 => &ITEM[..3],
+        7 => &CLOSE,
+        8 => &COUNT[..2],
+        9 => &COUNT,
+        _ => &CALL[..1],
+    }
+}
+
+fn object(mut elements: Vec<Value>) -> Value {
+    let kind = elements[0].as_u64().unwrap_or(0);
     let mut object = Map::new();
-    for (name, element) in NAMES.iter().zip(elements) {
+    if kind == 3 {
+        let name = if elements[3] == 1 { "error" } else { "result" };
+        object.extend(elements.drain(4..).map(|value| (name.to_owned(), value)));
+    }
+    let names = if kind == 3 { &ITEM[..3] } else { names(kind) };
+    for (name, element) in names.iter().zip(elements) {
         let empty = match &element {
-            Value::Object(headers) => headers.is_empty(),
+            Value::Object(headers) => headers.is_empty() && *name == "headers",
             Value::Array(items) => items.is_empty() && *name == "streamIds",
-            other => other.is_null(),
+            Value::Bool(allow) => !*allow && *name == "allowReconnect",
+            other => other.is_null() && *name != "item",
         };
         if !empty {
             object.insert((*name).to_owned(), element);
@@ -72,12 +95,30 @@ fn object(elements: Vec<Value>) -> Value {
     Value::Object(object)
 }
 
+/// What stands in an array in place of a property that is absent.
+fn default(name: &str) -> Value {
+    match name {
+        "headers" => json!({}),
+        "arguments" | "streamIds" => json!([]),
+        "allowReconnect" => Value::Bool(false),
+        _ => Value::Null,
+    }
+}
+
 fn array(mut message: Value) -> Value {
-    let defaults = [Value::Null, json!({}), Value::Null, Value::Null, json!([]), json!([])];
-    let elements = NAMES.iter().zip(defaults).map(|(name, default)| {
-        message.get_mut(*name).map_or(default, Value::take)
-    });
-    Value::Array(elements.collect())
+    let kind = message["type"].as_u64().unwrap_or(0);
+    let names = if kind == 3 { &ITEM[..3] } else { names(kind) };
+    let part = |name: &&str| message.get_mut(*name).map_or_else(|| default(name), Value::take);
+    let mut elements: Vec<Value> = names.iter().map(part).collect();
+    if kind == 3 {
+        let ending = [("error", 1), ("result", 3)].into_iter().find_map(|(name, n)| Some((n, message.get_mut(name)?.take())));
+        elements.push(ending.as_ref().map_or(2, |(n, _)| *n).into());
+        elements.extend(ending.map(|(_, value)| value));
+    }
+    if kind == 9 && elements[2].is_null() {
+        elements.pop();
+    }
+    Value::Array(elements)
 }
 
 fn write_length(mut length: usize, out: &mut impl Write) -> io::Result<()> {
