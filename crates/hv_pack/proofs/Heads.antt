@@ -12,7 +12,7 @@ use Rattle.hv_pack.specs.declared.marker.Size.TheVariants.{One, Two, Four}
 use Rattle.hv_pack.specs.Marker.{marker_of}
 use Rattle.hv_pack.specs.Packs.{IsNumber, IsCount}
 use Rattle.hv_pack.specs.Writing.{text_head, bytes_head, list_head, map_head}
-use Rattle.hv_pack.specs.declared.marker.TheConstants.{FIX_MAP, FIX_ARRAY, FIX_STR, BIN_8, BIN_16, BIN_32, STR_8, STR_16, STR_32, ARRAY_16, ARRAY_32, MAP_16, MAP_32}
+use Rattle.hv_pack.specs.Formats.{FIX_MAP, FIX_ARRAY, FIX_STR, BIN_8, BIN_16, BIN_32, STR_8, STR_16, STR_32, ARRAY_16, ARRAY_32, MAP_16, MAP_32}
 
 pub record Head (row : Count → Marker) (n : ℕ) (s : List ℕ) : Type 0 where
   pub marker : ℕ

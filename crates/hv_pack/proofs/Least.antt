@@ -13,7 +13,7 @@ use Rattle.hv_pack.specs.declared.marker.Count.TheVariants.{Here, Behind}
 use Rattle.hv_pack.specs.declared.marker.Size.{Size}
 use Rattle.hv_pack.specs.declared.marker.Size.TheVariants.{One, Two, Four, Eight}
 use Rattle.hv_pack.specs.Marker.{width, marker_of}
-use Rattle.hv_pack.specs.declared.marker.TheConstants.{FIX_MAP, FIX_ARRAY, FIX_STR, NIL, NEVER_USED, FALSE, TRUE, BIN_8, BIN_16, BIN_32, FLOAT, UINT_8, UINT_16, UINT_32, UINT_64, INT_8, INT_16, INT_32, INT_64, STR_8, STR_16, STR_32, ARRAY_16, ARRAY_32, MAP_16, MAP_32}
+use Rattle.hv_pack.specs.Formats.{FIX_MAP, FIX_ARRAY, FIX_STR, NIL, NEVER_USED, FALSE, TRUE, BIN_8, BIN_16, BIN_32, FLOAT, UINT_8, UINT_16, UINT_32, UINT_64, INT_8, INT_16, INT_32, INT_64, STR_8, STR_16, STR_32, ARRAY_16, ARRAY_32, MAP_16, MAP_32}
 use Rattle.hv_pack.specs.Packs.{IsNumber, IsCount}
 use Rattle.hv_pack.specs.Writing.{text_head, bytes_head, list_head, map_head, int_text}
 use Rattle.hv_pack.proofs.Heads.{pick}

@@ -18,7 +18,7 @@ use Rattle.hv_pack.specs.Marker.{marker_of}
 use Rattle.hv_pack.specs.Packs.{IsCount, IsKey, Spelling, SpellsAll, SpellsPairs, Row, One, Packs, IsSpelling}
 use Rattle.hv_pack.specs.Writing.{shortest, trees_text, pairs_text, string_text, bytes_head, list_head, map_head, int_text, bool_text, trees_count, pairs_count, IsWritable, AreWritable, PairsAreWritable}
 use Rattle.hv_pack.proofs.Heads.{pick, number_1, number_2, number_4, number_8, text_head-is, bytes_head-is, list_head-is, map_head-is}
-use Rattle.hv_pack.specs.declared.marker.TheConstants.{NIL, FALSE, TRUE, UINT_8, UINT_16, UINT_32, UINT_64, INT_8, INT_16, INT_32, INT_64}
+use Rattle.hv_pack.specs.Formats.{NIL, FALSE, TRUE, UINT_8, UINT_16, UINT_32, UINT_64, INT_8, INT_16, INT_32, INT_64}
 
 -- ---- pairs in order are put where they are
 

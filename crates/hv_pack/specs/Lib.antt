@@ -1,3 +1,4 @@
+pub mod Formats
 pub mod Marker
 pub mod Reading
 pub mod Packs

@@ -1,4 +1,4 @@
--- What a marker begins, by the table of markers in src/marker.rt.
+-- What a marker begins, by the table of formats.
 use Rattle.std.specs.Prelude.{ℕ, ◌-◌, ◌==◌, nat_lt, pos, negsuc, true, false, if◌then◌else◌}
 use Rattle.std.specs.Int.{Width, w8, w16, w32, w64}
 use Rattle.hv_pack.specs.declared.marker.Marker.{Marker}
@@ -6,7 +6,7 @@ use Rattle.hv_pack.specs.declared.marker.Marker.TheVariants.{Null, Bool, Small, 
 use Rattle.hv_pack.specs.declared.marker.Count.TheVariants.{Here, Behind}
 use Rattle.hv_pack.specs.declared.marker.Size.{Size}
 use Rattle.hv_pack.specs.declared.marker.Size.TheVariants.{One, Two, Four, Eight}
-use Rattle.hv_pack.specs.declared.marker.TheConstants.{FIX_MAP, FIX_ARRAY, FIX_STR, NIL, NEVER_USED, FALSE, TRUE, BIN_8, BIN_16, BIN_32, FLOAT, UINT_8, UINT_16, UINT_32, UINT_64, INT_8, INT_16, INT_32, INT_64, STR_8, STR_16, STR_32, ARRAY_16, ARRAY_32, MAP_16, MAP_32}
+use Rattle.hv_pack.specs.Formats.{FIX_MAP, FIX_ARRAY, FIX_STR, NIL, NEVER_USED, FALSE, TRUE, BIN_8, BIN_16, BIN_32, FLOAT, UINT_8, UINT_16, UINT_32, UINT_64, INT_8, INT_16, INT_32, INT_64, STR_8, STR_16, STR_32, ARRAY_16, ARRAY_32, MAP_16, MAP_32}
 
 abbrev pub width : Size → Width
 width One = w8

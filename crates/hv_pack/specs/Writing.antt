@@ -4,7 +4,7 @@ use Rattle.std.specs.Int.{w8, w16, w32, w64, to_be_bytes}
 use Rattle.std.specs.Str.{IsUtf8}
 use Rattle.hv_value.specs.Whole.{IsWhole}
 use Rattle.hv_value.specs.Tree.{Tree, null, boolean, int, text, bytes, list, map, Trees, no_trees, more, Pairs, no_pairs, pair}
-use Rattle.hv_pack.specs.declared.marker.TheConstants.{FIX_MAP, FIX_ARRAY, FIX_STR, NIL, FALSE, TRUE, BIN_8, BIN_16, BIN_32, UINT_8, UINT_16, UINT_32, UINT_64, INT_8, INT_16, INT_32, INT_64, STR_8, STR_16, STR_32, ARRAY_16, ARRAY_32, MAP_16, MAP_32}
+use Rattle.hv_pack.specs.Formats.{FIX_MAP, FIX_ARRAY, FIX_STR, NIL, FALSE, TRUE, BIN_8, BIN_16, BIN_32, UINT_8, UINT_16, UINT_32, UINT_64, INT_8, INT_16, INT_32, INT_64, STR_8, STR_16, STR_32, ARRAY_16, ARRAY_32, MAP_16, MAP_32}
 
 unfoldable pub text_head : ℕ → List ℕ
 text_head n =

@@ -1,10 +1,9 @@
+//! The table of markers: what the first byte of a value begins, and how many bytes its number, length or count has.
 ghost use Rattle.std.specs.Prelude.{◌≡◌};
 ghost use Rattle.hv_pack.specs.Marker.{marker_of};
 
-// The table of markers ("Formats" of the MessagePack specification, by whose
-// names they go): each is the first of its row, which ends before the next.
-// What is below the first of them is a number from 0 to 127. The tests
-// `numbers`, `sizes` and `refused_markers` alone pin the hexadecimal.
+// The first marker of each row of the table ("Formats" of the MessagePack specification, by whose names they go). A row of
+// many markers ends before the next one, and what is below the first of them is a number from 0 to 127.
 pub const FIX_MAP: u8 = 0x80;
 
 pub const FIX_ARRAY: u8 = 0x90;
