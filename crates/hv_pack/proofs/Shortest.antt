@@ -9,7 +9,7 @@ use Rattle.std.proofs.lemmas.Bool.Decides.{nat_tests}
 use Rattle.hv_value.specs.Tree.{Tree, null, boolean, int, text, bytes, list, map, Trees, no_trees, more, Pairs, no_pairs, pair, Pair, trees, pairs, map_of, key_cmp, depth, depths, depths_of_pairs}
 use Rattle.std.specs.Map.{keys_of}
 use Rattle.hv_value.specs.Order.{keys_of_pairs, IsInOrder, AllInOrder, PairsInOrder}
-use Rattle.hv_value.proofs.Orders.{map_of-sorted}
+use Rattle.hv_value.specs.Laws.{PairsInOrderAreTheirMap}
 use Rattle.hv_value.specs.Whole.{IsWhole}
 use Rattle.hv_pack.specs.declared.marker.Marker.{Marker}
 use Rattle.hv_pack.specs.declared.marker.Marker.TheVariants.{Null, Bool as Truth, Small, Unsigned, Signed, Text, Bytes, List as ListOf, Map}
@@ -38,10 +38,10 @@ keys_of-pairs_list : (ps : Pairs) → keys_of (pairs_list ps) ≡ keys_of_pairs 
 keys_of-pairs_list no_pairs = refl
 keys_of-pairs_list (pair k t ps) = ap (λ (x : List (List ℕ)). k ∷ x) (keys_of-pairs_list ps)
 
-pub map-sorted : (ps : Pairs) → IsStrictlySortedBy key_cmp (keys_of_pairs ps) → map ps ≡ map_of (pairs_list ps)
-map-sorted ps h =
+pub map-sorted : PairsInOrderAreTheirMap → (ps : Pairs) → IsStrictlySortedBy key_cmp (keys_of_pairs ps) → map ps ≡ map_of (pairs_list ps)
+map-sorted law ps h =
     let sorted : IsStrictlySortedBy key_cmp (keys_of (pairs_list ps)) = rw (keys_of-pairs_list ps) h in
-    ap map (sym (pairs-pairs_list ps)) ∙ sym (map_of-sorted (pairs_list ps) sorted)
+    ap map (sym (pairs-pairs_list ps)) ∙ sym (law (pairs_list ps) sorted)
 
 -- ---- whole numbers
 
@@ -143,32 +143,32 @@ list_packs room ts lt all =
     rw h.whole (made (Unit {0}) (Packs room) (list ts) h.marker (ListOf h.count) (h.number ++ trees_text ts) h.is
     (tt, list_of ts, ap list (sym (trees-list_of ts)), h.number, trees_text ts, subst (λ (n : ℕ). IsCount h.count h.number n) (sym (length-list_of ts)) h.holds, all, refl))
 
-map_packs : (room : ℕ) (ps : Pairs) → pairs_count ps < 2 ^ 32 → IsStrictlySortedBy key_cmp (keys_of_pairs ps) → SpellsPairs (Packs room) (pairs_list ps) (pairs_text ps) → Packs (suc room) (map ps) (map_head (pairs_count ps) ++ pairs_text ps)
-map_packs room ps lt sorted all =
+map_packs : PairsInOrderAreTheirMap → (room : ℕ) (ps : Pairs) → pairs_count ps < 2 ^ 32 → IsStrictlySortedBy key_cmp (keys_of_pairs ps) → SpellsPairs (Packs room) (pairs_list ps) (pairs_text ps) → Packs (suc room) (map ps) (map_head (pairs_count ps) ++ pairs_text ps)
+map_packs law room ps lt sorted all =
     let h = map_head-is (pairs_count ps) lt in
     rw h.whole (made (Unit {0}) (Packs room) (map ps) h.marker (Map h.count) (h.number ++ pairs_text ps) h.is
-    (tt, pairs_list ps, map-sorted ps sorted, h.number, pairs_text ps, subst (λ (n : ℕ). IsCount h.count h.number n) (sym (length-pairs_list ps)) h.holds, all, refl))
+    (tt, pairs_list ps, map-sorted law ps sorted, h.number, pairs_text ps, subst (λ (n : ℕ). IsCount h.count h.number n) (sym (length-pairs_list ps)) h.holds, all, refl))
 
 mutual
-  pub shortest_packs : (t : Tree) (room : ℕ) → depth t ≤ room → IsInOrder t → IsWritable t → Packs room t (shortest t)
-  shortest_packs null room deep o h = leaf room _ _ null_packs
-  shortest_packs (boolean b) room deep o h = leaf room _ _ (λ Room P. bool_packs Room P b)
-  shortest_packs (int z) room deep o h = leaf room _ _ (λ Room P. int_packs Room P z h)
-  shortest_packs (text s) room deep o h = leaf room _ _ (λ Room P. text_packs Room P s h.0 h.1)
-  shortest_packs (bytes s) room deep o h = leaf room _ _ (λ Room P. bytes_packs Room P s h)
-  shortest_packs (list ts) zero deep o h = absurd (omega arith)
-  shortest_packs (list ts) (suc room) deep o h = list_packs room ts h.0 (trees_pack ts room (omega arith) o h.1)
-  shortest_packs (map ps) zero deep o h = absurd (omega arith)
-  shortest_packs (map ps) (suc room) deep o h = map_packs room ps h.0 o.0 (pairs_pack ps room (omega arith) o.1 h.1)
+  pub shortest_packs : PairsInOrderAreTheirMap → (t : Tree) (room : ℕ) → depth t ≤ room → IsInOrder t → IsWritable t → Packs room t (shortest t)
+  shortest_packs law null room deep o h = leaf room _ _ null_packs
+  shortest_packs law (boolean b) room deep o h = leaf room _ _ (λ Room P. bool_packs Room P b)
+  shortest_packs law (int z) room deep o h = leaf room _ _ (λ Room P. int_packs Room P z h)
+  shortest_packs law (text s) room deep o h = leaf room _ _ (λ Room P. text_packs Room P s h.0 h.1)
+  shortest_packs law (bytes s) room deep o h = leaf room _ _ (λ Room P. bytes_packs Room P s h)
+  shortest_packs law (list ts) zero deep o h = absurd (omega arith)
+  shortest_packs law (list ts) (suc room) deep o h = list_packs room ts h.0 (trees_pack law ts room (omega arith) o h.1)
+  shortest_packs law (map ps) zero deep o h = absurd (omega arith)
+  shortest_packs law (map ps) (suc room) deep o h = map_packs law room ps h.0 o.0 (pairs_pack law ps room (omega arith) o.1 h.1)
 
-  pub trees_pack : (ts : Trees) (room : ℕ) → depths ts ≤ room → AllInOrder ts → AreWritable ts → SpellsAll (Packs room) (list_of ts) (trees_text ts)
-  trees_pack no_trees room deep o h = refl
-  trees_pack (more t ts) room deep o h = (shortest t, trees_text ts, shortest_packs t room (omega arith) o.0 h.0, trees_pack ts room (omega arith) o.1 h.1, refl)
+  pub trees_pack : PairsInOrderAreTheirMap → (ts : Trees) (room : ℕ) → depths ts ≤ room → AllInOrder ts → AreWritable ts → SpellsAll (Packs room) (list_of ts) (trees_text ts)
+  trees_pack law no_trees room deep o h = refl
+  trees_pack law (more t ts) room deep o h = (shortest t, trees_text ts, shortest_packs law t room (omega arith) o.0 h.0, trees_pack law ts room (omega arith) o.1 h.1, refl)
 
-  pub pairs_pack : (ps : Pairs) (room : ℕ) → depths_of_pairs ps ≤ room → PairsInOrder ps → PairsAreWritable ps → SpellsPairs (Packs room) (pairs_list ps) (pairs_text ps)
-  pairs_pack no_pairs room deep o h = refl
-  pairs_pack (pair k t ps) room deep o h = (string_text k, shortest t, pairs_text ps, key_packs k h.0 h.1, shortest_packs t room (omega arith) o.0 h.2, pairs_pack ps room (omega arith) o.1 h.3, refl)
+  pub pairs_pack : PairsInOrderAreTheirMap → (ps : Pairs) (room : ℕ) → depths_of_pairs ps ≤ room → PairsInOrder ps → PairsAreWritable ps → SpellsPairs (Packs room) (pairs_list ps) (pairs_text ps)
+  pairs_pack law no_pairs room deep o h = refl
+  pairs_pack law (pair k t ps) room deep o h = (string_text k, shortest t, pairs_text ps, key_packs k h.0 h.1, shortest_packs law t room (omega arith) o.0 h.2, pairs_pack law ps room (omega arith) o.1 h.3, refl)
 
-pub is_spelling : (t : Tree) → depth t ≤ 64 → IsInOrder t → IsWritable t → IsSpelling t (shortest t)
+pub is_spelling : PairsInOrderAreTheirMap → (t : Tree) → depth t ≤ 64 → IsInOrder t → IsWritable t → IsSpelling t (shortest t)
 unfolding IsSpelling
-is_spelling t deep o h = shortest_packs t 64 deep o h
+is_spelling law t deep o h = shortest_packs law t 64 deep o h

@@ -2,6 +2,7 @@
 use Rattle.std.proofs.Common.{◌≡◌, ◌⊎◌, inl, inr, ℕ, ◌++◌, length, Result, Ok, Err, refl, sym, ap, ◌∙◌}
 use Rattle.std.proofs.lemmas.List.{drop_at}
 use Rattle.hv_value.specs.Tree.{Tree}
+use Rattle.hv_value.specs.Laws.{PairsInOrderAreTheirMap}
 use Rattle.hv_pack.specs.declared.error.PackError.{PackError}
 use Rattle.hv_pack.specs.Packs.{IsSpelled}
 use Rattle.hv_pack.specs.Why.{IsRefused}
@@ -42,6 +43,6 @@ is_spelled_or_refused bytes at fits = go (read_at bytes at) refl
     go (Ok x) h = inl (x.0, x.1, spelled bytes at x.0 x.1 fits h)
     go (Err e) h = inr (e, not_read bytes at e h)
 
-pub shortest_reads_back : ShortestReadsBack
-shortest_reads_back t before after deep order h =
-    record { spelling = shortest t; rest = after; parts = drop_at before (shortest t ++ after) (length before) refl; packs = is_spelling t deep order h; ends = refl }
+pub shortest_reads_back : PairsInOrderAreTheirMap → ShortestReadsBack
+shortest_reads_back law t before after deep order h =
+    record { spelling = shortest t; rest = after; parts = drop_at before (shortest t ++ after) (length before) refl; packs = is_spelling law t deep order h; ends = refl }

@@ -13,7 +13,7 @@ use Rattle.std.proofs.lemmas.Cmp.{nat_list_cmp_total}
 use Rattle.hv_value.specs.Whole.{IsWhole}
 use Rattle.hv_value.specs.Tree.{Tree, Pair, trees, pairs, put_all, key_cmp, depth, depths, depths_of_pairs}
 use Rattle.hv_value.specs.Order.{keys_of_pairs, IsInOrder, AllInOrder, PairsInOrder}
-use Rattle.hv_value.proofs.Orders.{keys_of_pairs-pairs}
+use Rattle.hv_value.specs.Laws.{MapHasTheKeys, PairsInOrderAreTheirMap}
 use Rattle.hv_pack.specs.declared.marker.Marker.{Marker}
 use Rattle.hv_pack.specs.declared.marker.Marker.TheVariants.{Null, Bool as Truth, Small, Unsigned, Signed, Text, Bytes, List as ListOf, Map, Never, Fraction, Ext}
 use Rattle.hv_pack.specs.declared.marker.Count.{Count}
@@ -164,7 +164,7 @@ sorted-put_all es (p ∷ ps) h = sorted-put_all (insert_entry key_cmp es p.0 p.1
 
 -- ---- one value
 
-module _ (Room : Type 0) (P : Spelling) (room top : ℕ) (up : Room → room < top) (inner : (t : Tree) (s : List ℕ) → P t s → AreBytes s → Good room t) where
+module _ (has_keys : MapHasTheKeys) (Room : Type 0) (P : Spelling) (room top : ℕ) (up : Room → room < top) (inner : (t : Tree) (s : List ℕ) → P t s → AreBytes s → Good room t) where
   trees_good : (ts : List Tree) (s : List ℕ) → SpellsAll P ts s → AreBytes s → (depths (trees ts) ≤ room) × AllInOrder (trees ts) × AreWritable (trees ts)
   trees_good [] s h b = (omega arith, tt, tt)
   trees_good (t ∷ ts) s h b =
@@ -196,7 +196,7 @@ module _ (Room : Type 0) (P : Spelling) (room top : ℕ) (up : Room → room < t
       let p = parts h.3 h.4 (along s (h.3 ++ h.4) h.7 b) in
       let g = all_good room put (good-put_all room [] ps tt (pairs_good ps h.4 h.6 p.1)) in
       let n : pairs_count (pairs put) < 2 ^ 32 = rw (count_of_pairs put) (omega (arith, length-put_all [] ps, count_top c h.3 (length ps) (narrow_map c f) p.0 h.5)) in
-      let sorted : IsStrictlySortedBy key_cmp (keys_of_pairs (pairs put)) = rw (keys_of_pairs-pairs put) (sorted-put_all [] ps sorted_none) in
+      let sorted : IsStrictlySortedBy key_cmp (keys_of_pairs (pairs put)) = rw (has_keys put) (sorted-put_all [] ps sorted_none) in
       rw h.2 (omega (arith, g.0, up h.0), (sorted, g.1), (n, g.2))
 
   row_good : (m : Marker) (t : Tree) (s : List ℕ) → Fits m → Row Room P m t s → AreBytes s → Good top t
@@ -218,15 +218,15 @@ module _ (Room : Type 0) (P : Spelling) (room top : ℕ) (up : Room → room < t
       let whole = along s (h.0 ∷ h.1) h.3 b in
       row_good (marker_of h.0) t h.1 (fits h.0) h.2 whole.1
 
-packs_good : (room : ℕ) (t : Tree) (s : List ℕ) → Packs room t s → AreBytes s → Good room t
-packs_good zero = one_good ⊥ NoSpelling 0 0 (λ x. absurd x) (λ t s h b. absurd h)
-packs_good (suc room) = one_good (Unit {0}) (Packs room) room (suc room) (λ x. omega arith) (packs_good room)
+packs_good : MapHasTheKeys → (room : ℕ) (t : Tree) (s : List ℕ) → Packs room t s → AreBytes s → Good room t
+packs_good keys zero = one_good keys ⊥ NoSpelling 0 0 (λ x. absurd x) (λ t s h b. absurd h)
+packs_good keys (suc room) = one_good keys (Unit {0}) (Packs room) room (suc room) (λ x. omega arith) (packs_good keys room)
 
-good : (t : Tree) (s : List ℕ) → IsSpelling t s → AreBytes s → Good 64 t
+good : MapHasTheKeys → (t : Tree) (s : List ℕ) → IsSpelling t s → AreBytes s → Good 64 t
 unfolding IsSpelling
-good t s h b = packs_good 64 t s h b
+good keys t s h b = packs_good keys 64 t s h b
 
-pub shortest_spells : (t : Tree) (s : List ℕ) → IsSpelling t s → AreBytes s → IsWritable t × IsSpelling t (shortest t) × (length (shortest t) ≤ length s)
-shortest_spells t s h b =
-    let g = good t s h b in
-    (g.2, is_spelling t g.0 g.1 g.2, no_shorter t s h b)
+pub shortest_spells : MapHasTheKeys → PairsInOrderAreTheirMap → (t : Tree) (s : List ℕ) → IsSpelling t s → AreBytes s → IsWritable t × IsSpelling t (shortest t) × (length (shortest t) ≤ length s)
+shortest_spells keys ordered t s h b =
+    let g = good keys t s h b in
+    (g.2, is_spelling ordered t g.0 g.1 g.2, no_shorter t s h b)

@@ -14,7 +14,10 @@ pub use laws::{
     spelled_is_not_refused,
 };
 pub use reading::read_value;
-pub use writing::write_value;
+pub use writing::{
+    put_bool, put_list_head, put_map_head, put_nil, put_number, put_text, put_value, put_values,
+    write_value,
+};
 
 #[cfg(test)]
 mod tests;

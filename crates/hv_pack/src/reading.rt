@@ -11,7 +11,9 @@ ghost use Rattle.hv_pack.specs.Reading.{Gives, number_at, count_at, chunk_at, te
 
 use crate::error::PackError;
 use crate::marker::{Count, Marker, Size, row};
-use hv_value::{Blob, Items, Text, Value, ValueError, Whole};
+use hv_value::{
+    Blob, Items, Text, Value, ValueError, Whole, depth_of_one_more_item, depth_of_one_more_pair,
+};
 use std::alloc::Global;
 
 fn number(rest: &[u8], at: usize, size: Size) -> Result<(u64, &[u8]), PackError>
@@ -202,6 +204,7 @@ fn values(
     ensures shorter { IfOk result (λ x. length x.1.now ≤ length rest.now) }
     ensures shallow { IfOk result (λ x. depth_of_all (trees_of x.0.items) ≤ room) }
 {
+    depth_of_one_more_item();
     let mut values = Vec::new(alloc);
     let mut left = rest;
     for _ in 0..n {
@@ -256,6 +259,7 @@ fn pairs(
     ensures shorter { IfOk result (λ x. length x.1.now ≤ length rest.now) }
     ensures shallow { IfOk result (λ x. depth_of_values (entries x.0.items) ≤ room) }
 {
+    depth_of_one_more_pair();
     let mut pairs = Vec::new(alloc);
     let mut left = rest;
     for _ in 0..n {

@@ -4,7 +4,6 @@ use Rattle.std.proofs.lemmas.List.{map_push}
 use Rattle.hv_value.specs.View.{tree, trees_of, entries}
 use Rattle.hv_pack.specs.Reading.{list_at, map_at, value_at}
 use Rattle.hv_pack.proofs.Loop.{many_goes_on, many_ends, many_done, pairs_go_on, pairs_end_at_key, pairs_end_at_value, pairs_done, fails_on, inner_more}
-use Rattle.hv_value.proofs.Depths.{deepest_push, deepest_push_pair}
 use Rattle.hv_pack.proofs.reading.+value.Goals as goal
 
 pub list-returns-in_err-values-clause-read : goal.list-returns-in_err-values-clause-read
@@ -41,7 +40,7 @@ values-loop-preserved t c =
     record {
       read = rw e (many_goes_on (value_at c.args.end c.args.room) (trees_of c.loop.values.items) c.args.n c.loop.counter c.loop.left.now (tree v) c.in_ok-value.after.now _ c.loop-test.true c.in_ok-value.ensures.read c.loop.invariant.read);
       shorter = omega (arith, c.in_ok-value.ensures.shorter);
-      shallow = rw (c.in_ok-push.ensures.items, deepest_push) (omega (arith, c.in_ok-value.ensures.shallow));
+      shallow = rw (c.in_ok-push.ensures.items, c.depth_of_one_more_item.ensures) (omega (arith, c.in_ok-value.ensures.shallow));
     }
 
 pub values-returns-clause-read : goal.values-returns-clause-read
@@ -65,7 +64,7 @@ pairs-loop-preserved t c =
     record {
       read = rw e (pairs_go_on c.args.end (value_at c.args.end c.args.room) (entries c.loop.pairs.items) c.args.n c.loop.counter c.loop.left.now k _ (tree v) c.in_ok-member.after.now _ c.loop-test.true c.in_ok-name.ensures.read c.in_ok-member.ensures.read c.loop.invariant.read);
       shorter = omega (arith, c.in_ok-name.ensures.shorter, c.in_ok-member.ensures.shorter);
-      shallow = rw (c.in_ok-push.ensures.items, deepest_push_pair) (omega (arith, c.in_ok-member.ensures.shallow));
+      shallow = rw (c.in_ok-push.ensures.items, c.depth_of_one_more_pair.ensures) (omega (arith, c.in_ok-member.ensures.shallow));
     }
 
 pub pairs-returns-clause-read : goal.pairs-returns-clause-read

@@ -16,8 +16,8 @@ invariant-put_pairs-loop-key l = record {
   fits : PairsAreWritable (pairs (entries (take l.key-index l.members)));
 }
 
-abbrev pub decreases-put : goal.decreases-put
-decreases-put l = 2 * depth (tree l.value.now)
+abbrev pub decreases-put_value : goal.decreases-put_value
+decreases-put_value l = 2 * depth (tree l.value.now)
 
 abbrev pub decreases-put_values : goal.decreases-put_values
 decreases-put_values l = 2 * depth_of_all (trees_of l.values.now) + 1
