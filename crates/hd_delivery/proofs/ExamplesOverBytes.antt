@@ -1,17 +1,20 @@
 -- The worked worlds over bytes are worlds, and their readers are faithful.
 use Rattle.std.proofs.Common.{inl, ◌≡◌, ℕ, zero, suc, ◌<◌, ◌≤◌, Bool, true, false, List, [], ◌∷◌, ◌++◌, length, length-append, refl, arith, subst, ap, Option, Some, None}
-use Rattle.std.specs.Prelude.{reverse, Contains}
+use Rattle.std.specs.Prelude.{reverse, Contains, ◌==◌, ◌+◌}
 use Rattle.hm_message.specs.declared.message.Message.{Message}
 use Rattle.hm_message.specs.declared.message.Codec.{Codec}
 use Rattle.hm_message.specs.declared.message.Codec.TheVariants.{Json, Pack}
 use Rattle.hd_delivery.specs.declared.vocabulary.Reason.{Reason}
 use Rattle.hd_delivery.specs.declared.vocabulary.Reason.TheVariants.{Done, Protocol, InUse, TooMany, Flood, Slow, Expired}
+use Rattle.hd_delivery.specs.declared.vocabulary.Side.{Side}
 use Rattle.hd_delivery.specs.declared.vocabulary.Side.TheVariants.{Client, Server}
 use Rattle.hd_delivery.specs.Frames.{LinkFrame, Request, Response, Numbered, Ack, Sequence, Ping, Close, error_of}
 use Rattle.hd_delivery.specs.Worlds.{Limits, CanBeSent}
-use Rattle.hd_delivery.specs.Bytes.{Reading, Waits, Reads, sizes_of, IsRead, IsFaithful, IsWorldOverBytes}
+use Rattle.hd_delivery.specs.Bytes.{Reading, Waits, Reads, Refuses, Stops, sizes_of, IsRead, IsFaithful, IsFirst, IsLater, IsSize, IsSoundReader, IsSoundWire, IsWorldOverBytes}
 use Rattle.hd_delivery.specs.Examples.{a, b, c, limits_of, usual, terms}
 use Rattle.hd_delivery.specs.ExamplesOverBytes.{flag_number, error_number, four_of, spell_four, read_four, error_numbered, first_of_four, later_of_four, four, bytewise, unread_nine}
+use Rattle.hd_delivery.specs.Numbers.{most_framing}
+use Rattle.hd_delivery.proofs.Local.{both}
 use Rattle.hd_delivery.proofs.Examples.{below}
 
 module _ (says : ℕ → ℕ → ℕ → ℕ → Reading) where
@@ -62,6 +65,73 @@ four_is_faithful codec = record {
   sequence = λ first received h g. sequences first received;
   ping = is_read later_of_four 6 0 0 0 Ping refl;
   close = λ reason allow. is_read later_of_four 7 (error_number (error_of reason)) (flag_number allow) 0 (Close (error_of reason) allow) (closes reason allow);
+}
+
+-- four numbers are a frame of the kind, are refused, or begin none
+abbrev IsOfFour : (LinkFrame → Type 0) → Reading → Type 0
+IsOfFour IsKind Waits = ⊥
+IsOfFour IsKind (Reads f size) = IsKind f × (size ≡ 4)
+IsOfFour IsKind (Refuses why size) = size ≡ 4
+IsOfFour IsKind (Stops why) = Unit {0}
+
+first_is_of_four : (side : Side) (kind x y z : ℕ) → IsOfFour (IsFirst side) (first_of_four side kind x y z)
+first_is_of_four Client kind x y z = both (IsOfFour (IsFirst Client)) (kind == 2) _ _ (λ e. (tt, refl)) (λ e. (tt, refl))
+first_is_of_four Server kind x y z = both (IsOfFour (IsFirst Server)) (kind == 1) _ _ (λ e. (tt, refl)) (λ e. (tt, refl))
+
+later_is_of_four : (kind x y z : ℕ) → IsOfFour IsLater (later_of_four kind x y z)
+later_is_of_four kind x y z =
+    both (IsOfFour IsLater) (kind == 3) _ _ (λ e. (tt, refl)) (λ e.
+    both (IsOfFour IsLater) (kind == 4) _ _ (λ e. (tt, refl)) (λ e.
+    both (IsOfFour IsLater) (kind == 5) _ _ (λ e. (tt, refl)) (λ e.
+    both (IsOfFour IsLater) (kind == 6) _ _ (λ e. (tt, refl)) (λ e.
+    both (IsOfFour IsLater) (kind == 7) _ _ (λ e. (tt, refl)) (λ e.
+    both (IsOfFour IsLater) (kind == 8) _ _ (λ e. refl) (λ e. tt))))))
+
+module _ (limits : Limits) (IsKind : LinkFrame → Type 0) (says : ℕ → ℕ → ℕ → ℕ → Reading) (of_four : (kind x y z : ℕ) → IsOfFour IsKind (says kind x y z)) where
+  unfilled : (bytes : List ℕ) → read_four says bytes ≡ Waits → length bytes < limits.frame + most_framing
+  unfilled [] e = omega arith
+  unfilled (p ∷ []) e = omega arith
+  unfilled (p ∷ q ∷ []) e = omega arith
+  unfilled (p ∷ q ∷ r ∷ []) e = omega arith
+  unfilled (p ∷ q ∷ r ∷ s ∷ rest) e = absurd (subst (IsOfFour IsKind) e (of_four p q r s))
+
+  size_of : (p q r s : ℕ) (rest : List ℕ) (size : ℕ) → size ≡ 4 → IsSize limits (p ∷ q ∷ r ∷ s ∷ rest) size
+  size_of p q r s rest size e = record { some = omega (arith, e); there = omega (arith, e); bounded = omega (arith, e) }
+
+  gives : (bytes : List ℕ) (f : LinkFrame) (size : ℕ) → read_four says bytes ≡ Reads f size → IsKind f × IsSize limits bytes size
+  gives [] f size e = absurd (cc)
+  gives (p ∷ []) f size e = absurd (cc)
+  gives (p ∷ q ∷ []) f size e = absurd (cc)
+  gives (p ∷ q ∷ r ∷ []) f size e = absurd (cc)
+  gives (p ∷ q ∷ r ∷ s ∷ rest) f size e = let g = subst (IsOfFour IsKind) e (of_four p q r s) in (g.0, size_of p q r s rest size g.1)
+
+  refuses : (bytes why : List ℕ) (size : ℕ) → read_four says bytes ≡ Refuses why size → IsSize limits bytes size
+  refuses [] why size e = absurd (cc)
+  refuses (p ∷ []) why size e = absurd (cc)
+  refuses (p ∷ q ∷ []) why size e = absurd (cc)
+  refuses (p ∷ q ∷ r ∷ []) why size e = absurd (cc)
+  refuses (p ∷ q ∷ r ∷ s ∷ rest) why size e = size_of p q r s rest size (subst (IsOfFour IsKind) e (of_four p q r s))
+
+  steady : (bytes more : List ℕ) → (read_four says bytes ≡ Waits → ⊥) → read_four says (bytes ++ more) ≡ read_four says bytes
+  steady [] more n = absurd (n refl)
+  steady (p ∷ []) more n = absurd (n refl)
+  steady (p ∷ q ∷ []) more n = absurd (n refl)
+  steady (p ∷ q ∷ r ∷ []) more n = absurd (n refl)
+  steady (p ∷ q ∷ r ∷ s ∷ rest) more n = refl
+
+  reader_is_sound : IsSoundReader limits IsKind (read_four says)
+  reader_is_sound = record { unfilled = unfilled; reads = gives; refuses = refuses; steady = steady }
+
+framed_in_four : (f : LinkFrame) → length (spell_four f) ≡ 4
+framed_in_four (Sequence first None) = refl
+framed_in_four (Sequence first (Some received)) = refl
+framed_in_four f = refl
+
+pub four_is_sound : (limits : Limits) → IsSoundWire limits four
+four_is_sound limits = record {
+  framed = λ codec m can. (omega (arith, framed_in_four (Numbered m)), omega (arith, framed_in_four (Numbered m)));
+  first = λ side. reader_is_sound limits (IsFirst side) (first_of_four side) (first_is_of_four side);
+  later = λ codec. reader_is_sound limits IsLater later_of_four later_is_of_four;
 }
 
 module _ (limits : Limits) (short : 4 ≤ limits.frame) where

@@ -10,5 +10,7 @@ pub mod Still
 pub mod Final
 pub mod Cuts
 pub mod OverBytes
+pub mod Growth
+pub mod Unseen
 pub mod Examples
 pub mod ExamplesOverBytes

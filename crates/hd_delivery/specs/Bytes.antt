@@ -9,7 +9,7 @@ use Rattle.hd_delivery.specs.declared.vocabulary.Side.{Side}
 use Rattle.hd_delivery.specs.declared.vocabulary.Side.TheVariants.{Client, Server}
 use Rattle.hd_delivery.specs.declared.vocabulary.State.TheVariants.{Ready}
 use Rattle.hd_delivery.specs.Numbers.{most_messages, most_framing}
-use Rattle.hd_delivery.specs.Frames.{LinkFrame, Request, Response, Numbered, Ack, Sequence, Ping, Close, Unreadable, error_of, received_of}
+use Rattle.hd_delivery.specs.Frames.{LinkFrame, Request, Response, Numbered, Ack, Sequence, Ping, Close, Refusal, Strange, Unreadable, error_of, received_of}
 use Rattle.hd_delivery.specs.Histories.{Step, Fed, Config, is_this, present_link, stands_on, first_link, as_told, fed_frames, lent_frames, taken_count, sent_messages, codec_of, is_closed, state}
 use Rattle.hd_delivery.specs.Due.{due}
 use Rattle.hd_facts.specs.Prefixes.{IsPrefix}
@@ -52,6 +52,45 @@ pub record IsFaithful (limits : Limits) (wire : Wire) (codec : Codec) (version :
       → IsRead (wire.later codec) (wire.spell codec (Sequence first received)) (Sequence first received)
   pub ping : IsRead (wire.later codec) (wire.spell codec Ping) Ping
   pub close : (reason : Reason) (allow : Bool) → IsRead (wire.later codec) (wire.spell codec (Close (error_of reason) allow)) (Close (error_of reason) allow)
+
+-- ---- sound readers
+
+-- a frame that may come first of all, at this side
+abbrev pub IsFirst : Side → LinkFrame → Type 0
+IsFirst Client Response = Unit {0}
+IsFirst Server (Request codec version) = Unit {0}
+IsFirst side (Strange why answer) = Unit {0}
+IsFirst side f = ⊥
+
+-- a frame that may come on each other place
+abbrev pub IsLater : LinkFrame → Type 0
+IsLater (Request codec version) = ⊥
+IsLater Response = ⊥
+IsLater (Refusal text) = ⊥
+IsLater (Strange why answer) = ⊥
+IsLater (Unreadable at why) = ⊥
+IsLater f = Unit {0}
+
+-- so many bytes are some of these, and no more than the largest frame has with its framing
+pub record IsSize (limits : Limits) (bytes : List ℕ) (size : ℕ) : Type 0 where
+  pub some : 0 < size
+  pub there : size ≤ length bytes
+  pub bounded : size ≤ limits.frame + most_framing
+
+-- a reader of frames of this kind doesn't wait where the largest frame with its framing has room: there it says what comes first. What it
+-- says lies within the bytes, and stays so whatever comes behind them
+pub record IsSoundReader (limits : Limits) (IsKind : LinkFrame → Type 0) (reader : List ℕ → Reading) : Type 0 where
+  pub unfilled : (bytes : List ℕ) → reader bytes ≡ Waits → length bytes < limits.frame + most_framing
+  pub reads : (bytes : List ℕ) (f : LinkFrame) (size : ℕ) → reader bytes ≡ Reads f size → IsKind f × IsSize limits bytes size
+  pub refuses : (bytes why : List ℕ) (size : ℕ) → reader bytes ≡ Refuses why size → IsSize limits bytes size
+  pub steady : (bytes more : List ℕ) → (reader bytes ≡ Waits → ⊥) → reader (bytes ++ more) ≡ reader bytes
+
+-- a message that can be sent has at most `most_framing` bytes of framing, and the readers are sound
+pub record IsSoundWire (limits : Limits) (wire : Wire) : Type 0 where
+  pub framed : (codec : Codec) (m : Message) → CanBeSent limits (sizes_of wire) codec m
+      → (wire.frame_size codec m ≤ length (wire.spell codec (Numbered m))) × (length (wire.spell codec (Numbered m)) ≤ wire.frame_size codec m + most_framing)
+  pub first : (side : Side) → IsSoundReader limits (IsFirst side) (wire.first side)
+  pub later : (codec : Codec) → IsSoundReader limits IsLater (wire.later codec)
 
 -- ---- the frames of a link
 

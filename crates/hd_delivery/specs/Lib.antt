@@ -5,6 +5,7 @@ pub mod Due
 pub mod Processes
 pub mod Worlds
 pub mod Bytes
+pub mod Laws
 pub mod Examples
 pub mod OneEnd
 pub mod ExamplesOverBytes

@@ -6,7 +6,7 @@ ghost use Rattle.hd_delivery.specs.declared.vocabulary.State.TheVariants.{Away, 
 ghost use Rattle.hd_delivery.specs.declared.vocabulary.State.TheVariants as states;
 ghost use Rattle.hd_delivery.specs.Histories.{Failed, Unread};
 ghost use Rattle.hd_delivery.specs.Worlds.{MayAttach, MaySend, config};
-ghost use Rattle.hd_delivery.specs.Bytes.{IsFaithful};
+ghost use Rattle.hd_delivery.specs.Bytes.{IsFaithful, IsSoundWire};
 ghost use Rattle.hd_delivery.specs.Examples.{IsStill, IsWorked, a, acknowledged, b, c, client_after, closed_before_response, filled, further_sequence, limits_of, older_link_later, one_sequence, plain_delivered, plain_loss, plain_room, plain_silence, resume_after_ack, resume_duplicates, resumed_with_none, resumed_with_one, server_after, silence, sizes, terms, terms_in, usual};
 ghost use Rattle.hd_delivery.specs.ExamplesOverBytes.{IsFullFor, IsStillOverBytes, IsWorkedOverBytes, NextStepOverBytes, acknowledged_over_bytes, bytewise, cut_by_a_loss, four, stopped, unread_nine, unreadable, unreadable_later, unreadable_whole};
 
@@ -69,6 +69,7 @@ pub fn what_may_not_come()
 pub fn worked_over_bytes()
     ensures json { IsFaithful usual four Json 2 (a ∷ b ∷ c ∷ []) }
     ensures pack { IsFaithful usual four Pack 2 (a ∷ b ∷ c ∷ []) }
+    ensures sound { IsSoundWire usual four }
     ensures bytewise { IsWorkedOverBytes usual (terms 2 true) bytewise
         (Ready, 3, 0, 3) (Ready, 0, 3, 0) }
     ensures cut_by_a_loss { IsWorkedOverBytes usual (terms_in Pack 2 true) cut_by_a_loss

@@ -1,0 +1,30 @@
+//! What crates above cite of the definitions. No function here does anything: its contract is the law.
+
+ghost use Rattle.std.specs.Prelude.{◌≡◌};
+ghost use Rattle.hd_delivery.specs.Laws.{CutsGrow, FedIsUnseen, SequencedIsNumbered};
+ghost use Rattle.hd_delivery.specs.Numbers.{most_framing, most_messages, ping_after, silence_after};
+
+use crate::vocabulary::{MOST_FRAMING, MOST_MESSAGES, PING_AFTER, SILENCE_AFTER};
+
+/// A sequenced message is numbered on a link.
+pub fn sequenced_is_numbered()
+    ensures { SequencedIsNumbered }
+{}
+
+/// With more bytes behind them, some bytes are cut into the same frames and further ones, if the readers are sound.
+pub fn cuts_grow()
+    ensures { CutsGrow }
+{}
+
+/// What an end is, has said and has to say doesn't depend on the bytes that it was fed and hasn't dealt with.
+pub fn fed_is_unseen()
+    ensures { FedIsUnseen }
+{}
+
+/// The constants are the numbers of the definitions.
+pub fn numbers_are_named()
+    ensures messages { MOST_MESSAGES ≡ most_messages }
+    ensures ping { PING_AFTER ≡ ping_after }
+    ensures silence { SILENCE_AFTER ≡ silence_after }
+    ensures framing { MOST_FRAMING ≡ most_framing }
+{}
