@@ -1,5 +1,7 @@
-pub mod Judged
-pub mod Steps
-pub mod Members
-pub mod Again
+mod Judged
+mod Steps
+mod Joins
+mod Puts
+mod Turns
+mod Again
 mod Control

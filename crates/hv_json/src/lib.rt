@@ -2,12 +2,18 @@
 #![tactic(auto)]
 
 mod laws;
+mod number;
+mod one_pass;
 mod reading;
 mod writing;
 
-pub use laws::{reading_takes_no_memory, text_has_no_control};
-pub use reading::{JsonError, read_value};
-pub use writing::write_value;
+pub use laws::{
+    printed_is_text, reading_takes_no_memory, text_has_no_control, text_is_of_image,
+    written_is_read_again,
+};
+pub use one_pass::{Hard, quick};
+pub use reading::{JsonError, read_value, read_value_in};
+pub use writing::{put_items, put_value, write_value};
 
 #[cfg(test)]
 mod tests;

@@ -1,3 +1,4 @@
+//! The reading of JSON text: quickly where it has no fault, and by `serde_json`'s tree where it may have one.
 ghost use Rattle.std.specs.Prelude.{◌≡◌, ◌≤◌, false, Ok, IfOk, IfErr, IfSome, option_map};
 ghost use Rattle.serde_json.specs.Data.{depth as nesting, items_depth, members_depth};
 ghost use Rattle.serde_json.specs.Written.{has_float, items_have_float, members_have_float};
@@ -7,7 +8,11 @@ ghost use Rattle.hv_value.specs.Tree.{int, depth, depth_of_all, depth_of_values}
 ghost use Rattle.hv_value.specs.View.{tree, trees_of as values_of, entries};
 ghost use Rattle.hv_json.specs.Reading.{Refuses, json, reading, tree_of, trees_of, pairs_of, int_of};
 
-use hv_value::{Items, Text, Value, ValueError, Whole};
+use crate::one_pass::{Hard, quick};
+use hv_value::{
+    Items, Text, Value, ValueError, Whole, depth_of_one_more_item, depth_of_one_more_pair,
+};
+use json::{Reader, Scratch};
 use serde_json::{Map, Number, Value as Json};
 use std::alloc::{AllocError, Global};
 
@@ -156,6 +161,7 @@ fn convert_items(alloc: Global, items: &[Json]) -> Result<Vec<Value>, AllocError
     ensures depth { IfOk result
         (λ v. depth_of_all (values_of v.items) ≤ items_depth (items_view items.now)) }
 {
+    depth_of_one_more_item();
     let mut values = Vec::new(alloc);
     for item in items {
         values.push(convert(alloc, item)?)?;
@@ -174,6 +180,7 @@ fn convert_members(
     ensures depth { IfOk result
         (λ v. depth_of_values (entries v.items) ≤ members_depth (members_view members.now.entries)) }
 {
+    depth_of_one_more_pair();
     let mut pairs = Vec::new(alloc);
     for (key, member) in members.iter() {
         pairs.push((Text::of(alloc, key)?, convert(alloc, member)?))?;
@@ -197,11 +204,25 @@ fn parse(alloc: Global, bytes: &[u8]) -> Result<Option<Json>, AllocError>
     }
 }
 
-/// The value of JSON text (RFC 8259) in UTF-8. Of the members of an object with one name
-/// the last counts; one that it replaces must be JSON that `serde_json` reads, but is neither
-/// `Fraction` nor `TooDeep`. No `Bytes` are read: a string is `Text`, also where it is base64.
+/// The value of JSON text that has no fault, if the quick reading sees that.
+fn read_quickly(alloc: Global, scratch: &mut Scratch, bytes: &[u8]) -> Result<Value, Hard>
+    ensures { IfOk result (λ v. reading bytes.now ≡ Ok (tree v)) }
+{
+    let Ok(text) = simdutf8::basic::from_utf8(bytes) else {
+        return Err(Hard::Other);
+    };
+    let mut reader = Reader::new(text, scratch)?;
+    let value = quick(alloc, &mut reader, 64)?;
+    if reader.next().is_some() {
+        return Err(Hard::Other);
+    }
+    Ok(value)
+}
+
+/// The value, or why there is none, by a tree of JSON that is judged as a whole.
+#[inline(never)]
 #[tactic(auto, unfolding(crate::specs::Reading::reading))]
-pub fn read_value(alloc: Global, bytes: &[u8]) -> Result<Value, JsonError>
+fn read_slowly(alloc: Global, bytes: &[u8]) -> Result<Value, JsonError>
     ensures ok { IfOk result (λ v. reading bytes.now ≡ Ok (tree v)) }
     ensures err { IfErr result (λ e. Refuses e (reading bytes.now)) }
 {
@@ -215,6 +236,30 @@ pub fn read_value(alloc: Global, bytes: &[u8]) -> Result<Value, JsonError>
         return Err(JsonError::TooDeep);
     }
     Ok(convert(alloc, &json)?)
+}
+
+/// As [`read_value`], with room for unescaped strings that is kept from text to text, so that
+/// whoever reads many allocates it once. What `scratch` held before changes nothing.
+pub fn read_value_in(alloc: Global, scratch: &mut Scratch, bytes: &[u8]) -> Result<Value, JsonError>
+    ensures ok { IfOk result (λ v. reading bytes.now ≡ Ok (tree v)) }
+    ensures err { IfErr result (λ e. Refuses e (reading bytes.now)) }
+{
+    match read_quickly(alloc, scratch, bytes) {
+        Ok(value) => Ok(value),
+        Err(Hard::NoMemory) => Err(JsonError::NoMemory),
+        Err(Hard::Other) => read_slowly(alloc, bytes),
+    }
+}
+
+/// The value of JSON text (RFC 8259) in UTF-8. Of the members of an object with one name
+/// the last counts; one that it replaces must be JSON that `serde_json` reads, but is neither
+/// `Fraction` nor `TooDeep`. No `Bytes` are read: a string is `Text`, also where it is base64.
+pub fn read_value(alloc: Global, bytes: &[u8]) -> Result<Value, JsonError>
+    ensures ok { IfOk result (λ v. reading bytes.now ≡ Ok (tree v)) }
+    ensures err { IfErr result (λ e. Refuses e (reading bytes.now)) }
+{
+    let mut scratch = Scratch::new(alloc);
+    read_value_in(alloc, &mut scratch, bytes)
 }
 
 impl From<AllocError> for JsonError {

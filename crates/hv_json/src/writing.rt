@@ -1,87 +1,105 @@
-ghost use Rattle.std.specs.Prelude.{◌≡◌, ◌++◌, Ok, IfOk, OnOk, OnErr, string_bytes};
-ghost use Rattle.std.specs.List.Sorted.{IsStrictlySortedBy};
-ghost use Rattle.std.specs.Map.{keys_of};
-ghost use Rattle.serde_json.specs.Find.{of_integer};
-ghost use Rattle.serde_json.specs.View.{view, items_view, members_view, number_view};
-ghost use Rattle.hv_value.specs.Tree.{key_cmp, trees, pairs};
+//! The writing of values: their tokens by the kit's writer, with no tree between.
+ghost use Rattle.std.specs.Prelude.{◌≡◌, ◌++◌, Ok, OnOk, OnErr};
+ghost use Rattle.hv_value.specs.Tree.{int, bytes, trees, pairs};
 ghost use Rattle.hv_value.specs.View.{tree, trees_of, entries};
-ghost use Rattle.hv_value.specs.Image.{base64, image};
+ghost use Rattle.hv_value.specs.Image.{image};
 ghost use Rattle.hv_json.specs.Reading.{reading};
-ghost use Rattle.hv_json.specs.Writing.{json_of as data_of, items_of as items_data, members_of as members_data, json_text};
+ghost use Rattle.hv_json.specs.Sent.{sent, items_sent, members_sent, HasWholes, AllHaveWholes, PairsHaveWholes};
+ghost use Rattle.hv_json.specs.Writing.{json_text};
 
+use crate::laws::{printed_is_text, text_is_of_image, written_is_read_again};
 use base64::engine::general_purpose::STANDARD;
-use hv_value::{Text, Value, Whole};
-use serde_json::{Map, Number, Value as Json};
+use hv_value::{Text, Value, Whole, no_item_is_deeper, no_pair_is_deeper};
+use json::Writer;
 use std::alloc::{AllocError, Global};
+use std::mem;
 
-/// The JSON of the value's image.
-#[cycle(json)]
-fn json_of(alloc: Global, value: &Value) -> Result<Json, AllocError>
-    ensures { IfOk result (λ json. view json ≡ data_of (tree value.now)) }
+fn put_whole(writer: &mut Writer, n: Whole) -> Result<(), AllocError>
+    ensures ok { OnOk result (writer.new.tokens ≡ writer.old.tokens ++ sent (int n)) }
+    ensures whole { HasWholes (int n) }
+    ensures before { writer.new.before ≡ writer.old.before }
 {
-    match value {
-        Value::Null => Ok(Json::Null),
-        Value::Bool(b) => Ok(Json::Bool(*b)),
-        Value::Int(n) => Ok(Json::Number(number(*n))),
-        Value::Text(text) => Ok(Json::String(String::from_str(alloc, text.as_str())?)),
-        Value::Bytes(bytes) => Ok(Json::String(encoded(alloc, bytes.bytes())?)),
-        Value::List(items) => {
-            let items = items_of(alloc, items.values())?;
-            Ok(Json::Array(items))
-        }
-        Value::Map(entries) => {
-            let members = members_of(alloc, entries.pairs())?;
-            Ok(Json::Object(members))
-        }
+    let n = n.get();
+    if n >= 0 {
+        writer.u64(n as u64)
+    } else {
+        writer.i64(n as i64)
     }
-}
-
-fn number(n: Whole) -> Number
-    ensures { number_view result ≡ of_integer n }
-{
-    let Some(n) = Number::from_i128(n.get()) else {
-        unreachable!()
-    };
-    n
 }
 
 #[tactic(auto, unfolding(hv_value::specs::Image::base64))]
-fn encoded(alloc: Global, bytes: &[u8]) -> Result<String, AllocError>
-    ensures { IfOk result (λ s. string_bytes s ≡ base64 bytes.now) }
+fn put_bytes(alloc: Global, writer: &mut Writer, blob: &[u8]) -> Result<(), AllocError>
+    ensures ok { OnOk result (writer.new.tokens ≡ writer.old.tokens ++ sent (bytes blob.now)) }
+    ensures before { writer.new.before ≡ writer.old.before }
 {
-    STANDARD.encode(alloc, bytes)
+    let text = STANDARD.encode(alloc, blob)?;
+    writer.string(&text)
 }
 
-#[cycle(json)]
-fn items_of(alloc: Global, values: &[Value]) -> Result<Vec<Json>, AllocError>
-    ensures { IfOk result
-        (λ items. items_view items.items ≡ items_data (trees (trees_of values.now))) }
+/// Appends the tokens of the value's image: its `Bytes` are strings of their standard base64 with padding (RFC 4648,
+/// section 4). It allocates no more than the writer does and the base64 of one `Bytes`. After want of memory the writer
+/// has some first ones of the tokens, and no others.
+#[cycle(put)]
+pub fn put_value(alloc: Global, writer: &mut Writer, value: &Value) -> Result<(), AllocError>
+    ensures ok { OnOk result (writer.new.tokens ≡ writer.old.tokens ++ sent (tree value.now)) }
+    // With the order of its keys and its depth, this is what makes it readable.
+    ensures whole { OnOk result (HasWholes (tree value.now)) }
+    ensures before { writer.new.before ≡ writer.old.before }
 {
-    let mut items = Vec::with_capacity(alloc, values.len())?;
+    match value {
+        Value::Null => writer.null(),
+        Value::Bool(b) => writer.boolean(*b),
+        Value::Int(n) => put_whole(writer, *n),
+        Value::Text(text) => writer.string(text.as_str()),
+        Value::Bytes(blob) => put_bytes(alloc, writer, blob.bytes()),
+        Value::List(items) => {
+            writer.begin_array()?;
+            put_items(alloc, writer, items.values())
+        }
+        Value::Map(entries) => {
+            writer.begin_object()?;
+            put_members(alloc, writer, entries.pairs())
+        }
+    }
+}
+
+/// Appends the tokens of the values' images, and the bracket that closes their array: the caller has written the one that opens it.
+#[cycle(put)]
+pub fn put_items(alloc: Global, writer: &mut Writer, values: &[Value]) -> Result<(), AllocError>
+    ensures ok { OnOk result
+        (writer.new.tokens ≡ writer.old.tokens ++ items_sent (trees (trees_of values.now))) }
+    ensures whole { OnOk result (AllHaveWholes (trees (trees_of values.now))) }
+    ensures before { writer.new.before ≡ writer.old.before }
+{
+    no_item_is_deeper();
     for value in values {
-        items.push(json_of(alloc, value)?)?;
+        put_value(alloc, writer, value)?;
     }
-    Ok(items)
+    writer.end_array()
 }
 
-#[cycle(json)]
-fn members_of(alloc: Global, members: &[(Text, Value)]) -> Result<Map<String, Json>, AllocError>
-    requires { IsStrictlySortedBy key_cmp (keys_of (entries members.now)) }
-    ensures { IfOk result
-        (λ map. members_view map.entries ≡ members_data (pairs (entries members.now))) }
+#[cycle(put)]
+fn put_members(
+    alloc: Global,
+    writer: &mut Writer,
+    members: &[(Text, Value)],
+) -> Result<(), AllocError>
+    ensures ok { OnOk result
+        (writer.new.tokens ≡ writer.old.tokens ++ members_sent (pairs (entries members.now))) }
+    ensures whole { OnOk result (PairsHaveWholes (pairs (entries members.now))) }
+    ensures before { writer.new.before ≡ writer.old.before }
 {
-    let mut map = Map::new(alloc);
+    no_pair_is_deeper();
     for (key, value) in members {
-        let key = String::from_str(alloc, key.as_str())?;
-        drop(map.insert(key, json_of(alloc, value)?)?);
+        writer.key(key.as_str())?;
+        put_value(alloc, writer, value)?;
     }
-    Ok(map)
+    writer.end_object()
 }
 
 /// Appends the compact text of the value's image (RFC 8259): no space between tokens, keys in
 /// byte order, and `Bytes` as strings of their standard base64 with padding (RFC 4648, section 4).
 /// After want of memory `out` holds what it held.
-#[tactic(auto, unfolding(crate::specs::Writing::json_text))]
 pub fn write_value(alloc: Global, v: &Value, out: &mut Vec<u8>) -> Result<(), AllocError>
     ensures ok { OnOk result (out.new.items ≡ out.old.items ++ json_text (tree v.now)) }
     // It is the text of the image, and is read again as the image.
@@ -89,10 +107,17 @@ pub fn write_value(alloc: Global, v: &Value, out: &mut Vec<u8>) -> Result<(), Al
     ensures again { OnOk result (reading (json_text (tree v.now)) ≡ Ok (image (tree v.now))) }
     ensures err { OnErr result (out.new.items ≡ out.old.items) }
 {
+    printed_is_text();
+    text_is_of_image();
+    written_is_read_again();
     // So it is read back: what is deeper, or has its keys in another order, wouldn't be.
     prove!(v.depth() <= 64);
-    let json = json_of(alloc, v)?;
-    let text = json.to_vec(alloc)?;
-    out.extend_from_slice(&text)?;
-    Ok(())
+    let held = out.len();
+    let mut writer = Writer::new(mem::replace(out, Vec::new(alloc)));
+    let put = put_value(alloc, &mut writer, v);
+    *out = writer.into_inner();
+    if put.is_err() {
+        out.truncate(held);
+    }
+    put
 }

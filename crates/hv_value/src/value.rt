@@ -230,6 +230,7 @@ impl Items {
     pub fn values(&self) -> &[Value]
         ensures values { trees_of result.now ≡ self.now }
         ensures shallow { depth_of_all self.now ≤ 63 }
+        ensures in_order { AllInOrder (trees self.now) }
     {
         self.values.as_slice()
     }
