@@ -1,5 +1,6 @@
 pub mod Formats
 pub mod Marker
+pub mod Cut
 pub mod Reading
 pub mod Packs
 pub mod Writing

@@ -1,6 +1,6 @@
 -- The reader as a function of the bytes that are left, so that each part of it has its clause; read_value itself is
 -- pinned by Packs and Why alone. A place is the end less the length of what is left.
-use Rattle.std.specs.Prelude.{◌≡◌, ℕ, zero, suc, ◌-◌, pos, List, [], ◌∷◌, length, take, drop, Option, Some, None, Result, Ok, Err, nat_lt, if◌then◌else◌}
+use Rattle.std.specs.Prelude.{ℕ, zero, suc, ◌-◌, pos, List, [], ◌∷◌, length, take, drop, Option, Some, None, Result, Ok, Err, nat_lt, if◌then◌else◌}
 use Rattle.std.specs.Int.{Width, byte_len, from_be_bytes, cast_signed}
 use Rattle.std.specs.Str.{is_utf8}
 use Rattle.hv_value.specs.Tree.{Tree, null, boolean, int, text, bytes, list, Pair, trees, map_of}
@@ -13,24 +13,12 @@ use Rattle.hv_pack.specs.declared.marker.Marker.TheVariants.{Null, Bool, Small, 
 use Rattle.hv_pack.specs.declared.marker.Count.{Count}
 use Rattle.hv_pack.specs.declared.marker.Count.TheVariants.{Here, Behind}
 use Rattle.hv_pack.specs.Marker.{width, marker_of}
+pub use Rattle.hv_pack.specs.Cut.{Fails, Gives, Read, cut}
 
 infixl 10 ◌>>=◌
 abbrev pub ◌>>=◌ : {A B : Type 0} → Result A PackError → (A → Result B PackError) → Result B PackError
 (Ok x) >>= f = f x
 (Err e) >>= f = Err e
-
--- What a function returned, seen by view, is what reading gives, unless memory ran out.
-abbrev pub Fails : {Y : Type 0} → PackError → Result Y PackError → Type 0
-Fails errors.NoMemory read = Unit {0}
-Fails e read = read ≡ Err e
-
-abbrev pub Gives : {X Y : Type 0} → (X → Y) → Result X PackError → Result Y PackError → Type 0
-Gives view (Ok x) read = read ≡ Ok (view x)
-Gives view (Err e) read = Fails e read
-
--- what is read, and the bytes after it
-abbrev pub Read : Type 0 → Type 0
-Read A = Result (A × List ℕ) PackError
 
 -- ---- parts of one marker, which stands at `at`
 
@@ -44,7 +32,7 @@ count_at at (Behind size) s = number_at at (width size) s
 unfoldable pub chunk_at : ℕ → Count → List ℕ → Read (List ℕ)
 chunk_at at c s = do
   n ← count_at at c s
-  if nat_lt (length n.1) n.0 then Err (errors.Short at) else Ok (take n.0 n.1, drop n.0 n.1)
+  cut at n.0 n.1
 
 unfoldable pub text_at : ℕ → Count → List ℕ → Read (List ℕ)
 text_at at c s = do

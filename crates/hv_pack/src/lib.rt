@@ -3,6 +3,7 @@
 #![tactic(auto)]
 
 mod error;
+mod input;
 mod laws;
 mod marker;
 mod reading;

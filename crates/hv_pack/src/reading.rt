@@ -1,3 +1,5 @@
+//! Reading: one pass over the bytes, which stops at the first fault. A count is not believed: a list or a map has as much memory
+//! as the values that were read want, and little more.
 ghost use Rattle.std.specs.Prelude.{◌≡◌, ◌≤◌, ◌+◌, ◌<◌, ◌^◌, ◌*◌, length, drop, ℕ, Ok, Err, IfOk, IfErr, MatchResult, ◌≢◌, ◌⊎◌};
 ghost use Rattle.hv_pack.specs.Packs.{IsSpelled};
 ghost use Rattle.hv_pack.specs.Why.{IsRefused};
@@ -10,100 +12,91 @@ ghost use Rattle.hv_pack.specs.Marker.{width};
 ghost use Rattle.hv_pack.specs.Reading.{Gives, number_at, count_at, chunk_at, text_at, key_at, many, pairs_at, list_at, map_at, inner, value_at, read_at, placed};
 
 use crate::error::PackError;
+use crate::input::Input;
 use crate::marker::{Count, Marker, Size, row};
 use hv_value::{
     Blob, Items, Text, Value, ValueError, Whole, depth_of_one_more_item, depth_of_one_more_pair,
 };
 use std::alloc::Global;
 
-fn number(rest: &[u8], at: usize, size: Size) -> Result<(u64, &[u8]), PackError>
-    ensures read { Gives (λ x. (x.0, x.1.now)) result (number_at at (width size) rest.now) }
-    ensures fits { IfOk result (λ x. x.0 < 2 ^ (8 * byte_len (width size))) }
-    ensures shorter { IfOk result (λ x. length x.1.now ≤ length rest.now) }
+/// How many values or pairs a list or a map has room for before they are read, unless its count is lower. It grows with what is
+/// read, so that a count alone takes no memory.
+const FIRST_ROOM: u64 = 8;
+
+#[inline(never)]
+fn number(input: &mut Input<'_>, at: usize, size: Size) -> Result<u64, PackError>
+    ensures read { Gives (λ n. (n, input.new.rest.now)) result
+        (number_at at (width size) input.old.rest.now) }
+    ensures fits { IfOk result (λ n. n < 2 ^ (8 * byte_len (width size))) }
+    ensures end { input.new.end ≡ input.old.end }
 {
-    let short = PackError::Short { at };
     match size {
         Size::One => {
-            let [n, rest @ ..] = rest else {
-                return Err(short);
-            };
-            Ok((u64::from(*n), rest))
+            let n = input.cut(at, 1)?;
+            Ok(u64::from(n[0]))
         }
         Size::Two => {
-            if rest.len() < 2 {
-                return Err(short);
-            }
-            let (n, rest) = rest.split_at(2);
-            Ok((u64::from(u16::from_be_bytes([n[0], n[1]])), rest))
+            let n = input.cut(at, 2)?;
+            Ok(u64::from(u16::from_be_bytes([n[0], n[1]])))
         }
         Size::Four => {
-            if rest.len() < 4 {
-                return Err(short);
-            }
-            let (n, rest) = rest.split_at(4);
-            Ok((
-                u64::from(u32::from_be_bytes([n[0], n[1], n[2], n[3]])),
-                rest,
-            ))
+            let n = input.cut(at, 4)?;
+            Ok(u64::from(u32::from_be_bytes([n[0], n[1], n[2], n[3]])))
         }
         Size::Eight => {
-            if rest.len() < 8 {
-                return Err(short);
-            }
-            let (n, rest) = rest.split_at(8);
-            let n = u64::from_be_bytes([n[0], n[1], n[2], n[3], n[4], n[5], n[6], n[7]]);
-            Ok((n, rest))
+            let n = input.cut(at, 8)?;
+            Ok(u64::from_be_bytes([n[0], n[1], n[2], n[3], n[4], n[5], n[6], n[7]]))
         }
     }
 }
 
-fn count(rest: &[u8], at: usize, count: Count) -> Result<(u64, &[u8]), PackError>
-    ensures read { Gives (λ x. (x.0, x.1.now)) result (count_at at count rest.now) }
-    ensures shorter { IfOk result (λ x. length x.1.now ≤ length rest.now) }
+fn count(input: &mut Input<'_>, at: usize, count: Count) -> Result<u64, PackError>
+    ensures read { Gives (λ n. (n, input.new.rest.now)) result
+        (count_at at count input.old.rest.now) }
+    ensures end { input.new.end ≡ input.old.end }
 {
     match count {
-        Count::Here(n) => Ok((u64::from(n), rest)),
-        Count::Behind(size) => number(rest, at, size),
+        Count::Here(n) => Ok(u64::from(n)),
+        Count::Behind(size) => number(input, at, size),
     }
 }
 
 #[tactic(auto, unfolding(crate::specs::Reading::chunk_at))]
-fn chunk(rest: &[u8], at: usize, len: Count) -> Result<(&[u8], &[u8]), PackError>
-    ensures read { Gives (λ x. (x.0.now, x.1.now)) result (chunk_at at len rest.now) }
-    ensures shorter { IfOk result (λ x. length x.1.now ≤ length rest.now) }
+fn chunk<'a>(input: &mut Input<'a>, at: usize, len: Count) -> Result<&'a [u8], PackError>
+    ensures read { Gives (λ t. (t.now, input.new.rest.now)) result
+        (chunk_at at len input.old.rest.now) }
+    ensures end { input.new.end ≡ input.old.end }
 {
-    let (len, rest) = count(rest, at, len)?;
-    let len = len as usize;
-    if rest.len() < len {
-        return Err(PackError::Short { at });
-    }
-    Ok(rest.split_at(len))
+    let len = count(input, at, len)?;
+    input.cut(at, len as usize)
 }
 
 #[tactic(auto, unfolding(crate::specs::Reading::text_at))]
-fn text(alloc: Global, rest: &[u8], at: usize, len: Count) -> Result<(Text, &[u8]), PackError>
-    ensures read { Gives (λ x. (x.0, x.1.now)) result (text_at at len rest.now) }
-    ensures shorter { IfOk result (λ x. length x.1.now ≤ length rest.now) }
+fn text(alloc: Global, input: &mut Input<'_>, at: usize, len: Count) -> Result<Text, PackError>
+    ensures read { Gives (λ t. (t, input.new.rest.now)) result
+        (text_at at len input.old.rest.now) }
+    ensures end { input.new.end ≡ input.old.end }
 {
-    let (text, rest) = chunk(rest, at, len)?;
+    let text = chunk(input, at, len)?;
     match str::from_utf8(text) {
-        Ok(text) => Ok((Text::of(alloc, text)?, rest)),
+        Ok(text) => Ok(Text::of(alloc, text)?),
         Err(_) => Err(PackError::NotUtf8 { at }),
     }
 }
 
 #[tactic(auto, unfolding(crate::specs::Reading::key_at))]
-fn key(alloc: Global, rest: &[u8], end: usize) -> Result<(Text, &[u8]), PackError>
-    requires { length rest.now ≤ end }
-    ensures read { Gives (λ x. (x.0, x.1.now)) result (key_at end rest.now) }
-    ensures shorter { IfOk result (λ x. length x.1.now ≤ length rest.now) }
+fn key(alloc: Global, input: &mut Input<'_>) -> Result<Text, PackError>
+    ensures read { Gives (λ k. (k, input.new.rest.now)) result
+        (key_at input.old.end input.old.rest.now) }
+    ensures end { input.new.end ≡ input.old.end }
 {
-    let at = end - rest.len();
-    let [first, rest @ ..] = rest else {
-        return Err(PackError::Short { at: end });
+    let at = input.place();
+    let [first, rest @ ..] = input.rest else {
+        return Err(PackError::Short { at: input.end });
     };
+    input.rest = rest;
     match row(*first) {
-        Marker::Text(len) => text(alloc, rest, at, len),
+        Marker::Text(len) => text(alloc, input, at, len),
         _ => Err(PackError::Key { at }),
     }
 }
@@ -122,39 +115,40 @@ fn signed(n: u64, size: Size) -> i64
 }
 
 #[cycle(value)]
-fn value(alloc: Global, rest: &[u8], end: usize, room: u32) -> Result<(Value, &[u8]), PackError>
-    requires fits { length rest.now ≤ end }
+fn value(alloc: Global, input: &mut Input<'_>, room: u32) -> Result<Value, PackError>
     requires room { room ≤ 64 }
-    ensures read { Gives (λ x. (tree x.0, x.1.now)) result (value_at end room rest.now) }
-    ensures shorter { IfOk result (λ x. length x.1.now ≤ length rest.now) }
-    ensures shallow { IfOk result (λ x. depth (tree x.0) ≤ room) }
+    ensures read { Gives (λ v. (tree v, input.new.rest.now)) result
+        (value_at input.old.end room input.old.rest.now) }
+    ensures end { input.new.end ≡ input.old.end }
+    ensures shallow { IfOk result (λ v. depth (tree v) ≤ room) }
 {
-    let at = end - rest.len();
-    let [first, rest @ ..] = rest else {
-        return Err(PackError::Short { at: end });
+    let at = input.place();
+    let [first, rest @ ..] = input.rest else {
+        return Err(PackError::Short { at: input.end });
     };
+    input.rest = rest;
     match row(*first) {
-        Marker::Null => Ok((Value::Null, rest)),
-        Marker::Bool(b) => Ok((Value::Bool(b), rest)),
-        Marker::Small(n) => Ok((Value::Int(Whole::from(i64::from(n))), rest)),
+        Marker::Null => Ok(Value::Null),
+        Marker::Bool(b) => Ok(Value::Bool(b)),
+        Marker::Small(n) => Ok(Value::Int(Whole::from(i64::from(n)))),
         Marker::Unsigned(size) => {
-            let (n, rest) = number(rest, at, size)?;
-            Ok((Value::Int(Whole::from(n)), rest))
+            let n = number(input, at, size)?;
+            Ok(Value::Int(Whole::from(n)))
         }
         Marker::Signed(size) => {
-            let (n, rest) = number(rest, at, size)?;
-            Ok((Value::Int(Whole::from(signed(n, size))), rest))
+            let n = number(input, at, size)?;
+            Ok(Value::Int(Whole::from(signed(n, size))))
         }
         Marker::Text(len) => {
-            let (text, rest) = text(alloc, rest, at, len)?;
-            Ok((Value::Text(text), rest))
+            let text = text(alloc, input, at, len)?;
+            Ok(Value::Text(text))
         }
         Marker::Bytes(len) => {
-            let (bytes, rest) = chunk(rest, at, len)?;
-            Ok((Value::Bytes(Blob::of(alloc, bytes)?), rest))
+            let bytes = chunk(input, at, len)?;
+            Ok(Value::Bytes(Blob::of(alloc, bytes)?))
         }
-        Marker::List(len) => list(alloc, rest, end, at, room, len),
-        Marker::Map(len) => map(alloc, rest, end, at, room, len),
+        Marker::List(len) => list(alloc, input, at, room, len),
+        Marker::Map(len) => map(alloc, input, at, room, len),
         Marker::Never => Err(PackError::Never { at }),
         Marker::Fraction => Err(PackError::Fraction { at }),
         Marker::Ext => Err(PackError::Ext { at }),
@@ -162,83 +156,72 @@ fn value(alloc: Global, rest: &[u8], end: usize, room: u32) -> Result<(Value, &[
 }
 
 #[cycle(value)]
+#[inline(never)]
 #[tactic(auto, unfolding(crate::specs::Reading::list_at))]
 fn list(
     alloc: Global,
-    rest: &[u8],
-    end: usize,
+    input: &mut Input<'_>,
     at: usize,
     room: u32,
     len: Count,
-) -> Result<(Value, &[u8]), PackError>
-    requires fits { length rest.now ≤ end }
+) -> Result<Value, PackError>
     requires room { room ≤ 64 }
-    ensures read { Gives (λ x. (tree x.0, x.1.now)) result
-        (list_at at (inner end room) len rest.now) }
-    ensures shorter { IfOk result (λ x. length x.1.now ≤ length rest.now) }
-    ensures shallow { IfOk result (λ x. depth (tree x.0) ≤ room) }
+    ensures read { Gives (λ v. (tree v, input.new.rest.now)) result
+        (list_at at (inner input.old.end room) len input.old.rest.now) }
+    ensures end { input.new.end ≡ input.old.end }
+    ensures shallow { IfOk result (λ v. depth (tree v) ≤ room) }
 {
     if room == 0 {
         return Err(PackError::TooDeep { at });
     }
-    let (n, rest) = count(rest, at, len)?;
-    let (values, rest) = values(alloc, n, rest, end, room - 1)?;
+    let n = count(input, at, len)?;
+    let values = values(alloc, input, n, room - 1)?;
     let Ok(items) = Items::of(values) else {
         unreachable!()
     };
-    Ok((Value::List(items), rest))
+    Ok(Value::List(items))
 }
 
 #[cycle(value)]
-fn values(
-    alloc: Global,
-    n: u64,
-    rest: &[u8],
-    end: usize,
-    room: u32,
-) -> Result<(Vec<Value>, &[u8]), PackError>
-    requires fits { length rest.now ≤ end }
+fn values(alloc: Global, input: &mut Input<'_>, n: u64, room: u32) -> Result<Vec<Value>, PackError>
     requires room { room ≤ 63 }
-    ensures read { Gives (λ x. (trees_of x.0.items, x.1.now)) result
-        (many (value_at end room) n rest.now) }
-    ensures shorter { IfOk result (λ x. length x.1.now ≤ length rest.now) }
-    ensures shallow { IfOk result (λ x. depth_of_all (trees_of x.0.items) ≤ room) }
+    ensures read { Gives (λ vs. (trees_of vs.items, input.new.rest.now)) result
+        (many (value_at input.old.end room) n input.old.rest.now) }
+    ensures end { input.new.end ≡ input.old.end }
+    ensures shallow { IfOk result (λ vs. depth_of_all (trees_of vs.items) ≤ room) }
 {
     depth_of_one_more_item();
-    let mut values = Vec::new(alloc);
-    let mut left = rest;
+    let mut values = Vec::with_capacity(alloc, n.min(FIRST_ROOM) as usize)?;
     for _ in 0..n {
-        let (value, after) = value(alloc, left, end, room)?;
+        let value = value(alloc, input, room)?;
         values.push(value)?;
-        left = after;
     }
-    Ok((values, left))
+    Ok(values)
 }
 
 #[cycle(value)]
+#[inline(never)]
 #[tactic(auto, unfolding(crate::specs::Reading::map_at))]
 fn map(
     alloc: Global,
-    rest: &[u8],
-    end: usize,
+    input: &mut Input<'_>,
     at: usize,
     room: u32,
     len: Count,
-) -> Result<(Value, &[u8]), PackError>
-    requires fits { length rest.now ≤ end }
+) -> Result<Value, PackError>
     requires room { room ≤ 64 }
-    ensures read { Gives (λ x. (tree x.0, x.1.now)) result
-        (map_at end at (inner end room) len rest.now) }
-    ensures shorter { IfOk result (λ x. length x.1.now ≤ length rest.now) }
-    ensures shallow { IfOk result (λ x. depth (tree x.0) ≤ room) }
+    ensures read { Gives (λ v. (tree v, input.new.rest.now)) result
+        (map_at input.old.end at (inner input.old.end room) len input.old.rest.now) }
+    ensures end { input.new.end ≡ input.old.end }
+    ensures shallow { IfOk result (λ v. depth (tree v) ≤ room) }
 {
     if room == 0 {
         return Err(PackError::TooDeep { at });
     }
-    let (n, rest) = count(rest, at, len)?;
-    let (pairs, rest) = pairs(alloc, n, rest, end, room - 1)?;
+    let n = count(input, at, len)?;
+    let pairs = pairs(alloc, input, n, room - 1)?;
     match Value::map_from(pairs) {
-        Ok(map) => Ok((map, rest)),
+        Ok(map) => Ok(map),
         Err(ValueError::NoMemory) => Err(PackError::NoMemory),
         Err(ValueError::TooDeep) => unreachable!(),
     }
@@ -247,28 +230,24 @@ fn map(
 #[cycle(value)]
 fn pairs(
     alloc: Global,
+    input: &mut Input<'_>,
     n: u64,
-    rest: &[u8],
-    end: usize,
     room: u32,
-) -> Result<(Vec<(Text, Value)>, &[u8]), PackError>
-    requires fits { length rest.now ≤ end }
+) -> Result<Vec<(Text, Value)>, PackError>
     requires room { room ≤ 63 }
-    ensures read { Gives (λ x. (entries x.0.items, x.1.now)) result
-        (pairs_at end (value_at end room) n rest.now) }
-    ensures shorter { IfOk result (λ x. length x.1.now ≤ length rest.now) }
-    ensures shallow { IfOk result (λ x. depth_of_values (entries x.0.items) ≤ room) }
+    ensures read { Gives (λ ps. (entries ps.items, input.new.rest.now)) result
+        (pairs_at input.old.end (value_at input.old.end room) n input.old.rest.now) }
+    ensures end { input.new.end ≡ input.old.end }
+    ensures shallow { IfOk result (λ ps. depth_of_values (entries ps.items) ≤ room) }
 {
     depth_of_one_more_pair();
-    let mut pairs = Vec::new(alloc);
-    let mut left = rest;
+    let mut pairs = Vec::with_capacity(alloc, n.min(FIRST_ROOM) as usize)?;
     for _ in 0..n {
-        let (name, after) = key(alloc, left, end)?;
-        let (member, after) = value(alloc, after, end, room)?;
+        let name = key(alloc, input)?;
+        let member = value(alloc, input, room)?;
         pairs.push((name, member))?;
-        left = after;
     }
-    Ok((pairs, left))
+    Ok(pairs)
 }
 
 #[tactic(auto, unfolding(crate::specs::Reading::read_at))]
@@ -276,8 +255,9 @@ fn value_from(alloc: Global, bytes: &[u8], at: usize) -> Result<(Value, usize), 
     requires { at ≤ length bytes.now }
     ensures { Gives placed result (read_at bytes.now at) }
 {
-    let (value, rest) = value(alloc, &bytes[at..], bytes.len(), 64)?;
-    Ok((value, bytes.len() - rest.len()))
+    let mut input = Input::new(bytes, at);
+    let value = value(alloc, &mut input, 64)?;
+    Ok((value, input.place()))
 }
 
 /// The value whose spelling begins at the place `at`, and the place after its last byte. Any
