@@ -10,7 +10,7 @@ use Rattle.hm_message.specs.Message.{message_image}
 use Rattle.hv_pack.specs.Writing.{IsWritable}
 use Rattle.hm_json.specs.Says as json
 use Rattle.hm_pack.specs.Says as pack
-use Rattle.hm_pack.specs.Spell.{array_of}
+use Rattle.hm_pack.specs.Frame.{array_of}
 use Rattle.hm_codec.specs.declared.why.FrameWhy.{FrameWhy}
 use Rattle.hm_codec.specs.declared.why.FrameWhy.TheVariants as why
 
@@ -37,8 +37,8 @@ Why codec frame reason = ⊥
 
 -- the frame that is written of a message
 abbrev pub frame_of : Codec → Message → List ℕ
-frame_of Json m = json.Spell m
-frame_of Pack m = pack.Spell m
+frame_of Json m = json.frame_of m
+frame_of Pack m = pack.frame_of m
 
 -- the same as it stands on a stream
 abbrev pub framed : Codec → Message → List ℕ

@@ -9,13 +9,13 @@ use Rattle.hv_value.specs.Tree.{Tree, null, boolean, int, text, bytes, list, map
 use Rattle.hv_value.specs.Image.{image, images, trees_image, pairs_image}
 use Rattle.hv_value.specs.View as seen
 use Rattle.hv_value.specs.declared.value.Value.{Value}
-use Rattle.hv_value.proofs.Orders.{map_of-sorted}
+use Rattle.hv_value.specs.Laws.{PairsInOrderAreTheirMap}
 use Rattle.hm_message.specs.Fields.{trees_in, items_in, texts_in, all_texts, headers_in, all_headers, number_in, flag_in}
 use Rattle.hm_message.specs.Headers.{Header, IsHeaders}
 use Rattle.hm_message.specs.Kind.{number, kind_of}
 use Rattle.hm_message.specs.Message.{ending_image, message_image}
 use Rattle.hm_message.specs.Name.{field_name}
-use Rattle.hm_message.proofs.Images.{tree-value_of}
+use Rattle.hm_message.specs.Laws.{ValuesAreTrees}
 use Rattle.hm_message.specs.declared.message.Field.{Field}
 use Rattle.hm_message.specs.declared.message.Field.TheVariants as field
 use Rattle.hm_message.specs.declared.message.Message.{Message}
@@ -25,7 +25,8 @@ use Rattle.hm_message.specs.declared.message.Ending.TheVariants as ending
 use Rattle.hm_json.specs.Properties as property
 use Rattle.hm_json.specs.Properties.{needed, optional, unless_null, some_text, type_of}
 use Rattle.hm_json.specs.Says.{IsObject, Ends, IsMessage}
-use Rattle.hm_json.specs.Spell.{property_of, texts, header_pairs, written, AreInRange, IsInRange}
+use Rattle.hm_message.specs.Trees.{texts, header_pairs, AreInRange, IsInRange}
+use Rattle.hm_json.specs.Frame.{property_of, written}
 use Rattle.hm_json.proofs.Lookups.{value_at-image}
 
 -- ---- the headers' map
@@ -34,10 +35,10 @@ keys-header_pairs : (hs : List Header) → keys_of (header_pairs hs) ≡ keys_of
 keys-header_pairs [] = refl
 keys-header_pairs (h ∷ hs) = ap (λ (ks : List (List ℕ)). h.0 ∷ ks) (keys-header_pairs hs)
 
-pub map_of-headers : (hs : List Header) → IsHeaders hs → map_of (header_pairs hs) ≡ map (pairs (header_pairs hs))
-map_of-headers hs h =
+pub map_of-headers : PairsInOrderAreTheirMap → (hs : List Header) → IsHeaders hs → map_of (header_pairs hs) ≡ map (pairs (header_pairs hs))
+map_of-headers in_order hs h =
     let sorted : IsStrictlySortedBy key_cmp (keys_of (header_pairs hs)) = rw (keys-header_pairs hs) h in
-    map_of-sorted (header_pairs hs) sorted
+    in_order (header_pairs hs) sorted
 
 -- ---- what a property is, once it is written and read again
 
@@ -170,10 +171,10 @@ IsObject-image (bytes s) o = absurd o
 IsObject-image (list ts) o = o
 IsObject-image (map ps) o = o
 
-ends_again : (t : Tree) (e : Ending) → value_at (field_name field.Error) t ≡ option_map image (error_at e) → value_at (field_name field.Ending) t ≡ option_map image (result_at e) → Ends t (ending_image e)
-ends_again t ending.Void x y = (rw x refl, y)
-ends_again t (ending.Result v) x y = (rw x refl, rw (tree-value_of (image (seen.tree v))) y)
-ends_again t (ending.Error s) x y = (rw x refl, y)
+ends_again : ValuesAreTrees → (t : Tree) (e : Ending) → value_at (field_name field.Error) t ≡ option_map image (error_at e) → value_at (field_name field.Ending) t ≡ option_map image (result_at e) → Ends t (ending_image e)
+ends_again same t ending.Void x y = (rw x refl, y)
+ends_again same t (ending.Result v) x y = (rw x refl, rw (same.tree-value_of (image (seen.tree v))) y)
+ends_again same t (ending.Error s) x y = (rw x refl, y)
 
 abbrev Writes : Tree → Message → Type 0
 Writes t m = (key : List ℕ) → value_at key t ≡ last_of key (all_written m)
@@ -202,34 +203,34 @@ says_streams t m ss h e = rw (looked t m h _ _ e) (streams_again ss)
 says_number : (t : Tree) (m : Message) (n : ℕ) → Writes t m → n < 2 ^ 64 → last_of (field_name field.SequenceId) (all_written m) ≡ Some (int (pos n)) → property.sequence_id (image t) ≡ Ok n
 says_number t m n h r e = rw (looked t m h _ _ e) (number_again n r)
 
-pub says_again : (t : Tree) (m : Message) → IsInRange m → IsObject t → Writes t m → IsMessage (image t) (message_image m)
-says_again t (Invocation hs id s xs ss) r o h =
+pub says_again : ValuesAreTrees → (t : Tree) (m : Message) → IsInRange m → IsObject t → Writes t m → IsMessage (image t) (message_image m)
+says_again same t (Invocation hs id s xs ss) r o h =
     let m = Invocation hs id s xs ss in
     let w = invocation_written hs id s xs ss in
     (IsObject-image t o, says_type t m h w.0, (says_headers t m hs h w.1, rw (looked t m h _ _ w.2) (text_again field.InvocationId id), says_target t m s h w.3, says_arguments t m xs h w.4, says_streams t m ss h w.5))
-says_again t (StreamItem hs id v) r o h =
+says_again same t (StreamItem hs id v) r o h =
     let m = StreamItem hs id v in
     let w = stream_item_written hs id v in
-    (IsObject-image t o, says_type t m h w.0, (says_headers t m hs h w.1, says_id t m id h w.2, rw (looked t m h _ _ w.3, tree-value_of (image (seen.tree v))) refl))
-says_again t (Completion hs id e) r o h =
+    (IsObject-image t o, says_type t m h w.0, (says_headers t m hs h w.1, says_id t m id h w.2, rw (looked t m h _ _ w.3, same.tree-value_of (image (seen.tree v))) refl))
+says_again same t (Completion hs id e) r o h =
     let m = Completion hs id e in
     let w = completion_written hs id e in
-    (IsObject-image t o, says_type t m h w.0, (says_headers t m hs h w.1, says_id t m id h w.2, ends_again (image t) e (looked t m h (field_name field.Error) _ w.3) (looked t m h (field_name field.Ending) _ w.4)))
-says_again t (StreamInvocation hs id s xs ss) r o h =
+    (IsObject-image t o, says_type t m h w.0, (says_headers t m hs h w.1, says_id t m id h w.2, ends_again same (image t) e (looked t m h (field_name field.Error) _ w.3) (looked t m h (field_name field.Ending) _ w.4)))
+says_again same t (StreamInvocation hs id s xs ss) r o h =
     let m = StreamInvocation hs id s xs ss in
     let w = stream_invocation_written hs id s xs ss in
     (IsObject-image t o, says_type t m h w.0, (says_headers t m hs h w.1, says_id t m id h w.2, says_target t m s h w.3, says_arguments t m xs h w.4, says_streams t m ss h w.5))
-says_again t (CancelInvocation hs id) r o h =
+says_again same t (CancelInvocation hs id) r o h =
     let m = CancelInvocation hs id in
     let w = cancel_written hs id in
     (IsObject-image t o, says_type t m h w.0, (says_headers t m hs h w.1, says_id t m id h w.2))
-says_again t Ping r o h = (IsObject-image t o, says_type t Ping h refl, tt)
-says_again t (Close e b) r o h =
+says_again same t Ping r o h = (IsObject-image t o, says_type t Ping h refl, tt)
+says_again same t (Close e b) r o h =
     let m = Close e b in
     let w = close_written e b in
     (IsObject-image t o, says_type t m h w.0, (rw (looked t m h _ _ w.1) (text_again field.Error e), rw (looked t m h _ _ w.2) (allow_again b)))
-says_again t (Ack n) r o h = (IsObject-image t o, says_type t (Ack n) h refl, says_number t (Ack n) n h r refl)
-says_again t (Sequence n k) r o h =
+says_again same t (Ack n) r o h = (IsObject-image t o, says_type t (Ack n) h refl, says_number t (Ack n) n h r refl)
+says_again same t (Sequence n k) r o h =
     let m = Sequence n k in
     let w = sequence_written n k in
     (IsObject-image t o, says_type t m h w.0, (says_number t m n h r.0 w.1, rw (looked t m h _ _ w.2) (received_again k r.1)))

@@ -1,10 +1,11 @@
 -- How deep a message nests, as it is read and as it is written.
 use Rattle.std.proofs.Common.{◌≡◌, ℕ, ◌≤◌, max, true, false, List, [], ◌∷◌, ◌++◌, Option, Some, None, Ok, refl, ap, sym, ◌∙◌, arith}
-use Rattle.hv_value.specs.Tree.{Tree, null, boolean, int, text, bytes, list, map, Trees, no_trees, more, Pairs, Pair, trees, depth, depths_of_pairs, depth_of_all, depth_of_values, value_at}
+use Rattle.hv_value.specs.Tree.{Tree, null, boolean, int, text, bytes, list, map, Pairs, Pair, trees, depth, depths_of_pairs, depth_of_all, depth_of_values, value_at}
 use Rattle.hv_value.specs.View as seen
 use Rattle.hm_message.specs.Fields.{trees_in, items_in}
 use Rattle.hm_message.specs.Headers.{Header}
 use Rattle.hm_message.specs.Kind.{number, kind_of}
+use Rattle.hm_message.specs.Laws.{ValuesAreTrees}
 use Rattle.hm_message.specs.Message.{Fits, ending_depth}
 use Rattle.hm_message.specs.Name.{field_name}
 use Rattle.hm_message.specs.declared.message.Field.{Field}
@@ -16,23 +17,20 @@ use Rattle.hm_message.specs.declared.message.Ending.TheVariants as ending
 use Rattle.hm_json.specs.Properties as property
 use Rattle.hm_json.specs.Properties.{needed}
 use Rattle.hm_json.specs.Says.{Holds, Ends}
-use Rattle.hm_json.specs.Spell.{property_of, texts, header_pairs, headers_written, streams_written, text_written, call_written, ending_written, allow_written, written}
+use Rattle.hm_message.specs.Trees.{texts, header_pairs}
+use Rattle.hm_json.specs.Frame.{property_of, headers_written, streams_written, text_written, call_written, ending_written, allow_written, written}
 use Rattle.hm_json.proofs.Lookups.{depth_at}
 
 -- ---- what is read
 
-trees-trees_in : (ts : Trees) → trees (trees_in ts) ≡ ts
-trees-trees_in no_trees = refl
-trees-trees_in (more t ts) = ap (λ (x : Trees). more t x) (trees-trees_in ts)
-
-arguments_depth : (ps : Pairs) (xs : List Tree) → property.arguments (map ps) ≡ Ok xs → depth (list (trees xs)) ≤ depths_of_pairs ps
-arguments_depth ps xs h = go (value_at (field_name field.Arguments) (map ps)) refl h
+arguments_depth : ValuesAreTrees → (ps : Pairs) (xs : List Tree) → property.arguments (map ps) ≡ Ok xs → depth (list (trees xs)) ≤ depths_of_pairs ps
+arguments_depth same ps xs h = go (value_at (field_name field.Arguments) (map ps)) refl h
   where
     go : (o : Option Tree) → value_at (field_name field.Arguments) (map ps) ≡ o → needed field.Arguments items_in o ≡ Ok xs → depth (list (trees xs)) ≤ depths_of_pairs ps
     go None e h = absurd cc
     go (Some (list ts)) e h =
-        let same : trees_in ts ≡ xs = cc in
-        let all : trees xs ≡ ts = ap trees (sym same) ∙ trees-trees_in ts in
+        let all_read : trees_in ts ≡ xs = cc in
+        let all : trees xs ≡ ts = ap trees (sym all_read) ∙ same.trees-trees_in ts in
         rw all (depth_at (field_name field.Arguments) ps (list ts) e)
     go (Some null) e h = absurd cc
     go (Some (boolean b)) e h = absurd cc
@@ -54,16 +52,16 @@ ending_fits ps (ending.Result v) h = depth_at (field_name field.Ending) ps (seen
 ending_fits ps (ending.Error s) h = omega arith
 
 -- what an object says that isn't too deep fits
-pub read_fits : (ps : Pairs) (m : Message) → depth (map ps) ≤ 64 → Holds (map ps) m → Fits m
-read_fits ps (Invocation headers id target arguments streams) d h = omega (arith, arguments_depth ps arguments h.3)
-read_fits ps (StreamItem headers id v) d h = omega (arith, item_depth ps (seen.tree v) h.2)
-read_fits ps (Completion headers id e) d h = omega (arith, ending_fits ps e h.2)
-read_fits ps (StreamInvocation headers id target arguments streams) d h = omega (arith, arguments_depth ps arguments h.3)
-read_fits ps (CancelInvocation headers id) d h = omega arith
-read_fits ps Ping d h = omega arith
-read_fits ps (Close error allow) d h = omega arith
-read_fits ps (Ack upto) d h = omega arith
-read_fits ps (Sequence first received) d h = omega arith
+pub read_fits : ValuesAreTrees → (ps : Pairs) (m : Message) → depth (map ps) ≤ 64 → Holds (map ps) m → Fits m
+read_fits same ps (Invocation headers id target arguments streams) d h = omega (arith, arguments_depth same ps arguments h.3)
+read_fits same ps (StreamItem headers id v) d h = omega (arith, item_depth ps (seen.tree v) h.2)
+read_fits same ps (Completion headers id e) d h = omega (arith, ending_fits ps e h.2)
+read_fits same ps (StreamInvocation headers id target arguments streams) d h = omega (arith, arguments_depth same ps arguments h.3)
+read_fits same ps (CancelInvocation headers id) d h = omega arith
+read_fits same ps Ping d h = omega arith
+read_fits same ps (Close error allow) d h = omega arith
+read_fits same ps (Ack upto) d h = omega arith
+read_fits same ps (Sequence first received) d h = omega arith
 
 -- ---- what is written
 

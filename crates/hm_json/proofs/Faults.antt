@@ -12,7 +12,8 @@ use Rattle.hm_message.specs.declared.kind.Kind.TheVariants as kinds
 use Rattle.hm_message.specs.declared.message.Field.{Field}
 use Rattle.hm_message.specs.declared.message.Field.TheVariants as field
 use Rattle.hm_json.specs.Properties as property
-use Rattle.hm_json.specs.Properties.{unless_null, needed, optional, must, may, type_of, error, outcome, clash, both, faults, first}
+use Rattle.hm_message.specs.Meaning.{first}
+use Rattle.hm_json.specs.Properties.{unless_null, needed, optional, must, may, type_of, error, outcome, clash, both, faults}
 use Rattle.hm_json.specs.Says.{IsObject, IsFaulty, Why}
 use Rattle.hm_json.specs.Refusals.{MemoryOr}
 use Rattle.hm_json.specs.declared.refusal.Refusal.{Refusal}

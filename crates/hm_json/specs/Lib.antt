@@ -2,5 +2,6 @@ pub mod Words
 pub mod Refusals
 pub mod Properties
 pub mod Says
-pub mod Spell
+pub mod Frame
 pub mod ExactlyOne
+pub mod Laws

@@ -105,8 +105,3 @@ faults Ping t = []
 faults Close t = result_err (error t) ∷ result_err (allow t) ∷ []
 faults Ack t = result_err (sequence_id t) ∷ []
 faults Sequence t = result_err (sequence_id t) ∷ []
-
-abbrev pub first : List (Option Refusal) → Option Refusal
-first [] = None
-first (None ∷ faults) = first faults
-first (Some r ∷ faults) = Some r

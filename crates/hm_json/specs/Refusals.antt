@@ -2,7 +2,7 @@
 use Rattle.hv_json.specs.declared.reading.JsonError.{JsonError}
 use Rattle.hv_json.specs.declared.reading.JsonError.TheVariants as text
 use Rattle.hm_json.specs.declared.refusal.Refusal.{Refusal}
-use Rattle.hm_json.specs.declared.refusal.Refusal.TheVariants.{NotJson, Fraction, TooDeep, NotObject, Missing, Wrong, Both, NoMemory}
+use Rattle.hm_json.specs.declared.refusal.Refusal.TheVariants.{NotJson, Fraction, TooDeep, NoMemory}
 
 abbrev pub of_text : JsonError → Refusal
 of_text text.NotJson = NotJson
@@ -12,11 +12,5 @@ of_text text.NoMemory = NoMemory
 
 -- the refusal is of this fact's reason, or want of memory
 abbrev pub MemoryOr : Refusal → Type 0 → Type 0
-MemoryOr NotJson p = p
-MemoryOr Fraction p = p
-MemoryOr TooDeep p = p
-MemoryOr NotObject p = p
-MemoryOr (Missing field) p = p
-MemoryOr (Wrong field) p = p
-MemoryOr Both p = p
 MemoryOr NoMemory p = Unit {0}
+MemoryOr e p = p

@@ -11,10 +11,11 @@ use Rattle.hm_message.specs.declared.message.Message.TheVariants.{Invocation, St
 use Rattle.hm_message.specs.declared.message.Ending.{Ending}
 use Rattle.hm_message.specs.declared.message.Ending.TheVariants as ending
 use Rattle.hm_json.specs.Properties as property
-use Rattle.hm_json.specs.Properties.{type_of, faults, first}
+use Rattle.hm_message.specs.Meaning.{first}
+use Rattle.hm_json.specs.Properties.{type_of, faults}
 use Rattle.hm_json.specs.declared.refusal.Refusal.{Refusal}
 use Rattle.hm_json.specs.declared.refusal.Refusal.TheVariants.{NotJson, Fraction, TooDeep, NotObject, Missing, Wrong, Both, NoMemory}
-pub use Rattle.hm_json.specs.Spell.{Spell}
+pub use Rattle.hm_json.specs.Frame.{frame_of}
 
 abbrev pub IsObject : Tree → Type 0
 IsObject null = ⊥

@@ -2,12 +2,14 @@
 //! without the separator that ends it.
 #![tactic(auto)]
 
+mod laws;
 mod properties;
 mod reading;
 mod refusal;
 mod writing;
 
-pub use reading::{exactly_one, read_message};
+pub use laws::one_meaning;
+pub use reading::read_message;
 pub use refusal::Refusal;
 pub use writing::write_message;
 

@@ -4,28 +4,20 @@ ghost use Rattle.hv_value.specs.View.{tree};
 ghost use Rattle.hm_message.specs.Kind.{kind_of, number as number_of};
 ghost use Rattle.hm_message.specs.Message.{Fits};
 ghost use Rattle.hm_message.specs.declared.kind.Kind.TheVariants as kinds;
-ghost use Rattle.hm_json.specs.Properties.{error as error_of, outcome, type_of, faults, first};
+ghost use Rattle.hm_message.specs.Meaning.{first};
+ghost use Rattle.hm_json.specs.Properties.{error as error_of, outcome, type_of, faults};
 ghost use Rattle.hm_json.specs.Refusals.{MemoryOr};
 ghost use Rattle.hm_json.specs.Says.{Says, Unknown, Why, Holds, Ends, IsMessage, IsUnknown, IsFaulty};
-ghost use Rattle.hm_json.specs.ExactlyOne.{ExactlyOne};
 ghost use Rattle.hm_message.specs.Reads.{MessageIs, UnknownIs};
 
 use crate::properties::{
     any, flag, headers, items, number, optional_text, property, text, texts, whole,
 };
 use crate::refusal::Refusal;
-use hm_message::{Ending, Field, Kind, Message, Read, number_in};
+use hm_message::{Ending, Field, Kind, Message, Read, number_in, values_are_trees};
 use hv_json::read_value;
 use hv_value::{Entries, Text, Value};
 use std::alloc::{AllocError, Global};
-
-/// Each frame says exactly one message, is of exactly one type that no message has, or is refused
-/// for exactly one reason. It is a law, and calls for no work.
-pub fn exactly_one(frame: &[u8])
-    ensures { ExactlyOne frame.now }
-{
-    let _ = frame;
-}
 
 fn invocation(alloc: Global, object: &Entries) -> Result<Message, Refusal>
     ensures kind { IfOk result (λ m. kind_of m ≡ kinds.Invocation) }
@@ -164,6 +156,7 @@ pub fn read_message(alloc: Global, frame: &[u8]) -> Result<Read, Refusal>
     ensures unknown { IfOk result (λ r. UnknownIs r (λ n. Unknown frame.now n)) }
     ensures refused { IfErr result (λ e. MemoryOr e (Why frame.now e)) }
 {
+    values_are_trees();
     let value = read_value(alloc, frame)?;
     // So what was read fits, and can be written again.
     prove!(value.depth() <= 64);

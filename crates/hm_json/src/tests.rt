@@ -363,7 +363,7 @@ fn bytes(rt: HostRuntime) -> Result<(), Fail> {
     write_message(alloc, &sent, &mut out)?;
     let wanted = "out: {\"invocationId\":\"1\",\"result\":\"Zm9vYg==\",\"type\":3}";
     assert_eq!(rt; out.as_slice(), wanted.as_bytes());
-    exactly_one(&out);
+    one_meaning();
     let image = Message::Completion {
         headers: Headers::of(Vec::new(alloc))?,
         id: Text::of(alloc, "1")?,

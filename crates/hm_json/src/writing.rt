@@ -3,13 +3,14 @@ ghost use Rattle.hv_value.specs.Tree.{int, list, map, pairs, text, trees};
 ghost use Rattle.hv_value.specs.View.{tree, entries};
 ghost use Rattle.hm_message.specs.Message.{Fits, message_image};
 ghost use Rattle.hm_json.specs.Says.{Says, IsMessage};
-ghost use Rattle.hm_json.specs.Spell.{Spell, property_of, header_pairs, texts, headers_written, streams_written, text_written, call_written, ending_written, written, object_of};
-ghost use Rattle.hm_json.specs.Spell.{IsInRange};
+ghost use Rattle.hm_message.specs.Trees.{header_pairs, texts};
+ghost use Rattle.hm_json.specs.Frame.{frame_of, property_of, headers_written, streams_written, text_written, call_written, ending_written, written, object_of};
+ghost use Rattle.hm_message.specs.Trees.{IsInRange};
 ghost use Rattle.hv_value.specs.Image.{image};
 
-use hm_message::{Ending, Field, Headers, Message};
+use hm_message::{Ending, Field, Headers, Message, values_are_trees};
 use hv_json::write_value;
-use hv_value::{Items, Text, Texts, Value, ValueError, Whole};
+use hv_value::{Items, Text, Texts, Value, ValueError, Whole, pairs_in_order_are_their_map};
 use std::alloc::{AllocError, Global};
 
 /// The properties of an object that is written.
@@ -58,6 +59,7 @@ fn put_number(properties: &mut Properties, name: &str, n: u64) -> Result<(), All
 fn headers_value(alloc: Global, headers: &Headers) -> Result<Value, AllocError>
     ensures { IfOk result (λ v. tree v ≡ map (pairs (header_pairs headers.now))) }
 {
+    pairs_in_order_are_their_map();
     let mut members = Vec::with_capacity(alloc, headers.pairs().len())?;
     for (key, value) in headers.pairs() {
         members.push((key.copy()?, Value::Text(value.copy()?)))?;
@@ -206,6 +208,7 @@ fn object(alloc: Global, m: &Message) -> Result<Value, AllocError>
     ensures ok { IfOk result (λ v. tree v ≡ object_of m.now) }
     ensures says { IfOk result (λ v. IsMessage (image (tree v)) (message_image m.now)) }
 {
+    values_are_trees();
     let mut properties = Vec::new(alloc);
     let number = u64::from(m.kind().number());
     put_number(&mut properties, Field::Kind.name(), number)?;
@@ -224,9 +227,9 @@ fn object(alloc: Global, m: &Message) -> Result<Value, AllocError>
 #[tactic(auto, unfolding(hv_json::specs::Writing::json_text))]
 pub fn write_message(alloc: Global, m: &Message, out: &mut Vec<u8>) -> Result<(), AllocError>
     requires { Fits m.now }
-    ensures ok { OnOk result (out.new.items ≡ out.old.items ++ Spell m.now) }
+    ensures ok { OnOk result (out.new.items ≡ out.old.items ++ frame_of m.now) }
     // What is written says the message with each of its bytes as the text of their base64.
-    ensures again { OnOk result (Says (Spell m.now) (message_image m.now)) }
+    ensures again { OnOk result (Says (frame_of m.now) (message_image m.now)) }
     ensures err { OnErr result (out.new.items ≡ out.old.items) }
 {
     let object = object(alloc, m)?;

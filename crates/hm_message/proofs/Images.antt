@@ -1,12 +1,18 @@
--- A value and its tree.
-use Rattle.std.proofs.Common.{◌≡◌, ap, refl, sym, ◌∙◌}
+-- A value and its tree, and a message and its image.
+use Rattle.std.proofs.Common.{◌≡◌, List, [], ◌∷◌, ap, refl, sym, ◌∙◌}
 use Rattle.hv_value.specs.Tree as tree
 use Rattle.hv_value.specs.Tree.{Tree, Trees, no_trees, more, Pairs, no_pairs, pair, trees, pairs}
+use Rattle.hv_value.specs.Image.{image, images}
+use Rattle.hv_value.specs.Laws.{ImageIsItsOwn}
 use Rattle.hv_value.specs.View as seen
 use Rattle.hv_value.specs.declared.value.Value.{Value}
 use Rattle.hv_value.specs.declared.value.Value.TheVariants as value
 use Rattle.hm_message.specs.Fields.{trees_in, pairs_in}
-use Rattle.hm_message.specs.Message.{value_of}
+use Rattle.hm_message.specs.Laws.{ValuesAreTrees, ImageIsItsImage}
+use Rattle.hm_message.specs.Message.{value_of, value_image, ending_image}
+use Rattle.hm_message.specs.declared.message.Message.TheVariants.{Invocation, StreamItem, Completion, StreamInvocation, CancelInvocation, Ping, Close, Ack, Sequence}
+use Rattle.hm_message.specs.declared.message.Ending.{Ending}
+use Rattle.hm_message.specs.declared.message.Ending.TheVariants.{Void, Result, Error}
 use Rattle.hm_message.proofs.Collected.{trees_in-trees, pairs_in-pairs}
 
 pub value_of-tree : (v : Value) → value_of (seen.tree v) ≡ v
@@ -38,3 +44,37 @@ tree-value_of (tree.map ps) = ap tree.map (pairs-pairs_in ps)
 -- a value is known by its tree
 pub tree-inj : (v w : Value) → seen.tree v ≡ seen.tree w → v ≡ w
 tree-inj v w e = sym (value_of-tree v) ∙ ap value_of e ∙ value_of-tree w
+
+pub values_are_trees : ValuesAreTrees
+values_are_trees = record {
+  value_of-tree = value_of-tree;
+  tree-value_of = tree-value_of;
+  trees_in-trees = trees_in-trees;
+  trees-trees_in = trees-trees_in;
+}
+
+-- ---- images of messages
+
+module _ (own : ImageIsItsOwn) where
+  images-images : (ts : List Tree) → images (images ts) ≡ images ts
+  images-images [] = refl
+  images-images (t ∷ ts) = rw (own t, images-images ts) refl
+
+  value_image-image : (v : Value) → value_image (value_image v) ≡ value_image v
+  value_image-image v = rw (tree-value_of (image (seen.tree v)), own (seen.tree v)) refl
+
+  ending_image-image : (e : Ending) → ending_image (ending_image e) ≡ ending_image e
+  ending_image-image Void = refl
+  ending_image-image (Result v) = ap Result (value_image-image v)
+  ending_image-image (Error s) = refl
+
+  pub image_is_its_image : ImageIsItsImage
+  image_is_its_image (Invocation hs id s xs ids) = rw (images-images xs) refl
+  image_is_its_image (StreamItem hs id v) = rw (value_image-image v) refl
+  image_is_its_image (Completion hs id e) = rw (ending_image-image e) refl
+  image_is_its_image (StreamInvocation hs id s xs ids) = rw (images-images xs) refl
+  image_is_its_image (CancelInvocation hs id) = refl
+  image_is_its_image Ping = refl
+  image_is_its_image (Close e b) = refl
+  image_is_its_image (Ack n) = refl
+  image_is_its_image (Sequence n r) = refl

@@ -1,5 +1,5 @@
 -- The types of messages and their numbers.
-use Rattle.std.specs.Prelude.{ℤ, pos, ◌≤ℤ◌}
+use Rattle.std.specs.Prelude.{zero, suc, ℤ, pos, ◌≤ℤ◌, Option, Some, None}
 use Rattle.hm_message.specs.declared.kind.Kind.{Kind}
 use Rattle.hm_message.specs.declared.kind.Kind.TheVariants as kinds
 use Rattle.hm_message.specs.declared.message.Message.{Message}
@@ -30,3 +30,16 @@ kind_of Ping = kinds.Ping
 kind_of (Close error allow) = kinds.Close
 kind_of (Ack upto) = kinds.Ack
 kind_of (Sequence first received) = kinds.Sequence
+
+-- the type of a number, if it has one
+unfoldable pub kind_at : ℤ → Option Kind
+kind_at (pos (suc zero)) = Some kinds.Invocation
+kind_at (pos (suc (suc zero))) = Some kinds.StreamItem
+kind_at (pos (suc (suc (suc zero)))) = Some kinds.Completion
+kind_at (pos (suc (suc (suc (suc zero))))) = Some kinds.StreamInvocation
+kind_at (pos (suc (suc (suc (suc (suc zero)))))) = Some kinds.CancelInvocation
+kind_at (pos (suc (suc (suc (suc (suc (suc zero))))))) = Some kinds.Ping
+kind_at (pos (suc (suc (suc (suc (suc (suc (suc zero)))))))) = Some kinds.Close
+kind_at (pos (suc (suc (suc (suc (suc (suc (suc (suc zero))))))))) = Some kinds.Ack
+kind_at (pos (suc (suc (suc (suc (suc (suc (suc (suc (suc zero)))))))))) = Some kinds.Sequence
+kind_at z = None

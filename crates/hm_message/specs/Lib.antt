@@ -5,3 +5,6 @@ pub mod Same
 pub mod Kind
 pub mod Name
 pub mod Reads
+pub mod Trees
+pub mod Meaning
+pub mod Laws

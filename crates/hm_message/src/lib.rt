@@ -5,11 +5,13 @@
 mod fields;
 mod headers;
 mod kind;
+mod laws;
 mod message;
 
 pub use fields::{headers_in, items_in, number_in, text_in, texts_in};
 pub use headers::Headers;
 pub use kind::Kind;
+pub use laws::{image_is_its_image, kinds_have_numbers, values_are_trees};
 pub use message::{Codec, Ending, Field, Message, Read};
 
 #[cfg(test)]

@@ -5,7 +5,7 @@ ghost use Rattle.hm_message.specs.Message.{Fits, is_sequenced};
 ghost use Rattle.hm_message.specs.Name.{field_name};
 
 use crate::headers::Headers;
-use hv_value::{Items, Text, Texts, Value};
+use hv_value::{Items, Text, Texts, Value, no_item_is_deeper};
 use std::alloc::AllocError;
 use std::fmt;
 
@@ -222,6 +222,7 @@ impl Message {
 fn are_shallow(arguments: &Items) -> bool
     ensures { IsTrue result ↔ depth (list (trees arguments.now)) ≤ 63 }
 {
+    no_item_is_deeper();
     arguments.values().iter().all(|value| value.depth() < 63)
 }
 

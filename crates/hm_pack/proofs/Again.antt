@@ -21,7 +21,8 @@ use Rattle.hm_message.specs.declared.message.Ending.TheVariants as ending
 use Rattle.hm_pack.specs.Elements as element
 use Rattle.hm_pack.specs.Elements.{text_or_nil}
 use Rattle.hm_pack.specs.Says.{Says, Holds, Ends}
-use Rattle.hm_pack.specs.Spell.{texts, header_pairs, text_written, elements_of, array_of, AreInRange, IsInRange, Spell}
+use Rattle.hm_message.specs.Trees.{texts, header_pairs, AreInRange, IsInRange}
+use Rattle.hm_pack.specs.Frame.{text_written, elements_of, array_of, frame_of}
 use Rattle.hm_pack.specs.declared.refusal.PackRefusal.TheVariants.{Wrong}
 
 -- ---- the headers' map
@@ -77,5 +78,5 @@ holds_again (Sequence n k) r = (rw (in_range n r.0) refl, received_again n k r.1
 whole_spelling : (t : Tree) (s : List ℕ) → IsSpelling t s → IsSpelled s 0 t (length s)
 whole_spelling t s h = record { spelling = s; rest = []; parts = sym (append-nil s); packs = h; ends = omega arith }
 
-pub says_again : (m : Message) → IsInRange m → IsSpelling (array_of m) (Spell m) → Says (Spell m) m
-says_again m r s = (elements_of m, (whole_spelling (array_of m) (Spell m) s, (refl, holds_again m r)))
+pub says_again : (m : Message) → IsInRange m → IsSpelling (array_of m) (frame_of m) → Says (frame_of m) m
+says_again m r s = (elements_of m, (whole_spelling (array_of m) (frame_of m) s, (refl, holds_again m r)))

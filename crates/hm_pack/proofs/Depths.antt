@@ -14,7 +14,8 @@ use Rattle.hm_message.specs.declared.message.Ending.TheVariants as ending
 use Rattle.hm_pack.specs.Elements as element
 use Rattle.hm_pack.specs.Elements.{needed}
 use Rattle.hm_pack.specs.Says.{Holds, Ends}
-use Rattle.hm_pack.specs.Spell.{texts, header_pairs, text_written, received_written, ending_written, elements_of}
+use Rattle.hm_message.specs.Trees.{texts, header_pairs}
+use Rattle.hm_pack.specs.Frame.{text_written, received_written, ending_written, elements_of}
 
 -- ---- what is read
 

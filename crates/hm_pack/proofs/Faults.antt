@@ -12,7 +12,8 @@ use Rattle.hm_message.specs.declared.kind.Kind.TheVariants as kinds
 use Rattle.hm_message.specs.declared.message.Field.{Field}
 use Rattle.hm_message.specs.declared.message.Field.TheVariants as field
 use Rattle.hm_pack.specs.Elements as element
-use Rattle.hm_pack.specs.Elements.{needed, optional, must, may, text_or_nil, type_of, behind, kind_or_behind, faults, first}
+use Rattle.hm_message.specs.Meaning.{first}
+use Rattle.hm_pack.specs.Elements.{needed, optional, must, may, text_or_nil, type_of, behind, kind_or_behind, faults}
 use Rattle.hm_pack.specs.Says.{IsArray, IsFaulty, Why}
 use Rattle.hm_pack.specs.Refusals.{MemoryOr}
 use Rattle.hm_pack.specs.declared.refusal.PackRefusal.{PackRefusal}

@@ -23,7 +23,8 @@ use Rattle.hm_message.specs.declared.message.Message.TheVariants.{Invocation, St
 use Rattle.hm_message.specs.declared.message.Ending.{Ending}
 use Rattle.hm_message.specs.declared.message.Ending.TheVariants as ending
 use Rattle.hm_pack.specs.Elements as element
-use Rattle.hm_pack.specs.Elements.{type_of, faults, first, behind, kind_or_behind}
+use Rattle.hm_message.specs.Meaning.{first}
+use Rattle.hm_pack.specs.Elements.{type_of, faults, behind, kind_or_behind}
 use Rattle.hm_pack.specs.Says.{IsArray, Ends, Holds, IsMessage, IsUnknown, IsFaulty, Says, Unknown, Why}
 use Rattle.hm_pack.specs.ExactlyOne.{ExactlyOne}
 use Rattle.hm_pack.specs.declared.refusal.PackRefusal.{PackRefusal}

@@ -131,9 +131,3 @@ faults Ping ts = []
 faults Close ts = result_err (close_error ts) ∷ result_err (allow ts) ∷ []
 faults Ack ts = result_err (sequence_id ts) ∷ []
 faults Sequence ts = result_err (sequence_id ts) ∷ []
-
--- the first of them that is there
-abbrev pub first : List (Option PackRefusal) → Option PackRefusal
-first [] = None
-first (None ∷ faults) = first faults
-first (Some r ∷ faults) = Some r

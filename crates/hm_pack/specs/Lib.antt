@@ -3,5 +3,5 @@ pub mod Refusals
 pub mod Places
 pub mod Elements
 pub mod Says
-pub mod Spell
+pub mod Frame
 pub mod ExactlyOne

@@ -12,10 +12,11 @@ use Rattle.hm_message.specs.declared.message.Message.TheVariants.{Invocation, St
 use Rattle.hm_message.specs.declared.message.Ending.{Ending}
 use Rattle.hm_message.specs.declared.message.Ending.TheVariants as ending
 use Rattle.hm_pack.specs.Elements as element
-use Rattle.hm_pack.specs.Elements.{type_of, faults, first}
+use Rattle.hm_message.specs.Meaning.{first}
+use Rattle.hm_pack.specs.Elements.{type_of, faults}
 use Rattle.hm_pack.specs.declared.refusal.PackRefusal.{PackRefusal}
 use Rattle.hm_pack.specs.declared.refusal.PackRefusal.TheVariants.{Value, Trailing, NotArray, Missing, Wrong, ResultKind, NoMemory}
-pub use Rattle.hm_pack.specs.Spell.{Spell}
+pub use Rattle.hm_pack.specs.Frame.{frame_of}
 
 -- the frame is one array of these elements, in any of its spellings
 abbrev pub IsArray : List ℕ → List Tree → Type 0

@@ -5,7 +5,8 @@ ghost use Rattle.hv_value.specs.View.{tree, trees_of};
 ghost use Rattle.hv_pack.specs.Writing.{IsWritable};
 ghost use Rattle.hm_message.specs.Message.{Fits};
 ghost use Rattle.hm_pack.specs.Says.{Says};
-ghost use Rattle.hm_pack.specs.Spell.{Spell, texts, headers_written, text_written, received_written, call_written, ending_written, written, elements_of, array_of, IsInRange, AreInRange};
+ghost use Rattle.hm_message.specs.Trees.{texts, IsInRange, AreInRange};
+ghost use Rattle.hm_pack.specs.Frame.{frame_of, headers_written, text_written, received_written, call_written, ending_written, written, elements_of, array_of};
 
 use crate::places;
 use hm_message::{Ending, Headers, Message};
@@ -183,9 +184,9 @@ fn array(alloc: Global, m: &Message) -> Result<Value, AllocError>
 /// answered as want of memory.
 pub fn write_message(alloc: Global, m: &Message, out: &mut Vec<u8>) -> Result<(), AllocError>
     requires { Fits m.now }
-    ensures ok { OnOk result (out.new.items ≡ out.old.items ++ Spell m.now) }
+    ensures ok { OnOk result (out.new.items ≡ out.old.items ++ frame_of m.now) }
     // What is written says the message itself.
-    ensures again { OnOk result (Says (Spell m.now) m.now) }
+    ensures again { OnOk result (Says (frame_of m.now) m.now) }
     ensures writable { OnOk result (IsWritable (array_of m.now)) }
     ensures err { OnErr result (out.new.items ≡ out.old.items) }
 {

@@ -11,7 +11,7 @@ use Rattle.hf_split.specs.declared.splitter.SplitFault.TheVariants.{TooLong, Bad
 use Rattle.hf_split.proofs.Streams.{begins_once}
 use Rattle.hf_split.proofs.Beginnings.{too_long_begins_none, wrapped_begins}
 use Rattle.hm_message.specs.declared.message.Message.{Message}
-use Rattle.hm_json.specs.Spell.{Spell}
+use Rattle.hm_json.specs.Frame.{frame_of}
 use Rattle.sr_app.specs.World.{request, written_of, client_frames}
 use Rattle.sr_app.specs.Follows.{IsShort, IsCarried, IsFront, items_of}
 use Rattle.sr_app.proofs.Short.{request_short}
@@ -60,8 +60,8 @@ same_front (f ∷ frames) (g ∷ all) s each whole e =
 -- the frames of a client are short
 pub client_short : (messages : List Message) → All IsCarried messages → All IsShort (client_frames messages)
 client_short messages each =
-    All-cons IsShort request (map Spell messages) request_short
-    (All-map IsShort Spell messages (All-weaker IsCarried (λ m. IsShort (Spell m)) (λ m carried. carried.short) messages each))
+    All-cons IsShort request (map frame_of messages) request_short
+    (All-map IsShort frame_of messages (All-weaker IsCarried (λ m. IsShort (frame_of m)) (λ m carried. carried.short) messages each))
 
 -- what a reader holds of a link, past the handshake, is a front of messages
 pub held_front : (held : Held) (link : List ℕ) (n : ℕ) (got : List Message) → Stands (always Record) held (take n link) (items_of (client_frames got))
@@ -71,8 +71,8 @@ held_front held link n got stands each front =
     sym (append_assoc (written_of (client_frames got)) held.bytes (drop n link ++ front.more)) ∙ ap (λ xs. xs ++ (drop n link ++ front.more)) (sym stands.whole)
     ∙ sym (append_assoc (take n link) (drop n link) front.more) ∙ ap (λ xs. xs ++ front.more) (take-append-drop n link) ∙ front.whole in
     let parts = same_front (client_frames got) (client_frames front.all) (held.bytes ++ (drop n link ++ front.more)) each (client_short front.all front.each) whole in
-    let rest : drop (length (map Spell got)) (map Spell front.all) ≡ map Spell (drop (length got) front.all) =
-    ap (λ (k : ℕ). drop k (map Spell front.all)) (length-map got Spell) ∙ drop-map Spell (length got) front.all in
+    let rest : drop (length (map frame_of got)) (map frame_of front.all) ≡ map frame_of (drop (length got) front.all) =
+    ap (λ (k : ℕ). drop k (map frame_of front.all)) (length-map got frame_of) ∙ drop-map frame_of (length got) front.all in
     record {
       all = drop (length got) front.all;
       more = drop n link ++ front.more;
@@ -96,19 +96,19 @@ front_short bytes front fault = by_all front.all front.each front.whole where
   long : IsTooLong Record 32768 bytes
   long = record_fault 32768 bytes fault
 
-  by_all : (all : List Message) → All IsCarried all → bytes ++ front.more ≡ written_of (map Spell all) → ⊥
+  by_all : (all : List Message) → All IsCarried all → bytes ++ front.more ≡ written_of (map frame_of all) → ⊥
   by_all [] each whole = omega (arith, long.0, ap length whole, length-append bytes front.more)
   by_all (m ∷ all) each whole =
-      let is : IsShort (Spell m) = (All-head IsCarried m all each).short in
-      let begins : BeginsWith Record 32768 (bytes ++ front.more) (wrapped Record (Spell m)) =
-      subst (λ (xs : List ℕ). BeginsWith Record 32768 xs (wrapped Record (Spell m))) (sym whole) (wrapped_begins Record 32768 (Spell m) (written_of (map Spell all)) is.plain is.short) in
-      too_long_begins_none Record 32768 bytes front.more (wrapped Record (Spell m)) long begins
+      let is : IsShort (frame_of m) = (All-head IsCarried m all each).short in
+      let begins : BeginsWith Record 32768 (bytes ++ front.more) (wrapped Record (frame_of m)) =
+      subst (λ (xs : List ℕ). BeginsWith Record 32768 xs (wrapped Record (frame_of m))) (sym whole) (wrapped_begins Record 32768 (frame_of m) (written_of (map frame_of all)) is.plain is.short) in
+      too_long_begins_none Record 32768 bytes front.more (wrapped Record (frame_of m)) long begins
 
 -- the first frame of a front is that of a message, and past it the front goes on
 pub record FrontFirst (bytes : List ℕ) (item : Spelled) : Type 0 where
   pub message : Message
   pub carried : IsCarried message
-  pub is : item ≡ wrapped Record (Spell message)
+  pub is : item ≡ wrapped Record (frame_of message)
   pub rest : IsFront [] (drop (length item.spelling) bytes)
 
 pub front_first : (bytes : List ℕ) (item : Spelled) → IsFront [] bytes → BeginsWith Record 32768 bytes item → FrontFirst bytes item
@@ -116,15 +116,15 @@ front_first bytes item front begins = by_all front.all front.each front.whole wh
   size : length item.spelling ≤ length bytes
   size = omega (arith, ap length begins.front, length-append item.spelling (drop (length item.spelling) bytes))
 
-  by_all : (all : List Message) → All IsCarried all → bytes ++ front.more ≡ written_of (map Spell all) → FrontFirst bytes item
+  by_all : (all : List Message) → All IsCarried all → bytes ++ front.more ≡ written_of (map frame_of all) → FrontFirst bytes item
   by_all [] each whole = absurd (omega (arith, ap length whole, length-append bytes front.more, size, ap length begins.is_frame.spells.0, length-append item.frame (30 ∷ [])))
   by_all (m ∷ all) each whole =
       let carried : IsCarried m = All-head IsCarried m all each in
-      let other : BeginsWith Record 32768 (bytes ++ front.more) (wrapped Record (Spell m)) =
-      subst (λ (xs : List ℕ). BeginsWith Record 32768 xs (wrapped Record (Spell m))) (sym whole)
-      (wrapped_begins Record 32768 (Spell m) (written_of (map Spell all)) carried.short.plain carried.short.short) in
-      let same : item ≡ wrapped Record (Spell m) = begins_once Record 32768 bytes front.more item (wrapped Record (Spell m)) begins other in
-      let sizes : length ((wrapped Record (Spell m)).spelling) ≡ length item.spelling = ap (λ (s : Spelled). length s.spelling) (sym same) in
+      let other : BeginsWith Record 32768 (bytes ++ front.more) (wrapped Record (frame_of m)) =
+      subst (λ (xs : List ℕ). BeginsWith Record 32768 xs (wrapped Record (frame_of m))) (sym whole)
+      (wrapped_begins Record 32768 (frame_of m) (written_of (map frame_of all)) carried.short.plain carried.short.short) in
+      let same : item ≡ wrapped Record (frame_of m) = begins_once Record 32768 bytes front.more item (wrapped Record (frame_of m)) begins other in
+      let sizes : length ((wrapped Record (frame_of m)).spelling) ≡ length item.spelling = ap (λ (s : Spelled). length s.spelling) (sym same) in
       record {
         message = m;
         carried = carried;
@@ -134,6 +134,6 @@ front_first bytes item front begins = by_all front.all front.each front.whole wh
           more = front.more;
           each = All-tail IsCarried m all each;
           whole = sym (drop-append-le (length item.spelling) bytes front.more size) ∙ ap (λ xs. drop (length item.spelling) xs) whole
-              ∙ drop_at ((wrapped Record (Spell m)).spelling) (written_of (map Spell all)) (length item.spelling) sizes;
+              ∙ drop_at ((wrapped Record (frame_of m)).spelling) (written_of (map frame_of all)) (length item.spelling) sizes;
         };
       }

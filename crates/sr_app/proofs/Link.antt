@@ -8,7 +8,7 @@ use Rattle.hf_split.specs.Cuts.{Spelled, AreFrames, BeginsWith, IsFaulty, IsWait
 use Rattle.hf_split.specs.Held.{Held, Stands, IsInStep, after_feed, after_pass}
 use Rattle.hm_message.specs.declared.message.Message.{Message}
 use Rattle.hm_json.specs.Says.{Says}
-use Rattle.hm_json.specs.Spell.{Spell}
+use Rattle.hm_json.specs.Frame.{frame_of}
 use Rattle.sr_app.specs.World.{request, written_of, client_frames}
 use Rattle.sr_app.specs.Report.{got_line, got_lines}
 use Rattle.sr_app.specs.Follows.{IsShort, IsCarried, IsFront, IsReader, IsReading, Waits, Takes, items_of}
@@ -90,16 +90,16 @@ got_lines-append n k (m ∷ new) more e =
     ap (λ xs. got_line (suc n) m ++ xs) (got_lines-append (suc n) k new more next) ∙ sym (append_assoc (got_line (suc n) m) (got_lines (suc n) new) (got_lines k more))
 
 -- one more frame is spelled behind those before it
-items_more : (got new : List Message) (item : Spelled) (message : Message) → item ≡ wrapped Record (Spell message)
+items_more : (got new : List Message) (item : Spelled) (message : Message) → item ≡ wrapped Record (frame_of message)
     → items_of (client_frames (got ++ new)) ++ item ∷ [] ≡ items_of (client_frames (got ++ (new ++ message ∷ [])))
 items_more got new item message is =
     ap (λ (x : Spelled). items_of (client_frames (got ++ new)) ++ x ∷ []) is
-    ∙ sym (map-append (wrapped Record) (client_frames (got ++ new)) (Spell message ∷ []))
-    ∙ ap (λ (fs : List (List ℕ)). items_of (request ∷ fs)) (sym (map-append Spell (got ++ new) (message ∷ [])))
+    ∙ sym (map-append (wrapped Record) (client_frames (got ++ new)) (frame_of message ∷ []))
+    ∙ ap (λ (fs : List (List ℕ)). items_of (request ∷ fs)) (sym (map-append frame_of (got ++ new) (message ∷ [])))
     ∙ ap (λ (ms : List Message). items_of (client_frames ms)) (append_assoc got new (message ∷ []))
 
 goes_next : (held next : Held) (stream : List ℕ) (got : List Message) (before now now' : List ℕ) (total : ℕ) (item : Spelled) (message : Message) → IsCarried message
-    → item ≡ wrapped Record (Spell message) → now' ≡ now ++ got_line (total + 1) message
+    → item ≡ wrapped Record (frame_of message) → now' ≡ now ++ got_line (total + 1) message
     → ((passed : List Spelled) → Stands (always Record) held stream passed → Stands (always Record) next stream (passed ++ item ∷ []))
     → Goes held stream got before now total → Goes next stream got before now' (total + 1)
 goes_next held next stream got before now now' total item message carried is text stands goes =
@@ -226,7 +226,7 @@ fed_front held fed link at n total is reading =
 pub fed_few : (held fed : Held) (link : List ℕ) (at n total : ℕ) → IsFed held fed link at n → IsReading held link at total → length link < 2 ^ 64 → total + length fed.bytes < 2 ^ 64
 fed_few held fed link at n total is reading small =
     let stands = fed_stands held fed link at n (client_frames reading.got) is reading.waits.stands in
-    omega (arith, few_frames fed (take (at + n) link) (client_frames reading.got) stands, reading.count, length-map reading.got Spell, length-take (at + n) link)
+    omega (arith, few_frames fed (take (at + n) link) (client_frames reading.got) stands, reading.count, length-map reading.got frame_of, length-take (at + n) link)
 
 -- taken in two turns
 takes_more : (held next : Held) (stream stream' : List ℕ) (got : List Message) (before now now' : List ℕ) (total total' : ℕ)

@@ -6,7 +6,7 @@ use Rattle.hf_split.specs.Cuts.{wrapped}
 use Rattle.sr_app.specs.declared.step.Count.{Count}
 use Rattle.sr_app.specs.declared.pair.Pair.{Pair}
 use Rattle.hm_message.specs.declared.message.Message.{Message}
-use Rattle.hm_json.specs.Spell.{Spell}
+use Rattle.hm_json.specs.Frame.{frame_of}
 use Rattle.sr_app.specs.World.{World, request, written_of, client_frames, link, part_of}
 use Rattle.sr_app.specs.Follows.{IsReading, Waits, Follows, Moves}
 use Rattle.sr_app.proofs.Frames.{written_of-append}
@@ -21,7 +21,7 @@ moves_none old now w got line follows text = record {
 }
 
 -- what the client sent, with one message more
-pub sent_more : (pair : Pair) (w : World) (got : List Message) (waiting frame : List ℕ) (message : Message) → Follows pair w got → frame ≡ Spell message
+pub sent_more : (pair : Pair) (w : World) (got : List Message) (waiting frame : List ℕ) (message : Message) → Follows pair w got → frame ≡ frame_of message
     → waiting ≡ pair.waiting.items ++ (wrapped Record frame).spelling → pair.link.items ++ waiting ≡ written_of (client_frames (w.sent ++ message ∷ []))
 sent_more pair w got waiting frame message follows is e =
     ap (λ xs. pair.link.items ++ xs) e ∙ sym (append_assoc pair.link.items pair.waiting.items ((wrapped Record frame).spelling))
@@ -29,7 +29,7 @@ sent_more pair w got waiting frame message follows is e =
     ∙ ap (λ xs. written_of (client_frames w.sent) ++ xs) (sym (append-nil ((wrapped Record frame).spelling)))
     ∙ sym (written_of-append (client_frames w.sent) (frame ∷ []))
     ∙ ap (λ (f : List ℕ). written_of (client_frames w.sent ++ f ∷ [])) is
-    ∙ ap (λ (fs : List (List ℕ)). written_of (request ∷ fs)) (sym (map-append Spell w.sent (message ∷ [])))
+    ∙ ap (λ (fs : List (List ℕ)). written_of (request ∷ fs)) (sym (map-append frame_of w.sent (message ∷ [])))
 
 -- the link stays as it is where more is written behind it
 pub read_stays : (pair : Pair) (w : World) (got : List Message) → Follows pair w got → w.read ≡ take pair.read (written_of (client_frames w.sent))

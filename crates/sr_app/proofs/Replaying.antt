@@ -12,7 +12,7 @@ use Rattle.sr_app.specs.declared.pair.Pair.{Pair}
 use Rattle.hd_facts.specs.Unique.{IsTheOne}
 use Rattle.hm_message.specs.declared.message.Message.{Message}
 use Rattle.hm_json.specs.Says.{Says}
-use Rattle.hm_json.specs.Spell.{Spell}
+use Rattle.hm_json.specs.Frame.{frame_of}
 use Rattle.hm_json.proofs.Meanings.{one_meaning}
 use Rattle.sr_app.specs.World.{World, written_of, client_frames, invocation, opened, after, after_all, world_of, sent_by}
 use Rattle.sr_app.specs.Report.{shaken_lines, step_line, got_lines, client_line, server_line, IsSaid, Carries, Reports, IsReport, IsDelivered, IsReportOf}
@@ -24,15 +24,15 @@ are_said : (messages : List Message) → All IsCarried messages → All IsSaid m
 are_said messages each = All-weaker IsCarried IsSaid (λ m carried. carried.said) messages each
 
 -- messages that their frames say are told apart by these
-same_messages : (messages others : List Message) → All IsSaid messages → All IsSaid others → map Spell messages ≡ map Spell others → messages ≡ others
+same_messages : (messages others : List Message) → All IsSaid messages → All IsSaid others → map frame_of messages ≡ map frame_of others → messages ≡ others
 same_messages [] [] said said' e = refl
 same_messages [] (n ∷ others) said said' e = absurd (omega (arith, ap length e))
 same_messages (m ∷ messages) [] said said' e = absurd (omega (arith, ap length e))
 same_messages (m ∷ messages) (n ∷ others) said said' e =
-    let frame : Spell m ≡ Spell n = ap (λ (fs : List (List ℕ)). get_or fs 0 []) e in
-    let frames : map Spell messages ≡ map Spell others = ap (λ (fs : List (List ℕ)). drop 1 fs) e in
+    let frame : frame_of m ≡ frame_of n = ap (λ (fs : List (List ℕ)). get_or fs 0 []) e in
+    let frames : map frame_of messages ≡ map frame_of others = ap (λ (fs : List (List ℕ)). drop 1 fs) e in
     let first : m ≡ n =
-    (one_meaning (Spell m)).one_message m n (All-head IsSaid m messages said) (subst (λ (f : List ℕ). Says f n) (sym frame) (All-head IsSaid n others said')) in
+    (one_meaning (frame_of m)).one_message m n (All-head IsSaid m messages said) (subst (λ (f : List ℕ). Says f n) (sym frame) (All-head IsSaid n others said')) in
     ap (λ (x : Message). x ∷ messages) first
     ∙ ap (λ (xs : List Message). n ∷ xs) (same_messages messages others (All-tail IsSaid m messages said) (All-tail IsSaid n others said') frames)
 
@@ -56,8 +56,8 @@ sent_first pair w got follows =
     ∙ ap (λ xs. xs ++ pair.waiting.items) (take-append-drop pair.read pair.link.items) ∙ follows.waiting in
     let parts = same_front (client_frames got) (client_frames w.sent) (pair.server.bytes ++ (drop pair.read pair.link.items ++ pair.waiting.items))
     (stands_short pair.server w.read (client_frames got) follows.waits.reader follows.waits.stands) (client_short w.sent follows.each_sent) whole in
-    let frames : map Spell got ≡ map Spell (take (length got) w.sent) =
-    ap (λ (fs : List (List ℕ)). drop 1 fs) parts.0 ∙ ap (λ (n : ℕ). take n (map Spell w.sent)) (length-map got Spell) ∙ take-map Spell (length got) w.sent in
+    let frames : map frame_of got ≡ map frame_of (take (length got) w.sent) =
+    ap (λ (fs : List (List ℕ)). drop 1 fs) parts.0 ∙ ap (λ (n : ℕ). take n (map frame_of w.sent)) (length-map got frame_of) ∙ take-map frame_of (length got) w.sent in
     let first : got ≡ take (length got) w.sent =
     same_messages got (take (length got) w.sent) (are_said got follows.each_got) (All-take IsSaid (length got) w.sent (are_said w.sent follows.each_sent)) frames in
     (drop (length got) w.sent, sym (take-append-drop (length got) w.sent) ∙ ap (λ (xs : List Message). xs ++ drop (length got) w.sent) (sym first))

@@ -4,7 +4,7 @@ use Rattle.std.specs.List.{AllByRecursion}
 use Rattle.std.proofs.lemmas.List.Elements.{All-append, All-weaker, All-from_recursion}
 use Rattle.hf_split.specs.Cuts.{IsPlain}
 use Rattle.hm_json.specs.Says.{Says}
-use Rattle.hm_json.specs.Spell.{Spell}
+use Rattle.hm_json.specs.Frame.{frame_of}
 use Rattle.sr_app.specs.Script.{IsLetter, IsTarget, before_target, after_target, message_text}
 use Rattle.sr_app.specs.World.{request, response, invocation}
 use Rattle.sr_app.specs.Follows.{IsShort, IsCarried}
@@ -53,8 +53,8 @@ text_short target is =
     }
 
 -- the frame of a message of a script can be written
-pub invocation_short : (target : List ℕ) → IsTarget target → IsShort (Spell (invocation target))
+pub invocation_short : (target : List ℕ) → IsTarget target → IsShort (frame_of (invocation target))
 invocation_short target is = subst IsShort (sym (spelled target is)) (text_short target is)
 
-pub invocation_carried : (target : List ℕ) → IsTarget target → Says (Spell (invocation target)) (invocation target) → IsCarried (invocation target)
+pub invocation_carried : (target : List ℕ) → IsTarget target → Says (frame_of (invocation target)) (invocation target) → IsCarried (invocation target)
 invocation_carried target is said = record { short = invocation_short target is; said = said }

@@ -6,7 +6,7 @@ use Rattle.std.proofs.lemmas.List.Elements.{All-head, All-tail}
 use Rattle.json.specs.Print.{escape, escape_byte}
 use Rattle.json.proofs.Printed.Strings.{escape_byte_plain}
 use Rattle.hv_json.specs.Writing.{json_text}
-use Rattle.hm_json.specs.Spell.{Spell}
+use Rattle.hm_json.specs.Frame.{frame_of}
 use Rattle.sr_app.specs.Script.{IsLetter, IsTarget, before_target, after_target, message_text}
 use Rattle.sr_app.specs.World.{invocation}
 
@@ -19,7 +19,7 @@ letters_stay [] each = refl
 letters_stay (b ∷ target) each =
     ap (λ (xs : List ℕ). xs ++ escape target) (letter_stays b (All-head IsLetter b target each)) ∙ ap (λ (xs : List ℕ). b ∷ xs) (letters_stay target (All-tail IsLetter b target each))
 
-pub spelled : (target : List ℕ) → IsTarget target → Spell (invocation target) ≡ message_text target
+pub spelled : (target : List ℕ) → IsTarget target → frame_of (invocation target) ≡ message_text target
 unfolding json_text escape_byte
 spelled target is =
     let one : decimal 1 ≡ 49 ∷ [] = decimal_digit 1 (omega arith) in

@@ -5,7 +5,7 @@ use Rattle.hf_split.specs.Cuts.{Spelled, CanWrap, IsWaiting, Cuts, always, wrapp
 use Rattle.hf_split.specs.Held.{Held, Stands}
 use Rattle.sr_app.specs.declared.pair.Pair.{Pair}
 use Rattle.hm_message.specs.declared.message.Message.{Message}
-use Rattle.hm_json.specs.Spell.{Spell}
+use Rattle.hm_json.specs.Frame.{frame_of}
 use Rattle.sr_app.specs.World.{World, request, response, link, written_of, client_frames}
 use Rattle.sr_app.specs.Report.{IsSaid, got_lines}
 
@@ -20,7 +20,7 @@ items_of frames = map (wrapped Record) frames
 
 -- a message whose frame can be written and read again, and says it
 pub record IsCarried (message : Message) : Type 0 where
-  pub short : IsShort (Spell message)
+  pub short : IsShort (frame_of message)
   pub said : IsSaid message
 
 -- the bytes are a front of these frames and then those of messages
@@ -28,7 +28,7 @@ pub record IsFront (first : List (List ℕ)) (bytes : List ℕ) : Type 0 where
   pub all : List Message
   pub more : List ℕ
   pub each : All IsCarried all
-  pub whole : bytes ++ more ≡ written_of (first ++ map Spell all)
+  pub whole : bytes ++ more ≡ written_of (first ++ map frame_of all)
 
 -- an end that reads frames of at most 32,768 bytes, each ended by the separator
 pub record IsReader (held : Held) : Type 0 where

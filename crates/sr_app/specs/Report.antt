@@ -5,7 +5,7 @@ use Rattle.hf_split.specs.declared.framing.Framing.TheVariants.{Record}
 use Rattle.hf_split.specs.Cuts.{Spelled, Cuts, always, frames_of}
 use Rattle.hm_message.specs.declared.message.Message.{Message}
 use Rattle.hm_json.specs.Says.{Says}
-use Rattle.hm_json.specs.Spell.{Spell}
+use Rattle.hm_json.specs.Frame.{frame_of}
 use Rattle.sr_app.specs.declared.step.Step.{Step}
 use Rattle.sr_app.specs.declared.step.Step.TheVariants.{Send, Write, Read}
 use Rattle.sr_app.specs.World.{World, opened, after, world_of, client_frames, sent_by}
@@ -18,7 +18,7 @@ abbrev pub sent_line : ℕ → List ℕ
 sent_line n = codes "c sent " ++ (decimal n ++ codes "\n")
 
 abbrev pub got_line : ℕ → Message → List ℕ
-got_line n message = codes "s got " ++ (decimal n ++ (codes " " ++ (Spell message ++ codes "\n")))
+got_line n message = codes "s got " ++ (decimal n ++ (codes " " ++ (frame_of message ++ codes "\n")))
 
 -- these messages, after so many others
 abbrev pub got_lines : ℕ → List Message → List ℕ
@@ -40,7 +40,7 @@ step_line sent (Read count) = []
 
 -- the message's frame says it
 abbrev pub IsSaid : Message → Type 0
-IsSaid message = Says (Spell message) message
+IsSaid message = Says (frame_of message) message
 
 -- The frames that stand whole in these bytes are the handshake and then those of these messages, each of which says it.
 pub record Carries (bytes : List ℕ) (messages : List Message) : Type 0 where

@@ -4,7 +4,7 @@ use Rattle.hf_split.specs.declared.framing.Framing.TheVariants.{Record}
 use Rattle.hf_split.specs.Cuts.{wrapped, stream_of}
 use Rattle.hm_message.specs.declared.message.Message.{Message}
 use Rattle.hm_message.specs.declared.message.Message.TheVariants.{Invocation}
-use Rattle.hm_json.specs.Spell.{Spell}
+use Rattle.hm_json.specs.Frame.{frame_of}
 use Rattle.sr_app.specs.declared.step.Step.{Step}
 use Rattle.sr_app.specs.declared.step.Step.TheVariants.{Send, Write, Read}
 use Rattle.sr_app.specs.declared.step.Count.{Count}
@@ -28,7 +28,7 @@ invocation target = Invocation [] None target [] []
 
 -- the frames of a client that sends these messages: its handshake, and then theirs
 abbrev pub client_frames : List Message → List (List ℕ)
-client_frames messages = request ∷ map Spell messages
+client_frames messages = request ∷ map frame_of messages
 
 -- the messages that the client sent, those of them that it wrote onto the link, and the bytes of the link that the
 -- server has read

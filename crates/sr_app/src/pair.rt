@@ -5,7 +5,7 @@ ghost use Rattle.hf_split.specs.Held.{Stands};
 ghost use Rattle.hd_facts.specs.Unique.{IsTheOne};
 ghost use Rattle.hm_message.specs.declared.message.Message.{Message};
 ghost use Rattle.hm_json.specs.Says.{Says};
-ghost use Rattle.hm_json.specs.Spell.{Spell};
+ghost use Rattle.hm_json.specs.Frame.{frame_of};
 ghost use Rattle.sr_app.specs.Script.{IsStep, IsTarget};
 ghost use Rattle.sr_app.specs.World.{World, invocation, client_frames, written_of, opened, after, part_of};
 ghost use Rattle.sr_app.specs.Report.{shaken_lines, sent_line, got_line, step_line, IsReportOf};
@@ -143,7 +143,7 @@ fn invoke(alloc: Global, target: &Text) -> Result<Message, AllocError>
 
 /// The frame of the message that invokes a target.
 fn invocation_frame(alloc: Global, target: &Text) -> Result<Vec<u8>, AllocError>
-    ensures spelled { IfOk result (λ frame. frame.items ≡ Spell (invocation target.now)) }
+    ensures spelled { IfOk result (λ frame. frame.items ≡ frame_of (invocation target.now)) }
     ensures said { IfOk result (λ frame. Says frame.items (invocation target.now)) }
 {
     let message = invoke(alloc, target)?;

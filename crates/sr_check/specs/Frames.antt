@@ -35,8 +35,8 @@ Refuses Pack frame words = (why : PackRefusal) × pack.Why frame why × (words �
 
 -- the frame that is written of a message
 abbrev pub spelled : Codec → Message → List ℕ
-spelled Json m = json.Spell m
-spelled Pack m = pack.Spell m
+spelled Json m = json.frame_of m
+spelled Pack m = pack.frame_of m
 
 -- the same as it stands on a stream
 abbrev pub streamed : Codec → Message → List ℕ

@@ -1,6 +1,6 @@
 ghost use Rattle.std.specs.Prelude.{◌≡◌, ◌++◌, IfOk, codes};
 ghost use Rattle.std.specs.Fmt.{signed_decimal};
-ghost use Rattle.hm_json.specs.Spell.{Spell};
+ghost use Rattle.hm_json.specs.Frame.{frame_of};
 ghost use Rattle.hm_message.specs.Message.{Fits};
 ghost use Rattle.hm_message.specs.declared.message.Codec.TheVariants.{Json, Pack};
 ghost use Rattle.sr_check.specs.Frames.{streamed};
@@ -40,7 +40,7 @@ fn spell_line(alloc: Global, at: u64, words: &[u8]) -> Result<Vec<u8>, AllocErro
 
 fn message_line(alloc: Global, at: u64, message: &Message) -> Result<Vec<u8>, AllocError>
     requires { Fits message.now }
-    ensures { IfOk result (λ text. text.items ≡ line_at at (codes "message " ++ Spell message.now)) }
+    ensures { IfOk result (λ text. text.items ≡ line_at at (codes "message " ++ frame_of message.now)) }
 {
     let mut words = Vec::from_slice(alloc, b"message ")?;
     write_json(alloc, message, &mut words)?;

@@ -27,5 +27,5 @@ returns-clause-message c =
     let h : type_of t ≡ Ok (number c.in-Some.kind) = c.in_ok-n.ensures.ok ∙ ap (λ (z : ℤ). Ok z) n in
     let d : depth (tree c.in_ok-value.value) ≤ 64 = omega (arith, c.depth.ensures.exact, c.depth.ensures.bound) in (
       (t, (r, (tt, rw c.in_ok-message.ensures.kind h, c.in_ok-message.ensures.ok))),
-      read_fits (pairs c.in-Map.object) m (rw c.in-Map.is at d) c.in_ok-message.ensures.ok,
+      read_fits c.values_are_trees.ensures (pairs c.in-Map.object) m (rw c.in-Map.is at d) c.in_ok-message.ensures.ok,
     )

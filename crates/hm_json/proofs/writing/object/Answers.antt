@@ -4,7 +4,7 @@ use Rattle.hv_value.specs.View.{tree, entries}
 use Rattle.hm_message.specs.Kind.{number, kind_of}
 use Rattle.hm_message.specs.declared.message.Field.TheVariants as field
 use Rattle.hm_json.specs.Says.{IsObject}
-use Rattle.hm_json.specs.Spell.{property_of, written}
+use Rattle.hm_json.specs.Frame.{property_of, written}
 use Rattle.hm_json.proofs.Depths.{object_depth}
 use Rattle.hm_json.proofs.Again.{says_again}
 use Rattle.hm_json.proofs.writing.object.Goals as goal
@@ -21,4 +21,4 @@ returns-in-Ok-clause-says c =
     let m = c.args.m.now in
     let made : entries c.put_message.new.properties.items ≡ property_of field.Kind (int (number (kind_of m))) ++ written m = search rules in
     let object : IsObject (tree c.in-Ok.object) = subst IsObject (sym c.in-Ok.ensures.ok) tt in
-    says_again (tree c.in-Ok.object) m c.in_ok-put_message.ensures.in_range object (λ key. c.in-Ok.ensures.last key ∙ ap (last_of key) made)
+    says_again c.values_are_trees.ensures (tree c.in-Ok.object) m c.in_ok-put_message.ensures.in_range object (λ key. c.in-Ok.ensures.last key ∙ ap (last_of key) made)

@@ -11,5 +11,5 @@ returns c =
     let h : IsTrue c.all.result ↔ All (λ v. depth (tree v) < 63) vs = search rules in
     let e = c.values.ensures.values in (
       λ t. let below : depth_of_all (trees_of vs) < 63 = all_below vs 63 (omega arith) (h.0 t) in rw (← e) (omega (arith, below)),
-      λ shallow. let below : depth_of_all (trees_of vs) < 63 = rw e (omega (arith, shallow)) in h.1 (below_all vs 63 below),
+      λ shallow. let below : depth_of_all (trees_of vs) < 63 = rw e (omega (arith, shallow)) in h.1 (below_all c.no_item_is_deeper.ensures vs 63 below),
     )

@@ -1,7 +1,7 @@
 use Rattle.std.proofs.Common.{◌≡◌, ap, arith, rules}
 use Rattle.hv_value.specs.Tree.{depth_of_all}
 use Rattle.hv_value.specs.View.{trees_of}
-use Rattle.hm_pack.specs.Spell.{elements_of}
+use Rattle.hm_pack.specs.Frame.{elements_of}
 use Rattle.hm_pack.proofs.Depths.{array_depth}
 use Rattle.hm_pack.proofs.writing.array.Goals as goal
 

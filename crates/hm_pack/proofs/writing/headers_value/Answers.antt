@@ -2,7 +2,7 @@ use Rattle.std.proofs.Common.{◌≡◌, take, ap, ◌∙◌, arith}
 use Rattle.std.proofs.lemmas.List.{take_all}
 use Rattle.hv_value.specs.Tree.{depth_of_values, map_of}
 use Rattle.hv_value.specs.View.{entries}
-use Rattle.hm_pack.specs.Spell.{header_pairs}
+use Rattle.hm_message.specs.Trees.{header_pairs}
 use Rattle.hm_pack.proofs.Depths.{depth-header_pairs}
 use Rattle.hm_pack.proofs.Again.{map_of-headers}
 use Rattle.hm_pack.proofs.writing.headers_value.Goals as goal

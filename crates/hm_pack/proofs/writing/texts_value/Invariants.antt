@@ -1,6 +1,6 @@
 use Rattle.std.proofs.Common.{◌≡◌, take}
 use Rattle.hv_value.specs.View.{trees_of}
-use Rattle.hm_pack.specs.Spell.{texts}
+use Rattle.hm_message.specs.Trees.{texts}
 use Rattle.hm_pack.proofs.writing.texts_value.Given as goal
 
 abbrev pub invariant-loop-string : goal.invariant-loop-string

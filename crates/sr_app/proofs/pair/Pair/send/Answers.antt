@@ -4,7 +4,7 @@ use Rattle.std.proofs.lemmas.Result.{on_ok_weaker}
 use Rattle.hf_split.specs.Cuts.{IsPlain}
 use Rattle.hm_message.specs.declared.message.Message.{Message}
 use Rattle.hm_json.specs.Says.{Says}
-use Rattle.hm_json.specs.Spell.{Spell}
+use Rattle.hm_json.specs.Frame.{frame_of}
 use Rattle.sr_app.specs.World.{invocation}
 use Rattle.sr_app.specs.Report.{sent_line}
 use Rattle.sr_app.specs.Follows.{IsCarried}
@@ -19,7 +19,7 @@ wrap-requires c =
 pub returns : goal.returns
 returns c = on_ok_weaker c.push_sent.result (λ text w got follows.
     let message : Message = invocation c.args.target.now in
-    let body : c.deref.result.now ≡ Spell message = c.deref.ensures.value ∙ c.in_ok-frame.ensures.spelled in
+    let body : c.deref.result.now ≡ frame_of message = c.deref.ensures.value ∙ c.in_ok-frame.ensures.spelled in
     let carried : IsCarried message =
     invocation_carried c.args.target.now c.requires.target (subst (λ (f : List ℕ). Says f message) c.in_ok-frame.ensures.spelled c.in_ok-frame.ensures.said) in
     let count : c.args.self.now.sent + 1 ≡ length (w.sent ++ message ∷ []) = omega (arith, follows.sent, length-append w.sent (message ∷ [])) in

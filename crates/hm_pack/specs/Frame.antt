@@ -1,21 +1,15 @@
 -- The frame that is written for a message (HubProtocol.md, "MessagePack (MsgPack) encoding").
-use Rattle.std.specs.Prelude.{ℕ, pos, ◌<◌, ◌^◌, Bool, List, [], ◌∷◌, Option, Some, None}
-use Rattle.std.specs.Prelude as std
-use Rattle.hv_value.specs.Tree.{Tree, null, boolean, int, text, list, map, trees, pairs, Pair}
+use Rattle.std.specs.Prelude.{ℕ, pos, List, [], ◌∷◌, Option, Some, None}
+use Rattle.hv_value.specs.Tree.{Tree, null, boolean, int, text, list, map, trees, pairs}
 use Rattle.hv_value.specs.View as seen
 use Rattle.hv_pack.specs.Writing.{shortest}
 use Rattle.hm_message.specs.Headers.{Header}
 use Rattle.hm_message.specs.Kind.{number, kind_of}
+use Rattle.hm_message.specs.Trees.{texts, header_pairs}
 use Rattle.hm_message.specs.declared.message.Message.{Message}
 use Rattle.hm_message.specs.declared.message.Message.TheVariants.{Invocation, StreamItem, Completion, StreamInvocation, CancelInvocation, Ping, Close, Ack, Sequence}
 use Rattle.hm_message.specs.declared.message.Ending.{Ending}
 use Rattle.hm_message.specs.declared.message.Ending.TheVariants as ending
-
-abbrev pub texts : List (List ℕ) → List Tree
-texts ss = std.map text ss
-
-abbrev pub header_pairs : List Header → List Pair
-header_pairs hs = std.map (λ h. (h.0, text h.1)) hs
 
 abbrev pub headers_written : List Header → Tree
 headers_written hs = map (pairs (header_pairs hs))
@@ -58,15 +52,5 @@ abbrev pub array_of : Message → Tree
 array_of m = list (trees (elements_of m))
 
 -- the message's frame
-abbrev pub Spell : Message → List ℕ
-Spell m = shortest (array_of m)
-
--- the message's numbers are of 64 bits
-abbrev pub AreInRange : Option ℕ → Type 0
-AreInRange None = Unit {0}
-AreInRange (Some n) = n < 2 ^ 64
-
-abbrev pub IsInRange : Message → Type 0
-IsInRange (Ack upto) = upto < 2 ^ 64
-IsInRange (Sequence first received) = (first < 2 ^ 64) × AreInRange received
-IsInRange m = Unit {0}
+abbrev pub frame_of : Message → List ℕ
+frame_of m = shortest (array_of m)

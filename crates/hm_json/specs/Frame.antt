@@ -1,11 +1,11 @@
 -- The frame that is written for a message (HubProtocol.md, "JSON Encoding").
-use Rattle.std.specs.Prelude.{ℕ, pos, ◌<◌, ◌^◌, Bool, true, false, List, [], ◌∷◌, ◌++◌, codes, Option, Some, None}
-use Rattle.std.specs.Prelude as std
+use Rattle.std.specs.Prelude.{ℕ, pos, Bool, true, false, List, [], ◌∷◌, ◌++◌, codes, Option, Some, None}
 use Rattle.hv_value.specs.Tree.{Tree, boolean, int, text, list, map, trees, pairs, map_of, Pair}
 use Rattle.hv_value.specs.View as seen
 use Rattle.hv_json.specs.Writing.{json_text}
 use Rattle.hm_message.specs.Headers.{Header}
 use Rattle.hm_message.specs.Kind.{number, kind_of}
+use Rattle.hm_message.specs.Trees.{texts, header_pairs}
 use Rattle.hm_message.specs.Name.{field_name}
 use Rattle.hm_message.specs.declared.message.Field.{Field}
 use Rattle.hm_message.specs.declared.message.Field.TheVariants as field
@@ -16,12 +16,6 @@ use Rattle.hm_message.specs.declared.message.Ending.TheVariants as ending
 
 abbrev pub property_of : Field → Tree → List Pair
 property_of f t = (field_name f, t) ∷ []
-
-abbrev pub texts : List (List ℕ) → List Tree
-texts ss = std.map text ss
-
-abbrev pub header_pairs : List Header → List Pair
-header_pairs hs = std.map (λ h. (h.0, text h.1)) hs
 
 abbrev pub headers_written : List Header → List Pair
 headers_written [] = []
@@ -74,15 +68,5 @@ abbrev pub object_of : Message → Tree
 object_of m = map_of (property_of field.Kind (int (number (kind_of m))) ++ written m)
 
 -- the message's frame
-abbrev pub Spell : Message → List ℕ
-Spell m = json_text (object_of m)
-
--- the message's numbers are of 64 bits
-abbrev pub AreInRange : Option ℕ → Type 0
-AreInRange None = Unit {0}
-AreInRange (Some n) = n < 2 ^ 64
-
-abbrev pub IsInRange : Message → Type 0
-IsInRange (Ack upto) = upto < 2 ^ 64
-IsInRange (Sequence first received) = (first < 2 ^ 64) × AreInRange received
-IsInRange m = Unit {0}
+abbrev pub frame_of : Message → List ℕ
+frame_of m = json_text (object_of m)
