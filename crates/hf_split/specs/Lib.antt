@@ -4,3 +4,4 @@ pub mod Laws
 pub mod Marks
 pub mod Nexts
 pub mod VarInts
+pub mod Words

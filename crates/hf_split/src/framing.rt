@@ -1,3 +1,5 @@
+//! How a frame stands on a stream: before a separator, or after its length. Puts frames onto a stream.
+
 ghost use Rattle.std.specs.Prelude.{◌≡◌, ◌<◌, ◌++◌, length, OnOk, OnErr};
 ghost use Rattle.hf_split.specs.VarInts.{var_int_bound};
 ghost use Rattle.hf_split.specs.Cuts.{IsPlain, CanWrap, wrapped};
@@ -20,6 +22,7 @@ pub enum Framing {
     Length,
 }
 
+/// Appends the body and a separator.
 fn wrap_record(body: &[u8], out: &mut Vec<u8>) -> Result<(), AllocError>
     requires { IsPlain body.now }
     ensures ok { OnOk result (out.new.items ≡ out.old.items ++ (wrapped Framing.Record body.now).spelling) }
@@ -31,6 +34,7 @@ fn wrap_record(body: &[u8], out: &mut Vec<u8>) -> Result<(), AllocError>
     Ok(())
 }
 
+/// Appends the shortest length of the body, and the body.
 fn wrap_length(body: &[u8], out: &mut Vec<u8>) -> Result<(), AllocError>
     requires { length body.now < var_int_bound }
     ensures ok { OnOk result (out.new.items ≡ out.old.items ++ (wrapped Framing.Length body.now).spelling) }
@@ -42,7 +46,7 @@ fn wrap_length(body: &[u8], out: &mut Vec<u8>) -> Result<(), AllocError>
     Ok(())
 }
 
-/// Appends the body as it stands on a stream. After want of memory `out` is as before.
+/// Appends the body as it stands on a stream. It fails if it is out of memory, and `out` is then as before.
 pub fn wrap(framing: Framing, body: &[u8], out: &mut Vec<u8>) -> Result<(), AllocError>
     requires { CanWrap framing body.now }
     ensures ok { OnOk result (out.new.items ≡ out.old.items ++ (wrapped framing body.now).spelling) }

@@ -1,4 +1,11 @@
 //! Cuts a stream of bytes into frames, in whatever pieces it comes, and puts frames onto a stream.
+//!
+//! [`Splitter`] cuts: `feed` it a piece, lend a `frame`, `pass` it. [`wrap`] puts a frame onto a stream. How frames stand
+//! there is a [`Framing`]. The crate does not know what a frame says.
+//!
+//! Proved for all streams and all ways to feed them: the frames lent are those of the stream's one cutting, each with its
+//! place; a fault is told where no frame can begin, and nowhere else. [`laws`](one_cutting) say that there is one
+//! cutting, and what bytes can begin with.
 #![tactic(auto)]
 
 mod framing;
@@ -6,8 +13,6 @@ mod laws;
 mod mark;
 mod next;
 mod splitter;
-#[cfg(test)]
-mod tests;
 mod var_int;
 
 pub use framing::{Framing, SEPARATOR, wrap};

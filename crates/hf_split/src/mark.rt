@@ -1,3 +1,5 @@
+//! Where the first record separator stands.
+
 ghost use Rattle.hf_split.specs.Marks.{IsFirstMark};
 
 use crate::framing::SEPARATOR;

@@ -1,3 +1,5 @@
+//! What the bytes held begin with: a frame, the front of one, or a fault.
+
 ghost use Rattle.std.specs.Prelude.{◌≡◌, ◌↔◌, ◌⊎◌, ◌≤◌, length, take, IsTrue};
 ghost use Rattle.hf_split.specs.Cuts.{IsPlain};
 ghost use Rattle.hf_split.specs.Nexts.{IsNextOf};
@@ -14,7 +16,9 @@ pub(crate) enum Next {
     Waiting,
     /// A frame, which stands between the first two of these places. Its spelling ends before the third.
     Frame { from: usize, to: usize, past: usize },
+    /// A frame that is longer than the limit.
     TooLong,
+    /// Bytes that are no length.
     BadLength,
 }
 

@@ -1,3 +1,8 @@
+//! The splitter: it holds the bytes of a stream that were fed and not passed, and lends the frame that they begin with.
+//!
+//! Each byte is looked at once for a separator: what the bytes held begin with is kept, and found again only where bytes
+//! were added to a part of a frame, or a frame was passed.
+
 ghost use Rattle.std.specs.Prelude.{◌≡◌, ◌+◌, ◌-◌, ◌<◌, ◌≤◌, ℕ, List, [], ◌∷◌, ◌++◌, length, take, drop, IfSome, IfNone, IfOk, IfErr, OnErr, vec_len, vec_capacity};
 ghost use Rattle.hf_split.specs.Cuts.{Spelled, Framings, BeginsWith, IsFaulty, IsWaiting, Cuts};
 ghost use Rattle.hf_split.specs.Held.{Stands, IsFaultOf, IsInStep, IsNext, room_for, at_start, taken_by_feed, after_feed, after_pass};
@@ -6,23 +11,54 @@ use crate::framing::Framing;
 use crate::next::{Next, next_after, next_of};
 use crate::var_int::LONGEST_VAR_INT;
 use std::alloc::{AllocError, Global};
+use std::error::Error;
+use std::fmt;
 use std::marker::Model;
 
 /// The greatest limit of a frame's length, in bytes: 16 MiB.
 pub const GREATEST_LIMIT: usize = 16_777_216;
 
-/// A stream that goes on with no frame.
+/// A stream that goes on with no frame. `Display` is its word in a report, without the place.
 #[derive(Clone, Copy, Debug, PartialEq, Eq)]
 pub enum SplitFault {
     /// The frame that begins at this place is longer than the limit: its first `most + 1` bytes hold no separator, or
-    /// its length says so. The place is the number of bytes of the stream before it, or 2^64-1 where that is more.
+    /// its length says so. The place is the number of bytes of the stream before it, or 2^64-1 if that is more.
     TooLong { at: u64 },
     /// No length begins at this place, where `Framing::Length` wants one: five bytes have their top bit set.
     BadLength { at: u64 },
 }
 
-/// Cuts a stream into frames. It holds the bytes that were fed and not passed, at most `most + 5` of them, in memory
-/// that is reserved at the start.
+impl fmt::Display for SplitFault {
+    ghost use Rattle.std.specs.Prelude.{Some};
+    ghost use Rattle.hf_split.specs.Words.{fault_words};
+
+    ghost output = { λ fault. Some (fault_words fault) };
+
+    fn fmt<W: fmt::Write>(&self, f: &mut fmt::Formatter<W>) -> fmt::Result {
+        match self {
+            SplitFault::TooLong { .. } => f.write_str("TooLong"),
+            SplitFault::BadLength { .. } => f.write_str("BadLength"),
+        }
+    }
+}
+
+impl Error for SplitFault {}
+
+/// Cuts a stream into frames. It holds the bytes that were fed and not passed, at most `most + LONGEST_VAR_INT` of
+/// them, in memory that is reserved at the start.
+///
+/// Feed it a piece, then lend and pass frames until `frame` waits, and feed it what is left of the piece:
+///
+/// ```text
+/// while !left.is_empty() {
+///     let count = splitter.feed(left);
+///     left = &left[count..];
+///     while let Some((place, frame)) = splitter.frame()? {
+///         ..
+///         splitter.pass();
+///     }
+/// }
+/// ```
 ///
 /// After `frame` gave a fault it gives the same fault, and `feed` takes nothing, until `reset` or `reframe`.
 #[derive(Drop)]
@@ -49,6 +85,15 @@ impl Model for Splitter {
     ghost invariant = { λ s. IsBuffer s.framing s.most s.start (vec_capacity s.buffer) s.buffer.items s.next };
 }
 
+/// Reserves the room of a splitter with this limit, and no more.
+fn reserve_room(alloc: Global, most: usize) -> Result<Vec<u8>, AllocError>
+    requires { most ≤ GREATEST_LIMIT }
+    ensures empty { IfOk result (λ buffer. buffer.items ≡ []) }
+    ensures reserved { IfOk result (λ buffer. vec_capacity buffer ≡ room_for most) }
+{
+    Vec::with_capacity(alloc, most + LONGEST_VAR_INT)
+}
+
 /// Drops the first `count` bytes, in the memory that is there.
 fn drop_front(buffer: &mut Vec<u8>, count: usize)
     requires { count ≤ vec_len buffer.old }
@@ -60,8 +105,8 @@ fn drop_front(buffer: &mut Vec<u8>, count: usize)
     buffer.truncate(rest);
 }
 
-/// Drops what was passed where the buffer is longer than this or no more is held than was passed, and answers where the
-/// bytes held begin then.
+/// Drops what was passed if the buffer is longer than `longest` or no more is held than was passed, and answers where
+/// the bytes held begin then.
 fn make_room(buffer: &mut Vec<u8>, start: usize, longest: usize) -> usize
     requires inside { start ≤ vec_len buffer.old }
     requires room { vec_len buffer.old - start ≤ longest }
@@ -79,7 +124,8 @@ fn make_room(buffer: &mut Vec<u8>, start: usize, longest: usize) -> usize
 
 impl Splitter {
     /// A splitter at the beginning of a stream. `most` is the greatest length of a frame in bytes, without its
-    /// framing; `most + 5` bytes are reserved, and no more are ever taken.
+    /// framing. It reserves `most + LONGEST_VAR_INT` bytes, and takes no memory after that. It fails if it is out of
+    /// memory.
     pub fn start(alloc: Global, framing: Framing, most: usize) -> Result<Splitter, AllocError>
         requires positive { 1 ≤ most }
         requires limit { most ≤ GREATEST_LIMIT }
@@ -90,7 +136,7 @@ impl Splitter {
             framing,
             most,
             place: 0,
-            buffer: Vec::with_capacity(alloc, most + LONGEST_VAR_INT)?,
+            buffer: reserve_room(alloc, most)?,
             start: 0,
             next: Next::Waiting,
         })
@@ -130,7 +176,7 @@ impl Splitter {
     }
 
     /// Lends the next frame, without its framing, and its place: the number of bytes of the stream before the frame as
-    /// it is spelled there, or 2^64-1 where that is more. `None` waits for more bytes.
+    /// it is spelled there, or 2^64-1 if that is more. `None` waits for more bytes.
     pub fn frame(&self) -> Result<Option<(u64, &[u8])>, SplitFault>
         ensures lent { IfOk result (λ next. IfSome next (λ found. (found.0 ≡ self.now.place) × ((spelling : List ℕ) ×
             BeginsWith self.now.framing self.now.most self.now.bytes (record { spelling = spelling; frame = found.1.now })))) }
@@ -186,7 +232,7 @@ impl Splitter {
         self.next = next_of(framing, self.most, &self.buffer[self.start..]);
     }
 
-    /// The place of the first byte held: the number of bytes of the stream before it, or 2^64-1 where that is more.
+    /// The place of the first byte held: the number of bytes of the stream before it, or 2^64-1 if that is more.
     pub fn place(&self) -> u64
         ensures { result ≡ self.now.place }
     {

@@ -1,3 +1,5 @@
+//! Lengths as bytes: reads a VarInt at the front of bytes, and writes the shortest.
+
 ghost use Rattle.std.specs.Prelude.{◌≡◌, ◌+◌, ◌<◌, ◌≤◌, ◌++◌, vec_len, vec_capacity};
 ghost use Rattle.hf_split.specs.VarInts.{shortest, var_int_bound};
 ghost use Rattle.hf_split.specs.Nexts.{IsLengthAt};

@@ -1,3 +1,5 @@
+//! Which calls of a source or sink in memory are to fail.
+
 ghost use Rattle.std.specs.Prelude.{◌↔◌, IsTrue, Contains};
 
 /// Tells whether the call of this number is one that is to fail.

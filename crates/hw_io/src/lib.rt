@@ -15,6 +15,3 @@ pub use memory_sink::MemorySink;
 pub use memory_source::MemorySource;
 pub use standard::{StdSink, StdSource};
 pub use traits::{Failed, Sink, Source};
-
-#[cfg(test)]
-mod tests;

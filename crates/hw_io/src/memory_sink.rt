@@ -1,3 +1,5 @@
+//! A sink in memory, for tests.
+
 ghost use Rattle.std.specs.Prelude.{◌≡◌, ◌+◌, ◌-◌, ◌^◌, ◌<◌, ◌≤◌, ◌↔◌, ◌++◌, ◌⊎◌, [], length, take, Contains, IsErr, IfOk, OnOk, OnErr, Some};
 ghost use Rattle.hd_facts.specs.Counts.{HasCause};
 ghost use Rattle.hd_facts.specs.Writes.{PutAppends};

@@ -1,4 +1,6 @@
-use super::*;
+//! Frames of streams, by what other programs and the public standards say of them.
+
+use hf_split::{Framing, SplitFault, Splitter, wrap};
 use std::alloc::{AllocError, Global};
 use std::process::Abort;
 use std::test::Fail;
@@ -184,7 +186,7 @@ fn take_whole(
     Ok(None)
 }
 
-/// Feeds the whole piece, or up to a fault, and keeps each frame that it makes whole.
+/// Feeds the whole piece, or as much as there is before a fault, and keeps each frame that it makes whole.
 fn feed_whole(
     alloc: Global,
     splitter: &mut Splitter,
@@ -235,47 +237,6 @@ fn cuts_in_pieces_of_any_size(rt: HostRuntime) -> Result<(), Fail> {
 }
 
 #[test]
-fn cuts_in_any_three_pieces(rt: HostRuntime) -> Result<(), Fail> {
-    for case in &CASES {
-        for second in 0..case.stream.len() + 1 {
-            for first in 0..second + 1 {
-                let (front, end) = case.stream.split_at(second);
-                let (first, middle) = front.split_at(first);
-                check(&rt, rt.alloc(), case, &[first, middle, end])?;
-            }
-        }
-    }
-    Ok(())
-}
-
-#[test]
-fn takes_what_there_is_room_for(rt: HostRuntime) -> Result<(), Fail> {
-    let mut splitter = Splitter::start(rt.alloc(), Framing::Record, 1)?;
-    assert_eq!(rt; splitter.feed(b"a\x1eb\x1ec\x1ed\x1e"), 6);
-    assert_eq!(rt; splitter.feed(b"d\x1e"), 0);
-    if let Ok(Some(_)) = splitter.frame() {
-        splitter.pass();
-    }
-    assert_eq!(rt; splitter.feed(b"d\x1ee\x1e"), 2);
-    Ok(())
-}
-
-#[test]
-fn begins_again_after_a_fault(rt: HostRuntime) -> Result<(), Fail> {
-    let mut splitter = Splitter::start(rt.alloc(), Framing::Record, 1)?;
-    assert_eq!(rt; splitter.feed(b"a\x1ebc"), 4);
-    let mut seen = Vec::new(rt.alloc());
-    let fault = Some(SplitFault::TooLong { at: 2 });
-    assert_eq!(rt; take_whole(rt.alloc(), &mut splitter, &mut seen)?, fault);
-    assert_eq!(rt; splitter.feed(b"\x1e"), 0);
-    assert_eq!(rt; splitter.frame().err(), fault);
-    splitter.reset(Framing::Record);
-    assert_eq!(rt; splitter.feed(b"d\x1e"), 2);
-    assert_eq!(rt; splitter.frame(), Ok(Some((0, b"d".as_slice()))));
-    Ok(())
-}
-
-#[test]
 fn reads_a_length_in_every_spelling(rt: HostRuntime) -> Result<(), Fail> {
     for (prefix, length) in &LENGTHS {
         let mut splitter = Splitter::start(rt.alloc(), Framing::Length, 32768)?;
@@ -306,19 +267,7 @@ fn reads_a_length_in_every_spelling(rt: HostRuntime) -> Result<(), Fail> {
 }
 
 #[test]
-fn a_length_above_the_limit_is_too_long(rt: HostRuntime) -> Result<(), Fail> {
-    let mut splitter = Splitter::start(rt.alloc(), Framing::Length, 32768)?;
-    assert_eq!(rt; splitter.feed(b"\x81\x80\x02"), 3);
-    assert_eq!(rt; splitter.frame(), Err(SplitFault::TooLong { at: 0 }));
-    splitter.reset(Framing::Length);
-    assert_eq!(rt; splitter.feed(b"\xff\xff\xff\xff\x07"), 5);
-    assert_eq!(rt; splitter.frame(), Err(SplitFault::TooLong { at: 0 }));
-    assert_eq!(rt; splitter.feed(b"a"), 0);
-    Ok(())
-}
-
-#[test]
-fn the_framing_changes_after_the_first_frame(rt: HostRuntime) -> Result<(), Fail> {
+fn the_framing_changes_after_a_frame_and_at_a_new_stream(rt: HostRuntime) -> Result<(), Fail> {
     let mut splitter = Splitter::start(rt.alloc(), Framing::Record, MOST)?;
     assert_eq!(rt; splitter.feed(b"{}\x1e\x02hi\x81\x00a"), 9);
     assert_eq!(rt; splitter.frame(), Ok(Some((0, b"{}".as_slice()))));
@@ -333,27 +282,21 @@ fn the_framing_changes_after_the_first_frame(rt: HostRuntime) -> Result<(), Fail
         splitter.pass();
     }
     assert_eq!(rt; splitter.frame(), Ok(Some((6, b"a".as_slice()))));
+    splitter.reset(Framing::Record);
+    assert_eq!(rt; (splitter.place(), splitter.held()), (0, 0));
+    assert_eq!(rt; splitter.feed(b"{}\x1e"), 3);
+    assert_eq!(rt; splitter.frame(), Ok(Some((0, b"{}".as_slice()))));
     Ok(())
 }
 
-/// `abcd` is a front of a frame with `Record`, and a length of 97 with `Length`.
 #[test]
-fn a_framing_begins_a_fault_and_ends_it(rt: HostRuntime) -> Result<(), Fail> {
-    let mut splitter = Splitter::start(rt.alloc(), Framing::Record, MOST)?;
-    assert_eq!(rt; splitter.feed(b"abcd"), 4);
-    assert_eq!(rt; splitter.frame(), Ok(None));
-    splitter.reframe(Framing::Length);
-    assert_eq!(rt; splitter.frame(), Err(SplitFault::TooLong { at: 0 }));
-    assert_eq!(rt; splitter.feed(b"\x1e"), 0);
-    splitter.reframe(Framing::Record);
-    assert_eq!(rt; splitter.frame(), Ok(None));
-    assert_eq!(rt; splitter.feed(b"\x1e"), 1);
-    assert_eq!(rt; splitter.frame(), Ok(Some((0, b"abcd".as_slice()))));
-    splitter.reset(Framing::Length);
-    assert_eq!(rt; splitter.feed(b"\x80\x80\x80\x80"), 4);
-    assert_eq!(rt; splitter.frame(), Ok(None));
-    assert_eq!(rt; splitter.feed(b"\x80"), 1);
-    assert_eq!(rt; splitter.frame(), Err(SplitFault::BadLength { at: 0 }));
+fn faults_have_words(rt: HostRuntime) -> Result<(), Fail> {
+    let faults = [
+        SplitFault::TooLong { at: 7 },
+        SplitFault::BadLength { at: 0 },
+    ];
+    let words = format!(in rt.alloc(); "{} {}", faults[0], faults[1])?;
+    assert_eq!(rt; words.as_str(), "TooLong BadLength");
     Ok(())
 }
 
@@ -382,17 +325,4 @@ fn wraps_after_the_shortest_length(rt: HostRuntime) -> Result<(), Fail> {
         assert!(rt; out.ends_with(&body), "of a length of {length}");
     }
     Ok(())
-}
-
-#[test]
-fn laws_are_no_work() {
-    has_cutting();
-    one_cutting();
-    begins_once();
-    too_long_begins_none();
-    bad_length_begins_none();
-    too_long_stays();
-    bad_length_stays();
-    wrapped_begins();
-    wrapped_is_shortest();
 }

@@ -1,4 +1,6 @@
-use crate::{Failed, MemorySink, MemorySource, Sink, Source, StdSink, StdSource};
+//! Sources and sinks that fail at will, and are tried again.
+
+use hw_io::{Failed, MemorySink, MemorySource, Sink, Source, StdSink, StdSource};
 use std::alloc::{AllocError, Global};
 use std::io;
 use std::io::{Read, Write};
@@ -162,5 +164,12 @@ fn writers_are_sinks(rt: HostRuntime) -> Result<(), Fail> {
             "{most} a call, {calls}"
         );
     }
+    Ok(())
+}
+
+#[test]
+fn a_fault_has_words(rt: HostRuntime) -> Result<(), Fail> {
+    let words = format!(in rt.alloc(); "{Failed}")?;
+    assert_eq!(rt; words.as_str(), "the outside failed");
     Ok(())
 }
