@@ -1,10 +1,10 @@
 -- The worked worlds are worlds.
 use Rattle.std.proofs.Common.{inl, inr, ⊎_elim, ◌≡◌, ℕ, ◌<◌, Bool, true, false, List, [], ◌∷◌, refl, arith}
-use Rattle.std.specs.Prelude.{◌==◌, ◌||◌, ◌&&◌, nat_lt, reverse}
+use Rattle.std.specs.Prelude.{◌==◌, ◌+◌, ◌^◌, ◌||◌, ◌&&◌, nat_lt, reverse}
 use Rattle.std.proofs.lemmas.Bool.{eqb-true, or_cases, and_parts, ltb-true}
 use Rattle.hm_message.specs.declared.message.Codec.TheVariants.{Json}
 use Rattle.hd_delivery.specs.Worlds.{CanBeSent, IsWorld}
-use Rattle.hd_delivery.specs.Examples.{a, b, c, usual, sizes, terms, older_link_later}
+use Rattle.hd_delivery.specs.Examples.{a, b, c, usual, sizes, terms, older_link_later, far_link}
 
 -- a name among these, each of which is below another, is below it
 abbrev pub among : ℕ → List ℕ → Bool
@@ -110,3 +110,6 @@ older_link_later_is_world = (
   ),
   refl,
 )
+
+pub far_link_is_world : IsWorld usual sizes (terms 2 true) (reverse far_link)
+far_link_is_world = (((((((((((((tt, record { unclosed = refl; granted = inl refl; named = below 0 [] refl; in_time = omega arith }), refl), record { unclosed = refl; granted = inl refl; named = (refl, refl); in_time = omega arith }), record { link = 0; at = refl; unclosed = refl; front = ([], refl) }), refl), refl), record { link = 0; at = refl; unclosed = refl; front = ([], refl) }), refl), record { unclosed = refl; granted = inr refl; named = below (2 ^ 32 + 5) (0 ∷ []) refl; in_time = omega arith }), refl), record { unclosed = refl; granted = inr refl; named = (refl, refl); in_time = omega arith }), record { link = 2 ^ 32 + 5; at = refl; unclosed = refl; front = ([], refl) }), refl)

@@ -1,11 +1,13 @@
 -- Worked worlds: what two ends do in cases that tell versions, losses and resumptions apart. Each list has the oldest event first.
-use Rattle.std.specs.Prelude.{◌≡◌, ℕ, Bool, false, List, [], ◌∷◌, ◌++◌, map, reverse, codes, length, Some, None}
+use Rattle.std.specs.Prelude.{◌≡◌, ℕ, zero, suc, ◌+◌, ◌^◌, Bool, true, false, List, [], ◌∷◌, ◌++◌, map, reverse, codes, length, Some, None}
+use Rattle.hv_value.specs.Tree as tree
+use Rattle.hv_value.specs.Tree.{Tree, trees}
 use Rattle.hm_message.specs.declared.message.Codec.{Codec}
 use Rattle.hm_message.specs.declared.message.Codec.TheVariants.{Json, Pack}
 use Rattle.hm_message.specs.declared.message.Message.{Message}
 use Rattle.hm_message.specs.declared.message.Message.TheVariants.{Invocation}
 use Rattle.hd_delivery.specs.declared.vocabulary.Got.TheVariants.{Shaken, Acked, Sequenced, Resumed, Skipped}
-use Rattle.hd_delivery.specs.declared.vocabulary.Reason.TheVariants.{Done}
+use Rattle.hd_delivery.specs.declared.vocabulary.Reason.TheVariants.{Done, Expired}
 use Rattle.hd_delivery.specs.declared.vocabulary.Side.TheVariants.{Client, Server}
 use Rattle.hd_delivery.specs.declared.vocabulary.State.{State}
 use Rattle.hd_delivery.specs.declared.vocabulary.Why.TheVariants.{Duplicate}
@@ -18,6 +20,7 @@ use Rattle.hd_delivery.specs.Worlds.{Limits, Sizes, Terms, config, Event, ByClie
 abbrev pub call : List ℕ → Message
 call target = Invocation [] None target [] []
 
+-- three messages
 abbrev pub a : Message
 a = call (codes "a")
 
@@ -34,9 +37,27 @@ limits_of frame count bytes = record { frame = frame; count = count; bytes = byt
 abbrev pub usual : Limits
 usual = limits_of 32768 1024 100000
 
--- of these messages in JSON
+-- the bytes of each of these messages
+abbrev pub size_in : Codec → ℕ
+size_in Json = 38
+size_in Pack = 8
+
+-- and one byte of framing
 abbrev pub sizes : Sizes
-sizes = record { frame = λ codec m. 38; framed = λ codec m. 39 }
+sizes = record { frame = λ codec m. size_in codec; framed = λ codec m. size_in codec + 1 }
+
+-- a message with bytes, which JSON carries as a text
+abbrev pub with_bytes : Message
+with_bytes = Invocation [] None (codes "a") (tree.bytes (1 ∷ []) ∷ []) []
+
+-- so many lists, each in the next one
+abbrev pub nested : ℕ → Tree
+nested zero = tree.null
+nested (suc n) = tree.list (trees (nested n ∷ []))
+
+-- a message that nests one level deeper than a frame may
+abbrev pub too_deep : Message
+too_deep = Invocation [] None (codes "a") (nested 63 ∷ []) []
 
 abbrev pub other_codec : Codec → Codec
 other_codec Json = Pack
@@ -56,11 +77,14 @@ abbrev pub server : List Step → List Event
 server steps = map ByServer steps
 
 -- link 0, and the handshake on it
+abbrev pub opened_in : Codec → ℕ → List Event
+opened_in codec version =
+    client (Attached 0 0 ∷ Lent (Request codec version) ∷ [])
+    ++ server (Attached 0 0 ∷ Fed (Request codec version ∷ []) ∷ Took (Shaken codec version) ∷ Lent Response ∷ [])
+    ++ client (Fed (Response ∷ []) ∷ Took (Shaken codec version) ∷ [])
+
 abbrev pub opened : ℕ → List Event
-opened version =
-    client (Attached 0 0 ∷ Lent (Request Json version) ∷ [])
-    ++ server (Attached 0 0 ∷ Fed (Request Json version ∷ []) ∷ Took (Shaken Json version) ∷ Lent Response ∷ [])
-    ++ client (Fed (Response ∷ []) ∷ Took (Shaken Json version) ∷ [])
+opened version = opened_in Json version
 
 -- The first of two messages was read and acknowledged when its link was left, so the next link begins with the second.
 abbrev pub resume_after_ack : List Event
@@ -211,6 +235,57 @@ abbrev pub filled : List Event
 filled =
     opened 2
     ++ client (Sent a ∷ Sent b ∷ Sent c ∷ [])
+
+-- A client without a link takes a message to send.
+abbrev pub sent_away : List Event
+sent_away =
+    opened 2
+    ++ client (Detached 0 ∷ Sent a ∷ [])
+
+-- So does a server that left its link.
+abbrev pub server_away : List Event
+server_away =
+    opened 2
+    ++ server (Detached 0 ∷ Sent a ∷ [])
+
+-- The names of links needn't follow each other, nor fit into 32 bits.
+abbrev pub far_link : List Event
+far_link =
+    opened 2
+    ++ client (Attached (2 ^ 32 + 5) 0 ∷ Lent (Sequence 1 None) ∷ [])
+    ++ server (Attached (2 ^ 32 + 5) 0 ∷ Fed (Sequence 1 None ∷ []) ∷ Took (Sequenced 1) ∷ [])
+
+-- A Close that lets the other end connect again is read as such.
+abbrev pub closed_with_allow : List Event
+closed_with_allow =
+    opened 2
+    ++ server (Closed Expired true ∷ Lent (Close (Some (codes "Connection expired.")) true) ∷ [])
+    ++ client (Fed (Close (Some (codes "Connection expired.")) true ∷ []) ∷ Took (gives.Closed (Some (codes "Connection expired.")) true) ∷ [])
+
+-- In MessagePack, where there is room for one message of that encoding, each end holds one; bytes are sent as they are.
+abbrev pub packed : List Event
+packed =
+    opened_in Pack 2
+    ++ client (Sent with_bytes ∷ [])
+    ++ server (Sent b ∷ [])
+
+-- A kept client was closed.
+abbrev pub closed_kept : List Event
+closed_kept =
+    opened 2
+    ++ client (Closed Done false ∷ [])
+
+-- The link is lost at version 4, in which no connection is kept.
+abbrev pub lost_at_four : List Event
+lost_at_four =
+    opened 4
+    ++ client (Detached 0 ∷ [])
+
+-- A tick came.
+abbrev pub ticked_at_five : List Event
+ticked_at_five =
+    opened 2
+    ++ client (Ticked 5 ∷ [])
 
 -- ---- what is said of them
 

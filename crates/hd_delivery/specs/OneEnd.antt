@@ -5,6 +5,7 @@ use Rattle.hm_message.specs.declared.message.Codec.TheVariants.{Json}
 use Rattle.hd_delivery.specs.declared.vocabulary.Got.TheVariants.{Shaken, Sequenced, Resumed, Skipped}
 use Rattle.hd_delivery.specs.declared.vocabulary.Reason.TheVariants.{Done, Slow}
 use Rattle.hd_delivery.specs.declared.vocabulary.Side.{Side}
+use Rattle.hd_delivery.specs.declared.vocabulary.Reason.{Reason}
 use Rattle.hd_delivery.specs.declared.vocabulary.Side.TheVariants.{Client}
 use Rattle.hd_delivery.specs.declared.vocabulary.State.{State}
 use Rattle.hd_delivery.specs.declared.vocabulary.Why.TheVariants.{Unknown, NotUsed}
@@ -152,6 +153,14 @@ lost_early = Attached 0 0 ∷ Detached 0 ∷ []
 abbrev pub silent_early : List Step
 silent_early = Attached 0 0 ∷ Silenced 30000 ∷ []
 
+-- on the first link one of another kind, at either side
+abbrev pub first_fed : LinkFrame → List Step
+first_fed f = Attached 0 0 ∷ Fed (f ∷ []) ∷ []
+
+-- what these are refused as: no words of a report stand for them
+abbrev pub no_handshake : Fault
+no_handshake = Shake [] None
+
 -- ---- frames that can't be read
 
 -- on the second link, a frame of a type that no message has, and one that can't be read
@@ -180,6 +189,10 @@ left = opened_client 2 ++ Sent a ∷ Fed (Close None false ∷ []) ∷ Took (giv
 abbrev pub left_told : List Step
 left_told = left ++ Lent (Numbered a) ∷ []
 
+-- closed for this reason, with nothing else to say
+abbrev pub closed_for : Reason → List Step
+closed_for reason = opened_server 2 ++ Closed reason false ∷ []
+
 -- at version 3, closed on a later link on which the other end's opening isn't read
 abbrev pub closed_waiting : List Step
 closed_waiting = opened_server 3 ++ Sent a ∷ Attached 1 0 ∷ Closed Done false ∷ []
@@ -204,6 +217,10 @@ quiet_opening = Attached 0 0 ∷ Lent (Request Json 2) ∷ Ticked 15000 ∷ []
 
 abbrev pub quiet_closed : List Step
 quiet_closed = quiet_until 15000 ++ Closed Done false ∷ []
+
+-- on the next link, before its opening is said
+abbrev pub quiet_attached : List Step
+quiet_attached = quiet_until 15000 ++ Attached 1 20000 ∷ []
 
 -- an empty piece counts as heard
 abbrev pub heard_nothing : List Step

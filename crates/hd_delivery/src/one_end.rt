@@ -1,19 +1,21 @@
 //! Worked cases of one end, some with frames that no other end of this kind says.
-ghost use Rattle.std.specs.Prelude.{◌≡◌, ◌^◌, ◌+◌, pos, true, false, Some, None, [], ◌∷◌, codes};
+ghost use Rattle.std.specs.Prelude.{◌≡◌, ◌^◌, ◌+◌, ◌-◌, pos, reverse, true, false, Some, None, [], ◌∷◌, codes};
 ghost use Rattle.hm_message.specs.declared.message.Codec.TheVariants.{Json};
 ghost use Rattle.hd_delivery.specs.declared.vocabulary.Got.TheVariants.{Sequenced, Shaken, Skipped};
-ghost use Rattle.hd_delivery.specs.declared.vocabulary.Reason.TheVariants.{Protocol};
+ghost use Rattle.hd_delivery.specs.declared.vocabulary.Reason.TheVariants.{Done, Expired, Flood, InUse, Protocol, Slow, TooMany};
 ghost use Rattle.hd_delivery.specs.declared.vocabulary.Side.TheVariants.{Client, Server};
 ghost use Rattle.hd_delivery.specs.declared.vocabulary.Why.TheVariants.{BeforeSequence, Duplicate, NotUsed, Unknown};
 ghost use Rattle.hd_delivery.specs.declared.vocabulary.Got.TheVariants as gives;
 ghost use Rattle.hd_delivery.specs.declared.vocabulary.State.TheVariants as states;
-ghost use Rattle.hd_delivery.specs.Frames.{Ack, Close, Numbered, Ping, Refusal, Sequence};
-ghost use Rattle.hd_delivery.specs.Histories.{AckBeyond, Attached, Failed, Gap, Shake, Took, Unread};
+ghost use Rattle.hm_message.specs.declared.message.Message.TheVariants as message;
+ghost use Rattle.hd_delivery.specs.Due.{is_quiet};
+ghost use Rattle.hd_delivery.specs.Frames.{Ack, Close, Numbered, Ping, Refusal, Request, Response, Sequence, Unreadable, frame_of};
+ghost use Rattle.hd_delivery.specs.Histories.{AckBeyond, Attached, Failed, Gap, Shake, Took, Unread, as_told, written_moment};
 ghost use Rattle.hd_delivery.specs.Processes.{reads_message};
 ghost use Rattle.hd_delivery.specs.Examples.{a};
-ghost use Rattle.hd_delivery.specs.OneEnd.{NextDue, NextStep, SilentAt, StateIs, at_once, beyond, closed_opened, closed_told, closed_unasked, closed_unopened, closed_unsaid, closed_waiting, early, early_three, from_zero, from_zero_on, gap, gap_beyond, gap_failed, gap_opened, gap_told, heard_nothing, left, left_told, lost_early, not_taken, odd, odd_skipped, opened_client, pinged, plain_ack, plain_message, plain_sequence, quiet_closed, quiet_opening, quiet_pinged, quiet_until, received_beyond, refused_answered, refused_failed, refused_request, refused_response, refused_unanswered, silent_early, slow, slow_last, slow_told, taken_now, unknown_version, waits, waits_no_more};
+ghost use Rattle.hd_delivery.specs.OneEnd.{NextDue, NextStep, SilentAt, StateIs, at_once, beyond, closed_for, closed_opened, closed_told, closed_unasked, closed_unopened, closed_unsaid, closed_waiting, early, early_three, first_fed, from_zero, from_zero_on, gap, gap_beyond, gap_failed, gap_opened, gap_told, heard_nothing, left, left_told, lost_early, no_handshake, not_taken, odd, odd_skipped, opened_client, pinged, plain_ack, plain_message, plain_sequence, quiet_attached, quiet_closed, quiet_opening, quiet_pinged, quiet_until, received_beyond, refused_answered, refused_failed, refused_request, refused_response, refused_unanswered, silent_early, slow, slow_last, slow_told, taken_now, unknown_version, waits, waits_no_more};
 
-/// Numbers: gaps, counts of messages that were never lent, and messages that come too early.
+/// Numbers: gaps, counts of messages that were never lent, messages that come too early, and what has no number.
 pub fn numbers()
     ensures gap { NextStep Server gap (Some (Failed (Gap 5 4))) }
     ensures gap_failed { NextDue Server gap_failed (Some (Sequence 1 None)) }
@@ -22,6 +24,12 @@ pub fn numbers()
     ensures gap_told { NextDue Server gap_told None }
     ensures from_zero { NextStep Server from_zero (Some (Took (Sequenced 0))) }
     ensures from_zero_on { NextStep Server from_zero_on (Some (Took (Skipped (Duplicate 0)))) }
+    ensures in_64_bits { as_told (2 ^ 64 - 1) ≡ 2 ^ 64 - 1 }
+    ensures past_64_bits { as_told (2 ^ 64) ≡ 2 ^ 64 - 1 }
+    ensures ack { frame_of (message.Ack 3) ≡ Ack 3 }
+    ensures sequence { frame_of (message.Sequence 3 (Some 2)) ≡ Sequence 3 (Some 2) }
+    ensures ping { frame_of message.Ping ≡ Ping }
+    ensures close { frame_of (message.Close None true) ≡ Close None true }
     ensures greatest { reads_message (2 ^ 62) (Some (2 ^ 62 + 1)) a ≡ Failed
         (Gap (2 ^ 62 + 1) (2 ^ 62)) }
     ensures beyond { NextStep Server beyond (Some (Failed (AckBeyond 9 8))) }
@@ -58,6 +66,16 @@ pub fn first_frames()
     ensures silent_early { StateIs silent_early states.Closed }
     ensures odd { NextStep Server odd (Some (Took (Skipped (Unknown (pos 10))))) }
     ensures unread { NextStep Server odd_skipped (Some (Failed (Unread 1 20 (codes "NotJson")))) }
+    ensures unread_first { NextStep Server (first_fed (Unreadable 0 (codes "TooLong")))
+        (Some (Failed (Unread 0 0 (codes "TooLong")))) }
+    ensures unread_response { NextStep Client (first_fed (Unreadable 0 (codes "TooLong")))
+        (Some (Failed (Unread 0 0 (codes "TooLong")))) }
+    ensures message_first { NextStep Server (first_fed (Numbered a)) (Some (Failed no_handshake)) }
+    ensures ping_first { NextStep Client (first_fed Ping) (Some (Failed no_handshake)) }
+    ensures request_back { NextStep Client (first_fed (Request Json 2))
+        (Some (Failed no_handshake)) }
+    ensures response_back { NextStep Server (first_fed Response) (Some (Failed no_handshake)) }
+    ensures refusal { NextStep Client (first_fed (Refusal (codes "No."))) (Some (Failed no_handshake)) }
 {}
 
 /// The Close, and what a closed end says before it.
@@ -70,6 +88,19 @@ pub fn closings()
     ensures closed_waiting { NextDue Server closed_waiting (Some (Sequence 1 (Some 0))) }
     ensures closed_opened { NextDue Server closed_opened (Some (Close None false)) }
     ensures closed_told { NextDue Server closed_told None }
+    ensures done { NextDue Server (closed_for Done) (Some (Close None false)) }
+    ensures protocol { NextDue Server (closed_for Protocol)
+        (Some (Close (Some (codes "Protocol error.")) false)) }
+    ensures in_use { NextDue Server (closed_for InUse)
+        (Some (Close (Some (codes "Id in use.")) false)) }
+    ensures too_many { NextDue Server (closed_for TooMany)
+        (Some (Close (Some (codes "Too many calls.")) false)) }
+    ensures flood { NextDue Server (closed_for Flood)
+        (Some (Close (Some (codes "Too many inputs.")) false)) }
+    ensures too_slow { NextDue Server (closed_for Slow)
+        (Some (Close (Some (codes "Too slow.")) false)) }
+    ensures expired { NextDue Server (closed_for Expired)
+        (Some (Close (Some (codes "Connection expired.")) false)) }
 {}
 
 /// When a Ping is due, and when a tick is a silence.
@@ -85,4 +116,7 @@ pub fn moments()
     ensures new_link { SilentAt (Attached 0 5 ∷ []) 30004 false }
     ensures new_link_late { SilentAt (Attached 0 5 ∷ []) 30005 true }
     ensures heard { SilentAt heard_nothing 90000 false }
+    ensures closed_silent { SilentAt quiet_closed 90000 false }
+    ensures new_link_written { written_moment (reverse quiet_attached) ≡ 20000 }
+    ensures new_link_quiet { is_quiet (reverse quiet_attached) ≡ false }
 {}

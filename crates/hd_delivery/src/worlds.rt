@@ -1,13 +1,14 @@
 //! Worked worlds, over frames and over bytes, which the checker computes.
 ghost use Rattle.std.specs.Prelude.{ℕ, true, false, Some, None, [], ◌∷◌, codes};
 ghost use Rattle.hm_message.specs.declared.message.Codec.TheVariants.{Json, Pack};
+ghost use Rattle.hm_message.specs.declared.message.Message.TheVariants.{Ping};
 ghost use Rattle.hd_delivery.specs.declared.vocabulary.Side.TheVariants.{Client};
 ghost use Rattle.hd_delivery.specs.declared.vocabulary.State.TheVariants.{Away, Ready};
 ghost use Rattle.hd_delivery.specs.declared.vocabulary.State.TheVariants as states;
 ghost use Rattle.hd_delivery.specs.Histories.{Failed, Unread};
 ghost use Rattle.hd_delivery.specs.Worlds.{MayAttach, MaySend, config};
 ghost use Rattle.hd_delivery.specs.Bytes.{IsFaithful, IsSoundWire};
-ghost use Rattle.hd_delivery.specs.Examples.{IsStill, IsWorked, a, acknowledged, b, c, client_after, closed_before_response, filled, further_sequence, limits_of, older_link_later, one_sequence, plain_delivered, plain_loss, plain_room, plain_silence, resume_after_ack, resume_duplicates, resumed_with_none, resumed_with_one, server_after, silence, sizes, terms, terms_in, usual};
+ghost use Rattle.hd_delivery.specs.Examples.{IsStill, IsWorked, a, acknowledged, b, c, client_after, closed_before_response, closed_kept, closed_with_allow, far_link, filled, further_sequence, limits_of, lost_at_four, older_link_later, one_sequence, opened, packed, plain_delivered, plain_loss, plain_room, plain_silence, resume_after_ack, resume_duplicates, resumed_with_none, resumed_with_one, sent_away, server_after, server_away, silence, sizes, terms, terms_in, ticked_at_five, too_deep, usual, with_bytes};
 ghost use Rattle.hd_delivery.specs.ExamplesOverBytes.{IsFullFor, IsStillOverBytes, IsWorkedOverBytes, NextStepOverBytes, acknowledged_over_bytes, bytewise, cut_by_a_loss, four, stopped, unread_nine, unreadable, unreadable_later, unreadable_whole};
 
 /// Whole worlds, and what the client and the server are in the end: the state, and how many
@@ -42,6 +43,14 @@ pub fn worked_worlds()
         (Ready, 3, 0, 3) (Ready, 0, 0, 0) }
     ensures closed_before_response { IsWorked usual (terms 2 true) closed_before_response
         (states.Closed, 0, 1, 0) (states.Closed, 1, 0, 1) }
+    ensures sent_away { IsWorked usual (terms 2 true) sent_away (Away, 1, 0, 1) (Ready, 0, 0, 0) }
+    ensures server_away { IsWorked usual (terms 2 true) server_away
+        (Ready, 0, 0, 0) (Away, 1, 0, 1) }
+    ensures far_link { IsWorked usual (terms 2 true) far_link (Ready, 0, 0, 0) (Ready, 0, 0, 0) }
+    ensures closed_with_allow { IsWorked usual (terms 2 true) closed_with_allow
+        (states.Closed, 0, 0, 0) (states.Closed, 0, 0, 0) }
+    ensures packed { IsWorked (limits_of 8 1 9) (terms_in Pack 2 true) packed
+        (Ready, 1, 0, 1) (Ready, 1, 0, 1) }
 {}
 
 /// Where both ends are still, so that all has arrived and nothing is held.
@@ -51,7 +60,8 @@ pub fn still_worlds()
     ensures version_three { IsStill (terms 3 true) resumed_with_none }
 {}
 
-/// What may not come: a send past a limit, a link or a send after a plain connection was lost.
+/// What may not come: a send past a limit, or of a message that can't be sent; a link or a send after an end was closed
+/// or a plain connection was lost; a moment before the last one.
 pub fn what_may_not_come()
     ensures count { MaySend (limits_of 38 3 156) sizes (config Client (terms 2 true))
         (client_after filled) a → ⊥ }
@@ -63,6 +73,18 @@ pub fn what_may_not_come()
         (server_after plain_loss) l now → ⊥ }
     ensures send { MaySend usual sizes (config Client (terms 2 false)) (client_after plain_loss) a →
         ⊥ }
+    ensures closed { (l now : ℕ) → MayAttach (config Client (terms 2 true))
+        (client_after closed_kept) (server_after closed_kept) l now → ⊥ }
+    ensures version_four { (l now : ℕ) → MayAttach (config Client (terms 4 true))
+        (client_after lost_at_four) (server_after lost_at_four) l now → ⊥ }
+    ensures earlier { (l : ℕ) → MayAttach (config Client (terms 2 true))
+        (client_after ticked_at_five) (server_after ticked_at_five) l 4 → ⊥ }
+    ensures unsequenced { MaySend usual sizes (config Client (terms 2 true))
+        (client_after (opened 2)) Ping → ⊥ }
+    ensures deep { MaySend usual sizes (config Client (terms 2 true)) (client_after (opened 2))
+        too_deep → ⊥ }
+    ensures json_bytes { MaySend usual sizes (config Client (terms 2 true))
+        (client_after (opened 2)) with_bytes → ⊥ }
 {}
 
 /// The same over bytes, for a way to write frames that is faithful.
