@@ -12,7 +12,7 @@ use Rattle.hd_delivery.specs.Frames.{LinkFrame, Request, Response, Numbered, Ack
 use Rattle.hd_delivery.specs.Worlds.{Limits, CanBeSent}
 use Rattle.hd_delivery.specs.Bytes.{Reading, Waits, Reads, Refuses, Stops, sizes_of, IsRead, IsFaithful, IsFirst, IsLater, IsSize, IsSoundReader, IsSoundWire, IsWorldOverBytes}
 use Rattle.hd_delivery.specs.Examples.{a, b, c, limits_of, usual, terms}
-use Rattle.hd_delivery.specs.ExamplesOverBytes.{flag_number, error_number, four_of, spell_four, read_four, error_numbered, first_of_four, later_of_four, four, bytewise, unread_nine}
+use Rattle.hd_delivery.specs.ExamplesOverBytes.{flag_number, error_number, four_of, spell_four, read_four, error_numbered, first_of_four, later_of_four, four, lazy, padded, bytewise, unread_nine}
 use Rattle.hd_delivery.specs.Numbers.{most_framing}
 use Rattle.hd_delivery.proofs.Local.{both}
 use Rattle.hd_delivery.proofs.Examples.{below}
@@ -143,6 +143,15 @@ module _ (limits : Limits) (short : 4 ≤ limits.frame) where
 
   c_goes : CanBeSent limits (sizes_of four) Json c
   c_goes = record { sequenced = refl; fits = omega arith; as_read = refl; short = short }
+
+pub lazy_is_unsound : IsSoundWire (limits_of 4 1024 100000) lazy → ⊥
+lazy_is_unsound sound = let h : 9 < 9 = (sound.later Json).unfilled (0 ∷ 0 ∷ 0 ∷ 0 ∷ 0 ∷ 0 ∷ 0 ∷ 0 ∷ 0 ∷ []) refl in omega (arith, h)
+
+pub padded_is_unsound : IsSoundWire usual padded → ⊥
+padded_is_unsound sound =
+    let can : CanBeSent usual (sizes_of padded) Json a = record { sequenced = refl; fits = omega arith; as_read = refl; short = omega arith } in
+    let h : 10 ≤ 9 = (sound.framed Json a can).1 in
+    omega (arith, h)
 
 pub bytewise_is_world : IsWorldOverBytes usual four (terms 2 true) (reverse bytewise)
 bytewise_is_world = (

@@ -14,7 +14,7 @@ use Rattle.hd_delivery.specs.declared.vocabulary.Why.TheVariants.{Duplicate}
 use Rattle.hd_delivery.specs.declared.vocabulary.Got.TheVariants as gives
 use Rattle.hd_delivery.specs.Frames.{Request, Response, Numbered, Ack, Sequence, Ping, Close}
 use Rattle.hd_delivery.specs.Histories.{Step, Attached, Detached, Fed, Took, Sent, Lent, Ticked, Silenced, Closed, Config, sent_messages, processed_messages, state, held_messages}
-use Rattle.hd_delivery.specs.Worlds.{Limits, Sizes, Terms, config, Event, ByClient, ByServer, client_of, server_of, IsWorld, IsOnOneClock, Still}
+use Rattle.hd_delivery.specs.Worlds.{Limits, Sizes, Allowed, Terms, config, Event, ByClient, ByServer, client_of, server_of, IsWorld, IsOnOneClock, Still}
 
 -- an invocation of no id and with no arguments
 abbrev pub call : List ℕ → Message
@@ -310,3 +310,7 @@ pub record IsWorked (limits : Limits) (t : Terms) (events : List Event) (of_clie
 -- at their end both are still
 abbrev pub IsStill : Terms → List Event → Type 0
 IsStill t events = Still (config Client t) (config Server t) (client_after events) (server_after events)
+
+-- where they end, the client may not do this
+abbrev pub ClientMayNot : List Event → Step → Type 0
+ClientMayNot events step = Allowed usual sizes (config Client (terms 2 true)) (client_after events) (server_after events) step → ⊥

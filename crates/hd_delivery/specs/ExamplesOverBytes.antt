@@ -108,6 +108,14 @@ later_of_four kind x y z =
 abbrev pub four : Wire
 four = record { spell = λ codec. spell_four; frame_size = λ codec m. 4; first = λ side. read_four (first_of_four side); later = λ codec. read_four later_of_four }
 
+-- readers that wait for ever
+abbrev pub lazy : Wire
+lazy = record { spell = λ codec. spell_four; frame_size = λ codec m. 4; first = λ side bytes. Waits; later = λ codec bytes. Waits }
+
+-- six bytes of framing
+abbrev pub padded : Wire
+padded = record { spell = λ codec f. spell_four f ++ 0 ∷ 0 ∷ 0 ∷ 0 ∷ 0 ∷ 0 ∷ []; frame_size = λ codec m. 4; first = λ side. read_four (first_of_four side); later = λ codec. read_four later_of_four }
+
 -- ---- the worlds, the oldest event first
 
 abbrev pub client : List ByteStep → List ByteEvent

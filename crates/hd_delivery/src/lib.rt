@@ -19,7 +19,9 @@ pub use one_end::{closings, first_frames, moments, numbers};
 pub use vocabulary::{
     Got, MOST_FRAMING, MOST_MESSAGES, PING_AFTER, Reason, SILENCE_AFTER, Side, State, Why,
 };
-pub use worlds::{still_worlds, what_may_not_come, worked_over_bytes, worked_worlds};
+pub use worlds::{
+    still_worlds, what_is_excluded, what_may_not_come, worked_over_bytes, worked_worlds,
+};
 
 /// In every world of two ends, what each has processed is a first part of what the other sent, and
 /// all of it once nothing is left to say or read. Neither refuses what the other says, and what

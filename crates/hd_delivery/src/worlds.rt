@@ -1,15 +1,20 @@
 //! Worked worlds, over frames and over bytes, which the checker computes.
-ghost use Rattle.std.specs.Prelude.{ℕ, true, false, Some, None, [], ◌∷◌, codes};
+ghost use Rattle.std.specs.Prelude.{ℕ, pos, true, false, Some, None, [], ◌∷◌, codes};
 ghost use Rattle.hm_message.specs.declared.message.Codec.TheVariants.{Json, Pack};
-ghost use Rattle.hm_message.specs.declared.message.Message.TheVariants.{Ping};
-ghost use Rattle.hd_delivery.specs.declared.vocabulary.Side.TheVariants.{Client};
+ghost use Rattle.hm_message.specs.declared.message.Message.TheVariants as message;
+ghost use Rattle.hd_delivery.specs.declared.vocabulary.Got.TheVariants as gives;
+ghost use Rattle.hd_delivery.specs.declared.vocabulary.Got.TheVariants.{Skipped};
+ghost use Rattle.hd_delivery.specs.declared.vocabulary.Why.TheVariants.{BeforeSequence, Duplicate, NotUsed, Unknown};
+ghost use Rattle.hd_delivery.specs.declared.vocabulary.Reason.TheVariants.{Done};
+ghost use Rattle.hd_delivery.specs.declared.vocabulary.Side.TheVariants.{Client, Server};
+ghost use Rattle.hd_delivery.specs.Frames.{Ack, Ping, Response, Sequence};
 ghost use Rattle.hd_delivery.specs.declared.vocabulary.State.TheVariants.{Away, Ready};
 ghost use Rattle.hd_delivery.specs.declared.vocabulary.State.TheVariants as states;
-ghost use Rattle.hd_delivery.specs.Histories.{Failed, Unread};
-ghost use Rattle.hd_delivery.specs.Worlds.{MayAttach, MaySend, config};
-ghost use Rattle.hd_delivery.specs.Bytes.{IsFaithful, IsSoundWire};
-ghost use Rattle.hd_delivery.specs.Examples.{IsStill, IsWorked, a, acknowledged, b, c, client_after, closed_before_response, closed_kept, closed_with_allow, far_link, filled, further_sequence, limits_of, lost_at_four, older_link_later, one_sequence, opened, packed, plain_delivered, plain_loss, plain_room, plain_silence, resume_after_ack, resume_duplicates, resumed_with_none, resumed_with_one, sent_away, server_after, server_away, silence, sizes, terms, terms_in, ticked_at_five, too_deep, usual, with_bytes};
-ghost use Rattle.hd_delivery.specs.ExamplesOverBytes.{IsFullFor, IsStillOverBytes, IsWorkedOverBytes, NextStepOverBytes, acknowledged_over_bytes, bytewise, cut_by_a_loss, four, stopped, unread_nine, unreadable, unreadable_later, unreadable_whole};
+ghost use Rattle.hd_delivery.specs.Histories.{Closed, Detached, Failed, Fed, Gap, Sent, Silenced, Ticked, Took, Unread};
+ghost use Rattle.hd_delivery.specs.Worlds.{Delivers, IsFaultless, IsSound, MayAttach, MaySend, SkipsNone, config};
+ghost use Rattle.hd_delivery.specs.Bytes.{IsFaithful, IsFirst, IsLater, IsSoundWire};
+ghost use Rattle.hd_delivery.specs.Examples.{ClientMayNot, IsStill, IsWorked, a, acknowledged, b, c, client_after, closed_before_response, closed_kept, closed_with_allow, far_link, filled, further_sequence, limits_of, lost_at_four, older_link_later, one_sequence, opened, packed, plain_delivered, plain_loss, plain_room, plain_silence, resume_after_ack, resume_duplicates, resumed_with_none, resumed_with_one, sent_away, server_after, server_away, silence, sizes, terms, terms_in, ticked_at_five, too_deep, usual, with_bytes};
+ghost use Rattle.hd_delivery.specs.ExamplesOverBytes.{IsFullFor, IsStillOverBytes, IsWorkedOverBytes, NextStepOverBytes, acknowledged_over_bytes, bytewise, cut_by_a_loss, four, lazy, padded, stopped, unread_nine, unreadable, unreadable_later, unreadable_whole};
 
 /// Whole worlds, and what the client and the server are in the end: the state, and how many
 /// messages were sent, processed and are held.
@@ -61,7 +66,8 @@ pub fn still_worlds()
 {}
 
 /// What may not come: a send past a limit, or of a message that can't be sent; a link or a send after an end was closed
-/// or a plain connection was lost; a moment before the last one.
+/// or a plain connection was lost; a link that the other end doesn't know; a moment before the last one; a tick that is
+/// a silence, and a silence that is none.
 pub fn what_may_not_come()
     ensures count { MaySend (limits_of 38 3 156) sizes (config Client (terms 2 true))
         (client_after filled) a → ⊥ }
@@ -80,11 +86,44 @@ pub fn what_may_not_come()
     ensures earlier { (l : ℕ) → MayAttach (config Client (terms 2 true))
         (client_after ticked_at_five) (server_after ticked_at_five) l 4 → ⊥ }
     ensures unsequenced { MaySend usual sizes (config Client (terms 2 true))
-        (client_after (opened 2)) Ping → ⊥ }
+        (client_after (opened 2)) message.Ping → ⊥ }
     ensures deep { MaySend usual sizes (config Client (terms 2 true)) (client_after (opened 2))
         too_deep → ⊥ }
     ensures json_bytes { MaySend usual sizes (config Client (terms 2 true))
         (client_after (opened 2)) with_bytes → ⊥ }
+    ensures lower_link { (now : ℕ) → MayAttach (config Client (terms 2 true))
+        (client_after far_link) (server_after far_link) 1 now → ⊥ }
+    ensures unknown_link { (now : ℕ) → MayAttach (config Server (terms 2 true))
+        (server_after acknowledged) (client_after acknowledged) 1 now → ⊥ }
+    ensures same_link { (now : ℕ) → MayAttach (config Server (terms 2 true))
+        (server_after acknowledged) (client_after acknowledged) 0 now → ⊥ }
+    ensures tick { ClientMayNot ticked_at_five (Ticked 30005) }
+    ensures silence { ClientMayNot ticked_at_five (Silenced 30004) }
+    ensures loss { ClientMayNot sent_away (Detached 0) }
+    ensures loss_earlier { ClientMayNot ticked_at_five (Detached 4) }
+    ensures close { ClientMayNot closed_kept (Closed Done false) }
+    ensures piece { ClientMayNot closed_kept (Fed []) }
+{}
+
+/// What the theorem excludes: messages that were never sent or come in another order, faults, frames that are skipped,
+/// and counts that are too high.
+pub fn what_is_excluded()
+    ensures unsent { Delivers [] (Took (gives.Message a) ∷ []) → ⊥ }
+    ensures order { Delivers (Sent b ∷ Sent a ∷ []) (Took (gives.Message b) ∷ []) → ⊥ }
+    ensures twice { Delivers (Sent a ∷ [])
+        (Took (gives.Message a) ∷ Took (gives.Message a) ∷ []) → ⊥ }
+    ensures fault { IsFaultless (Failed (Gap 5 4) ∷ []) → ⊥ }
+    ensures unknown { IsFaultless (Took (Skipped (Unknown (pos 10))) ∷ []) → ⊥ }
+    ensures early { IsFaultless (Took (Skipped BeforeSequence) ∷ []) → ⊥ }
+    ensures unused { IsFaultless (Took (Skipped NotUsed) ∷ []) → ⊥ }
+    ensures duplicate { SkipsNone (Took (Skipped (Duplicate 1)) ∷ []) → ⊥ }
+    ensures ack { IsSound 2 9 (Ping ∷ Ack 3 ∷ []) → ⊥ }
+    ensures sequence { IsSound 9 2 (Sequence 4 None ∷ []) → ⊥ }
+    ensures received { IsSound 2 9 (Sequence 1 (Some 3) ∷ []) → ⊥ }
+    ensures waiting { IsSoundWire (limits_of 4 1024 100000) lazy → ⊥ }
+    ensures framing { IsSoundWire usual padded → ⊥ }
+    ensures response { IsLater Response → ⊥ }
+    ensures first { IsFirst Server Ping → ⊥ }
 {}
 
 /// The same over bytes, for a way to write frames that is faithful.
