@@ -4,7 +4,7 @@ use Rattle.std.specs.Prelude.{◌==◌, ◌+◌, ◌^◌, ◌||◌, ◌&&◌, na
 use Rattle.std.proofs.lemmas.Bool.{eqb-true, or_cases, and_parts, ltb-true}
 use Rattle.hm_message.specs.declared.message.Codec.TheVariants.{Json}
 use Rattle.hd_delivery.specs.Worlds.{CanBeSent, IsWorld}
-use Rattle.hd_delivery.specs.Examples.{a, b, c, usual, sizes, terms, older_link_later, far_link}
+use Rattle.hd_delivery.specs.Examples.{a, usual, sizes, terms, opened, older_link_later, far_link}
 
 -- a name among these, each of which is below another, is below it
 abbrev pub among : ℕ → List ℕ → Bool
@@ -24,92 +24,12 @@ below l (n ∷ ns) e k f =
 a_can_be : CanBeSent usual sizes Json a
 a_can_be = record { sequenced = refl; fits = omega arith; as_read = refl; short = omega arith }
 
-b_can_be : CanBeSent usual sizes Json b
-b_can_be = record { sequenced = refl; fits = omega arith; as_read = refl; short = omega arith }
-
-c_can_be : CanBeSent usual sizes Json c
-c_can_be = record { sequenced = refl; fits = omega arith; as_read = refl; short = omega arith }
+-- the handshake
+opened_is_world : IsWorld usual sizes (terms 2 true) (reverse (opened 2))
+opened_is_world = ((((((((tt, record { unclosed = refl; granted = inl refl; named = below 0 [] refl; in_time = omega arith }), refl), record { unclosed = refl; granted = inl refl; named = (refl, refl); in_time = omega arith }), record { link = 0; at = refl; unclosed = refl; front = ([], refl) }), refl), refl), record { link = 0; at = refl; unclosed = refl; front = ([], refl) }), refl)
 
 pub older_link_later_is_world : IsWorld usual sizes (terms 2 true) (reverse older_link_later)
-older_link_later_is_world = (
-  (
-    (
-      (
-        (
-          (
-            (
-              (
-                (
-                  (
-                    (
-                      (
-                        (
-                          (
-                            (
-                              (
-                                (
-                                  (
-                                    (
-                                      (
-                                        (
-                                          (
-                                            (
-                                              (
-                                                (
-                                                  (
-                                                    tt,
-                                                    record { unclosed = refl; granted = inl refl; named = below 0 [] refl; in_time = omega arith },
-                                                  ),
-                                                  refl,
-                                                ),
-                                                record { unclosed = refl; granted = inl refl; named = (refl, refl); in_time = omega arith },
-                                              ),
-                                              record { link = 0; at = refl; unclosed = refl; front = ([], refl) },
-                                            ),
-                                            refl,
-                                          ),
-                                          refl,
-                                        ),
-                                        record { link = 0; at = refl; unclosed = refl; front = ([], refl) },
-                                      ),
-                                      refl,
-                                    ),
-                                    record { unclosed = refl; shakes = refl; few = omega arith; can_be = a_can_be; room = record { of_count = omega arith; of_bytes = omega arith } },
-                                  ),
-                                  refl,
-                                ),
-                                record { link = 0; at = refl; unclosed = refl; front = ([], refl) },
-                              ),
-                              refl,
-                            ),
-                            record { unclosed = refl; granted = inr refl; named = below 1 (0 ∷ []) refl; in_time = omega arith },
-                          ),
-                          refl,
-                        ),
-                        refl,
-                      ),
-                      record { unclosed = refl; granted = inr refl; named = below 2 (1 ∷ 0 ∷ []) refl; in_time = omega arith },
-                    ),
-                    refl,
-                  ),
-                  refl,
-                ),
-                record { unclosed = refl; granted = inr refl; named = (refl, refl); in_time = omega arith },
-              ),
-              record { link = 2; at = refl; unclosed = refl; front = ([], refl) },
-            ),
-            refl,
-          ),
-          refl,
-        ),
-        record { unclosed = refl; granted = inr refl; named = (refl, refl); in_time = omega arith },
-      ),
-      record { link = 1; at = refl; unclosed = refl; front = ([], refl) },
-    ),
-    refl,
-  ),
-  refl,
-)
+older_link_later_is_world = ((((((((((((((((((opened_is_world, record { unclosed = refl; shakes = refl; few = omega arith; can_be = a_can_be; room = record { of_count = omega arith; of_bytes = omega arith } }), refl), record { link = 0; at = refl; unclosed = refl; front = ([], refl) }), refl), record { unclosed = refl; granted = inr refl; named = below 1 (0 ∷ []) refl; in_time = omega arith }), refl), refl), record { unclosed = refl; granted = inr refl; named = below 2 (1 ∷ 0 ∷ []) refl; in_time = omega arith }), refl), refl), record { unclosed = refl; granted = inr refl; named = (refl, refl); in_time = omega arith }), record { link = 2; at = refl; unclosed = refl; front = ([], refl) }), refl), refl), record { unclosed = refl; granted = inr refl; named = (refl, refl); in_time = omega arith }), record { link = 1; at = refl; unclosed = refl; front = ([], refl) }), refl), refl)
 
 pub far_link_is_world : IsWorld usual sizes (terms 2 true) (reverse far_link)
-far_link_is_world = (((((((((((((tt, record { unclosed = refl; granted = inl refl; named = below 0 [] refl; in_time = omega arith }), refl), record { unclosed = refl; granted = inl refl; named = (refl, refl); in_time = omega arith }), record { link = 0; at = refl; unclosed = refl; front = ([], refl) }), refl), refl), record { link = 0; at = refl; unclosed = refl; front = ([], refl) }), refl), record { unclosed = refl; granted = inr refl; named = below (2 ^ 32 + 5) (0 ∷ []) refl; in_time = omega arith }), refl), record { unclosed = refl; granted = inr refl; named = (refl, refl); in_time = omega arith }), record { link = 2 ^ 32 + 5; at = refl; unclosed = refl; front = ([], refl) }), refl)
+far_link_is_world = (((((opened_is_world, record { unclosed = refl; granted = inr refl; named = below (2 ^ 32 + 5) (0 ∷ []) refl; in_time = omega arith }), refl), record { unclosed = refl; granted = inr refl; named = (refl, refl); in_time = omega arith }), record { link = 2 ^ 32 + 5; at = refl; unclosed = refl; front = ([], refl) }), refl)

@@ -1,6 +1,6 @@
 -- The worked worlds over bytes are worlds, and their readers are faithful.
 use Rattle.std.proofs.Common.{inl, ◌≡◌, ℕ, zero, suc, ◌<◌, ◌≤◌, Bool, true, false, List, [], ◌∷◌, ◌++◌, length, length-append, refl, arith, subst, ap, Option, Some, None}
-use Rattle.std.specs.Prelude.{reverse, Contains, ◌==◌, ◌+◌}
+use Rattle.std.specs.Prelude.{reverse, codes, Contains, ◌==◌, ◌+◌}
 use Rattle.hm_message.specs.declared.message.Message.{Message}
 use Rattle.hm_message.specs.declared.message.Codec.{Codec}
 use Rattle.hm_message.specs.declared.message.Codec.TheVariants.{Json, Pack}
@@ -11,8 +11,8 @@ use Rattle.hd_delivery.specs.declared.vocabulary.Side.TheVariants.{Client, Serve
 use Rattle.hd_delivery.specs.Frames.{LinkFrame, Request, Response, Numbered, Ack, Sequence, Ping, Close, error_of}
 use Rattle.hd_delivery.specs.Worlds.{Limits, CanBeSent}
 use Rattle.hd_delivery.specs.Bytes.{Reading, Waits, Reads, Refuses, Stops, sizes_of, IsRead, IsFaithful, IsFirst, IsLater, IsSize, IsSoundReader, IsSoundWire, IsWorldOverBytes}
-use Rattle.hd_delivery.specs.Examples.{a, b, c, limits_of, usual, terms}
-use Rattle.hd_delivery.specs.ExamplesOverBytes.{flag_number, error_number, four_of, spell_four, read_four, error_numbered, first_of_four, later_of_four, four, lazy, padded, bytewise, unread_nine}
+use Rattle.hd_delivery.specs.Examples.{call, a, b, c, limits_of, usual, terms}
+use Rattle.hd_delivery.specs.ExamplesOverBytes.{flag_number, error_number, four_of, spell_four, read_four, error_numbered, first_of_four, later_of_four, four, lazy, padded, three_said, bytewise, unread_nine}
 use Rattle.hd_delivery.specs.Numbers.{most_framing}
 use Rattle.hd_delivery.proofs.Local.{both}
 use Rattle.hd_delivery.proofs.Examples.{below}
@@ -134,15 +134,12 @@ four_is_sound limits = record {
   later = λ codec. reader_is_sound limits IsLater later_of_four later_is_of_four;
 }
 
-module _ (limits : Limits) (short : 4 ≤ limits.frame) where
-  a_goes : CanBeSent limits (sizes_of four) Json a
-  a_goes = record { sequenced = refl; fits = omega arith; as_read = refl; short = short }
+module _ (limits : Limits) (short : 4 ≤ limits.frame) (many : 3 ≤ limits.count) (wide : 12 ≤ limits.bytes) where
+  can_go : (letter : List ℕ) → CanBeSent limits (sizes_of four) Json (call letter)
+  can_go letter = record { sequenced = refl; fits = omega arith; as_read = refl; short = short }
 
-  b_goes : CanBeSent limits (sizes_of four) Json b
-  b_goes = record { sequenced = refl; fits = omega arith; as_read = refl; short = short }
-
-  c_goes : CanBeSent limits (sizes_of four) Json c
-  c_goes = record { sequenced = refl; fits = omega arith; as_read = refl; short = short }
+  three_said_is_world : IsWorldOverBytes limits four (terms 2 true) (reverse three_said)
+  three_said_is_world = ((((((((((((((tt, record { unclosed = refl; granted = inl refl; named = below 0 [] refl; in_time = omega arith }), refl), record { unclosed = refl; granted = inl refl; named = (refl, refl); in_time = omega arith }), record { link = 0; at = refl; unclosed = refl; front = ([], refl); few = omega (arith, short) }), refl), refl), record { link = 0; at = refl; unclosed = refl; front = ([], refl); few = omega (arith, short) }), refl), record { unclosed = refl; shakes = refl; few = omega arith; can_be = can_go (codes "a"); room = record { of_count = omega (arith, many); of_bytes = omega (arith, wide) } }), record { unclosed = refl; shakes = refl; few = omega arith; can_be = can_go (codes "b"); room = record { of_count = omega (arith, many); of_bytes = omega (arith, wide) } }), record { unclosed = refl; shakes = refl; few = omega arith; can_be = can_go (codes "c"); room = record { of_count = omega (arith, many); of_bytes = omega (arith, wide) } }), refl), refl), refl)
 
 pub lazy_is_unsound : IsSoundWire (limits_of 4 1024 100000) lazy → ⊥
 lazy_is_unsound sound = let h : 9 < 9 = (sound.later Json).unfilled (0 ∷ 0 ∷ 0 ∷ 0 ∷ 0 ∷ 0 ∷ 0 ∷ 0 ∷ 0 ∷ []) refl in omega (arith, h)
@@ -154,139 +151,7 @@ padded_is_unsound sound =
     omega (arith, h)
 
 pub bytewise_is_world : IsWorldOverBytes usual four (terms 2 true) (reverse bytewise)
-bytewise_is_world = (
-  (
-    (
-      (
-        (
-          (
-            (
-              (
-                (
-                  (
-                    (
-                      (
-                        (
-                          (
-                            (
-                              (
-                                (
-                                  (
-                                    (
-                                      (
-                                        (
-                                          (
-                                            (
-                                              (
-                                                (
-                                                  (
-                                                    (
-                                                      (
-                                                        (
-                                                          tt,
-                                                          record { unclosed = refl; granted = inl refl; named = below 0 [] refl; in_time = omega arith },
-                                                        ),
-                                                        refl,
-                                                      ),
-                                                      record { unclosed = refl; granted = inl refl; named = (refl, refl); in_time = omega arith },
-                                                    ),
-                                                    record { link = 0; at = refl; unclosed = refl; front = ([], refl); few = omega arith },
-                                                  ),
-                                                  refl,
-                                                ),
-                                                refl,
-                                              ),
-                                              record { link = 0; at = refl; unclosed = refl; front = ([], refl); few = omega arith },
-                                            ),
-                                            refl,
-                                          ),
-                                          record { unclosed = refl; shakes = refl; few = omega arith; can_be = a_goes usual (omega arith); room = record { of_count = omega arith; of_bytes = omega arith } },
-                                        ),
-                                        record { unclosed = refl; shakes = refl; few = omega arith; can_be = b_goes usual (omega arith); room = record { of_count = omega arith; of_bytes = omega arith } },
-                                      ),
-                                      record { unclosed = refl; shakes = refl; few = omega arith; can_be = c_goes usual (omega arith); room = record { of_count = omega arith; of_bytes = omega arith } },
-                                    ),
-                                    refl,
-                                  ),
-                                  refl,
-                                ),
-                                refl,
-                              ),
-                              record { link = 0; at = refl; unclosed = refl; front = (97 ∷ 0 ∷ 0 ∷ 3 ∷ 98 ∷ 0 ∷ 0 ∷ 3 ∷ 99 ∷ 0 ∷ 0 ∷ [], refl); few = omega arith },
-                            ),
-                            record { link = 0; at = refl; unclosed = refl; front = (0 ∷ 0 ∷ 3 ∷ 98 ∷ 0 ∷ 0 ∷ 3 ∷ 99 ∷ 0 ∷ 0 ∷ [], refl); few = omega arith },
-                          ),
-                          record { link = 0; at = refl; unclosed = refl; front = (0 ∷ 3 ∷ 98 ∷ 0 ∷ 0 ∷ 3 ∷ 99 ∷ 0 ∷ 0 ∷ [], refl); few = omega arith },
-                        ),
-                        record { link = 0; at = refl; unclosed = refl; front = (3 ∷ 98 ∷ 0 ∷ 0 ∷ 3 ∷ 99 ∷ 0 ∷ 0 ∷ [], refl); few = omega arith },
-                      ),
-                      refl,
-                    ),
-                    record { link = 0; at = refl; unclosed = refl; front = (98 ∷ 0 ∷ 0 ∷ 3 ∷ 99 ∷ 0 ∷ 0 ∷ [], refl); few = omega arith },
-                  ),
-                  record { link = 0; at = refl; unclosed = refl; front = (0 ∷ 0 ∷ 3 ∷ 99 ∷ 0 ∷ 0 ∷ [], refl); few = omega arith },
-                ),
-                record { link = 0; at = refl; unclosed = refl; front = (0 ∷ 3 ∷ 99 ∷ 0 ∷ 0 ∷ [], refl); few = omega arith },
-              ),
-              record { link = 0; at = refl; unclosed = refl; front = (3 ∷ 99 ∷ 0 ∷ 0 ∷ [], refl); few = omega arith },
-            ),
-            refl,
-          ),
-          record { link = 0; at = refl; unclosed = refl; front = (99 ∷ 0 ∷ 0 ∷ [], refl); few = omega arith },
-        ),
-        record { link = 0; at = refl; unclosed = refl; front = (0 ∷ 0 ∷ [], refl); few = omega arith },
-      ),
-      record { link = 0; at = refl; unclosed = refl; front = (0 ∷ [], refl); few = omega arith },
-    ),
-    record { link = 0; at = refl; unclosed = refl; front = ([], refl); few = omega arith },
-  ),
-  refl,
-)
+bytewise_is_world = (((((((((((((((three_said_is_world usual (omega arith) (omega arith) (omega arith), record { link = 0; at = refl; unclosed = refl; front = (97 ∷ 0 ∷ 0 ∷ 3 ∷ 98 ∷ 0 ∷ 0 ∷ 3 ∷ 99 ∷ 0 ∷ 0 ∷ [], refl); few = omega arith }), record { link = 0; at = refl; unclosed = refl; front = (0 ∷ 0 ∷ 3 ∷ 98 ∷ 0 ∷ 0 ∷ 3 ∷ 99 ∷ 0 ∷ 0 ∷ [], refl); few = omega arith }), record { link = 0; at = refl; unclosed = refl; front = (0 ∷ 3 ∷ 98 ∷ 0 ∷ 0 ∷ 3 ∷ 99 ∷ 0 ∷ 0 ∷ [], refl); few = omega arith }), record { link = 0; at = refl; unclosed = refl; front = (3 ∷ 98 ∷ 0 ∷ 0 ∷ 3 ∷ 99 ∷ 0 ∷ 0 ∷ [], refl); few = omega arith }), refl), record { link = 0; at = refl; unclosed = refl; front = (98 ∷ 0 ∷ 0 ∷ 3 ∷ 99 ∷ 0 ∷ 0 ∷ [], refl); few = omega arith }), record { link = 0; at = refl; unclosed = refl; front = (0 ∷ 0 ∷ 3 ∷ 99 ∷ 0 ∷ 0 ∷ [], refl); few = omega arith }), record { link = 0; at = refl; unclosed = refl; front = (0 ∷ 3 ∷ 99 ∷ 0 ∷ 0 ∷ [], refl); few = omega arith }), record { link = 0; at = refl; unclosed = refl; front = (3 ∷ 99 ∷ 0 ∷ 0 ∷ [], refl); few = omega arith }), refl), record { link = 0; at = refl; unclosed = refl; front = (99 ∷ 0 ∷ 0 ∷ [], refl); few = omega arith }), record { link = 0; at = refl; unclosed = refl; front = (0 ∷ 0 ∷ [], refl); few = omega arith }), record { link = 0; at = refl; unclosed = refl; front = (0 ∷ [], refl); few = omega arith }), record { link = 0; at = refl; unclosed = refl; front = ([], refl); few = omega arith }), refl)
 
 pub unread_nine_is_world : IsWorldOverBytes (limits_of 4 1024 100000) four (terms 2 true) (reverse unread_nine)
-unread_nine_is_world = (
-  (
-    (
-      (
-        (
-          (
-            (
-              (
-                (
-                  (
-                    (
-                      (
-                        (
-                          (
-                            (
-                              tt,
-                              record { unclosed = refl; granted = inl refl; named = below 0 [] refl; in_time = omega arith },
-                            ),
-                            refl,
-                          ),
-                          record { unclosed = refl; granted = inl refl; named = (refl, refl); in_time = omega arith },
-                        ),
-                        record { link = 0; at = refl; unclosed = refl; front = ([], refl); few = omega arith },
-                      ),
-                      refl,
-                    ),
-                    refl,
-                  ),
-                  record { link = 0; at = refl; unclosed = refl; front = ([], refl); few = omega arith },
-                ),
-                refl,
-              ),
-              record { unclosed = refl; shakes = refl; few = omega arith; can_be = a_goes (limits_of 4 1024 100000) (omega arith); room = record { of_count = omega arith; of_bytes = omega arith } },
-            ),
-            record { unclosed = refl; shakes = refl; few = omega arith; can_be = b_goes (limits_of 4 1024 100000) (omega arith); room = record { of_count = omega arith; of_bytes = omega arith } },
-          ),
-          record { unclosed = refl; shakes = refl; few = omega arith; can_be = c_goes (limits_of 4 1024 100000) (omega arith); room = record { of_count = omega arith; of_bytes = omega arith } },
-        ),
-        refl,
-      ),
-      refl,
-    ),
-    refl,
-  ),
-  record { link = 0; at = refl; unclosed = refl; front = (99 ∷ 0 ∷ 0 ∷ [], refl); few = omega arith },
-)
+unread_nine_is_world = (three_said_is_world (limits_of 4 1024 100000) (omega arith) (omega arith) (omega arith), record { link = 0; at = refl; unclosed = refl; front = (99 ∷ 0 ∷ 0 ∷ [], refl); few = omega arith })

@@ -11,8 +11,8 @@ use Rattle.hd_delivery.specs.Frames.{LinkFrame, Request, Response, Refusal, Numb
 use Rattle.hd_delivery.specs.Histories.{Config, Step, Attached, Detached, Fed, Took, Sent, Lent, Silenced, is_this, first_of, present_link, stands_on, was_on, first_link, fed_frames, lent_frames, sent_messages, processed_messages, is_shaken, codec_of}
 use Rattle.hd_delivery.specs.Due.{handshake, due_after, due_there, due_on, due}
 use Rattle.hd_facts.specs.Prefixes.{IsPrefix}
-use Rattle.hd_delivery.specs.Worlds.{Limits, Sizes, CanBeSent, Allowed, Terms, codec_at, config, Still}
-use Rattle.hd_delivery.specs.Bytes.{Waits, Wire, sizes_of, IsRead, IsFaithful, cut_all, codec_after, cut, frames, ByteStep, Bytes, Does, bare_steps, bytes_on, new_frames, in_frames, spelling_of, AllowedOverBytes, ByteEvent, AtClient, AtServer, client_bytes, server_bytes, IsWorldOverBytes, StillOverBytes}
+use Rattle.hd_delivery.specs.Worlds.{Limits, Sizes, CanBeSent, Allowed, Terms, codec_at, config, Still, Event, ByClient, ByServer, client_of, server_of}
+use Rattle.hd_delivery.specs.Bytes.{Waits, Wire, sizes_of, IsRead, IsFaithful, cut_all, codec_after, cut, frames, ByteStep, Bytes, Does, bare_steps, bytes_on, new_frames, in_frames, spelling_of, AllowedOverBytes, IsWorldOverBytes, StillOverBytes}
 use Rattle.hd_delivery.proofs.Lists.{append_none}
 use Rattle.hd_delivery.proofs.Local.{is_this-true, is_this-same, both, or_parts, here_was, has_first, none_was, lent_was}
 use Rattle.hd_delivery.proofs.Carries.{Facts, facts, HasNumber, MayStand, MayCarry, MayStand-count}
@@ -412,7 +412,7 @@ module _ (limits : Limits) (wire : Wire) (terms : Terms) (all : List Message) (l
       server_due = q.server_due;
     }
 
-  pub together_over_bytes : (w : List ByteEvent) → Within Client (client_bytes w) → Within Server (server_bytes w) → IsWorldOverBytes limits wire terms w → TogetherOverBytes (client_bytes w) (server_bytes w)
+  pub together_over_bytes : (w : List (Event ByteStep)) → Within Client (client_of w) → Within Server (server_of w) → IsWorldOverBytes limits wire terms w → TogetherOverBytes (client_of w) (server_of w)
   together_over_bytes [] of_client of_server i = record {
     together = start terms;
     client_follows = λ l. (([], refl), refl);
@@ -422,5 +422,5 @@ module _ (limits : Limits) (wire : Wire) (terms : Terms) (all : List Message) (l
     client_opens = λ e. inl refl;
     server_opens = λ e. inr (λ l. refl);
   }
-  together_over_bytes (AtClient step ∷ w) of_client of_server i = client_does (client_bytes w) (server_bytes w) (together_over_bytes w (sent_before Client step (client_bytes w) of_client) of_server i.0) step of_client i.1
-  together_over_bytes (AtServer step ∷ w) of_client of_server i = server_does (client_bytes w) (server_bytes w) (together_over_bytes w of_client (sent_before Server step (server_bytes w) of_server) i.0) step of_server i.1
+  together_over_bytes (ByClient step ∷ w) of_client of_server i = client_does (client_of w) (server_of w) (together_over_bytes w (sent_before Client step (client_of w) of_client) of_server i.0) step of_client i.1
+  together_over_bytes (ByServer step ∷ w) of_client of_server i = server_does (client_of w) (server_of w) (together_over_bytes w of_client (sent_before Server step (server_of w) of_server) i.0) step of_server i.1

@@ -196,7 +196,7 @@ module _ (limits : Limits) (sizes : Sizes) (terms : Terms) (c s : List Step) (t 
   server_steps (Attached l now) a = server_links l now a
   server_steps step a = record { ends = to_client terms c (step ∷ s) (steps limits sizes Server terms s c (to_server terms c s t.ends) step (λ l now e. absurd (cc)) a); among = t.among }
 
-pub together : (limits : Limits) (sizes : Sizes) (terms : Terms) (w : List Event) → IsWorld limits sizes terms w → Together terms (client_of w) (server_of w)
+pub together : (limits : Limits) (sizes : Sizes) (terms : Terms) (w : List (Event Step)) → IsWorld limits sizes terms w → Together terms (client_of w) (server_of w)
 together limits sizes terms [] i = start terms
 together limits sizes terms (ByClient step ∷ w) i = client_steps limits sizes terms (client_of w) (server_of w) (together limits sizes terms w i.0) step i.1
 together limits sizes terms (ByServer step ∷ w) i = server_steps limits sizes terms (client_of w) (server_of w) (together limits sizes terms w i.0) step i.1

@@ -13,7 +13,7 @@ use Rattle.hd_delivery.specs.Frames.{LinkFrame, Request, Response, Numbered, Ack
 use Rattle.hd_delivery.specs.Histories.{Step, Fed, Config, is_this, present_link, stands_on, first_link, as_told, fed_frames, lent_frames, taken_count, sent_messages, codec_of, is_closed, state}
 use Rattle.hd_delivery.specs.Due.{due}
 use Rattle.hd_facts.specs.Prefixes.{IsPrefix}
-use Rattle.hd_delivery.specs.Worlds.{Limits, Sizes, CanBeSent, Allowed, Terms, config, Still, Delivery}
+use Rattle.hd_delivery.specs.Worlds.{Limits, Sizes, CanBeSent, Allowed, Terms, config, Event, ByClient, ByServer, client_of, server_of, Still, Delivery}
 
 -- ---- readers
 
@@ -184,38 +184,21 @@ AllowedOverBytes limits wire c oc h other (Bytes piece) = MayFeedBytes limits wi
 AllowedOverBytes limits wire c oc h other (Does (Fed piece)) = ⊥
 AllowedOverBytes limits wire c oc h other (Does s) = Allowed limits (sizes_of wire) c (in_frames wire c h) (in_frames wire oc other) s
 
--- one such step of one end
-pub data ByteEvent : Type 0 where
-  AtClient : ByteStep → ByteEvent
-  AtServer : ByteStep → ByteEvent
-
--- the steps of the client
-abbrev pub client_bytes : List ByteEvent → List ByteStep
-client_bytes [] = []
-client_bytes (AtClient s ∷ w) = s ∷ client_bytes w
-client_bytes (AtServer s ∷ w) = client_bytes w
-
--- the steps of the server
-abbrev pub server_bytes : List ByteEvent → List ByteStep
-server_bytes [] = []
-server_bytes (AtClient s ∷ w) = server_bytes w
-server_bytes (AtServer s ∷ w) = s ∷ server_bytes w
-
 -- each event is a step that was allowed after those before it
-abbrev pub IsWorldOverBytes : Limits → Wire → Terms → List ByteEvent → Type 0
+abbrev pub IsWorldOverBytes : Limits → Wire → Terms → List (Event ByteStep) → Type 0
 IsWorldOverBytes limits wire t [] = Unit {0}
-IsWorldOverBytes limits wire t (AtClient s ∷ w) =
-    IsWorldOverBytes limits wire t w × AllowedOverBytes limits wire (config Client t) (config Server t) (client_bytes w) (server_bytes w) s
-IsWorldOverBytes limits wire t (AtServer s ∷ w) =
-    IsWorldOverBytes limits wire t w × AllowedOverBytes limits wire (config Server t) (config Client t) (server_bytes w) (client_bytes w) s
+IsWorldOverBytes limits wire t (ByClient s ∷ w) =
+    IsWorldOverBytes limits wire t w × AllowedOverBytes limits wire (config Client t) (config Server t) (client_of w) (server_of w) s
+IsWorldOverBytes limits wire t (ByServer s ∷ w) =
+    IsWorldOverBytes limits wire t w × AllowedOverBytes limits wire (config Server t) (config Client t) (server_of w) (client_of w) s
 
 -- the client's history in frames
-abbrev pub client_in_frames : Wire → Terms → List ByteEvent → List Step
-client_in_frames wire t w = in_frames wire (config Client t) (client_bytes w)
+abbrev pub client_in_frames : Wire → Terms → List (Event ByteStep) → List Step
+client_in_frames wire t w = in_frames wire (config Client t) (client_of w)
 
 -- the server's history in frames
-abbrev pub server_in_frames : Wire → Terms → List ByteEvent → List Step
-server_in_frames wire t w = in_frames wire (config Server t) (server_bytes w)
+abbrev pub server_in_frames : Wire → Terms → List (Event ByteStep) → List Step
+server_in_frames wire t w = in_frames wire (config Server t) (server_of w)
 
 -- as `Still`, where each end has been fed every byte that the other lent
 pub record StillOverBytes (wire : Wire) (cc cs : Config) (c s : List ByteStep) : Type 0 where
@@ -232,13 +215,13 @@ pub record StillOverBytes (wire : Wire) (cc cs : Config) (c s : List ByteStep) :
   pub server_due : due cs (in_frames wire cs s) ≡ None
 
 -- the same of the histories in frames, which are still where every byte was fed
-pub record DeliveryOverBytes (wire : Wire) (t : Terms) (w : List ByteEvent) : Type 0 where
+pub record DeliveryOverBytes (wire : Wire) (t : Terms) (w : List (Event ByteStep)) : Type 0 where
   pub holds : Delivery t (client_in_frames wire t w) (server_in_frames wire t w)
-  pub still : StillOverBytes wire (config Client t) (config Server t) (client_bytes w) (server_bytes w)
+  pub still : StillOverBytes wire (config Client t) (config Server t) (client_of w) (server_of w)
       → Still (config Client t) (config Server t) (client_in_frames wire t w) (server_in_frames wire t w)
 
 -- it holds in every world over bytes whose readers are faithful to what is sent there
 abbrev pub HoldsOverBytes : Type 0
-HoldsOverBytes = (limits : Limits) (wire : Wire) (t : Terms) (w : List ByteEvent)
+HoldsOverBytes = (limits : Limits) (wire : Wire) (t : Terms) (w : List (Event ByteStep))
     → IsFaithful limits wire t.codec t.version (sent_messages (client_in_frames wire t w) ++ sent_messages (server_in_frames wire t w))
     → IsWorldOverBytes limits wire t w → DeliveryOverBytes wire t w

@@ -13,8 +13,8 @@ use Rattle.hd_delivery.specs.declared.vocabulary.Got.TheVariants as gives
 use Rattle.hd_delivery.specs.Frames.{LinkFrame, Request, Response, Numbered, Ack, Sequence, Ping, Close, Strange, error_of}
 use Rattle.hd_delivery.specs.Histories.{Config, Step, Attached, Took, Sent, Lent}
 use Rattle.hd_delivery.specs.Processes.{processes}
-use Rattle.hd_delivery.specs.Worlds.{Limits, Terms, config}
-use Rattle.hd_delivery.specs.Bytes.{Reading, Waits, Reads, Refuses, Stops, Wire, ByteStep, Bytes, Does, in_frames, ByteEvent, AtClient, AtServer, client_bytes, server_bytes, MayFeedBytes, IsWorldOverBytes, StillOverBytes}
+use Rattle.hd_delivery.specs.Worlds.{Limits, Terms, config, Event, ByClient, ByServer, client_of, server_of}
+use Rattle.hd_delivery.specs.Bytes.{Reading, Waits, Reads, Refuses, Stops, Wire, ByteStep, Bytes, Does, in_frames, MayFeedBytes, IsWorldOverBytes, StillOverBytes}
 use Rattle.hd_delivery.specs.Examples.{call, a, b, c, terms, summary}
 
 -- ---- what is written
@@ -118,33 +118,41 @@ padded = record { spell = λ codec f. spell_four f ++ 0 ∷ 0 ∷ 0 ∷ 0 ∷ 0 
 
 -- ---- the worlds, the oldest event first
 
-abbrev pub client : List ByteStep → List ByteEvent
-client steps = map AtClient steps
+abbrev pub client : List ByteStep → List (Event ByteStep)
+client steps = map ByClient steps
 
-abbrev pub server : List ByteStep → List ByteEvent
-server steps = map AtServer steps
+abbrev pub server : List ByteStep → List (Event ByteStep)
+server steps = map ByServer steps
+
+-- link 0, and the handshake on it
+abbrev pub opened_over_bytes : Codec → List (Event ByteStep)
+opened_over_bytes codec =
+    client (Does (Attached 0 0) ∷ Does (Lent (Request codec 2)) ∷ [])
+    ++ server (Does (Attached 0 0) ∷ Bytes (1 ∷ 2 ∷ codec_number codec ∷ 0 ∷ []) ∷ Does (Took (Shaken codec 2)) ∷ Does (Lent Response) ∷ [])
+    ++ client (Bytes (2 ∷ 0 ∷ 0 ∷ 0 ∷ []) ∷ Does (Took (Shaken codec 2)) ∷ [])
+
+-- the client says three messages
+abbrev pub three_said : List (Event ByteStep)
+three_said =
+    opened_over_bytes Json
+    ++ client (
+    Does (Sent a) ∷ Does (Sent b) ∷ Does (Sent c) ∷ Does (Lent (Numbered a)) ∷ Does (Lent (Numbered b)) ∷ Does (Lent (Numbered c)) ∷
+    [])
 
 -- Three messages, fed one number at a time.
-abbrev pub bytewise : List ByteEvent
+abbrev pub bytewise : List (Event ByteStep)
 bytewise =
-    client (Does (Attached 0 0) ∷ Does (Lent (Request Json 2)) ∷ [])
-    ++ server (Does (Attached 0 0) ∷ Bytes (1 ∷ 2 ∷ 0 ∷ 0 ∷ []) ∷ Does (Took (Shaken Json 2)) ∷ Does (Lent Response) ∷ [])
-    ++ client (
-    Bytes (2 ∷ 0 ∷ 0 ∷ 0 ∷ []) ∷ Does (Took (Shaken Json 2)) ∷ Does (Sent a) ∷ Does (Sent b) ∷ Does (Sent c) ∷
-    Does (Lent (Numbered a)) ∷ Does (Lent (Numbered b)) ∷ Does (Lent (Numbered c)) ∷ [])
+    three_said
     ++ server (
     Bytes (3 ∷ []) ∷ Bytes (97 ∷ []) ∷ Bytes (0 ∷ []) ∷ Bytes (0 ∷ []) ∷ Does (Took (gives.Message a)) ∷ Bytes (3 ∷ []) ∷
     Bytes (98 ∷ []) ∷ Bytes (0 ∷ []) ∷ Bytes (0 ∷ []) ∷ Does (Took (gives.Message b)) ∷ Bytes (3 ∷ []) ∷ Bytes (99 ∷ []) ∷
     Bytes (0 ∷ []) ∷ Bytes (0 ∷ []) ∷ Does (Took (gives.Message c)) ∷ [])
 
 -- In MessagePack. The second message is cut in its middle by the loss of its link. What was read of it is dropped, and the next link has it whole.
-abbrev pub cut_by_a_loss : List ByteEvent
+abbrev pub cut_by_a_loss : List (Event ByteStep)
 cut_by_a_loss =
-    client (Does (Attached 0 0) ∷ Does (Lent (Request Pack 2)) ∷ [])
-    ++ server (Does (Attached 0 0) ∷ Bytes (1 ∷ 2 ∷ 1 ∷ 0 ∷ []) ∷ Does (Took (Shaken Pack 2)) ∷ Does (Lent Response) ∷ [])
-    ++ client (
-    Bytes (2 ∷ 0 ∷ 0 ∷ 0 ∷ []) ∷ Does (Took (Shaken Pack 2)) ∷ Does (Sent a) ∷ Does (Sent b) ∷ Does (Lent (Numbered a)) ∷
-    Does (Lent (Numbered b)) ∷ [])
+    opened_over_bytes Pack
+    ++ client (Does (Sent a) ∷ Does (Sent b) ∷ Does (Lent (Numbered a)) ∷ Does (Lent (Numbered b)) ∷ [])
     ++ server (Bytes (3 ∷ 97 ∷ 0 ∷ 0 ∷ 3 ∷ 98 ∷ []) ∷ Does (Took (gives.Message a)) ∷ Does (Lent (Ack 1)) ∷ [])
     ++ client (Bytes (4 ∷ 1 ∷ 0 ∷ 0 ∷ []) ∷ Does (Took (Acked 1)) ∷ Does (Attached 1 0) ∷ [])
     ++ server (Does (Attached 1 0) ∷ [])
@@ -152,23 +160,16 @@ cut_by_a_loss =
     ++ server (Bytes (5 ∷ 2 ∷ 0 ∷ 0 ∷ 3 ∷ 98 ∷ 0 ∷ 0 ∷ []) ∷ Does (Took (Sequenced 2)) ∷ Does (Took (gives.Message b)) ∷ [])
 
 -- A message was processed and acknowledged: both ends are still.
-abbrev pub acknowledged_over_bytes : List ByteEvent
+abbrev pub acknowledged_over_bytes : List (Event ByteStep)
 acknowledged_over_bytes =
-    client (Does (Attached 0 0) ∷ Does (Lent (Request Json 2)) ∷ [])
-    ++ server (Does (Attached 0 0) ∷ Bytes (1 ∷ 2 ∷ 0 ∷ 0 ∷ []) ∷ Does (Took (Shaken Json 2)) ∷ Does (Lent Response) ∷ [])
-    ++ client (Bytes (2 ∷ 0 ∷ 0 ∷ 0 ∷ []) ∷ Does (Took (Shaken Json 2)) ∷ Does (Sent a) ∷ Does (Lent (Numbered a)) ∷ [])
+    opened_over_bytes Json
+    ++ client (Does (Sent a) ∷ Does (Lent (Numbered a)) ∷ [])
     ++ server (Bytes (3 ∷ 97 ∷ 0 ∷ 0 ∷ []) ∷ Does (Took (gives.Message a)) ∷ Does (Lent (Ack 1)) ∷ [])
     ++ client (Bytes (4 ∷ 1 ∷ 0 ∷ 0 ∷ []) ∷ Does (Took (Acked 1)) ∷ [])
 
 -- An end whose frames have four bytes at most has nine unread.
-abbrev pub unread_nine : List ByteEvent
-unread_nine =
-    client (Does (Attached 0 0) ∷ Does (Lent (Request Json 2)) ∷ [])
-    ++ server (Does (Attached 0 0) ∷ Bytes (1 ∷ 2 ∷ 0 ∷ 0 ∷ []) ∷ Does (Took (Shaken Json 2)) ∷ Does (Lent Response) ∷ [])
-    ++ client (
-    Bytes (2 ∷ 0 ∷ 0 ∷ 0 ∷ []) ∷ Does (Took (Shaken Json 2)) ∷ Does (Sent a) ∷ Does (Sent b) ∷ Does (Sent c) ∷
-    Does (Lent (Numbered a)) ∷ Does (Lent (Numbered b)) ∷ Does (Lent (Numbered c)) ∷ [])
-    ++ server (Bytes (3 ∷ 97 ∷ 0 ∷ 0 ∷ 3 ∷ 98 ∷ 0 ∷ 0 ∷ 3 ∷ []) ∷ [])
+abbrev pub unread_nine : List (Event ByteStep)
+unread_nine = three_said ++ server (Bytes (3 ∷ 97 ∷ 0 ∷ 0 ∷ 3 ∷ 98 ∷ 0 ∷ 0 ∷ 3 ∷ []) ∷ [])
 
 -- ---- what is said of them
 
@@ -177,18 +178,18 @@ abbrev pub summary_over_bytes : Config → List ByteStep → State × ℕ × ℕ
 summary_over_bytes config h = summary config (in_frames four config h)
 
 -- these events are a world over bytes, at whose end the two ends are so
-pub record IsWorkedOverBytes (limits : Limits) (t : Terms) (events : List ByteEvent) (of_client of_server : State × ℕ × ℕ × ℕ) : Type 0 where
+pub record IsWorkedOverBytes (limits : Limits) (t : Terms) (events : List (Event ByteStep)) (of_client of_server : State × ℕ × ℕ × ℕ) : Type 0 where
   pub is_world : IsWorldOverBytes limits four t (reverse events)
-  pub at_client : summary_over_bytes (config Client t) (client_bytes (reverse events)) ≡ of_client
-  pub at_server : summary_over_bytes (config Server t) (server_bytes (reverse events)) ≡ of_server
+  pub at_client : summary_over_bytes (config Client t) (client_of (reverse events)) ≡ of_client
+  pub at_server : summary_over_bytes (config Server t) (server_of (reverse events)) ≡ of_server
 
 -- at their end both are still
-abbrev pub IsStillOverBytes : Terms → List ByteEvent → Type 0
-IsStillOverBytes t events = StillOverBytes four (config Client t) (config Server t) (client_bytes (reverse events)) (server_bytes (reverse events))
+abbrev pub IsStillOverBytes : Terms → List (Event ByteStep) → Type 0
+IsStillOverBytes t events = StillOverBytes four (config Client t) (config Server t) (client_of (reverse events)) (server_of (reverse events))
 
 -- where they end, the server may not be fed this much more
-abbrev pub IsFullFor : Limits → Terms → List ByteEvent → List ℕ → Type 0
-IsFullFor limits t events piece = MayFeedBytes limits four (config Server t) (config Client t) (server_bytes (reverse events)) (client_bytes (reverse events)) piece → ⊥
+abbrev pub IsFullFor : Limits → Terms → List (Event ByteStep) → List ℕ → Type 0
+IsFullFor limits t events piece = MayFeedBytes limits four (config Server t) (config Client t) (server_of (reverse events)) (client_of (reverse events)) piece → ⊥
 
 -- ---- places
 

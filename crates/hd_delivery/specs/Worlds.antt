@@ -113,24 +113,24 @@ abbrev pub config : Side → Terms → Config
 config side t = record { side = side; codec = codec_at side t; version = version_at side t; reconnect = t.reconnect }
 
 -- one step of one end
-pub data Event : Type 0 where
-  ByClient : Step → Event
-  ByServer : Step → Event
+pub data Event (S : Type 0) : Type 0 where
+  ByClient : S → Event S
+  ByServer : S → Event S
 
 -- the steps of the client; the latest event comes first
-abbrev pub client_of : List Event → List Step
+abbrev pub client_of : {S : Type 0} → List (Event S) → List S
 client_of [] = []
 client_of (ByClient s ∷ w) = s ∷ client_of w
 client_of (ByServer s ∷ w) = client_of w
 
 -- the steps of the server
-abbrev pub server_of : List Event → List Step
+abbrev pub server_of : {S : Type 0} → List (Event S) → List S
 server_of [] = []
 server_of (ByClient s ∷ w) = server_of w
 server_of (ByServer s ∷ w) = s ∷ server_of w
 
 -- each event is a step that was allowed after those before it
-abbrev pub IsWorld : Limits → Sizes → Terms → List Event → Type 0
+abbrev pub IsWorld : Limits → Sizes → Terms → List (Event Step) → Type 0
 IsWorld limits sizes t [] = Unit {0}
 IsWorld limits sizes t (ByClient s ∷ w) = IsWorld limits sizes t w × Allowed limits sizes (config Client t) (client_of w) (server_of w) s
 IsWorld limits sizes t (ByServer s ∷ w) = IsWorld limits sizes t w × Allowed limits sizes (config Server t) (server_of w) (client_of w) s
@@ -146,13 +146,13 @@ moment_of (Silenced now) last = now
 moment_of _ last = last
 
 -- the greatest moment so far at either end
-abbrev pub latest : List Event → ℕ
+abbrev pub latest : List (Event Step) → ℕ
 latest [] = 0
 latest (ByClient s ∷ w) = max (moment_of s (latest w)) (latest w)
 latest (ByServer s ∷ w) = max (moment_of s (latest w)) (latest w)
 
 -- the moments of both ends, in one order, never fall. No world has to be so
-abbrev pub IsOnOneClock : List Event → Type 0
+abbrev pub IsOnOneClock : List (Event Step) → Type 0
 IsOnOneClock [] = Unit {0}
 IsOnOneClock (ByClient s ∷ w) = IsOnOneClock w × (latest w ≤ moment_of s (latest w))
 IsOnOneClock (ByServer s ∷ w) = IsOnOneClock w × (latest w ≤ moment_of s (latest w))
@@ -214,4 +214,4 @@ pub record Delivery (t : Terms) (c s : List Step) : Type 0 where
 
 -- so it is in every world
 abbrev pub HoldsInEveryWorld : Type 0
-HoldsInEveryWorld = (limits : Limits) (sizes : Sizes) (t : Terms) (w : List Event) → IsWorld limits sizes t w → Delivery t (client_of w) (server_of w)
+HoldsInEveryWorld = (limits : Limits) (sizes : Sizes) (t : Terms) (w : List (Event Step)) → IsWorld limits sizes t w → Delivery t (client_of w) (server_of w)

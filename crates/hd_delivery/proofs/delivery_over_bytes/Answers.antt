@@ -1,7 +1,8 @@
 use Rattle.std.proofs.Common.{◌++◌}
 use Rattle.std.proofs.lemmas.List.Elements.{Contains-append_left, Contains-append_right}
 use Rattle.hd_delivery.specs.Histories.{sent_messages}
-use Rattle.hd_delivery.specs.Bytes.{client_bytes, server_bytes, client_in_frames, server_in_frames}
+use Rattle.hd_delivery.specs.Worlds.{client_of, server_of}
+use Rattle.hd_delivery.specs.Bytes.{client_in_frames, server_in_frames}
 use Rattle.hd_delivery.proofs.Final.{delivery_holds}
 use Rattle.hd_delivery.proofs.OverBytes.{together_over_bytes, still_in_frames}
 use Rattle.hd_delivery.proofs.delivery_over_bytes.Goals as goal
@@ -13,5 +14,5 @@ returns c limits wire terms w law world =
     let t = together_over_bytes limits wire terms (by_client ++ by_server) law w (λ m e. Contains-append_left by_client by_server m e) (λ m e. Contains-append_right by_client by_server m e) world in
     record {
       holds = delivery_holds terms (client_in_frames wire terms w) (server_in_frames wire terms w) t.together;
-      still = still_in_frames limits wire terms (by_client ++ by_server) law (client_bytes w) (server_bytes w) t;
+      still = still_in_frames limits wire terms (by_client ++ by_server) law (client_of w) (server_of w) t;
     }
