@@ -14,6 +14,3 @@ pub use laws::{
 pub use one_pass::{Hard, quick};
 pub use reading::{JsonError, read_value, read_value_in};
 pub use writing::{put_items, put_value, write_value};
-
-#[cfg(test)]
-mod tests;

@@ -15,18 +15,23 @@ use hv_value::{
 use json::{Reader, Scratch};
 use serde_json::{Map, Number, Value as Json};
 use std::alloc::{AllocError, Global};
+use thiserror::Error;
 
 /// Why bytes are no value: the first of the reasons that holds, or `NoMemory`.
-#[derive(Clone, Copy, Debug, PartialEq, Eq)]
+#[derive(Clone, Copy, Debug, Drop, PartialEq, Eq, Error)]
 pub enum JsonError {
     /// They aren't JSON text (RFC 8259) that `serde_json` reads. This is also said of a
     /// number that no finite double is near, and of more than 127 levels.
+    #[error("not JSON text")]
     NotJson,
     /// A number of what is read has a fraction or an exponent, is `-0`, or is whole and not from
     /// -2^63 to 2^64 - 1.
+    #[error("a number is no whole number from -2^63 to 2^64 - 1")]
     Fraction,
     /// Its arrays and objects nest deeper than 64.
+    #[error("arrays and objects nest deeper than 64 levels")]
     TooDeep,
+    #[error("out of memory")]
     NoMemory,
 }
 

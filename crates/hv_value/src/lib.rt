@@ -16,6 +16,3 @@ pub use laws::{
 pub use text::{Text, Texts};
 pub use value::{Entries, Items, Value, ValueError};
 pub use whole::Whole;
-
-#[cfg(test)]
-mod tests;

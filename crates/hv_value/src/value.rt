@@ -15,6 +15,7 @@ use base64::engine::general_purpose::STANDARD;
 use std::alloc::{AllocError, AllocFailed, Global};
 use std::collections::BTreeMap;
 use std::marker::Model;
+use thiserror::Error;
 
 /// An argument, an item or a result of a hub call (HubProtocol.md of ASP.NET
 /// Core), of those with no fraction. Lists and maps nest at most 64 deep in
@@ -51,10 +52,12 @@ pub struct Entries {
 }
 
 /// Why no value was made. What was passed is dropped.
-#[derive(Clone, Copy, Debug, PartialEq, Eq)]
+#[derive(Clone, Copy, Debug, Drop, PartialEq, Eq, Error)]
 pub enum ValueError {
     /// It would nest deeper than 64.
+    #[error("a value nests deeper than 64 levels")]
     TooDeep,
+    #[error("out of memory")]
     NoMemory,
 }
 

@@ -1,5 +1,10 @@
-use super::*;
-use hv_value::{Blob, Items, Value};
+//! Tests of `hv_json`.
+use crate::make::list;
+use hv_json::{
+    Hard, JsonError, put_items, put_value, quick, read_value, read_value_in, write_value,
+};
+use hv_value::{Blob, Value};
+use json::{Reader, Scratch, Writer};
 use std::test::Fail;
 
 /// Reads the text and writes what was read.
@@ -99,6 +104,11 @@ fn refusals(rt: HostRuntime) -> Result<(), Fail> {
             "in case {i}"
         );
     }
+    let error = JsonError::NotJson;
+    assert_eq!(rt;
+        format!(in rt.alloc(); "{error}")?.as_str(),
+        "not JSON text"
+    );
     Ok(())
 }
 
@@ -129,7 +139,7 @@ fn bytes(rt: HostRuntime) -> Result<(), Fail> {
     for bytes in ["f", "fo", "foo", "foob", ""] {
         values.push(Value::Bytes(Blob::of(rt.alloc(), bytes.as_bytes())?))?;
     }
-    let list = Value::List(Items::of(values).ok().ok_or("a list")?);
+    let list = list(values)?;
     let mut out = Vec::new(rt.alloc());
     out.extend_from_slice(b"out: ")?;
     write_value(rt.alloc(), &list, &mut out)?;
@@ -137,5 +147,64 @@ fn bytes(rt: HostRuntime) -> Result<(), Fail> {
     assert_eq!(rt; out.as_slice(), wanted.as_bytes());
     let image = read_value(rt.alloc(), &out[5..]).ok().ok_or("a value")?;
     assert!(rt; image == list.json_image()?);
+    Ok(())
+}
+
+/// One scratch serves text after text: unescaped strings and faults of the text before leave nothing behind.
+#[test]
+fn one_scratch(rt: HostRuntime) -> Result<(), Fail> {
+    let cases: [(&str, Option<&str>); 9] = [
+        ("[\"a\\u0062c\",1]", Some("[\"abc\",1]")),
+        ("[\"\\n\"]", Some("[\"\\n\"]")),
+        ("[\"x\\ty\", 1.5]", None),
+        ("[]", Some("[]")),
+        ("[\"abc\\u00", None),
+        ("\"\\u00e9\"", Some("\"\u{e9}\"")),
+        ("", None),
+        (
+            "{\"a\\\"\":{\"a\\\"\":0},\"a\":-1}",
+            Some("{\"a\":-1,\"a\\\"\":{\"a\\\"\":0}}"),
+        ),
+        ("\"\"", Some("\"\"")),
+    ];
+    let mut scratch = Scratch::new(rt.alloc());
+    for (text, wanted) in cases {
+        let found = read_value_in(rt.alloc(), &mut scratch, text.as_bytes());
+        let Some(wanted) = wanted else {
+            assert!(rt; found.is_err());
+            continue;
+        };
+        let value = found.ok().ok_or("a value")?;
+        let mut out = Vec::new(rt.alloc());
+        write_value(rt.alloc(), &value, &mut out)?;
+        assert_eq!(rt; out.as_slice(), wanted.as_bytes());
+    }
+    Ok(())
+}
+
+/// Values read from a reader that is lent, and written by a writer that is lent.
+#[test]
+fn lent(rt: HostRuntime) -> Result<(), Fail> {
+    let text = "[1,{\"b\":[],\"a\":\"\"}] ";
+    let mut scratch = Scratch::new(rt.alloc());
+    let mut reader = Reader::new(text, &mut scratch)?;
+    let doubt = quick(rt.alloc(), &mut reader, 2).err();
+    assert_eq!(rt; doubt, Some(Hard::Other));
+    let mut scratch = Scratch::new(rt.alloc());
+    let mut reader = Reader::new(text, &mut scratch)?;
+    let value = quick(rt.alloc(), &mut reader, 3).ok().ok_or("a value")?;
+    assert!(rt; reader.next().is_none());
+
+    let mut writer = Writer::new(Vec::new(rt.alloc()));
+    writer.begin_array()?;
+    put_value(rt.alloc(), &mut writer, &value)?;
+    writer.begin_array()?;
+    put_items(rt.alloc(), &mut writer, &[])?;
+    writer.end_array()?;
+    let out = writer.into_inner();
+    assert_eq!(rt;
+        out.as_slice(),
+        b"[[1,{\"a\":\"\",\"b\":[]}],[]]".as_slice()
+    );
     Ok(())
 }

@@ -1,24 +1,7 @@
-use super::*;
+//! Tests of `hv_value`.
+use crate::make::{int, list, nested, text};
+use hv_value::{Blob, Items, Texts, Value, ValueError, Whole};
 use std::test::Fail;
-
-fn text(rt: &HostRuntime, s: &str) -> Result<Text, Fail> {
-    Ok(Text::of(rt.alloc(), s)?)
-}
-
-fn int(n: i128) -> Result<Value, Fail> {
-    Ok(Value::Int(Whole::of(n).ok_or("a whole number")?))
-}
-
-/// A list in a list, so many levels deep.
-fn nested(rt: &HostRuntime, levels: usize) -> Result<Value, Fail> {
-    let mut value = Value::Null;
-    for _ in 0..levels {
-        let mut values = Vec::new(rt.alloc());
-        values.push(value)?;
-        value = Value::List(Items::of(values).ok().ok_or("a list")?);
-    }
-    Ok(value)
-}
 
 #[test]
 fn whole_numbers(rt: HostRuntime) -> Result<(), Fail> {
@@ -51,10 +34,10 @@ fn texts_and_bytes(rt: HostRuntime) -> Result<(), Fail> {
     assert!(rt; bytes.copy()? == bytes);
     assert!(rt; bytes != Blob::of(rt.alloc(), b"\x00")?);
 
-    let mut list = Vec::new(rt.alloc());
-    list.push(one)?;
-    list.push(text(&rt, "")?)?;
-    let texts = Texts::of(list);
+    let mut strings = Vec::new(rt.alloc());
+    strings.push(one)?;
+    strings.push(text(&rt, "")?)?;
+    let texts = Texts::of(strings);
     assert_eq!(rt; texts.texts().len(), 2);
     let copy = texts.copy()?;
     assert!(rt; copy == texts);
@@ -75,38 +58,43 @@ fn base64_of_bytes(rt: HostRuntime) -> Result<(), Fail> {
         (b"foobar", "Zm9vYmFy"),
     ];
     for (bytes, encoded) in cases {
-        let mut pairs = Vec::new(rt.alloc());
         let value = Value::Bytes(Blob::of(rt.alloc(), bytes)?);
-        pairs.push((text(&rt, "bytes")?, value))?;
-        let map = Value::map_from(pairs).ok().ok_or("a map")?;
-
-        let mut pairs = Vec::new(rt.alloc());
-        pairs.push((text(&rt, "bytes")?, Value::Text(text(&rt, encoded)?)))?;
-        let wanted = Value::map_from(pairs).ok().ok_or("a map")?;
-        let image = map.json_image()?;
-        assert!(rt; image == wanted);
-        assert!(rt; image != map);
+        let image = value.json_image()?;
+        assert!(rt; image == Value::Text(text(&rt, encoded)?));
+        assert!(rt; image != value);
     }
     Ok(())
 }
 
+/// Pairs in no order, twice: a few of them, and more than are put in one by one.
 #[test]
 fn maps(rt: HostRuntime) -> Result<(), Fail> {
-    let mut pairs = Vec::new(rt.alloc());
-    for (key, n) in [("b", 1), ("é", 2), ("a", 3), ("b", 4), ("", 5), ("Z", 6)] {
-        pairs.push((text(&rt, key)?, int(n)?))?;
+    for more in [0u8, 20] {
+        let mut pairs = Vec::new(rt.alloc());
+        for n in 0..more {
+            let key = [b'z', b'z' - n];
+            let key = std::str::from_utf8(&key).ok().ok_or("a text")?;
+            pairs.push((text(&rt, key)?, int(7)?))?;
+        }
+        for (key, n) in [("b", 1), ("é", 2), ("a", 3), ("b", 4), ("", 5), ("Z", 6)] {
+            pairs.push((text(&rt, key)?, int(n)?))?;
+        }
+        let Value::Map(map) = Value::map_from(pairs).ok().ok_or("a map")? else {
+            return Err("a map".into());
+        };
+        assert!(rt; map.copy()? == map);
+        let wanted = [("", 5), ("Z", 6), ("a", 3), ("b", 4)];
+        let count = wanted.len() + usize::from(more) + 1;
+        assert_eq!(rt; map.pairs().len(), count);
+        let found = map.into_pairs();
+        for (i, (key, n)) in wanted.into_iter().enumerate() {
+            let pair = found.get(i).ok_or("a pair")?;
+            assert_eq!(rt; pair.0.as_str(), key);
+            assert!(rt; pair.1 == int(n)?);
+        }
+        let last = found.last().ok_or("a pair")?;
+        assert_eq!(rt; last.0.as_str(), "é");
     }
-    let Value::Map(map) = Value::map_from(pairs).ok().ok_or("a map")? else {
-        return Err("a map".into());
-    };
-    let wanted = [("", 5), ("Z", 6), ("a", 3), ("b", 4), ("é", 2)];
-    assert_eq!(rt; map.pairs().len(), wanted.len());
-    for (i, (key, n)) in wanted.into_iter().enumerate() {
-        let found = map.pairs().get(i).ok_or("a pair")?;
-        assert_eq!(rt; found.0.as_str(), key);
-        assert!(rt; found.1 == int(n)?);
-    }
-    assert!(rt; map.copy()? == map);
     Ok(())
 }
 
@@ -122,16 +110,27 @@ fn depths(rt: HostRuntime) -> Result<(), Fail> {
 
     let deepest = nested(&rt, 64)?;
     assert_eq!(rt; deepest.depth(), 64);
-    assert!(rt; deepest.copy()? == deepest);
     assert!(rt; deepest.json_image()? == deepest);
     assert!(rt; deepest != nested(&rt, 63)?);
 
     let mut values = Vec::new(rt.alloc());
     values.push(deepest.copy()?)?;
-    assert_eq!(rt; Items::of(values).err(), Some(ValueError::TooDeep));
+    let error = Items::of(values).err().ok_or("an error")?;
+    assert_eq!(rt; error, ValueError::TooDeep);
+    assert_eq!(rt;
+        format!(in rt.alloc(); "{error}")?.as_str(),
+        "a value nests deeper than 64 levels"
+    );
     let mut pairs = Vec::new(rt.alloc());
     pairs.push((text(&rt, "key")?, deepest))?;
     pairs.push((text(&rt, "key")?, Value::Null))?;
     assert_eq!(rt; Value::map_from(pairs).err(), Some(ValueError::TooDeep));
+
+    let mut values = Vec::new(rt.alloc());
+    values.push(int(1)?)?;
+    let Value::List(items) = list(values)? else {
+        return Err("a list".into());
+    };
+    assert_eq!(rt; items.into_values().len(), 1);
     Ok(())
 }
