@@ -5,4 +5,5 @@ pub mod Reading
 pub mod Packs
 pub mod Writing
 pub mod Why
+pub mod Words
 pub mod Laws
