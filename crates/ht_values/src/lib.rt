@@ -7,4 +7,6 @@ mod json;
 #[cfg(test)]
 mod make;
 #[cfg(test)]
+mod pack;
+#[cfg(test)]
 mod values;

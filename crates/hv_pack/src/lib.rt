@@ -20,5 +20,3 @@ pub use writing::{
     write_value,
 };
 
-#[cfg(test)]
-mod tests;
