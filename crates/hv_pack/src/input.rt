@@ -45,4 +45,16 @@ impl<'a> Input<'a> {
         self.rest = rest;
         Ok(front)
     }
+
+    /// The next `N` bytes, which the marker at the place `at` wants.
+    pub fn array<const N: usize>(&mut self, at: usize) -> Result<[u8; N], PackError>
+        ensures read { Gives (λ t. (t, self.new.rest.now)) result (cut at N self.old.rest.now) }
+        ensures end { self.new.end ≡ self.old.end }
+    {
+        let Some((front, rest)) = self.rest.split_first_chunk::<N>() else {
+            return Err(PackError::Short { at });
+        };
+        self.rest = rest;
+        Ok(*front)
+    }
 }

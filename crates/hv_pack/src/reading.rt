@@ -30,24 +30,12 @@ fn number(input: &mut Input<'_>, at: usize, size: Size) -> Result<u64, PackError
     ensures fits { IfOk result (λ n. n < 2 ^ (8 * byte_len (width size))) }
     ensures end { input.new.end ≡ input.old.end }
 {
-    match size {
-        Size::One => {
-            let n = input.cut(at, 1)?;
-            Ok(u64::from(n[0]))
-        }
-        Size::Two => {
-            let n = input.cut(at, 2)?;
-            Ok(u64::from(u16::from_be_bytes([n[0], n[1]])))
-        }
-        Size::Four => {
-            let n = input.cut(at, 4)?;
-            Ok(u64::from(u32::from_be_bytes([n[0], n[1], n[2], n[3]])))
-        }
-        Size::Eight => {
-            let n = input.cut(at, 8)?;
-            Ok(u64::from_be_bytes([n[0], n[1], n[2], n[3], n[4], n[5], n[6], n[7]]))
-        }
-    }
+    Ok(match size {
+        Size::One => u64::from(u8::from_be_bytes(input.array(at)?)),
+        Size::Two => u64::from(u16::from_be_bytes(input.array(at)?)),
+        Size::Four => u64::from(u32::from_be_bytes(input.array(at)?)),
+        Size::Eight => u64::from_be_bytes(input.array(at)?),
+    })
 }
 
 fn count(input: &mut Input<'_>, at: usize, count: Count) -> Result<u64, PackError>
