@@ -4,3 +4,5 @@ pub mod Lookups
 pub mod Lengths
 pub mod Images
 pub mod Orders
+pub mod Keys
+pub mod Places

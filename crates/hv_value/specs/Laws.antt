@@ -2,7 +2,7 @@
 use Rattle.std.specs.Prelude.{◌≡◌, ◌≤◌, ◌<◌, ℕ, max, List, [], ◌∷◌, ◌++◌, length, get_or}
 use Rattle.std.specs.Map.{keys_of}
 use Rattle.std.specs.List.Sorted.{IsStrictlySortedBy}
-use Rattle.hv_value.specs.Tree.{Tree, Pair, map, pairs, depth, depth_of_all, depth_of_values, key_cmp, map_of}
+use Rattle.hv_value.specs.Tree.{Tree, Pair, map, pairs, depth, depth_of_all, depth_of_values, key_cmp, map_of, put_all, value_at, last_of}
 use Rattle.hv_value.specs.Order.{keys_of_pairs}
 use Rattle.hv_value.specs.Image.{image}
 use Rattle.hv_value.specs.View.{tree, trees_of, entries}
@@ -35,3 +35,11 @@ MapHasTheKeys = (ps : List Pair) → keys_of_pairs (pairs ps) ≡ keys_of ps
 -- an image is its own image
 abbrev pub ImageIsItsOwn : Type 0
 ImageIsItsOwn = (t : Tree) → image (image t) ≡ image t
+
+-- the keys of a map of pairs are distinct and in byte order
+abbrev pub KeysOfAMapAreInOrder : Type 0
+KeysOfAMapAreInOrder = (ps : List Pair) → IsStrictlySortedBy key_cmp (keys_of (put_all [] ps))
+
+-- of the pairs with one key the last counts
+abbrev pub LastPairCounts : Type 0
+LastPairCounts = (ps : List Pair) (key : List ℕ) → value_at key (map_of ps) ≡ last_of key ps

@@ -7,4 +7,5 @@ pub mod Same
 pub mod SameLaws
 pub mod Order
 pub mod Image
+pub mod Places
 pub mod Laws

@@ -1,3 +1,4 @@
+//! Values, their lists and maps.
 ghost use Rattle.std.specs.Prelude.{◌≡◌, ◌≤◌, ◌↔◌, ℕ, List, IfOk, IfErr, [], ◌+◌};
 ghost use Rattle.std.specs.Map.{keys_of};
 ghost use Rattle.std.specs.List.Sorted.{IsStrictlySortedBy};
@@ -8,12 +9,15 @@ ghost use Rattle.hv_value.specs.Same.{same_tree, same_trees, same_pairs};
 ghost use Rattle.hv_value.specs.View.{tree, trees_of, entries};
 ghost use Rattle.hv_value.specs.declared.value.ValueError.TheVariants.{TooDeep, NoMemory};
 
+mod merge;
+
 use crate::blob::Blob;
+use crate::laws::map_keys_are_in_order;
 use crate::text::Text;
 use crate::whole::Whole;
 use base64::engine::general_purpose::STANDARD;
+use merge::merged;
 use std::alloc::{AllocError, AllocFailed, Global};
-use std::collections::BTreeMap;
 use std::marker::Model;
 use thiserror::Error;
 
@@ -298,12 +302,8 @@ impl Entries {
             (λ es. depth_of_values es ≤ depth_of_values (entries pairs.items)) }
         ensures memory { IfErr result (λ e. e ≡ NoMemory) }
     {
-        let alloc = *pairs.allocator();
-        let mut map = BTreeMap::new(alloc);
-        for (key, value) in pairs {
-            drop(map.insert(key, value)?);
-        }
-        let pairs: Vec<(Text, Value)> = map.into_iter().collect(alloc)?;
+        map_keys_are_in_order();
+        let pairs = merged(pairs)?;
         let depth = deepest_pair(&pairs);
         Ok(Entries { pairs, depth })
     }

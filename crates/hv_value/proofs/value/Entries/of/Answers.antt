@@ -1,27 +1,23 @@
-use Rattle.std.proofs.Common.{◌≡◌, ◌∷◌, rules, ap, ◌∙◌, arith}
-use Rattle.std.specs.Vec.Iter.{into_iter_items}
-use Rattle.std.specs.BTreeMap.{insert_entry}
-use Rattle.hv_value.specs.Tree.{key_cmp}
-use Rattle.hv_value.specs.View.{tree, entries}
-use Rattle.hv_value.proofs.Puts.{entries-insert_entry, depth-insert_entry, keys-entries}
+use Rattle.std.proofs.Common.{List, ◌≡◌, [], sym, subst, ap, arith}
+use Rattle.std.specs.List.Sorted.{IsStrictlySortedBy}
+use Rattle.std.specs.Map.{keys_of}
+use Rattle.hv_value.specs.Tree.{Pair, depth_of_values, key_cmp, put_all}
+use Rattle.hv_value.specs.View.{entries}
+use Rattle.hv_value.proofs.Keys.{depth-put_all}
 use Rattle.hv_value.proofs.value.Entries.of.Goals as goal
-
-pub loop-key-preserved : goal.loop-key-preserved
-loop-key-preserved c =
-    let first : into_iter_items c.loop-key.key-iterator ≡ (c.in-Some.key, c.in-Some.value) ∷ into_iter_items c.next.new.self = search rules in
-    let shallow = rw first at c.loop-key.invariant.rest_shallow in
-    let put = rw first at c.loop-key.invariant.put in
-    let after : entries c.insert.new.self.entries ≡ insert_entry key_cmp (entries c.loop-key.map.entries) c.in-Some.key (tree c.in-Some.value) =
-    ap entries c.in_ok-insert.ensures.entries ∙ entries-insert_entry c.loop-key.map.entries c.in-Some.key c.in-Some.value in
-    record {
-      put = rw after put;
-      shallow = rw after (omega (arith, depth-insert_entry (entries c.loop-key.map.entries) c.in-Some.key (tree c.in-Some.value)));
-      rest_shallow = omega arith;
-    }
 
 pub invariant_of-result : goal.invariant_of-result
 invariant_of-result c =
-    let e : c.in_ok-pairs.pairs.items ≡ c.loop-key.map.entries = search rules in
-    let deep = rw (c.deref.ensures.value, e) at c.deepest_pair-depth.ensures.exact in
-    let in_order = rw (c.deref.ensures.value, e) at c.deepest_pair-depth.ensures.in_order in
-    rw (e, keys-entries) (deep, omega (arith, deep), search rules, in_order)
+    let given = entries c.args.pairs.items in
+    let e : entries c.in_ok-pairs.pairs.items ≡ put_all [] given = c.in_ok-pairs.ensures.ok in
+    let deep = rw c.deref.ensures.value at c.deepest_pair-depth.ensures.exact in
+    let in_order = rw c.deref.ensures.value at c.deepest_pair-depth.ensures.in_order in
+    let sorted : IsStrictlySortedBy key_cmp (keys_of (entries c.in_ok-pairs.pairs.items)) =
+    subst (λ (es : List Pair). IsStrictlySortedBy key_cmp (keys_of es)) (sym e) (c.map_keys_are_in_order.ensures given) in
+    (deep, omega (arith, deep, ap depth_of_values e, depth-put_all [] given), sorted, in_order)
+
+pub returns-clause-shallow : goal.returns-clause-shallow
+returns-clause-shallow c =
+    let given = entries c.args.pairs.items in
+    let e : entries c.in_ok-pairs.pairs.items ≡ put_all [] given = c.in_ok-pairs.ensures.ok in
+    omega (arith, ap depth_of_values e, depth-put_all [] given)
