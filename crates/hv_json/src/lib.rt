@@ -12,5 +12,5 @@ pub use laws::{
     written_is_read_again,
 };
 pub use one_pass::{Hard, quick};
-pub use reading::{JsonError, read_value, read_value_in};
+pub use reading::{JsonError, read_members_in, read_value, read_value_in};
 pub use writing::{put_items, put_value, write_value};

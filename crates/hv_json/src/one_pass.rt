@@ -1,11 +1,15 @@
 //! The reading of most texts: values in one pass over a reader's tokens, with no tree between. Whatever it doubts is left to
 //! the slower reading, which alone refuses.
 ghost use Rattle.std.specs.Prelude.{◌≡◌, ◌<◌, ◌≤◌, length, IfOk, OnOk};
+ghost use Rattle.hv_value.specs.Tree.{depth_of_values};
 ghost use Rattle.hv_value.specs.View.{tree, trees_of, entries};
 ghost use Rattle.hv_json.specs.Quick.{Begins, BeginsItems, BeginsMembers};
 
 use crate::number::whole;
-use hv_value::{Items, Text, Value, ValueError, map_has_the_keys, pairs_in_order_are_their_map};
+use hv_value::{
+    Items, Text, Value, ValueError, depth_of_one_more_pair, map_has_the_keys,
+    pairs_in_order_are_their_map,
+};
 use json::{Reader, Token};
 use std::alloc::{AllocError, AllocFailed, Global};
 use thiserror::Error;
@@ -98,15 +102,17 @@ fn quick_items(alloc: Global, reader: &mut Reader<'_>, room: u32) -> Result<Vec<
 
 #[cycle(quick)]
 #[inline(never)]
-fn quick_members(
+pub(crate) fn quick_members(
     alloc: Global,
     reader: &mut Reader<'_>,
     room: u32,
 ) -> Result<Vec<(Text, Value)>, Hard>
     requires { room ≤ 63 }
+    ensures shallow { IfOk result (λ v. depth_of_values (entries v.items) ≤ room) }
     ensures ok { IfOk result (λ v. BeginsMembers room reader.old reader.new (entries v.items)) }
     ensures shorter { OnOk result (length reader.new < length reader.old) }
 {
+    depth_of_one_more_pair();
     let mut pairs = Vec::new(alloc);
     'members: loop {
         let name = match reader.next_key() {
@@ -116,6 +122,10 @@ fn quick_members(
         };
         let key = Text::of(alloc, name)?;
         let member = quick(alloc, reader, room)?;
+        // It never is, but this is sooner seen than proved.
+        if member.depth() > room {
+            return Err(Hard::Other);
+        }
         pairs.push((key, member))?;
     }
     Ok(pairs)

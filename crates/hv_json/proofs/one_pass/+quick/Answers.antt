@@ -6,7 +6,7 @@ use Rattle.json.specs.Reads.{token_of}
 use Rattle.json.proofs.Grammar.{value_is, value-begin_array, value-begin_object, read_key-shorter}
 use Rattle.serde_json.specs.Data.{null, boolean, number, string, array, object, no_items, item, no_members, put}
 use Rattle.serde_json.specs.Read.{of_json, of_items, of_members, converted}
-use Rattle.hv_value.specs.Tree.{Tree, Pair, text, list, trees, map_of, put_all, key_cmp}
+use Rattle.hv_value.specs.Tree.{Tree, Pair, text, list, trees, map_of, put_all, key_cmp, depth_of_values}
 use Rattle.hv_value.specs.Order.{IsInOrder}
 use Rattle.std.specs.List.Sorted.{IsStrictlySortedBy}
 use Rattle.std.specs.Map.{keys_of}
@@ -117,7 +117,7 @@ quick-returns-in-Ok-map_from-clause-ok t c =
 
 pub quick_members-members-init : goal.quick_members-members-init
 quick_members-members-init t c =
-    (length c.args.reader.now, omega arith, no_members, refl, refl, omega arith, ap (λ xs. put_all [] (entries xs)) c.new-pairs.ensures.items, omega arith)
+    (length c.args.reader.now, omega arith, no_members, refl, refl, omega arith, ap (λ xs. put_all [] (entries xs)) c.new-pairs.ensures.items, omega arith, omega (arith, ap (λ xs. depth_of_values (entries xs)) c.new-pairs.ensures.items))
 
 pub quick_members-members-preserved : goal.quick_members-members-preserved
 quick_members-members-preserved t c =
@@ -149,7 +149,11 @@ quick_members-members-preserved t c =
       depth-put c.args.room k d old kept.5 got.3,
       placed,
       omega (arith, kept.7, shorter, lesser),
+      omega (arith, kept.8, ap (λ xs. depth_of_values (entries xs)) c.in_ok-push.ensures.items, c.depth_of_one_more_pair.ensures l.pairs.items (c.in_ok-key.key, v), c.depth.ensures.exact),
     )
+
+pub quick_members-returns-clause-shallow : goal.quick_members-returns-clause-shallow
+quick_members-returns-clause-shallow t c = c.members.invariant.8
 
 pub quick_members-returns-clause-ok : goal.quick_members-returns-clause-ok
 quick_members-returns-clause-ok t c =

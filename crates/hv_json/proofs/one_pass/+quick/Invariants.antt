@@ -3,7 +3,7 @@ use Rattle.json.specs.Json.{items, members, value, parse_map}
 use Rattle.serde_json.specs.Data.{Items, items_depth, Members, members_depth, no_members}
 use Rattle.serde_json.specs.Read.{of_items, of_members, converted}
 use Rattle.serde_json.specs.Written.{items_have_float, members_have_float}
-use Rattle.hv_value.specs.Tree.{put_all}
+use Rattle.hv_value.specs.Tree.{put_all, depth_of_values}
 use Rattle.hv_value.specs.View.{trees_of as values_of, entries}
 use Rattle.hv_json.specs.Reading.{trees_of, pairs_of}
 use Rattle.hv_json.proofs.Joins.{join}
@@ -40,6 +40,7 @@ invariant-quick_members-members l =
     × (members_depth done ≤ l.room)
     × (put_all [] (entries l.pairs.items) ≡ pairs_of done)
     × (length l.reader ≤ length l.initial.reader)
+    × (depth_of_values (entries l.pairs.items) ≤ l.room)
 
 abbrev pub decreases-quick_members-members : goal.decreases-quick_members-members
 decreases-quick_members-members l = length l.reader
