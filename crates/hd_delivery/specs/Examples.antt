@@ -20,16 +20,19 @@ use Rattle.hd_delivery.specs.Worlds.{Limits, Sizes, Allowed, Terms, config, Even
 abbrev pub call : List ℕ → Message
 call target = Invocation [] None target [] []
 
--- three messages
+-- the first of three messages
 abbrev pub a : Message
 a = call (codes "a")
 
+-- the second
 abbrev pub b : Message
 b = call (codes "b")
 
+-- the third
 abbrev pub c : Message
 c = call (codes "c")
 
+-- limits, by their three numbers
 abbrev pub limits_of : ℕ → ℕ → ℕ → Limits
 limits_of frame count bytes = record { frame = frame; count = count; bytes = bytes }
 
@@ -59,6 +62,7 @@ nested (suc n) = tree.list (trees (nested n ∷ []))
 abbrev pub too_deep : Message
 too_deep = Invocation [] None (codes "a") (nested 63 ∷ []) []
 
+-- the codec that it is not
 abbrev pub other_codec : Codec → Codec
 other_codec Json = Pack
 other_codec Pack = Json
@@ -67,12 +71,15 @@ other_codec Pack = Json
 abbrev pub terms_in : Codec → ℕ → Bool → Terms
 terms_in codec version reconnect = record { codec = codec; version = version; server_codec = other_codec codec; server_version = 1; reconnect = reconnect }
 
+-- a client that asks for JSON in this version
 abbrev pub terms : ℕ → Bool → Terms
 terms version reconnect = terms_in Json version reconnect
 
+-- steps of the client
 abbrev pub client : List Step → List (Event Step)
 client steps = map ByClient steps
 
+-- steps of the server
 abbrev pub server : List Step → List (Event Step)
 server steps = map ByServer steps
 
@@ -83,6 +90,7 @@ opened_in codec version =
     ++ server (Attached 0 0 ∷ Fed (Request codec version ∷ []) ∷ Took (Shaken codec version) ∷ Lent Response ∷ [])
     ++ client (Fed (Response ∷ []) ∷ Took (Shaken codec version) ∷ [])
 
+-- in JSON
 abbrev pub opened : ℕ → List (Event Step)
 opened version = opened_in Json version
 
@@ -262,12 +270,12 @@ closed_with_allow =
     ++ server (Closed Expired true ∷ Lent (Close (Some (codes "Connection expired.")) true) ∷ [])
     ++ client (Fed (Close (Some (codes "Connection expired.")) true ∷ []) ∷ Took (gives.Closed (Some (codes "Connection expired.")) true) ∷ [])
 
--- In MessagePack, where there is room for one message of that encoding, each end holds one; bytes are sent as they are.
+-- In MessagePack, where there is room for two messages of that encoding, each end holds two; bytes are sent as they are.
 abbrev pub packed : List (Event Step)
 packed =
     opened_in Pack 2
-    ++ client (Sent with_bytes ∷ [])
-    ++ server (Sent b ∷ [])
+    ++ client (Sent with_bytes ∷ Sent b ∷ [])
+    ++ server (Sent b ∷ Sent c ∷ [])
 
 -- A kept client was closed.
 abbrev pub closed_kept : List (Event Step)
@@ -281,6 +289,13 @@ lost_at_four =
     opened 4
     ++ client (Detached 0 ∷ [])
 
+-- The server's clock is behind the client's.
+abbrev pub two_clocks : List (Event Step)
+two_clocks =
+    opened 2
+    ++ client (Ticked 5 ∷ [])
+    ++ server (Ticked 4 ∷ [])
+
 -- A tick came.
 abbrev pub ticked_at_five : List (Event Step)
 ticked_at_five =
@@ -293,6 +308,7 @@ ticked_at_five =
 abbrev pub client_after : List (Event Step) → List Step
 client_after events = client_of (reverse events)
 
+-- the same of the server
 abbrev pub server_after : List (Event Step) → List Step
 server_after events = server_of (reverse events)
 

@@ -5,13 +5,13 @@ use Rattle.hm_message.specs.declared.message.Codec.TheVariants.{Json, Pack}
 use Rattle.hm_message.specs.declared.message.Message.{Message}
 use Rattle.hm_message.specs.declared.message.Message.TheVariants.{Invocation}
 use Rattle.hd_delivery.specs.declared.vocabulary.Got.TheVariants.{Shaken, Acked, Sequenced}
-use Rattle.hd_delivery.specs.declared.vocabulary.Reason.TheVariants.{Protocol, InUse, TooMany, Flood, Slow, Expired}
+use Rattle.hd_delivery.specs.declared.vocabulary.Reason.TheVariants.{Done, Protocol, InUse, TooMany, Flood, Slow, Expired}
 use Rattle.hd_delivery.specs.declared.vocabulary.Side.{Side}
 use Rattle.hd_delivery.specs.declared.vocabulary.Side.TheVariants.{Client, Server}
 use Rattle.hd_delivery.specs.declared.vocabulary.State.{State}
 use Rattle.hd_delivery.specs.declared.vocabulary.Got.TheVariants as gives
 use Rattle.hd_delivery.specs.Frames.{LinkFrame, Request, Response, Numbered, Ack, Sequence, Ping, Close, Strange, error_of}
-use Rattle.hd_delivery.specs.Histories.{Config, Step, Attached, Took, Sent, Lent}
+use Rattle.hd_delivery.specs.Histories.{Config, Step, Attached, Took, Sent, Lent, Closed}
 use Rattle.hd_delivery.specs.Processes.{processes}
 use Rattle.hd_delivery.specs.Worlds.{Limits, Terms, config, Event, ByClient, ByServer, client_of, server_of}
 use Rattle.hd_delivery.specs.Bytes.{Reading, Waits, Reads, Refuses, Stops, Wire, ByteStep, Bytes, Does, in_frames, MayFeedBytes, IsWorldOverBytes, StillOverBytes}
@@ -23,10 +23,12 @@ abbrev pub codec_number : Codec → ℕ
 codec_number Json = 0
 codec_number Pack = 1
 
+-- the number of a flag
 abbrev pub flag_number : Bool → ℕ
 flag_number true = 1
 flag_number false = 0
 
+-- the first letter of a text, or 0
 abbrev pub first_letter : List ℕ → ℕ
 first_letter [] = 0
 first_letter (x ∷ xs) = x
@@ -41,6 +43,7 @@ abbrev pub text_length : List ℕ → ℕ
 text_length [] = 0
 text_length (x ∷ xs) = text_length xs + 1
 
+-- the number of an error, or 0 for none
 abbrev pub error_number : Option (List ℕ) → ℕ
 error_number None = 0
 error_number (Some s) = first_letter s + text_length s
@@ -68,6 +71,7 @@ abbrev pub read_four : (ℕ → ℕ → ℕ → ℕ → Reading) → List ℕ �
 read_four says (kind ∷ x ∷ y ∷ z ∷ rest) = says kind x y z
 read_four says _ = Waits
 
+-- the codec of this number
 abbrev pub codec_numbered : ℕ → Codec
 codec_numbered n = if n == 0 then Json else Pack
 
@@ -81,6 +85,7 @@ error_numbered n =
     (if n == 100 then error_of Flood else
     (if n == 93 then error_of Slow else error_of Expired)))))
 
+-- what a Sequence tells as received, by the number that tells whether it does
 abbrev pub received_numbered : ℕ → ℕ → Option ℕ
 received_numbered y z = if y == 0 then None else Some z
 
@@ -118,9 +123,11 @@ padded = record { spell = λ codec f. spell_four f ++ 0 ∷ 0 ∷ 0 ∷ 0 ∷ 0 
 
 -- ---- the worlds, the oldest event first
 
+-- steps of the client
 abbrev pub client : List ByteStep → List (Event ByteStep)
 client steps = map ByClient steps
 
+-- steps of the server
 abbrev pub server : List ByteStep → List (Event ByteStep)
 server steps = map ByServer steps
 
@@ -171,6 +178,10 @@ acknowledged_over_bytes =
 abbrev pub unread_nine : List (Event ByteStep)
 unread_nine = three_said ++ server (Bytes (3 ∷ 97 ∷ 0 ∷ 0 ∷ 3 ∷ 98 ∷ 0 ∷ 0 ∷ 3 ∷ []) ∷ [])
 
+-- The server is closed.
+abbrev pub closed_over_bytes : List (Event ByteStep)
+closed_over_bytes = opened_over_bytes Json ++ server (Does (Closed Done false) ∷ [])
+
 -- ---- what is said of them
 
 -- the state, and how many messages were sent, processed and are held
@@ -198,6 +209,7 @@ abbrev pub unreadable : List ByteStep
 unreadable =
     Does (Attached 0 0) ∷ Bytes (1 ∷ 2 ∷ 0 ∷ 0 ∷ 3 ∷ 97 ∷ []) ∷ Does (Took (Shaken Json 2)) ∷ Bytes (0 ∷ 0 ∷ 8 ∷ []) ∷ Does (Took (gives.Message a)) ∷ Bytes (8 ∷ 8 ∷ []) ∷ []
 
+-- the last number of the second four comes
 abbrev pub unreadable_whole : List ByteStep
 unreadable_whole = unreadable ++ Bytes (8 ∷ []) ∷ []
 

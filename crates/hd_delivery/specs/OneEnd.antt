@@ -21,6 +21,7 @@ use Rattle.hd_delivery.specs.Examples.{a, b, c, terms}
 abbrev pub opened_client : ℕ → List Step
 opened_client version = Attached 0 0 ∷ Lent (Request Json version) ∷ Fed (Response ∷ []) ∷ Took (Shaken Json version) ∷ []
 
+-- the same at a server
 abbrev pub opened_server : ℕ → List Step
 opened_server version = Attached 0 0 ∷ Fed (Request Json version ∷ []) ∷ Took (Shaken Json version) ∷ Lent Response ∷ []
 
@@ -49,6 +50,7 @@ gap_told = gap_opened ++ Lent (Close (Some (codes "Protocol error.")) false) ∷
 abbrev pub from_zero : List Step
 from_zero = opened_server 2 ++ Attached 1 0 ∷ Fed (Sequence 0 None ∷ Numbered a ∷ []) ∷ []
 
+-- the Sequence is taken
 abbrev pub from_zero_on : List Step
 from_zero_on = from_zero ++ Took (Sequenced 0) ∷ []
 
@@ -80,9 +82,11 @@ early_three = opened_server 3 ++ Attached 1 0 ∷ Fed (Sequence 1 (Some 0) ∷ N
 abbrev pub plain_ack : List Step
 plain_ack = opened_server 1 ++ Fed (Ack 9 ∷ Sequence 5 None ∷ Numbered a ∷ []) ∷ []
 
+-- the Ack is passed over
 abbrev pub plain_sequence : List Step
 plain_sequence = plain_ack ++ Took (Skipped NotUsed) ∷ []
 
+-- so is the Sequence
 abbrev pub plain_message : List Step
 plain_message = plain_sequence ++ Took (Skipped NotUsed) ∷ []
 
@@ -108,6 +112,7 @@ waits_no_more = waits ++ Fed (Sequence 1 (Some 0) ∷ []) ∷ Took (Resumed 1 0)
 abbrev pub at_once : List Step
 at_once = Attached 0 0 ∷ Fed (Request Json 1 ∷ Ping ∷ []) ∷ []
 
+-- the handshake is taken
 abbrev pub pinged : List Step
 pinged = at_once ++ Took (Shaken Json 1) ∷ []
 
@@ -115,15 +120,19 @@ pinged = at_once ++ Took (Shaken Json 1) ∷ []
 abbrev pub strange : LinkFrame
 strange = Strange (codes "Version 9") (codes "The version is not known.")
 
+-- a Ping comes behind it
 abbrev pub refused_request : List Step
 refused_request = Attached 0 0 ∷ Fed (strange ∷ Ping ∷ []) ∷ []
 
+-- what it is refused as
 abbrev pub unknown_version : Fault
 unknown_version = Shake (codes "Version 9") (Some (codes "The version is not known."))
 
+-- it is refused
 abbrev pub refused_failed : List Step
 refused_failed = refused_request ++ Failed unknown_version ∷ []
 
+-- the answer is said
 abbrev pub refused_answered : List Step
 refused_answered = refused_failed ++ Lent (Refusal (codes "The version is not known.")) ∷ []
 
@@ -131,6 +140,7 @@ refused_answered = refused_failed ++ Lent (Refusal (codes "The version is not kn
 abbrev pub refused_response : List Step
 refused_response = Attached 0 0 ∷ Lent (Request Json 2) ∷ Fed (strange ∷ []) ∷ []
 
+-- it is refused
 abbrev pub refused_unanswered : List Step
 refused_unanswered = refused_response ++ Failed (Shake (codes "Version 9") None) ∷ []
 
@@ -142,6 +152,10 @@ closed_unasked = Attached 0 0 ∷ Fed (Request Json 2 ∷ []) ∷ Closed Done fa
 abbrev pub closed_unsaid : List Step
 closed_unsaid = Attached 0 0 ∷ Closed Done false ∷ []
 
+-- a client that is closed after it asked: no Close comes before the handshake is complete
+abbrev pub closed_asked : List Step
+closed_asked = Attached 0 0 ∷ Lent (Request Json 2) ∷ Closed Done false ∷ []
+
 -- a client that took a response before it asked, and was closed then: nothing comes before the opening
 abbrev pub closed_unopened : List Step
 closed_unopened = Attached 0 0 ∷ Fed (Response ∷ []) ∷ Took (Shaken Json 2) ∷ Sent a ∷ Closed Done false ∷ []
@@ -150,6 +164,7 @@ closed_unopened = Attached 0 0 ∷ Fed (Response ∷ []) ∷ Took (Shaken Json 2
 abbrev pub lost_early : List Step
 lost_early = Attached 0 0 ∷ Detached 0 ∷ []
 
+-- the same by a silence
 abbrev pub silent_early : List Step
 silent_early = Attached 0 0 ∷ Silenced 30000 ∷ []
 
@@ -167,8 +182,13 @@ no_handshake = Shake [] None
 abbrev pub odd : List Step
 odd = opened_server 2 ++ Attached 7 0 ∷ Fed (Foreign (pos 10) ∷ Unreadable 20 (codes "NotJson") ∷ []) ∷ []
 
+-- the first of them is passed over
 abbrev pub odd_skipped : List Step
 odd_skipped = odd ++ Took (Skipped (Unknown (pos 10))) ∷ []
+
+-- a handshake that comes again
+abbrev pub request_again : List Step
+request_again = opened_server 2 ++ Fed (Request Json 2 ∷ []) ∷ []
 
 -- ---- the Close
 
@@ -176,9 +196,11 @@ odd_skipped = odd ++ Took (Skipped (Unknown (pos 10))) ∷ []
 abbrev pub slow : List Step
 slow = opened_server 2 ++ Sent a ∷ Closed Slow false ∷ []
 
+-- what was sent is said
 abbrev pub slow_last : List Step
 slow_last = slow ++ Lent (Numbered a) ∷ []
 
+-- the Close is said
 abbrev pub slow_told : List Step
 slow_told = slow_last ++ Lent (Close (Some (codes "Too slow.")) false) ∷ []
 
@@ -186,6 +208,7 @@ slow_told = slow_last ++ Lent (Close (Some (codes "Too slow.")) false) ∷ []
 abbrev pub left : List Step
 left = opened_client 2 ++ Sent a ∷ Fed (Close None false ∷ []) ∷ Took (gives.Closed None false) ∷ []
 
+-- what was sent is said
 abbrev pub left_told : List Step
 left_told = left ++ Lent (Numbered a) ∷ []
 
@@ -197,9 +220,11 @@ closed_for reason = opened_server 2 ++ Closed reason false ∷ []
 abbrev pub closed_waiting : List Step
 closed_waiting = opened_server 3 ++ Sent a ∷ Attached 1 0 ∷ Closed Done false ∷ []
 
+-- its opening is said
 abbrev pub closed_opened : List Step
 closed_opened = closed_waiting ++ Lent (Sequence 1 (Some 0)) ∷ []
 
+-- its Close is said
 abbrev pub closed_told : List Step
 closed_told = closed_opened ++ Lent (Close None false) ∷ []
 
@@ -209,12 +234,15 @@ closed_told = closed_opened ++ Lent (Close None false) ∷ []
 abbrev pub quiet_until : ℕ → List Step
 quiet_until now = opened_client 2 ++ Ticked now ∷ []
 
+-- the Ping is said
 abbrev pub quiet_pinged : List Step
 quiet_pinged = quiet_until 15000 ++ Lent Ping ∷ []
 
+-- the handshake isn't complete
 abbrev pub quiet_opening : List Step
 quiet_opening = Attached 0 0 ∷ Lent (Request Json 2) ∷ Ticked 15000 ∷ []
 
+-- the end is closed
 abbrev pub quiet_closed : List Step
 quiet_closed = quiet_until 15000 ++ Closed Done false ∷ []
 

@@ -13,7 +13,7 @@ ghost use Rattle.hd_delivery.specs.Frames.{Ack, Close, Numbered, Ping, Refusal, 
 ghost use Rattle.hd_delivery.specs.Histories.{AckBeyond, Attached, Failed, Gap, Shake, Took, Unread, as_told, written_moment};
 ghost use Rattle.hd_delivery.specs.Processes.{reads_message};
 ghost use Rattle.hd_delivery.specs.Examples.{a};
-ghost use Rattle.hd_delivery.specs.OneEnd.{NextDue, NextStep, SilentAt, StateIs, at_once, beyond, closed_for, closed_opened, closed_told, closed_unasked, closed_unopened, closed_unsaid, closed_waiting, early, early_three, first_fed, from_zero, from_zero_on, gap, gap_beyond, gap_failed, gap_opened, gap_told, heard_nothing, left, left_told, lost_early, no_handshake, not_taken, odd, odd_skipped, opened_client, pinged, plain_ack, plain_message, plain_sequence, quiet_attached, quiet_closed, quiet_opening, quiet_pinged, quiet_until, received_beyond, refused_answered, refused_failed, refused_request, refused_response, refused_unanswered, silent_early, slow, slow_last, slow_told, taken_now, unknown_version, waits, waits_no_more};
+ghost use Rattle.hd_delivery.specs.OneEnd.{NextDue, NextStep, SilentAt, StateIs, at_once, beyond, closed_asked, closed_for, closed_opened, closed_told, closed_unasked, closed_unopened, closed_unsaid, closed_waiting, early, early_three, first_fed, from_zero, from_zero_on, gap, gap_beyond, gap_failed, gap_opened, gap_told, heard_nothing, left, left_told, lost_early, no_handshake, not_taken, odd, odd_skipped, opened_client, pinged, plain_ack, plain_message, plain_sequence, quiet_attached, quiet_closed, quiet_opening, quiet_pinged, quiet_until, received_beyond, refused_answered, refused_failed, refused_request, refused_response, refused_unanswered, request_again, silent_early, slow, slow_last, slow_told, taken_now, unknown_version, waits, waits_no_more};
 
 /// Numbers: gaps, counts of messages that were never lent, messages that come too early, and what has no number.
 pub fn numbers()
@@ -29,7 +29,8 @@ pub fn numbers()
     ensures ack { frame_of (message.Ack 3) ≡ Ack 3 }
     ensures sequence { frame_of (message.Sequence 3 (Some 2)) ≡ Sequence 3 (Some 2) }
     ensures ping { frame_of message.Ping ≡ Ping }
-    ensures close { frame_of (message.Close None true) ≡ Close None true }
+    ensures close { frame_of (message.Close (Some (codes "e")) true)
+        ≡ Close (Some (codes "e")) true }
     ensures greatest { reads_message (2 ^ 62) (Some (2 ^ 62 + 1)) a ≡ Failed
         (Gap (2 ^ 62 + 1) (2 ^ 62)) }
     ensures beyond { NextStep Server beyond (Some (Failed (AckBeyond 9 8))) }
@@ -61,11 +62,13 @@ pub fn first_frames()
     ensures closed_unasked { NextDue Server closed_unasked None }
     ensures not_taken_any_more { NextStep Server closed_unasked None }
     ensures closed_unsaid { NextDue Client closed_unsaid None }
+    ensures closed_asked { NextDue Client closed_asked None }
     ensures closed_unopened { NextDue Client closed_unopened None }
     ensures lost_early { StateIs lost_early states.Closed }
     ensures silent_early { StateIs silent_early states.Closed }
     ensures odd { NextStep Server odd (Some (Took (Skipped (Unknown (pos 10))))) }
     ensures unread { NextStep Server odd_skipped (Some (Failed (Unread 1 20 (codes "NotJson")))) }
+    ensures request_again { NextStep Server request_again (Some (Failed (Unread 0 0 []))) }
     ensures unread_first { NextStep Server (first_fed (Unreadable 0 (codes "TooLong")))
         (Some (Failed (Unread 0 0 (codes "TooLong")))) }
     ensures unread_response { NextStep Client (first_fed (Unreadable 0 (codes "TooLong")))

@@ -1,5 +1,5 @@
 //! Worked worlds, over frames and over bytes, which the checker computes.
-ghost use Rattle.std.specs.Prelude.{ℕ, pos, true, false, Some, None, [], ◌∷◌, codes};
+ghost use Rattle.std.specs.Prelude.{ℕ, pos, reverse, true, false, Some, None, [], ◌∷◌, codes};
 ghost use Rattle.hm_message.specs.declared.message.Codec.TheVariants.{Json, Pack};
 ghost use Rattle.hm_message.specs.declared.message.Message.TheVariants as message;
 ghost use Rattle.hd_delivery.specs.declared.vocabulary.Got.TheVariants as gives;
@@ -11,10 +11,10 @@ ghost use Rattle.hd_delivery.specs.Frames.{Ack, Ping, Response, Sequence};
 ghost use Rattle.hd_delivery.specs.declared.vocabulary.State.TheVariants.{Away, Ready};
 ghost use Rattle.hd_delivery.specs.declared.vocabulary.State.TheVariants as states;
 ghost use Rattle.hd_delivery.specs.Histories.{Closed, Detached, Failed, Fed, Gap, Sent, Silenced, Ticked, Took, Unread};
-ghost use Rattle.hd_delivery.specs.Worlds.{Delivers, IsFaultless, IsSound, MayAttach, MaySend, SkipsNone, config};
+ghost use Rattle.hd_delivery.specs.Worlds.{Delivers, IsFaultless, IsOnOneClock, IsSound, MayAttach, MaySend, SkipsNone, config};
 ghost use Rattle.hd_delivery.specs.Bytes.{IsFaithful, IsFirst, IsLater, IsSoundWire};
-ghost use Rattle.hd_delivery.specs.Examples.{ClientMayNot, IsStill, IsWorked, a, acknowledged, b, c, client_after, closed_before_response, closed_kept, closed_with_allow, far_link, filled, further_sequence, limits_of, lost_at_four, older_link_later, one_sequence, opened, packed, plain_delivered, plain_loss, plain_room, plain_silence, resume_after_ack, resume_duplicates, resumed_with_none, resumed_with_one, sent_away, server_after, server_away, silence, sizes, terms, terms_in, ticked_at_five, too_deep, usual, with_bytes};
-ghost use Rattle.hd_delivery.specs.ExamplesOverBytes.{IsFullFor, IsStillOverBytes, IsWorkedOverBytes, NextStepOverBytes, acknowledged_over_bytes, bytewise, cut_by_a_loss, four, lazy, padded, stopped, unread_nine, unreadable, unreadable_later, unreadable_whole};
+ghost use Rattle.hd_delivery.specs.Examples.{ClientMayNot, IsStill, IsWorked, a, acknowledged, b, c, client_after, closed_before_response, closed_kept, closed_with_allow, far_link, filled, further_sequence, limits_of, lost_at_four, older_link_later, one_sequence, opened, packed, plain_delivered, plain_loss, plain_room, plain_silence, resume_after_ack, resume_duplicates, resumed_with_none, resumed_with_one, sent_away, server_after, server_away, silence, sizes, terms, terms_in, ticked_at_five, too_deep, two_clocks, usual, with_bytes};
+ghost use Rattle.hd_delivery.specs.ExamplesOverBytes.{IsFullFor, IsStillOverBytes, IsWorkedOverBytes, NextStepOverBytes, acknowledged_over_bytes, bytewise, closed_over_bytes, cut_by_a_loss, four, lazy, padded, stopped, unread_nine, unreadable, unreadable_later, unreadable_whole};
 
 /// Whole worlds, and what the client and the server are in the end: the state, and how many
 /// messages were sent, processed and are held.
@@ -54,8 +54,8 @@ pub fn worked_worlds()
     ensures far_link { IsWorked usual (terms 2 true) far_link (Ready, 0, 0, 0) (Ready, 0, 0, 0) }
     ensures closed_with_allow { IsWorked usual (terms 2 true) closed_with_allow
         (states.Closed, 0, 0, 0) (states.Closed, 0, 0, 0) }
-    ensures packed { IsWorked (limits_of 8 1 9) (terms_in Pack 2 true) packed
-        (Ready, 1, 0, 1) (Ready, 1, 0, 1) }
+    ensures packed { IsWorked (limits_of 8 2 18) (terms_in Pack 2 true) packed
+        (Ready, 2, 0, 2) (Ready, 2, 0, 2) }
 {}
 
 /// Where both ends are still, so that all has arrived and nothing is held.
@@ -120,6 +120,7 @@ pub fn what_is_excluded()
     ensures ack { IsSound 2 9 (Ping ∷ Ack 3 ∷ []) → ⊥ }
     ensures sequence { IsSound 9 2 (Sequence 4 None ∷ []) → ⊥ }
     ensures received { IsSound 2 9 (Sequence 1 (Some 3) ∷ []) → ⊥ }
+    ensures two_clocks { IsOnOneClock (reverse two_clocks) → ⊥ }
     ensures waiting { IsSoundWire (limits_of 4 1024 100000) lazy → ⊥ }
     ensures framing { IsSoundWire usual padded → ⊥ }
     ensures response { IsLater Response → ⊥ }
@@ -141,6 +142,7 @@ pub fn worked_over_bytes()
     ensures unread_nine { IsWorkedOverBytes (limits_of 4 1024 100000) (terms 2 true) unread_nine
         (Ready, 3, 0, 3) (Ready, 0, 0, 0) }
     ensures no_more { IsFullFor (limits_of 4 1024 100000) (terms 2 true) unread_nine (99 ∷ []) }
+    ensures no_more_closed { IsFullFor usual (terms 2 true) closed_over_bytes [] }
     ensures unreadable { NextStepOverBytes unreadable None }
     ensures place { NextStepOverBytes unreadable_whole
         (Some (Failed (Unread 0 8 (codes "NotJson")))) }
