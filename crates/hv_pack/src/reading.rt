@@ -251,9 +251,9 @@ fn value_from(alloc: Global, bytes: &[u8], at: usize) -> Result<(Value, usize), 
 /// The value whose spelling begins at the place `at`, and the place after its last byte. Any
 /// spelling will do (MessagePack specification, "Formats"), and of equal keys the last counts.
 ///
-/// The error is the first in reading order. A list or map grows by one value or pair at a time, so
-/// memory follows the values that are there, not their count. The recursion is as deep as lists and
-/// maps nest, which is 64 at most.
+/// The error is the first in reading order. A list or a map has room for eight values or pairs at most before they are read,
+/// and grows with what is there, so a count alone takes no memory. The recursion is as deep as lists and maps nest, which is 64
+/// at most.
 pub fn read_value(alloc: Global, bytes: &[u8], at: usize) -> Result<(Value, usize), PackError>
     requires { at ≤ length bytes.now }
     // What is read is spelled so, each byte of it.
