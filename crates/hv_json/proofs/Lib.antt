@@ -1,4 +1,4 @@
-mod Judged
+pub mod Judged
 mod Steps
 mod Joins
 mod Puts
