@@ -1,6 +1,5 @@
 pub mod Lookups
 pub mod Faults
 pub mod Frames
-pub mod Meanings
 pub mod Depths
 pub mod Again
