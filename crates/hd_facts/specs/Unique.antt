@@ -1,4 +1,4 @@
--- One value alone.
+-- The one value of which a fact holds.
 use Rattle.std.specs.Prelude.{◌≡◌}
 
 -- the fact holds of this value, and of no other

@@ -1,3 +1,7 @@
-//! Words that contracts of every layer use: the one value of which a fact holds, a first part of a list, counts of
-//! faults that rose, and what was written for an input. It has no code.
+//! Words that contracts of every layer use. It has definitions alone, and no code:
+//!
+//! - `Unique`: the one value of which a fact holds.
+//! - `Prefixes`: a list begins with another.
+//! - `Counts`: how often something outside the program failed, and when a call on it may fail.
+//! - `Writes`: what was written for an input.
 #![tactic(auto)]

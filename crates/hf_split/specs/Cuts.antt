@@ -33,7 +33,7 @@ pub record BeginsWith (framing : Framing) (most : ℕ) (bytes : List ℕ) (item 
   pub is_frame : IsFrame framing most item
   pub front : bytes ≡ item.spelling ++ drop (length item.spelling) bytes
 
--- no frame within the limit can begin here, whatever comes behind these bytes
+-- no frame within the limit can begin here, whatever comes after these bytes
 abbrev pub IsTooLong : Framing → ℕ → List ℕ → Type 0
 IsTooLong Record most bytes = (most < length bytes) × IsPlain (take (most + 1) bytes)
 IsTooLong Length most bytes = (number : ℕ) × ((most < number) × BeginsWithVarInt bytes number)

@@ -12,7 +12,7 @@ HasOneCutting = (framings : Framings) (most : ℕ) (stream : List ℕ) (items ot
 abbrev pub HasCutting : Type 0
 HasCutting = (framings : Framings) (most : ℕ) (stream : List ℕ) → (items : List Spelled) × ((rest : List ℕ) × Cuts framings most stream items rest)
 
--- bytes begin with one frame at most, and still do with more behind them
+-- bytes begin with one frame at most, and still do with more after them
 abbrev pub BeginsOnce : Type 0
 BeginsOnce = (framing : Framing) (most : ℕ) (bytes more : List ℕ) (item other : Spelled) →
     BeginsWith framing most bytes item → BeginsWith framing most (bytes ++ more) other → item ≡ other
@@ -32,7 +32,7 @@ HasOneBeginning = (framing : Framing) (most : ℕ) (bytes : List ℕ) → Begins
 abbrev pub EmptyWaits : Type 0
 EmptyWaits = (framing : Framing) (most : ℕ) → IsWaiting framing most []
 
--- bytes that are too long begin with no frame, nor do they with more behind them
+-- bytes that are too long begin with no frame, nor do they with more after them
 abbrev pub TooLongBeginsNone : Type 0
 TooLongBeginsNone = (framing : Framing) (most : ℕ) (bytes more : List ℕ) (item : Spelled) →
     IsTooLong framing most bytes → BeginsWith framing most (bytes ++ more) item → ⊥
@@ -42,17 +42,17 @@ abbrev pub BadLengthBeginsNone : Type 0
 BadLengthBeginsNone = (framing : Framing) (most : ℕ) (bytes more : List ℕ) (item : Spelled) →
     IsBadLength framing bytes → BeginsWith framing most (bytes ++ more) item → ⊥
 
--- bytes that are too long still are with more behind them
+-- bytes that are too long still are with more after them
 abbrev pub TooLongStays : Type 0
 TooLongStays = (framing : Framing) (most : ℕ) (bytes more : List ℕ) →
     IsTooLong framing most bytes → IsTooLong framing most (bytes ++ more)
 
--- bytes with a bad length still have it with more behind them
+-- bytes with a bad length still have it with more after them
 abbrev pub BadLengthStays : Type 0
 BadLengthStays = (framing : Framing) (bytes more : List ℕ) →
     IsBadLength framing bytes → IsBadLength framing (bytes ++ more)
 
--- what is written of a frame within the limit begins with that frame, whatever stands behind it
+-- what is written of a frame within the limit begins with that frame, whatever stands after it
 abbrev pub WrappedBegins : Type 0
 WrappedBegins = (framing : Framing) (most : ℕ) (frame more : List ℕ) →
     CanWrap framing frame → length frame ≤ most → BeginsWith framing most ((wrapped framing frame).spelling ++ more) (wrapped framing frame)

@@ -4,7 +4,7 @@
 //! there is a [`Framing`]. The crate does not know what a frame says.
 //!
 //! Proved for all streams and all ways to feed them: the frames lent are those of the stream's one cutting, each with its
-//! place; a fault is told where no frame can begin, and nowhere else. [`laws`](one_cutting) say that there is one
+//! place; a fault is told where no frame can begin, and nowhere else. The laws, as [`one_cutting`], say that there is one
 //! cutting, and what bytes can begin with.
 #![tactic(auto)]
 

@@ -1,6 +1,6 @@
 //! The splitter: it holds the bytes of a stream that were fed and not passed, and lends the frame that they begin with.
 //!
-//! Each byte is looked at once for a separator: what the bytes held begin with is kept, and found again only where bytes
+//! Each byte is looked at once for a separator: what the bytes held begin with is kept, and found again only if bytes
 //! were added to a part of a frame, or a frame was passed.
 
 ghost use Rattle.std.specs.Prelude.{◌≡◌, ◌+◌, ◌-◌, ◌<◌, ◌≤◌, ℕ, List, [], ◌∷◌, ◌++◌, length, take, drop, IfSome, IfNone, IfOk, IfErr, OnErr, vec_len, vec_capacity};
@@ -24,7 +24,7 @@ pub enum SplitFault {
     /// The frame that begins at this place is longer than the limit: its first `most + 1` bytes hold no separator, or
     /// its length says so. The place is the number of bytes of the stream before it, or 2^64-1 if that is more.
     TooLong { at: u64 },
-    /// No length begins at this place, where `Framing::Length` wants one: five bytes have their top bit set.
+    /// No length begins at this place, but `Framing::Length` wants one: five bytes have their top bit set.
     BadLength { at: u64 },
 }
 

@@ -95,7 +95,7 @@ const CASES: [Case; 18] = [
         frames: &[(0, b""), (2, b"a"), (8, b"bc")],
         fault: None,
     },
-    // a length of 11 with nothing behind it
+    // a length of 11 with nothing after it
     Case {
         framing: Framing::Length,
         stream: b"\x01a\x0b",
@@ -141,35 +141,22 @@ const CASES: [Case; 18] = [
     },
 ];
 
-/// Bytes that begin with a length, and the length, from Protocol Buffers' "Base 128 Varints" and its rule for others.
-const LENGTHS: [(&[u8], usize); 11] = [
-    (b"\x00", 0),
-    (b"\x80\x00", 0),
-    (b"\x01", 1),
-    (b"\x81\x80\x80\x80\x00", 1),
-    (b"\x7f", 127),
-    (b"\x80\x01", 128),
-    (b"\x96\x01", 150),
-    (b"\xac\x02", 300),
-    (b"\xff\x7f", 16383),
-    (b"\x80\x80\x01", 16384),
-    (b"\x80\x80\x02", 32768),
-];
-
-/// Lengths and the fewest bytes of them, by the same rule.
-const SHORTEST: [(usize, &[u8]); 9] = [
+/// Lengths and the fewest bytes of them, from Protocol Buffers' "Base 128 Varints" and its rule for others.
+const SHORTEST: [(usize, &[u8]); 11] = [
     (0, b"\x00"),
     (1, b"\x01"),
     (127, b"\x7f"),
     (128, b"\x80\x01"),
+    (150, b"\x96\x01"),
     (300, b"\xac\x02"),
     (16383, b"\xff\x7f"),
     (16384, b"\x80\x80\x01"),
+    (32768, b"\x80\x80\x02"),
     (2097151, b"\xff\xff\x7f"),
     (2097152, b"\x80\x80\x80\x01"),
 ];
 
-/// Passes each whole frame and keeps it with its place, and answers the fault behind them.
+/// Passes each whole frame and keeps it with its place, and answers the fault after them.
 fn take_whole(
     alloc: Global,
     splitter: &mut Splitter,
@@ -205,6 +192,15 @@ fn feed_whole(
     Ok(None)
 }
 
+/// Checks that the frames seen, with their places, are those wanted.
+fn are(rt: &impl Abort, seen: &[(u64, Vec<u8>)], wanted: &[(u64, &[u8])]) {
+    assert_eq!(rt; seen.len(), wanted.len());
+    for ((place, frame), (at, bytes)) in seen.iter().zip(wanted) {
+        assert_eq!(rt; *place, *at);
+        assert_eq!(rt; frame.as_slice(), *bytes);
+    }
+}
+
 /// Checks the frames and the fault of the case, fed in these pieces.
 fn check(rt: &impl Abort, alloc: Global, case: &Case, pieces: &[&[u8]]) -> Result<(), Fail> {
     let mut splitter = Splitter::start(alloc, case.framing, MOST)?;
@@ -214,11 +210,7 @@ fn check(rt: &impl Abort, alloc: Global, case: &Case, pieces: &[&[u8]]) -> Resul
         fault = feed_whole(alloc, &mut splitter, piece, &mut seen)?;
     }
     assert_eq!(rt; fault, case.fault, "of {:?}", pieces);
-    assert_eq!(rt; seen.len(), case.frames.len(), "of {:?}", pieces);
-    for ((place, frame), wanted) in seen.iter().zip(case.frames) {
-        assert_eq!(rt; *place, wanted.0, "of {:?}", pieces);
-        assert_eq!(rt; frame.as_slice(), wanted.1, "of {:?}", pieces);
-    }
+    are(rt, &seen, case.frames);
     Ok(())
 }
 
@@ -237,55 +229,17 @@ fn cuts_in_pieces_of_any_size(rt: HostRuntime) -> Result<(), Fail> {
 }
 
 #[test]
-fn reads_a_length_in_every_spelling(rt: HostRuntime) -> Result<(), Fail> {
-    for (prefix, length) in &LENGTHS {
-        let mut splitter = Splitter::start(rt.alloc(), Framing::Length, 32768)?;
-        let body = vec![in rt.alloc(); b'a'; *length]?;
-        assert_eq!(rt;
-            splitter.feed(prefix),
-            prefix.len(),
-            "of a length of {length}"
-        );
-        if *length > 0 {
-            assert_eq!(rt; splitter.frame(), Ok(None), "at a length of {length}");
-        }
-        assert_eq!(rt; splitter.feed(&body), *length, "after a length of {length}");
-        assert_eq!(rt;
-            splitter.frame(),
-            Ok(Some((0, body.as_slice()))),
-            "after a length of {length}"
-        );
-        splitter.pass();
-        assert_eq!(rt;
-            splitter.place(),
-            (prefix.len() + length) as u64,
-            "past a length of {length}"
-        );
-        assert_eq!(rt; splitter.held(), 0, "past a length of {length}");
-    }
-    Ok(())
-}
-
-#[test]
 fn the_framing_changes_after_a_frame_and_at_a_new_stream(rt: HostRuntime) -> Result<(), Fail> {
-    let mut splitter = Splitter::start(rt.alloc(), Framing::Record, MOST)?;
-    assert_eq!(rt; splitter.feed(b"{}\x1e\x02hi\x81\x00a"), 9);
-    assert_eq!(rt; splitter.frame(), Ok(Some((0, b"{}".as_slice()))));
-    if let Ok(Some(_)) = splitter.frame() {
-        splitter.pass();
-    }
+    let alloc = rt.alloc();
+    let mut splitter = Splitter::start(alloc, Framing::Record, MOST)?;
+    let mut seen = Vec::new(alloc);
+    feed_whole(alloc, &mut splitter, b"{}\x1e\x02hi\x81\x00a", &mut seen)?;
+    assert_eq!(rt; (splitter.place(), splitter.held()), (3, 6));
     splitter.reframe(Framing::Length);
-    assert_eq!(rt; splitter.place(), 3);
-    assert_eq!(rt; splitter.held(), 6);
-    assert_eq!(rt; splitter.frame(), Ok(Some((3, b"hi".as_slice()))));
-    if let Ok(Some(_)) = splitter.frame() {
-        splitter.pass();
-    }
-    assert_eq!(rt; splitter.frame(), Ok(Some((6, b"a".as_slice()))));
+    take_whole(alloc, &mut splitter, &mut seen)?;
     splitter.reset(Framing::Record);
-    assert_eq!(rt; (splitter.place(), splitter.held()), (0, 0));
-    assert_eq!(rt; splitter.feed(b"{}\x1e"), 3);
-    assert_eq!(rt; splitter.frame(), Ok(Some((0, b"{}".as_slice()))));
+    feed_whole(alloc, &mut splitter, b"[]\x1e", &mut seen)?;
+    are(&rt, &seen, &[(0, b"{}"), (3, b"hi"), (6, b"a"), (0, b"[]")]);
     Ok(())
 }
 

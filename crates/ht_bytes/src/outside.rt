@@ -53,7 +53,7 @@ impl Write for Narrow {
     }
 }
 
-/// What so many takes of at most three bytes answer: the bytes of each, or `!`, each before a `|`.
+/// What this many takes of at most three bytes answer: the bytes of each, or `!`, each before a `|`.
 fn takes<S: Source>(alloc: Global, source: &mut S, turns: usize) -> Result<Vec<u8>, AllocError> {
     let mut answers = Vec::new(alloc);
     for _ in 0..turns {

@@ -17,7 +17,7 @@ SourceFails source = Contains source.failing source.calls
 abbrev pub source_after_failure : MemoryInput → MemoryInput
 source_after_failure source = record source { calls = one_more source.calls; faults = one_more source.faults }
 
--- the source after a call that gave its first bytes, so many
+-- the source after a call that gave this many of its first bytes
 abbrev pub source_after_giving : ℕ → MemoryInput → MemoryInput
 source_after_giving count source = record source { left = drop count source.left; calls = one_more source.calls }
 

@@ -10,8 +10,8 @@ use crate::traits::{Failed, Sink};
 use std::alloc::{AllocError, Global};
 use std::marker::Model;
 
-/// A sink in memory, for tests: it keeps the bytes that it takes, has room for so many, and fails
-/// at the calls of chosen numbers.
+/// A sink in memory, for tests: it keeps the bytes that it takes, up to a limit, and fails at the
+/// calls of chosen numbers.
 ///
 /// The calls of `put` are counted from 0, those that fail among them. The count holds 64 bits
 /// and stays at 2^64 - 1.
