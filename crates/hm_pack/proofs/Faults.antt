@@ -1,14 +1,18 @@
 -- What may be wrong with elements: that they are missing, wrong, or a kind of result that means nothing.
-use Rattle.std.proofs.Common.{◌≡◌, ℕ, ℤ, pos, Bool, true, false, cond, List, [], ◌∷◌, Option, Some, None, Result, Ok, Err, refl, subst, inr}
+use Rattle.std.proofs.Common.{◌≡◌, ℕ, ℤ, pos, Bool, true, false, cond, List, [], ◌∷◌, Option, Some, None, Result, Ok, Err, refl, subst, inl, inr}
+use Rattle.std.specs.Prelude.{IfOk, IfErr}
 use Rattle.std.specs.Option.{ok_or}
 use Rattle.std.specs.Ordering.{int_eq}
 use Rattle.std.specs.Result.{result_err}
 use Rattle.hv_value.specs.Tree.{Tree}
 use Rattle.hm_message.specs.Fields.{text_in, items_in, flag_in, whole_in, number_in, texts_in, headers_in}
 use Rattle.hm_message.specs.Headers.{Header}
-use Rattle.hm_message.specs.Kind.{number}
 use Rattle.hm_message.specs.declared.kind.Kind.{Kind}
 use Rattle.hm_message.specs.declared.kind.Kind.TheVariants as kinds
+use Rattle.hm_message.specs.Reads.{MessageIs}
+use Rattle.hm_message.specs.declared.message.Message.{Message}
+use Rattle.hm_message.specs.declared.message.Read.{Read}
+use Rattle.hm_message.specs.declared.message.Read.TheVariants as read
 use Rattle.hm_message.specs.declared.message.Field.{Field}
 use Rattle.hm_message.specs.declared.message.Field.TheVariants as field
 use Rattle.hm_pack.specs.Elements as element
@@ -158,6 +162,21 @@ unless_memory (Wrong field) P Q f p = f p
 unless_memory (ResultKind n) P Q f p = f p
 unless_memory NoMemory P Q f p = tt
 
-pub why_of_kind : (frame : List ℕ) (ts : List Tree) (k : Kind) (e : PackRefusal) → IsArray frame ts → type_of ts ≡ Ok (number k) → MemoryOr e (first (faults k ts) ≡ Some e) → MemoryOr e (Why frame e)
-why_of_kind frame ts k e r h f =
-    unless_memory e (first (faults k ts) ≡ Some e) (Why frame e) (λ g. why_faulty frame ts e (faults_good k ts e g) r (inr (k, (h, g)))) f
+faulty_good : (ts : List Tree) (e : PackRefusal) → IsFaulty ts e → OfElement e
+faulty_good ts e (inl h) = type_good ts e h
+faulty_good ts e (inr (k, (h, f))) = faults_good k ts e f
+
+-- what refuses the elements of its array refuses a frame
+pub why_of_elements : (frame : List ℕ) (ts : List Tree) (e : PackRefusal) → IsArray frame ts → MemoryOr e (IsFaulty ts e) → MemoryOr e (Why frame e)
+why_of_elements frame ts e r f = unless_memory e (IsFaulty ts e) (Why frame e) (λ h. why_faulty frame ts e (faulty_good ts e h) r h) f
+
+-- ---- what holds of the elements holds of the frame
+
+pub message_of_frame : (o : Result Read PackRefusal) (P Q : Message → Type 0) → ((m : Message) → P m → Q m) → IfOk o (λ r. MessageIs r P) → IfOk o (λ r. MessageIs r Q)
+message_of_frame (Ok (read.Message m)) P Q f h = f m h
+message_of_frame (Ok (read.Unknown n)) P Q f h = tt
+message_of_frame (Err e) P Q f h = tt
+
+pub refusal_of_frame : (o : Result Read PackRefusal) (P Q : PackRefusal → Type 0) → ((e : PackRefusal) → MemoryOr e (P e) → MemoryOr e (Q e)) → IfErr o (λ e. MemoryOr e (P e)) → IfErr o (λ e. MemoryOr e (Q e))
+refusal_of_frame (Ok r) P Q f h = tt
+refusal_of_frame (Err e) P Q f h = f e h

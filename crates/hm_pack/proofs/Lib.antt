@@ -1,3 +1,4 @@
+pub mod FromPlace
 pub mod Depths
 pub mod Faults
 pub mod Meanings

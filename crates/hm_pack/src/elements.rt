@@ -1,36 +1,64 @@
-//! Elements of a message's array, each as the value that its place wants or the refusal.
-ghost use Rattle.std.specs.Prelude.{◌≡◌, ℕ, List, Option, IfOk, IfErr, None, Ok, Err, Some, [], false, option_map, slice_get};
-ghost use Rattle.hm_pack.specs.declared.refusal.PackRefusal.TheVariants.{Missing};
-ghost use Rattle.hv_value.specs.View.{tree};
+//! Elements of a message's array, each taken out as the value that its place wants, or the refusal.
+//! They are taken from left to right: what stands before a place is not looked at again.
+ghost use Rattle.std.specs.Prelude.{◌≡◌, ◌+◌, ℕ, List, Option, IfOk, IfErr, None, Ok, Err, Some, [], false, drop, option_map, slice_get};
+ghost use Rattle.hm_pack.specs.declared.refusal.PackRefusal.TheVariants.{Missing, NotArray};
+ghost use Rattle.hv_value.specs.Tree.{Tree, list, trees};
+ghost use Rattle.hv_value.specs.View.{tree, trees_of};
 ghost use Rattle.hm_message.specs.Fields.{text_in as text_of, items_in as items_of, flag_in, whole_in, number_in as number_of, texts_in as texts_of, headers_in as headers_of};
 ghost use Rattle.hm_pack.specs.Elements.{must, may, text_or_nil};
 ghost use Rattle.hm_pack.specs.Refusals.{MemoryOr};
 ghost use Rattle.hm_message.specs.declared.message.Field.TheVariants as fields;
+ghost use Rattle.hm_pack.specs.Places.{headers_place};
 
 use crate::places;
 use crate::refusal::PackRefusal;
-use hm_message::{Field, Headers, headers_in, items_in, number_in, text_in, texts_in};
+use hm_message::{Field, Headers, headers_in, number_in, texts_in};
 use hv_value::{Items, Text, Texts, Value};
 use std::alloc::Global;
+use std::mem;
 
-/// The element at a place, where the array has it.
-pub(crate) fn element(array: &Items, at: usize) -> Option<&Value>
-    ensures { option_map (λ v. tree v.now) result ≡ slice_get array.now at }
+/// The elements of the array that a value is.
+pub(crate) fn elements(value: Value) -> Result<Vec<Value>, PackRefusal>
+    ensures ok { IfOk result (λ array. tree value ≡ list (trees (trees_of array.items))) }
+    ensures not_array { IfErr result (λ e. e ≡ NotArray) }
+    ensures err { IfErr result (λ e. items_of (tree value) ≡ None) }
 {
-    array.values().get(at)
+    match value {
+        Value::List(items) => Ok(items.into_values()),
+        _ => Err(PackRefusal::NotArray),
+    }
 }
 
-fn needed(array: &Items, at: usize, field: Field) -> Result<&Value, PackRefusal>
-    ensures there { IfOk result (λ v. slice_get array.now at ≡ Some (tree v.now)) }
-    ensures absent { IfErr result (λ e. slice_get array.now at ≡ None) }
+/// The element at a place, if the array has it. A null stands there afterwards.
+pub(crate) fn element(array: &mut Vec<Value>, at: usize) -> Option<Value>
+    ghost ts: { List Tree }
+    requires { drop at (trees_of array.old.items) ≡ drop at ts }
+    ensures found { option_map (λ v. tree v) result ≡ slice_get ts at }
+    ensures rest { drop (at + 1) (trees_of array.new.items) ≡ drop (at + 1) ts }
+{
+    if at < array.len() {
+        return Some(mem::replace(&mut array[at], Value::Null));
+    }
+    None
+}
+
+fn needed(array: &mut Vec<Value>, at: usize, field: Field) -> Result<Value, PackRefusal>
+    ghost ts: { List Tree }
+    requires { drop at (trees_of array.old.items) ≡ drop at ts }
+    ensures there { IfOk result (λ v. slice_get ts at ≡ Some (tree v)) }
+    ensures absent { IfErr result (λ e. slice_get ts at ≡ None) }
     ensures missing { IfErr result (λ e. e ≡ Missing field) }
+    ensures rest { drop (at + 1) (trees_of array.new.items) ≡ drop (at + 1) ts }
 {
     element(array, at).ok_or(PackRefusal::Missing(field))
 }
 
-pub(crate) fn whole(array: &Items, at: usize, field: Field) -> Result<i128, PackRefusal>
-    ensures ok { IfOk result (λ n. must at field whole_in array.now ≡ Ok n) }
-    ensures err { IfErr result (λ e. must at field whole_in array.now ≡ Err e) }
+pub(crate) fn whole(array: &mut Vec<Value>, at: usize, field: Field) -> Result<i128, PackRefusal>
+    ghost ts: { List Tree }
+    requires { drop at (trees_of array.old.items) ≡ drop at ts }
+    ensures ok { IfOk result (λ n. must at field whole_in ts ≡ Ok n) }
+    ensures err { IfErr result (λ e. must at field whole_in ts ≡ Err e) }
+    ensures rest { drop (at + 1) (trees_of array.new.items) ≡ drop (at + 1) ts }
 {
     match needed(array, at, field)? {
         Value::Int(n) => Ok(n.get()),
@@ -38,86 +66,115 @@ pub(crate) fn whole(array: &Items, at: usize, field: Field) -> Result<i128, Pack
     }
 }
 
-pub(crate) fn number(array: &Items, at: usize, field: Field) -> Result<u64, PackRefusal>
-    ensures ok { IfOk result (λ n. must at field number_of array.now ≡ Ok n) }
-    ensures err { IfErr result (λ e. must at field number_of array.now ≡ Err e) }
+pub(crate) fn number(array: &mut Vec<Value>, at: usize, field: Field) -> Result<u64, PackRefusal>
+    ghost ts: { List Tree }
+    requires { drop at (trees_of array.old.items) ≡ drop at ts }
+    ensures ok { IfOk result (λ n. must at field number_of ts ≡ Ok n) }
+    ensures err { IfErr result (λ e. must at field number_of ts ≡ Err e) }
+    ensures rest { drop (at + 1) (trees_of array.new.items) ≡ drop (at + 1) ts }
 {
-    number_in(needed(array, at, field)?).ok_or(PackRefusal::Wrong(field))
+    number_in(&needed(array, at, field)?).ok_or(PackRefusal::Wrong(field))
 }
 
-pub(crate) fn text(array: &Items, at: usize, field: Field) -> Result<Text, PackRefusal>
-    ensures ok { IfOk result (λ s. must at field text_of array.now ≡ Ok s) }
-    ensures err { IfErr result (λ e. MemoryOr e (must at field text_of array.now ≡ Err e)) }
-{
-    let value = needed(array, at, field)?;
-    text_in(value)?.ok_or(PackRefusal::Wrong(field))
-}
-
-/// A text, or none where the element is nil.
-pub(crate) fn optional_text(
-    array: &Items,
-    at: usize,
-    field: Field,
-) -> Result<Option<Text>, PackRefusal>
-    ensures ok { IfOk result (λ s. must at field text_or_nil array.now ≡ Ok s) }
-    ensures err { IfErr result
-        (λ e. MemoryOr e (must {A = Option (List ℕ)} at field text_or_nil array.now ≡ Err e)) }
+pub(crate) fn text(array: &mut Vec<Value>, at: usize, field: Field) -> Result<Text, PackRefusal>
+    ghost ts: { List Tree }
+    requires { drop at (trees_of array.old.items) ≡ drop at ts }
+    ensures ok { IfOk result (λ s. must at field text_of ts ≡ Ok s) }
+    ensures err { IfErr result (λ e. must at field text_of ts ≡ Err e) }
+    ensures rest { drop (at + 1) (trees_of array.new.items) ≡ drop (at + 1) ts }
 {
     match needed(array, at, field)? {
-        Value::Null => Ok(None),
-        Value::Text(text) => Ok(Some(text.copy()?)),
+        Value::Text(text) => Ok(text),
         _ => Err(PackRefusal::Wrong(field)),
     }
 }
 
-pub(crate) fn items(array: &Items, at: usize, field: Field) -> Result<Items, PackRefusal>
-    ensures ok { IfOk result (λ items. must at field items_of array.now ≡ Ok items) }
-    ensures err { IfErr result (λ e. MemoryOr e (must at field items_of array.now ≡ Err e)) }
+/// A text, or `None` if the element is nil.
+pub(crate) fn optional_text(
+    array: &mut Vec<Value>,
+    at: usize,
+    field: Field,
+) -> Result<Option<Text>, PackRefusal>
+    ghost ts: { List Tree }
+    requires { drop at (trees_of array.old.items) ≡ drop at ts }
+    ensures ok { IfOk result (λ s. must at field text_or_nil ts ≡ Ok s) }
+    ensures err { IfErr result
+        (λ e. must {A = Option (List ℕ)} at field text_or_nil ts ≡ Err e) }
+    ensures rest { drop (at + 1) (trees_of array.new.items) ≡ drop (at + 1) ts }
 {
-    let value = needed(array, at, field)?;
-    items_in(value)?.ok_or(PackRefusal::Wrong(field))
+    match needed(array, at, field)? {
+        Value::Null => Ok(None),
+        Value::Text(text) => Ok(Some(text)),
+        _ => Err(PackRefusal::Wrong(field)),
+    }
 }
 
-pub(crate) fn any(array: &Items, at: usize, field: Field) -> Result<Value, PackRefusal>
-    ensures ok { IfOk result (λ v. must at field Some array.now ≡ Ok (tree v)) }
-    ensures err { IfErr result (λ e. MemoryOr e (must at field Some array.now ≡ Err e)) }
+pub(crate) fn items(array: &mut Vec<Value>, at: usize, field: Field) -> Result<Items, PackRefusal>
+    ghost ts: { List Tree }
+    requires { drop at (trees_of array.old.items) ≡ drop at ts }
+    ensures ok { IfOk result (λ items. must at field items_of ts ≡ Ok items) }
+    ensures err { IfErr result (λ e. must at field items_of ts ≡ Err e) }
+    ensures rest { drop (at + 1) (trees_of array.new.items) ≡ drop (at + 1) ts }
 {
-    Ok(needed(array, at, field)?.copy()?)
+    match needed(array, at, field)? {
+        Value::List(items) => Ok(items),
+        _ => Err(PackRefusal::Wrong(field)),
+    }
 }
 
-/// A list of texts, which is empty where the array ends before it.
+pub(crate) fn any(array: &mut Vec<Value>, at: usize, field: Field) -> Result<Value, PackRefusal>
+    ghost ts: { List Tree }
+    requires { drop at (trees_of array.old.items) ≡ drop at ts }
+    ensures ok { IfOk result (λ v. must at field Some ts ≡ Ok (tree v)) }
+    ensures err { IfErr result (λ e. must at field Some ts ≡ Err e) }
+    ensures rest { drop (at + 1) (trees_of array.new.items) ≡ drop (at + 1) ts }
+{
+    needed(array, at, field)
+}
+
+/// A list of texts, which is empty if the array ends before it.
 pub(crate) fn texts(
     alloc: Global,
-    array: &Items,
+    array: &mut Vec<Value>,
     at: usize,
     field: Field,
 ) -> Result<Texts, PackRefusal>
-    ensures ok { IfOk result (λ texts. may [] at field texts_of array.now ≡ Ok texts) }
-    ensures err { IfErr result (λ e. MemoryOr e (may [] at field texts_of array.now ≡ Err e)) }
+    ghost ts: { List Tree }
+    requires { drop at (trees_of array.old.items) ≡ drop at ts }
+    ensures ok { IfOk result (λ texts. may [] at field texts_of ts ≡ Ok texts) }
+    ensures err { IfErr result (λ e. MemoryOr e (may [] at field texts_of ts ≡ Err e)) }
+    ensures rest { drop (at + 1) (trees_of array.new.items) ≡ drop (at + 1) ts }
 {
     let Some(value) = element(array, at) else {
         return Ok(Texts::of(Vec::new(alloc)));
     };
-    texts_in(alloc, value)?.ok_or(PackRefusal::Wrong(field))
+    texts_in(alloc, &value)?.ok_or(PackRefusal::Wrong(field))
 }
 
-pub(crate) fn headers(alloc: Global, array: &Items) -> Result<Headers, PackRefusal>
-    ensures ok { IfOk result (λ hs. must 1 fields.Headers headers_of array.now ≡ Ok hs) }
+pub(crate) fn headers(alloc: Global, array: &mut Vec<Value>) -> Result<Headers, PackRefusal>
+    ghost ts: { List Tree }
+    requires { drop headers_place (trees_of array.old.items) ≡ drop headers_place ts }
+    ensures ok { IfOk result (λ hs. must headers_place fields.Headers headers_of ts ≡ Ok hs) }
     ensures err { IfErr result
-        (λ e. MemoryOr e (must 1 fields.Headers headers_of array.now ≡ Err e)) }
+        (λ e. MemoryOr e (must headers_place fields.Headers headers_of ts ≡ Err e)) }
+    ensures rest { drop (headers_place + 1) (trees_of array.new.items)
+        ≡ drop (headers_place + 1) ts }
 {
     let value = needed(array, places::HEADERS, Field::Headers)?;
-    headers_in(alloc, value)?.ok_or(PackRefusal::Wrong(Field::Headers))
+    headers_in(alloc, &value)?.ok_or(PackRefusal::Wrong(Field::Headers))
 }
 
-/// A truth value, which is false where the array ends before it.
-pub(crate) fn flag(array: &Items, at: usize, field: Field) -> Result<bool, PackRefusal>
-    ensures ok { IfOk result (λ b. may false at field flag_in array.now ≡ Ok b) }
-    ensures err { IfErr result (λ e. may false at field flag_in array.now ≡ Err e) }
+/// A truth value, which is false if the array ends before it.
+pub(crate) fn flag(array: &mut Vec<Value>, at: usize, field: Field) -> Result<bool, PackRefusal>
+    ghost ts: { List Tree }
+    requires { drop at (trees_of array.old.items) ≡ drop at ts }
+    ensures ok { IfOk result (λ b. may false at field flag_in ts ≡ Ok b) }
+    ensures err { IfErr result (λ e. may false at field flag_in ts ≡ Err e) }
+    ensures rest { drop (at + 1) (trees_of array.new.items) ≡ drop (at + 1) ts }
 {
     match element(array, at) {
         None => Ok(false),
-        Some(Value::Bool(b)) => Ok(*b),
+        Some(Value::Bool(b)) => Ok(b),
         Some(_) => Err(PackRefusal::Wrong(field)),
     }
 }

@@ -1,5 +1,7 @@
 //! Reads frames: one array, whose type says what its other elements must be.
-ghost use Rattle.std.specs.Prelude.{◌≡◌, ◌≢◌, IfOk, IfErr, Ok, Err, Some, None};
+ghost use Rattle.std.specs.Prelude.{◌≡◌, ◌≢◌, List, drop, IfOk, IfErr, Ok, Err, Some, None};
+ghost use Rattle.hv_value.specs.Tree.{Tree};
+ghost use Rattle.hv_value.specs.View.{trees_of};
 ghost use Rattle.hm_message.specs.Kind.{kind_of, number as number_of};
 ghost use Rattle.hm_message.specs.Message.{Fits};
 ghost use Rattle.hm_message.specs.declared.kind.Kind.TheVariants as kinds;
@@ -8,12 +10,13 @@ ghost use Rattle.hm_pack.specs.declared.refusal.PackRefusal.TheVariants as refus
 ghost use Rattle.hm_message.specs.Meaning.{first};
 ghost use Rattle.hm_pack.specs.Elements.{ending as ending_of, type_of, faults};
 ghost use Rattle.hm_pack.specs.Refusals.{MemoryOr};
-ghost use Rattle.hm_pack.specs.Says.{Says, Unknown, Why, Holds, Ends};
+ghost use Rattle.hm_pack.specs.Places.{type_place, headers_place, result_kind_place};
+ghost use Rattle.hm_pack.specs.Says.{Says, Unknown, Why, Holds, Ends, IsMessage, IsUnknown, IsFaulty};
 ghost use Rattle.hm_pack.specs.ExactlyOne.{ExactlyOne};
 ghost use Rattle.hm_message.specs.Reads.{MessageIs, UnknownIs};
 
 use crate::elements::{
-    any, element, flag, headers, items, number, optional_text, text, texts, whole,
+    any, element, elements, flag, headers, items, number, optional_text, text, texts, whole,
 };
 use crate::places;
 use crate::refusal::PackRefusal;
@@ -21,7 +24,7 @@ use hm_message::{Ending, Field, Kind, Message, Read, number_in};
 use hv_pack::{
     is_spelled_or_refused, one_reading, one_refusal, read_value, spelled_is_not_refused,
 };
-use hv_value::{Items, Value};
+use hv_value::Value;
 use std::alloc::Global;
 
 /// Each frame says exactly one message, is of exactly one type that no message has, or is refused
@@ -36,11 +39,13 @@ pub fn exactly_one(frame: &[u8])
     is_spelled_or_refused();
 }
 
-fn invocation(alloc: Global, array: &Items) -> Result<Message, PackRefusal>
+fn invocation(alloc: Global, array: &mut Vec<Value>) -> Result<Message, PackRefusal>
+    ghost ts: { List Tree }
+    requires { drop headers_place (trees_of array.old.items) ≡ drop headers_place ts }
     ensures kind { IfOk result (λ m. kind_of m ≡ kinds.Invocation) }
-    ensures ok { IfOk result (λ m. Holds array.now m) }
+    ensures ok { IfOk result (λ m. Holds ts m) }
     ensures err { IfErr result
-        (λ e. MemoryOr e (first (faults kinds.Invocation array.now) ≡ Some e)) }
+        (λ e. MemoryOr e (first (faults kinds.Invocation ts) ≡ Some e)) }
 {
     Ok(Message::Invocation {
         headers: headers(alloc, array)?,
@@ -51,11 +56,13 @@ fn invocation(alloc: Global, array: &Items) -> Result<Message, PackRefusal>
     })
 }
 
-fn stream_item(alloc: Global, array: &Items) -> Result<Message, PackRefusal>
+fn stream_item(alloc: Global, array: &mut Vec<Value>) -> Result<Message, PackRefusal>
+    ghost ts: { List Tree }
+    requires { drop headers_place (trees_of array.old.items) ≡ drop headers_place ts }
     ensures kind { IfOk result (λ m. kind_of m ≡ kinds.StreamItem) }
-    ensures ok { IfOk result (λ m. Holds array.now m) }
+    ensures ok { IfOk result (λ m. Holds ts m) }
     ensures err { IfErr result
-        (λ e. MemoryOr e (first (faults kinds.StreamItem array.now) ≡ Some e)) }
+        (λ e. MemoryOr e (first (faults kinds.StreamItem ts) ≡ Some e)) }
 {
     Ok(Message::StreamItem {
         headers: headers(alloc, array)?,
@@ -65,9 +72,11 @@ fn stream_item(alloc: Global, array: &Items) -> Result<Message, PackRefusal>
 }
 
 /// How an invocation ends, by the kind of result and what stands after it.
-fn ending(array: &Items) -> Result<Ending, PackRefusal>
-    ensures ok { IfOk result (λ e. Ends array.now e) }
-    ensures err { IfErr result (λ e. MemoryOr e (ending_of array.now ≡ Some e)) }
+fn ending(array: &mut Vec<Value>) -> Result<Ending, PackRefusal>
+    ghost ts: { List Tree }
+    requires { drop result_kind_place (trees_of array.old.items) ≡ drop result_kind_place ts }
+    ensures ok { IfOk result (λ e. Ends ts e) }
+    ensures err { IfErr result (λ e. MemoryOr e (ending_of ts ≡ Some e)) }
 {
     match whole(array, places::RESULT_KIND, Field::Ending)? {
         places::ERROR_RESULT => Ok(Ending::Error(text(array, places::OUTCOME, Field::Error)?)),
@@ -77,11 +86,13 @@ fn ending(array: &Items) -> Result<Ending, PackRefusal>
     }
 }
 
-fn completion(alloc: Global, array: &Items) -> Result<Message, PackRefusal>
+fn completion(alloc: Global, array: &mut Vec<Value>) -> Result<Message, PackRefusal>
+    ghost ts: { List Tree }
+    requires { drop headers_place (trees_of array.old.items) ≡ drop headers_place ts }
     ensures kind { IfOk result (λ m. kind_of m ≡ kinds.Completion) }
-    ensures ok { IfOk result (λ m. Holds array.now m) }
+    ensures ok { IfOk result (λ m. Holds ts m) }
     ensures err { IfErr result
-        (λ e. MemoryOr e (first (faults kinds.Completion array.now) ≡ Some e)) }
+        (λ e. MemoryOr e (first (faults kinds.Completion ts) ≡ Some e)) }
 {
     Ok(Message::Completion {
         headers: headers(alloc, array)?,
@@ -90,11 +101,13 @@ fn completion(alloc: Global, array: &Items) -> Result<Message, PackRefusal>
     })
 }
 
-fn stream_invocation(alloc: Global, array: &Items) -> Result<Message, PackRefusal>
+fn stream_invocation(alloc: Global, array: &mut Vec<Value>) -> Result<Message, PackRefusal>
+    ghost ts: { List Tree }
+    requires { drop headers_place (trees_of array.old.items) ≡ drop headers_place ts }
     ensures kind { IfOk result (λ m. kind_of m ≡ kinds.StreamInvocation) }
-    ensures ok { IfOk result (λ m. Holds array.now m) }
+    ensures ok { IfOk result (λ m. Holds ts m) }
     ensures err { IfErr result
-        (λ e. MemoryOr e (first (faults kinds.StreamInvocation array.now) ≡ Some e)) }
+        (λ e. MemoryOr e (first (faults kinds.StreamInvocation ts) ≡ Some e)) }
 {
     Ok(Message::StreamInvocation {
         headers: headers(alloc, array)?,
@@ -105,11 +118,13 @@ fn stream_invocation(alloc: Global, array: &Items) -> Result<Message, PackRefusa
     })
 }
 
-fn cancel_invocation(alloc: Global, array: &Items) -> Result<Message, PackRefusal>
+fn cancel_invocation(alloc: Global, array: &mut Vec<Value>) -> Result<Message, PackRefusal>
+    ghost ts: { List Tree }
+    requires { drop headers_place (trees_of array.old.items) ≡ drop headers_place ts }
     ensures kind { IfOk result (λ m. kind_of m ≡ kinds.CancelInvocation) }
-    ensures ok { IfOk result (λ m. Holds array.now m) }
+    ensures ok { IfOk result (λ m. Holds ts m) }
     ensures err { IfErr result
-        (λ e. MemoryOr e (first (faults kinds.CancelInvocation array.now) ≡ Some e)) }
+        (λ e. MemoryOr e (first (faults kinds.CancelInvocation ts) ≡ Some e)) }
 {
     Ok(Message::CancelInvocation {
         headers: headers(alloc, array)?,
@@ -117,10 +132,12 @@ fn cancel_invocation(alloc: Global, array: &Items) -> Result<Message, PackRefusa
     })
 }
 
-fn close(array: &Items) -> Result<Message, PackRefusal>
+fn close(array: &mut Vec<Value>) -> Result<Message, PackRefusal>
+    ghost ts: { List Tree }
+    requires { drop headers_place (trees_of array.old.items) ≡ drop headers_place ts }
     ensures kind { IfOk result (λ m. kind_of m ≡ kinds.Close) }
-    ensures ok { IfOk result (λ m. Holds array.now m) }
-    ensures err { IfErr result (λ e. MemoryOr e (first (faults kinds.Close array.now) ≡ Some e)) }
+    ensures ok { IfOk result (λ m. Holds ts m) }
+    ensures err { IfErr result (λ e. MemoryOr e (first (faults kinds.Close ts) ≡ Some e)) }
 {
     Ok(Message::Close {
         error: optional_text(array, places::CLOSE_ERROR, Field::Error)?,
@@ -128,24 +145,28 @@ fn close(array: &Items) -> Result<Message, PackRefusal>
     })
 }
 
-fn sequence(array: &Items) -> Result<Message, PackRefusal>
+fn sequence(array: &mut Vec<Value>) -> Result<Message, PackRefusal>
+    ghost ts: { List Tree }
+    requires { drop headers_place (trees_of array.old.items) ≡ drop headers_place ts }
     ensures kind { IfOk result (λ m. kind_of m ≡ kinds.Sequence) }
-    ensures ok { IfOk result (λ m. Holds array.now m) }
-    ensures err { IfErr result (λ e. first (faults kinds.Sequence array.now) ≡ Some e) }
+    ensures ok { IfOk result (λ m. Holds ts m) }
+    ensures err { IfErr result (λ e. first (faults kinds.Sequence ts) ≡ Some e) }
 {
     let first = number(array, places::SEQUENCE_ID, Field::SequenceId)?;
     let received = match element(array, places::RECEIVED) {
-        Some(value) => number_in(value),
+        Some(value) => number_in(&value),
         None => None,
     };
     Ok(Message::Sequence { first, received })
 }
 
 /// The message of this type.
-fn message(alloc: Global, array: &Items, kind: Kind) -> Result<Message, PackRefusal>
+fn message(alloc: Global, array: &mut Vec<Value>, kind: Kind) -> Result<Message, PackRefusal>
+    ghost ts: { List Tree }
+    requires { drop headers_place (trees_of array.old.items) ≡ drop headers_place ts }
     ensures kind { IfOk result (λ m. kind_of m ≡ kind) }
-    ensures ok { IfOk result (λ m. Holds array.now m) }
-    ensures err { IfErr result (λ e. MemoryOr e (first (faults kind array.now) ≡ Some e)) }
+    ensures ok { IfOk result (λ m. Holds ts m) }
+    ensures err { IfErr result (λ e. MemoryOr e (first (faults kind ts) ≡ Some e)) }
 {
     match kind {
         Kind::Invocation => invocation(alloc, array),
@@ -161,6 +182,21 @@ fn message(alloc: Global, array: &Items, kind: Kind) -> Result<Message, PackRefu
         }
         Kind::Sequence => sequence(array),
     }
+}
+
+/// What the elements of an array say.
+fn read_elements(alloc: Global, array: &mut Vec<Value>) -> Result<Read, PackRefusal>
+    ghost ts: { List Tree }
+    requires { drop type_place (trees_of array.old.items) ≡ drop type_place ts }
+    ensures message { IfOk result (λ r. MessageIs r (λ m. IsMessage ts m)) }
+    ensures unknown { IfOk result (λ r. UnknownIs r (λ n. IsUnknown ts n)) }
+    ensures refused { IfErr result (λ e. MemoryOr e (IsFaulty ts e)) }
+{
+    let n = whole(array, places::KIND, Field::Kind)?;
+    let Some(kind) = Kind::numbered(n) else {
+        return Ok(Read::Unknown(n));
+    };
+    Ok(Read::Message(message(alloc, array, kind)?))
 }
 
 /// What a frame of one MessagePack array says (HubProtocol.md, "MessagePack (MsgPack) encoding"),
@@ -183,12 +219,6 @@ pub fn read_message(alloc: Global, frame: &[u8]) -> Result<Read, PackRefusal>
     if end < frame.len() {
         return Err(PackRefusal::Trailing { at: end });
     }
-    let Value::List(array) = &value else {
-        return Err(PackRefusal::NotArray);
-    };
-    let n = whole(array, places::KIND, Field::Kind)?;
-    let Some(kind) = Kind::numbered(n) else {
-        return Ok(Read::Unknown(n));
-    };
-    Ok(Read::Message(message(alloc, array, kind)?))
+    let mut array = elements(value)?;
+    read_elements(alloc, &mut array)
 }

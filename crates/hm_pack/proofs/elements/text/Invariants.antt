@@ -1,0 +1,4 @@
+use Rattle.hm_pack.proofs.elements.text.Given as goal
+
+abbrev pub ghost-needed : goal.ghost-needed
+ghost-needed g a = g.ts

@@ -1,0 +1,4 @@
+use Rattle.hm_pack.proofs.elements.texts.Given as goal
+
+abbrev pub ghost-element : goal.ghost-element
+ghost-element g a = g.ts

@@ -1,0 +1,16 @@
+use Rattle.hm_pack.proofs.reading.invocation.Given as goal
+
+abbrev pub ghost-headers : goal.ghost-headers
+ghost-headers g a = g.ts
+
+abbrev pub ghost-optional_text : goal.ghost-optional_text
+ghost-optional_text g a = g.ts
+
+abbrev pub ghost-text : goal.ghost-text
+ghost-text g a = g.ts
+
+abbrev pub ghost-items : goal.ghost-items
+ghost-items g a = g.ts
+
+abbrev pub ghost-texts : goal.ghost-texts
+ghost-texts g a = g.ts
