@@ -4,6 +4,7 @@ use Rattle.std.specs.Prelude.{slice_get}
 use Rattle.hv_value.specs.Tree.{Tree, null, boolean, int, text, bytes, list, map, Trees, no_trees, more, trees, depth, depth_of_all, depth_of_values}
 use Rattle.hv_value.specs.View as seen
 use Rattle.hm_message.specs.Fields.{trees_in, items_in}
+use Rattle.hm_message.specs.Laws.{ValuesAreTrees}
 use Rattle.hm_message.specs.Headers.{Header}
 use Rattle.hm_message.specs.Message.{Fits, ending_depth}
 use Rattle.hm_message.specs.declared.message.Field.TheVariants as field
@@ -19,23 +20,19 @@ use Rattle.hm_pack.specs.Frame.{text_written, received_written, ending_written, 
 
 -- ---- what is read
 
-pub trees-trees_in : (ts : Trees) → trees (trees_in ts) ≡ ts
-trees-trees_in no_trees = refl
-trees-trees_in (more t ts) = ap (λ (x : Trees). more t x) (trees-trees_in ts)
-
 element_depth : (ts : List Tree) (at : ℕ) (t : Tree) → slice_get ts at ≡ Some t → depth t ≤ depth_of_all ts
 element_depth [] at t e = absurd cc
 element_depth (u ∷ ts) zero t e = let same : u ≡ t = cc in rw (← same) (omega arith)
 element_depth (u ∷ ts) (suc at) t e = omega (arith, element_depth ts at t e)
 
-arguments_depth : (ts xs : List Tree) → element.arguments ts ≡ Ok xs → depth (list (trees xs)) ≤ depth_of_all ts
-arguments_depth ts xs h = go (slice_get ts 4) refl h
+arguments_depth : ValuesAreTrees → (ts xs : List Tree) → element.arguments ts ≡ Ok xs → depth (list (trees xs)) ≤ depth_of_all ts
+arguments_depth values ts xs h = go (slice_get ts 4) refl h
   where
     go : (o : Option Tree) → slice_get ts 4 ≡ o → needed field.Arguments items_in o ≡ Ok xs → depth (list (trees xs)) ≤ depth_of_all ts
     go None e h = absurd cc
     go (Some (list us)) e h =
         let same : trees_in us ≡ xs = cc in
-        let all : trees xs ≡ us = ap trees (sym same) ∙ trees-trees_in us in
+        let all : trees xs ≡ us = ap trees (sym same) ∙ values.trees-trees_in us in
         rw all (element_depth ts 4 (list us) e)
     go (Some null) e h = absurd cc
     go (Some (boolean b)) e h = absurd cc
@@ -64,16 +61,16 @@ ending_fits ts (ending.Result v) h = outcome_depth ts (seen.tree v) h.1
 ending_fits ts (ending.Error s) h = omega arith
 
 -- what an array says that isn't too deep fits
-pub read_fits : (ts : List Tree) (m : Message) → depth (list (trees ts)) ≤ 64 → Holds ts m → Fits m
-read_fits ts (Invocation headers id target arguments streams) d h = omega (arith, arguments_depth ts arguments h.3)
-read_fits ts (StreamItem headers id v) d h = omega (arith, item_depth ts (seen.tree v) h.2)
-read_fits ts (Completion headers id e) d h = omega (arith, ending_fits ts e h.2)
-read_fits ts (StreamInvocation headers id target arguments streams) d h = omega (arith, arguments_depth ts arguments h.3)
-read_fits ts (CancelInvocation headers id) d h = omega arith
-read_fits ts Ping d h = omega arith
-read_fits ts (Close error allow) d h = omega arith
-read_fits ts (Ack upto) d h = omega arith
-read_fits ts (Sequence first received) d h = omega arith
+pub read_fits : ValuesAreTrees → (ts : List Tree) (m : Message) → depth (list (trees ts)) ≤ 64 → Holds ts m → Fits m
+read_fits values ts (Invocation headers id target arguments streams) d h = omega (arith, arguments_depth values ts arguments h.3)
+read_fits values ts (StreamItem headers id v) d h = omega (arith, item_depth ts (seen.tree v) h.2)
+read_fits values ts (Completion headers id e) d h = omega (arith, ending_fits ts e h.2)
+read_fits values ts (StreamInvocation headers id target arguments streams) d h = omega (arith, arguments_depth values ts arguments h.3)
+read_fits values ts (CancelInvocation headers id) d h = omega arith
+read_fits values ts Ping d h = omega arith
+read_fits values ts (Close error allow) d h = omega arith
+read_fits values ts (Ack upto) d h = omega arith
+read_fits values ts (Sequence first received) d h = omega arith
 
 -- ---- what is written
 

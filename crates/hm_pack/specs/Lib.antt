@@ -5,3 +5,4 @@ pub mod Elements
 pub mod Says
 pub mod Frame
 pub mod ExactlyOne
+pub mod Laws

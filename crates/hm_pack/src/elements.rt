@@ -12,7 +12,7 @@ ghost use Rattle.hm_pack.specs.Places.{headers_place};
 
 use crate::places;
 use crate::refusal::PackRefusal;
-use hm_message::{Field, Headers, headers_in, number_in, texts_in};
+use hm_message::{Field, Headers, headers_in, number_in, texts_in, values_are_trees};
 use hv_value::{Items, Text, Texts, Value};
 use std::alloc::Global;
 use std::mem;
@@ -116,6 +116,7 @@ pub(crate) fn items(array: &mut Vec<Value>, at: usize, field: Field) -> Result<I
     ensures err { IfErr result (λ e. must at field items_of ts ≡ Err e) }
     ensures rest { drop (at + 1) (trees_of array.new.items) ≡ drop (at + 1) ts }
 {
+    values_are_trees();
     match needed(array, at, field)? {
         Value::List(items) => Ok(items),
         _ => Err(PackRefusal::Wrong(field)),

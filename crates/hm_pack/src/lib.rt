@@ -3,12 +3,14 @@
 #![tactic(auto)]
 
 mod elements;
+mod laws;
 mod places;
 mod reading;
 mod refusal;
 mod writing;
 
-pub use reading::{exactly_one, read_message};
+pub use laws::one_meaning;
+pub use reading::read_message;
 pub use refusal::PackRefusal;
 pub use writing::write_message;
 

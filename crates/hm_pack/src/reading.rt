@@ -12,7 +12,6 @@ ghost use Rattle.hm_pack.specs.Elements.{ending as ending_of, type_of, faults};
 ghost use Rattle.hm_pack.specs.Refusals.{MemoryOr};
 ghost use Rattle.hm_pack.specs.Places.{type_place, headers_place, result_kind_place};
 ghost use Rattle.hm_pack.specs.Says.{Says, Unknown, Why, Holds, Ends, IsMessage, IsUnknown, IsFaulty};
-ghost use Rattle.hm_pack.specs.ExactlyOne.{ExactlyOne};
 ghost use Rattle.hm_message.specs.Reads.{MessageIs, UnknownIs};
 
 use crate::elements::{
@@ -20,24 +19,10 @@ use crate::elements::{
 };
 use crate::places;
 use crate::refusal::PackRefusal;
-use hm_message::{Ending, Field, Kind, Message, Read, number_in};
-use hv_pack::{
-    is_spelled_or_refused, one_reading, one_refusal, read_value, spelled_is_not_refused,
-};
+use hm_message::{Ending, Field, Kind, Message, Read, number_in, values_are_trees};
+use hv_pack::read_value;
 use hv_value::Value;
 use std::alloc::Global;
-
-/// Each frame says exactly one message, is of exactly one type that no message has, or is refused
-/// for exactly one reason. It is a law, and calls for no work.
-pub fn exactly_one(frame: &[u8])
-    ensures { ExactlyOne frame.now }
-{
-    let _ = frame;
-    one_reading();
-    one_refusal();
-    spelled_is_not_refused();
-    is_spelled_or_refused();
-}
 
 fn invocation(alloc: Global, array: &mut Vec<Value>) -> Result<Message, PackRefusal>
     ghost ts: { List Tree }
@@ -213,6 +198,7 @@ pub fn read_message(alloc: Global, frame: &[u8]) -> Result<Read, PackRefusal>
     // Want of memory has one name.
     ensures no_memory { IfErr result (λ e. e ≢ refusals.Value errors.NoMemory) }
 {
+    values_are_trees();
     let (value, end) = read_value(alloc, frame, 0)?;
     // So what was read fits, and can be written again.
     prove!(value.depth() <= 64);

@@ -369,7 +369,7 @@ fn is_written(alloc: Global, m: &Message, frame: &[u8]) -> Result<bool, Fail> {
 
 /// Whether the frame is read as the message.
 fn is_read(alloc: Global, m: &Message, frame: &[u8]) -> bool {
-    exactly_one(frame);
+    one_meaning();
     match read_message(alloc, frame) {
         Ok(Read::Message(read)) => read == *m,
         Ok(Read::Unknown(_)) => false,

@@ -1,109 +1,165 @@
-//! Writes a message as one frame, in the shortest spelling.
-ghost use Rattle.std.specs.Prelude.{◌≡◌, ◌<◌, ◌^◌, ◌++◌, ◌∷◌, [], pos, IfOk, OnOk, OnErr};
-ghost use Rattle.hv_value.specs.Tree.{int, list, text, trees};
-ghost use Rattle.hv_value.specs.View.{tree, trees_of};
-ghost use Rattle.hv_pack.specs.Writing.{IsWritable};
+//! Writes a message as one frame, in the shortest spelling: the array's head, and its elements one
+//! after another. No tree of the message is made, and nothing is copied first.
+ghost use Rattle.std.specs.Prelude.{◌≡◌, ◌<◌, ◌^◌, ◌++◌, pos, OnOk, OnErr};
+ghost use Rattle.hd_facts.specs.Prefixes.{IsPrefix};
+ghost use Rattle.hv_value.specs.Tree.{int, list, trees};
+ghost use Rattle.hv_value.specs.Order.{IsInOrder, AllInOrder};
+ghost use Rattle.hv_pack.specs.Writing.{shortest, trees_text, trees_count, IsWritable, AreWritable};
 ghost use Rattle.hm_message.specs.Message.{Fits};
 ghost use Rattle.hm_pack.specs.Says.{Says};
 ghost use Rattle.hm_message.specs.Trees.{texts, IsInRange, AreInRange};
 ghost use Rattle.hm_pack.specs.Frame.{frame_of, headers_written, text_written, received_written, call_written, ending_written, written, elements_of, array_of};
 
 use crate::places;
-use hm_message::{Ending, Headers, Message};
-use hv_pack::write_value;
-use hv_value::{Items, Text, Texts, Value, ValueError, Whole};
+use hm_message::{Ending, Headers, Message, values_are_trees};
+use hv_pack::{
+    put_bool, put_list_head, put_map_head, put_nil, put_number, put_text, put_value, put_values,
+    shortest_reads_back,
+};
+use hv_value::{Items, Text, Texts, map_has_the_keys};
 use std::alloc::{AllocError, Global};
 
-fn headers_value(alloc: Global, headers: &Headers) -> Result<Value, AllocError>
-    ensures { IfOk result (λ v. tree v ≡ headers_written headers.now) }
+fn put_headers(out: &mut Vec<u8>, headers: &Headers) -> Result<(), AllocError>
+    ensures ok { OnOk result
+        (out.new.items ≡ out.old.items ++ shortest (headers_written headers.now)) }
+    ensures fits { OnOk result (IsWritable (headers_written headers.now)) }
+    ensures in_order { OnOk result (IsInOrder (headers_written headers.now)) }
+    ensures kept { IsPrefix out.old.items out.new.items }
 {
-    let mut members = Vec::with_capacity(alloc, headers.pairs().len())?;
-    for (key, value) in headers.pairs() {
-        members.push((key.copy()?, Value::Text(value.copy()?)))?;
+    map_has_the_keys();
+    let pairs = headers.pairs();
+    put_map_head(out, pairs.len())?;
+    for (key, value) in pairs {
+        put_text(out, key)?;
+        put_text(out, value)?;
     }
-    match Value::map_from(members) {
-        Ok(map) => Ok(map),
-        Err(ValueError::NoMemory) => Err(AllocError),
-        Err(ValueError::TooDeep) => unreachable!(),
-    }
+    Ok(())
 }
 
-fn texts_value(alloc: Global, strings: &Texts) -> Result<Value, AllocError>
-    ensures { IfOk result (λ v. tree v ≡ list (trees (texts strings.now))) }
+fn put_texts(out: &mut Vec<u8>, strings: &Texts) -> Result<(), AllocError>
+    ensures ok { OnOk result
+        (out.new.items ≡ out.old.items ++ shortest (list (trees (texts strings.now)))) }
+    ensures fits { OnOk result (IsWritable (list (trees (texts strings.now)))) }
+    ensures kept { IsPrefix out.old.items out.new.items }
 {
-    let mut values = Vec::with_capacity(alloc, strings.texts().len())?;
-    for string in strings.texts() {
-        values.push(Value::Text(string.copy()?))?;
+    let strings = strings.texts();
+    put_list_head(out, strings.len())?;
+    for string in strings {
+        put_text(out, string)?;
     }
-    let Ok(items) = Items::of(values) else {
-        unreachable!()
-    };
-    Ok(Value::List(items))
+    Ok(())
 }
 
-fn text_value(s: &Text) -> Result<Value, AllocError>
-    ensures { IfOk result (λ v. tree v ≡ text s.now) }
+fn put_items(out: &mut Vec<u8>, items: &Items) -> Result<(), AllocError>
+    ensures ok { OnOk result (out.new.items ≡ out.old.items ++ shortest (list (trees items.now))) }
+    ensures fits { OnOk result (IsWritable (list (trees items.now))) }
+    ensures in_order { OnOk result (AllInOrder (trees items.now)) }
+    ensures kept { IsPrefix out.old.items out.new.items }
 {
-    Ok(Value::Text(s.copy()?))
+    let values = items.values();
+    put_list_head(out, values.len())?;
+    put_values(out, values)?;
+    Ok(())
 }
 
-fn optional_value(s: &Option<Text>) -> Result<Value, AllocError>
-    ensures { IfOk result (λ v. tree v ≡ text_written s.now) }
+fn put_optional(out: &mut Vec<u8>, s: &Option<Text>) -> Result<(), AllocError>
+    ensures ok { OnOk result (out.new.items ≡ out.old.items ++ shortest (text_written s.now)) }
+    ensures fits { OnOk result (IsWritable (text_written s.now)) }
+    ensures kept { IsPrefix out.old.items out.new.items }
 {
     match s {
-        Some(s) => text_value(s),
-        None => Ok(Value::Null),
+        Some(s) => put_text(out, s),
+        None => put_nil(out),
     }
 }
 
-fn number_value(n: u64) -> Value
-    ensures value { tree result ≡ int (pos n) }
-    ensures in_range { n < 2 ^ 64 }
+fn put_whole(out: &mut Vec<u8>, n: u64) -> Result<(), AllocError>
+    ensures ok { OnOk result (out.new.items ≡ out.old.items ++ shortest (int (pos n))) }
+    ensures fits { OnOk result (IsWritable (int (pos n))) }
+    ensures in_range { OnOk result (n < 2 ^ 64) }
+    ensures kept { IsPrefix out.old.items out.new.items }
 {
-    Value::Int(Whole::from(n))
+    put_number(out, n)
 }
 
 /// What is called, and with what.
 fn put_call(
-    elements: &mut Vec<Value>,
+    out: &mut Vec<u8>,
     target: &Text,
     arguments: &Items,
     streams: &Texts,
 ) -> Result<(), AllocError>
-    ensures { OnOk result (trees_of elements.new.items
-        ≡ trees_of elements.old.items ++ call_written target.now arguments.now streams.now) }
+    ensures ok { OnOk result (out.new.items ≡ out.old.items
+        ++ trees_text (trees (call_written target.now arguments.now streams.now))) }
+    ensures fits { OnOk result
+        (AreWritable (trees (call_written target.now arguments.now streams.now))) }
+    ensures in_order { OnOk result
+        (AllInOrder (trees (call_written target.now arguments.now streams.now))) }
+    ensures kept { IsPrefix out.old.items out.new.items }
 {
-    elements.push(text_value(target)?)?;
-    elements.push(Value::List(arguments.copy()?))?;
-    elements.push(texts_value(*elements.allocator(), streams)?)?;
+    put_text(out, target)?;
+    put_items(out, arguments)?;
+    put_texts(out, streams)?;
     Ok(())
 }
 
-fn put_ending(elements: &mut Vec<Value>, ending: &Ending) -> Result<(), AllocError>
-    ensures { OnOk result (trees_of elements.new.items
-        ≡ trees_of elements.old.items ++ ending_written ending.now) }
+/// The kind of result, and what stands after it.
+fn put_ending(out: &mut Vec<u8>, ending: &Ending) -> Result<(), AllocError>
+    ensures ok { OnOk result
+        (out.new.items ≡ out.old.items ++ trees_text (trees (ending_written ending.now))) }
+    ensures fits { OnOk result (AreWritable (trees (ending_written ending.now))) }
+    ensures in_order { OnOk result (AllInOrder (trees (ending_written ending.now))) }
+    ensures kept { IsPrefix out.old.items out.new.items }
 {
     match ending {
         Ending::Error(error) => {
-            elements.push(number_value(places::ERROR_RESULT as u64))?;
-            elements.push(text_value(error)?)?;
+            put_whole(out, places::ERROR_RESULT as u64)?;
+            put_text(out, error)?;
+            Ok(())
         }
-        Ending::Void => elements.push(number_value(places::VOID_RESULT as u64))?,
+        Ending::Void => put_whole(out, places::VOID_RESULT as u64),
         Ending::Result(result) => {
-            elements.push(number_value(places::VALUE_RESULT as u64))?;
-            elements.push(result.copy()?)?;
+            // So its maps are in order.
+            prove!(result.depth() <= 64);
+            put_whole(out, places::VALUE_RESULT as u64)?;
+            put_value(out, result)?;
+            Ok(())
         }
     }
-    Ok(())
 }
 
-/// What is written behind the type.
-fn put_message(elements: &mut Vec<Value>, m: &Message) -> Result<(), AllocError>
-    ensures put { OnOk result (trees_of elements.new.items
-        ≡ trees_of elements.old.items ++ written m.now) }
-    ensures in_range { OnOk result (IsInRange m.now) }
+/// The count of the message's elements.
+fn count(m: &Message) -> usize
+    ensures { result ≡ trees_count (trees (elements_of m.now)) }
 {
-    let alloc = *elements.allocator();
+    match m {
+        Message::Invocation { .. } | Message::StreamInvocation { .. } => 6,
+        Message::StreamItem { .. } => 4,
+        Message::Completion { ending, .. } => match ending {
+            Ending::Void => 4,
+            Ending::Error(_) => 5,
+            Ending::Result(_) => 5,
+        },
+        Message::CancelInvocation { .. } => 3,
+        Message::Ping => 1,
+        Message::Close { .. } => 3,
+        Message::Ack { .. } => 2,
+        Message::Sequence { received, .. } => match received {
+            Some(_) => 3,
+            None => 2,
+        },
+    }
+}
+
+/// The elements after the type.
+fn put_elements(out: &mut Vec<u8>, m: &Message) -> Result<(), AllocError>
+    ensures ok { OnOk result
+        (out.new.items ≡ out.old.items ++ trees_text (trees (written m.now))) }
+    ensures fits { OnOk result (AreWritable (trees (written m.now))) }
+    ensures in_order { OnOk result (AllInOrder (trees (written m.now))) }
+    ensures in_range { OnOk result (IsInRange m.now) }
+    ensures kept { IsPrefix out.old.items out.new.items }
+{
     match m {
         Message::Invocation {
             headers,
@@ -112,23 +168,25 @@ fn put_message(elements: &mut Vec<Value>, m: &Message) -> Result<(), AllocError>
             arguments,
             streams,
         } => {
-            elements.push(headers_value(alloc, headers)?)?;
-            elements.push(optional_value(id)?)?;
-            put_call(elements, target, arguments, streams)?;
+            put_headers(out, headers)?;
+            put_optional(out, id)?;
+            put_call(out, target, arguments, streams)?;
         }
         Message::StreamItem { headers, id, item } => {
-            elements.push(headers_value(alloc, headers)?)?;
-            elements.push(text_value(id)?)?;
-            elements.push(item.copy()?)?;
+            // So its maps are in order.
+            prove!(item.depth() <= 64);
+            put_headers(out, headers)?;
+            put_text(out, id)?;
+            put_value(out, item)?;
         }
         Message::Completion {
             headers,
             id,
             ending,
         } => {
-            elements.push(headers_value(alloc, headers)?)?;
-            elements.push(text_value(id)?)?;
-            put_ending(elements, ending)?;
+            put_headers(out, headers)?;
+            put_text(out, id)?;
+            put_ending(out, ending)?;
         }
         Message::StreamInvocation {
             headers,
@@ -137,51 +195,51 @@ fn put_message(elements: &mut Vec<Value>, m: &Message) -> Result<(), AllocError>
             arguments,
             streams,
         } => {
-            elements.push(headers_value(alloc, headers)?)?;
-            elements.push(text_value(id)?)?;
-            put_call(elements, target, arguments, streams)?;
+            put_headers(out, headers)?;
+            put_text(out, id)?;
+            put_call(out, target, arguments, streams)?;
         }
         Message::CancelInvocation { headers, id } => {
-            elements.push(headers_value(alloc, headers)?)?;
-            elements.push(text_value(id)?)?;
+            put_headers(out, headers)?;
+            put_text(out, id)?;
         }
         Message::Ping => (),
         Message::Close { error, allow } => {
-            elements.push(optional_value(error)?)?;
-            elements.push(Value::Bool(*allow))?;
+            put_optional(out, error)?;
+            put_bool(out, *allow)?;
         }
-        Message::Ack { upto } => elements.push(number_value(*upto))?,
+        Message::Ack { upto } => put_whole(out, *upto)?,
         Message::Sequence { first, received } => {
-            elements.push(number_value(*first))?;
+            put_whole(out, *first)?;
             if let Some(received) = received {
-                elements.push(number_value(*received))?;
+                put_whole(out, *received)?;
             }
         }
     }
     Ok(())
 }
 
-fn array(alloc: Global, m: &Message) -> Result<Value, AllocError>
-    requires { Fits m.now }
-    ensures ok { IfOk result (λ v. tree v ≡ array_of m.now) }
-    ensures in_range { IfOk result (λ _. IsInRange m.now) }
+fn put_message(out: &mut Vec<u8>, m: &Message) -> Result<(), AllocError>
+    ensures ok { OnOk result (out.new.items ≡ out.old.items ++ frame_of m.now) }
+    ensures fits { OnOk result (IsWritable (array_of m.now)) }
+    ensures in_order { OnOk result (IsInOrder (array_of m.now)) }
+    ensures in_range { OnOk result (IsInRange m.now) }
+    ensures kept { IsPrefix out.old.items out.new.items }
 {
-    let mut elements = Vec::new(alloc);
-    elements.push(number_value(u64::from(m.kind().number())))?;
-    put_message(&mut elements, m)?;
-    let Ok(items) = Items::of(elements) else {
-        unreachable!()
-    };
-    Ok(Value::List(items))
+    let count = count(m);
+    put_list_head(out, count)?;
+    put_whole(out, u64::from(m.kind().number()))?;
+    put_elements(out, m)?;
+    Ok(())
 }
 
 /// Appends the message's frame (HubProtocol.md, "MessagePack (MsgPack) encoding") with no length
 /// before it, in the shortest spelling: six elements of an Invocation and a StreamInvocation, three
-/// of a Close, four of a Completion with no result. Headers and stream ids that are empty are there,
-/// an id and an error that aren't are nil. After want of memory `out` holds what it held.
+/// of a Close, four of a Completion with no result. Empty headers and stream ids are written, and an
+/// absent id or error is nil. It takes memory only where `out` must grow.
 ///
 /// A text, bytes, a list or a map of 2^32 or more bytes, values or pairs has no spelling, and is
-/// answered as want of memory.
+/// answered as out of memory. After an error, which is out of memory, `out` holds what it held.
 pub fn write_message(alloc: Global, m: &Message, out: &mut Vec<u8>) -> Result<(), AllocError>
     requires { Fits m.now }
     ensures ok { OnOk result (out.new.items ≡ out.old.items ++ frame_of m.now) }
@@ -190,7 +248,15 @@ pub fn write_message(alloc: Global, m: &Message, out: &mut Vec<u8>) -> Result<()
     ensures writable { OnOk result (IsWritable (array_of m.now)) }
     ensures err { OnErr result (out.new.items ≡ out.old.items) }
 {
-    let array = array(alloc, m)?;
-    write_value(alloc, &array, out)?;
-    Ok(())
+    values_are_trees();
+    shortest_reads_back();
+    let _ = alloc;
+    let held = out.len();
+    match put_message(out, m) {
+        Ok(()) => Ok(()),
+        Err(no_memory) => {
+            out.truncate(held);
+            Err(no_memory)
+        }
+    }
 }
