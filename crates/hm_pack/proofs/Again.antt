@@ -1,5 +1,5 @@
 -- What is written says the message.
-use Rattle.std.proofs.Common.{◌≡◌, ℕ, ◌≤◌, ◌<◌, ◌^◌, true, pos, List, [], ◌∷◌, length, Option, Some, None, Ok, refl, ap, arith, zero-add}
+use Rattle.std.proofs.Common.{◌≡◌, ℕ, ◌≤◌, ◌<◌, ◌^◌, true, pos, List, [], ◌∷◌, length, Option, Some, None, Ok, refl, arith, zero-add}
 use Rattle.std.specs.Prelude.{nat_lt}
 use Rattle.std.specs.Option.{ok_or}
 use Rattle.std.proofs.lemmas.Bool.{lt-ltb}

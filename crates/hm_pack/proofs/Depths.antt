@@ -1,7 +1,7 @@
 -- How deep a message nests, as it is read and as it is written.
 use Rattle.std.proofs.Common.{◌≡◌, ℕ, zero, suc, ◌≤◌, List, [], ◌∷◌, Option, Some, None, Ok, refl, ap, sym, ◌∙◌, arith}
 use Rattle.std.specs.Prelude.{slice_get}
-use Rattle.hv_value.specs.Tree.{Tree, null, boolean, int, text, bytes, list, map, Trees, no_trees, more, trees, depth, depth_of_all, depth_of_values}
+use Rattle.hv_value.specs.Tree.{Tree, null, boolean, int, text, bytes, list, map, trees, depth, depth_of_all, depth_of_values}
 use Rattle.hv_value.specs.View as seen
 use Rattle.hm_message.specs.Fields.{trees_in, items_in}
 use Rattle.hm_message.specs.Laws.{ValuesAreTrees}

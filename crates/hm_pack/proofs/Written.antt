@@ -4,7 +4,7 @@ use Rattle.std.proofs.lemmas.List.{append-nil}
 use Rattle.std.specs.Map.{keys_of}
 use Rattle.std.specs.Str.{IsUtf8}
 use Rattle.hv_value.specs.Tree.{trees, pairs}
-use Rattle.hv_value.specs.Order.{IsInOrder, AllInOrder, PairsInOrder, keys_of_pairs}
+use Rattle.hv_value.specs.Order.{IsInOrder, AllInOrder, PairsInOrder}
 use Rattle.hv_value.specs.Laws.{MapHasTheKeys}
 use Rattle.hv_value.specs.View.{trees_of}
 use Rattle.hv_value.specs.declared.value.Value.{Value}

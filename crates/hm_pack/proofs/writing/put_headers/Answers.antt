@@ -1,4 +1,4 @@
-use Rattle.std.proofs.Common.{refl, append_assoc}
+use Rattle.std.proofs.Common.{append_assoc}
 use Rattle.std.proofs.lemmas.List.{take_all, take_more}
 use Rattle.hm_pack.proofs.Written.{headers_text_push, headers_writable_push, headers_count, headers_in_order}
 use Rattle.hm_pack.proofs.writing.put_headers.Goals as goal
