@@ -63,14 +63,7 @@ impl fmt::Display for PackRefusal {
 
     fn fmt<W: fmt::Write>(&self, f: &mut fmt::Formatter<W>) -> fmt::Result {
         match self {
-            PackRefusal::Value(PackError::Short { at }) => write!(f, "Short {at}"),
-            PackRefusal::Value(PackError::Never { at }) => write!(f, "Never {at}"),
-            PackRefusal::Value(PackError::Fraction { at }) => write!(f, "Fraction {at}"),
-            PackRefusal::Value(PackError::Ext { at }) => write!(f, "Ext {at}"),
-            PackRefusal::Value(PackError::Key { at }) => write!(f, "Key {at}"),
-            PackRefusal::Value(PackError::NotUtf8 { at }) => write!(f, "NotUtf8 {at}"),
-            PackRefusal::Value(PackError::TooDeep { at }) => write!(f, "TooDeep {at}"),
-            PackRefusal::Value(PackError::NoMemory) => f.write_str("NoMemory"),
+            PackRefusal::Value(e) => write!(f, "{e}"),
             PackRefusal::Trailing { at } => write!(f, "Trailing {at}"),
             PackRefusal::NotArray => f.write_str("NotArray"),
             PackRefusal::Missing(field) => write!(f, "Missing {field}"),
