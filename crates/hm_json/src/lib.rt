@@ -9,7 +9,7 @@ mod refusal;
 mod writing;
 
 pub use laws::one_meaning;
-pub use reading::read_message;
+pub use reading::{read_message, read_message_in};
 pub use refusal::Refusal;
 pub use writing::write_message;
 

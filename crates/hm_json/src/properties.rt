@@ -1,3 +1,4 @@
+//! The properties of a message's object: what each says, or why it is refused.
 ghost use Rattle.std.specs.Prelude.{◌≡◌, ℕ, List, Option, IfOk, IfErr, None, Ok, Err, Some, [], false, option_map};
 ghost use Rattle.hm_json.specs.declared.refusal.Refusal.TheVariants.{Missing};
 ghost use Rattle.hv_value.specs.Tree.{map, pairs, value_at};
@@ -119,7 +120,7 @@ pub(crate) fn headers(alloc: Global, object: &Entries) -> Result<Headers, Refusa
         (λ e. MemoryOr e (may [] fields.Headers headers_of (map (pairs object.now)) ≡ Err e)) }
 {
     let Some(value) = optional(object, Field::Headers) else {
-        return Ok(Headers::of(Vec::new(alloc))?);
+        return Ok(Headers::none(alloc));
     };
     headers_in(alloc, value)?.ok_or(Refusal::Wrong(Field::Headers))
 }

@@ -1,3 +1,4 @@
+//! The reading of a frame as a message.
 ghost use Rattle.std.specs.Prelude.{◌≡◌, IfOk, IfErr, Ok, Err, Some, None, option_map};
 ghost use Rattle.hv_value.specs.Tree.{map, pairs};
 ghost use Rattle.hv_value.specs.View.{tree};
@@ -15,8 +16,9 @@ use crate::properties::{
 };
 use crate::refusal::Refusal;
 use hm_message::{Ending, Field, Kind, Message, Read, number_in, values_are_trees};
-use hv_json::read_value;
+use hv_json::read_value_in;
 use hv_value::{Entries, Text, Value};
+use json::Scratch;
 use std::alloc::{AllocError, Global};
 
 fn invocation(alloc: Global, object: &Entries) -> Result<Message, Refusal>
@@ -145,6 +147,27 @@ fn message(alloc: Global, object: &Entries, kind: Kind) -> Result<Message, Refus
     }
 }
 
+/// As [`read_message`], with a scratch that is kept from frame to frame, so that whoever reads many makes it once.
+/// Nothing of what it holds is read again.
+pub fn read_message_in(alloc: Global, scratch: &mut Scratch, frame: &[u8]) -> Result<Read, Refusal>
+    ensures message { IfOk result (λ r. MessageIs r (λ m. Says frame.now m × Fits m)) }
+    ensures unknown { IfOk result (λ r. UnknownIs r (λ n. Unknown frame.now n)) }
+    ensures refused { IfErr result (λ e. MemoryOr e (Why frame.now e)) }
+{
+    values_are_trees();
+    let value = read_value_in(alloc, scratch, frame)?;
+    // So what was read fits, and can be written again.
+    prove!(value.depth() <= 64);
+    let Value::Map(object) = &value else {
+        return Err(Refusal::NotObject);
+    };
+    let n = whole(object, Field::Kind)?;
+    let Some(kind) = Kind::numbered(n) else {
+        return Ok(Read::Unknown(n));
+    };
+    Ok(Read::Message(message(alloc, object, kind)?))
+}
+
 /// What a frame of one JSON object says (HubProtocol.md, "JSON Encoding"). Properties come in any
 /// order, and those that aren't of the message's type are ignored. Headers are read of every type
 /// that has an id, as the document says that messages can carry them.
@@ -156,16 +179,6 @@ pub fn read_message(alloc: Global, frame: &[u8]) -> Result<Read, Refusal>
     ensures unknown { IfOk result (λ r. UnknownIs r (λ n. Unknown frame.now n)) }
     ensures refused { IfErr result (λ e. MemoryOr e (Why frame.now e)) }
 {
-    values_are_trees();
-    let value = read_value(alloc, frame)?;
-    // So what was read fits, and can be written again.
-    prove!(value.depth() <= 64);
-    let Value::Map(object) = &value else {
-        return Err(Refusal::NotObject);
-    };
-    let n = whole(object, Field::Kind)?;
-    let Some(kind) = Kind::numbered(n) else {
-        return Ok(Read::Unknown(n));
-    };
-    Ok(Read::Message(message(alloc, object, kind)?))
+    let mut scratch = Scratch::new(alloc);
+    read_message_in(alloc, &mut scratch, frame)
 }

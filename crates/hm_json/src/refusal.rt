@@ -1,3 +1,4 @@
+//! Why a frame is no message, and its words.
 ghost use Rattle.std.specs.Prelude.{◌≡◌};
 ghost use Rattle.hm_json.specs.Words.{refusal_words};
 ghost use Rattle.hm_json.specs.Refusals.{of_text};
@@ -5,6 +6,7 @@ ghost use Rattle.hm_json.specs.Refusals.{of_text};
 use hm_message::Field;
 use hv_json::JsonError;
 use std::alloc::AllocError;
+use std::error::Error;
 use std::fmt;
 
 /// Why a frame is no message: the first of the reasons that holds, or `NoMemory`.
@@ -16,6 +18,7 @@ pub enum Refusal {
     Fraction,
     /// Its arrays and objects nest deeper than 64.
     TooDeep,
+    /// Its value is no object.
     NotObject,
     /// A property that must be there is absent.
     Missing(Field),
@@ -23,6 +26,7 @@ pub enum Refusal {
     Wrong(Field),
     /// A Completion has an error and a result.
     Both,
+    /// Out of memory. The frame may be a message.
     NoMemory,
 }
 
@@ -72,3 +76,5 @@ impl fmt::Display for Refusal {
         }
     }
 }
+
+impl Error for Refusal {}

@@ -1,4 +1,5 @@
-ghost use Rattle.std.specs.Prelude.{◌≡◌, ℕ, List, IfOk, reverse};
+//! A message's headers: pairs of texts whose keys are distinct and in byte order.
+ghost use Rattle.std.specs.Prelude.{◌≡◌, ℕ, List, [], IfOk, reverse};
 ghost use Rattle.hm_message.specs.Headers.{IsHeaders, header_at};
 
 use hv_value::Text;
@@ -39,6 +40,23 @@ impl Headers {
         }
         let pairs: Vec<(Text, Text)> = map.into_iter().collect(alloc)?;
         Ok(Headers { pairs })
+    }
+
+    /// The headers of pairs that are headers already.
+    pub(crate) fn in_order(pairs: Vec<(Text, Text)>) -> Headers
+        requires { IsHeaders pairs.items }
+        ensures { result ≡ pairs.items }
+    {
+        Headers { pairs }
+    }
+
+    /// No headers, which takes no memory.
+    pub fn none(alloc: Global) -> Headers
+        ensures { result ≡ [] }
+    {
+        Headers {
+            pairs: Vec::new(alloc),
+        }
     }
 
     pub fn pairs(&self) -> &[(Text, Text)]

@@ -1,3 +1,4 @@
+//! The types of messages and their numbers.
 ghost use Rattle.std.specs.Prelude.{◌≡◌, pos, IfSome, IfNone};
 ghost use Rattle.hm_message.specs.Kind.{number, kind_of, IsOfNoKind};
 

@@ -8,7 +8,10 @@ mod kind;
 mod laws;
 mod message;
 
-pub use fields::{headers_in, items_in, number_in, text_in, texts_in};
+pub use fields::{
+    headers_in, into_headers, into_items, into_text, into_texts, items_in, number_in, text_in,
+    texts_in,
+};
 pub use headers::Headers;
 pub use kind::Kind;
 pub use laws::{image_is_its_image, kinds_have_numbers, values_are_trees};

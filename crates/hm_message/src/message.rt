@@ -1,3 +1,4 @@
+//! The nine messages, their copies, and the names of their parts.
 ghost use Rattle.std.specs.Prelude.{◌≡◌, ◌↔◌, IfOk, IsTrue};
 ghost use Rattle.std.specs.Prelude.{◌≤◌};
 ghost use Rattle.hv_value.specs.Tree.{depth, list, trees};

@@ -7,7 +7,7 @@ use Rattle.hm_json.proofs.Faults.{why_of_kind}
 use Rattle.hm_json.proofs.Depths.{read_fits}
 use Rattle.hm_json.specs.Properties.{type_of}
 use Rattle.hm_message.specs.Kind.{number}
-use Rattle.hm_json.proofs.reading.read_message.Goals as goal
+use Rattle.hm_json.proofs.reading.read_message_in.Goals as goal
 
 pub returns-in_err-message-clause-refused : goal.returns-in_err-message-clause-refused
 returns-in_err-message-clause-refused c =
