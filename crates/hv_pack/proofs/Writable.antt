@@ -1,19 +1,13 @@
 -- What has a spelling is no deeper than there is room for, has its keys in order, and has nothing too large in it.
-use Rattle.std.proofs.Common.{◌≡◌, ℕ, zero, suc, ◌^◌, ◌<◌, ◌≤◌, List, [], ◌∷◌, ◌++◌, length, refl, ap, subst, ◌∙◌, arith}
+use Rattle.std.proofs.Common.{ℕ, zero, suc, ◌^◌, ◌<◌, ◌≤◌, List, [], ◌∷◌, ◌++◌, length, subst, arith}
 use Rattle.std.specs.Int.{cast_signed}
 use Rattle.std.specs.Str.{IsUtf8}
-use Rattle.std.specs.declared.cmp.Ordering.{Ordering}
-use Rattle.std.specs.declared.cmp.Ordering.TheVariants.{Less, Equal, Greater}
-use Rattle.std.specs.Ordering.{match_ordering, ordering_reverse}
-use Rattle.std.specs.List.{AllByRecursion}
 use Rattle.std.specs.List.Sorted.{IsStrictlySortedBy}
 use Rattle.std.specs.BTreeMap.{insert_entry}
-use Rattle.std.specs.Map.{keys_of}
-use Rattle.std.proofs.lemmas.Cmp.{nat_list_cmp_total}
 use Rattle.hv_value.specs.Whole.{IsWhole}
 use Rattle.hv_value.specs.Tree.{Tree, Pair, trees, pairs, put_all, key_cmp, depth, depths, depths_of_pairs}
 use Rattle.hv_value.specs.Order.{keys_of_pairs, IsInOrder, AllInOrder, PairsInOrder}
-use Rattle.hv_value.specs.Laws.{MapHasTheKeys, PairsInOrderAreTheirMap}
+use Rattle.hv_value.specs.Laws.{MapHasTheKeys, KeysOfAMapAreInOrder, PairsInOrderAreTheirMap}
 use Rattle.hv_pack.specs.declared.marker.Marker.{Marker}
 use Rattle.hv_pack.specs.declared.marker.Marker.TheVariants.{Null, Bool as Truth, Small, Unsigned, Signed, Text, Bytes, List as ListOf, Map, Never, Fraction, Ext}
 use Rattle.hv_pack.specs.declared.marker.Count.{Count}
@@ -119,52 +113,9 @@ all_good room (p ∷ ps) h =
     let t : Good room p.1 = h.0.2 in
     (omega (arith, t.0, g.0), (t.1, g.1), (h.0.0, h.0.1, t.2, g.2))
 
--- ---- keys in order
-
-abbrev Above : List ℕ → List (List ℕ) → Type 0
-Above k ks = AllByRecursion (λ y. key_cmp k y ≡ Less) ks
-
-Above-insert_entry : (x : List ℕ) (es : List Pair) (k : List ℕ) (t : Tree) → Above x (keys_of es) → key_cmp x k ≡ Less → Above x (keys_of (insert_entry key_cmp es k t))
-Above-insert_entry x [] k t h l = (l, tt)
-Above-insert_entry x (e ∷ es) k t h l =
-    chosen (λ ps. Above x (keys_of ps)) (key_cmp k e.0) _ _ _ (l, h) h (h.0, Above-insert_entry x es k t h.1 l)
-
-Above-trans : (k x : List ℕ) (ks : List (List ℕ)) → key_cmp k x ≡ Less → Above x ks → Above k ks
-Above-trans k x [] l h = tt
-Above-trans k x (y ∷ ys) l h = (nat_list_cmp_total.trans k x y l h.0, Above-trans k x ys l h.1)
-
-abbrev AreSorted : List Pair → Type 0
-AreSorted ps = IsStrictlySortedBy key_cmp (keys_of ps)
-
-sorted_step : (e : Pair) (es : List Pair) (k : List ℕ) (t : Tree) → AreSorted (e ∷ es) → AreSorted (insert_entry key_cmp es k t) → (o : Ordering) → key_cmp k e.0 ≡ o → AreSorted (match_ordering o ((k, t) ∷ e ∷ es) ((e.0, t) ∷ es) (e ∷ insert_entry key_cmp es k t))
-unfolding IsStrictlySortedBy
-sorted_step e es k t h rest Less q = ((q, Above-trans k e.0 (keys_of es) q h.0), h)
-sorted_step e es k t h rest Equal q = h
-sorted_step e es k t h rest Greater q = (Above-insert_entry e.0 es k t h.0 (nat_list_cmp_total.antisymm e.0 k ∙ ap ordering_reverse q), rest)
-
-sorted_tail : (e : Pair) (es : List Pair) → AreSorted (e ∷ es) → AreSorted es
-unfolding IsStrictlySortedBy
-sorted_tail e es h = h.1
-
-sorted_one : (p : Pair) → AreSorted (p ∷ [])
-unfolding IsStrictlySortedBy
-sorted_one p = (tt, tt)
-
-sorted_none : AreSorted []
-unfolding IsStrictlySortedBy
-sorted_none = tt
-
-sorted-insert_entry : (es : List Pair) (k : List ℕ) (t : Tree) → AreSorted es → AreSorted (insert_entry key_cmp es k t)
-sorted-insert_entry [] k t h = sorted_one (k, t)
-sorted-insert_entry (e ∷ es) k t h = sorted_step e es k t h (sorted-insert_entry es k t (sorted_tail e es h)) (key_cmp k e.0) refl
-
-sorted-put_all : (es ps : List Pair) → AreSorted es → AreSorted (put_all es ps)
-sorted-put_all es [] h = h
-sorted-put_all es (p ∷ ps) h = sorted-put_all (insert_entry key_cmp es p.0 p.1) ps (sorted-insert_entry es p.0 p.1 h)
-
 -- ---- one value
 
-module _ (has_keys : MapHasTheKeys) (Room : Type 0) (P : Spelling) (room top : ℕ) (up : Room → room < top) (inner : (t : Tree) (s : List ℕ) → P t s → AreBytes s → Good room t) where
+module _ (has_keys : MapHasTheKeys) (in_order : KeysOfAMapAreInOrder) (Room : Type 0) (P : Spelling) (room top : ℕ) (up : Room → room < top) (inner : (t : Tree) (s : List ℕ) → P t s → AreBytes s → Good room t) where
   trees_good : (ts : List Tree) (s : List ℕ) → SpellsAll P ts s → AreBytes s → (depths (trees ts) ≤ room) × AllInOrder (trees ts) × AreWritable (trees ts)
   trees_good [] s h b = (omega arith, tt, tt)
   trees_good (t ∷ ts) s h b =
@@ -196,7 +147,7 @@ module _ (has_keys : MapHasTheKeys) (Room : Type 0) (P : Spelling) (room top : �
       let p = parts h.3 h.4 (along s (h.3 ++ h.4) h.7 b) in
       let g = all_good room put (good-put_all room [] ps tt (pairs_good ps h.4 h.6 p.1)) in
       let n : pairs_count (pairs put) < 2 ^ 32 = rw (count_of_pairs put) (omega (arith, length-put_all [] ps, count_top c h.3 (length ps) (narrow_map c f) p.0 h.5)) in
-      let sorted : IsStrictlySortedBy key_cmp (keys_of_pairs (pairs put)) = rw (has_keys put) (sorted-put_all [] ps sorted_none) in
+      let sorted : IsStrictlySortedBy key_cmp (keys_of_pairs (pairs put)) = rw (has_keys put) (in_order ps) in
       rw h.2 (omega (arith, g.0, up h.0), (sorted, g.1), (n, g.2))
 
   row_good : (m : Marker) (t : Tree) (s : List ℕ) → Fits m → Row Room P m t s → AreBytes s → Good top t
@@ -218,15 +169,15 @@ module _ (has_keys : MapHasTheKeys) (Room : Type 0) (P : Spelling) (room top : �
       let whole = along s (h.0 ∷ h.1) h.3 b in
       row_good (marker_of h.0) t h.1 (fits h.0) h.2 whole.1
 
-packs_good : MapHasTheKeys → (room : ℕ) (t : Tree) (s : List ℕ) → Packs room t s → AreBytes s → Good room t
-packs_good keys zero = one_good keys ⊥ NoSpelling 0 0 (λ x. absurd x) (λ t s h b. absurd h)
-packs_good keys (suc room) = one_good keys (Unit {0}) (Packs room) room (suc room) (λ x. omega arith) (packs_good keys room)
+packs_good : MapHasTheKeys → KeysOfAMapAreInOrder → (room : ℕ) (t : Tree) (s : List ℕ) → Packs room t s → AreBytes s → Good room t
+packs_good keys order zero = one_good keys order ⊥ NoSpelling 0 0 (λ x. absurd x) (λ t s h b. absurd h)
+packs_good keys order (suc room) = one_good keys order (Unit {0}) (Packs room) room (suc room) (λ x. omega arith) (packs_good keys order room)
 
-good : MapHasTheKeys → (t : Tree) (s : List ℕ) → IsSpelling t s → AreBytes s → Good 64 t
+good : MapHasTheKeys → KeysOfAMapAreInOrder → (t : Tree) (s : List ℕ) → IsSpelling t s → AreBytes s → Good 64 t
 unfolding IsSpelling
-good keys t s h b = packs_good keys 64 t s h b
+good keys order t s h b = packs_good keys order 64 t s h b
 
-pub shortest_spells : MapHasTheKeys → PairsInOrderAreTheirMap → (t : Tree) (s : List ℕ) → IsSpelling t s → AreBytes s → IsWritable t × IsSpelling t (shortest t) × (length (shortest t) ≤ length s)
-shortest_spells keys ordered t s h b =
-    let g = good keys t s h b in
-    (g.2, is_spelling ordered t g.0 g.1 g.2, no_shorter t s h b)
+pub shortest_spells : MapHasTheKeys → KeysOfAMapAreInOrder → PairsInOrderAreTheirMap → (t : Tree) (s : List ℕ) → IsSpelling t s → AreBytes s → IsWritable t × IsSpelling t (shortest t) × (length (shortest t) ≤ length s)
+shortest_spells keys order same t s h b =
+    let g = good keys order t s h b in
+    (g.2, is_spelling same t g.0 g.1 g.2, no_shorter t s h b)

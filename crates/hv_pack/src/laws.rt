@@ -2,7 +2,7 @@
 //! the law.
 ghost use Rattle.hv_pack.specs.Laws.{HasOneReading, HasOneRefusal, SpelledIsNotRefused, IsSpelledOrRefused, ShortestReadsBack, ShortestIsShortest};
 
-use hv_value::{map_has_the_keys, pairs_in_order_are_their_map};
+use hv_value::{map_has_the_keys, map_keys_are_in_order, pairs_in_order_are_their_map};
 
 /// At a place, bytes spell one value, with one end.
 pub fn one_reading()
@@ -36,5 +36,6 @@ pub fn shortest_is_shortest()
     ensures { ShortestIsShortest }
 {
     map_has_the_keys();
+    map_keys_are_in_order();
     pairs_in_order_are_their_map();
 }
