@@ -1,4 +1,4 @@
-pub mod Judged
+mod Judged
 mod Steps
 mod Joins
 mod Puts

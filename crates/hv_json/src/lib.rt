@@ -1,4 +1,12 @@
-//! Values as JSON text: RFC 8259, as `serde_json` reads and writes it.
+//! Values as JSON text (RFC 8259), as `serde_json` reads and writes it. It doesn't know messages, nor streams.
+//!
+//! Whoever reads many texts keeps a scratch, and reads each of them by
+//! `read_value_in(alloc, &mut scratch, bytes)`; [`write_value`] appends to what `out` holds. To write
+//! values among tokens of one's own there are [`put_value`] and [`put_items`], and to read them [`quick`]
+//! and [`read_members_in`].
+//!
+//! Proved: what is read is what `serde_json` reads in the bytes, and each refusal is the first of the
+//! reasons that hold; what is written is the value's compact text, which is read again as its image.
 #![tactic(auto)]
 
 mod laws;

@@ -10,8 +10,8 @@ ghost use Rattle.hv_json.specs.Reading.{Refuses, json, reading, tree_of, trees_o
 
 use crate::one_pass::{Hard, quick, quick_members};
 use hv_value::{
-    Items, Text, Value, ValueError, Whole, depth_of_one_more_item, depth_of_one_more_pair,
-    map_keys_are_in_order, pairs_in_order_are_their_map,
+    Items, MOST_LEVELS, Text, Value, ValueError, Whole, depth_of_one_more_item,
+    depth_of_one_more_pair, map_keys_are_in_order, pairs_in_order_are_their_map,
 };
 use json::{Reader, Scratch, Token};
 use serde_json::{Map, Number, Value as Json};
@@ -218,7 +218,7 @@ fn read_quickly(alloc: Global, scratch: &mut Scratch, bytes: &[u8]) -> Result<Va
         return Err(Hard::Other);
     };
     let mut reader = Reader::new(text, scratch)?;
-    let value = quick(alloc, &mut reader, 64)?;
+    let value = quick(alloc, &mut reader, MOST_LEVELS)?;
     if reader.next().is_some() {
         return Err(Hard::Other);
     }
@@ -246,7 +246,7 @@ pub fn read_members_in(
     let Token::BeginObject = token else {
         return Err(Hard::Other);
     };
-    let pairs = quick_members(alloc, &mut reader, 63)?;
+    let pairs = quick_members(alloc, &mut reader, MOST_LEVELS - 1)?;
     if reader.next().is_some() {
         return Err(Hard::Other);
     }
@@ -266,7 +266,7 @@ fn read_slowly(alloc: Global, bytes: &[u8]) -> Result<Value, JsonError>
     if has_fraction(&json) {
         return Err(JsonError::Fraction);
     }
-    if depth_of(&json) > 64 {
+    if depth_of(&json) > MOST_LEVELS {
         return Err(JsonError::TooDeep);
     }
     Ok(convert(alloc, &json)?)

@@ -1,5 +1,11 @@
-//! Values: what a hub's arguments, items and results are. They are trees of
-//! numbers, texts, bytes, lists and maps, which nest at most 64 deep.
+//! Values: what a hub's arguments, items and results are. They are trees of numbers, texts, bytes, lists
+//! and maps, which nest at most [`MOST_LEVELS`] deep. They don't know how they are written, in JSON or in MessagePack.
+//!
+//! Lists are made by [`Items::of`] and maps by [`Value::map_from`], which sorts the pairs; both say why there is no
+//! value. Contracts see a value as its `tree`, a text and bytes as lists of bytes.
+//!
+//! Proved: each value nests no deeper than that, each of its maps has distinct keys in byte order, of the pairs
+//! with one key the last counts, and two values are equal if their trees are the same.
 #![tactic(auto)]
 
 mod blob;
@@ -15,5 +21,5 @@ pub use laws::{
     pairs_in_order_are_their_map,
 };
 pub use text::{Text, Texts};
-pub use value::{Entries, Items, Value, ValueError};
+pub use value::{Entries, Items, MOST_LEVELS, Value, ValueError};
 pub use whole::Whole;

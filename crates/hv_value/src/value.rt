@@ -21,6 +21,9 @@ use std::alloc::{AllocError, AllocFailed, Global};
 use std::marker::Model;
 use thiserror::Error;
 
+/// How deep lists and maps of a value nest at most.
+pub const MOST_LEVELS: u32 = 64;
+
 /// An argument, an item or a result of a hub call (HubProtocol.md of ASP.NET
 /// Core), of those with no fraction. Lists and maps nest at most 64 deep in
 /// every value, and each of its maps has its keys in byte order.
@@ -180,7 +183,7 @@ impl Value {
             (λ v. depth (tree v) ≤ depth_of_values (entries pairs.items) + 1) }
         ensures deep { (result ≡ Err TooDeep) ↔ (depth_of_values (entries pairs.items) ≡ 64) }
     {
-        if deepest_pair(&pairs) > 63 {
+        if deepest_pair(&pairs) >= MOST_LEVELS {
             return Err(ValueError::TooDeep);
         }
         Ok(Value::Map(Entries::of(pairs)?))
@@ -228,7 +231,7 @@ impl Items {
         ensures only { IfErr result (λ e. e ≡ TooDeep) }
     {
         let depth = deepest(&values);
-        if depth > 63 {
+        if depth >= MOST_LEVELS {
             return Err(ValueError::TooDeep);
         }
         Ok(Items { values, depth })

@@ -1,7 +1,12 @@
+//! Whole numbers.
 ghost use Rattle.std.specs.Prelude.{◌≡◌, ◌↔◌, pos, IsSome, IfSome};
 ghost use Rattle.hv_value.specs.Whole.{IsWhole};
 
 use std::marker::Model;
+
+const LEAST: i128 = -(1 << 63);
+
+const GREATEST: i128 = (1 << 64) - 1;
 
 /// A whole number from -2^63 to 2^64 - 1: what the integer formats of the
 /// MessagePack specification hold.
@@ -30,7 +35,7 @@ impl Whole {
         ensures in_range { IsSome result ↔ IsWhole n }
         ensures value { IfSome result (λ w. w ≡ n) }
     {
-        if n < -0x8000_0000_0000_0000 || n > 0xffff_ffff_ffff_ffff {
+        if n < LEAST || n > GREATEST {
             return None;
         }
         Some(Whole { n })
