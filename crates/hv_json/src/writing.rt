@@ -37,8 +37,7 @@ fn put_bytes(alloc: Global, writer: &mut Writer, blob: &[u8]) -> Result<(), Allo
 }
 
 /// Appends the tokens of the value's image: its `Bytes` are strings of their standard base64 with padding (RFC 4648,
-/// section 4). It allocates no more than the writer does and the base64 of one `Bytes`. After want of memory the writer
-/// has some first ones of the tokens, and no others.
+/// section 4). Out of memory it may have appended a part of them, and what stood before the writer stays.
 #[cycle(put)]
 pub fn put_value(alloc: Global, writer: &mut Writer, value: &Value) -> Result<(), AllocError>
     ensures ok { OnOk result (writer.new.tokens ≡ writer.old.tokens ++ sent (tree value.now)) }
@@ -63,7 +62,8 @@ pub fn put_value(alloc: Global, writer: &mut Writer, value: &Value) -> Result<()
     }
 }
 
-/// Appends the tokens of the values' images, and the bracket that closes their array: the caller has written the one that opens it.
+/// Appends the tokens of the values' images and the bracket that closes their array: the caller has written the one that
+/// opens it. Out of memory as [`put_value`].
 #[cycle(put)]
 pub fn put_items(alloc: Global, writer: &mut Writer, values: &[Value]) -> Result<(), AllocError>
     ensures ok { OnOk result
@@ -99,7 +99,7 @@ fn put_members(
 
 /// Appends the compact text of the value's image (RFC 8259): no space between tokens, keys in
 /// byte order, and `Bytes` as strings of their standard base64 with padding (RFC 4648, section 4).
-/// After want of memory `out` holds what it held.
+/// Out of memory `out` holds what it held.
 pub fn write_value(alloc: Global, v: &Value, out: &mut Vec<u8>) -> Result<(), AllocError>
     ensures ok { OnOk result (out.new.items ≡ out.old.items ++ json_text (tree v.now)) }
     // It is the text of the image, and is read again as the image.
