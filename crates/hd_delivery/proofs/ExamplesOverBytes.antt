@@ -120,7 +120,7 @@ module _ (limits : Limits) (IsKind : LinkFrame → Type 0) (says : ℕ → ℕ �
   steady (p ∷ q ∷ r ∷ s ∷ rest) more n = refl
 
   reader_is_sound : IsSoundReader limits IsKind (read_four says)
-  reader_is_sound = record { unfilled = unfilled; reads = gives; refuses = refuses; steady = steady }
+  reader_is_sound = record { empty = refl; unfilled = unfilled; reads = gives; refuses = refuses; steady = steady }
 
 framed_in_four : (f : LinkFrame) → length (spell_four f) ≡ 4
 framed_in_four (Sequence first None) = refl

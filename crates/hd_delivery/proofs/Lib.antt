@@ -11,6 +11,7 @@ pub mod Final
 pub mod Cuts
 pub mod OverBytes
 pub mod Growth
+pub mod FedAndCut
 pub mod Unseen
 pub mod Examples
 pub mod ExamplesOverBytes

@@ -21,7 +21,7 @@ use Rattle.hd_delivery.proofs.WhatIsSaid.{not_failed, says_due}
 use Rattle.hd_delivery.proofs.World.{Together, to_server, start, client_steps, server_steps}
 use Rattle.hd_delivery.proofs.Cuts.{drop_front, within_bytes, within_more, within_prefix, within_all, AreRead, AreReadFirst, link_cut, AreReadOn, cut_front, cut_none}
 
-bare_here : (wire : Wire) (c : Config) (h : List ByteStep) → present_link (bare_steps h) ≡ present_link (in_frames wire c h)
+pub bare_here : (wire : Wire) (c : Config) (h : List ByteStep) → present_link (bare_steps h) ≡ present_link (in_frames wire c h)
 bare_here wire c [] = refl
 bare_here wire c (Bytes piece ∷ h) = bare_here wire c h
 bare_here wire c (Does (Attached l now) ∷ h) = refl
@@ -33,7 +33,7 @@ spelled-append : (wire : Wire) (codec : Codec) (ts us : List LinkFrame) → spel
 spelled-append wire codec [] us = refl
 spelled-append wire codec (t ∷ ts) us = ap (λ bs. wire.spell codec t ++ bs) (spelled-append wire codec ts us) ∙ sym (append_assoc (wire.spell codec t) (spelling_of wire codec ts) (spelling_of wire codec us))
 
-nothing_on : (wire : Wire) (c : Config) (l : ℕ) (h : List ByteStep) → was_on l (in_frames wire c h) ≡ false → bytes_on l h ≡ []
+pub nothing_on : (wire : Wire) (c : Config) (l : ℕ) (h : List ByteStep) → was_on l (in_frames wire c h) ≡ false → bytes_on l h ≡ []
 nothing_on wire c l [] e = refl
 nothing_on wire c l (Bytes piece ∷ h) e = both (λ bs. bs ≡ []) (stands_on l (bare_steps h)) (bytes_on l h ++ piece) (bytes_on l h)
     (λ s. let w = here_was l (in_frames wire c h) (sym (bare_here wire c h) ∙ is_this-true l (present_link (bare_steps h)) s) in absurd (cc))

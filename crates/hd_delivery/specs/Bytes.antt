@@ -80,6 +80,7 @@ pub record IsSize (limits : Limits) (bytes : List ℕ) (size : ℕ) : Type 0 whe
 -- a reader of frames of this kind doesn't wait where the largest frame with its framing has room: there it says what comes first. What it
 -- says lies within the bytes, and stays so whatever comes behind them
 pub record IsSoundReader (limits : Limits) (IsKind : LinkFrame → Type 0) (reader : List ℕ → Reading) : Type 0 where
+  pub empty : reader [] ≡ Waits
   pub unfilled : (bytes : List ℕ) → reader bytes ≡ Waits → length bytes < limits.frame + most_framing
   pub reads : (bytes : List ℕ) (f : LinkFrame) (size : ℕ) → reader bytes ≡ Reads f size → IsKind f × IsSize limits bytes size
   pub refuses : (bytes why : List ℕ) (size : ℕ) → reader bytes ≡ Refuses why size → IsSize limits bytes size

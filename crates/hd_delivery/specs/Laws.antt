@@ -1,13 +1,14 @@
 -- What crates above cite of these definitions.
-use Rattle.std.specs.Prelude.{◌≡◌, ℕ, true, List, ◌++◌}
+use Rattle.std.specs.Prelude.{◌≡◌, ◌≤◌, ℕ, true, List, [], ◌∷◌, ◌++◌}
 use Rattle.hm_message.specs.declared.message.Message.{Message}
 use Rattle.hm_message.specs.Message.{is_sequenced}
 use Rattle.hd_facts.specs.Prefixes.{IsPrefix}
+use Rattle.hd_delivery.specs.declared.vocabulary.Got.TheVariants.{Shaken}
 use Rattle.hd_delivery.specs.Frames.{Numbered, frame_of}
-use Rattle.hd_delivery.specs.Histories.{Config, Step, present_link, was_on, first_link, lent_frames, taken_count, codec_of, is_shaken, is_kept, is_closed, state}
+use Rattle.hd_delivery.specs.Histories.{Config, Step, Fed, Took, present_link, was_on, first_link, link_count, fed_frames, lent_frames, taken_count, codec_of, is_shaken, is_kept, is_closed, state}
 use Rattle.hd_delivery.specs.Due.{due}
 use Rattle.hd_delivery.specs.Worlds.{Limits}
-use Rattle.hd_delivery.specs.Bytes.{Wire, IsSoundWire, cut, ByteStep, bare_steps, in_frames}
+use Rattle.hd_delivery.specs.Bytes.{Wire, IsSoundWire, cut, frames, ByteStep, Does, bare_steps, bytes_on, in_frames}
 
 -- a sequenced message is numbered on a link
 abbrev pub SequencedIsNumbered : Type 0
@@ -17,6 +18,18 @@ SequencedIsNumbered = (m : Message) → is_sequenced m ≡ true → frame_of m �
 abbrev pub CutsGrow : Type 0
 CutsGrow = (limits : Limits) (wire : Wire) (c : Config) (h : List Step) (l : ℕ) (bytes more : List ℕ) → IsSoundWire limits wire
     → IsPrefix (cut wire c h l bytes) (cut wire c h l (bytes ++ more))
+
+-- only bytes are fed, and the handshake is complete before there is a second link
+abbrev pub IsInOrder : List ByteStep → Type 0
+IsInOrder [] = Unit {0}
+IsInOrder (Does (Fed piece) ∷ h) = ⊥
+IsInOrder (Does (Took (Shaken codec version)) ∷ h) = IsInOrder h × (link_count (bare_steps h) ≤ 1)
+IsInOrder (_ ∷ h) = IsInOrder h
+
+-- the frames that an end was fed on a link are those that sound readers cut off its bytes there
+abbrev pub FedIsCut : Type 0
+FedIsCut = (limits : Limits) (wire : Wire) (c : Config) (h : List ByteStep) (l : ℕ) → IsSoundWire limits wire → IsInOrder h
+    → fed_frames l (in_frames wire c h) ≡ frames (cut wire c (in_frames wire c h) l (bytes_on l h))
 
 -- the two histories of an end say the same of all but what was fed, and what that makes
 pub record IsSameButFed (c : Config) (h k : List Step) : Type 0 where

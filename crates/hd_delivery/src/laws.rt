@@ -1,7 +1,7 @@
 //! What crates above cite of the definitions. No function here does anything: its contract is the law.
 
 ghost use Rattle.std.specs.Prelude.{◌≡◌};
-ghost use Rattle.hd_delivery.specs.Laws.{CutsGrow, FedIsUnseen, SequencedIsNumbered};
+ghost use Rattle.hd_delivery.specs.Laws.{CutsGrow, FedIsCut, FedIsUnseen, SequencedIsNumbered};
 ghost use Rattle.hd_delivery.specs.Numbers.{most_framing, most_messages, ping_after, silence_after};
 
 use crate::vocabulary::{MOST_FRAMING, MOST_MESSAGES, PING_AFTER, SILENCE_AFTER};
@@ -14,6 +14,12 @@ pub fn sequenced_is_numbered()
 /// With more bytes behind them, some bytes are cut into the same frames and further ones, if the readers are sound.
 pub fn cuts_grow()
     ensures { CutsGrow }
+{}
+
+/// The frames that an end was fed on a link are those that its readers cut off its bytes there, if the readers are sound
+/// and the handshake is complete before there is a second link.
+pub fn fed_is_cut()
+    ensures { FedIsCut }
 {}
 
 /// What an end is, has said and has to say doesn't depend on the bytes that it was fed and hasn't dealt with.

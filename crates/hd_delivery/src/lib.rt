@@ -1,9 +1,14 @@
-//! Two ends of a hub connection (HubProtocol.md of ASP.NET Core), each of which keeps its messages
-//! until the other has them, over links that come and go: what an end says, what it makes of what
-//! it reads, and that every message arrives once and in order.
+//! Two ends of a hub connection (HubProtocol.md of ASP.NET Core), each of which keeps its messages until the other has
+//! them, over links that come and go: what an end says, what it makes of what it reads, and that every message arrives
+//! once and in order.
 //!
-//! The definitions stand in `specs/`. Each function here does nothing; its contract is a theorem
-//! about them.
+//! The definitions stand in `specs/`, over whole lists of steps, messages and frames. The words of an end (`Side`,
+//! `State`, `Reason`, `Why`, `Got`) are types of this crate, so that the code of an end and the definitions share them.
+//!
+//! Each function but `Reason::text` does nothing: its contract is a theorem (`delivery`, `delivery_over_bytes`), a law
+//! that crates above cite, or a list of worked cases. To use a law, call it where it is needed: that costs nothing.
+//!
+//! The crate doesn't know how frames are written, nor sockets, clocks, calls or hubs.
 #![tactic(auto)]
 
 mod laws;
@@ -14,7 +19,7 @@ mod worlds;
 ghost use Rattle.hd_delivery.specs.Bytes.{HoldsOverBytes};
 ghost use Rattle.hd_delivery.specs.Worlds.{HoldsInEveryWorld};
 
-pub use laws::{cuts_grow, fed_is_unseen, numbers_are_named, sequenced_is_numbered};
+pub use laws::{cuts_grow, fed_is_cut, fed_is_unseen, numbers_are_named, sequenced_is_numbered};
 pub use one_end::{closings, first_frames, moments, numbers};
 pub use vocabulary::{
     Got, MOST_FRAMING, MOST_MESSAGES, PING_AFTER, Reason, SILENCE_AFTER, Side, State, Why,
