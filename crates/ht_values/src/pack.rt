@@ -167,7 +167,7 @@ const REFUSALS: [(&[u8], PackError); 14] = [
     (b"\x82\xa0\xc0\xa3ab", PackError::Short { at: 3 }),
 ];
 
-/// Counts that no bytes fill. They are refused for that, and take no memory: with it, some of these would want 68 GB.
+/// Counts that no bytes fill. They are refused for that, and take room for eight at most: some of these count to 2^32 - 1.
 const UNFILLED: [(&[u8], PackError); 7] = [
     (b"\xdb\xff\xff\xff\xff", PackError::Short { at: 0 }),
     (b"\xc6\xff\xff\xff\xff", PackError::Short { at: 0 }),

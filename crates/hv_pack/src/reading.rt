@@ -20,7 +20,7 @@ use hv_value::{
 use std::alloc::Global;
 
 /// How many values or pairs a list or a map has room for before they are read, unless its count is lower. It grows with what is
-/// read, so that a count alone takes no memory.
+/// read, so that a count takes no more memory than that.
 const FIRST_ROOM: u64 = 8;
 
 #[inline(never)]
@@ -252,8 +252,8 @@ fn value_from(alloc: Global, bytes: &[u8], at: usize) -> Result<(Value, usize), 
 /// spelling will do (MessagePack specification, "Formats"), and of equal keys the last counts.
 ///
 /// The error is the first in reading order. A list or a map has room for eight values or pairs at most before they are read,
-/// and grows with what is there, so a count alone takes no memory. The recursion is as deep as lists and maps nest, which is 64
-/// at most.
+/// and grows with what is there, so a count takes no more memory than that. The recursion is as deep as lists and maps
+/// nest, which is 64 at most.
 pub fn read_value(alloc: Global, bytes: &[u8], at: usize) -> Result<(Value, usize), PackError>
     requires { at ≤ length bytes.now }
     // What is read is spelled so, each byte of it.
