@@ -15,7 +15,8 @@ use crate::error::PackError;
 use crate::input::Input;
 use crate::marker::{Count, Marker, Size, row};
 use hv_value::{
-    Blob, Items, Text, Value, ValueError, Whole, depth_of_one_more_item, depth_of_one_more_pair,
+    Blob, Items, MOST_LEVELS, Text, Value, ValueError, Whole, depth_of_one_more_item,
+    depth_of_one_more_pair,
 };
 use std::alloc::Global;
 
@@ -244,7 +245,7 @@ fn value_from(alloc: Global, bytes: &[u8], at: usize) -> Result<(Value, usize), 
     ensures { Gives placed result (read_at bytes.now at) }
 {
     let mut input = Input::new(bytes, at);
-    let value = value(alloc, &mut input, 64)?;
+    let value = value(alloc, &mut input, MOST_LEVELS)?;
     Ok((value, input.place()))
 }
 

@@ -16,7 +16,8 @@ use crate::marker::{
     UINT_64,
 };
 use hv_value::{
-    Text, Value, Whole, no_item_is_deeper, no_pair_is_deeper, pairs_in_order_are_their_map,
+    MOST_LEVELS, Text, Value, Whole, no_item_is_deeper, no_pair_is_deeper,
+    pairs_in_order_are_their_map,
 };
 use std::alloc::{AllocError, Global};
 
@@ -295,7 +296,7 @@ pub fn write_value(alloc: Global, v: &Value, out: &mut Vec<u8>) -> Result<(), Al
 {
     pairs_in_order_are_their_map();
     // So it is read back: what is deeper, or has its keys in another order, has no such spelling.
-    prove!(v.depth() <= 64);
+    prove!(v.depth() <= MOST_LEVELS);
     let _ = alloc;
     let held = out.len();
     match put_value(out, v) {
