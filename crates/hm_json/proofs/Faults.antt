@@ -1,6 +1,7 @@
 -- What may be wrong with properties: that they are missing, wrong, or both there.
 use Rattle.std.proofs.Common.{◌≡◌, ℕ, ℤ, Bool, false, List, [], ◌∷◌, Option, Some, None, Result, Ok, Err, refl, subst, inr}
 use Rattle.std.specs.Option.{ok_or}
+use Rattle.std.specs.Prelude.{IfOk, IfErr}
 use Rattle.std.specs.Result.{result_err}
 use Rattle.hv_value.specs.Tree.{Tree}
 use Rattle.hv_json.specs.Reading.{reading}
@@ -14,7 +15,11 @@ use Rattle.hm_message.specs.declared.message.Field.TheVariants as field
 use Rattle.hm_json.specs.Properties as property
 use Rattle.hm_message.specs.Meaning.{first}
 use Rattle.hm_json.specs.Properties.{unless_null, needed, optional, must, may, type_of, error, outcome, clash, both, faults}
-use Rattle.hm_json.specs.Says.{IsObject, IsFaulty, Why}
+use Rattle.hm_message.specs.Message.{Fits}
+use Rattle.hm_message.specs.Reads.{MessageIs, UnknownIs}
+use Rattle.hm_message.specs.declared.message.Read.{Read}
+use Rattle.hm_message.specs.declared.message.Read.TheVariants as read
+use Rattle.hm_json.specs.Says.{IsObject, IsFaulty, Says, Unknown, Why, SaysOf, UnknownOf, WhyOf}
 use Rattle.hm_json.specs.Refusals.{MemoryOr}
 use Rattle.hm_json.specs.declared.refusal.Refusal.{Refusal}
 use Rattle.hm_json.specs.declared.refusal.Refusal.TheVariants.{NotJson, Fraction, TooDeep, NotObject, Missing, Wrong, Both, NoMemory}
@@ -134,6 +139,22 @@ unless_memory (Wrong field) P Q f p = f p
 unless_memory Both P Q f p = f p
 unless_memory NoMemory P Q f p = tt
 
-pub why_of_kind : (frame : List ℕ) (t : Tree) (k : Kind) (e : Refusal) → reading frame ≡ Ok t → IsObject t → type_of t ≡ Ok (number k) → MemoryOr e (first (faults k t) ≡ Some e) → MemoryOr e (Why frame e)
-why_of_kind frame t k e r o h f =
-    unless_memory e (first (faults k t) ≡ Some e) (Why frame e) (λ g. why_faulty frame t e (faults_good k t e g) r (o, inr (k, (h, g)))) f
+pub why_of_kind_at_all : (t : Tree) (k : Kind) (e : Refusal) → IsObject t → type_of t ≡ Ok (number k) → MemoryOr e (first (faults k t) ≡ Some e) → MemoryOr e (WhyOf t e)
+why_of_kind_at_all t k e o h f =
+    unless_memory e (first (faults k t) ≡ Some e) (WhyOf t e) (λ g frame r. why_faulty frame t e (faults_good k t e g) r (o, inr (k, (h, g)))) f
+
+-- ---- what is said of each frame of a value is said of one
+
+pub message_of_value : (frame : List ℕ) (t : Tree) → reading frame ≡ Ok t → (x : Result Read Refusal) → IfOk x (λ r. MessageIs r (λ m. SaysOf t m × Fits m)) → IfOk x (λ r. MessageIs r (λ m. Says frame m × Fits m))
+message_of_value frame t e (Ok (read.Message m)) h = (h.0 frame e, h.1)
+message_of_value frame t e (Ok (read.Unknown n)) h = tt
+message_of_value frame t e (Err r) h = tt
+
+pub unknown_of_value : (frame : List ℕ) (t : Tree) → reading frame ≡ Ok t → (x : Result Read Refusal) → IfOk x (λ r. UnknownIs r (λ n. UnknownOf t n)) → IfOk x (λ r. UnknownIs r (λ n. Unknown frame n))
+unknown_of_value frame t e (Ok (read.Message m)) h = tt
+unknown_of_value frame t e (Ok (read.Unknown n)) h = h frame e
+unknown_of_value frame t e (Err r) h = tt
+
+pub refused_of_value : (frame : List ℕ) (t : Tree) → reading frame ≡ Ok t → (x : Result Read Refusal) → IfErr x (λ e. MemoryOr e (WhyOf t e)) → IfErr x (λ e. MemoryOr e (Why frame e))
+refused_of_value frame t e (Ok r) h = tt
+refused_of_value frame t e (Err r) h = unless_memory r (WhyOf t r) (Why frame r) (λ w. w frame e) h

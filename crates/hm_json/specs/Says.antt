@@ -77,3 +77,17 @@ Why frame (Missing f) = (t : Tree) × ((reading frame ≡ Ok t) × IsFaulty t (M
 Why frame (Wrong f) = (t : Tree) × ((reading frame ≡ Ok t) × IsFaulty t (Wrong f))
 Why frame Both = (t : Tree) × ((reading frame ≡ Ok t) × IsFaulty t Both)
 Why frame NoMemory = ⊥
+
+-- ---- of whatever frame that reads as a value
+
+-- each frame of the value says the message
+abbrev pub SaysOf : Tree → Message → Type 0
+SaysOf t m = (frame : List ℕ) → reading frame ≡ Ok t → Says frame m
+
+-- each frame of the value is of this unknown type
+abbrev pub UnknownOf : Tree → ℤ → Type 0
+UnknownOf t n = (frame : List ℕ) → reading frame ≡ Ok t → Unknown frame n
+
+-- each frame of the value is refused for this reason
+abbrev pub WhyOf : Tree → Refusal → Type 0
+WhyOf t r = (frame : List ℕ) → reading frame ≡ Ok t → Why frame r

@@ -1,4 +1,5 @@
-//! The properties of a message's object: what each says, or why it is refused.
+//! The properties of a message's object: what each says, or why it is refused. `take_` consumes the object and
+//! moves the value out; the others copy it.
 ghost use Rattle.std.specs.Prelude.{◌≡◌, ℕ, List, Option, IfOk, IfErr, None, Ok, Err, Some, [], false, option_map};
 ghost use Rattle.hm_json.specs.declared.refusal.Refusal.TheVariants.{Missing};
 ghost use Rattle.hv_value.specs.Tree.{map, pairs, value_at};
@@ -10,7 +11,7 @@ ghost use Rattle.hm_json.specs.Refusals.{MemoryOr};
 ghost use Rattle.hm_message.specs.declared.message.Field.TheVariants as fields;
 
 use crate::refusal::Refusal;
-use hm_message::{Field, Headers, headers_in, items_in, number_in, text_in, texts_in};
+use hm_message::{Field, Headers, headers_in, into_items, number_in, text_in, texts_in};
 use hv_value::{Entries, Items, Text, Texts, Value};
 use std::alloc::Global;
 
@@ -85,21 +86,39 @@ pub(crate) fn optional_text(object: &Entries, field: Field) -> Result<Option<Tex
     }
 }
 
-pub(crate) fn items(object: &Entries, field: Field) -> Result<Items, Refusal>
-    ensures ok { IfOk result (λ items. must field items_of (map (pairs object.now)) ≡ Ok items) }
-    ensures err { IfErr result
-        (λ e. MemoryOr e (must field items_of (map (pairs object.now)) ≡ Err e)) }
+/// The value of the property of this name, taken out of the object.
+pub(crate) fn take_property(object: Entries, name: &str) -> Option<Value>
+    ensures { option_map tree result ≡ value_at name.now (map (pairs object)) }
 {
-    let value = needed(object, field)?;
-    items_in(value)?.ok_or(Refusal::Wrong(field))
+    for (key, value) in object.into_pairs() {
+        if name == key.as_str() {
+            return Some(value);
+        }
+    }
+    None
 }
 
-pub(crate) fn any(object: &Entries, field: Field) -> Result<Value, Refusal>
-    ensures ok { IfOk result (λ v. must field Some (map (pairs object.now)) ≡ Ok (tree v)) }
-    ensures err { IfErr result
-        (λ e. MemoryOr e (must field Some (map (pairs object.now)) ≡ Err e)) }
+fn take_needed(object: Entries, field: Field) -> Result<Value, Refusal>
+    ensures there { IfOk result (λ v. value_at (field_name field) (map (pairs object)) ≡ Some (tree v)) }
+    ensures absent { IfErr result (λ e. value_at (field_name field) (map (pairs object)) ≡ None) }
+    ensures missing { IfErr result (λ e. e ≡ Missing field) }
 {
-    Ok(needed(object, field)?.copy()?)
+    take_property(object, field.name()).ok_or(Refusal::Missing(field))
+}
+
+pub(crate) fn take_items(object: Entries, field: Field) -> Result<Items, Refusal>
+    ensures ok { IfOk result (λ items. must field items_of (map (pairs object)) ≡ Ok items) }
+    ensures err { IfErr result (λ e. must field items_of (map (pairs object)) ≡ Err e) }
+{
+    let value = take_needed(object, field)?;
+    into_items(value).ok_or(Refusal::Wrong(field))
+}
+
+pub(crate) fn take_any(object: Entries, field: Field) -> Result<Value, Refusal>
+    ensures ok { IfOk result (λ v. must field Some (map (pairs object)) ≡ Ok (tree v)) }
+    ensures err { IfErr result (λ e. must field Some (map (pairs object)) ≡ Err e) }
+{
+    take_needed(object, field)
 }
 
 pub(crate) fn texts(alloc: Global, object: &Entries, field: Field) -> Result<Texts, Refusal>

@@ -8,11 +8,12 @@ ghost use Rattle.hm_message.specs.declared.kind.Kind.TheVariants as kinds;
 ghost use Rattle.hm_message.specs.Meaning.{first};
 ghost use Rattle.hm_json.specs.Properties.{error as error_of, outcome, type_of, faults};
 ghost use Rattle.hm_json.specs.Refusals.{MemoryOr};
-ghost use Rattle.hm_json.specs.Says.{Says, Unknown, Why, Holds, Ends, IsMessage, IsUnknown, IsFaulty};
+ghost use Rattle.hm_json.specs.Says.{SaysOf, UnknownOf, WhyOf, Says, Unknown, Why, Holds, Ends, IsMessage, IsUnknown, IsFaulty};
 ghost use Rattle.hm_message.specs.Reads.{MessageIs, UnknownIs};
 
 use crate::properties::{
-    any, flag, headers, items, number, optional_text, property, text, texts, whole,
+    flag, headers, number, optional_text, property, take_any, take_items, take_property, text,
+    texts, whole,
 };
 use crate::refusal::Refusal;
 use hm_message::{Ending, Field, Kind, Message, Read, number_in, values_are_trees};
@@ -21,47 +22,51 @@ use hv_value::{Entries, Text, Value};
 use json::Scratch;
 use std::alloc::{AllocError, Global};
 
-fn invocation(alloc: Global, object: &Entries) -> Result<Message, Refusal>
+fn invocation(alloc: Global, object: Entries) -> Result<Message, Refusal>
     ensures kind { IfOk result (λ m. kind_of m ≡ kinds.Invocation) }
-    ensures ok { IfOk result (λ m. Holds (map (pairs object.now)) m) }
+    ensures ok { IfOk result (λ m. Holds (map (pairs object)) m) }
     ensures err { IfErr result
-        (λ e. MemoryOr e (first (faults kinds.Invocation (map (pairs object.now))) ≡ Some e)) }
+        (λ e. MemoryOr e (first (faults kinds.Invocation (map (pairs object))) ≡ Some e)) }
 {
+    let headers = headers(alloc, &object)?;
+    let id = optional_text(&object, Field::InvocationId)?;
+    let target = text(&object, Field::Target)?;
+    let streams = texts(alloc, &object, Field::StreamIds);
+    let arguments = take_items(object, Field::Arguments)?;
     Ok(Message::Invocation {
-        headers: headers(alloc, object)?,
-        id: optional_text(object, Field::InvocationId)?,
-        target: text(object, Field::Target)?,
-        arguments: items(object, Field::Arguments)?,
-        streams: texts(alloc, object, Field::StreamIds)?,
+        headers,
+        id,
+        target,
+        arguments,
+        streams: streams?,
     })
 }
 
-fn stream_item(alloc: Global, object: &Entries) -> Result<Message, Refusal>
+fn stream_item(alloc: Global, object: Entries) -> Result<Message, Refusal>
     ensures kind { IfOk result (λ m. kind_of m ≡ kinds.StreamItem) }
-    ensures ok { IfOk result (λ m. Holds (map (pairs object.now)) m) }
+    ensures ok { IfOk result (λ m. Holds (map (pairs object)) m) }
     ensures err { IfErr result
-        (λ e. MemoryOr e (first (faults kinds.StreamItem (map (pairs object.now))) ≡ Some e)) }
+        (λ e. MemoryOr e (first (faults kinds.StreamItem (map (pairs object))) ≡ Some e)) }
 {
-    Ok(Message::StreamItem {
-        headers: headers(alloc, object)?,
-        id: text(object, Field::InvocationId)?,
-        item: any(object, Field::Item)?,
-    })
+    let headers = headers(alloc, &object)?;
+    let id = text(&object, Field::InvocationId)?;
+    let item = take_any(object, Field::Item)?;
+    Ok(Message::StreamItem { headers, id, item })
 }
 
-fn completion(alloc: Global, object: &Entries) -> Result<Message, Refusal>
+fn completion(alloc: Global, object: Entries) -> Result<Message, Refusal>
     ensures kind { IfOk result (λ m. kind_of m ≡ kinds.Completion) }
-    ensures ok { IfOk result (λ m. Holds (map (pairs object.now)) m) }
+    ensures ok { IfOk result (λ m. Holds (map (pairs object)) m) }
     ensures err { IfErr result
-        (λ e. MemoryOr e (first (faults kinds.Completion (map (pairs object.now))) ≡ Some e)) }
+        (λ e. MemoryOr e (first (faults kinds.Completion (map (pairs object))) ≡ Some e)) }
 {
-    let headers = headers(alloc, object)?;
-    let id = text(object, Field::InvocationId)?;
-    let error = optional_text(object, Field::Error)?;
-    let ending = match (error, property(object, "result")) {
+    let headers = headers(alloc, &object)?;
+    let id = text(&object, Field::InvocationId)?;
+    let error = optional_text(&object, Field::Error)?;
+    let ending = match (error, take_property(object, "result")) {
         (Some(_), Some(_)) => return Err(Refusal::Both),
         (Some(error), None) => Ending::Error(error),
-        (None, Some(result)) => Ending::Result(result.copy()?),
+        (None, Some(result)) => Ending::Result(result),
         (None, None) => Ending::Void,
     };
     Ok(Message::Completion {
@@ -71,18 +76,23 @@ fn completion(alloc: Global, object: &Entries) -> Result<Message, Refusal>
     })
 }
 
-fn stream_invocation(alloc: Global, object: &Entries) -> Result<Message, Refusal>
+fn stream_invocation(alloc: Global, object: Entries) -> Result<Message, Refusal>
     ensures kind { IfOk result (λ m. kind_of m ≡ kinds.StreamInvocation) }
-    ensures ok { IfOk result (λ m. Holds (map (pairs object.now)) m) }
+    ensures ok { IfOk result (λ m. Holds (map (pairs object)) m) }
     ensures err { IfErr result
-        (λ e. MemoryOr e (first (faults kinds.StreamInvocation (map (pairs object.now))) ≡ Some e)) }
+        (λ e. MemoryOr e (first (faults kinds.StreamInvocation (map (pairs object))) ≡ Some e)) }
 {
+    let headers = headers(alloc, &object)?;
+    let id = text(&object, Field::InvocationId)?;
+    let target = text(&object, Field::Target)?;
+    let streams = texts(alloc, &object, Field::StreamIds);
+    let arguments = take_items(object, Field::Arguments)?;
     Ok(Message::StreamInvocation {
-        headers: headers(alloc, object)?,
-        id: text(object, Field::InvocationId)?,
-        target: text(object, Field::Target)?,
-        arguments: items(object, Field::Arguments)?,
-        streams: texts(alloc, object, Field::StreamIds)?,
+        headers,
+        id,
+        target,
+        arguments,
+        streams: streams?,
     })
 }
 
@@ -125,47 +135,58 @@ fn sequence(object: &Entries) -> Result<Message, Refusal>
 }
 
 /// The message of this type.
-fn message(alloc: Global, object: &Entries, kind: Kind) -> Result<Message, Refusal>
+fn message(alloc: Global, object: Entries, kind: Kind) -> Result<Message, Refusal>
     ensures kind { IfOk result (λ m. kind_of m ≡ kind) }
-    ensures ok { IfOk result (λ m. Holds (map (pairs object.now)) m) }
+    ensures ok { IfOk result (λ m. Holds (map (pairs object)) m) }
     ensures err { IfErr result
-        (λ e. MemoryOr e (first (faults kind (map (pairs object.now))) ≡ Some e)) }
+        (λ e. MemoryOr e (first (faults kind (map (pairs object))) ≡ Some e)) }
 {
     match kind {
         Kind::Invocation => invocation(alloc, object),
         Kind::StreamItem => stream_item(alloc, object),
         Kind::Completion => completion(alloc, object),
         Kind::StreamInvocation => stream_invocation(alloc, object),
-        Kind::CancelInvocation => cancel_invocation(alloc, object),
+        Kind::CancelInvocation => cancel_invocation(alloc, &object),
         Kind::Ping => Ok(Message::Ping),
-        Kind::Close => close(object),
+        Kind::Close => close(&object),
         Kind::Ack => {
-            let upto = number(object, Field::SequenceId)?;
+            let upto = number(&object, Field::SequenceId)?;
             Ok(Message::Ack { upto })
         }
-        Kind::Sequence => sequence(object),
+        Kind::Sequence => sequence(&object),
     }
 }
 
-/// As [`read_message`], with a scratch that is kept from frame to frame, so that whoever reads many makes it once.
-/// Nothing of what it holds is read again.
+/// What a frame of this object says.
+fn said(alloc: Global, object: Entries) -> Result<Read, Refusal>
+    ensures message { IfOk result
+        (λ r. MessageIs r (λ m. SaysOf (map (pairs object)) m × Fits m)) }
+    ensures unknown { IfOk result (λ r. UnknownIs r (λ n. UnknownOf (map (pairs object)) n)) }
+    ensures refused { IfErr result (λ e. MemoryOr e (WhyOf (map (pairs object)) e)) }
+{
+    values_are_trees();
+    // What was read fits, and can be written again, since the object's values nest at most 63 deep.
+    let _members = object.pairs();
+    let n = whole(&object, Field::Kind)?;
+    let Some(kind) = Kind::numbered(n) else {
+        return Ok(Read::Unknown(n));
+    };
+    let message = message(alloc, object, kind)?;
+    Ok(Read::Message(message))
+}
+
+/// As [`read_message`], with a scratch that is kept from frame to frame, so that whoever reads many
+/// makes it once. Nothing of what it holds is read again.
 pub fn read_message_in(alloc: Global, scratch: &mut Scratch, frame: &[u8]) -> Result<Read, Refusal>
     ensures message { IfOk result (λ r. MessageIs r (λ m. Says frame.now m × Fits m)) }
     ensures unknown { IfOk result (λ r. UnknownIs r (λ n. Unknown frame.now n)) }
     ensures refused { IfErr result (λ e. MemoryOr e (Why frame.now e)) }
 {
-    values_are_trees();
     let value = read_value_in(alloc, scratch, frame)?;
-    // So what was read fits, and can be written again.
-    prove!(value.depth() <= 64);
-    let Value::Map(object) = &value else {
-        return Err(Refusal::NotObject);
-    };
-    let n = whole(object, Field::Kind)?;
-    let Some(kind) = Kind::numbered(n) else {
-        return Ok(Read::Unknown(n));
-    };
-    Ok(Read::Message(message(alloc, object, kind)?))
+    match value {
+        Value::Map(object) => said(alloc, object),
+        _ => Err(Refusal::NotObject),
+    }
 }
 
 /// What a frame of one JSON object says (HubProtocol.md, "JSON Encoding"). Properties come in any
