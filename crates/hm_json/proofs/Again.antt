@@ -9,7 +9,6 @@ use Rattle.hv_value.specs.Tree.{Tree, null, boolean, int, text, bytes, list, map
 use Rattle.hv_value.specs.Image.{image, images, trees_image, pairs_image}
 use Rattle.hv_value.specs.View as seen
 use Rattle.hv_value.specs.declared.value.Value.{Value}
-use Rattle.hv_value.specs.Laws.{PairsInOrderAreTheirMap}
 use Rattle.hm_message.specs.Fields.{trees_in, items_in, texts_in, all_texts, headers_in, all_headers, number_in, flag_in}
 use Rattle.hm_message.specs.Headers.{Header, IsHeaders}
 use Rattle.hm_message.specs.Kind.{number, kind_of}
@@ -31,14 +30,9 @@ use Rattle.hm_json.proofs.Lookups.{value_at-image}
 
 -- ---- the headers' map
 
-keys-header_pairs : (hs : List Header) → keys_of (header_pairs hs) ≡ keys_of hs
+pub keys-header_pairs : (hs : List Header) → keys_of (header_pairs hs) ≡ keys_of hs
 keys-header_pairs [] = refl
 keys-header_pairs (h ∷ hs) = ap (λ (ks : List (List ℕ)). h.0 ∷ ks) (keys-header_pairs hs)
-
-pub map_of-headers : PairsInOrderAreTheirMap → (hs : List Header) → IsHeaders hs → map_of (header_pairs hs) ≡ map (pairs (header_pairs hs))
-map_of-headers in_order hs h =
-    let sorted : IsStrictlySortedBy key_cmp (keys_of (header_pairs hs)) = rw (keys-header_pairs hs) h in
-    in_order (header_pairs hs) sorted
 
 -- ---- what a property is, once it is written and read again
 

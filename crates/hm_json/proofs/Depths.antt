@@ -18,7 +18,8 @@ use Rattle.hm_json.specs.Properties as property
 use Rattle.hm_json.specs.Properties.{needed}
 use Rattle.hm_json.specs.Says.{Holds, Ends}
 use Rattle.hm_message.specs.Trees.{texts, header_pairs}
-use Rattle.hm_json.specs.Frame.{property_of, headers_written, streams_written, text_written, call_written, ending_written, allow_written, written}
+use Rattle.hm_json.specs.Frame.{property_of, headers_written, streams_written, text_written, allow_written}
+use Rattle.hm_json.specs.Written.{error_written, result_written, properties_in_order, in_name_order}
 use Rattle.hm_json.proofs.Lookups.{depth_at}
 
 -- ---- what is read
@@ -69,11 +70,11 @@ both_depths : (ps qs : List Pair) → depth_of_values (ps ++ qs) ≡ max (depth_
 both_depths [] qs = omega arith
 both_depths (p ∷ ps) qs = omega (arith, both_depths ps qs)
 
-pub depth-header_pairs : (hs : List Header) → depth_of_values (header_pairs hs) ≡ 0
+depth-header_pairs : (hs : List Header) → depth_of_values (header_pairs hs) ≡ 0
 depth-header_pairs [] = refl
 depth-header_pairs (h ∷ hs) = omega (arith, depth-header_pairs hs)
 
-pub depth-texts : (ss : List (List ℕ)) → depth_of_all (texts ss) ≡ 0
+depth-texts : (ss : List (List ℕ)) → depth_of_all (texts ss) ≡ 0
 depth-texts [] = refl
 depth-texts (s ∷ ss) = omega (arith, depth-texts ss)
 
@@ -89,36 +90,45 @@ text_depth : (f : Field) (s : Option (List ℕ)) → depth_of_values (text_writt
 text_depth f None = omega arith
 text_depth f (Some s) = omega arith
 
-call_depth : (s : List ℕ) (xs : List Tree) (ss : List (List ℕ)) → depth (list (trees xs)) ≤ 63 → depth_of_values (call_written s xs ss) ≤ 63
-call_depth s xs ss h =
-    omega (arith, streams_depth ss, both_depths (property_of field.Target (text s) ++ property_of field.Arguments (list (trees xs))) (streams_written ss))
+result_depth : (e : Ending) → ending_depth e ≤ 63 → depth_of_values (result_written e) ≤ 63
+result_depth ending.Void h = omega arith
+result_depth (ending.Result v) h = omega arith
+result_depth (ending.Error s) h = omega arith
 
-ended_depth : (e : Ending) → ending_depth e ≤ 63 → depth_of_values (ending_written e) ≤ 63
-ended_depth ending.Void h = omega arith
-ended_depth (ending.Result v) h = omega arith
-ended_depth (ending.Error s) h = omega arith
+error_depth : (e : Ending) → depth_of_values (error_written e) ≤ 0
+error_depth ending.Void = omega arith
+error_depth (ending.Result v) = omega arith
+error_depth (ending.Error s) = omega arith
 
--- what stands before, an id, and what stands behind
-three_depths : (a b c : List Pair) → depth_of_values a ≤ 1 → depth_of_values b ≤ 0 → depth_of_values c ≤ 63 → depth_of_values (a ++ b ++ c) ≤ 63
-three_depths a b c x y z = omega (arith, both_depths (a ++ b) c, both_depths a b)
+-- the arguments, what stands between them and the target, and the target
+call_depth : (xs : List Tree) (hs is ss ts : List Pair) → depth (list (trees xs)) ≤ 63 → depth_of_values hs ≤ 1 → depth_of_values is ≤ 0 → depth_of_values ss ≤ 1 → depth_of_values ts ≤ 0
+    → depth_of_values (property_of field.Arguments (list (trees xs)) ++ hs ++ is ++ ss ++ ts) ≤ 63
+call_depth xs hs is ss ts h a b c d =
+    let xs_ : List Pair = property_of field.Arguments (list (trees xs)) in
+    omega (arith, h, a, b, c, d, both_depths (xs_ ++ hs ++ is ++ ss) ts, both_depths (xs_ ++ hs ++ is) ss, both_depths (xs_ ++ hs) is, both_depths xs_ hs)
 
-written_depth : (m : Message) → Fits m → depth_of_values (written m) ≤ 63
-written_depth (Invocation headers id target arguments streams) h =
-    three_depths (headers_written headers) (text_written field.InvocationId id) _ (headers_depth headers) (text_depth field.InvocationId id) (call_depth target arguments streams h)
-written_depth (StreamItem headers id v) h =
-    three_depths (headers_written headers) (property_of field.InvocationId (text id)) (property_of field.Item (seen.tree v)) (headers_depth headers) (omega arith) (omega arith)
-written_depth (Completion headers id e) h =
-    three_depths (headers_written headers) (property_of field.InvocationId (text id)) _ (headers_depth headers) (omega arith) (ended_depth e h)
-written_depth (StreamInvocation headers id target arguments streams) h =
-    three_depths (headers_written headers) (property_of field.InvocationId (text id)) _ (headers_depth headers) (omega arith) (call_depth target arguments streams h)
-written_depth (CancelInvocation headers id) h =
+properties_depth : (m : Message) → Fits m → depth_of_values (properties_in_order m) ≤ 63
+properties_depth (Invocation headers id target arguments streams) h =
+    call_depth arguments (headers_written headers) (text_written field.InvocationId id) (streams_written streams) (property_of field.Target (text target))
+    h (headers_depth headers) (text_depth field.InvocationId id) (streams_depth streams) (omega arith)
+properties_depth (StreamItem headers id v) h =
+    let ids : List Pair = property_of field.InvocationId (text id) in
+    omega (arith, h, headers_depth headers, both_depths (headers_written headers ++ ids) (property_of field.Item (seen.tree v)), both_depths (headers_written headers) ids)
+properties_depth (Completion headers id e) h =
+    let ids : List Pair = property_of field.InvocationId (text id) in
+    omega (arith, result_depth e h, error_depth e, headers_depth headers, both_depths (error_written e ++ headers_written headers ++ ids) (result_written e),
+        both_depths (error_written e ++ headers_written headers) ids, both_depths (error_written e) (headers_written headers))
+properties_depth (StreamInvocation headers id target arguments streams) h =
+    call_depth arguments (headers_written headers) (property_of field.InvocationId (text id)) (streams_written streams) (property_of field.Target (text target))
+    h (headers_depth headers) (omega arith) (streams_depth streams) (omega arith)
+properties_depth (CancelInvocation headers id) h =
     omega (arith, headers_depth headers, both_depths (headers_written headers) (property_of field.InvocationId (text id)))
-written_depth Ping h = omega arith
-written_depth (Close error true) h = omega (arith, text_depth field.Error error, both_depths (text_written field.Error error) (allow_written true))
-written_depth (Close error false) h = omega (arith, text_depth field.Error error, both_depths (text_written field.Error error) (allow_written false))
-written_depth (Ack upto) h = omega arith
-written_depth (Sequence first None) h = omega arith
-written_depth (Sequence first (Some n)) h = omega arith
+properties_depth Ping h = omega arith
+properties_depth (Close error true) h = omega (arith, text_depth field.Error error, both_depths (allow_written true) (text_written field.Error error))
+properties_depth (Close error false) h = omega (arith, text_depth field.Error error, both_depths (allow_written false) (text_written field.Error error))
+properties_depth (Ack upto) h = omega arith
+properties_depth (Sequence first None) h = omega arith
+properties_depth (Sequence first (Some n)) h = omega arith
 
-pub object_depth : (m : Message) → Fits m → depth_of_values (property_of field.Kind (int (number (kind_of m))) ++ written m) ≤ 63
-object_depth m h = omega (arith, written_depth m h)
+pub in_name_depth : (m : Message) → Fits m → depth_of_values (in_name_order m) ≤ 63
+in_name_depth m h = omega (arith, properties_depth m h, both_depths (properties_in_order m) (property_of field.Kind (int (number (kind_of m)))))

@@ -3,3 +3,4 @@ pub mod Faults
 pub mod Frames
 pub mod Depths
 pub mod Again
+pub mod Puts

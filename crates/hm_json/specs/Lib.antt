@@ -5,3 +5,4 @@ pub mod Says
 pub mod Frame
 pub mod ExactlyOne
 pub mod Laws
+pub mod Written
