@@ -116,8 +116,15 @@ properties_depth (StreamItem headers id v) h =
     omega (arith, h, headers_depth headers, both_depths (headers_written headers ++ ids) (property_of field.Item (seen.tree v)), both_depths (headers_written headers) ids)
 properties_depth (Completion headers id e) h =
     let ids : List Pair = property_of field.InvocationId (text id) in
-    omega (arith, result_depth e h, error_depth e, headers_depth headers, both_depths (error_written e ++ headers_written headers ++ ids) (result_written e),
-        both_depths (error_written e ++ headers_written headers) ids, both_depths (error_written e) (headers_written headers))
+    omega (
+      arith,
+      result_depth e h,
+      error_depth e,
+      headers_depth headers,
+      both_depths (error_written e ++ headers_written headers ++ ids) (result_written e),
+      both_depths (error_written e ++ headers_written headers) ids,
+      both_depths (error_written e) (headers_written headers),
+    )
 properties_depth (StreamInvocation headers id target arguments streams) h =
     call_depth arguments (headers_written headers) (property_of field.InvocationId (text id)) (streams_written streams) (property_of field.Target (text target))
     h (headers_depth headers) (omega arith) (streams_depth streams) (omega arith)

@@ -152,8 +152,8 @@ puts_headers keys a b ms hs same h some e = subst (λ (x : List Header). Puts a 
     go (x ∷ xs) h some e =
         let ts : List Token = members_sent (pairs (header_pairs (x ∷ xs))) in
         puts_one a b (field_name field.Headers) (map (pairs (header_pairs (x ∷ xs))))
-            (e ∙ append_assoc (a ++ Token.key (field_name field.Headers) ∷ []) (Token.begin_object ∷ []) ts ∙ append_assoc a (Token.key (field_name field.Headers) ∷ []) (Token.begin_object ∷ ts))
-            (header_wholes (x ∷ xs)) (headers_in_order keys (x ∷ xs) h)
+        (e ∙ append_assoc (a ++ Token.key (field_name field.Headers) ∷ []) (Token.begin_object ∷ []) ts ∙ append_assoc a (Token.key (field_name field.Headers) ∷ []) (Token.begin_object ∷ ts))
+        (header_wholes (x ∷ xs)) (headers_in_order keys (x ∷ xs) h)
 
 pub puts_streams : (a b : List Token) (ms ss : List (List ℕ)) → ms ≡ ss → (length ms == 0) ≡ false
     → b ≡ ((a ++ Token.key (field_name field.StreamIds) ∷ []) ++ Token.begin_array ∷ []) ++ items_sent (trees (texts ms)) → Puts a b (streams_written ss)
@@ -165,8 +165,8 @@ puts_streams a b ms ss same some e = subst (λ (x : List (List ℕ)). Puts a b (
     go (x ∷ xs) some e =
         let ts : List Token = items_sent (trees (texts (x ∷ xs))) in
         puts_one a b (field_name field.StreamIds) (list (trees (texts (x ∷ xs))))
-            (e ∙ append_assoc (a ++ Token.key (field_name field.StreamIds) ∷ []) (Token.begin_array ∷ []) ts ∙ append_assoc a (Token.key (field_name field.StreamIds) ∷ []) (Token.begin_array ∷ ts))
-            (text_wholes (x ∷ xs)) (text_order (x ∷ xs))
+        (e ∙ append_assoc (a ++ Token.key (field_name field.StreamIds) ∷ []) (Token.begin_array ∷ []) ts ∙ append_assoc a (Token.key (field_name field.StreamIds) ∷ []) (Token.begin_array ∷ ts))
+        (text_wholes (x ∷ xs)) (text_order (x ∷ xs))
 
 -- ---- what was written says the message
 

@@ -10,4 +10,4 @@ pub returns-clause-in_order : goal.returns-clause-in_order
 returns-clause-in_order c =
     let m = c.args.m.now in
     object_in_order c.map_has_the_keys.ensures c.map_keys_are_in_order.ensures m
-        (in_order-append (properties_in_order m) (property_of field.Kind (int (number (kind_of m)))) c.in_ok-put_properties.ensures.put.in_order (tt, tt))
+    (in_order-append (properties_in_order m) (property_of field.Kind (int (number (kind_of m)))) c.in_ok-put_properties.ensures.put.in_order (tt, tt))

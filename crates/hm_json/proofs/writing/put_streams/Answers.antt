@@ -5,4 +5,4 @@ use Rattle.hm_json.proofs.writing.put_streams.Goals as goal
 pub returns-clause-put : goal.returns-clause-put
 returns-clause-put c =
     puts_streams c.args.writer.now.tokens c.put_texts.new.writer.tokens c.texts-strings.result.now c.args.streams.now
-        c.texts-strings.ensures (sym c.is_empty.ensures ∙ c.if-is_empty.false) (search rules)
+    c.texts-strings.ensures (sym c.is_empty.ensures ∙ c.if-is_empty.false) (search rules)
