@@ -13,6 +13,3 @@ pub use laws::one_meaning;
 pub use reading::read_message;
 pub use refusal::PackRefusal;
 pub use writing::write_message;
-
-#[cfg(test)]
-mod tests;

@@ -1,6 +1,8 @@
-use super::*;
-use hm_message::{Ending, Field, Headers, Message, Read};
-use hv_pack::PackError;
+//! Messages as MessagePack. The frames are as Python's msgpack 1.0.3 packs the arrays of HubProtocol.md,
+//! "MessagePack (MsgPack) encoding", with a map's keys in byte order. What isn't a value, or is in another
+//! spelling, is by the MessagePack specification.
+use hm_message::{Ending, Headers, Message, Read};
+use hm_pack::{one_meaning, read_message, write_message};
 use hv_value::{Items, Text, Texts, Value, Whole};
 use std::alloc::{AllocError, Global};
 use std::test::Fail;
@@ -19,10 +21,7 @@ fn told(alloc: Global, frame: &[u8]) -> Result<Vec<u8>, AllocError> {
     Vec::from_slice(alloc, words.as_bytes())
 }
 
-/// The first case in which something else is told. The frames in the tables, those read and those
-/// written, are as Python's msgpack 1.0.3 packs the arrays of HubProtocol.md, "MessagePack (MsgPack)
-/// encoding", with a map's keys in byte order; what isn't a value, or in another spelling, is by the
-/// MessagePack specification.
+/// The first case in which something else is told.
 fn told_otherwise(rt: &HostRuntime, cases: &[(&[u8], &[u8])]) -> Result<Option<usize>, Fail> {
     for (i, (frame, wanted)) in cases.iter().enumerate() {
         if told(rt.alloc(), frame)?.as_slice() != *wanted {
@@ -32,7 +31,7 @@ fn told_otherwise(rt: &HostRuntime, cases: &[(&[u8], &[u8])]) -> Result<Option<u
     Ok(None)
 }
 
-/// The value, what stands behind it, the array and its type; `Unknown` whatever follows the type.
+/// The value, what stands after it, the array and its type; `Unknown` whatever follows the type.
 #[test]
 fn types(rt: HostRuntime) -> Result<(), Fail> {
     let cases: [(&[u8], &[u8]); 29] = [
@@ -355,7 +354,7 @@ fn streams(rt: &HostRuntime, ids: &[&str]) -> Result<Texts, Fail> {
     Ok(Texts::of(texts))
 }
 
-/// Whether the message is written as the frame, behind what `out` holds.
+/// Whether the message is written as the frame, after what `out` holds.
 fn is_written(alloc: Global, m: &Message, frame: &[u8]) -> Result<bool, Fail> {
     if !m.fits() {
         return Ok(false);
@@ -369,7 +368,6 @@ fn is_written(alloc: Global, m: &Message, frame: &[u8]) -> Result<bool, Fail> {
 
 /// Whether the frame is read as the message.
 fn is_read(alloc: Global, m: &Message, frame: &[u8]) -> bool {
-    one_meaning();
     match read_message(alloc, frame) {
         Ok(Read::Message(read)) => read == *m,
         Ok(Read::Unknown(_)) => false,
@@ -378,6 +376,7 @@ fn is_read(alloc: Global, m: &Message, frame: &[u8]) -> bool {
 }
 
 fn is_framed(rt: &HostRuntime, m: Message, frame: &[u8]) -> Result<bool, Fail> {
+    one_meaning();
     Ok(is_written(rt.alloc(), &m, frame)? && is_read(rt.alloc(), &m, frame))
 }
 
@@ -481,38 +480,5 @@ fn framed_others(rt: HostRuntime) -> Result<(), Fail> {
             b"\x93\x09\xcd\x04\xd2\xcf\xff\xff\xff\xff\xff\xff\xff\xff"
         )?
     );
-    Ok(())
-}
-
-#[test]
-fn words(rt: HostRuntime) -> Result<(), Fail> {
-    let cases = [
-        (PackRefusal::Value(PackError::Short { at: 2 }), "Short 2"),
-        (PackRefusal::Value(PackError::Never { at: 0 }), "Never 0"),
-        (
-            PackRefusal::Value(PackError::Fraction { at: 5 }),
-            "Fraction 5",
-        ),
-        (PackRefusal::Value(PackError::Ext { at: 10 }), "Ext 10"),
-        (PackRefusal::Value(PackError::Key { at: 3 }), "Key 3"),
-        (
-            PackRefusal::Value(PackError::NotUtf8 { at: 3 }),
-            "NotUtf8 3",
-        ),
-        (
-            PackRefusal::Value(PackError::TooDeep { at: 64 }),
-            "TooDeep 64",
-        ),
-        (PackRefusal::Trailing { at: 2 }, "Trailing 2"),
-        (PackRefusal::NotArray, "NotArray"),
-        (PackRefusal::Missing(Field::Ending), "Missing result"),
-        (PackRefusal::Wrong(Field::StreamIds), "Wrong streamIds"),
-        (PackRefusal::ResultKind(-1), "ResultKind -1"),
-        (PackRefusal::NoMemory, "NoMemory"),
-    ];
-    for (refusal, wanted) in cases {
-        let words = format!(in rt.alloc(); "{refusal}")?;
-        assert_eq!(rt; words.as_str(), wanted);
-    }
     Ok(())
 }
