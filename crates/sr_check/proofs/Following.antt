@@ -2,18 +2,22 @@
 use Rattle.std.proofs.Common.{codes, ◌≡◌, ◌<◌, ◌+◌, ℕ, inl, inr, List, [], ◌∷◌, ◌++◌, length, take, drop, Option, Some, None, refl, sym, ◌∙◌, ap, subst, arith, append_assoc, length-append}
 use Rattle.std.specs.Io.KnownBytes.{Appends}
 use Rattle.std.proofs.Math.Seq.{take-append-add}
-use Rattle.std.proofs.lemmas.List.{append-nil}
+use Rattle.std.specs.Prelude.{Result, Ok, Err, OnOk, IfErr}
+use Rattle.std.proofs.lemmas.List.{append-nil, append_cancel_left}
 use Rattle.hf_split.specs.declared.framing.Framing.{Framing}
-use Rattle.hf_split.specs.Cuts.{Spelled, AreFrames, IsFrame, BeginsWith, IsWaiting, always, stream_of}
-use Rattle.hf_split.specs.Held.{Held, Stands, IsInStep, after_pass}
-use Rattle.hf_split.proofs.Beginnings.{too_long_begins_none, bad_length_begins_none}
+use Rattle.hf_split.specs.declared.splitter.SplitFault.{SplitFault}
+use Rattle.hf_split.specs.declared.splitter.SplitFault.TheVariants.{TooLong, BadLength}
+use Rattle.hf_split.specs.Cuts.{Spelled, AreFrames, IsFrame, BeginsWith, IsTooLong, IsBadLength, IsWaiting, always, stream_of}
+use Rattle.hf_split.specs.Held.{Held, Stands, IsFaultOf, IsInStep, after_pass}
 use Rattle.sr_check.specs.declared.task.Task.{Task}
 use Rattle.sr_check.specs.declared.task.Stop.{Stop}
 use Rattle.sr_check.specs.declared.task.Stop.TheVariants as stop
-use Rattle.sr_check.specs.Frames.{RefusesRest}
+use Rattle.hm_codec.specs.declared.why.FrameWhy.TheVariants.{Split}
+use Rattle.hm_codec.specs.Words.{why_words}
 use Rattle.sr_check.specs.Output.{framing, IsWritten, last_text}
-use Rattle.sr_check.specs.Stream.{Written, BeginsFrames, IsFront}
-use Rattle.sr_check.specs.Going.{IsRefusal, IsReader, IsAt, IsResting, IsSoFar, IsBegunSoFar, IsStoppedSoFar, IsLastPut, Ends}
+use Rattle.sr_check.specs.Stream.{AreWritten, BeginsFrames, IsFrontText, IsFaultAt}
+use Rattle.sr_check.specs.Going.{IsRefusal, IsReader, IsAt, IsResting, IsSoFar, IsBegunSoFar, IsStoppedSoFar, IsLastPut, Ends, EndsOnDesk, with_desk}
+use Rattle.sr_check.specs.Laws.{FaultsLast}
 
 pub with_reader : (t : Task) (P : Framing → ℕ → Type 0) (held : Held) → IsReader t held → P held.framing held.most → P (framing t) 32768
 with_reader t P held reader fact = subst (λ (m : ℕ). P (framing t) m) reader.most (subst (λ (f : Framing). P f held.most) reader.framing_is fact)
@@ -35,19 +39,19 @@ pub stream-append : (items more : List Spelled) → stream_of (items ++ more) �
 stream-append [] more = refl
 stream-append (item ∷ items) more = ap (λ xs. item.spelling ++ xs) (stream-append items more) ∙ sym (append_assoc item.spelling (stream_of items) (stream_of more))
 
-written-append : (t : Task) (at : ℕ) (items more : List Spelled) (a b : List ℕ) → Written t at items a → Written t (at + length (stream_of items)) more b → Written t at (items ++ more) (a ++ b)
+written-append : (t : Task) (at : ℕ) (items more : List Spelled) (a b : List ℕ) → AreWritten t at items a → AreWritten t (at + length (stream_of items)) more b → AreWritten t at (items ++ more) (a ++ b)
 written-append t at [] more a b p q =
-    subst (λ (xs : List ℕ). Written t at more xs) (ap (λ xs. xs ++ b) (sym p)) (subst (λ (n : ℕ). Written t n more b) (let e : at + 0 ≡ at = omega arith in e) q)
+    subst (λ (xs : List ℕ). AreWritten t at more xs) (ap (λ xs. xs ++ b) (sym p)) (subst (λ (n : ℕ). AreWritten t n more b) (let e : at + 0 ≡ at = omega arith in e) q)
 written-append t at (item ∷ items) more a b p q =
     let place : at + length (stream_of (item ∷ items)) ≡ at + length item.spelling + length (stream_of items) = omega (arith, length-append item.spelling (stream_of items)) in (
       p.0,
       p.1 ++ b,
       p.2,
       ap (λ xs. xs ++ b) p.3 ∙ append_assoc p.0 p.1 b,
-      written-append t (at + length item.spelling) items more p.1 b p.4 (subst (λ (n : ℕ). Written t n more b) place q),
+      written-append t (at + length item.spelling) items more p.1 b p.4 (subst (λ (n : ℕ). AreWritten t n more b) place q),
     )
 
-written-next : (t : Task) (items : List Spelled) (item : Spelled) (text piece : List ℕ) → Written t 0 items text → IsWritten t (length (stream_of items)) item.frame piece → Written t 0 (items ++ item ∷ []) (text ++ piece)
+written-next : (t : Task) (items : List Spelled) (item : Spelled) (text piece : List ℕ) → AreWritten t 0 items text → IsWritten t (length (stream_of items)) item.frame piece → AreWritten t 0 (items ++ item ∷ []) (text ++ piece)
 written-next t items item text piece written is =
     let place : 0 + length (stream_of items) ≡ length (stream_of items) = omega arith in
     written-append t 0 items (item ∷ []) text piece written
@@ -62,7 +66,7 @@ frames-next f (x ∷ items) item each is = (each.0, frames-next f items item eac
 pub frames_at : (t : Task) (held : Held) (stream : List ℕ) (items : List Spelled) (text : List ℕ) → IsAt t held stream items text → AreFrames (always (framing t)) 32768 items
 frames_at t held stream items text at = subst (λ (m : ℕ). AreFrames (always (framing t)) m items) at.reader.most at.stands.each
 
-pub front_at : (t : Task) (held : Held) (stream : List ℕ) (items : List Spelled) (text : List ℕ) → IsAt t held stream items text → IsFront t stream items text
+pub front_at : (t : Task) (held : Held) (stream : List ℕ) (items : List Spelled) (text : List ℕ) → IsAt t held stream items text → IsFrontText t stream items text
 front_at t held stream items text at = record {
   begins = record { more = held.bytes; whole = at.stands.whole; each = frames_at t held stream items text at };
   written = at.written;
@@ -117,25 +121,23 @@ bad_frame t held stream items text last item at begins bad = (
   inl (record {
     item = item;
     next = next-begins t held stream items text item at (begins-of t held item at.reader begins);
-    words = bad.0;
+    why = bad.0;
     refused = bad.1;
-    text_is = bad.2 ∙ ap (λ (n : ℕ). last_text t n (codes "refused " ++ bad.0)) (place_is t held stream items text at);
+    text_is = bad.2 ∙ ap (λ (n : ℕ). last_text t n (codes "refused " ++ why_words bad.0)) (place_is t held stream items text at);
   }),
   refl,
 )
 
--- with bytes that are refused no frame begins
-pub refused_begins_none : (f : Framing) (bytes words : List ℕ) (item : Spelled) → RefusesRest f 32768 bytes words → BeginsWith f 32768 bytes item → ⊥
-refused_begins_none f bytes words item (inl long) begins =
-    too_long_begins_none f 32768 bytes [] item long.0 (subst (λ (xs : List ℕ). BeginsWith f 32768 xs item) (sym (append-nil bytes)) begins)
-refused_begins_none f bytes words item (inr bad) begins =
-    bad_length_begins_none f 32768 bytes [] item bad.0 (subst (λ (xs : List ℕ). BeginsWith f 32768 xs item) (sym (append-nil bytes)) begins)
+fault_at : (t : Task) (held : Held) (place : ℕ) (fault : SplitFault) → IsReader t held → held.place ≡ place → IsFaultOf held fault → IsFaultAt (framing t) place held.bytes fault
+fault_at t held place (TooLong at) reader same is = (is.0 ∙ same, with_reader t (λ f m. IsTooLong f m held.bytes) held reader is.1)
+fault_at t held place (BadLength at) reader same is = (is.0 ∙ same, with_reader t (λ f m. IsBadLength f held.bytes) held reader is.1)
 
--- what is left is refused
-pub bad_rest : (t : Task) (held : Held) (stream : List ℕ) (items : List Spelled) (text words last : List ℕ) → IsAt t held stream items text
-    → RefusesRest held.framing held.most held.bytes words → last ≡ last_text t held.place (codes "refused " ++ words) → IsStoppedSoFar t stream (text ++ last)
-bad_rest t held stream items text words last at refused is =
-    let bad : RefusesRest (framing t) 32768 held.bytes words = with_reader t (λ f m. RefusesRest f m held.bytes words) held at.reader refused in (
+-- what is left begins with a fault
+pub bad_rest : FaultsLast → (t : Task) (held : Held) (stream : List ℕ) (items : List Spelled) (text last : List ℕ) (fault : SplitFault) → IsAt t held stream items text
+    → IsFaultOf held fault → last ≡ last_text t held.place (codes "refused " ++ why_words (Split fault)) → IsStoppedSoFar t stream (text ++ last)
+bad_rest lasts t held stream items text last fault at is_fault is =
+    let place : ℕ = length (stream_of items) in
+    let bad : IsFaultAt (framing t) place held.bytes fault = fault_at t held place fault at.reader (place_is t held stream items text at) is_fault in (
       items,
       text,
       last,
@@ -145,11 +147,11 @@ bad_rest t held stream items text words last at refused is =
         cut = record {
           whole = at.stands.whole;
           each = frames_at t held stream items text at;
-          ends = λ item begins. refused_begins_none (framing t) held.bytes words item bad begins;
+          ends = λ item begins. (lasts (framing t) place held.bytes [] fault bad).1 item (subst (λ (xs : List ℕ). BeginsWith (framing t) 32768 xs item) (sym (append-nil held.bytes)) begins);
         };
-        words = words;
+        fault = fault;
         refused = bad;
-        text_is = is ∙ ap (λ (n : ℕ). last_text t n (codes "refused " ++ words)) (place_is t held stream items text at);
+        text_is = is ∙ ap (λ (n : ℕ). last_text t n (codes "refused " ++ why_words (Split fault))) (place_is t held stream items text at);
       }),
       refl,
     )
@@ -217,3 +219,89 @@ ends_last t first held start now then_ last stop.NoMemory going stopped put stre
     let far = going.goes stream before first_far in
     (far.text, (far.items, front_at t held stream far.items far.text far.at), subst (λ (xs : List ℕ). Appends before then_ xs) (append-nil far.text) (appends_more before now then_ far.text [] far.wrote put))
 ends_last t first held start now then_ last stop.ReadFault going stopped put stream before first_far = absurd put
+
+-- ---- on the desk
+
+-- text that is put on the desk is put behind what the output will hold
+appends-desk : (now : Option (List ℕ)) (text piece : List ℕ) → Appends (with_desk now text) (with_desk now (text ++ piece)) piece
+appends-desk None text piece = tt
+appends-desk (Some bytes) text piece = sym (append_assoc bytes text piece)
+
+pub desk_empty : (now : Option (List ℕ)) (text : List ℕ) → text ≡ [] → with_desk now text ≡ now
+desk_empty None text none = refl
+desk_empty (Some bytes) text none = ap (λ xs. Some (bytes ++ xs)) none ∙ ap (λ (xs : List ℕ). Some xs) (append-nil bytes)
+
+-- Frames are being written of on the desk, whatever the output holds.
+abbrev pub IsGoingOnDesk : Task → Held → Held → List ℕ → List ℕ → Type 0
+IsGoingOnDesk t first held start text = (now : Option (List ℕ)) → IsGoing t first held (with_desk now start) (with_desk now text)
+
+pub desk_next : (t : Task) (first held next : Held) (start text longer piece : List ℕ) (item : Spelled) → IsGoingOnDesk t first held start text
+    → IsWritten t held.place item.frame piece → next ≡ after_pass held item
+    → ((stream : List ℕ) (passed : List Spelled) → Stands (always (framing t)) held stream passed → IsInStep (always (framing t)) held passed → Stands (always (framing t)) next stream (passed ++ item ∷ []))
+    → longer ≡ text ++ piece → IsGoingOnDesk t first next start longer
+desk_next t first held next start text longer piece item going good is stands same now =
+    subst (λ (xs : List ℕ). IsGoing t first next (with_desk now start) (with_desk now xs)) (sym same)
+    (going_next t first held next (with_desk now start) (with_desk now text) (with_desk now (text ++ piece)) piece item (going now) good is stands (appends-desk now text piece))
+
+pub desk_ends : (t : Task) (first held : Held) (start text longer : List ℕ) (P : List ℕ → Type 0) (how : Stop) → IsGoingOnDesk t first held start text
+    → ((stream : List ℕ) (items : List Spelled) (front last : List ℕ) → IsAt t held stream items front → P last → IsStoppedSoFar t stream (front ++ last))
+    → EndsOnDesk how P text longer
+    → (stream : List ℕ) (before now : Option (List ℕ)) → IsSoFar t first stream before (with_desk now start) → Ends t how stream before (with_desk now longer)
+desk_ends t first held start text longer P stop.Refused going stopped end stream before now far =
+    subst (λ (xs : List ℕ). Ends t stop.Refused stream before (with_desk now xs)) (sym end.2)
+    (ends_last t first held (with_desk now start) (with_desk now text) (with_desk now (text ++ end.0)) end.0 stop.Refused (going now)
+    (λ stream items front at. stopped stream items front end.0 at end.1) (appends-desk now text end.0) stream before far)
+desk_ends t first held start text longer P stop.NoMemory going stopped end stream before now far =
+    subst (λ (xs : List ℕ). Ends t stop.NoMemory stream before (with_desk now xs)) (sym end)
+    (ends_memory t first held (with_desk now start) (with_desk now text) stop.NoMemory refl (going now) stream before far)
+desk_ends t first held start text longer P stop.ReadFault going stopped end stream before now far = absurd end
+desk_ends t first held start text longer P stop.WriteFault going stopped end stream before now far = absurd end
+
+pub no_write_fault : (how : Stop) (P : List ℕ → Type 0) (text longer : List ℕ) → EndsOnDesk how P text longer → how ≡ stop.WriteFault → ⊥
+no_write_fault how P text longer end is = absurd (rw is at end)
+
+-- ---- the desk is written
+
+put-all : (before now then_ : Option (List ℕ)) (all desk : List ℕ) → Appends before (with_desk now desk) all → Appends now then_ desk → Appends before then_ all
+put-all None now then_ all desk p q = tt
+put-all (Some a) None then_ all desk p q = absurd p
+put-all (Some a) (Some b) None all desk p q = absurd q
+put-all (Some a) (Some b) (Some c) all desk p q = q ∙ p
+
+-- a first part of it
+put-part : (before now then_ : Option (List ℕ)) (front all desk : List ℕ) (n : ℕ) → Appends before now front → Appends before (with_desk now desk) all → Appends now then_ (take n desk)
+    → (m : ℕ) × Appends before then_ (take m all)
+put-part None now then_ front all desk n f p q = (0, tt)
+put-part (Some a) None then_ front all desk n f p q = absurd f
+put-part (Some a) (Some b) then_ front all desk n f p q =
+    let same : front ++ desk ≡ all = append_cancel_left a (front ++ desk) all (sym (append_assoc a front desk) ∙ ap (λ xs. xs ++ desk) (sym f) ∙ p) in
+    subst (λ (xs : List ℕ). (m : ℕ) × Appends (Some a) then_ (take m xs)) same (appends_part (Some a) (Some b) then_ front desk n f q)
+
+pub so_far_put : (t : Task) (held : Held) (stream : List ℕ) (before now then_ : Option (List ℕ)) (text : List ℕ) → Appends now then_ text → IsSoFar t held stream before (with_desk now text) → IsSoFar t held stream before then_
+so_far_put t held stream before now then_ text put far = record {
+  items = far.items;
+  text = far.text;
+  at = far.at;
+  wrote = put-all before now then_ far.text text far.wrote put;
+}
+
+pub ends_put : (t : Task) (how : Stop) (stream : List ℕ) (before now then_ : Option (List ℕ)) (text : List ℕ) → Appends now then_ text → Ends t how stream before (with_desk now text) → Ends t how stream before then_
+ends_put t stop.Refused stream before now then_ text put end = (end.0, end.1, put-all before now then_ end.0 text end.2 put)
+ends_put t stop.NoMemory stream before now then_ text put end = (end.0, end.1, put-all before now then_ end.0 text end.2 put)
+ends_put t stop.WriteFault stream before now then_ text put end = (end.0, end.1, (end.2.0, put-all before now then_ (take end.2.0 end.0) text end.2.1 put))
+ends_put t stop.ReadFault stream before now then_ text put end = absurd end
+
+-- the desk could not be written whole
+pub ends_part : (t : Task) (end : Result (Unit {0}) Stop) (how : Stop) (held : Held) (stream front : List ℕ) (before now then_ : Option (List ℕ)) (text : List ℕ) (n : ℕ) → how ≡ stop.WriteFault
+    → (◌≡◌ {A = Result (Unit {0}) Stop} end (Err stop.WriteFault) → ⊥)
+    → OnOk end (IsSoFar t held stream before (with_desk now text))
+    → IfErr end (λ how. Ends t how stream before (with_desk now text))
+    → Appends before now front → Appends now then_ (take n text) → Ends t how stream before then_
+ends_part t (Ok u) how held stream front before now then_ text n is unput ok err wrote put =
+    rw is (ok.text, inl (ok.items, front_at t held stream ok.items ok.text ok.at), put-part before now then_ front ok.text text n wrote ok.wrote put)
+ends_part t (Err stop.Refused) how held stream front before now then_ text n is unput ok err wrote put =
+    rw is (err.0, inr err.1, put-part before now then_ front err.0 text n wrote err.2 put)
+ends_part t (Err stop.NoMemory) how held stream front before now then_ text n is unput ok err wrote put =
+    rw is (err.0, inl err.1, put-part before now then_ front err.0 text n wrote err.2 put)
+ends_part t (Err stop.ReadFault) how held stream front before now then_ text n is unput ok err wrote put = absurd err
+ends_part t (Err stop.WriteFault) how held stream front before now then_ text n is unput ok err wrote put = absurd (unput refl)

@@ -12,18 +12,19 @@ use Rattle.sr_check.specs.declared.task.Task.{Task}
 use Rattle.sr_check.specs.declared.task.Stop.{Stop}
 use Rattle.sr_check.specs.declared.task.Stop.TheVariants as stop
 use Rattle.sr_check.specs.Output.{framing, last_text}
-use Rattle.sr_check.specs.Stream.{IsFront, IsCut, IsStop, IsDone, IsStopped, IsBegun, IsPart, IsAllSoFar, ReadsNoFurther, most_bytes, followed}
+use Rattle.sr_check.specs.Stream.{IsFrontText, IsCut, IsStop, IsDone, IsStopped, IsBegun, IsPart, IsAllSoFar, ReadsNoFurther, most_bytes, most_piece, followed_part}
 use Rattle.sr_check.specs.Going.{IsAt, IsResting, IsSoFar, IsWholeSoFar, IsBegunSoFar, IsStoppedSoFar, IsPartSoFar, IsLastPut, Ends, EndsAt, EndsInput}
 use Rattle.hd_facts.specs.Writes.{IsText, Writes, WritesOfRead}
+use Rattle.sr_check.specs.Laws.{FaultsLast}
 use Rattle.sr_check.proofs.Following.{appends_more, appends_part, front_at, frames_at, place_is}
 use Rattle.sr_check.proofs.Pieces.{front_more, stop_more}
 
 -- ---- the end of what is followed
 
-followed-all : (stream : List ℕ) → length stream ≤ 1099511627776 → followed stream ≡ stream
+followed-all : (stream : List ℕ) → length stream ≤ most_bytes → followed_part stream ≡ stream
 followed-all stream within = take_all most_bytes stream within
 
-followed-front : (stream more : List ℕ) → length stream ≤ 1099511627776 → followed (stream ++ more) ≡ stream ++ take (most_bytes - length stream) more
+followed-front : (stream more : List ℕ) → length stream ≤ most_bytes → followed_part (stream ++ more) ≡ stream ++ take (most_bytes - length stream) more
 followed-front stream more within =
     ap (λ n. take n (stream ++ more)) (let e : most_bytes ≡ length stream + (most_bytes - length stream) = omega (arith, within) in e) ∙ take-append-add stream more (most_bytes - length stream)
 
@@ -46,7 +47,7 @@ whole_rest t held now resting none stream before far = record {
 }
 
 -- the task ends with what is written last
-at-last : (t : Task) (bytes : List ℕ) (items : List Spelled) (text last : List ℕ) (before now then_ : Option (List ℕ)) (how : Stop) → IsFront t (followed bytes) items text
+at-last : (t : Task) (bytes : List ℕ) (items : List Spelled) (text last : List ℕ) (before now then_ : Option (List ℕ)) (how : Stop) → IsFrontText t (followed_part bytes) items text
     → IsStopped t bytes (text ++ last) → Appends before now text → IsLastPut how last now then_ → EndsAt t how bytes before then_
 at-last t bytes items text last before now then_ stop.Refused front stopped wrote put = (text ++ last, stopped, appends_more before now then_ text last wrote put)
 at-last t bytes items text last before now then_ stop.WriteFault front stopped wrote put = (text ++ last, inr stopped, appends_part before now then_ text last put.0 wrote put.1)
@@ -57,10 +58,10 @@ at-last t bytes items text last before now then_ stop.ReadFault front stopped wr
 -- something is left
 pub ends_rest : (t : Task) (held : Held) (now then_ : Option (List ℕ)) (last : List ℕ) (how : Stop) → IsResting t held → 0 < length held.bytes
     → last ≡ last_text t held.place (codes "unfinished " ++ decimal (length held.bytes)) → IsLastPut how last now then_
-    → (stream : List ℕ) (before : Option (List ℕ)) → length stream ≤ 1099511627776 → IsSoFar t held stream before now → EndsAt t how stream before then_
+    → (stream : List ℕ) (before : Option (List ℕ)) → length stream ≤ most_bytes → IsSoFar t held stream before now → EndsAt t how stream before then_
 ends_rest t held now then_ last how resting some is put stream before within far =
-    let front : IsFront t (followed stream) far.items far.text =
-    subst (λ (xs : List ℕ). IsFront t xs far.items far.text) (sym (followed-all stream within)) (front_at t held stream far.items far.text far.at) in
+    let front : IsFrontText t (followed_part stream) far.items far.text =
+    subst (λ (xs : List ℕ). IsFrontText t xs far.items far.text) (sym (followed-all stream within)) (front_at t held stream far.items far.text far.at) in
     at-last t stream far.items far.text last before now then_ how front (
       far.items,
       far.text,
@@ -78,18 +79,18 @@ ends_rest t held now then_ last how resting some is put stream before within far
     ) far.wrote put
 
 pub ends_rest_memory : (t : Task) (held : Held) (now : Option (List ℕ)) (how : Stop) → how ≡ stop.NoMemory
-    → (stream : List ℕ) (before : Option (List ℕ)) → length stream ≤ 1099511627776 → IsSoFar t held stream before now → EndsAt t how stream before now
+    → (stream : List ℕ) (before : Option (List ℕ)) → length stream ≤ most_bytes → IsSoFar t held stream before now → EndsAt t how stream before now
 ends_rest_memory t held now how is stream before within far =
-    rw is (far.text, (far.items, subst (λ (xs : List ℕ). IsFront t xs far.items far.text) (sym (followed-all stream within)) (front_at t held stream far.items far.text far.at)), far.wrote)
+    rw is (far.text, (far.items, subst (λ (xs : List ℕ). IsFrontText t xs far.items far.text) (sym (followed-all stream within)) (front_at t held stream far.items far.text far.at)), far.wrote)
 
 -- more is there than is followed
 ends-limit : (t : Task) (held : Held) (now then_ : Option (List ℕ)) (last : List ℕ) (how : Stop) → IsResting t held
     → last ≡ last_text t held.place (codes "limit") → IsLastPut how last now then_
-    → (stream more : List ℕ) (before : Option (List ℕ)) → length stream ≡ 1099511627776 → 0 < length more → IsSoFar t held stream before now → EndsAt t how (stream ++ more) before then_
+    → (stream more : List ℕ) (before : Option (List ℕ)) → length stream ≡ most_bytes → 0 < length more → IsSoFar t held stream before now → EndsAt t how (stream ++ more) before then_
 ends-limit t held now then_ last how resting is put stream more before size some far =
-    let same : followed (stream ++ more) ≡ stream = take_at stream more most_bytes size in
-    let front : IsFront t (followed (stream ++ more)) far.items far.text =
-    subst (λ (xs : List ℕ). IsFront t xs far.items far.text) (sym same) (front_at t held stream far.items far.text far.at) in
+    let same : followed_part (stream ++ more) ≡ stream = take_at stream more most_bytes size in
+    let front : IsFrontText t (followed_part (stream ++ more)) far.items far.text =
+    subst (λ (xs : List ℕ). IsFrontText t xs far.items far.text) (sym same) (front_at t held stream far.items far.text far.at) in
     at-last t (stream ++ more) far.items far.text last before now then_ how front (
       far.items,
       far.text,
@@ -105,31 +106,31 @@ ends-limit t held now then_ last how resting is put stream more before size some
       refl,
     ) far.wrote put
 
-begun-followed : (t : Task) (stream more text : List ℕ) → length stream ≤ 1099511627776 → IsBegunSoFar t stream text → IsBegun t (stream ++ more) text
+begun-followed : (t : Task) (stream more text : List ℕ) → length stream ≤ most_bytes → IsBegunSoFar t stream text → IsBegun t (stream ++ more) text
 begun-followed t stream more text within begun =
-    (begun.0, subst (λ (xs : List ℕ). IsFront t xs begun.0 text) (sym (followed-front stream more within)) (front_more t stream (take (most_bytes - length stream) more) begun.0 text begun.1))
+    (begun.0, subst (λ (xs : List ℕ). IsFrontText t xs begun.0 text) (sym (followed-front stream more within)) (front_more t stream (take (most_bytes - length stream) more) begun.0 text begun.1))
 
-stopped-followed : (t : Task) (stream more text : List ℕ) → length stream ≤ 1099511627776 → IsStoppedSoFar t stream text → IsStopped t (stream ++ more) text
-stopped-followed t stream more text within stopped =
+stopped-followed : FaultsLast → (t : Task) (stream more text : List ℕ) → length stream ≤ most_bytes → IsStoppedSoFar t stream text → IsStopped t (stream ++ more) text
+stopped-followed lasts t stream more text within stopped =
     let part : List ℕ = take (most_bytes - length stream) more in
     let front = sym (followed-front stream more within) in (
       stopped.0,
       stopped.1,
       stopped.2,
-      subst (λ (xs : List ℕ). IsFront t xs stopped.0 stopped.1) front (front_more t stream part stopped.0 stopped.1 stopped.3),
-      inl (subst (λ (xs : List ℕ). IsStop t xs stopped.0 stopped.2) front (stop_more t stream part stopped.0 stopped.2 stopped.4)),
+      subst (λ (xs : List ℕ). IsFrontText t xs stopped.0 stopped.1) front (front_more t stream part stopped.0 stopped.1 stopped.3),
+      inl (subst (λ (xs : List ℕ). IsStop t xs stopped.0 stopped.2) front (stop_more lasts t stream part stopped.0 stopped.2 stopped.4)),
       stopped.5,
     )
 
-part-followed : (t : Task) (stream more text : List ℕ) → length stream ≤ 1099511627776 → IsPartSoFar t stream text → IsPart t (stream ++ more) text
-part-followed t stream more text within (inl begun) = inl (begun-followed t stream more text within begun)
-part-followed t stream more text within (inr stopped) = inr (stopped-followed t stream more text within stopped)
+part-followed : FaultsLast → (t : Task) (stream more text : List ℕ) → length stream ≤ most_bytes → IsPartSoFar t stream text → IsPart t (stream ++ more) text
+part-followed lasts t stream more text within (inl begun) = inl (begun-followed t stream more text within begun)
+part-followed lasts t stream more text within (inr stopped) = inr (stopped-followed lasts t stream more text within stopped)
 
-ends-at : (t : Task) (how : Stop) (stream more : List ℕ) (before now : Option (List ℕ)) → length stream ≤ 1099511627776 → Ends t how stream before now → EndsAt t how (stream ++ more) before now
-ends-at t stop.Refused stream more before now within ends = (ends.0, stopped-followed t stream more ends.0 within ends.1, ends.2)
-ends-at t stop.WriteFault stream more before now within ends = (ends.0, part-followed t stream more ends.0 within ends.1, ends.2)
-ends-at t stop.NoMemory stream more before now within ends = (ends.0, begun-followed t stream more ends.0 within ends.1, ends.2)
-ends-at t stop.ReadFault stream more before now within ends = absurd ends
+ends-at : FaultsLast → (t : Task) (how : Stop) (stream more : List ℕ) (before now : Option (List ℕ)) → length stream ≤ most_bytes → Ends t how stream before now → EndsAt t how (stream ++ more) before now
+ends-at lasts t stop.Refused stream more before now within ends = (ends.0, stopped-followed lasts t stream more ends.0 within ends.1, ends.2)
+ends-at lasts t stop.WriteFault stream more before now within ends = (ends.0, part-followed lasts t stream more ends.0 within ends.1, ends.2)
+ends-at lasts t stop.NoMemory stream more before now within ends = (ends.0, begun-followed t stream more ends.0 within ends.1, ends.2)
+ends-at lasts t stop.ReadFault stream more before now within ends = absurd ends
 
 -- ---- what was read
 
@@ -180,7 +181,7 @@ pub record IsReading (t : Task) (held : Held) (input rest : Option (List ℕ)) (
   pub resting : IsResting t held
   pub stream : List ℕ
   pub read : Consumes input rest stream
-  pub size : length stream + left ≡ 1099511627776
+  pub size : length stream + left ≡ most_bytes
   pub far : IsSoFar t held stream start now
 
 -- no frame begins with no bytes, and no fault does
@@ -210,7 +211,7 @@ none-faulty Length (inl long) =
     omega (arith, ap length begins.whole, length-append begins.prefix begins.rest, ap length var_int.parts, length-append var_int.front (var_int.last ∷ []))
 none-faulty Length (inr bad) = omega (arith, bad.0)
 
-pub reading_first : (t : Task) (held : Held) (input now : Option (List ℕ)) → held ≡ at_start (framing t) 32768 → IsReading t held input input 1099511627776 now now
+pub reading_first : (t : Task) (held : Held) (input now : Option (List ℕ)) → held ≡ at_start (framing t) 32768 → IsReading t held input input most_bytes now now
 reading_first t held input now is = rw is (record {
   resting = record {
     reader = record { framing_is = refl; most = refl };
@@ -279,24 +280,24 @@ input_whole t held input rest less left start now then_ piece reading read none 
 
 pub input_ends : (t : Task) (held : Held) (input rest less : Option (List ℕ)) (left : ℕ) (start now then_ : Option (List ℕ)) (piece : List ℕ) (how : Stop) → IsReading t held input rest left start now
     → Consumes rest less piece → length piece ≡ 0 → IsAtEnd less
-    → ((stream : List ℕ) (before : Option (List ℕ)) → length stream ≤ 1099511627776 → IsSoFar t held stream before now → EndsAt t how stream before then_)
+    → ((stream : List ℕ) (before : Option (List ℕ)) → length stream ≤ most_bytes → IsSoFar t held stream before now → EndsAt t how stream before then_)
     → EndsInput t how input start then_
 input_ends t held input rest less left start now then_ piece how reading read none ended ends =
     ends-input t how input reading.stream start then_ (whole_told input less reading.stream (consumes_same input rest less reading.stream piece reading.read read none) ended) (ends reading.stream start (omega (arith, reading.size)) reading.far)
 
 -- in a piece
-pub input_stops : (t : Task) (held : Held) (input rest less : Option (List ℕ)) (left : ℕ) (start now then_ : Option (List ℕ)) (piece more : List ℕ) (how : Stop) → IsReading t held input rest left start now
+pub input_stops : FaultsLast → (t : Task) (held : Held) (input rest less : Option (List ℕ)) (left : ℕ) (start now then_ : Option (List ℕ)) (piece more : List ℕ) (how : Stop) → IsReading t held input rest left start now
     → Consumes rest less (piece ++ more) → length piece ≤ left
     → ((stream : List ℕ) (before : Option (List ℕ)) → length (stream ++ piece) < 2 ^ 64 → IsSoFar t held stream before now → Ends t how (stream ++ piece) before then_)
     → EndsInput t how input start then_
-input_stops t held input rest less left start now then_ piece more how reading read within ends =
+input_stops lasts t held input rest less left start now then_ piece more how reading read within ends =
     let stream : List ℕ = reading.stream ++ piece in
     let size : length stream < 2 ^ 64 = omega (arith, reading.size, within, length-append reading.stream piece) in
     let whole : IsText input (stream ++ (more ++ behind less)) =
     subst (IsText input) (ap (λ xs. xs ++ behind less) (sym (append_assoc reading.stream piece more)) ∙ append_assoc stream more (behind less))
     (told input less (reading.stream ++ (piece ++ more)) (consumes_more input rest less reading.stream (piece ++ more) reading.read read)) in
     ends-input t how input (stream ++ (more ++ behind less)) start then_ whole
-    (ends-at t how stream (more ++ behind less) start then_ (omega (arith, reading.size, within, length-append reading.stream piece)) (ends reading.stream start size reading.far))
+    (ends-at lasts t how stream (more ++ behind less) start then_ (omega (arith, reading.size, within, length-append reading.stream piece)) (ends reading.stream start size reading.far))
 
 -- past the limit
 pub input_past : (t : Task) (held next : Held) (input rest less : Option (List ℕ)) (left : ℕ) (start now then_ end : Option (List ℕ)) (piece more last : List ℕ) (how : Stop) → IsReading t held input rest left start now
@@ -306,7 +307,7 @@ pub input_past : (t : Task) (held next : Held) (input rest less : Option (List �
     → EndsInput t how input start end
 input_past t held next input rest less left start now then_ end piece more last how reading read size some so_far resting is put =
     let stream : List ℕ = reading.stream ++ piece in
-    let total : length stream ≡ 1099511627776 = omega (arith, reading.size, size, length-append reading.stream piece) in
+    let total : length stream ≡ most_bytes = omega (arith, reading.size, size, length-append reading.stream piece) in
     let whole : IsText input (stream ++ (more ++ behind less)) =
     subst (IsText input) (ap (λ xs. xs ++ behind less) (sym (append_assoc reading.stream piece more)) ∙ append_assoc stream more (behind less))
     (told input less (reading.stream ++ (piece ++ more)) (consumes_more input rest less reading.stream (piece ++ more) reading.read read)) in
@@ -337,7 +338,7 @@ no_read_fault_last how last now then_ put is = absurd (rw is at put)
 -- ---- how far the input was read
 
 pub read_further : (t : Task) (held : Held) (input rest less : Option (List ℕ)) (left : ℕ) (start now : Option (List ℕ)) (piece : List ℕ) → IsReading t held input rest left start now
-    → Consumes rest less piece → length piece ≤ 4096 → ReadsNoFurther t input less
+    → Consumes rest less piece → length piece ≤ most_piece → ReadsNoFurther t input less
 read_further t held input rest less left start now piece reading read short = record {
   front = reading.stream;
   piece = piece;
@@ -378,7 +379,7 @@ read_nothing t input = record {
 -- nothing was written
 pub input_untouched : (t : Task) (input now : Option (List ℕ)) → Writes (IsBegun t) input now now
 input_untouched t input now =
-    (behind input, [], told input input [] (consumes_none input), ([], record { begins = record { more = followed (behind input); whole = refl; each = tt }; written = refl }), appends_none now)
+    (behind input, [], told input input [] (consumes_none input), ([], record { begins = record { more = followed_part (behind input); whole = refl; each = tt }; written = refl }), appends_none now)
 
 -- the part of what was read that stands before the limit, and the rest
 pub piece_parts : (left count : ℕ) (buf : List ℕ) → left < count → take left buf ++ drop left (take count buf) ≡ take count buf

@@ -4,15 +4,14 @@ use Rattle.std.proofs.lemmas.List.{take-append-drop, take-take, drop-take, appen
 use Rattle.hf_split.specs.declared.framing.Framing.{Framing}
 use Rattle.hf_split.specs.Cuts.{Spelled, IsFaulty, always, stream_of}
 use Rattle.hf_split.specs.Held.{Held, Stands, after_feed}
-use Rattle.hf_split.proofs.Beginnings.{too_long_stays, bad_length_stays}
 use Rattle.sr_check.specs.declared.task.Task.{Task}
 use Rattle.sr_check.specs.declared.task.Stop.{Stop}
 use Rattle.sr_check.specs.declared.task.Stop.TheVariants as stop
-use Rattle.sr_check.specs.Frames.{RefusesRest}
 use Rattle.sr_check.specs.Output.{framing}
-use Rattle.sr_check.specs.Stream.{BeginsFrames, IsFront, IsStop}
+use Rattle.sr_check.specs.Stream.{BeginsFrames, IsFrontText, IsStop}
 use Rattle.sr_check.specs.Going.{IsReader, IsResting, IsSoFar, IsBegunSoFar, IsStoppedSoFar, IsPartSoFar, Ends}
-use Rattle.sr_check.proofs.Following.{with_reader, refused_begins_none}
+use Rattle.sr_check.specs.Laws.{FaultsLast}
+use Rattle.sr_check.proofs.Following.{with_reader}
 
 -- ---- more of a stream
 
@@ -23,52 +22,48 @@ begins-more t stream more items begins = record {
   each = begins.each;
 }
 
-pub front_more : (t : Task) (stream more : List ℕ) (items : List Spelled) (text : List ℕ) → IsFront t stream items text → IsFront t (stream ++ more) items text
+pub front_more : (t : Task) (stream more : List ℕ) (items : List Spelled) (text : List ℕ) → IsFrontText t stream items text → IsFrontText t (stream ++ more) items text
 front_more t stream more items text front = record { begins = begins-more t stream more items front.begins; written = front.written }
 
-refused-more : (f : Framing) (bytes more words : List ℕ) → RefusesRest f 32768 bytes words → RefusesRest f 32768 (bytes ++ more) words
-refused-more f bytes more words (inl long) = inl (too_long_stays f 32768 bytes more long.0, long.1)
-refused-more f bytes more words (inr bad) = inr (bad_length_stays f bytes more bad.0, bad.1)
-
 -- what is written last stays so
-pub stop_more : (t : Task) (stream more : List ℕ) (items : List Spelled) (last : List ℕ) → IsStop t stream items last → IsStop t (stream ++ more) items last
-stop_more t stream more items last (inl bad) = inl (record {
+pub stop_more : FaultsLast → (t : Task) (stream more : List ℕ) (items : List Spelled) (last : List ℕ) → IsStop t stream items last → IsStop t (stream ++ more) items last
+stop_more lasts t stream more items last (inl bad) = inl (record {
   item = bad.item;
   next = begins-more t stream more (items ++ bad.item ∷ []) bad.next;
-  words = bad.words;
+  why = bad.why;
   refused = bad.refused;
   text_is = bad.text_is;
 })
-stop_more t stream more items last (inr bad) =
-    let refused : RefusesRest (framing t) 32768 (bad.rest ++ more) bad.words = refused-more (framing t) bad.rest more bad.words bad.refused in
+stop_more lasts t stream more items last (inr bad) =
+    let stays = lasts (framing t) (length (stream_of items)) bad.rest more bad.fault bad.refused in
     inr (record {
       rest = bad.rest ++ more;
       cut = record {
         whole = ap (λ xs. xs ++ more) bad.cut.whole ∙ append_assoc (stream_of items) bad.rest more;
         each = bad.cut.each;
-        ends = λ item begins. refused_begins_none (framing t) (bad.rest ++ more) bad.words item refused begins;
+        ends = stays.1;
       };
-      words = bad.words;
-      refused = refused;
+      fault = bad.fault;
+      refused = stays.0;
       text_is = bad.text_is;
     })
 
 begun-more : (t : Task) (stream more text : List ℕ) → IsBegunSoFar t stream text → IsBegunSoFar t (stream ++ more) text
 begun-more t stream more text begun = (begun.0, front_more t stream more begun.0 text begun.1)
 
-stopped-more : (t : Task) (stream more text : List ℕ) → IsStoppedSoFar t stream text → IsStoppedSoFar t (stream ++ more) text
-stopped-more t stream more text ended =
-    (ended.0, ended.1, ended.2, front_more t stream more ended.0 ended.1 ended.3, stop_more t stream more ended.0 ended.2 ended.4, ended.5)
+stopped-more : FaultsLast → (t : Task) (stream more text : List ℕ) → IsStoppedSoFar t stream text → IsStoppedSoFar t (stream ++ more) text
+stopped-more lasts t stream more text ended =
+    (ended.0, ended.1, ended.2, front_more t stream more ended.0 ended.1 ended.3, stop_more lasts t stream more ended.0 ended.2 ended.4, ended.5)
 
-part-more : (t : Task) (stream more text : List ℕ) → IsPartSoFar t stream text → IsPartSoFar t (stream ++ more) text
-part-more t stream more text (inl begun) = inl (begun-more t stream more text begun)
-part-more t stream more text (inr stopped) = inr (stopped-more t stream more text stopped)
+part-more : FaultsLast → (t : Task) (stream more text : List ℕ) → IsPartSoFar t stream text → IsPartSoFar t (stream ++ more) text
+part-more lasts t stream more text (inl begun) = inl (begun-more t stream more text begun)
+part-more lasts t stream more text (inr stopped) = inr (stopped-more lasts t stream more text stopped)
 
-ends-more : (t : Task) (how : Stop) (stream more : List ℕ) (before now : Option (List ℕ)) → Ends t how stream before now → Ends t how (stream ++ more) before now
-ends-more t stop.Refused stream more before now ends = (ends.0, stopped-more t stream more ends.0 ends.1, ends.2)
-ends-more t stop.WriteFault stream more before now ends = (ends.0, part-more t stream more ends.0 ends.1, ends.2)
-ends-more t stop.NoMemory stream more before now ends = (ends.0, begun-more t stream more ends.0 ends.1, ends.2)
-ends-more t stop.ReadFault stream more before now ends = absurd ends
+ends-more : FaultsLast → (t : Task) (how : Stop) (stream more : List ℕ) (before now : Option (List ℕ)) → Ends t how stream before now → Ends t how (stream ++ more) before now
+ends-more lasts t stop.Refused stream more before now ends = (ends.0, stopped-more lasts t stream more ends.0 ends.1, ends.2)
+ends-more lasts t stop.WriteFault stream more before now ends = (ends.0, part-more lasts t stream more ends.0 ends.1, ends.2)
+ends-more lasts t stop.NoMemory stream more before now ends = (ends.0, begun-more t stream more ends.0 ends.1, ends.2)
+ends-more lasts t stop.ReadFault stream more before now ends = absurd ends
 
 -- ---- a piece
 
@@ -129,16 +124,16 @@ piecewise_all t first held piece at start now p past stream before short far =
     subst (λ (xs : List ℕ). IsSoFar t held (stream ++ xs) before now) (take_all at piece past) (p.goes stream before short far)
 
 -- the task ended in the piece
-pub piecewise_ends : (t : Task) (first held fed' : Held) (piece : List ℕ) (at n : ℕ) (start now then_ : Option (List ℕ)) (how : Stop) → IsPiecewise t first held piece at start now
+pub piecewise_ends : FaultsLast → (t : Task) (first held fed' : Held) (piece : List ℕ) (at n : ℕ) (start now then_ : Option (List ℕ)) (how : Stop) → IsPiecewise t first held piece at start now
     → IsReader t fed' → at + n ≤ length piece
     → ((s : List ℕ) (passed : List Spelled) → Stands (always (framing t)) held s passed → Stands (always (framing t)) fed' (s ++ take n (drop at piece)) passed)
     → ((stream : List ℕ) (before : Option (List ℕ)) → IsSoFar t fed' stream before now → Ends t how stream before then_)
     → (stream : List ℕ) (before : Option (List ℕ)) → length (stream ++ piece) < 2 ^ 64 → IsSoFar t first stream before start → Ends t how (stream ++ piece) before then_
-piecewise_ends t first held fed' piece at n start now then_ how p reader inside stands ends stream before short far =
+piecewise_ends lasts t first held fed' piece at n start now then_ how p reader inside stands ends stream before short far =
     let here = ends (stream ++ take (at + n) piece) before (far-fed t held fed' stream piece at n before now reader short inside stands (p.goes stream before short far)) in
     subst (λ (xs : List ℕ). Ends t how xs before then_)
     (append_assoc stream (take (at + n) piece) (drop (at + n) piece) ∙ ap (λ xs. stream ++ xs) (take-append-drop (at + n) piece))
-    (ends-more t how (stream ++ take (at + n) piece) (drop (at + n) piece) before then_ here)
+    (ends-more lasts t how (stream ++ take (at + n) piece) (drop (at + n) piece) before then_ here)
 
 -- a part that is fed to a splitter that waits isn't empty
 pub resting_feeds : (t : Task) (held : Held) (n size : ℕ) → IsResting t held → 0 < size

@@ -1,36 +1,32 @@
 -- A stream that is followed piece by piece.
-use Rattle.std.specs.Prelude.{◌≡◌, ◌++◌, ◌<◌, ◌+◌, ◌^◌, ◌⊎◌, ℕ, List, [], codes, length, take, Option}
+use Rattle.std.specs.Prelude.{◌≡◌, ◌++◌, ◌<◌, ◌+◌, ◌^◌, ◌⊎◌, ℕ, List, [], codes, length, take, Option, Some, None}
 use Rattle.std.specs.Io.KnownBytes.{Appends}
 use Rattle.hf_split.specs.Cuts.{Spelled, IsWaiting, Cuts, always}
 use Rattle.hf_split.specs.Held.{Held, Stands}
-use Rattle.hm_message.specs.Message.{Fits}
-use Rattle.hm_message.specs.declared.message.Codec.{Codec}
-use Rattle.sr_check.specs.declared.judged.Judged.{Judged}
-use Rattle.sr_check.specs.declared.judged.Judged.TheVariants.{Message, Unknown, Refused}
-use Rattle.sr_check.specs.declared.output.Piece.{Piece}
-use Rattle.sr_check.specs.declared.output.Piece.TheVariants.{Good, Bad}
+use Rattle.hm_codec.specs.declared.why.FrameWhy.{FrameWhy}
+use Rattle.hm_codec.specs.Frames.{Why}
+use Rattle.hm_codec.specs.Words.{why_words}
 use Rattle.sr_check.specs.declared.task.Task.{Task}
 use Rattle.sr_check.specs.declared.task.Stop.{Stop}
 use Rattle.sr_check.specs.declared.task.Stop.TheVariants as stop
-use Rattle.sr_check.specs.Frames as frames
 use Rattle.sr_check.specs.Output.{codec_of, framing, IsWritten, last_text}
-use Rattle.sr_check.specs.Stream.{most_frame, Written, IsFront, IsBegun, IsStop, IsStopped, IsPart}
+use Rattle.sr_check.specs.Stream.{most_frame, AreWritten, IsFrontText, IsBegun, IsStop, IsStopped, IsPart}
 use Rattle.hd_facts.specs.Writes.{Writes, WritesPart}
-
--- this is what the frame says
-abbrev pub IsJudged : Codec → List ℕ → Judged → Type 0
-IsJudged codec frame (Message m) = frames.Says codec frame m × Fits m
-IsJudged codec frame (Unknown n) = frames.Unknown codec frame n
-IsJudged codec frame (Refused words) = frames.Refuses codec frame words.items
 
 -- this is written of a frame that is refused
 abbrev pub IsRefusal : Task → ℕ → List ℕ → List ℕ → Type 0
-IsRefusal task at frame text = (words : List ℕ) × frames.Refuses (codec_of task) frame words × (text ≡ last_text task at (codes "refused " ++ words))
+IsRefusal task at frame text = (why : FrameWhy) × Why (codec_of task) frame why × (text ≡ last_text task at (codes "refused " ++ why_words why))
 
--- this is written of the frame, of the kind that it is said to be
-abbrev pub IsPieceOf : Task → ℕ → List ℕ → Piece → Type 0
-IsPieceOf task at frame (Good text) = IsWritten task at frame text.items
-IsPieceOf task at frame (Bad text) = IsRefusal task at frame text.items
+-- What was put on the desk where the task ended so: a last text of which this holds, or nothing.
+abbrev pub EndsOnDesk : Stop → (List ℕ → Type 0) → List ℕ → List ℕ → Type 0
+EndsOnDesk stop.Refused P before now = (text : List ℕ) × P text × (now ≡ before ++ text)
+EndsOnDesk stop.NoMemory P before now = now ≡ before
+EndsOnDesk how P before now = ⊥
+
+-- what the output holds once the text on the desk is written
+abbrev pub with_desk : Option (List ℕ) → List ℕ → Option (List ℕ)
+with_desk None text = None
+with_desk (Some bytes) text = Some (bytes ++ text)
 
 -- a splitter for the task's stream
 pub record IsReader (task : Task) (held : Held) : Type 0 where
@@ -41,7 +37,7 @@ pub record IsReader (task : Task) (held : Held) : Type 0 where
 pub record IsAt (task : Task) (held : Held) (stream : List ℕ) (items : List Spelled) (text : List ℕ) : Type 0 where
   pub reader : IsReader task held
   pub stands : Stands (always (framing task)) held stream items
-  pub written : Written task 0 items text
+  pub written : AreWritten task 0 items text
   pub short : length stream < 2 ^ 64
 
 -- it waits for more
@@ -62,16 +58,16 @@ pub record IsWholeSoFar (task : Task) (stream : List ℕ) (before now : Option (
   pub items : List Spelled
   pub text : List ℕ
   pub cut : Cuts (always (framing task)) most_frame stream items []
-  pub written : Written task 0 items text
+  pub written : AreWritten task 0 items text
   pub wrote : Appends before now text
 
 -- what is written of frames with which the stream begins, and nothing else
 abbrev pub IsBegunSoFar : Task → List ℕ → List ℕ → Type 0
-IsBegunSoFar task stream text = (items : List Spelled) × IsFront task stream items text
+IsBegunSoFar task stream text = (items : List Spelled) × IsFrontText task stream items text
 
 -- the same, and then what is written last however the stream goes on
 abbrev pub IsStoppedSoFar : Task → List ℕ → List ℕ → Type 0
-IsStoppedSoFar task stream text = (items : List Spelled) × (front last : List ℕ) × IsFront task stream items front × IsStop task stream items last × (text ≡ front ++ last)
+IsStoppedSoFar task stream text = (items : List Spelled) × (front last : List ℕ) × IsFrontText task stream items front × IsStop task stream items last × (text ≡ front ++ last)
 
 abbrev pub IsPartSoFar : Task → List ℕ → List ℕ → Type 0
 IsPartSoFar task stream text = IsBegunSoFar task stream text ⊎ IsStoppedSoFar task stream text

@@ -1,4 +1,4 @@
-pub mod Frames
+pub mod Words
 pub mod Output
 pub mod Stream
 pub mod Going

@@ -4,10 +4,10 @@ use Rattle.std.specs.Fmt.{decimal, signed_decimal}
 use Rattle.hf_split.specs.declared.framing.Framing.{Framing}
 use Rattle.hm_message.specs.declared.message.Codec.{Codec}
 use Rattle.hm_message.specs.declared.message.Message.{Message}
-use Rattle.hm_json.specs.Frame.{frame_of}
+use Rattle.hm_message.specs.declared.message.Codec.TheVariants as codecs
 use Rattle.sr_check.specs.declared.task.Task.{Task}
 use Rattle.sr_check.specs.declared.task.Task.TheVariants.{Check, Convert}
-use Rattle.sr_check.specs.Frames.{Says, Unknown, streamed, framing_of}
+use Rattle.hm_codec.specs.Frames.{Says, Unknown, frame_of, framed, framing_of}
 
 -- the codec of the stream that is read
 abbrev pub codec_of : Task → Codec
@@ -23,8 +23,8 @@ line_at at words = decimal at ++ (codes " " ++ (words ++ codes "\n"))
 
 -- what is written of a message: its line with its JSON text, or its frame in the other codec
 abbrev pub message_text : Task → ℕ → Message → List ℕ
-message_text (Check codec) at m = line_at at (codes "message " ++ frame_of m)
-message_text (Convert from to) at m = streamed to m
+message_text (Check codec) at m = line_at at (codes "message " ++ frame_of codecs.Json m)
+message_text (Convert from to) at m = framed to m
 
 -- what is written of a frame of an unknown type: its line, or nothing
 abbrev pub unknown_text : Task → ℕ → ℤ → List ℕ

@@ -2,20 +2,26 @@
 use Rattle.std.specs.Prelude.{◌≡◌, ◌≢◌, ◌<◌, ◌≤◌, ◌+◌, ◌^◌, ◌⊎◌, ℕ, List, [], ◌∷◌, ◌++◌, length, take, codes, Option}
 use Rattle.std.specs.Fmt.{decimal}
 use Rattle.std.specs.Io.KnownBytes.{Consumes}
+use Rattle.hf_split.specs.declared.framing.Framing.{Framing}
+use Rattle.hf_split.specs.declared.splitter.SplitFault.{SplitFault}
 use Rattle.hf_split.specs.Cuts.{Spelled, AreFrames, IsFaulty, Cuts, always, stream_of}
+use Rattle.hf_split.specs.Held.{IsFaultOf}
+use Rattle.hm_codec.specs.declared.why.FrameWhy.{FrameWhy}
+use Rattle.hm_codec.specs.declared.why.FrameWhy.TheVariants.{Split}
+use Rattle.hm_codec.specs.Frames.{Why}
+use Rattle.hm_codec.specs.Words.{why_words}
 use Rattle.sr_check.specs.declared.task.Task.{Task}
-use Rattle.sr_check.specs.Frames.{Refuses, RefusesRest}
 use Rattle.sr_check.specs.Output.{codec_of, framing, IsWritten, last_text}
 
--- the greatest frame, without its framing
+-- the greatest length of a frame in bytes, without its framing
 abbrev pub most_frame : ℕ
 most_frame = 32768
 
 -- what is written of these frames, none of which is refused, where so many bytes stand before the first
-abbrev pub Written : Task → ℕ → List Spelled → List ℕ → Type 0
-Written task at [] text = text ≡ []
-Written task at (item ∷ items) text =
-    (piece more : List ℕ) × IsWritten task at item.frame piece × (text ≡ piece ++ more) × Written task (at + length item.spelling) items more
+abbrev pub AreWritten : Task → ℕ → List Spelled → List ℕ → Type 0
+AreWritten task at [] text = text ≡ []
+AreWritten task at (item ∷ items) text =
+    (piece more : List ℕ) × IsWritten task at item.frame piece × (text ≡ piece ++ more) × AreWritten task (at + length item.spelling) items more
 
 -- the bytes begin with these frames, one after the other
 pub record BeginsFrames (task : Task) (bytes : List ℕ) (items : List Spelled) : Type 0 where
@@ -24,9 +30,9 @@ pub record BeginsFrames (task : Task) (bytes : List ℕ) (items : List Spelled) 
   pub each : AreFrames (always (framing task)) most_frame items
 
 -- the text is what is written of these frames, with which the bytes begin
-pub record IsFront (task : Task) (bytes : List ℕ) (items : List Spelled) (text : List ℕ) : Type 0 where
+pub record IsFrontText (task : Task) (bytes : List ℕ) (items : List Spelled) (text : List ℕ) : Type 0 where
   pub begins : BeginsFrames task bytes items
-  pub written : Written task 0 items text
+  pub written : AreWritten task 0 items text
 
 -- these frames are cut off the bytes, and this is left
 abbrev pub IsCut : Task → List ℕ → List Spelled → List ℕ → Type 0
@@ -36,25 +42,29 @@ IsCut task bytes items rest = Cuts (always (framing task)) most_frame bytes item
 pub record IsBadFrame (task : Task) (bytes : List ℕ) (items : List Spelled) (text : List ℕ) : Type 0 where
   pub item : Spelled
   pub next : BeginsFrames task bytes (items ++ item ∷ [])
-  pub words : List ℕ
-  pub refused : Refuses (codec_of task) item.frame words
-  pub text_is : text ≡ last_text task (length (stream_of items)) (codes "refused " ++ words)
+  pub why : FrameWhy
+  pub refused : Why (codec_of task) item.frame why
+  pub text_is : text ≡ last_text task (length (stream_of items)) (codes "refused " ++ why_words why)
+
+-- the bytes, which stand at this place of the stream, begin with this fault
+abbrev pub IsFaultAt : Framing → ℕ → List ℕ → SplitFault → Type 0
+IsFaultAt framing place bytes fault = IsFaultOf (record { framing = framing; most = most_frame; place = place; bytes = bytes }) fault
 
 -- what is written of a rest with which no frame can begin
 pub record IsBadRest (task : Task) (bytes : List ℕ) (items : List Spelled) (text : List ℕ) : Type 0 where
   pub rest : List ℕ
   pub cut : IsCut task bytes items rest
-  pub words : List ℕ
-  pub refused : RefusesRest (framing task) most_frame rest words
-  pub text_is : text ≡ last_text task (length (stream_of items)) (codes "refused " ++ words)
+  pub fault : SplitFault
+  pub refused : IsFaultAt (framing task) (length (stream_of items)) rest fault
+  pub text_is : text ≡ last_text task (length (stream_of items)) (codes "refused " ++ why_words (Split fault))
 
 -- the most bytes of a stream that are followed
 abbrev pub most_bytes : ℕ
 most_bytes = 2 ^ 40
 
 -- the bytes that are followed
-abbrev pub followed : List ℕ → List ℕ
-followed bytes = take most_bytes bytes
+abbrev pub followed_part : List ℕ → List ℕ
+followed_part bytes = take most_bytes bytes
 
 -- what is written of a rest with which a frame may begin, where the bytes end with it
 pub record IsUnfinished (task : Task) (bytes : List ℕ) (items : List Spelled) (text : List ℕ) : Type 0 where
@@ -69,7 +79,7 @@ pub record IsUnfinished (task : Task) (bytes : List ℕ) (items : List Spelled) 
 pub record IsPastLimit (task : Task) (bytes : List ℕ) (items : List Spelled) (text : List ℕ) : Type 0 where
   pub past : most_bytes < length bytes
   pub rest : List ℕ
-  pub cut : IsCut task (followed bytes) items rest
+  pub cut : IsCut task (followed_part bytes) items rest
   pub not_bad : IsFaulty (framing task) most_frame rest → ⊥
   pub text_is : text ≡ last_text task (length (stream_of items)) (codes "limit")
 
@@ -79,20 +89,20 @@ IsStop task bytes items text = IsBadFrame task bytes items text ⊎ IsBadRest ta
 
 -- what is written last of bytes that can't be followed to their end as whole frames
 abbrev pub IsLast : Task → List ℕ → List Spelled → List ℕ → Type 0
-IsLast task bytes items text = IsStop task (followed bytes) items text ⊎ (IsUnfinished task bytes items text ⊎ IsPastLimit task bytes items text)
+IsLast task bytes items text = IsStop task (followed_part bytes) items text ⊎ (IsUnfinished task bytes items text ⊎ IsPastLimit task bytes items text)
 
 -- all that is written of the bytes, where every frame is good and nothing is left
 abbrev pub IsDone : Task → List ℕ → List ℕ → Type 0
-IsDone task bytes text = (items : List Spelled) × (length bytes ≤ most_bytes) × IsCut task bytes items [] × Written task 0 items text
+IsDone task bytes text = (items : List Spelled) × (length bytes ≤ most_bytes) × IsCut task bytes items [] × AreWritten task 0 items text
 
 -- all that is written of the bytes, where a frame is refused, or a rest is left, or they are too many
 abbrev pub IsStopped : Task → List ℕ → List ℕ → Type 0
 IsStopped task bytes text =
-    (items : List Spelled) × (front last : List ℕ) × IsFront task (followed bytes) items front × IsLast task bytes items last × (text ≡ front ++ last)
+    (items : List Spelled) × (front last : List ℕ) × IsFrontText task (followed_part bytes) items front × IsLast task bytes items last × (text ≡ front ++ last)
 
 -- what is written of some frames with which the bytes begin, and nothing else
 abbrev pub IsBegun : Task → List ℕ → List ℕ → Type 0
-IsBegun task bytes text = (items : List Spelled) × IsFront task (followed bytes) items text
+IsBegun task bytes text = (items : List Spelled) × IsFrontText task (followed_part bytes) items text
 
 -- what is written of the bytes, so far or whole
 abbrev pub IsPart : Task → List ℕ → List ℕ → Type 0
@@ -104,14 +114,18 @@ pub record IsAllSoFar (task : Task) (bytes text : List ℕ) : Type 0 where
   pub items : List Spelled
   pub rest : List ℕ
   pub cut : IsCut task bytes items rest
-  pub written : Written task 0 items text
+  pub written : AreWritten task 0 items text
   pub not_bad : IsFaulty (framing task) most_frame rest → ⊥
 
--- no further is read than one piece of at most 4,096 bytes past bytes in which nothing is refused
+-- the most bytes that are read at a time
+abbrev pub most_piece : ℕ
+most_piece = 4096
+
+-- no further is read than one piece past bytes in which nothing is refused
 pub record ReadsNoFurther (task : Task) (input left : Option (List ℕ)) : Type 0 where
   pub front : List ℕ
   pub piece : List ℕ
   pub text : List ℕ
   pub good : IsAllSoFar task front text
-  pub short : length piece ≤ 4096
+  pub short : length piece ≤ most_piece
   pub read : Consumes input left (front ++ piece)

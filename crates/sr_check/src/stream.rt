@@ -1,148 +1,180 @@
-ghost use Rattle.std.specs.Prelude.{◌≡◌, ◌≢◌, ◌<◌, ◌≤◌, ◌+◌, ◌^◌, ℕ, List, ◌++◌, length, take, Option, IfErr, OnOk, OnErr, Err, codes};
+//! A stream that is followed piece by piece: what its frames are written as goes out once for each piece.
+ghost use Rattle.std.specs.Prelude.{◌≡◌, ◌≢◌, ◌<◌, ◌≤◌, ◌+◌, ◌^◌, ℕ, List, [], ◌++◌, length, take, Option, IfErr, OnOk, OnErr, Err, codes};
 ghost use Rattle.std.specs.Io.KnownBytes.{Appends, IsAtEnd};
-ghost use Rattle.hd_facts.specs.Counts.{Rose};
+ghost use Rattle.hd_facts.specs.Counts.{Rose, HasCause};
 ghost use Rattle.hf_split.specs.Held.{at_start};
 ghost use Rattle.sr_check.specs.Output.{framing, last_text};
-ghost use Rattle.sr_check.specs.Stream.{IsDone, IsAllSoFar, ReadsNoFurther};
-ghost use Rattle.sr_check.specs.Going.{IsReader, IsResting, IsSoFar, IsWholeSoFar, IsLastPut, Ends, EndsAt, EndsInput};
+ghost use Rattle.sr_check.specs.Stream.{IsDone, IsAllSoFar, ReadsNoFurther, most_bytes, most_frame};
+ghost use Rattle.sr_check.specs.Going.{IsReader, IsResting, IsSoFar, IsWholeSoFar, IsLastPut, Ends, EndsAt, EndsInput, with_desk};
 ghost use Rattle.hd_facts.specs.Writes.{Writes, WritesOfRead};
 
-use crate::output::{Piece, frame_piece, last_text};
+use crate::desk::{Desk, put_frame, put_last, put_refusal};
+use crate::laws::faults_last;
 use crate::task::{Stop, Task};
-use hf_split::{SplitFault, Splitter};
+use hf_split::Splitter;
+use hm_codec::FrameWhy;
 use hw_io::{Failed, Sink, Source};
+use itoa::Buffer;
 use std::alloc::Global;
+
+/// The greatest length of a frame in bytes, without its framing.
+pub(crate) const MOST_FRAME: usize = 32768;
 
 /// The most bytes of a stream that are followed: 2^40.
 const MOST_BYTES: usize = 1099511627776;
 
-/// How many bytes are read at a time.
-const PIECE: usize = 4096;
+/// The most bytes that are read at a time.
+const MOST_PIECE: usize = 4096;
 
-/// Writes these bytes. Where there are none the output isn't touched.
-fn put<K: Sink>(out: &mut K, bytes: &[u8]) -> Result<(), Stop>
-    ensures ok { OnOk result (Appends (K.holds out.old) (K.holds out.new) bytes.now) }
-    ensures err { OnErr result (Rose (K.faults out.old) (K.faults out.new)
-        × ((n : ℕ) × Appends (K.holds out.old) (K.holds out.new) (take n bytes.now))) }
+/// Writes what stands on the desk, which is then empty. Where nothing stands there the output isn't touched.
+fn put<K: Sink>(out: &mut K, desk: &mut Desk) -> Result<(), Stop>
+    ensures ok { OnOk result (Appends (K.holds out.old) (K.holds out.new) desk.old.text.items) }
+    ensures err { OnErr result ((n : ℕ) × Appends (K.holds out.old) (K.holds out.new) (take n desk.old.text.items)) }
     ensures fault { IfErr result (λ e. e ≡ Stop.WriteFault) }
-    ensures later { K.faults out.old ≤ K.faults out.new }
+    ensures cause { HasCause (K.faults out.old) (K.faults out.new) result }
+    ensures untouched { desk.old.text.items ≡ [] → out.new ≡ out.old }
+    ensures empty { desk.new.text.items ≡ [] }
 {
-    if bytes.is_empty() {
+    if desk.text.is_empty() {
         return Ok(());
     }
-    match out.put(bytes) {
+    let put = out.put(&desk.text);
+    desk.text.clear();
+    match put {
         Ok(()) => Ok(()),
         Err(Failed) => Err(Stop::WriteFault),
     }
 }
 
-/// Writes what is written last, and answers how the task ends.
-fn put_last<K: Sink>(out: &mut K, bytes: &[u8]) -> Stop
-    ensures last { IsLastPut result bytes.now (K.holds out.old) (K.holds out.new) }
+/// Ends the task at a place, for what these words say, and answers how.
+fn write_last<K: Sink>(
+    task: Task,
+    at: u64,
+    first: &[u8],
+    words: &[u8],
+    desk: &mut Desk,
+    out: &mut K,
+) -> Stop
+    requires { desk.old.text.items ≡ [] }
+    ensures last { IsLastPut result (last_text task at (first.now ++ words.now)) (K.holds out.old) (K.holds out.new) }
     ensures read { result ≢ Stop.ReadFault }
     ensures fault { result ≡ Stop.WriteFault → Rose (K.faults out.old) (K.faults out.new) }
-    ensures later { K.faults out.old ≤ K.faults out.new }
+    ensures unfailed { result ≢ Stop.WriteFault → K.faults out.new ≡ K.faults out.old }
 {
-    match put(out, bytes) {
+    if put_last(task, at, first, words, desk).is_err() {
+        return Stop::NoMemory;
+    }
+    match put(out, desk) {
         Ok(()) => Stop::Refused,
         Err(_) => Stop::WriteFault,
     }
 }
 
-/// Ends the task at a place, for what these words say, and answers how.
-fn stop<K: Sink>(alloc: Global, task: Task, at: u64, words: &[u8], out: &mut K) -> Stop
-    ensures last { IsLastPut result (last_text task at words.now) (K.holds out.old) (K.holds out.new) }
-    ensures read { result ≢ Stop.ReadFault }
-    ensures fault { result ≡ Stop.WriteFault → Rose (K.faults out.old) (K.faults out.new) }
-    ensures later { K.faults out.old ≤ K.faults out.new }
-{
-    let Ok(text) = last_text(alloc, task, at, words) else {
-        return Stop::NoMemory;
-    };
-    put_last(out, &text)
-}
-
-/// Writes what is written of each whole frame that the splitter holds. `Err` is how the task ends.
-fn write_frames<K: Sink>(
+/// Puts on the desk what is written of each whole frame that the splitter holds. `Err` is how the task ends.
+fn put_frames(
     alloc: Global,
     task: Task,
     splitter: &mut Splitter,
-    out: &mut K,
+    desk: &mut Desk,
 ) -> Result<(), Stop>
     requires { IsReader task splitter.old }
     ensures resting { OnOk result (IsResting task splitter.new) }
-    ensures so_far { (stream : List ℕ) (before : Option (List ℕ)) → IsSoFar task splitter.old stream before (K.holds out.old) →
-        OnOk result (IsSoFar task splitter.new stream before (K.holds out.new)) }
-    ensures ended { IfErr result (λ stop. (stream : List ℕ) (before : Option (List ℕ)) →
-        IsSoFar task splitter.old stream before (K.holds out.old) → Ends task stop stream before (K.holds out.new)) }
-    ensures fault { result ≡ Err Stop.WriteFault → Rose (K.faults out.old) (K.faults out.new) }
-    ensures later { K.faults out.old ≤ K.faults out.new }
+    ensures so_far { (stream : List ℕ) (before now : Option (List ℕ)) → IsSoFar task splitter.old stream before (with_desk now desk.old.text.items) →
+        OnOk result (IsSoFar task splitter.new stream before (with_desk now desk.new.text.items)) }
+    ensures ended { IfErr result (λ stop. (stream : List ℕ) (before now : Option (List ℕ)) →
+        IsSoFar task splitter.old stream before (with_desk now desk.old.text.items) → Ends task stop stream before (with_desk now desk.new.text.items)) }
+    ensures no_fault { result ≢ Err Stop.WriteFault }
 {
+    faults_last();
     loop {
         match splitter.frame() {
-            Ok(Some((at, frame))) => match frame_piece(alloc, task, at, frame)? {
-                Piece::Good(text) => put(out, &text)?,
-                Piece::Bad(text) => return Err(put_last(out, &text)),
-            },
+            Ok(Some((at, frame))) => put_frame(alloc, task, at, frame, desk)?,
             Ok(None) => return Ok(()),
-            Err(SplitFault::TooLong { at }) => {
-                return Err(stop(alloc, task, at, b"refused TooLong", out));
-            }
-            Err(SplitFault::BadLength { at }) => {
-                return Err(stop(alloc, task, at, b"refused BadLength", out));
+            Err(fault) => {
+                let why = FrameWhy::Split(fault);
+                return Err(put_refusal(alloc, task, splitter.place(), why, desk));
             }
         }
         splitter.pass();
     }
 }
 
-/// Feeds a piece, and writes what is written of each frame that it makes whole.
+/// Feeds a piece, and puts on the desk what is written of each frame that it makes whole.
+fn put_piece(
+    alloc: Global,
+    task: Task,
+    splitter: &mut Splitter,
+    piece: &[u8],
+    desk: &mut Desk,
+) -> Result<(), Stop>
+    requires { IsResting task splitter.old }
+    ensures resting { OnOk result (IsResting task splitter.new) }
+    ensures so_far { (stream : List ℕ) (before now : Option (List ℕ)) → length (stream ++ piece.now) < 2 ^ 64 →
+        IsSoFar task splitter.old stream before (with_desk now desk.old.text.items) →
+        OnOk result (IsSoFar task splitter.new (stream ++ piece.now) before (with_desk now desk.new.text.items)) }
+    ensures ended { IfErr result (λ stop. (stream : List ℕ) (before now : Option (List ℕ)) → length (stream ++ piece.now) < 2 ^ 64 →
+        IsSoFar task splitter.old stream before (with_desk now desk.old.text.items) →
+        Ends task stop (stream ++ piece.now) before (with_desk now desk.new.text.items)) }
+    ensures no_fault { result ≢ Err Stop.WriteFault }
+{
+    faults_last();
+    let mut at = 0;
+    while at < piece.len() {
+        at += splitter.feed(&piece[at..]);
+        put_frames(alloc, task, splitter, desk)?;
+    }
+    Ok(())
+}
+
+/// Feeds a piece, and writes what is written of each frame that it makes whole, all in one go.
 fn write_piece<K: Sink>(
     alloc: Global,
     task: Task,
     splitter: &mut Splitter,
     piece: &[u8],
+    desk: &mut Desk,
     out: &mut K,
 ) -> Result<(), Stop>
-    requires { IsResting task splitter.old }
+    requires resting { IsResting task splitter.old }
+    requires empty { desk.old.text.items ≡ [] }
     ensures resting { OnOk result (IsResting task splitter.new) }
     ensures so_far { (stream : List ℕ) (before : Option (List ℕ)) → length (stream ++ piece.now) < 2 ^ 64 →
         IsSoFar task splitter.old stream before (K.holds out.old) → OnOk result (IsSoFar task splitter.new (stream ++ piece.now) before (K.holds out.new)) }
     ensures ended { IfErr result (λ stop. (stream : List ℕ) (before : Option (List ℕ)) → length (stream ++ piece.now) < 2 ^ 64 →
         IsSoFar task splitter.old stream before (K.holds out.old) → Ends task stop (stream ++ piece.now) before (K.holds out.new)) }
     ensures fault { result ≡ Err Stop.WriteFault → Rose (K.faults out.old) (K.faults out.new) }
-    ensures later { K.faults out.old ≤ K.faults out.new }
+    ensures unfailed { result ≢ Err Stop.WriteFault → K.faults out.new ≡ K.faults out.old }
+    ensures empty { desk.new.text.items ≡ [] }
 {
-    let mut at = 0;
-    while at < piece.len() {
-        at += splitter.feed(&piece[at..]);
-        write_frames(alloc, task, splitter, out)?;
-    }
-    Ok(())
+    let end = put_piece(alloc, task, splitter, piece, desk);
+    put(out, desk)?;
+    end
 }
 
 /// Ends the task where the input ends: it is done where nothing is left.
 fn write_rest<K: Sink>(
-    alloc: Global,
     task: Task,
     splitter: &Splitter,
+    desk: &mut Desk,
     out: &mut K,
 ) -> Result<(), Stop>
-    requires { IsResting task splitter.now }
+    requires resting { IsResting task splitter.now }
+    requires empty { desk.old.text.items ≡ [] }
     ensures whole { OnOk result ((stream : List ℕ) (before : Option (List ℕ)) →
         IsSoFar task splitter.now stream before (K.holds out.old) → IsWholeSoFar task stream before (K.holds out.new)) }
-    ensures ended { IfErr result (λ stop. (stream : List ℕ) (before : Option (List ℕ)) → length stream ≤ 1099511627776 →
+    ensures ended { IfErr result (λ stop. (stream : List ℕ) (before : Option (List ℕ)) → length stream ≤ most_bytes →
         IsSoFar task splitter.now stream before (K.holds out.old) → EndsAt task stop stream before (K.holds out.new)) }
     ensures read { result ≢ Err Stop.ReadFault }
     ensures fault { result ≡ Err Stop.WriteFault → Rose (K.faults out.old) (K.faults out.new) }
-    ensures later { K.faults out.old ≤ K.faults out.new }
+    ensures unfailed { result ≢ Err Stop.WriteFault → K.faults out.new ≡ K.faults out.old }
 {
     let held = splitter.held();
     if held == 0 {
         return Ok(());
     }
-    let words = format!(in alloc; "unfinished {held}")?;
-    Err(stop(alloc, task, splitter.place(), words.as_bytes(), out))
+    let mut digits = Buffer::new();
+    let words = digits.format(held).as_bytes();
+    Err(write_last(task, splitter.place(), b"unfinished ", words, desk, out))
 }
 
 /// Follows the input piece by piece to its end.
@@ -153,27 +185,32 @@ pub(crate) fn follow<S: Source, K: Sink>(
     input: &mut S,
     out: &mut K,
 ) -> Result<(), Stop>
-    requires { splitter.old ≡ at_start (framing task) 32768 }
+    requires { splitter.old ≡ at_start (framing task) most_frame }
     ensures done { OnOk result (IsAtEnd (S.left input.new) × Writes (IsDone task) (S.left input.old) (K.holds out.old) (K.holds out.new)) }
     ensures ended { IfErr result (λ stop. (stop ≢ Stop.ReadFault) → EndsInput task stop (S.left input.old) (K.holds out.old) (K.holds out.new)) }
     ensures read_fault { result ≡ Err Stop.ReadFault → Rose (S.faults input.old) (S.faults input.new)
         × WritesOfRead (IsAllSoFar task) (S.left input.old) (S.left input.new) (K.holds out.old) (K.holds out.new) }
     ensures write_fault { result ≡ Err Stop.WriteFault → Rose (K.faults out.old) (K.faults out.new) }
     ensures no_further { ReadsNoFurther task (S.left input.old) (S.left input.new) }
+    ensures source_unfailed { result ≢ Err Stop.ReadFault → S.faults input.new ≡ S.faults input.old }
+    ensures sink_unfailed { result ≢ Err Stop.WriteFault → K.faults out.new ≡ K.faults out.old }
 {
-    let mut piece = [0u8; PIECE];
+    faults_last();
+    let mut piece = [0u8; MOST_PIECE];
     let mut left = MOST_BYTES;
+    let mut desk = Desk::new(alloc);
     loop {
         let count = match input.take(&mut piece) {
-            Ok(0) => return write_rest(alloc, task, splitter, out),
+            Ok(0) => return write_rest(task, splitter, &mut desk, out),
             Ok(count) => count,
             Err(Failed) => return Err(Stop::ReadFault),
         };
         if count > left {
-            write_piece(alloc, task, splitter, &piece[..left], out)?;
-            return Err(stop(alloc, task, splitter.place(), b"limit", out));
+            write_piece(alloc, task, splitter, &piece[..left], &mut desk, out)?;
+            let at = splitter.place();
+            return Err(write_last(task, at, b"", b"limit", &mut desk, out));
         }
-        write_piece(alloc, task, splitter, &piece[..count], out)?;
+        write_piece(alloc, task, splitter, &piece[..count], &mut desk, out)?;
         left -= count;
     }
 }

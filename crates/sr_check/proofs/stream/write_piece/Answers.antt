@@ -1,34 +1,34 @@
-use Rattle.std.proofs.Common.{length, drop, arith, length-drop}
-use Rattle.std.proofs.lemmas.Result.{err_from_is_err_and}
-use Rattle.std.proofs.lemmas.List.{take_rest}
-use Rattle.hf_split.specs.Cuts.{always}
-use Rattle.sr_check.specs.Output.{framing}
-use Rattle.sr_check.specs.Going.{IsReader}
-use Rattle.sr_check.proofs.Pieces.{piecewise_next, piecewise_ends, resting_feeds, fed_reader}
+use Rattle.std.proofs.Common.{◌++◌, sym, subst, Option, List, ℕ}
+use Rattle.std.proofs.lemmas.Result.{err_from_is_err_and, on_ok_weaker, IfErr-weaker}
+use Rattle.sr_check.specs.Going.{IsSoFar, with_desk}
+use Rattle.sr_check.proofs.Following.{desk_empty, so_far_put, ends_put, ends_part}
 use Rattle.sr_check.proofs.stream.write_piece.Goals as goal
 
-pub loop-at-smaller : goal.loop-at-smaller
-loop-at-smaller g c =
-    let size = length-drop c.loop-at.at c.args.piece.now in
-    let some = resting_feeds c.args.task c.loop-at.splitter c.feed-at.result (length (drop c.loop-at.at c.args.piece.now)) c.loop-at.invariant.piecewise.resting (omega arith) (rw take_rest at c.feed-at.ensures.count) in
-    omega (arith, some, rw take_rest at c.feed-at.ensures.within, size)
+pub returns-clause-so_far : goal.returns-clause-so_far
+returns-clause-so_far g c stream before short far =
+    let here : IsSoFar c.args.task c.args.splitter.now stream before (with_desk (g.K.Sink.holds c.args.out.now) c.args.desk.now.text.items) =
+    subst (λ (now : Option (List ℕ)). IsSoFar c.args.task c.args.splitter.now stream before now) (sym (desk_empty (g.K.Sink.holds c.args.out.now) c.args.desk.now.text.items c.requires.empty)) far in
+    on_ok_weaker c.put_piece-end.result
+    (so_far_put c.args.task c.put_piece-end.new.splitter (stream ++ c.args.piece.now) before (g.K.Sink.holds c.args.out.now) (g.K.Sink.holds c.put.new.out) c.put_piece-end.new.desk.text.items c.in_ok-put.ensures.ok)
+    (c.put_piece-end.ensures.so_far stream before (g.K.Sink.holds c.args.out.now) short here)
 
-pub loop-at-preserved : goal.loop-at-preserved
-loop-at-preserved g c =
-    let size = length-drop c.loop-at.at c.args.piece.now in
-    let reader : IsReader c.args.task c.feed-at.new.self = fed_reader c.args.task c.loop-at.splitter c.feed-at.new.self _ c.loop-at.invariant.piecewise.resting.reader c.feed-at.ensures.fed in
-    record {
-      piecewise = piecewise_next c.args.task c.args.splitter.now c.loop-at.splitter c.feed-at.new.self c.write_frames.new.splitter c.args.piece.now c.loop-at.at c.feed-at.result
-          (g.K.Sink.holds c.args.out.now) (g.K.Sink.holds c.loop-at.out) (g.K.Sink.holds c.write_frames.new.out) c.loop-at.invariant.piecewise reader
-          (omega (arith, rw take_rest at c.feed-at.ensures.within, size)) (rw take_rest at (c.feed-at.ensures.stands (always (framing c.args.task)))) c.in_ok-write_frames.ensures.resting c.in_ok-write_frames.ensures.so_far;
-      later = omega (arith, c.loop-at.invariant.later, c.write_frames.ensures.later);
-    }
+pub returns-clause-ended : goal.returns-clause-ended
+returns-clause-ended g c =
+    IfErr-weaker c.put_piece-end.result _ _
+    (λ how ends stream before short far. ends_put c.args.task how (stream ++ c.args.piece.now) before (g.K.Sink.holds c.args.out.now) (g.K.Sink.holds c.put.new.out) c.put_piece-end.new.desk.text.items c.in_ok-put.ensures.ok
+    (ends stream before (g.K.Sink.holds c.args.out.now) short
+    (subst (λ (now : Option (List ℕ)). IsSoFar c.args.task c.args.splitter.now stream before now) (sym (desk_empty (g.K.Sink.holds c.args.out.now) c.args.desk.now.text.items c.requires.empty)) far)))
+    c.put_piece-end.ensures.ended
 
-pub returns-in_err-write_frames-clause-ended : goal.returns-in_err-write_frames-clause-ended
-returns-in_err-write_frames-clause-ended g c =
-    let size = length-drop c.loop-at.at c.args.piece.now in
-    let reader : IsReader c.args.task c.feed-at.new.self = fed_reader c.args.task c.loop-at.splitter c.feed-at.new.self _ c.loop-at.invariant.piecewise.resting.reader c.feed-at.ensures.fed in
+pub returns-in_err-put-clause-ended : goal.returns-in_err-put-clause-ended
+returns-in_err-put-clause-ended g c =
     let p = err_from_is_err_and c.from_residual.result c.from_residual.ensures.1 in
-    rw (p.1, p.2) (piecewise_ends c.args.task c.args.splitter.now c.loop-at.splitter c.feed-at.new.self c.args.piece.now c.loop-at.at c.feed-at.result
-    (g.K.Sink.holds c.args.out.now) (g.K.Sink.holds c.loop-at.out) (g.K.Sink.holds c.write_frames.new.out) c.in_err-write_frames.field-0.0 c.loop-at.invariant.piecewise reader
-    (omega (arith, rw take_rest at c.feed-at.ensures.within, size)) (rw take_rest at (c.feed-at.ensures.stands (always (framing c.args.task)))) c.in_err-write_frames.ensures.ended)
+    let put = c.in_err-put.ensures.err in
+    rw (p.1, p.2) (λ stream before short far.
+    (let here : IsSoFar c.args.task c.args.splitter.now stream before (with_desk (g.K.Sink.holds c.args.out.now) c.args.desk.now.text.items) =
+    subst (λ (now : Option (List ℕ)). IsSoFar c.args.task c.args.splitter.now stream before now) (sym (desk_empty (g.K.Sink.holds c.args.out.now) c.args.desk.now.text.items c.requires.empty)) far in
+    ends_part c.args.task c.put_piece-end.result c.in_err-put.field-0.0 c.put_piece-end.new.splitter (stream ++ c.args.piece.now) far.text before (g.K.Sink.holds c.args.out.now) (g.K.Sink.holds c.put.new.out)
+    c.put_piece-end.new.desk.text.items put.0 c.in_err-put.ensures.fault c.put_piece-end.ensures.no_fault
+    (c.put_piece-end.ensures.so_far stream before (g.K.Sink.holds c.args.out.now) short here)
+    (IfErr-weaker c.put_piece-end.result _ _ (λ how ends. ends stream before (g.K.Sink.holds c.args.out.now) short here) c.put_piece-end.ensures.ended)
+    far.wrote put.1))

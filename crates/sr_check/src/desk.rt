@@ -1,0 +1,175 @@
+//! What is written of one frame, as text that gathers on a desk until a piece of the input is dealt with.
+ghost use Rattle.std.specs.Prelude.{◌≡◌, ◌++◌, ℕ, List, [], OnOk, OnErr, IfErr, codes};
+ghost use Rattle.std.specs.Fmt.{decimal, signed_decimal};
+ghost use Rattle.hm_message.specs.Message.{Fits};
+ghost use Rattle.hm_codec.specs.Frames.{frame_of};
+ghost use Rattle.hm_codec.specs.Words.{why_words};
+ghost use Rattle.sr_check.specs.Output.{line_at, message_text, unknown_text, last_text, IsWritten};
+ghost use Rattle.sr_check.specs.Going.{IsRefusal, EndsOnDesk};
+ghost use Rattle.hm_message.specs.declared.message.Codec.TheVariants as codec;
+
+use crate::task::{Stop, Task};
+use hm_codec::{FrameError, FrameWhy, read_message, write_message_in};
+use hm_json::write_message as write_json;
+use hm_message::{Message, Read};
+use itoa::Buffer;
+use std::alloc::{AllocError, Global};
+
+/// The memory that the frames of a stream share.
+#[derive(Drop)]
+pub(crate) struct Desk {
+    /// What is to be written next, in whole lines or frames.
+    pub(crate) text: Vec<u8>,
+    /// A line or a frame that is being made. What it holds counts for nothing.
+    body: Vec<u8>,
+}
+
+impl Desk {
+    /// An empty desk.
+    pub(crate) fn new(alloc: Global) -> Desk
+        ensures { result.text.items ≡ [] }
+    {
+        Desk {
+            text: Vec::new(alloc),
+            body: Vec::new(alloc),
+        }
+    }
+}
+
+/// Begins a line with a place.
+fn begin_line(at: u64, line: &mut Vec<u8>) -> Result<(), AllocError>
+    ensures { OnOk result (line.new.items ≡ decimal at ++ codes " ") }
+{
+    line.clear();
+    line.extend_from_slice(Buffer::new().format(at).as_bytes())?;
+    line.push(b' ')?;
+    Ok(())
+}
+
+/// Puts a line on the desk: a place, and what is said of what stands there.
+fn put_line(at: u64, first: &[u8], words: &[u8], desk: &mut Desk) -> Result<(), AllocError>
+    ensures ok { OnOk result (desk.new.text.items ≡ desk.old.text.items ++ line_at at (first.now ++ words.now)) }
+    ensures err { OnErr result (desk.new.text.items ≡ desk.old.text.items) }
+{
+    begin_line(at, &mut desk.body)?;
+    desk.body.extend_from_slice(first)?;
+    desk.body.extend_from_slice(words)?;
+    desk.body.push(b'\n')?;
+    desk.text.extend_from_slice(&desk.body)?;
+    Ok(())
+}
+
+fn put_message_line(
+    alloc: Global,
+    at: u64,
+    message: &Message,
+    desk: &mut Desk,
+) -> Result<(), AllocError>
+    requires { Fits message.now }
+    ensures ok { OnOk result (desk.new.text.items ≡ desk.old.text.items ++ line_at at (codes "message " ++ frame_of codec.Json message.now)) }
+    ensures err { OnErr result (desk.new.text.items ≡ desk.old.text.items) }
+{
+    begin_line(at, &mut desk.body)?;
+    desk.body.extend_from_slice(b"message ")?;
+    write_json(alloc, message, &mut desk.body)?;
+    desk.body.push(b'\n')?;
+    desk.text.extend_from_slice(&desk.body)?;
+    Ok(())
+}
+
+fn put_message(
+    alloc: Global,
+    task: Task,
+    at: u64,
+    message: &Message,
+    desk: &mut Desk,
+) -> Result<(), AllocError>
+    requires { Fits message.now }
+    ensures ok { OnOk result (desk.new.text.items ≡ desk.old.text.items ++ message_text task at message.now) }
+    ensures err { OnErr result (desk.new.text.items ≡ desk.old.text.items) }
+{
+    match task {
+        Task::Check { .. } => put_message_line(alloc, at, message, desk),
+        Task::Convert { to, .. } => write_message_in(
+            alloc,
+            to,
+            message,
+            &mut desk.body,
+            &mut desk.text,
+        ),
+    }
+}
+
+fn put_unknown(task: Task, at: u64, kind: i128, desk: &mut Desk) -> Result<(), AllocError>
+    ensures ok { OnOk result (desk.new.text.items ≡ desk.old.text.items ++ unknown_text task at kind) }
+    ensures err { OnErr result (desk.new.text.items ≡ desk.old.text.items) }
+{
+    match task {
+        Task::Check { .. } => {
+            let mut digits = Buffer::new();
+            put_line(at, b"unknown ", digits.format(kind).as_bytes(), desk)
+        }
+        Task::Convert { .. } => Ok(()),
+    }
+}
+
+/// Puts what is written last where the stream can't be followed further.
+pub(crate) fn put_last(
+    task: Task,
+    at: u64,
+    first: &[u8],
+    words: &[u8],
+    desk: &mut Desk,
+) -> Result<(), AllocError>
+    ensures ok { OnOk result (desk.new.text.items ≡ desk.old.text.items ++ last_text task at (first.now ++ words.now)) }
+    ensures err { OnErr result (desk.new.text.items ≡ desk.old.text.items) }
+{
+    match task {
+        Task::Check { .. } => put_line(at, first, words, desk),
+        Task::Convert { .. } => Ok(()),
+    }
+}
+
+/// Puts what is written of a refusal, and answers how the task ends.
+pub(crate) fn put_refusal(
+    alloc: Global,
+    task: Task,
+    at: u64,
+    why: FrameWhy,
+    desk: &mut Desk,
+) -> Stop
+    ensures { EndsOnDesk result (λ text. text ≡ last_text task at (codes "refused " ++ why_words why)) desk.old.text.items desk.new.text.items }
+{
+    let Ok(words) = format!(in alloc; "{why}") else {
+        return Stop::NoMemory;
+    };
+    match put_last(task, at, b"refused ", words.as_bytes(), desk) {
+        Ok(()) => Stop::Refused,
+        Err(_) => Stop::NoMemory,
+    }
+}
+
+/// Puts what is written of a frame, whole or not at all. `Err` is how the task ends.
+pub(crate) fn put_frame(
+    alloc: Global,
+    task: Task,
+    at: u64,
+    frame: &[u8],
+    desk: &mut Desk,
+) -> Result<(), Stop>
+    ensures good { OnOk result ((text : List ℕ) × IsWritten task at frame.now text × (desk.new.text.items ≡ desk.old.text.items ++ text)) }
+    ensures ended { IfErr result (λ stop. EndsOnDesk stop (IsRefusal task at frame.now) desk.old.text.items desk.new.text.items) }
+{
+    match read_message(alloc, task.codec(), frame) {
+        Ok(Read::Message(message)) => {
+            put_message(alloc, task, at, &message, desk)?;
+            Ok(())
+        }
+        Ok(Read::Unknown(kind)) => {
+            put_unknown(task, at, kind, desk)?;
+            Ok(())
+        }
+        Err(FrameError::Refused(why)) => Err(put_refusal(alloc, task, at, why, desk)),
+        Err(FrameError::NoMemory) => Err(Stop::NoMemory),
+    }
+}
