@@ -1,6 +1,7 @@
 -- Each frame has one meaning, in either codec.
 use Rattle.std.proofs.Common.{◌≡◌, ◌⊎◌, inl, inr, ℕ, List, ap}
 use Rattle.std.specs.Prelude.{ℤ}
+use Rattle.hm_message.specs.Meaning.{HasOneMeaning}
 use Rattle.hm_message.specs.declared.message.Codec.{Codec}
 use Rattle.hm_message.specs.declared.message.Codec.TheVariants.{Json, Pack}
 use Rattle.hm_message.specs.declared.message.Message.{Message}
@@ -43,76 +44,43 @@ pack_refused frame pack_refusal.NoMemory is = tt
 
 -- ---- one meaning
 
-json_reason_once : (frame : List ℕ) → json.ExactlyOne frame → (x y : FrameWhy) → Why Json frame x → Why Json frame y → x ≡ y
-json_reason_once frame one (why.Json r) (why.Json s) p q = ap (λ (e : Refusal). why.Json e) (one.one_reason r s p q)
-json_reason_once frame one (why.Json r) (why.Split s) p q = absurd q
-json_reason_once frame one (why.Json r) (why.Pack s) p q = absurd q
-json_reason_once frame one (why.Split r) y p q = absurd p
-json_reason_once frame one (why.Pack r) y p q = absurd p
+-- a codec's reasons are those of its refusals
+record AreReasonsOf {R : Type 0} (Refuses : R → Type 0) (wrap : R → FrameWhy) (Reasons : FrameWhy → Type 0) : Type 0 where
+  pub of : (r : R) → Refuses r → Reasons (wrap r)
+  pub only : (x : FrameWhy) → Reasons x → (r : R) × Refuses r × (x ≡ wrap r)
 
-json_accepted : (frame : List ℕ) → json.ExactlyOne frame → (m : Message) (x : FrameWhy) → Says Json frame m → Why Json frame x → ⊥
-json_accepted frame one m (why.Json r) p q = one.accepted m r p q
-json_accepted frame one m (why.Split r) p q = q
-json_accepted frame one m (why.Pack r) p q = q
-
-json_passed : (frame : List ℕ) → json.ExactlyOne frame → (n : ℤ) (x : FrameWhy) → Unknown Json frame n → Why Json frame x → ⊥
-json_passed frame one n (why.Json r) p q = one.passed n r p q
-json_passed frame one n (why.Split r) p q = q
-json_passed frame one n (why.Pack r) p q = q
-
-abbrev Meaning : Codec → List ℕ → Type 0
-Meaning c frame = ((m : Message) × Says c frame m) ⊎ ((n : ℤ) × Unknown c frame n) ⊎ ((x : FrameWhy) × Why c frame x)
-
-json_some : (frame : List ℕ) → ((m : Message) × json_says.Says frame m) ⊎ ((n : ℤ) × json_says.Unknown frame n) ⊎ ((r : Refusal) × json_says.Why frame r) → Meaning Json frame
-json_some frame (inl x) = inl x
-json_some frame (inr (inl x)) = inr (inl x)
-json_some frame (inr (inr x)) = inr (inr (why.Json x.0, x.1))
-
-json_meaning : (frame : List ℕ) → json.ExactlyOne frame → IsOneMeaning Json frame
-json_meaning frame one = record {
-  some = json_some frame one.some;
+with_reasons : {R : Type 0} (S : Message → Type 0) (U : ℤ → Type 0) (Refuses : R → Type 0) (wrap : R → FrameWhy) (Reasons : FrameWhy → Type 0)
+    → AreReasonsOf Refuses wrap Reasons → HasOneMeaning S U Refuses → HasOneMeaning S U Reasons
+with_reasons {R} S U Refuses wrap Reasons reasons one = record {
+  some = by one.some;
   one_message = one.one_message;
   one_number = one.one_number;
-  one_reason = json_reason_once frame one;
+  one_reason = λ x y p q. same x y (reasons.only x p) (reasons.only y q);
   known = one.known;
-  accepted = json_accepted frame one;
-  passed = json_passed frame one;
-}
+  accepted = λ m x p q. (let r = reasons.only x q in one.accepted m r.0 p r.1);
+  passed = λ n x p q. (let r = reasons.only x q in one.passed n r.0 p r.1);
+} where
+  by : ((m : Message) × S m) ⊎ ((n : ℤ) × U n) ⊎ ((r : R) × Refuses r) → ((m : Message) × S m) ⊎ ((n : ℤ) × U n) ⊎ ((x : FrameWhy) × Reasons x)
+  by (inl x) = inl x
+  by (inr (inl x)) = inr (inl x)
+  by (inr (inr x)) = inr (inr (wrap x.0, reasons.of x.0 x.1))
 
-pack_reason_once : (frame : List ℕ) → pack.ExactlyOne frame → (x y : FrameWhy) → Why Pack frame x → Why Pack frame y → x ≡ y
-pack_reason_once frame one (why.Pack r) (why.Pack s) p q = ap (λ (e : PackRefusal). why.Pack e) (one.one_reason r s p q)
-pack_reason_once frame one (why.Pack r) (why.Split s) p q = absurd q
-pack_reason_once frame one (why.Pack r) (why.Json s) p q = absurd q
-pack_reason_once frame one (why.Split r) y p q = absurd p
-pack_reason_once frame one (why.Json r) y p q = absurd p
+  same : (x y : FrameWhy) → ((r : R) × Refuses r × (x ≡ wrap r)) → ((r : R) × Refuses r × (y ≡ wrap r)) → x ≡ y
+  same x y r s = r.2 ∙ ap wrap (one.one_reason r.0 s.0 r.1 s.1) ∙ sym s.2
 
-pack_accepted : (frame : List ℕ) → pack.ExactlyOne frame → (m : Message) (x : FrameWhy) → Says Pack frame m → Why Pack frame x → ⊥
-pack_accepted frame one m (why.Pack r) p q = one.accepted m r p q
-pack_accepted frame one m (why.Split r) p q = q
-pack_accepted frame one m (why.Json r) p q = q
+json_only : (frame : List ℕ) (x : FrameWhy) → Why Json frame x → (r : Refusal) × json_says.Why frame r × (x ≡ why.Json r)
+json_only frame (why.Json r) p = (r, p, refl)
+json_only frame (why.Split r) p = absurd p
+json_only frame (why.Pack r) p = absurd p
 
-pack_passed : (frame : List ℕ) → pack.ExactlyOne frame → (n : ℤ) (x : FrameWhy) → Unknown Pack frame n → Why Pack frame x → ⊥
-pack_passed frame one n (why.Pack r) p q = one.passed n r p q
-pack_passed frame one n (why.Split r) p q = q
-pack_passed frame one n (why.Json r) p q = q
-
-pack_some : (frame : List ℕ) → ((m : Message) × pack_says.Says frame m) ⊎ ((n : ℤ) × pack_says.Unknown frame n) ⊎ ((r : PackRefusal) × pack_says.Why frame r) → Meaning Pack frame
-pack_some frame (inl x) = inl x
-pack_some frame (inr (inl x)) = inr (inl x)
-pack_some frame (inr (inr x)) = inr (inr (why.Pack x.0, x.1))
-
-pack_meaning : (frame : List ℕ) → pack.ExactlyOne frame → IsOneMeaning Pack frame
-pack_meaning frame one = record {
-  some = pack_some frame one.some;
-  one_message = one.one_message;
-  one_number = one.one_number;
-  one_reason = pack_reason_once frame one;
-  known = one.known;
-  accepted = pack_accepted frame one;
-  passed = pack_passed frame one;
-}
+pack_only : (frame : List ℕ) (x : FrameWhy) → Why Pack frame x → (r : PackRefusal) × pack_says.Why frame r × (x ≡ why.Pack r)
+pack_only frame (why.Pack r) p = (r, p, refl)
+pack_only frame (why.Split r) p = absurd p
+pack_only frame (why.Json r) p = absurd p
 
 -- in each codec, if each frame has one meaning in JSON and in MessagePack
 pub each_meaning : ((frame : List ℕ) → json.ExactlyOne frame) → ((frame : List ℕ) → pack.ExactlyOne frame) → (codec : Codec) (frame : List ℕ) → IsOneMeaning codec frame
-each_meaning in_json in_pack Json frame = json_meaning frame (in_json frame)
-each_meaning in_json in_pack Pack frame = pack_meaning frame (in_pack frame)
+each_meaning in_json in_pack Json frame =
+    with_reasons (json_says.Says frame) (json_says.Unknown frame) (json_says.Why frame) (λ r. why.Json r) (Why Json frame) (record { of = λ r p. p; only = json_only frame }) (in_json frame)
+each_meaning in_json in_pack Pack frame =
+    with_reasons (pack_says.Says frame) (pack_says.Unknown frame) (pack_says.Why frame) (λ r. why.Pack r) (Why Pack frame) (record { of = λ r p. p; only = pack_only frame }) (in_pack frame)

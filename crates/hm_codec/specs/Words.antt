@@ -1,7 +1,6 @@
 -- The words of a report for what is no message.
 use Rattle.std.specs.Prelude.{ℕ, List, codes}
-use Rattle.hf_split.specs.declared.splitter.SplitFault.{SplitFault}
-use Rattle.hf_split.specs.declared.splitter.SplitFault.TheVariants.{TooLong, BadLength}
+use Rattle.hf_split.specs.Words.{fault_words}
 use Rattle.hm_json.specs.Words as json
 use Rattle.hm_pack.specs.Words as pack
 use Rattle.hm_codec.specs.declared.why.FrameWhy.{FrameWhy}
@@ -9,14 +8,9 @@ use Rattle.hm_codec.specs.declared.why.FrameWhy.TheVariants.{Split, Json, Pack}
 use Rattle.hm_codec.specs.declared.why.FrameError.{FrameError}
 use Rattle.hm_codec.specs.declared.why.FrameError.TheVariants.{Refused, NoMemory}
 
--- the words for bytes with which no frame can begin
-abbrev pub split_words : SplitFault → List ℕ
-split_words (TooLong at) = codes "TooLong"
-split_words (BadLength at) = codes "BadLength"
-
 -- the words for a reason
 abbrev pub why_words : FrameWhy → List ℕ
-why_words (Split fault) = split_words fault
+why_words (Split fault) = fault_words fault
 why_words (Json refusal) = json.refusal_words refusal
 why_words (Pack refusal) = pack.refusal_words refusal
 

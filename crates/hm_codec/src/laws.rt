@@ -1,8 +1,10 @@
 //! What holds of all frames. A law is a function that does nothing: its contract is what counts.
-ghost use Rattle.hm_codec.specs.Laws.{HasOneMeaning};
+ghost use Rattle.hm_codec.specs.Laws.{FramesHaveOneMeaning};
 
 /// Each frame, in each codec, says exactly one message, is of exactly one type that no message has, or is refused for
-/// exactly one reason. It does nothing: its contract is the law.
+/// exactly one reason.
 pub fn one_meaning()
-    ensures { HasOneMeaning }
-{}
+    ensures { FramesHaveOneMeaning }
+{
+    hm_json::one_meaning();
+}

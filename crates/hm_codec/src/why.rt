@@ -39,8 +39,7 @@ impl fmt::Display for FrameWhy {
 
     fn fmt<W: fmt::Write>(&self, f: &mut fmt::Formatter<W>) -> fmt::Result {
         match self {
-            FrameWhy::Split(SplitFault::TooLong { .. }) => f.write_str("TooLong"),
-            FrameWhy::Split(SplitFault::BadLength { .. }) => f.write_str("BadLength"),
+            FrameWhy::Split(fault) => write!(f, "{fault}"),
             FrameWhy::Json(refusal) => write!(f, "{refusal}"),
             FrameWhy::Pack(refusal) => write!(f, "{refusal}"),
         }

@@ -14,7 +14,6 @@ use Rattle.hm_codec.specs.declared.why.FrameWhy.{FrameWhy}
 use Rattle.hm_codec.specs.declared.why.FrameWhy.TheVariants.{Split}
 use Rattle.hm_codec.specs.Frames.{Says, Unknown, Why}
 use Rattle.hm_codec.specs.Words.{why_words}
-use Rattle.hm_codec.specs.Laws.{HasOneMeaning}
 use Rattle.sr_check.specs.declared.task.Task.{Task}
 use Rattle.sr_check.specs.Output.{codec_of, framing, message_text, unknown_text, IsWritten, last_text}
 use Rattle.sr_check.specs.Stream.{AreWritten, BeginsFrames, IsFrontText, IsCut, IsFaultAt, IsBadFrame, IsLast, IsDone, IsStopped, IsBegun, most_frame, most_bytes, followed_part}

@@ -14,7 +14,7 @@ use Rattle.hm_codec.specs.declared.why.FrameWhy.{FrameWhy}
 use Rattle.hm_codec.specs.declared.why.FrameWhy.TheVariants.{Split}
 use Rattle.hm_codec.specs.Frames.{Says, Unknown, Why}
 use Rattle.hm_codec.specs.Words.{why_words}
-use Rattle.hm_codec.specs.Laws.{HasOneMeaning}
+use Rattle.hm_codec.specs.Laws.{FramesHaveOneMeaning}
 use Rattle.sr_check.specs.declared.task.Task.{Task}
 use Rattle.sr_check.specs.Output.{codec_of, framing, message_text, unknown_text, last_text}
 use Rattle.sr_check.specs.Stream.{AreWritten, BeginsFrames, IsFrontText, IsCut, IsFaultAt, IsDone, IsStopped, most_frame, most_bytes, followed_part}
@@ -26,7 +26,7 @@ pub record FrameLaws : Type 0 where
   pub once : BeginsOnce
   pub beginning : HasOneBeginning
   pub empty : EmptyWaits
-  pub meaning : HasOneMeaning
+  pub meaning : FramesHaveOneMeaning
 
 -- ---- frames
 
