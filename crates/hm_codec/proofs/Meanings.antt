@@ -1,5 +1,5 @@
 -- Each frame has one meaning, in either codec.
-use Rattle.std.proofs.Common.{◌≡◌, ◌⊎◌, inl, inr, ℕ, List, ap}
+use Rattle.std.proofs.Common.{◌≡◌, ◌⊎◌, inl, inr, ℕ, List, refl, sym, ◌∙◌, ap}
 use Rattle.std.specs.Prelude.{ℤ}
 use Rattle.hm_message.specs.Meaning.{HasOneMeaning}
 use Rattle.hm_message.specs.declared.message.Codec.{Codec}
