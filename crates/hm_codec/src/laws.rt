@@ -7,4 +7,5 @@ pub fn one_meaning()
     ensures { FramesHaveOneMeaning }
 {
     hm_json::one_meaning();
+    hm_pack::one_meaning();
 }
