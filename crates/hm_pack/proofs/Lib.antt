@@ -2,6 +2,5 @@ pub mod FromPlace
 pub mod Depths
 pub mod Faults
 pub mod Frames
-pub mod Meanings
 pub mod Again
 pub mod Written

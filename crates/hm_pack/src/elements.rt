@@ -12,7 +12,7 @@ ghost use Rattle.hm_pack.specs.Places.{headers_place};
 
 use crate::places;
 use crate::refusal::PackRefusal;
-use hm_message::{Field, Headers, headers_in, number_in, texts_in, values_are_trees};
+use hm_message::{Field, Headers, into_headers, into_items, into_texts, number_in};
 use hv_value::{Items, Text, Texts, Value};
 use std::alloc::Global;
 use std::mem;
@@ -116,11 +116,7 @@ pub(crate) fn items(array: &mut Vec<Value>, at: usize, field: Field) -> Result<I
     ensures err { IfErr result (λ e. must at field items_of ts ≡ Err e) }
     ensures rest { drop (at + 1) (trees_of array.new.items) ≡ drop (at + 1) ts }
 {
-    values_are_trees();
-    match needed(array, at, field)? {
-        Value::List(items) => Ok(items),
-        _ => Err(PackRefusal::Wrong(field)),
-    }
+    into_items(needed(array, at, field)?).ok_or(PackRefusal::Wrong(field))
 }
 
 pub(crate) fn any(array: &mut Vec<Value>, at: usize, field: Field) -> Result<Value, PackRefusal>
@@ -149,7 +145,7 @@ pub(crate) fn texts(
     let Some(value) = element(array, at) else {
         return Ok(Texts::of(Vec::new(alloc)));
     };
-    texts_in(alloc, &value)?.ok_or(PackRefusal::Wrong(field))
+    into_texts(alloc, value)?.ok_or(PackRefusal::Wrong(field))
 }
 
 pub(crate) fn headers(alloc: Global, array: &mut Vec<Value>) -> Result<Headers, PackRefusal>
@@ -162,7 +158,7 @@ pub(crate) fn headers(alloc: Global, array: &mut Vec<Value>) -> Result<Headers, 
         ≡ drop (headers_place + 1) ts }
 {
     let value = needed(array, places::HEADERS, Field::Headers)?;
-    headers_in(alloc, &value)?.ok_or(PackRefusal::Wrong(Field::Headers))
+    into_headers(alloc, value)?.ok_or(PackRefusal::Wrong(Field::Headers))
 }
 
 /// A truth value, which is false if the array ends before it.
