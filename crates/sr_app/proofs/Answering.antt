@@ -1,22 +1,83 @@
--- What is answered to the bytes that were read is the answer to the whole input.
-use Rattle.std.proofs.Common.{◌≡◌, ◌<◌, ◌≤◌, ℕ, ◌⊎◌, inl, inr, List, [], ◌++◌, length, take, Option, Some, None, refl, sym, ◌∙◌, ap, subst, arith}
+-- How each command ends, by what it read and wrote.
+use Rattle.std.proofs.Common.{rules, ◌≡◌, ◌<◌, ◌≤◌, ℕ, nat_eq, cond, ◌⊎◌, inl, inr, List, [], ◌++◌, length, take, Option, Some, None, refl, sym, ◌∙◌, ap, subst, arith}
 use Rattle.std.specs.Io.KnownBytes.{Appends, Consumes, IsAtEnd}
 use Rattle.std.proofs.lemmas.Bool.{cases_lt}
 use Rattle.std.proofs.lemmas.List.{append-nil}
-use Rattle.sr_app.specs.declared.run.Status.{Status}
-use Rattle.sr_app.specs.declared.run.Status.TheVariants.{Done, Usage, Refused, ReadFault, WriteFault, NoMemory}
+use Rattle.hd_facts.specs.Counts.{Rose}
 use Rattle.hd_facts.specs.Unique.{IsTheOne}
-use Rattle.sr_app.specs.Refusal.{IsRefusedAt}
-use Rattle.sr_app.specs.Run.{IsReplayed, IsRefused, IsTextAnswer, AnswersWith, IsNothing, ReadsBounded, ReadsWithin}
+use Rattle.hd_facts.specs.Writes.{IsText, Writes, WritesPart}
+use Rattle.hf_split.specs.Laws.{EmptyWaits}
+use Rattle.sr_check.specs.declared.task.Stop.{Stop}
+use Rattle.sr_check.specs.declared.task.Stop.TheVariants as stop
+use Rattle.sr_check.specs.declared.task.Task.{Task}
 use Rattle.sr_check.specs.declared.task.Task.TheVariants as task
+use Rattle.sr_check.specs.Stream.{ReadsNoFurther}
 use Rattle.sr_words.specs.declared.commands.Command.{Command}
 use Rattle.sr_words.specs.declared.commands.Command.TheVariants.{Replay, Check, Convert}
-use Rattle.hd_facts.specs.Writes.{IsText, Writes, WritesPart, WritesOfRead}
-use Rattle.sr_check.proofs.Inputs.{consumes_none, told, behind, whole_told, appends_none, read_nothing}
+use Rattle.sr_app.specs.declared.run.Status.{Status}
+use Rattle.sr_app.specs.declared.run.Status.TheVariants.{Done, Usage, Refused, ReadFault, WriteFault, NoMemory}
+use Rattle.sr_app.specs.Refusal.{IsRefusedAt}
+use Rattle.sr_app.specs.Run.{IsReplayed, IsRefused, IsTextAnswer, AnswersWith, ReadsBounded, Ends, replaying, meaning_of, outside_of, code_of, status_of}
+use Rattle.sr_app.proofs.Told.{consumed_nothing, appended_nothing, text_is_told, whole_is_told}
 use Rattle.sr_app.proofs.Parsing.{refused_front}
 
-pub replayed_told : (input left : Option (List ℕ)) (text report : List ℕ) → Consumes input left text → (length text ≤ 16777216 → IsAtEnd left) → IsReplayed text report → IsText input text
-replayed_told input left text report read ended replayed = whole_told input left text read (ended replayed.script.holds.short)
+-- ---- statuses, their codes, and how tasks stop
+
+abbrev status_with : ℕ → Status
+status_with n = cond (nat_eq n 0) Done (cond (nat_eq n 1) Usage (cond (nat_eq n 2) Refused (cond (nat_eq n 3) ReadFault (cond (nat_eq n 4) WriteFault NoMemory))))
+
+status_with-code_of : (s : Status) → status_with (code_of s) ≡ s
+status_with-code_of Done = refl
+status_with-code_of Usage = refl
+status_with-code_of Refused = refl
+status_with-code_of ReadFault = refl
+status_with-code_of WriteFault = refl
+status_with-code_of NoMemory = refl
+
+-- a code is that of one status
+pub same_status : (s t : Status) → code_of s ≡ code_of t → s ≡ t
+same_status s t e = sym (status_with-code_of s) ∙ ap status_with e ∙ status_with-code_of t
+
+pub is_code : (s : Status) → (code_of s ≡ 0) ⊎ (code_of s ≡ 1) ⊎ (code_of s ≡ 2) ⊎ (code_of s ≡ 3) ⊎ (code_of s ≡ 4) ⊎ (code_of s ≡ 7)
+is_code Done = search rules
+is_code Usage = search rules
+is_code Refused = search rules
+is_code ReadFault = search rules
+is_code WriteFault = search rules
+is_code NoMemory = search rules
+
+abbrev stop_with : Status → Stop
+stop_with Refused = stop.Refused
+stop_with ReadFault = stop.ReadFault
+stop_with WriteFault = stop.WriteFault
+stop_with _ = stop.NoMemory
+
+stop_with-status_of : (s : Stop) → stop_with (status_of s) ≡ s
+stop_with-status_of stop.Refused = refl
+stop_with-status_of stop.ReadFault = refl
+stop_with-status_of stop.WriteFault = refl
+stop_with-status_of stop.NoMemory = refl
+
+-- a status is that of one way to stop
+pub same_stop : (s t : Stop) → status_of s ≡ status_of t → s ≡ t
+same_stop s t e = sym (stop_with-status_of s) ∙ ap stop_with e ∙ stop_with-status_of t
+
+pub not_done : (s : Stop) → status_of s ≡ Done → ⊥
+not_done stop.Refused is = cc
+not_done stop.ReadFault is = cc
+not_done stop.WriteFault is = cc
+not_done stop.NoMemory is = cc
+
+pub not_usage : (s : Stop) → status_of s ≡ Usage → ⊥
+not_usage stop.Refused is = cc
+not_usage stop.ReadFault is = cc
+not_usage stop.WriteFault is = cc
+not_usage stop.NoMemory is = cc
+
+-- ---- what is answered to the bytes that were read is the answer to the whole input
+
+replayed_told : (input left : Option (List ℕ)) (text report : List ℕ) → Consumes input left text → (length text ≤ 16777216 → IsAtEnd left) → IsReplayed text report → IsText input text
+replayed_told input left text report read ended replayed = whole_is_told input left text read (ended replayed.script.holds.short)
 
 -- the input, and its refusal
 record IsRefusedInput (input : Option (List ℕ)) (answer : List ℕ) : Type 0 where
@@ -40,18 +101,18 @@ refused_told (Some bytes) None text answer read ended refused = absurd read
 refused_told (Some bytes) (Some rest) text answer read ended refused =
     record { text = bytes; told = refl; refused = refused_by bytes rest text answer read ended refused (cases_lt 16777216 (length text)) }
 
-pub writes_refusal : (input left before now : Option (List ℕ)) (text answer : List ℕ) → Consumes input left text → (length text ≤ 16777216 → IsAtEnd left)
+writes_refusal : (input left before now : Option (List ℕ)) (text answer : List ℕ) → Consumes input left text → (length text ≤ 16777216 → IsAtEnd left)
     → IsRefused text answer → Appends before now answer → Writes IsRefused input before now
 writes_refusal input left before now text answer read ended refused appends =
     let is = refused_told input left text answer read ended refused in
     (is.text, answer, is.told, is.refused, appends)
 
-pub writes_report : (input left before now : Option (List ℕ)) (text answer : List ℕ) → Consumes input left text → (length text ≤ 16777216 → IsAtEnd left)
+writes_report : (input left before now : Option (List ℕ)) (text answer : List ℕ) → Consumes input left text → (length text ≤ 16777216 → IsAtEnd left)
     → IsReplayed text answer → Appends before now answer → IsAtEnd left × Writes IsReplayed input before now
 writes_report input left before now text answer read ended replayed appends =
     (ended replayed.script.holds.short, (text, answer, replayed_told input left text answer read ended replayed, replayed, appends))
 
-pub writes_part : (input left before now : Option (List ℕ)) (text answer : List ℕ) (n : ℕ) (status : Status) → Consumes input left text → (length text ≤ 16777216 → IsAtEnd left)
+writes_part : (input left before now : Option (List ℕ)) (text answer : List ℕ) (n : ℕ) (status : Status) → Consumes input left text → (length text ≤ 16777216 → IsAtEnd left)
     → AnswersWith status text answer → Appends before now (take n answer) → WritesPart IsTextAnswer input before now
 writes_part input left before now text answer n Done read ended replayed appends =
     (text, answer, replayed_told input left text answer read ended replayed, inl replayed, (n, appends))
@@ -63,14 +124,98 @@ writes_part input left before now text answer n ReadFault read ended none append
 writes_part input left before now text answer n WriteFault read ended none appends = absurd none
 writes_part input left before now text answer n NoMemory read ended none appends = absurd none
 
--- nothing was written
-pub nothing_written : (input now : Option (List ℕ)) → Writes IsNothing input now now
-nothing_written input now = (behind input, [], told input input [] (consumes_none input), refl, appends_none now)
+-- ---- how a replay ends
 
-pub nothing_of_read : (input left now : Option (List ℕ)) → ReadsBounded input left → WritesOfRead IsNothing input left now now
-nothing_of_read input left now bounded = (bounded.0, [], bounded.1, refl, appends_none now)
+-- the source failed before the script was whole
+pub replay_unread : (input left held : Option (List ℕ)) (faults faults' sink : ℕ) → Rose faults faults' → ReadsBounded input left
+    → Ends replaying ReadFault (outside_of input faults held sink) (outside_of left faults' held sink)
+replay_unread input left held faults faults' sink rose reads = record {
+  done = λ is. cc;
+  usage = λ is. cc;
+  refused = λ is. cc;
+  read_fault = λ is. (rose, (reads.0, [], reads.1, refl, appended_nothing held));
+  write_fault = λ is. cc;
+  no_memory = λ is. cc;
+  reads = reads;
+}
 
-pub reads_nothing : (command : Command) (input : Option (List ℕ)) → ReadsWithin command input input
-reads_nothing Replay input = ([], consumes_none input, omega arith)
-reads_nothing (Check codec) input = read_nothing (task.Check codec) input
-reads_nothing (Convert from to) input = read_nothing (task.Convert from to) input
+-- memory ran out before a byte was written
+pub replay_forgone : (input left held : Option (List ℕ)) (faults faults' sink : ℕ) → ReadsBounded input left
+    → Ends replaying NoMemory (outside_of input faults held sink) (outside_of left faults' held sink)
+replay_forgone input left held faults faults' sink reads = record {
+  done = λ is. cc;
+  usage = λ is. cc;
+  refused = λ is. cc;
+  read_fault = λ is. cc;
+  write_fault = λ is. cc;
+  no_memory = λ is. (_, [], text_is_told input, refl, appended_nothing held);
+  reads = reads;
+}
+
+-- what is known of a replay that read its script, and of how it wrote the answer
+pub record IsWritten (input left before now : Option (List ℕ)) (sink sink' : ℕ) (text answer : List ℕ) (status result : Status) : Type 0 where
+  pub read : Consumes input left text
+  pub ended : length text ≤ 16777216 → IsAtEnd left
+  pub answers : AnswersWith status text answer
+  pub whole : result ≡ status → Appends before now answer
+  pub part : result ≡ WriteFault → Rose sink sink' × ((n : ℕ) × Appends before now (take n answer))
+  pub reads : ReadsBounded input left
+
+pub replay_written : (input left before now : Option (List ℕ)) (faults faults' sink sink' : ℕ) (text answer : List ℕ) (status result : Status)
+    → IsWritten input left before now sink sink' text answer status result → (result ≡ status) ⊎ (result ≡ WriteFault)
+    → Ends replaying result (outside_of input faults before sink) (outside_of left faults' now sink')
+replay_written input left before now faults faults' sink sink' text answer status result w (inr fault) = record {
+  done = λ is. cc;
+  usage = λ is. cc;
+  refused = λ is. cc;
+  read_fault = λ is. cc;
+  write_fault = λ is. ((w.part is).0, writes_part input left before now text answer (w.part is).1.0 status w.read w.ended w.answers (w.part is).1.1);
+  no_memory = λ is. cc;
+  reads = w.reads;
+}
+replay_written input left before now faults faults' sink sink' text answer Done result w (inl same) = record {
+  done = λ is. writes_report input left before now text answer w.read w.ended w.answers (w.whole is);
+  usage = λ is. cc;
+  refused = λ is. cc;
+  read_fault = λ is. cc;
+  write_fault = λ is. cc;
+  no_memory = λ is. cc;
+  reads = w.reads;
+}
+replay_written input left before now faults faults' sink sink' text answer Refused result w (inl same) = record {
+  done = λ is. cc;
+  usage = λ is. cc;
+  refused = λ is. writes_refusal input left before now text answer w.read w.ended w.answers (w.whole is);
+  read_fault = λ is. cc;
+  write_fault = λ is. cc;
+  no_memory = λ is. cc;
+  reads = w.reads;
+}
+replay_written input left before now faults faults' sink sink' text answer Usage result w (inl same) = absurd w.answers
+replay_written input left before now faults faults' sink sink' text answer ReadFault result w (inl same) = absurd w.answers
+replay_written input left before now faults faults' sink sink' text answer WriteFault result w (inl same) = absurd w.answers
+replay_written input left before now faults faults' sink sink' text answer NoMemory result w (inl same) = absurd w.answers
+
+-- a task that reads nothing
+task_reads_nothing : EmptyWaits → (t : Task) (input : Option (List ℕ)) → ReadsNoFurther t input input
+task_reads_nothing waits t input = record {
+  front = [];
+  piece = [];
+  text = [];
+  good = record {
+    within = omega arith;
+    items = [];
+    rest = [];
+    cut = record { whole = refl; each = tt; ends = (waits _ _).no_frame };
+    written = refl;
+    not_bad = (waits _ _).no_fault;
+  };
+  short = omega arith;
+  read = consumed_nothing input;
+}
+
+-- no command reads too far that reads nothing
+pub reads_nothing : EmptyWaits → (command : Command) (input : Option (List ℕ)) → (meaning_of command).reads input input
+reads_nothing waits Replay input = ([], consumed_nothing input, omega arith)
+reads_nothing waits (Check codec) input = task_reads_nothing waits (task.Check codec) input
+reads_nothing waits (Convert from to) input = task_reads_nothing waits (task.Convert from to) input

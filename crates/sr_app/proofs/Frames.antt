@@ -8,10 +8,9 @@ use Rattle.hf_split.specs.Cuts.{Spelled, AreFrames, IsFrame, BeginsWith, IsTooLo
 use Rattle.hf_split.specs.Held.{Held, Stands, IsFaultOf}
 use Rattle.hf_split.specs.declared.splitter.SplitFault.{SplitFault}
 use Rattle.hf_split.specs.declared.splitter.SplitFault.TheVariants.{TooLong, BadLength}
-use Rattle.hf_split.proofs.Streams.{begins_once}
-use Rattle.hf_split.proofs.Beginnings.{too_long_begins_none, wrapped_begins}
 use Rattle.hm_message.specs.declared.message.Message.{Message}
 use Rattle.hm_json.specs.Frame.{frame_of}
+use Rattle.sr_app.specs.Laws.{FrameLaws}
 use Rattle.sr_app.specs.World.{request, written_of, client_frames}
 use Rattle.sr_app.specs.Follows.{IsShort, IsCarried, IsFront, items_of}
 use Rattle.sr_app.proofs.Short.{request_short}
@@ -34,26 +33,26 @@ written_of-append (f ∷ frames) others =
     ∙ sym (append_assoc ((wrapped Record f).spelling) (written_of frames) (written_of others))
 
 -- two frames at the front of the same bytes are one
-same_frame : (f g : List ℕ) (a b : List ℕ) → IsShort f → IsShort g → (wrapped Record f).spelling ++ a ≡ (wrapped Record g).spelling ++ b → f ≡ g
-same_frame f g a b x y e =
-    let one : BeginsWith Record 32768 ((wrapped Record f).spelling ++ a) (wrapped Record f) = wrapped_begins Record 32768 f a x.plain x.short in
+same_frame : (law : FrameLaws) (f g : List ℕ) (a b : List ℕ) → IsShort f → IsShort g → (wrapped Record f).spelling ++ a ≡ (wrapped Record g).spelling ++ b → f ≡ g
+same_frame law f g a b x y e =
+    let one : BeginsWith Record 32768 ((wrapped Record f).spelling ++ a) (wrapped Record f) = law.wrapped_begins Record 32768 f a x.plain x.short in
     let other : BeginsWith Record 32768 ((wrapped Record f).spelling ++ a ++ []) (wrapped Record g) =
-    subst (λ (xs : List ℕ). BeginsWith Record 32768 xs (wrapped Record g)) (sym (append-nil ((wrapped Record f).spelling ++ a) ∙ e)) (wrapped_begins Record 32768 g b y.plain y.short) in
-    ap (λ (s : Spelled). s.frame) (begins_once Record 32768 ((wrapped Record f).spelling ++ a) [] (wrapped Record f) (wrapped Record g) one other)
+    subst (λ (xs : List ℕ). BeginsWith Record 32768 xs (wrapped Record g)) (sym (append-nil ((wrapped Record f).spelling ++ a) ∙ e)) (law.wrapped_begins Record 32768 g b y.plain y.short) in
+    ap (λ (s : Spelled). s.frame) (law.begins_once Record 32768 ((wrapped Record f).spelling ++ a) [] (wrapped Record f) (wrapped Record g) one other)
 
 -- frames in front of anything are the first of all
-pub same_front : (frames all : List (List ℕ)) (s : List ℕ) → All IsShort frames → All IsShort all → written_of frames ++ s ≡ written_of all
+pub same_front : (law : FrameLaws) (frames all : List (List ℕ)) (s : List ℕ) → All IsShort frames → All IsShort all → written_of frames ++ s ≡ written_of all
     → (frames ≡ take (length frames) all) × (s ≡ written_of (drop (length frames) all))
-same_front [] all s each whole e = (refl, e)
-same_front (f ∷ frames) [] s each whole e =
+same_front law [] all s each whole e = (refl, e)
+same_front law (f ∷ frames) [] s each whole e =
     absurd (omega (arith, ap length e, length-append (f ++ 30 ∷ [] ++ written_of frames) s, length-append (f ++ 30 ∷ []) (written_of frames), length-append f (30 ∷ [])))
-same_front (f ∷ frames) (g ∷ all) s each whole e =
+same_front law (f ∷ frames) (g ∷ all) s each whole e =
     let e' : (wrapped Record f).spelling ++ (written_of frames ++ s) ≡ (wrapped Record g).spelling ++ written_of all =
     sym (append_assoc ((wrapped Record f).spelling) (written_of frames) s) ∙ e in
-    let same : f ≡ g = same_frame f g (written_of frames ++ s) (written_of all) (All-head IsShort f frames each) (All-head IsShort g all whole) e' in
+    let same : f ≡ g = same_frame law f g (written_of frames ++ s) (written_of all) (All-head IsShort f frames each) (All-head IsShort g all whole) e' in
     let tail : written_of frames ++ s ≡ written_of all =
     append_cancel_left ((wrapped Record f).spelling) (written_of frames ++ s) (written_of all) (e' ∙ ap (λ (x : List ℕ). (wrapped Record x).spelling ++ written_of all) (sym same)) in
-    let rest = same_front frames all s (All-tail IsShort f frames each) (All-tail IsShort g all whole) tail in
+    let rest = same_front law frames all s (All-tail IsShort f frames each) (All-tail IsShort g all whole) tail in
     let both : f ∷ frames ≡ g ∷ take (length frames) all = ap (λ (x : List ℕ). x ∷ frames) same ∙ ap (λ (x : List (List ℕ)). g ∷ x) rest.0 in
     (both, rest.1)
 
@@ -64,13 +63,13 @@ client_short messages each =
     (All-map IsShort frame_of messages (All-weaker IsCarried (λ m. IsShort (frame_of m)) (λ m carried. carried.short) messages each))
 
 -- what a reader holds of a link, past the handshake, is a front of messages
-pub held_front : (held : Held) (link : List ℕ) (n : ℕ) (got : List Message) → Stands (always Record) held (take n link) (items_of (client_frames got))
+pub held_front : (law : FrameLaws) (held : Held) (link : List ℕ) (n : ℕ) (got : List Message) → Stands (always Record) held (take n link) (items_of (client_frames got))
     → All IsShort (client_frames got) → IsFront (request ∷ []) link → IsFront [] held.bytes
-held_front held link n got stands each front =
+held_front law held link n got stands each front =
     let whole : written_of (client_frames got) ++ (held.bytes ++ (drop n link ++ front.more)) ≡ written_of (client_frames front.all) =
     sym (append_assoc (written_of (client_frames got)) held.bytes (drop n link ++ front.more)) ∙ ap (λ xs. xs ++ (drop n link ++ front.more)) (sym stands.whole)
     ∙ sym (append_assoc (take n link) (drop n link) front.more) ∙ ap (λ xs. xs ++ front.more) (take-append-drop n link) ∙ front.whole in
-    let parts = same_front (client_frames got) (client_frames front.all) (held.bytes ++ (drop n link ++ front.more)) each (client_short front.all front.each) whole in
+    let parts = same_front law (client_frames got) (client_frames front.all) (held.bytes ++ (drop n link ++ front.more)) each (client_short front.all front.each) whole in
     let rest : drop (length (map frame_of got)) (map frame_of front.all) ≡ map frame_of (drop (length got) front.all) =
     ap (λ (k : ℕ). drop k (map frame_of front.all)) (length-map got frame_of) ∙ drop-map frame_of (length got) front.all in
     record {
@@ -91,8 +90,8 @@ faulty_by held (TooLong at) is = inl is.1
 faulty_by held (BadLength at) is = inr is.1
 
 -- a front is never too long
-pub front_short : (bytes : List ℕ) → IsFront [] bytes → IsFaulty Record 32768 bytes → ⊥
-front_short bytes front fault = by_all front.all front.each front.whole where
+pub front_short : (law : FrameLaws) (bytes : List ℕ) → IsFront [] bytes → IsFaulty Record 32768 bytes → ⊥
+front_short law bytes front fault = by_all front.all front.each front.whole where
   long : IsTooLong Record 32768 bytes
   long = record_fault 32768 bytes fault
 
@@ -101,8 +100,8 @@ front_short bytes front fault = by_all front.all front.each front.whole where
   by_all (m ∷ all) each whole =
       let is : IsShort (frame_of m) = (All-head IsCarried m all each).short in
       let begins : BeginsWith Record 32768 (bytes ++ front.more) (wrapped Record (frame_of m)) =
-      subst (λ (xs : List ℕ). BeginsWith Record 32768 xs (wrapped Record (frame_of m))) (sym whole) (wrapped_begins Record 32768 (frame_of m) (written_of (map frame_of all)) is.plain is.short) in
-      too_long_begins_none Record 32768 bytes front.more (wrapped Record (frame_of m)) long begins
+      subst (λ (xs : List ℕ). BeginsWith Record 32768 xs (wrapped Record (frame_of m))) (sym whole) (law.wrapped_begins Record 32768 (frame_of m) (written_of (map frame_of all)) is.plain is.short) in
+      law.too_long_begins_none Record 32768 bytes front.more (wrapped Record (frame_of m)) long begins
 
 -- the first frame of a front is that of a message, and past it the front goes on
 pub record FrontFirst (bytes : List ℕ) (item : Spelled) : Type 0 where
@@ -111,8 +110,8 @@ pub record FrontFirst (bytes : List ℕ) (item : Spelled) : Type 0 where
   pub is : item ≡ wrapped Record (frame_of message)
   pub rest : IsFront [] (drop (length item.spelling) bytes)
 
-pub front_first : (bytes : List ℕ) (item : Spelled) → IsFront [] bytes → BeginsWith Record 32768 bytes item → FrontFirst bytes item
-front_first bytes item front begins = by_all front.all front.each front.whole where
+pub front_first : (law : FrameLaws) (bytes : List ℕ) (item : Spelled) → IsFront [] bytes → BeginsWith Record 32768 bytes item → FrontFirst bytes item
+front_first law bytes item front begins = by_all front.all front.each front.whole where
   size : length item.spelling ≤ length bytes
   size = omega (arith, ap length begins.front, length-append item.spelling (drop (length item.spelling) bytes))
 
@@ -122,8 +121,8 @@ front_first bytes item front begins = by_all front.all front.each front.whole wh
       let carried : IsCarried m = All-head IsCarried m all each in
       let other : BeginsWith Record 32768 (bytes ++ front.more) (wrapped Record (frame_of m)) =
       subst (λ (xs : List ℕ). BeginsWith Record 32768 xs (wrapped Record (frame_of m))) (sym whole)
-      (wrapped_begins Record 32768 (frame_of m) (written_of (map frame_of all)) carried.short.plain carried.short.short) in
-      let same : item ≡ wrapped Record (frame_of m) = begins_once Record 32768 bytes front.more item (wrapped Record (frame_of m)) begins other in
+      (law.wrapped_begins Record 32768 (frame_of m) (written_of (map frame_of all)) carried.short.plain carried.short.short) in
+      let same : item ≡ wrapped Record (frame_of m) = law.begins_once Record 32768 bytes front.more item (wrapped Record (frame_of m)) begins other in
       let sizes : length ((wrapped Record (frame_of m)).spelling) ≡ length item.spelling = ap (λ (s : Spelled). length s.spelling) (sym same) in
       record {
         message = m;

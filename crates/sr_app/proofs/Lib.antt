@@ -9,3 +9,4 @@ pub mod Replaying
 pub mod Short
 pub mod Spelling
 pub mod Texts
+pub mod Told

@@ -9,6 +9,7 @@ use Rattle.hf_split.specs.Held.{Held, Stands, IsInStep, after_feed, after_pass}
 use Rattle.hm_message.specs.declared.message.Message.{Message}
 use Rattle.hm_json.specs.Says.{Says}
 use Rattle.hm_json.specs.Frame.{frame_of}
+use Rattle.sr_app.specs.Laws.{FrameLaws}
 use Rattle.sr_app.specs.World.{request, written_of, client_frames}
 use Rattle.sr_app.specs.Report.{got_line, got_lines}
 use Rattle.sr_app.specs.Follows.{IsShort, IsCarried, IsFront, IsReader, IsReading, Waits, Takes, items_of}
@@ -115,10 +116,10 @@ goes_next held next stream got before now now' total item message carried is tex
     }
 
 -- the frame that comes next is that of a message
-pub taking_frame : (first held : Held) (processed total : ℕ) (before now : List ℕ) (item : Spelled) → Taking first held processed total before now
+pub taking_frame : (law : FrameLaws) (first held : Held) (processed total : ℕ) (before now : List ℕ) (item : Spelled) → Taking first held processed total before now
     → BeginsWith held.framing held.most held.bytes item → FrontFirst held.bytes item
-taking_frame first held processed total before now item t begins =
-    front_first held.bytes item t.front (with_reader (λ f m. BeginsWith f m held.bytes item) held t.reader begins)
+taking_frame law first held processed total before now item t begins =
+    front_first law held.bytes item t.front (with_reader (λ f m. BeginsWith f m held.bytes item) held t.reader begins)
 
 -- which it says
 pub frame_says : (bytes : List ℕ) (item : Spelled) → (f : FrontFirst bytes item) → Says item.frame f.message
@@ -170,8 +171,8 @@ taking_shorter first held next processed total before now item t begins is =
       length-append item.frame (30 ∷ []),
     )
 
-pub taking_not_long : (first held : Held) (processed total : ℕ) (before now : List ℕ) → Taking first held processed total before now → IsFaulty held.framing held.most held.bytes → ⊥
-taking_not_long first held processed total before now t long = front_short held.bytes t.front (with_reader (λ f m. IsFaulty f m held.bytes) held t.reader long)
+pub taking_not_long : (law : FrameLaws) (first held : Held) (processed total : ℕ) (before now : List ℕ) → Taking first held processed total before now → IsFaulty held.framing held.most held.bytes → ⊥
+taking_not_long law first held processed total before now t long = front_short law held.bytes t.front (with_reader (λ f m. IsFaulty f m held.bytes) held t.reader long)
 
 -- no whole frame is left
 pub takes_all : (first held : Held) (processed total : ℕ) (before now : List ℕ) → Taking first held processed total before now
@@ -218,10 +219,10 @@ fed_stands : (held fed : Held) (link : List ℕ) (at n : ℕ) (frames : List (Li
 fed_stands held fed link at n frames is stands =
     subst (λ (xs : List ℕ). Stands (always Record) fed xs (items_of frames)) (take_piece at n link) (is.stands (take at link) (items_of frames) stands)
 
-pub fed_front : (held fed : Held) (link : List ℕ) (at n total : ℕ) → IsFed held fed link at n → IsReading held link at total → IsFront [] fed.bytes
-fed_front held fed link at n total is reading =
+pub fed_front : (law : FrameLaws) (held fed : Held) (link : List ℕ) (at n total : ℕ) → IsFed held fed link at n → IsReading held link at total → IsFront [] fed.bytes
+fed_front law held fed link at n total is reading =
     let stands = fed_stands held fed link at n (client_frames reading.got) is reading.waits.stands in
-    held_front fed link (at + n) reading.got stands (stands_short fed (take (at + n) link) (client_frames reading.got) is.reader stands) reading.front
+    held_front law fed link (at + n) reading.got stands (stands_short fed (take (at + n) link) (client_frames reading.got) is.reader stands) reading.front
 
 pub fed_few : (held fed : Held) (link : List ℕ) (at n total : ℕ) → IsFed held fed link at n → IsReading held link at total → length link < 2 ^ 64 → total + length fed.bytes < 2 ^ 64
 fed_few held fed link at n total is reading small =

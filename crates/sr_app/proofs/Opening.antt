@@ -5,8 +5,7 @@ use Rattle.hf_split.specs.declared.framing.Framing.{Framing}
 use Rattle.hf_split.specs.declared.framing.Framing.TheVariants.{Record}
 use Rattle.hf_split.specs.Cuts.{Spelled, BeginsWith, IsFaulty, IsWaiting, always, wrapped}
 use Rattle.hf_split.specs.Held.{Held, Stands, IsInStep, at_start, taken_by_feed, after_feed, after_pass}
-use Rattle.hf_split.proofs.Streams.{begins_once}
-use Rattle.hf_split.proofs.Beginnings.{too_long_begins_none, wrapped_begins}
+use Rattle.sr_app.specs.Laws.{FrameLaws}
 use Rattle.sr_app.specs.World.{written_of}
 use Rattle.sr_app.specs.Follows.{IsShort, IsReader, Waits, items_of}
 use Rattle.sr_app.proofs.Frames.{record_fault}
@@ -31,30 +30,30 @@ fed_whole held next lane handshake n short is start count after =
     (after ∙ ap (λ (h : Held). after_feed h (take n lane)) start ∙ ap (λ (xs : List ℕ). after_feed (at_start Record 32768) xs) whole, whole)
 
 -- what it holds begins with the handshake
-handshake_begins : (lane handshake : List ℕ) → IsShort handshake → lane ≡ written_of (handshake ∷ []) → BeginsWith Record 32768 lane (wrapped Record handshake)
-handshake_begins lane handshake short is = subst (λ (xs : List ℕ). BeginsWith Record 32768 xs (wrapped Record handshake)) (sym is) (wrapped_begins Record 32768 handshake [] short.plain short.short)
+handshake_begins : (law : FrameLaws) (lane handshake : List ℕ) → IsShort handshake → lane ≡ written_of (handshake ∷ []) → BeginsWith Record 32768 lane (wrapped Record handshake)
+handshake_begins law lane handshake short is = subst (λ (xs : List ℕ). BeginsWith Record 32768 xs (wrapped Record handshake)) (sym is) (law.wrapped_begins Record 32768 handshake [] short.plain short.short)
 
-pub handshake_not_long : (next : Held) (lane handshake : List ℕ) → IsShort handshake → lane ≡ written_of (handshake ∷ []) → next ≡ holding lane → IsFaulty next.framing next.most next.bytes → ⊥
+pub handshake_not_long : (law : FrameLaws) (next : Held) (lane handshake : List ℕ) → IsShort handshake → lane ≡ written_of (handshake ∷ []) → next ≡ holding lane → IsFaulty next.framing next.most next.bytes → ⊥
 unfolding holding
-handshake_not_long next lane handshake short is e fault =
-    too_long_begins_none Record 32768 lane [] (wrapped Record handshake) (record_fault 32768 lane (subst (λ (h : Held). IsFaulty h.framing h.most h.bytes) e fault))
-    (subst (λ (xs : List ℕ). BeginsWith Record 32768 xs (wrapped Record handshake)) (sym (append-nil lane)) (handshake_begins lane handshake short is))
+handshake_not_long law next lane handshake short is e fault =
+    law.too_long_begins_none Record 32768 lane [] (wrapped Record handshake) (record_fault 32768 lane (subst (λ (h : Held). IsFaulty h.framing h.most h.bytes) e fault))
+    (subst (λ (xs : List ℕ). BeginsWith Record 32768 xs (wrapped Record handshake)) (sym (append-nil lane)) (handshake_begins law lane handshake short is))
 
-pub handshake_there : (next : Held) (lane handshake : List ℕ) → IsShort handshake → lane ≡ written_of (handshake ∷ []) → next ≡ holding lane → IsWaiting next.framing next.most next.bytes → ⊥
+pub handshake_there : (law : FrameLaws) (next : Held) (lane handshake : List ℕ) → IsShort handshake → lane ≡ written_of (handshake ∷ []) → next ≡ holding lane → IsWaiting next.framing next.most next.bytes → ⊥
 unfolding holding
-handshake_there next lane handshake short is e waiting =
+handshake_there law next lane handshake short is e waiting =
     let waits : IsWaiting Record 32768 lane = subst (λ (h : Held). IsWaiting h.framing h.most h.bytes) e waiting in
-    waits.no_frame (wrapped Record handshake) (handshake_begins lane handshake short is)
+    waits.no_frame (wrapped Record handshake) (handshake_begins law lane handshake short is)
 
-pub handshake_is : (next : Held) (lane handshake : List ℕ) (item : Spelled) → IsShort handshake → lane ≡ written_of (handshake ∷ []) → next ≡ holding lane
+pub handshake_is : (law : FrameLaws) (next : Held) (lane handshake : List ℕ) (item : Spelled) → IsShort handshake → lane ≡ written_of (handshake ∷ []) → next ≡ holding lane
     → BeginsWith next.framing next.most next.bytes item → item ≡ wrapped Record handshake
 unfolding holding
-handshake_is next lane handshake item short is e begins =
-    begins_once Record 32768 lane [] item (wrapped Record handshake) (subst (λ (h : Held). BeginsWith h.framing h.most h.bytes item) e begins)
-    (subst (λ (xs : List ℕ). BeginsWith Record 32768 xs (wrapped Record handshake)) (sym (append-nil lane)) (handshake_begins lane handshake short is))
+handshake_is law next lane handshake item short is e begins =
+    law.begins_once Record 32768 lane [] item (wrapped Record handshake) (subst (λ (h : Held). BeginsWith h.framing h.most h.bytes item) e begins)
+    (subst (λ (xs : List ℕ). BeginsWith Record 32768 xs (wrapped Record handshake)) (sym (append-nil lane)) (handshake_begins law lane handshake short is))
 
 -- past it nothing is left
-pub shaken : (held next after : Held) (lane handshake : List ℕ) (n : ℕ) (item : Spelled) → IsShort handshake → lane ≡ written_of (handshake ∷ []) → next ≡ holding lane → take n lane ≡ lane
+pub shaken : (law : FrameLaws) (held next after : Held) (lane handshake : List ℕ) (n : ℕ) (item : Spelled) → IsShort handshake → lane ≡ written_of (handshake ∷ []) → next ≡ holding lane → take n lane ≡ lane
     → Stands (always Record) held [] []
     → ((stream : List ℕ) (passed : List Spelled) → Stands (always Record) held stream passed → Stands (always Record) next (stream ++ take n lane) passed)
     → BeginsWith next.framing next.most next.bytes item
@@ -63,8 +62,8 @@ pub shaken : (held next after : Held) (lane handshake : List ℕ) (n : ℕ) (ite
     → Stands (always Record) after stream (passed ++ item ∷ []))
     → Waits after lane (handshake ∷ [])
 unfolding holding
-shaken held next after lane handshake n item short is e whole empty feeds begins goes stands =
-    let wrap : item ≡ wrapped Record handshake = handshake_is next lane handshake item short is e begins in
+shaken law held next after lane handshake n item short is e whole empty feeds begins goes stands =
+    let wrap : item ≡ wrapped Record handshake = handshake_is law next lane handshake item short is e begins in
     let there : Stands (always Record) next lane [] = subst (λ (xs : List ℕ). Stands (always Record) next xs []) whole (feeds [] [] empty) in
     let framing : next.framing ≡ Record = ap (λ (h : Held). h.framing) e in
     let most : next.most ≡ 32768 = ap (λ (h : Held). h.most) e in

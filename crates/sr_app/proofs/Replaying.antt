@@ -5,7 +5,7 @@ use Rattle.std.proofs.lemmas.List.{append-nil, append_cancel_left, take-append-d
 use Rattle.std.proofs.lemmas.List.Elements.{All-head, All-tail, All-take, All-weaker}
 use Rattle.hf_split.specs.declared.framing.Framing.TheVariants.{Record}
 use Rattle.hf_split.specs.Cuts.{always, frames_of}
-use Rattle.hf_split.proofs.Streams.{one_cutting}
+use Rattle.sr_app.specs.Laws.{FrameLaws}
 use Rattle.sr_app.specs.declared.step.Step.{Step}
 use Rattle.sr_app.specs.declared.step.Step.TheVariants.{Send, Write, Read}
 use Rattle.sr_app.specs.declared.pair.Pair.{Pair}
@@ -13,7 +13,6 @@ use Rattle.hd_facts.specs.Unique.{IsTheOne}
 use Rattle.hm_message.specs.declared.message.Message.{Message}
 use Rattle.hm_json.specs.Says.{Says}
 use Rattle.hm_json.specs.Frame.{frame_of}
-use Rattle.hm_json.proofs.Meanings.{one_meaning}
 use Rattle.sr_app.specs.World.{World, written_of, client_frames, invocation, opened, after, after_all, world_of, sent_by}
 use Rattle.sr_app.specs.Report.{shaken_lines, step_line, got_lines, client_line, server_line, IsSaid, Carries, Reports, IsReport, IsDelivered, IsReportOf}
 use Rattle.sr_app.specs.Follows.{IsCarried, Follows, Moves, IsRunning, items_of}
@@ -24,17 +23,17 @@ are_said : (messages : List Message) → All IsCarried messages → All IsSaid m
 are_said messages each = All-weaker IsCarried IsSaid (λ m carried. carried.said) messages each
 
 -- messages that their frames say are told apart by these
-same_messages : (messages others : List Message) → All IsSaid messages → All IsSaid others → map frame_of messages ≡ map frame_of others → messages ≡ others
-same_messages [] [] said said' e = refl
-same_messages [] (n ∷ others) said said' e = absurd (omega (arith, ap length e))
-same_messages (m ∷ messages) [] said said' e = absurd (omega (arith, ap length e))
-same_messages (m ∷ messages) (n ∷ others) said said' e =
+same_messages : (law : FrameLaws) (messages others : List Message) → All IsSaid messages → All IsSaid others → map frame_of messages ≡ map frame_of others → messages ≡ others
+same_messages law [] [] said said' e = refl
+same_messages law [] (n ∷ others) said said' e = absurd (omega (arith, ap length e))
+same_messages law (m ∷ messages) [] said said' e = absurd (omega (arith, ap length e))
+same_messages law (m ∷ messages) (n ∷ others) said said' e =
     let frame : frame_of m ≡ frame_of n = ap (λ (fs : List (List ℕ)). get_or fs 0 []) e in
     let frames : map frame_of messages ≡ map frame_of others = ap (λ (fs : List (List ℕ)). drop 1 fs) e in
     let first : m ≡ n =
-    (one_meaning (frame_of m)).one_message m n (All-head IsSaid m messages said) (subst (λ (f : List ℕ). Says f n) (sym frame) (All-head IsSaid n others said')) in
+    (law.one_meaning (frame_of m)).one_message m n (All-head IsSaid m messages said) (subst (λ (f : List ℕ). Says f n) (sym frame) (All-head IsSaid n others said')) in
     ap (λ (x : Message). x ∷ messages) first
-    ∙ ap (λ (xs : List Message). n ∷ xs) (same_messages messages others (All-tail IsSaid m messages said) (All-tail IsSaid n others said') frames)
+    ∙ ap (λ (xs : List Message). n ∷ xs) (same_messages law messages others (All-tail IsSaid m messages said) (All-tail IsSaid n others said') frames)
 
 -- what the server has read carries what it got
 carries_of : (pair : Pair) (w : World) (got : List Message) → Follows pair w got → Carries w.read got
@@ -47,41 +46,41 @@ carries_of pair w got follows = record {
 }
 
 -- what it got are the first of the messages that were sent
-sent_first : (pair : Pair) (w : World) (got : List Message) → Follows pair w got → (later : List Message) × (w.sent ≡ got ++ later)
-sent_first pair w got follows =
+sent_first : (law : FrameLaws) (pair : Pair) (w : World) (got : List Message) → Follows pair w got → (later : List Message) × (w.sent ≡ got ++ later)
+sent_first law pair w got follows =
     let whole : written_of (client_frames got) ++ (pair.server.bytes ++ (drop pair.read pair.link.items ++ pair.waiting.items)) ≡ written_of (client_frames w.sent) =
     sym (append_assoc (written_of (client_frames got)) pair.server.bytes (drop pair.read pair.link.items ++ pair.waiting.items))
     ∙ ap (λ xs. xs ++ (drop pair.read pair.link.items ++ pair.waiting.items)) (sym follows.waits.stands.whole ∙ follows.read_is)
     ∙ sym (append_assoc (take pair.read pair.link.items) (drop pair.read pair.link.items) pair.waiting.items)
     ∙ ap (λ xs. xs ++ pair.waiting.items) (take-append-drop pair.read pair.link.items) ∙ follows.waiting in
-    let parts = same_front (client_frames got) (client_frames w.sent) (pair.server.bytes ++ (drop pair.read pair.link.items ++ pair.waiting.items))
+    let parts = same_front law (client_frames got) (client_frames w.sent) (pair.server.bytes ++ (drop pair.read pair.link.items ++ pair.waiting.items))
     (stands_short pair.server w.read (client_frames got) follows.waits.reader follows.waits.stands) (client_short w.sent follows.each_sent) whole in
     let frames : map frame_of got ≡ map frame_of (take (length got) w.sent) =
     ap (λ (fs : List (List ℕ)). drop 1 fs) parts.0 ∙ ap (λ (n : ℕ). take n (map frame_of w.sent)) (length-map got frame_of) ∙ take-map frame_of (length got) w.sent in
     let first : got ≡ take (length got) w.sent =
-    same_messages got (take (length got) w.sent) (are_said got follows.each_got) (All-take IsSaid (length got) w.sent (are_said w.sent follows.each_sent)) frames in
+    same_messages law got (take (length got) w.sent) (are_said got follows.each_got) (All-take IsSaid (length got) w.sent (are_said w.sent follows.each_sent)) frames in
     (drop (length got) w.sent, sym (take-append-drop (length got) w.sent) ∙ ap (λ (xs : List Message). xs ++ drop (length got) w.sent) (sym first))
 
 -- bytes carry one list of messages
-carries_once : (bytes : List ℕ) (got others : List Message) → Carries bytes got → Carries bytes others → others ≡ got
-carries_once bytes got others a b =
-    let same : a.items ≡ b.items = (one_cutting (always Record) 32768 bytes a.items b.items a.rest b.rest a.cut b.cut).0 in
+carries_once : (law : FrameLaws) (bytes : List ℕ) (got others : List Message) → Carries bytes got → Carries bytes others → others ≡ got
+carries_once law bytes got others a b =
+    let same : a.items ≡ b.items = (law.one_cutting (always Record) 32768 bytes a.items b.items a.rest b.rest a.cut b.cut).0 in
     let frames : client_frames others ≡ client_frames got = sym b.frames ∙ ap frames_of (sym same) ∙ a.frames in
-    same_messages others got b.said a.said (ap (λ (fs : List (List ℕ)). drop 1 fs) frames)
+    same_messages law others got b.said a.said (ap (λ (fs : List (List ℕ)). drop 1 fs) frames)
 
 -- steps have one report
-reports_once : (steps : List Step) (w : World) (got all others : List Message) (text other : List ℕ) → Reports w got steps all text → Reports w got steps others other → other ≡ text
-reports_once [] w got all others text other a b = b.1 ∙ sym a.1
-reports_once (step ∷ steps) w got all others text other a b =
-    let new : b.0 ≡ a.0 = append_cancel_left got b.0 a.0 (carries_once (after w step).read (got ++ a.0) (got ++ b.0) a.2 b.2) in
+reports_once : (law : FrameLaws) (steps : List Step) (w : World) (got all others : List Message) (text other : List ℕ) → Reports w got steps all text → Reports w got steps others other → other ≡ text
+reports_once law [] w got all others text other a b = b.1 ∙ sym a.1
+reports_once law (step ∷ steps) w got all others text other a b =
+    let new : b.0 ≡ a.0 = append_cancel_left got b.0 a.0 (carries_once law (after w step).read (got ++ a.0) (got ++ b.0) a.2 b.2) in
     let rest : Reports (after w step) (got ++ a.0) steps others b.1 = subst (λ (xs : List Message). Reports (after w step) (got ++ xs) steps others b.1) new b.4 in
-    let more : b.1 ≡ a.1 = reports_once steps (after w step) (got ++ a.0) all others a.1 b.1 a.4 rest in
+    let more : b.1 ≡ a.1 = reports_once law steps (after w step) (got ++ a.0) all others a.1 b.1 a.4 rest in
     b.3 ∙ ap (λ (xs : List Message). step_line (after w step).sent step ++ (got_lines (length got) xs ++ b.1)) new
     ∙ ap (λ xs. step_line (after w step).sent step ++ (got_lines (length got) a.0 ++ xs)) more ∙ sym a.3
 
-one_report : (steps : List Step) (text other : List ℕ) → IsReportOf steps text → IsReportOf steps other → other ≡ text
-one_report steps text other a b =
-    b.1.1 ∙ ap (λ xs. shaken_lines ++ xs) (reports_once steps opened [] a.0 b.0 a.1.0 b.1.0 a.1.2 b.1.2) ∙ sym a.1.1
+one_report : (law : FrameLaws) (steps : List Step) (text other : List ℕ) → IsReportOf steps text → IsReportOf steps other → other ≡ text
+one_report law steps text other a b =
+    b.1.1 ∙ ap (λ xs. shaken_lines ++ xs) (reports_once law steps opened [] a.0 b.0 a.1.0 b.1.0 a.1.2 b.1.2) ∙ sym a.1.1
 
 -- What is reported so far goes on with the report of what is left.
 pub record Told (steps rest : List Step) (pair : Pair) : Type 0 where
@@ -137,14 +136,14 @@ pub told_running : (steps rest : List Step) (pair : Pair) → Told steps rest pa
 told_running steps rest pair t = record { world = t.world; got = t.got; follows = t.follows }
 
 -- after the last step
-pub told_end : (steps : List Step) (pair : Pair) (text : List ℕ) → Told steps [] pair
+pub told_end : (law : FrameLaws) (steps : List Step) (pair : Pair) (text : List ℕ) → Told steps [] pair
     → text ≡ pair.report.items ++ (client_line pair.sent ++ server_line pair.processed) → IsTheOne (IsReportOf steps) text
-told_end steps pair text t e =
+told_end law steps pair text t e =
     let sent : pair.sent ≡ length t.world.sent = t.follows.sent in
     let processed : pair.processed ≡ length t.got = t.follows.processed in
     let lines : client_line (length t.world.sent) ++ server_line (length t.got) ≡ client_line pair.sent ++ server_line pair.processed =
     ap (λ (n : ℕ). client_line n ++ server_line (length t.got)) (sym sent) ∙ ap (λ (n : ℕ). client_line pair.sent ++ server_line n) (sym processed) in
-    let first = sent_first pair t.world t.got t.follows in
+    let first = sent_first law pair t.world t.got t.follows in
     let report : IsReport steps t.got text =
     subst (λ (xs : List ℕ). IsReport steps t.got xs) (ap (λ xs. pair.report.items ++ xs) lines ∙ sym e)
     (t.told t.got (client_line (length t.world.sent) ++ server_line (length t.got)) (refl, refl)) in
@@ -154,4 +153,4 @@ told_end steps pair text t e =
       found = subst (λ (w : World). Carries w.read t.got) t.ends (carries_of pair t.world t.got t.follows);
     } in
     let is : IsReportOf steps text = (t.got, report, delivered) in
-    record { holds = is; only = λ other reports. one_report steps text other is reports }
+    record { holds = is; only = λ other reports. one_report law steps text other is reports }

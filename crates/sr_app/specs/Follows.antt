@@ -2,16 +2,16 @@
 use Rattle.std.specs.Prelude.{◌≡◌, ◌<◌, ◌≤◌, ◌+◌, ℕ, List, [], ◌∷◌, ◌++◌, length, take, map, All}
 use Rattle.hf_split.specs.declared.framing.Framing.TheVariants.{Record}
 use Rattle.hf_split.specs.Cuts.{Spelled, CanWrap, IsWaiting, Cuts, always, wrapped}
-use Rattle.hf_split.specs.Held.{Held, Stands}
+use Rattle.hf_split.specs.Held.{Held, Stands, room_for}
 use Rattle.sr_app.specs.declared.pair.Pair.{Pair}
 use Rattle.hm_message.specs.declared.message.Message.{Message}
 use Rattle.hm_json.specs.Frame.{frame_of}
-use Rattle.sr_app.specs.World.{World, request, response, link, written_of, client_frames}
+use Rattle.sr_app.specs.World.{World, most_frame, request, response, link, written_of, client_frames}
 use Rattle.sr_app.specs.Report.{IsSaid, got_lines}
 
 -- a frame that can be written and read again
 pub record IsShort (frame : List ℕ) : Type 0 where
-  pub short : length frame ≤ 32768
+  pub short : length frame ≤ most_frame
   pub plain : CanWrap Record frame
 
 -- these frames, each with its spelling
@@ -30,18 +30,18 @@ pub record IsFront (first : List (List ℕ)) (bytes : List ℕ) : Type 0 where
   pub each : All IsCarried all
   pub whole : bytes ++ more ≡ written_of (first ++ map frame_of all)
 
--- an end that reads frames of at most 32,768 bytes, each ended by the separator
+-- an end that reads frames up to the greatest, each ended by the separator
 pub record IsReader (held : Held) : Type 0 where
   pub framing : held.framing ≡ Record
-  pub most : held.most ≡ 32768
+  pub most : held.most ≡ most_frame
 
 -- the reader has taken these frames of this stream, and waits for more
 pub record Waits (held : Held) (stream : List ℕ) (frames : List (List ℕ)) : Type 0 where
   pub reader : IsReader held
   pub stands : Stands (always Record) held stream (items_of frames)
-  pub waiting : IsWaiting Record 32768 held.bytes
-  pub room : length held.bytes < 32773
-  pub cut : Cuts (always Record) 32768 stream (items_of frames) held.bytes
+  pub waiting : IsWaiting Record most_frame held.bytes
+  pub room : length held.bytes < room_for most_frame
+  pub cut : Cuts (always Record) most_frame stream (items_of frames) held.bytes
 
 -- Further messages were taken and reported, so that there are this many in all, and no whole frame is left.
 pub record Takes (held : Held) (stream : List ℕ) (got : List Message) (before now : List ℕ) (total : ℕ) : Type 0 where
@@ -60,6 +60,7 @@ pub record IsReading (held : Held) (link : List ℕ) (at processed : ℕ) : Type
   pub inside : at ≤ length link
   pub front : IsFront (request ∷ []) link
 
+-- The pair stands for this world, in which the server got these messages.
 pub record Follows (pair : Pair) (w : World) (got : List Message) : Type 0 where
   pub sent : pair.sent ≡ length w.sent
   pub link_is : pair.link.items ≡ link w

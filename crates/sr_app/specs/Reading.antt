@@ -6,7 +6,7 @@ use Rattle.sr_app.specs.declared.script.Reader.{Reader}
 use Rattle.sr_app.specs.declared.script.ScriptError.{ScriptError}
 use Rattle.sr_app.specs.declared.script.ScriptError.TheVariants.{Line, NoMemory}
 use Rattle.hd_facts.specs.Unique.{IsTheOne}
-use Rattle.sr_app.specs.Script.{opening, IsStep, is_send, line_of}
+use Rattle.sr_app.specs.Script.{opening, IsStep, is_send, line_of, most_sends}
 use Rattle.sr_app.specs.Refusal.{BeginsScript, IsRefusedAt}
 
 -- no end of a line among the bytes
@@ -29,7 +29,7 @@ pub record HasRead (reader : Reader) (lines : List (List ℕ)) : Type 0 where
   pub lines_are : lines ≡ take reader.opened opening ++ map line_of reader.steps.items
   pub each : All IsStep reader.steps.items
   pub sends : reader.sends ≡ count_by is_send reader.steps.items
-  pub few : reader.sends ≤ 1024
+  pub few : reader.sends ≤ most_sends
   pub opening_first : reader.opened < 6 → reader.steps.items ≡ []
 
 -- where it isn't for want of memory, the line after these is refused: no script begins with it too

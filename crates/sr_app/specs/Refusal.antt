@@ -3,7 +3,7 @@ use Rattle.std.specs.Prelude.{◌≡◌, ◌≤◌, ℕ, suc, min, List, ◌++�
 use Rattle.std.specs.Fmt.{decimal}
 use Rattle.sr_app.specs.declared.step.Step.{Step}
 use Rattle.sr_app.specs.Lines.{lines_of, text_of}
-use Rattle.sr_app.specs.Script.{IsScript, Parses}
+use Rattle.sr_app.specs.Script.{IsScript, Parses, most_script}
 
 -- some script begins with these lines
 pub record BeginsScript (lines : List (List ℕ)) : Type 0 where
@@ -11,10 +11,10 @@ pub record BeginsScript (lines : List (List ℕ)) : Type 0 where
   pub steps : List Step
   pub script : IsScript (lines ++ more) steps
 
--- The first n lines of the text are there, none of them has byte 16,777,217 or a later one, and they begin a script.
+-- The first n lines of the text are there, all of them within the bytes that a script may have, and they begin a script.
 pub record IsScriptUpTo (text : List ℕ) (n : ℕ) : Type 0 where
   pub there : n ≤ length (lines_of text)
-  pub within : min (length text) (length (text_of (take n (lines_of text)))) ≤ 16777216
+  pub within : min (length text) (length (text_of (take n (lines_of text)))) ≤ most_script
   pub begins : BeginsScript (take n (lines_of text))
 
 -- The text is no script, and its line of this number, counted from 1, is the first that the grammar lacks: where the

@@ -8,7 +8,7 @@ use Rattle.hm_json.specs.Says.{Says}
 use Rattle.hm_json.specs.Frame.{frame_of}
 use Rattle.sr_app.specs.declared.step.Step.{Step}
 use Rattle.sr_app.specs.declared.step.Step.TheVariants.{Send, Write, Read}
-use Rattle.sr_app.specs.World.{World, opened, after, world_of, client_frames, sent_by}
+use Rattle.sr_app.specs.World.{World, most_frame, opened, after, world_of, client_frames, sent_by}
 
 -- both ends have read the other's handshake
 abbrev pub shaken_lines : List ℕ
@@ -46,7 +46,7 @@ IsSaid message = Says (frame_of message) message
 pub record Carries (bytes : List ℕ) (messages : List Message) : Type 0 where
   pub items : List Spelled
   pub rest : List ℕ
-  pub cut : Cuts (always Record) 32768 bytes items rest
+  pub cut : Cuts (always Record) most_frame bytes items rest
   pub frames : frames_of items ≡ client_frames messages
   pub said : All IsSaid messages
 

@@ -1,20 +1,21 @@
 -- What the program does with its words and its input, where the source and the sink tell their bytes.
-use Rattle.std.specs.Prelude.{◌≡◌, ◌≤◌, ◌+◌, ℕ, List, [], ◌∷◌, length, take, codes, string_bytes, String, Option, ◌⊎◌}
-use Rattle.std.specs.Io.KnownBytes.{Appends, Consumes}
+use Rattle.std.specs.Prelude.{◌≡◌, ◌≢◌, ◌≤◌, ◌+◌, ℕ, List, [], length, take, codes, String, Option, ◌⊎◌}
+use Rattle.std.specs.Io.KnownBytes.{Appends, Consumes, IsAtEnd}
 use Rattle.std.specs.declared.alloc.Global.{Global}
+use Rattle.hd_facts.specs.Counts.{Rose}
+use Rattle.hd_facts.specs.Unique.{IsTheOne}
+use Rattle.hd_facts.specs.Writes.{Writes, WritesPart, WritesOfRead}
 use Rattle.sr_app.specs.declared.step.Step.{Step}
 use Rattle.sr_app.specs.declared.run.Status.{Status}
-use Rattle.sr_app.specs.declared.run.Status.TheVariants.{Done, Refused, ReadFault, WriteFault, NoMemory}
-use Rattle.hd_facts.specs.Unique.{IsTheOne}
-use Rattle.sr_app.specs.Script.{Parses}
+use Rattle.sr_app.specs.declared.run.Status.TheVariants.{Done, Usage, Refused, ReadFault, WriteFault, NoMemory}
+use Rattle.sr_app.specs.Script.{Parses, most_script}
 use Rattle.sr_app.specs.Refusal.{IsRefusedAt, refusal_line}
 use Rattle.sr_app.specs.Report.{IsReportOf}
-use Rattle.hd_facts.specs.Writes.{Writes, WritesPart, WritesOfRead}
 use Rattle.sr_check.specs.declared.task.Task.{Task}
 use Rattle.sr_check.specs.declared.task.Task.TheVariants as task
 use Rattle.sr_check.specs.declared.task.Stop.{Stop}
 use Rattle.sr_check.specs.declared.task.Stop.TheVariants as stop
-use Rattle.sr_check.specs.Stream.{IsDone, IsStopped, IsBegun, IsAllSoFar, IsPart, ReadsNoFurther}
+use Rattle.sr_check.specs.Stream.{IsDone, IsStopped, IsBegun, IsAllSoFar, IsPart, ReadsNoFurther, most_piece}
 use Rattle.sr_words.specs.declared.commands.Command.{Command}
 use Rattle.sr_words.specs.declared.commands.Command.TheVariants.{Replay, Check, Convert}
 use Rattle.sr_words.specs.Words.{Asks, IsNoCommand}
@@ -22,90 +23,135 @@ use Rattle.sr_words.specs.Words.{Asks, IsNoCommand}
 abbrev pub usage_line : List ℕ
 usage_line = codes "usage: sr replay, soak, serve, client, check or convert\n"
 
--- the text is a script, and this is its report; it has one parse, and that has one report
+-- the exit status, as the shell has it
+abbrev pub code_of : Status → ℕ
+code_of Done = 0
+code_of Usage = 1
+code_of Refused = 2
+code_of ReadFault = 3
+code_of WriteFault = 4
+code_of NoMemory = 7
+
+-- ---- what a command means
+
+-- whether this answer is one to this text
+abbrev pub Answers : Type 1
+Answers = List ℕ → List ℕ → Type 0
+
+-- What a command writes, by how it ends, and how far it reads. Each command has one such meaning.
+pub record Meaning : Type 1 where
+  -- it is done: the whole answer to the input
+  pub done : Answers
+  -- the input is refused: the refusal, after what is written of what came before it
+  pub refused : Answers
+  -- the output failed: whatever may be written, of which a first part was
+  pub part : Answers
+  -- out of memory: what is written of a first part of the input
+  pub begun : Answers
+  -- the input failed: what is written of the bytes that were read
+  pub read : Answers
+  -- what the input has left before and after
+  pub reads : Option (List ℕ) → Option (List ℕ) → Type 0
+
+-- The text is a script, and this is its report. It has one parse, and that has one report.
 pub record IsReplayed (text report : List ℕ) : Type 0 where
   pub steps : List Step
   pub script : IsTheOne (Parses text) steps
   pub report_is : IsTheOne (IsReportOf steps) report
 
--- the text is none, and this is its refusal
+-- the text is no script, and this is its refusal
 pub record IsRefused (text answer : List ℕ) : Type 0 where
   pub number : ℕ
   pub first : IsTheOne (IsRefusedAt text) number
   pub line : answer ≡ refusal_line number
 
 -- the answer to a text, whether it is a script or not
-abbrev pub IsTextAnswer : List ℕ → List ℕ → Type 0
+abbrev pub IsTextAnswer : Answers
 IsTextAnswer text answer = IsReplayed text answer ⊎ IsRefused text answer
 
 -- the same with the status that tells which it is
-abbrev pub AnswersWith : Status → List ℕ → List ℕ → Type 0
+abbrev pub AnswersWith : Status → Answers
 AnswersWith Done text answer = IsReplayed text answer
 AnswersWith Refused text answer = IsRefused text answer
 AnswersWith _ text answer = ⊥
 
--- ---- what is written, by the command
-
--- what is written for an input
-abbrev pub Meaning : Type 1
-Meaning = List ℕ → List ℕ → Type 0
-
--- `replay` has this meaning, and a task over frames that one
-abbrev pub by_command : Meaning → (Task → Meaning) → Command → Meaning
-by_command replay tasks Replay = replay
-by_command replay tasks (Check codec) = tasks (task.Check codec)
-by_command replay tasks (Convert from to) = tasks (task.Convert from to)
-
-abbrev pub IsNothing : Meaning
+-- no answer
+abbrev pub IsNothing : Answers
 IsNothing text answer = answer ≡ []
 
--- where it was done: the whole answer
-abbrev pub DoneMeans : Command → Meaning
-DoneMeans = by_command IsReplayed IsDone
+-- of the bytes that are told no more were read than a script may have, and one piece
+abbrev pub ReadsBounded : Option (List ℕ) → Option (List ℕ) → Type 0
+ReadsBounded before now = (taken : List ℕ) × Consumes before now taken × (length taken ≤ most_script + most_piece)
 
--- where the input is refused: the refusal, behind what is written of the frames before
-abbrev pub RefusedMeans : Command → Meaning
-RefusedMeans = by_command IsRefused IsStopped
+-- A replay writes nothing before it has read its script whole.
+abbrev pub replaying : Meaning
+replaying = record {
+  done = IsReplayed;
+  refused = IsRefused;
+  part = IsTextAnswer;
+  begun = IsNothing;
+  read = IsNothing;
+  reads = ReadsBounded;
+}
 
--- whatever is written, of which a first part may be
-abbrev pub PartMeans : Command → Meaning
-PartMeans = by_command IsTextAnswer IsPart
+-- A task over frames writes of each frame before it has read the next piece.
+abbrev pub doing : Task → Meaning
+doing task = record {
+  done = IsDone task;
+  refused = IsStopped task;
+  part = IsPart task;
+  begun = IsBegun task;
+  read = IsAllSoFar task;
+  reads = ReadsNoFurther task;
+}
 
--- where memory is wanting: what is written of some frames
-abbrev pub BegunMeans : Command → Meaning
-BegunMeans = by_command IsNothing IsBegun
+-- what each command means
+abbrev pub meaning_of : Command → Meaning
+meaning_of Replay = replaying
+meaning_of (Check codec) = doing (task.Check codec)
+meaning_of (Convert from to) = doing (task.Convert from to)
 
--- where the input failed: what is written of the frames that were read
-abbrev pub ReadMeans : Command → Meaning
-ReadMeans = by_command IsNothing IsAllSoFar
+-- ---- what a command did
 
--- ---- what is written, by the words
+-- What the source has left and the sink holds, where they tell it, and how often each has failed.
+pub record Outside : Type 0 where
+  pub left : Option (List ℕ)
+  pub source_faults : ℕ
+  pub holds : Option (List ℕ)
+  pub sink_faults : ℕ
 
--- the words ask for one thing, and what is written for the input has the meaning that this has
-abbrev pub WritesFor : (Command → Meaning) → List (String Global) → Option (List ℕ) → Option (List ℕ) → Option (List ℕ) → Type 0
-WritesFor Means words input before now = (command : Command) × IsTheOne (Asks words) command × Writes (Means command) input before now
+abbrev pub outside_of : Option (List ℕ) → ℕ → Option (List ℕ) → ℕ → Outside
+outside_of left source_faults holds sink_faults =
+    record { left = left; source_faults = source_faults; holds = holds; sink_faults = sink_faults }
 
--- the same for what was read of the input
-abbrev pub WritesOfReadFor : List (String Global) → Option (List ℕ) → Option (List ℕ) → Option (List ℕ) → Option (List ℕ) → Type 0
-WritesOfReadFor words input left before now = (command : Command) × IsTheOne (Asks words) command × WritesOfRead (ReadMeans command) input left before now
+-- What a command of this meaning did that ended with this status.
+pub record Ends (m : Meaning) (status : Status) (before now : Outside) : Type 0 where
+  pub done : status ≡ Done → IsAtEnd now.left × Writes m.done before.left before.holds now.holds
+  pub usage : status ≢ Usage
+  pub refused : status ≡ Refused → Writes m.refused before.left before.holds now.holds
+  pub read_fault : status ≡ ReadFault → Rose before.source_faults now.source_faults
+      × WritesOfRead m.read before.left now.left before.holds now.holds
+  pub write_fault : status ≡ WriteFault → Rose before.sink_faults now.sink_faults
+      × WritesPart m.part before.left before.holds now.holds
+  pub no_memory : status ≡ NoMemory → Writes m.begun before.left before.holds now.holds
+  pub reads : m.reads before.left now.left
+
+-- No fault is passed over: a count of faults rises only if the status tells of that fault.
+pub record TellsFaults (status : Status) (before now : Outside) : Type 0 where
+  pub source : status ≢ ReadFault → now.source_faults ≡ before.source_faults
+  pub sink : status ≢ WriteFault → now.sink_faults ≡ before.sink_faults
+
+-- ---- what the words come to
+
+-- the words ask for one command, and this holds of its meaning
+abbrev pub AsksFor : List (String Global) → (Meaning → Type 0) → Type 0
+AsksFor words Holds = (command : Command) × IsTheOne (Asks words) command × Holds (meaning_of command)
 
 -- a first part of what is written for these words, and nothing else
 abbrev pub WritesPartFor : List (String Global) → Option (List ℕ) → Option (List ℕ) → Option (List ℕ) → Type 0
 WritesPartFor words input before now =
-    ((command : Command) × IsTheOne (Asks words) command × WritesPart (PartMeans command) input before now)
+    AsksFor words (λ m. WritesPart m.part input before now)
     ⊎ (IsNoCommand words × ((n : ℕ) × Appends before now (take n usage_line)))
-
--- ---- how far the input is read
-
--- of the bytes that are told no more were read than a script may have, and one piece of 4,096
-abbrev pub ReadsBounded : Option (List ℕ) → Option (List ℕ) → Type 0
-ReadsBounded before now = (taken : List ℕ) × Consumes before now taken × (length taken ≤ 16777216 + 4096)
-
--- no more was read than a script may have and one piece, or one piece past frames of which none is refused
-abbrev pub ReadsWithin : Command → Option (List ℕ) → Option (List ℕ) → Type 0
-ReadsWithin Replay before now = ReadsBounded before now
-ReadsWithin (Check codec) before now = ReadsNoFurther (task.Check codec) before now
-ReadsWithin (Convert from to) before now = ReadsNoFurther (task.Convert from to) before now
 
 -- the status that goes with how a task ended
 abbrev pub status_of : Stop → Status

@@ -18,6 +18,18 @@ before_target = codes "{\"arguments\":[],\"target\":\""
 abbrev pub after_target : List ℕ
 after_target = codes "\",\"type\":1}"
 
+-- the most bytes of a script: 16 MiB
+abbrev pub most_script : ℕ
+most_script = 16777216
+
+-- the most messages that a script sends
+abbrev pub most_sends : ℕ
+most_sends = 1024
+
+-- the most letters of a target
+abbrev pub most_target : ℕ
+most_target = 59
+
 -- a to z
 abbrev pub IsLetter : ℕ → Type 0
 IsLetter b = (97 ≤ b) × (b ≤ 122)
@@ -25,7 +37,7 @@ IsLetter b = (97 ≤ b) × (b ≤ 122)
 -- 1 to 59 letters from a to z
 pub record IsTarget (target : List ℕ) : Type 0 where
   pub some : 1 ≤ length target
-  pub short : length target ≤ 59
+  pub short : length target ≤ most_target
   pub letters : All IsLetter target
 
 -- the message that a script sends, by its target
@@ -61,9 +73,9 @@ is_send (Read count) = false
 pub record IsScript (lines : List (List ℕ)) (steps : List Step) : Type 0 where
   pub spelled : lines ≡ opening ++ map line_of steps
   pub each : All IsStep steps
-  pub few : count_by is_send steps ≤ 1024
+  pub few : count_by is_send steps ≤ most_sends
 
 -- the text, of at most 16 MiB, is the script of these steps
 pub record Parses (text : List ℕ) (steps : List Step) : Type 0 where
-  pub short : length text ≤ 16777216
+  pub short : length text ≤ most_script
   pub script : IsScript (lines_of text) steps

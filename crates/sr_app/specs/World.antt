@@ -10,6 +10,10 @@ use Rattle.sr_app.specs.declared.step.Step.TheVariants.{Send, Write, Read}
 use Rattle.sr_app.specs.declared.step.Count.{Count}
 use Rattle.sr_app.specs.declared.step.Count.TheVariants.{UpTo, Everything}
 
+-- the greatest frame, without its framing
+abbrev pub most_frame : ℕ
+most_frame = 32768
+
 -- the client's handshake
 abbrev pub request : List ℕ
 request = codes "{\"protocol\":\"json\",\"version\":2}"

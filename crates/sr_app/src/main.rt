@@ -27,7 +27,7 @@ fn words(rt: &HostRuntime) -> Result<Vec<String>, AllocError> {
 
 fn main(rt: HostRuntime) -> ExitCode {
     let Ok(words) = words(&rt) else {
-        return ExitCode::from(run::Status::NoMemory as u8);
+        return ExitCode::from(run::Status::NoMemory.code());
     };
     let mut input = StdSource::new(rt.stdin());
     let mut out = StdSink::new(rt.stdout());

@@ -1,8 +1,11 @@
+//! The two ends of one link as a script drives them: what each was given, read and reports. It knows no script's text.
+
 ghost use Rattle.std.specs.Prelude.{◌≡◌, ◌-◌, ◌<◌, ◌≤◌, ◌+◌, ◌^◌, ℕ, List, [], ◌∷◌, ◌++◌, length, take, All, OnOk, IfOk, vec_len};
 ghost use Rattle.hf_split.specs.declared.framing.Framing.TheVariants.{Record};
 ghost use Rattle.hf_split.specs.Cuts.{always};
 ghost use Rattle.hf_split.specs.Held.{Stands};
 ghost use Rattle.hd_facts.specs.Unique.{IsTheOne};
+ghost use Rattle.hm_message.specs.Message.{Fits};
 ghost use Rattle.hm_message.specs.declared.message.Message.{Message};
 ghost use Rattle.hm_json.specs.Says.{Says};
 ghost use Rattle.hm_json.specs.Frame.{frame_of};
@@ -11,6 +14,7 @@ ghost use Rattle.sr_app.specs.World.{World, invocation, client_frames, written_o
 ghost use Rattle.sr_app.specs.Report.{shaken_lines, sent_line, got_line, step_line, IsReportOf};
 ghost use Rattle.sr_app.specs.Follows.{IsShort, IsReader, IsFront, IsReading, IsRunning, Waits, Takes, Follows, Moves, items_of};
 
+use crate::laws::of_frames;
 use crate::report::{push_client, push_got, push_sent, push_server};
 use crate::step::{Count, Step};
 use hf_split::{Framing, Splitter, wrap};
@@ -34,6 +38,7 @@ fn shake(alloc: Global, lane: &[u8], handshake: &'static [u8]) -> Result<Splitte
     requires lane { lane.now ≡ written_of (handshake.now ∷ []) }
     ensures { IfOk result (λ splitter. Waits splitter lane.now (handshake.now ∷ [])) }
 {
+    of_frames();
     let mut splitter = Splitter::start(alloc, Framing::Record, MOST_FRAME)?;
     splitter.feed(lane);
     match splitter.frame() {
@@ -45,8 +50,22 @@ fn shake(alloc: Global, lane: &[u8], handshake: &'static [u8]) -> Result<Splitte
     Ok(splitter)
 }
 
-/// Takes a frame as the message that it says, the one of this number.
-fn take_message(
+/// The one message that a frame says.
+fn message_of(alloc: Global, frame: &[u8]) -> Result<Message, AllocError>
+    requires { (message : Message) × Says frame.now message }
+    ensures said { IfOk result (λ read. (message : Message) → Says frame.now message → read ≡ message) }
+    ensures fits { IfOk result Fits }
+{
+    of_frames();
+    match read_message(alloc, frame) {
+        Ok(Read::Message(message)) => Ok(message),
+        Err(Refusal::NoMemory) => Err(AllocError),
+        _ => unreachable!(),
+    }
+}
+
+/// Reports the message that a frame says as the one of this number.
+fn report_message(
     alloc: Global,
     frame: &[u8],
     number: u64,
@@ -56,11 +75,8 @@ fn take_message(
     ensures { OnOk result ((message : Message) → Says frame.now message →
         report.new.items ≡ report.old.items ++ got_line number message) }
 {
-    match read_message(alloc, frame) {
-        Ok(Read::Message(message)) => push_got(alloc, report, number, &message),
-        Err(Refusal::NoMemory) => Err(AllocError),
-        _ => unreachable!(),
-    }
+    let message = message_of(alloc, frame)?;
+    push_got(alloc, report, number, &message)
 }
 
 /// Takes each whole frame that the splitter holds as a message, and answers how many there are since the handshake.
@@ -77,12 +93,13 @@ fn take_messages(
         Stands (always Record) splitter.old stream (items_of (client_frames got)) → processed ≡ length got →
         Takes splitter.new stream got report.old.items report.new.items total) }
 {
+    of_frames();
     let mut total = processed;
     loop {
         match splitter.frame() {
             Ok(Some((_, frame))) => {
                 total += 1;
-                take_message(alloc, frame, total, report)?;
+                report_message(alloc, frame, total, report)?;
                 splitter.pass();
             }
             Ok(None) => return Ok(total),
@@ -105,6 +122,7 @@ fn read_link(
         Waits splitter.old (take from link.now) (client_frames got) → processed ≡ length got →
         Takes splitter.new link.now got report.old.items report.new.items total) }
 {
+    of_frames();
     let mut at = from;
     let mut total = processed;
     while at < link.len() {
@@ -259,6 +277,7 @@ pub(crate) fn replay(alloc: Global, steps: &[Step]) -> Result<Vec<u8>, AllocErro
     requires { All IsStep steps.now }
     ensures { IfOk result (λ text. IsTheOne (IsReportOf steps.now) text.items) }
 {
+    of_frames();
     let mut pair = Pair::open(alloc)?;
     for step in steps {
         pair.run_step(alloc, step)?;

@@ -1,3 +1,5 @@
+//! The lines of a replay's report: the only place where they are spelled.
+
 ghost use Rattle.std.specs.Prelude.{◌≡◌, ◌++◌, OnOk};
 ghost use Rattle.hm_message.specs.Message.{Fits};
 ghost use Rattle.sr_app.specs.Report.{sent_line, got_line, client_line, server_line};

@@ -1,13 +1,17 @@
+//! What the program does: the command that its words ask for, from its input to its exit status.
+
 ghost use Rattle.std.specs.Prelude.{◌≡◌, ◌≢◌, ◌≤◌, ◌+◌, ◌⊎◌, ℕ, IfOk, Err, length, take};
 ghost use Rattle.std.specs.Io.KnownBytes.{Appends, Consumes, IsAtEnd};
 ghost use Rattle.hd_facts.specs.Counts.{Rose};
-ghost use Rattle.sr_check.specs.Stream.{IsDone, IsStopped, IsBegun, IsAllSoFar, IsPart, ReadsNoFurther};
-ghost use Rattle.hd_facts.specs.Writes.{Writes, WritesPart, WritesOfRead};
+ghost use Rattle.hd_facts.specs.Writes.{Writes, WritesOfRead};
+ghost use Rattle.sr_check.specs.Stream.{most_piece};
 ghost use Rattle.sr_words.specs.Words.{Asks, IsNoCommand};
-ghost use Rattle.sr_app.specs.Run.{IsReplayed, IsRefused, IsTextAnswer, AnswersWith, DoneMeans, RefusedMeans, PartMeans, BegunMeans, ReadMeans, WritesFor, WritesPartFor, WritesOfReadFor, ReadsBounded, ReadsWithin, usage_line};
+ghost use Rattle.sr_app.specs.Script.{most_script};
+ghost use Rattle.sr_app.specs.Run.{AnswersWith, AsksFor, Ends, ReadsBounded, TellsFaults, WritesPartFor, code_of, doing, meaning_of, outside_of, replaying, usage_line};
 
 use crate::pair::replay;
 use crate::script::{self, MOST_BYTES, ScriptError};
+use hf_split::empty_waits;
 use hw_io::{Failed, Sink, Source};
 use sr_check::{Stop, Task};
 use sr_words::{Command, WordsError};
@@ -15,7 +19,7 @@ use std::alloc::{AllocError, Global};
 
 const USAGE: &[u8] = b"usage: sr replay, soak, serve, client, check or convert\n";
 
-/// How many bytes are read at a time.
+/// How many bytes of a script are read at a time.
 const PIECE: usize = 4096;
 
 /// How a command ended, by its exit status.
@@ -29,6 +33,15 @@ pub(crate) enum Status {
     NoMemory = 7,
 }
 
+impl Status {
+    /// The exit status.
+    pub(crate) fn code(self) -> u8
+        ensures { result ≡ code_of self }
+    {
+        self as u8
+    }
+}
+
 /// Why an input was not read.
 #[derive(Clone, Copy, Debug, PartialEq, Eq)]
 enum ReadError {
@@ -36,13 +49,14 @@ enum ReadError {
     NoMemory,
 }
 
-/// Reads a source to its end or, where it has more than a script may have, past that many bytes.
+/// Reads a source to its end or, if it has more bytes than a script may have, past that many.
 fn read_all<S: Source>(alloc: Global, input: &mut S) -> Result<Vec<u8>, ReadError>
     ensures read { IfOk result (λ text. Consumes (S.left input.old) (S.left input.new) text.items) }
-    ensures short { IfOk result (λ text. length text.items ≤ 16777216 + 4096) }
+    ensures short { IfOk result (λ text. length text.items ≤ most_script + most_piece) }
     ensures bounded { ReadsBounded (S.left input.old) (S.left input.new) }
-    ensures ended { IfOk result (λ text. length text.items ≤ 16777216 → IsAtEnd (S.left input.new)) }
+    ensures ended { IfOk result (λ text. length text.items ≤ most_script → IsAtEnd (S.left input.new)) }
     ensures failed { result ≡ Err ReadError.Failed → Rose (S.faults input.old) (S.faults input.new) }
+    ensures unfailed { result ≢ Err ReadError.Failed → S.faults input.new ≡ S.faults input.old }
 {
     let mut text = Vec::new(alloc);
     let mut piece = [0u8; PIECE];
@@ -67,6 +81,7 @@ fn write<K: Sink>(out: &mut K, bytes: &[u8], status: Status) -> Status
     ensures whole { result ≡ status → Appends (K.holds out.old) (K.holds out.new) bytes.now }
     ensures part { result ≡ Status.WriteFault → Rose (K.faults out.old) (K.faults out.new)
         × ((n : ℕ) × Appends (K.holds out.old) (K.holds out.new) (take n bytes.now)) }
+    ensures unfailed { result ≢ Status.WriteFault → K.faults out.new ≡ K.faults out.old }
 {
     match out.put(bytes) {
         Ok(()) => status,
@@ -90,14 +105,13 @@ fn answer(alloc: Global, text: &[u8]) -> Result<(Vec<u8>, Status), AllocError>
 
 /// Replays the script that the input holds.
 fn run_replay<S: Source, K: Sink>(alloc: Global, input: &mut S, out: &mut K) -> Status
-    ensures done { result ≡ Status.Done → IsAtEnd (S.left input.new) × Writes IsReplayed (S.left input.old) (K.holds out.old) (K.holds out.new) }
-    ensures usage { result ≢ Status.Usage }
-    ensures refused { result ≡ Status.Refused → Writes IsRefused (S.left input.old) (K.holds out.old) (K.holds out.new) }
-    ensures read_fault { result ≡ Status.ReadFault → Rose (S.faults input.old) (S.faults input.new) × (out.new ≡ out.old) }
-    ensures write_fault { result ≡ Status.WriteFault → Rose (K.faults out.old) (K.faults out.new)
-        × WritesPart IsTextAnswer (S.left input.old) (K.holds out.old) (K.holds out.new) }
-    ensures no_memory { result ≡ Status.NoMemory → out.new ≡ out.old }
-    ensures bounded { ReadsBounded (S.left input.old) (S.left input.new) }
+    ensures ends { Ends replaying result
+        (outside_of (S.left input.old) (S.faults input.old) (K.holds out.old) (K.faults out.old))
+        (outside_of (S.left input.new) (S.faults input.new) (K.holds out.new) (K.faults out.new)) }
+    ensures faults { TellsFaults result
+        (outside_of (S.left input.old) (S.faults input.old) (K.holds out.old) (K.faults out.old))
+        (outside_of (S.left input.new) (S.faults input.new) (K.holds out.new) (K.faults out.new)) }
+    ensures untouched { (result ≡ Status.ReadFault) ⊎ (result ≡ Status.NoMemory) → out.new ≡ out.old }
 {
     let text = match read_all(alloc, input) {
         Ok(text) => text,
@@ -128,15 +142,12 @@ impl From<Stop> for Status {
 
 /// Does a task over the frames that the input holds.
 fn run_task<S: Source, K: Sink>(alloc: Global, task: Task, input: &mut S, out: &mut K) -> Status
-    ensures done { result ≡ Status.Done → IsAtEnd (S.left input.new) × Writes (IsDone task) (S.left input.old) (K.holds out.old) (K.holds out.new) }
-    ensures usage { result ≢ Status.Usage }
-    ensures refused { result ≡ Status.Refused → Writes (IsStopped task) (S.left input.old) (K.holds out.old) (K.holds out.new) }
-    ensures read_fault { result ≡ Status.ReadFault → Rose (S.faults input.old) (S.faults input.new)
-        × WritesOfRead (IsAllSoFar task) (S.left input.old) (S.left input.new) (K.holds out.old) (K.holds out.new) }
-    ensures write_fault { result ≡ Status.WriteFault → Rose (K.faults out.old) (K.faults out.new)
-        × WritesPart (IsPart task) (S.left input.old) (K.holds out.old) (K.holds out.new) }
-    ensures no_memory { result ≡ Status.NoMemory → Writes (IsBegun task) (S.left input.old) (K.holds out.old) (K.holds out.new) }
-    ensures no_further { ReadsNoFurther task (S.left input.old) (S.left input.new) }
+    ensures ends { Ends (doing task) result
+        (outside_of (S.left input.old) (S.faults input.old) (K.holds out.old) (K.faults out.old))
+        (outside_of (S.left input.new) (S.faults input.new) (K.holds out.new) (K.faults out.new)) }
+    ensures faults { TellsFaults result
+        (outside_of (S.left input.old) (S.faults input.old) (K.holds out.old) (K.faults out.old))
+        (outside_of (S.left input.new) (S.faults input.new) (K.holds out.new) (K.faults out.new)) }
 {
     match task.run(alloc, input, out) {
         Ok(()) => Status::Done,
@@ -151,16 +162,14 @@ fn carry_out<S: Source, K: Sink>(
     input: &mut S,
     out: &mut K,
 ) -> Status
-    ensures done { result ≡ Status.Done → IsAtEnd (S.left input.new) × Writes (DoneMeans command) (S.left input.old) (K.holds out.old) (K.holds out.new) }
-    ensures usage { result ≢ Status.Usage }
-    ensures refused { result ≡ Status.Refused → Writes (RefusedMeans command) (S.left input.old) (K.holds out.old) (K.holds out.new) }
-    ensures read_fault { result ≡ Status.ReadFault → Rose (S.faults input.old) (S.faults input.new)
-        × WritesOfRead (ReadMeans command) (S.left input.old) (S.left input.new) (K.holds out.old) (K.holds out.new) }
-    ensures write_fault { result ≡ Status.WriteFault → Rose (K.faults out.old) (K.faults out.new)
-        × WritesPart (PartMeans command) (S.left input.old) (K.holds out.old) (K.holds out.new) }
-    ensures no_memory { result ≡ Status.NoMemory → Writes (BegunMeans command) (S.left input.old) (K.holds out.old) (K.holds out.new) }
-    ensures untouched { command ≡ Command.Replay → (result ≡ Status.ReadFault) ⊎ (result ≡ Status.NoMemory) → out.new ≡ out.old }
-    ensures within { ReadsWithin command (S.left input.old) (S.left input.new) }
+    ensures ends { Ends (meaning_of command) result
+        (outside_of (S.left input.old) (S.faults input.old) (K.holds out.old) (K.faults out.old))
+        (outside_of (S.left input.new) (S.faults input.new) (K.holds out.new) (K.faults out.new)) }
+    ensures faults { TellsFaults result
+        (outside_of (S.left input.old) (S.faults input.old) (K.holds out.old) (K.faults out.old))
+        (outside_of (S.left input.new) (S.faults input.new) (K.holds out.new) (K.faults out.new)) }
+    ensures untouched { command ≡ Command.Replay → (result ≡ Status.ReadFault) ⊎ (result ≡ Status.NoMemory)
+        → out.new ≡ out.old }
 {
     match command {
         Command::Replay => run_replay(alloc, input, out),
@@ -171,32 +180,50 @@ fn carry_out<S: Source, K: Sink>(
 
 /// Does what the words say, over this input and this output, and answers the exit status.
 ///
-/// | status | where |
+/// | status | if |
 /// |---|---|
 /// | 0 | the input is what the command asks for; its whole answer was written |
 /// | 1 | the words are no command; the usage line was written |
 /// | 2 | the input is refused; what is written of the frames before, and the refusal, was written |
 /// | 3 | the input failed; nothing was written but what is written of the frames that were read |
 /// | 4 | the output failed; it took a first part of what was to be written |
-/// | 7 | memory is wanting; nothing was written but what is written of some frames that were read |
+/// | 7 | out of memory; nothing was written but what is written of some frames that were read |
+///
+/// A fault of the input ends it with 3 and one of the output with 4: none is passed over.
 pub fn run<S: Source, K: Sink>(alloc: Global, words: &[String], input: &mut S, out: &mut K) -> u8
     ensures status { (result ≡ 0) ⊎ (result ≡ 1) ⊎ (result ≡ 2) ⊎ (result ≡ 3) ⊎ (result ≡ 4) ⊎ (result ≡ 7) }
-    ensures done { result ≡ 0 → IsAtEnd (S.left input.new) × WritesFor DoneMeans words.now (S.left input.old) (K.holds out.old) (K.holds out.new) }
+
+    ensures done { result ≡ 0 → IsAtEnd (S.left input.new)
+        × AsksFor words.now (λ m. Writes m.done (S.left input.old) (K.holds out.old) (K.holds out.new)) }
+
     ensures usage { result ≡ 1 → IsNoCommand words.now × Appends (K.holds out.old) (K.holds out.new) usage_line }
     ensures wrong_words { IsNoCommand words.now → (result ≡ 1) ⊎ (result ≡ 4) ⊎ (result ≡ 7) }
-    ensures refused { result ≡ 2 → WritesFor RefusedMeans words.now (S.left input.old) (K.holds out.old) (K.holds out.new) }
+    ensures refused { result ≡ 2
+        → AsksFor words.now (λ m. Writes m.refused (S.left input.old) (K.holds out.old) (K.holds out.new)) }
     ensures read_fault { result ≡ 3 → Rose (S.faults input.old) (S.faults input.new)
-        × WritesOfReadFor words.now (S.left input.old) (S.left input.new) (K.holds out.old) (K.holds out.new) }
+        × AsksFor words.now (λ m. WritesOfRead m.read (S.left input.old) (S.left input.new) (K.holds out.old) (K.holds out.new)) }
     ensures write_fault { result ≡ 4 → Rose (K.faults out.old) (K.faults out.new)
         × WritesPartFor words.now (S.left input.old) (K.holds out.old) (K.holds out.new) }
-    ensures no_memory { result ≡ 7 → (out.new ≡ out.old) ⊎ WritesFor BegunMeans words.now (S.left input.old) (K.holds out.old) (K.holds out.new) }
+    ensures no_memory { result ≡ 7 → (out.new ≡ out.old)
+        ⊎ AsksFor words.now (λ m. Writes m.begun (S.left input.old) (K.holds out.old) (K.holds out.new)) }
+
+    // A count of faults rises only in a call that the status tells of.
+    ensures source_unfailed { result ≢ 3 → S.faults input.new ≡ S.faults input.old }
+    ensures sink_unfailed { result ≢ 4 → K.faults out.new ≡ K.faults out.old }
+
     ensures untouched { Asks words.now Command.Replay → (result ≡ 3) ⊎ (result ≡ 7) → out.new ≡ out.old }
-    ensures within { (command : Command) → Asks words.now command → ReadsWithin command (S.left input.old) (S.left input.new) }
     ensures unread { IsNoCommand words.now → input.new ≡ input.old }
+
+    ensures within { (command : Command) → Asks words.now command
+        → (meaning_of command).reads (S.left input.old) (S.left input.new) }
 {
     match sr_words::parse(alloc, words) {
-        Ok(command) => carry_out(alloc, command, input, out) as u8,
-        Err(WordsError::NoCommand) => write(out, USAGE, Status::Usage) as u8,
-        Err(WordsError::NoMemory) => Status::NoMemory as u8,
+        Ok(command) => carry_out(alloc, command, input, out).code(),
+        Err(WordsError::NoCommand) => write(out, USAGE, Status::Usage).code(),
+        Err(WordsError::NoMemory) => {
+            // So whatever the words ask for, no further is read than it may be.
+            empty_waits();
+            Status::NoMemory.code()
+        }
     }
 }

@@ -1,15 +1,18 @@
+//! The grammar of a script: from its text to its steps, or to the first line that isn't one of a script.
+
 ghost use Rattle.std.specs.Prelude.{◌≡◌, ◌<◌, ◌≤◌, ◌+◌, ◌^◌, ◌↔◌, ℕ, List, [], ◌∷◌, ◌++◌, IsTrue, IfOk, IfErr, IfSome, IfNone, OnOk, length, suc, slice_get, if◌then◌else◌};
 ghost use Rattle.std.specs.Option.{option_copied};
 ghost use Rattle.std.specs.Fmt.{decimal};
 ghost use Rattle.sr_app.specs.declared.step.Step.{Step};
 ghost use Rattle.sr_app.specs.declared.script.ScriptError.TheVariants.{NoMemory};
 ghost use Rattle.hd_facts.specs.Unique.{IsTheOne};
-ghost use Rattle.sr_app.specs.Script.{IsTarget, IsCount, IsStep, Parses, opening, message_text, count_text, line_of, is_send};
+ghost use Rattle.sr_app.specs.Script.{IsTarget, IsCount, IsStep, Parses, opening, message_text, count_text, line_of, is_send, most_sends};
 ghost use Rattle.sr_app.specs.Reading.{HasRead, IsNoLine, IsLineEnd, RefusesNext, RefusesText};
 
 use crate::step::{Count, Step};
 use hv_value::Text;
 use std::alloc::{AllocError, AllocFailed, Global};
+use std::fmt;
 
 /// The most bytes of a script: 16 MiB.
 pub(crate) const MOST_BYTES: usize = 16777216;
@@ -17,18 +20,33 @@ pub(crate) const MOST_BYTES: usize = 16777216;
 /// The most messages that a script sends.
 const MOST_SENDS: u64 = 1024;
 
-/// What stands before and after a message's target.
+/// The most letters of a target.
+const MOST_TARGET: usize = 59;
+
+/// What stands before a message's target, and after it.
 const BEFORE_TARGET: &[u8] = b"{\"arguments\":[],\"target\":\"";
 
 const AFTER_TARGET: &[u8] = b"\",\"type\":1}";
 
-/// Why a text is no script.
+/// Why no script was read from a text.
 #[derive(Clone, Copy, Debug, PartialEq, Eq)]
 pub enum ScriptError {
-    /// The number of the first line that the grammar lacks, counted from 1.
+    /// The text is no script: the number of its first line, counted from 1, with which no script goes on.
     Line(u64),
+    /// Memory ran out, which says nothing of the text.
     NoMemory,
 }
+
+impl fmt::Display for ScriptError {
+    fn fmt<W: fmt::Write>(&self, f: &mut fmt::Formatter<W>) -> fmt::Result {
+        match self {
+            ScriptError::Line(number) => write!(f, "line {number} is none of a script"),
+            ScriptError::NoMemory => write!(f, "out of memory"),
+        }
+    }
+}
+
+impl std::error::Error for ScriptError {}
 
 impl From<AllocError> for ScriptError {
     ghost from_gives = { λ _ e. e ≡ NoMemory };
@@ -50,7 +68,9 @@ impl<T: Drop> From<AllocFailed<T>> for ScriptError {
 fn is_target(bytes: &[u8]) -> bool
     ensures { IsTrue result ↔ IsTarget bytes.now }
 {
-    !bytes.is_empty() && bytes.len() <= 59 && bytes.iter().all(|b| *b >= b'a' && *b <= b'z')
+    !bytes.is_empty()
+        && bytes.len() <= MOST_TARGET
+        && bytes.iter().all(|b| *b >= b'a' && *b <= b'z')
 }
 
 /// What stands where a message has its target.
@@ -80,7 +100,7 @@ fn parse_target(alloc: Global, message: &[u8]) -> Result<Option<Text>, AllocErro
     }
 }
 
-/// The number whose digits these are, without needless zeros.
+/// The number whose digits these are, if they have no needless zeros and it is below 2^64.
 fn parse_number(alloc: Global, digits: &[u8]) -> Result<Option<u64>, AllocError>
     ensures found { IfOk result (λ r. IfSome r (λ n. (digits.now ≡ decimal n) × (n < 2 ^ 64))) }
     ensures none { IfOk result (λ r. IfNone r ((n : ℕ) → n < 2 ^ 64 → digits.now ≡ decimal n → ⊥)) }
@@ -133,7 +153,7 @@ fn parse_line(alloc: Global, line: &[u8]) -> Result<Option<Step>, AllocError>
     Ok(None)
 }
 
-/// The opening line that comes after so many of them.
+/// The opening line of this number, counted from 0.
 fn opening_line(done: usize) -> Option<&'static [u8]>
     ensures { option_copied result ≡ slice_get opening done }
 {
@@ -148,11 +168,11 @@ fn opening_line(done: usize) -> Option<&'static [u8]>
     }
 }
 
-/// How many messages are sent with this step, where it isn't one too many.
+/// How many messages are sent with this step, or `None` if that is one too many.
 fn count_send(sends: u64, step: &Step) -> Option<u64>
-    requires { sends ≤ 1024 }
-    ensures counted { IfSome result (λ n. (n ≡ sends + (if is_send step.now then 1 else 0)) × (n ≤ 1024)) }
-    ensures one_too_many { IfNone result (1025 ≤ sends + (if is_send step.now then 1 else 0)) }
+    requires { sends ≤ most_sends }
+    ensures counted { IfSome result (λ n. (n ≡ sends + (if is_send step.now then 1 else 0)) × (n ≤ most_sends)) }
+    ensures one_too_many { IfNone result (most_sends < sends + (if is_send step.now then 1 else 0)) }
 {
     match step {
         Step::Send(_) if sends == MOST_SENDS => None,
@@ -239,7 +259,7 @@ impl Reader {
     }
 }
 
-/// The steps of a script. A line with the byte 16,777,217 isn't one of a script.
+/// The steps of a script, or the number of the first line at which the text stops being one. A line that goes past the first 16 MiB is refused.
 pub fn parse(alloc: Global, text: &[u8]) -> Result<Vec<Step>, ScriptError>
     ensures ok { IfOk result (λ steps. IsTheOne (Parses text.now) steps.items) }
     ensures refused { IfErr result (λ e. RefusesText e text.now) }

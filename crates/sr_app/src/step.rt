@@ -1,3 +1,5 @@
+//! The steps of a script, which its lines name.
+
 use hv_value::Text;
 
 /// How much is read.

@@ -1,21 +1,25 @@
+//! What no clause says: that each status comes where memory is there, and that output isn't held back to the end.
+
 use crate::run::run;
 use hw_io::{MemorySink, MemorySource};
 use std::alloc::Global;
 use std::test::Fail;
 
-/// A message of which the server reads all but the separator.
-const SCRIPT: &[u8] =
-    b"open\naccept 0\nc write *\ns read *\ns write *\nc read *\nc send {\"arguments\":[],\"target\":\"a\",\"type\":1}\nc write *\ns read 38\n";
-
-const REPORT: &[u8] =
-    b"s shaken\nc shaken\nc sent 1\nclient Ready sent 1 processed 0 held 1\nserver Ready sent 0 processed 0 held 0\n";
-
 /// Two messages, of which the server reads the first alone and then the rest.
-const READ_IN_TWO: &[u8] =
+const SCRIPT: &[u8] =
     b"open\naccept 0\nc write *\ns read *\ns write *\nc read *\nc send {\"arguments\":[],\"target\":\"a\",\"type\":1}\nc send {\"arguments\":[],\"target\":\"zz\",\"type\":1}\nc write *\ns read 40\ns read *\n";
 
-const READ_IN_TWO_REPORT: &[u8] =
+const REPORT: &[u8] =
     b"s shaken\nc shaken\nc sent 1\nc sent 2\ns got 1 {\"arguments\":[],\"target\":\"a\",\"type\":1}\ns got 2 {\"arguments\":[],\"target\":\"zz\",\"type\":1}\nclient Ready sent 2 processed 0 held 2\nserver Ready sent 0 processed 2 held 0\n";
+
+/// Two pings (HubProtocol.md, "Ping Message Encoding"), in JSON and in MessagePack.
+const JSON_PINGS: &[u8] = b"{\"type\":6}\x1e{\"type\":6}\x1e";
+
+const PACK_PINGS: &[u8] = b"\x02\x91\x06\x02\x91\x06";
+
+const LINES: &[u8] = b"0 message {\"type\":6}\n11 message {\"type\":6}\n";
+
+const USAGE: &[u8] = b"usage: sr replay, soak, serve, client, check or convert\n";
 
 fn one(alloc: Global, number: Option<u64>) -> Result<Vec<u64>, Fail> {
     let mut numbers = Vec::new(alloc);
@@ -44,118 +48,53 @@ fn outcome(
 }
 
 #[test]
-fn answers_words_and_scripts(rt: HostRuntime) -> Result<(), Fail> {
-    let cases: [(&str, &[u8], u8, &[u8]); 6] = [
-        ("replay", SCRIPT, 0, REPORT),
-        ("replay", READ_IN_TWO, 0, READ_IN_TWO_REPORT),
-        ("replay", b"open\naccept 0\nfoo\n", 2, b"line 3 refused\n"),
-        ("replay", b"", 2, b"line 1 refused\n"),
+fn each_status_comes(rt: HostRuntime) -> Result<(), Fail> {
+    let cases: [(&[&str], &[u8], u8, &[u8]); 8] = [
+        (&["replay"], SCRIPT, 0, REPORT),
         (
-            "replay",
-            b"open\naccept 0\nc write *\ns read *\ns write *",
+            &["replay"],
+            b"open\naccept 0\nfoo\n",
             2,
-            b"line 6 refused\n",
+            b"line 3 refused\n",
         ),
-        (
-            "frob",
-            SCRIPT,
-            1,
-            b"usage: sr replay, soak, serve, client, check or convert\n",
-        ),
+        (&["frob"], SCRIPT, 1, USAGE),
+        (&[], SCRIPT, 1, USAGE),
+        (&["check", "json"], JSON_PINGS, 0, LINES),
+        (&["check", "pack"], b"\x02\x91", 2, b"0 unfinished 2\n"),
+        (&["convert", "json", "pack"], JSON_PINGS, 0, PACK_PINGS),
+        (&["convert", "pack", "json"], PACK_PINGS, 0, JSON_PINGS),
     ];
-    for (word, script, status, written) in cases {
-        let got = outcome(rt.alloc(), &[word], script, None, None)?;
-        assert_eq!(rt; got.0, status, "{word}");
-        assert_eq!(rt; got.1.as_slice(), written, "{word}");
+    for (command, bytes, status, written) in cases {
+        let got = outcome(rt.alloc(), command, bytes, None, None)?;
+        assert_eq!(rt; got.0, status, "{command:?}");
+        assert_eq!(rt; got.1.as_slice(), written, "{command:?}");
     }
     Ok(())
 }
 
+/// Where both fail, the sink does so first: it is given what is written of a piece before the next is read.
 #[test]
-fn fails_with_its_source_and_its_sink(rt: HostRuntime) -> Result<(), Fail> {
-    let cases: [(Option<u64>, Option<u64>, u8); 5] = [
-        (Some(0), None, 3),
-        (Some(1), None, 3),
-        (Some(2), None, 0),
-        (None, Some(0), 4),
-        (None, Some(1), 0),
+fn faults_end_it_and_output_is_not_held_back(rt: HostRuntime) -> Result<(), Fail> {
+    let cases: [(&[&str], &[u8], Option<u64>, Option<u64>, u8, &[u8]); 6] = [
+        (&["replay"], SCRIPT, Some(0), None, 3, b""),
+        (&["replay"], SCRIPT, Some(1), None, 3, b""),
+        (&["replay"], SCRIPT, None, Some(0), 4, b""),
+        (&["check", "json"], JSON_PINGS, Some(1), None, 3, LINES),
+        (&["check", "json"], JSON_PINGS, None, Some(0), 4, b""),
+        (&["check", "json"], JSON_PINGS, Some(1), Some(0), 4, b""),
     ];
-    for (source_fails, sink_fails, status) in cases {
-        let got = outcome(rt.alloc(), &["replay"], SCRIPT, source_fails, sink_fails)?;
-        assert_eq!(rt; got.0, status, "{source_fails:?} {sink_fails:?}");
+    for (command, bytes, source_fails, sink_fails, status, written) in cases {
+        let got = outcome(rt.alloc(), command, bytes, source_fails, sink_fails)?;
         assert_eq!(rt;
-            got.1.is_empty(),
-            status != 0,
-            "{source_fails:?} {sink_fails:?}"
+            got.0,
+            status,
+            "{command:?} {source_fails:?} {sink_fails:?}"
         );
-    }
-    Ok(())
-}
-
-#[test]
-fn checks_frames(rt: HostRuntime) -> Result<(), Fail> {
-    let cases: [(&[u8], u8, &[u8]); 8] = [
-        (b"", 0, b""),
-        (
-            b"{\"type\":6}\x1e{\"type\":10}\x1e{\"type\":6}\x1e",
-            0,
-            b"0 message {\"type\":6}\n11 unknown 10\n23 message {\"type\":6}\n",
-        ),
-        (
-            b"{\"type\":6}\x1e{\"type\":3,\"invocationId\":\"1\",\"result\":1,\"error\":\"e\"}\x1e{\"type\":6}\x1e",
-            2,
-            b"0 message {\"type\":6}\n11 refused Both\n",
-        ),
-        (
-            b"{\"type\":3,\"invocationId\":\"1\",\"result\":1,\"error\":null}\x1e",
-            0,
-            b"0 message {\"invocationId\":\"1\",\"result\":1,\"type\":3}\n",
-        ),
-        (
-            b"{\"type\":2,\"invocationId\":\"1\",\"item\":1.5}\x1e",
-            2,
-            b"0 refused Fraction\n",
-        ),
-        (b"[1]\x1e", 2, b"0 refused NotObject\n"),
-        (b"{\"type\":8}\x1e", 2, b"0 refused Missing sequenceId\n"),
-        (
-            b"{\"type\":6}\x1e{\"type\"",
-            2,
-            b"0 message {\"type\":6}\n11 unfinished 7\n",
-        ),
-    ];
-    for (bytes, status, written) in cases {
-        let got = outcome(rt.alloc(), &["check", "json"], bytes, None, None)?;
-        assert_eq!(rt; got.0, status);
-        assert_eq!(rt; got.1.as_slice(), written);
-    }
-    Ok(())
-}
-
-#[test]
-fn checking_fails_with_its_source_and_its_sink(rt: HostRuntime) -> Result<(), Fail> {
-    let frames = b"{\"type\":6}\x1e{\"type\":6}\x1e";
-    let cases: [(Option<u64>, Option<u64>, u8, &[u8]); 4] = [
-        (Some(0), None, 3, b""),
-        (
-            Some(1),
-            None,
-            3,
-            b"0 message {\"type\":6}\n11 message {\"type\":6}\n",
-        ),
-        (None, Some(0), 4, b""),
-        (None, Some(1), 4, b"0 message {\"type\":6}\n"),
-    ];
-    for (source_fails, sink_fails, status, written) in cases {
-        let got = outcome(
-            rt.alloc(),
-            &["check", "json"],
-            frames,
-            source_fails,
-            sink_fails,
-        )?;
-        assert_eq!(rt; got.0, status);
-        assert_eq!(rt; got.1.as_slice(), written);
+        assert_eq!(rt;
+            got.1.as_slice(),
+            written,
+            "{command:?} {source_fails:?} {sink_fails:?}"
+        );
     }
     Ok(())
 }

@@ -13,7 +13,7 @@ take_messages-requires-clause-front c =
     let is : IsFed c.loop-at.splitter c.feed-at.new.self c.args.link.now c.loop-at.at c.feed-at.result =
     is_fed c.loop-at.splitter c.feed-at.new.self c.args.link.now c.loop-at.at c.feed-at.result c.loop-at.invariant.reading.waits.reader
     (rw take_rest at c.feed-at.ensures.fed) (rw take_rest at c.feed-at.ensures.within) (rw take_rest at (c.feed-at.ensures.stands (always Record))) in
-    fed_front c.loop-at.splitter c.feed-at.new.self c.args.link.now c.loop-at.at c.feed-at.result c.loop-at.total is c.loop-at.invariant.reading
+    fed_front c.of_frames.ensures c.loop-at.splitter c.feed-at.new.self c.args.link.now c.loop-at.at c.feed-at.result c.loop-at.total is c.loop-at.invariant.reading
 
 pub take_messages-requires-clause-few : goal.take_messages-requires-clause-few
 take_messages-requires-clause-few c =

@@ -21,6 +21,6 @@ pub returns : goal.returns
 returns c =
     let told : Told c.args.steps.now [] c.loop-step.pair =
     subst (λ (xs : List Step). Told c.args.steps.now xs c.loop-step.pair) (drop_all c.loop-step.step-index c.args.steps.now (omega arith)) c.loop-step.invariant in
-    told_end c.args.steps.now c.loop-step.pair c.push_server.new.report.items told
+    told_end c.of_frames.ensures c.args.steps.now c.loop-step.pair c.push_server.new.report.items told
     (c.in_ok-push_server.ensures ∙ ap (λ xs. xs ++ server_line c.loop-step.pair.processed) c.in_ok-push_client.ensures
     ∙ append_assoc c.loop-step.pair.report.items (client_line c.loop-step.pair.sent) (server_line c.loop-step.pair.processed))

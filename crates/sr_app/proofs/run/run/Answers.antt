@@ -1,14 +1,17 @@
-use Rattle.std.proofs.Common.{◌≡◌, ◌∙◌, ap, inr, rules, Result, Err}
-use Rattle.sr_words.specs.declared.commands.Command.{Command}
-use Rattle.sr_words.specs.declared.error.WordsError.{WordsError}
-use Rattle.sr_words.specs.declared.error.WordsError.TheVariants.{NoCommand}
+use Rattle.std.proofs.Common.{◌∙◌, sym, ap, inr}
 use Rattle.sr_words.specs.Words.{IsNoCommand}
-use Rattle.sr_app.specs.declared.run.Status.TheVariants.{Usage, WriteFault}
-use Rattle.sr_app.proofs.Answering.{reads_nothing}
+use Rattle.sr_app.specs.declared.run.Status.TheVariants.{Done, Usage, WriteFault}
+use Rattle.sr_app.specs.Run.{code_of}
+use Rattle.sr_app.proofs.Answering.{same_status, is_code, reads_nothing}
 use Rattle.sr_app.proofs.run.run.Goals as goal
 
-failed : (result : Result Command WordsError) (e : WordsError) → result ≡ Err e → e ≡ NoCommand → result ≡ Err NoCommand
-failed result e is was = is ∙ ap (λ (x : WordsError). let y : Result Command WordsError = Err x in y) was
+pub returns-in-Ok-clause-status : goal.returns-in-Ok-clause-status
+returns-in-Ok-clause-status g c = rw c.code.ensures (is_code c.carry_out.result)
+
+pub returns-in-Ok-clause-done : goal.returns-in-Ok-clause-done
+returns-in-Ok-clause-done g c = λ is.
+    let ends = c.carry_out.ensures.ends.done (same_status c.carry_out.result Done (sym c.code.ensures ∙ is)) in
+    (ends.0, (c.in-Ok.command, c.in-Ok.ensures.ok, ends.1))
 
 pub returns-in-Ok-clause-wrong_words : goal.returns-in-Ok-clause-wrong_words
 returns-in-Ok-clause-wrong_words g c = λ none. absurd (none c.in-Ok.command c.in-Ok.ensures.ok.holds)
@@ -16,43 +19,28 @@ returns-in-Ok-clause-wrong_words g c = λ none. absurd (none c.in-Ok.command c.i
 pub returns-in-Ok-clause-unread : goal.returns-in-Ok-clause-unread
 returns-in-Ok-clause-unread g c = λ none. absurd (none c.in-Ok.command c.in-Ok.ensures.ok.holds)
 
-pub returns-in-Ok-3-clause-wrong_words : goal.returns-in-Ok-3-clause-wrong_words
-returns-in-Ok-3-clause-wrong_words g c = λ none. absurd (none c.in-Ok.command c.in-Ok.ensures.ok.holds)
+pub returns-in-Err-NoCommand-clause-usage : goal.returns-in-Err-NoCommand-clause-usage
+returns-in-Err-NoCommand-clause-usage g c = λ is.
+    let none : IsNoCommand c.args.words.now = c.parse.ensures.no_command (cc) in
+    (none, c.write.ensures.whole (same_status c.write.result Usage (sym c.code-in-Err-NoCommand.ensures ∙ is)))
 
-pub returns-in-Ok-3-clause-within : goal.returns-in-Ok-3-clause-within
-returns-in-Ok-3-clause-within g c = λ command asks. rw (c.in-Ok.ensures.ok.only command asks) c.carry_out.ensures.within
+pub returns-in-Err-NoCommand-clause-write_fault : goal.returns-in-Err-NoCommand-clause-write_fault
+returns-in-Err-NoCommand-clause-write_fault g c = λ is.
+    let none : IsNoCommand c.args.words.now = c.parse.ensures.no_command (cc) in
+    let part = c.write.ensures.part (same_status c.write.result WriteFault (sym c.code-in-Err-NoCommand.ensures ∙ is)) in
+    (part.0, inr (none, part.1))
 
-pub returns-in-Ok-3-clause-unread : goal.returns-in-Ok-3-clause-unread
-returns-in-Ok-3-clause-unread g c = λ none. absurd (none c.in-Ok.command c.in-Ok.ensures.ok.holds)
-
-pub returns-in-Ok-4-clause-wrong_words : goal.returns-in-Ok-4-clause-wrong_words
-returns-in-Ok-4-clause-wrong_words g c = λ none. absurd (none c.in-Ok.command c.in-Ok.ensures.ok.holds)
-
-pub returns-in-Ok-4-clause-unread : goal.returns-in-Ok-4-clause-unread
-returns-in-Ok-4-clause-unread g c = λ none. absurd (none c.in-Ok.command c.in-Ok.ensures.ok.holds)
-
-pub returns-in-Ok-5-clause-unread : goal.returns-in-Ok-5-clause-unread
-returns-in-Ok-5-clause-unread g c = λ none. absurd (none c.in-Ok.command c.in-Ok.ensures.ok.holds)
-
-pub returns-in-Ok-6-clause-unread : goal.returns-in-Ok-6-clause-unread
-returns-in-Ok-6-clause-unread g c = λ none. absurd (none c.in-Ok.command c.in-Ok.ensures.ok.holds)
-
-pub returns-in-Err-NoCommand-2-clause-usage : goal.returns-in-Err-NoCommand-2-clause-usage
-returns-in-Err-NoCommand-2-clause-usage g c = λ _.
-    let status : c.write.result ≡ Usage = search rules in
-    let none : IsNoCommand c.args.words.now = c.parse.ensures.no_command (failed c.parse.result c.in-Err-NoCommand.field-0 c.in-Err-NoCommand.is c.in-Err-NoCommand.field-0-is) in (none, c.write.ensures.whole status)
-
-pub returns-in-Err-NoCommand-2-clause-within : goal.returns-in-Err-NoCommand-2-clause-within
-returns-in-Err-NoCommand-2-clause-within g c = λ command _. reads_nothing command (g.S.Source.left c.args.input.now)
-
-pub returns-in-Err-NoCommand-5-clause-write_fault : goal.returns-in-Err-NoCommand-5-clause-write_fault
-returns-in-Err-NoCommand-5-clause-write_fault g c = λ _.
-    let status : c.write.result ≡ WriteFault = search rules in
-    let none : IsNoCommand c.args.words.now = c.parse.ensures.no_command (failed c.parse.result c.in-Err-NoCommand.field-0 c.in-Err-NoCommand.is c.in-Err-NoCommand.field-0-is) in
-    let part = c.write.ensures.part status in (part.0, inr (none, part.1))
-
-pub returns-in-Err-NoCommand-5-clause-within : goal.returns-in-Err-NoCommand-5-clause-within
-returns-in-Err-NoCommand-5-clause-within g c = λ command _. reads_nothing command (g.S.Source.left c.args.input.now)
+pub returns-in-Err-NoCommand-clause-within : goal.returns-in-Err-NoCommand-clause-within
+returns-in-Err-NoCommand-clause-within g c = λ command asks. absurd (c.parse.ensures.no_command (cc) command asks)
 
 pub returns-in-Err-NoMemory-clause-within : goal.returns-in-Err-NoMemory-clause-within
-returns-in-Err-NoMemory-clause-within g c = λ command _. reads_nothing command (g.S.Source.left c.args.input.now)
+returns-in-Err-NoMemory-clause-within g c = λ command asks. reads_nothing c.empty_waits.ensures command (g.S.Source.left c.args.input.now)
+
+pub returns-in-Ok-clause-source_unfailed : goal.returns-in-Ok-clause-source_unfailed
+returns-in-Ok-clause-source_unfailed g c = λ differ. c.carry_out.ensures.faults.source (λ is. differ (c.code.ensures ∙ ap code_of is))
+
+pub returns-in-Ok-clause-sink_unfailed : goal.returns-in-Ok-clause-sink_unfailed
+returns-in-Ok-clause-sink_unfailed g c = λ differ. c.carry_out.ensures.faults.sink (λ is. differ (c.code.ensures ∙ ap code_of is))
+
+pub returns-in-Err-NoCommand-clause-sink_unfailed : goal.returns-in-Err-NoCommand-clause-sink_unfailed
+returns-in-Err-NoCommand-clause-sink_unfailed g c = λ differ. c.write.ensures.unfailed (λ is. differ (c.code-in-Err-NoCommand.ensures ∙ ap code_of is))

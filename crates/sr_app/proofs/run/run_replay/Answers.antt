@@ -1,28 +1,35 @@
-use Rattle.std.proofs.Common.{◌≡◌, ◌⊎◌, inl, inr, sym, ◌∙◌, subst}
-use Rattle.sr_app.specs.Run.{AnswersWith}
-use Rattle.sr_app.specs.declared.run.Status.{Status}
-use Rattle.sr_app.specs.declared.run.Status.TheVariants.{Refused, WriteFault}
-use Rattle.sr_app.proofs.Answering.{writes_refusal, writes_part}
+use Rattle.std.proofs.Common.{refl}
+use Rattle.sr_app.proofs.Answering.{replay_forgone, replay_written}
 use Rattle.sr_app.proofs.run.run_replay.Goals as goal
 
-refused_status : (result status : Status) → (result ≡ status) ⊎ (result ≡ WriteFault) → result ≡ Refused → status ≡ Refused
-refused_status result status (inl same) is = sym same ∙ is
-refused_status result status (inr fault) is = cc
+pub returns-in-Err-NoMemory-clause-ends : goal.returns-in-Err-NoMemory-clause-ends
+returns-in-Err-NoMemory-clause-ends g c =
+    replay_forgone (g.S.Source.left c.args.input.now) (g.S.Source.left c.read_all.new.input) (g.K.Sink.holds c.args.out.now) (g.S.Source.faults c.args.input.now)
+    (g.S.Source.faults c.read_all.new.input) (g.K.Sink.faults c.args.out.now) c.read_all.ensures.bounded
 
-pub returns-in-Ok-answer-clause-refused : goal.returns-in-Ok-answer-clause-refused
-returns-in-Ok-answer-clause-refused g c = λ is.
-    let status : c.in-Ok-answer.status ≡ Refused = refused_status c.write.result c.in-Ok-answer.status c.write.ensures.same is in
-    let answers : AnswersWith c.in-Ok-answer.status c.in-Ok.text.items c.in-Ok-answer.bytes.items = rw c.deref.ensures.value at c.in-Ok-answer.ensures in
-    writes_refusal (g.S.Source.left c.args.input.now) (g.S.Source.left c.read_all.new.input) (g.K.Sink.holds c.args.out.now) (g.K.Sink.holds c.write.new.out)
-    c.in-Ok.text.items c.in-Ok-answer.bytes.items c.in-Ok.ensures.read c.in-Ok.ensures.ended
-    (subst (λ (s : Status). AnswersWith s c.in-Ok.text.items c.in-Ok-answer.bytes.items) status answers)
-    (rw c.deref-in-Ok-answer.ensures.value at (c.write.ensures.whole (is ∙ sym status)))
+pub returns-in-Ok-answer-clause-ends : goal.returns-in-Ok-answer-clause-ends
+returns-in-Ok-answer-clause-ends g c =
+    replay_written (g.S.Source.left c.args.input.now) (g.S.Source.left c.read_all.new.input) (g.K.Sink.holds c.args.out.now) (g.K.Sink.holds c.write.new.out)
+    (g.S.Source.faults c.args.input.now) (g.S.Source.faults c.read_all.new.input) (g.K.Sink.faults c.args.out.now) (g.K.Sink.faults c.write.new.out)
+    c.in-Ok.text.items c.in-Ok-answer.bytes.items c.in-Ok-answer.status c.write.result (record {
+      read = c.in-Ok.ensures.read;
+      ended = c.in-Ok.ensures.ended;
+      answers = rw c.deref.ensures.value at c.in-Ok-answer.ensures;
+      whole = rw c.deref-in-Ok-answer.ensures.value at c.write.ensures.whole;
+      part = rw c.deref-in-Ok-answer.ensures.value at c.write.ensures.part;
+      reads = c.read_all.ensures.bounded;
+    }) c.write.ensures.same
 
-pub returns-in-Ok-answer-clause-write_fault : goal.returns-in-Ok-answer-clause-write_fault
-returns-in-Ok-answer-clause-write_fault g c = λ is.
-    let part = rw c.deref-in-Ok-answer.ensures.value at (c.write.ensures.part is) in
-    let answers : AnswersWith c.in-Ok-answer.status c.in-Ok.text.items c.in-Ok-answer.bytes.items = rw c.deref.ensures.value at c.in-Ok-answer.ensures in (
-      part.0,
-      writes_part (g.S.Source.left c.args.input.now) (g.S.Source.left c.read_all.new.input) (g.K.Sink.holds c.args.out.now) (g.K.Sink.holds c.write.new.out)
-          c.in-Ok.text.items c.in-Ok-answer.bytes.items part.1.0 c.in-Ok-answer.status c.in-Ok.ensures.read c.in-Ok.ensures.ended answers part.1.1,
-    )
+pub returns-clause-ends : goal.returns-clause-ends
+returns-clause-ends g c =
+    replay_forgone (g.S.Source.left c.args.input.now) (g.S.Source.left c.read_all.new.input) (g.K.Sink.holds c.args.out.now) (g.S.Source.faults c.args.input.now)
+    (g.S.Source.faults c.read_all.new.input) (g.K.Sink.faults c.args.out.now) c.read_all.ensures.bounded
+
+pub returns-in-Err-NoMemory-clause-faults : goal.returns-in-Err-NoMemory-clause-faults
+returns-in-Err-NoMemory-clause-faults g c = record { source = λ differ. c.read_all.ensures.unfailed (λ is. cc); sink = λ differ. refl }
+
+pub returns-in-Ok-answer-clause-faults : goal.returns-in-Ok-answer-clause-faults
+returns-in-Ok-answer-clause-faults g c = record { source = λ differ. c.read_all.ensures.unfailed (λ is. cc); sink = c.write.ensures.unfailed }
+
+pub returns-clause-faults : goal.returns-clause-faults
+returns-clause-faults g c = record { source = λ differ. c.read_all.ensures.unfailed (λ is. cc); sink = λ differ. refl }
