@@ -12,6 +12,3 @@ pub use laws::one_meaning;
 pub use reading::{read_message, read_message_in};
 pub use refusal::Refusal;
 pub use writing::write_message;
-
-#[cfg(test)]
-mod tests;

@@ -16,6 +16,3 @@ pub use headers::Headers;
 pub use kind::Kind;
 pub use laws::{image_is_its_image, kinds_have_numbers, values_are_trees};
 pub use message::{Codec, Ending, Field, Message, Read};
-
-#[cfg(test)]
-mod tests;

@@ -1,4 +1,9 @@
-use super::*;
+//! The messages themselves, whatever encoding carries them.
+use hm_message::{
+    Ending, Field, Headers, Kind, Message, headers_in, image_is_its_image, into_headers,
+    into_items, into_text, into_texts, items_in, kinds_have_numbers, number_in, text_in, texts_in,
+    values_are_trees,
+};
 use hv_value::{Blob, Items, Text, Texts, Value, Whole};
 use std::test::Fail;
 
@@ -10,7 +15,7 @@ fn items(values: Vec<Value>) -> Result<Items, Fail> {
     Ok(Items::of(values).ok().ok_or("a list")?)
 }
 
-/// A list in a list, so many levels deep.
+/// A list in a list, `levels` deep.
 fn nested(rt: &HostRuntime, levels: usize) -> Result<Value, Fail> {
     let mut value = Value::Null;
     for _ in 0..levels {
@@ -131,15 +136,6 @@ fn copies(rt: HostRuntime) -> Result<(), Fail> {
     Ok(())
 }
 
-#[test]
-fn kinds(rt: HostRuntime) -> Result<(), Fail> {
-    for kind in 1..10 {
-        let one = message(&rt, kind, 0)?;
-        assert_eq!(rt; usize::from(one.kind().number()), kind);
-    }
-    Ok(())
-}
-
 /// HubProtocol.md, "JSON Encoding", has the numbers and the names.
 #[test]
 fn kinds_and_names(rt: HostRuntime) -> Result<(), Fail> {
@@ -193,6 +189,9 @@ fn fields(rt: HostRuntime) -> Result<(), Fail> {
     assert_eq!(rt; texts.texts().len(), 1);
     assert_eq!(rt; items_in(&list)?.ok_or("a list")?.values().len(), 1);
     assert!(rt; items_in(&word)?.is_none());
+    assert!(rt; into_items(list.copy()?) == items_in(&list)?);
+    assert!(rt; into_texts(alloc, list.copy()?)? == Some(texts));
+    assert!(rt; into_text(word.copy()?) == Some(text(&rt, "word")?));
     let mut mixed = Vec::new(alloc);
     mixed.push(word.copy()?)?;
     mixed.push(five.copy()?)?;
@@ -203,10 +202,19 @@ fn fields(rt: HostRuntime) -> Result<(), Fail> {
     pairs.push((text(&rt, "key")?, word))?;
     let map = Value::map_from(pairs).ok().ok_or("a map")?;
     assert!(rt; headers_in(alloc, &map)? == Some(headers(&rt, &[("key", "word")])?));
+    assert!(rt; into_headers(alloc, map)? == Some(headers(&rt, &[("key", "word")])?));
     let mut pairs = Vec::new(alloc);
     pairs.push((text(&rt, "key")?, bytes))?;
     let map = Value::map_from(pairs).ok().ok_or("a map")?;
     assert!(rt; headers_in(alloc, &map)?.is_none());
     assert!(rt; headers_in(alloc, &list)?.is_none());
     Ok(())
+}
+
+/// The laws are called as any function.
+#[test]
+fn laws() {
+    image_is_its_image();
+    kinds_have_numbers();
+    values_are_trees();
 }

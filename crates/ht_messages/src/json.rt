@@ -1,6 +1,9 @@
-use super::*;
+//! Messages as JSON text. The frames of `examples` are after those of HubProtocol.md, "JSON Encoding", as remembered:
+//! no copy of it was at hand.
+use hm_json::{one_meaning, read_message, read_message_in, write_message};
 use hm_message::{Ending, Headers, Message, Read};
 use hv_value::{Blob, Text, Value};
+use json::Scratch;
 use std::alloc::{AllocError, Global};
 use std::test::Fail;
 
@@ -18,8 +21,6 @@ fn told(alloc: Global, frame: &str) -> Result<Vec<u8>, AllocError> {
     Vec::from_slice(alloc, words.as_bytes())
 }
 
-/// Frames after the examples of HubProtocol.md, "JSON Encoding", as remembered: no copy of it was at
-/// hand.
 #[test]
 fn examples(rt: HostRuntime) -> Result<(), Fail> {
     let cases: [(&str, &str); 16] = [
@@ -136,98 +137,33 @@ fn framed(alloc: Global, start: &str, middle: &str, end: &str) -> Result<String,
     format!(in alloc; "{{\"type\":{start}{middle}{end}}}")
 }
 
-/// Each property of a call absent, null, of another kind, and right.
+/// What is null, of another kind, or wrong beside something else that is wrong.
 #[test]
-fn calls(rt: HostRuntime) -> Result<(), Fail> {
-    let rest = ",\"target\":\"t\",\"arguments\":[]";
-    let cases: [(&str, &str, &str); 22] = [
-        ("1", rest, "{\"arguments\":[],\"target\":\"t\",\"type\":1}"),
+fn properties(rt: HostRuntime) -> Result<(), Fail> {
+    let id = ",\"invocationId\":\"i\"";
+    let call = ",\"target\":\"t\",\"arguments\":[]";
+    let cases: [(&str, &str, &str); 14] = [
         (
             "1,\"headers\":null,\"invocationId\":null,\"streamIds\":null",
-            rest,
+            call,
             "{\"arguments\":[],\"target\":\"t\",\"type\":1}",
         ),
         (
-            "1,\"headers\":{},\"streamIds\":[]",
-            rest,
-            "{\"arguments\":[],\"target\":\"t\",\"type\":1}",
+            "1,\"headers\":{\"b\":\"2\",\"a\":\"1\"},\"streamIds\":[\"\"]",
+            call,
+            "{\"arguments\":[],\"headers\":{\"a\":\"1\",\"b\":\"2\"},\"streamIds\":[\"\"],\
+             \"target\":\"t\",\"type\":1}",
         ),
-        (
-            "1,\"headers\":{\"b\":\"2\",\"a\":\"1\"}",
-            rest,
-            "{\"arguments\":[],\"headers\":{\"a\":\"1\",\"b\":\"2\"},\"target\":\"t\",\"type\":1}",
-        ),
-        ("1,\"headers\":[]", rest, "Wrong headers"),
-        ("1,\"headers\":{\"a\":null}", rest, "Wrong headers"),
-        ("1,\"invocationId\":7", rest, "Wrong invocationId"),
-        ("1,\"streamIds\":\"1\"", rest, "Wrong streamIds"),
-        ("1,\"streamIds\":[\"1\",2]", rest, "Wrong streamIds"),
-        ("1,\"arguments\":[]", "", "Missing target"),
-        ("1,\"arguments\":[]", ",\"target\":null", "Wrong target"),
-        ("1,\"arguments\":[]", ",\"target\":1", "Wrong target"),
-        ("1,\"target\":\"t\"", "", "Missing arguments"),
-        (
-            "1,\"target\":\"t\"",
-            ",\"arguments\":null",
-            "Wrong arguments",
-        ),
-        ("1,\"target\":\"t\"", ",\"arguments\":{}", "Wrong arguments"),
+        ("1,\"headers\":{\"a\":null}", call, "Wrong headers"),
         ("1,\"headers\":1,\"invocationId\":1", "", "Wrong headers"),
         ("1,\"streamIds\":1,\"target\":1", "", "Wrong target"),
-        ("4", rest, "Missing invocationId"),
-        ("4,\"invocationId\":null", rest, "Wrong invocationId"),
-        ("4,\"invocationId\":[]", rest, "Wrong invocationId"),
-        (
-            "4,\"invocationId\":\"i\",\"headers\":{\"a\":\"\"},\"streamIds\":[\"\"]",
-            rest,
-            "{\"arguments\":[],\"headers\":{\"a\":\"\"},\"invocationId\":\"i\",\"streamIds\":[\"\"],\
-             \"target\":\"t\",\"type\":4}",
-        ),
-        (
-            "4,\"invocationId\":\"i\",\"headers\":\"\"",
-            rest,
-            "Wrong headers",
-        ),
-    ];
-    for (start, end, words) in cases {
-        let frame = framed(rt.alloc(), start, "", end)?;
-        assert_eq!(rt; told(rt.alloc(), &frame)?.as_slice(), words.as_bytes());
-    }
-    Ok(())
-}
-
-/// The same of items, completions and cancellations.
-#[test]
-fn answers(rt: HostRuntime) -> Result<(), Fail> {
-    let id = ",\"invocationId\":\"i\"";
-    let cases: [(&str, &str, &str); 22] = [
-        ("2,\"item\":1", "", "Missing invocationId"),
-        (
-            "2,\"item\":1",
-            ",\"invocationId\":null",
-            "Wrong invocationId",
-        ),
-        ("2,\"item\":1", ",\"invocationId\":7", "Wrong invocationId"),
-        ("2", id, "Missing item"),
+        ("1,\"streamIds\":[\"1\",2]", call, "Wrong streamIds"),
+        ("4,\"invocationId\":null", call, "Wrong invocationId"),
         (
             "2,\"item\":null",
             id,
             "{\"invocationId\":\"i\",\"item\":null,\"type\":2}",
         ),
-        (
-            "2,\"item\":[],\"headers\":{\"a\":\"b\"}",
-            id,
-            "{\"headers\":{\"a\":\"b\"},\"invocationId\":\"i\",\"item\":[],\"type\":2}",
-        ),
-        ("2,\"item\":1,\"headers\":1", id, "Wrong headers"),
-        ("3", "", "Missing invocationId"),
-        ("3", ",\"invocationId\":null", "Wrong invocationId"),
-        (
-            "3,\"error\":null",
-            id,
-            "{\"invocationId\":\"i\",\"type\":3}",
-        ),
-        ("3,\"error\":1", id, "Wrong error"),
         ("3,\"error\":1,\"result\":2", id, "Wrong error"),
         ("3,\"error\":\"\",\"result\":null", id, "Both"),
         (
@@ -235,88 +171,13 @@ fn answers(rt: HostRuntime) -> Result<(), Fail> {
             id,
             "{\"invocationId\":\"i\",\"result\":null,\"type\":3}",
         ),
-        (
-            "3,\"result\":[{}],\"headers\":null",
-            id,
-            "{\"invocationId\":\"i\",\"result\":[{}],\"type\":3}",
-        ),
-        (
-            "3,\"headers\":{\"a\":\"b\"}",
-            id,
-            "{\"headers\":{\"a\":\"b\"},\"invocationId\":\"i\",\"type\":3}",
-        ),
-        ("3,\"headers\":true,\"error\":1", "", "Wrong headers"),
-        ("5", "", "Missing invocationId"),
-        (
-            "5,\"headers\":null",
-            ",\"invocationId\":null",
-            "Wrong invocationId",
-        ),
-        (
-            "5,\"headers\":null",
-            id,
-            "{\"invocationId\":\"i\",\"type\":5}",
-        ),
-        (
-            "5,\"headers\":{\"a\":\"b\"}",
-            id,
-            "{\"headers\":{\"a\":\"b\"},\"invocationId\":\"i\",\"type\":5}",
-        ),
-        ("5,\"headers\":[\"a\"]", "", "Wrong headers"),
-    ];
-    for (start, end, words) in cases {
-        let frame = framed(rt.alloc(), start, "", end)?;
-        assert_eq!(rt; told(rt.alloc(), &frame)?.as_slice(), words.as_bytes());
-    }
-    Ok(())
-}
-
-/// The same of the messages that no invocation has.
-#[test]
-fn others(rt: HostRuntime) -> Result<(), Fail> {
-    let id = ",\"sequenceId\":1";
-    let cases: [(&str, &str, &str); 21] = [
-        ("7", "", "{\"type\":7}"),
-        (
-            "7,\"error\":null,\"allowReconnect\":null",
-            "",
-            "{\"type\":7}",
-        ),
-        (
-            "7,\"headers\":1,\"allowReconnect\":false",
-            "",
-            "{\"type\":7}",
-        ),
-        (
-            "7,\"allowReconnect\":true",
-            "",
-            "{\"allowReconnect\":true,\"type\":7}",
-        ),
-        ("7,\"allowReconnect\":1", "", "Wrong allowReconnect"),
         ("7,\"error\":1,\"allowReconnect\":1", "", "Wrong error"),
-        ("8", "", "Missing sequenceId"),
-        ("8,\"sequenceId\":null", "", "Wrong sequenceId"),
-        ("8,\"sequenceId\":\"1\"", "", "Wrong sequenceId"),
         ("8,\"sequenceId\":-1", "", "Wrong sequenceId"),
-        ("8,\"headers\":1", id, "{\"sequenceId\":1,\"type\":8}"),
         (
-            "8,\"sequenceId\":18446744073709551615",
-            "",
-            "{\"sequenceId\":18446744073709551615,\"type\":8}",
+            "9,\"received\":\"1\"",
+            ",\"sequenceId\":1",
+            "{\"sequenceId\":1,\"type\":9}",
         ),
-        ("9", "", "Missing sequenceId"),
-        ("9,\"sequenceId\":null", "", "Wrong sequenceId"),
-        ("9,\"sequenceId\":-1", "", "Wrong sequenceId"),
-        ("9", id, "{\"sequenceId\":1,\"type\":9}"),
-        (
-            "9,\"received\":0",
-            id,
-            "{\"received\":0,\"sequenceId\":1,\"type\":9}",
-        ),
-        ("9,\"received\":null", id, "{\"sequenceId\":1,\"type\":9}"),
-        ("9,\"received\":-1", id, "{\"sequenceId\":1,\"type\":9}"),
-        ("9,\"received\":\"1\"", id, "{\"sequenceId\":1,\"type\":9}"),
-        ("9,\"received\":0", "", "Missing sequenceId"),
     ];
     for (start, end, words) in cases {
         let frame = framed(rt.alloc(), start, "", end)?;
@@ -371,5 +232,24 @@ fn bytes(rt: HostRuntime) -> Result<(), Fail> {
     };
     let read = read_message(alloc, &out[5..]).ok().ok_or("a message")?;
     assert!(rt; read == Read::Message(image));
+    Ok(())
+}
+
+/// With one scratch frame after frame is read as by itself, also after one that is refused.
+#[test]
+fn one_scratch(rt: HostRuntime) -> Result<(), Fail> {
+    let alloc = rt.alloc();
+    let mut scratch = Scratch::new(alloc);
+    let frames: [&[u8]; 5] = [
+        b"{\"type\":3,\"invocationId\":\"a\\u0062c\",\"error\":\"first\\n\"}",
+        b"{\"type\":7,\"error\":\"\\t\"}",
+        b"{\"type\":3,\"invocationId\":\"",
+        b"{\"type\":5,\"invocationId\":\"\"}",
+        b"{\"type\":6}",
+    ];
+    for frame in frames {
+        let alone = read_message(alloc, frame);
+        assert!(rt; read_message_in(alloc, &mut scratch, frame) == alone);
+    }
     Ok(())
 }
