@@ -25,6 +25,6 @@ mod why;
 mod writing;
 
 pub use laws::one_meaning;
-pub use reading::read_message;
+pub use reading::{read_message, read_message_in};
 pub use why::{FrameError, FrameWhy};
 pub use writing::{framing, write_message, write_message_in};

@@ -6,9 +6,10 @@ ghost use Rattle.hm_codec.specs.Frames.{Says, Unknown, Why};
 ghost use Rattle.hm_codec.specs.Refusals.{IsRefusedFor};
 
 use crate::why::FrameError;
-use hm_json::read_message as read_json;
+use hm_json::{read_message as read_json, read_message_in as read_json_in};
 use hm_message::{Codec, Read};
 use hm_pack::read_message as read_pack;
+use json::Scratch;
 use std::alloc::Global;
 
 fn read_json_message(alloc: Global, frame: &[u8]) -> Result<Read, FrameError>
@@ -17,6 +18,18 @@ fn read_json_message(alloc: Global, frame: &[u8]) -> Result<Read, FrameError>
     ensures refused { IfErr result (λ e. IsRefusedFor e (Why Codec.Json frame.now)) }
 {
     Ok(read_json(alloc, frame)?)
+}
+
+fn read_json_message_in(
+    alloc: Global,
+    scratch: &mut Scratch,
+    frame: &[u8],
+) -> Result<Read, FrameError>
+    ensures message { IfOk result (λ r. MessageIs r (λ m. Says Codec.Json frame.now m × Fits m)) }
+    ensures unknown { IfOk result (λ r. UnknownIs r (λ n. Unknown Codec.Json frame.now n)) }
+    ensures refused { IfErr result (λ e. IsRefusedFor e (Why Codec.Json frame.now)) }
+{
+    Ok(read_json_in(alloc, scratch, frame)?)
 }
 
 fn read_pack_message(alloc: Global, frame: &[u8]) -> Result<Read, FrameError>
@@ -38,6 +51,24 @@ pub fn read_message(alloc: Global, codec: Codec, frame: &[u8]) -> Result<Read, F
 {
     match codec {
         Codec::Json => read_json_message(alloc, frame),
+        Codec::Pack => read_pack_message(alloc, frame),
+    }
+}
+
+/// [`read_message`] for whoever reads many frames: the reader of JSON keeps its memory in `scratch` from one frame to the
+/// next. What it holds counts for nothing, before and after.
+pub fn read_message_in(
+    alloc: Global,
+    codec: Codec,
+    scratch: &mut Scratch,
+    frame: &[u8],
+) -> Result<Read, FrameError>
+    ensures message { IfOk result (λ r. MessageIs r (λ m. Says codec frame.now m × Fits m)) }
+    ensures unknown { IfOk result (λ r. UnknownIs r (λ n. Unknown codec frame.now n)) }
+    ensures refused { IfErr result (λ e. IsRefusedFor e (Why codec frame.now)) }
+{
+    match codec {
+        Codec::Json => read_json_message_in(alloc, scratch, frame),
         Codec::Pack => read_pack_message(alloc, frame),
     }
 }

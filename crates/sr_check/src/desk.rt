@@ -9,10 +9,11 @@ ghost use Rattle.sr_check.specs.Going.{IsRefusal, EndsOnDesk};
 ghost use Rattle.hm_message.specs.declared.message.Codec.TheVariants as codec;
 
 use crate::task::{Stop, Task};
-use hm_codec::{FrameError, FrameWhy, read_message, write_message_in};
+use hm_codec::{FrameError, FrameWhy, read_message_in, write_message_in};
 use hm_json::write_message as write_json;
 use hm_message::{Message, Read};
 use itoa::Buffer;
+use json::Scratch;
 use std::alloc::{AllocError, Global};
 
 /// The memory that the frames of a stream share.
@@ -22,6 +23,8 @@ pub(crate) struct Desk {
     pub(crate) text: Vec<u8>,
     /// A line or a frame that is being made. What it holds counts for nothing.
     body: Vec<u8>,
+    /// What the reader of JSON keeps from frame to frame.
+    scratch: Scratch,
 }
 
 impl Desk {
@@ -32,6 +35,7 @@ impl Desk {
         Desk {
             text: Vec::new(alloc),
             body: Vec::new(alloc),
+            scratch: Scratch::new(alloc),
         }
     }
 }
@@ -160,7 +164,7 @@ pub(crate) fn put_frame(
     ensures good { OnOk result ((text : List ℕ) × IsWritten task at frame.now text × (desk.new.text.items ≡ desk.old.text.items ++ text)) }
     ensures ended { IfErr result (λ stop. EndsOnDesk stop (IsRefusal task at frame.now) desk.old.text.items desk.new.text.items) }
 {
-    match read_message(alloc, task.codec(), frame) {
+    match read_message_in(alloc, task.codec(), &mut desk.scratch, frame) {
         Ok(Read::Message(message)) => {
             put_message(alloc, task, at, &message, desk)?;
             Ok(())
