@@ -78,9 +78,25 @@ first_is_of_four : (side : Side) (kind x y z : ℕ) → IsOfFour (IsFirst side) 
 first_is_of_four Client kind x y z = both (IsOfFour (IsFirst Client)) (kind == 2) _ _ (λ e. (tt, refl)) (λ e. (tt, refl))
 first_is_of_four Server kind x y z = both (IsOfFour (IsFirst Server)) (kind == 1) _ _ (λ e. (tt, refl)) (λ e. (tt, refl))
 
+-- no first frame is refused as a message
+abbrev IsNoRefusal : Reading → Type 0
+IsNoRefusal (Refuses why size) = ⊥
+IsNoRefusal r = Unit {0}
+
+first_is_no_refusal : (side : Side) (kind x y z : ℕ) → IsNoRefusal (first_of_four side kind x y z)
+first_is_no_refusal Client kind x y z = both IsNoRefusal (kind == 2) _ _ (λ e. tt) (λ e. tt)
+first_is_no_refusal Server kind x y z = both IsNoRefusal (kind == 1) _ _ (λ e. tt) (λ e. tt)
+
+first_refuses_none : (side : Side) (bytes why : List ℕ) (size : ℕ) → read_four (first_of_four side) bytes ≡ Refuses why size → ⊥
+first_refuses_none side [] why size e = absurd (cc)
+first_refuses_none side (p ∷ []) why size e = absurd (cc)
+first_refuses_none side (p ∷ q ∷ []) why size e = absurd (cc)
+first_refuses_none side (p ∷ q ∷ r ∷ []) why size e = absurd (cc)
+first_refuses_none side (p ∷ q ∷ r ∷ s ∷ rest) why size e = subst IsNoRefusal e (first_is_no_refusal side p q r s)
+
 later_is_of_four : (kind x y z : ℕ) → IsOfFour IsLater (later_of_four kind x y z)
 later_is_of_four kind x y z =
-    both (IsOfFour IsLater) (kind == 3) _ _ (λ e. (tt, refl)) (λ e.
+    both (IsOfFour IsLater) (kind == 3) _ _ (λ e. (refl, refl)) (λ e.
     both (IsOfFour IsLater) (kind == 4) _ _ (λ e. (tt, refl)) (λ e.
     both (IsOfFour IsLater) (kind == 5) _ _ (λ e. (tt, refl)) (λ e.
     both (IsOfFour IsLater) (kind == 6) _ _ (λ e. (tt, refl)) (λ e.
@@ -131,6 +147,7 @@ pub four_is_sound : (limits : Limits) → IsSoundWire limits four
 four_is_sound limits = record {
   framed = λ codec m can. (omega (arith, framed_in_four (Numbered m)), omega (arith, framed_in_four (Numbered m)));
   first = λ side. reader_is_sound limits (IsFirst side) (first_of_four side) (first_is_of_four side);
+  first_refuses_none = first_refuses_none;
   later = λ codec. reader_is_sound limits IsLater later_of_four later_is_of_four;
 }
 

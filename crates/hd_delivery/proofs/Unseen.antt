@@ -1,5 +1,5 @@
 -- What an end is and says doesn't depend on what it was fed and hasn't dealt with.
-use Rattle.std.proofs.Common.{◌≡◌, ℕ, max, true, List, [], ◌∷◌, ◌++◌, Option, Some, None, refl, sym, ap, ◌∙◌}
+use Rattle.std.proofs.Common.{◌≡◌, ℕ, suc, max, true, List, [], ◌∷◌, ◌++◌, Option, Some, None, refl, sym, ap, ◌∙◌}
 use Rattle.hm_message.specs.declared.message.Message.{Message}
 use Rattle.hd_delivery.specs.declared.vocabulary.Side.{Side}
 use Rattle.hd_delivery.specs.declared.vocabulary.Side.TheVariants.{Client, Server}
@@ -7,7 +7,7 @@ use Rattle.hd_delivery.specs.declared.vocabulary.Got.TheVariants as gives
 use Rattle.hm_message.specs.declared.message.Message.TheVariants as message
 use Rattle.hm_message.specs.Message.{is_sequenced}
 use Rattle.hd_delivery.specs.Frames.{LinkFrame, Numbered, frame_of}
-use Rattle.hd_delivery.specs.Histories.{Config, Step, Attached, Detached, Fed, Took, Failed, Sent, Lent, Ticked, Silenced, Closed, Shake, is_this, present_link, stands_on, was_on, first_link, first_of, lent_frames, taken_count, sent_messages, processed_messages, acked_count, written_place, agreed_version, is_resumed, moment, written_moment, codec_of, is_shaken, is_kept, is_closed, state}
+use Rattle.hd_delivery.specs.Histories.{Config, Step, Attached, Detached, Fed, Took, Failed, Sent, Lent, Ticked, Silenced, Closed, Shake, is_this, present_link, stands_on, was_on, first_link, first_of, lent_frames, taken_count, sent_messages, processed_messages, acked_count, written_place, agreed_version, is_resumed, moment, written_moment, codec_of, is_shaken, is_kept, is_closed, state, held_messages, link_count, most_lent, heard_moment, is_silence}
 use Rattle.hd_delivery.specs.Due.{handshake, opening, next_message, sequence_due, ack_due, message_due, ping_due, close_due, due_after, due_there, is_quiet, farewell, answer, due_on, due}
 use Rattle.hd_delivery.specs.Bytes.{Wire, ByteStep, Bytes, Does, bare_steps, in_frames}
 use Rattle.hd_delivery.specs.Laws.{IsSameButFed}
@@ -114,6 +114,23 @@ moments (Ticked now ∷ h) = ap (max now) (moments h)
 moments (Silenced now ∷ h) = ap (max now) (moments h)
 moments (_ ∷ h) = moments h
 
+links : (h : List Step) → link_count (unfed h) ≡ link_count h
+links [] = refl
+links (Attached l now ∷ h) = ap suc (links h)
+links (_ ∷ h) = links h
+
+most : (h : List Step) → most_lent (unfed h) ≡ most_lent h
+most [] = refl
+most (Lent (Numbered m) ∷ h) = rw (acks h, writes h, most h) refl
+most (_ ∷ h) = most h
+
+hears : (h : List Step) → heard_moment (unfed h) ≡ heard_moment h
+hears [] = refl
+hears (Attached l now ∷ h) = rw (moments h) refl
+hears (Fed piece ∷ h) = refl
+hears (Ticked now ∷ h) = rw (hears h, moments h) refl
+hears (_ ∷ h) = hears h
+
 wrote : (h : List Step) → written_moment (unfed h) ≡ written_moment h
 wrote [] = refl
 wrote (Attached l now ∷ h) = ap (max now) (moments h)
@@ -184,6 +201,12 @@ module _ (c : Config) (h : List Step) where
   owes : due c (unfed h) ≡ due c h
   owes = rw (link h) (on (present_link h))
 
+  holds : held_messages c (unfed h) ≡ held_messages c h
+  holds = rw (keeps c h, acks h, sends h, most h) refl
+
+  silent : (now : ℕ) → is_silence c now (unfed h) ≡ is_silence c now h
+  silent now = rw (link h, ends c h, hears h) refl
+
   without_fed : IsSameButFed c (unfed h) h
   without_fed = record {
     link = link h;
@@ -197,6 +220,14 @@ module _ (c : Config) (h : List Step) where
     takes = λ l. takes l h;
     lends = λ l. lends l h;
     owes = owes;
+    sends = sends h;
+    processes = gets h;
+    acks = acks h;
+    holds = holds;
+    links = links h;
+    furthest = most h;
+    moves = moments h;
+    silent = silent;
   }
 
 same_steps : (wire : Wire) (c : Config) (h : List ByteStep) → unfed (in_frames wire c h) ≡ unfed (bare_steps h)
@@ -221,14 +252,22 @@ via c h k e =
       takes = λ l. sym (a.takes l) ∙ (ap (taken_count l) e ∙ b.takes l);
       lends = λ l. sym (a.lends l) ∙ (ap (lent_frames l) e ∙ b.lends l);
       owes = sym a.owes ∙ (ap (due c) e ∙ b.owes);
+      sends = sym a.sends ∙ (ap sent_messages e ∙ b.sends);
+      processes = sym a.processes ∙ (ap processed_messages e ∙ b.processes);
+      acks = sym a.acks ∙ (ap acked_count e ∙ b.acks);
+      holds = sym a.holds ∙ (ap (held_messages c) e ∙ b.holds);
+      links = sym a.links ∙ (ap link_count e ∙ b.links);
+      furthest = sym a.furthest ∙ (ap most_lent e ∙ b.furthest);
+      moves = sym a.moves ∙ (ap moment e ∙ b.moves);
+      silent = λ now. sym (a.silent now) ∙ (ap (is_silence c now) e ∙ b.silent now);
     }
 
 pub fed_is_unseen : (wire : Wire) (c : Config) (h : List ByteStep) → IsSameButFed c (in_frames wire c h) (bare_steps h)
 fed_is_unseen wire c h = via c (in_frames wire c h) (bare_steps h) (same_steps wire c h)
 
-pub sequenced_is_numbered : (m : Message) → is_sequenced m ≡ true → frame_of m ≡ Numbered m
-sequenced_is_numbered message.Ping e = absurd (cc)
-sequenced_is_numbered (message.Close error allow) e = absurd (cc)
-sequenced_is_numbered (message.Ack upto) e = absurd (cc)
-sequenced_is_numbered (message.Sequence k received) e = absurd (cc)
-sequenced_is_numbered m e = refl
+pub sequenced_is_numbered : (m : Message) → (is_sequenced m ≡ true → frame_of m ≡ Numbered m) × (frame_of m ≡ Numbered m → is_sequenced m ≡ true)
+sequenced_is_numbered message.Ping = (λ e. absurd (cc), λ e. absurd (cc))
+sequenced_is_numbered (message.Close error allow) = (λ e. absurd (cc), λ e. absurd (cc))
+sequenced_is_numbered (message.Ack upto) = (λ e. absurd (cc), λ e. absurd (cc))
+sequenced_is_numbered (message.Sequence k received) = (λ e. absurd (cc), λ e. absurd (cc))
+sequenced_is_numbered m = (λ e. refl, λ e. refl)

@@ -1,15 +1,17 @@
 -- The same worlds over bytes: what is fed are bytes, and readers cut them into frames.
 -- HubProtocol.md, "Overview": the handshake ends with the record separator whatever the codec is; "JSON Encoding" and "MessagePack
 -- (MsgPack) encoding" frame all later messages. Here any spelling and any readers may stand for these, if they are faithful.
-use Rattle.std.specs.Prelude.{◌≡◌, ℕ, zero, suc, ◌+◌, ◌-◌, ◌<◌, ◌≤◌, Bool, false, List, [], ◌∷◌, ◌++◌, length, take, drop, map, sum_by, flat_map, Contains, Option, Some, None, if◌then◌else◌}
+use Rattle.std.specs.Prelude.{true, ◌≡◌, ℕ, zero, suc, ◌+◌, ◌-◌, ◌<◌, ◌≤◌, Bool, false, List, [], ◌∷◌, ◌++◌, length, take, drop, map, sum_by, flat_map, Contains, Option, Some, None, if◌then◌else◌}
 use Rattle.hm_message.specs.declared.message.Codec.{Codec}
 use Rattle.hm_message.specs.declared.message.Message.{Message}
+use Rattle.hm_message.specs.Kind.{IsOfNoKind}
+use Rattle.hm_message.specs.Message.{is_sequenced}
 use Rattle.hd_delivery.specs.declared.vocabulary.Reason.{Reason}
 use Rattle.hd_delivery.specs.declared.vocabulary.Side.{Side}
 use Rattle.hd_delivery.specs.declared.vocabulary.Side.TheVariants.{Client, Server}
 use Rattle.hd_delivery.specs.declared.vocabulary.State.TheVariants.{Ready}
 use Rattle.hd_delivery.specs.Numbers.{most_messages, most_framing}
-use Rattle.hd_delivery.specs.Frames.{LinkFrame, Request, Response, Numbered, Ack, Sequence, Ping, Close, Refusal, Strange, Unreadable, error_of, received_of}
+use Rattle.hd_delivery.specs.Frames.{LinkFrame, Request, Response, Numbered, Ack, Sequence, Ping, Close, Refusal, Strange, Unreadable, error_of, received_of, Foreign}
 use Rattle.hd_delivery.specs.Histories.{Step, Fed, Config, is_this, present_link, stands_on, first_link, as_told, fed_frames, lent_frames, taken_count, sent_messages, codec_of, is_closed, state}
 use Rattle.hd_delivery.specs.Due.{due}
 use Rattle.hd_facts.specs.Prefixes.{IsPrefix}
@@ -35,7 +37,7 @@ pub record Wire : Type 0 where
 abbrev pub sizes_of : Wire → Sizes
 sizes_of wire = record { frame = wire.frame_size; framed = λ codec m. length (wire.spell codec (Numbered m)) }
 
--- the frame, spelled in these bytes, is read as itself whatever comes behind it, and not before it is whole
+-- the frame, spelled in these bytes, is read as itself whatever comes after it, and not before it is whole
 pub record IsRead (reader : List ℕ → Reading) (bytes : List ℕ) (f : LinkFrame) : Type 0 where
   pub nonempty : 0 < length bytes
   pub whole : (rest : List ℕ) → reader (bytes ++ rest) ≡ Reads f (length bytes)
@@ -69,16 +71,18 @@ IsLater Response = ⊥
 IsLater (Refusal text) = ⊥
 IsLater (Strange why answer) = ⊥
 IsLater (Unreadable at why) = ⊥
+IsLater (Numbered m) = is_sequenced m ≡ true
+IsLater (Foreign n) = IsOfNoKind n
 IsLater f = Unit {0}
 
--- so many bytes are some of these, and no more than the largest frame has with its framing
+-- this many bytes are some of these, and no more than the largest frame has with its framing
 pub record IsSize (limits : Limits) (bytes : List ℕ) (size : ℕ) : Type 0 where
   pub some : 0 < size
   pub there : size ≤ length bytes
   pub bounded : size ≤ limits.frame + most_framing
 
--- a reader of frames of this kind doesn't wait where the largest frame with its framing has room: there it says what comes first. What it
--- says lies within the bytes, and stays so whatever comes behind them
+-- a reader of frames of this kind waits at no bytes, and never once it has as many as the largest frame with its framing. What it says
+-- lies within the bytes, and stays so whatever comes after them
 pub record IsSoundReader (limits : Limits) (IsKind : LinkFrame → Type 0) (reader : List ℕ → Reading) : Type 0 where
   pub empty : reader [] ≡ Waits
   pub unfilled : (bytes : List ℕ) → reader bytes ≡ Waits → length bytes < limits.frame + most_framing
@@ -86,11 +90,13 @@ pub record IsSoundReader (limits : Limits) (IsKind : LinkFrame → Type 0) (read
   pub refuses : (bytes why : List ℕ) (size : ℕ) → reader bytes ≡ Refuses why size → IsSize limits bytes size
   pub steady : (bytes more : List ℕ) → (reader bytes ≡ Waits → ⊥) → reader (bytes ++ more) ≡ reader bytes
 
--- a message that can be sent has at most `most_framing` bytes of framing, and the readers are sound
+-- the spelling of a message that can be sent is not shorter than its frame, with at most `most_framing` bytes of framing; the readers are
+-- sound, and what is no handshake on the first place is `Strange` there and not refused as a message
 pub record IsSoundWire (limits : Limits) (wire : Wire) : Type 0 where
   pub framed : (codec : Codec) (m : Message) → CanBeSent limits (sizes_of wire) codec m
       → (wire.frame_size codec m ≤ length (wire.spell codec (Numbered m))) × (length (wire.spell codec (Numbered m)) ≤ wire.frame_size codec m + most_framing)
   pub first : (side : Side) → IsSoundReader limits (IsFirst side) (wire.first side)
+  pub first_refuses_none : (side : Side) (bytes why : List ℕ) (size : ℕ) → wire.first side bytes ≡ Refuses why size → ⊥
   pub later : (codec : Codec) → IsSoundReader limits IsLater (wire.later codec)
 
 -- ---- the frames of a link

@@ -10,11 +10,11 @@ most_messages = 2 ^ 62
 abbrev pub most_of_64_bits : ℕ
 most_of_64_bits = 2 ^ 64 - 1
 
--- after so many milliseconds without a frame said, a Ping is due
+-- a Ping is due if nothing was said for this many milliseconds
 abbrev pub ping_after : ℕ
 ping_after = 15000
 
--- after so many milliseconds without a frame heard, a tick is a silence
+-- a tick is a silence if nothing was fed for this many milliseconds, as ticks tell
 abbrev pub silence_after : ℕ
 silence_after = 30000
 

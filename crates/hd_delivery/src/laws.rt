@@ -11,13 +11,13 @@ pub fn sequenced_is_numbered()
     ensures { SequencedIsNumbered }
 {}
 
-/// With more bytes behind them, some bytes are cut into the same frames and further ones, if the readers are sound.
+/// With more bytes after them, some bytes are cut into the same frames and further ones, if the readers are sound.
 pub fn cuts_grow()
     ensures { CutsGrow }
 {}
 
 /// The frames that an end was fed on a link are those that its readers cut off its bytes there, if the readers are sound
-/// and the handshake is complete before there is a second link.
+/// and no handshake is taken after a second link.
 pub fn fed_is_cut()
     ensures { FedIsCut }
 {}

@@ -10,10 +10,10 @@ use hv_value::Text;
 /// The most messages that an end sends, and so the greatest number of a message.
 pub const MOST_MESSAGES: u64 = 1 << 62;
 
-/// An end that said nothing on its link for so many milliseconds owes a Ping.
+/// An end that said nothing on its link for this many milliseconds owes a Ping.
 pub const PING_AFTER: u64 = 15_000;
 
-/// An end that heard nothing on its link for so many milliseconds counts it as lost.
+/// An end that was fed nothing on its link for this many milliseconds counts it as lost.
 pub const SILENCE_AFTER: u64 = 30_000;
 
 /// The most bytes that the framing of one frame has.
@@ -62,11 +62,12 @@ pub enum Reason {
 /// Why a frame is passed over.
 #[derive(Clone, Copy, Debug, PartialEq, Eq)]
 pub enum Why {
-    /// The message of this number was handed out before.
+    /// The message's number is not above the count of those handed out.
     Duplicate(u64),
     /// No message has this type.
     Unknown(i128),
-    /// On a later link a message came before the Sequence that tells its number.
+    /// On a later link a message came before the Sequence that tells its number, or, at version 3, before this end said
+    /// its own.
     BeforeSequence,
     /// An Ack or a Sequence on a connection that isn't kept across links.
     NotUsed,
@@ -86,7 +87,8 @@ pub enum Got {
     Acked(u64),
     /// The next message has this number.
     Sequenced(u64),
-    /// At version 3, the same, and how many messages the other end has handed out.
+    /// At version 3, the other end's opening of a later link: the number of the first message that it still held, and how
+    /// many messages it has handed out.
     Resumed {
         first: u64,
         received: u64,
@@ -97,7 +99,7 @@ pub enum Got {
     /// The other end said Close, so this end is closed.
     Closed {
         error: Option<Text>,
-        /// Whether the other end may connect again.
+        /// Whether this end may connect again.
         allow: bool,
     },
 }

@@ -1,6 +1,7 @@
 -- What holds of all streams.
-use Rattle.std.specs.Prelude.{◌≡◌, ◌≤◌, ◌⊎◌, ℕ, List, [], ◌++◌, length}
+use Rattle.std.specs.Prelude.{◌≡◌, ◌≤◌, ◌<◌, ◌⊎◌, ℕ, List, [], ◌++◌, length}
 use Rattle.hf_split.specs.declared.framing.Framing.{Framing}
+use Rattle.hf_split.specs.Held.{room_for}
 use Rattle.hf_split.specs.Cuts.{Spelled, Framings, IsSpelling, BeginsWith, IsTooLong, IsBadLength, IsFaulty, IsWaiting, CanWrap, Cuts, wrapped}
 
 -- a stream is cut in one way
@@ -28,9 +29,13 @@ pub record BeginsInOneWay (framing : Framing) (most : ℕ) (bytes : List ℕ) : 
 abbrev pub HasOneBeginning : Type 0
 HasOneBeginning = (framing : Framing) (most : ℕ) (bytes : List ℕ) → BeginsInOneWay framing most bytes
 
--- no bytes at all wait
+-- the empty list of bytes waits
 abbrev pub EmptyWaits : Type 0
 EmptyWaits = (framing : Framing) (most : ℕ) → IsWaiting framing most []
+
+-- bytes that wait leave room for more: a buffer of the largest frame with its framing is never full of them
+abbrev pub WaitingHasRoom : Type 0
+WaitingHasRoom = (framing : Framing) (most : ℕ) (bytes : List ℕ) → IsWaiting framing most bytes → length bytes < room_for most
 
 -- bytes that are too long begin with no frame, nor do they with more after them
 abbrev pub TooLongBeginsNone : Type 0

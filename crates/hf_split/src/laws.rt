@@ -1,6 +1,6 @@
 //! The laws of streams and frames. Each is a function that does nothing: its contract is the law.
 
-ghost use Rattle.hf_split.specs.Laws.{HasCutting, HasOneCutting, BeginsOnce, HasOneBeginning, EmptyWaits, TooLongBeginsNone, BadLengthBeginsNone, TooLongStays, BadLengthStays, WrappedBegins, WrappedIsShortest};
+ghost use Rattle.hf_split.specs.Laws.{HasCutting, HasOneCutting, BeginsOnce, HasOneBeginning, EmptyWaits, WaitingHasRoom, TooLongBeginsNone, BadLengthBeginsNone, TooLongStays, BadLengthStays, WrappedBegins, WrappedIsShortest};
 
 /// Each stream has a cutting.
 pub fn has_cutting()
@@ -23,9 +23,14 @@ pub fn one_beginning()
     ensures { HasOneBeginning }
 {}
 
-/// No bytes at all wait.
+/// The empty list of bytes waits.
 pub fn empty_waits()
     ensures { EmptyWaits }
+{}
+
+/// Bytes that wait leave room for more in a buffer of the largest frame with its framing.
+pub fn waiting_has_room()
+    ensures { WaitingHasRoom }
 {}
 
 /// Bytes that are too long begin with no frame.

@@ -4,7 +4,7 @@
 //! there is a [`Framing`]. The crate does not know what a frame says.
 //!
 //! Proved for all streams and all ways to feed them: the frames lent are those of the stream's one cutting, each with its
-//! place; a fault is told where no frame can begin, and nowhere else. The laws, as [`one_cutting`], say that there is one
+//! place; a fault is told exactly if the bytes begin with one, and then no frame can begin. The laws, as [`one_cutting`], say that there is one
 //! cutting, and what bytes can begin with.
 #![tactic(auto)]
 
@@ -18,7 +18,8 @@ mod var_int;
 pub use framing::{Framing, SEPARATOR, wrap};
 pub use laws::{
     bad_length_begins_none, bad_length_stays, begins_once, empty_waits, has_cutting, one_beginning,
-    one_cutting, too_long_begins_none, too_long_stays, wrapped_begins, wrapped_is_shortest,
+    one_cutting, too_long_begins_none, too_long_stays, waiting_has_room, wrapped_begins,
+    wrapped_is_shortest,
 };
 pub use splitter::{GREATEST_LIMIT, SplitFault, Splitter};
 pub use var_int::LONGEST_VAR_INT;
