@@ -3,7 +3,7 @@
 #![tactic(auto)]
 
 #[cfg(test)]
-mod json;
+mod json_text;
 #[cfg(test)]
 mod message;
 #[cfg(test)]
