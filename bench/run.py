@@ -158,7 +158,7 @@ def invocations(total):
         arguments = [draw.choice([draw.randrange(10**6), "text %x" % draw.getrandbits(80), None, {"room": draw.randrange(99), "by": "ann"}]) for _ in range(draw.randrange(2, 8))]
         frames.append(json.dumps({"type": 1, "invocationId": str(draw.randrange(10**4)), "target": "Send", "arguments": arguments}, separators=(",", ":")).encode() + b"\x1e")
     piece = b"".join(frames)
-    return piece * (total // len(piece))
+    return piece * max(1, total // len(piece))
 
 
 def script(total):
