@@ -45,10 +45,10 @@ def lanes():
     return max(1, min(len(os.sched_getaffinity(0)), free // MEMORY))
 
 
-def prove(crate):
+def prove(crate, jobs):
     """Proves a crate and builds its library, or the program. Gives what was said, and how many seconds it took."""
     begun = time.monotonic()
-    command = ["rt", "run", "--", "replay"] if crate == PROGRAM else ["rt", "lib"]
+    command = ["rt", "run", *jobs, "--", "replay"] if crate == PROGRAM else ["rt", "lib", *jobs]
     script = (TOP / "examples" / "three-invocations.script").read_bytes() if crate == PROGRAM else b""
     ran = subprocess.run(command, cwd=TOP / "crates" / crate, input=script, stdout=subprocess.PIPE, stderr=subprocess.STDOUT)
     return ran.returncode, ran.stdout.decode(errors="replace"), time.monotonic() - begun
@@ -61,9 +61,11 @@ def main():
     begun = time.monotonic()
     with concurrent.futures.ThreadPoolExecutor(count) as pool:
         while len(done) < len(needed):
-            for crate, below in needed.items():
-                if crate not in done and crate not in running.values() and done.issuperset(below):
-                    running[pool.submit(prove, crate)] = crate
+            ready = [crate for crate, below in needed.items() if crate not in done and crate not in running.values() and done.issuperset(below)]
+            # A crate that is alone gets all processors; else rt decides.
+            jobs = ["--jobs", str(count)] if len(ready) + len(running) == 1 else []
+            for crate in ready:
+                running[pool.submit(prove, crate, jobs)] = crate
             for ended in concurrent.futures.wait(running, return_when=concurrent.futures.FIRST_COMPLETED).done:
                 crate = running.pop(ended)
                 status, told, seconds = ended.result()
