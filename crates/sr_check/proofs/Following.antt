@@ -1,5 +1,5 @@
 -- A stream whose frames are dealt with one by one.
-use Rattle.std.proofs.Common.{codes, ◌≡◌, ◌<◌, ◌+◌, ℕ, inl, inr, List, [], ◌∷◌, ◌++◌, length, take, drop, Option, Some, None, refl, sym, ◌∙◌, ap, subst, arith, append_assoc, length-append}
+use Rattle.std.proofs.Common.{codes, ◌≡◌, ◌≢◌, ◌<◌, ◌+◌, ℕ, inl, inr, List, [], ◌∷◌, ◌++◌, length, take, drop, Option, Some, None, refl, sym, ◌∙◌, ap, subst, arith, append_assoc, length-append}
 use Rattle.std.specs.Io.KnownBytes.{Appends}
 use Rattle.std.proofs.Math.Seq.{take-append-add}
 use Rattle.std.specs.Prelude.{Result, Ok, Err, OnOk, IfErr}
@@ -15,7 +15,7 @@ use Rattle.sr_check.specs.declared.task.Stop.TheVariants as stop
 use Rattle.hm_codec.specs.declared.why.FrameWhy.TheVariants.{Split}
 use Rattle.hm_codec.specs.Words.{why_words}
 use Rattle.sr_check.specs.Output.{framing, IsWritten, last_text}
-use Rattle.sr_check.specs.Stream.{AreWritten, BeginsFrames, IsFrontText, IsFaultAt}
+use Rattle.sr_check.specs.Stream.{AreWritten, BeginsFrames, IsFrontText, IsFaultAt, IsTouchedByBytesAlone}
 use Rattle.sr_check.specs.Going.{IsRefusal, IsReader, IsAt, IsResting, IsSoFar, IsBegunSoFar, IsStoppedSoFar, IsLastPut, Ends, EndsOnDesk, with_desk}
 use Rattle.sr_check.specs.Laws.{FaultsLast}
 
@@ -34,6 +34,19 @@ appends_more (Some a) (Some b) (Some c) xs ys p q = q ∙ ap (λ zs. zs ++ ys) p
 pub appends_part : (a b c : Option (List ℕ)) (text last : List ℕ) (n : ℕ) → Appends a b text → Appends b c (take n last) → (m : ℕ) × Appends a c (take m (text ++ last))
 appends_part a b c text last n p q =
     (length text + n, subst (λ (xs : List ℕ). Appends a c xs) (sym (take-append-add text last n)) (appends_more a b c text (take n last) p q))
+
+some_with_more : (xs ys : List ℕ) → xs ≢ [] → xs ++ ys ≢ []
+some_with_more [] ys some is = some refl
+some_with_more (x ∷ xs) ys some is = cc
+
+-- an output that took no byte was not touched, in two parts and so in both
+pub touched_more : {K : Type 0} (holds : K → Option (List ℕ)) (a b c : K) → IsTouchedByBytesAlone holds a b → IsTouchedByBytesAlone holds b c
+    → IsTouchedByBytesAlone holds a c
+touched_more holds a b c (inl same) (inl same') = inl (same' ∙ same)
+touched_more holds a b c (inl same) (inr more) = inr (more.0, more.1, subst (λ k. Appends (holds k) (holds c) more.0) same more.2)
+touched_more holds a b c (inr some) (inl same) = inr (some.0, some.1, subst (λ k. Appends (holds a) (holds k) some.0) (sym same) some.2)
+touched_more holds a b c (inr some) (inr more) =
+    inr (some.0 ++ more.0, some_with_more some.0 more.0 some.1, appends_more (holds a) (holds b) (holds c) some.0 more.0 some.2 more.2)
 
 pub stream-append : (items more : List Spelled) → stream_of (items ++ more) ≡ stream_of items ++ stream_of more
 stream-append [] more = refl

@@ -1,7 +1,7 @@
 -- What is written of a stream of frames.
 use Rattle.std.specs.Prelude.{◌≡◌, ◌≢◌, ◌<◌, ◌≤◌, ◌+◌, ◌^◌, ◌⊎◌, ℕ, List, [], ◌∷◌, ◌++◌, length, take, codes, Option}
 use Rattle.std.specs.Fmt.{decimal}
-use Rattle.std.specs.Io.KnownBytes.{Consumes}
+use Rattle.std.specs.Io.KnownBytes.{Appends, Consumes}
 use Rattle.hf_split.specs.declared.framing.Framing.{Framing}
 use Rattle.hf_split.specs.declared.splitter.SplitFault.{SplitFault}
 use Rattle.hf_split.specs.Cuts.{Spelled, AreFrames, IsFaulty, Cuts, always, stream_of}
@@ -116,6 +116,10 @@ pub record IsAllSoFar (task : Task) (bytes text : List ℕ) : Type 0 where
   pub cut : IsCut task bytes items rest
   pub written : AreWritten task 0 items text
   pub not_bad : IsFaulty (framing task) most_frame rest → ⊥
+
+-- The output is as it was, or it took at least one byte, where it tells the bytes that it holds.
+abbrev pub IsTouchedByBytesAlone : {K : Type 0} → (K → Option (List ℕ)) → K → K → Type 0
+IsTouchedByBytesAlone holds before now = (now ≡ before) ⊎ ((text : List ℕ) × (text ≢ []) × Appends (holds before) (holds now) text)
 
 -- the most bytes that are read at a time
 abbrev pub most_piece : ℕ

@@ -2,7 +2,7 @@
 ghost use Rattle.std.specs.Prelude.{◌≡◌, ◌≢◌, OnOk, Err};
 ghost use Rattle.std.specs.Io.KnownBytes.{IsAtEnd};
 ghost use Rattle.hd_facts.specs.Counts.{Rose};
-ghost use Rattle.sr_check.specs.Stream.{IsDone, IsStopped, IsBegun, IsAllSoFar, IsPart, ReadsNoFurther};
+ghost use Rattle.sr_check.specs.Stream.{IsDone, IsStopped, IsBegun, IsAllSoFar, IsPart, IsTouchedByBytesAlone, ReadsNoFurther};
 ghost use Rattle.hd_facts.specs.Writes.{Writes, WritesPart, WritesOfRead};
 
 use crate::stream::{MOST_FRAME, follow};
@@ -17,7 +17,8 @@ impl Task {
     /// of the frames that a piece makes whole before it reads the next, up to the first that is refused.
     ///
     /// A fault that came is never passed over: the source has failed no more often than before unless this answers
-    /// `ReadFault`, and the sink unless it answers `WriteFault`.
+    /// `ReadFault`, and the sink unless it answers `WriteFault`. Where nothing was written the sink wasn't touched, unless
+    /// it failed.
     pub fn run<S: Source, K: Sink>(
         self,
         alloc: Global,
@@ -34,6 +35,7 @@ impl Task {
         ensures no_further { ReadsNoFurther self (S.left input.old) (S.left input.new) }
         ensures source_unfailed { result ≢ Err Stop.ReadFault → S.faults input.new ≡ S.faults input.old }
         ensures sink_unfailed { result ≢ Err Stop.WriteFault → K.faults out.new ≡ K.faults out.old }
+        ensures touched { result ≢ Err Stop.WriteFault → IsTouchedByBytesAlone K.holds out.old out.new }
     {
         let mut splitter = Splitter::start(alloc, framing(self.codec()), MOST_FRAME)?;
         follow(alloc, self, &mut splitter, input, out)

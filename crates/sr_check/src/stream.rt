@@ -4,7 +4,7 @@ ghost use Rattle.std.specs.Io.KnownBytes.{Appends, IsAtEnd};
 ghost use Rattle.hd_facts.specs.Counts.{Rose, HasCause};
 ghost use Rattle.hf_split.specs.Held.{at_start};
 ghost use Rattle.sr_check.specs.Output.{framing, last_text};
-ghost use Rattle.sr_check.specs.Stream.{IsDone, IsAllSoFar, ReadsNoFurther, most_bytes, most_frame};
+ghost use Rattle.sr_check.specs.Stream.{IsDone, IsAllSoFar, IsTouchedByBytesAlone, ReadsNoFurther, most_bytes, most_frame};
 ghost use Rattle.sr_check.specs.Going.{IsReader, IsResting, IsSoFar, IsWholeSoFar, IsLastPut, Ends, EndsAt, EndsInput, with_desk};
 ghost use Rattle.hd_facts.specs.Writes.{Writes, WritesOfRead};
 
@@ -33,6 +33,7 @@ fn put<K: Sink>(out: &mut K, desk: &mut Desk) -> Result<(), Stop>
     ensures fault { IfErr result (λ e. e ≡ Stop.WriteFault) }
     ensures cause { HasCause (K.faults out.old) (K.faults out.new) result }
     ensures untouched { desk.old.text.items ≡ [] → out.new ≡ out.old }
+    ensures touched { OnOk result (IsTouchedByBytesAlone K.holds out.old out.new) }
     ensures empty { desk.new.text.items ≡ [] }
 {
     if desk.text.is_empty() {
@@ -60,6 +61,7 @@ fn write_last<K: Sink>(
     ensures read { result ≢ Stop.ReadFault }
     ensures fault { result ≡ Stop.WriteFault → Rose (K.faults out.old) (K.faults out.new) }
     ensures unfailed { result ≢ Stop.WriteFault → K.faults out.new ≡ K.faults out.old }
+    ensures touched { result ≢ Stop.WriteFault → IsTouchedByBytesAlone K.holds out.old out.new }
 {
     if put_last(task, at, first, words, desk).is_err() {
         return Stop::NoMemory;
@@ -144,6 +146,7 @@ fn write_piece<K: Sink>(
         IsSoFar task splitter.old stream before (K.holds out.old) → Ends task stop (stream ++ piece.now) before (K.holds out.new)) }
     ensures fault { result ≡ Err Stop.WriteFault → Rose (K.faults out.old) (K.faults out.new) }
     ensures unfailed { result ≢ Err Stop.WriteFault → K.faults out.new ≡ K.faults out.old }
+    ensures touched { result ≢ Err Stop.WriteFault → IsTouchedByBytesAlone K.holds out.old out.new }
     ensures empty { desk.new.text.items ≡ [] }
 {
     let end = put_piece(alloc, task, splitter, piece, desk);
@@ -167,6 +170,7 @@ fn write_rest<K: Sink>(
     ensures read { result ≢ Err Stop.ReadFault }
     ensures fault { result ≡ Err Stop.WriteFault → Rose (K.faults out.old) (K.faults out.new) }
     ensures unfailed { result ≢ Err Stop.WriteFault → K.faults out.new ≡ K.faults out.old }
+    ensures touched { result ≢ Err Stop.WriteFault → IsTouchedByBytesAlone K.holds out.old out.new }
 {
     let held = splitter.held();
     if held == 0 {
@@ -194,6 +198,7 @@ pub(crate) fn follow<S: Source, K: Sink>(
     ensures no_further { ReadsNoFurther task (S.left input.old) (S.left input.new) }
     ensures source_unfailed { result ≢ Err Stop.ReadFault → S.faults input.new ≡ S.faults input.old }
     ensures sink_unfailed { result ≢ Err Stop.WriteFault → K.faults out.new ≡ K.faults out.old }
+    ensures touched { result ≢ Err Stop.WriteFault → IsTouchedByBytesAlone K.holds out.old out.new }
 {
     faults_last();
     let mut piece = [0u8; MOST_PIECE];

@@ -1,10 +1,11 @@
-use Rattle.std.proofs.Common.{◌≡◌, [], length, take, drop, Result, Ok, Err, ◌∙◌, arith, length-take, length-drop, refl}
+use Rattle.std.proofs.Common.{◌≡◌, [], length, take, drop, Result, Ok, Err, ◌∙◌, arith, length-take, length-drop, refl, inl}
 use Rattle.std.proofs.lemmas.Result.{on_ok_weaker, IfErr-weaker, err_from_is_err_and}
 use Rattle.std.proofs.lemmas.List.{append-nil}
 use Rattle.std.specs.Prelude.{codes}
 use Rattle.sr_check.specs.declared.task.Stop.{Stop}
 use Rattle.sr_check.specs.declared.task.Stop.TheVariants.{ReadFault, WriteFault}
 use Rattle.sr_check.specs.Output.{last_text}
+use Rattle.sr_check.proofs.Following.{touched_more}
 use Rattle.sr_check.proofs.Inputs.{reading_first, reading_next, input_whole, input_ends, input_stops, input_past, input_fails, piece_parts, no_read_fault, read_further, read_no_more}
 use Rattle.sr_check.proofs.stream.follow.Goals as goal
 
@@ -13,6 +14,7 @@ loop-splitter-init g c = record {
   reading = reading_first c.args.task c.args.splitter.now (g.S.Source.left c.args.input.now) (g.K.Sink.holds c.args.out.now) c.requires;
   source = refl;
   sink = refl;
+  touched = inl refl;
   empty = c.new-desk.ensures;
 }
 
@@ -112,6 +114,29 @@ returns-in_err-write_piece-2-clause-no_further g c =
     (g.K.Sink.holds c.args.out.now) (g.K.Sink.holds c.loop-splitter.out) (take c.in-Ok.count c.take.new.buf)
     c.loop-splitter.invariant.reading c.in-Ok.ensures.bytes.0 (omega (arith, length-take c.in-Ok.count c.take.new.buf, c.in-Ok.ensures.bound))
 
+pub returns-in-Ok-eq0-clause-touched : goal.returns-in-Ok-eq0-clause-touched
+returns-in-Ok-eq0-clause-touched g c = λ differ.
+    touched_more g.K.Sink.holds c.args.out.now c.loop-splitter.out c.write_rest.new.out c.loop-splitter.invariant.touched (c.write_rest.ensures.touched differ)
+
+pub returns-in_err-write_piece-clause-touched : goal.returns-in_err-write_piece-clause-touched
+returns-in_err-write_piece-clause-touched g c =
+    let p = err_from_is_err_and c.from_residual.result c.from_residual.ensures.1 in
+    rw (p.1, p.2) (λ differ. touched_more g.K.Sink.holds c.args.out.now c.loop-splitter.out c.write_piece.new.out c.loop-splitter.invariant.touched
+    (c.in_err-write_piece.ensures.touched (λ is. differ cc)))
+
+pub returns-then-count-left-clause-touched : goal.returns-then-count-left-clause-touched
+returns-then-count-left-clause-touched g c = λ differ.
+    touched_more g.K.Sink.holds c.args.out.now c.loop-splitter.out c.write_last.new.out c.loop-splitter.invariant.touched
+    (touched_more g.K.Sink.holds c.loop-splitter.out c.write_piece.new.out c.write_last.new.out
+    (c.in_ok-write_piece.ensures.touched (λ is. absurd (ok_is_no_fault c.in_ok-write_piece.field-0 is)))
+    (c.write_last.ensures.touched (λ is. differ cc)))
+
+pub returns-in_err-write_piece-2-clause-touched : goal.returns-in_err-write_piece-2-clause-touched
+returns-in_err-write_piece-2-clause-touched g c =
+    let p = err_from_is_err_and c.from_residual-in_err-write_piece-2.result c.from_residual-in_err-write_piece-2.ensures.1 in
+    rw (p.1, p.2) (λ differ. touched_more g.K.Sink.holds c.args.out.now c.loop-splitter.out c.write_piece-in-loop-splitter.new.out c.loop-splitter.invariant.touched
+    (c.in_err-write_piece-2.ensures.touched (λ is. differ cc)))
+
 pub loop-splitter-preserved : goal.loop-splitter-preserved
 loop-splitter-preserved g c = record {
   reading = reading_next c.args.task c.loop-splitter.splitter c.write_piece-in-loop-splitter.new.splitter (g.S.Source.left c.args.input.now) (g.S.Source.left c.loop-splitter.input) (g.S.Source.left c.take.new.self)
@@ -119,5 +144,7 @@ loop-splitter-preserved g c = record {
       c.loop-splitter.invariant.reading (omega (arith, length-take c.in-Ok.count c.take.new.buf, c.in-Ok.ensures.bound)) (omega arith) c.in-Ok.ensures.bytes.0 c.in_ok-write_piece-2.ensures.resting c.in_ok-write_piece-2.ensures.so_far;
   source = c.in-Ok.ensures.cause.unfailed ∙ c.loop-splitter.invariant.source;
   sink = c.in_ok-write_piece-2.ensures.unfailed (λ is. absurd (ok_is_no_fault c.in_ok-write_piece-2.field-0 is)) ∙ c.loop-splitter.invariant.sink;
+  touched = touched_more g.K.Sink.holds c.args.out.now c.loop-splitter.out c.write_piece-in-loop-splitter.new.out c.loop-splitter.invariant.touched
+      (c.in_ok-write_piece-2.ensures.touched (λ is. absurd (ok_is_no_fault c.in_ok-write_piece-2.field-0 is)));
   empty = c.write_piece-in-loop-splitter.ensures.empty;
 }
