@@ -1,10 +1,10 @@
 //! What the program does: the command that its words ask for, from its input to its exit status.
 
-ghost use Rattle.std.specs.Prelude.{◌≡◌, ◌≢◌, ◌≤◌, ◌+◌, ◌⊎◌, ℕ, IfOk, Err, length, take};
+ghost use Rattle.std.specs.Prelude.{◌≡◌, ◌≢◌, ◌≤◌, ◌+◌, ◌⊎◌, ℕ, IfOk, Err, [], length, take};
 ghost use Rattle.std.specs.Io.KnownBytes.{Appends, Consumes, IsAtEnd};
 ghost use Rattle.hd_facts.specs.Counts.{Rose};
 ghost use Rattle.hd_facts.specs.Writes.{Writes, WritesOfRead};
-ghost use Rattle.sr_check.specs.Stream.{most_piece};
+ghost use Rattle.sr_check.specs.Stream.{IsTouchedByBytesAlone, most_piece};
 ghost use Rattle.sr_words.specs.Words.{Asks, IsNoCommand};
 ghost use Rattle.sr_app.specs.Script.{most_script};
 ghost use Rattle.sr_app.specs.Run.{AnswersWith, AsksFor, Ends, ReadsBounded, TellsFaults, WritesPartFor, code_of, doing, meaning_of, outside_of, replaying, usage_line};
@@ -74,7 +74,7 @@ fn read_all<S: Source>(alloc: Global, input: &mut S) -> Result<Vec<u8>, ReadErro
     Ok(text)
 }
 
-/// Writes these bytes, and answers this status.
+/// Writes these bytes, and answers this status. Where there are none the output isn't touched.
 fn write<K: Sink>(out: &mut K, bytes: &[u8], status: Status) -> Status
     requires { status ≢ Status.WriteFault }
     ensures same { (result ≡ status) ⊎ (result ≡ Status.WriteFault) }
@@ -82,7 +82,12 @@ fn write<K: Sink>(out: &mut K, bytes: &[u8], status: Status) -> Status
     ensures part { result ≡ Status.WriteFault → Rose (K.faults out.old) (K.faults out.new)
         × ((n : ℕ) × Appends (K.holds out.old) (K.holds out.new) (take n bytes.now)) }
     ensures unfailed { result ≢ Status.WriteFault → K.faults out.new ≡ K.faults out.old }
+    ensures touched { result ≢ Status.WriteFault → IsTouchedByBytesAlone K.holds out.old out.new }
+    ensures untouched { bytes.now ≡ [] → out.new ≡ out.old }
 {
+    if bytes.is_empty() {
+        return status;
+    }
     match out.put(bytes) {
         Ok(()) => status,
         Err(Failed) => Status::WriteFault,
@@ -111,6 +116,7 @@ fn run_replay<S: Source, K: Sink>(alloc: Global, input: &mut S, out: &mut K) -> 
     ensures faults { TellsFaults result
         (outside_of (S.left input.old) (S.faults input.old) (K.holds out.old) (K.faults out.old))
         (outside_of (S.left input.new) (S.faults input.new) (K.holds out.new) (K.faults out.new)) }
+    ensures touched { result ≢ Status.WriteFault → IsTouchedByBytesAlone K.holds out.old out.new }
     ensures untouched { (result ≡ Status.ReadFault) ⊎ (result ≡ Status.NoMemory) → out.new ≡ out.old }
 {
     let text = match read_all(alloc, input) {
@@ -148,6 +154,7 @@ fn run_task<S: Source, K: Sink>(alloc: Global, task: Task, input: &mut S, out: &
     ensures faults { TellsFaults result
         (outside_of (S.left input.old) (S.faults input.old) (K.holds out.old) (K.faults out.old))
         (outside_of (S.left input.new) (S.faults input.new) (K.holds out.new) (K.faults out.new)) }
+    ensures touched { result ≢ Status.WriteFault → IsTouchedByBytesAlone K.holds out.old out.new }
 {
     match task.run(alloc, input, out) {
         Ok(()) => Status::Done,
@@ -168,6 +175,7 @@ fn carry_out<S: Source, K: Sink>(
     ensures faults { TellsFaults result
         (outside_of (S.left input.old) (S.faults input.old) (K.holds out.old) (K.faults out.old))
         (outside_of (S.left input.new) (S.faults input.new) (K.holds out.new) (K.faults out.new)) }
+    ensures touched { result ≢ Status.WriteFault → IsTouchedByBytesAlone K.holds out.old out.new }
     ensures untouched { command ≡ Command.Replay → (result ≡ Status.ReadFault) ⊎ (result ≡ Status.NoMemory)
         → out.new ≡ out.old }
 {
@@ -211,6 +219,8 @@ pub fn run<S: Source, K: Sink>(alloc: Global, words: &[String], input: &mut S, o
     ensures source_unfailed { result ≢ 3 → S.faults input.new ≡ S.faults input.old }
     ensures sink_unfailed { result ≢ 4 → K.faults out.new ≡ K.faults out.old }
 
+    // Where nothing was written the output was not touched, unless it failed.
+    ensures touched { result ≢ 4 → IsTouchedByBytesAlone K.holds out.old out.new }
     ensures untouched { Asks words.now Command.Replay → (result ≡ 3) ⊎ (result ≡ 7) → out.new ≡ out.old }
     ensures unread { IsNoCommand words.now → input.new ≡ input.old }
 
