@@ -1,4 +1,4 @@
--- What a handshake request asks for, why it is refused, and the request that is written (HubProtocol.md, "HandshakeRequest").
+-- What a handshake request asks for, why it is refused, and the request that is written (HubProtocol.md, "Overview").
 use Rattle.std.specs.Prelude.{◌≡◌, ◌≢◌, ◌≤◌, ◌⊎◌, ℕ, ℤ, pos, List, ◌++◌, codes, decimal, Option, None, Some, Result, Ok, Err}
 use Rattle.std.specs.Option.{ok_or}
 use Rattle.hv_value.specs.Tree.{Tree, Pairs}

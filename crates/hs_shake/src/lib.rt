@@ -13,7 +13,7 @@
 //! read_response(alloc, frame)?;                          // the client
 //! ```
 //!
-//! [`response`] lends what `write_response` appends.
+//! [`response`] lends what [`write_response`] appends. `NoMemory` is not answered.
 //!
 //! Proved: what is read is what the frame asks for or says, and each refusal is the first that holds
 //! ([`one_request_meaning`], [`one_response_meaning`]); what is written is read as what it was written for
