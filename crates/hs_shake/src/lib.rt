@@ -26,8 +26,8 @@ mod shake;
 mod writing;
 
 pub use laws::{
-    one_request_meaning, one_response_meaning, refusals_are_read, requests_are_read,
-    response_is_read, texts_are_plain, texts_are_short,
+    numbers_are_named, one_request_meaning, one_response_meaning, refusals_are_read,
+    requests_are_read, response_is_read, texts_are_plain, texts_are_short,
 };
 pub use reading::{read_request, read_response};
 pub use shake::{HIGHEST_VERSION, Shake, ShakeError};

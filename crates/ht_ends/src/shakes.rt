@@ -1,9 +1,9 @@
 //! Handshakes read and written, in tables of frames beside what is read of them.
 use hm_message::{Codec, Field};
 use hs_shake::{
-    HIGHEST_VERSION, MOST_HANDSHAKE, Shake, ShakeError, one_request_meaning, one_response_meaning,
-    read_request, read_response, refusals_are_read, requests_are_read, response, response_is_read,
-    texts_are_plain, texts_are_short, write_request, write_response,
+    HIGHEST_VERSION, MOST_HANDSHAKE, Shake, ShakeError, numbers_are_named, one_request_meaning,
+    one_response_meaning, read_request, read_response, refusals_are_read, requests_are_read,
+    response, response_is_read, texts_are_plain, texts_are_short, write_request, write_response,
 };
 use hv_value::Text;
 use std::alloc::{AllocError, Global};
@@ -299,6 +299,7 @@ fn says_why_in_the_words_of_a_report(rt: HostRuntime) -> Result<(), Fail> {
 /// The laws are called as any function.
 #[test]
 fn laws() {
+    numbers_are_named();
     one_request_meaning();
     one_response_meaning();
     requests_are_read();
