@@ -1,5 +1,5 @@
 -- What a resend buffer is at a moment, and what each call makes of it.
-use Rattle.std.specs.Prelude.{◌≡◌, ℕ, suc, ◌+◌, ◌-◌, ◌<◌, ◌≤◌, max, Bool, true, false, List, [], ◌∷◌, ◌++◌, length, drop, sum_by, slice_get, All, Option, nat_lt, if◌then◌else◌}
+use Rattle.std.specs.Prelude.{◌≡◌, ℕ, suc, ◌+◌, ◌-◌, ◌<◌, ◌≤◌, max, Bool, false, List, [], ◌∷◌, ◌++◌, length, drop, sum_by, slice_get, All, Option, nat_lt, if◌then◌else◌}
 use Rattle.hd_delivery.specs.Worlds.{Limits}
 use Rattle.hd_delivery.specs.Numbers.{most_messages}
 use Rattle.hq_resend.specs.Bounds.{AreLimits, most_size}

@@ -1,6 +1,6 @@
 -- What happened to a resend buffer, and what is read off that. HubProtocol.md (ASP.NET Core), "Stateful reconnect", has the
 -- numbers, the Ack and that what isn't acknowledged is said again on a later link.
-use Rattle.std.specs.Prelude.{◌≡◌, ℕ, suc, max, Bool, List, [], ◌∷◌, ◌++◌, length, drop, if◌then◌else◌}
+use Rattle.std.specs.Prelude.{◌≡◌, ℕ, suc, max, Bool, List, [], ◌∷◌, ◌++◌, length, drop}
 use Rattle.hq_resend.specs.Buffers.{Buffer, dropped_count}
 
 pub data Happening : Type 0 where

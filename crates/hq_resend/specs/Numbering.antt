@@ -1,5 +1,5 @@
 -- How the messages that come in are counted.
-use Rattle.std.specs.Prelude.{◌≡◌, ℕ, suc, ◌+◌, ◌<◌, ◌≤◌, ◌==◌, Option, Some, None, Result, Ok, Err, IfSome, nat_lt, if◌then◌else◌}
+use Rattle.std.specs.Prelude.{ℕ, suc, ◌≤◌, ◌==◌, Option, Some, None, Result, Ok, Err, IfSome, if◌then◌else◌}
 use Rattle.hd_delivery.specs.Numbers.{most_messages}
 use Rattle.hq_resend.specs.declared.intake.Counted.{Counted}
 use Rattle.hq_resend.specs.declared.intake.Counted.TheVariants.{Fresh, Duplicate, Early}

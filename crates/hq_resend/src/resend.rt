@@ -124,10 +124,12 @@ impl Resend {
         if upto <= self.acked {
             return Ok(());
         }
-        if self.keeps {
-            self.bytes = drop_counted(&mut self.ring, upto - self.acked, self.bytes);
-            self.gone = upto;
+        if !self.keeps {
+            self.acked = upto;
+            return Ok(());
         }
+        self.bytes = drop_counted(&mut self.ring, upto - self.acked, self.bytes);
+        self.gone = upto;
         self.acked = upto;
         self.written = self.written.max(upto);
         Ok(())
@@ -242,5 +244,7 @@ impl Resend {
     /// What is true of each buffer.
     pub(crate) fn shows_its_bounds(&self)
         ensures { IsWithin self.now }
-    {}
+    {
+        let _ = &self.limits;
+    }
 }

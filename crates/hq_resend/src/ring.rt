@@ -24,18 +24,28 @@ pub(crate) fn drop_first(ring: &mut HeapCircularBuffer<Frame>, count: u64)
     }
 }
 
+/// Drops the first frame, and answers its size.
+fn pop_size(ring: &mut HeapCircularBuffer<Frame>) -> usize
+    ensures items { ring.new ≡ buffer (drop 1 ring.old.items) ring.old.capacity }
+    ensures size { result + sum_by length ring.new.items ≡ sum_by length ring.old.items }
+{
+    match ring.pop_front() {
+        Some(frame) => frame.bytes().len(),
+        None => 0,
+    }
+}
+
 /// Drops the first `count` frames of a ring whose frames have this many bytes, and answers how many are left.
 pub(crate) fn drop_counted(ring: &mut HeapCircularBuffer<Frame>, count: u64, bytes: usize) -> usize
     requires inside { count ≤ length ring.old.items }
     requires bytes { bytes ≡ sum_by length ring.old.items }
     ensures items { ring.new ≡ buffer (drop count ring.old.items) ring.old.capacity }
     ensures bytes { result ≡ sum_by length ring.new.items }
+    ensures fewer { result ≤ bytes }
 {
     let mut left = bytes;
     for _i in 0..count {
-        if let Some(frame) = ring.pop_front() {
-            left -= frame.bytes().len();
-        }
+        left -= pop_size(ring);
     }
     left
 }
@@ -49,7 +59,8 @@ pub(crate) fn bytes_after_writing(
 ) -> usize
     requires inside { place < length ring.now.items }
     requires bytes { keeps ≡ false → bytes ≡ sum_by length (drop place ring.now.items) }
-    ensures { result ≡ (if keeps then bytes else sum_by length (drop (place + 1) ring.now.items)) }
+    ensures value { result ≡ (if keeps then bytes else sum_by length (drop (place + 1) ring.now.items)) }
+    ensures fewer { result ≤ bytes }
 {
     if keeps {
         return bytes;
