@@ -6,7 +6,7 @@ use std::rc::Rc;
 const HELD: usize = 1_024;
 const BYTES: usize = 16_777_216;
 const SIZE: usize = 200;
-const ROUNDS: usize = 2_000;
+const ROUNDS: usize = 5_000;
 
 #[derive(Default)]
 struct Resend {

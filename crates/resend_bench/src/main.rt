@@ -15,7 +15,7 @@ const HELD: usize = 1_024;
 const SIZE: usize = 200;
 
 /// How many times the buffer is filled.
-const ROUNDS: u32 = 2_000;
+const ROUNDS: u32 = 5_000;
 
 /// The next frame: with these bytes, or, if `shared`, with those of the frame.
 fn next_frame(alloc: Global, frame: &Frame, shared: bool) -> Result<Frame, AllocError> {
@@ -43,7 +43,10 @@ fn write_all(resend: &mut Resend, mut sum: u64) -> u64 {
         let Some((number, [first, rest @ ..])) = resend.next_unwritten() else {
             break;
         };
-        sum = sum.wrapping_add(number).wrapping_add(rest.len() as u64 + 1).wrapping_add(u64::from(*first));
+        sum = sum
+            .wrapping_add(number)
+            .wrapping_add(rest.len() as u64 + 1)
+            .wrapping_add(u64::from(*first));
     }
     sum
 }
@@ -65,7 +68,9 @@ fn run(alloc: Global, limits: Limits, shared: bool) -> Result<(u64, u64), AllocE
 }
 
 fn main(rt: HostRuntime) -> io::Result<()> {
-    let shared = env::args(&rt)?.skip(1).any(|word| word == "shared");
+    let shared = env::args(&rt)?
+        .skip(1)
+        .any(|word| word.as_str() == "shared");
     let Some(limits) = Limits::of(SIZE.max(256), HELD, 16_777_216) else {
         return Ok(());
     };
