@@ -1,6 +1,7 @@
-//! The tests of the crates of two ends: handshakes. Expected values come from the rules of `docs/protocol.md`. It has no
-//! other code.
+//! Tests of the layer of two ends, with values from outside: handshakes, the resend buffer. It has nothing else.
 #![tactic(auto)]
 
+#[cfg(test)]
+mod resend;
 #[cfg(test)]
 mod shakes;
