@@ -6,6 +6,8 @@ pub mod Processes
 pub mod Worlds
 pub mod Bytes
 pub mod Laws
+pub mod OneHistory
+pub mod HistoryLaws
 pub mod Examples
 pub mod OneEnd
 pub mod ExamplesOverBytes
