@@ -13,5 +13,9 @@ pub mod OverBytes
 pub mod Growth
 pub mod FedAndCut
 pub mod Unseen
+pub mod DueNext
+pub mod Makes
+pub mod EndFacts
+pub mod OneHistory
 pub mod Examples
 pub mod ExamplesOverBytes

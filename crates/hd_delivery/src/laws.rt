@@ -1,6 +1,7 @@
 //! What crates above cite of the definitions. No function here does anything: its contract is the law.
 
 ghost use Rattle.std.specs.Prelude.{◌≡◌};
+ghost use Rattle.hd_delivery.specs.HistoryLaws.{FactsHold, HistoriesAreInOrder, UnreadStays, WorldsAreHistories};
 ghost use Rattle.hd_delivery.specs.Laws.{CutsGrow, FedIsCut, FedIsUnseen, SequencedIsNumbered};
 ghost use Rattle.hd_delivery.specs.Numbers.{most_framing, most_messages, ping_after, silence_after};
 
@@ -25,6 +26,26 @@ pub fn fed_is_cut()
 /// What an end is, has said and has to say doesn't depend on the bytes that it was fed and hasn't dealt with.
 pub fn fed_is_unseen()
     ensures { FedIsUnseen }
+{}
+
+/// In a world over bytes each end's steps are a history that it can make by itself.
+pub fn worlds_are_histories()
+    ensures { WorldsAreHistories }
+{}
+
+/// A history that an end can make by itself is in order, as `fed_is_cut` asks.
+pub fn histories_are_in_order()
+    ensures { HistoriesAreInOrder }
+{}
+
+/// What is acknowledged was said, what was said was sent, and what else holds of the numbers of one end.
+pub fn facts_hold()
+    ensures { FactsHold }
+{}
+
+/// The other steps but an attach leave the bytes of a link as they were.
+pub fn unread_stays()
+    ensures { UnreadStays }
 {}
 
 /// The constants are the numbers of the definitions.

@@ -19,7 +19,10 @@ mod worlds;
 ghost use Rattle.hd_delivery.specs.Bytes.{HoldsOverBytes};
 ghost use Rattle.hd_delivery.specs.Worlds.{HoldsInEveryWorld};
 
-pub use laws::{cuts_grow, fed_is_cut, fed_is_unseen, numbers_are_named, sequenced_is_numbered};
+pub use laws::{
+    cuts_grow, facts_hold, fed_is_cut, fed_is_unseen, histories_are_in_order, numbers_are_named,
+    sequenced_is_numbered, unread_stays, worlds_are_histories,
+};
 pub use one_end::{closings, first_frames, moments, numbers};
 pub use vocabulary::{
     Got, MOST_FRAMING, MOST_MESSAGES, PING_AFTER, Reason, SILENCE_AFTER, Side, State, Why,
