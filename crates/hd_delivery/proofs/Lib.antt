@@ -17,5 +17,7 @@ pub mod DueNext
 pub mod Makes
 pub mod EndFacts
 pub mod OneHistory
+pub mod NextCut
+pub mod Unread
 pub mod Examples
 pub mod ExamplesOverBytes

@@ -1,7 +1,7 @@
 //! What crates above cite of the definitions. No function here does anything: its contract is the law.
 
 ghost use Rattle.std.specs.Prelude.{◌≡◌};
-ghost use Rattle.hd_delivery.specs.HistoryLaws.{FactsHold, HistoriesAreInOrder, UnreadStays, WorldsAreHistories};
+ghost use Rattle.hd_delivery.specs.HistoryLaws.{FactsHold, HistoriesAreInOrder, NextIsRead, UnreadBegins, UnreadGrows, UnreadIsBounded, UnreadMoves, UnreadStays, WorldsAreHistories};
 ghost use Rattle.hd_delivery.specs.Laws.{CutsGrow, FedIsCut, FedIsUnseen, SequencedIsNumbered};
 ghost use Rattle.hd_delivery.specs.Numbers.{most_framing, most_messages, ping_after, silence_after};
 
@@ -43,9 +43,35 @@ pub fn facts_hold()
     ensures { FactsHold }
 {}
 
+/// The next frame of the present link is the one that the reader finds in the bytes that aren't dealt with, until the end
+/// is closed.
+pub fn next_is_read()
+    ensures { NextIsRead }
+{}
+
+/// Bytes that are fed come after those that aren't dealt with.
+pub fn unread_grows()
+    ensures { UnreadGrows }
+{}
+
+/// Dealing with a frame, well or not, drops its bytes.
+pub fn unread_moves()
+    ensures { UnreadMoves }
+{}
+
 /// The other steps but an attach leave the bytes of a link as they were.
 pub fn unread_stays()
     ensures { UnreadStays }
+{}
+
+/// A link begins with no bytes.
+pub fn unread_begins()
+    ensures { UnreadBegins }
+{}
+
+/// The bytes that aren't dealt with are never more than a frame and its framing.
+pub fn unread_is_bounded()
+    ensures { UnreadIsBounded }
 {}
 
 /// The constants are the numbers of the definitions.
