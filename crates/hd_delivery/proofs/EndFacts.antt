@@ -1,7 +1,7 @@
 -- What holds of each history that one end can make.
 use Rattle.std.proofs.Common.{⊎_elim, ◌≡◌, ℕ, suc, max, ◌+◌, ◌<◌, ◌≤◌, Bool, true, false, List, [], ◌∷◌, ◌++◌, length, take, Option, Some, None, refl, sym, ap, ◌∙◌, subst, arith, length-append}
-use Rattle.std.specs.Prelude.{slice_get, ◌==◌, ◌||◌, if◌then◌else◌}
-use Rattle.std.proofs.lemmas.Bool.{or_cases, eqb-true, cases_lt}
+use Rattle.std.specs.Prelude.{slice_get, ◌==◌, ◌||◌, ◌&&◌, if◌then◌else◌}
+use Rattle.std.proofs.lemmas.Bool.{or_cases, eqb-true, eq-eqb, ne_eqb, cases_lt}
 use Rattle.hm_message.specs.declared.message.Message.{Message}
 use Rattle.hm_message.specs.declared.message.Codec.{Codec}
 use Rattle.hd_delivery.specs.declared.vocabulary.Got.{Got}
@@ -11,7 +11,7 @@ use Rattle.hd_delivery.specs.declared.vocabulary.Side.TheVariants.{Client}
 use Rattle.hd_delivery.specs.declared.vocabulary.Reason.{Reason}
 use Rattle.hd_delivery.specs.Numbers.{most_messages}
 use Rattle.hd_delivery.specs.Frames.{LinkFrame, Numbered}
-use Rattle.hd_delivery.specs.Histories.{Config, Step, Attached, Detached, Fed, Took, Failed, Sent, Lent, Ticked, Silenced, Closed, Fault, first_of, present_link, stands_on, was_on, first_link, link_count, fed_frames, taken_count, read_frames, sent_messages, processed_messages, acked_count, written_place, most_lent, is_shaken, agreed_version, codec_of, is_kept, is_closed}
+use Rattle.hd_delivery.specs.Histories.{Config, Step, Attached, Detached, Fed, Took, Failed, Sent, Lent, Ticked, Silenced, Closed, Fault, is_this, first_of, present_link, stands_on, was_on, first_link, link_count, fed_frames, taken_count, read_frames, sent_messages, processed_messages, acked_count, written_place, most_lent, is_shaken, agreed_version, codec_of, can_keep, is_kept, is_closed}
 use Rattle.hd_delivery.specs.Due.{farewell, answer, due}
 use Rattle.hd_delivery.specs.Processes.{next_number, next_frame, processes}
 use Rattle.hd_delivery.specs.Worlds.{Limits, Sizes, MayBegin, MaySend, MayDo}
@@ -19,8 +19,9 @@ use Rattle.hd_delivery.specs.Bytes.{codec_after}
 use Rattle.hd_delivery.specs.OneHistory.{IsHistoryInFrames}
 use Rattle.hd_delivery.specs.HistoryLaws.{HistoryFacts}
 use Rattle.hd_delivery.proofs.Lists.{take_next, take_front, get_front, get_within}
-use Rattle.hd_delivery.proofs.Local.{is_this-true, is_this-same, both, here_was, none_was, kept_shaken}
+use Rattle.hd_delivery.proofs.Local.{is_this-true, is_this-same, both, here_was, none_was, kept_shaken, first_was}
 use Rattle.hd_delivery.proofs.WhatIsRead.{read_step}
+use Rattle.hd_delivery.proofs.OverBytes.{own_codec}
 use Rattle.hd_delivery.proofs.DueNext.{next_is_due, due_is_there}
 use Rattle.hd_delivery.proofs.Makes.{IsLegible, Gave, Made, makes}
 
@@ -45,10 +46,32 @@ processes_open c h s e = go (is_closed c h) e
     go true f = absurd (cc)
     go false f = refl
 
+-- a first link is counted
+counted : (h : List Step) (l : ℕ) → first_link h ≡ Some l → 0 < link_count h
+counted [] l e = absurd (cc)
+counted (Attached k now ∷ h) l e = omega arith
+counted (_ ∷ h) l e = counted h l e
+
+-- what the handshake says of keeping, and what stands before it
+by_version : (c : Config) (h : List Step) → is_kept c h ≡ (c.reconnect && can_keep (agreed_version h))
+by_version c [] = never c.reconnect
+  where
+    never : (b : Bool) → false ≡ (b && false)
+    never true = refl
+    never false = refl
+by_version c (Took (Shaken codec version) ∷ h) = refl
+by_version c (_ ∷ h) = by_version c h
+
+no_version : (h : List Step) → is_shaken h ≡ false → agreed_version h ≡ 0
+no_version [] e = refl
+no_version (Took (Shaken codec version) ∷ h) e = absurd (cc)
+no_version (_ ∷ h) e = no_version h e
+
 -- what holds of one end
 abbrev pub Known : Config → List Step → Type 0
 Known c h = record {
   acks : acked_count h ≤ most_lent h;
+  sends : length (sent_messages h) ≤ most_messages;
   lends : most_lent h ≤ length (sent_messages h);
   writes : written_place h ≤ most_lent h;
   few : length (processed_messages h) ≤ most_messages;
@@ -57,6 +80,7 @@ Known c h = record {
   unacked : is_kept c h ≡ false → acked_count h ≡ 0;
   written : is_kept c h ≡ false → written_place h ≡ most_lent h;
   unlinked : first_link h ≡ None → (most_lent h ≡ 0) × (link_count h ≡ 0);
+  alone : (l : ℕ) → present_link h ≡ Some l → is_this l (first_link h) ≡ (link_count h == 1);
   unsent : is_shaken h ≡ false → sent_messages h ≡ [];
   first : is_shaken h ≡ false → (l : ℕ) → was_on l h ≡ true → first_link h ≡ Some l;
   untaken : is_shaken h ≡ false → is_closed c h ≡ false → (l : ℕ) → taken_count l h ≡ 0;
@@ -72,6 +96,7 @@ Known c h = record {
 start : (c : Config) → Known c []
 start c = record {
   acks = omega arith;
+  sends = omega arith;
   lends = omega arith;
   writes = omega arith;
   few = omega arith;
@@ -80,6 +105,7 @@ start c = record {
   unacked = λ e. refl;
   written = λ e. refl;
   unlinked = λ e. (refl, refl);
+  alone = λ l e. absurd (cc);
   unsent = λ e. refl;
   first = λ e l f. absurd (cc);
   untaken = λ e f l. refl;
@@ -96,6 +122,7 @@ module _ (c : Config) (h : List Step) (i : Known c h) where
   attached : (l now : ℕ) → MayBegin c h l now → Known c (Attached l now ∷ h)
   attached l now a = record {
     acks = i.acks;
+    sends = i.sends;
     lends = i.lends;
     writes = omega arith;
     few = i.few;
@@ -104,6 +131,7 @@ module _ (c : Config) (h : List Step) (i : Known c h) where
     unacked = i.unacked;
     written = λ e. sym (i.unlinked (none e)).0;
     unlinked = λ e. absurd (never (first_link h) e);
+    alone = λ k e. let same : l ≡ k = cc in subst (λ k. is_this k (first_of (first_link h) (Some l)) ≡ (suc (link_count h) == 1)) same (alone_there (first_link h) refl);
     unsent = i.unsent;
     first = λ s k w. let f = unshaken s in rw f (first_here k f w);
     untaken = i.untaken;
@@ -122,6 +150,12 @@ module _ (c : Config) (h : List Step) (i : Known c h) where
       unshaken : is_shaken h ≡ false → first_link h ≡ None
       unshaken s = ⊎_elim (λ f. f) (λ f. let z = kept_shaken c h f in absurd (cc)) a.granted
 
+      alone_there : (o : Option ℕ) → first_link h ≡ o → is_this l (first_of o (Some l)) ≡ (suc (link_count h) == 1)
+      alone_there None e = let n = (i.unlinked e).1 in eq-eqb l l refl ∙ sym (eq-eqb (suc (link_count h)) 1 (omega arith))
+      alone_there (Some j) e =
+          let some = counted h j e in
+          ne_eqb l j (λ same. absurd (let w = subst (λ j. was_on j h ≡ true) (sym same) (first_was h j e) in let u = a.unused in cc)) ∙ sym (ne_eqb (suc (link_count h)) 1 (λ one. absurd (omega arith)))
+
       never : (o : Option ℕ) → first_of o (Some l) ≡ None → ⊥
       never None e = cc
       never (Some k) e = cc
@@ -129,7 +163,7 @@ module _ (c : Config) (h : List Step) (i : Known c h) where
       first_here : (k : ℕ) → first_link h ≡ None → ((k == l) || was_on k h) ≡ true → Some l ≡ Some k
       first_here k f w = ap Some (⊎_elim (λ e. sym (eqb-true k l e)) (λ e. let n = none_was k h f in absurd (cc)) (or_cases (k == l) (was_on k h) w))
 
-  -- the loss of a link, where the end is closed after it as b tells
+  -- an end that isn't closed by the loss of its link wasn't closed before
   still_open : (now : ℕ) → is_closed c (Detached now ∷ h) ≡ false → is_closed c h ≡ false
   still_open now e = go (is_kept c h) e
     where
@@ -140,6 +174,7 @@ module _ (c : Config) (h : List Step) (i : Known c h) where
   detached : (now : ℕ) → Known c (Detached now ∷ h)
   detached now = record {
     acks = i.acks;
+    sends = i.sends;
     lends = i.lends;
     writes = i.writes;
     few = i.few;
@@ -148,6 +183,7 @@ module _ (c : Config) (h : List Step) (i : Known c h) where
     unacked = i.unacked;
     written = i.written;
     unlinked = i.unlinked;
+    alone = λ l e. absurd (cc);
     unsent = i.unsent;
     first = i.first;
     untaken = λ s e. i.untaken s (still_open now e);
@@ -163,6 +199,7 @@ module _ (c : Config) (h : List Step) (i : Known c h) where
   fed : (piece : List LinkFrame) → Known c (Fed piece ∷ h)
   fed piece = record {
     acks = i.acks;
+    sends = i.sends;
     lends = i.lends;
     writes = i.writes;
     few = i.few;
@@ -171,6 +208,7 @@ module _ (c : Config) (h : List Step) (i : Known c h) where
     unacked = i.unacked;
     written = i.written;
     unlinked = i.unlinked;
+    alone = i.alone;
     unsent = i.unsent;
     first = i.first;
     untaken = i.untaken;
@@ -201,6 +239,7 @@ module _ (c : Config) (h : List Step) (i : Known c h) where
       let p = read_step c h (Failed fault) made in
       record {
         acks = i.acks;
+        sends = i.sends;
         lends = i.lends;
         writes = i.writes;
         few = i.few;
@@ -209,6 +248,7 @@ module _ (c : Config) (h : List Step) (i : Known c h) where
         unacked = i.unacked;
         written = i.written;
         unlinked = i.unlinked;
+        alone = i.alone;
         unsent = i.unsent;
         first = i.first;
         untaken = λ s e. absurd (cc);
@@ -224,6 +264,7 @@ module _ (c : Config) (h : List Step) (i : Known c h) where
   sent : (limits : Limits) (sizes : Sizes) (m : Message) → MaySend limits sizes c h m → Known c (Sent m ∷ h)
   sent limits sizes m a = record {
     acks = i.acks;
+    sends = let f = a.few in rw (length-append (sent_messages h) (m ∷ [])) (omega arith);
     lends = omega (arith, length-append (sent_messages h) (m ∷ []), i.lends);
     writes = i.writes;
     few = i.few;
@@ -232,6 +273,7 @@ module _ (c : Config) (h : List Step) (i : Known c h) where
     unacked = i.unacked;
     written = i.written;
     unlinked = i.unlinked;
+    alone = i.alone;
     unsent = λ e. let s = a.shakes in absurd (cc);
     first = i.first;
     untaken = i.untaken;
@@ -249,6 +291,7 @@ module _ (c : Config) (h : List Step) (i : Known c h) where
       let n = get_within (sent_messages h) (max (acked_count h) (written_place h)) m (next_is_due c h m a) in
       record {
         acks = omega (arith, i.acks);
+        sends = i.sends;
         lends = omega (arith, i.lends);
         writes = omega arith;
         few = i.few;
@@ -257,6 +300,7 @@ module _ (c : Config) (h : List Step) (i : Known c h) where
         unacked = i.unacked;
         written = λ e. let w = i.written e in omega (arith, i.acks);
         unlinked = λ e. absurd (linked e);
+        alone = i.alone;
         unsent = i.unsent;
         first = i.first;
         untaken = i.untaken;
@@ -283,6 +327,7 @@ module _ (c : Config) (h : List Step) (i : Known c h) where
   closed : (reason : Reason) (allow : Bool) → Known c (Closed reason allow ∷ h)
   closed reason allow = record {
     acks = i.acks;
+    sends = i.sends;
     lends = i.lends;
     writes = i.writes;
     few = i.few;
@@ -291,6 +336,7 @@ module _ (c : Config) (h : List Step) (i : Known c h) where
     unacked = i.unacked;
     written = i.written;
     unlinked = i.unlinked;
+    alone = i.alone;
     unsent = i.unsent;
     first = i.first;
     untaken = λ s e. absurd (cc);
@@ -317,8 +363,9 @@ module _ (c : Config) (h : List Step) (i : Known c h) where
 
     -- the handshake
     shaken : (codec : Codec) (version : ℕ) → is_closed c h ≡ false → IsLegible t → Gave c h t (Shaken codec version) → Known c (Took (Shaken codec version) ∷ h)
-    shaken codec version open_ w g = record {
+    shaken codec version opened w g = record {
       acks = i.acks;
+      sends = i.sends;
       lends = i.lends;
       writes = i.writes;
       few = i.few;
@@ -327,6 +374,7 @@ module _ (c : Config) (h : List Step) (i : Known c h) where
       unacked = λ e. i.unacked plain;
       written = λ e. i.written plain;
       unlinked = i.unlinked;
+      alone = i.alone;
       unsent = λ e. absurd (cc);
       first = λ e. absurd (cc);
       untaken = λ e. absurd (cc);
@@ -337,7 +385,7 @@ module _ (c : Config) (h : List Step) (i : Known c h) where
       answer = i.answer;
       legible = λ e. read_on w e;
       begun = λ e k f. let same : l ≡ k = (let f' : Some l ≡ Some k = sym first_is ∙ f in cc) in
-          (t, subst (λ j. slice_get (fed_frames j h) 0 ≡ Some t) same (subst (λ n. slice_get (fed_frames l h) n ≡ Some t) (i.untaken g.0 open_ l) next), g.1);
+          (t, subst (λ j. slice_get (fed_frames j h) 0 ≡ Some t) same (subst (λ n. slice_get (fed_frames l h) n ≡ Some t) (i.untaken g.0 opened l) next), g.1);
     }
       where
         plain : is_kept c h ≡ false
@@ -374,6 +422,7 @@ module _ (c : Config) (h : List Step) (i : Known c h) where
         let k = g.1 in
         record {
           acks = omega (arith, i.acks, g.2);
+          sends = i.sends;
           lends = i.lends;
           writes = i.writes;
           few = i.few;
@@ -382,6 +431,7 @@ module _ (c : Config) (h : List Step) (i : Known c h) where
           unacked = λ e. absurd (cc);
           written = i.written;
           unlinked = i.unlinked;
+          alone = i.alone;
           unsent = i.unsent;
           first = i.first;
           untaken = r.untaken;
@@ -400,6 +450,7 @@ module _ (c : Config) (h : List Step) (i : Known c h) where
         let r = later (gives.Message m) g.0 w in
         record {
           acks = i.acks;
+          sends = i.sends;
           lends = i.lends;
           writes = i.writes;
           few = rw (length-append (processed_messages h) (m ∷ [])) (at_most (length (processed_messages h)) i.few g.1);
@@ -408,6 +459,7 @@ module _ (c : Config) (h : List Step) (i : Known c h) where
           unacked = i.unacked;
           written = i.written;
           unlinked = i.unlinked;
+          alone = i.alone;
           unsent = i.unsent;
           first = i.first;
           untaken = r.untaken;
@@ -429,6 +481,7 @@ module _ (c : Config) (h : List Step) (i : Known c h) where
         let r = later (gives.Closed error allow) s w in
         record {
           acks = i.acks;
+          sends = i.sends;
           lends = i.lends;
           writes = i.writes;
           few = i.few;
@@ -437,6 +490,7 @@ module _ (c : Config) (h : List Step) (i : Known c h) where
           unacked = i.unacked;
           written = i.written;
           unlinked = i.unlinked;
+          alone = i.alone;
           unsent = i.unsent;
           first = i.first;
           untaken = λ e f. absurd (cc);
@@ -450,15 +504,16 @@ module _ (c : Config) (h : List Step) (i : Known c h) where
         }
 
     took : is_closed c h ≡ false → (got : Got) → IsLegible t → Gave c h t got → Known c (Took got ∷ h)
-    took open_ (Shaken codec version) w g = shaken codec version open_ w g
-    took open_ (gives.Message m) w g = processed m w g
-    took open_ (Acked n) w g = told n w g
-    took open_ (Resumed first n) w g = told n w g
-    took open_ (gives.Closed error allow) w g = ended error allow w g
-    took open_ got w g =
+    took opened (Shaken codec version) w g = shaken codec version opened w g
+    took opened (gives.Message m) w g = processed m w g
+    took opened (Acked n) w g = told n w g
+    took opened (Resumed first n) w g = told n w g
+    took opened (gives.Closed error allow) w g = ended error allow w g
+    took opened got w g =
         let r = later got g w in
         record {
           acks = i.acks;
+          sends = i.sends;
           lends = i.lends;
           writes = i.writes;
           few = i.few;
@@ -467,6 +522,7 @@ module _ (c : Config) (h : List Step) (i : Known c h) where
           unacked = i.unacked;
           written = i.written;
           unlinked = i.unlinked;
+          alone = i.alone;
           unsent = i.unsent;
           first = i.first;
           untaken = r.untaken;
@@ -503,17 +559,23 @@ known limits sizes c (s ∷ h) a = step limits sizes c h (known limits sizes c h
 -- that in the words of the law
 pub facts : (c : Config) (h : List Step) → Known c h → HistoryFacts c h
 facts c h i = record {
+  sent_are_few = i.sends;
   acked_were_lent = i.acks;
   lent_were_sent = i.lends;
   written_were_lent = i.writes;
   processed_are_few = i.few;
   taken_were_fed = i.within;
+  is_where_it_was = λ l e. here_was l h e;
+  first_is_only = i.alone;
   plain_has_one_link = i.one_link;
   plain_is_unacked = i.unacked;
   plain_is_written = i.written;
+  kept_by_version = by_version c h;
+  unshaken_has_no_version = no_version h;
+  unshaken_has_its_codec = own_codec c h;
   unshaken_is_plain = λ e. plain (is_kept c h) refl e;
   unshaken_sent_none = i.unsent;
-  unshaken_is_on_first = i.first;
+  unshaken_is_on_first = λ s l e. i.first s l (here_was l h e);
   unshaken_took_none = i.untaken;
   shaken_took_some = λ s l e. let p = i.taken s in let same : p.0 ≡ l = (let z : Some p.0 ≡ Some l = sym p.1 ∙ e in cc) in subst (λ k. 0 < taken_count k h) same p.2;
   client_has_its_codec = i.codec;

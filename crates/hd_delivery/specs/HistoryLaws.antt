@@ -1,12 +1,12 @@
 -- What crates above cite of the histories that one end can make.
-use Rattle.std.specs.Prelude.{◌≡◌, ℕ, ◌+◌, ◌<◌, ◌≤◌, Bool, true, false, List, [], ◌∷◌, ◌++◌, length, drop, slice_get, Some, None}
+use Rattle.std.specs.Prelude.{◌≡◌, ℕ, ◌+◌, ◌<◌, ◌≤◌, Bool, true, false, ◌&&◌, ◌==◌, List, [], ◌∷◌, ◌++◌, length, drop, slice_get, Some, None}
 use Rattle.hm_message.specs.declared.message.Message.{Message}
 use Rattle.hd_delivery.specs.declared.vocabulary.Got.{Got}
 use Rattle.hd_delivery.specs.declared.vocabulary.Reason.{Reason}
 use Rattle.hd_delivery.specs.declared.vocabulary.Side.TheVariants.{Client, Server}
 use Rattle.hd_delivery.specs.Numbers.{most_messages, most_framing}
 use Rattle.hd_delivery.specs.Frames.{LinkFrame}
-use Rattle.hd_delivery.specs.Histories.{Config, Step, Attached, Detached, Took, Failed, Sent, Lent, Ticked, Silenced, Closed, Fault, present_link, was_on, first_link, link_count, fed_frames, taken_count, sent_messages, processed_messages, acked_count, written_place, most_lent, is_shaken, agreed_version, codec_of, is_kept, is_closed}
+use Rattle.hd_delivery.specs.Histories.{Config, Step, Attached, Detached, Took, Failed, Sent, Lent, Ticked, Silenced, Closed, Fault, is_this, present_link, was_on, first_link, link_count, fed_frames, lent_frames, taken_count, sent_messages, processed_messages, acked_count, written_place, most_lent, is_shaken, agreed_version, codec_of, can_keep, is_kept, is_closed}
 use Rattle.hd_delivery.specs.Due.{farewell, answer}
 use Rattle.hd_delivery.specs.Processes.{processes}
 use Rattle.hd_delivery.specs.Worlds.{Limits, Terms, config, Event, client_of, server_of}
@@ -28,19 +28,26 @@ HistoriesAreInOrder = (limits : Limits) (wire : Wire) (c : Config) (h : List Byt
 -- what is said of a history in frames, where one end made it
 pub record HistoryFacts (c : Config) (h : List Step) : Type 0 where
   -- the counts
+  pub sent_are_few : length (sent_messages h) ≤ most_messages
   pub acked_were_lent : acked_count h ≤ most_lent h
   pub lent_were_sent : most_lent h ≤ length (sent_messages h)
   pub written_were_lent : written_place h ≤ most_lent h
   pub processed_are_few : length (processed_messages h) ≤ most_messages
   pub taken_were_fed : (l : ℕ) → taken_count l h ≤ length (fed_frames l h)
+  -- the links
+  pub is_where_it_was : (l : ℕ) → present_link h ≡ Some l → was_on l h ≡ true
+  pub first_is_only : (l : ℕ) → present_link h ≡ Some l → is_this l (first_link h) ≡ (link_count h == 1)
   -- a plain connection, and each one before the handshake is complete
   pub plain_has_one_link : is_kept c h ≡ false → link_count h ≤ 1
   pub plain_is_unacked : is_kept c h ≡ false → acked_count h ≡ 0
   pub plain_is_written : is_kept c h ≡ false → written_place h ≡ most_lent h
   -- the handshake
+  pub kept_by_version : is_kept c h ≡ (c.reconnect && can_keep (agreed_version h))
+  pub unshaken_has_no_version : is_shaken h ≡ false → agreed_version h ≡ 0
+  pub unshaken_has_its_codec : is_shaken h ≡ false → codec_of c h ≡ c.codec
   pub unshaken_is_plain : is_shaken h ≡ false → is_kept c h ≡ false
   pub unshaken_sent_none : is_shaken h ≡ false → sent_messages h ≡ []
-  pub unshaken_is_on_first : is_shaken h ≡ false → (l : ℕ) → was_on l h ≡ true → first_link h ≡ Some l
+  pub unshaken_is_on_first : is_shaken h ≡ false → (l : ℕ) → present_link h ≡ Some l → first_link h ≡ Some l
   pub unshaken_took_none : is_shaken h ≡ false → is_closed c h ≡ false → (l : ℕ) → taken_count l h ≡ 0
   pub shaken_took_some : is_shaken h ≡ true → (l : ℕ) → first_link h ≡ Some l → 0 < taken_count l h
   pub client_has_its_codec : c.side ≡ Client → codec_of c h ≡ c.codec
@@ -52,6 +59,16 @@ pub record HistoryFacts (c : Config) (h : List Step) : Type 0 where
 -- so it is of each history
 abbrev pub FactsHold : Type 0
 FactsHold = (limits : Limits) (wire : Wire) (c : Config) (h : List ByteStep) → IsHistory limits wire c h → HistoryFacts c (in_frames wire c h)
+
+-- on it nothing was fed, lent or dealt with
+pub record IsUntouched (l : ℕ) (h : List Step) : Type 0 where
+  pub fed : fed_frames l h ≡ []
+  pub lent : lent_frames l h ≡ []
+  pub taken : taken_count l h ≡ 0
+
+-- so it is of each link on which the end never stood
+abbrev pub UnusedIsUntouched : Type 0
+UnusedIsUntouched = (h : List Step) (l : ℕ) → was_on l h ≡ false → IsUntouched l h
 
 -- ---- the bytes that one end hasn't dealt with
 

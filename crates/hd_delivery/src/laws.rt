@@ -1,7 +1,7 @@
 //! What crates above cite of the definitions. No function here does anything: its contract is the law.
 
 ghost use Rattle.std.specs.Prelude.{◌≡◌};
-ghost use Rattle.hd_delivery.specs.HistoryLaws.{FactsHold, HistoriesAreInOrder, NextIsRead, UnreadBegins, UnreadGrows, UnreadIsBounded, UnreadMoves, UnreadStays, WorldsAreHistories};
+ghost use Rattle.hd_delivery.specs.HistoryLaws.{FactsHold, HistoriesAreInOrder, NextIsRead, UnreadBegins, UnreadGrows, UnreadIsBounded, UnreadMoves, UnreadStays, UnusedIsUntouched, WorldsAreHistories};
 ghost use Rattle.hd_delivery.specs.Laws.{CutsGrow, FedIsCut, FedIsUnseen, SequencedIsNumbered};
 ghost use Rattle.hd_delivery.specs.Numbers.{most_framing, most_messages, ping_after, silence_after};
 
@@ -41,6 +41,11 @@ pub fn histories_are_in_order()
 /// What is acknowledged was said, what was said was sent, and what else holds of the numbers of one end.
 pub fn facts_hold()
     ensures { FactsHold }
+{}
+
+/// On a link on which the end never stood nothing was fed, said or dealt with.
+pub fn unused_is_untouched()
+    ensures { UnusedIsUntouched }
 {}
 
 /// The next frame of the present link is the one that the reader finds in the bytes that aren't dealt with, until the end
