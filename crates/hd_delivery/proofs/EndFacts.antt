@@ -16,7 +16,6 @@ use Rattle.hd_delivery.specs.Due.{farewell, answer, due}
 use Rattle.hd_delivery.specs.Processes.{next_number, next_frame, processes}
 use Rattle.hd_delivery.specs.Worlds.{Limits, Sizes, MayBegin, MaySend, MayDo}
 use Rattle.hd_delivery.specs.Bytes.{codec_after}
-use Rattle.hd_delivery.specs.OneHistory.{IsHistoryInFrames}
 use Rattle.hd_delivery.specs.HistoryLaws.{HistoryFacts}
 use Rattle.hd_delivery.proofs.Lists.{take_next, take_front, get_front, get_within}
 use Rattle.hd_delivery.proofs.Local.{is_this-true, is_this-same, both, here_was, none_was, kept_shaken, first_was}
@@ -82,6 +81,7 @@ Known c h = record {
   unlinked : first_link h ≡ None → (most_lent h ≡ 0) × (link_count h ≡ 0);
   alone : (l : ℕ) → present_link h ≡ Some l → is_this l (first_link h) ≡ (link_count h == 1);
   unsent : is_shaken h ≡ false → sent_messages h ≡ [];
+  unheard : is_shaken h ≡ false → processed_messages h ≡ [];
   first : is_shaken h ≡ false → (l : ℕ) → was_on l h ≡ true → first_link h ≡ Some l;
   untaken : is_shaken h ≡ false → is_closed c h ≡ false → (l : ℕ) → taken_count l h ≡ 0;
   taken : is_shaken h ≡ true → (l : ℕ) × (first_link h ≡ Some l) × (0 < taken_count l h);
@@ -107,6 +107,7 @@ start c = record {
   unlinked = λ e. (refl, refl);
   alone = λ l e. absurd (cc);
   unsent = λ e. refl;
+  unheard = λ e. refl;
   first = λ e l f. absurd (cc);
   untaken = λ e f l. refl;
   taken = λ e. absurd (cc);
@@ -133,6 +134,7 @@ module _ (c : Config) (h : List Step) (i : Known c h) where
     unlinked = λ e. absurd (never (first_link h) e);
     alone = λ k e. let same : l ≡ k = cc in subst (λ k. is_this k (first_of (first_link h) (Some l)) ≡ (suc (link_count h) == 1)) same (alone_there (first_link h) refl);
     unsent = i.unsent;
+    unheard = i.unheard;
     first = λ s k w. let f = unshaken s in rw f (first_here k f w);
     untaken = i.untaken;
     taken = λ s. let p = i.taken s in (p.0, rw p.1 refl, p.2);
@@ -185,6 +187,7 @@ module _ (c : Config) (h : List Step) (i : Known c h) where
     unlinked = i.unlinked;
     alone = λ l e. absurd (cc);
     unsent = i.unsent;
+    unheard = i.unheard;
     first = i.first;
     untaken = λ s e. i.untaken s (still_open now e);
     taken = i.taken;
@@ -210,6 +213,7 @@ module _ (c : Config) (h : List Step) (i : Known c h) where
     unlinked = i.unlinked;
     alone = i.alone;
     unsent = i.unsent;
+    unheard = i.unheard;
     first = i.first;
     untaken = i.untaken;
     taken = i.taken;
@@ -250,6 +254,7 @@ module _ (c : Config) (h : List Step) (i : Known c h) where
         unlinked = i.unlinked;
         alone = i.alone;
         unsent = i.unsent;
+        unheard = i.unheard;
         first = i.first;
         untaken = λ s e. absurd (cc);
         taken = λ s. let q = i.taken s in (q.0, q.1, let m = more_taken q.0 in omega (arith, q.2));
@@ -275,6 +280,7 @@ module _ (c : Config) (h : List Step) (i : Known c h) where
     unlinked = i.unlinked;
     alone = i.alone;
     unsent = λ e. let s = a.shakes in absurd (cc);
+    unheard = i.unheard;
     first = i.first;
     untaken = i.untaken;
     taken = i.taken;
@@ -302,6 +308,7 @@ module _ (c : Config) (h : List Step) (i : Known c h) where
         unlinked = λ e. absurd (linked e);
         alone = i.alone;
         unsent = i.unsent;
+        unheard = i.unheard;
         first = i.first;
         untaken = i.untaken;
         taken = i.taken;
@@ -338,6 +345,7 @@ module _ (c : Config) (h : List Step) (i : Known c h) where
     unlinked = i.unlinked;
     alone = i.alone;
     unsent = i.unsent;
+    unheard = i.unheard;
     first = i.first;
     untaken = λ s e. absurd (cc);
     taken = i.taken;
@@ -376,6 +384,7 @@ module _ (c : Config) (h : List Step) (i : Known c h) where
       unlinked = i.unlinked;
       alone = i.alone;
       unsent = λ e. absurd (cc);
+      unheard = λ e. absurd (cc);
       first = λ e. absurd (cc);
       untaken = λ e. absurd (cc);
       taken = λ e. (l, first_is, rw (is_this-same l (present_link h) at) (omega arith));
@@ -433,6 +442,7 @@ module _ (c : Config) (h : List Step) (i : Known c h) where
           unlinked = i.unlinked;
           alone = i.alone;
           unsent = i.unsent;
+          unheard = i.unheard;
           first = i.first;
           untaken = r.untaken;
           taken = r.taken;
@@ -461,6 +471,7 @@ module _ (c : Config) (h : List Step) (i : Known c h) where
           unlinked = i.unlinked;
           alone = i.alone;
           unsent = i.unsent;
+          unheard = λ e. let s = g.0 in absurd (cc);
           first = i.first;
           untaken = r.untaken;
           taken = r.taken;
@@ -492,6 +503,7 @@ module _ (c : Config) (h : List Step) (i : Known c h) where
           unlinked = i.unlinked;
           alone = i.alone;
           unsent = i.unsent;
+          unheard = i.unheard;
           first = i.first;
           untaken = λ e f. absurd (cc);
           taken = r.taken;
@@ -524,6 +536,7 @@ module _ (c : Config) (h : List Step) (i : Known c h) where
           unlinked = i.unlinked;
           alone = i.alone;
           unsent = i.unsent;
+          unheard = i.unheard;
           first = i.first;
           untaken = r.untaken;
           taken = r.taken;
@@ -551,6 +564,11 @@ step limits sizes c h i (Lent f) a = lent c h i f a
 step limits sizes c h i (Ticked now) a = i
 step limits sizes c h i (Closed reason allow) a = closed c h i reason allow
 
+-- each step was allowed after those before it, as far as one end says
+abbrev pub IsHistoryInFrames : Limits → Sizes → Config → List Step → Type 0
+IsHistoryInFrames limits sizes c [] = Unit {0}
+IsHistoryInFrames limits sizes c (s ∷ h) = IsHistoryInFrames limits sizes c h × MayDo limits sizes c h s
+
 -- what holds of each history
 pub known : (limits : Limits) (sizes : Sizes) (c : Config) (h : List Step) → IsHistoryInFrames limits sizes c h → Known c h
 known limits sizes c [] a = start c
@@ -575,6 +593,7 @@ facts c h i = record {
   unshaken_has_its_codec = own_codec c h;
   unshaken_is_plain = λ e. plain (is_kept c h) refl e;
   unshaken_sent_none = i.unsent;
+  unshaken_processed_none = i.unheard;
   unshaken_is_on_first = λ s l e. i.first s l (here_was l h e);
   unshaken_took_none = i.untaken;
   shaken_took_some = λ s l e. let p = i.taken s in let same : p.0 ≡ l = (let z : Some p.0 ≡ Some l = sym p.1 ∙ e in cc) in subst (λ k. 0 < taken_count k h) same p.2;

@@ -19,5 +19,6 @@ pub mod EndFacts
 pub mod OneHistory
 pub mod NextCut
 pub mod Unread
+pub mod LinkSteps
 pub mod Examples
 pub mod ExamplesOverBytes

@@ -6,9 +6,9 @@ use Rattle.hd_delivery.specs.Histories.{Config, Step, Attached, Fed, Took}
 use Rattle.hd_delivery.specs.Processes.{next_number}
 use Rattle.hd_delivery.specs.Worlds.{Limits, Terms, config, Event, ByClient, ByServer, client_of, server_of}
 use Rattle.hd_delivery.specs.Bytes.{Wire, sizes_of, ByteStep, Bytes, Does, in_frames, AllowedOverBytes, IsWorldOverBytes}
-use Rattle.hd_delivery.specs.OneHistory.{IsHistoryInFrames, MayDoOverBytes, IsHistory}
+use Rattle.hd_delivery.specs.OneHistory.{MayDoOverBytes, IsHistory}
 use Rattle.hd_delivery.specs.Laws.{IsInOrder}
-use Rattle.hd_delivery.proofs.EndFacts.{known, facts}
+use Rattle.hd_delivery.proofs.EndFacts.{IsHistoryInFrames, known, facts}
 use Rattle.hd_delivery.proofs.WhatIsRead.{read_step}
 use Rattle.hd_delivery.proofs.Makes.{Made, makes}
 use Rattle.hd_delivery.proofs.Unseen.{fed_is_unseen}

@@ -1,13 +1,13 @@
 -- What crates above cite of the histories that one end can make.
-use Rattle.std.specs.Prelude.{◌≡◌, ℕ, ◌+◌, ◌<◌, ◌≤◌, Bool, true, false, ◌&&◌, ◌==◌, List, [], ◌∷◌, ◌++◌, length, drop, slice_get, Some, None}
+use Rattle.std.specs.Prelude.{◌≡◌, ℕ, ◌+◌, ◌<◌, ◌≤◌, Bool, true, false, max, ◌&&◌, ◌||◌, ◌==◌, List, [], ◌∷◌, ◌++◌, length, drop, slice_get, Some, None}
 use Rattle.hm_message.specs.declared.message.Message.{Message}
 use Rattle.hd_delivery.specs.declared.vocabulary.Got.{Got}
 use Rattle.hd_delivery.specs.declared.vocabulary.Reason.{Reason}
 use Rattle.hd_delivery.specs.declared.vocabulary.Side.TheVariants.{Client, Server}
 use Rattle.hd_delivery.specs.Numbers.{most_messages, most_framing}
-use Rattle.hd_delivery.specs.Frames.{LinkFrame}
-use Rattle.hd_delivery.specs.Histories.{Config, Step, Attached, Detached, Took, Failed, Sent, Lent, Ticked, Silenced, Closed, Fault, is_this, present_link, was_on, first_link, link_count, fed_frames, lent_frames, taken_count, sent_messages, processed_messages, acked_count, written_place, most_lent, is_shaken, agreed_version, codec_of, can_keep, is_kept, is_closed}
-use Rattle.hd_delivery.specs.Due.{farewell, answer}
+use Rattle.hd_delivery.specs.Frames.{LinkFrame, count, number, told_count, most_told}
+use Rattle.hd_delivery.specs.Histories.{Config, Step, Attached, Detached, Fed, Took, Failed, Sent, Lent, Ticked, Silenced, Closed, Fault, is_this, present_link, was_on, first_link, link_count, fed_frames, lent_frames, taken_count, read_frames, sent_messages, processed_messages, acked_count, written_place, most_lent, is_shaken, agreed_version, codec_of, can_keep, is_kept, is_closed}
+use Rattle.hd_delivery.specs.Due.{has_close, farewell, answer}
 use Rattle.hd_delivery.specs.Processes.{processes}
 use Rattle.hd_delivery.specs.Worlds.{Limits, Terms, config, Event, client_of, server_of}
 use Rattle.hd_delivery.specs.Bytes.{Wire, IsSoundWire, ByteStep, Bytes, Does, in_frames, read_count, unread, IsWorldOverBytes}
@@ -47,6 +47,7 @@ pub record HistoryFacts (c : Config) (h : List Step) : Type 0 where
   pub unshaken_has_its_codec : is_shaken h ≡ false → codec_of c h ≡ c.codec
   pub unshaken_is_plain : is_shaken h ≡ false → is_kept c h ≡ false
   pub unshaken_sent_none : is_shaken h ≡ false → sent_messages h ≡ []
+  pub unshaken_processed_none : is_shaken h ≡ false → processed_messages h ≡ []
   pub unshaken_is_on_first : is_shaken h ≡ false → (l : ℕ) → present_link h ≡ Some l → first_link h ≡ Some l
   pub unshaken_took_none : is_shaken h ≡ false → is_closed c h ≡ false → (l : ℕ) → taken_count l h ≡ 0
   pub shaken_took_some : is_shaken h ≡ true → (l : ℕ) → first_link h ≡ Some l → 0 < taken_count l h
@@ -69,6 +70,29 @@ pub record IsUntouched (l : ℕ) (h : List Step) : Type 0 where
 -- so it is of each link on which the end never stood
 abbrev pub UnusedIsUntouched : Type 0
 UnusedIsUntouched = (h : List Step) (l : ℕ) → was_on l h ≡ false → IsUntouched l h
+
+-- ---- the frames of a link
+
+-- what one more step makes of the frames of the link where the end stands. What is fed isn't read yet
+pub record LinkGrows (h : List Step) (l : ℕ) : Type 0 where
+  pub lent : (f : LinkFrame) → lent_frames l (Lent f ∷ h) ≡ lent_frames l h ++ f ∷ []
+  pub fed : (piece : List LinkFrame) → taken_count l h ≤ length (fed_frames l h) → read_frames l (Fed piece ∷ h) ≡ read_frames l h
+  pub took : (got : Got) (f : LinkFrame) → slice_get (fed_frames l h) (taken_count l h) ≡ Some f → read_frames l (Took got ∷ h) ≡ read_frames l h ++ f ∷ []
+  pub failed : (fault : Fault) (f : LinkFrame) → slice_get (fed_frames l h) (taken_count l h) ≡ Some f → read_frames l (Failed fault ∷ h) ≡ read_frames l h ++ f ∷ []
+
+-- so it is wherever an end stands
+abbrev pub LinksGrow : Type 0
+LinksGrow = (h : List Step) (l : ℕ) → present_link h ≡ Some l → LinkGrows h l
+
+-- what one more frame makes of what is read off the frames of a link
+pub record FrameCounts (frames : List LinkFrame) (f : LinkFrame) : Type 0 where
+  pub next : number (frames ++ f ∷ []) ≡ count (number frames) f
+  pub told : most_told (frames ++ f ∷ []) ≡ max (most_told frames) (told_count f)
+  pub closes : has_close (frames ++ f ∷ []) ≡ (has_close frames || has_close (f ∷ []))
+
+-- so it is of each frame
+abbrev pub FramesCount : Type 0
+FramesCount = (frames : List LinkFrame) (f : LinkFrame) → FrameCounts frames f
 
 -- ---- the bytes that one end hasn't dealt with
 

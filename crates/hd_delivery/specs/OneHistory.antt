@@ -2,15 +2,10 @@
 use Rattle.std.specs.Prelude.{ℕ, ◌&&◌, ◌==◌, List, [], ◌∷◌, Option, Some, None, if◌then◌else◌}
 use Rattle.hd_delivery.specs.Frames.{LinkFrame, Unreadable}
 use Rattle.hd_delivery.specs.Histories.{Step, Fed, Config, is_this, first_link, as_told, taken_count, codec_of}
-use Rattle.hd_delivery.specs.Worlds.{Limits, Sizes, MayDo}
+use Rattle.hd_delivery.specs.Worlds.{Limits, MayDo}
 use Rattle.hd_delivery.specs.Bytes.{Reading, Waits, Reads, Refuses, Stops, Wire, sizes_of, ByteStep, Bytes, Does, in_frames, MayHearBytes}
 
 -- ---- which steps may come
-
--- each step was allowed after those before it, as far as one end says
-abbrev pub IsHistoryInFrames : Limits → Sizes → Config → List Step → Type 0
-IsHistoryInFrames limits sizes c [] = Unit {0}
-IsHistoryInFrames limits sizes c (s ∷ h) = IsHistoryInFrames limits sizes c h × MayDo limits sizes c h s
 
 -- the step may come next; what is fed is bytes
 abbrev pub MayDoOverBytes : Limits → Wire → Config → List ByteStep → ByteStep → Type 0

@@ -1,7 +1,7 @@
 //! What crates above cite of the definitions. No function here does anything: its contract is the law.
 
 ghost use Rattle.std.specs.Prelude.{◌≡◌};
-ghost use Rattle.hd_delivery.specs.HistoryLaws.{FactsHold, HistoriesAreInOrder, NextIsRead, UnreadBegins, UnreadGrows, UnreadIsBounded, UnreadMoves, UnreadStays, UnusedIsUntouched, WorldsAreHistories};
+ghost use Rattle.hd_delivery.specs.HistoryLaws.{FactsHold, FramesCount, HistoriesAreInOrder, LinksGrow, NextIsRead, UnreadBegins, UnreadGrows, UnreadIsBounded, UnreadMoves, UnreadStays, UnusedIsUntouched, WorldsAreHistories};
 ghost use Rattle.hd_delivery.specs.Laws.{CutsGrow, FedIsCut, FedIsUnseen, SequencedIsNumbered};
 ghost use Rattle.hd_delivery.specs.Numbers.{most_framing, most_messages, ping_after, silence_after};
 
@@ -46,6 +46,16 @@ pub fn facts_hold()
 /// On a link on which the end never stood nothing was fed, said or dealt with.
 pub fn unused_is_untouched()
     ensures { UnusedIsUntouched }
+{}
+
+/// What is said, and what is dealt with, is one more frame of the present link.
+pub fn links_grow()
+    ensures { LinksGrow }
+{}
+
+/// What one more frame makes of the next number, of what is told and of whether a Close was said.
+pub fn frames_count()
+    ensures { FramesCount }
 {}
 
 /// The next frame of the present link is the one that the reader finds in the bytes that aren't dealt with, until the end
