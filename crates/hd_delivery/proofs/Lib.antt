@@ -13,5 +13,6 @@ pub mod OverBytes
 pub mod Growth
 pub mod FedAndCut
 pub mod Unseen
+pub mod AsSent
 pub mod Examples
 pub mod ExamplesOverBytes

@@ -1,7 +1,7 @@
 -- The same worlds over bytes: what is fed are bytes, and readers cut them into frames.
 -- HubProtocol.md, "Overview": the handshake ends with the record separator whatever the codec is; "JSON Encoding" and "MessagePack
 -- (MsgPack) encoding" frame all later messages. Here any spelling and any readers may stand for these, if they are faithful.
-use Rattle.std.specs.Prelude.{true, ◌≡◌, ℕ, zero, suc, ◌+◌, ◌-◌, ◌<◌, ◌≤◌, Bool, false, List, [], ◌∷◌, ◌++◌, length, take, drop, map, sum_by, flat_map, Contains, Option, Some, None, if◌then◌else◌}
+use Rattle.std.specs.Prelude.{true, ◌≡◌, ℕ, zero, suc, ◌+◌, ◌<◌, ◌≤◌, Bool, false, List, [], ◌∷◌, ◌++◌, length, take, drop, map, sum_by, flat_map, Contains, Option, Some, None, if◌then◌else◌}
 use Rattle.hm_message.specs.declared.message.Codec.{Codec}
 use Rattle.hm_message.specs.declared.message.Message.{Message}
 use Rattle.hm_message.specs.Kind.{IsOfNoKind}

@@ -1,5 +1,5 @@
 -- The histories that one end can make by itself, whatever is on the other side of its links, and the bytes that it hasn't dealt with.
-use Rattle.std.specs.Prelude.{◌≡◌, ℕ, ◌≤◌, Bool, ◌&&◌, ◌==◌, List, [], ◌∷◌, Option, Some, None, if◌then◌else◌}
+use Rattle.std.specs.Prelude.{ℕ, ◌&&◌, ◌==◌, List, [], ◌∷◌, Option, Some, None, if◌then◌else◌}
 use Rattle.hd_delivery.specs.Frames.{LinkFrame, Unreadable}
 use Rattle.hd_delivery.specs.Histories.{Step, Fed, Config, is_this, first_link, as_told, taken_count, codec_of}
 use Rattle.hd_delivery.specs.Worlds.{Limits, Sizes, MayDo}

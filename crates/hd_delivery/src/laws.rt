@@ -1,7 +1,7 @@
 //! What crates above cite of the definitions. No function here does anything: its contract is the law.
 
 ghost use Rattle.std.specs.Prelude.{◌≡◌};
-ghost use Rattle.hd_delivery.specs.Laws.{CutsGrow, FedIsCut, FedIsUnseen, SequencedIsNumbered};
+ghost use Rattle.hd_delivery.specs.Laws.{HoldsAsSent, CutsGrow, FedIsCut, FedIsUnseen, SequencedIsNumbered};
 ghost use Rattle.hd_delivery.specs.Numbers.{most_framing, most_messages, ping_after, silence_after};
 
 use crate::vocabulary::{MOST_FRAMING, MOST_MESSAGES, PING_AFTER, SILENCE_AFTER};
@@ -33,4 +33,9 @@ pub fn numbers_are_named()
     ensures ping { PING_AFTER ≡ ping_after }
     ensures silence { SILENCE_AFTER ≡ silence_after }
     ensures framing { MOST_FRAMING ≡ most_framing }
+{}
+
+/// `delivery_over_bytes` where of each end's messages is known that they are read as themselves in that end's codec.
+pub fn delivery_as_sent()
+    ensures { HoldsAsSent }
 {}

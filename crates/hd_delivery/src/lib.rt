@@ -19,7 +19,10 @@ mod worlds;
 ghost use Rattle.hd_delivery.specs.Bytes.{HoldsOverBytes};
 ghost use Rattle.hd_delivery.specs.Worlds.{HoldsInEveryWorld};
 
-pub use laws::{cuts_grow, fed_is_cut, fed_is_unseen, numbers_are_named, sequenced_is_numbered};
+pub use laws::{
+    cuts_grow, delivery_as_sent, fed_is_cut, fed_is_unseen, numbers_are_named,
+    sequenced_is_numbered,
+};
 pub use one_end::{closings, first_frames, moments, numbers};
 pub use vocabulary::{
     Got, MOST_FRAMING, MOST_MESSAGES, PING_AFTER, Reason, SILENCE_AFTER, Side, State, Why,
