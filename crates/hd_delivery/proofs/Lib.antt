@@ -20,5 +20,6 @@ pub mod OneHistory
 pub mod NextCut
 pub mod Unread
 pub mod LinkSteps
+pub mod AsSent
 pub mod Examples
 pub mod ExamplesOverBytes

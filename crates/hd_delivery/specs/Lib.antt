@@ -5,6 +5,7 @@ pub mod Due
 pub mod Processes
 pub mod Worlds
 pub mod Bytes
+pub mod Sending
 pub mod Laws
 pub mod OneHistory
 pub mod HistoryLaws
