@@ -26,10 +26,10 @@ a_can_be = record { sequenced = refl; fits = omega arith; as_read = refl; short 
 
 -- the handshake
 opened_is_world : IsWorld usual sizes (terms 2 true) (reverse (opened 2))
-opened_is_world = ((((((((tt, record { unclosed = refl; granted = inl refl; named = below 0 [] refl; in_time = omega arith }), refl), record { unclosed = refl; granted = inl refl; named = (refl, refl); in_time = omega arith }), record { link = 0; at = refl; unclosed = refl; front = ([], refl) }), refl), refl), record { link = 0; at = refl; unclosed = refl; front = ([], refl) }), refl)
+opened_is_world = ((((((((tt, record { own = record { unclosed = refl; granted = inl refl; unused = refl; in_time = omega arith }; named = below 0 [] refl }), refl), record { own = record { unclosed = refl; granted = inl refl; unused = refl; in_time = omega arith }; named = refl }), record { link = 0; at = refl; unclosed = refl; front = ([], refl) }), refl), refl), record { link = 0; at = refl; unclosed = refl; front = ([], refl) }), refl)
 
 pub older_link_later_is_world : IsWorld usual sizes (terms 2 true) (reverse older_link_later)
-older_link_later_is_world = ((((((((((((((((((opened_is_world, record { unclosed = refl; shakes = refl; few = omega arith; can_be = a_can_be; room = record { of_count = omega arith; of_bytes = omega arith } }), refl), record { link = 0; at = refl; unclosed = refl; front = ([], refl) }), refl), record { unclosed = refl; granted = inr refl; named = below 1 (0 ∷ []) refl; in_time = omega arith }), refl), refl), record { unclosed = refl; granted = inr refl; named = below 2 (1 ∷ 0 ∷ []) refl; in_time = omega arith }), refl), refl), record { unclosed = refl; granted = inr refl; named = (refl, refl); in_time = omega arith }), record { link = 2; at = refl; unclosed = refl; front = ([], refl) }), refl), refl), record { unclosed = refl; granted = inr refl; named = (refl, refl); in_time = omega arith }), record { link = 1; at = refl; unclosed = refl; front = ([], refl) }), refl), refl)
+older_link_later_is_world = ((((((((((((((((((opened_is_world, record { unclosed = refl; shakes = refl; few = omega arith; can_be = a_can_be; room = record { of_count = omega arith; of_bytes = omega arith } }), refl), record { link = 0; at = refl; unclosed = refl; front = ([], refl) }), refl), record { own = record { unclosed = refl; granted = inr refl; unused = refl; in_time = omega arith }; named = below 1 (0 ∷ []) refl }), refl), refl), record { own = record { unclosed = refl; granted = inr refl; unused = refl; in_time = omega arith }; named = below 2 (1 ∷ 0 ∷ []) refl }), refl), refl), record { own = record { unclosed = refl; granted = inr refl; unused = refl; in_time = omega arith }; named = refl }), record { link = 2; at = refl; unclosed = refl; front = ([], refl) }), refl), refl), record { own = record { unclosed = refl; granted = inr refl; unused = refl; in_time = omega arith }; named = refl }), record { link = 1; at = refl; unclosed = refl; front = ([], refl) }), refl), refl)
 
 pub far_link_is_world : IsWorld usual sizes (terms 2 true) (reverse far_link)
-far_link_is_world = (((((opened_is_world, record { unclosed = refl; granted = inr refl; named = below (2 ^ 32 + 5) (0 ∷ []) refl; in_time = omega arith }), refl), record { unclosed = refl; granted = inr refl; named = (refl, refl); in_time = omega arith }), record { link = 2 ^ 32 + 5; at = refl; unclosed = refl; front = ([], refl) }), refl)
+far_link_is_world = (((((opened_is_world, record { own = record { unclosed = refl; granted = inr refl; unused = refl; in_time = omega arith }; named = below (2 ^ 32 + 5) (0 ∷ []) refl }), refl), record { own = record { unclosed = refl; granted = inr refl; unused = refl; in_time = omega arith }; named = refl }), record { link = 2 ^ 32 + 5; at = refl; unclosed = refl; front = ([], refl) }), refl)

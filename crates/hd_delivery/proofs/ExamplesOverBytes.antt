@@ -156,7 +156,7 @@ module _ (limits : Limits) (short : 4 ≤ limits.frame) (many : 3 ≤ limits.cou
   can_go letter = record { sequenced = refl; fits = omega arith; as_read = refl; short = short }
 
   three_said_is_world : IsWorldOverBytes limits four (terms 2 true) (reverse three_said)
-  three_said_is_world = ((((((((((((((tt, record { unclosed = refl; granted = inl refl; named = below 0 [] refl; in_time = omega arith }), refl), record { unclosed = refl; granted = inl refl; named = (refl, refl); in_time = omega arith }), record { link = 0; at = refl; unclosed = refl; front = ([], refl); few = omega (arith, short) }), refl), refl), record { link = 0; at = refl; unclosed = refl; front = ([], refl); few = omega (arith, short) }), refl), record { unclosed = refl; shakes = refl; few = omega arith; can_be = can_go (codes "a"); room = record { of_count = omega (arith, many); of_bytes = omega (arith, wide) } }), record { unclosed = refl; shakes = refl; few = omega arith; can_be = can_go (codes "b"); room = record { of_count = omega (arith, many); of_bytes = omega (arith, wide) } }), record { unclosed = refl; shakes = refl; few = omega arith; can_be = can_go (codes "c"); room = record { of_count = omega (arith, many); of_bytes = omega (arith, wide) } }), refl), refl), refl)
+  three_said_is_world = ((((((((((((((tt, record { own = record { unclosed = refl; granted = inl refl; unused = refl; in_time = omega arith }; named = below 0 [] refl }), refl), record { own = record { unclosed = refl; granted = inl refl; unused = refl; in_time = omega arith }; named = refl }), record { link = 0; at = refl; unclosed = refl; front = ([], refl); few = omega (arith, short) }), refl), refl), record { link = 0; at = refl; unclosed = refl; front = ([], refl); few = omega (arith, short) }), refl), record { unclosed = refl; shakes = refl; few = omega arith; can_be = can_go (codes "a"); room = record { of_count = omega (arith, many); of_bytes = omega (arith, wide) } }), record { unclosed = refl; shakes = refl; few = omega arith; can_be = can_go (codes "b"); room = record { of_count = omega (arith, many); of_bytes = omega (arith, wide) } }), record { unclosed = refl; shakes = refl; few = omega arith; can_be = can_go (codes "c"); room = record { of_count = omega (arith, many); of_bytes = omega (arith, wide) } }), refl), refl), refl)
 
 pub lazy_is_unsound : IsSoundWire (limits_of 4 1024 100000) lazy → ⊥
 lazy_is_unsound sound = let h : 9 < 9 = (sound.later Json).unfilled (0 ∷ 0 ∷ 0 ∷ 0 ∷ 0 ∷ 0 ∷ 0 ∷ 0 ∷ 0 ∷ []) refl in omega (arith, h)

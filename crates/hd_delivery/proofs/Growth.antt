@@ -6,7 +6,7 @@ use Rattle.hd_delivery.specs.Histories.{Config, Step, is_this, first_link, as_to
 use Rattle.hd_delivery.specs.Worlds.{Limits}
 use Rattle.hd_delivery.specs.Bytes.{Reading, Waits, Reads, Refuses, Stops, Wire, IsSize, IsSoundReader, IsSoundWire, Cut, cut_by, cut_all, codec_after, cut}
 
-drop_within : (bytes more : List ℕ) (n : ℕ) → n ≤ length bytes → drop n (bytes ++ more) ≡ drop n bytes ++ more
+pub drop_within : (bytes more : List ℕ) (n : ℕ) → n ≤ length bytes → drop n (bytes ++ more) ≡ drop n bytes ++ more
 drop_within bytes more zero h = refl
 drop_within [] more (suc n) h = absurd (omega arith)
 drop_within (b ∷ bytes) more (suc n) h = drop_within bytes more n (omega arith)

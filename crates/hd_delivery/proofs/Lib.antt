@@ -13,5 +13,13 @@ pub mod OverBytes
 pub mod Growth
 pub mod FedAndCut
 pub mod Unseen
+pub mod DueNext
+pub mod Makes
+pub mod EndFacts
+pub mod OneHistory
+pub mod NextCut
+pub mod Unread
+pub mod LinkSteps
+pub mod AsSent
 pub mod Examples
 pub mod ExamplesOverBytes

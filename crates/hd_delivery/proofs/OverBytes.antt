@@ -42,7 +42,7 @@ nothing_on wire c l (Does (Attached k now) ∷ h) e = nothing_on wire c l h (or_
 nothing_on wire c l (Does s ∷ h) e = nothing_on wire c l h e
 
 -- before the handshake an end's codec is its own
-own_codec : (c : Config) (h : List Step) → is_shaken h ≡ false → codec_of c h ≡ c.codec
+pub own_codec : (c : Config) (h : List Step) → is_shaken h ≡ false → codec_of c h ≡ c.codec
 own_codec c [] e = refl
 own_codec c (Took (Shaken k v) ∷ h) e = absurd (cc)
 own_codec c (_ ∷ h) e = own_codec c h e

@@ -1,5 +1,5 @@
 -- The invariant holds in every world.
-use Rattle.std.proofs.Common.{⊎_elim, ◌≡◌, ℕ, ◌<◌, Bool, true, false, List, [], ◌∷◌, Option, Some, None, refl, sym, ◌∙◌, subst, arith}
+use Rattle.std.proofs.Common.{⊎_elim, ◌≡◌, ℕ, Bool, true, false, List, [], ◌∷◌, Option, Some, None, refl, sym, ◌∙◌, subst, arith}
 use Rattle.std.specs.Prelude.{slice_get, ◌⊎◌, ◌==◌}
 use Rattle.std.proofs.lemmas.Bool.{or_cases, eqb-true}
 use Rattle.hd_delivery.specs.declared.vocabulary.Side.{Side}
@@ -161,14 +161,10 @@ module _ (limits : Limits) (sizes : Sizes) (terms : Terms) (c s : List Step) (t 
   -- a new link of the client's
   client_links : (l now : ℕ) → MayAttach (config Client terms) c s l now → Together terms (Attached l 0 ∷ c) s
   client_links l now a = record {
-    ends = links limits sizes Client terms c s t.ends l (fresh (was_on l c) refl) a.granted (λ k j e f. agree (first_link c) refl k j e f);
+    ends = links limits sizes Client terms c s t.ends l a.unused a.granted (λ k j e f. agree (first_link c) refl k j e f);
     among = λ k e. or_right (k == l) (was_on k c) (t.among k e);
   }
     where
-      fresh : (b : Bool) → was_on l c ≡ b → b ≡ false
-      fresh true e = let h : l < l = a.named l e in absurd (omega arith)
-      fresh false e = refl
-
       agree : (o : Option ℕ) → first_link c ≡ o → (k j : ℕ) → first_of o (Some l) ≡ Some k → first_link s ≡ Some j → k ≡ j
       agree None e k j f g = let w = t.among j (first_was s j g) in let n = none_was j c e in let z : false ≡ true = sym n ∙ w in absurd (cc)
       agree (Some i) e k j f g = let f' : i ≡ k = cc in sym f' ∙ t.ends.pair.agree i j e g
@@ -180,8 +176,8 @@ module _ (limits : Limits) (sizes : Sizes) (terms : Terms) (c s : List Step) (t 
   -- the server takes a link of the client's
   server_links : (l now : ℕ) → MayAttach (config Server terms) s c l now → Together terms c (Attached l 0 ∷ s)
   server_links l now a = record {
-    ends = to_client terms c (Attached l 0 ∷ s) (links limits sizes Server terms s c (to_server terms c s t.ends) l a.named.1 a.granted (λ k j e f. agree (first_link s) refl k j e f));
-    among = λ k e. ⊎_elim (λ f. subst (λ j. was_on j c ≡ true) (sym (eqb-true k l f)) a.named.0) (λ f. t.among k f) (or_cases (k == l) (was_on k s) e);
+    ends = to_client terms c (Attached l 0 ∷ s) (links limits sizes Server terms s c (to_server terms c s t.ends) l a.unused a.granted (λ k j e f. agree (first_link s) refl k j e f));
+    among = λ k e. ⊎_elim (λ f. subst (λ j. was_on j c ≡ true) (sym (eqb-true k l f)) a.named) (λ f. t.among k f) (or_cases (k == l) (was_on k s) e);
   }
     where
       agree : (o : Option ℕ) → first_link s ≡ o → (k j : ℕ) → first_of o (Some l) ≡ Some k → first_link c ≡ Some j → k ≡ j
@@ -189,7 +185,7 @@ module _ (limits : Limits) (sizes : Sizes) (terms : Terms) (c s : List Step) (t 
         where
           go : (b : Bool) → is_shaken c ≡ b → k ≡ j
           go true h = let p = t.ends.pair.met h in let z : None ≡ Some p.0 = sym e ∙ p.1 in absurd (cc)
-          go false h = let p : first_link c ≡ Some l = t.ends.pair.own.one_link h l a.named.0 in cc
+          go false h = let p : first_link c ≡ Some l = t.ends.pair.own.one_link h l a.named in cc
       agree (Some i) e k j f g = let f' : i ≡ k = cc in sym f' ∙ sym (t.ends.pair.agree j i g e)
 
   pub server_steps : (step : Step) → Allowed limits sizes (config Server terms) s c step → Together terms c (step ∷ s)

@@ -1,7 +1,7 @@
 -- The same worlds over bytes: what is fed are bytes, and readers cut them into frames.
 -- HubProtocol.md, "Overview": the handshake ends with the record separator whatever the codec is; "JSON Encoding" and "MessagePack
 -- (MsgPack) encoding" frame all later messages. Here any spelling and any readers may stand for these, if they are faithful.
-use Rattle.std.specs.Prelude.{true, ◌≡◌, ℕ, zero, suc, ◌+◌, ◌-◌, ◌<◌, ◌≤◌, Bool, false, List, [], ◌∷◌, ◌++◌, length, take, drop, map, sum_by, flat_map, Contains, Option, Some, None, if◌then◌else◌}
+use Rattle.std.specs.Prelude.{true, ◌≡◌, ℕ, zero, suc, ◌+◌, ◌<◌, ◌≤◌, Bool, false, List, [], ◌∷◌, ◌++◌, length, take, drop, map, sum_by, flat_map, Contains, Option, Some, None, if◌then◌else◌}
 use Rattle.hm_message.specs.declared.message.Codec.{Codec}
 use Rattle.hm_message.specs.declared.message.Message.{Message}
 use Rattle.hm_message.specs.Kind.{IsOfNoKind}
@@ -163,9 +163,17 @@ in_frames wire c [] = []
 in_frames wire c (Bytes piece ∷ h) = let steps = in_frames wire c h in Fed (new_frames wire c h steps (present_link steps) piece) ∷ steps
 in_frames wire c (Does s ∷ h) = s ∷ in_frames wire c h
 
+-- how many bytes of a link the frames take that were dealt with
+abbrev pub read_count : Wire → Config → ℕ → List ByteStep → ℕ
+read_count wire c l h = sum_by (λ x. x.1) (take (taken_count l (bare_steps h)) (cut wire c (bare_steps h) l (bytes_on l h)))
+
+-- the bytes of a link after those
+abbrev pub unread : Wire → Config → ℕ → List ByteStep → List ℕ
+unread wire c l h = drop (read_count wire c l h) (bytes_on l h)
+
 -- how many bytes of a link aren't taken
 abbrev pub unread_count : Wire → Config → ℕ → List ByteStep → ℕ
-unread_count wire c l h = length (bytes_on l h) - sum_by (λ x. x.1) (take (taken_count l (bare_steps h)) (cut wire c (bare_steps h) l (bytes_on l h)))
+unread_count wire c l h = length (unread wire c l h)
 
 -- the bytes of these frames
 abbrev pub spelling_of : Wire → Codec → List LinkFrame → List ℕ
@@ -177,7 +185,14 @@ spelling_of wire codec frames = flat_map (wire.spell codec) frames
 abbrev pub lent_bytes : Wire → Config → ℕ → List ByteStep → List ℕ
 lent_bytes wire c l h = spelling_of wire (codec_of c (in_frames wire c h)) (lent_frames l (in_frames wire c h))
 
--- what is fed is the next of what the other end lent on the link, and an end has no more than a frame and its framing unread
+-- the end may be fed these bytes: it has no more than a frame and its framing unread with them
+pub record MayHearBytes (limits : Limits) (wire : Wire) (c : Config) (h : List ByteStep) (piece : List ℕ) : Type 0 where
+  pub link : ℕ
+  pub at : present_link (in_frames wire c h) ≡ Some link
+  pub unclosed : is_closed c (in_frames wire c h) ≡ false
+  pub few : unread_count wire c link (Bytes piece ∷ h) ≤ limits.frame + most_framing
+
+-- what is fed is the next of what the other end lent on the link
 pub record MayFeedBytes (limits : Limits) (wire : Wire) (c oc : Config) (h other : List ByteStep) (piece : List ℕ) : Type 0 where
   pub link : ℕ
   pub at : present_link (in_frames wire c h) ≡ Some link

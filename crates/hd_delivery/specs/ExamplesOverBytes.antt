@@ -11,11 +11,12 @@ use Rattle.hd_delivery.specs.declared.vocabulary.Side.TheVariants.{Client, Serve
 use Rattle.hd_delivery.specs.declared.vocabulary.State.{State}
 use Rattle.hd_delivery.specs.declared.vocabulary.Got.TheVariants as gives
 use Rattle.hd_delivery.specs.Frames.{LinkFrame, Request, Response, Numbered, Ack, Sequence, Ping, Close, Strange, error_of}
-use Rattle.hd_delivery.specs.Histories.{Config, Step, Attached, Took, Sent, Lent, Closed}
+use Rattle.hd_delivery.specs.Histories.{Unread, Config, Step, Attached, Took, Failed, Sent, Lent, Closed}
 use Rattle.hd_delivery.specs.Processes.{processes}
 use Rattle.hd_delivery.specs.Worlds.{Limits, Terms, config, Event, ByClient, ByServer, client_of, server_of}
-use Rattle.hd_delivery.specs.Bytes.{Reading, Waits, Reads, Refuses, Stops, Wire, ByteStep, Bytes, Does, in_frames, MayFeedBytes, IsWorldOverBytes, StillOverBytes}
-use Rattle.hd_delivery.specs.Examples.{call, a, b, c, terms, summary}
+use Rattle.hd_delivery.specs.Bytes.{Reading, Waits, Reads, Refuses, Stops, Wire, ByteStep, Bytes, Does, in_frames, read_count, unread, MayFeedBytes, IsWorldOverBytes, StillOverBytes}
+use Rattle.hd_delivery.specs.OneHistory.{MayDoOverBytes, IsHistory, next_reader}
+use Rattle.hd_delivery.specs.Examples.{call, a, b, c, usual, terms, summary}
 
 -- ---- what is written
 
@@ -224,3 +225,27 @@ stopped = unreadable ++ Does (Lent Response) ∷ Does (Attached 1 0) ∷ Bytes (
 -- what the server's next frame makes after these steps
 abbrev pub NextStepOverBytes : List ByteStep → Option Step → Type 0
 NextStepOverBytes steps step = processes (config Server (terms 2 true)) (in_frames four (config Server (terms 2 true)) (reverse steps)) ≡ step
+
+-- ---- one end alone
+
+-- the server dealt with them
+abbrev pub unreadable_failed : List ByteStep
+unreadable_failed = unreadable_whole ++ Does (Failed (Unread 0 8 (codes "NotJson"))) ∷ []
+
+-- the server is fed the handshake
+abbrev pub asked : List ByteStep
+asked = Does (Attached 0 0) ∷ Bytes (1 ∷ 2 ∷ 0 ∷ 0 ∷ []) ∷ []
+
+-- the server can make these steps, whatever is on the other side
+abbrev pub IsOfServer : List ByteStep → Type 0
+IsOfServer steps = IsHistory usual four (config Server (terms 2 true)) (reverse steps)
+
+-- after them it may not make this one
+abbrev pub ServerMayNot : List ByteStep → ByteStep → Type 0
+ServerMayNot steps step = MayDoOverBytes usual four (config Server (terms 2 true)) (reverse steps) step → ⊥
+
+-- after these steps the server has these bytes of the link to deal with, from this place on, and its reader says this of them
+pub record HasUnread (steps : List ByteStep) (l place : ℕ) (bytes : List ℕ) (reading : Reading) : Type 0 where
+  pub from : read_count four (config Server (terms 2 true)) l (reverse steps) ≡ place
+  pub are : unread four (config Server (terms 2 true)) l (reverse steps) ≡ bytes
+  pub says : next_reader four (config Server (terms 2 true)) l (in_frames four (config Server (terms 2 true)) (reverse steps)) bytes ≡ reading

@@ -1,14 +1,15 @@
 -- What crates above cite of these definitions.
-use Rattle.std.specs.Prelude.{◌≡◌, ◌≤◌, ℕ, true, List, [], ◌∷◌, ◌++◌}
+use Rattle.std.specs.Prelude.{◌≡◌, ◌≤◌, ℕ, true, List, [], ◌∷◌, ◌++◌, Contains}
 use Rattle.hm_message.specs.declared.message.Message.{Message}
 use Rattle.hm_message.specs.Message.{is_sequenced}
 use Rattle.hd_facts.specs.Prefixes.{IsPrefix}
 use Rattle.hd_delivery.specs.declared.vocabulary.Got.TheVariants.{Shaken}
+use Rattle.hd_delivery.specs.declared.vocabulary.Side.TheVariants.{Client, Server}
 use Rattle.hd_delivery.specs.Frames.{Numbered, frame_of}
 use Rattle.hd_delivery.specs.Histories.{Config, Step, Fed, Took, present_link, was_on, first_link, link_count, fed_frames, lent_frames, taken_count, codec_of, is_shaken, is_kept, is_closed, state, sent_messages, processed_messages, acked_count, held_messages, most_lent, moment, is_silence}
 use Rattle.hd_delivery.specs.Due.{due}
-use Rattle.hd_delivery.specs.Worlds.{Limits}
-use Rattle.hd_delivery.specs.Bytes.{Wire, IsSoundWire, cut, frames, ByteStep, Does, bare_steps, bytes_on, in_frames}
+use Rattle.hd_delivery.specs.Worlds.{Limits, CanBeSent, Terms, Event, config}
+use Rattle.hd_delivery.specs.Bytes.{Wire, IsSoundWire, cut, frames, ByteStep, Does, bare_steps, bytes_on, in_frames, sizes_of, IsRead, IsFaithful, client_in_frames, server_in_frames, IsWorldOverBytes, DeliveryOverBytes}
 
 -- a message is numbered on a link if it is sequenced, and only then
 abbrev pub SequencedIsNumbered : Type 0
@@ -56,3 +57,15 @@ pub record IsSameButFed (c : Config) (h k : List Step) : Type 0 where
 -- so it is of a history in frames and the same without what was fed
 abbrev pub FedIsUnseen : Type 0
 FedIsUnseen = (wire : Wire) (c : Config) (h : List ByteStep) → IsSameButFed c (in_frames wire c h) (bare_steps h)
+
+-- each message that an end sent is read as itself, in the codec that the end speaks
+abbrev pub AreReadAsSent : Limits → Wire → Config → List Step → Type 0
+AreReadAsSent limits wire c k = (m : Message) → Contains (sent_messages k) m → CanBeSent limits (sizes_of wire) (codec_of c k) m
+    → IsRead (wire.later (codec_of c k)) (wire.spell (codec_of c k) (Numbered m)) (Numbered m)
+
+-- Delivery over bytes asks for no more than that, of each end by itself: in its own codec, which is the one that the client asks for.
+abbrev pub HoldsAsSent : Type 0
+HoldsAsSent = (limits : Limits) (wire : Wire) (t : Terms) (w : List (Event ByteStep))
+    → IsFaithful limits wire t.codec t.version []
+    → AreReadAsSent limits wire (config Client t) (client_in_frames wire t w) → AreReadAsSent limits wire (config Server t) (server_in_frames wire t w)
+    → IsWorldOverBytes limits wire t w → DeliveryOverBytes wire t w

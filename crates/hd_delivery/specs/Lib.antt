@@ -5,7 +5,10 @@ pub mod Due
 pub mod Processes
 pub mod Worlds
 pub mod Bytes
+pub mod Sending
 pub mod Laws
+pub mod OneHistory
+pub mod HistoryLaws
 pub mod Examples
 pub mod OneEnd
 pub mod ExamplesOverBytes

@@ -56,17 +56,42 @@ pub record MaySend (limits : Limits) (sizes : Sizes) (c : Config) (h : List Step
   pub can_be : CanBeSent limits sizes (codec_of c h) m
   pub room : HasRoom limits sizes c h (sizes.framed (codec_of c h) m)
 
--- how a link may be named: the client's names rise; the server takes each link of the client's at most once, in any order
-abbrev pub MayName : Side → ℕ → List Step → List Step → Type 0
-MayName Client l own other = (k : ℕ) → was_on k own ≡ true → k < l
-MayName Server l own other = (was_on l other ≡ true) × (was_on l own ≡ false)
-
--- the end may take a new link: it is the first, or the connection is kept
-pub record MayAttach (c : Config) (h other : List Step) (l now : ℕ) : Type 0 where
+-- the end may begin a link: it never stood on it, and it is the first or the connection is kept
+pub record MayBegin (c : Config) (h : List Step) (l now : ℕ) : Type 0 where
   pub unclosed : is_closed c h ≡ false
   pub granted : (first_link h ≡ None) ⊎ (is_kept c h ≡ true)
-  pub named : MayName c.side l h other
+  pub unused : was_on l h ≡ false
   pub in_time : moment h ≤ now
+
+-- the end may be fed: it stands on a link and isn't closed
+pub record MayHear (c : Config) (h : List Step) : Type 0 where
+  pub link : ℕ
+  pub at : present_link h ≡ Some link
+  pub unclosed : is_closed c h ≡ false
+
+-- the step may come next after the end's own history, as far as that says. An end's moments never fall
+abbrev pub MayDo : Limits → Sizes → Config → List Step → Step → Type 0
+MayDo limits sizes c h (Attached l now) = MayBegin c h l now
+MayDo limits sizes c h (Detached now) = (l : ℕ) × (present_link h ≡ Some l) × (moment h ≤ now)
+MayDo limits sizes c h (Fed piece) = MayHear c h
+MayDo limits sizes c h (Took got) = processes c h ≡ Some (Took got)
+MayDo limits sizes c h (Failed fault) = processes c h ≡ Some (Failed fault)
+MayDo limits sizes c h (Sent m) = MaySend limits sizes c h m
+MayDo limits sizes c h (Lent f) = due c h ≡ Some f
+MayDo limits sizes c h (Ticked now) = (is_silence c now h ≡ false) × (moment h ≤ now)
+MayDo limits sizes c h (Silenced now) = (is_silence c now h ≡ true) × (moment h ≤ now)
+MayDo limits sizes c h (Closed reason allow) = is_closed c h ≡ false
+
+-- how a link may be named: the client's names rise; the server takes the client's links, in any order
+abbrev pub MayName : Side → ℕ → List Step → List Step → Type 0
+MayName Client l own other = (k : ℕ) → was_on k own ≡ true → k < l
+MayName Server l own other = was_on l other ≡ true
+
+-- the end may take a new link
+pub record MayAttach (c : Config) (h other : List Step) (l now : ℕ) : Type 0 where
+  pub own : MayBegin c h l now
+  pub open own use *
+  pub named : MayName c.side l h other
 
 -- what is fed is the next of what the other end lent on the link
 pub record MayFeed (c : Config) (h other : List Step) (piece : List LinkFrame) : Type 0 where
@@ -75,18 +100,11 @@ pub record MayFeed (c : Config) (h other : List Step) (piece : List LinkFrame) :
   pub unclosed : is_closed c h ≡ false
   pub front : IsPrefix (fed_frames link h ++ piece) (lent_frames link other)
 
--- the step may come next, after the end's own history and beside the other's. An end's moments never fall
+-- the step may come next, after the end's own history and beside the other's
 abbrev pub Allowed : Limits → Sizes → Config → List Step → List Step → Step → Type 0
 Allowed limits sizes c h other (Attached l now) = MayAttach c h other l now
-Allowed limits sizes c h other (Detached now) = (l : ℕ) × (present_link h ≡ Some l) × (moment h ≤ now)
 Allowed limits sizes c h other (Fed piece) = MayFeed c h other piece
-Allowed limits sizes c h other (Took got) = processes c h ≡ Some (Took got)
-Allowed limits sizes c h other (Failed fault) = processes c h ≡ Some (Failed fault)
-Allowed limits sizes c h other (Sent m) = MaySend limits sizes c h m
-Allowed limits sizes c h other (Lent f) = due c h ≡ Some f
-Allowed limits sizes c h other (Ticked now) = (is_silence c now h ≡ false) × (moment h ≤ now)
-Allowed limits sizes c h other (Silenced now) = (is_silence c now h ≡ true) × (moment h ≤ now)
-Allowed limits sizes c h other (Closed reason allow) = is_closed c h ≡ false
+Allowed limits sizes c h other s = MayDo limits sizes c h s
 
 -- ---- worlds
 

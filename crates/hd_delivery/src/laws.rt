@@ -1,7 +1,8 @@
 //! What crates above cite of the definitions. No function here does anything: its contract is the law.
 
 ghost use Rattle.std.specs.Prelude.{◌≡◌};
-ghost use Rattle.hd_delivery.specs.Laws.{CutsGrow, FedIsCut, FedIsUnseen, SequencedIsNumbered};
+ghost use Rattle.hd_delivery.specs.HistoryLaws.{FactsHold, FramesCount, HistoriesAreInOrder, LinksGrow, NextIsRead, UnreadBegins, UnreadGrows, UnreadIsBounded, UnreadMoves, UnreadStays, UnusedIsUntouched, WorldsAreHistories};
+ghost use Rattle.hd_delivery.specs.Laws.{HoldsAsSent, CutsGrow, FedIsCut, FedIsUnseen, SequencedIsNumbered};
 ghost use Rattle.hd_delivery.specs.Numbers.{most_framing, most_messages, ping_after, silence_after};
 
 use crate::vocabulary::{MOST_FRAMING, MOST_MESSAGES, PING_AFTER, SILENCE_AFTER};
@@ -27,10 +28,76 @@ pub fn fed_is_unseen()
     ensures { FedIsUnseen }
 {}
 
+/// In a world over bytes each end's steps are a history that it can make by itself.
+pub fn worlds_are_histories()
+    ensures { WorldsAreHistories }
+{}
+
+/// A history that an end can make by itself is in order, as `fed_is_cut` asks.
+pub fn histories_are_in_order()
+    ensures { HistoriesAreInOrder }
+{}
+
+/// What is acknowledged was said, what was said was sent, and what else holds of the numbers of one end.
+pub fn facts_hold()
+    ensures { FactsHold }
+{}
+
+/// On a link on which the end never stood nothing was fed, said or dealt with.
+pub fn unused_is_untouched()
+    ensures { UnusedIsUntouched }
+{}
+
+/// What is said, and what is dealt with, is one more frame of the present link.
+pub fn links_grow()
+    ensures { LinksGrow }
+{}
+
+/// What one more frame makes of the next number, of what is told and of whether a Close was said.
+pub fn frames_count()
+    ensures { FramesCount }
+{}
+
+/// The next frame of the present link is the one that the reader finds in the bytes that aren't dealt with, until the end
+/// is closed.
+pub fn next_is_read()
+    ensures { NextIsRead }
+{}
+
+/// Bytes that are fed come after those that aren't dealt with.
+pub fn unread_grows()
+    ensures { UnreadGrows }
+{}
+
+/// Dealing with a frame, well or not, drops its bytes.
+pub fn unread_moves()
+    ensures { UnreadMoves }
+{}
+
+/// The other steps but an attach leave the bytes of a link as they were.
+pub fn unread_stays()
+    ensures { UnreadStays }
+{}
+
+/// A link begins with no bytes.
+pub fn unread_begins()
+    ensures { UnreadBegins }
+{}
+
+/// The bytes that aren't dealt with are never more than a frame and its framing.
+pub fn unread_is_bounded()
+    ensures { UnreadIsBounded }
+{}
+
 /// The constants are the numbers of the definitions.
 pub fn numbers_are_named()
     ensures messages { MOST_MESSAGES ≡ most_messages }
     ensures ping { PING_AFTER ≡ ping_after }
     ensures silence { SILENCE_AFTER ≡ silence_after }
     ensures framing { MOST_FRAMING ≡ most_framing }
+{}
+
+/// `delivery_over_bytes` where of each end's messages is known that they are read as themselves in that end's codec.
+pub fn delivery_as_sent()
+    ensures { HoldsAsSent }
 {}

@@ -19,8 +19,13 @@ mod worlds;
 ghost use Rattle.hd_delivery.specs.Bytes.{HoldsOverBytes};
 ghost use Rattle.hd_delivery.specs.Worlds.{HoldsInEveryWorld};
 
-pub use laws::{cuts_grow, fed_is_cut, fed_is_unseen, numbers_are_named, sequenced_is_numbered};
-pub use one_end::{closings, first_frames, moments, numbers};
+pub use laws::{
+    cuts_grow, delivery_as_sent, facts_hold, fed_is_cut, fed_is_unseen, frames_count,
+    histories_are_in_order, links_grow, next_is_read, numbers_are_named, sequenced_is_numbered,
+    unread_begins, unread_grows, unread_is_bounded, unread_moves, unread_stays,
+    unused_is_untouched, worlds_are_histories,
+};
+pub use one_end::{alone_over_bytes, closings, first_frames, moments, numbers};
 pub use vocabulary::{
     Got, MOST_FRAMING, MOST_MESSAGES, PING_AFTER, Reason, SILENCE_AFTER, Side, State, Why,
 };

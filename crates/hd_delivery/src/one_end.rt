@@ -10,9 +10,11 @@ ghost use Rattle.hd_delivery.specs.declared.vocabulary.State.TheVariants as stat
 ghost use Rattle.hm_message.specs.declared.message.Message.TheVariants as message;
 ghost use Rattle.hd_delivery.specs.Due.{is_quiet};
 ghost use Rattle.hd_delivery.specs.Frames.{Ack, Close, Numbered, Ping, Refusal, Request, Response, Sequence, Unreadable, frame_of};
-ghost use Rattle.hd_delivery.specs.Histories.{AckBeyond, Attached, Failed, Gap, Shake, Took, Unread, as_told, written_moment};
+ghost use Rattle.hd_delivery.specs.Histories.{AckBeyond, Attached, Failed, Fed, Gap, Lent, Shake, Took, Unread, as_told, written_moment};
 ghost use Rattle.hd_delivery.specs.Processes.{reads_message};
+ghost use Rattle.hd_delivery.specs.Bytes.{Bytes, Does, Reads, Refuses, Stops, Waits};
 ghost use Rattle.hd_delivery.specs.Examples.{a};
+ghost use Rattle.hd_delivery.specs.ExamplesOverBytes.{HasUnread, IsOfServer, ServerMayNot, asked, stopped, unreadable, unreadable_failed, unreadable_later, unreadable_whole};
 ghost use Rattle.hd_delivery.specs.OneEnd.{NextDue, NextStep, SilentAt, StateIs, at_once, beyond, closed_asked, closed_for, closed_opened, closed_told, closed_unasked, closed_unopened, closed_unsaid, closed_waiting, early, early_three, first_fed, from_zero, from_zero_on, gap, gap_beyond, gap_failed, gap_opened, gap_told, heard_nothing, left, left_told, lost_early, no_handshake, not_taken, odd, odd_skipped, opened_client, pinged, plain_ack, plain_message, plain_sequence, quiet_attached, quiet_closed, quiet_opening, quiet_pinged, quiet_until, received_beyond, refused_answered, refused_failed, refused_request, refused_response, refused_unanswered, request_again, silent_early, slow, slow_last, slow_told, taken_now, unknown_version, waits, waits_no_more};
 
 /// Numbers: gaps, counts of messages that were never lent, messages that come too early, and what has no number.
@@ -122,4 +124,22 @@ pub fn moments()
     ensures closed_silent { SilentAt quiet_closed 90000 false }
     ensures new_link_written { written_moment (reverse quiet_attached) ≡ 20000 }
     ensures new_link_quiet { is_quiet (reverse quiet_attached) ≡ false }
+{}
+
+/// An end over bytes, whatever is on the other side: which steps it can make, and which bytes it hasn't dealt with.
+pub fn alone_over_bytes()
+    ensures steps { IsOfServer unreadable_failed }
+    ensures not_due { ServerMayNot unreadable (Does (Lent Ping)) }
+    ensures not_next { ServerMayNot unreadable (Does (Took gives.Ping)) }
+    ensures no_frames { ServerMayNot unreadable (Does (Fed [])) }
+    ensures no_second_link { ServerMayNot asked (Does (Attached 1 0)) }
+    ensures closed { ServerMayNot unreadable_failed (Bytes []) }
+    ensures handshake { HasUnread asked 0 0 (1 ∷ 2 ∷ 0 ∷ 0 ∷ []) (Reads (Request Json 2) 4) }
+    ensures waits { HasUnread unreadable 0 8 (8 ∷ 8 ∷ 8 ∷ []) Waits }
+    ensures refused { HasUnread unreadable_whole 0 8 (8 ∷ 8 ∷ 8 ∷ 8 ∷ [])
+        (Refuses (codes "NotJson") 4) }
+    ensures dealt_with { HasUnread unreadable_failed 0 12 [] Waits }
+    ensures later { HasUnread unreadable_later 1 4 (8 ∷ 8 ∷ 8 ∷ 8 ∷ []) (Refuses (codes "NotJson") 4) }
+    ensures stops { HasUnread stopped 1 0 (9 ∷ 9 ∷ 9 ∷ 9 ∷ 6 ∷ 0 ∷ 0 ∷ 0 ∷ [])
+        (Stops (codes "BadLength")) }
 {}
