@@ -3,10 +3,14 @@ use Rattle.std.specs.Prelude.{◌≡◌, ◌≤◌, ℕ, List}
 use Rattle.hm_message.specs.declared.message.Codec.{Codec}
 use Rattle.hm_message.specs.declared.message.Message.{Message}
 use Rattle.hs_shake.specs.Requests.{IsVersion}
+use Rattle.hs_shake.specs.Responses.{refusal_text, refusal_frame}
+use Rattle.hs_shake.specs.declared.shake.ShakeError.{ShakeError}
 use Rattle.hd_delivery.specs.declared.vocabulary.Side.{Side}
+use Rattle.hd_delivery.specs.Frames.{Refusal}
 use Rattle.hd_delivery.specs.Worlds.{Limits}
 use Rattle.hd_delivery.specs.Bytes.{Wire, Reading, IsFaithful, IsSoundWire}
 use Rattle.he_wire.specs.Readings.{ReadsFirst, ReadsLater}
+use Rattle.he_wire.specs.Spelling.{spelling, with_separator}
 use Rattle.he_wire.specs.Wires.{IsHouseWire, AreSaid}
 
 -- the shortest limit of a frame for which handshakes and control frames have room
@@ -32,3 +36,7 @@ abbrev pub WireIsFaithful : Type 0
 WireIsFaithful = (limits : Limits) (wire : Wire) (codec : Codec) (version : ℕ) (messages : List Message)
     → shortest_limit ≤ limits.frame → IsVersion version → AreSaid codec messages → IsHouseWire limits.frame wire
     → IsFaithful limits wire codec version messages
+
+-- a refusal is spelled as the handshake answers it
+abbrev pub AnswersAreSpelled : Type 0
+AnswersAreSpelled = (codec : Codec) (e : ShakeError) → spelling codec (Refusal (refusal_text e)) ≡ with_separator (refusal_frame e)
