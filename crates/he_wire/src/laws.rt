@@ -21,6 +21,7 @@ pub fn reads_once()
 pub fn has_wire()
     ensures { HasWire }
 {
+    hf_split::begins_once();
     hf_split::one_beginning();
     hm_codec::one_meaning();
     hs_shake::one_request_meaning();
@@ -32,28 +33,31 @@ pub fn has_wire()
 pub fn wire_is_sound()
     ensures { WireIsSound }
 {
-    reads_once();
     hf_split::begins_once();
     hf_split::one_beginning();
+    hm_codec::one_meaning();
+    hs_shake::one_request_meaning();
+    hs_shake::one_response_meaning();
     hf_split::empty_waits();
     hf_split::waiting_has_room();
     hf_split::too_long_stays();
     hf_split::bad_length_stays();
-    hm_message::kinds_have_numbers();
 }
 
 /// What two ends say is read as itself, whatever comes after it, and not before it is whole.
 pub fn wire_is_faithful()
     ensures { WireIsFaithful }
 {
-    reads_once();
     hf_split::begins_once();
     hf_split::one_beginning();
     hf_split::too_long_begins_none();
     hf_split::bad_length_begins_none();
     hf_split::wrapped_begins();
+    hm_codec::one_meaning();
     hm_codec::controls_are_said();
     hm_codec::controls_are_short();
+    hs_shake::one_request_meaning();
+    hs_shake::one_response_meaning();
     hs_shake::requests_are_read();
     hs_shake::response_is_read();
     hs_shake::texts_are_plain();
