@@ -1,5 +1,5 @@
 //! What holds of the wire. Each function does nothing: its contract is the law.
-ghost use Rattle.he_wire.specs.Laws.{AnswersAreSpelled, HasWire, ReadsOnce, WireIsFaithful, WireIsSound};
+ghost use Rattle.he_wire.specs.Laws.{AnswersAreSpelled, BytesAreRead, HasWire, ReadsOnce, WireIsFaithful, WireIsSound};
 
 /// A refused request is answered in the bytes that `hs_shake` gives for it, and the separator.
 pub fn answers_are_spelled()
@@ -15,6 +15,13 @@ pub fn reads_once()
     hm_codec::one_meaning();
     hs_shake::one_request_meaning();
     hs_shake::one_response_meaning();
+}
+
+/// What a wire of this project says of bytes, by what these begin with.
+pub fn bytes_are_read()
+    ensures { BytesAreRead }
+{
+    reads_once();
 }
 
 /// For each limit of a frame there is a wire of this project.

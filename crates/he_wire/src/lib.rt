@@ -11,4 +11,6 @@
 
 mod laws;
 
-pub use laws::{answers_are_spelled, has_wire, reads_once, wire_is_faithful, wire_is_sound};
+pub use laws::{
+    answers_are_spelled, bytes_are_read, has_wire, reads_once, wire_is_faithful, wire_is_sound,
+};
