@@ -1,0 +1,4 @@
+pub mod Readers
+pub mod Meanings
+pub mod Wires
+pub mod Faithful

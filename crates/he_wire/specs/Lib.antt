@@ -1,0 +1,4 @@
+pub mod Spelling
+pub mod Readings
+pub mod Wires
+pub mod Laws
