@@ -1,0 +1,3 @@
+pub mod Remembers
+pub mod Says
+pub mod Lending
