@@ -6,7 +6,7 @@ use Rattle.hs_shake.specs.Requests as request
 use Rattle.hs_shake.specs.Requests.{Asks, IsVersion, request_frame}
 use Rattle.hs_shake.specs.Responses as response
 use Rattle.hs_shake.specs.Responses.{Accepts, IsAnswered, response_frame, refusal_text, refusal_frame}
-use Rattle.hs_shake.specs.declared.TheConstants.{MOST_HANDSHAKE}
+use Rattle.hs_shake.specs.declared.writing.TheConstants.{MOST_HANDSHAKE}
 use Rattle.hs_shake.specs.declared.shake.ShakeError.{ShakeError}
 use Rattle.hs_shake.specs.declared.shake.ShakeError.TheVariants.{Refused}
 
@@ -41,13 +41,13 @@ RequestsAreRead = (codec : Codec) (n : ℕ) → IsVersion n → Asks (request_fr
 abbrev pub RefusalsAreRead : Type 0
 RefusalsAreRead = (e : ShakeError) → IsAnswered e → response.WhyNot (refusal_frame e) (Refused (refusal_text e))
 
--- No record separator stands in what is written. A version has 8 bits.
+-- no record separator stands in what is written
 pub record TextsArePlain : Type 0 where
-  pub request : (codec : Codec) (n : ℕ) → n < 2 ^ 8 → IsPlain (request_frame codec n)
+  pub request : (codec : Codec) (n : ℕ) → IsPlain (request_frame codec n)
   pub response : IsPlain response_frame
   pub refusal : (e : ShakeError) → IsPlain (refusal_frame e)
 
--- what is written has no more than this many bytes, without the separator
+-- What is written has no more than this many bytes, without the separator. A version has 8 bits.
 pub record TextsAreShort : Type 0 where
   pub request : (codec : Codec) (n : ℕ) → n < 2 ^ 8 → length (request_frame codec n) ≤ MOST_HANDSHAKE
   pub response : length response_frame ≤ MOST_HANDSHAKE

@@ -8,7 +8,7 @@ use Rattle.hm_message.specs.declared.message.Codec.TheVariants.{Json, Pack}
 use Rattle.hm_message.specs.declared.message.Field.{Field}
 use Rattle.hm_message.specs.declared.message.Field.TheVariants as field
 use Rattle.hs_shake.specs.Objects.{IsObjectOf, IsNoObject, property}
-use Rattle.hs_shake.specs.declared.TheConstants.{HIGHEST_VERSION}
+use Rattle.hs_shake.specs.declared.shake.TheConstants.{HIGHEST_VERSION}
 use Rattle.hs_shake.specs.declared.shake.ShakeError.{ShakeError}
 use Rattle.hs_shake.specs.declared.shake.ShakeError.TheVariants.{NotJson, Missing, Wrong, Unspoken, Version, Refused, NoMemory}
 

@@ -102,7 +102,6 @@ fn asked(object: &Entries) -> Result<Shake, ShakeError>
     ensures version { IfOk result (λ shake. version_of (pairs object.now) ≡ Ok (pos shake.version)) }
     ensures spoken { IfOk result (λ shake. IsVersion shake.version) }
     ensures refused { IfErr result (λ e. Refuses (pairs object.now) e) }
-    ensures answered { IfErr result (λ e. IsAnswered e) }
 {
     let name = protocol(object)?;
     let number = version(object)?;
@@ -132,6 +131,8 @@ pub fn read_request(alloc: Global, frame: &[u8]) -> Result<Shake, ShakeError>
 /// What the response of this object says.
 fn told(object: &Entries) -> Result<(), ShakeError>
     ensures ok { OnOk result (HasNoError (pairs object.now)) }
+    ensures err { IfErr result
+        (λ e. MemoryOr e ((frame : List ℕ) → IsObjectOf frame (pairs object.now) → WhyRefused frame e)) }
 {
     match property(object, Field::Error) {
         None => Ok(()),

@@ -41,7 +41,7 @@ pub fn write_request(shake: &Shake, out: &mut Vec<u8>) -> Result<(), AllocError>
 /// [`read_request`](crate::read_request) answers, and not `NoMemory`. It takes no memory.
 pub fn response(fault: Option<&ShakeError>) -> &'static [u8]
     requires { IfSome fault (λ e. IsAnswered e.now) }
-    ensures { result.now ≡ (wrapped Record (answer_frame (option_map (λ e. e.now) fault))).spelling }
+    ensures { result.now ≡ (wrapped Record (answer_frame (option_map (λ e. e.now) fault.entry))).spelling }
 {
     match fault {
         None => b"{}\x1e",
@@ -59,7 +59,7 @@ pub fn response(fault: Option<&ShakeError>) -> &'static [u8]
 pub fn write_response(fault: Option<&ShakeError>, out: &mut Vec<u8>) -> Result<(), AllocError>
     requires { IfSome fault (λ e. IsAnswered e.now) }
     ensures ok { OnOk result (out.new.items
-        ≡ out.old.items ++ (wrapped Record (answer_frame (option_map (λ e. e.now) fault))).spelling) }
+        ≡ out.old.items ++ (wrapped Record (answer_frame (option_map (λ e. e.now) fault.entry))).spelling) }
     ensures err { OnErr result (out.new.items ≡ out.old.items) }
 {
     out.extend_from_slice(response(fault))

@@ -1,0 +1,3 @@
+pub mod Lookups
+pub mod Meanings
+pub mod Texts
