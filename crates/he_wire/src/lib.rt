@@ -1,13 +1,15 @@
-// A library with one function.
+//! What the bytes of a link say, and how what an end says stands in bytes: handshakes, hub messages in either codec, and
+//! the control frames that an end writes of itself (HubProtocol.md of ASP.NET Core).
 #![tactic(auto)]
 
-ghost use Rattle.std.specs.Prelude.{◌≡◌};
-ghost use Rattle.he_wire.specs.Echo.{echo_of};
+mod json_control;
+mod pack_control;
+mod reading;
+mod request;
+mod room;
+mod size;
+mod slate;
 
-// The `ensures` clause is the contract: what `echo` returns is `echo_of` of its argument, a definition
-// in `specs/Echo.antt`, which a caller's clause can cite too.
-pub fn echo(x: usize) -> usize
-    ensures { result ≡ echo_of x }
-{
-    x
-}
+pub use reading::{Greeting, GreetingFault, LinkFault, read_first, read_later};
+pub use size::unframed_size;
+pub use slate::{Control, MOST_CONTROL, Slate};

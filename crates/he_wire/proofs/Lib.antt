@@ -1,0 +1,4 @@
+pub mod JsonControls
+pub mod PackControls
+pub mod Sizes
+pub mod Tellings
