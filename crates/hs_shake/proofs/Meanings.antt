@@ -1,6 +1,5 @@
 -- As a request and as a response each frame has one meaning.
 use Rattle.std.proofs.Common.{◌≡◌, ◌≢◌, ◌<◌, ◌≤◌, ◌⊎◌, inl, inr, ℕ, ℤ, pos, negsuc, List, [], ◌∷◌, Option, Some, None, Result, Ok, Err, refl, sym, ap, subst, ◌∙◌, arith}
-use Rattle.std.specs.Prelude.{IfErr}
 use Rattle.std.specs.Option.{ok_or}
 use Rattle.std.proofs.lemmas.Bool.{cases_eq, cases_lt}
 use Rattle.hv_value.specs.Tree.{Tree, null, boolean, int, text, bytes, list, map, Pairs}
@@ -12,14 +11,11 @@ use Rattle.hm_message.specs.declared.message.Codec.TheVariants.{Json, Pack}
 use Rattle.hm_message.specs.declared.message.Field.{Field}
 use Rattle.hm_message.specs.declared.message.Field.TheVariants as field
 use Rattle.hs_shake.specs.Objects.{IsObjectOf, IsNoObject, property}
-use Rattle.hs_shake.specs.Refusals.{MemoryOr}
 use Rattle.hs_shake.specs.Requests as request
-use Rattle.hs_shake.specs.Requests.{IsVersion, protocol_name, says, protocol, version, Asks, IsUnspoken, IsUnknown, Refuses}
+use Rattle.hs_shake.specs.Requests.{IsVersion, highest_version, protocol_name, says, protocol, version, Asks, IsUnspoken, IsUnknown, Refuses}
 use Rattle.hs_shake.specs.Responses as response
 use Rattle.hs_shake.specs.Responses.{Accepts, HasNoError, HasWrongError, IsAnswered}
 use Rattle.hs_shake.specs.Laws.{IsOneRequest, IsOneResponse}
-use Rattle.hs_shake.specs.declared.shake.TheConstants.{HIGHEST_VERSION}
-use Rattle.hs_shake.specs.declared.shake.Shake.{Shake}
 use Rattle.hs_shake.specs.declared.shake.ShakeError.{ShakeError}
 use Rattle.hs_shake.specs.declared.shake.ShakeError.TheVariants.{NotJson, Missing, Wrong, Unspoken, Version, Refused, NoMemory}
 
@@ -56,9 +52,9 @@ Numbered z = ((n : ℕ) × (IsVersion n × (z ≡ pos n))) ⊎ IsUnknown z
 
 known_or_not : (z : ℤ) → Numbered z
 known_or_not (negsuc k) = inr (λ n v e. absurd cc)
-known_or_not (pos k) = by (cases_lt HIGHEST_VERSION k) (cases_lt k 1)
+known_or_not (pos k) = by (cases_lt highest_version k) (cases_lt k 1)
   where
-    by : (HIGHEST_VERSION < k) ⊎ (k ≤ HIGHEST_VERSION) → (k < 1) ⊎ (1 ≤ k) → Numbered (pos k)
+    by : (highest_version < k) ⊎ (k ≤ highest_version) → (k < 1) ⊎ (1 ≤ k) → Numbered (pos k)
     by (inl above) f = inr (λ n v e. (let same : k ≡ n = cc in omega (arith, same, above, v.1)))
     by (inr within) (inl below) = inr (λ n v e. (let same : k ≡ n = cc in omega (arith, same, below, v.0)))
     by (inr within) (inr least) = inl (k, ((least, within), refl))

@@ -1,14 +1,13 @@
 -- What is written: that it is read again, plain and short.
-use Rattle.std.proofs.Common.{◌≡◌, ◌≢◌, ◌<◌, ◌≤◌, ◌+◌, ◌/◌, ◌%◌, ◌^◌, ℕ, zero, suc, pos, Bool, true, false, cond, nat_eq, List, [], ◌∷◌, ◌++◌, length, codes, Ok, Some, None, refl, sym, ◌∙◌, ap, subst, arith, inl, length-append}
+use Rattle.std.proofs.Common.{◌≡◌, ◌≢◌, ◌≤◌, ◌+◌, ◌/◌, ◌%◌, ℕ, zero, suc, pos, Bool, true, false, cond, nat_eq, List, [], ◌∷◌, ◌++◌, length, codes, refl, subst, arith, inl, length-append}
 use Rattle.std.specs.Prelude.{nat_lt, ◌==◌, decimal}
 use Rattle.std.specs.List.{AllByRecursion}
 use Rattle.std.specs.Fmt.{digits, digits_onto, digit_glyph}
 use Rattle.std.specs.Str.{is_utf8, chars}
-use Rattle.std.proofs.lemmas.Bool.{cond_both, ltb-false, ltb-true}
+use Rattle.std.proofs.lemmas.Bool.{cond_both}
 use Rattle.std.proofs.lemmas.Fmt.{length-decimal-le}
 use Rattle.std.proofs.lemmas.List.Elements.{All-from_recursion}
 use Rattle.serde_json.proofs.OnLiterals.{serde_json_on_literals}
-use Rattle.hf_split.specs.Cuts.{IsPlain}
 use Rattle.hv_value.specs.Tree.{Pairs, no_pairs, pair, text, int}
 use Rattle.hv_json.specs.Reading.{reading}
 use Rattle.hm_message.specs.declared.message.Codec.{Codec}
@@ -16,8 +15,7 @@ use Rattle.hm_message.specs.declared.message.Codec.TheVariants.{Json, Pack}
 use Rattle.hs_shake.specs.Objects.{IsObjectOf}
 use Rattle.hs_shake.specs.Requests.{IsVersion, protocol_name, Asks, request_frame}
 use Rattle.hs_shake.specs.Responses.{Accepts, WhyNot, IsAnswered, response_frame, refusal_text, refusal_frame}
-use Rattle.hs_shake.specs.Laws.{TextsArePlain, TextsAreShort}
-use Rattle.hs_shake.specs.declared.writing.TheConstants.{MOST_HANDSHAKE}
+use Rattle.hs_shake.specs.Laws.{TextsArePlain, TextsAreShort, most_handshake}
 use Rattle.hs_shake.specs.declared.shake.ShakeError.{ShakeError}
 use Rattle.hs_shake.specs.declared.shake.ShakeError.TheVariants.{NotJson, Missing, Wrong, Unspoken, Version, Refused, NoMemory}
 
@@ -130,7 +128,7 @@ plain = record {
   refusal = λ e. All-from_recursion (λ b. b ≢ 30) (refusal_frame e) (plain_refusal e);
 }
 
-short_request : (codec : Codec) (n : ℕ) → length (decimal n) ≤ 3 → length (request_frame codec n) ≤ MOST_HANDSHAKE
+short_request : (codec : Codec) (n : ℕ) → length (decimal n) ≤ 3 → length (request_frame codec n) ≤ most_handshake
 short_request Json n h =
     let size = length-append (decimal n) (codes "}") in
     omega (arith, h, size)
@@ -138,7 +136,7 @@ short_request Pack n h =
     let size = length-append (decimal n) (codes "}") in
     omega (arith, h, size)
 
-short_refusal : (e : ShakeError) → length (refusal_frame e) ≤ MOST_HANDSHAKE
+short_refusal : (e : ShakeError) → length (refusal_frame e) ≤ most_handshake
 short_refusal NotJson = omega arith
 short_refusal (Missing f) = omega arith
 short_refusal (Wrong f) = omega arith

@@ -6,7 +6,6 @@ use Rattle.hs_shake.specs.Requests as request
 use Rattle.hs_shake.specs.Requests.{Asks, IsVersion, request_frame}
 use Rattle.hs_shake.specs.Responses as response
 use Rattle.hs_shake.specs.Responses.{Accepts, IsAnswered, response_frame, refusal_text, refusal_frame}
-use Rattle.hs_shake.specs.declared.writing.TheConstants.{MOST_HANDSHAKE}
 use Rattle.hs_shake.specs.declared.shake.ShakeError.{ShakeError}
 use Rattle.hs_shake.specs.declared.shake.ShakeError.TheVariants.{Refused}
 
@@ -47,8 +46,12 @@ pub record TextsArePlain : Type 0 where
   pub response : IsPlain response_frame
   pub refusal : (e : ShakeError) → IsPlain (refusal_frame e)
 
--- What is written has no more than this many bytes, without the separator. A version has 8 bits.
+-- the most bytes of what is written, without the separator
+abbrev pub most_handshake : ℕ
+most_handshake = 64
+
+-- What is written has no more bytes than these. A version has 8 bits.
 pub record TextsAreShort : Type 0 where
-  pub request : (codec : Codec) (n : ℕ) → n < 2 ^ 8 → length (request_frame codec n) ≤ MOST_HANDSHAKE
-  pub response : length response_frame ≤ MOST_HANDSHAKE
-  pub refusal : (e : ShakeError) → length (refusal_frame e) ≤ MOST_HANDSHAKE
+  pub request : (codec : Codec) (n : ℕ) → n < 2 ^ 8 → length (request_frame codec n) ≤ most_handshake
+  pub response : length response_frame ≤ most_handshake
+  pub refusal : (e : ShakeError) → length (refusal_frame e) ≤ most_handshake

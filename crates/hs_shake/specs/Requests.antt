@@ -1,4 +1,4 @@
--- What a handshake request asks for, why it is refused, and the request that is written (HubProtocol.md, "HandshakeRequest").
+-- What a handshake request asks for, why it is refused, and the request that is written (HubProtocol.md, "Overview").
 use Rattle.std.specs.Prelude.{◌≡◌, ◌≢◌, ◌≤◌, ◌⊎◌, ℕ, ℤ, pos, List, ◌++◌, codes, decimal, Option, None, Some, Result, Ok, Err}
 use Rattle.std.specs.Option.{ok_or}
 use Rattle.hv_value.specs.Tree.{Tree, Pairs}
@@ -8,13 +8,16 @@ use Rattle.hm_message.specs.declared.message.Codec.TheVariants.{Json, Pack}
 use Rattle.hm_message.specs.declared.message.Field.{Field}
 use Rattle.hm_message.specs.declared.message.Field.TheVariants as field
 use Rattle.hs_shake.specs.Objects.{IsObjectOf, IsNoObject, property}
-use Rattle.hs_shake.specs.declared.shake.TheConstants.{HIGHEST_VERSION}
 use Rattle.hs_shake.specs.declared.shake.ShakeError.{ShakeError}
 use Rattle.hs_shake.specs.declared.shake.ShakeError.TheVariants.{NotJson, Missing, Wrong, Unspoken, Version, Refused, NoMemory}
 
+-- versions 1 to this are spoken
+abbrev pub highest_version : ℕ
+highest_version = 3
+
 -- a version that is spoken: 1, 2 or 3
 abbrev pub IsVersion : ℕ → Type 0
-IsVersion version = (1 ≤ version) × (version ≤ HIGHEST_VERSION)
+IsVersion version = (1 ≤ version) × (version ≤ highest_version)
 
 -- the name of a codec's protocol
 abbrev pub protocol_name : Codec → List ℕ

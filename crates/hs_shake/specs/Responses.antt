@@ -1,4 +1,4 @@
--- What a handshake response says, and the responses that are written (HubProtocol.md, "HandshakeResponse").
+-- What a handshake response says, and the responses that are written (HubProtocol.md, "Overview").
 use Rattle.std.specs.Prelude.{◌≡◌, ◌≢◌, ◌⊎◌, ℕ, List, [], ◌++◌, codes, Option, None, Some}
 use Rattle.hv_value.specs.Tree.{Tree, null, text, Pairs}
 use Rattle.hm_message.specs.declared.message.Field.TheVariants as field

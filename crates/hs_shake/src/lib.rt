@@ -13,7 +13,7 @@
 //! read_response(alloc, frame)?;                          // the client
 //! ```
 //!
-//! [`response`] lends what `write_response` appends.
+//! [`response`] lends what [`write_response`] appends. `NoMemory` is not answered.
 //!
 //! Proved: what is read is what the frame asks for or says, and each refusal is the first that holds
 //! ([`one_request_meaning`], [`one_response_meaning`]); what is written is read as what it was written for
@@ -26,8 +26,8 @@ mod shake;
 mod writing;
 
 pub use laws::{
-    one_request_meaning, one_response_meaning, refusals_are_read, requests_are_read,
-    response_is_read, texts_are_plain, texts_are_short,
+    numbers_are_named, one_request_meaning, one_response_meaning, refusals_are_read,
+    requests_are_read, response_is_read, texts_are_plain, texts_are_short,
 };
 pub use reading::{read_request, read_response};
 pub use shake::{HIGHEST_VERSION, Shake, ShakeError};

@@ -98,8 +98,10 @@ fn version_numbered(n: i128) -> Option<u8>
 
 /// What a request of this object asks for.
 fn asked(object: &Entries) -> Result<Shake, ShakeError>
-    ensures protocol { IfOk result (λ shake. protocol_of (pairs object.now) ≡ Ok (protocol_name shake.codec)) }
-    ensures version { IfOk result (λ shake. version_of (pairs object.now) ≡ Ok (pos shake.version)) }
+    ensures protocol { IfOk result
+        (λ shake. protocol_of (pairs object.now) ≡ Ok (protocol_name shake.codec)) }
+    ensures version { IfOk result
+        (λ shake. version_of (pairs object.now) ≡ Ok (pos shake.version)) }
     ensures spoken { IfOk result (λ shake. IsVersion shake.version) }
     ensures refused { IfErr result (λ e. Refuses (pairs object.now) e) }
 {
@@ -114,11 +116,11 @@ fn asked(object: &Entries) -> Result<Shake, ShakeError>
     Ok(Shake { codec, version })
 }
 
-/// What the request asks for (HubProtocol.md, "HandshakeRequest"). The frame is one JSON object in any spelling; properties
-/// other than `protocol` and `version` are ignored.
+/// What the request asks for (HubProtocol.md, "Overview"). The frame is one JSON object in any spelling. Properties other than
+/// `protocol` and `version` are ignored, and a null is no text and no number.
 ///
-/// A refusal is the first of these that holds: `NotJson`; `Missing` or `Wrong` of the protocol, then of the version, where a null
-/// is `Wrong`; `Unspoken`; `Version`. `NoMemory` may come at any point.
+/// The refusal is the first that holds: `NotJson`, `Missing` or `Wrong` of the protocol, `Missing` or `Wrong` of the version,
+/// `Unspoken`, `Version`. `NoMemory` may come at any point. The same frame is refused for the same reason each time.
 pub fn read_request(alloc: Global, frame: &[u8]) -> Result<Shake, ShakeError>
     ensures asks { IfOk result (λ shake. Asks frame.now shake.codec shake.version) }
     ensures refused { IfErr result (λ e. MemoryOr e (WhyNot frame.now e)) }
@@ -142,10 +144,11 @@ fn told(object: &Entries) -> Result<(), ShakeError>
     }
 }
 
-/// Whether the response takes the request (HubProtocol.md, "HandshakeResponse"). The frame is one JSON object in any
-/// spelling; an `error` of null counts as absent, and other properties are ignored.
+/// Whether the response takes the request (HubProtocol.md, "Overview"). The frame is one JSON object in any spelling. An
+/// `error` of null counts as absent, and other properties are ignored.
 ///
-/// `NotJson` and `Wrong` say that it is no response, `Refused` that it refuses the request. `NoMemory` may come at any point.
+/// `NotJson` and `Wrong` say that the frame is no response, `Refused` that the request is refused, and why. `NoMemory` may come
+/// at any point.
 pub fn read_response(alloc: Global, frame: &[u8]) -> Result<(), ShakeError>
     ensures taken { OnOk result (Accepts frame.now) }
     ensures refused { IfErr result (λ e. MemoryOr e (WhyRefused frame.now e)) }

@@ -10,8 +10,8 @@ use std::alloc::AllocError;
 use std::error::Error;
 use std::fmt;
 
-/// The highest version that is spoken; the lowest is 1. Versions 1 and 2 are those of HubProtocol.md, of which 2 has stateful
-/// reconnect. Version 3 is this project's own.
+/// Versions from 1 to this are spoken. Versions 1 and 2 are those of HubProtocol.md, and 2 adds stateful reconnect. Version 3 is
+/// this project's own.
 pub const HIGHEST_VERSION: u8 = 3;
 
 /// What a request asks for.
@@ -24,7 +24,7 @@ pub struct Shake {
 /// Why a handshake fails: the first of the reasons that holds, or `NoMemory`. `Display` is the words of a report.
 #[derive(Drop, PartialEq, Eq)]
 pub enum ShakeError {
-    /// It is no JSON text (RFC 8259), or of no object, or not one that `hv_json` reads.
+    /// It isn't the JSON text (RFC 8259) of an object, or `hv_json` refuses it.
     NotJson,
     /// A property that must be there is absent: the protocol or the version of a request.
     Missing(Field),
@@ -86,7 +86,7 @@ impl fmt::Display for ShakeError {
     }
 }
 
-/// The words of a report, since a text has no other form for a programmer.
+/// The words of a report too: `Text` has no `Debug`.
 impl fmt::Debug for ShakeError {
     fn fmt<W: fmt::Write>(&self, f: &mut fmt::Formatter<W>) -> fmt::Result {
         write!(f, "{self}")

@@ -37,8 +37,8 @@ pub fn write_request(shake: &Shake, out: &mut Vec<u8>) -> Result<(), AllocError>
     wrap(Framing::Record, text.as_bytes(), out)
 }
 
-/// The response to a request, with its separator: that the request is taken, or the text for the fault, which is one that
-/// [`read_request`](crate::read_request) answers, and not `NoMemory`. It takes no memory.
+/// The response to a request, with its separator: without a fault that the request is taken, else the text for the fault.
+/// A fault is one of [`read_request`](crate::read_request), other than `NoMemory`. It takes no memory.
 pub fn response(fault: Option<&ShakeError>) -> &'static [u8]
     requires { IfSome fault (λ e. IsAnswered e.now) }
     ensures { result.now ≡ (wrapped Record (answer_frame (option_map (λ e. e.now) fault.entry))).spelling }

@@ -1,4 +1,4 @@
-use Rattle.std.proofs.Common.{◌≡◌, rules, subst, sym, ◌∙◌, arith}
+use Rattle.std.proofs.Common.{◌≡◌, rules, subst, sym}
 use Rattle.hf_split.specs.Cuts.{IsPlain}
 use Rattle.hs_shake.specs.Requests.{request_frame}
 use Rattle.hs_shake.proofs.writing.write_request.Goals as goal
