@@ -2,3 +2,6 @@ pub mod Spelling
 pub mod Readings
 pub mod Wires
 pub mod Laws
+pub mod Faults
+pub mod Gives
+pub mod Controls

@@ -1,0 +1,7 @@
+use Rattle.std.proofs.Common.{ℕ, List, ◌++◌, ◌∙◌, ap, sym}
+use Rattle.he_wire.proofs.PackControls.{two, sequence_is}
+use Rattle.he_wire.proofs.pack_control.put_sequence.Goals as goal
+
+pub returns-clause-items : goal.returns-clause-items
+returns-clause-items c =
+    two _ _ _ _ _ c.put.ensures.items c.put_number.ensures.items ∙ ap (λ (xs : List ℕ). c.args.out.now.items ++ xs) (sym (sequence_is c.args.first))

@@ -1,0 +1,14 @@
+use Rattle.std.proofs.lemmas.Result.{err_from_is_err_and}
+use Rattle.he_wire.proofs.Tellings.{first_read, first_refused}
+use Rattle.he_wire.proofs.reading.read_first.Goals as goal
+
+pub returns-in_err-read_greeting : goal.returns-in_err-read_greeting
+returns-in_err-read_greeting c =
+    let lent = (rw c.in-Some.is at c.in_ok-frame.ensures.lent).1 in
+    let p = err_from_is_err_and c.from_residual-in_err-read_greeting.result c.from_residual-in_err-read_greeting.ensures.1 in
+    rw (p.1, p.2) (record { reads = first_refused c.args.side c.args.splitter.now lent.0 c.in-Some.frame.now _ lent.1 c.in_err-read_greeting.ensures.refused })
+
+pub returns : goal.returns
+returns c =
+    let lent = (rw c.in-Some.is at c.in_ok-frame.ensures.lent).1 in
+    record { reads = first_read c.args.side c.args.splitter.now lent.0 c.in-Some.frame.now c.in_ok-read_greeting.field-0 lent.1 c.in_ok-read_greeting.ensures.ok }

@@ -1,0 +1,10 @@
+-- A refused handshake as a fault of the link: want of memory is no reason.
+use Rattle.hs_shake.specs.declared.shake.ShakeError.{ShakeError}
+use Rattle.hs_shake.specs.declared.shake.ShakeError.TheVariants as shake
+use Rattle.he_wire.specs.declared.reading.GreetingFault.{GreetingFault}
+use Rattle.he_wire.specs.declared.reading.GreetingFault.TheVariants.{Shake, NoMemory}
+
+-- the fault of a refusal
+abbrev pub of_shake : ShakeError → GreetingFault
+of_shake shake.NoMemory = NoMemory
+of_shake e = Shake e

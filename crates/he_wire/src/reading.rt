@@ -1,0 +1,126 @@
+//! What a splitter's bytes begin with, on a link: the handshake on its first place, and hub messages after it.
+ghost use Rattle.std.specs.Prelude.{◌≡◌, IfOk, IfErr, IfSome};
+ghost use Rattle.hf_split.specs.declared.framing.Framing.TheVariants.{Record};
+ghost use Rattle.hm_message.specs.Message.{Fits};
+ghost use Rattle.hm_message.specs.Reads.{MessageIs};
+ghost use Rattle.hm_codec.specs.Frames.{framing_of};
+ghost use Rattle.hs_shake.specs.Refusals.{MemoryOr};
+ghost use Rattle.he_wire.specs.Gives.{GivesLater, GivesFirst, IsGreeting, IsNoGreeting};
+
+use hd_delivery::Side;
+use hf_split::{SplitFault, Splitter};
+use hm_codec::{FrameError, FrameWhy, read_message};
+use hm_message::{Codec, Read};
+use hs_shake::{Shake, ShakeError, read_request, read_response};
+use std::alloc::Global;
+
+/// Why no hub message was read. `why` has the words of a report.
+#[derive(Clone, Copy, Debug, PartialEq, Eq)]
+pub enum LinkFault {
+    /// At this place of the link no frame can begin, or one begins that is refused. It is refused for this reason each time.
+    Refused { at: u64, why: FrameWhy },
+    /// Out of memory. What the bytes say is not known.
+    NoMemory,
+}
+
+/// The first frame of a first link.
+#[derive(Clone, Copy, Debug, PartialEq, Eq)]
+pub enum Greeting {
+    /// What a server reads: a client asks for this codec and version.
+    Request(Shake),
+    /// What a client reads: the server took the request.
+    Response,
+}
+
+/// Why no handshake was read.
+#[derive(Drop, PartialEq, Eq)]
+pub enum GreetingFault {
+    /// No frame can begin there.
+    Split(SplitFault),
+    /// The first frame is refused as a handshake, for this reason each time. It is never `ShakeError::NoMemory`.
+    Shake(ShakeError),
+    /// Out of memory. What the bytes say is not known.
+    NoMemory,
+}
+
+impl From<SplitFault> for GreetingFault {
+    ghost use Rattle.std.specs.Prelude.{◌≡◌};
+    ghost use Rattle.he_wire.specs.declared.reading.GreetingFault.TheVariants.{Split};
+
+    ghost from_gives = { λ e fault. fault ≡ Split e };
+
+    fn from(e: SplitFault) -> GreetingFault {
+        GreetingFault::Split(e)
+    }
+}
+
+impl From<ShakeError> for GreetingFault {
+    ghost use Rattle.std.specs.Prelude.{◌≡◌};
+    ghost use Rattle.he_wire.specs.Faults.{of_shake};
+
+    ghost from_gives = { λ e fault. fault ≡ of_shake e };
+
+    fn from(e: ShakeError) -> GreetingFault {
+        match e {
+            ShakeError::NoMemory => GreetingFault::NoMemory,
+            e => GreetingFault::Shake(e),
+        }
+    }
+}
+
+/// The next hub message on a link, which is left there for `pass`. `None` waits for more bytes.
+///
+/// The splitter cuts in the codec's framing. A place is a number of bytes of the link, as [`Splitter::place`] gives it.
+pub fn read_later(
+    alloc: Global,
+    codec: Codec,
+    splitter: &Splitter,
+) -> Result<Option<Read>, LinkFault>
+    ensures reads { splitter.now.framing ≡ framing_of codec → GivesLater codec splitter.now result }
+    ensures fits { IfOk result (λ next. IfSome next (λ read. MessageIs read Fits)) }
+{
+    let at = splitter.place();
+    match splitter.frame() {
+        Ok(None) => Ok(None),
+        Ok(Some((_, frame))) => match read_message(alloc, codec, frame) {
+            Ok(read) => Ok(Some(read)),
+            Err(FrameError::Refused(why)) => Err(LinkFault::Refused { at, why }),
+            Err(FrameError::NoMemory) => Err(LinkFault::NoMemory),
+        },
+        Err(fault) => Err(LinkFault::Refused {
+            at,
+            why: FrameWhy::Split(fault),
+        }),
+    }
+}
+
+/// What this side makes of the first frame.
+fn read_greeting(alloc: Global, side: Side, frame: &[u8]) -> Result<Greeting, ShakeError>
+    ensures ok { IfOk result (λ greeting. IsGreeting side greeting frame.now) }
+    ensures refused { IfErr result (λ e. MemoryOr e (IsNoGreeting side e frame.now)) }
+{
+    match side {
+        Side::Client => {
+            read_response(alloc, frame)?;
+            Ok(Greeting::Response)
+        }
+        Side::Server => Ok(Greeting::Request(read_request(alloc, frame)?)),
+    }
+}
+
+/// The handshake that begins a first link, which is left there for `pass`: at a server the request, at a client the response.
+/// `None` waits for more bytes.
+///
+/// The splitter cuts in `Framing::Record`.
+pub fn read_first(
+    alloc: Global,
+    side: Side,
+    splitter: &Splitter,
+) -> Result<Option<Greeting>, GreetingFault>
+    ensures reads { splitter.now.framing ≡ Record → GivesFirst side splitter.now result }
+{
+    let Some((_, frame)) = splitter.frame()? else {
+        return Ok(None);
+    };
+    Ok(Some(read_greeting(alloc, side, frame)?))
+}

@@ -1,0 +1,33 @@
+//! The request of a handshake, with its separator (HubProtocol.md, "HandshakeRequest").
+ghost use Rattle.std.specs.Prelude.{◌≡◌, ◌≤◌, [], vec_capacity};
+ghost use Rattle.hs_shake.specs.Requests.{protocol_name, request_frame};
+ghost use Rattle.he_wire.specs.Spelling.{with_separator};
+
+use crate::room::{put, put_digits};
+use crate::slate::MOST_CONTROL;
+use hm_message::Codec;
+use hs_shake::Shake;
+
+/// The name of a codec's protocol.
+fn protocol_name(codec: Codec) -> &'static [u8]
+    ensures { result.now ≡ protocol_name codec }
+{
+    match codec {
+        Codec::Json => b"json",
+        Codec::Pack => b"messagepack",
+    }
+}
+
+/// Writes the request behind nothing.
+pub(crate) fn put_request(shake: Shake, out: &mut Vec<u8>)
+    requires empty { out.old.items ≡ [] }
+    requires room { MOST_CONTROL ≤ vec_capacity out.old }
+    ensures items { out.new.items ≡ with_separator (request_frame shake.codec shake.version) }
+    ensures capacity { vec_capacity out.old ≤ vec_capacity out.new }
+{
+    put(b"{\"protocol\":\"", out);
+    put(protocol_name(shake.codec), out);
+    put(b"\",\"version\":", out);
+    put_digits(shake.version as u64, out);
+    put(b"}\x1e", out);
+}

@@ -1,0 +1,94 @@
+//! What an end says of itself, in bytes that are written in memory taken at the start.
+ghost use Rattle.std.specs.Prelude.{◌≡◌, ◌≤◌, [], IfOk, vec_capacity};
+ghost use Rattle.hd_delivery.specs.Frames.{Request};
+ghost use Rattle.he_wire.specs.Controls.{frame_of_control};
+ghost use Rattle.he_wire.specs.Spelling.{spelling};
+
+use crate::json_control::put_json;
+use crate::pack_control::put_pack;
+use crate::request::put_request;
+use hd_delivery::Reason;
+use hm_message::Codec;
+use hs_shake::Shake;
+use std::alloc::{AllocError, Global};
+use std::marker::Model;
+
+/// No control frame has more bytes with its framing: this many has a Sequence in JSON with two numbers of 20 digits.
+pub const MOST_CONTROL: usize = 77;
+
+/// What an end says of itself.
+#[derive(Clone, Copy, Debug, PartialEq, Eq)]
+pub enum Control {
+    /// Every message up to this number has been processed.
+    Ack {
+        upto: u64,
+    },
+    Sequence {
+        /// The number of the next message that is said.
+        first: u64,
+        /// How many messages have been processed, where that is told.
+        received: Option<u64>,
+    },
+    Ping,
+    Close {
+        reason: Reason,
+        /// Whether the other end may connect again.
+        allow: bool,
+    },
+}
+
+/// The frame that was written last. Only [`Slate::start`] takes memory.
+#[derive(Drop)]
+pub struct Slate {
+    bytes: Vec<u8>,
+}
+
+impl Model for Slate {
+    ghost use Rattle.std.specs.Prelude.{ℕ, List, ◌≤◌, vec_capacity};
+    ghost use Rattle.he_wire.specs.declared.slate.TheConstants.{MOST_CONTROL};
+
+    ghost Value = { List ℕ };
+
+    ghost view = { λ s. s.bytes.items };
+
+    ghost invariant = { λ s. MOST_CONTROL ≤ vec_capacity s.bytes };
+}
+
+impl Slate {
+    /// A slate with nothing on it, and with room for each control frame. It fails if it is out of memory.
+    pub fn start(alloc: Global) -> Result<Slate, AllocError>
+        ensures { IfOk result (λ slate. slate ≡ []) }
+    {
+        Ok(Slate {
+            bytes: Vec::with_capacity(alloc, MOST_CONTROL)?,
+        })
+    }
+
+    /// Writes the frame in this codec with its framing, in place of what stood there (HubProtocol.md, "Ack", "Sequence",
+    /// "Ping" and "Close").
+    pub fn write(&mut self, codec: Codec, control: Control)
+        ensures { self.new ≡ spelling codec (frame_of_control control) }
+    {
+        self.bytes.clear();
+        match codec {
+            Codec::Json => put_json(control, &mut self.bytes),
+            Codec::Pack => put_pack(control, &mut self.bytes),
+        }
+    }
+
+    /// Writes the request for this codec and version with its separator, in place of what stood there (HubProtocol.md,
+    /// "HandshakeRequest").
+    pub fn write_request(&mut self, shake: Shake)
+        ensures { self.new ≡ spelling shake.codec (Request shake.codec shake.version) }
+    {
+        self.bytes.clear();
+        put_request(shake, &mut self.bytes);
+    }
+
+    /// What was written last, or nothing.
+    pub fn bytes(&self) -> &[u8]
+        ensures { result.now ≡ self.now }
+    {
+        &self.bytes
+    }
+}
