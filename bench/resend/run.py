@@ -6,8 +6,10 @@ rustc) that does the same, in one run. It is no test.
 
 5,120,000 frames of 200 bytes are pushed, lent and acknowledged, 1,024 at a time, each one made (a copy of the bytes), or each
 sharing the bytes of one. Of each the best of N rounds counts, in processor time. The ratio is the other's time by ours: 1.00 is as
-fast. If valgrind is there, instructions are counted as well."""
+fast. If valgrind is there, instructions are counted as well. The C library's allocator is told to keep what is freed: else it gives a
+part of the heap back to the system in each round of one of the two, as its blocks happen to lie."""
 import argparse
+import os
 import pathlib
 import subprocess
 import sys
@@ -24,6 +26,7 @@ def main():
     words = argparse.ArgumentParser(description=__doc__, formatter_class=argparse.RawDescriptionHelpFormatter)
     words.add_argument("--rounds", type=int, default=5)
     asked = words.parse_args()
+    os.environ["MALLOC_TRIM_THRESHOLD_"] = str(1 << 30)
     ours = built("resend_bench")
     with tempfile.TemporaryDirectory() as folder:
         theirs, empty = str(pathlib.Path(folder) / "peer"), str(pathlib.Path(folder) / "empty")

@@ -64,7 +64,8 @@ impl Intake {
 
     /// The next message has the number `first`. It fails, and changes nothing, exactly if a message would be left out.
     pub fn sequence(&mut self, first: u64) -> Result<(), Gap>
-        ensures ok { OnOk result ((first ≤ suc self.old.processed) × (self.new ≡ after_sequence self.old first)) }
+        ensures ok { OnOk result ((first ≤ suc self.old.processed) ×
+            (self.new ≡ after_sequence self.old first)) }
         ensures err { IfErr result (λ gap. (suc self.old.processed < first) ×
             (gap ≡ record { got = first; most = suc self.old.processed }) × (self.new ≡ self.old)) }
     {

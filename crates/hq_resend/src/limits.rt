@@ -43,8 +43,10 @@ impl Limits {
     /// These limits, if each is in range: `frame` from `LEAST_FRAME` to `MOST_FRAME`, `count` from 1 to `MOST_COUNT`, and
     /// `bytes` from the largest framed frame to `MOST_BYTES`.
     pub fn of(frame: usize, count: usize, bytes: usize) -> Option<Limits>
-        ensures in_range { IsSome result ↔ AreLimits (record { frame = frame; count = count; bytes = bytes }) }
-        ensures value { IfSome result (λ limits. limits ≡ record { frame = frame; count = count; bytes = bytes }) }
+        ensures in_range { IsSome result ↔
+            AreLimits (record { frame = frame; count = count; bytes = bytes }) }
+        ensures value { IfSome result (λ limits.
+            limits ≡ record { frame = frame; count = count; bytes = bytes }) }
     {
         let in_range = LEAST_FRAME <= frame
             && frame <= MOST_FRAME

@@ -88,7 +88,8 @@ impl Resend {
             (self.old.sent < most_messages) × (self.new ≡ after_push self.old frame)) }
         ensures err { IfErr result (λ refused. IsPushFault self.old (length frame) refused.0 ×
             (refused.1 ≡ frame) × (self.new ≡ self.old)) }
-        ensures stands { OnOk result ((h : List Happening) → Stands h self.old → Stands (Pushed frame ∷ h) self.new) }
+        ensures stands { OnOk result ((h : List Happening) →
+            Stands h self.old → Stands (Pushed frame ∷ h) self.new) }
     {
         let gone = dropped(self.keeps, self.acked, self.written);
         drop_first(&mut self.ring, gone - self.gone);
@@ -113,7 +114,8 @@ impl Resend {
         ensures ok { OnOk result ((upto ≤ self.old.furthest) × (self.new ≡ after_ack self.old upto)) }
         ensures err { IfErr result (λ beyond. (self.old.furthest < upto) ×
             (beyond ≡ record { got = upto; most = self.old.furthest }) × (self.new ≡ self.old)) }
-        ensures stands { OnOk result ((h : List Happening) → Stands h self.old → Stands (Acked upto ∷ h) self.new) }
+        ensures stands { OnOk result ((h : List Happening) →
+            Stands h self.old → Stands (Acked upto ∷ h) self.new) }
     {
         if upto > self.furthest {
             return Err(Beyond {
@@ -141,7 +143,8 @@ impl Resend {
         ensures none { IsNone result ↔ (self.old.written ≡ self.old.sent) }
         ensures number { IfSome result (λ next. next.0 ≡ suc self.old.written) }
         ensures frame { option_map (λ next. next.1.now) result ≡ next_frame self.old }
-        ensures stands { OnSome result ((h : List Happening) → Stands h self.old → Stands (Wrote ∷ h) (after_next self.old)) }
+        ensures stands { OnSome result ((h : List Happening) →
+            Stands h self.old → Stands (Wrote ∷ h) (after_next self.old)) }
     {
         if self.written >= self.sent {
             return None;
