@@ -6,4 +6,3 @@ pub mod JsonControls
 pub mod PackControls
 pub mod Sizes
 pub mod Tellings
-pub mod Told

@@ -1,5 +1,5 @@
 -- What holds of the wire.
-use Rattle.std.specs.Prelude.{◌≡◌, ◌≤◌, ℕ, ℤ, List, [], length, Option, Result}
+use Rattle.std.specs.Prelude.{◌≡◌, ◌≤◌, ℕ, ℤ, List, [], length}
 use Rattle.hf_split.specs.declared.framing.Framing.TheVariants.{Record}
 use Rattle.hf_split.specs.declared.splitter.SplitFault.TheVariants.{TooLong, BadLength}
 use Rattle.hf_split.specs.Cuts.{Spelled, BeginsWith, IsTooLong, IsBadLength, IsWaiting}
@@ -20,12 +20,6 @@ use Rattle.hd_delivery.specs.declared.vocabulary.Side.TheVariants.{Client, Serve
 use Rattle.hd_delivery.specs.Frames.{Request, Response, Refusal, Foreign, Strange, frame_of}
 use Rattle.hd_delivery.specs.Worlds.{Limits}
 use Rattle.hd_delivery.specs.Bytes.{Wire, Reading, Waits, Reads, Refuses, Stops, IsFaithful, IsSoundWire}
-use Rattle.hf_split.specs.Held.{Held}
-use Rattle.hm_message.specs.declared.message.Read.{Read}
-use Rattle.he_wire.specs.declared.reading.LinkFault.{LinkFault}
-use Rattle.he_wire.specs.declared.reading.Greeting.{Greeting}
-use Rattle.he_wire.specs.declared.reading.GreetingFault.{GreetingFault}
-use Rattle.he_wire.specs.Gives.{GivesLater, GivesFirst, TellsWireLater, TellsWireFirst}
 use Rattle.he_wire.specs.Readings.{ReadsFirst, ReadsLater}
 use Rattle.he_wire.specs.Spelling.{spelling, with_separator}
 use Rattle.he_wire.specs.Wires.{IsHouseWire, AreSaid}
@@ -85,8 +79,3 @@ WireIsFaithful = (limits : Limits) (wire : Wire) (codec : Codec) (version : ℕ)
 -- a refusal is spelled as the handshake answers it
 abbrev pub AnswersAreSpelled : Type 0
 AnswersAreSpelled = (codec : Codec) (e : ShakeError) → spelling codec (Refusal (refusal_text e)) ≡ with_separator (refusal_frame e)
-
--- what a reader of this crate answers is what such a wire reads
-pub record AnswersAreTold : Type 0 where
-  pub later : (codec : Codec) (held : Held) (answer : Result (Option Read) LinkFault) → GivesLater codec held answer → TellsWireLater codec held answer
-  pub first : (side : Side) (held : Held) (answer : Result (Option Greeting) GreetingFault) → GivesFirst side held answer → TellsWireFirst side held answer

@@ -1,5 +1,5 @@
 //! What holds of the wire. Each function does nothing: its contract is the law.
-ghost use Rattle.he_wire.specs.Laws.{AnswersAreSpelled, AnswersAreTold, BytesAreRead, HasWire, ReadsOnce, WireIsFaithful, WireIsSound};
+ghost use Rattle.he_wire.specs.Laws.{AnswersAreSpelled, BytesAreRead, HasWire, ReadsOnce, WireIsFaithful, WireIsSound};
 
 /// A refused request is answered in the bytes that `hs_shake` gives for it, and the separator.
 pub fn answers_are_spelled()
@@ -69,11 +69,4 @@ pub fn wire_is_faithful()
     hs_shake::response_is_read();
     hs_shake::texts_are_plain();
     hs_shake::texts_are_short();
-}
-
-/// What [`crate::read_later`] and [`crate::read_first`] answer is what a wire of this project reads.
-pub fn answers_are_told()
-    ensures { AnswersAreTold }
-{
-    reads_once();
 }

@@ -32,8 +32,7 @@ mod size;
 mod slate;
 
 pub use laws::{
-    answers_are_spelled, answers_are_told, bytes_are_read, has_wire, reads_once, wire_is_faithful,
-    wire_is_sound,
+    answers_are_spelled, bytes_are_read, has_wire, reads_once, wire_is_faithful, wire_is_sound,
 };
 pub use reading::{Greeting, GreetingFault, LinkFault, read_first, read_later};
 pub use size::unframed_size;
