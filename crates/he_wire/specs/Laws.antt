@@ -1,12 +1,27 @@
 -- What holds of the wire.
-use Rattle.std.specs.Prelude.{◌≡◌, ◌≤◌, ℕ, List}
+use Rattle.std.specs.Prelude.{◌≡◌, ◌≤◌, ℕ, ℤ, List, [], length}
+use Rattle.hf_split.specs.declared.framing.Framing.TheVariants.{Record}
+use Rattle.hf_split.specs.declared.splitter.SplitFault.TheVariants.{TooLong, BadLength}
+use Rattle.hf_split.specs.Cuts.{Spelled, BeginsWith, IsTooLong, IsBadLength, IsWaiting}
+use Rattle.hf_split.specs.Words.{fault_words}
 use Rattle.hm_message.specs.declared.message.Codec.{Codec}
 use Rattle.hm_message.specs.declared.message.Message.{Message}
-use Rattle.hs_shake.specs.Requests.{IsVersion}
+use Rattle.hm_codec.specs.declared.why.FrameWhy.{FrameWhy}
+use Rattle.hm_codec.specs.Frames.{Says, Unknown, Why, framing_of}
+use Rattle.hm_codec.specs.Words.{why_words}
+use Rattle.hs_shake.specs.Requests as requests
+use Rattle.hs_shake.specs.Requests.{Asks, IsVersion}
+use Rattle.hs_shake.specs.Responses as responses
+use Rattle.hs_shake.specs.Responses.{Accepts, refusal_text, refusal_frame}
+use Rattle.hs_shake.specs.Words.{shake_words}
+use Rattle.hs_shake.specs.declared.shake.ShakeError.{ShakeError}
 use Rattle.hd_delivery.specs.declared.vocabulary.Side.{Side}
+use Rattle.hd_delivery.specs.declared.vocabulary.Side.TheVariants.{Client, Server}
+use Rattle.hd_delivery.specs.Frames.{Request, Response, Refusal, Foreign, Strange, frame_of}
 use Rattle.hd_delivery.specs.Worlds.{Limits}
-use Rattle.hd_delivery.specs.Bytes.{Wire, Reading, IsFaithful, IsSoundWire}
+use Rattle.hd_delivery.specs.Bytes.{Wire, Reading, Waits, Reads, Refuses, Stops, IsFaithful, IsSoundWire}
 use Rattle.he_wire.specs.Readings.{ReadsFirst, ReadsLater}
+use Rattle.he_wire.specs.Spelling.{spelling, with_separator}
 use Rattle.he_wire.specs.Wires.{IsHouseWire, AreSaid}
 
 -- the shortest limit of a frame for which handshakes and control frames have room
@@ -23,6 +38,34 @@ ReadsOnce = (most : ℕ) (bytes : List ℕ) (x y : Reading)
     → ((side : Side) → ReadsFirst most side bytes x → ReadsFirst most side bytes y → x ≡ y)
     × ((codec : Codec) → ReadsLater most codec bytes x → ReadsLater most codec bytes y → x ≡ y)
 
+-- What a wire's readers say of bytes, by what these begin with. A fault's place is not told.
+pub record IsReadSo (most : ℕ) (wire : Wire) : Type 0 where
+  pub message : (codec : Codec) (bytes : List ℕ) (item : Spelled) (m : Message) → BeginsWith (framing_of codec) most bytes item
+      → Says codec item.frame m → wire.later codec bytes ≡ Reads (frame_of m) (length item.spelling)
+  pub foreign : (codec : Codec) (bytes : List ℕ) (item : Spelled) (n : ℤ) → BeginsWith (framing_of codec) most bytes item
+      → Unknown codec item.frame n → wire.later codec bytes ≡ Reads (Foreign n) (length item.spelling)
+  pub refused : (codec : Codec) (bytes : List ℕ) (item : Spelled) (why : FrameWhy) → BeginsWith (framing_of codec) most bytes item
+      → Why codec item.frame why → wire.later codec bytes ≡ Refuses (why_words why) (length item.spelling)
+  pub too_long : (codec : Codec) (bytes : List ℕ) (at : ℕ) → IsTooLong (framing_of codec) most bytes
+      → wire.later codec bytes ≡ Stops (fault_words (TooLong at))
+  pub bad_length : (codec : Codec) (bytes : List ℕ) (at : ℕ) → IsBadLength (framing_of codec) bytes
+      → wire.later codec bytes ≡ Stops (fault_words (BadLength at))
+  pub waits : (codec : Codec) (bytes : List ℕ) → IsWaiting (framing_of codec) most bytes → wire.later codec bytes ≡ Waits
+  pub request : (bytes : List ℕ) (item : Spelled) (codec : Codec) (version : ℕ) → BeginsWith Record most bytes item
+      → Asks item.frame codec version → wire.first Server bytes ≡ Reads (Request codec version) (length item.spelling)
+  pub no_request : (bytes : List ℕ) (item : Spelled) (e : ShakeError) → BeginsWith Record most bytes item
+      → requests.WhyNot item.frame e → wire.first Server bytes ≡ Reads (Strange (shake_words e) (refusal_text e)) (length item.spelling)
+  pub response : (bytes : List ℕ) (item : Spelled) → BeginsWith Record most bytes item
+      → Accepts item.frame → wire.first Client bytes ≡ Reads Response (length item.spelling)
+  pub no_response : (bytes : List ℕ) (item : Spelled) (e : ShakeError) → BeginsWith Record most bytes item
+      → responses.WhyNot item.frame e → wire.first Client bytes ≡ Reads (Strange (shake_words e) []) (length item.spelling)
+  pub long_shake : (side : Side) (bytes : List ℕ) (at : ℕ) → IsTooLong Record most bytes → wire.first side bytes ≡ Stops (fault_words (TooLong at))
+  pub shake_waits : (side : Side) (bytes : List ℕ) → IsWaiting Record most bytes → wire.first side bytes ≡ Waits
+
+-- each such wire reads so
+abbrev pub BytesAreRead : Type 0
+BytesAreRead = (most : ℕ) (wire : Wire) → IsHouseWire most wire → IsReadSo most wire
+
 -- its readers never wait on a full buffer, and what they say stays so
 abbrev pub WireIsSound : Type 0
 WireIsSound = (limits : Limits) (wire : Wire) → IsHouseWire limits.frame wire → IsSoundWire limits wire
@@ -32,3 +75,7 @@ abbrev pub WireIsFaithful : Type 0
 WireIsFaithful = (limits : Limits) (wire : Wire) (codec : Codec) (version : ℕ) (messages : List Message)
     → shortest_limit ≤ limits.frame → IsVersion version → AreSaid codec messages → IsHouseWire limits.frame wire
     → IsFaithful limits wire codec version messages
+
+-- a refusal is spelled as the handshake answers it
+abbrev pub AnswersAreSpelled : Type 0
+AnswersAreSpelled = (codec : Codec) (e : ShakeError) → spelling codec (Refusal (refusal_text e)) ≡ with_separator (refusal_frame e)

@@ -1,10 +1,9 @@
 -- The wire of this project: its codecs, handshake and framing as the functions that the two ends' theorem speaks of.
 use Rattle.std.specs.Prelude.{◌≡◌, ℕ, List, length, Contains}
-use Rattle.hf_split.specs.Cuts.{CanWrap}
 use Rattle.hm_message.specs.declared.message.Codec.{Codec}
 use Rattle.hm_message.specs.declared.message.Message.{Message}
 use Rattle.hm_codec.specs.Frames as codecs
-use Rattle.hm_codec.specs.Frames.{Says, framing_of}
+use Rattle.hm_codec.specs.Frames.{IsSaid}
 use Rattle.hd_delivery.specs.declared.vocabulary.Side.{Side}
 use Rattle.hd_delivery.specs.Frames.{LinkFrame}
 use Rattle.hd_delivery.specs.Bytes.{Wire}
@@ -18,11 +17,6 @@ pub record IsHouseWire (most : ℕ) (wire : Wire) : Type 0 where
   pub first : (side : Side) (bytes : List ℕ) → ReadsFirst most side bytes (wire.first side bytes)
   pub later : (codec : Codec) (bytes : List ℕ) → ReadsLater most codec bytes (wire.later codec bytes)
 
--- the frame that is written of the message says the message itself, and can stand on a stream
-pub record IsSaid (codec : Codec) (m : Message) : Type 0 where
-  pub says : Says codec (codecs.frame_of codec m) m
-  pub wraps : CanWrap (framing_of codec) (codecs.frame_of codec m)
-
--- so is each of these messages
+-- the frame that is written of each of these messages says the message itself, and can stand on a stream
 abbrev pub AreSaid : Codec → List Message → Type 0
 AreSaid codec messages = (m : Message) → Contains messages m → IsSaid codec m

@@ -17,7 +17,7 @@ use Rattle.hm_pack.specs.Says as pack_says
 use Rattle.hm_pack.specs.ExactlyOne as pack
 use Rattle.hm_codec.specs.declared.why.FrameWhy.{FrameWhy}
 use Rattle.hm_codec.specs.declared.why.FrameWhy.TheVariants as why
-use Rattle.hm_codec.specs.Frames.{Says, Unknown, Why}
+use Rattle.hm_codec.specs.Frames.{Why}
 use Rattle.hm_codec.specs.Refusals.{of_json, of_pack, IsRefusedFor}
 use Rattle.hm_codec.specs.Laws.{IsOneMeaning}
 

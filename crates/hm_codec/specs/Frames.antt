@@ -2,7 +2,7 @@
 use Rattle.std.specs.Prelude.{ℕ, ℤ, List}
 use Rattle.hf_split.specs.declared.framing.Framing.{Framing}
 use Rattle.hf_split.specs.declared.framing.Framing.TheVariants.{Record, Length}
-use Rattle.hf_split.specs.Cuts.{wrapped}
+use Rattle.hf_split.specs.Cuts.{CanWrap, wrapped}
 use Rattle.hm_message.specs.declared.message.Codec.{Codec}
 use Rattle.hm_message.specs.declared.message.Codec.TheVariants.{Json, Pack}
 use Rattle.hm_message.specs.declared.message.Message.{Message}
@@ -53,3 +53,8 @@ said_again Pack m = m
 abbrev pub HasSpelling : Codec → Message → Type 0
 HasSpelling Json m = Unit {0}
 HasSpelling Pack m = IsWritable (array_of m)
+
+-- the frame that is written of the message says the message itself, and can stand on a stream
+pub record IsSaid (codec : Codec) (m : Message) : Type 0 where
+  pub says : Says codec (frame_of codec m) m
+  pub wraps : CanWrap (framing_of codec) (frame_of codec m)

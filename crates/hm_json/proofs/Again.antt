@@ -3,14 +3,13 @@ use Rattle.std.proofs.Common.{◌≡◌, ℕ, ◌<◌, ◌^◌, Bool, true, fals
 use Rattle.std.specs.Prelude.{nat_lt, option_map, codes}
 use Rattle.std.specs.Option.{option_and_then}
 use Rattle.std.specs.Map.{keys_of}
-use Rattle.std.specs.List.Sorted.{IsStrictlySortedBy}
 use Rattle.std.proofs.lemmas.Bool.{lt-ltb}
-use Rattle.hv_value.specs.Tree.{Tree, null, boolean, int, text, bytes, list, map, Pair, trees, pairs, key_cmp, last_of, value_at, map_of}
+use Rattle.hv_value.specs.Tree.{Tree, null, boolean, int, text, bytes, list, map, Pair, trees, pairs, last_of, value_at}
 use Rattle.hv_value.specs.Image.{image, images, trees_image, pairs_image}
 use Rattle.hv_value.specs.View as seen
 use Rattle.hv_value.specs.declared.value.Value.{Value}
 use Rattle.hm_message.specs.Fields.{trees_in, items_in, texts_in, all_texts, headers_in, all_headers, number_in, flag_in}
-use Rattle.hm_message.specs.Headers.{Header, IsHeaders}
+use Rattle.hm_message.specs.Headers.{Header}
 use Rattle.hm_message.specs.Kind.{number, kind_of}
 use Rattle.hm_message.specs.Message.{ending_image, message_image}
 use Rattle.hm_message.specs.Name.{field_name}

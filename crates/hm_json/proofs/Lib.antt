@@ -4,3 +4,4 @@ pub mod Frames
 pub mod Depths
 pub mod Again
 pub mod Puts
+pub mod Images

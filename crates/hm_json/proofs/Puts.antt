@@ -1,5 +1,5 @@
 -- Properties that are written one after another.
-use Rattle.std.proofs.Common.{◌≡◌, ℕ, ◌≤◌, ◌<◌, ◌^◌, max, Bool, true, false, pos, List, [], ◌∷◌, ◌++◌, Option, Some, None, refl, ap, sym, ◌∙◌, subst, arith, append_assoc}
+use Rattle.std.proofs.Common.{◌≡◌, ℕ, ◌≤◌, true, false, List, [], ◌∷◌, ◌++◌, Some, None, refl, ap, sym, ◌∙◌, subst, arith, append_assoc}
 use Rattle.std.proofs.lemmas.List.{append-nil}
 use Rattle.std.specs.Prelude.{◌==◌, length, Result, Ok, Err, OnOk}
 use Rattle.std.specs.Str.{IsUtf8}
@@ -8,13 +8,11 @@ use Rattle.std.specs.List.Sorted.{IsStrictlySortedBy}
 use Rattle.json.specs.Lex.{tokens}
 use Rattle.json.specs.Print.{print}
 use Rattle.json.specs.Token.{Token}
-use Rattle.hv_value.specs.Tree.{Tree, int, text, list, map, Pair, pairs, trees, key_cmp, map_of, put_all, depth, depth_of_values, last_of}
-use Rattle.hv_value.specs.View as seen
+use Rattle.hv_value.specs.Tree.{Tree, int, list, map, Pair, pairs, trees, key_cmp, put_all, depth}
 use Rattle.hv_value.specs.Order.{IsInOrder, AllInOrder, PairsInOrder, keys_of_pairs}
 use Rattle.hv_value.specs.Image.{image}
 use Rattle.hv_value.specs.Laws.{MapHasTheKeys, KeysOfAMapAreInOrder, LastPairCounts}
-use Rattle.hv_value.specs.declared.value.Value.{Value}
-use Rattle.hv_json.specs.Laws.{WrittenIsReadAgain}
+use Rattle.hv_json.specs.Laws.{WrittenIsReadAgain, TextIsReadAgain}
 use Rattle.hv_json.specs.Sent.{sent, members_sent, items_sent, HasWholes, AllHaveWholes, PairsHaveWholes}
 use Rattle.hm_message.specs.Headers.{Header, IsHeaders}
 use Rattle.hm_message.specs.Kind.{number, kind_of}
@@ -22,13 +20,12 @@ use Rattle.hm_message.specs.Message.{Fits, message_image}
 use Rattle.hm_message.specs.Trees.{texts, header_pairs, IsInRange}
 use Rattle.hm_message.specs.Laws.{ValuesAreTrees}
 use Rattle.hm_message.specs.Name.{field_name}
-use Rattle.hm_message.specs.declared.message.Field.{Field}
 use Rattle.hm_message.specs.declared.message.Field.TheVariants as field
 use Rattle.hm_message.specs.declared.message.Message.{Message}
 use Rattle.hm_message.specs.declared.message.Message.TheVariants.{Invocation, StreamItem, Completion, StreamInvocation, CancelInvocation, Ping, Close, Ack, Sequence}
-use Rattle.hm_message.specs.declared.message.Ending.{Ending}
 use Rattle.hm_message.specs.declared.message.Ending.TheVariants as ending
 use Rattle.hm_json.specs.Frame.{property_of, headers_written, streams_written, written, object_of, frame_of}
+use Rattle.hm_json.specs.Laws.{WrittenIsSaid}
 use Rattle.hm_json.specs.Written.{in_name_order, tokens_of, Puts}
 use Rattle.hm_json.specs.Says.{Says}
 use Rattle.hm_json.proofs.Again.{keys-header_pairs, says_again}
@@ -193,3 +190,9 @@ pub all_four : {T E : Type 0} (r : Result T E) (old now : List Token) (m : Messa
     → OnOk r (IsInRange m) → OnOk r (IsWritten now m)
 all_four (Ok x) old now m none a b c d = record { tokens = a ∙ ap (λ (ts : List Token). ts ++ sent (object_of m)) none; wholes = b; in_order = c; in_range = d }
 all_four (Err e) old now m none a b c d = a
+
+-- the same of a message that nothing was written of
+pub says_whole : ValuesAreTrees → LastPairCounts → TextIsReadAgain → WrittenIsSaid
+says_whole same last again m w =
+    let ws : List Pair = property_of field.Kind (int (number (kind_of m))) ++ written m in
+    (image (object_of m), (again (object_of m) w.in_order w.wholes w.utf8 (object_depth m w.fits), says_again same (object_of m) m w.in_range tt (λ key. last ws key)))

@@ -8,7 +8,7 @@ mod reading;
 mod refusal;
 mod writing;
 
-pub use laws::one_meaning;
+pub use laws::{frame_is_of_image, one_meaning, written_is_said};
 pub use reading::{read_message, read_message_in};
 pub use refusal::Refusal;
 pub use writing::write_message;

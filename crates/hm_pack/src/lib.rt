@@ -9,7 +9,7 @@ mod reading;
 mod refusal;
 mod writing;
 
-pub use laws::one_meaning;
+pub use laws::{one_meaning, written_is_said};
 pub use reading::read_message;
 pub use refusal::PackRefusal;
 pub use writing::write_message;

@@ -5,3 +5,4 @@ mod Puts
 mod Turns
 mod Again
 mod Control
+mod Printed

@@ -8,7 +8,7 @@ use Rattle.hv_value.specs.Tree.{Tree, depth}
 use Rattle.hv_value.specs.Image.{image}
 use Rattle.hv_value.specs.Order.{IsInOrder}
 use Rattle.hv_json.specs.Reading.{reading}
-use Rattle.hv_json.specs.Sent.{sent, HasWholes}
+use Rattle.hv_json.specs.Sent.{sent, HasWholes, HasUtf8}
 use Rattle.hv_json.specs.Writing.{json_text}
 use Rattle.hv_json.specs.declared.reading.JsonError.TheVariants.{NoMemory}
 
@@ -37,3 +37,7 @@ TextIsOfImage = (t : Tree) → json_text t ≡ json_text (image t)
 abbrev pub WrittenIsReadAgain : Type 0
 WrittenIsReadAgain = (t : Tree) → IsInOrder t → HasWholes t → depth t ≤ 64 →
     tokens (print (sent t)) ≡ sent t → IsUtf8 (print (sent t)) → reading (json_text t) ≡ Ok (image t)
+
+-- The same of a tree whose texts are UTF-8, whatever wrote its text.
+abbrev pub TextIsReadAgain : Type 0
+TextIsReadAgain = (t : Tree) → IsInOrder t → HasWholes t → HasUtf8 t → depth t ≤ 64 → reading (json_text t) ≡ Ok (image t)

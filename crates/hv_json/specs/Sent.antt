@@ -1,5 +1,6 @@
 -- The tokens that are written for a value, and what lets them be read again.
 use Rattle.std.specs.Prelude.{List}
+use Rattle.std.specs.Str.{IsUtf8}
 use Rattle.json.specs.Token.{Token}
 use Rattle.json.specs.Tree.{json_tokens, items_tokens, members_tokens}
 use Rattle.serde_json.specs.Written.{outline, items_outline, members_outline}
@@ -37,3 +38,22 @@ abbrev mutual
   pub PairsHaveWholes : Pairs → Type 0
   PairsHaveWholes no_pairs = Unit {0}
   PairsHaveWholes (pair k t ps) = HasWholes t × PairsHaveWholes ps
+
+-- each text and each key is UTF-8
+abbrev mutual
+  pub HasUtf8 : Tree → Type 0
+  HasUtf8 null = Unit {0}
+  HasUtf8 (boolean b) = Unit {0}
+  HasUtf8 (int z) = Unit {0}
+  HasUtf8 (text s) = IsUtf8 s
+  HasUtf8 (bytes s) = Unit {0}
+  HasUtf8 (list ts) = AllHaveUtf8 ts
+  HasUtf8 (map ps) = PairsHaveUtf8 ps
+
+  pub AllHaveUtf8 : Trees → Type 0
+  AllHaveUtf8 no_trees = Unit {0}
+  AllHaveUtf8 (more t ts) = HasUtf8 t × AllHaveUtf8 ts
+
+  pub PairsHaveUtf8 : Pairs → Type 0
+  PairsHaveUtf8 no_pairs = Unit {0}
+  PairsHaveUtf8 (pair k t ps) = IsUtf8 k × HasUtf8 t × PairsHaveUtf8 ps

@@ -1,5 +1,5 @@
 //! Facts about all texts, which proofs of other crates call upon. Each function does nothing: its contract is the law.
-ghost use Rattle.hv_json.specs.Laws.{PrintedIsText, ReadingTakesNoMemory, TextHasNoControl, TextIsOfImage, WrittenIsReadAgain};
+ghost use Rattle.hv_json.specs.Laws.{PrintedIsText, ReadingTakesNoMemory, TextHasNoControl, TextIsOfImage, TextIsReadAgain, WrittenIsReadAgain};
 
 use hv_value::pairs_in_order_are_their_map;
 
@@ -28,4 +28,11 @@ pub fn written_is_read_again()
     ensures { WrittenIsReadAgain }
 {
     pairs_in_order_are_their_map();
+}
+
+/// The text of a value whose texts are UTF-8 is read again as the value's image.
+pub fn text_is_read_again()
+    ensures { TextIsReadAgain }
+{
+    written_is_read_again();
 }

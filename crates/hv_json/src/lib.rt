@@ -17,7 +17,7 @@ mod writing;
 
 pub use laws::{
     printed_is_text, reading_takes_no_memory, text_has_no_control, text_is_of_image,
-    written_is_read_again,
+    text_is_read_again, written_is_read_again,
 };
 pub use one_pass::{Hard, quick};
 pub use reading::{JsonError, read_members_in, read_value, read_value_in};

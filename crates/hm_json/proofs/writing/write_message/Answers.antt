@@ -1,7 +1,3 @@
-use Rattle.std.proofs.Common.{◌≡◌, ◌∙◌, ◌++◌, ap}
-use Rattle.std.specs.Prelude.{Ok, Err, OnOk, Result}
-use Rattle.hm_json.specs.Frame.{object_of}
-use Rattle.hv_json.specs.Sent.{sent}
 use Rattle.hm_json.proofs.Puts.{on_ok, all_four, says_written}
 use Rattle.hm_json.proofs.writing.write_message.Goals as goal
 
