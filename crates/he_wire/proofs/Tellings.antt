@@ -27,14 +27,18 @@ use Rattle.hd_delivery.specs.declared.vocabulary.Side.{Side}
 use Rattle.hd_delivery.specs.declared.vocabulary.Side.TheVariants.{Client, Server}
 use Rattle.hd_delivery.specs.Frames as frames
 use Rattle.hd_delivery.specs.Frames.{frame_of}
-use Rattle.hd_delivery.specs.Bytes.{Waits, Reads, Refuses, Stops}
+use Rattle.hd_delivery.specs.Bytes.{Wire, Reading, Waits, Reads, Refuses, Stops}
+use Rattle.he_wire.specs.declared.reading.LinkFault.{LinkFault}
 use Rattle.he_wire.specs.declared.reading.LinkFault.TheVariants as link
 use Rattle.he_wire.specs.declared.reading.Greeting.{Greeting}
 use Rattle.he_wire.specs.declared.reading.Greeting.TheVariants as greeting
+use Rattle.he_wire.specs.declared.reading.GreetingFault.{GreetingFault}
 use Rattle.he_wire.specs.declared.reading.GreetingFault.TheVariants as shaking
 use Rattle.he_wire.specs.Faults.{of_shake}
-use Rattle.he_wire.specs.Readings.{IsStopped}
-use Rattle.he_wire.specs.Gives.{GivesLater, GivesFirst, IsGreeting, IsNoGreeting}
+use Rattle.he_wire.specs.Readings.{IsStopped, ReadsFirst, ReadsLater}
+use Rattle.he_wire.specs.Wires.{IsHouseWire}
+use Rattle.he_wire.specs.Laws.{ReadsOnce}
+use Rattle.he_wire.specs.Gives.{GivesLater, GivesFirst, TellsLater, TellsFirst, TellsWireLater, TellsWireFirst, IsGreeting, IsNoGreeting}
 
 abbrev Begins : Held → List ℕ → List ℕ → Type 0
 Begins held spelling frame = BeginsWith held.framing held.most held.bytes (record { spelling = spelling; frame = frame })
@@ -138,3 +142,43 @@ first_refused side held spelling frame shake.Unspoken begins is same = refused_f
 first_refused side held spelling frame (shake.Version n) begins is same = refused_first side held spelling frame (shake.Version n) begins is same
 first_refused side held spelling frame (shake.Refused s) begins is same = refused_first side held spelling frame (shake.Refused s) begins is same
 first_refused side held spelling frame shake.NoMemory begins is same = tt
+
+-- ---- what the wire reads
+
+-- since bytes are read in one way
+wire_later : ReadsOnce → (codec : Codec) (held : Held) (P : Reading → Type 0)
+    → (reading : Reading) × (ReadsLater held.most codec held.bytes reading × P reading)
+    → (wire : Wire) → IsHouseWire held.most wire → P (wire.later codec held.bytes)
+wire_later once codec held P gives wire house =
+    subst P ((once held.most held.bytes gives.0 (wire.later codec held.bytes)).1 codec gives.1.0 (house.later codec held.bytes)) gives.1.1
+
+wire_first : ReadsOnce → (side : Side) (held : Held) (P : Reading → Type 0)
+    → (reading : Reading) × (ReadsFirst held.most side held.bytes reading × P reading)
+    → (wire : Wire) → IsHouseWire held.most wire → P (wire.first side held.bytes)
+wire_first once side held P gives wire house =
+    subst P ((once held.most held.bytes gives.0 (wire.first side held.bytes)).0 side gives.1.0 (house.first side held.bytes)) gives.1.1
+
+tells_later : ReadsOnce → (codec : Codec) (held : Held) (answer : Result (Option Read) LinkFault) → GivesLater codec held answer
+    → TellsWireLater codec held answer
+tells_later once codec held (Ok None) gives = wire_later once codec held (TellsLater held (Ok None)) gives
+tells_later once codec held (Ok (Some (read.Message m))) gives = wire_later once codec held (TellsLater held (Ok (Some (read.Message m)))) gives
+tells_later once codec held (Ok (Some (read.Unknown n))) gives = wire_later once codec held (TellsLater held (Ok (Some (read.Unknown n)))) gives
+tells_later once codec held (Err (link.Refused at reason)) gives = wire_later once codec held (TellsLater held (Err (link.Refused at reason))) gives
+tells_later once codec held (Err link.NoMemory) gives = λ wire house. tt
+
+tells_first : ReadsOnce → (side : Side) (held : Held) (answer : Result (Option Greeting) GreetingFault) → GivesFirst side held answer
+    → TellsWireFirst side held answer
+tells_first once side held (Ok None) gives = wire_first once side held (TellsFirst side held (Ok None)) gives
+tells_first once side held (Ok (Some (greeting.Request asked))) gives = wire_first once side held (TellsFirst side held (Ok (Some (greeting.Request asked)))) gives
+tells_first once side held (Ok (Some greeting.Response)) gives = wire_first once side held (TellsFirst side held (Ok (Some greeting.Response))) gives
+tells_first once side held (Err (shaking.Split fault)) gives = wire_first once side held (TellsFirst side held (Err (shaking.Split fault))) gives
+tells_first once side held (Err (shaking.Shake e)) gives = wire_first once side held (TellsFirst side held (Err (shaking.Shake e))) gives
+tells_first once side held (Err shaking.NoMemory) gives = λ wire house. tt
+
+pub told_later : ReadsOnce → (codec : Codec) (held : Held) (answer : Result (Option Read) LinkFault)
+    → (held.framing ≡ framing_of codec → GivesLater codec held answer) → held.framing ≡ framing_of codec → TellsWireLater codec held answer
+told_later once codec held answer reads same = tells_later once codec held answer (reads same)
+
+pub told_first : ReadsOnce → (side : Side) (held : Held) (answer : Result (Option Greeting) GreetingFault)
+    → (held.framing ≡ Record → GivesFirst side held answer) → held.framing ≡ Record → TellsWireFirst side held answer
+told_first once side held answer reads same = tells_first once side held answer (reads same)

@@ -1,25 +1,27 @@
-//! What the bytes of a link say, and how what an end says stands in bytes: this project's codecs, framing and handshake as
-//! one wire (HubProtocol.md of ASP.NET Core).
+//! What the bytes of a link say: this project's codecs, framing and handshake as one wire (HubProtocol.md of ASP.NET Core).
+//!
+//! An end reads with [`read_first`], once on its first link, and with [`read_later`]; both leave what they read in the
+//! splitter. What it says of itself it writes on a [`Slate`], which takes no memory after its start.
+//!
+//! ```text
+//! match read_later(alloc, codec, &splitter) {
+//!     Ok(None) => { .. }                          // feed the splitter more
+//!     Ok(Some(read)) => { ..; splitter.pass(); }
+//!     Err(LinkFault::Refused { at, why }) => { .. }
+//!     Err(LinkFault::NoMemory) => { .. }          // the frame still stands there
+//! }
+//! slate.write(codec, Control::Ack { upto });
+//! // slate.bytes() is what to put on the link
+//! ```
 //!
 //! The theorem on two ends over bytes (`hd_delivery`) speaks of any wire: functions that spell frames and read them.
 //! Codecs, framing and handshake are relations (a frame says a message, bytes begin with a frame). Here a wire is this
 //! project's if it agrees with these relations.
 //!
-//! [`read_first`] and [`read_later`] read what a splitter's bytes begin with. A [`Slate`] takes the frames that an end says
-//! of itself, in memory that is taken at the start:
-//!
-//! ```text
-//! match read_later(alloc, codec, &splitter)? {
-//!     Some(read) => { splitter.pass(); .. }
-//!     None => { .. }                                  // wait for more bytes
-//! }
-//! slate.write(codec, Control::Ack { upto });
-//! link.put(slate.bytes());
-//! ```
-//!
-//! Proved: what is read is what such a wire reads; bytes are read in one way ([`reads_once`]), such a wire exists for each
-//! limit of a frame ([`has_wire`]), it never waits on a full buffer ([`wire_is_sound`]), and what two ends say is read as
-//! itself ([`wire_is_faithful`]). It does not know ends, nor when a frame is due.
+//! Proved: bytes are read in one way ([`reads_once`]), such a wire exists for each limit of a frame ([`has_wire`]), it
+//! never waits on a full buffer ([`wire_is_sound`]), and what two ends say is read as itself ([`wire_is_faithful`]).
+//! What the readers answer is what this wire reads, and what is written is what it spells. The crate does not know ends, nor
+//! when a frame is due.
 #![tactic(auto)]
 
 mod json_control;

@@ -5,8 +5,9 @@ ghost use Rattle.hm_message.specs.Message.{Fits};
 ghost use Rattle.hm_message.specs.Reads.{MessageIs};
 ghost use Rattle.hm_codec.specs.Frames.{framing_of};
 ghost use Rattle.hs_shake.specs.Refusals.{MemoryOr};
-ghost use Rattle.he_wire.specs.Gives.{GivesLater, GivesFirst, IsGreeting, IsNoGreeting};
+ghost use Rattle.he_wire.specs.Gives.{GivesLater, GivesFirst, TellsWireLater, TellsWireFirst, IsGreeting, IsNoGreeting};
 
+use crate::laws::reads_once;
 use hd_delivery::Side;
 use hf_split::{SplitFault, Splitter};
 use hm_codec::{FrameError, FrameWhy, read_message};
@@ -77,8 +78,10 @@ pub fn read_later(
     splitter: &Splitter,
 ) -> Result<Option<Read>, LinkFault>
     ensures reads { splitter.now.framing ≡ framing_of codec → GivesLater codec splitter.now result }
+    ensures told { splitter.now.framing ≡ framing_of codec → TellsWireLater codec splitter.now result }
     ensures fits { IfOk result (λ next. IfSome next (λ read. MessageIs read Fits)) }
 {
+    reads_once();
     let at = splitter.place();
     match splitter.frame() {
         Ok(None) => Ok(None),
@@ -118,7 +121,9 @@ pub fn read_first(
     splitter: &Splitter,
 ) -> Result<Option<Greeting>, GreetingFault>
     ensures reads { splitter.now.framing ≡ Record → GivesFirst side splitter.now result }
+    ensures told { splitter.now.framing ≡ Record → TellsWireFirst side splitter.now result }
 {
+    reads_once();
     let Some((_, frame)) = splitter.frame()? else {
         return Ok(None);
     };

@@ -1,14 +1,20 @@
+use Rattle.std.proofs.Common.{Ok, Err, Some}
 use Rattle.std.proofs.lemmas.Result.{err_from_is_err_and}
-use Rattle.he_wire.proofs.Tellings.{first_read, first_refused}
+use Rattle.he_wire.specs.Faults.{of_shake}
+use Rattle.he_wire.proofs.Tellings.{first_read, first_refused, told_first}
 use Rattle.he_wire.proofs.reading.read_first.Goals as goal
 
 pub returns-in_err-read_greeting : goal.returns-in_err-read_greeting
 returns-in_err-read_greeting c =
+    let held = c.args.splitter.now in
     let lent = (rw c.in-Some.is at c.in_ok-frame.ensures.lent).1 in
     let p = err_from_is_err_and c.from_residual-in_err-read_greeting.result c.from_residual-in_err-read_greeting.ensures.1 in
-    rw (p.1, p.2) (record { reads = first_refused c.args.side c.args.splitter.now lent.0 c.in-Some.frame.now _ lent.1 c.in_err-read_greeting.ensures.refused })
+    let reads = first_refused c.args.side held lent.0 c.in-Some.frame.now c.in_err-read_greeting.field-0.0 lent.1 c.in_err-read_greeting.ensures.refused in
+    rw (p.1, p.2) (record { reads = reads; told = told_first c.reads_once.ensures c.args.side held (Err (of_shake c.in_err-read_greeting.field-0.0)) reads })
 
 pub returns : goal.returns
 returns c =
+    let held = c.args.splitter.now in
     let lent = (rw c.in-Some.is at c.in_ok-frame.ensures.lent).1 in
-    record { reads = first_read c.args.side c.args.splitter.now lent.0 c.in-Some.frame.now c.in_ok-read_greeting.field-0 lent.1 c.in_ok-read_greeting.ensures.ok }
+    let reads = first_read c.args.side held lent.0 c.in-Some.frame.now c.in_ok-read_greeting.field-0 lent.1 c.in_ok-read_greeting.ensures.ok in
+    record { reads = reads; told = told_first c.reads_once.ensures c.args.side held (Ok (Some c.in_ok-read_greeting.field-0)) reads }
