@@ -18,10 +18,10 @@
 //! Codecs, framing and handshake are relations (a frame says a message, bytes begin with a frame). Here a wire is this
 //! project's if it agrees with these relations.
 //!
-//! Proved: bytes are read in one way ([`reads_once`]), such a wire exists for each limit of a frame ([`has_wire`]), it
-//! never waits on a full buffer ([`wire_is_sound`]), and what two ends say is read as itself ([`wire_is_faithful`]).
-//! What the readers answer is what this wire reads, and what is written is what it spells. The crate does not know ends, nor
-//! when a frame is due.
+//! Proved: bytes are read in one way ([`reads_once`], [`bytes_are_read`]), such a wire exists for each limit of a frame
+//! ([`has_wire`]), it never waits on a full buffer ([`wire_is_sound`]), and what two ends say is read as itself
+//! ([`wire_is_faithful`], [`answers_are_spelled`]). What the readers answer is what this wire reads, and what is written is
+//! what it spells. The crate does not know ends, nor when a frame is due.
 #![tactic(auto)]
 
 mod json_control;

@@ -56,12 +56,12 @@ is_whole n h = (omega (arith, ints), omega (arith, ints, h))
 is_name : (s : List ℕ) → are_ascii s ≡ true → IsUtf8 s
 is_name s e = IsUtf8-are_ascii s e
 
-json_whole : (m : Message) → IsControl m → json_laws.IsWhole m
-json_whole Ping h = record { fits = omega arith; in_range = tt; in_order = (one_key _, (tt, tt)); wholes = (is_whole 6 (omega arith), tt); utf8 = (is_name _ refl, tt, tt) }
-json_whole (Close None true) h =
+json_well_formed : (m : Message) → IsControl m → json_laws.IsWellFormed m
+json_well_formed Ping h = record { fits = omega arith; in_range = tt; in_order = (one_key _, (tt, tt)); wholes = (is_whole 6 (omega arith), tt); utf8 = (is_name _ refl, tt, tt) }
+json_well_formed (Close None true) h =
     record { fits = omega arith; in_range = tt; in_order = (two_keys _ _ refl, (tt, (tt, tt))); wholes = (tt, (is_whole 7 (omega arith), tt)); utf8 = (is_name _ refl, tt, (is_name _ refl, tt, tt)) }
-json_whole (Close None false) h = record { fits = omega arith; in_range = tt; in_order = (one_key _, (tt, tt)); wholes = (is_whole 7 (omega arith), tt); utf8 = (is_name _ refl, tt, tt) }
-json_whole (Close (Some s) true) h =
+json_well_formed (Close None false) h = record { fits = omega arith; in_range = tt; in_order = (one_key _, (tt, tt)); wholes = (is_whole 7 (omega arith), tt); utf8 = (is_name _ refl, tt, tt) }
+json_well_formed (Close (Some s) true) h =
     record {
       fits = omega arith;
       in_range = tt;
@@ -69,13 +69,13 @@ json_whole (Close (Some s) true) h =
       wholes = (tt, (tt, (is_whole 7 (omega arith), tt)));
       utf8 = (is_name _ refl, tt, (is_name _ refl, h.0, (is_name _ refl, tt, tt)));
     }
-json_whole (Close (Some s) false) h =
+json_well_formed (Close (Some s) false) h =
     record { fits = omega arith; in_range = tt; in_order = (two_keys _ _ refl, (tt, (tt, tt))); wholes = (tt, (is_whole 7 (omega arith), tt)); utf8 = (is_name _ refl, h.0, (is_name _ refl, tt, tt)) }
-json_whole (Ack n) h =
+json_well_formed (Ack n) h =
     record { fits = omega arith; in_range = h; in_order = (two_keys _ _ refl, (tt, (tt, tt))); wholes = (is_whole n h, (is_whole 8 (omega arith), tt)); utf8 = (is_name _ refl, tt, (is_name _ refl, tt, tt)) }
-json_whole (Sequence n None) h =
+json_well_formed (Sequence n None) h =
     record { fits = omega arith; in_range = h; in_order = (two_keys _ _ refl, (tt, (tt, tt))); wholes = (is_whole n h.0, (is_whole 9 (omega arith), tt)); utf8 = (is_name _ refl, tt, (is_name _ refl, tt, tt)) }
-json_whole (Sequence n (Some k)) h =
+json_well_formed (Sequence n (Some k)) h =
     record {
       fits = omega arith;
       in_range = h;
@@ -83,11 +83,11 @@ json_whole (Sequence n (Some k)) h =
       wholes = (is_whole k h.1, (is_whole n h.0, (is_whole 9 (omega arith), tt)));
       utf8 = (is_name _ refl, tt, (is_name _ refl, tt, (is_name _ refl, tt, tt)));
     }
-json_whole (Invocation headers id target arguments streams) h = absurd h
-json_whole (StreamItem headers id item) h = absurd h
-json_whole (Completion headers id end) h = absurd h
-json_whole (StreamInvocation headers id target arguments streams) h = absurd h
-json_whole (CancelInvocation headers id) h = absurd h
+json_well_formed (Invocation headers id target arguments streams) h = absurd h
+json_well_formed (StreamItem headers id item) h = absurd h
+json_well_formed (Completion headers id end) h = absurd h
+json_well_formed (StreamInvocation headers id target arguments streams) h = absurd h
+json_well_formed (CancelInvocation headers id) h = absurd h
 
 -- ---- the arrays
 
@@ -99,19 +99,19 @@ text_order : (s : Option (List ℕ)) → IsInOrder (pack.text_written s)
 text_order None = tt
 text_order (Some s) = tt
 
-pack_whole : (m : Message) → IsControl m → pack_laws.IsWhole m
-pack_whole Ping h = record { fits = omega arith; in_range = tt; in_order = (tt, tt); writable = (omega arith, (is_whole 6 (omega arith), tt)) }
-pack_whole (Close error allow) h =
+pack_well_formed : (m : Message) → IsControl m → pack_laws.IsWellFormed m
+pack_well_formed Ping h = record { fits = omega arith; in_range = tt; in_order = (tt, tt); writable = (omega arith, (is_whole 6 (omega arith), tt)) }
+pack_well_formed (Close error allow) h =
     record { fits = omega arith; in_range = tt; in_order = (tt, (text_order error, (tt, tt))); writable = (omega arith, (is_whole 7 (omega arith), (text_writable error h, (tt, tt)))) }
-pack_whole (Ack n) h = record { fits = omega arith; in_range = h; in_order = (tt, (tt, tt)); writable = (omega arith, (is_whole 8 (omega arith), (is_whole n h, tt))) }
-pack_whole (Sequence n None) h = record { fits = omega arith; in_range = h; in_order = (tt, (tt, tt)); writable = (omega arith, (is_whole 9 (omega arith), (is_whole n h.0, tt))) }
-pack_whole (Sequence n (Some k)) h =
+pack_well_formed (Ack n) h = record { fits = omega arith; in_range = h; in_order = (tt, (tt, tt)); writable = (omega arith, (is_whole 8 (omega arith), (is_whole n h, tt))) }
+pack_well_formed (Sequence n None) h = record { fits = omega arith; in_range = h; in_order = (tt, (tt, tt)); writable = (omega arith, (is_whole 9 (omega arith), (is_whole n h.0, tt))) }
+pack_well_formed (Sequence n (Some k)) h =
     record { fits = omega arith; in_range = h; in_order = (tt, (tt, (tt, tt))); writable = (omega arith, (is_whole 9 (omega arith), (is_whole n h.0, (is_whole k h.1, tt)))) }
-pack_whole (Invocation headers id target arguments streams) h = absurd h
-pack_whole (StreamItem headers id item) h = absurd h
-pack_whole (Completion headers id end) h = absurd h
-pack_whole (StreamInvocation headers id target arguments streams) h = absurd h
-pack_whole (CancelInvocation headers id) h = absurd h
+pack_well_formed (Invocation headers id target arguments streams) h = absurd h
+pack_well_formed (StreamItem headers id item) h = absurd h
+pack_well_formed (Completion headers id end) h = absurd h
+pack_well_formed (StreamInvocation headers id target arguments streams) h = absurd h
+pack_well_formed (CancelInvocation headers id) h = absurd h
 
 -- ---- the frames are short: in JSON
 
@@ -290,7 +290,7 @@ plain law t = All-weaker (λ b. 32 ≤ b) (λ b. b ≢ separator) (λ b h e. ome
 
 pub said : json_laws.WrittenIsSaid → pack_laws.WrittenIsSaid → TextHasNoControl → ControlsAreSaid
 said as_json as_pack control Json m h =
-    (record { says = subst (json_says (json.frame_of m)) (image_is m h) (as_json m (json_whole m h)); wraps = plain control (json.object_of m) }, tt)
+    (record { says = subst (json_says (json.frame_of m)) (image_is m h) (as_json m (json_well_formed m h)); wraps = plain control (json.object_of m) }, tt)
 said as_json as_pack control Pack m h =
-    let w = pack_whole m h in
+    let w = pack_well_formed m h in
     (record { says = as_pack m w; wraps = omega (arith, pack_short m h, error_bound m h) }, w.writable)

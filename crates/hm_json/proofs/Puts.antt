@@ -192,7 +192,7 @@ all_four (Ok x) old now m none a b c d = record { tokens = a ∙ ap (λ (ts : Li
 all_four (Err e) old now m none a b c d = a
 
 -- the same of a message that nothing was written of
-pub says_whole : ValuesAreTrees → LastPairCounts → TextIsReadAgain → WrittenIsSaid
-says_whole same last again m w =
+pub says_well_formed : ValuesAreTrees → LastPairCounts → TextIsReadAgain → WrittenIsSaid
+says_well_formed same last again m w =
     let ws : List Pair = property_of field.Kind (int (number (kind_of m))) ++ written m in
     (image (object_of m), (again (object_of m) w.in_order w.wholes w.utf8 (object_depth m w.fits), says_again same (object_of m) m w.in_range tt (λ key. last ws key)))

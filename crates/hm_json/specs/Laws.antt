@@ -14,7 +14,7 @@ abbrev pub FramesHaveOneMeaning : Type 0
 FramesHaveOneMeaning = (frame : List ℕ) → ExactlyOne frame
 
 -- the message is one that the message type can hold, and nests no deeper than a frame may
-pub record IsWhole (m : Message) : Type 0 where
+pub record IsWellFormed (m : Message) : Type 0 where
   pub fits : Fits m
   pub in_range : IsInRange m
   pub in_order : IsInOrder (object_of m)
@@ -23,7 +23,7 @@ pub record IsWhole (m : Message) : Type 0 where
 
 -- what is written of such a message says it, with each of its bytes as the text of their base64
 abbrev pub WrittenIsSaid : Type 0
-WrittenIsSaid = (m : Message) → IsWhole m → Says (frame_of m) (message_image m)
+WrittenIsSaid = (m : Message) → IsWellFormed m → Says (frame_of m) (message_image m)
 
 -- a message has the frame of its image
 abbrev pub FrameIsOfImage : Type 0

@@ -14,7 +14,7 @@ abbrev pub FramesHaveOneMeaning : Type 0
 FramesHaveOneMeaning = (frame : List ℕ) → ExactlyOne frame
 
 -- the message is one that the message type can hold, nests no deeper than a frame may, and each part of it has a spelling
-pub record IsWhole (m : Message) : Type 0 where
+pub record IsWellFormed (m : Message) : Type 0 where
   pub fits : Fits m
   pub in_range : IsInRange m
   pub in_order : IsInOrder (array_of m)
@@ -22,4 +22,4 @@ pub record IsWhole (m : Message) : Type 0 where
 
 -- what is written of such a message says it
 abbrev pub WrittenIsSaid : Type 0
-WrittenIsSaid = (m : Message) → IsWhole m → Says (frame_of m) m
+WrittenIsSaid = (m : Message) → IsWellFormed m → Says (frame_of m) m
