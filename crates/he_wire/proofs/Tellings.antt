@@ -18,7 +18,6 @@ use Rattle.hm_codec.specs.declared.why.FrameWhy.{FrameWhy}
 use Rattle.hm_codec.specs.declared.why.FrameWhy.TheVariants as why
 use Rattle.hm_codec.specs.Frames.{Says, Unknown, Why, framing_of}
 use Rattle.hm_codec.specs.Words.{why_words}
-use Rattle.hs_shake.specs.declared.shake.Shake.{Shake}
 use Rattle.hs_shake.specs.declared.shake.ShakeError.{ShakeError}
 use Rattle.hs_shake.specs.declared.shake.ShakeError.TheVariants as shake
 use Rattle.hs_shake.specs.Refusals.{MemoryOr}
@@ -67,7 +66,7 @@ later_message : (codec : Codec) (held : Held) (spelling frame : List ℕ) (m : M
 later_message codec held spelling frame m begins says same =
     let item : Spelled = record { spelling = spelling; frame = frame } in (
       Reads (frame_of m) (length spelling),
-      ((item, (begins_in held (framing_of codec) spelling frame same begins, refl, inl (m, (says, refl)))), (item, (begins, refl))),
+      ((item, (begins_in held (framing_of codec) spelling frame same begins, refl, inl (m, (says, refl)))), (item, (begins, says, refl))),
     )
 
 later_unknown : (codec : Codec) (held : Held) (spelling frame : List ℕ) (n : ℤ) → Begins held spelling frame → Unknown codec frame n
@@ -75,7 +74,7 @@ later_unknown : (codec : Codec) (held : Held) (spelling frame : List ℕ) (n : �
 later_unknown codec held spelling frame n begins is same =
     let item : Spelled = record { spelling = spelling; frame = frame } in (
       Reads (frames.Foreign n) (length spelling),
-      ((item, (begins_in held (framing_of codec) spelling frame same begins, refl, inr (n, (is, refl)))), (item, (begins, refl))),
+      ((item, (begins_in held (framing_of codec) spelling frame same begins, refl, inr (n, (is, refl)))), (item, (begins, is, refl))),
     )
 
 pub later_read : (codec : Codec) (held : Held) (spelling frame : List ℕ) (r : Read) → Begins held spelling frame
@@ -89,12 +88,12 @@ pub later_refused : (codec : Codec) (held : Held) (spelling frame : List ℕ) (a
 later_refused codec held spelling frame at reason begins refused place same =
     let item : Spelled = record { spelling = spelling; frame = frame } in (
       Refuses (why_words reason) (length spelling),
-      ((item, (begins_in held (framing_of codec) spelling frame same begins, refl, (reason, (refused, refl)))), (place, inr (item, (begins, refl)))),
+      ((item, (begins_in held (framing_of codec) spelling frame same begins, refl, (reason, (refused, refl)))), (place, inr (item, (begins, refused, refl)))),
     )
 
 pub later_stopped : (codec : Codec) (held : Held) (at : ℕ) (fault : SplitFault) → IsFaultOf held fault
     → at ≡ held.place → held.framing ≡ framing_of codec → GivesLater codec held (Err (link.Refused at (why.Split fault)))
-later_stopped codec held at fault is place same = (Stops (fault_words fault), (stopped_in held (framing_of codec) fault same is, (place, inl refl)))
+later_stopped codec held at fault is place same = (Stops (fault_words fault), (stopped_in held (framing_of codec) fault same is, (place, inl (fault, (is, refl, refl)))))
 
 -- ---- the handshake
 
@@ -110,12 +109,12 @@ pub first_read : (side : Side) (held : Held) (spelling frame : List ℕ) (g : Gr
 first_read Server held spelling frame (greeting.Request shake) begins is same =
     let item : Spelled = record { spelling = spelling; frame = frame } in (
       Reads (frames.Request shake.codec shake.version) (length spelling),
-      ((item, (begins_in held Record spelling frame same begins, refl, is)), (refl, is.1.3, (item, (begins, refl)))),
+      ((item, (begins_in held Record spelling frame same begins, refl, is)), (refl, is.1.3, (item, (begins, is, refl)))),
     )
 first_read Client held spelling frame greeting.Response begins is same =
     let item : Spelled = record { spelling = spelling; frame = frame } in (
       Reads frames.Response (length spelling),
-      ((item, (begins_in held Record spelling frame same begins, refl, is)), (refl, (item, (begins, refl)))),
+      ((item, (begins_in held Record spelling frame same begins, refl, is)), (refl, (item, (begins, is, refl)))),
     )
 first_read Server held spelling frame greeting.Response begins is same = absurd is
 first_read Client held spelling frame (greeting.Request shake) begins is same = absurd is
@@ -125,12 +124,12 @@ refused_first : (side : Side) (held : Held) (spelling frame : List ℕ) (e : Sha
 refused_first Server held spelling frame e begins is same =
     let item : Spelled = record { spelling = spelling; frame = frame } in (
       Reads (frames.Strange (shake_words e) _) (length spelling),
-      ((item, (begins_in held Record spelling frame same begins, refl, (e, (is.0, refl, refl)))), (is.1, (item, (begins, refl)))),
+      ((item, (begins_in held Record spelling frame same begins, refl, (e, (is.0, refl, refl)))), (is.1, (item, (begins, is, refl)))),
     )
 refused_first Client held spelling frame e begins is same =
     let item : Spelled = record { spelling = spelling; frame = frame } in (
       Reads (frames.Strange (shake_words e) []) (length spelling),
-      ((item, (begins_in held Record spelling frame same begins, refl, (e, (is, refl, refl)))), (tt, (item, (begins, refl)))),
+      ((item, (begins_in held Record spelling frame same begins, refl, (e, (is, refl, refl)))), (tt, (item, (begins, is, refl)))),
     )
 
 pub first_refused : (side : Side) (held : Held) (spelling frame : List ℕ) (e : ShakeError) → Begins held spelling frame
@@ -160,10 +159,10 @@ wire_first once side held P gives wire house =
 
 tells_later : ReadsOnce → (codec : Codec) (held : Held) (answer : Result (Option Read) LinkFault) → GivesLater codec held answer
     → TellsWireLater codec held answer
-tells_later once codec held (Ok None) gives = wire_later once codec held (TellsLater held (Ok None)) gives
-tells_later once codec held (Ok (Some (read.Message m))) gives = wire_later once codec held (TellsLater held (Ok (Some (read.Message m)))) gives
-tells_later once codec held (Ok (Some (read.Unknown n))) gives = wire_later once codec held (TellsLater held (Ok (Some (read.Unknown n)))) gives
-tells_later once codec held (Err (link.Refused at reason)) gives = wire_later once codec held (TellsLater held (Err (link.Refused at reason))) gives
+tells_later once codec held (Ok None) gives = wire_later once codec held (TellsLater codec held (Ok None)) gives
+tells_later once codec held (Ok (Some (read.Message m))) gives = wire_later once codec held (TellsLater codec held (Ok (Some (read.Message m)))) gives
+tells_later once codec held (Ok (Some (read.Unknown n))) gives = wire_later once codec held (TellsLater codec held (Ok (Some (read.Unknown n)))) gives
+tells_later once codec held (Err (link.Refused at reason)) gives = wire_later once codec held (TellsLater codec held (Err (link.Refused at reason))) gives
 tells_later once codec held (Err link.NoMemory) gives = λ wire house. tt
 
 tells_first : ReadsOnce → (side : Side) (held : Held) (answer : Result (Option Greeting) GreetingFault) → GivesFirst side held answer

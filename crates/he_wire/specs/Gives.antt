@@ -1,12 +1,15 @@
 -- What the answers of the readers tell of the bytes that a splitter holds.
 use Rattle.std.specs.Prelude.{◌≡◌, ◌⊎◌, ℕ, List, [], length, Option, None, Some, Result, Ok, Err}
+use Rattle.hf_split.specs.declared.splitter.SplitFault.{SplitFault}
 use Rattle.hf_split.specs.Cuts.{Spelled, BeginsWith}
 use Rattle.hf_split.specs.Held.{Held, IsFaultOf}
 use Rattle.hf_split.specs.Words.{fault_words}
 use Rattle.hm_message.specs.declared.message.Codec.{Codec}
 use Rattle.hm_message.specs.declared.message.Read.{Read}
 use Rattle.hm_message.specs.declared.message.Read.TheVariants.{Message, Unknown}
-use Rattle.hm_codec.specs.Frames.{framing_of}
+use Rattle.hm_codec.specs.declared.why.FrameWhy.{FrameWhy}
+use Rattle.hm_codec.specs.declared.why.FrameWhy.TheVariants.{Split}
+use Rattle.hm_codec.specs.Frames.{Says, Unknown as IsUnknown, Why}
 use Rattle.hm_codec.specs.Words.{why_words}
 use Rattle.hs_shake.specs.declared.shake.ShakeError.{ShakeError}
 use Rattle.hs_shake.specs.Requests as requests
@@ -16,7 +19,7 @@ use Rattle.hs_shake.specs.Responses.{Accepts, IsAnswered, refusal_text}
 use Rattle.hs_shake.specs.Words.{shake_words}
 use Rattle.hd_delivery.specs.declared.vocabulary.Side.{Side}
 use Rattle.hd_delivery.specs.declared.vocabulary.Side.TheVariants.{Client, Server}
-use Rattle.hd_delivery.specs.Frames as frame
+use Rattle.hd_delivery.specs.Frames as frames
 use Rattle.hd_delivery.specs.Frames.{LinkFrame, frame_of}
 use Rattle.hd_delivery.specs.Bytes.{Wire, Reading, Waits, Reads, Refuses, Stops}
 use Rattle.he_wire.specs.declared.reading.LinkFault.{LinkFault}
@@ -28,31 +31,35 @@ use Rattle.he_wire.specs.declared.reading.GreetingFault.TheVariants as shaking
 use Rattle.he_wire.specs.Readings.{ReadsFirst, ReadsLater}
 use Rattle.he_wire.specs.Wires.{IsHouseWire}
 
--- the reading is of the frame with which the bytes held begin
-abbrev pub IsOfFrame : Held → (ℕ → Reading) → Reading → Type 0
-IsOfFrame held of_size reading =
-    (item : Spelled) × (BeginsWith held.framing held.most held.bytes item × (reading ≡ of_size (length item.spelling)))
+-- the bytes held begin with a frame of which this holds, and the reading is of it
+abbrev pub IsOfFrame : Held → (List ℕ → Type 0) → (ℕ → Reading) → Reading → Type 0
+IsOfFrame held Holds of_size reading =
+    (item : Spelled) × (BeginsWith held.framing held.most held.bytes item × Holds item.frame × (reading ≡ of_size (length item.spelling)))
+
+-- no frame can begin with the bytes held, for this reason
+abbrev pub IsOfFault : Held → FrameWhy → Reading → Type 0
+IsOfFault held why reading = (fault : SplitFault) × (IsFaultOf held fault × (why ≡ Split fault) × (reading ≡ Stops (why_words why)))
 
 -- ---- after the handshake
 
 -- the answer tells this reading. Out of memory tells nothing
-abbrev pub TellsLater : Held → Result (Option Read) LinkFault → Reading → Type 0
-TellsLater held (Ok None) reading = reading ≡ Waits
-TellsLater held (Ok (Some (Message m))) reading = IsOfFrame held (Reads (frame_of m)) reading
-TellsLater held (Ok (Some (Unknown n))) reading = IsOfFrame held (Reads (frame.Foreign n)) reading
-TellsLater held (Err (link.Refused at why)) reading =
-    (at ≡ held.place) × ((reading ≡ Stops (why_words why)) ⊎ IsOfFrame held (Refuses (why_words why)) reading)
-TellsLater held (Err link.NoMemory) reading = Unit {0}
+abbrev pub TellsLater : Codec → Held → Result (Option Read) LinkFault → Reading → Type 0
+TellsLater codec held (Ok None) reading = reading ≡ Waits
+TellsLater codec held (Ok (Some (Message m))) reading = IsOfFrame held (λ frame. Says codec frame m) (Reads (frame_of m)) reading
+TellsLater codec held (Ok (Some (Unknown n))) reading = IsOfFrame held (λ frame. IsUnknown codec frame n) (Reads (frames.Foreign n)) reading
+TellsLater codec held (Err (link.Refused at why)) reading =
+    (at ≡ held.place) × (IsOfFault held why reading ⊎ IsOfFrame held (λ frame. Why codec frame why) (Refuses (why_words why)) reading)
+TellsLater codec held (Err link.NoMemory) reading = Unit {0}
 
 -- the answer tells what the bytes held begin with, if it isn't out of memory
 abbrev pub GivesLater : Codec → Held → Result (Option Read) LinkFault → Type 0
 GivesLater codec held (Err link.NoMemory) = Unit {0}
-GivesLater codec held answer = (reading : Reading) × (ReadsLater held.most codec held.bytes reading × TellsLater held answer reading)
+GivesLater codec held answer = (reading : Reading) × (ReadsLater held.most codec held.bytes reading × TellsLater codec held answer reading)
 
 -- the answer tells what this project's wire reads
 abbrev pub TellsWireLater : Codec → Held → Result (Option Read) LinkFault → Type 0
 TellsWireLater codec held answer =
-    (wire : Wire) → IsHouseWire held.most wire → TellsLater held answer (wire.later codec held.bytes)
+    (wire : Wire) → IsHouseWire held.most wire → TellsLater codec held answer (wire.later codec held.bytes)
 
 -- ---- the handshake
 
@@ -81,11 +88,12 @@ IsNoGreeting Client e frame = responses.WhyNot frame e
 abbrev pub TellsFirst : Side → Held → Result (Option Greeting) GreetingFault → Reading → Type 0
 TellsFirst side held (Ok None) reading = reading ≡ Waits
 TellsFirst side held (Ok (Some (greeting.Request shake))) reading =
-    (side ≡ Server) × IsVersion shake.version × IsOfFrame held (Reads (frame.Request shake.codec shake.version)) reading
-TellsFirst side held (Ok (Some greeting.Response)) reading = (side ≡ Client) × IsOfFrame held (Reads frame.Response) reading
+    (side ≡ Server) × IsVersion shake.version
+    × IsOfFrame held (λ frame. Asks frame shake.codec shake.version) (Reads (frames.Request shake.codec shake.version)) reading
+TellsFirst side held (Ok (Some greeting.Response)) reading = (side ≡ Client) × IsOfFrame held Accepts (Reads frames.Response) reading
 TellsFirst side held (Err (shaking.Split fault)) reading = IsFaultOf held fault × (reading ≡ Stops (fault_words fault))
 TellsFirst side held (Err (shaking.Shake e)) reading =
-    IsOwed side e × IsOfFrame held (Reads (frame.Strange (shake_words e) (answer_of side e))) reading
+    IsOwed side e × IsOfFrame held (IsNoGreeting side e) (Reads (frames.Strange (shake_words e) (answer_of side e))) reading
 TellsFirst side held (Err shaking.NoMemory) reading = Unit {0}
 
 -- the answer tells what the bytes held begin with, if it isn't out of memory

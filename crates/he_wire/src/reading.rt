@@ -69,9 +69,10 @@ impl From<ShakeError> for GreetingFault {
     }
 }
 
-/// The next hub message on a link, which is left there for `pass`. `None` waits for more bytes.
+/// The hub message that comes next on a link, which stays there until [`Splitter::pass`]. `None` waits for more bytes.
 ///
-/// The splitter cuts in the codec's framing. A place is a number of bytes of the link, as [`Splitter::place`] gives it.
+/// The splitter cuts in the codec's framing, else nothing is said of the answer. A place is a number of bytes of the link, as
+/// [`Splitter::place`] gives it. After `NoMemory` the same call may succeed.
 pub fn read_later(
     alloc: Global,
     codec: Codec,
@@ -111,10 +112,10 @@ fn read_greeting(alloc: Global, side: Side, frame: &[u8]) -> Result<Greeting, Sh
     }
 }
 
-/// The handshake that begins a first link, which is left there for `pass`: at a server the request, at a client the response.
-/// `None` waits for more bytes.
+/// The handshake that begins a first link, which stays there until [`Splitter::pass`]: at a server the request, at a client the
+/// response (HubProtocol.md, "Overview"). `None` waits for more bytes.
 ///
-/// The splitter cuts in `Framing::Record`.
+/// The splitter cuts in `Framing::Record`, else nothing is said of the answer. After `NoMemory` the same call may succeed.
 pub fn read_first(
     alloc: Global,
     side: Side,

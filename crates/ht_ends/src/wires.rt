@@ -1,8 +1,9 @@
 //! What an end writes of itself, in the frames of `HubProtocol.md`'s examples, and what a link's bytes begin with.
 use hd_delivery::{Reason, Side};
 use he_wire::{
-    Control, Greeting, GreetingFault, LinkFault, MOST_CONTROL, Slate, read_first, read_later,
-    unframed_size,
+    Control, Greeting, GreetingFault, LinkFault, MOST_CONTROL, Slate, answers_are_spelled,
+    bytes_are_read, has_wire, read_first, read_later, reads_once, unframed_size, wire_is_faithful,
+    wire_is_sound,
 };
 use hf_split::{Framing, Splitter, wrap};
 use hm_codec::{framing, write_message};
@@ -229,4 +230,15 @@ fn the_handshake_of_each_side(rt: HostRuntime) -> Result<(), Fail> {
         assert_eq!(rt; got.as_str(), *wanted);
     }
     Ok(())
+}
+
+/// The laws are called as any function.
+#[test]
+fn laws() {
+    answers_are_spelled();
+    bytes_are_read();
+    has_wire();
+    reads_once();
+    wire_is_faithful();
+    wire_is_sound();
 }

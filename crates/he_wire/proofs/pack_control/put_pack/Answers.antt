@@ -1,4 +1,4 @@
-use Rattle.std.proofs.Common.{arith, rules}
+use Rattle.std.proofs.Common.{rules}
 use Rattle.he_wire.specs.Controls.{message_of}
 use Rattle.he_wire.proofs.PackControls.{patched}
 use Rattle.he_wire.proofs.pack_control.put_pack.Goals as goal

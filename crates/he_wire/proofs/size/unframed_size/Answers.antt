@@ -1,4 +1,4 @@
-use Rattle.std.proofs.Common.{◌≡◌, ℕ, List, ◌∙◌, subst}
+use Rattle.std.proofs.Common.{◌≡◌, ◌∙◌, subst}
 use Rattle.hm_message.specs.declared.message.Codec.{Codec}
 use Rattle.hf_split.specs.Cuts.{CanWrap, wrapped}
 use Rattle.hm_codec.specs.Frames.{framing_of}
