@@ -1,3 +1,5 @@
+//! What words ask for: a table of command lines.
+
 use super::*;
 use hm_message::Codec;
 use std::alloc::{AllocError, Global};
