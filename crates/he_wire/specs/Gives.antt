@@ -31,6 +31,10 @@ use Rattle.he_wire.specs.declared.reading.GreetingFault.TheVariants as shaking
 use Rattle.he_wire.specs.Readings.{ReadsFirst, ReadsLater}
 use Rattle.he_wire.specs.Wires.{IsHouseWire}
 
+-- the bytes held begin with a frame
+abbrev pub Begins : Held → Type 0
+Begins held = (item : Spelled) × BeginsWith held.framing held.most held.bytes item
+
 -- the bytes held begin with a frame of which this holds, and the reading is of it
 abbrev pub IsOfFrame : Held → (List ℕ → Type 0) → (ℕ → Reading) → Reading → Type 0
 IsOfFrame held Holds of_size reading =

@@ -1,0 +1,11 @@
+pub mod Attached
+pub mod Dues
+pub mod Links
+pub mod Messages
+pub mod Read
+pub mod Said
+pub mod Shaken
+pub mod Taken
+pub mod Ends
+pub mod Outs
+pub mod Nexts

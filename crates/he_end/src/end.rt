@@ -1,0 +1,473 @@
+//! One end over bytes: a session, and the splitter that cuts what its link brings.
+//!
+//! It speaks of messages, moments and bytes that are handed in; it doesn't know sockets, clocks and hubs.
+
+ghost use Rattle.std.specs.Prelude.{◌≡◌, ◌≤◌, ◌<◌, ◌⊎◌, ◌↔◌, ℕ, true, false, List, [], ◌∷◌, Option, Some, None, IfOk, IfErr, OnOk, OnErr, IfSome, IsTrue, length, take, option_map, sum_by, is_some, not, ◌||◌, ◌&&◌, if◌then◌else◌};
+ghost use Rattle.std.specs.Borrow.{sem};
+ghost use Rattle.hf_split.specs.Held.{taken_by_feed};
+ghost use Rattle.hm_message.specs.Message.{is_sequenced, Fits};
+ghost use Rattle.hm_codec.specs.Frames.{framed, framing_of};
+ghost use Rattle.hs_shake.specs.Requests.{IsVersion};
+ghost use Rattle.hd_delivery.specs.Histories as of;
+ghost use Rattle.hd_delivery.specs.Histories.{Attached, Detached, Ticked, Silenced, present_link, was_on, first_link, codec_of, is_kept, is_closed, is_silence, state, sent_messages, processed_messages, held_messages};
+ghost use Rattle.hd_delivery.specs.Worlds.{HasRoom};
+ghost use Rattle.hd_delivery.specs.Bytes.{Wire, ByteStep, Bytes, Does, in_frames, sizes_of};
+ghost use Rattle.hd_delivery.specs.Frames.{Request};
+ghost use Rattle.he_wire.specs.Wires.{IsHouseWire};
+ghost use Rattle.he_wire.specs.Spelling.{spelling};
+ghost use Rattle.he_wire.specs.Controls.{frame_of_control};
+ghost use Rattle.he_wire.specs.Gives.{Begins};
+ghost use Rattle.he_end.specs.Stands.{Stands, begun, limits_of, is_client};
+ghost use Rattle.he_end.specs.Calls.{OfEach, Said, IsReading, Takes, Greets, Refuses, FailsAt, Gives, Fails, Sends, RefusesToSend, Lends, AreDue};
+ghost use Rattle.he_end.specs.EndLending.{EndsAs};
+
+use crate::config::Config;
+use crate::due::Due;
+use crate::errors::{NextError, SendError};
+use crate::link::{Answer, Farewell};
+use crate::session::{AttachError, Session};
+use crate::taking::Refused;
+use hd_delivery::{
+    Got, Reason, Side, State, facts_hold, next_is_read, unread_begins, unread_grows, unread_moves,
+    unread_stays,
+};
+use he_wire::{
+    Control, Greeting, GreetingFault, LinkFault, Slate, read_first, read_later, unframed_size,
+    wire_is_sound,
+};
+use hf_split::{Framing, Splitter};
+use hm_codec::{FrameWhy, framing, write_message};
+use hm_message::{Codec, Message, Read};
+use hq_resend::{Beyond, Frame, Gap, Limits, PushError};
+use hs_shake::{Shake, ShakeError, response};
+use std::alloc::{AllocError, Global};
+
+/// One end of a hub connection, across its links.
+#[derive(Drop)]
+pub struct End {
+    session: Session,
+    splitter: Splitter,
+    slate: Slate,
+}
+
+impl End {
+    /// An end before its first link. It takes the memory of what it can hold and of what it can read.
+    pub fn start(alloc: Global, side: Side, config: Config) -> Result<End, AllocError>
+        requires { IsVersion config.version }
+        ensures { IfOk result (λ e. (wire : Wire) → IsHouseWire config.limits.frame wire → Stands wire (begun side config) e []) }
+    {
+        let Config {
+            codec,
+            version,
+            reconnect,
+            limits,
+        } = config;
+        Ok(End {
+            session: Session::start(alloc, side, codec, version, reconnect, limits)?,
+            splitter: Splitter::start(alloc, Framing::Record, limits.frame())?,
+            slate: Slate::start(alloc)?,
+        })
+    }
+
+    // ---- what you tell it
+
+    /// A link begins, at this moment. An older one is left, and its unread bytes are dropped.
+    pub fn attach(&mut self, now: u64) -> Result<(), AttachError>
+        ensures ok { OnOk result (OfEach self.old (λ wire c h. (l : ℕ) → was_on l (in_frames wire c h) ≡ false → of.moment (in_frames wire c h) ≤ now →
+            Stands wire c self.new (Does (Attached l now) ∷ h))) }
+        ensures closed { IfErr result (λ e. e ≡ AttachError.Closed → OfEach self.old (λ wire c h. is_closed c (in_frames wire c h) ≡ true)) }
+        ensures not_granted { IfErr result (λ e. e ≡ AttachError.NotGranted → OfEach self.old (λ wire c h. (is_closed c (in_frames wire c h) ≡ false)
+            × (is_kept c (in_frames wire c h) ≡ false) × (first_link (in_frames wire c h) ≡ None → ⊥))) }
+        ensures err { OnErr result (self.new ≡ self.old) }
+    {
+        unread_begins();
+        self.session.attach(now)?;
+        let framing = self.next_framing();
+        self.splitter.reset(framing);
+        Ok(())
+    }
+
+    /// The link is lost, at this moment. A connection that isn't kept, or whose handshake isn't complete, is closed by that.
+    /// Without a link nothing changes.
+    pub fn detach(&mut self, now: u64)
+        ensures left { OfEach self.old (λ wire c h. (l : ℕ) → present_link (in_frames wire c h) ≡ Some l → of.moment (in_frames wire c h) ≤ now →
+            Stands wire c self.new (Does (Detached now) ∷ h)) }
+        ensures none { OfEach self.old (λ wire c h. present_link (in_frames wire c h) ≡ None → self.new ≡ self.old) }
+    {
+        unread_stays();
+        self.session.detach(now);
+    }
+
+    /// Takes the first bytes of what the link brings, and answers how many: as many as there is room for, and none without
+    /// a link, on a closed end, or where no frame can begin. Take all messages, and feed it the rest.
+    pub fn feed(&mut self, piece: &[u8]) -> usize
+        ensures within { result ≤ length piece.now }
+        ensures fed { OfEach self.old (λ wire c h. (l : ℕ) → present_link (in_frames wire c h) ≡ Some l → is_closed c (in_frames wire c h) ≡ false →
+            Stands wire c self.new (Bytes (take result piece.now) ∷ h)) }
+        ensures none { OfEach self.old (λ wire c h. (present_link (in_frames wire c h) ≡ None) ⊎ (is_closed c (in_frames wire c h) ≡ true) →
+            (result ≡ 0) × (self.new ≡ self.old)) }
+    {
+        if !self.is_reading() {
+            return 0;
+        }
+        unread_grows();
+        wire_is_sound();
+        self.session.hear();
+        self.splitter.feed(piece)
+    }
+
+    /// A moment came. True exactly if it is a silence: nothing was fed for `SILENCE_AFTER` milliseconds, as ticks tell, and
+    /// the link is lost by that. After `PING_AFTER` milliseconds in which nothing was said a Ping is due.
+    pub fn tick(&mut self, now: u64) -> bool
+        ensures { OfEach self.old (λ wire c h. of.moment (in_frames wire c h) ≤ now → (result ≡ is_silence c now (in_frames wire c h))
+            × Stands wire c self.new (Does (if result then Silenced now else Ticked now) ∷ h)) }
+    {
+        unread_stays();
+        self.session.tick(now)
+    }
+
+    /// Closes the end for this reason. After the handshake a Close that tells it is due. A closed end stays as it is.
+    pub fn close(&mut self, reason: Reason, allow: bool)
+        ensures live { OfEach self.old (λ wire c h. is_closed c (in_frames wire c h) ≡ false → Stands wire c self.new (Does (of.Closed reason allow) ∷ h)) }
+        ensures closed { OfEach self.old (λ wire c h. is_closed c (in_frames wire c h) ≡ true → self.new ≡ self.old) }
+    {
+        unread_stays();
+        self.session.close(reason, allow);
+    }
+
+    /// Takes a message to be said, and answers its number, from 1. It may be called while the end is away.
+    pub fn send(&mut self, alloc: Global, message: &Message) -> Result<u64, SendError>
+        requires sequenced { is_sequenced message.now ≡ true }
+        requires fits { Fits message.now }
+        ensures ok { IfOk result (Sends self.old self.new message.now) }
+        ensures refused { IfErr result (RefusesToSend self.old self.new message.now) }
+    {
+        self.may_send()?;
+        let mut bytes = Vec::new(alloc);
+        write_message(alloc, self.session.codec, message, &mut bytes)?;
+        let frame = Frame::of(alloc, &bytes)?;
+        self.push(frame)
+    }
+
+    /// The same for a message whose framed frame in this end's codec is at hand: its bytes are shared and not copied.
+    pub fn send_shared(&mut self, message: &Message, frame: &Frame) -> Result<u64, SendError>
+        requires sequenced { is_sequenced message.now ≡ true }
+        requires fits { Fits message.now }
+        requires framed { frame.now ≡ framed self.old.session.codec message.now }
+        ensures ok { IfOk result (Sends self.old self.new message.now) }
+        ensures refused { IfErr result (RefusesToSend self.old self.new message.now) }
+    {
+        self.may_send()?;
+        self.push(frame.share()?)
+    }
+
+    // ---- what it tells you
+
+    /// What the next frame of the link gives: None if no whole frame has come, without a link, and on a closed end.
+    pub fn next(&mut self, alloc: Global) -> Result<Option<Got>, NextError>
+        ensures ok { IfOk result (Gives self.old self.new) }
+        ensures failed { IfErr result (Fails self.old self.new) }
+    {
+        if !self.is_reading() {
+            return Ok(None);
+        }
+        if self.session.agreed.is_some() {
+            self.next_frame(alloc)
+        } else {
+            self.next_greeting(alloc)
+        }
+    }
+
+    /// Lends the next bytes to put on the link, whole frames, which count as said; None if nothing is due. It takes no memory.
+    pub fn next_out(&mut self) -> Option<&[u8]>
+        ensures* after { sem 𝓛 (EndsAs self.entry (λ e. Lends self.old e)) }
+        ensures bytes { AreDue self.old (option_map (λ bytes. bytes.now) result) }
+    {
+        facts_hold();
+        unread_stays();
+        match self.session.due()? {
+            Due::Message => self.session.say_message(),
+            Due::Request => {
+                self.say_request();
+                Some(self.slate.bytes())
+            }
+            Due::Response => {
+                self.say(Due::Response);
+                Some(response(None))
+            }
+            Due::Refusal => {
+                let answer = self.session.answer?;
+                self.say(Due::Refusal);
+                Some(answer.bytes())
+            }
+            Due::Sequence { first, received } => {
+                self.say_control(
+                    Due::Sequence { first, received },
+                    Control::Sequence { first, received },
+                );
+                Some(self.slate.bytes())
+            }
+            Due::Ack(upto) => {
+                self.say_control(Due::Ack(upto), Control::Ack { upto });
+                Some(self.slate.bytes())
+            }
+            Due::Ping => {
+                self.say_control(Due::Ping, Control::Ping);
+                Some(self.slate.bytes())
+            }
+            Due::Close(farewell) => {
+                let Farewell { reason, allow } = farewell;
+                self.say_control(Due::Close(farewell), Control::Close { reason, allow });
+                Some(self.slate.bytes())
+            }
+        }
+    }
+
+    // ---- what it is
+
+    /// The codec in which the end reads and writes: None exactly at a server that hasn't taken a request.
+    pub fn codec(&self) -> Option<Codec>
+        ensures { OfEach self.now (λ wire c h. let k = in_frames wire c h in
+            result ≡ (if of.is_shaken k || is_client c.side then Some (codec_of c k) else None)) }
+    {
+        if self.session.agreed.is_some() || self.session.side == Side::Client {
+            Some(self.session.codec)
+        } else {
+            None
+        }
+    }
+
+    /// What the end can do.
+    pub fn state(&self) -> State
+        ensures { OfEach self.now (λ wire c h. result ≡ state c (in_frames wire c h)) }
+    {
+        self.session.state()
+    }
+
+    /// How many messages were sent, which is the number of the latest.
+    pub fn sent_count(&self) -> u64
+        ensures { OfEach self.now (λ wire c h. result ≡ length (sent_messages (in_frames wire c h))) }
+    {
+        self.session.ring.count_sent()
+    }
+
+    /// How many messages of the other end were handed out, which is the number of the latest.
+    pub fn processed_count(&self) -> u64
+        ensures { OfEach self.now (λ wire c h. result ≡ length (processed_messages (in_frames wire c h))) }
+    {
+        self.session.intake.processed()
+    }
+
+    /// How many messages are held: on a kept connection those that the other end may not have, else those not said yet.
+    pub fn held_count(&self) -> usize
+        ensures { OfEach self.now (λ wire c h. result ≡ length (held_messages c (in_frames wire c h))) }
+    {
+        self.session.ring.held()
+    }
+
+    /// The framed bytes of the messages held.
+    pub fn held_bytes(&self) -> usize
+        ensures { OfEach self.now (λ wire c h. let k = in_frames wire c h in
+            result ≡ sum_by (λ m. length (framed (codec_of c k) m)) (held_messages c k)) }
+    {
+        self.session.ring.held_bytes()
+    }
+
+    /// Whether a message whose framed frame has this many bytes has room.
+    pub fn room(&self, size: usize) -> bool
+        ensures { OfEach self.now (λ wire c h. IsTrue result ↔ HasRoom (limits_of self.now) (sizes_of wire) c (in_frames wire c h) size) }
+    {
+        self.session.ring.has_room(size)
+    }
+
+    /// What the end may hold and read.
+    pub fn limits(&self) -> Limits
+        ensures { result ≡ limits_of self.now }
+    {
+        self.session.ring.limits()
+    }
+
+    // ---- inside
+
+    /// Whether frames are taken: the end stands on a link, and isn't closed.
+    fn is_reading(&self) -> bool
+        ensures value { result ≡ (is_some self.now.session.link && not self.now.session.closed) }
+        ensures reads { OfEach self.now (λ wire c h. let k = in_frames wire c h in result ≡ (is_some (present_link k) && not (is_closed c k))) }
+    {
+        self.session.link.is_some() && !self.session.closed
+    }
+
+    /// The framing of the next frame of a link that begins.
+    fn next_framing(&self) -> Framing
+        ensures { OfEach self.now (λ wire c h. let k = in_frames wire c h in
+            result ≡ (if of.is_shaken k then framing_of (codec_of c k) else Framing.Record)) }
+    {
+        if self.session.agreed.is_some() {
+            framing(self.session.codec)
+        } else {
+            Framing::Record
+        }
+    }
+
+    /// Reads a frame after the handshake.
+    fn next_frame(&mut self, alloc: Global) -> Result<Option<Got>, NextError>
+        requires reading { IsReading self.old }
+        requires shaken { is_some self.old.session.agreed ≡ true }
+        ensures ok { IfOk result (Gives self.old self.new) }
+        ensures failed { IfErr result (Fails self.old self.new) }
+    {
+        facts_hold();
+        next_is_read();
+        wire_is_sound();
+        match read_later(alloc, self.session.codec, &self.splitter) {
+            Ok(None) => Ok(None),
+            Ok(Some(read)) => match self.take(read) {
+                Ok(got) => Ok(Some(got)),
+                Err(e) => Err(e),
+            },
+            Err(LinkFault::NoMemory) => Err(NextError::NoMemory),
+            Err(LinkFault::Refused { at, why }) => Err(self.fail(at, why)),
+        }
+    }
+
+    /// Takes this, which was read of the frame with which the splitter's bytes begin.
+    fn take(&mut self, read: Read) -> Result<Got, NextError>
+        requires reading { IsReading self.old }
+        requires shaken { is_some self.old.session.agreed ≡ true }
+        requires begins { Begins self.old.splitter }
+        ensures { Takes self.old self.new read result }
+    {
+        facts_hold();
+        next_is_read();
+        unread_moves();
+        wire_is_sound();
+        self.splitter.pass();
+        match self.session.take(read) {
+            Ok(got) => Ok(got),
+            Err(Refused::Gap(Gap { got, most })) => Err(NextError::Gap { got, most }),
+            Err(Refused::AckBeyond(Beyond { got, most })) => Err(NextError::AckBeyond {
+                got,
+                most,
+            }),
+        }
+    }
+
+    /// Reads the handshake.
+    fn next_greeting(&mut self, alloc: Global) -> Result<Option<Got>, NextError>
+        requires reading { IsReading self.old }
+        requires unshaken { is_some self.old.session.agreed ≡ false }
+        ensures ok { IfOk result (Gives self.old self.new) }
+        ensures failed { IfErr result (Fails self.old self.new) }
+    {
+        facts_hold();
+        next_is_read();
+        wire_is_sound();
+        match read_first(alloc, self.session.side, &self.splitter) {
+            Ok(None) => Ok(None),
+            Ok(Some(greeting)) => Ok(Some(self.greet(greeting))),
+            Err(GreetingFault::NoMemory) => Err(NextError::NoMemory),
+            Err(GreetingFault::Split(fault)) => {
+                let at = self.splitter.place();
+                Err(self.fail(at, FrameWhy::Split(fault)))
+            }
+            Err(GreetingFault::Shake(e)) => {
+                self.refuse(&e);
+                Err(NextError::Shake(e))
+            }
+        }
+    }
+
+    /// Takes the handshake that was read of the frame with which the splitter's bytes begin.
+    fn greet(&mut self, greeting: Greeting) -> Got
+        requires reading { IsReading self.old }
+        requires unshaken { is_some self.old.session.agreed ≡ false }
+        requires begins { Begins self.old.splitter }
+        ensures { Greets self.old self.new greeting result }
+    {
+        facts_hold();
+        next_is_read();
+        unread_moves();
+        wire_is_sound();
+        self.splitter.pass();
+        let got = match greeting {
+            Greeting::Request(shake) => self.session.take_request(shake.codec, shake.version),
+            Greeting::Response => self.session.take_response(),
+        };
+        let framing = framing(self.session.codec);
+        self.splitter.reframe(framing);
+        got
+    }
+
+    /// The first frame is no handshake. A server owes its answer.
+    fn refuse(&mut self, e: &ShakeError)
+        ensures { Refuses self.old self.new e.now }
+    {
+        self.session.refuse(Answer::to(e));
+    }
+
+    /// The end is closed, since the next frame can't be read.
+    fn fail(&mut self, at: u64, why: FrameWhy) -> NextError
+        ensures { FailsAt self.old self.new at why result }
+    {
+        let link = self.session.own_number();
+        self.session.fail();
+        NextError::Frame { link, at, why }
+    }
+
+    /// This, which is due and no message, is said.
+    fn say(&mut self, said: Due)
+        requires { said ≡ Due.Message → ⊥ }
+        ensures slate { self.new.slate ≡ self.old.slate }
+        ensures said { Said self.old self.new said }
+    {
+        unread_stays();
+        self.session.say(said);
+    }
+
+    /// The same, with its bytes on the slate.
+    fn say_control(&mut self, said: Due, control: Control)
+        requires { said ≡ Due.Message → ⊥ }
+        ensures slate { self.new.slate ≡ spelling self.old.session.codec (frame_of_control control) }
+        ensures said { Said self.old self.new said }
+    {
+        self.slate.write(self.session.codec, control);
+        self.say(said);
+    }
+
+    /// A client's request, with its bytes on the slate.
+    fn say_request(&mut self)
+        ensures slate { self.new.slate ≡ spelling self.old.session.codec (Request self.old.session.codec self.old.session.version) }
+        ensures said { Said self.old self.new Due.Request }
+    {
+        let codec = self.session.codec;
+        let version = self.session.version;
+        self.slate.write_request(Shake { codec, version });
+        self.say(Due::Request);
+    }
+
+    /// Whether anything can be sent: first that the handshake is complete, then that the end isn't closed.
+    fn may_send(&self) -> Result<(), SendError> {
+        match self.session.state() {
+            State::Opening => Err(SendError::Opening),
+            State::Closed => Err(SendError::Closed),
+            State::Ready | State::Away => Ok(()),
+        }
+    }
+
+    /// Takes a frame that is within the limit.
+    fn push(&mut self, frame: Frame) -> Result<u64, SendError> {
+        let size = unframed_size(self.session.codec, frame.bytes());
+        if size > self.session.ring.limits().frame() {
+            return Err(SendError::TooLong { size });
+        }
+        match self.session.push(frame) {
+            Ok(number) => Ok(number),
+            Err(PushError::Full { held, bytes, size }) => Err(SendError::Full {
+                held,
+                bytes,
+                size,
+            }),
+            Err(PushError::Exhausted) => Err(SendError::Exhausted),
+        }
+    }
+}

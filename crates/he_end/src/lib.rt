@@ -1,0 +1,15 @@
+//! One end of a hub connection: link bytes to messages and back, over links that come and go.
+#![tactic(auto)]
+
+mod config;
+mod due;
+mod end;
+mod errors;
+mod link;
+mod session;
+mod taking;
+
+pub use config::Config;
+pub use end::End;
+pub use errors::{NextError, SendError};
+pub use session::AttachError;
