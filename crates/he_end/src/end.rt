@@ -38,7 +38,7 @@ use he_wire::{
 use hf_split::{Framing, Splitter};
 use hm_codec::{FrameWhy, framing, write_message};
 use hm_message::{Codec, Message, Read};
-use hq_resend::{Beyond, Frame, Gap, Limits, PushError};
+use hq_resend::{Frame, Limits, PushError};
 use hs_shake::{Shake, ShakeError, response};
 use std::alloc::{AllocError, Global};
 
@@ -344,10 +344,13 @@ impl End {
         self.splitter.pass();
         match self.session.take(read) {
             Ok(got) => Ok(got),
-            Err(Refused::Gap(Gap { got, most })) => Err(NextError::Gap { got, most }),
-            Err(Refused::AckBeyond(Beyond { got, most })) => Err(NextError::AckBeyond {
-                got,
-                most,
+            Err(Refused::Gap(gap)) => Err(NextError::Gap {
+                got: gap.got,
+                most: gap.most,
+            }),
+            Err(Refused::AckBeyond(beyond)) => Err(NextError::AckBeyond {
+                got: beyond.got,
+                most: beyond.most,
             }),
         }
     }
