@@ -17,7 +17,7 @@ use Rattle.hm_message.specs.declared.message.Ending.{Ending}
 use Rattle.hm_message.specs.declared.message.Ending.TheVariants.{Void, Result, Error}
 use Rattle.hm_message.specs.Laws.{ValuesAreTrees, ImageIsItsImage}
 use Rattle.hm_message.specs.Message.{is_sequenced, Fits, content_depth, ending_depth, message_image, ending_image}
-use Rattle.hm_codec.specs.Frames.{framing_of, frame_of, framed, said_again, IsSaid}
+use Rattle.hm_codec.specs.Frames.{Says, framing_of, frame_of, framed, said_again, IsSaid}
 use Rattle.hm_codec.specs.Laws.{FrameIsOfImage}
 use Rattle.hq_resend.specs.Buffers as ring
 use Rattle.hq_resend.specs.Buffers.{held_bytes}
@@ -123,6 +123,17 @@ module _ (law : FrameIsOfImage) (codec : Codec) (m : Message) (frame : List ℕ)
       let few = wrapped_is_short begins (framing_of codec) (frame_of codec (said_again codec m)) is.said.wraps in
       let same = ap length spelled_again in
       omega arith
+
+-- what was spelled is the message's, and says it again
+pub is_spelled : FrameIsOfImage → (codec : Codec) (m : Message) (frame : List ℕ) → frame ≡ framed codec m → Says codec (frame_of codec m) (said_again codec m)
+    → CanWrap (framing_of codec) (frame_of codec m) → IsSpelled codec m frame
+is_spelled law codec m frame bytes says wraps = record {
+  bytes = bytes;
+  said = record {
+    says = subst (λ (xs : List ℕ). Says codec xs (said_again codec m)) (sym (law codec m)) says;
+    wraps = subst (CanWrap (framing_of codec)) (sym (law codec m)) wraps;
+  };
+}
 
 -- ---- the step
 

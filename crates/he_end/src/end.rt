@@ -143,6 +143,7 @@ impl End {
         ensures ok { IfOk result (Sends self.old self.new message.now) }
         ensures refused { IfErr result (RefusesToSend self.old self.new message.now) }
     {
+        frame_is_of_image();
         self.may_send()?;
         let mut bytes = Vec::new(alloc);
         write_message(alloc, self.session.codec, message, &mut bytes)?;
