@@ -23,9 +23,9 @@ use Rattle.hq_resend.specs.Buffers as ring
 use Rattle.hq_resend.specs.Buffers.{held_bytes}
 use Rattle.hd_delivery.specs.Numbers.{most_messages, most_framing}
 use Rattle.hd_delivery.specs.Histories as of
-use Rattle.hd_delivery.specs.Histories.{Sent, codec_of, is_shaken, is_closed, sent_messages, held_messages}
+use Rattle.hd_delivery.specs.Histories.{Sent, codec_of, is_shaken, is_closed, sent_messages}
 use Rattle.hd_delivery.specs.Worlds.{Limits, Sizes, HasRoom, CanBeSent, MaySend}
-use Rattle.hd_delivery.specs.Sending.{IsSendable, IsRefusedToSend, TooLong, Full, Exhausted}
+use Rattle.hd_delivery.specs.Sending.{IsSendable, IsRefusedToSend, Full, Exhausted}
 use Rattle.hd_delivery.specs.Bytes.{Wire, ByteStep, Does, in_frames, sizes_of}
 use Rattle.hd_delivery.specs.HistoryLaws.{UnreadStays}
 use Rattle.he_wire.specs.Wires.{AreSaid}
@@ -124,11 +124,11 @@ module _ (law : FrameIsOfImage) (codec : Codec) (m : Message) (frame : List ℕ)
       let same = ap length spelled_again in
       omega arith
 
--- what was spelled is the message's, and says it again
-pub is_spelled : FrameIsOfImage → (codec : Codec) (m : Message) (frame : List ℕ) → frame ≡ framed codec m → Says codec (frame_of codec m) (said_again codec m)
-    → CanWrap (framing_of codec) (frame_of codec m) → IsSpelled codec m frame
-is_spelled law codec m frame bytes says wraps = record {
-  bytes = bytes;
+-- what was appended to nothing is the message's, and says it again
+pub is_spelled : FrameIsOfImage → (codec : Codec) (m : Message) (front frame : List ℕ) → front ≡ [] → frame ≡ front ++ framed codec m
+    → Says codec (frame_of codec m) (said_again codec m) → CanWrap (framing_of codec) (frame_of codec m) → IsSpelled codec m frame
+is_spelled law codec m front frame empty bytes says wraps = record {
+  bytes = bytes ∙ ap (λ (xs : List ℕ). xs ++ framed codec m) empty;
   said = record {
     says = subst (λ (xs : List ℕ). Says codec xs (said_again codec m)) (sym (law codec m)) says;
     wraps = subst (CanWrap (framing_of codec)) (sym (law codec m)) wraps;
@@ -170,9 +170,6 @@ module _ (wire : Wire) (c : of.Config) (e : End) (h : List ByteStep) (st : Stand
 
     framed_is : length frame ≡ (sizes_of wire).framed (codec_of c (in_frames wire c h)) read
     framed_is = ap length (spelled_again law (codec_of c (in_frames wire c h)) m frame here) ∙ framed_size wire c e h st (codec_of c (in_frames wire c h)) read
-
-    pub too_long : (limits_of e).frame < size → IsRefusedToSend (limits_of e) (sizes_of wire) c (in_frames wire c h) read (TooLong size)
-    too_long long = (unclosed, shakes, size_is, long)
 
     module _ (fits_limit : size ≤ (limits_of e).frame) where
       short : (sizes_of wire).frame (codec_of c (in_frames wire c h)) read ≤ (limits_of e).frame

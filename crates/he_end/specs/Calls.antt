@@ -65,7 +65,7 @@ Fails old new e = OfEach old (λ wire c h. FailsBy wire c h new (fault_of c e))
 -- ---- what is sent
 
 -- The bytes are the message's framed frame in this codec, and what this frame says is written as a frame that says it again. Of the bytes
--- that `hm_codec::write_message` appended its contract tells both.
+-- that `hm_codec::write_message` appended its contract tells the first, and with `hm_codec::frame_is_of_image` the second.
 pub record IsSpelled (codec : Codec) (m : Message) (frame : List ℕ) : Type 0 where
   pub bytes : frame ≡ framed codec m
   pub said : IsSaid codec (said_again codec m)

@@ -151,7 +151,8 @@ impl End {
         self.push(frame)
     }
 
-    /// The same for a message whose framed frame in this end's codec is at hand: its bytes are shared and not copied.
+    /// The same for a message whose framed frame in this end's codec is at hand, as `hm_codec::write_message` appends it: its
+    /// bytes are shared and not copied.
     pub fn send_shared(&mut self, message: &Message, frame: &Frame) -> Result<u64, SendError>
         requires sequenced { is_sequenced message.now ≡ true }
         requires fits { Fits message.now }

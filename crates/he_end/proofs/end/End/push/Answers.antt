@@ -27,9 +27,9 @@ returns-in-Err-Full-clause-refused c m is =
     let sized = has_size c.frame_is_of_image.ensures e.codec m c.args.frame is c.bytes.result.now c.unframed_size-size.result c.bytes.ensures c.unframed_size-size.ensures in
     let fault = subst (IsPushFault e.ring (length c.args.frame)) c.in-Err-Full.field-0-is c.in-Err-Full.ensures.err.0 in (
       λ wire config h st. let live = c.requires.live wire config h st in
-        full wire config c.args.self.now h st c.frame_is_of_image.ensures live.0 live.1 m c.args.frame is c.unframed_size-size.result sized
-        (let small = c.if-size-frame.false in let value = c.frame-2.ensures.value in let all = ap (λ x. x.frame) c.limits.ensures in omega arith)
-        c.in-Err-Full.held c.in-Err-Full.bytes c.in-Err-Full.size fault.0 fault.1 fault.2 fault.3,
+          full wire config c.args.self.now h st c.frame_is_of_image.ensures live.0 live.1 m c.args.frame is c.unframed_size-size.result sized
+          (let small = c.if-size-frame.false in let value = c.frame-2.ensures.value in let all = ap (λ x. x.frame) c.limits.ensures in omega arith)
+          c.in-Err-Full.held c.in-Err-Full.bytes c.in-Err-Full.size fault.0 fault.1 fault.2 fault.3,
       λ wire config h st. unchanged wire config c.args.self.now h st c.push.new.self c.in-Err-Full.ensures.err.1,
     )
 
@@ -39,8 +39,8 @@ returns-in-Err-Exhausted-clause-refused c m is =
     let sized = has_size c.frame_is_of_image.ensures e.codec m c.args.frame is c.bytes.result.now c.unframed_size-size.result c.bytes.ensures c.unframed_size-size.ensures in
     let fault = subst (IsPushFault e.ring (length c.args.frame)) c.in-Err-Exhausted.field-0-is c.in-Err-Exhausted.ensures.err.0 in (
       λ wire config h st. let live = c.requires.live wire config h st in
-        exhausted wire config c.args.self.now h st c.frame_is_of_image.ensures live.0 live.1 m c.args.frame is c.unframed_size-size.result sized
-        (let small = c.if-size-frame.false in let value = c.frame-2.ensures.value in let all = ap (λ x. x.frame) c.limits.ensures in omega arith)
-        fault.0 fault.1,
+          exhausted wire config c.args.self.now h st c.frame_is_of_image.ensures live.0 live.1 m c.args.frame is c.unframed_size-size.result sized
+          (let small = c.if-size-frame.false in let value = c.frame-2.ensures.value in let all = ap (λ x. x.frame) c.limits.ensures in omega arith)
+          fault.0 fault.1,
       λ wire config h st. unchanged wire config c.args.self.now h st c.push.new.self c.in-Err-Exhausted.ensures.err.1,
     )
