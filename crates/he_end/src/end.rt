@@ -448,7 +448,7 @@ impl End {
         self.say(Due::Request);
     }
 
-    /// Whether anything can be sent: first that the handshake is complete, then that the end isn't closed.
+    /// Whether anything can be sent: first that the end isn't closed, then that the handshake is complete.
     fn may_send(&self) -> Result<(), SendError>
         ensures ok { OnOk result (OfEach self.now (λ wire c h. let k = in_frames wire c h in (is_closed c k ≡ false) × (of.is_shaken k ≡ true))) }
         ensures refused { IfErr result (λ e. (m : Message) → RefusesToSend self.now self.now m e) }
