@@ -3,8 +3,9 @@
 use Rattle.std.specs.Prelude.{◌≡◌, ◌≤◌, ℕ, suc, true, false, List, [], ◌∷◌, length, Option, Some, None, Result, Ok, Err, is_some, option_map}
 use Rattle.hf_split.specs.Cuts.{Spelled, BeginsWith}
 use Rattle.hf_split.specs.Held.{Held}
+use Rattle.hm_message.specs.declared.message.Codec.{Codec}
 use Rattle.hm_message.specs.declared.message.Message.{Message}
-use Rattle.hm_codec.specs.Frames.{said_again}
+use Rattle.hm_codec.specs.Frames.{framed, said_again, IsSaid}
 use Rattle.hm_codec.specs.Words.{why_words}
 use Rattle.hs_shake.specs.Words.{shake_words}
 use Rattle.hs_shake.specs.Responses.{refusal_text}
@@ -62,6 +63,12 @@ abbrev pub Fails : End → End → NextError → Type 0
 Fails old new e = OfEach old (λ wire c h. FailsBy wire c h new (fault_of c e))
 
 -- ---- what is sent
+
+-- The bytes are the message's framed frame in this codec, and what this frame says is written as a frame that says it again. Of the bytes
+-- that `hm_codec::write_message` appended its contract tells the first, and with `hm_codec::frame_is_of_image` the second.
+pub record IsSpelled (codec : Codec) (m : Message) (frame : List ℕ) : Type 0 where
+  pub bytes : frame ≡ framed codec m
+  pub said : IsSaid codec (said_again codec m)
 
 -- the message, as the other end reads it, is sent with this number
 abbrev pub Sends : End → End → Message → ℕ → Type 0

@@ -5,6 +5,7 @@
 ghost use Rattle.std.specs.Prelude.{◌≡◌, ◌≤◌, ◌<◌, ◌⊎◌, ◌↔◌, ℕ, true, false, List, [], ◌∷◌, Option, Some, None, IfOk, IfErr, OnOk, OnErr, IfSome, IsTrue, length, take, option_map, sum_by, is_some, not, ◌||◌, ◌&&◌, if◌then◌else◌};
 ghost use Rattle.std.specs.Borrow.{sem};
 ghost use Rattle.hf_split.specs.Held.{taken_by_feed};
+ghost use Rattle.hm_message.specs.declared.message.Message.{Message};
 ghost use Rattle.hm_message.specs.Message.{is_sequenced, Fits};
 ghost use Rattle.hm_codec.specs.Frames.{framed, framing_of};
 ghost use Rattle.hs_shake.specs.Requests.{IsVersion};
@@ -18,7 +19,7 @@ ghost use Rattle.he_wire.specs.Spelling.{spelling};
 ghost use Rattle.he_wire.specs.Controls.{frame_of_control};
 ghost use Rattle.he_wire.specs.Gives.{Begins};
 ghost use Rattle.he_end.specs.Stands.{Stands, begun, limits_of, is_client};
-ghost use Rattle.he_end.specs.Calls.{OfEach, Said, IsReading, Takes, Greets, Refuses, FailsAt, Gives, Fails, Sends, RefusesToSend, Lends, AreDue};
+ghost use Rattle.he_end.specs.Calls.{OfEach, Said, IsReading, Takes, Greets, Refuses, FailsAt, Gives, Fails, IsSpelled, Sends, RefusesToSend, Lends, AreDue};
 ghost use Rattle.he_end.specs.EndLending.{EndsAs};
 
 use crate::config::Config;
@@ -35,9 +36,9 @@ use he_wire::{
     Control, Greeting, GreetingFault, LinkFault, Slate, read_first, read_later, unframed_size,
     wire_is_sound,
 };
-use hf_split::{Framing, Splitter};
-use hm_codec::{FrameWhy, framing, write_message};
-use hm_message::{Codec, Message, Read};
+use hf_split::{Framing, Splitter, wrapped_begins};
+use hm_codec::{FrameWhy, frame_is_of_image, framing, write_message};
+use hm_message::{Codec, Message, Read, image_is_its_image, values_are_trees};
 use hq_resend::{Frame, Limits, PushError};
 use hs_shake::{Shake, ShakeError, response};
 use std::alloc::{AllocError, Global};
@@ -81,8 +82,8 @@ impl End {
         ensures err { OnErr result (self.new ≡ self.old) }
     {
         unread_begins();
-        self.session.attach(now)?;
         let framing = self.next_framing();
+        self.session.attach(now)?;
         self.splitter.reset(framing);
         Ok(())
     }
@@ -142,6 +143,7 @@ impl End {
         ensures ok { IfOk result (Sends self.old self.new message.now) }
         ensures refused { IfErr result (RefusesToSend self.old self.new message.now) }
     {
+        frame_is_of_image();
         self.may_send()?;
         let mut bytes = Vec::new(alloc);
         write_message(alloc, self.session.codec, message, &mut bytes)?;
@@ -149,11 +151,12 @@ impl End {
         self.push(frame)
     }
 
-    /// The same for a message whose framed frame in this end's codec is at hand: its bytes are shared and not copied.
+    /// The same for a message whose framed frame in this end's codec is at hand, as `hm_codec::write_message` appends it: its
+    /// bytes are shared and not copied.
     pub fn send_shared(&mut self, message: &Message, frame: &Frame) -> Result<u64, SendError>
         requires sequenced { is_sequenced message.now ≡ true }
         requires fits { Fits message.now }
-        requires framed { frame.now ≡ framed self.old.session.codec message.now }
+        requires spelled { IsSpelled self.old.session.codec message.now frame.now }
         ensures ok { IfOk result (Sends self.old self.new message.now) }
         ensures refused { IfErr result (RefusesToSend self.old self.new message.now) }
     {
@@ -448,8 +451,11 @@ impl End {
         self.say(Due::Request);
     }
 
-    /// Whether anything can be sent: first that the handshake is complete, then that the end isn't closed.
-    fn may_send(&self) -> Result<(), SendError> {
+    /// Whether anything can be sent: first that the end isn't closed, then that the handshake is complete.
+    fn may_send(&self) -> Result<(), SendError>
+        ensures ok { OnOk result (OfEach self.now (λ wire c h. let k = in_frames wire c h in (is_closed c k ≡ false) × (of.is_shaken k ≡ true))) }
+        ensures refused { IfErr result (λ e. (m : Message) → RefusesToSend self.now self.now m e) }
+    {
         match self.session.state() {
             State::Opening => Err(SendError::Opening),
             State::Closed => Err(SendError::Closed),
@@ -457,8 +463,19 @@ impl End {
         }
     }
 
-    /// Takes a frame that is within the limit.
-    fn push(&mut self, frame: Frame) -> Result<u64, SendError> {
+    /// Takes the framed frame of a message, if it is within the limits.
+    fn push(&mut self, frame: Frame) -> Result<u64, SendError>
+        requires live { OfEach self.old (λ wire c h. let k = in_frames wire c h in (is_closed c k ≡ false) × (of.is_shaken k ≡ true)) }
+        requires spelled { (m : Message) × IsSpelled self.old.session.codec m frame }
+        ensures ok { IfOk result (λ number. (m : Message) → is_sequenced m ≡ true → Fits m → IsSpelled self.old.session.codec m frame →
+            Sends self.old self.new m number) }
+        ensures refused { IfErr result (λ e. (m : Message) → IsSpelled self.old.session.codec m frame → RefusesToSend self.old self.new m e) }
+    {
+        values_are_trees();
+        image_is_its_image();
+        frame_is_of_image();
+        unread_stays();
+        wrapped_begins();
         let size = unframed_size(self.session.codec, frame.bytes());
         if size > self.session.ring.limits().frame() {
             return Err(SendError::TooLong { size });

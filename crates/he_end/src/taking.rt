@@ -118,6 +118,7 @@ impl Session {
         ensures kept { self.old.ring.sent ≡ 0 →
             self.new ≡ record self.old { ring = record self.old.ring { keeps = kept } } }
         ensures limits { self.new.ring.limits ≡ self.old.ring.limits }
+        ensures codec { self.new.codec ≡ self.old.codec }
     {
         if self.ring.count_sent() == 0 {
             self.ring.keep(kept);
