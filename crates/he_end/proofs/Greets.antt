@@ -11,11 +11,13 @@ use Rattle.hm_codec.specs.Frames.{framing_of}
 use Rattle.hs_shake.specs.declared.shake.ShakeError.{ShakeError}
 use Rattle.hs_shake.specs.Responses.{IsAnswered, refusal_text}
 use Rattle.hs_shake.specs.Words.{shake_words}
+use Rattle.hf_split.specs.declared.splitter.SplitFault.{SplitFault}
+use Rattle.hf_split.specs.Words.{fault_words}
 use Rattle.hd_delivery.specs.declared.vocabulary.Got.{Got}
 use Rattle.hd_delivery.specs.declared.vocabulary.Got.TheVariants as gives
 use Rattle.hd_delivery.specs.declared.vocabulary.Side.{Side}
 use Rattle.hd_delivery.specs.declared.vocabulary.Side.TheVariants.{Client, Server}
-use Rattle.hd_delivery.specs.Frames.{LinkFrame, Strange}
+use Rattle.hd_delivery.specs.Frames.{LinkFrame, Strange, Unreadable}
 use Rattle.hd_delivery.specs.Histories as of
 use Rattle.hd_delivery.specs.Histories.{Step, Took, Failed, Shake, present_link, sent_messages, codec_of, is_shaken, is_closed}
 use Rattle.hd_delivery.specs.Processes.{processes}
@@ -23,16 +25,20 @@ use Rattle.hd_delivery.specs.Bytes.{Wire, Reading, Waits, Reads, Refuses, Stops,
 use Rattle.hd_delivery.specs.OneHistory.{next_reader, size_of_reading}
 use Rattle.hd_delivery.specs.HistoryLaws.{FactsHold, NextIsRead, UnreadMoves}
 use Rattle.he_wire.specs.Laws.{WireIsSound}
-use Rattle.he_wire.specs.Gives.{IsOwed, answer_of}
+use Rattle.he_wire.specs.Gives.{IsOwed, answer_of, TellsFirst, TellsWireFirst}
+use Rattle.he_wire.specs.declared.reading.Greeting.{Greeting}
+use Rattle.he_wire.specs.declared.reading.Greeting.TheVariants as greeting
+use Rattle.he_wire.specs.declared.reading.GreetingFault.{GreetingFault}
+use Rattle.he_wire.specs.declared.reading.GreetingFault.TheVariants as shaking
 use Rattle.he_wire.specs.Wires.{AreSaid}
 use Rattle.he_end.specs.declared.session.Session.{Session}
 use Rattle.he_end.specs.declared.end.End.{End}
 use Rattle.he_end.specs.Remembers.{Remembers}
 use Rattle.he_end.specs.Says as session
 use Rattle.he_end.specs.Says.{Awaits, answer_at}
-use Rattle.he_end.specs.Calls.{IsReading, ReadsOne}
+use Rattle.he_end.specs.Calls.{IsReading, ReadsOne, Greets, HasMade}
 use Rattle.he_end.specs.Stands.{Stands, limits_of}
-use Rattle.he_end.proofs.Nexts.{here, unclosed, unshaken, facts_here, first_reader, awaits_frame, took}
+use Rattle.he_end.proofs.Nexts.{here, unclosed, unshaken, facts_here, first_reader, awaits_frame, awaits_stopped, none_waits, took, house_there}
 
 -- ---- the handshake
 
@@ -102,3 +108,61 @@ closed_for c s k e said is made owed awaits = go c.side refl owed awaits
     go : (side : Side) → c.side ≡ side → IsOwed side e → Awaits c k (Strange (shake_words e) (answer_of side e)) → ClosedFor c s k side (shake_words e) (refusal_text e)
     go Client here owed awaits = subst (λ side. ClosedFor c s k side (shake_words e) []) here (made (shake_words e) [] (λ q. let p : Client ≡ Server = sym here ∙ q in absurd (cc)) awaits)
     go Server here owed awaits = subst (λ side. ClosedFor c s k side (shake_words e) (refusal_text e)) here (made (shake_words e) (refusal_text e) (λ q. is owed) awaits)
+
+-- ---- what was read of the first frame
+
+-- before the handshake the framing is that of text
+framing_unless : (b : Bool) (f : Framing) → b ≡ false → (if b then f else Record) ≡ Record
+framing_unless false f is = refl
+framing_unless true f is = absurd (cc)
+
+module _ (facts : FactsHold) (sound : WireIsSound) (next : NextIsRead) (e : End) (reading : IsReading e) (agreed : is_some e.session.agreed ≡ false)
+    (wire : Wire) (c : of.Config) (h : List ByteStep) (st : Stands wire c e h) where
+  abbrev k' : List Step
+  k' = in_frames wire c h
+
+  abbrev l' : (l : ℕ) × (present_link k' ≡ Some l)
+  l' = here wire c e h st reading.0
+
+  live' : is_closed c k' ≡ false
+  live' = unclosed wire c e h st reading.1
+
+  pub not_shaken : is_shaken k' ≡ false
+  not_shaken = unshaken wire c e h st agreed
+
+  first_framing : e.splitter.framing ≡ Record
+  first_framing = (st.reads l'.0 l'.1 live').framing ∙ framing_unless (is_shaken k') (framing_of (codec_of c k')) not_shaken
+
+  reader' : next_reader wire c l'.0 k' e.splitter.bytes ≡ wire.first c.side e.splitter.bytes
+  reader' = first_reader wire c e h st facts sound l'.0 l'.1 live' not_shaken e.splitter.bytes
+
+  -- the answer tells what this history's reader finds
+  pub told_first : (given answer : Result (Option Greeting) GreetingFault) → given ≡ answer → (e.splitter.framing ≡ Record → TellsWireFirst e.session.side e.splitter given)
+      → TellsFirst c.side e.splitter answer (wire.first c.side e.splitter.bytes)
+  told_first given answer is told = subst (λ side. TellsFirst side e.splitter answer (wire.first side e.splitter.bytes)) st.remembers.side
+      (subst (λ x. TellsFirst e.session.side e.splitter x (wire.first e.session.side e.splitter.bytes)) is
+      (told first_framing wire (house_there facts sound next e reading wire c h st)))
+
+  -- none has come
+  pub first_waits : wire.first c.side e.splitter.bytes ≡ Waits → processes c k' ≡ None
+  first_waits w = none_waits wire c e h st facts sound l'.0 l'.1 live' next (wire.first c.side e.splitter.bytes) reader' w
+
+  -- a handshake has
+  pub first_reads : (new : End) (g : Greeting) (got : Got) → Greets e new g got → TellsFirst c.side e.splitter (Ok (Some g)) (wire.first c.side e.splitter.bytes)
+      → HasMade wire c h new (Ok got)
+  first_reads new (greeting.Request shake) got greets t =
+      greets wire c h st t.0 (t.2.0, (t.2.1.0, ap (λ side. wire.first side e.splitter.bytes) (sym t.0) ∙ t.2.1.2))
+  first_reads new greeting.Response got greets t =
+      greets wire c h st t.0 (t.1.0, (t.1.1.0, ap (λ side. wire.first side e.splitter.bytes) (sym t.0) ∙ t.1.1.2))
+
+  -- no frame can begin
+  pub first_stopped : (fault : SplitFault) (at : ℕ) → at ≡ e.splitter.place → TellsFirst c.side e.splitter (Err (shaking.Split fault)) (wire.first c.side e.splitter.bytes)
+      → Awaits c k' (Unreadable at (fault_words fault))
+  first_stopped fault at is t = subst (λ n. Awaits c k' (Unreadable n (fault_words fault))) (sym is)
+      (awaits_stopped wire c e h st facts sound l'.0 l'.1 live' next (wire.first c.side e.splitter.bytes) reader' (fault_words fault) t.1)
+
+  -- one has that is no handshake
+  pub first_refused : (refusal : ShakeError) → TellsFirst c.side e.splitter (Err (shaking.Shake refusal)) (wire.first c.side e.splitter.bytes)
+      → Awaits c k' (Strange (shake_words refusal) (answer_of c.side refusal))
+  first_refused refusal t = awaits_frame wire c e h st facts sound l'.0 l'.1 live' next (wire.first c.side e.splitter.bytes) reader'
+      (Strange (shake_words refusal) (answer_of c.side refusal)) (length t.1.0.spelling) t.1.1.2
