@@ -1,6 +1,6 @@
 -- What an end makes of the first frame of its first link.
-use Rattle.std.proofs.Common.{◌≡◌, ◌⊎◌, ⊎_elim, ℕ, zero, suc, ◌+◌, ◌<◌, ◌≤◌, Bool, true, false, List, [], ◌∷◌, length, drop, Option, Some, None, Ok, Err, refl, sym, ap, ◌∙◌, subst, arith}
-use Rattle.std.specs.Prelude.{is_some, Contains, Result, if◌then◌else◌}
+use Rattle.std.proofs.Common.{◌≡◌, ℕ, Bool, true, false, List, [], ◌∷◌, length, Option, Some, None, Ok, Err, refl, sym, ap, ◌∙◌, subst, arith}
+use Rattle.std.specs.Prelude.{is_some, Result, if◌then◌else◌}
 use Rattle.hf_split.specs.Cuts.{Spelled, BeginsWith}
 use Rattle.hf_split.specs.Held.{Held, after_pass}
 use Rattle.hf_split.specs.declared.framing.Framing.{Framing}
@@ -21,7 +21,7 @@ use Rattle.hd_delivery.specs.Frames.{LinkFrame, Strange, Unreadable}
 use Rattle.hd_delivery.specs.Histories as of
 use Rattle.hd_delivery.specs.Histories.{Step, Took, Failed, Shake, present_link, sent_messages, codec_of, is_shaken, is_closed}
 use Rattle.hd_delivery.specs.Processes.{processes}
-use Rattle.hd_delivery.specs.Bytes.{Wire, Reading, Waits, Reads, Refuses, Stops, ByteStep, Does, in_frames}
+use Rattle.hd_delivery.specs.Bytes.{Wire, Waits, ByteStep, Does, in_frames}
 use Rattle.hd_delivery.specs.OneHistory.{next_reader, size_of_reading}
 use Rattle.hd_delivery.specs.HistoryLaws.{FactsHold, NextIsRead, UnreadMoves}
 use Rattle.he_wire.specs.Laws.{WireIsSound}
@@ -111,7 +111,7 @@ closed_for c s k e said is made owed awaits = go c.side refl owed awaits
 
 -- ---- what was read of the first frame
 
--- before the handshake the framing is that of text
+-- before the handshake the framing is that of handshakes
 framing_unless : (b : Bool) (f : Framing) → b ≡ false → (if b then f else Record) ≡ Record
 framing_unless false f is = refl
 framing_unless true f is = absurd (cc)
