@@ -10,3 +10,4 @@ pub mod Ends
 pub mod Outs
 pub mod Nexts
 pub mod Sends
+pub mod Greets
