@@ -202,6 +202,9 @@ fn frames_after_the_handshake(rt: HostRuntime) -> Result<(), Fail> {
 #[test]
 fn a_fault_is_told_at_the_place_of_its_frame(rt: HostRuntime) -> Result<(), Fail> {
     let mut splitter = fed(rt.alloc(), Framing::Record, b"{\"type\":6}\x1e[]\x1e{}\x1e")?;
+    let Ok(Some(_)) = splitter.frame() else {
+        return Err(Fail::from("no frame"));
+    };
     splitter.pass();
     let refused = later(rt.alloc(), Codec::Json, &splitter)?;
     assert_eq!(rt; refused.as_str(), "11 NotObject");
