@@ -9,6 +9,7 @@
 //! while let Some((number, bytes)) = resend.next_unwritten() {
 //!     ..                                                // the link takes the bytes
 //! }
+//! resend.written_is_done();                             // a plain buffer lets go of what was written
 //! resend.ack(upto)?;                                    // the other end has all up to this number
 //! resend.rewind();                                      // a new link begins: what is held is written again
 //! ```
