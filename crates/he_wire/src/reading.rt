@@ -1,11 +1,11 @@
-//! What a splitter's bytes begin with, on a link: the handshake on its first place, and hub messages after it.
+//! What the bytes of a link begin with, as a splitter holds them: the handshake first, then hub messages.
 ghost use Rattle.std.specs.Prelude.{◌≡◌, IfOk, IfErr, IfSome};
 ghost use Rattle.hf_split.specs.declared.framing.Framing.TheVariants.{Record};
 ghost use Rattle.hm_message.specs.Message.{Fits};
 ghost use Rattle.hm_message.specs.Reads.{MessageIs};
 ghost use Rattle.hm_codec.specs.Frames.{framing_of};
 ghost use Rattle.hs_shake.specs.Refusals.{MemoryOr};
-ghost use Rattle.he_wire.specs.Gives.{GivesLater, GivesFirst, TellsWireLater, TellsWireFirst, IsGreeting, IsNoGreeting};
+ghost use Rattle.he_wire.specs.Gives.{Begins, GivesLater, GivesFirst, TellsWireLater, TellsWireFirst, IsGreeting, IsNoGreeting};
 
 use crate::laws::reads_once;
 use hd_delivery::Side;
@@ -81,6 +81,7 @@ pub fn read_later(
     ensures reads { splitter.now.framing ≡ framing_of codec → GivesLater codec splitter.now result }
     ensures told { splitter.now.framing ≡ framing_of codec → TellsWireLater codec splitter.now result }
     ensures fits { IfOk result (λ next. IfSome next (λ read. MessageIs read Fits)) }
+    ensures begins { IfOk result (λ next. IfSome next (λ _. Begins splitter.now)) }
 {
     reads_once();
     let at = splitter.place();
@@ -123,6 +124,7 @@ pub fn read_first(
 ) -> Result<Option<Greeting>, GreetingFault>
     ensures reads { splitter.now.framing ≡ Record → GivesFirst side splitter.now result }
     ensures told { splitter.now.framing ≡ Record → TellsWireFirst side splitter.now result }
+    ensures begins { IfOk result (λ next. IfSome next (λ _. Begins splitter.now)) }
 {
     reads_once();
     let Some((_, frame)) = splitter.frame()? else {

@@ -10,11 +10,11 @@ returns-in_err-read_greeting c =
     let lent = (rw c.in-Some.is at c.in_ok-frame.ensures.lent).1 in
     let p = err_from_is_err_and c.from_residual-in_err-read_greeting.result c.from_residual-in_err-read_greeting.ensures.1 in
     let reads = first_refused c.args.side held lent.0 c.in-Some.frame.now c.in_err-read_greeting.field-0.0 lent.1 c.in_err-read_greeting.ensures.refused in
-    rw (p.1, p.2) (record { reads = reads; told = told_first c.reads_once.ensures c.args.side held (Err (of_shake c.in_err-read_greeting.field-0.0)) reads })
+    rw (p.1, p.2) (record { begins = tt; reads = reads; told = told_first c.reads_once.ensures c.args.side held (Err (of_shake c.in_err-read_greeting.field-0.0)) reads })
 
 pub returns : goal.returns
 returns c =
     let held = c.args.splitter.now in
     let lent = (rw c.in-Some.is at c.in_ok-frame.ensures.lent).1 in
     let reads = first_read c.args.side held lent.0 c.in-Some.frame.now c.in_ok-read_greeting.field-0 lent.1 c.in_ok-read_greeting.ensures.ok in
-    record { reads = reads; told = told_first c.reads_once.ensures c.args.side held (Ok (Some c.in_ok-read_greeting.field-0)) reads }
+    record { begins = (record { spelling = lent.0; frame = c.in-Some.frame.now }, lent.1); reads = reads; told = told_first c.reads_once.ensures c.args.side held (Ok (Some c.in_ok-read_greeting.field-0)) reads }
