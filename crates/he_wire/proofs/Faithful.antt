@@ -1,5 +1,5 @@
 -- What two ends say is read as itself.
-use Rattle.std.proofs.Common.{◌≡◌, inl, ℕ, ◌+◌, ◌^◌, ◌≤◌, ◌<◌, Bool, true, List, length, Option, Some, None, refl, sym, subst, ◌∙◌, arith}
+use Rattle.std.proofs.Common.{◌≡◌, inl, ℕ, ◌+◌, ◌^◌, ◌≤◌, ◌<◌, Bool, true, List, [], length, Option, Some, None, refl, sym, subst, ◌∙◌, arith}
 use Rattle.std.specs.Prelude.{codes}
 use Rattle.std.specs.Str.{is_utf8, chars}
 use lib.Utf8.{encode}
@@ -14,21 +14,22 @@ use Rattle.hm_message.specs.declared.message.Message.TheVariants as message
 use Rattle.hm_codec.specs.Frames as codecs
 use Rattle.hm_codec.specs.Frames.{framing_of, framed, IsSaid}
 use Rattle.hm_codec.specs.Laws.{FramesHaveOneMeaning, ControlsAreSaid, ControlsAreShort, IsControl, error_length}
-use Rattle.hs_shake.specs.Laws.{RequestsHaveOneMeaning, ResponsesHaveOneMeaning, RequestsAreRead, TextsArePlain, TextsAreShort}
+use Rattle.hs_shake.specs.Laws.{RequestsHaveOneMeaning, ResponsesHaveOneMeaning, RequestsAreRead, RefusalsAreRead, TextsArePlain, TextsAreShort}
+use Rattle.hs_shake.specs.declared.shake.ShakeError.TheVariants as refusals
 use Rattle.hs_shake.specs.Requests.{request_frame}
-use Rattle.hs_shake.specs.Responses.{Accepts, response_frame}
+use Rattle.hs_shake.specs.Responses.{Accepts, response_frame, refusal_text, refusal_frame}
 use Rattle.hd_delivery.specs.declared.vocabulary.Reason.{Reason}
 use Rattle.hd_delivery.specs.declared.vocabulary.Reason.TheVariants.{Done, Protocol, InUse, TooMany, Flood, Slow, Expired}
 use Rattle.hd_delivery.specs.declared.vocabulary.Side.{Side}
 use Rattle.hd_delivery.specs.declared.vocabulary.Side.TheVariants.{Client, Server}
 use Rattle.hd_delivery.specs.Numbers.{most_messages}
-use Rattle.hd_delivery.specs.Frames.{LinkFrame, Request, Response, Numbered, Ack, Sequence, Ping, Close, error_of, received_of, frame_of}
+use Rattle.hd_delivery.specs.Frames.{LinkFrame, Request, Response, Refusal, Strange, Numbered, Ack, Sequence, Ping, Close, error_of, received_of, frame_of}
 use Rattle.hd_delivery.specs.Worlds.{Limits}
 use Rattle.hd_delivery.specs.Bytes.{Wire, IsRead}
 use Rattle.he_wire.specs.Readings.{IsLaterFrame, IsRefused, IsFirstFrame}
 use Rattle.he_wire.specs.Spelling.{spelling}
 use Rattle.he_wire.specs.Wires.{IsHouseWire}
-use Rattle.he_wire.specs.Laws.{WireIsFaithful, shortest_limit}
+use Rattle.he_wire.specs.Laws.{WireIsFaithful, AnswersAreRead, shortest_limit}
 use Rattle.he_wire.proofs.Readers.{is_read}
 use Rattle.he_wire.proofs.Meanings.{NoReason, later_means, later_by, first_means, first_by}
 
@@ -117,3 +118,23 @@ faithful r limits wire codec version messages room spoken said house =
           let c = reason_close reason allow in
           control_read r limits wire house room codec (Close (error_of reason) allow) (message.Close (error_of reason) allow) refl refl c.control c.short;
     }
+
+-- what the proof for an answer stands on
+pub record AnswerRests : Type 0 where
+  pub begins : BeginsOnce
+  pub one : HasOneBeginning
+  pub too_long : TooLongBeginsNone
+  pub bad_length : BadLengthBeginsNone
+  pub begins_wrapped : WrappedBegins
+  pub asked : RequestsHaveOneMeaning
+  pub told : ResponsesHaveOneMeaning
+  pub refusals : RefusalsAreRead
+  pub plain : TextsArePlain
+  pub texts : TextsAreShort
+
+pub answers : AnswerRests → AnswersAreRead
+answers r limits wire codec e room is house =
+    subst (λ (bytes : List ℕ). IsRead (wire.first Client) bytes (Strange (codes "Refused") [])) (sym (house.spells codec (Refusal (refusal_text e))))
+    (is_read Record limits.frame (IsFirstFrame Client) NoReason (first_means r.asked r.told Client) r.begins r.one (wire.first Client)
+    (λ bytes. first_by limits.frame Client bytes (wire.first Client bytes) (house.first Client bytes)) r.too_long r.bad_length r.begins_wrapped (refusal_frame e)
+    (Strange (codes "Refused") []) (r.plain.refusal e) (omega (arith, room, r.texts.refusal e)) (refusals.Refused (refusal_text e), (r.refusals e is, refl, refl)))

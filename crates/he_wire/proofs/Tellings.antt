@@ -140,7 +140,7 @@ first_refused side held spelling frame (shake.Wrong f) begins is same = refused_
 first_refused side held spelling frame shake.Unspoken begins is same = refused_first side held spelling frame shake.Unspoken begins is same
 first_refused side held spelling frame (shake.Version n) begins is same = refused_first side held spelling frame (shake.Version n) begins is same
 first_refused side held spelling frame (shake.Refused s) begins is same = refused_first side held spelling frame (shake.Refused s) begins is same
-first_refused side held spelling frame shake.NoMemory begins is same = tt
+first_refused side held spelling frame shake.NoMemory begins is same = (record { spelling = spelling; frame = frame }, begins)
 
 -- ---- what the wire reads
 
@@ -163,7 +163,7 @@ tells_later once codec held (Ok None) gives = wire_later once codec held (TellsL
 tells_later once codec held (Ok (Some (read.Message m))) gives = wire_later once codec held (TellsLater codec held (Ok (Some (read.Message m)))) gives
 tells_later once codec held (Ok (Some (read.Unknown n))) gives = wire_later once codec held (TellsLater codec held (Ok (Some (read.Unknown n)))) gives
 tells_later once codec held (Err (link.Refused at reason)) gives = wire_later once codec held (TellsLater codec held (Err (link.Refused at reason))) gives
-tells_later once codec held (Err link.NoMemory) gives = λ wire house. tt
+tells_later once codec held (Err link.NoMemory) gives = λ wire house. gives
 
 tells_first : ReadsOnce → (side : Side) (held : Held) (answer : Result (Option Greeting) GreetingFault) → GivesFirst side held answer
     → TellsWireFirst side held answer
@@ -172,7 +172,7 @@ tells_first once side held (Ok (Some (greeting.Request asked))) gives = wire_fir
 tells_first once side held (Ok (Some greeting.Response)) gives = wire_first once side held (TellsFirst side held (Ok (Some greeting.Response))) gives
 tells_first once side held (Err (shaking.Split fault)) gives = wire_first once side held (TellsFirst side held (Err (shaking.Split fault))) gives
 tells_first once side held (Err (shaking.Shake e)) gives = wire_first once side held (TellsFirst side held (Err (shaking.Shake e))) gives
-tells_first once side held (Err shaking.NoMemory) gives = λ wire house. tt
+tells_first once side held (Err shaking.NoMemory) gives = λ wire house. gives
 
 pub told_later : ReadsOnce → (codec : Codec) (held : Held) (answer : Result (Option Read) LinkFault)
     → (held.framing ≡ framing_of codec → GivesLater codec held answer) → held.framing ≡ framing_of codec → TellsWireLater codec held answer

@@ -6,6 +6,10 @@ use Rattle.hd_delivery.specs.Frames.{LinkFrame, frame_of, error_of}
 use Rattle.he_wire.specs.declared.slate.Control.{Control}
 use Rattle.he_wire.specs.declared.slate.Control.TheVariants.{Ack, Sequence, Ping, Close}
 
+-- no control frame has more bytes with its framing
+abbrev pub most_control : ℕ
+most_control = 77
+
 -- the message that says it
 abbrev pub message_of : Control → Message
 message_of (Ack upto) = message.Ack upto

@@ -1,4 +1,4 @@
--- A refused handshake as a fault of the link: want of memory is no reason.
+-- A refused handshake as a fault of the link: out of memory is no refusal.
 use Rattle.hs_shake.specs.declared.shake.ShakeError.{ShakeError}
 use Rattle.hs_shake.specs.declared.shake.ShakeError.TheVariants as shake
 use Rattle.he_wire.specs.declared.reading.GreetingFault.{GreetingFault}

@@ -46,18 +46,18 @@ IsOfFault held why reading = (fault : SplitFault) × (IsFaultOf held fault × (w
 
 -- ---- after the handshake
 
--- the answer tells this reading. Out of memory tells nothing
+-- the answer tells this reading. It is out of memory only at a whole frame, of which nothing is told then
 abbrev pub TellsLater : Codec → Held → Result (Option Read) LinkFault → Reading → Type 0
 TellsLater codec held (Ok None) reading = reading ≡ Waits
 TellsLater codec held (Ok (Some (Message m))) reading = IsOfFrame held (λ frame. Says codec frame m) (Reads (frame_of m)) reading
 TellsLater codec held (Ok (Some (Unknown n))) reading = IsOfFrame held (λ frame. IsUnknown codec frame n) (Reads (frames.Foreign n)) reading
 TellsLater codec held (Err (link.Refused at why)) reading =
     (at ≡ held.place) × (IsOfFault held why reading ⊎ IsOfFrame held (λ frame. Why codec frame why) (Refuses (why_words why)) reading)
-TellsLater codec held (Err link.NoMemory) reading = Unit {0}
+TellsLater codec held (Err link.NoMemory) reading = Begins held
 
 -- the answer tells what the bytes held begin with, if it isn't out of memory
 abbrev pub GivesLater : Codec → Held → Result (Option Read) LinkFault → Type 0
-GivesLater codec held (Err link.NoMemory) = Unit {0}
+GivesLater codec held (Err link.NoMemory) = Begins held
 GivesLater codec held answer = (reading : Reading) × (ReadsLater held.most codec held.bytes reading × TellsLater codec held answer reading)
 
 -- the answer tells what this project's wire reads
@@ -88,7 +88,7 @@ abbrev pub IsNoGreeting : Side → ShakeError → List ℕ → Type 0
 IsNoGreeting Server e frame = requests.WhyNot frame e × IsAnswered e
 IsNoGreeting Client e frame = responses.WhyNot frame e
 
--- the answer tells this reading. Out of memory tells nothing
+-- the answer tells this reading. It is out of memory only at a whole frame, of which nothing is told then
 abbrev pub TellsFirst : Side → Held → Result (Option Greeting) GreetingFault → Reading → Type 0
 TellsFirst side held (Ok None) reading = reading ≡ Waits
 TellsFirst side held (Ok (Some (greeting.Request shake))) reading =
@@ -98,11 +98,11 @@ TellsFirst side held (Ok (Some greeting.Response)) reading = (side ≡ Client) �
 TellsFirst side held (Err (shaking.Split fault)) reading = IsFaultOf held fault × (reading ≡ Stops (fault_words fault))
 TellsFirst side held (Err (shaking.Shake e)) reading =
     IsOwed side e × IsOfFrame held (IsNoGreeting side e) (Reads (frames.Strange (shake_words e) (answer_of side e))) reading
-TellsFirst side held (Err shaking.NoMemory) reading = Unit {0}
+TellsFirst side held (Err shaking.NoMemory) reading = Begins held
 
 -- the answer tells what the bytes held begin with, if it isn't out of memory
 abbrev pub GivesFirst : Side → Held → Result (Option Greeting) GreetingFault → Type 0
-GivesFirst side held (Err shaking.NoMemory) = Unit {0}
+GivesFirst side held (Err shaking.NoMemory) = Begins held
 GivesFirst side held answer = (reading : Reading) × (ReadsFirst held.most side held.bytes reading × TellsFirst side held answer reading)
 
 -- the answer tells what this project's wire reads

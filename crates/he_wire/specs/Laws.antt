@@ -1,5 +1,5 @@
 -- What holds of the wire.
-use Rattle.std.specs.Prelude.{◌≡◌, ◌≤◌, ℕ, ℤ, List, [], length}
+use Rattle.std.specs.Prelude.{◌≡◌, ◌≤◌, ℕ, ℤ, List, [], codes, length}
 use Rattle.hf_split.specs.declared.framing.Framing.TheVariants.{Record}
 use Rattle.hf_split.specs.declared.splitter.SplitFault.TheVariants.{TooLong, BadLength}
 use Rattle.hf_split.specs.Cuts.{Spelled, BeginsWith, IsTooLong, IsBadLength, IsWaiting}
@@ -12,19 +12,19 @@ use Rattle.hm_codec.specs.Words.{why_words}
 use Rattle.hs_shake.specs.Requests as requests
 use Rattle.hs_shake.specs.Requests.{Asks, IsVersion}
 use Rattle.hs_shake.specs.Responses as responses
-use Rattle.hs_shake.specs.Responses.{Accepts, refusal_text, refusal_frame}
+use Rattle.hs_shake.specs.Responses.{Accepts, IsAnswered, refusal_text, refusal_frame}
 use Rattle.hs_shake.specs.Words.{shake_words}
 use Rattle.hs_shake.specs.declared.shake.ShakeError.{ShakeError}
 use Rattle.hd_delivery.specs.declared.vocabulary.Side.{Side}
 use Rattle.hd_delivery.specs.declared.vocabulary.Side.TheVariants.{Client, Server}
 use Rattle.hd_delivery.specs.Frames.{Request, Response, Refusal, Foreign, Strange, frame_of}
 use Rattle.hd_delivery.specs.Worlds.{Limits}
-use Rattle.hd_delivery.specs.Bytes.{Wire, Reading, Waits, Reads, Refuses, Stops, IsFaithful, IsSoundWire}
+use Rattle.hd_delivery.specs.Bytes.{Wire, Reading, Waits, Reads, Refuses, Stops, IsRead, IsFaithful, IsSoundWire}
 use Rattle.he_wire.specs.Readings.{ReadsFirst, ReadsLater}
 use Rattle.he_wire.specs.Spelling.{spelling, with_separator}
 use Rattle.he_wire.specs.Wires.{IsHouseWire, AreSaid}
 
--- the shortest limit of a frame for which handshakes and control frames have room
+-- the least limit of a frame that an end may have: handshakes and control frames have room in it
 abbrev pub shortest_limit : ℕ
 shortest_limit = 256
 
@@ -79,3 +79,9 @@ WireIsFaithful = (limits : Limits) (wire : Wire) (codec : Codec) (version : ℕ)
 -- a refusal is spelled as the handshake answers it
 abbrev pub AnswersAreSpelled : Type 0
 AnswersAreSpelled = (codec : Codec) (e : ShakeError) → spelling codec (Refusal (refusal_text e)) ≡ with_separator (refusal_frame e)
+
+-- the client reads the answer of a refused request as a handshake that is refused
+abbrev pub AnswersAreRead : Type 0
+AnswersAreRead = (limits : Limits) (wire : Wire) (codec : Codec) (e : ShakeError)
+    → shortest_limit ≤ limits.frame → IsAnswered e → IsHouseWire limits.frame wire
+    → IsRead (wire.first Client) (wire.spell codec (Refusal (refusal_text e))) (Strange (codes "Refused") [])

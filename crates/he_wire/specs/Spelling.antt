@@ -11,7 +11,7 @@ use Rattle.hs_shake.specs.Requests.{request_frame}
 use Rattle.hs_shake.specs.Responses.{response_frame}
 use Rattle.hd_delivery.specs.Frames.{LinkFrame, Request, Response, Refusal, Numbered, Ack, Sequence, Ping, Close}
 
--- a text of the handshake, with the separator behind it
+-- a text of the handshake, with the separator after it
 abbrev pub with_separator : List ℕ → List ℕ
 with_separator text = (wrapped Record text).spelling
 

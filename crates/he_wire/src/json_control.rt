@@ -14,6 +14,7 @@ fn put_ack(upto: u64, out: &mut Vec<u8>)
     requires empty { out.old.items ≡ [] }
     requires room { MOST_CONTROL ≤ vec_capacity out.old }
     ensures items { out.new.items ≡ framed Json (message.Ack upto) }
+    ensures len { vec_len out.new ≤ MOST_CONTROL }
     ensures capacity { vec_capacity out.old ≤ vec_capacity out.new }
 {
     put(b"{\"sequenceId\":", out);
@@ -25,6 +26,7 @@ fn put_sequence(first: u64, out: &mut Vec<u8>)
     requires empty { out.old.items ≡ [] }
     requires room { MOST_CONTROL ≤ vec_capacity out.old }
     ensures items { out.new.items ≡ framed Json (message.Sequence first None) }
+    ensures len { vec_len out.new ≤ MOST_CONTROL }
     ensures capacity { vec_capacity out.old ≤ vec_capacity out.new }
 {
     put(b"{\"sequenceId\":", out);
@@ -37,6 +39,7 @@ fn put_resumed(first: u64, received: u64, out: &mut Vec<u8>)
     requires empty { out.old.items ≡ [] }
     requires room { MOST_CONTROL ≤ vec_capacity out.old }
     ensures items { out.new.items ≡ framed Json (message.Sequence first (Some received)) }
+    ensures len { vec_len out.new ≤ MOST_CONTROL }
     ensures capacity { vec_capacity out.old ≤ vec_capacity out.new }
 {
     put(b"{\"received\":", out);
@@ -76,6 +79,7 @@ fn put_close(reason: Reason, allow: bool, out: &mut Vec<u8>)
     requires empty { out.old.items ≡ [] }
     requires room { MOST_CONTROL ≤ vec_capacity out.old }
     ensures items { out.new.items ≡ framed Json (message.Close (error_of reason) allow) }
+    ensures len { vec_len out.new ≤ MOST_CONTROL }
     ensures capacity { vec_capacity out.old ≤ vec_capacity out.new }
 {
     put(b"{", out);
@@ -88,16 +92,18 @@ fn put_ping(out: &mut Vec<u8>)
     requires empty { out.old.items ≡ [] }
     requires room { MOST_CONTROL ≤ vec_capacity out.old }
     ensures items { out.new.items ≡ framed Json message.Ping }
+    ensures len { vec_len out.new ≤ MOST_CONTROL }
     ensures capacity { vec_capacity out.old ≤ vec_capacity out.new }
 {
     put(b"{\"type\":6}\x1e", out);
 }
 
-/// Writes the frame behind nothing.
+/// Writes the frame into an empty buffer.
 pub(crate) fn put_json(control: Control, out: &mut Vec<u8>)
     requires empty { out.old.items ≡ [] }
     requires room { MOST_CONTROL ≤ vec_capacity out.old }
     ensures items { out.new.items ≡ framed Json (message_of control) }
+    ensures len { vec_len out.new ≤ MOST_CONTROL }
     ensures capacity { vec_capacity out.old ≤ vec_capacity out.new }
 {
     match control {

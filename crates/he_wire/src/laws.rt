@@ -1,5 +1,14 @@
-//! What holds of the wire. Each function does nothing: its contract is the law.
-ghost use Rattle.he_wire.specs.Laws.{AnswersAreSpelled, BytesAreRead, HasWire, ReadsOnce, WireIsFaithful, WireIsSound};
+//! What holds of the wire. Each function only calls other laws, and its contract is the law.
+ghost use Rattle.std.specs.Prelude.{◌≡◌};
+ghost use Rattle.he_wire.specs.Controls.{most_control};
+ghost use Rattle.he_wire.specs.Laws.{AnswersAreRead, AnswersAreSpelled, BytesAreRead, HasWire, ReadsOnce, WireIsFaithful, WireIsSound};
+
+use crate::slate::MOST_CONTROL;
+
+/// The constant is the number of the definitions.
+pub fn numbers_are_named()
+    ensures { MOST_CONTROL ≡ most_control }
+{}
 
 /// A refused request is answered in the bytes that `hs_shake` gives for it, and the separator.
 pub fn answers_are_spelled()
@@ -51,7 +60,9 @@ pub fn wire_is_sound()
     hf_split::bad_length_stays();
 }
 
-/// What two ends say is read as itself, whatever comes after it, and not before it is whole.
+/// What two ends say is read as itself, whatever comes after it, and not before it is whole, if a frame may have 256 bytes,
+/// the version is 1 to 3, and each message's frame says the message, which [`hm_codec::write_message`] tells of what it
+/// writes.
 pub fn wire_is_faithful()
     ensures { WireIsFaithful }
 {
@@ -67,6 +78,22 @@ pub fn wire_is_faithful()
     hs_shake::one_response_meaning();
     hs_shake::requests_are_read();
     hs_shake::response_is_read();
+    hs_shake::texts_are_plain();
+    hs_shake::texts_are_short();
+}
+
+/// A client reads the answer of a refused request as the refusal of its handshake, if a frame may have 256 bytes.
+pub fn answers_are_read()
+    ensures { AnswersAreRead }
+{
+    hf_split::begins_once();
+    hf_split::one_beginning();
+    hf_split::too_long_begins_none();
+    hf_split::bad_length_begins_none();
+    hf_split::wrapped_begins();
+    hs_shake::one_request_meaning();
+    hs_shake::one_response_meaning();
+    hs_shake::refusals_are_read();
     hs_shake::texts_are_plain();
     hs_shake::texts_are_short();
 }

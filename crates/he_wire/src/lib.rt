@@ -4,6 +4,10 @@
 //! splitter. What it says of itself it writes on a [`Slate`], which takes no memory after its start.
 //!
 //! ```text
+//! match read_first(alloc, side, &splitter)? {      // once, on the first link
+//!     None => { .. }                              // feed the splitter more
+//!     Some(greeting) => { ..; splitter.pass(); splitter.reframe(hm_codec::framing(codec)); }
+//! }
 //! match read_later(alloc, codec, &splitter) {
 //!     Ok(None) => { .. }                          // feed the splitter more
 //!     Ok(Some(read)) => { ..; splitter.pass(); }
@@ -20,7 +24,7 @@
 //!
 //! Proved: bytes are read in one way ([`reads_once`], [`bytes_are_read`]), such a wire exists for each limit of a frame
 //! ([`has_wire`]), it never waits on a full buffer ([`wire_is_sound`]), and what two ends say is read as itself
-//! ([`wire_is_faithful`], [`answers_are_spelled`]). What the readers answer is what this wire reads, and what is written is
+//! ([`wire_is_faithful`], [`answers_are_read`]). What the readers answer is what this wire reads, and what is written is
 //! what it spells. The crate does not know ends, nor when a frame is due.
 #![tactic(auto)]
 
@@ -34,7 +38,8 @@ mod size;
 mod slate;
 
 pub use laws::{
-    answers_are_spelled, bytes_are_read, has_wire, reads_once, wire_is_faithful, wire_is_sound,
+    answers_are_read, answers_are_spelled, bytes_are_read, has_wire, numbers_are_named, reads_once,
+    wire_is_faithful, wire_is_sound,
 };
 pub use reading::{Greeting, GreetingFault, LinkFault, read_first, read_later};
 pub use size::unframed_size;

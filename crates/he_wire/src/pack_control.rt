@@ -1,4 +1,4 @@
-//! Control frames in MessagePack (HubProtocol.md, "MessagePack (MsgPack) encoding"), each behind its length, which has one byte.
+//! Control frames in MessagePack (HubProtocol.md, "MessagePack (MsgPack) encoding"), each after its length of one byte.
 ghost use Rattle.std.specs.Prelude.{◌≡◌, ◌+◌, ◌≤◌, ◌++◌, ◌∷◌, [], Some, None, length, pos, vec_len, vec_capacity};
 ghost use Rattle.std.specs.Int.{w16, w32, w64, to_be_bytes};
 ghost use Rattle.hm_message.specs.declared.message.Message.TheVariants as message;
@@ -19,7 +19,7 @@ const MOST_ERROR: usize = 20;
 /// A number has at most its marker and eight bytes.
 const MOST_NUMBER: usize = 9;
 
-/// The longest of these frames has at most this many bytes: a Close with an error.
+/// None of these frames has more bytes without its length: the longest, a Close with an error, has 23.
 const MOST_FRAME: usize = 32;
 
 // Markers of the MessagePack specification, "Formats".
@@ -41,7 +41,7 @@ const TRUE: u8 = 0xc3;
 
 const FIX_ARRAY: u8 = 0x90;
 
-// The numbers of the messages' types, of which each frame has one behind the count of its elements.
+// The numbers of the messages' types, of which each frame has one after the count of its elements.
 const PING: u8 = 6;
 
 const CLOSE: u8 = 7;
@@ -197,11 +197,12 @@ fn put_frame(control: Control, out: &mut Vec<u8>)
     }
 }
 
-/// Writes the frame behind nothing.
+/// Writes the frame into an empty buffer.
 pub(crate) fn put_pack(control: Control, out: &mut Vec<u8>)
     requires empty { out.old.items ≡ [] }
     requires room { MOST_CONTROL ≤ vec_capacity out.old }
     ensures items { out.new.items ≡ framed Pack (message_of control) }
+    ensures len { vec_len out.new ≤ MOST_CONTROL }
     ensures capacity { vec_capacity out.old ≤ vec_capacity out.new }
 {
     // the place of the length

@@ -1,4 +1,4 @@
-//! What a splitter's bytes begin with, on a link: the handshake on its first place, and hub messages after it.
+//! What the bytes of a link begin with, as a splitter holds them: the handshake first, then hub messages.
 ghost use Rattle.std.specs.Prelude.{◌≡◌, IfOk, IfErr, IfSome};
 ghost use Rattle.hf_split.specs.declared.framing.Framing.TheVariants.{Record};
 ghost use Rattle.hm_message.specs.Message.{Fits};

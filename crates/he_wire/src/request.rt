@@ -1,5 +1,5 @@
-//! The request of a handshake, with its separator (HubProtocol.md, "HandshakeRequest").
-ghost use Rattle.std.specs.Prelude.{◌≡◌, ◌≤◌, [], vec_capacity};
+//! The request of a handshake, with its separator (HubProtocol.md, "Overview").
+ghost use Rattle.std.specs.Prelude.{◌≡◌, ◌≤◌, [], vec_len, vec_capacity};
 ghost use Rattle.hs_shake.specs.Requests.{protocol_name, request_frame};
 ghost use Rattle.he_wire.specs.Spelling.{with_separator};
 
@@ -18,16 +18,17 @@ fn protocol_name(codec: Codec) -> &'static [u8]
     }
 }
 
-/// Writes the request behind nothing.
+/// Writes the request into an empty buffer.
 pub(crate) fn put_request(shake: Shake, out: &mut Vec<u8>)
     requires empty { out.old.items ≡ [] }
     requires room { MOST_CONTROL ≤ vec_capacity out.old }
     ensures items { out.new.items ≡ with_separator (request_frame shake.codec shake.version) }
+    ensures len { vec_len out.new ≤ MOST_CONTROL }
     ensures capacity { vec_capacity out.old ≤ vec_capacity out.new }
 {
     put(b"{\"protocol\":\"", out);
     put(protocol_name(shake.codec), out);
     put(b"\",\"version\":", out);
-    put_digits(shake.version as u64, out);
+    put_digits(u64::from(shake.version), out);
     put(b"}\x1e", out);
 }

@@ -21,8 +21,8 @@ fn size_after_length(framed: &[u8]) -> usize
     0
 }
 
-/// How many bytes the frame has that these are with its framing, as [`hm_codec::write_message`] appends it. Of other bytes the
-/// answer says nothing.
+/// The size of a frame without its framing, in bytes, from the bytes that [`hm_codec::write_message`] appends for it. Of other
+/// bytes the answer says nothing.
 pub fn unframed_size(codec: Codec, framed: &[u8]) -> usize
     ensures { (frame : List ℕ) → CanWrap (framing_of codec) frame →
         framed.now ≡ (wrapped (framing_of codec) frame).spelling → result ≡ length frame }

@@ -1,7 +1,7 @@
 //! What an end says of itself, in bytes that are written in memory taken at the start.
-ghost use Rattle.std.specs.Prelude.{◌≡◌, ◌≤◌, [], IfOk, vec_capacity};
+ghost use Rattle.std.specs.Prelude.{◌≡◌, ◌≤◌, [], length, IfOk, vec_capacity};
 ghost use Rattle.hd_delivery.specs.Frames.{Request};
-ghost use Rattle.he_wire.specs.Controls.{frame_of_control};
+ghost use Rattle.he_wire.specs.Controls.{frame_of_control, most_control};
 ghost use Rattle.he_wire.specs.Spelling.{spelling};
 
 use crate::json_control::put_json;
@@ -13,22 +13,24 @@ use hs_shake::Shake;
 use std::alloc::{AllocError, Global};
 use std::marker::Model;
 
-/// No control frame has more bytes with its framing: this many has a Sequence in JSON with two numbers of 20 digits.
+/// The most bytes of a control frame with its framing: a Sequence in JSON with two numbers of 20 digits. A request has fewer.
 pub const MOST_CONTROL: usize = 77;
 
-/// What an end says of itself.
+/// A control frame, which an end says of its own accord: it carries no message of the application.
 #[derive(Clone, Copy, Debug, PartialEq, Eq)]
 pub enum Control {
     /// Every message up to this number has been processed.
     Ack {
         upto: u64,
     },
+    /// Where the messages of a link begin.
     Sequence {
         /// The number of the next message that is said.
         first: u64,
         /// How many messages have been processed, where that is told.
         received: Option<u64>,
     },
+    /// The link is alive.
     Ping,
     Close {
         reason: Reason,
@@ -55,7 +57,7 @@ impl Model for Slate {
 }
 
 impl Slate {
-    /// A slate with nothing on it, and with room for each control frame. It fails if it is out of memory.
+    /// A slate with nothing on it, and with room for each control frame and request. It fails if it is out of memory.
     pub fn start(alloc: Global) -> Result<Slate, AllocError>
         ensures { IfOk result (λ slate. slate ≡ []) }
     {
@@ -64,10 +66,11 @@ impl Slate {
         })
     }
 
-    /// Writes the frame in this codec with its framing, in place of what stood there (HubProtocol.md, "Ack", "Sequence",
-    /// "Ping" and "Close").
+    /// Writes the frame in this codec with its framing, in place of what stood there (HubProtocol.md, "JSON Encoding" and
+    /// "MessagePack (MsgPack) encoding").
     pub fn write(&mut self, codec: Codec, control: Control)
-        ensures { self.new ≡ spelling codec (frame_of_control control) }
+        ensures written { self.new ≡ spelling codec (frame_of_control control) }
+        ensures short { length self.new ≤ most_control }
     {
         self.bytes.clear();
         match codec {
@@ -77,9 +80,10 @@ impl Slate {
     }
 
     /// Writes the request for this codec and version with its separator, in place of what stood there (HubProtocol.md,
-    /// "HandshakeRequest").
+    /// "Overview").
     pub fn write_request(&mut self, shake: Shake)
-        ensures { self.new ≡ spelling shake.codec (Request shake.codec shake.version) }
+        ensures written { self.new ≡ spelling shake.codec (Request shake.codec shake.version) }
+        ensures short { length self.new ≤ most_control }
     {
         self.bytes.clear();
         put_request(shake, &mut self.bytes);

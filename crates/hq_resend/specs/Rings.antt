@@ -13,9 +13,11 @@ dropped_of r = dropped_count r.keeps r.acked r.written
 abbrev pub held_in : Inside → List (List ℕ)
 held_in r = drop (dropped_of r - r.gone) r.ring.items
 
+-- the buffer that the fields stand for
 abbrev pub buffer_of : Inside → Buffer
 buffer_of r = record { limits = r.limits; keeps = r.keeps; sent = r.sent; acked = r.acked; written = r.written; furthest = r.furthest; held = held_in r }
 
+-- what is true of the fields
 pub record IsRing (r : Inside) : Type 0 where
   pub limits : AreLimits r.limits
   pub capacity : r.ring.capacity ≡ r.limits.count

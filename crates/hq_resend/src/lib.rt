@@ -9,6 +9,7 @@
 //! while let Some((number, bytes)) = resend.next_unwritten() {
 //!     ..                                                // the link takes the bytes
 //! }
+//! resend.written_is_done();                             // a plain buffer lets go of what was written
 //! resend.ack(upto)?;                                    // the other end has all up to this number
 //! resend.rewind();                                      // a new link begins: what is held is written again
 //! ```
@@ -32,7 +33,7 @@ mod ring;
 
 pub use frame::Frame;
 pub use intake::{Counted, Intake};
-pub use laws::{buffer_is_within, next_is_in_order};
+pub use laws::{buffer_is_within, intake_is_numbering, next_is_in_order, numbers_are_named};
 pub use limits::{LEAST_FRAME, Limits, MOST_BYTES, MOST_COUNT, MOST_FRAME};
 pub use refusals::{Beyond, Gap, PushError};
 pub use resend::Resend;

@@ -6,16 +6,16 @@ ghost use Rattle.hq_resend.specs.Bounds.{AreLimits};
 use hd_delivery::MOST_FRAMING;
 use std::marker::Model;
 
-/// The least that the limit of a frame's bytes can be.
+/// The least limit of a frame, in bytes without its framing.
 pub const LEAST_FRAME: usize = 256;
 
-/// The greatest limit of a frame's bytes: a mebibyte.
+/// The greatest limit of a frame: a mebibyte, without its framing.
 pub const MOST_FRAME: usize = 1_048_576;
 
 /// The greatest limit of the number of frames held.
 pub const MOST_COUNT: usize = 65_536;
 
-/// The greatest limit of the bytes held: 16 MiB.
+/// The greatest limit of the bytes held, framing included: 16 MiB.
 pub const MOST_BYTES: usize = 16_777_216;
 
 /// The most bytes of a frame without its framing, and the most frames and framed bytes that are held.

@@ -6,8 +6,8 @@ use std::fmt;
 /// Why a frame isn't pushed.
 #[derive(Clone, Copy, Debug, PartialEq, Eq)]
 pub enum PushError {
-    /// The most frames are held, or with the frame of this size more bytes than may be. `held` is the number of frames held
-    /// and `bytes` their size.
+    /// There is no room: as many frames are held as may be, or the bytes would pass their limit. `held` frames of `bytes`
+    /// bytes are held and this one has `size`, all with their framing.
     Full {
         held: usize,
         bytes: usize,
@@ -53,7 +53,7 @@ impl fmt::Display for Beyond {
 
 impl Error for Beyond {}
 
-/// The number `got` would leave a message out: the next one has at most the number `most`.
+/// The number `got` can't be that of the next message, which is `most` at most.
 #[derive(Clone, Copy, Debug, PartialEq, Eq)]
 pub struct Gap {
     pub got: u64,

@@ -109,7 +109,7 @@ impl Resend {
     }
 
     /// The other end has the frames up to this number, which aren't kept any more. A number that isn't above an earlier one
-    /// has no effect. It fails, and changes nothing, exactly if a frame of that number was never written.
+    /// has no effect. It fails, and changes nothing, exactly if `upto` is above [`Resend::most_written`].
     pub fn ack(&mut self, upto: u64) -> Result<(), Beyond>
         ensures ok { OnOk result ((upto ≤ self.old.furthest) × (self.new ≡ after_ack self.old upto)) }
         ensures err { IfErr result (λ beyond. (self.old.furthest < upto) ×
@@ -190,7 +190,7 @@ impl Resend {
         self.gone = gone;
     }
 
-    /// The number of the first frame that the other end isn't known to have: the greatest Ack and 1.
+    /// The greatest Ack and 1: in a buffer that keeps, the number of the first frame held, which may be still to come.
     pub fn first_held(&self) -> u64
         ensures { result ≡ suc self.now.acked }
     {

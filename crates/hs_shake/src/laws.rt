@@ -22,7 +22,7 @@ pub fn requests_are_read()
     ensures { RequestsAreRead }
 {}
 
-/// What is written where a request is taken says so.
+/// The response that takes a request is read as taking it.
 pub fn response_is_read()
     ensures { Accepts response_frame }
 {}

@@ -1,4 +1,4 @@
-//! The handshake of the hub protocol: the first frame in each direction of a link (HubProtocol.md of ASP.NET Core, "Overview").
+//! The handshake of the hub protocol: the first frame in each direction of a connection's first link (HubProtocol.md of ASP.NET Core, "Overview").
 //! It is JSON and ends with the record separator whatever codec is asked for, and a frame is read here without that separator.
 //!
 //! A client writes a request and reads the response; a server reads the request and answers it:

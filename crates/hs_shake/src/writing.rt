@@ -37,7 +37,7 @@ pub fn write_request(shake: &Shake, out: &mut Vec<u8>) -> Result<(), AllocError>
     wrap(Framing::Record, text.as_bytes(), out)
 }
 
-/// The response to a request, with its separator: without a fault that the request is taken, else the text for the fault.
+/// The response to a request, with its separator: `{}` if there is no fault, else an object whose `error` is the fault's text.
 /// A fault is one of [`read_request`](crate::read_request), other than `NoMemory`. It takes no memory.
 pub fn response(fault: Option<&ShakeError>) -> &'static [u8]
     requires { IfSome fault (λ e. IsAnswered e.now) }

@@ -2,7 +2,10 @@
 //! exhaust a buffer isn't run.
 
 use hd_delivery::MOST_MESSAGES;
-use hq_resend::{Beyond, Counted, Frame, Gap, Intake, Limits, PushError, Resend};
+use hq_resend::{
+    Beyond, Counted, Frame, Gap, Intake, Limits, PushError, Resend, buffer_is_within,
+    intake_is_numbering, next_is_in_order, numbers_are_named,
+};
 use std::alloc::{AllocError, Global};
 use std::process::Abort;
 use std::test::Fail;
@@ -157,12 +160,19 @@ fn run(rt: &impl Abort, alloc: Global, limits: Limits, keeps: bool, seed: u64) -
     for call in 0..CALLS {
         state = next_random(state);
         let draw = state >> 37;
-        let size = (draw % LONGEST) as usize;
+        let size = match draw % 8 {
+            0 => limits.bytes().saturating_sub(plain.held_bytes()).min(261),
+            1 => 261,
+            _ => (draw % LONGEST) as usize,
+        };
         match (state >> 33) % 16 {
             0..=5 => push_both(rt, alloc, &mut plain, &mut resend, size, call)?,
             6..=11 => assert_eq!(rt; resend.next_unwritten(), plain.next(), "at call {call}"),
             12..=13 => {
-                let upto = draw % (plain.furthest as u64).saturating_add(2).max(1);
+                let most = plain.furthest.saturating_sub(plain.acked).saturating_add(3) as u64;
+                let upto = (plain.acked as u64)
+                    .saturating_add(draw % most.max(1))
+                    .saturating_sub(1);
                 assert_eq!(rt;
                     resend.ack(upto),
                     plain.ack(upto as usize),
@@ -204,7 +214,7 @@ fn limits_are_in_range_at_their_bounds(rt: HostRuntime) {
         (1_048_576, 65_537, 16_777_216, false),
         (1_048_576, 65_536, 16_777_217, false),
         (1_048_576, 65_536, 1_048_580, false),
-        (18_446_744_073_709_551_615, 1, 16_777_216, false),
+        (usize::MAX, 1, 16_777_216, false),
     ] {
         let told = Limits::of(frame, count, bytes).map(|limits| (
             limits.frame(),
@@ -247,6 +257,51 @@ fn a_buffer_is_set_to_keep_before_the_first_frame(rt: HostRuntime) -> Result<(),
     assert_eq!(rt; resend.next_unwritten().map(|next| next.0), Some(1));
     assert_eq!(rt; (resend.held(), resend.held_bytes()), (2, 522));
     assert_eq!(rt; resend.limits(), limits);
+    Ok(())
+}
+
+/// A frame of this many bytes is pushed, and answered so.
+fn push(rt: &impl Abort, alloc: Global, resend: &mut Resend, size: usize, wanted: Result<u64, PushError>) -> Result<(), Fail> {
+    let bytes = vec![in alloc; b'a'; size]?;
+    assert!(rt; bytes.len() <= resend.limits().frame());
+    let answer = resend.push(Frame::of(alloc, &bytes)?);
+    assert_eq!(rt; answer.map_err(|refused| refused.0), wanted);
+    Ok(())
+}
+
+#[test]
+fn a_buffer_is_full_by_count_and_by_bytes(rt: HostRuntime) -> Result<(), Fail> {
+    let limits = Limits::of(256, 3, 400).ok_or("no limits")?;
+    let mut resend = Resend::start(rt.alloc(), limits, true)?;
+    for number in 1..=3 {
+        push(&rt, rt.alloc(), &mut resend, 39, Ok(number))?;
+    }
+    let full = PushError::Full { held: 3, bytes: 117, size: 39 };
+    push(&rt, rt.alloc(), &mut resend, 39, Err(full))?;
+    for _ in 0..3u32 {
+        assert!(rt; resend.next_unwritten().is_some());
+    }
+    assert_eq!(rt; resend.ack(4), Err(Beyond { got: 4, most: 3 }));
+    assert_eq!(rt; resend.ack(1), Ok(()));
+    push(&rt, rt.alloc(), &mut resend, 39, Ok(4))?;
+    push(&rt, rt.alloc(), &mut resend, 39, Err(full))?;
+    let mut resend = Resend::start(rt.alloc(), limits, true)?;
+    push(&rt, rt.alloc(), &mut resend, 200, Ok(1))?;
+    let full = PushError::Full { held: 1, bytes: 200, size: 201 };
+    push(&rt, rt.alloc(), &mut resend, 201, Err(full))?;
+    push(&rt, rt.alloc(), &mut resend, 200, Ok(2))?;
+    assert_eq!(rt; resend.held_bytes(), 400);
+    Ok(())
+}
+
+/// The laws are called as any function.
+#[test]
+fn laws(rt: HostRuntime) -> Result<(), Fail> {
+    let limits = Limits::of(256, 3, 400).ok_or("no limits")?;
+    buffer_is_within(&Resend::start(rt.alloc(), limits, true)?);
+    next_is_in_order();
+    intake_is_numbering();
+    numbers_are_named();
     Ok(())
 }
 

@@ -265,8 +265,9 @@ fn writes_behind_what_is_there(rt: HostRuntime) -> Result<(), Fail> {
         };
         let mut out = Vec::from_slice(rt.alloc(), b"before")?;
         write_request(&shake, &mut out)?;
-        assert_eq!(rt; &out[6..], wanted.as_bytes());
-        assert!(rt; wanted.len() <= MOST_HANDSHAKE + 1);
+        let bytes = format!(in rt.alloc(); "before{wanted}")?;
+        assert_eq!(rt; out.as_slice(), bytes.as_bytes());
+        assert!(rt; out.len() <= 6 + MOST_HANDSHAKE + 1);
     }
     let mut out = Vec::from_slice(rt.alloc(), b"before")?;
     write_response(None, &mut out)?;

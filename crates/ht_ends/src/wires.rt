@@ -1,9 +1,9 @@
 //! What an end writes of itself, in the frames of `HubProtocol.md`'s examples, and what a link's bytes begin with.
 use hd_delivery::{Reason, Side};
 use he_wire::{
-    Control, Greeting, GreetingFault, LinkFault, MOST_CONTROL, Slate, answers_are_spelled,
-    bytes_are_read, has_wire, read_first, read_later, reads_once, unframed_size, wire_is_faithful,
-    wire_is_sound,
+    Control, Greeting, GreetingFault, LinkFault, MOST_CONTROL, Slate, answers_are_read,
+    answers_are_spelled, bytes_are_read, has_wire, numbers_are_named, read_first, read_later,
+    reads_once, unframed_size, wire_is_faithful, wire_is_sound,
 };
 use hf_split::{Framing, Splitter, wrap};
 use hm_codec::{framing, write_message};
@@ -44,7 +44,13 @@ fn first(alloc: Global, side: Side, bytes: &[u8]) -> Result<String, Fail> {
     let splitter = fed(alloc, Framing::Record, bytes)?;
     match read_first(alloc, side, &splitter) {
         Ok(None) => Ok(format!(in alloc; "waits")?),
-        Ok(Some(Greeting::Request(shake))) => Ok(format!(in alloc; "request {}", shake.version)?),
+        Ok(Some(Greeting::Request(shake))) => {
+            let codec = match shake.codec {
+                Codec::Json => "json",
+                Codec::Pack => "messagepack",
+            };
+            Ok(format!(in alloc; "{codec} {}", shake.version)?)
+        }
         Ok(Some(Greeting::Response)) => Ok(format!(in alloc; "response")?),
         Err(GreetingFault::Split(fault)) => Ok(format!(in alloc; "{fault}")?),
         Err(GreetingFault::Shake(fault)) => Ok(format!(in alloc; "{fault}")?),
@@ -62,7 +68,7 @@ fn sequence(first: u64, received: Option<u64>) -> Control {
 
 #[test]
 fn control_frames_in_json(rt: HostRuntime) -> Result<(), Fail> {
-    let cases: [(Control, &str); 9] = [
+    let cases: [(Control, &str); 12] = [
         (
             Control::Ack { upto: 1394 },
             "{\"sequenceId\":1394,\"type\":8}\x1e",
@@ -90,20 +96,35 @@ fn control_frames_in_json(rt: HostRuntime) -> Result<(), Fail> {
             close(Reason::Expired, true),
             "{\"allowReconnect\":true,\"error\":\"Connection expired.\",\"type\":7}\x1e",
         ),
+        (
+            close(Reason::InUse, false),
+            "{\"error\":\"Id in use.\",\"type\":7}\x1e",
+        ),
+        (
+            close(Reason::TooMany, false),
+            "{\"error\":\"Too many calls.\",\"type\":7}\x1e",
+        ),
+        (
+            close(Reason::Flood, false),
+            "{\"error\":\"Too many inputs.\",\"type\":7}\x1e",
+        ),
     ];
     let mut slate = Slate::start(rt.alloc())?;
+    let mut longest = 0;
     for (control, wanted) in &cases {
         slate.write(Codec::Json, *control);
         assert_eq!(rt; slate.bytes(), wanted.as_bytes());
         assert_eq!(rt; unframed_size(Codec::Json, slate.bytes()), wanted.len() - 1);
         assert!(rt; wanted.len() <= MOST_CONTROL);
+        longest = longest.max(wanted.len());
     }
+    assert_eq!(rt; longest, MOST_CONTROL);
     Ok(())
 }
 
 #[test]
 fn control_frames_in_messagepack(rt: HostRuntime) -> Result<(), Fail> {
-    let cases: [(Control, &[u8]); 11] = [
+    let cases: [(Control, &[u8]); 13] = [
         (Control::Ack { upto: 36 }, b"\x03\x92\x08\x24"),
         (Control::Ack { upto: 127 }, b"\x03\x92\x08\x7f"),
         (Control::Ack { upto: 128 }, b"\x04\x92\x08\xcc\x80"),
@@ -115,6 +136,14 @@ fn control_frames_in_messagepack(rt: HostRuntime) -> Result<(), Fail> {
         (
             Control::Ack { upto: 1 << 62 },
             b"\x0b\x92\x08\xcf\x40\x00\x00\x00\x00\x00\x00\x00",
+        ),
+        (
+            Control::Ack { upto: 4_294_967_295 },
+            b"\x07\x92\x08\xce\xff\xff\xff\xff",
+        ),
+        (
+            sequence(4_294_967_296, Some(256)),
+            b"\x0e\x93\x09\xcf\x00\x00\x00\x01\x00\x00\x00\x00\xcd\x01\x00",
         ),
         (sequence(19, None), b"\x03\x92\x09\x13"),
         (sequence(19, Some(0)), b"\x04\x93\x09\x13\x00"),
@@ -169,7 +198,7 @@ fn a_length_of_two_bytes_counts_for_nothing(rt: HostRuntime) -> Result<(), Fail>
 #[test]
 fn frames_after_the_handshake(rt: HostRuntime) -> Result<(), Fail> {
     let long = [b'1'; MOST + 1];
-    let cases: [(Codec, &[u8], &str); 12] = [
+    let cases: [(Codec, &[u8], &str); 14] = [
         (Codec::Json, b"", "waits"),
         (Codec::Json, b"{\"type\":6}", "waits"),
         (Codec::Json, b"{\"type\": 6}\x1e{", "{\"type\":6}\x1e"),
@@ -190,6 +219,12 @@ fn frames_after_the_handshake(rt: HostRuntime) -> Result<(), Fail> {
         ),
         (Codec::Pack, b"\x03\x91\xcc\x63", "unknown 99"),
         (Codec::Pack, b"\xff\xff\xff\xff\xff", "0 BadLength"),
+        (Codec::Pack, b"\x81\x01\x91", "0 TooLong"),
+        (
+            Codec::Pack,
+            b"\x0e\x94\x02\x80\xa1\x31\xcb\x3f\xf8\x00\x00\x00\x00\x00\x00",
+            "0 Fraction 5",
+        ),
     ];
     for (codec, bytes, wanted) in &cases {
         let splitter = fed(rt.alloc(), framing(*codec), bytes)?;
@@ -202,6 +237,9 @@ fn frames_after_the_handshake(rt: HostRuntime) -> Result<(), Fail> {
 #[test]
 fn a_fault_is_told_at_the_place_of_its_frame(rt: HostRuntime) -> Result<(), Fail> {
     let mut splitter = fed(rt.alloc(), Framing::Record, b"{\"type\":6}\x1e[]\x1e{}\x1e")?;
+    let Ok(Some(_)) = splitter.frame() else {
+        return Err(Fail::from("no frame"));
+    };
     splitter.pass();
     let refused = later(rt.alloc(), Codec::Json, &splitter)?;
     assert_eq!(rt; refused.as_str(), "11 NotObject");
@@ -214,9 +252,19 @@ fn a_fault_is_told_at_the_place_of_its_frame(rt: HostRuntime) -> Result<(), Fail
 fn the_handshake_of_each_side(rt: HostRuntime) -> Result<(), Fail> {
     let request = b"{\"protocol\":\"json\",\"version\":2}\x1e".as_slice();
     let long = [b' '; MOST + 1];
-    let cases: [(Side, &[u8], &str); 8] = [
+    let cases: [(Side, &[u8], &str); 10] = [
         (Side::Server, b"{\"protocol\":\"json\"", "waits"),
-        (Side::Server, request, "request 2"),
+        (Side::Server, request, "json 2"),
+        (
+            Side::Server,
+            b"{\"version\":3,\"protocol\":\"messagepack\"}\x1e\x02\x91\x06",
+            "messagepack 3",
+        ),
+        (
+            Side::Server,
+            b"{\"protocol\":\"json\",\"version\":9}\x1e",
+            "Version 9",
+        ),
         (Side::Server, b"{}\x1e", "Missing protocol"),
         (Side::Server, &long, "TooLong"),
         (Side::Client, b"{}", "waits"),
@@ -235,7 +283,9 @@ fn the_handshake_of_each_side(rt: HostRuntime) -> Result<(), Fail> {
 /// The laws are called as any function.
 #[test]
 fn laws() {
+    answers_are_read();
     answers_are_spelled();
+    numbers_are_named();
     bytes_are_read();
     has_wire();
     reads_once();

@@ -2,9 +2,7 @@
 //! is made, or, after the word `shared`, shares the bytes of one. `bench/resend/peer.rs` is the same in Rust.
 #![tactic(auto)]
 
-ghost use Rattle.std.specs.Prelude.{◌≤◌, length};
-
-use hq_resend::{Frame, LEAST_FRAME, Limits, Resend};
+use hq_resend::{Frame, LEAST_FRAME, Limits, MOST_BYTES, Resend};
 use std::alloc::{AllocError, Global};
 use std::{env, io};
 
@@ -71,7 +69,7 @@ fn main(rt: HostRuntime) -> io::Result<()> {
     let shared = env::args(&rt)?
         .skip(1)
         .any(|word| word.as_str() == "shared");
-    let Some(limits) = Limits::of(SIZE.max(256), HELD, 16_777_216) else {
+    let Some(limits) = Limits::of(SIZE.max(LEAST_FRAME), HELD, MOST_BYTES) else {
         return Ok(());
     };
     let (frames, sum) = run(rt.alloc(), limits, shared)?;
