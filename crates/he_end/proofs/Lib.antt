@@ -9,3 +9,4 @@ pub mod Taken
 pub mod Ends
 pub mod Outs
 pub mod Nexts
+pub mod Delivers
