@@ -11,3 +11,4 @@ pub mod Outs
 pub mod Nexts
 pub mod Sends
 pub mod Greets
+pub mod Delivers
