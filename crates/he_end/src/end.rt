@@ -27,6 +27,7 @@ use crate::due::Due;
 use crate::errors::{NextError, SendError};
 use crate::link::{Answer, Farewell};
 use crate::session::{AttachError, Session};
+use crate::spelled::frame_of;
 use crate::taking::Refused;
 use hd_delivery::{
     Got, Reason, Side, State, facts_hold, next_is_read, unread_begins, unread_grows, unread_moves,
@@ -37,7 +38,7 @@ use he_wire::{
     wire_is_sound,
 };
 use hf_split::{Framing, Splitter, wrapped_begins};
-use hm_codec::{FrameWhy, frame_is_of_image, framing, write_message};
+use hm_codec::{FrameWhy, frame_is_of_image, framing};
 use hm_message::{Codec, Message, Read, image_is_its_image, values_are_trees};
 use hq_resend::{Frame, Limits, PushError};
 use hs_shake::{Shake, ShakeError, response};
@@ -143,16 +144,13 @@ impl End {
         ensures ok { IfOk result (Sends self.old self.new message.now) }
         ensures refused { IfErr result (RefusesToSend self.old self.new message.now) }
     {
-        frame_is_of_image();
         self.may_send()?;
-        let mut bytes = Vec::new(alloc);
-        write_message(alloc, self.session.codec, message, &mut bytes)?;
-        let frame = Frame::of(alloc, &bytes)?;
+        let frame = frame_of(alloc, self.session.codec, message)?;
         self.push(frame)
     }
 
-    /// The same for a message whose framed frame in this end's codec is at hand, as `hm_codec::write_message` appends it: its
-    /// bytes are shared and not copied.
+    /// The same for a message whose frame in this end's codec is at hand, as [`spell`](crate::spell) makes it: its bytes are
+    /// shared and not copied.
     pub fn send_shared(&mut self, message: &Message, frame: &Frame) -> Result<u64, SendError>
         requires sequenced { is_sequenced message.now ≡ true }
         requires fits { Fits message.now }

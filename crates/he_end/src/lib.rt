@@ -8,6 +8,7 @@ mod errors;
 mod laws;
 mod link;
 mod session;
+mod spelled;
 mod taking;
 
 pub use config::Config;
@@ -15,3 +16,4 @@ pub use end::End;
 pub use errors::{NextError, SendError};
 pub use laws::ends_deliver;
 pub use session::AttachError;
+pub use spelled::{Spelled, Steps, spell};
