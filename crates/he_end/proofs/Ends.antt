@@ -1,5 +1,5 @@
 -- How an end goes on standing for its history, step by step.
-use Rattle.std.proofs.Common.{◌≡◌, ℕ, ◌+◌, ◌≤◌, Bool, true, false, List, [], ◌∷◌, ◌++◌, length, drop, take, Option, Some, None, refl, sym, ap, ◌∙◌, subst, arith}
+use Rattle.std.proofs.Common.{◌≡◌, ℕ, ◌+◌, ◌≤◌, Bool, true, false, List, [], ◌∷◌, ◌++◌, length, Some, refl, sym, ap, ◌∙◌, subst}
 use Rattle.std.specs.Prelude.{if◌then◌else◌}
 use Rattle.hf_split.specs.Held.{Held, place_of, room_for, at_start, after_feed}
 use Rattle.hf_split.specs.VarInts.{longest_var_int}
@@ -19,8 +19,8 @@ use Rattle.hd_delivery.specs.Frames.{LinkFrame, Numbered}
 use Rattle.hd_delivery.specs.Histories as of
 use Rattle.hd_delivery.specs.Histories.{Step, Attached, Detached, Fed, Lent, Ticked, Silenced, present_link, was_on, first_link, codec_of, is_shaken, is_kept, is_closed, is_silence, held_messages}
 use Rattle.hd_delivery.specs.Due.{due}
-use Rattle.hd_delivery.specs.Worlds.{Limits, HasRoom, MayBegin, MayDo}
-use Rattle.hd_delivery.specs.Bytes.{Wire, ByteStep, Bytes, Does, in_frames, sizes_of, unread, unread_count, read_count}
+use Rattle.hd_delivery.specs.Worlds.{HasRoom, MayBegin}
+use Rattle.hd_delivery.specs.Bytes.{Wire, ByteStep, Bytes, Does, in_frames, sizes_of, unread_count}
 use Rattle.hd_delivery.specs.OneHistory.{IsHistory}
 use Rattle.hd_delivery.specs.HistoryLaws.{Stays, StandsThere, UnreadStays, UnreadBegins, UnreadGrows}
 use Rattle.he_wire.specs.Wires.{IsHouseWire}

@@ -76,10 +76,12 @@ module _ (facts : FactsHold) (sound : WireIsSound) (next : NextIsRead) (moves : 
   pub greeted : (f : LinkFrame) (side : Side) (codec : Codec) (version : ℕ) (got : Got) → got ≡ gives.Shaken codec version → session.Shakes e.session side f s got
       → c.side ≡ side → ReadsOne e.splitter f (wire.first side e.splitter.bytes)
       → (processes c k ≡ Some (Took got)) × Stands wire c (record e { session = s; splitter = held }) (Does (Took got) ∷ h)
-  greeted f side codec version got is shakes on one =
-      (m.0, took wire c e s held h st same (ap (λ x. x.most) held_is) moves sound one.0 l.0 l.1 live (ap (λ x. x.bytes) held_is) (ap (λ x. x.place) held_is) size got m.0 m.1
-          (ap (λ x. x.framing) held_is ∙ shaken_framing c k s codec version got is m.1)
-          (none_said (codec_of c (Took got ∷ k)) (sent_messages k) ((facts_here wire c e h st facts sound l.0 l.1 live).unshaken_sent_none not_yet)))
+  greeted f side codec version got is shakes on one = (
+    m.0,
+    took wire c e s held h st same (ap (λ x. x.most) held_is) moves sound one.0 l.0 l.1 live (ap (λ x. x.bytes) held_is) (ap (λ x. x.place) held_is) size got m.0 m.1
+        (ap (λ x. x.framing) held_is ∙ shaken_framing c k s codec version got is m.1)
+        (none_said (codec_of c (Took got ∷ k)) (sent_messages k) ((facts_here wire c e h st facts sound l.0 l.1 live).unshaken_sent_none not_yet)),
+  )
     where
       reader : next_reader wire c l.0 k e.splitter.bytes ≡ wire.first side e.splitter.bytes
       reader = first_reader wire c e h st facts sound l.0 l.1 live not_yet e.splitter.bytes ∙ ap (λ x. wire.first x e.splitter.bytes) on

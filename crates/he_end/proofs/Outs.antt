@@ -1,10 +1,8 @@
 -- What an end lends is what is due.
 use Rattle.std.proofs.Common.{◌≡◌, ℕ, List, ◌∷◌, Option, Some, None, refl, sym, ap, ◌∙◌, subst}
 use Rattle.std.specs.Prelude.{option_map}
-use Rattle.hm_message.specs.declared.message.Codec.{Codec}
 use Rattle.hm_message.specs.declared.message.Message.{Message}
 use Rattle.hm_codec.specs.Frames.{framed}
-use Rattle.hd_delivery.specs.declared.vocabulary.Side.TheVariants.{Client}
 use Rattle.hd_delivery.specs.Frames.{LinkFrame, Request, Response, Refusal, Numbered, Ack, Sequence, Ping}
 use Rattle.hd_delivery.specs.Histories.{Config, Step, Lent, codec_of}
 use Rattle.hd_delivery.specs.HistoryLaws.{FactsHold, UnreadStays}

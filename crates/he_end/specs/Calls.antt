@@ -1,6 +1,6 @@
 -- What each call of an end makes of the history that it stands for. A name with Does says: for every history for which the end stood, it now
 -- stands for that history with this step.
-use Rattle.std.specs.Prelude.{◌≡◌, ◌≤◌, ℕ, suc, true, false, List, [], ◌∷◌, length, Option, Some, None, Result, Ok, Err, is_some, option_map}
+use Rattle.std.specs.Prelude.{◌≡◌, ℕ, suc, true, false, List, ◌∷◌, length, Option, Some, None, Result, Ok, Err, is_some, option_map}
 use Rattle.hf_split.specs.Cuts.{Spelled, BeginsWith}
 use Rattle.hf_split.specs.Held.{Held}
 use Rattle.hm_message.specs.declared.message.Codec.{Codec}

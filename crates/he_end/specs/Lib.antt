@@ -5,3 +5,4 @@ pub mod Stands
 pub mod Calls
 pub mod EndLending
 pub mod Laws
+pub mod Words

@@ -3,6 +3,8 @@
 use hm_codec::FrameWhy;
 use hs_shake::ShakeError;
 use std::alloc::AllocError;
+use std::error::Error;
+use std::fmt;
 
 /// Why the next frame of the link isn't taken. The end is closed then, but for `NoMemory`.
 #[derive(Drop, Debug, PartialEq)]
@@ -23,7 +25,7 @@ pub enum NextError {
 /// Why a message isn't sent: the first of these that holds. The end is as it was.
 #[derive(Clone, Copy, Debug, PartialEq, Eq)]
 pub enum SendError {
-    /// The handshake isn't complete.
+    /// The handshake isn't complete, and the end isn't closed.
     Opening,
     Closed,
     /// The message's frame has `size` bytes without its framing, which are too many.
@@ -52,3 +54,42 @@ impl From<AllocError> for SendError {
         SendError::NoMemory
     }
 }
+
+impl fmt::Display for NextError {
+    ghost use Rattle.std.specs.Prelude.{Some};
+    ghost use Rattle.he_end.specs.Words.{next_words};
+
+    ghost output = { λ error. Some (next_words error) };
+
+    fn fmt<W: fmt::Write>(&self, f: &mut fmt::Formatter<W>) -> fmt::Result {
+        match self {
+            NextError::Frame { link, at, why } => write!(f, "frame {link} {at} {why}"),
+            NextError::Shake(e) => write!(f, "shake {e}"),
+            NextError::Gap { got, most } => write!(f, "gap {got} {most}"),
+            NextError::AckBeyond { got, most } => write!(f, "ack {got} {most}"),
+            NextError::NoMemory => f.write_str("out of memory"),
+        }
+    }
+}
+
+impl Error for NextError {}
+
+impl fmt::Display for SendError {
+    ghost use Rattle.std.specs.Prelude.{Some};
+    ghost use Rattle.he_end.specs.Words.{send_words};
+
+    ghost output = { λ error. Some (send_words error) };
+
+    fn fmt<W: fmt::Write>(&self, f: &mut fmt::Formatter<W>) -> fmt::Result {
+        match self {
+            SendError::Opening => f.write_str("Opening"),
+            SendError::Closed => f.write_str("Closed"),
+            SendError::TooLong { size } => write!(f, "TooLong {size}"),
+            SendError::Full { held, bytes, size } => write!(f, "Full {held} {bytes} {size}"),
+            SendError::Exhausted => f.write_str("Exhausted"),
+            SendError::NoMemory => f.write_str("out of memory"),
+        }
+    }
+}
+
+impl Error for SendError {}

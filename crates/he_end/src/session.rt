@@ -17,6 +17,8 @@ use hd_delivery::{PING_AFTER, Reason, SILENCE_AFTER, Side, State};
 use hm_message::Codec;
 use hq_resend::{Frame, Intake, Limits, PushError, Resend, buffer_is_within};
 use std::alloc::{AllocError, Global};
+use std::error::Error;
+use std::fmt;
 
 /// Why a link isn't taken. Nothing is changed then.
 #[derive(Clone, Copy, Debug, PartialEq, Eq)]
@@ -26,6 +28,22 @@ pub enum AttachError {
     /// There was a link, and the connection isn't kept across links, or its handshake isn't complete.
     NotGranted,
 }
+
+impl fmt::Display for AttachError {
+    ghost use Rattle.std.specs.Prelude.{Some};
+    ghost use Rattle.he_end.specs.Words.{attach_words};
+
+    ghost output = { λ error. Some (attach_words error) };
+
+    fn fmt<W: fmt::Write>(&self, f: &mut fmt::Formatter<W>) -> fmt::Result {
+        match self {
+            AttachError::Closed => f.write_str("Closed"),
+            AttachError::NotGranted => f.write_str("NotGranted"),
+        }
+    }
+}
+
+impl Error for AttachError {}
 
 /// What an end remembers of its history, and nothing of the bytes of its link.
 #[derive(Drop)]

@@ -1,4 +1,4 @@
-use Rattle.std.proofs.Common.{ap, subst, sym}
+use Rattle.std.proofs.Common.{ap}
 use Rattle.hm_codec.specs.Words.{why_words}
 use Rattle.hd_delivery.specs.Histories.{Unread}
 use Rattle.he_end.proofs.Nexts.{fails}

@@ -7,8 +7,8 @@ pub returns-in-Ok-None : goal.returns-in-Ok-None
 returns-in-Ok-None c = record {
   ok = λ wire config h st. (
     first_waits c.facts_hold.ensures c.wire_is_sound.ensures c.next_is_read.ensures c.args.self.now c.requires.reading c.requires.unshaken wire config h st
-      (told_first c.facts_hold.ensures c.wire_is_sound.ensures c.next_is_read.ensures c.args.self.now c.requires.reading c.requires.unshaken wire config h st
-      c.read_first.result (Ok None) (c.in-Ok-None.is ∙ ap Ok c.in-Ok-None.field-0-is) c.read_first.ensures.told),
+        (told_first c.facts_hold.ensures c.wire_is_sound.ensures c.next_is_read.ensures c.args.self.now c.requires.reading c.requires.unshaken wire config h st
+        c.read_first.result (Ok None) (c.in-Ok-None.is ∙ ap Ok c.in-Ok-None.field-0-is) c.read_first.ensures.told),
     st,
   );
   failed = tt;
@@ -32,7 +32,7 @@ returns-in-Err-Split-clause-failed c wire config h st =
 pub returns-in-Err-Shake-clause-failed : goal.returns-in-Err-Shake-clause-failed
 returns-in-Err-Shake-clause-failed c wire config h st =
     let told = told_first c.facts_hold.ensures c.wire_is_sound.ensures c.next_is_read.ensures c.args.self.now c.requires.reading c.requires.unshaken wire config h st
-      c.read_first.result (Err (shaking.Shake c.in-Err-Shake.e)) (c.in-Err-Shake.is ∙ ap Err c.in-Err-Shake.field-0-is) c.read_first.ensures.told in
+    c.read_first.result (Err (shaking.Shake c.in-Err-Shake.e)) (c.in-Err-Shake.is ∙ ap Err c.in-Err-Shake.field-0-is) c.read_first.ensures.told in
     c.refuse.ensures wire config h st (not_shaken c.facts_hold.ensures c.wire_is_sound.ensures c.next_is_read.ensures c.args.self.now c.requires.reading c.requires.unshaken wire config h st) told.0
     (first_refused c.facts_hold.ensures c.wire_is_sound.ensures c.next_is_read.ensures c.args.self.now c.requires.reading c.requires.unshaken wire config h st
     c.in-Err-Shake.e told)

@@ -2,7 +2,7 @@ use Rattle.std.proofs.Common.{refl, ap, ◌∙◌, Some}
 use Rattle.he_end.specs.declared.due.Due.TheVariants as kind
 use Rattle.hd_delivery.specs.Frames.{Response, Sequence, Ack, Ping}
 use Rattle.he_end.specs.Remembers.{close_of}
-use Rattle.he_end.proofs.Outs.{lends, spells, lends_none, spells_request, spells_refusal, refusal_is_there, lends_message, spells_message}
+use Rattle.he_end.proofs.Outs.{lends, spells, lends_none, spells_request, spells_refusal, lends_message, spells_message}
 use Rattle.he_end.proofs.end.End.next_out.Goals as goal
 
 pub returns-in_err-due : goal.returns-in_err-due

@@ -1,4 +1,4 @@
-use Rattle.std.proofs.Common.{subst, Ok, Err}
+use Rattle.std.proofs.Common.{subst, Err}
 use Rattle.he_end.proofs.Nexts.{Made, taken}
 use Rattle.he_end.proofs.end.End.take.Goals as goal
 
