@@ -19,9 +19,6 @@ const RESPONSE: &[u8] = b"{}\x1e";
 
 const PING: &[u8] = b"{\"type\":6}\x1e";
 
-/// The Sequence with which a later link begins, if no message was acknowledged.
-const SEQUENCE: &[u8] = b"{\"sequenceId\":1,\"type\":9}\x1e";
-
 /// The Close of an end that met a fault.
 const FAREWELL: &[u8] = b"{\"error\":\"Protocol error.\",\"type\":7}\x1e";
 
@@ -182,9 +179,8 @@ fn stands(alloc: Global, end: &End) -> Result<String, AllocError> {
     )
 }
 
-/// The link is lost in the midst of the second message, after the first was acknowledged.
 #[test]
-fn a_later_link_goes_on_after_what_was_acknowledged(rt: HostRuntime) -> Result<(), Fail> {
+fn the_handshake_of_two_ends(rt: HostRuntime) -> Result<(), Fail> {
     let alloc = rt.alloc();
     let mut client = start(&rt, alloc, Side::Client, 2, true, ample()?)?;
     let mut server = start(&rt, alloc, Side::Server, 1, true, ample()?)?;
@@ -202,8 +198,15 @@ fn a_later_link_goes_on_after_what_was_acknowledged(rt: HostRuntime) -> Result<(
         hear(&rt, alloc, &mut client, RESPONSE)?.as_str(),
         "shaken Json 2"
     );
-    assert_eq!(rt; send(&rt, alloc, &mut client, A)?, Ok(1));
-    assert_eq!(rt; send(&rt, alloc, &mut client, B)?, Ok(2));
+    ends_deliver(&client, &server);
+    Ok(())
+}
+
+/// A client that has said two messages, of which the server has read and acknowledged the first, and 19 bytes of the second.
+fn half_read(rt: &impl Abort, alloc: Global) -> Result<(End, End), Fail> {
+    let (mut client, mut server) = meet(rt, alloc, 2, true, ample()?)?;
+    assert_eq!(rt; send(rt, alloc, &mut client, A)?, Ok(1));
+    assert_eq!(rt; send(rt, alloc, &mut client, B)?, Ok(2));
     let mut said = Vec::new(alloc);
     for _ in 0..2u32 {
         said.extend_from_slice(client.next_out().ok_or("a message")?)?;
@@ -211,13 +214,21 @@ fn a_later_link_goes_on_after_what_was_acknowledged(rt: HostRuntime) -> Result<(
     assert_eq!(rt; client.next_out(), None);
     assert!(rt; said.len() == 78);
     assert_eq!(rt;
-        hear(&rt, alloc, &mut server, &said[..58])?.as_str(),
+        hear(rt, alloc, &mut server, &said[..58])?.as_str(),
         "got a"
     );
     assert_eq!(rt;
-        carry(&rt, alloc, &mut server, &mut client)?.as_str(),
+        carry(rt, alloc, &mut server, &mut client)?.as_str(),
         "acked 1"
     );
+    Ok((client, server))
+}
+
+/// The link is lost in the midst of the second message.
+#[test]
+fn a_later_link_goes_on_after_what_was_acknowledged(rt: HostRuntime) -> Result<(), Fail> {
+    let alloc = rt.alloc();
+    let (mut client, mut server) = half_read(&rt, alloc)?;
     client.detach(1);
     server.detach(1);
     assert_eq!(rt;
@@ -227,11 +238,8 @@ fn a_later_link_goes_on_after_what_was_acknowledged(rt: HostRuntime) -> Result<(
     assert_eq!(rt; client.next_out(), None);
     client.attach(2)?;
     server.attach(2)?;
-    assert_eq!(rt;
-        client.next_out(),
-        Some(b"{\"sequenceId\":2,\"type\":9}\x1e".as_slice())
-    );
-    let sequence = b"{\"sequenceId\":2,\"type\":9}\x1e";
+    let sequence = b"{\"sequenceId\":2,\"type\":9}\x1e".as_slice();
+    assert_eq!(rt; client.next_out(), Some(sequence));
     assert_eq!(rt;
         hear(&rt, alloc, &mut server, sequence)?.as_str(),
         "sequence 2"
@@ -253,7 +261,6 @@ fn a_later_link_goes_on_after_what_was_acknowledged(rt: HostRuntime) -> Result<(
         "sequence 1, acked 2"
     );
     assert_eq!(rt; (client.held_count(), client.held_bytes()), (0, 0));
-    ends_deliver(&client, &server);
     Ok(())
 }
 
