@@ -1,7 +1,7 @@
 //! The resend buffer beside its plain definition as a program, and the receiving counter by worked cases. That 2^62 frames
 //! exhaust a buffer isn't run.
 
-use hd_delivery::MOST_MESSAGES;
+use hd_delivery::{MOST_FRAMING, MOST_MESSAGES};
 use hq_resend::{
     Beyond, Counted, Frame, Gap, Intake, Limits, PushError, Resend, buffer_is_within,
     intake_is_numbering, next_is_in_order, numbers_are_named,
@@ -94,7 +94,7 @@ fn push_both(
     call: u32,
 ) -> Result<(), Fail> {
     let bytes = vec![in alloc; (call % 251) as u8; size]?;
-    assert!(rt; bytes.len() <= resend.limits().frame());
+    assert!(rt; bytes.len() <= resend.limits().frame() + MOST_FRAMING);
     let frame = Frame::of(alloc, &bytes)?;
     let answer = match resend.push(frame) {
         Ok(number) => Ok(number),
@@ -261,7 +261,13 @@ fn a_buffer_is_set_to_keep_before_the_first_frame(rt: HostRuntime) -> Result<(),
 }
 
 /// A frame of this many bytes is pushed, and answered so.
-fn push(rt: &impl Abort, alloc: Global, resend: &mut Resend, size: usize, wanted: Result<u64, PushError>) -> Result<(), Fail> {
+fn push(
+    rt: &impl Abort,
+    alloc: Global,
+    resend: &mut Resend,
+    size: usize,
+    wanted: Result<u64, PushError>,
+) -> Result<(), Fail> {
     let bytes = vec![in alloc; b'a'; size]?;
     assert!(rt; bytes.len() <= resend.limits().frame());
     let answer = resend.push(Frame::of(alloc, &bytes)?);
@@ -276,7 +282,11 @@ fn a_buffer_is_full_by_count_and_by_bytes(rt: HostRuntime) -> Result<(), Fail> {
     for number in 1..=3 {
         push(&rt, rt.alloc(), &mut resend, 39, Ok(number))?;
     }
-    let full = PushError::Full { held: 3, bytes: 117, size: 39 };
+    let full = PushError::Full {
+        held: 3,
+        bytes: 117,
+        size: 39,
+    };
     push(&rt, rt.alloc(), &mut resend, 39, Err(full))?;
     for _ in 0..3u32 {
         assert!(rt; resend.next_unwritten().is_some());
@@ -287,7 +297,11 @@ fn a_buffer_is_full_by_count_and_by_bytes(rt: HostRuntime) -> Result<(), Fail> {
     push(&rt, rt.alloc(), &mut resend, 39, Err(full))?;
     let mut resend = Resend::start(rt.alloc(), limits, true)?;
     push(&rt, rt.alloc(), &mut resend, 200, Ok(1))?;
-    let full = PushError::Full { held: 1, bytes: 200, size: 201 };
+    let full = PushError::Full {
+        held: 1,
+        bytes: 200,
+        size: 201,
+    };
     push(&rt, rt.alloc(), &mut resend, 201, Err(full))?;
     push(&rt, rt.alloc(), &mut resend, 200, Ok(2))?;
     assert_eq!(rt; resend.held_bytes(), 400);

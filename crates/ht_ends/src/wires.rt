@@ -138,7 +138,9 @@ fn control_frames_in_messagepack(rt: HostRuntime) -> Result<(), Fail> {
             b"\x0b\x92\x08\xcf\x40\x00\x00\x00\x00\x00\x00\x00",
         ),
         (
-            Control::Ack { upto: 4_294_967_295 },
+            Control::Ack {
+                upto: 4_294_967_295,
+            },
             b"\x07\x92\x08\xce\xff\xff\xff\xff",
         ),
         (
