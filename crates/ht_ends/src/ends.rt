@@ -212,11 +212,9 @@ fn half_read(rt: &impl Abort, alloc: Global) -> Result<(End, End), Fail> {
         said.extend_from_slice(client.next_out().ok_or("a message")?)?;
     }
     assert_eq!(rt; client.next_out(), None);
-    assert!(rt; said.len() == 78);
-    assert_eq!(rt;
-        hear(rt, alloc, &mut server, &said[..58])?.as_str(),
-        "got a"
-    );
+    assert_eq!(rt; said.len(), 78);
+    said.truncate(58);
+    assert_eq!(rt; hear(rt, alloc, &mut server, &said)?.as_str(), "got a");
     assert_eq!(rt;
         carry(rt, alloc, &mut server, &mut client)?.as_str(),
         "acked 1"
