@@ -12,3 +12,4 @@ pub mod Nexts
 pub mod Sends
 pub mod Greets
 pub mod Delivers
+pub mod Feeds

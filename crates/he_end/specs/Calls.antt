@@ -1,6 +1,6 @@
 -- What each call of an end makes of the history that it stands for. A name with Does says: for every history for which the end stood, it now
 -- stands for that history with this step.
-use Rattle.std.specs.Prelude.{◌≡◌, ℕ, suc, true, false, List, ◌∷◌, length, Option, Some, None, Result, Ok, Err, is_some, option_map}
+use Rattle.std.specs.Prelude.{◌≡◌, ℕ, suc, ◌+◌, ◌-◌, min, true, false, List, ◌∷◌, length, Option, Some, None, Result, Ok, Err, is_some, option_map}
 use Rattle.hf_split.specs.Cuts.{Spelled, BeginsWith}
 use Rattle.hf_split.specs.Held.{Held}
 use Rattle.hm_message.specs.declared.message.Codec.{Codec}
@@ -22,8 +22,9 @@ use Rattle.hd_delivery.specs.Histories as of
 use Rattle.hd_delivery.specs.Histories.{Step, Took, Failed, Sent, Lent, Fault, Unread, Shake, Gap, AckBeyond, present_link, codec_of, is_shaken, is_closed, sent_messages}
 use Rattle.hd_delivery.specs.Due.{due}
 use Rattle.hd_delivery.specs.Processes.{processes}
-use Rattle.hd_delivery.specs.Worlds.{MaySend}
-use Rattle.hd_delivery.specs.Bytes.{Wire, Reading, Reads, ByteStep, Does, in_frames, sizes_of}
+use Rattle.hd_delivery.specs.Numbers.{most_framing}
+use Rattle.hd_delivery.specs.Worlds.{Limits, MaySend}
+use Rattle.hd_delivery.specs.Bytes.{Wire, Reading, Reads, Stops, ByteStep, Does, in_frames, sizes_of}
 use Rattle.hd_delivery.specs.Sending.{SendRefusal, Opening, Closed, TooLong, Full, Exhausted, IsRefusedToSend}
 use Rattle.he_end.specs.declared.errors.NextError.{NextError}
 use Rattle.he_end.specs.declared.errors.NextError.TheVariants as next
@@ -37,6 +38,14 @@ use Rattle.he_end.specs.Stands.{Stands, limits_of}
 -- of every history for which the end stood
 abbrev pub OfEach : End → ((wire : Wire) → of.Config → List ByteStep → Type 0) → Type 0
 OfEach e Holds = (wire : Wire) (c : of.Config) (h : List ByteStep) → Stands wire c e h → Holds wire c h
+
+-- ---- what is fed
+
+-- How many bytes are taken of a piece of this length, if the reader says this of the bytes that aren't dealt with, and these are `held` ones:
+-- as many as there is room for, and none if no frame can come there.
+abbrev pub taken_at : Limits → Reading → ℕ → ℕ → ℕ
+taken_at limits (Stops why) held piece = 0
+taken_at limits reading held piece = min piece (limits.frame + most_framing - held)
 
 -- ---- what is taken
 

@@ -12,15 +12,18 @@ ghost use Rattle.hs_shake.specs.Requests.{IsVersion};
 ghost use Rattle.hd_delivery.specs.Histories as of;
 ghost use Rattle.hd_delivery.specs.Histories.{Attached, Detached, Ticked, Silenced, present_link, was_on, first_link, codec_of, is_kept, is_closed, is_silence, state, sent_messages, processed_messages, held_messages};
 ghost use Rattle.hd_delivery.specs.Worlds.{HasRoom};
-ghost use Rattle.hd_delivery.specs.Bytes.{Wire, ByteStep, Bytes, Does, in_frames, sizes_of};
+ghost use Rattle.hd_delivery.specs.Bytes.{Wire, ByteStep, Bytes, Does, in_frames, sizes_of, unread};
+ghost use Rattle.hd_delivery.specs.OneHistory.{next_reader};
 ghost use Rattle.hd_delivery.specs.Frames.{Request};
 ghost use Rattle.he_wire.specs.Wires.{IsHouseWire};
 ghost use Rattle.he_wire.specs.Spelling.{spelling};
 ghost use Rattle.he_wire.specs.Controls.{frame_of_control};
 ghost use Rattle.he_wire.specs.Gives.{Begins};
 ghost use Rattle.he_end.specs.Stands.{Stands, begun, limits_of, is_client};
-ghost use Rattle.he_end.specs.Calls.{OfEach, Said, IsReading, Takes, Greets, Refuses, FailsAt, Gives, Fails, IsSpelled, Sends, RefusesToSend, Lends, AreDue};
+ghost use Rattle.he_end.specs.Calls.{OfEach, taken_at, Said, IsReading, Takes, Greets, Refuses, FailsAt, Gives, Fails, IsSpelled, Sends, RefusesToSend, Lends, AreDue};
 ghost use Rattle.he_end.specs.EndLending.{EndsAs};
+ghost use Rattle.he_end.specs.Says.{HasFit};
+ghost use Rattle.hm_message.specs.Reads.{MessageIs};
 
 use crate::config::Config;
 use crate::due::Due;
@@ -37,7 +40,7 @@ use he_wire::{
     Control, Greeting, GreetingFault, LinkFault, Slate, read_first, read_later, unframed_size,
     wire_is_sound,
 };
-use hf_split::{Framing, Splitter, wrapped_begins};
+use hf_split::{Framing, Splitter, one_beginning, wrapped_begins};
 use hm_codec::{FrameWhy, frame_is_of_image, framing};
 use hm_message::{Codec, Message, Read, image_is_its_image, values_are_trees};
 use hq_resend::{Frame, Limits, PushError};
@@ -56,7 +59,8 @@ impl End {
     /// An end before its first link. It takes the memory of what it can hold and of what it can read.
     pub fn start(alloc: Global, side: Side, config: Config) -> Result<End, AllocError>
         requires { IsVersion config.version }
-        ensures { IfOk result (λ e. (wire : Wire) → IsHouseWire config.limits.frame wire → Stands wire (begun side config) e []) }
+        ensures stands { IfOk result (λ e. (wire : Wire) → IsHouseWire config.limits.frame wire → Stands wire (begun side config) e []) }
+        ensures limits { IfOk result (λ e. limits_of e ≡ config.limits) }
     {
         let Config {
             codec,
@@ -81,6 +85,7 @@ impl End {
         ensures not_granted { IfErr result (λ e. e ≡ AttachError.NotGranted → OfEach self.old (λ wire c h. (is_closed c (in_frames wire c h) ≡ false)
             × (is_kept c (in_frames wire c h) ≡ false) × (first_link (in_frames wire c h) ≡ None → ⊥))) }
         ensures err { OnErr result (self.new ≡ self.old) }
+        ensures limits { limits_of self.new ≡ limits_of self.old }
     {
         unread_begins();
         let framing = self.next_framing();
@@ -95,6 +100,7 @@ impl End {
         ensures left { OfEach self.old (λ wire c h. (l : ℕ) → present_link (in_frames wire c h) ≡ Some l → of.moment (in_frames wire c h) ≤ now →
             Stands wire c self.new (Does (Detached now) ∷ h)) }
         ensures none { OfEach self.old (λ wire c h. present_link (in_frames wire c h) ≡ None → self.new ≡ self.old) }
+        ensures limits { limits_of self.new ≡ limits_of self.old }
     {
         unread_stays();
         self.session.detach(now);
@@ -104,16 +110,21 @@ impl End {
     /// a link, on a closed end, or where no frame can begin. Take all messages, and feed it the rest.
     pub fn feed(&mut self, piece: &[u8]) -> usize
         ensures within { result ≤ length piece.now }
+        ensures count { OfEach self.old (λ wire c h. let k = in_frames wire c h in (l : ℕ) → present_link k ≡ Some l → is_closed c k ≡ false →
+            result ≡ taken_at (limits_of self.old) (next_reader wire c l k (unread wire c l h)) (length (unread wire c l h)) (length piece.now)) }
         ensures fed { OfEach self.old (λ wire c h. (l : ℕ) → present_link (in_frames wire c h) ≡ Some l → is_closed c (in_frames wire c h) ≡ false →
             Stands wire c self.new (Bytes (take result piece.now) ∷ h)) }
         ensures none { OfEach self.old (λ wire c h. (present_link (in_frames wire c h) ≡ None) ⊎ (is_closed c (in_frames wire c h) ≡ true) →
             (result ≡ 0) × (self.new ≡ self.old)) }
+        ensures limits { limits_of self.new ≡ limits_of self.old }
     {
         if !self.is_reading() {
             return 0;
         }
+        facts_hold();
         unread_grows();
         wire_is_sound();
+        one_beginning();
         self.session.hear();
         self.splitter.feed(piece)
     }
@@ -121,8 +132,9 @@ impl End {
     /// A moment came. True exactly if it is a silence: nothing was fed for `SILENCE_AFTER` milliseconds, as ticks tell, and
     /// the link is lost by that. After `PING_AFTER` milliseconds in which nothing was said a Ping is due.
     pub fn tick(&mut self, now: u64) -> bool
-        ensures { OfEach self.old (λ wire c h. of.moment (in_frames wire c h) ≤ now → (result ≡ is_silence c now (in_frames wire c h))
+        ensures ticks { OfEach self.old (λ wire c h. of.moment (in_frames wire c h) ≤ now → (result ≡ is_silence c now (in_frames wire c h))
             × Stands wire c self.new (Does (if result then Silenced now else Ticked now) ∷ h)) }
+        ensures limits { limits_of self.new ≡ limits_of self.old }
     {
         unread_stays();
         self.session.tick(now)
@@ -132,6 +144,7 @@ impl End {
     pub fn close(&mut self, reason: Reason, allow: bool)
         ensures live { OfEach self.old (λ wire c h. is_closed c (in_frames wire c h) ≡ false → Stands wire c self.new (Does (of.Closed reason allow) ∷ h)) }
         ensures closed { OfEach self.old (λ wire c h. is_closed c (in_frames wire c h) ≡ true → self.new ≡ self.old) }
+        ensures limits { limits_of self.new ≡ limits_of self.old }
     {
         unread_stays();
         self.session.close(reason, allow);
@@ -143,6 +156,7 @@ impl End {
         requires fits { Fits message.now }
         ensures ok { IfOk result (Sends self.old self.new message.now) }
         ensures refused { IfErr result (RefusesToSend self.old self.new message.now) }
+        ensures limits { limits_of self.new ≡ limits_of self.old }
     {
         self.may_send()?;
         let frame = frame_of(alloc, self.session.codec, message)?;
@@ -157,6 +171,7 @@ impl End {
         requires spelled { IsSpelled self.old.session.codec message.now frame.now }
         ensures ok { IfOk result (Sends self.old self.new message.now) }
         ensures refused { IfErr result (RefusesToSend self.old self.new message.now) }
+        ensures limits { limits_of self.new ≡ limits_of self.old }
     {
         self.may_send()?;
         self.push(frame.share()?)
@@ -167,7 +182,9 @@ impl End {
     /// What the next frame of the link gives: None if no whole frame has come, without a link, and on a closed end.
     pub fn next(&mut self, alloc: Global) -> Result<Option<Got>, NextError>
         ensures ok { IfOk result (Gives self.old self.new) }
+        ensures fits { IfOk result (λ next. IfSome next HasFit) }
         ensures failed { IfErr result (Fails self.old self.new) }
+        ensures limits { limits_of self.new ≡ limits_of self.old }
     {
         if !self.is_reading() {
             return Ok(None);
@@ -181,7 +198,7 @@ impl End {
 
     /// Lends the next bytes to put on the link, whole frames, which count as said; None if nothing is due. It takes no memory.
     pub fn next_out(&mut self) -> Option<&[u8]>
-        ensures* after { sem 𝓛 (EndsAs self.entry (λ e. Lends self.old e)) }
+        ensures* after { sem 𝓛 (EndsAs self.entry (λ e. (limits_of e ≡ limits_of self.old) × Lends self.old e)) }
         ensures bytes { AreDue self.old (option_map (λ bytes. bytes.now) result) }
     {
         facts_hold();
@@ -228,8 +245,9 @@ impl End {
 
     /// The codec in which the end reads and writes: None exactly at a server that hasn't taken a request.
     pub fn codec(&self) -> Option<Codec>
-        ensures { OfEach self.now (λ wire c h. let k = in_frames wire c h in
+        ensures value { OfEach self.now (λ wire c h. let k = in_frames wire c h in
             result ≡ (if of.is_shaken k || is_client c.side then Some (codec_of c k) else None)) }
+        ensures own { IfSome result (λ codec. codec ≡ self.now.session.codec) }
     {
         if self.session.agreed.is_some() || self.session.side == Side::Client {
             Some(self.session.codec)
@@ -315,7 +333,9 @@ impl End {
         requires reading { IsReading self.old }
         requires shaken { is_some self.old.session.agreed ≡ true }
         ensures ok { IfOk result (Gives self.old self.new) }
+        ensures fits { IfOk result (λ next. IfSome next HasFit) }
         ensures failed { IfErr result (Fails self.old self.new) }
+        ensures limits { limits_of self.new ≡ limits_of self.old }
     {
         facts_hold();
         next_is_read();
@@ -336,7 +356,9 @@ impl End {
         requires reading { IsReading self.old }
         requires shaken { is_some self.old.session.agreed ≡ true }
         requires begins { Begins self.old.splitter }
-        ensures { Takes self.old self.new read result }
+        ensures made { Takes self.old self.new read result }
+        ensures fits { IfOk result (λ got. MessageIs read Fits → HasFit got) }
+        ensures limits { limits_of self.new ≡ limits_of self.old }
     {
         facts_hold();
         next_is_read();
@@ -361,7 +383,9 @@ impl End {
         requires reading { IsReading self.old }
         requires unshaken { is_some self.old.session.agreed ≡ false }
         ensures ok { IfOk result (Gives self.old self.new) }
+        ensures fits { IfOk result (λ next. IfSome next HasFit) }
         ensures failed { IfErr result (Fails self.old self.new) }
+        ensures limits { limits_of self.new ≡ limits_of self.old }
     {
         facts_hold();
         next_is_read();
@@ -386,7 +410,9 @@ impl End {
         requires reading { IsReading self.old }
         requires unshaken { is_some self.old.session.agreed ≡ false }
         requires begins { Begins self.old.splitter }
-        ensures { Greets self.old self.new greeting result }
+        ensures made { Greets self.old self.new greeting result }
+        ensures fits { HasFit result }
+        ensures limits { limits_of self.new ≡ limits_of self.old }
     {
         facts_hold();
         next_is_read();
@@ -404,14 +430,16 @@ impl End {
 
     /// The first frame is no handshake. A server owes its answer.
     fn refuse(&mut self, e: &ShakeError)
-        ensures { Refuses self.old self.new e.now }
+        ensures made { Refuses self.old self.new e.now }
+        ensures limits { limits_of self.new ≡ limits_of self.old }
     {
         self.session.refuse(Answer::to(e));
     }
 
     /// The end is closed, since the next frame can't be read.
     fn fail(&mut self, at: u64, why: FrameWhy) -> NextError
-        ensures { FailsAt self.old self.new at why result }
+        ensures failed { FailsAt self.old self.new at why result }
+        ensures limits { limits_of self.new ≡ limits_of self.old }
     {
         let link = self.session.own_number();
         self.session.fail();
@@ -423,6 +451,7 @@ impl End {
         requires { said ≡ Due.Message → ⊥ }
         ensures slate { self.new.slate ≡ self.old.slate }
         ensures said { Said self.old self.new said }
+        ensures limits { limits_of self.new ≡ limits_of self.old }
     {
         unread_stays();
         self.session.say(said);
@@ -433,6 +462,7 @@ impl End {
         requires { said ≡ Due.Message → ⊥ }
         ensures slate { self.new.slate ≡ spelling self.old.session.codec (frame_of_control control) }
         ensures said { Said self.old self.new said }
+        ensures limits { limits_of self.new ≡ limits_of self.old }
     {
         self.slate.write(self.session.codec, control);
         self.say(said);
@@ -442,6 +472,7 @@ impl End {
     fn say_request(&mut self)
         ensures slate { self.new.slate ≡ spelling self.old.session.codec (Request self.old.session.codec self.old.session.version) }
         ensures said { Said self.old self.new Due.Request }
+        ensures limits { limits_of self.new ≡ limits_of self.old }
     {
         let codec = self.session.codec;
         let version = self.session.version;
@@ -468,6 +499,7 @@ impl End {
         ensures ok { IfOk result (λ number. (m : Message) → is_sequenced m ≡ true → Fits m → IsSpelled self.old.session.codec m frame →
             Sends self.old self.new m number) }
         ensures refused { IfErr result (λ e. (m : Message) → IsSpelled self.old.session.codec m frame → RefusesToSend self.old self.new m e) }
+        ensures limits { limits_of self.new ≡ limits_of self.old }
     {
         values_are_trees();
         image_is_its_image();

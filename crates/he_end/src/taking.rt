@@ -3,13 +3,14 @@
 ghost use Rattle.std.specs.Prelude.{◌≡◌, ◌≤◌, ◌<◌, ℕ, suc, true, false, not, ◌&&◌, ◌||◌, List, [], ◌∷◌, Option, Some, None, is_some, IfOk, IfErr};
 ghost use Rattle.hm_message.specs.declared.message.Message.{Message};
 ghost use Rattle.hm_message.specs.declared.message.Message.TheVariants as message;
-ghost use Rattle.hm_message.specs.Message.{is_sequenced};
+ghost use Rattle.hm_message.specs.Message.{is_sequenced, Fits};
+ghost use Rattle.hm_message.specs.Reads.{MessageIs};
 ghost use Rattle.hs_shake.specs.Responses.{IsAnswered};
 ghost use Rattle.hd_delivery.specs.Frames.{LinkFrame, Request, Response, Numbered, Ack, Sequence, Strange, Unreadable, count, received_of, frame_of};
 ghost use Rattle.hd_delivery.specs.Histories.{Config, Step, Took, Failed, Unread, Shake, present_link, own_number, is_shaken, can_keep};
 ghost use Rattle.hd_delivery.specs.Processes.{has_frames, processes};
 ghost use Rattle.he_end.specs.Remembers.{Remembers, answer_text, after_fault, after_resume};
-ghost use Rattle.he_end.specs.Says.{Awaits, Takes, Shakes, answer_at, frame_read, is_early, step_counted};
+ghost use Rattle.he_end.specs.Says.{Awaits, Takes, Shakes, HasFit, answer_at, frame_read, is_early, step_counted};
 
 use crate::link::{Agreed, Answer, Farewell, Link};
 use crate::session::Session;
@@ -128,6 +129,7 @@ impl Session {
     /// Takes what the next frame says, after the handshake. If it is refused, the session is closed for `Reason::Protocol`.
     pub fn take(&mut self, read: Read) -> Result<Got, Refused>
         ensures made { Takes self.old (frame_read read) self.new result }
+        ensures fits { IfOk result (λ got. MessageIs read Fits → HasFit got) }
         ensures limits { self.new.ring.limits ≡ self.old.ring.limits }
         ensures codec { self.new.codec ≡ self.old.codec }
     {
@@ -141,6 +143,7 @@ impl Session {
         ensures made { Takes self.old (frame_of message) self.new result }
         ensures limits { self.new.ring.limits ≡ self.old.ring.limits }
         ensures codec { self.new.codec ≡ self.old.codec }
+        ensures fits { IfOk result (λ got. Fits message → HasFit got) }
     {
         match message {
             Message::Ping => Ok(Got::Ping),
@@ -161,6 +164,7 @@ impl Session {
         ensures made { Takes self.old (Ack upto) self.new result }
         ensures limits { self.new.ring.limits ≡ self.old.ring.limits }
         ensures codec { self.new.codec ≡ self.old.codec }
+        ensures fits { IfOk result HasFit }
     {
         if !self.is_kept() {
             return Ok(Got::Skipped(Why::NotUsed));
@@ -176,6 +180,7 @@ impl Session {
             Takes self.old (Sequence first told) self.new result }
         ensures limits { self.new.ring.limits ≡ self.old.ring.limits }
         ensures codec { self.new.codec ≡ self.old.codec }
+        ensures fits { IfOk result HasFit }
     {
         if !self.is_kept() {
             return Ok(Got::Skipped(Why::NotUsed));
@@ -226,6 +231,7 @@ impl Session {
         ensures made { Takes self.old (Numbered message) self.new result }
         ensures limits { self.new.ring.limits ≡ self.old.ring.limits }
         ensures codec { self.new.codec ≡ self.old.codec }
+        ensures fits { IfOk result (λ got. Fits message → HasFit got) }
     {
         match self.count() {
             Ok(Counted::Fresh(_)) => Ok(Got::Message(message)),

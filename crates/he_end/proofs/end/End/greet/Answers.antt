@@ -6,8 +6,8 @@ use Rattle.he_end.proofs.Greets.{framed_so, greeted}
 use Rattle.he_end.proofs.end.End.greet.Goals as goal
 use Rattle.he_end.proofs.end.End.greet.Goals.{in-Request, in-Response}
 
-pub returns : goal.returns
-returns c = elim c.match-greeting.branch [
+pub returns-clause-made : goal.returns-clause-made
+returns-clause-made c = elim c.match-greeting.branch [
   | in-Request w ↦ let framing = c.reframe.ensures.reframed ∙ (ap (λ f. framed_so f c.match-greeting.self.splitter) c.framing-framing.ensures ∙ ap (λ x. framed_so (framing_of x.session.codec) x.splitter) w.self-is) in
       rw (w.self-is, w.got-is, w.in-Request.is) (λ wire config h st on one. greeted c.facts_hold.ensures c.wire_is_sound.ensures c.next_is_read.ensures c.unread_moves.ensures c.args.self.now
       w.take_request-got.new.self w.take_request-got.ensures.limits c.pass.new.self c.requires.reading c.requires.unshaken c.pass.ensures.past c.reframe.new.self framing wire config h st

@@ -7,52 +7,52 @@ use Rattle.he_end.proofs.end.End.next_out.Goals as goal
 
 pub returns-in_err-due : goal.returns-in_err-due
 returns-in_err-due c = let none = lends_none c.args.self.now c.due.result c.due.ensures c.in_err-due.was in
-    ((refl, (λ _. tt), none.0), record { after = tt; bytes = rw c.from_residual.ensures none.1 })
+    ((refl, (λ _. tt), (refl, none.0)), record { after = tt; bytes = rw c.from_residual.ensures none.1 })
 
 pub returns-in-Message : goal.returns-in-Message
 returns-in-Message c = let is = c.in_ok-due.was ∙ ap Some c.in-Message.is in let said = c.say_message.follows.holds-at-none in (
-  (refl, (λ _. tt), lends_message c.args.self.now _ c.due.result c.due.ensures is c.unread_stays.ensures said.0 said.1),
+  (refl, (λ _. tt), (said.0, lends_message c.args.self.now _ c.due.result c.due.ensures is c.unread_stays.ensures said.0 said.1)),
   record { after = tt; bytes = spells_message c.args.self.now c.say_message.follows.lender-at-none c.due.result c.due.ensures is _ c.say_message.ensures.bytes },
 )
 
 pub returns-in-Request : goal.returns-in-Request
 returns-in-Request c = let is = c.in_ok-due.was ∙ ap Some c.in-Request.is in (
-  (refl, (λ _. tt), lends c.args.self.now c.due.result c.due.ensures kind.Request is c.say_request.new.self c.say_request.ensures.said),
+  (refl, (λ _. tt), (c.say_request.ensures.limits, lends c.args.self.now c.due.result c.due.ensures kind.Request is c.say_request.new.self c.say_request.ensures.said)),
   record { after = tt; bytes = spells_request c.args.self.now c.due.result c.due.ensures is c.facts_hold.ensures _ (c.bytes.ensures ∙ c.say_request.ensures.slate) },
 )
 
 pub returns-in-Response : goal.returns-in-Response
 returns-in-Response c = let is = c.in_ok-due.was ∙ ap Some c.in-Response.is in (
-  (refl, (λ _. tt), lends c.args.self.now c.due.result c.due.ensures kind.Response is c.say.new.self c.say.ensures.said),
+  (refl, (λ _. tt), (c.say.ensures.limits, lends c.args.self.now c.due.result c.due.ensures kind.Response is c.say.new.self c.say.ensures.said)),
   record { after = tt; bytes = spells c.args.self.now c.due.result c.due.ensures kind.Response is _ Response c.response.ensures (λ cc' k g h. let q = h in cc) },
 )
 
 pub returns-in_ok-answer-in-Refusal : goal.returns-in_ok-answer-in-Refusal
 returns-in_ok-answer-in-Refusal c = let is = c.in_ok-due.was ∙ ap Some c.in-Refusal.is in (
-  (refl, (λ _. tt), lends c.args.self.now c.due.result c.due.ensures kind.Refusal is c.say-in-Refusal.new.self c.say-in-Refusal.ensures.said),
+  (refl, (λ _. tt), (c.say-in-Refusal.ensures.limits, lends c.args.self.now c.due.result c.due.ensures kind.Refusal is c.say-in-Refusal.new.self c.say-in-Refusal.ensures.said)),
   record { after = tt; bytes = spells_refusal c.args.self.now c.due.result c.due.ensures is c.in_ok-answer-in-Refusal.answer c.in_ok-answer-in-Refusal.was _ c.bytes-in-Refusal.ensures },
 )
 
 pub returns-in-Sequence : goal.returns-in-Sequence
 returns-in-Sequence c = let is = c.in_ok-due.was ∙ ap Some c.in-Sequence.is in (
-  (refl, (λ _. tt), lends c.args.self.now c.due.result c.due.ensures (kind.Sequence c.in-Sequence.first c.in-Sequence.received) is c.say_control.new.self c.say_control.ensures.said),
+  (refl, (λ _. tt), (c.say_control.ensures.limits, lends c.args.self.now c.due.result c.due.ensures (kind.Sequence c.in-Sequence.first c.in-Sequence.received) is c.say_control.new.self c.say_control.ensures.said)),
   record { after = tt; bytes = spells c.args.self.now c.due.result c.due.ensures (kind.Sequence c.in-Sequence.first c.in-Sequence.received) is _ (Sequence c.in-Sequence.first c.in-Sequence.received) (c.bytes-in-Sequence.ensures ∙ c.say_control.ensures.slate) (λ cc' k g h. let q = h in cc) },
 )
 
 pub returns-in-Ack : goal.returns-in-Ack
 returns-in-Ack c = let is = c.in_ok-due.was ∙ ap Some c.in-Ack.is in (
-  (refl, (λ _. tt), lends c.args.self.now c.due.result c.due.ensures (kind.Ack c.in-Ack.upto) is c.say_control-in-Ack.new.self c.say_control-in-Ack.ensures.said),
+  (refl, (λ _. tt), (c.say_control-in-Ack.ensures.limits, lends c.args.self.now c.due.result c.due.ensures (kind.Ack c.in-Ack.upto) is c.say_control-in-Ack.new.self c.say_control-in-Ack.ensures.said)),
   record { after = tt; bytes = spells c.args.self.now c.due.result c.due.ensures (kind.Ack c.in-Ack.upto) is _ (Ack c.in-Ack.upto) (c.bytes-in-Ack.ensures ∙ c.say_control-in-Ack.ensures.slate) (λ cc' k g h. let q = h in cc) },
 )
 
 pub returns-in-Ping : goal.returns-in-Ping
 returns-in-Ping c = let is = c.in_ok-due.was ∙ ap Some c.in-Ping.is in (
-  (refl, (λ _. tt), lends c.args.self.now c.due.result c.due.ensures kind.Ping is c.say_control-in-Ping.new.self c.say_control-in-Ping.ensures.said),
+  (refl, (λ _. tt), (c.say_control-in-Ping.ensures.limits, lends c.args.self.now c.due.result c.due.ensures kind.Ping is c.say_control-in-Ping.new.self c.say_control-in-Ping.ensures.said)),
   record { after = tt; bytes = spells c.args.self.now c.due.result c.due.ensures kind.Ping is _ Ping (c.bytes-in-Ping.ensures ∙ c.say_control-in-Ping.ensures.slate) (λ cc' k g h. let q = h in cc) },
 )
 
 pub returns-in-Close : goal.returns-in-Close
 returns-in-Close c = let is = c.in_ok-due.was ∙ ap Some c.in-Close.is in (
-  (refl, (λ _. tt), lends c.args.self.now c.due.result c.due.ensures (kind.Close c.in-Close.farewell) is c.say_control-in-Close.new.self c.say_control-in-Close.ensures.said),
+  (refl, (λ _. tt), (c.say_control-in-Close.ensures.limits, lends c.args.self.now c.due.result c.due.ensures (kind.Close c.in-Close.farewell) is c.say_control-in-Close.new.self c.say_control-in-Close.ensures.said)),
   record { after = tt; bytes = spells c.args.self.now c.due.result c.due.ensures (kind.Close c.in-Close.farewell) is _ (close_of c.in-Close.farewell) (c.bytes-in-Close.ensures ∙ c.say_control-in-Close.ensures.slate) (λ cc' k g h. let q = h in cc) },
 )
