@@ -1,14 +1,20 @@
 //! Ends over links in memory: what they say, what they make of what they hear, and why they refuse it. What an end heard is
 //! told in the words of a report.
 
+ghost use Rattle.std.specs.Prelude.{◌≡◌, ◌+◌, ◌<◌, IfOk, OnOk, true};
+ghost use Rattle.hm_message.specs.Message.{is_sequenced, Fits};
+ghost use Rattle.he_end.specs.Calls.{IsSpelled};
+
 use hd_delivery::{Got, MOST_FRAMING, PING_AFTER, Reason, SILENCE_AFTER, Side, State};
-use he_end::{AttachError, Config, End, NextError, SendError, ends_deliver};
+use he_end::{AttachError, Config, End, NextError, SendError, Spelled, Steps, ends_deliver, spell};
 use hm_codec::read_message;
 use hm_message::{Codec, Message, Read};
 use hq_resend::Limits;
 use hs_shake::HIGHEST_VERSION;
 use std::alloc::{AllocError, Global};
+use std::marker::Brand;
 use std::process::Abort;
+use std::sync::ledger::{Blank, Ledger};
 use std::test::Fail;
 
 /// A client's request for JSON in version 2.
@@ -143,6 +149,22 @@ fn meet(
     Ok((client, server))
 }
 
+/// The message of this JSON text.
+fn read(rt: &impl Abort, alloc: Global, text: &str) -> Result<Message, Fail>
+    ensures sequenced { IfOk result (λ m. is_sequenced m ≡ true) }
+    ensures fits { IfOk result (λ m. Fits m) }
+{
+    match read_message(alloc, Codec::Json, text.as_bytes()) {
+        Ok(Read::Message(message)) => {
+            assert!(rt; message.is_sequenced());
+            assert!(rt; message.fits());
+            Ok(message)
+        }
+        Ok(Read::Unknown(_)) => Err(Fail::from("no message")),
+        Err(_) => Err(Fail::from("no message")),
+    }
+}
+
 /// Sends the message of this JSON text.
 fn send(
     rt: &impl Abort,
@@ -150,15 +172,8 @@ fn send(
     end: &mut End,
     text: &str,
 ) -> Result<Result<u64, SendError>, Fail> {
-    match read_message(alloc, Codec::Json, text.as_bytes()) {
-        Ok(Read::Message(message)) => {
-            assert!(rt; message.is_sequenced());
-            assert!(rt; message.fits());
-            Ok(end.send(alloc, &message))
-        }
-        Ok(Read::Unknown(_)) => Err(Fail::from("no message")),
-        Err(_) => Err(Fail::from("no message")),
-    }
+    let message = read(rt, alloc, text)?;
+    Ok(end.send(alloc, &message))
 }
 
 /// An invocation with a target of this many letters, which has 37 bytes more than that.
@@ -220,6 +235,80 @@ fn half_read(rt: &impl Abort, alloc: Global) -> Result<(End, End), Fail> {
         "acked 1"
     );
     Ok((client, server))
+}
+
+/// An end of its codec says a message that was spelled as it says one that is sent.
+fn says_alike(
+    rt: &impl Abort,
+    alloc: Global,
+    end: &mut End,
+    message: &Message,
+    spelled: &Spelled,
+) -> Result<(), Fail>
+    requires sequenced { is_sequenced message.now ≡ true }
+    requires fits { Fits message.now }
+    requires spelled { IsSpelled spelled.now.codec message.now spelled.now.frame }
+{
+    let own = end.codec();
+    assert!(rt; own == Some(spelled.codec()));
+    assert_eq!(rt; end.send_shared(message, spelled.frame()), Ok(1));
+    assert_eq!(rt; end.send(alloc, message), Ok(2));
+    let said = b"{\"arguments\":[],\"target\":\"a\",\"type\":1}\x1e".as_slice();
+    assert_eq!(rt; end.next_out(), Some(said));
+    assert_eq!(rt; end.next_out(), Some(said));
+    Ok(())
+}
+
+/// Two ends share a message that is spelled in one step.
+fn share<L: Ledger>(
+    rt: &impl Abort,
+    alloc: Global,
+    ends: &mut (End, End),
+    message: &Message,
+    steps: &mut Steps<L>,
+) -> Result<(), Fail>
+    requires sequenced { is_sequenced message.now ≡ true }
+    requires fits { Fits message.now }
+    ensures { OnOk result (steps.new ≡ steps.old + 1) }
+{
+    let spelled = spell(alloc, Codec::Json, message, steps)?;
+    says_alike(rt, alloc, &mut ends.0, message, &spelled)?;
+    says_alike(rt, alloc, &mut ends.1, message, &spelled)?;
+    Ok(())
+}
+
+/// That one step was counted is proved where it is called.
+fn is_one_step<L: Ledger>(_steps: &Steps<L>)
+    requires { _steps.now ≡ 1 }
+{}
+
+/// They do so with a count of steps that begins with this blank.
+fn share_first<L: Ledger>(
+    rt: &impl Abort,
+    alloc: Global,
+    ends: &mut (End, End),
+    message: &Message,
+    blank: Blank,
+) -> Result<(), Fail>
+    requires sequenced { is_sequenced message.now ≡ true }
+    requires fits { Fits message.now }
+    requires name { blank.name ≡ L.name }
+    requires parts { blank.parts ≡ L.parts }
+    requires some { 0 < L.parts }
+{
+    let mut steps = Steps::<L>::start(blank);
+    share(rt, alloc, ends, message, &mut steps)?;
+    is_one_step(&steps);
+    Ok(())
+}
+
+#[test]
+fn a_message_is_spelled_once_for_two_ends(rt: HostRuntime) -> Result<(), Fail> {
+    let alloc = rt.alloc();
+    let mut ends = meet(&rt, alloc, 2, true, ample()?)?;
+    let message = read(&rt, alloc, A)?;
+    share_first::<Brand>(&rt, alloc, &mut ends, &message, Blank::new(1))?;
+    Ok(())
 }
 
 /// The link is lost in the midst of the second message.
