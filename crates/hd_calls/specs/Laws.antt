@@ -1,0 +1,70 @@
+-- What crates above cite of these definitions.
+use Rattle.std.specs.Prelude.{◌≡◌, ◌≤◌, ◌↔◌, ℕ, true, List}
+use Rattle.hd_delivery.specs.declared.vocabulary.Side.TheVariants.{Client, Server}
+use Rattle.hd_delivery.specs.Worlds.{Event, client_of, server_of}
+use Rattle.hm_message.specs.declared.message.Codec.{Codec}
+use Rattle.hm_message.specs.declared.message.Message.{Message}
+use Rattle.hm_message.specs.Message.{Fits}
+use Rattle.hd_calls.specs.Numbers.{most_live, most_inputs, most_numbers}
+use Rattle.hd_calls.specs.Hubs.{Invoked, Hub}
+use Rattle.hd_calls.specs.Peers.{Move, Settings, can_frame, drawn, call_of, given, lost, live_call, uploaded, live_upload, begun, moments, turns, acts, inputs, marked, over, live_job, reply}
+use Rattle.hd_calls.specs.Rules.{own_live, live_jobs, inputs_left, in_use, is_due, next_job, IsPeer}
+use Rattle.hd_calls.specs.PeerWorlds.{Pair, settings, IsPeerWorld}
+use Rattle.hd_calls.specs.Tables.{call_happenings, drawn_in, call_in, given_in, lost_in, uploaded_in, live_call_in, live_upload_in, own_live_in, live_job_in, live_jobs_in, inputs_left_in, in_use_in, is_due_in, next_job_in, job_happenings, begun_in, moments_in, turns_in, acts_in, inputs_in, marked_in, over_in, reply_in}
+
+-- what a peer's history says of its own calls is what their own happenings say, and so is what a table of calls decides by
+pub record CallsAgree (h : List Move) : Type 0 where
+  pub draws : drawn h ≡ drawn_in (call_happenings h)
+  pub call : (n : ℕ) → call_of n h ≡ call_in n (call_happenings h)
+  pub gives : (n : ℕ) → given n h ≡ given_in n (call_happenings h)
+  pub loses : (n : ℕ) → lost n h ≡ lost_in n (call_happenings h)
+  pub uploads : (n w : ℕ) → uploaded n w h ≡ uploaded_in n w (call_happenings h)
+  pub live : (n : ℕ) → live_call n h ≡ live_call_in n (call_happenings h)
+  pub live_uploads : (n w : ℕ) → live_upload n w h ≡ live_upload_in n w (call_happenings h)
+  pub own : own_live h ≡ own_live_in (call_happenings h)
+
+-- and of its jobs
+pub record JobsAgree (t : Settings) (h : List Move) : Type 0 where
+  pub begins : begun h ≡ begun_in (job_happenings t h)
+  pub began : moments h ≡ moments_in (job_happenings t h)
+  pub turn : (j : ℕ) → turns j h ≡ turns_in j (job_happenings t h)
+  pub does : (j : ℕ) → acts j h ≡ acts_in j (job_happenings t h)
+  pub fed : (j : ℕ) → inputs j h ≡ inputs_in j (job_happenings t h)
+  pub marks : (j : ℕ) → marked j h ≡ marked_in j (job_happenings t h)
+  pub ends : (j : ℕ) → over t j h ≡ over_in j (job_happenings t h)
+  pub answers : (j : ℕ) → reply j h ≡ reply_in j (job_happenings t h)
+  pub live : (j : ℕ) → live_job t j h ≡ live_job_in j (job_happenings t h)
+  pub count : live_jobs t h ≡ live_jobs_in (job_happenings t h)
+  pub left : (j : ℕ) → inputs_left j h ≡ inputs_left_in j (job_happenings t h)
+  pub uses : (c : Invoked) → in_use t c h ≡ in_use_in c (job_happenings t h)
+  pub due : (j : ℕ) → is_due t j h ≡ is_due_in j (job_happenings t h)
+  pub next : next_job t h ≡ next_job_in (job_happenings t h)
+
+-- so it is of each list of moves
+abbrev pub TablesAgree : Type 0
+TablesAgree = (t : Settings) (h : List Move) → CallsAgree h × JobsAgree t h
+
+-- nothing that a peer counts passes its bound
+pub record IsBounded (t : Settings) (h : List Move) : Type 0 where
+  pub own : own_live h ≤ most_live
+  pub jobs : live_jobs t h ≤ most_live
+  pub waiting : (j : ℕ) → inputs_left j h ≤ most_inputs
+  pub numbers : drawn h ≤ most_numbers
+
+-- so it is of each peer, whatever the other side is
+abbrev pub PeersAreBounded : Type 0 → Type 0
+PeersAreBounded Job = (hub : Hub Job) (t : Settings) (h : List Move) → IsPeer hub t h → IsBounded t h
+
+-- a message can be framed if it fits and its frame is within the limit
+pub record CanFrame (t : Settings) (codec : Codec) (m : Message) : Type 0 where
+  pub fits : Fits m
+  pub short : t.wire.frame_size codec m ≤ t.limits.frame
+
+-- so the test says
+abbrev pub FramesAreTested : Type 0
+FramesAreTested = (t : Settings) (codec : Codec) (m : Message) → (can_frame t codec m ≡ true) ↔ CanFrame t codec m
+
+-- in a world each of the two is a peer by itself
+abbrev pub WorldsArePeers : Type 0 → Type 0 → Type 0
+WorldsArePeers C S = (hc : Hub C) (hs : Hub S) (p : Pair) (w : List (Event Move)) → IsPeerWorld hc hs p w
+    → IsPeer hc (settings Client p) (client_of w) × IsPeer hs (settings Server p) (server_of w)

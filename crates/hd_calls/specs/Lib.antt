@@ -1,0 +1,10 @@
+pub mod Numbers
+pub mod Hubs
+pub mod Peers
+pub mod Rules
+pub mod Ledgers
+pub mod PeerWorlds
+pub mod Tables
+pub mod Ids
+pub mod Laws
+pub mod Examples
