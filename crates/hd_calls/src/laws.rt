@@ -1,0 +1,45 @@
+//! What crates above cite of the definitions. No function here does anything: its contract is the law.
+
+ghost use Rattle.std.specs.Prelude.{◌≡◌};
+ghost use Rattle.hd_calls.specs.Ids.{IdsAreDrawn};
+ghost use Rattle.hd_calls.specs.Laws.{FramesAreTested, PeersAreBounded, TablesAgree, WorldsArePeers};
+ghost use Rattle.hd_calls.specs.Numbers.{most_inputs, most_live, most_numbers, most_uploads};
+
+use crate::vocabulary::{MOST_INPUTS, MOST_LIVE, MOST_NUMBERS, MOST_UPLOADS};
+
+/// What a peer's history says of its calls and jobs is what their own happenings say, which are all that a table of calls and a
+/// table of jobs see.
+pub fn tables_agree()
+    ensures { TablesAgree }
+{}
+
+/// In a world of two peers each does what a peer can do by itself.
+pub fn worlds_are_peers<C, S>()
+    ensures { WorldsArePeers C S }
+{
+    hd_delivery::worlds_are_histories();
+}
+
+/// At most 1,024 own calls and uploads of a peer are live, and at most 1,024 jobs; at most 4,096 inputs wait at each; and no number
+/// past 2^62 is drawn.
+pub fn peers_are_bounded<Job>()
+    ensures { PeersAreBounded Job }
+{}
+
+/// What is asked before an answer is sent is whether it fits and its frame is within the limit.
+pub fn frames_are_tested()
+    ensures { FramesAreTested }
+{}
+
+/// The ids that peers draw are apart, as `calls_once` asks, and have at most 20 bytes.
+pub fn ids_are_drawn()
+    ensures { IdsAreDrawn }
+{}
+
+/// The constants are the numbers of the definitions.
+pub fn bounds_are_named()
+    ensures live { MOST_LIVE ≡ most_live }
+    ensures uploads { MOST_UPLOADS ≡ most_uploads }
+    ensures inputs { MOST_INPUTS ≡ most_inputs }
+    ensures numbers { MOST_NUMBERS ≡ most_numbers }
+{}
