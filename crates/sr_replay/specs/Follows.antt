@@ -1,0 +1,83 @@
+-- How the two real ends of a replay stand for the run of a script's actions, and what one more action makes of that.
+use Rattle.std.specs.Prelude.{◌≡◌, ◌≤◌, ℕ, Bool, true, false, List, ◌∷◌, ◌++◌, length, Some, None, slice_get}
+use Rattle.hd_delivery.specs.declared.vocabulary.Side.{Side}
+use Rattle.hd_delivery.specs.declared.vocabulary.Side.TheVariants.{Client, Server}
+use Rattle.hd_delivery.specs.Histories as of
+use Rattle.hd_delivery.specs.Histories.{Step, Attached, present_link, was_on, fed_frames, taken_count, is_closed}
+use Rattle.hd_delivery.specs.Processes.{processes}
+use Rattle.hd_delivery.specs.Worlds.{Limits, Terms, config}
+use Rattle.hd_delivery.specs.Bytes.{Wire, ByteStep, Does, bytes_on, in_frames, lent_bytes}
+use Rattle.he_end.specs.declared.config.Config.{Config}
+use Rattle.sr_replay.specs.declared.action.Action.{Action}
+use Rattle.sr_replay.specs.declared.player.Player.{Player}
+use Rattle.sr_replay.specs.declared.pair.Lane.{Lane}
+use Rattle.sr_replay.specs.declared.pair.Pair.{Pair}
+use Rattle.sr_replay.specs.Script.{opened, moment_after, IsInTurn, AreInTurn}
+use Rattle.sr_replay.specs.Runs.{Makes, Refuses, Run, Runs, Acts, attaching, world_of, history}
+use Rattle.sr_replay.specs.Report.{run_text}
+use Rattle.sr_replay.specs.Plays.{Plays, limits_at}
+
+-- ---- one end
+
+-- The player stands for this history. It has taken every frame that it was fed, and on its link it has read up to this place.
+pub record IsPlayed (limits : Limits) (wire : Wire) (c : of.Config) (p : Player) (place : ℕ) (h : List ByteStep) : Type 0 where
+  pub plays : Plays wire c p h
+  pub keeps : limits_at p ≡ limits
+  pub took_all : (l : ℕ) → present_link (in_frames wire c h) ≡ Some l → is_closed c (in_frames wire c h) ≡ false
+      → slice_get (fed_frames l (in_frames wire c h)) (taken_count l (in_frames wire c h)) ≡ None
+  pub read_to : (l : ℕ) → present_link (in_frames wire c h) ≡ Some l → is_closed c (in_frames wire c h) ≡ false → place ≡ length (bytes_on l h)
+
+-- The end stands on the link, has taken every frame, and has read up to this place, if it isn't closed. This is what the other end said there.
+pub record MayRead (wire : Wire) (c : of.Config) (h : List ByteStep) (l place : ℕ) (said : List ℕ) : Type 0 where
+  pub here : present_link (in_frames wire c h) ≡ Some l
+  pub took_all : processes c (in_frames wire c h) ≡ None
+  pub read_to : is_closed c (in_frames wire c h) ≡ false → place ≡ length (bytes_on l h)
+  pub within : length (bytes_on l h) ≤ length said
+
+-- whether the link is taken: its bytes are read from the first
+abbrev pub Tries : of.Config → List Step → ℕ → ℕ → Bool → ℕ → ℕ → Type 0
+Tries c k link now true before after = (attaching c k link now ≡ Makes (Does (Attached link now))) × (after ≡ 0)
+Tries c k link now false before after = (words : List ℕ) × ((attaching c k link now ≡ Refuses words) × (after ≡ before))
+
+-- ---- both ends
+
+-- what an end of this side said on the link
+abbrev pub said_by : Side → Lane → List ℕ
+said_by Client lane = lane.to_server.items
+said_by Server lane = lane.to_client.items
+
+-- what is kept of a link: what both ends said there, and whether the client was there
+pub record IsLane (wire : Wire) (t : Terms) (c s : List ByteStep) (l : ℕ) (lane : Lane) : Type 0 where
+  pub to_server : lane.to_server.items ≡ lent_bytes wire (config Client t) l c
+  pub to_client : lane.to_client.items ≡ lent_bytes wire (config Server t) l s
+  pub was_opened : lane.opened ≡ was_on l (in_frames wire (config Client t) c)
+
+-- after these actions the pair stands for the two histories
+pub record Holds (limits : Limits) (wire : Wire) (t : Terms) (actions : List Action) (c s : List ByteStep) (p : Pair) : Type 0 where
+  pub client : IsPlayed limits wire (config Client t) p.client p.client_place c
+  pub server : IsPlayed limits wire (config Server t) p.server p.server_place s
+  pub links : length p.lanes.items ≡ opened actions
+  pub lanes : (l : ℕ) (lane : Lane) → slice_get p.lanes.items l ≡ Some lane → IsLane wire t c s l lane
+  pub now : p.now ≡ moment_after actions
+
+-- after these actions the pair stands for their run, and its report is the text of it
+pub record Follows (limits : Limits) (wire : Wire) (t : Terms) (actions : List Action) (r : Run) (p : Pair) : Type 0 where
+  pub turns : AreInTurn actions
+  pub runs : Runs limits wire t actions r
+  pub holds : Holds limits wire t actions (history Client (world_of r)) (history Server (world_of r)) p
+  pub report : p.report.items ≡ run_text r
+
+-- whatever actions and run the pair stood for, it now stands for one action more, and for what that made after the run
+abbrev pub GoesOn : Pair → Action → Pair → Type 0
+GoesOn old a new = (limits : Limits) (wire : Wire) (t : Terms) (actions : List Action) (r : Run) → Follows limits wire t actions r old → IsInTurn actions a
+    → (made : Run) × (Acts limits wire t actions r a made × Follows limits wire t (a ∷ actions) (made ++ r) new)
+
+-- how two ends are begun that are begun alike
+abbrev pub terms_of : Config → Terms
+terms_of config = record {
+  codec = config.codec;
+  version = config.version;
+  server_codec = config.codec;
+  server_version = config.version;
+  reconnect = config.reconnect;
+}

@@ -1,0 +1,11 @@
+pub mod Lines
+pub mod Script
+pub mod Asking
+pub mod Turns
+pub mod Reading
+pub mod Runs
+pub mod Report
+pub mod Laws
+pub mod Follows
+pub mod Plays
+pub mod Replays

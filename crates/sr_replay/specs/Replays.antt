@@ -1,0 +1,37 @@
+-- How a replay goes along a script: what its ends are begun with, and the two ends that stand for the actions that were read.
+use Rattle.std.specs.Prelude.{◌≡◌, List, []}
+use Rattle.hs_shake.specs.Requests.{IsVersion}
+use Rattle.hd_delivery.specs.Worlds.{Limits, Terms}
+use Rattle.hd_delivery.specs.Bytes.{Wire}
+use Rattle.he_wire.specs.Wires.{IsHouseWire}
+use Rattle.he_end.specs.declared.config.Config.{Config}
+use Rattle.sr_replay.specs.declared.action.Setting.{Setting}
+use Rattle.sr_replay.specs.declared.action.Action.{Action}
+use Rattle.sr_replay.specs.declared.line.Asked.{Asked}
+use Rattle.sr_replay.specs.declared.line.Asked.TheVariants as asked
+use Rattle.sr_replay.specs.declared.pair.Pair.{Pair}
+use Rattle.sr_replay.specs.Script.{Program}
+use Rattle.sr_replay.specs.Runs.{Run, codec_in, version_in, reconnect_in, limits_in, terms_in}
+use Rattle.sr_replay.specs.Follows.{Follows, GoesOn}
+
+-- both ends are begun so if these are the options
+pub record Begins (settings : List Setting) (config : Config) : Type 0 where
+  pub codec : config.codec ≡ codec_in settings
+  pub version : config.version ≡ version_in settings
+  pub reconnect : config.reconnect ≡ reconnect_in settings
+  pub limits : config.limits ≡ limits_in settings
+  pub spoken : IsVersion config.version
+
+-- two ends that stood for no action stand for these
+abbrev pub ActsAll : Pair → List Action → Pair → Type 0
+ActsAll old actions new = (limits : Limits) (wire : Wire) (t : Terms) → Follows limits wire t [] [] old → (r : Run) × Follows limits wire t actions r new
+
+-- an option changes nothing any more, and an action is done
+abbrev pub Obeys : Pair → Asked → Pair → Type 0
+Obeys old (asked.Setting s) new = new ≡ old
+Obeys old (asked.Action a) new = GoesOn old a new
+
+-- over each wire of this project the two ends stand for the run of the program's actions
+abbrev pub Reaches : Program → Pair → Type 0
+Reaches p pair = (wire : Wire) → IsHouseWire (limits_in p.settings).frame wire
+    → (r : Run) × Follows (limits_in p.settings) wire (terms_in p.settings) p.actions r pair
