@@ -1,0 +1,38 @@
+use Rattle.std.proofs.Common.{sym, subst}
+use Rattle.sr_replay.specs.Runs.{limits_in, terms_in}
+use Rattle.sr_replay.specs.Report.{IsReport, IsReportOver}
+use Rattle.sr_replay.proofs.replaying.replay.Goals as goal
+
+pub returns-in-Ok-clause-ok : goal.returns-in-Ok-clause-ok
+returns-in-Ok-clause-ok g c = λ p parses.
+    let reaches = c.in_ok-pair.ensures p parses in
+    let report : IsReport p c.in_ok-report.report.items = λ wire house.
+    let run = reaches wire house in
+    subst (λ x. IsReportOver wire p x) (sym (c.in_ok-report.ensures (limits_in p.settings) wire (terms_in p.settings) p.actions run.0 run.1))
+    (c.reports.ensures wire c.args.script.now p run.0 house parses run.1) in
+    let wire = c.has_wire.ensures (limits_in p.settings).frame in
+    let run = reaches wire.0 wire.1 in (
+      c.in_ok-report.report.items,
+      (
+        record { holds = report; only = λ other is. c.reports_once.ensures p other c.in_ok-report.report.items is report },
+        rw c.deref.ensures.value at c.in-Ok.ensures.bytes,
+        c.links-links.ensures (limits_in p.settings) wire.0 (terms_in p.settings) p.actions run.0 run.1,
+      ),
+    )
+
+pub returns-clause-write : goal.returns-clause-write
+returns-clause-write g c = λ is. (
+  c.in-Err.ensures.cause.failed,
+  λ p parses.
+      let reaches = c.in_ok-pair.ensures p parses in
+      let report : IsReport p c.in_ok-report.report.items = λ wire house.
+      let run = reaches wire house in
+      subst (λ x. IsReportOver wire p x) (sym (c.in_ok-report.ensures (limits_in p.settings) wire (terms_in p.settings) p.actions run.0 run.1))
+      (c.reports.ensures wire c.args.script.now p run.0 house parses run.1) in (
+        c.in_ok-report.report.items,
+        (
+          record { holds = report; only = λ other is. c.reports_once.ensures p other c.in_ok-report.report.items is report },
+          rw c.deref.ensures.value at c.in-Err.ensures.bytes,
+        ),
+      ),
+)

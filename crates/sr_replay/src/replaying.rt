@@ -1,0 +1,177 @@
+//! A script, replayed over two real ends: its run, and the report of it.
+
+ghost use Rattle.std.specs.Prelude.{◌≡◌, ◌≢◌, ℕ, List, [], ◌∷◌, IfOk, OnOk, Err, take};
+ghost use Rattle.std.specs.Io.KnownBytes.{Appends};
+ghost use Rattle.hd_facts.specs.Counts.{Rose};
+ghost use Rattle.hd_facts.specs.Unique.{IsTheOne};
+ghost use Rattle.sr_replay.specs.declared.action.Setting.{Setting};
+ghost use Rattle.sr_replay.specs.Script.{Program, Parses, IsSetting, opened};
+ghost use Rattle.sr_replay.specs.Report.{IsReport};
+ghost use Rattle.sr_replay.specs.Asking.{IsAllowed};
+ghost use Rattle.sr_replay.specs.Replays.{Begins, Obeys, ActsAll, Reaches};
+ghost use Rattle.hs_shake.specs.Requests.{IsVersion};
+
+use crate::action::Setting;
+use crate::laws::reports_once;
+use crate::line::Asked;
+use crate::pair::Pair;
+use crate::script::{Reader, Script};
+use he_end::Config;
+use he_wire::has_wire;
+use hm_message::Codec;
+use hq_resend::Limits;
+use hw_io::{Failed, Sink};
+use std::alloc::{AllocError, Global};
+use std::error::Error;
+use std::fmt;
+
+/// The version for which the client asks if no line says so.
+const USUAL_VERSION: u8 = 2;
+
+/// The limits of each end if no line says so: the most bytes of a frame, and the most messages and framed bytes held.
+const USUAL_FRAME: usize = 32_768;
+
+const USUAL_COUNT: usize = 1_024;
+
+const USUAL_BYTES: usize = 100_000;
+
+/// What a replay came to.
+#[derive(Clone, Copy, Debug, PartialEq, Eq)]
+pub struct Totals {
+    /// How many links the script opened, refused ones among them.
+    pub links: u64,
+}
+
+/// Why no report was written whole.
+#[derive(Clone, Copy, Debug, PartialEq, Eq)]
+pub enum ReplayError {
+    /// The output failed. It may have taken a first part of the report.
+    Write,
+    /// Out of memory: nothing was written.
+    NoMemory,
+}
+
+impl fmt::Display for ReplayError {
+    fn fmt<W: fmt::Write>(&self, f: &mut fmt::Formatter<W>) -> fmt::Result {
+        match self {
+            ReplayError::Write => f.write_str("the output failed"),
+            ReplayError::NoMemory => f.write_str("out of memory"),
+        }
+    }
+}
+
+impl Error for ReplayError {}
+
+impl From<AllocError> for ReplayError {
+    ghost use Rattle.std.specs.Prelude.{◌≡◌};
+    ghost use Rattle.sr_replay.specs.declared.replaying.ReplayError.TheVariants.{NoMemory};
+
+    ghost from_gives = { λ _ e. e ≡ NoMemory };
+
+    fn from(_e: AllocError) -> ReplayError {
+        ReplayError::NoMemory
+    }
+}
+
+/// How both ends are begun if no line says otherwise.
+fn usual() -> Config
+    ensures { Begins [] result }
+{
+    let Some(limits) = Limits::of(USUAL_FRAME, USUAL_COUNT, USUAL_BYTES) else {
+        unreachable!()
+    };
+    Config {
+        codec: Codec::Json,
+        version: USUAL_VERSION,
+        reconnect: true,
+        limits,
+    }
+}
+
+/// Takes a further option.
+fn set(config: &mut Config, setting: Setting)
+    requires { IsSetting setting }
+    ensures { (settings : List Setting) → Begins settings config.old → Begins (setting ∷ settings) config.new }
+{
+    match setting {
+        Setting::Codec(codec) => config.codec = codec,
+        Setting::Version(version) => config.version = version,
+        Setting::Reconnect(reconnect) => config.reconnect = reconnect,
+        Setting::Buffer(limits) => config.limits = limits,
+    }
+}
+
+/// How both ends of a script are begun. Its options come before its first action.
+fn options(alloc: Global, script: &Script) -> Result<Config, AllocError>
+    ensures spoken { IfOk result (λ config. IsVersion config.version) }
+    ensures begins { IfOk result (λ config. (p : Program) → Parses script.now p → Begins p.settings config) }
+{
+    let mut reader = Reader::start(alloc);
+    let mut config = usual();
+    loop {
+        match reader.next_in(alloc, script)? {
+            Some(Asked::Setting(setting)) => set(&mut config, setting),
+            Some(Asked::Action(action)) => {
+                drop(action);
+                return Ok(config);
+            }
+            None => return Ok(config),
+        }
+    }
+}
+
+/// Does what a line asks for, once the options are known.
+fn obey(alloc: Global, asked: Asked, pair: &mut Pair) -> Result<(), AllocError>
+    requires { IsAllowed asked }
+    ensures { OnOk result (Obeys pair.old asked pair.new) }
+{
+    match asked {
+        Asked::Setting(_) => Ok(()),
+        Asked::Action(action) => pair.act(alloc, &action),
+    }
+}
+
+/// Does the actions of a script with two ends that did nothing yet.
+fn act_all(alloc: Global, script: &Script, pair: &mut Pair) -> Result<(), AllocError>
+    ensures { OnOk result ((p : Program) → Parses script.now p → ActsAll pair.old p.actions pair.new) }
+{
+    let mut reader = Reader::start(alloc);
+    loop {
+        match reader.next_in(alloc, script)? {
+            Some(asked) => obey(alloc, asked, pair)?,
+            None => return Ok(()),
+        }
+    }
+}
+
+/// The two ends after all actions of a script.
+fn run(alloc: Global, script: &Script) -> Result<Pair, AllocError>
+    ensures { IfOk result (λ pair. (p : Program) → Parses script.now p → Reaches p pair) }
+{
+    let config = options(alloc, script)?;
+    let mut pair = Pair::start(alloc, config)?;
+    act_all(alloc, script, &mut pair)?;
+    Ok(pair)
+}
+
+/// Replays a script: runs a client's and a server's end as its actions say, and puts the report. It is made whole first and put in one
+/// call, so nothing was written when memory runs out.
+pub fn replay<K: Sink>(alloc: Global, script: &Script, out: &mut K) -> Result<Totals, ReplayError>
+    ensures ok { IfOk result (λ totals. (p : Program) → Parses script.now p → (text : List ℕ) × (IsTheOne (IsReport p) text
+        × Appends (K.holds out.old) (K.holds out.new) text × (totals.links ≡ opened p.actions))) }
+    ensures write { result ≡ Err ReplayError.Write → Rose (K.faults out.old) (K.faults out.new) × ((p : Program) → Parses script.now p →
+        (text : List ℕ) × (IsTheOne (IsReport p) text × ((n : ℕ) × Appends (K.holds out.old) (K.holds out.new) (take n text)))) }
+    ensures no_memory { result ≡ Err ReplayError.NoMemory → out.new ≡ out.old }
+    ensures unfailed { result ≢ Err ReplayError.Write → K.faults out.new ≡ K.faults out.old }
+{
+    reports_once();
+    has_wire();
+    let pair = run(alloc, script)?;
+    pair.reports();
+    let links = pair.links();
+    let report = pair.finish(alloc)?;
+    match out.put(&report) {
+        Ok(()) => Ok(Totals { links }),
+        Err(Failed) => Err(ReplayError::Write),
+    }
+}
