@@ -16,10 +16,10 @@ use Rattle.sr_words.specs.declared.commands.Command.{Command}
 use Rattle.sr_words.specs.declared.commands.Command.TheVariants.{Replay, Check, Convert}
 use Rattle.sr_app.specs.declared.run.Status.{Status}
 use Rattle.sr_app.specs.declared.run.Status.TheVariants.{Done, Usage, Refused, ReadFault, WriteFault, NoMemory}
-use Rattle.sr_app.specs.Refusal.{IsRefusedAt}
-use Rattle.sr_app.specs.Run.{IsReplayed, IsRefused, IsTextAnswer, AnswersWith, ReadsBounded, Ends, replaying, meaning_of, outside_of, code_of, status_of}
+use Rattle.sr_replay.specs.Script.{IsRefusedAt}
+use Rattle.sr_replay.specs.Laws.{LongIsRefusedByItsFront}
+use Rattle.sr_app.specs.Run.{IsReplayed, IsRefused, IsTextAnswer, AnswersWith, Answered, ReadsBounded, Ends, replaying, meaning_of, outside_of, code_of, status_of}
 use Rattle.sr_app.proofs.Told.{consumed_nothing, appended_nothing, text_is_told, whole_is_told}
-use Rattle.sr_app.proofs.Parsing.{refused_front}
 
 -- ---- statuses, their codes, and how tasks stop
 
@@ -85,26 +85,26 @@ record IsRefusedInput (input : Option (List ℕ)) (answer : List ℕ) : Type 0 w
   pub told : IsText input text
   pub refused : IsRefused text answer
 
-refused_by : (bytes rest text answer : List ℕ) → bytes ≡ text ++ rest → (length text ≤ 16777216 → rest ≡ []) → IsRefused text answer
+refused_by : LongIsRefusedByItsFront → (bytes rest text answer : List ℕ) → bytes ≡ text ++ rest → (length text ≤ 16777216 → rest ≡ []) → IsRefused text answer
     → (16777216 < length text) ⊎ (length text ≤ 16777216) → IsRefused bytes answer
-refused_by bytes rest text answer read ended refused (inl long) = record {
+refused_by law bytes rest text answer read ended refused (inl long) = record {
   number = refused.number;
-  first = subst (λ (xs : List ℕ). IsTheOne (IsRefusedAt xs) refused.number) (sym read) (refused_front text rest refused.number long refused.first);
+  first = subst (λ (xs : List ℕ). IsTheOne (IsRefusedAt xs) refused.number) (sym read) (law text rest refused.number long refused.first);
   line = refused.line;
 }
-refused_by bytes rest text answer read ended refused (inr short) =
+refused_by law bytes rest text answer read ended refused (inr short) =
     subst (λ (xs : List ℕ). IsRefused xs answer) (sym (read ∙ ap (λ xs. text ++ xs) (ended short) ∙ append-nil text)) refused
 
-refused_told : (input left : Option (List ℕ)) (text answer : List ℕ) → Consumes input left text → (length text ≤ 16777216 → IsAtEnd left) → IsRefused text answer → IsRefusedInput input answer
-refused_told None left text answer read ended refused = record { text = text; told = tt; refused = refused }
-refused_told (Some bytes) None text answer read ended refused = absurd read
-refused_told (Some bytes) (Some rest) text answer read ended refused =
-    record { text = bytes; told = refl; refused = refused_by bytes rest text answer read ended refused (cases_lt 16777216 (length text)) }
+refused_told : LongIsRefusedByItsFront → (input left : Option (List ℕ)) (text answer : List ℕ) → Consumes input left text → (length text ≤ 16777216 → IsAtEnd left) → IsRefused text answer → IsRefusedInput input answer
+refused_told law None left text answer read ended refused = record { text = text; told = tt; refused = refused }
+refused_told law (Some bytes) None text answer read ended refused = absurd read
+refused_told law (Some bytes) (Some rest) text answer read ended refused =
+    record { text = bytes; told = refl; refused = refused_by law bytes rest text answer read ended refused (cases_lt 16777216 (length text)) }
 
-writes_refusal : (input left before now : Option (List ℕ)) (text answer : List ℕ) → Consumes input left text → (length text ≤ 16777216 → IsAtEnd left)
+writes_refusal : LongIsRefusedByItsFront → (input left before now : Option (List ℕ)) (text answer : List ℕ) → Consumes input left text → (length text ≤ 16777216 → IsAtEnd left)
     → IsRefused text answer → Appends before now answer → Writes IsRefused input before now
-writes_refusal input left before now text answer read ended refused appends =
-    let is = refused_told input left text answer read ended refused in
+writes_refusal law input left before now text answer read ended refused appends =
+    let is = refused_told law input left text answer read ended refused in
     (is.text, answer, is.told, is.refused, appends)
 
 writes_report : (input left before now : Option (List ℕ)) (text answer : List ℕ) → Consumes input left text → (length text ≤ 16777216 → IsAtEnd left)
@@ -112,17 +112,17 @@ writes_report : (input left before now : Option (List ℕ)) (text answer : List 
 writes_report input left before now text answer read ended replayed appends =
     (ended replayed.script.holds.short, (text, answer, replayed_told input left text answer read ended replayed, replayed, appends))
 
-writes_part : (input left before now : Option (List ℕ)) (text answer : List ℕ) (n : ℕ) (status : Status) → Consumes input left text → (length text ≤ 16777216 → IsAtEnd left)
+writes_part : LongIsRefusedByItsFront → (input left before now : Option (List ℕ)) (text answer : List ℕ) (n : ℕ) (status : Status) → Consumes input left text → (length text ≤ 16777216 → IsAtEnd left)
     → AnswersWith status text answer → Appends before now (take n answer) → WritesPart IsTextAnswer input before now
-writes_part input left before now text answer n Done read ended replayed appends =
+writes_part law input left before now text answer n Done read ended replayed appends =
     (text, answer, replayed_told input left text answer read ended replayed, inl replayed, (n, appends))
-writes_part input left before now text answer n Refused read ended refused appends =
-    let is = refused_told input left text answer read ended refused in
+writes_part law input left before now text answer n Refused read ended refused appends =
+    let is = refused_told law input left text answer read ended refused in
     (is.text, answer, is.told, inr is.refused, (n, appends))
-writes_part input left before now text answer n Usage read ended none appends = absurd none
-writes_part input left before now text answer n ReadFault read ended none appends = absurd none
-writes_part input left before now text answer n WriteFault read ended none appends = absurd none
-writes_part input left before now text answer n NoMemory read ended none appends = absurd none
+writes_part law input left before now text answer n Usage read ended none appends = absurd none
+writes_part law input left before now text answer n ReadFault read ended none appends = absurd none
+writes_part law input left before now text answer n WriteFault read ended none appends = absurd none
+writes_part law input left before now text answer n NoMemory read ended none appends = absurd none
 
 -- ---- how a replay ends
 
@@ -140,9 +140,9 @@ replay_unread input left held faults faults' sink rose reads = record {
 }
 
 -- memory ran out before a byte was written
-pub replay_forgone : (input left held : Option (List ℕ)) (faults faults' sink : ℕ) → ReadsBounded input left
-    → Ends replaying NoMemory (outside_of input faults held sink) (outside_of left faults' held sink)
-replay_forgone input left held faults faults' sink reads = record {
+pub replay_forgone : (input left held : Option (List ℕ)) (faults faults' sink sink' : ℕ) → ReadsBounded input left
+    → Ends replaying NoMemory (outside_of input faults held sink) (outside_of left faults' held sink')
+replay_forgone input left held faults faults' sink sink' reads = record {
   done = λ is. cc;
   usage = λ is. cc;
   refused = λ is. cc;
@@ -152,49 +152,88 @@ replay_forgone input left held faults faults' sink reads = record {
   reads = reads;
 }
 
--- what is known of a replay that read its script, and of how it wrote the answer
-pub record IsWritten (input left before now : Option (List ℕ)) (sink sink' : ℕ) (text answer : List ℕ) (status result : Status) : Type 0 where
+-- what is known of a replay that read its script
+pub record IsWritten (input left : Option (List ℕ)) (text : List ℕ) : Type 0 where
   pub read : Consumes input left text
   pub ended : length text ≤ 16777216 → IsAtEnd left
-  pub answers : AnswersWith status text answer
-  pub whole : result ≡ status → Appends before now answer
-  pub part : result ≡ WriteFault → Rose sink sink' × ((n : ℕ) × Appends before now (take n answer))
   pub reads : ReadsBounded input left
 
-pub replay_written : (input left before now : Option (List ℕ)) (faults faults' sink sink' : ℕ) (text answer : List ℕ) (status result : Status)
-    → IsWritten input left before now sink sink' text answer status result → (result ≡ status) ⊎ (result ≡ WriteFault)
+-- a status is not one with another code
+apart : (result own other : Status) → result ≡ own → (code_of own < code_of other) ⊎ (code_of other < code_of own) → result ≡ other → ⊥
+apart result own other same (inl less) is = omega (arith, less, ap code_of same, ap code_of is)
+apart result own other same (inr more) is = omega (arith, more, ap code_of same, ap code_of is)
+
+written_part : LongIsRefusedByItsFront → (input left before now : Option (List ℕ)) (faults faults' sink sink' : ℕ) (text answer : List ℕ) (status result : Status)
+    → IsWritten input left text → AnswersWith status text answer → Rose sink sink' → (n : ℕ) → Appends before now (take n answer) → result ≡ WriteFault
     → Ends replaying result (outside_of input faults before sink) (outside_of left faults' now sink')
-replay_written input left before now faults faults' sink sink' text answer status result w (inr fault) = record {
-  done = λ is. cc;
-  usage = λ is. cc;
-  refused = λ is. cc;
-  read_fault = λ is. cc;
-  write_fault = λ is. ((w.part is).0, writes_part input left before now text answer (w.part is).1.0 status w.read w.ended w.answers (w.part is).1.1);
-  no_memory = λ is. cc;
+written_part law input left before now faults faults' sink sink' text answer status result w answers rose n part fault = record {
+  done = λ is. absurd (apart result WriteFault Done fault (inr (omega arith)) is);
+  usage = apart result WriteFault Usage fault (inr (omega arith));
+  refused = λ is. absurd (apart result WriteFault Refused fault (inr (omega arith)) is);
+  read_fault = λ is. absurd (apart result WriteFault ReadFault fault (inr (omega arith)) is);
+  write_fault = λ is. (rose, writes_part law input left before now text answer n status w.read w.ended answers part);
+  no_memory = λ is. absurd (apart result WriteFault NoMemory fault (inl (omega arith)) is);
   reads = w.reads;
 }
-replay_written input left before now faults faults' sink sink' text answer Done result w (inl same) = record {
-  done = λ is. writes_report input left before now text answer w.read w.ended w.answers (w.whole is);
-  usage = λ is. cc;
-  refused = λ is. cc;
-  read_fault = λ is. cc;
-  write_fault = λ is. cc;
-  no_memory = λ is. cc;
+
+written_report : LongIsRefusedByItsFront → (input left before now : Option (List ℕ)) (faults faults' sink sink' : ℕ) (text answer : List ℕ) (result : Status)
+    → IsWritten input left text → IsReplayed text answer → Appends before now answer → result ≡ Done
+    → Ends replaying result (outside_of input faults before sink) (outside_of left faults' now sink')
+written_report law input left before now faults faults' sink sink' text answer result w answers whole same = record {
+  done = λ is. writes_report input left before now text answer w.read w.ended answers whole;
+  usage = apart result Done Usage same (inl (omega arith));
+  refused = λ is. absurd (apart result Done Refused same (inl (omega arith)) is);
+  read_fault = λ is. absurd (apart result Done ReadFault same (inl (omega arith)) is);
+  write_fault = λ is. absurd (apart result Done WriteFault same (inl (omega arith)) is);
+  no_memory = λ is. absurd (apart result Done NoMemory same (inl (omega arith)) is);
   reads = w.reads;
 }
-replay_written input left before now faults faults' sink sink' text answer Refused result w (inl same) = record {
-  done = λ is. cc;
-  usage = λ is. cc;
-  refused = λ is. writes_refusal input left before now text answer w.read w.ended w.answers (w.whole is);
-  read_fault = λ is. cc;
-  write_fault = λ is. cc;
-  no_memory = λ is. cc;
+
+written_refusal : LongIsRefusedByItsFront → (input left before now : Option (List ℕ)) (faults faults' sink sink' : ℕ) (text answer : List ℕ) (result : Status)
+    → IsWritten input left text → IsRefused text answer → Appends before now answer → result ≡ Refused
+    → Ends replaying result (outside_of input faults before sink) (outside_of left faults' now sink')
+written_refusal law input left before now faults faults' sink sink' text answer result w answers whole same = record {
+  done = λ is. absurd (apart result Refused Done same (inr (omega arith)) is);
+  usage = apart result Refused Usage same (inr (omega arith));
+  refused = λ is. writes_refusal law input left before now text answer w.read w.ended answers whole;
+  read_fault = λ is. absurd (apart result Refused ReadFault same (inl (omega arith)) is);
+  write_fault = λ is. absurd (apart result Refused WriteFault same (inl (omega arith)) is);
+  no_memory = λ is. absurd (apart result Refused NoMemory same (inl (omega arith)) is);
   reads = w.reads;
 }
-replay_written input left before now faults faults' sink sink' text answer Usage result w (inl same) = absurd w.answers
-replay_written input left before now faults faults' sink sink' text answer ReadFault result w (inl same) = absurd w.answers
-replay_written input left before now faults faults' sink sink' text answer WriteFault result w (inl same) = absurd w.answers
-replay_written input left before now faults faults' sink sink' text answer NoMemory result w (inl same) = absurd w.answers
+
+written_by : LongIsRefusedByItsFront → (input left before now : Option (List ℕ)) (faults faults' sink sink' : ℕ) (text answer : List ℕ) (status result : Status)
+    → IsWritten input left text → AnswersWith status text answer → (result ≡ status → Appends before now answer)
+    → (result ≡ WriteFault → Rose sink sink' × ((n : ℕ) × Appends before now (take n answer))) → (result ≡ status) ⊎ (result ≡ WriteFault)
+    → Ends replaying result (outside_of input faults before sink) (outside_of left faults' now sink')
+written_by law input left before now faults faults' sink sink' text answer status result w answers whole part (inr fault) =
+    written_part law input left before now faults faults' sink sink' text answer status result w answers (part fault).0 (part fault).1.0 (part fault).1.1 fault
+written_by law input left before now faults faults' sink sink' text answer Done result w answers whole part (inl same) =
+    written_report law input left before now faults faults' sink sink' text answer result w answers (whole same) same
+written_by law input left before now faults faults' sink sink' text answer Refused result w answers whole part (inl same) =
+    written_refusal law input left before now faults faults' sink sink' text answer result w answers (whole same) same
+written_by law input left before now faults faults' sink sink' text answer Usage result w answers whole part (inl same) = absurd answers
+written_by law input left before now faults faults' sink sink' text answer ReadFault result w answers whole part (inl same) = absurd answers
+written_by law input left before now faults faults' sink sink' text answer WriteFault result w answers whole part (inl same) = absurd answers
+written_by law input left before now faults faults' sink sink' text answer NoMemory result w answers whole part (inl same) = absurd answers
+
+pub replay_written : LongIsRefusedByItsFront → (input left before now : Option (List ℕ)) (faults faults' sink sink' : ℕ) (text : List ℕ) (result : Status)
+    → IsWritten input left text → Answered text result before now sink sink' → Ends replaying result (outside_of input faults before sink) (outside_of left faults' now sink')
+replay_written law input left before now faults faults' sink sink' text result w a =
+    written_by law input left before now faults faults' sink sink' text a.answer a.status result w a.answers a.whole a.part a.either
+
+-- an answer was written, or memory ran out before
+pub replay_ends : LongIsRefusedByItsFront → (input left before now : Option (List ℕ)) (faults faults' sink sink' : ℕ) (text : List ℕ) (result : Status)
+    → IsWritten input left text → ((result ≡ NoMemory → ⊥) → Answered text result before now sink sink') → (result ≡ NoMemory → now ≡ before)
+    → Ends replaying result (outside_of input faults before sink) (outside_of left faults' now sink')
+replay_ends law input left before now faults faults' sink sink' text NoMemory w a same =
+    subst (λ held. Ends replaying NoMemory (outside_of input faults before sink) (outside_of left faults' held sink')) (sym (same refl))
+    (replay_forgone input left before faults faults' sink sink' w.reads)
+replay_ends law input left before now faults faults' sink sink' text Done w a same = replay_written law input left before now faults faults' sink sink' text Done w (a (λ is. cc))
+replay_ends law input left before now faults faults' sink sink' text Usage w a same = replay_written law input left before now faults faults' sink sink' text Usage w (a (λ is. cc))
+replay_ends law input left before now faults faults' sink sink' text Refused w a same = replay_written law input left before now faults faults' sink sink' text Refused w (a (λ is. cc))
+replay_ends law input left before now faults faults' sink sink' text ReadFault w a same = replay_written law input left before now faults faults' sink sink' text ReadFault w (a (λ is. cc))
+replay_ends law input left before now faults faults' sink sink' text WriteFault w a same = replay_written law input left before now faults faults' sink sink' text WriteFault w (a (λ is. cc))
 
 -- a task that reads nothing
 task_reads_nothing : EmptyWaits → (t : Task) (input : Option (List ℕ)) → ReadsNoFurther t input input

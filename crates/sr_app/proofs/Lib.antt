@@ -1,12 +1,2 @@
 pub mod Answering
-pub mod Frames
-pub mod Grammar
-pub mod Link
-pub mod Moving
-pub mod Opening
-pub mod Parsing
-pub mod Replaying
-pub mod Short
-pub mod Spelling
-pub mod Texts
 pub mod Told

@@ -1,9 +1,1 @@
-pub mod Follows
-pub mod Laws
-pub mod Lines
-pub mod Reading
-pub mod Refusal
-pub mod Report
 pub mod Run
-pub mod Script
-pub mod World

@@ -5,12 +5,10 @@ use Rattle.std.specs.declared.alloc.Global.{Global}
 use Rattle.hd_facts.specs.Counts.{Rose}
 use Rattle.hd_facts.specs.Unique.{IsTheOne}
 use Rattle.hd_facts.specs.Writes.{Writes, WritesPart, WritesOfRead}
-use Rattle.sr_app.specs.declared.step.Step.{Step}
 use Rattle.sr_app.specs.declared.run.Status.{Status}
 use Rattle.sr_app.specs.declared.run.Status.TheVariants.{Done, Usage, Refused, ReadFault, WriteFault, NoMemory}
-use Rattle.sr_app.specs.Script.{Parses, most_script}
-use Rattle.sr_app.specs.Refusal.{IsRefusedAt, refusal_line}
-use Rattle.sr_app.specs.Report.{IsReportOf}
+use Rattle.sr_replay.specs.Script.{Program, Parses, IsRefusedAt, refusal_line, most_script}
+use Rattle.sr_replay.specs.Report.{IsReport}
 use Rattle.sr_check.specs.declared.task.Task.{Task}
 use Rattle.sr_check.specs.declared.task.Task.TheVariants as task
 use Rattle.sr_check.specs.declared.task.Stop.{Stop}
@@ -53,11 +51,11 @@ pub record Meaning : Type 1 where
   -- what the input has left before and after
   pub reads : Option (List ℕ) → Option (List ℕ) → Type 0
 
--- The text is a script, and this is its report. It has one parse, and that has one report.
+-- The text is a script, and this is the report of what it asks for: that is one program, which has one report.
 pub record IsReplayed (text report : List ℕ) : Type 0 where
-  pub steps : List Step
-  pub script : IsTheOne (Parses text) steps
-  pub report_is : IsTheOne (IsReportOf steps) report
+  pub asks : Program
+  pub script : IsTheOne (Parses text) asks
+  pub report_is : IsTheOne (IsReport asks) report
 
 -- the text is no script, and this is its refusal
 pub record IsRefused (text answer : List ℕ) : Type 0 where
@@ -112,6 +110,15 @@ meaning_of (Check codec) = doing (task.Check codec)
 meaning_of (Convert from to) = doing (task.Convert from to)
 
 -- ---- what a command did
+
+-- An answer was written, with the status that goes with it, or a first part of it if the sink failed; or memory ran out before.
+pub record Answered (text : List ℕ) (result : Status) (before now : Option (List ℕ)) (faults faults' : ℕ) : Type 0 where
+  pub status : Status
+  pub answer : List ℕ
+  pub answers : AnswersWith status text answer
+  pub whole : result ≡ status → Appends before now answer
+  pub part : result ≡ WriteFault → Rose faults faults' × ((n : ℕ) × Appends before now (take n answer))
+  pub either : (result ≡ status) ⊎ (result ≡ WriteFault)
 
 -- What the source has left and the sink holds, where they tell it, and how often each has failed.
 pub record Outside : Type 0 where

@@ -1,12 +1,7 @@
-//! The program `sr`: it replays a script over the two ends of one link, and checks and converts frames of messages.
+//! The program `sr`: it replays scripts over two ends, and checks and converts frames of messages.
 #![tactic(auto)]
 
-mod laws;
-mod pair;
-mod report;
 mod run;
-mod script;
-mod step;
 #[cfg(test)]
 mod tests;
 

@@ -6,14 +6,16 @@ ghost use Rattle.hd_facts.specs.Counts.{Rose};
 ghost use Rattle.hd_facts.specs.Writes.{Writes, WritesOfRead};
 ghost use Rattle.sr_check.specs.Stream.{IsTouchedByBytesAlone, most_piece};
 ghost use Rattle.sr_words.specs.Words.{Asks, IsNoCommand};
-ghost use Rattle.sr_app.specs.Script.{most_script};
-ghost use Rattle.sr_app.specs.Run.{AnswersWith, AsksFor, Ends, ReadsBounded, TellsFaults, WritesPartFor, code_of, doing, meaning_of, outside_of, replaying, usage_line};
+ghost use Rattle.sr_app.specs.Run.{Answered, AsksFor, Ends, ReadsBounded, TellsFaults, WritesPartFor, code_of, doing, meaning_of, outside_of, replaying, usage_line};
+ghost use Rattle.sr_replay.specs.Script.{most_script, refusal_line};
 
-use crate::pair::replay;
-use crate::script::{self, MOST_BYTES, ScriptError};
 use hf_split::empty_waits;
 use hw_io::{Failed, Sink, Source};
 use sr_check::{Stop, Task};
+use sr_replay::{
+    MOST_SCRIPT, ReplayError, ScriptError, long_is_refused_by_its_front, parse, replay,
+    reports_have_lines,
+};
 use sr_words::{Command, WordsError};
 use std::alloc::{AllocError, Global};
 
@@ -60,7 +62,7 @@ fn read_all<S: Source>(alloc: Global, input: &mut S) -> Result<Vec<u8>, ReadErro
 {
     let mut text = Vec::new(alloc);
     let mut piece = [0u8; PIECE];
-    while text.len() <= MOST_BYTES {
+    while text.len() <= MOST_SCRIPT {
         match input.take(&mut piece) {
             Ok(0) => return Ok(text),
             Ok(count) => {
@@ -94,17 +96,39 @@ fn write<K: Sink>(out: &mut K, bytes: &[u8], status: Status) -> Status
     }
 }
 
-/// The text that is to be written for a script, and the status that goes with it.
-fn answer(alloc: Global, text: &[u8]) -> Result<(Vec<u8>, Status), AllocError>
-    ensures { IfOk result (λ a. AnswersWith a.1 text.now a.0.items) }
+/// Writes that a text is no script, by the number of its first line that is refused.
+fn refuse<K: Sink>(alloc: Global, number: u64, out: &mut K) -> Status
+    ensures same { (result ≡ Status.Refused) ⊎ (result ≡ Status.WriteFault) ⊎ (result ≡ Status.NoMemory) }
+    ensures whole { result ≡ Status.Refused → Appends (K.holds out.old) (K.holds out.new) (refusal_line number) }
+    ensures part { result ≡ Status.WriteFault → Rose (K.faults out.old) (K.faults out.new)
+        × ((n : ℕ) × Appends (K.holds out.old) (K.holds out.new) (take n (refusal_line number))) }
+    ensures unfailed { result ≢ Status.WriteFault → K.faults out.new ≡ K.faults out.old }
+    ensures touched { result ≢ Status.WriteFault → IsTouchedByBytesAlone K.holds out.old out.new }
+    ensures no_memory { result ≡ Status.NoMemory → out.new ≡ out.old }
 {
-    match script::parse(alloc, text) {
-        Ok(steps) => Ok((replay(alloc, &steps)?, Status::Done)),
-        Err(ScriptError::Line(number)) => {
-            let line = format!(in alloc; "line {number} refused\n")?;
-            Ok((line.into_bytes(), Status::Refused))
-        }
-        Err(ScriptError::NoMemory) => Err(AllocError),
+    match format!(in alloc; "line {number} refused\n") {
+        Ok(line) => write(out, line.as_bytes(), Status::Refused),
+        Err(AllocError) => Status::NoMemory,
+    }
+}
+
+/// Replays a script, or writes where it stops being one.
+fn answer<K: Sink>(alloc: Global, text: &[u8], out: &mut K) -> Status
+    ensures answered { result ≢ Status.NoMemory → Answered text.now result (K.holds out.old) (K.holds out.new) (K.faults out.old) (K.faults out.new) }
+    ensures unfailed { result ≢ Status.WriteFault → K.faults out.new ≡ K.faults out.old }
+    ensures touched { result ≢ Status.WriteFault → IsTouchedByBytesAlone K.holds out.old out.new }
+    ensures no_memory { result ≡ Status.NoMemory → out.new ≡ out.old }
+{
+    reports_have_lines();
+    let script = match parse(alloc, text) {
+        Ok(script) => script,
+        Err(ScriptError::Line(number)) => return refuse(alloc, number, out),
+        Err(ScriptError::NoMemory) => return Status::NoMemory,
+    };
+    match replay(alloc, &script, out) {
+        Ok(_) => Status::Done,
+        Err(ReplayError::Write) => Status::WriteFault,
+        Err(ReplayError::NoMemory) => Status::NoMemory,
     }
 }
 
@@ -119,14 +143,11 @@ fn run_replay<S: Source, K: Sink>(alloc: Global, input: &mut S, out: &mut K) -> 
     ensures touched { result ≢ Status.WriteFault → IsTouchedByBytesAlone K.holds out.old out.new }
     ensures untouched { (result ≡ Status.ReadFault) ⊎ (result ≡ Status.NoMemory) → out.new ≡ out.old }
 {
-    let text = match read_all(alloc, input) {
-        Ok(text) => text,
-        Err(ReadError::Failed) => return Status::ReadFault,
-        Err(ReadError::NoMemory) => return Status::NoMemory,
-    };
-    match answer(alloc, &text) {
-        Ok((bytes, status)) => write(out, &bytes, status),
-        Err(AllocError) => Status::NoMemory,
+    long_is_refused_by_its_front();
+    match read_all(alloc, input) {
+        Ok(text) => answer(alloc, &text, out),
+        Err(ReadError::Failed) => Status::ReadFault,
+        Err(ReadError::NoMemory) => Status::NoMemory,
     }
 }
 
