@@ -1,11 +1,11 @@
 #!/usr/bin/env python3
-"""Measures the splitter, `sr replay`, `sr check` and `sr convert` beside others over the same bytes, in one run. It is no test.
+"""Measures the splitter, `sr check` and `sr convert` beside others over the same bytes, in one run. It is no test.
 
     bench/run.py [--rounds N] [--mebibytes N]
 
 The splitter (crates/split_bench) counts the frames of 64 MiB, fed in pieces of 4,096 bytes, for frames of 3, 60 and
 32,768 bytes, each followed by the separator. `wc -l` and `grep -c` count the lines of the same bytes with line ends in
-the separators' place. `sr replay` replays a script of 16 MiB, and `wc -l` counts its lines. `sr check json`, `sr check
+the separators' place. `sr check json`, `sr check
 pack` and `sr convert` both ways run over 64 MiB of invocations of 60 to 300 bytes, beside bench/peer, a Rust program over
 Debian's librust-serde-json-dev and librust-rmp-serde-dev that writes the same; if these aren't installed it is left
 out. Peak memory of both is told. Then each of the nine messages and an invocation of 32 KiB: a MiB of it alone, checked and
@@ -24,8 +24,6 @@ import subprocess
 import tempfile
 
 TOP = pathlib.Path(__file__).resolve().parent.parent
-OPENING = b"open\naccept 0\nc write *\ns read *\ns write *\nc read *\n"
-SEND = b'c send {"arguments":[],"target":"%s","type":1}\nc write *\n' % (b"a" * 59)
 
 
 def built(crate):
@@ -161,11 +159,6 @@ def invocations(total):
     return piece * max(1, total // len(piece))
 
 
-def script(total):
-    lines = OPENING + SEND * 1000
-    return lines + b"s read 12345\n" * ((total - len(lines)) // 13)
-
-
 def main():
     words = argparse.ArgumentParser(description=__doc__, formatter_class=argparse.RawDescriptionHelpFormatter)
     words.add_argument("--rounds", type=int, default=5)
@@ -180,10 +173,6 @@ def main():
             pathlib.Path(lines).write_bytes(data.replace(b"\x1e", b"\n"))
             scans = [(scan, seconds(command, lines, asked.rounds)) for scan, command in (("wc -l", ["wc", "-l"]), ("grep -c", ["grep", "-c", "r"]))]
             row(f"splitter, frames of {length:,}", len(data), seconds([splitter], path, asked.rounds), scans)
-        text = script(16 << 20)
-        pathlib.Path(lines).write_bytes(text)
-        scans = [("wc -l", seconds(["wc", "-l"], lines, asked.rounds)), ("grep -c", seconds(["grep", "-c", "r"], lines, asked.rounds))]
-        row("replay of 16 MiB", len(text), seconds([program, "replay"], lines, asked.rounds), scans)
         other, mebibyte = peer(), os.path.join(folder, "mebibyte")
         pathlib.Path(path).write_bytes(invocations(asked.mebibytes << 20))
         pathlib.Path(mebibyte).write_bytes(invocations(1 << 20))

@@ -1,6 +1,8 @@
 //! What a Rust program over serde_json and rmp-serde takes for the same streams: `peer check json`, `peer check pack`,
-//! `peer convert json pack`, `peer convert pack json`. It takes the nine messages as they are, and judges nothing: a yardstick
+//! `peer convert json pack`, `peer convert pack json`, and `peer replay`. It takes the nine messages as they are, and judges nothing: a yardstick
 //! for `bench/run.py`, no part of the product.
+mod replay;
+
 use serde_json::{json, Map, Value};
 use std::io::{self, BufWriter, Read, Write};
 
@@ -131,6 +133,9 @@ fn write_length(mut length: usize, out: &mut impl Write) -> io::Result<()> {
 
 fn main() -> Result<(), Box<dyn std::error::Error>> {
     let words: Vec<String> = std::env::args().skip(1).collect();
+    if words[0] == "replay" {
+        return Ok(replay::replay()?);
+    }
     let (from, to) = (words[1] == "pack", words.get(2).map(|word| word == "pack"));
     let mut stream = Stream { input: io::stdin().lock(), held: Vec::new(), start: 0, place: 0 };
     let mut out = BufWriter::new(io::stdout().lock());

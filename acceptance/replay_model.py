@@ -1,0 +1,478 @@
+#!/usr/bin/env python3
+"""A plain, slow model of `sr replay`: two ends as lists of what they did, from which all is read off.
+
+    acceptance/replay_model.py < SCRIPT                 the report that the definitions give
+    acceptance/replay_model.py --random SEED N PROGRAM  N random scripts, each run by PROGRAM too and compared
+
+It is written from docs/delivery.md and docs/protocol.md and shares no code with the program. It reads a message of a
+script with Python's json, so it is for scripts whose messages are written in the usual way."""
+import json
+import random
+import subprocess
+import sys
+
+REASON_DONE = None
+PROTOCOL = "Protocol error."
+
+
+class Refused(Exception):
+    """A line that the grammar lacks."""
+
+
+# ---- frames: tuples whose first element names them
+
+def json_text(value):
+    return json.dumps(value, separators=(",", ":"), ensure_ascii=False, sort_keys=True)
+
+
+def message_tree(frame):
+    match frame:
+        case ("message", text): return json.loads(text)
+        case ("ack", n): return {"sequenceId": n, "type": 8}
+        case ("sequence", first, None): return {"sequenceId": first, "type": 9}
+        case ("sequence", first, received): return {"received": received, "sequenceId": first, "type": 9}
+        case ("ping",): return {"type": 6}
+        case ("close", None, allow): return {"type": 7} | ({"allowReconnect": True} if allow else {})
+        case ("close", error, allow): return {"error": error, "type": 7} | ({"allowReconnect": True} if allow else {})
+
+
+def pack(value):
+    if value is None: return b"\xc0"
+    if value is True: return b"\xc3"
+    if value is False: return b"\xc2"
+    if isinstance(value, int):
+        if 0 <= value < 128: return bytes([value])
+        if -32 <= value < 0: return bytes([256 + value])
+        kinds = [(0xcc, 1), (0xcd, 2), (0xce, 4), (0xcf, 8)] if value >= 0 else [(0xd0, 1), (0xd1, 2), (0xd2, 4), (0xd3, 8)]
+        for marker, size in kinds:
+            low, high = (0, 1 << 8 * size) if value >= 0 else (-(1 << 8 * size - 1), 0)
+            if low <= value < high: return bytes([marker]) + (value % (1 << 8 * size)).to_bytes(size, "big")
+    if isinstance(value, str):
+        data = value.encode()
+        n = len(data)
+        if n < 32: return bytes([0xa0 + n]) + data
+        if n < 256: return b"\xd9" + n.to_bytes(1, "big") + data
+        if n < 65536: return b"\xda" + n.to_bytes(2, "big") + data
+        return b"\xdb" + n.to_bytes(4, "big") + data
+    if isinstance(value, list):
+        n = len(value)
+        head = bytes([0x90 + n]) if n < 16 else b"\xdc" + n.to_bytes(2, "big") if n < 65536 else b"\xdd" + n.to_bytes(4, "big")
+        return head + b"".join(map(pack, value))
+    n = len(value)
+    head = bytes([0x80 + n]) if n < 16 else b"\xde" + n.to_bytes(2, "big") if n < 65536 else b"\xdf" + n.to_bytes(4, "big")
+    return head + b"".join(pack(k) + pack(value[k]) for k in sorted(value, key=str.encode))
+
+
+def packed_message(t):
+    headers = t.get("headers") or {}
+    match t["type"]:
+        case 1 | 4: return [t["type"], headers, t.get("invocationId"), t["target"], t["arguments"], t.get("streamIds") or []]
+        case 2: return [2, headers, t["invocationId"], t["item"]]
+        case 3:
+            if t.get("error") is not None: return [3, headers, t["invocationId"], 1, t["error"]]
+            if "result" in t: return [3, headers, t["invocationId"], 3, t["result"]]
+            return [3, headers, t["invocationId"], 2]
+        case 5: return [5, headers, t["invocationId"]]
+        case 6: return [6]
+        case 7: return [7, t.get("error"), t.get("allowReconnect", False)]
+        case 8: return [8, t["sequenceId"]]
+        case 9: return [9, t["sequenceId"]] + ([t["received"]] if "received" in t else [])
+
+
+def bare(frame, codec):
+    """The frame without its framing."""
+    tree = message_tree(frame)
+    return json_text(tree).encode() if codec == "json" else pack(packed_message(tree))
+
+
+def spell(frame, codec):
+    match frame:
+        case ("request", asked, version):
+            name = {"json": "json", "pack": "messagepack"}[asked]
+            return json_text({"protocol": name, "version": version}).encode() + b"\x1e"
+        case ("response",): return b"{}\x1e"
+    body = bare(frame, codec)
+    if codec == "json": return body + b"\x1e"
+    n, head = len(body), b""
+    while n >= 128:
+        head += bytes([n & 127 | 128])
+        n >>= 7
+    return head + bytes([n]) + body
+
+
+# ---- one end: what it did, the first first
+
+class End:
+    def __init__(self, side, codec, version, reconnect, limits):
+        self.side, self.codec, self.version, self.reconnect, self.limits = side, codec, version, reconnect, limits
+        self.steps = []
+
+    # what is read off the steps
+    def of(self, kind): return [s for s in self.steps if s[0] == kind]
+
+    def link(self):
+        for s in reversed(self.steps):
+            if s[0] == "attached": return s[1]
+            if s[0] in ("detached", "silenced"): return None
+
+    def links(self): return [s[1] for s in self.of("attached")]
+
+    def on_link(self, kind, link):
+        """The steps of this kind that were made on the link."""
+        here, found = None, []
+        for s in self.steps:
+            if s[0] == "attached": here = s[1]
+            if s[0] in ("detached", "silenced"): here = None
+            if s[0] == kind and here == link: found.append(s)
+        return found
+
+    def lent(self, link): return [s[1] for s in self.on_link("lent", link)]
+    def fed(self, link): return b"".join(s[1] for s in self.on_link("fed", link))
+    def taken(self, link): return [s[2] for s in self.on_link("took", link)] + [s[2] for s in self.on_link("failed", link)]
+    def shaken(self): return any(s[1][0] == "shaken" for s in self.of("took"))
+    def kept(self): return self.shaken() and self.reconnect and self.version in (2, 3)
+    def three(self): return self.shaken() and self.version == 3
+    def sent(self): return [s[1] for s in self.of("sent")]
+    def processed(self): return [s[1][1] for s in self.of("took") if s[1][0] == "message"]
+    def acked(self): return max([0] + [s[1][1] for s in self.of("took") if s[1][0] == "acked"] + [s[1][2] for s in self.of("took") if s[1][0] == "resumed"])
+
+    def closed(self):
+        shaken = False
+        for s in self.steps:
+            if s[0] in ("closed", "failed") or s[0] == "took" and s[1][0] == "closed": return True
+            if s[0] == "took" and s[1][0] == "shaken": shaken = True
+            if s[0] in ("detached", "silenced") and not (shaken and self.reconnect and self.version in (2, 3)): return True
+        return False
+
+    def state(self):
+        if self.closed(): return "Closed"
+        if not self.shaken(): return "Opening"
+        return "Away" if self.link() is None else "Ready"
+
+    def places(self):
+        """The place of each message lent, with its link."""
+        found, acked, written, here = [], 0, 0, None
+        for s in self.steps:
+            if s[0] == "attached": here, written = s[1], 0
+            if s[0] == "took" and s[1][0] == "acked": acked = max(acked, s[1][1])
+            if s[0] == "took" and s[1][0] == "resumed": acked = max(acked, s[1][2])
+            if s[0] == "lent" and s[1][0] == "message":
+                written = max(acked, written) + 1
+                found.append((here, written))
+        return found
+
+    def most_lent(self): return max([0] + [p for _, p in self.places()])
+    def written(self):
+        here = self.link()
+        at = [i for i, s in enumerate(self.steps) if s[0] == "attached"]
+        return max([0] + [p for l, p in self.places() if l == here]) if at else 0
+
+    def held(self): return self.sent()[self.acked() if self.kept() else self.most_lent():]
+    def number(self, frames):
+        n = None
+        for f in frames:
+            if f[0] in ("request", "response"): n = 1
+            if f[0] == "sequence": n = f[1]
+            if f[0] == "message" and n is not None: n += 1
+        return n
+
+    def moments(self): return [s[-1] for s in self.steps if s[0] in ("attached", "detached", "ticked", "silenced")]
+    def moment(self): return max([0] + self.moments())
+
+    # what is due
+    def due(self):
+        link = self.link()
+        if link is None: return None
+        said, first = self.lent(link), link == self.links()[0]
+        if not said:
+            if first and self.side == "c": return None if self.closed() else ("request", self.codec, self.version)
+            if first: return ("response",) if self.shaken() else None
+            return ("sequence", self.acked() + 1, len(self.processed()) if self.three() else None)
+        place = max(self.acked(), self.written()) + 1
+        waits = place <= len(self.sent())
+        if not self.three() and waits and self.number(said) != place: return ("sequence", place, None)
+        told = max([0] + [f[1] for f in said if f[0] == "ack"] + [f[2] or 0 for f in said if f[0] == "sequence"])
+        if self.kept() and not self.closed() and told < len(self.processed()): return ("ack", len(self.processed()))
+        resumed = any(s[1][0] == "resumed" for s in self.on_link("took", link))
+        if waits and (not self.three() or first or resumed): return ("message", self.sent()[place - 1])
+        if self.state() == "Ready" and self.quiet(): return ("ping",)
+        if self.shaken() and not any(f[0] == "close" for f in said):
+            for s in reversed(self.steps):
+                if s[0] == "closed": return ("close", s[1], s[2])
+                if s[0] == "failed": return ("close", PROTOCOL, False)
+
+    def since_write(self):
+        """The moment of the latest lent step on the present link, or of the link's beginning, and the ticks since."""
+        wrote, ticks, now = 0, [], 0
+        for s in self.steps:
+            if s[0] in ("attached", "detached", "ticked", "silenced"): now = max(now, s[-1])
+            if s[0] in ("attached", "lent"): wrote, ticks = now, []
+            if s[0] == "ticked": ticks.append(s[1])
+        return wrote, ticks
+
+    def quiet(self):
+        wrote, ticks = self.since_write()
+        return any(t >= wrote + 15000 for t in ticks)
+
+    def heard(self):
+        heard, now = None, 0
+        for s in self.steps:
+            if s[0] in ("attached", "detached", "ticked", "silenced"): now = max(now, s[-1])
+            if s[0] == "attached": heard = now
+            if s[0] == "fed": heard = None
+            if s[0] == "ticked" and heard is None: heard = now
+        return heard
+
+    # what a frame makes
+    def next_frame(self, frames):
+        """The next of the other end's frames whose bytes were all fed."""
+        link = self.link()
+        if link is None or self.closed(): return None
+        at, fed = 0, len(self.fed(link))
+        for i, (frame, size) in enumerate(frames):
+            at += size
+            if at > fed: return None
+            if i == len(self.taken(link)): return frame
+        return None
+
+    def makes(self, frame):
+        link, p = self.link(), len(self.processed())
+        if frame[0] in ("request", "response"): return ("shaken",)
+        if frame[0] == "ping": return ("ping",)
+        if frame[0] == "close": return ("closed", frame[1])
+        if frame[0] in ("ack", "sequence") and not self.kept(): return ("skipped", "not-used")
+        if frame[0] == "ack": return ("acked", frame[1]) if frame[1] <= self.most_lent() else ("fault", f"ack {frame[1]} {self.most_lent()}")
+        if frame[0] == "sequence":
+            received = frame[2] or 0
+            if frame[1] > p + 1: return ("fault", f"gap {frame[1]} {p + 1}")
+            if not self.three(): return ("sequenced", frame[1])
+            return ("resumed", frame[1], received) if received <= self.most_lent() else ("fault", f"ack {received} {self.most_lent()}")
+        n = self.number(self.taken(link))
+        if self.three() or not self.kept():
+            opened = link == self.links()[0] or self.lent(link)
+            n = p + 1 if n is not None and opened else None
+        if n is None: return ("skipped", "before-sequence")
+        return ("message", frame[1]) if n == p + 1 else ("skipped", f"duplicate {n}")
+
+
+# ---- a script
+
+def count_of(word):
+    if word == "*": return None
+    return number_of(word)
+
+
+def number_of(word):
+    if not word.isascii() or not word.isdigit() or word != str(int(word)) or int(word) >= 1 << 64: raise Refused
+    return int(word)
+
+
+class Script:
+    """What the lines ask for, and what comes of it."""
+
+    def __init__(self):
+        self.options, self.begun, self.opened, self.accepted, self.now = {}, False, 0, set(), 0
+        self.report, self.ends, self.frames = [], None, {}
+
+    def line(self, text):
+        if text == "" or text.startswith("#"): return
+        word, _, rest = text.partition(" ")
+        if word in ("codec", "version", "reconnect", "buffer"): return self.option(word, rest)
+        act = self.action(text)
+        if not self.begun: self.begin()
+        act()
+
+    def option(self, word, rest):
+        if self.begun or word in self.options: raise Refused
+        if word == "codec" and rest in ("json", "pack"): value = rest
+        elif word == "version" and rest in ("1", "2", "3"): value = int(rest)
+        elif word == "reconnect" and rest in ("on", "off"): value = rest == "on"
+        elif word == "buffer":
+            words = rest.split(" ")
+            if len(words) != 3: raise Refused
+            count, size, frame = map(number_of, words)
+            if not (256 <= frame <= 1 << 20 and 1 <= count <= 65536 and frame + 5 <= size <= 16 << 20): raise Refused
+            value = (count, size, frame)
+        else: raise Refused
+        self.options[word] = value
+
+    def begin(self):
+        self.begun = True
+        o = self.options
+        self.ends = {side: End(side, o.get("codec", "json"), o.get("version", 2), o.get("reconnect", True), o.get("buffer", (1024, 100000, 32768))) for side in "cs"}
+
+    def action(self, text):
+        words = text.split(" ")
+        match words:
+            case ["open"]:
+                if self.opened >= 1024: raise Refused
+                link, self.opened = self.opened, self.opened + 1
+                return lambda: self.attach("c", link)
+            case ["accept", k]:
+                k = number_of(k)
+                if k >= self.opened or k in self.accepted: raise Refused
+                self.accepted.add(k)
+                return lambda: self.attach("s", k) if k in self.ends["c"].links() else None
+            case ["tick", ms]:
+                ms = number_of(ms)
+                if ms < self.now: raise Refused
+                self.now = ms
+                return self.tick
+            case [("c" | "s") as side, "lose"]: return lambda: self.lose(side)
+            case [("c" | "s") as side, "close"]: return lambda: self.close(side)
+            case [("c" | "s") as side, "write", n]:
+                n = count_of(n)
+                return lambda: self.write(side, n)
+            case [("c" | "s") as side, "read", n]:
+                n = count_of(n)
+                return lambda: self.read(side, n)
+            case [("c" | "s") as side, "send", *_]:
+                try: tree = json.loads(text[7:])
+                except ValueError: raise Refused
+                if not isinstance(tree, dict) or tree.get("type") not in (1, 2, 3, 4, 5): raise Refused
+                return lambda: self.send(side, json_text(tree))
+        raise Refused
+
+    def say(self, side, words): self.report.append(f"{side} {words}")
+
+    def attach(self, side, link):
+        e = self.ends[side]
+        if e.closed(): return self.say(side, "refused Closed")
+        if e.links() and not e.kept(): return self.say(side, "refused NotGranted")
+        e.steps.append(("attached", link, self.now))
+
+    def lose(self, side):
+        e = self.ends[side]
+        if e.link() is not None: e.steps.append(("detached", self.now))
+
+    def close(self, side):
+        if not self.ends[side].closed(): self.ends[side].steps.append(("closed", None, False))
+
+    def tick(self):
+        for side in "cs":
+            e = self.ends[side]
+            heard = e.heard()
+            if e.link() is not None and not e.closed() and heard is not None and self.now >= heard + 30000:
+                e.steps.append(("silenced", self.now))
+                self.say(side, "silent")
+            else: e.steps.append(("ticked", self.now))
+
+    def send(self, side, text):
+        e = self.ends[side]
+        count, most, limit = e.limits
+        frame = ("message", text)
+        framed = lambda m: len(spell(("message", m), e.codec))
+        if e.closed(): return self.say(side, "refused Closed")
+        if not e.shaken(): return self.say(side, "refused Opening")
+        size = len(bare(frame, e.codec))
+        if size > limit: return self.say(side, f"refused TooLong {size}")
+        held = e.held()
+        if len(held) >= count or sum(map(framed, held)) + framed(text) > most:
+            return self.say(side, f"refused Full {len(held)} {sum(map(framed, held))} {framed(text)}")
+        e.steps.append(("sent", text))
+        self.say(side, f"sent {len(e.sent())}")
+
+    def write(self, side, n):
+        e = self.ends[side]
+        while n is None or n > 0:
+            frame = e.due()
+            if frame is None: return
+            self.frames.setdefault((side, e.link()), []).append((frame, len(spell(frame, e.codec))))
+            e.steps.append(("lent", frame))
+            if n is not None: n -= 1
+
+    def read(self, side, n):
+        e, link = self.ends[side], self.ends[side].link()
+        if link is None: return
+        frames = self.frames.get(("s" if side == "c" else "c", link), [])
+        there = sum(size for _, size in frames) - len(e.fed(link))
+        left = there if n is None else min(n, there)
+        while left > 0 and not e.closed():
+            # what is fed is cut as there is room; only its length counts here
+            whole, at = len(e.taken(link)), 0
+            for _, size in frames[:whole]: at += size
+            piece = min(left, e.limits[2] + 5 - (len(e.fed(link)) - at))
+            e.steps.append(("fed", b"." * piece))
+            left -= piece
+            while (frame := e.next_frame(frames)) is not None: self.take(side, frame)
+
+    def take(self, side, frame):
+        e = self.ends[side]
+        got = e.makes(frame)
+        if got[0] == "fault":
+            e.steps.append(("failed", got[1], frame))
+            return self.say(side, f"fault {got[1]}")
+        e.steps.append(("took", got, frame))
+        match got:
+            case ("message", text): self.say(side, f"got {len(e.processed())} {text}")
+            case ("sequenced", first): self.say(side, f"sequence {first}")
+            case ("closed", error): self.say(side, f"closed {'-' if error is None else json_text(error)}")
+            case (name, *rest): self.say(side, " ".join([name, *map(str, rest)]))
+
+    def text(self):
+        if not self.begun: self.begin()
+        for side, name in ("c", "client"), ("s", "server"):
+            e = self.ends[side]
+            self.report.append(f"{name} {e.state()} sent {len(e.sent())} processed {len(e.processed())} held {len(e.held())}")
+        return "".join(line + "\n" for line in self.report)
+
+
+def report_of(script):
+    """The report and the exit status."""
+    s = Script()
+    for number, line in enumerate(script.split("\n")[:-1] if script.endswith("\n") else script.split("\n") if script else [], 1):
+        try: s.line(line)
+        except Refused: return f"line {number} refused\n", 2
+    return s.text(), 0
+
+
+def random_script(draw):
+    lines = []
+    if draw.random() < .5: lines.append(f"codec {draw.choice(['json', 'pack'])}")
+    if draw.random() < .8: lines.append(f"version {draw.choice([1, 2, 3])}")
+    if draw.random() < .3: lines.append(f"reconnect {draw.choice(['on', 'off', 'on'])}")
+    if draw.random() < .4: lines.append(draw.choice(["buffer 3 400 256", "buffer 2 1000 300", "buffer 1 261 256"]))
+    if draw.random() < .9: lines += ["open", "accept 0", "c write *", "s read *", "s write *", "c read *"]
+    opened, accepted, now = lines.count("open"), {0} if "accept 0" in lines else set(), 0
+    for _ in range(draw.randrange(60)):
+        side = draw.choice("cs")
+        k = draw.randrange(20)
+        if k < 5: lines.append(f"{side} write {draw.choice(['*', '*', '1', '2'])}")
+        elif k < 10: lines.append(f"{side} read {draw.choice(['*', '*', '1', '20', '45', '300'])}")
+        elif k < 14:
+            target = draw.choice("abc") * draw.choice([1, 1, 5, 200])
+            lines.append(f"{side} send " + json_text({"arguments": [draw.choice([1, -5, "é", None, [True]])], "target": target, "type": 1}))
+        elif k < 16:
+            lines.append("open")
+            opened += 1
+        elif k < 18:
+            free = [l for l in range(opened) if l not in accepted]
+            if free:
+                accepted.add(draw.choice(free[-3:]))
+                lines.append(f"accept {max(accepted - set(int(l.split()[1]) for l in lines if l.startswith('accept')))}")
+        elif k < 19 and draw.random() < .5:
+            now += draw.choice([0, 1, 14999, 15000, 30000])
+            lines.append(f"tick {now}")
+        elif draw.random() < .3: lines.append(f"{side} {draw.choice(['lose', 'lose', 'close'])}")
+    return "".join(line + "\n" for line in lines)
+
+
+def main():
+    if sys.argv[1:2] == ["--random"]:
+        seed, n, program = int(sys.argv[2]), int(sys.argv[3]), sys.argv[4]
+        for i in range(n):
+            script = random_script(random.Random(f"{seed} {i}"))
+            want = report_of(script)
+            run = subprocess.run([program, "replay"], input=script.encode(), capture_output=True, timeout=60)
+            if (run.stdout.decode(), run.returncode) != want:
+                print(f"script {i} of seed {seed} differs:\n{script}\nwant {want[1]}\n{want[0]}\ngot {run.returncode}\n{run.stdout.decode()}")
+                sys.exit(1)
+        print(f"{n} scripts, all alike")
+        return
+    text, status = report_of(sys.stdin.read())
+    sys.stdout.write(text)
+    sys.exit(status)
+
+
+if __name__ == "__main__":
+    main()
