@@ -4,8 +4,9 @@
     acceptance/replay_model.py < SCRIPT                 the report that the definitions give
     acceptance/replay_model.py --random SEED N PROGRAM  N random scripts, each run by PROGRAM too and compared
 
-It is written from docs/delivery.md and docs/protocol.md and shares no code with the program. It reads a message of a
-script with Python's json, so it is for scripts whose messages are written in the usual way."""
+It follows the rules of docs/delivery.md and docs/protocol.md and shares no code with the program. It reads a message of a
+script with Python's json and takes any object of type 1 to 5 for one, so it is for scripts whose messages have their
+fields and are written in the usual way."""
 import json
 import random
 import subprocess
