@@ -24,7 +24,7 @@ pub use one_peer::{
     what_is_answered, what_is_excluded, what_is_refused, what_may_not_come,
 };
 pub use vocabulary::{
-    Act, Call, CallKind, Deed, Input, MOST_INPUTS, MOST_LIVE, MOST_NUMBERS, MOST_UPLOADS,
+    Act, Call, CallKind, Deed, Input, MOST_INPUTS, MOST_LIVE, MOST_NUMBERS, MOST_UPLOADS, UnknownId,
 };
 pub use worlds::{closed_with_calls, lost_link, three_calls, too_many_calls, too_many_jobs};
 

@@ -16,6 +16,10 @@ pub const MOST_INPUTS: u64 = 4096;
 /// The greatest number that a peer draws for its calls and uploads.
 pub const MOST_NUMBERS: u64 = 1 << 62;
 
+/// No call, job or stream that is live has this id or number.
+#[derive(Clone, Copy, Debug, PartialEq, Eq)]
+pub struct UnknownId;
+
 /// How something is called.
 #[derive(Clone, Copy, Debug, PartialEq, Eq)]
 pub enum CallKind {
