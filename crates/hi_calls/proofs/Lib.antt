@@ -1,0 +1,11 @@
+pub mod Counts
+pub mod Happenings
+pub mod Beginning
+pub mod Ending
+pub mod Steady
+pub mod Owned
+pub mod Drawing
+pub mod Least
+pub mod Looking
+pub mod Begun
+pub mod Legal
