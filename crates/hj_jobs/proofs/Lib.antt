@@ -1,0 +1,15 @@
+pub mod Rising
+pub mod Counting
+pub mod Claiming
+pub mod Basics
+pub mod OneJob
+pub mod Entering
+pub mod Pasts
+pub mod Agree
+pub mod Table
+pub mod Rounds
+pub mod Beginning
+pub mod Told
+pub mod Halves
+pub mod Accepting
+pub mod Legal

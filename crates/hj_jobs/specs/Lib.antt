@@ -1,0 +1,10 @@
+pub mod Meaning
+pub mod Names
+pub mod Due
+pub mod Entries
+pub mod Live
+pub mod Stands
+pub mod Parts
+pub mod Calls
+pub mod Legal
+pub mod Laws

@@ -1,0 +1,97 @@
+-- The live jobs: what is kept of each, by number.
+use Rattle.std.specs.Prelude.{◌≡◌, ◌<◌, ◌+◌, ℕ, Bool, true, false, not, ◌==◌, nat_eq, List, ◌++◌, length, Option, Some, None}
+use Rattle.indexmap.specs.IndexMap.{get, index_map_len, spare}
+use Rattle.hd_calls.specs.declared.vocabulary.Input.{Input}
+use Rattle.hd_calls.specs.Hubs.{Hub}
+use Rattle.hj_jobs.specs.declared.entry.Entry.{Entry}
+use Rattle.hj_jobs.specs.declared.live.Live.{Live}
+use Rattle.hj_jobs.specs.declared.live.Stepped.{Stepped}
+use Rattle.hj_jobs.specs.Entries.{is_due_entry, is_open_for, AttemptsOrNot}
+
+abbrev pub entry_at : {J : Type 0} → Live J → ℕ → Option (Entry J)
+entry_at live n = get nat_eq live.entries n
+
+abbrev pub live_count : {J : Type 0} → Live J → ℕ
+live_count live = index_map_len live.entries
+
+-- one more job fits without more memory
+abbrev pub HasRoom : {J : Type 0} → Live J → Type 0
+HasRoom live = 0 < spare live.entries
+
+-- whether it has a turn to come
+abbrev pub is_due_at : {J : Type 0} → Option (Entry J) → Bool
+is_due_at None = false
+is_due_at (Some e) = is_due_entry e
+
+-- how many inputs wait there
+abbrev pub waits_at : {J : Type 0} → Option (Entry J) → ℕ
+waits_at None = 0
+waits_at (Some e) = length e.inputs.items
+
+-- whether the input is awaited there
+abbrev pub awaits_at : {J : Type 0} → Option (Entry J) → Input → Bool
+awaits_at None i = false
+awaits_at (Some e) i = is_open_for e i
+
+-- whether it may be marked
+abbrev pub is_unmarked_at : {J : Type 0} → Option (Entry J) → Bool
+is_unmarked_at None = false
+is_unmarked_at (Some e) = not e.marked
+
+-- the same is kept of each
+pub record Retains {J : Type 0} (old new : Live J) : Type 0 where
+  pub at : (n : ℕ) → entry_at new n ≡ entry_at old n
+  pub count : live_count new ≡ live_count old
+
+-- one more is live
+pub record Gains {J : Type 0} (old new : Live J) (n : ℕ) (e : Entry J) : Type 0 where
+  pub here : entry_at new n ≡ Some e
+  pub others : (k : ℕ) → (n == k) ≡ false → entry_at new k ≡ entry_at old k
+  pub count : live_count new ≡ live_count old + 1
+
+-- one isn't live any more, if it was
+pub record Loses {J : Type 0} (old new : Live J) (n : ℕ) : Type 0 where
+  pub here : entry_at new n ≡ None
+  pub others : (k : ℕ) → (n == k) ≡ false → entry_at new k ≡ entry_at old k
+  pub count : (e : Entry J) → entry_at old n ≡ Some e → live_count new + 1 ≡ live_count old
+  pub none : entry_at old n ≡ None → live_count new ≡ live_count old
+
+-- an entry is changed in this way, if there is one
+abbrev pub AltersEntry : {J : Type 0} → Option (Entry J) → Option (Entry J) → (Entry J → Entry J → Type 0) → Type 0
+AltersEntry None new Changed = new ≡ None
+AltersEntry (Some e) None Changed = ⊥
+AltersEntry (Some e) (Some f) Changed = Changed e f
+
+-- that of the number is changed in this way, if there is one, and no other
+pub record Alters {J : Type 0} (old new : Live J) (n : ℕ) (Changed : Entry J → Entry J → Type 0) : Type 0 where
+  pub here : AltersEntry (entry_at old n) (entry_at new n) Changed
+  pub others : (k : ℕ) → (n == k) ≡ false → entry_at new k ≡ entry_at old k
+  pub count : live_count new ≡ live_count old
+
+abbrev pub IsMarked : {J : Type 0} → Entry J → Entry J → Type 0
+IsMarked e f = f ≡ record e { marked = true }
+
+abbrev pub IsAnswered : {J : Type 0} → Input → Entry J → Entry J → Type 0
+IsAnswered i e f = f ≡ record e { reply = Some i }
+
+-- these inputs came, and nothing else changed
+pub record IsFed {J : Type 0} (is : List Input) (e f : Entry J) : Type 0 where
+  pub inputs : f.inputs.items ≡ e.inputs.items ++ is
+  pub id : f.id ≡ e.id
+  pub kind : f.kind ≡ e.kind
+  pub streams : f.streams ≡ e.streams
+  pub job : f.job ≡ e.job
+  pub awaits : f.awaits ≡ e.awaits
+  pub reply : f.reply ≡ e.reply
+  pub marked : f.marked ≡ e.marked
+
+-- the hub's part of the job's turn: of what is kept only the job itself changed. The act of a cancelled one is its end
+pub record HasAttempted {J : Type 0} (hub : Hub J) (now : ℕ) (s : Stepped) (e f : Entry J) : Type 0 where
+  pub id : s.id ≡ e.id
+  pub kind : s.kind ≡ e.kind
+  pub attempts : AttemptsOrNot hub e f now (Some s.act)
+
+-- so it is of the number, if it had a turn to come
+abbrev pub AttemptsAt : {J : Type 0} → Hub J → Live J → Live J → ℕ → ℕ → Option Stepped → Type 0
+AttemptsAt hub old new n now None = (is_due_at (entry_at old n) ≡ false) × Retains old new
+AttemptsAt hub old new n now (Some s) = (s.job ≡ n) × (is_due_at (entry_at old n) ≡ true) × Alters old new n (HasAttempted hub now s)
