@@ -1,0 +1,87 @@
+//! One list of distinct pairs of a name and a connection, indexed both ways.
+ghost use Rattle.hg_groups.specs.Maps.{Agree};
+
+use crate::members::Members;
+use crate::names::Names;
+use hv_value::Text;
+use std::alloc::{AllocError, Global};
+
+/// Names and the connections under them. Both sides have the same pairs.
+#[derive(Drop)]
+pub struct Index {
+    members: Members,
+    names: Names,
+    ghost agree: { Agree names.by_conn members.by_name },
+}
+
+impl Index {
+    ghost use Rattle.std.specs.Prelude.{◌≡◌, ℕ, List, [], not, IfOk, OnOk, OnErr};
+    ghost use Rattle.hd_server.specs.Registry.{Pair, has, members, with_pair, without_pair, without};
+    ghost use Rattle.hg_groups.specs.Standing.{StandsIndex};
+
+    /// No pairs.
+    pub(crate) fn new(alloc: Global) -> Index
+        ensures { StandsIndex result [] }
+    {
+        Index {
+            members: Members::new(alloc),
+            names: Names::new(alloc),
+        }
+    }
+
+    /// The connections of a name, in order of joining, each once.
+    pub(crate) fn of(&self, name: &Text) -> &[u64]
+        ensures { (pairs : List Pair) → StandsIndex self.now pairs → result.now ≡ members name.now pairs }
+    {
+        self.members.of(name)
+    }
+
+    /// Adds the pair, last. Whether it is new: a pair that is there stays where it is. Out of memory nothing has changed.
+    pub(crate) fn add(&mut self, alloc: Global, name: &Text, conn: u64) -> Result<bool, AllocError>
+        ensures answer { IfOk result
+            (λ new. (pairs : List Pair) → StandsIndex self.old pairs → new ≡ not (has (name.now, conn) pairs)) }
+        ensures added { OnOk result
+            ((pairs : List Pair) → StandsIndex self.old pairs → StandsIndex self.new (with_pair (name.now, conn) pairs)) }
+        ensures kept { OnErr result ((pairs : List Pair) → StandsIndex self.old pairs → StandsIndex self.new pairs) }
+    {
+        hd_server::members_follow();
+        hd_server::pairs_stay_distinct();
+        if self.names.has(conn, name) {
+            return Ok(false);
+        }
+        self.names.enter(alloc, conn, name)?;
+        if let Err(error) = self.members.join(alloc, name, conn) {
+            self.names.exit(conn, name);
+            return Err(error);
+        }
+        Ok(true)
+    }
+
+    /// Takes the pair out. Whether it was there.
+    pub(crate) fn remove(&mut self, name: &Text, conn: u64) -> bool
+        ensures answer { (pairs : List Pair) → StandsIndex self.old pairs → result ≡ has (name.now, conn) pairs }
+        ensures removed { (pairs : List Pair) → StandsIndex self.old pairs
+            → StandsIndex self.new (without_pair (name.now, conn) pairs) }
+    {
+        hd_server::members_follow();
+        hd_server::pairs_stay_distinct();
+        if !self.names.has(conn, name) {
+            return false;
+        }
+        self.names.exit(conn, name);
+        self.members.leave(name, conn);
+        true
+    }
+
+    /// Takes all pairs of the connection out.
+    pub(crate) fn gone(&mut self, conn: u64)
+        ensures { (pairs : List Pair) → StandsIndex self.old pairs → StandsIndex self.new (without conn pairs) }
+    {
+        hd_server::members_follow();
+        hd_server::pairs_stay_distinct();
+        let Some(names) = self.names.forget(conn) else {
+            return;
+        };
+        self.members.leave_all(names, conn);
+    }
+}
