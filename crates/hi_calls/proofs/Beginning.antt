@@ -67,7 +67,7 @@ new_zero c h e z bare = record {
   silent = λ l. absurd (omega arith);
 }
 
-new_live-parts : (c : Invoked) → new_live c ≡ one_if (has_id (Some c)) + length c.streams
+pub new_live-parts : (c : Invoked) → new_live c ≡ one_if (has_id (Some c)) + length c.streams
 new_live-parts c = go (is_some (id_of c.way))
   where
     go : (b : Bool) → (if b then suc (length c.streams) else length c.streams) ≡ one_if b + length c.streams

@@ -9,3 +9,4 @@ pub mod Least
 pub mod Looking
 pub mod Begun
 pub mod Legal
+pub mod Notices

@@ -1,4 +1,3 @@
--- INTEGRATOR: read ../NOTE-FROM-INTEGRATOR.md, then delete this line.
 -- What each call of a table makes of the happenings that it stands for. OfEach says: for every prefix and happenings for which the table stood.
 use Rattle.std.specs.Prelude.{◌≡◌, ◌<◌, ◌≤◌, ℕ, suc, ◌+◌, Bool, true, false, List, [], ◌∷◌, Option, Some, None}
 use Rattle.hv_value.specs.declared.value.Value.{Value}
@@ -52,6 +51,11 @@ Undoes old new = (before : Calls) (prefix : List ℕ) (h : List CallHappening) (
     → Begins old prefix h (next_call prefix h kind target arguments uploads) (next_number kind uploads h) n m → Stands new prefix h
 
 -- ---- what comes for a call
+
+-- the call of this number has the id, and is live
+pub record IsLiveAs (prefix : List ℕ) (h : List CallHappening) (id : List ℕ) (n : ℕ) : Type 0 where
+  pub is : id_with prefix n ≡ id
+  pub live : live_call_in n h ≡ true
 
 -- the call of the id, which is live, has ended
 pub record Settles (new : Calls) (prefix : List ℕ) (h : List CallHappening) (id : List ℕ) (n : ℕ) : Type 0 where

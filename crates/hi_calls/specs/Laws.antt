@@ -2,8 +2,9 @@
 use Rattle.hi_calls.specs.Stands.{Stands}
 use Rattle.hi_calls.specs.Legal.{AreLegal}
 use Rattle.hi_calls.specs.declared.calls.Calls.{Calls}
-use Rattle.hd_calls.specs.Ledgers.{CallHappening}
-use Rattle.std.specs.Prelude.{◌≡◌, ℕ, List, length}
+use Rattle.hd_calls.specs.Hubs.{Invoked, Notify}
+use Rattle.hd_calls.specs.Ledgers.{CallHappening, Called}
+use Rattle.std.specs.Prelude.{◌≡◌, ℕ, List, [], ◌∷◌, length}
 use Rattle.hv_value.specs.Tree.{Tree}
 use Rattle.hd_delivery.specs.declared.vocabulary.Side.{Side}
 use Rattle.hd_calls.specs.declared.vocabulary.CallKind.{CallKind}
@@ -26,3 +27,8 @@ IdsAreOfASide = (side : Side) (n : ℕ) → id_at side n ≡ id_with (prefix_of 
 -- whatever a table stands for: its calls' ledgers are legal, and so is what was uploaded on each stream
 abbrev pub LedgersAreLegal : Type 0
 LedgersAreLegal = (table : Calls) (prefix : List ℕ) (h : List CallHappening) → Stands table prefix h → AreLegal h
+
+-- a Notify without uploads that was made elsewhere changes nothing in a table: it draws no number, and isn't live
+abbrev pub NoticesPass : Type 0
+NoticesPass = (table : Calls) (prefix : List ℕ) (h : List CallHappening) (c : Invoked) → Stands table prefix h → c.way ≡ Notify → c.streams ≡ []
+    → Stands table prefix (Called 0 c ∷ h)

@@ -3,13 +3,14 @@
 ghost use Rattle.std.specs.Prelude.{◌≡◌, ◌≤◌, ◌<◌, ◌+◌, ◌&&◌, ◌==◌, ℕ, suc, List, [], ◌∷◌, true, false, None, Some, nat_eq, IfOk, IfErr, OnOk, OnErr, OnSome, if◌then◌else◌};
 ghost use Rattle.std.specs.HashMap.{get, hash_map_len, keys, spare};
 ghost use Rattle.hv_value.specs.Tree.{Tree};
+ghost use Rattle.hm_message.specs.Message.{is_sequenced};
 ghost use Rattle.hd_calls.specs.Numbers.{most_live, most_numbers, most_uploads};
 ghost use Rattle.hd_calls.specs.Hubs.{End, Item, message_of};
 ghost use Rattle.hd_calls.specs.Tables.{live_call_in, live_upload_in, own_live_in};
 ghost use Rattle.hi_calls.specs.Maps.{is_answered, least_with, one_if, takes_items, Enters, HoldsTheSame, Removes};
 ghost use Rattle.hi_calls.specs.Numbering.{call_numbered, id_with, next_call, next_number, HasPlaceIn};
 ghost use Rattle.hi_calls.specs.Stands.{Stands};
-ghost use Rattle.hi_calls.specs.Calls.{Begins, Cancels, IsNoStream, IsRefusedIn, IsUnknown, IsUnmade, Itemizes, Loses, OfEach, Settles, Stays, TakesItem, Undoes, upload_ending, UploadEnds, Uploads};
+ghost use Rattle.hi_calls.specs.Calls.{Begins, Cancels, IsLiveAs, IsNoStream, IsRefusedIn, IsUnknown, IsUnmade, Itemizes, Loses, OfEach, Settles, Stays, TakesItem, Undoes, upload_ending, UploadEnds, Uploads};
 
 use crate::errors::CallError;
 use crate::ids::Ids;
@@ -76,6 +77,7 @@ impl Calls {
         requires few { uploads ≤ most_uploads }
         ensures ok { IfOk result (λ made. OfEach self.old (λ prefix h.
             Begins self.new prefix h (next_call prefix h kind target arguments uploads) (next_number kind uploads h) made.0 made.1)) }
+        ensures sequenced { IfOk result (λ made. is_sequenced made.1 ≡ true) }
         ensures refused { IfErr result (λ e. OfEach self.old (λ prefix h.
             IsRefusedIn (next_call prefix h kind target arguments uploads) h e)) }
         ensures kept { OnErr result (Stays self.old self.new) }
@@ -107,11 +109,10 @@ impl Calls {
 
     // ---- what comes
 
-    /// A call's ending came: the call of the id isn't live any more, nor are its uploads.
-    pub fn settle(&mut self, id: &Text) -> Result<u64, UnknownId>
-        ensures ok { IfOk result (λ n. OfEach self.old (λ prefix h. Settles self.new prefix h id.now n)) }
-        ensures unknown { OnErr result (OfEach self.old (λ prefix h. IsUnknown prefix h id.now)) }
-        ensures kept { OnErr result (self.new ≡ self.old) }
+    /// The live call of the id.
+    pub fn find(&self, id: &Text) -> Result<u64, UnknownId>
+        ensures ok { IfOk result (λ n. OfEach self.now (λ prefix h. IsLiveAs prefix h id.now n)) }
+        ensures unknown { OnErr result (OfEach self.now (λ prefix h. IsUnknown prefix h id.now)) }
     {
         let Some(number) = self.ids.number(id) else {
             return Err(UnknownId);
@@ -119,6 +120,18 @@ impl Calls {
         if !self.calls.contains_key(&number) {
             return Err(UnknownId);
         }
+        Ok(number)
+    }
+
+    /// A call's ending came: the call of the id isn't live any more, nor are its uploads.
+    pub fn settle(&mut self, id: &Text) -> Result<u64, UnknownId>
+        ensures ok { IfOk result (λ n. OfEach self.old (λ prefix h. Settles self.new prefix h id.now n)) }
+        ensures unknown { OnErr result (OfEach self.old (λ prefix h. IsUnknown prefix h id.now)) }
+        ensures kept { OnErr result (self.new ≡ self.old) }
+    {
+        let Ok(number) = self.find(id) else {
+            return Err(UnknownId);
+        };
         self.remove(number);
         Ok(number)
     }
@@ -142,6 +155,7 @@ impl Calls {
     /// The message that cancels a live call. The call is live until its ending comes.
     pub fn cancel(&self, alloc: Global, call: u64) -> Result<Message, CallError>
         ensures ok { IfOk result (λ m. OfEach self.now (λ prefix h. Cancels self.now prefix h call m)) }
+        ensures sequenced { IfOk result (λ m. is_sequenced m ≡ true) }
         ensures refused { IfErr result (λ e. OfEach self.now (λ prefix h. IsUnmade (live_call_in call h) e)) }
     {
         if !self.calls.contains_key(&call) {
@@ -164,6 +178,7 @@ impl Calls {
     ) -> Result<Message, CallError>
         ensures ok { IfOk result (λ m. OfEach self.now (λ prefix h. Uploads prefix h call which (Item value) m)) }
         ensures stands { OnOk result (OfEach self.now (λ prefix h. TakesItem self.now prefix h call which)) }
+        ensures sequenced { IfOk result (λ m. is_sequenced m ≡ true) }
         ensures refused { IfErr result (λ e. OfEach self.now (λ prefix h. IsUnmade (live_upload_in call which h) e)) }
     {
         let id = self.upload_id(alloc, call, which)?;
@@ -183,6 +198,7 @@ impl Calls {
         error: Option<Text>,
     ) -> Result<Message, CallError>
         ensures ok { IfOk result (λ m. OfEach self.now (λ prefix h. Uploads prefix h call which (End (upload_ending error)) m)) }
+        ensures sequenced { IfOk result (λ m. is_sequenced m ≡ true) }
         ensures refused { IfErr result (λ e. OfEach self.now (λ prefix h. IsUnmade (live_upload_in call which h) e)) }
     {
         let id = self.upload_id(alloc, call, which)?;
@@ -253,7 +269,8 @@ impl Calls {
         uploads: u32,
     ) -> Result<Message, AllocError>
         requires within { number + uploads ≤ most_numbers }
-        ensures { IfOk result (λ m. m ≡ message_of (call_numbered self.now.ids.prefix number kind target arguments uploads)) }
+        ensures says { IfOk result (λ m. m ≡ message_of (call_numbered self.now.ids.prefix number kind target arguments uploads)) }
+        ensures sequenced { IfOk result (λ m. is_sequenced m ≡ true) }
     {
         let streams = self.ids.after(alloc, number, uploads)?;
         let headers = Headers::none(alloc);

@@ -28,4 +28,4 @@ mod owners;
 
 pub use calls::Calls;
 pub use errors::CallError;
-pub use laws::{calls_are_made, ids_are_of_a_side, ledgers_are_legal};
+pub use laws::{calls_are_made, ids_are_of_a_side, ledgers_are_legal, notices_pass};

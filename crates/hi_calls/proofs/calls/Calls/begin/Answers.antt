@@ -11,4 +11,4 @@ pub returns-clause-ok : goal.returns-clause-ok
 returns-clause-ok c = λ prefix h s.
     begins c.args.self.now c.make_room.new.self c.enter.new.self prefix h c.args.kind c.args.target c.args.arguments c.args.uploads c.in_ok-number.number c.in_ok-message.message
     s c.requires.few (c.in_ok-number.ensures.ok prefix h s) c.in_ok-number.ensures.within (c.in_ok-number.ensures.place prefix h s c.args.target c.args.arguments)
-    c.in_ok-message.ensures c.in_ok-make_room.ensures.same c.enter.ensures
+    c.in_ok-message.ensures.says c.in_ok-make_room.ensures.same c.enter.ensures
