@@ -217,26 +217,6 @@ fn the_handshake_of_two_ends(rt: HostRuntime) -> Result<(), Fail> {
     Ok(())
 }
 
-/// A client that has said two messages, of which the server has read and acknowledged the first, and 19 bytes of the second.
-fn half_read(rt: &impl Abort, alloc: Global) -> Result<(End, End), Fail> {
-    let (mut client, mut server) = meet(rt, alloc, 2, true, ample()?)?;
-    assert_eq!(rt; send(rt, alloc, &mut client, A)?, Ok(1));
-    assert_eq!(rt; send(rt, alloc, &mut client, B)?, Ok(2));
-    let mut said = Vec::new(alloc);
-    for _ in 0..2u32 {
-        said.extend_from_slice(client.next_out().ok_or("a message")?)?;
-    }
-    assert_eq!(rt; client.next_out(), None);
-    assert_eq!(rt; said.len(), 78);
-    said.truncate(58);
-    assert_eq!(rt; hear(rt, alloc, &mut server, &said)?.as_str(), "got a");
-    assert_eq!(rt;
-        carry(rt, alloc, &mut server, &mut client)?.as_str(),
-        "acked 1"
-    );
-    Ok((client, server))
-}
-
 /// An end of its codec says a message that was spelled as it says one that is sent.
 fn says_alike(
     rt: &impl Abort,
@@ -308,90 +288,6 @@ fn a_message_is_spelled_once_for_two_ends(rt: HostRuntime) -> Result<(), Fail> {
     let mut ends = meet(&rt, alloc, 2, true, ample()?)?;
     let message = read(&rt, alloc, A)?;
     share_first::<Brand>(&rt, alloc, &mut ends, &message, Blank::new(1))?;
-    Ok(())
-}
-
-/// The link is lost in the midst of the second message.
-#[test]
-fn a_later_link_goes_on_after_what_was_acknowledged(rt: HostRuntime) -> Result<(), Fail> {
-    let alloc = rt.alloc();
-    let (mut client, mut server) = half_read(&rt, alloc)?;
-    client.detach(1);
-    server.detach(1);
-    assert_eq!(rt;
-        (client.state(), server.state()),
-        (State::Away, State::Away)
-    );
-    assert_eq!(rt; client.next_out(), None);
-    client.attach(2)?;
-    server.attach(2)?;
-    let sequence = b"{\"sequenceId\":2,\"type\":9}\x1e".as_slice();
-    assert_eq!(rt; client.next_out(), Some(sequence));
-    assert_eq!(rt;
-        hear(&rt, alloc, &mut server, sequence)?.as_str(),
-        "sequence 2"
-    );
-    assert_eq!(rt;
-        carry(&rt, alloc, &mut client, &mut server)?.as_str(),
-        "got b"
-    );
-    assert_eq!(rt;
-        stands(alloc, &client)?.as_str(),
-        "Ready sent 2 processed 0 held 1"
-    );
-    assert_eq!(rt;
-        stands(alloc, &server)?.as_str(),
-        "Ready sent 0 processed 2 held 0"
-    );
-    assert_eq!(rt;
-        carry(&rt, alloc, &mut server, &mut client)?.as_str(),
-        "sequence 1, acked 2"
-    );
-    assert_eq!(rt; (client.held_count(), client.held_bytes()), (0, 0));
-    Ok(())
-}
-
-/// Two messages were read and not acknowledged when a later link begins. The older one is left without a word.
-#[test]
-fn what_is_said_again_is_passed_over(rt: HostRuntime) -> Result<(), Fail> {
-    let alloc = rt.alloc();
-    let again = "sequence 1, skipped Duplicate(1), skipped Duplicate(2)";
-    let cases: [(u8, &str, &str); 2] = [
-        (2, again, "sequence 1, acked 2"),
-        (3, "resumed 1 0", "resumed 1 2"),
-    ];
-    for (version, to_server, to_client) in &cases {
-        let (mut client, mut server) = meet(&rt, alloc, *version, true, ample()?)?;
-        assert_eq!(rt; send(&rt, alloc, &mut client, A)?, Ok(1));
-        assert_eq!(rt; send(&rt, alloc, &mut client, B)?, Ok(2));
-        assert_eq!(rt;
-            carry(&rt, alloc, &mut client, &mut server)?.as_str(),
-            "got a, got b"
-        );
-        client.attach(0)?;
-        server.attach(0)?;
-        assert_eq!(rt;
-            carry(&rt, alloc, &mut client, &mut server)?.as_str(),
-            *to_server
-        );
-        assert_eq!(rt;
-            stands(alloc, &client)?.as_str(),
-            "Ready sent 2 processed 0 held 2"
-        );
-        assert_eq!(rt;
-            carry(&rt, alloc, &mut server, &mut client)?.as_str(),
-            *to_client
-        );
-        assert_eq!(rt; carry(&rt, alloc, &mut client, &mut server)?.as_str(), "");
-        assert_eq!(rt;
-            stands(alloc, &client)?.as_str(),
-            "Ready sent 2 processed 0 held 0"
-        );
-        assert_eq!(rt;
-            stands(alloc, &server)?.as_str(),
-            "Ready sent 0 processed 2 held 0"
-        );
-    }
     Ok(())
 }
 
@@ -549,35 +445,6 @@ fn an_ack_reaches_as_far_as_was_said(rt: HostRuntime) -> Result<(), Fail> {
         assert_eq!(rt; server.next_out(), *due);
         assert_eq!(rt; server.next_out(), None);
     }
-    Ok(())
-}
-
-/// Three messages and 400 framed bytes are held at most.
-#[test]
-fn what_is_held_is_limited(rt: HostRuntime) -> Result<(), Fail> {
-    let alloc = rt.alloc();
-    let limits = Limits::of(256, 3, 400).ok_or("no limits")?;
-    let (mut client, mut server) = meet(&rt, alloc, 2, true, limits)?;
-    let full = Err(SendError::Full {
-        held: 3,
-        bytes: 117,
-        size: 39,
-    });
-    assert_eq!(rt; client.limits(), limits);
-    for number in 1..=3u64 {
-        assert_eq!(rt; send(&rt, alloc, &mut client, A)?, Ok(number));
-    }
-    assert_eq!(rt; send(&rt, alloc, &mut client, A)?, full);
-    assert_eq!(rt; client.held_bytes(), 117);
-    assert_eq!(rt; client.room(1), false);
-    let said = Vec::from_slice(alloc, client.next_out().ok_or("a message")?)?;
-    assert_eq!(rt; hear(&rt, alloc, &mut server, &said)?.as_str(), "got a");
-    assert_eq!(rt;
-        carry(&rt, alloc, &mut server, &mut client)?.as_str(),
-        "acked 1"
-    );
-    assert_eq!(rt; send(&rt, alloc, &mut client, B)?, Ok(4));
-    assert_eq!(rt; send(&rt, alloc, &mut client, B)?, full);
     Ok(())
 }
 
