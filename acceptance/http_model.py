@@ -1,0 +1,470 @@
+#!/usr/bin/env python3
+"""A plain model of the lanes of HTTP: what `crates/ht_http` is to print of a script.
+
+    acceptance/http_model.py --check   that the committed output is what the model says of the committed script
+    acceptance/http_model.py --write   writes both: the cases below, and what the model says of them
+    acceptance/http_model.py           prints what the model says of a script on its standard input
+
+It follows docs/http.md and shares no code with the program: heads are found by regular expressions, each time anew, and the phrases,
+the digests and the decoding of queries are those of Python's http, hashlib, base64 and urllib."""
+import base64
+import hashlib
+import http
+import pathlib
+import re
+import sys
+import urllib.parse
+
+CRATE = pathlib.Path(__file__).resolve().parent.parent / "crates" / "ht_http"
+MOST_HEAD, MOST_BODY, MOST_HEADERS = 16_384, 1_048_576, 100
+GUID = b"258EAFA5-E914-47DA-95CA-C5AB0DC85B11"
+
+TOKEN = rb"[!#$%&'*+\-.^_`|~0-9A-Za-z]"
+TARGET = rb"[^\x00-\x20\x7f]"
+VALUE = rb"[\t\x20-\x7e\x80-\xff]"
+END = rb"\r?\n"
+FIELD = TOKEN + rb"+:" + VALUE + rb"*" + END
+CUT_FIELD = rb"(?:\r|" + TOKEN + rb"+|" + TOKEN + rb"+:" + VALUE + rb"*\r?)?"
+
+
+def cuts(text):
+    """The beginnings of a text, as an expression."""
+    return rb"(?:" + b"|".join(re.escape(text[:n]) for n in range(len(text), 0, -1)) + rb")?"
+
+
+START = TOKEN + rb"+ " + TARGET + rb"+ HTTP/1\.[01]"
+REQUEST = re.compile(
+    rb"(?:" + END + rb")*(" + TOKEN + rb"+) (" + TARGET + rb"+) HTTP/1\.([01])" + END + rb"((?:" + FIELD + rb")*)" + END)
+CUT_REQUEST = re.compile(
+    rb"(?:" + END + rb")*(?:\r|" + TOKEN + rb"+|" + TOKEN + rb"+ " + TARGET + rb"*|" + TOKEN + rb"+ " + TARGET + rb"+ " + cuts(b"HTTP/1.")
+    + rb"|" + START + rb"\r?|" + START + END + rb"(?:" + FIELD + rb")*" + CUT_FIELD + rb")?\Z")
+STATUS = rb"HTTP/1\.[01] [0-9]{3}(?: " + VALUE + rb"*)?"
+RESPONSE = re.compile(
+    rb"(?:" + END + rb")*HTTP/1\.([01]) ([0-9]{3})(?: " + VALUE + rb"*)?" + END + rb"((?:" + FIELD + rb")*)" + END)
+CUT_RESPONSE = re.compile(
+    rb"(?:" + END + rb")*(?:\r|" + cuts(b"HTTP/1.") + rb"|HTTP/1\.[01](?: [0-9]{0,3})?|" + STATUS + rb"\r?|" + STATUS + END
+    + rb"(?:" + FIELD + rb")*" + CUT_FIELD + rb")?\Z")
+
+
+class Refused(Exception):
+    pass
+
+
+# ---- what fields say
+
+def fields_of(text):
+    lines = re.split(END, text)[:-1]
+    return [(name.lower(), value.strip(b" \t")) for name, value in (line.split(b":", 1) for line in lines)]
+
+
+def first(fields, name):
+    return next((value for key, value in fields if key == name), None)
+
+
+def elements(fields, name):
+    return [e.strip(b" \t").lower() for key, value in fields if key == name for e in value.split(b",")]
+
+
+def length_of(fields):
+    """The length of the body, or None if the lengths are no one number."""
+    values = [value for key, value in fields if key == b"content-length"]
+    if not all(re.fullmatch(rb"[0-9]+", value) for value in values):
+        return None
+    numbers = {int(value) for value in values}
+    return None if len(numbers) > 1 else (numbers or {0}).pop()
+
+
+def check_body(fields, length):
+    if first(fields, b"transfer-encoding") is not None:
+        raise Refused(411)
+    if length > MOST_BODY:
+        raise Refused(413)
+
+
+def accept_of(key):
+    return base64.b64encode(hashlib.sha1(key + GUID).digest())
+
+
+def upgrade_of(method, fields):
+    if method != b"GET" or b"websocket" not in elements(fields, b"upgrade"):
+        return None
+    key = first(fields, b"sec-websocket-key")
+    try:
+        nonce = base64.b64decode(key or b"", validate=True)
+    except ValueError:
+        raise Refused(400) from None
+    if first(fields, b"sec-websocket-version") != b"13" or len(nonce) != 16 or base64.b64encode(nonce) != key:
+        raise Refused(400)
+    return accept_of(key)
+
+
+def decoded(text):
+    return urllib.parse.unquote_to_bytes(text.replace(b"+", b" "))
+
+
+def query_value(query, name):
+    for pair in query.split(b"&"):
+        key, _, value = pair.partition(b"=")
+        if pair and decoded(key) == name:
+            return decoded(value)
+    return None
+
+
+def bearer_of(fields, query):
+    value = first(fields, b"authorization")
+    if value is not None and value[:7].lower() == b"bearer ":
+        return value[7:]
+    return query_value(query, b"access_token")
+
+
+# ---- lanes
+
+class Lane:
+    def __init__(self, whole, cut, read):
+        self.whole, self.cut, self.read = whole, cut, read
+        self.held, self.want, self.spent, self.ended = b"", 0, None, False
+
+    def feed(self, piece):
+        room = 0 if self.spent else max(MOST_HEAD, self.want) - len(self.held)
+        count = min(len(piece), room)
+        self.held += piece[:count]
+        return count
+
+    def next(self):
+        if self.spent:
+            return f"refused {self.spent}"
+        if self.ended:
+            return None
+        try:
+            return self.find()
+        except Refused as refused:
+            self.spent = refused.args[0]
+            return f"refused {self.spent}"
+
+    def find(self):
+        head = self.whole.match(self.held)
+        lines = len(re.findall(FIELD, self.held[: head.end()] if head else self.held))
+        if head is None and self.cut.match(self.held) is None:
+            raise Refused(400)
+        if lines > MOST_HEADERS or (head is None and len(self.held) >= MOST_HEAD):
+            raise Refused(431)
+        if head is None:
+            return None
+        length, ended, line = self.read(head)
+        self.want = head.end() + length
+        if len(self.held) < self.want:
+            return None
+        body = self.held[head.end() : self.want]
+        self.held, self.want, self.ended = self.held[self.want :], 0, ended
+        return line + f"{len(body)} [{shown(body[:64])}]"
+
+
+def read_request(head):
+    method, target, minor, text = head.groups()
+    try:
+        target.decode("utf-8")
+    except UnicodeDecodeError:
+        raise Refused(400) from None
+    fields = fields_of(text)
+    length = length_of(fields)
+    if length is None:
+        raise Refused(400)
+    upgrade = upgrade_of(method, fields)
+    check_body(fields, length)
+    path, _, query = target.partition(b"?")
+    word = {b"GET": "Get", b"POST": "Post", b"DELETE": "Delete"}.get(method, "Other")
+    shut = "shut" if minor == b"0" or b"close" in elements(fields, b"connection") else "open"
+    bearer = dash(bearer_of(fields, query))
+    return length, upgrade is not None, f"request {word} [{shown(path)}] [{shown(query)}] {bearer} {dash(upgrade)} {shut} "
+
+
+def read_response(head):
+    _, digits, text = head.groups()
+    fields = fields_of(text)
+    length = length_of(fields)
+    if length is None:
+        raise Refused(400)
+    check_body(fields, length)
+    status = int(digits)
+    return length, status == 101, f"response {status} {dash(first(fields, b'sec-websocket-accept'))} "
+
+
+# ---- what is written
+
+def reply_of(status, kind, bytes_):
+    phrase = "Payload Too Large" if status == 413 else http.HTTPStatus(status).phrase
+    text = f"HTTP/1.1 {status} {phrase}\r\n".encode()
+    if status == 101:
+        return text + b"Upgrade: websocket\r\nConnection: Upgrade\r\nSec-WebSocket-Accept: " + bytes_ + b"\r\n\r\n"
+    if status == 204:
+        return text + b"\r\n"
+    text += f"Content-Length: {len(bytes_)}\r\n".encode()
+    types = {"json": b"application/json", "octets": b"application/octet-stream"}
+    if bytes_ and kind in types:
+        text += b"Content-Type: " + types[kind] + b"\r\n"
+    return text + b"\r\n" + bytes_
+
+
+def ask_of(method, host, target, key):
+    lines = [f"{method} {target} HTTP/1.1", f"Host: {host}"]
+    if method == "POST":
+        lines.append("Content-Length: 0")
+    if key:
+        text = base64.b64encode(key.encode()).decode()
+        lines += ["Upgrade: websocket", "Connection: Upgrade", f"Sec-WebSocket-Key: {text}", "Sec-WebSocket-Version: 13"]
+    return "".join(line + "\r\n" for line in lines + [""]).encode()
+
+
+# ---- scripts
+
+def spelled(text):
+    names = {"r": b"\r", "n": b"\n", "\\": b"\\"}
+    found = re.findall(r"\\x[0-9a-f]{2}|\\.|[^\\]", text)
+    return b"".join(
+        bytes([int(it[2:], 16)]) if it.startswith("\\x") else names[it[1]] if it.startswith("\\") else it.encode() for it in found)
+
+
+def shown(bytes_):
+    names = {13: "\\r", 10: "\\n", 92: "\\\\"}
+    return "".join(names.get(b) or (chr(b) if 32 <= b <= 126 else f"\\x{b:02x}") for b in bytes_)
+
+
+def dash(text):
+    return "-" if text is None else f"[{shown(text)}]"
+
+
+class Bench:
+    def __init__(self):
+        self.anew()
+
+    def anew(self):
+        self.requests = Lane(REQUEST, CUT_REQUEST, read_request)
+        self.responses = Lane(RESPONSE, CUT_RESPONSE, read_response)
+
+    def carry_out(self, line):
+        word, _, rest = line.partition(" ")
+        lane = self.responses if word in ("hear", "hear-drip", "answer", "after") else self.requests
+        match word:
+            case "note": yield f"note {rest}"
+            case "lanes":
+                self.anew()
+                yield "lanes"
+            case "feed" | "hear": yield f"fed {lane.feed(spelled(rest))}"
+            case "fill":
+                count, _, byte = rest.partition(" ")
+                yield f"fed {lane.feed(byte.encode() * int(count))}"
+            case "drip" | "hear-drip":
+                size, _, text = rest.partition(" ")
+                bytes_ = spelled(text)
+                for place in range(0, len(bytes_), int(size)):
+                    lane.feed(bytes_[place : place + int(size)])
+                    answer = lane.next()
+                    if answer:
+                        yield answer
+                yield "dripped"
+            case "next" | "answer": yield lane.next() or "none"
+            case "rest" | "after": yield f"{word} [{shown(lane.held)}]"
+            case "reply":
+                status, kind, text = (rest + "  ").split(" ", 2)
+                yield f"reply [{shown(reply_of(int(status), kind, spelled(text.rstrip(' '))))}]"
+            case "ask":
+                method, host, target, key = (rest + " ").split(" ", 3)
+                yield f"ask [{shown(ask_of(method, host, target, key.rstrip(' ')))}]"
+            case "accept": yield f"accept [{shown(accept_of(spelled(rest)))}]"
+            case "query":
+                query, _, name = rest.partition(" ")
+                value = query_value(spelled(query), spelled(name))
+                yield "no value" if value is None else f"value [{shown(value)}]"
+
+
+def answers(script):
+    bench = Bench()
+    return "".join(f"{answer}\n" for line in script.splitlines() for answer in bench.carry_out(line))
+
+
+# ---- the cases
+
+GET = r"GET /hub HTTP/1.1\r\n"
+SOCKET = GET + r"Host: a\r\nUpgrade: websocket\r\nConnection: Upgrade\r\n"
+KEY = r"Sec-WebSocket-Key: dGhlIHNhbXBsZSBub25jZQ==\r\n"
+
+
+def asked(note, *texts):
+    """A fresh lane that is fed these texts, with a look for a request after each, and twice at the end."""
+    yield f"note {note}"
+    yield "lanes"
+    for text in texts:
+        yield f"feed {text}"
+        yield "next"
+    yield "next"
+
+
+def with_fields(note, *fields, method="GET", target="/hub", version="1.1", body=""):
+    lines = "".join(field + r"\r\n" for field in fields)
+    return asked(note, rf"{method} {target} HTTP/{version}\r\n" + lines + r"\r\n" + body)
+
+
+def heads():
+    whole = r"POST /a/b?c=d HTTP/1.1\r\nHost: h\r\nContent-Length: 5\r\n\r\nhello"
+    for size in (1, 2, 3, 7, 1000):
+        yield f"note a request in pieces of {size}"
+        yield "lanes"
+        yield f"drip {size} {whole}{whole}{GET}\\r\\nGE"
+        yield "next"
+        yield "rest"
+    text = spelled(whole)
+    for place in range(1, len(text)):
+        yield "lanes"
+        yield f"feed {shown(text[:place])}"
+        yield "next"
+        yield f"feed {shown(text[place:])}"
+        yield "next"
+    for count in (100, 101):
+        yield from with_fields(f"{count} headers", *[f"A{n}: b" for n in range(count)])
+    yield from with_fields("a browser", "Host: example.org", "Connection: keep-alive", *[f"X-Header-Number-{n}: {'v' * 50}" for n in range(38)])
+    yield from asked("line feeds alone, and blank lines before", r"\r\n\nGET / HTTP/1.1\nHost: a\n\n")
+    yield from asked("three in one piece", GET + r"\r\n" + r"DELETE /x HTTP/1.1\r\n\r\n" + r"PUT /y?z HTTP/1.1\r\n\r\n")
+    yield "next"
+    for note, text in (("a byte of no token", r"GE\x00"), ("no version", r"GET / HTTQ"), ("a control byte in a target", r"GET /\x01 HTTP/1.1\r\n\r\n"),
+                       ("a target that is no UTF-8", r"GET /\xff HTTP/1.1\r\n\r\n"), ("a header without a colon", r"GET / HTTP/1.1\r\nHost\r\n\r\n"),
+                       ("HTTP/2.0", r"GET / HTTP/2.0\r\n\r\n"), ("a target in UTF-8", r"GET /\xc3\xa9?\xc3\xa9 HTTP/1.1\r\n\r\n")):
+        yield from asked(note, text)
+    for last in (r"\r\n\r\n", r"\r\n\r"):
+        yield f"note a head that ends with its byte {16_384 if last.endswith('n') else 16_385}"
+        yield "lanes"
+        yield r"feed GET / HTTP/1.1\r\nA: "
+        yield f"fill {16_384 - 19 - (4 if last.endswith('n') else 3)} x"
+        yield "next"
+        yield f"feed {last}"
+        yield "next"
+        yield "next"
+    yield "note 16,385 bytes without an end"
+    yield "lanes"
+    yield r"feed GET / HTTP/1.1\r\nA: "
+    yield "fill 16385 x"
+    yield "next"
+    yield "feed more"
+
+
+def lengths():
+    for note, values in (("1 and 2", "12"), ("twice the same", "33"), ("once with zeros", ("3", "0003")), ("20 digits", ("1" * 20,)),
+                         ("twice the same 20 digits", ("1" * 20, "0" + "1" * 20)), ("two of 20 digits", ("1" * 20, "1" * 19 + "2")),
+                         ("2^64", ("18446744073709551616",)), ("2^64 and 0", ("18446744073709551616", "0")), ("a list", ("3, 3",)),
+                         ("a sign", ("+3",)), ("none", ("",)), ("hex", ("0x3",)), ("1,048,577", ("1048577",)), ("a word and a number", ("x", "3")),
+                         ("a number and a word", ("3", "x"))):
+        yield from with_fields(f"lengths: {note}", *[f"Content-Length: {value}" for value in values], method="POST", body="abcdef")
+    yield "note 1,048,576 bytes"
+    yield "lanes"
+    yield r"feed POST /up HTTP/1.1\r\nContent-Length: 1048576\r\n\r\n"
+    yield "next"
+    yield "fill 600000 a"
+    yield "next"
+    yield "fill 600000 b"
+    yield "next"
+    yield "fill 20000 c"
+    yield "next"
+    for fields in (("Transfer-Encoding: chunked",), ("transfer-encoding:",), ("Transfer-Encoding: chunked", "Content-Length: 3"),
+                   ("Transfer-Encoding: chunked", "Content-Length: x"), ("Transfer-Encoding: chunked", "Content-Length: 1048577")):
+        yield from with_fields(" and ".join(fields), *fields, method="POST", body="abc")
+
+
+def upgrades():
+    yield from asked("an upgrade, and bytes after it", SOCKET + KEY + r"Sec-WebSocket-Version: 13\r\n\r\n\x81\x00")
+    yield "rest"
+    yield "feed more"
+    yield "next"
+    yield "rest"
+    for note, head in (("version 8", SOCKET + KEY + r"Sec-WebSocket-Version: 8\r\n\r\n"), ("no version", SOCKET + KEY + r"\r\n"),
+                       ("no key", SOCKET + r"Sec-WebSocket-Version: 13\r\n\r\n"),
+                       ("a key of 15 bytes", SOCKET + r"Sec-WebSocket-Key: dGhlIHNhbXBsZSBub25j\r\nSec-WebSocket-Version: 13\r\n\r\n"),
+                       ("a key of 17 bytes", SOCKET + r"Sec-WebSocket-Key: dGhlIHNhbXBsZSBub25jZWU=\r\nSec-WebSocket-Version: 13\r\n\r\n"),
+                       ("a key that is no base64", SOCKET + r"Sec-WebSocket-Key: dGhlIHNhbXBsZSBub25jZ!==\r\nSec-WebSocket-Version: 13\r\n\r\n"),
+                       ("h2c", GET + r"Upgrade: h2c\r\n\r\n"), ("h2c and WebSocket", GET + r"Upgrade: h2c,\x09WebSocket \r\n" + KEY + r"Sec-WebSocket-Version: 13\r\n\r\n"),
+                       ("two headers", GET + r"Upgrade: h2c\r\nUpgrade: websocket\r\n" + KEY + r"Sec-WebSocket-Version: 13\r\n\r\n"),
+                       ("a post", SOCKET.replace("GET", "POST") + r"\r\n"), ("websockets", SOCKET.replace("websocket", "websockets") + r"\r\n"),
+                       ("an upgrade with a length", SOCKET + KEY + r"Sec-WebSocket-Version: 13\r\nContent-Length: 2\r\n\r\nabc"),
+                       ("a bad upgrade that is coded", SOCKET + r"Transfer-Encoding: chunked\r\n\r\n"),
+                       ("an upgrade that is coded", SOCKET + KEY + r"Sec-WebSocket-Version: 13\r\nTransfer-Encoding: chunked\r\n\r\n")):
+        yield from asked(note, head)
+        yield "rest"
+    yield "accept dGhlIHNhbXBsZSBub25jZQ=="
+    yield "accept"
+    yield r"accept \x00\xff"
+
+
+def tokens():
+    for fields in (("Authorization: Bearer abc",), ("authorization: BEARER abc",), ("Authorization:   bearer  a b  ",), ("Authorization: Bearer",),
+                   ("Authorization: Basic abc",), ("Authorization: Basic abc", "Authorization: Bearer abc"),
+                   ("Authorization: Bearer abc", "Authorization: Bearer def"), ("Authorization: Bearerabc",), ("Proxy-Authorization: Bearer abc",)):
+        for target in ("/hub", "/hub?access_token=q"):
+            yield from with_fields(" and ".join(fields) + " at " + target, *fields, target=target)
+    for query in ("access_token=%41b", "access_token=a+b", r"access_token=%ff%fe", "access_token=%zz%4", "access_token=1&access_token=2", "access_token",
+                  "access_token=a=b", "access%5ftoken=c", "x=1&&access_token=d?e", "Access_Token=f", "id=7&access_token=", "access_token=%2B%26", ""):
+        yield from with_fields(f"query {query}", target=f"/hub?{query}")
+    for query, name in ((r"a=1&b=2", "b"), (r"a=%e9", "a"), (r"%e9=1&%c3%a9=2", r"\xe9"), (r"%e9=1&%c3%a9=2", r"\xc3\xa9"), ("a=1", "c"), ("&&=x", "a"), ("a+b=c+d", "a b"), ("a=%", "a")):
+        yield f"query {query} {name}"
+    for value in ("close", "Close", "keep-alive, Close", "keep-alive", "close-not", " , close ,"):
+        yield from with_fields(f"Connection: {value}", f"Connection: {value}")
+    yield from with_fields("two headers", "Connection: keep-alive", "Connection: close")
+    yield from with_fields("HTTP/1.0", version="1.0")
+    yield from with_fields("HTTP/1.0 that is kept", "Connection: keep-alive", version="1.0")
+
+
+def texts():
+    for status in (200, 202, 400, 401, 404, 405, 409, 411, 413, 431, 500, 503):
+        yield f"reply {status} none"
+        yield f"reply {status} json {{}}"
+    yield r"reply 200 octets \x00\x01\xff"
+    yield "reply 200 octets"
+    yield "reply 200 none text"
+    yield "reply 204 none"
+    yield "reply 101 none s3pPLMBiTxaQ9kYGzzhZRbK+xOo="
+    yield "ask GET example.org /hub?id=1"
+    yield "ask POST example.org:5000 /hub/negotiate?negotiateVersion=1"
+    yield "ask DELETE example.org /hub?id=1"
+    yield "ask GET example.org /hub the sample nonce"
+
+
+def responses():
+    yield "note a response in pieces, and another"
+    yield "lanes"
+    yield r"hear-drip 1 HTTP/1.1 200 OK\r\nContent-Length: 5\r\nContent-Type: application/json\r\n\r\nhelloHTTP/1.1 404\r\n\r\n"
+    yield "answer"
+    for note, text in (("a body to come", r"HTTP/1.1 200 OK\r\ncontent-length: 3\r\n\r\na"), ("a switch", r"HTTP/1.1 101 Switching Protocols\r\nSec-WebSocket-Accept: s3p\r\n\r\n\x81\x00"),
+                       ("bad lengths", r"HTTP/1.1 200 OK\r\nContent-Length: 1\r\nContent-Length: 2\r\n\r\n"), ("chunked", r"HTTP/1.1 200 OK\r\nTransfer-Encoding: chunked\r\n\r\n"),
+                       ("too long", r"HTTP/1.1 200 OK\r\nContent-Length: 1048577\r\n\r\n"), ("a request", r"GET / HTTP/1.1\r\n\r\n"), ("two digits", r"HTTP/1.1 20 OK\r\n\r\n"),
+                       ("no phrase", r"HTTP/1.0 500 \r\n\r\n"), ("a bad upgrade", r"HTTP/1.1 200 OK\r\nUpgrade: websocket\r\n\r\n")):
+        yield f"note {note}"
+        yield "lanes"
+        yield f"hear {text}"
+        yield "answer"
+        yield "answer"
+        yield "after"
+        yield "hear bc"
+        yield "answer"
+    yield "note 101 headers"
+    yield "lanes"
+    yield r"hear HTTP/1.1 200 OK\r\n" + "".join(rf"A{n}: b\r\n" for n in range(101)) + r"\r\n"
+    yield "answer"
+
+
+def cases():
+    return "".join(line + "\n" for part in (heads, lengths, upgrades, tokens, texts, responses) for line in part())
+
+
+def main():
+    if sys.argv[1:] == ["--write"]:
+        script = cases()
+        (CRATE / "stdin").write_text(script)
+        (CRATE / "stdout").write_text(answers(script))
+        return 0
+    if sys.argv[1:] == ["--check"]:
+        same = answers((CRATE / "stdin").read_text()) == (CRATE / "stdout").read_text()
+        print(f"http_model: the committed output is {'' if same else 'not '}what the model says")
+        return 0 if same else 1
+    sys.stdout.write(answers(sys.stdin.read()))
+    return 0
+
+
+if __name__ == "__main__":
+    sys.exit(main())

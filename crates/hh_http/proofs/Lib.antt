@@ -1,0 +1,7 @@
+pub mod FieldFacts
+pub mod HeadFacts
+pub mod LaneFacts
+pub mod LengthFacts
+pub mod NumberFacts
+pub mod ResponseFacts
+pub mod StatusFacts

@@ -1,0 +1,18 @@
+use Rattle.std.proofs.Common.{◌≡◌, ◌∙◌, sym, subst, map, List, ℕ}
+use Rattle.std.proofs.lemmas.Result.{err_from_is_err_and}
+use Rattle.httparse.specs.Spans.{header_bytes}
+use Rattle.hh_http.specs.Asks.{IsTaken}
+use Rattle.hh_http.proofs.HeadFacts.{judges-ok, judges-err}
+use Rattle.hh_http.proofs.head.judge.Goals as goal
+
+pub returns-in_err-accept : goal.returns-in_err-accept
+returns-in_err-accept c =
+    let p = err_from_is_err_and c.from_residual.result c.from_residual.ensures.1 in
+    rw (p.1, p.2) (judges-err c.args.held.now c.args.headers.now c.args.spans c.of.result.now _ c.requires.reads c.requires.few c.requires.all c.of.ensures c.in_err-accept.ensures)
+
+pub returns : goal.returns
+returns c =
+    let fields = map (header_bytes c.args.held.now) c.args.headers.now in
+    judges-ok c.args.held.now c.args.headers.now c.args.spans c.in_ok-request.request c.in_ok-accept.accept c.in_ok-accept.length c.requires.reads c.requires.few c.requires.all
+    c.in_ok-request.ensures.names c.in_ok-request.ensures.upgrade
+    (subst (λ (m : List ℕ). IsTaken m fields c.in_ok-accept.accept c.in_ok-accept.length) c.of.ensures c.in_ok-accept.ensures)

@@ -1,0 +1,6 @@
+pub mod Asks
+pub mod Heads
+pub mod Lane
+pub mod Responses
+pub mod Texts
+pub mod Limits

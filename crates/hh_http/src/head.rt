@@ -1,0 +1,232 @@
+//! A request's head: what it says, or why it is refused.
+ghost use Rattle.std.specs.Prelude.{◌≡◌, ◌≤◌, ◌+◌, ◌-◌, ◌^◌, ◌<◌, ◌↔◌, min, length, map, option_map, All, IfOk, IsTrue, Some, codes};
+ghost use Rattle.httparse.specs.Spans.{IsHeaderWithin, IsRequestWithin, IsRequestOf, header_bytes, span_bytes};
+ghost use Rattle.hh_http.specs.Heads.{first_named, agree, lengths, number_of, token_of, bearer_of, method_of, path_of, query_of};
+ghost use Rattle.hh_http.specs.Asks.{Upgrading, Allows, Checks, NamesBy, Judges, Reads};
+
+use crate::error::HttpError;
+use crate::fields::{first_named, lists, stated_length};
+use crate::limits::{MOST_BODY, MOST_HEAD, MOST_HEADERS};
+use hd_lanes::{Method, Request, Text8, Vec8, query_value};
+use http1::text::eq_ignore_case;
+use httparse::spans::{EMPTY_HEADER_SPAN, HeaderSpan, RequestSpans, parse_request};
+use httparse::{Error, Status};
+use std::alloc::{AllocError, Global};
+use websocket::handshake::server::accept_key;
+
+/// What a head says of its request, and where its body stands in the bytes that begin with the head.
+#[derive(Drop)]
+pub(crate) struct Head {
+    /// Its body is empty.
+    pub(crate) request: Request,
+    pub(crate) start: usize,
+    pub(crate) end: usize,
+}
+
+fn method(name: &[u8]) -> Method
+    ensures { result ≡ method_of name.now }
+{
+    if name == b"GET".as_slice() {
+        return Method::Get;
+    }
+    if name == b"POST".as_slice() {
+        return Method::Post;
+    }
+    if name == b"DELETE".as_slice() {
+        return Method::Delete;
+    }
+    Method::Other
+}
+
+/// The target before its first `?`, and after it.
+fn split_target(target: &[u8]) -> (&[u8], &[u8])
+    ensures path { result.0.now ≡ path_of target.now }
+    ensures query { result.1.now ≡ query_of target.now }
+{
+    match target.iter().position(|&b| b == b'?') {
+        Some(i) => (&target[..i], &target[i + 1..]),
+        None => (target, &[]),
+    }
+}
+
+/// The token of a value of `Authorization`, if its scheme is `Bearer` (RFC 6750, section 2.1).
+fn token(value: &[u8]) -> Option<&[u8]>
+    ensures { option_map (λ t. t.now) result ≡ token_of value.now }
+{
+    let scheme = b"bearer ";
+    let length = value.len().min(scheme.len());
+    if eq_ignore_case(&value[..length], scheme) {
+        Some(&value[length..])
+    } else {
+        None
+    }
+}
+
+fn bearer(
+    alloc: Global,
+    held: &[u8],
+    headers: &[HeaderSpan],
+    query: &[u8],
+) -> Result<Option<Text8>, AllocError>
+    requires { All (IsHeaderWithin (length held.now)) headers.now }
+    ensures { IfOk result (λ text.
+        text ≡ bearer_of (map (header_bytes held.now) headers.now) query.now) }
+{
+    if let Some(value) = first_named(held, headers, b"authorization")
+        && let Some(token) = token(value)
+    {
+        return Ok(Some(Text8::of(alloc, token)?));
+    }
+    query_value(alloc, query, b"access_token")
+}
+
+/// Whether the value is there and is `13`, the version of RFC 6455.
+fn is_thirteen(version: Option<&[u8]>) -> bool
+    ensures { IsTrue result ↔ (option_map (λ v. v.now) version.entry ≡ Some (codes "13")) }
+{
+    match version {
+        Some(version) => version == b"13".as_slice(),
+        None => false,
+    }
+}
+
+/// The text that accepts the key of a head that asks for a WebSocket, or `None` if it asks for none.
+fn upgrade(
+    alloc: Global,
+    held: &[u8],
+    name: &[u8],
+    headers: &[HeaderSpan],
+) -> Result<Option<Text8>, HttpError>
+    requires { All (IsHeaderWithin (length held.now)) headers.now }
+    ensures { Upgrading name.now (map (header_bytes held.now) headers.now) result }
+{
+    if name != b"GET".as_slice() || !lists(held, headers, b"upgrade", b"websocket") {
+        return Ok(None);
+    }
+    if !is_thirteen(first_named(held, headers, b"sec-websocket-version")) {
+        return Err(HttpError::Refused(400));
+    }
+    let Some(key) = first_named(held, headers, b"sec-websocket-key") else {
+        return Err(HttpError::Refused(400));
+    };
+    match accept_key(key) {
+        Ok(accept) => Ok(Some(Text8::of(alloc, &accept)?)),
+        Err(_) => Err(HttpError::Refused(400)),
+    }
+}
+
+/// The length of a body whose lengths say this number, or why there is no such body.
+pub(crate) fn allowed_length(
+    held: &[u8],
+    headers: &[HeaderSpan],
+    stated: u64,
+) -> Result<usize, HttpError>
+    requires spans { All (IsHeaderWithin (length held.now)) headers.now }
+    requires agree { IsTrue (agree (lengths (map (header_bytes held.now) headers.now))) }
+    requires stated { stated
+        ≡ min (number_of (lengths (map (header_bytes held.now) headers.now))) (2 ^ 64 - 1) }
+    ensures { Allows (map (header_bytes held.now) headers.now) result }
+{
+    if first_named(held, headers, b"transfer-encoding").is_some() {
+        return Err(HttpError::Refused(411));
+    }
+    if stated > MOST_BODY as u64 {
+        return Err(HttpError::Refused(413));
+    }
+    Ok(stated as usize)
+}
+
+/// The text that accepts the key, if the head asks for a WebSocket, and the length of the body; or why the head is refused.
+fn check(
+    alloc: Global,
+    held: &[u8],
+    name: &[u8],
+    headers: &[HeaderSpan],
+) -> Result<(Option<Text8>, usize), HttpError>
+    requires { All (IsHeaderWithin (length held.now)) headers.now }
+    ensures { Checks name.now (map (header_bytes held.now) headers.now) result }
+{
+    let Some(stated) = stated_length(held, headers) else {
+        return Err(HttpError::Refused(400));
+    };
+    let accept = upgrade(alloc, held, name, headers)?;
+    match allowed_length(held, headers, stated) {
+        Ok(length) => Ok((accept, length)),
+        Err(HttpError::Refused(status)) => Err(HttpError::Refused(status)),
+        Err(HttpError::NoMemory) => Err(HttpError::NoMemory),
+    }
+}
+
+/// The request of a head, without its body.
+fn request(
+    alloc: Global,
+    held: &[u8],
+    spans: RequestSpans,
+    headers: &[HeaderSpan],
+    upgrade: Option<Text8>,
+) -> Result<Request, AllocError>
+    requires within { IsRequestWithin held.now headers.now spans }
+    requires spans { All (IsHeaderWithin (length held.now)) headers.now }
+    ensures names { IfOk result (NamesBy (span_bytes held.now spans.method)
+        (span_bytes held.now spans.path) spans.version (map (header_bytes held.now) headers.now)) }
+    ensures upgrade { IfOk result (λ q. q.upgrade ≡ upgrade) }
+{
+    let (path, query) = split_target(spans.path.of(held));
+    Ok(Request {
+        method: method(spans.method.of(held)),
+        path: Text8::of(alloc, path)?,
+        query: Text8::of(alloc, query)?,
+        bearer: bearer(alloc, held, headers, query)?,
+        upgrade,
+        shut: spans.version == 0 || lists(held, headers, b"connection", b"close"),
+        body: Vec8::from_vec(Vec::new(alloc)),
+    })
+}
+
+/// What a head that was parsed comes to.
+fn judge(
+    alloc: Global,
+    held: &[u8],
+    spans: RequestSpans,
+    headers: &[HeaderSpan],
+) -> Result<Head, HttpError>
+    requires within { IsRequestWithin held.now headers.now spans }
+    requires reads { IsRequestOf held.now headers.now spans }
+    requires few { length headers.now ≤ MOST_HEADERS }
+    requires all { spans.headers ≡ length headers.now }
+    ensures { Judges held.now result }
+{
+    let (accept, length) = check(alloc, held, spans.method.of(held), headers)?;
+    let request = request(alloc, held, spans, headers, accept)?;
+    Ok(Head {
+        request,
+        start: spans.len,
+        end: spans.len + length,
+    })
+}
+
+/// The head that the bytes begin with, or `None` if it has not ended.
+pub(crate) fn read_head(alloc: Global, held: &[u8]) -> Result<Option<Head>, HttpError>
+    ensures { Reads held.now result }
+{
+    let mut headers = [EMPTY_HEADER_SPAN; MOST_HEADERS];
+    match parse_request(held, &mut headers) {
+        Ok(Status::Complete(spans)) => {
+            let count = spans.headers;
+            match judge(alloc, held, spans, &headers[..count]) {
+                Ok(head) => Ok(Some(head)),
+                Err(HttpError::Refused(status)) => Err(HttpError::Refused(status)),
+                Err(HttpError::NoMemory) => Err(HttpError::NoMemory),
+            }
+        }
+        Ok(Status::Partial) => {
+            if held.len() < MOST_HEAD {
+                Ok(None)
+            } else {
+                Err(HttpError::Refused(431))
+            }
+        }
+        Err(Error::TooManyHeaders) => Err(HttpError::Refused(431)),
+        Err(_) => Err(HttpError::Refused(400)),
+    }
+}

@@ -1,0 +1,114 @@
+//! A response's head: what it says, or why it is refused.
+ghost use Rattle.std.specs.Prelude.{◌≡◌, ◌≤◌, length, map, option_map, All, IfOk};
+ghost use Rattle.httparse.specs.Spans.{IsHeaderWithin, IsResponseWithin, IsResponseOf, header_bytes};
+ghost use Rattle.hh_http.specs.Responses.{NamesBy, Measures, Judges, Reads};
+
+use crate::error::HttpError;
+use crate::fields::{first_named, stated_length};
+use crate::head::allowed_length;
+use crate::limits::{MOST_HEAD, MOST_HEADERS};
+use hd_lanes::{Text8, Vec8};
+use httparse::spans::{EMPTY_HEADER_SPAN, HeaderSpan, ResponseSpans, parse_response};
+use httparse::{Error, Status};
+use std::alloc::{AllocError, Global};
+
+/// The status of a response that accepts a WebSocket (RFC 9110, section 15.2.2).
+pub(crate) const SWITCHING: u16 = 101;
+
+/// A whole response.
+#[derive(Drop, PartialEq, Eq)]
+pub struct Response {
+    pub status: u16,
+    /// The value of the first `Sec-WebSocket-Accept`. At 101 it is to be [`accept_key`](crate::accept_key) of the key that was sent.
+    pub accept: Option<Text8>,
+    pub body: Vec8,
+}
+
+/// What a head says of its response, and where its body stands in the bytes that begin with the head.
+#[derive(Drop)]
+pub(crate) struct StatusHead {
+    /// Its body is empty.
+    pub(crate) response: Response,
+    pub(crate) start: usize,
+    pub(crate) end: usize,
+}
+
+/// The length of the body, or why the head is refused.
+fn body_length(held: &[u8], headers: &[HeaderSpan]) -> Result<usize, HttpError>
+    requires { All (IsHeaderWithin (length held.now)) headers.now }
+    ensures { Measures (map (header_bytes held.now) headers.now) result }
+{
+    match stated_length(held, headers) {
+        Some(length) => allowed_length(held, headers, length),
+        None => Err(HttpError::Refused(400)),
+    }
+}
+
+/// The response of a head, without its body.
+fn without_body(
+    alloc: Global,
+    held: &[u8],
+    status: u16,
+    headers: &[HeaderSpan],
+) -> Result<Response, AllocError>
+    requires { All (IsHeaderWithin (length held.now)) headers.now }
+    ensures { IfOk result (NamesBy status (map (header_bytes held.now) headers.now)) }
+{
+    let accept = match first_named(held, headers, b"sec-websocket-accept") {
+        Some(text) => Some(Text8::of(alloc, text)?),
+        None => None,
+    };
+    Ok(Response {
+        status,
+        accept,
+        body: Vec8::from_vec(Vec::new(alloc)),
+    })
+}
+
+/// What a head that was parsed comes to.
+fn judge(
+    alloc: Global,
+    held: &[u8],
+    spans: ResponseSpans,
+    headers: &[HeaderSpan],
+) -> Result<StatusHead, HttpError>
+    requires within { IsResponseWithin held.now headers.now spans }
+    requires reads { IsResponseOf held.now headers.now spans }
+    requires few { length headers.now ≤ MOST_HEADERS }
+    requires all { spans.headers ≡ length headers.now }
+    ensures { Judges held.now result }
+{
+    let length = body_length(held, headers)?;
+    let response = without_body(alloc, held, spans.code, headers)?;
+    Ok(StatusHead {
+        response,
+        start: spans.len,
+        end: spans.len + length,
+    })
+}
+
+/// The head that the bytes begin with, or `None` if it has not ended.
+pub(crate) fn read_status_head(alloc: Global, held: &[u8]) -> Result<Option<StatusHead>, HttpError>
+    ensures { Reads held.now result }
+{
+    let mut headers = [EMPTY_HEADER_SPAN; MOST_HEADERS];
+    match parse_response(held, &mut headers) {
+        Ok(Status::Complete(spans)) => {
+            let count = spans.headers;
+            match judge(alloc, held, spans, &headers[..count]) {
+                Ok(head) => Ok(Some(head)),
+                Err(HttpError::Refused(status)) => Err(HttpError::Refused(status)),
+                Err(HttpError::NoMemory) => Err(HttpError::NoMemory),
+            }
+        }
+        Ok(Status::Partial) => {
+            if held.len() < MOST_HEAD {
+                Ok(None)
+            } else {
+                Err(HttpError::Refused(431))
+            }
+        }
+        Err(Error::TooManyHeaders) => Err(HttpError::Refused(431)),
+        Err(_) => Err(HttpError::Refused(400)),
+    }
+}

@@ -1,0 +1,134 @@
+//! Replies and asks of a script.
+ghost use Rattle.std.specs.Prelude.{◌≢◌, IfSome};
+ghost use Rattle.ht_http.specs.Plain.{IsPlain};
+
+use hd_lanes::{BodyKind, Method, Reply, Text8, Vec8};
+use hh_http::{write_ask, write_reply};
+use std::alloc::{AllocError, Global};
+
+/// The status that the word names, if such a reply may have a body.
+fn plain_status(word: &str) -> Option<u16>
+    ensures { IfSome result IsPlain }
+{
+    match word {
+        "200" => Some(200),
+        "202" => Some(202),
+        "400" => Some(400),
+        "401" => Some(401),
+        "404" => Some(404),
+        "405" => Some(405),
+        "409" => Some(409),
+        "411" => Some(411),
+        "413" => Some(413),
+        "431" => Some(431),
+        "500" => Some(500),
+        "503" => Some(503),
+        _ => None,
+    }
+}
+
+fn kind(word: &str) -> BodyKind {
+    match word {
+        "json" => BodyKind::Json,
+        "octets" => BodyKind::Octets,
+        _ => BodyKind::None,
+    }
+}
+
+fn plain(alloc: Global, status: u16, kind: BodyKind, body: &[u8]) -> Result<Vec<u8>, AllocError>
+    requires { IsPlain status }
+{
+    let reply = Reply {
+        status,
+        kind,
+        body: Vec8::of(alloc, body)?,
+        accept: None,
+    };
+    let mut out = Vec::new(alloc);
+    write_reply(&reply, &mut out)?;
+    Ok(out)
+}
+
+fn no_content(alloc: Global) -> Result<Vec<u8>, AllocError> {
+    let reply = Reply {
+        status: 204,
+        kind: BodyKind::None,
+        body: Vec8::from_vec(Vec::new(alloc)),
+        accept: None,
+    };
+    let mut out = Vec::new(alloc);
+    write_reply(&reply, &mut out)?;
+    Ok(out)
+}
+
+fn accepting(alloc: Global, accept: &[u8]) -> Result<Vec<u8>, AllocError> {
+    let reply = Reply {
+        status: 101,
+        kind: BodyKind::None,
+        body: Vec8::from_vec(Vec::new(alloc)),
+        accept: Some(Text8::of(alloc, accept)?),
+    };
+    let mut out = Vec::new(alloc);
+    write_reply(&reply, &mut out)?;
+    Ok(out)
+}
+
+/// The reply of this status: a 101 accepts the key that the bytes say, a 204 has no body, and the bytes are the body of others.
+pub fn reply(
+    alloc: Global,
+    status: &str,
+    kind_word: &str,
+    bytes: &[u8],
+) -> Result<Option<Vec<u8>>, AllocError> {
+    if status == "101" {
+        return Ok(Some(accepting(alloc, bytes)?));
+    }
+    if status == "204" {
+        return Ok(Some(no_content(alloc)?));
+    }
+    match plain_status(status) {
+        Some(status) => Ok(Some(plain(alloc, status, kind(kind_word), bytes)?)),
+        None => Ok(None),
+    }
+}
+
+fn method(word: &str) -> Option<Method>
+    ensures { IfSome result (λ method. method ≢ Method.Other) }
+{
+    match word {
+        "GET" => Some(Method::Get),
+        "POST" => Some(Method::Post),
+        "DELETE" => Some(Method::Delete),
+        _ => None,
+    }
+}
+
+/// The key of these bytes, of which the first sixteen count.
+fn key_of(bytes: &[u8]) -> [u8; 16] {
+    let mut key = [0; 16];
+    for (to, from) in key.iter_mut().zip(bytes) {
+        *to = *from;
+    }
+    key
+}
+
+/// The request for this target, with a key if the bytes of one are there.
+pub fn ask(
+    alloc: Global,
+    method_word: &str,
+    host: &str,
+    target: &str,
+    key: &[u8],
+) -> Result<Option<Vec<u8>>, AllocError> {
+    let Some(method) = method(method_word) else {
+        return Ok(None);
+    };
+    let key = if key.is_empty() {
+        None
+    } else {
+        Some(key_of(key))
+    };
+    let mut out = Vec::new(alloc);
+    write_ask(method, host, target, key, &mut out)?;
+    Ok(Some(out))
+}
