@@ -1,0 +1,4 @@
+pub mod Calls
+pub mod Draws
+pub mod Memory
+pub mod Standard

@@ -1,0 +1,81 @@
+-- Doors and dialers in memory, as contracts see them.
+use Rattle.std.specs.Prelude.{◌≡◌, ℕ, ◌≤◌, Bool, true, false, IsTrue, List, [], ◌∷◌, drop, Result, Ok, Err, count_by}
+use Rattle.hd_facts.specs.Counts.{one_more}
+use Rattle.hw_door.specs.declared.heard.Heard.{Heard}
+use Rattle.hw_door.specs.declared.heard.Event.TheVariants.{Quiet}
+use Rattle.hw_door.specs.declared.heard.Given.{Given}
+use Rattle.hw_door.specs.declared.heard.Given.TheVariants as given
+use Rattle.hw_door.specs.declared.error.DoorError.{DoorError}
+use Rattle.hw_door.specs.declared.error.DoorError.TheVariants.{Failed, NoMemory}
+use Rattle.hw_door.specs.Calls.{Told, with_heard, with_said, is_failing}
+
+-- what is left to be heard, what it tells, the moment heard last, the numbers of the calls that are to fail, the number of the next
+-- call, and the count of faults
+pub record MemoryScript : Type 0 where
+  pub left : List Heard
+  pub told : Told
+  pub moment : ℕ
+  pub failing : List ℕ
+  pub calls : ℕ
+  pub faults : ℕ
+
+-- the moments never fall, from this one on
+abbrev pub NeverFalls : ℕ → List Heard → Type 0
+NeverFalls moment [] = Unit {0}
+NeverFalls moment (heard ∷ more) = (moment ≤ heard.now) × NeverFalls heard.now more
+
+-- the state at the start
+abbrev pub script_of : List Heard → List ℕ → MemoryScript
+script_of heard failing = record {
+  left = heard;
+  told = record { heard = []; waits = []; given = []; said = [] };
+  moment = 0;
+  failing = failing;
+  calls = 0;
+  faults = 0;
+}
+
+-- the next call is one that is to fail
+abbrev pub ScriptFails : MemoryScript → Type 0
+ScriptFails script = IsTrue (is_failing script.failing script.calls)
+
+-- what is heard next: the first that is left, and when nothing is, quiet at the moment heard last
+abbrev pub next_of : List Heard → ℕ → Heard
+next_of [] moment = record { now = moment; event = Quiet }
+next_of (heard ∷ more) moment = heard
+
+-- a call fails at the calls that are to fail, and at no others
+abbrev pub FailsIf : {T : Type 0} → Type 0 → Result T DoorError → Type 0
+FailsIf P (Ok answer) = P → ⊥
+FailsIf P (Err why) = why ≡ Failed → P
+
+-- after a call that failed nothing is gone, and nothing was kept. Out of memory it is as if the call wasn't made
+abbrev pub after_error : DoorError → MemoryScript → MemoryScript
+after_error Failed script = record script { calls = one_more script.calls; faults = one_more script.faults }
+after_error NoMemory script = script
+
+-- after a call of `next` with this wait and this result
+abbrev pub after_next : ℕ → Result Heard DoorError → MemoryScript → MemoryScript
+after_next wait (Ok heard) script = record script {
+  left = drop 1 script.left;
+  told = with_heard wait heard script.told;
+  moment = heard.now;
+  calls = one_more script.calls;
+}
+after_next wait (Err why) script = after_error why script
+
+-- after a call that was given this to say, with this result
+abbrev pub after_saying : {T : Type 0} → (T → Given) → Result T DoorError → MemoryScript → MemoryScript
+after_saying given (Ok answer) script = record script { told = with_said (given answer) script.told; calls = one_more script.calls }
+after_saying given (Err why) script = after_error why script
+
+-- it asks
+abbrev pub is_ask : Given → Bool
+is_ask (given.Ask lane method target upgrade) = true
+is_ask (given.Reply lane reply) = false
+is_ask (given.Bytes lane bytes text) = false
+is_ask (given.Shut lane) = false
+
+-- how often it was asked
+abbrev pub asks_of : MemoryScript → ℕ
+asks_of script = count_by is_ask script.told.given

@@ -1,0 +1,144 @@
+//! A dialer in memory, for tests.
+
+ghost use Rattle.std.specs.Prelude.{◌≡◌, ◌≢◌, ◌+◌, ℕ, IfOk, Some, count_by};
+ghost use Rattle.hw_door.specs.declared.heard.Given.TheVariants as say;
+ghost use Rattle.hw_door.specs.Calls.{HasFaultCause, Hears, Says, IsLater, IsNewLane};
+ghost use Rattle.hw_door.specs.Memory.{MemoryScript, NeverFalls, ScriptFails, FailsIf, script_of, next_of, after_next, after_saying, is_ask, asks_of};
+
+use crate::error::DoorError;
+use crate::heard::{Given, Heard, Upgrade};
+use crate::scripted::Scripted;
+use crate::traits::Dialer;
+use hd_lanes::{Method, Text8, Vec8};
+use std::marker::Model;
+
+/// A dialer in memory, for tests: it gives what it was made with, keeps what it is given to say, all of which it says, and fails at the
+/// calls of chosen numbers. Each call but `start` and `given` takes memory. The lanes that it answers are numbered from 1.
+///
+/// The calls are counted from 0, those that fail among them, and not those that are out of memory. The count holds 64 bits and stays
+/// at 2^64 - 1.
+#[derive(Drop)]
+pub struct MemoryDialer {
+    script: Scripted,
+}
+
+impl Model for MemoryDialer {
+    ghost use Rattle.hw_door.specs.Memory.{MemoryScript};
+
+    ghost Value = { MemoryScript };
+
+    ghost view = { λ d. d.script };
+}
+
+fn is_ask(given: &Given) -> bool
+    ensures { result ≡ is_ask given.now }
+{
+    match given {
+        Given::Ask { .. } => true,
+        Given::Reply { .. } => false,
+        Given::Bytes { .. } => false,
+        Given::Shut { .. } => false,
+    }
+}
+
+fn count_asks(given: &[Given]) -> usize
+    ensures { result ≡ count_by is_ask given.now }
+{
+    given.iter().filter(|given| is_ask(given)).count()
+}
+
+impl MemoryDialer {
+    /// Makes a dialer at which this will be heard, whose moments never fall, and that fails at the calls of the numbers in `failing`, in
+    /// any order. It takes no memory.
+    pub fn start(heard: Vec<Heard>, failing: Vec<u64>) -> MemoryDialer
+        requires { NeverFalls 0 heard.items }
+        ensures { result ≡ script_of heard.items failing.items }
+    {
+        MemoryDialer {
+            script: Scripted::start(heard, failing),
+        }
+    }
+
+    /// Lends what it was given to say, in order.
+    pub fn given(&self) -> &[Given]
+        ensures { result.now ≡ self.now.told.given }
+    {
+        self.script.given()
+    }
+}
+
+impl Dialer for MemoryDialer {
+    ghost told = { λ d. Some d.told };
+
+    ghost moment = { λ d. d.moment };
+
+    ghost lanes = { λ d. asks_of d + 1 };
+
+    ghost faults = { λ d. d.faults };
+
+    /// Keeps the ask, and answers how many it has kept. It fails exactly at the calls that are to fail.
+    fn ask(
+        &mut self,
+        method: Method,
+        target: &str,
+        upgrade: Option<Upgrade>,
+    ) -> Result<u64, DoorError>
+        requires { method ≢ Method.Other }
+        ensures given { Says (Some self.old.told) (Some self.new.told) (λ lane. say.Ask lane method target.now upgrade) result }
+        ensures fresh { IsNewLane (asks_of self.old + 1) (asks_of self.new + 1) result }
+        ensures still { self.new.moment ≡ self.old.moment }
+        ensures cause { HasFaultCause self.old.faults self.new.faults result }
+        ensures lane { IfOk result (λ lane. lane ≡ asks_of self.old + 1) }
+        ensures fails { FailsIf (ScriptFails self.old) result }
+        ensures after { self.new ≡ after_saying (λ lane. say.Ask lane method target.now upgrade) result self.old }
+    {
+        let target = Text8::of(self.script.allocator(), target.as_bytes())?;
+        let lane = count_asks(self.script.given()) as u64 + 1;
+        self.script.say(Given::Ask {
+            lane,
+            method,
+            target,
+            upgrade,
+        })?;
+        Ok(lane)
+    }
+
+    /// Gives what is heard next, and once nothing is left `Quiet` at the moment heard last. It fails exactly at the calls that are to
+    /// fail.
+    fn next(&mut self, wait: u64) -> Result<Heard, DoorError>
+        ensures heard { Hears (Some self.old.told) (Some self.new.told) wait result }
+        ensures later { IsLater self.old.moment self.new.moment result }
+        ensures lanes { asks_of self.new + 1 ≡ asks_of self.old + 1 }
+        ensures cause { HasFaultCause self.old.faults self.new.faults result }
+        ensures gives { IfOk result (λ heard. heard ≡ next_of self.old.left self.old.moment) }
+        ensures fails { FailsIf (ScriptFails self.old) result }
+        ensures after { self.new ≡ after_next wait result self.old }
+    {
+        self.script.next(wait)
+    }
+
+    /// Keeps a copy of the message. It fails exactly at the calls that are to fail.
+    fn send(&mut self, lane: u64, bytes: &[u8], text: bool) -> Result<(), DoorError>
+        ensures given { Says (Some self.old.told) (Some self.new.told) (λ done. say.Bytes lane bytes.now text) result }
+        ensures still { self.new.moment ≡ self.old.moment }
+        ensures lanes { asks_of self.new + 1 ≡ asks_of self.old + 1 }
+        ensures cause { HasFaultCause self.old.faults self.new.faults result }
+        ensures fails { FailsIf (ScriptFails self.old) result }
+        ensures after { self.new ≡ after_saying (λ done. say.Bytes lane bytes.now text) result self.old }
+    {
+        let bytes = Vec8::of(self.script.allocator(), bytes)?;
+        self.script.say(Given::Bytes { lane, bytes, text })
+    }
+
+    /// Keeps that the lane was shut. It fails exactly at the calls that are to fail.
+    fn shut(&mut self, lane: u64) -> Result<(), DoorError>
+        ensures given { Says (Some self.old.told) (Some self.new.told) (λ done. say.Shut lane) result }
+        ensures still { self.new.moment ≡ self.old.moment }
+        ensures lanes { asks_of self.new + 1 ≡ asks_of self.old + 1 }
+        ensures cause { HasFaultCause self.old.faults self.new.faults result }
+        ensures fails { FailsIf (ScriptFails self.old) result }
+        ensures after { self.new ≡ after_saying (λ done. say.Shut lane) result self.old }
+    {
+        self.script.say(Given::Shut { lane })
+    }
+}

@@ -1,0 +1,108 @@
+//! A door in memory, for tests.
+
+ghost use Rattle.std.specs.Prelude.{◌≡◌, ℕ, IfOk, Some};
+ghost use Rattle.hd_lanes.specs.Replies.{IsReply};
+ghost use Rattle.hw_door.specs.declared.heard.Given.TheVariants as say;
+ghost use Rattle.hw_door.specs.Calls.{HasFaultCause, Hears, Says, IsLater};
+ghost use Rattle.hw_door.specs.Memory.{MemoryScript, NeverFalls, ScriptFails, FailsIf, script_of, next_of, after_next, after_saying};
+
+use crate::error::DoorError;
+use crate::heard::{Given, Heard};
+use crate::scripted::Scripted;
+use crate::traits::Door;
+use hd_lanes::{Reply, Vec8};
+use std::marker::Model;
+
+/// A door in memory, for tests: it gives what it was made with, keeps what it is given to say, all of which it says, and fails at the
+/// calls of chosen numbers. Each call but `start` and `given` takes memory.
+///
+/// The calls are counted from 0, those that fail among them, and not those that are out of memory. The count holds 64 bits and stays
+/// at 2^64 - 1.
+#[derive(Drop)]
+pub struct MemoryDoor {
+    script: Scripted,
+}
+
+impl Model for MemoryDoor {
+    ghost use Rattle.hw_door.specs.Memory.{MemoryScript};
+
+    ghost Value = { MemoryScript };
+
+    ghost view = { λ d. d.script };
+}
+
+impl MemoryDoor {
+    /// Makes a door at which this will be heard, whose moments never fall, and that fails at the calls of the numbers in `failing`, in
+    /// any order. It takes no memory.
+    pub fn start(heard: Vec<Heard>, failing: Vec<u64>) -> MemoryDoor
+        requires { NeverFalls 0 heard.items }
+        ensures { result ≡ script_of heard.items failing.items }
+    {
+        MemoryDoor {
+            script: Scripted::start(heard, failing),
+        }
+    }
+
+    /// Lends what it was given to say, in order.
+    pub fn given(&self) -> &[Given]
+        ensures { result.now ≡ self.now.told.given }
+    {
+        self.script.given()
+    }
+}
+
+impl Door for MemoryDoor {
+    ghost told = { λ d. Some d.told };
+
+    ghost moment = { λ d. d.moment };
+
+    ghost faults = { λ d. d.faults };
+
+    /// Gives what is heard next, and once nothing is left `Quiet` at the moment heard last. It fails exactly at the calls that are to
+    /// fail.
+    fn next(&mut self, wait: u64) -> Result<Heard, DoorError>
+        ensures heard { Hears (Some self.old.told) (Some self.new.told) wait result }
+        ensures later { IsLater self.old.moment self.new.moment result }
+        ensures cause { HasFaultCause self.old.faults self.new.faults result }
+        ensures gives { IfOk result (λ heard. heard ≡ next_of self.old.left self.old.moment) }
+        ensures fails { FailsIf (ScriptFails self.old) result }
+        ensures after { self.new ≡ after_next wait result self.old }
+    {
+        self.script.next(wait)
+    }
+
+    /// Keeps the reply. It fails exactly at the calls that are to fail.
+    fn reply(&mut self, lane: u64, reply: Reply) -> Result<(), DoorError>
+        requires { IsReply reply }
+        ensures given { Says (Some self.old.told) (Some self.new.told) (λ done. say.Reply lane reply) result }
+        ensures still { self.new.moment ≡ self.old.moment }
+        ensures cause { HasFaultCause self.old.faults self.new.faults result }
+        ensures fails { FailsIf (ScriptFails self.old) result }
+        ensures after { self.new ≡ after_saying (λ done. say.Reply lane reply) result self.old }
+    {
+        self.script.say(Given::Reply { lane, reply })
+    }
+
+    /// Keeps a copy of the message. It fails exactly at the calls that are to fail.
+    fn send(&mut self, lane: u64, bytes: &[u8], text: bool) -> Result<(), DoorError>
+        ensures given { Says (Some self.old.told) (Some self.new.told) (λ done. say.Bytes lane bytes.now text) result }
+        ensures still { self.new.moment ≡ self.old.moment }
+        ensures cause { HasFaultCause self.old.faults self.new.faults result }
+        ensures fails { FailsIf (ScriptFails self.old) result }
+        ensures after { self.new ≡ after_saying (λ done. say.Bytes lane bytes.now text) result self.old }
+    {
+        let bytes = Vec8::of(self.script.allocator(), bytes)?;
+        self.script.say(Given::Bytes { lane, bytes, text })
+    }
+
+    /// Keeps that the lane was shut. It fails exactly at the calls that are to fail.
+    fn shut(&mut self, lane: u64) -> Result<(), DoorError>
+        ensures given { Says (Some self.old.told) (Some self.new.told) (λ done. say.Shut lane) result }
+        ensures still { self.new.moment ≡ self.old.moment }
+        ensures cause { HasFaultCause self.old.faults self.new.faults result }
+        ensures fails { FailsIf (ScriptFails self.old) result }
+        ensures after { self.new ≡ after_saying (λ done. say.Shut lane) result self.old }
+    {
+        self.script.say(Given::Shut { lane })
+    }
+}
