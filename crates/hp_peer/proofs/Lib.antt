@@ -1,0 +1,10 @@
+pub mod Images
+pub mod Asked
+pub mod Plain
+pub mod Losses
+pub mod Notices
+pub mod JobMoves
+pub mod AskedLive
+pub mod Counted
+pub mod Taken
+pub mod Told

@@ -1,0 +1,30 @@
+use Rattle.std.proofs.Common.{refl, sym}
+use Rattle.hm_message.specs.declared.message.Message.TheVariants.{Completion}
+use Rattle.hd_calls.specs.Hubs.{End}
+use Rattle.hd_calls.specs.Peers.{byte_steps}
+use Rattle.hd_calls.specs.Tables.{job_happenings}
+use Rattle.hp_peer.proofs.Taken.{fed, fed_none, flooded, still}
+use Rattle.hp_peer.proofs.peer.Peer.feed_end.Goals as goal
+
+pub returns-in-Ok-stream_end-clause-ok : goal.returns-in-Ok-stream_end-clause-ok
+returns-in-Ok-stream_end-clause-ok g c = λ t h s strange now.
+    fed {H = g.row.H.Denot} _ t c.args.self.now (Completion c.args.headers c.args.id c.args.ending) c.args.id (End c.args.ending) refl h s (c.tables_agree.ensures t h).1
+    c.requires.none_waits strange now _ _ (c.in-Ok-stream_end.ensures.ok t.who (job_happenings t h) s.jobs c.args.ending (sym c.in-Ok.ensures))
+
+pub returns-in-Err-UnknownId-clause-ok : goal.returns-in-Err-UnknownId-clause-ok
+returns-in-Err-UnknownId-clause-ok g c = λ t h s strange now.
+    fed_none {H = g.row.H.Denot} _ t c.args.self.now (Completion c.args.headers c.args.id c.args.ending) c.args.id (End c.args.ending) refl h s (c.tables_agree.ensures t h).1
+    c.requires.none_waits strange now 0 _ (rw c.in-Err-UnknownId.field-0-is at (c.in-Err-UnknownId.ensures.refused t.who (job_happenings t h) s.jobs))
+    (c.in-Err-UnknownId.ensures.kept t.who (job_happenings t h) s.jobs)
+
+pub returns-in-Err-Flood-clause-refused : goal.returns-in-Err-Flood-clause-refused
+returns-in-Err-Flood-clause-refused g c = λ t h s strange.
+    flooded {H = g.row.H.Denot} _ t c.args.self.now (Completion c.args.headers c.args.id c.args.ending) c.args.id (End c.args.ending) refl h s (c.tables_agree.ensures t h).1
+    c.requires.none_waits strange 0 0 _ (rw c.in-Err-Flood.field-0-is at (c.in-Err-Flood.ensures.refused t.who (job_happenings t h) s.jobs))
+    (c.in-Err-Flood.ensures.kept t.who (job_happenings t h) s.jobs) _
+    (c.close.ensures.live t.wire t.config (byte_steps t h) s.end) (c.close.ensures.closed t.wire t.config (byte_steps t h) s.end) c.close.ensures.limits
+
+pub returns-in-Err-NoMemory-clause-refused : goal.returns-in-Err-NoMemory-clause-refused
+returns-in-Err-NoMemory-clause-refused g c = λ t h s strange.
+    still {H = g.row.H.Denot} _ t c.args.self.now (Completion c.args.headers c.args.id c.args.ending) h s _ refl refl
+    (c.in-Err-NoMemory.ensures.kept t.who (job_happenings t h) s.jobs) refl refl refl

@@ -1,0 +1,29 @@
+use Rattle.std.proofs.lemmas.Result.{err_from_is_err_and, IfErr-weaker, on_err_weaker, on_ok_weaker}
+use Rattle.hd_calls.specs.Hubs.{Item, value_in}
+use Rattle.hd_calls.specs.Peers.{codec}
+use Rattle.hp_peer.proofs.Asked.{item_is_uploaded, item_is_unuploaded, unsaid_stays, unuploadable}
+use Rattle.hp_peer.proofs.peer.Peer.upload_item.Goals as goal
+
+pub returns-in_err-message-clause-refused : goal.returns-in_err-message-clause-refused
+returns-in_err-message-clause-refused g c =
+    let p = err_from_is_err_and c.from_residual.result c.from_residual.ensures.1 in
+    rw (p.1, p.2) (λ t h s. unuploadable {H = g.row.H.Denot} _ t c.args.self.now h s c.tables_agree.ensures c.ids_are_of_a_side.ensures c.args.call c.args.which
+    (Item (value_in (codec t h) c.args.value)) _ (c.in_err-message.ensures.refused _ _ s.calls))
+
+pub returns-clause-ok : goal.returns-clause-ok
+returns-clause-ok g c = on_ok_weaker c.say.result
+    (λ said t h s. item_is_uploaded {H = g.row.H.Denot} _ t c.args.self.now h s c.tables_agree.ensures c.ids_are_of_a_side.ensures c.args.call c.args.which c.args.value
+    c.in_ok-message.message (c.in_ok-message.ensures.ok _ _ s.calls) c.say.new.self c.say.ensures.others c.say.ensures.limits said
+    (c.in_ok-message.ensures.stands _ _ s.calls))
+    c.say.ensures.ok
+
+pub returns-clause-refused : goal.returns-clause-refused
+returns-clause-refused g c = IfErr-weaker c.say.result _ _
+    (λ e why t h s. item_is_unuploaded {H = g.row.H.Denot} _ t c.args.self.now h s c.tables_agree.ensures c.ids_are_of_a_side.ensures c.args.call c.args.which c.args.value
+    c.in_ok-message.message (c.in_ok-message.ensures.ok _ _ s.calls) c.values_are_trees.ensures e why)
+    c.say.ensures.refused
+
+pub returns-clause-kept : goal.returns-clause-kept
+returns-clause-kept g c = on_err_weaker c.say.result
+    (λ stays t h s. unsaid_stays {H = g.row.H.Denot} _ t c.args.self.now h s c.say.new.self c.say.ensures.others c.say.ensures.limits stays)
+    c.say.ensures.kept
