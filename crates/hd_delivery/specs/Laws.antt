@@ -69,3 +69,11 @@ HoldsAsSent = (limits : Limits) (wire : Wire) (t : Terms) (w : List (Event ByteS
     → IsFaithful limits wire t.codec t.version []
     → AreReadAsSent limits wire (config Client t) (client_in_frames wire t w) → AreReadAsSent limits wire (config Server t) (server_in_frames wire t w)
     → IsWorldOverBytes limits wire t w → DeliveryOverBytes wire t w
+
+-- for then the wire is faithful to all that the two ends sent
+abbrev pub AllIsRead : Type 0
+AllIsRead = (limits : Limits) (wire : Wire) (t : Terms) (w : List (Event ByteStep))
+    → IsFaithful limits wire t.codec t.version []
+    → AreReadAsSent limits wire (config Client t) (client_in_frames wire t w) → AreReadAsSent limits wire (config Server t) (server_in_frames wire t w)
+    → IsWorldOverBytes limits wire t w
+    → IsFaithful limits wire t.codec t.version (sent_messages (client_in_frames wire t w) ++ sent_messages (server_in_frames wire t w))

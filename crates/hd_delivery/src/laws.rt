@@ -2,7 +2,7 @@
 
 ghost use Rattle.std.specs.Prelude.{◌≡◌};
 ghost use Rattle.hd_delivery.specs.HistoryLaws.{FactsHold, FramesCount, HistoriesAreInOrder, LinksGrow, NextIsRead, UnreadBegins, UnreadGrows, UnreadIsBounded, UnreadMoves, UnreadStays, UnusedIsUntouched, WorldsAreHistories};
-ghost use Rattle.hd_delivery.specs.Laws.{HoldsAsSent, CutsGrow, FedIsCut, FedIsUnseen, SequencedIsNumbered};
+ghost use Rattle.hd_delivery.specs.Laws.{AllIsRead, HoldsAsSent, CutsGrow, FedIsCut, FedIsUnseen, SequencedIsNumbered};
 ghost use Rattle.hd_delivery.specs.Numbers.{most_framing, most_messages, ping_after, silence_after};
 
 use crate::vocabulary::{MOST_FRAMING, MOST_MESSAGES, PING_AFTER, SILENCE_AFTER};
@@ -100,4 +100,9 @@ pub fn numbers_are_named()
 /// `delivery_over_bytes` where of each end's messages is known that they are read as themselves in that end's codec.
 pub fn delivery_as_sent()
     ensures { HoldsAsSent }
+{}
+
+/// In such a world the wire is faithful to all that both ends sent.
+pub fn all_is_read()
+    ensures { AllIsRead }
 {}

@@ -20,7 +20,7 @@ ghost use Rattle.hd_delivery.specs.Bytes.{HoldsOverBytes};
 ghost use Rattle.hd_delivery.specs.Worlds.{HoldsInEveryWorld};
 
 pub use laws::{
-    cuts_grow, delivery_as_sent, facts_hold, fed_is_cut, fed_is_unseen, frames_count,
+    all_is_read, cuts_grow, delivery_as_sent, facts_hold, fed_is_cut, fed_is_unseen, frames_count,
     histories_are_in_order, links_grow, next_is_read, numbers_are_named, sequenced_is_numbered,
     unread_begins, unread_grows, unread_is_bounded, unread_moves, unread_stays,
     unused_is_untouched, worlds_are_histories,
