@@ -90,7 +90,7 @@ impl Calls {
         Ok((number, message))
     }
 
-    /// Takes a call back that was just begun. If something else happened since, nothing changes.
+    /// Takes a call back that was just begun. If something changed the table since, nothing changes.
     pub fn undo(&mut self)
         ensures undone { Undoes self.old self.new }
         ensures forgets { self.new.newest ≡ None }
