@@ -2,7 +2,7 @@
 
 ghost use Rattle.std.specs.Prelude.{◌≡◌};
 ghost use Rattle.hd_calls.specs.Ids.{IdsAreDrawn};
-ghost use Rattle.hd_calls.specs.Laws.{FramesAreTested, PeersAreBounded, TablesAgree, WorldsArePeers};
+ghost use Rattle.hd_calls.specs.Laws.{FramesAreTested, HoldsAsSent, PeersAreBounded, TablesAgree, WorldsArePeers};
 ghost use Rattle.hd_calls.specs.Numbers.{most_inputs, most_live, most_numbers, most_uploads};
 
 use crate::vocabulary::{MOST_INPUTS, MOST_LIVE, MOST_NUMBERS, MOST_UPLOADS};
@@ -18,6 +18,14 @@ pub fn worlds_are_peers<C, S>()
     ensures { WorldsArePeers C S }
 {
     hd_delivery::worlds_are_histories();
+}
+
+/// `calls_once` where of each end's messages is known that they are read as themselves in that end's codec.
+pub fn calls_once_as_sent<C, S>()
+    ensures { HoldsAsSent C S }
+{
+    hd_delivery::all_is_read();
+    crate::calls_once::<C, S>();
 }
 
 /// At most 1,024 own calls and uploads of a peer are live, and at most 1,024 jobs; at most 4,096 inputs wait at each; and no number

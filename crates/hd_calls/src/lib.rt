@@ -16,8 +16,8 @@ ghost use Rattle.hd_calls.specs.Ledgers.{PeersKeep};
 ghost use Rattle.hd_calls.specs.PeerWorlds.{HoldsInEveryPeerWorld};
 
 pub use laws::{
-    bounds_are_named, frames_are_tested, ids_are_drawn, peers_are_bounded, tables_agree,
-    worlds_are_peers,
+    bounds_are_named, calls_once_as_sent, frames_are_tested, ids_are_drawn, peers_are_bounded,
+    tables_agree, worlds_are_peers,
 };
 pub use one_peer::{
     an_ask_refused, ids_in_use, marks_and_deeds, own_calls_come_first, too_many_inputs,
