@@ -2,7 +2,7 @@
 use Rattle.std.specs.Prelude.{◌≡◌, ◌≤◌, ◌↔◌, ℕ, true, List, []}
 use Rattle.hd_delivery.specs.declared.vocabulary.Side.TheVariants.{Client, Server}
 use Rattle.hd_delivery.specs.Worlds.{Event, config, client_of, server_of}
-use Rattle.hd_delivery.specs.Bytes.{IsFaithful}
+use Rattle.hd_delivery.specs.Bytes.{IsFaithful, DeliveryOverBytes}
 use Rattle.hd_delivery.specs.Laws.{AreReadAsSent}
 use Rattle.hm_message.specs.declared.message.Codec.{Codec}
 use Rattle.hm_message.specs.declared.message.Message.{Message}
@@ -11,7 +11,7 @@ use Rattle.hd_calls.specs.Numbers.{most_live, most_inputs, most_numbers}
 use Rattle.hd_calls.specs.Hubs.{Invoked, Hub}
 use Rattle.hd_calls.specs.Peers.{Move, Settings, can_frame, drawn, call_of, given, lost, live_call, uploaded, live_upload, begun, moments, turns, acts, inputs, marked, over, live_job, reply, steps}
 use Rattle.hd_calls.specs.Rules.{own_live, live_jobs, inputs_left, in_use, is_due, next_job, IsPeer}
-use Rattle.hd_calls.specs.PeerWorlds.{Pair, settings, AreApart, IsPeerWorld, BothOnce}
+use Rattle.hd_calls.specs.PeerWorlds.{Pair, settings, ends, AreApart, IsPeerWorld, BothOnce}
 use Rattle.hd_calls.specs.Tables.{call_happenings, drawn_in, call_in, given_in, lost_in, uploaded_in, live_call_in, live_upload_in, own_live_in, live_job_in, live_jobs_in, inputs_left_in, in_use_in, is_due_in, next_job_in, job_happenings, begun_in, moments_in, turns_in, acts_in, inputs_in, marked_in, over_in, reply_in}
 
 -- what a peer's history says of its own calls is what their own happenings say, and so is what a table of calls decides by
@@ -71,10 +71,10 @@ abbrev pub WorldsArePeers : Type 0 → Type 0 → Type 0
 WorldsArePeers C S = (hc : Hub C) (hs : Hub S) (p : Pair) (w : List (Event Move)) → IsPeerWorld hc hs p w
     → IsPeer hc (settings Client p) (client_of w) × IsPeer hs (settings Server p) (server_of w)
 
--- Calls once asks for no more than that each end's messages are read as themselves in its own codec.
+-- Delivery and calls once ask for no more than that each end's messages are read as themselves in its own codec.
 abbrev pub HoldsAsSent : Type 0 → Type 0 → Type 0
 HoldsAsSent C S = (hc : Hub C) (hs : Hub S) (p : Pair) (w : List (Event Move))
     → AreApart p.name → IsFaithful p.limits p.wire p.terms.codec p.terms.version []
     → AreReadAsSent p.limits p.wire (config Client p.terms) (steps (settings Client p) (client_of w))
     → AreReadAsSent p.limits p.wire (config Server p.terms) (steps (settings Server p) (server_of w))
-    → IsPeerWorld hc hs p w → BothOnce hc hs p w
+    → IsPeerWorld hc hs p w → DeliveryOverBytes p.wire p.terms (ends p w) × BothOnce hc hs p w

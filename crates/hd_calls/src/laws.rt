@@ -20,11 +20,12 @@ pub fn worlds_are_peers<C, S>()
     hd_delivery::worlds_are_histories();
 }
 
-/// `calls_once` where of each end's messages is known that they are read as themselves in that end's codec.
+/// Delivery and `calls_once` where of each end's messages is known that they are read as themselves in that end's codec.
 pub fn calls_once_as_sent<C, S>()
     ensures { HoldsAsSent C S }
 {
     hd_delivery::all_is_read();
+    hd_delivery::delivery_as_sent();
     crate::calls_once::<C, S>();
 }
 
