@@ -33,6 +33,10 @@ shut_is false false l e = absurd (cc)
 shut_is false true None e = absurd (cc)
 shut_is false true (Some k) e = absurd (cc)
 
+pub open_is : (b s : Bool) (l : Option ℕ) → (state_of b s l ≡ states.Closed → ⊥) → b ≡ false
+open_is true s l n = absurd (n refl)
+open_is false s l n = refl
+
 -- ---- one more move
 
 module _ {H Job : Type 0} (hub : Hub Job) (t : Settings) (h : List Move) (p : Peer H Job) (s : Stands {H = H} hub t p h) where
@@ -55,6 +59,41 @@ module _ {H Job : Type 0} (hub : Hub Job) (t : Settings) (h : List Move) (p : Pe
     follows = (s.follows, may);
     prompt = (s.prompt, inl s.settled);
     settled = settled;
+  }
+
+  -- the same moves, if the end and whether memory was out are all that may differ
+  pub same_moves : (q : Peer H Job) → limits_of q.end ≡ limits_of p.end → of_end.Stands t.wire t.config q.end (byte_steps t h)
+      → q.calls ≡ p.calls → q.jobs ≡ p.jobs → q.who ≡ p.who → q.waiting ≡ p.waiting → ((n : ℕ) → get nat_eq q.askers n ≡ get nat_eq p.askers n) → Stands {H = H} hub t q h
+  same_moves q limits end calls jobs who waits askers = record {
+    names = s.names;
+    limits = s.limits ∙ sym limits;
+    end = end;
+    calls = subst (λ x. of_calls.Stands x (prefix_of t.config.side) (call_happenings h)) (sym calls) s.calls;
+    jobs = subst (λ x. of_jobs.Stands {H = H} hub x t.who (job_happenings t h)) (sym jobs) s.jobs;
+    who = who ∙ s.who;
+    waits = waits ∙ s.waits;
+    counted = s.counted;
+    askers = λ n. askers n ∙ s.askers n;
+    follows = s.follows;
+    prompt = s.prompt;
+    settled = s.settled;
+  }
+
+  -- the tables of jobs differ
+  pub other_jobs : (jobs : Jobs H Job) → of_jobs.Stands {H = H} hub jobs t.who (job_happenings t h) → Stands {H = H} hub t (record p { jobs = jobs }) h
+  other_jobs jobs stands = record {
+    names = s.names;
+    limits = s.limits;
+    end = s.end;
+    calls = s.calls;
+    jobs = stands;
+    who = s.who;
+    waits = s.waits;
+    counted = s.counted;
+    askers = s.askers;
+    follows = s.follows;
+    prompt = s.prompt;
+    settled = s.settled;
   }
 
   pub round_begins : (jobs : Jobs H Job) → of_jobs.Stands {H = H} hub jobs t.who (Round ∷ job_happenings t h) → Stands {H = H} hub t (record p { jobs = jobs }) (Rounds ∷ h)

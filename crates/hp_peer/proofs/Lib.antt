@@ -8,3 +8,9 @@ pub mod AskedLive
 pub mod Counted
 pub mod Taken
 pub mod Told
+pub mod Two
+pub mod JobSaid
+pub mod JobActs
+pub mod JobTurns
+pub mod JobLoop
+pub mod JobAsks

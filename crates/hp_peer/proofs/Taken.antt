@@ -1,5 +1,5 @@
 -- What a peer stands for once it has handled the message that waited.
-use Rattle.std.proofs.Common.{◌≡◌, ℕ, suc, ◌<◌, ◌≤◌, ◌⊎◌, inl, Bool, true, false, List, [], ◌∷◌, ◌++◌, length, Option, Some, None, refl, sym, ap, ◌∙◌, subst, arith}
+use Rattle.std.proofs.Common.{◌≡◌, ℕ, suc, ◌<◌, ◌≤◌, inl, Bool, true, false, List, [], ◌∷◌, ◌++◌, length, Option, Some, None, refl, sym, ap, ◌∙◌, subst, arith}
 use Rattle.std.specs.Prelude.{◌==◌, ◌&&◌, not, nat_eq, is_some, option_map, slice_get, if◌then◌else◌}
 use Rattle.std.specs.HashMap.{get}
 use Rattle.std.specs.Prelude.{IfOk, OnErr, OnOk, Result, Ok, Err}
@@ -27,7 +27,7 @@ use Rattle.hd_calls.specs.declared.vocabulary.Input.TheVariants as input
 use Rattle.hd_calls.specs.Numbers.{most_inputs, most_live}
 use Rattle.hd_calls.specs.Hubs.{Hub, Invoked, Answer, Item, End as Ends, ToBegin, ToAnswer, call_for, id_of, purpose_of}
 use Rattle.hd_calls.specs.Ids.{prefix_of, IdsAreDrawn}
-use Rattle.hd_calls.specs.Peers.{Effect, Begins, InUse, TooMany, Brings, Feeds, Flood, Marks, Nothing, Move, Handles, Plain, Reads, Settings, acts, add, asker_of, asks, byte_steps, call_of, given, has_end, has_id, is_shut, last_of, lost, of_stream, reason_of, reply, shuts, streams_items, waiting}
+use Rattle.hd_calls.specs.Peers.{Effect, Begins, InUse, TooMany, Brings, Feeds, Flood, Marks, Nothing, Move, Handles, Plain, Reads, Settings, acts, add, asker_of, asks, byte_steps, call_of, given, has_end, has_id, is_shut, last_of, lost, of_stream, reason_of, reply, shuts, streams_items}
 use Rattle.hd_calls.specs.Rules.{ActsOn, Follows, IsCancellable, IsPlain, IsStrange, StreamAt}
 use Rattle.hd_calls.specs.Tables.{call_happenings, job_happenings, live_call_in, marked_in, Replied, reply_to}
 use Rattle.hd_calls.specs.Ledgers.{CallHappening, Got}

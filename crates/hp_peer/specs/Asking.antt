@@ -1,4 +1,5 @@
 -- A refusal of a peer's parts, as its user is told it: out of memory by a variant of its own.
+use Rattle.std.specs.Prelude.{Bool, true, false}
 use Rattle.he_end.specs.declared.errors.SendError.{SendError}
 use Rattle.he_end.specs.declared.errors.SendError.TheVariants as send
 use Rattle.hi_calls.specs.declared.errors.CallError.{CallError}
@@ -19,3 +20,10 @@ of_end send.Closed = ask.Send send.Closed
 of_end (send.TooLong size) = ask.Send (send.TooLong size)
 of_end (send.Full held bytes size) = ask.Send (send.Full held bytes size)
 of_end send.Exhausted = ask.Send send.Exhausted
+
+-- whether what was asked is refused, and not only out of memory
+abbrev pub is_refusal : AskError → Bool
+is_refusal ask.NoMemory = false
+is_refusal (ask.Calls why) = true
+is_refusal ask.TooDeep = true
+is_refusal (ask.Send why) = true

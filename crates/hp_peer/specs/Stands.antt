@@ -1,5 +1,5 @@
 -- What a peer's parts remember of its moves.
-use Rattle.std.specs.Prelude.{◌≡◌, ℕ, suc, true, List, [], ◌∷◌, Option, Some, None, nat_eq, option_map, if◌then◌else◌}
+use Rattle.std.specs.Prelude.{◌≡◌, ℕ, suc, true, List, Option, Some, None, nat_eq, option_map, if◌then◌else◌}
 use Rattle.std.specs.HashMap.{get}
 use Rattle.hm_message.specs.declared.message.Message.{Message}
 use Rattle.hm_message.specs.Message.{is_sequenced}

@@ -41,7 +41,7 @@ impl<H: Hub> Peer<H> {
         ensures refused { IfErr result (λ e. OfEach (meaning H.begin_of H.step_of) self.old (λ t h.
             IsUncalled t h kind target arguments uploads e)) }
         ensures kept { OnErr result (Stays (meaning H.begin_of H.step_of) self.old self.new) }
-        ensures turns { self.new.stalled ≡ self.old.stalled }
+        ensures others { self.new ≡ record self.old { end = self.new.end; calls = self.new.calls } }
     {
         tables_agree();
         calls_are_made();
@@ -150,7 +150,7 @@ impl<H: Hub> Peer<H> {
     }
 
     /// Sends a message of own calls, if it fits.
-    fn say(&mut self, alloc: Global, message: &Message) -> Result<(), AskError>
+    pub(crate) fn say(&mut self, alloc: Global, message: &Message) -> Result<(), AskError>
         requires { is_sequenced message.now ≡ true }
         ensures ok { OnOk result (HasSaid self.old self.new message.now) }
         ensures refused { IfErr result (IsUnsaid self.old.end message.now) }

@@ -1,5 +1,8 @@
 //! Why a peer doesn't do what its user asks of it.
 
+ghost use Rattle.std.specs.Prelude.{◌≡◌};
+ghost use Rattle.hp_peer.specs.Asking.{is_refusal};
+
 use he_end::{NextError, SendError};
 use hi_calls::CallError;
 use hv_value::Text;
@@ -15,6 +18,20 @@ pub enum AskError {
     /// The end doesn't send it. It isn't `SendError::NoMemory`.
     Send(SendError),
     NoMemory,
+}
+
+impl AskError {
+    /// Whether what was asked is refused: it would be again, if there were more memory.
+    pub(crate) fn is_refusal(self) -> bool
+        ensures { result ≡ is_refusal self }
+    {
+        match self {
+            AskError::NoMemory => false,
+            AskError::Calls(_) => true,
+            AskError::TooDeep => true,
+            AskError::Send(_) => true,
+        }
+    }
 }
 
 impl From<AllocError> for AskError {

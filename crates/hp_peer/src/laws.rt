@@ -1,10 +1,11 @@
 //! What crates above cite of peers. No function here does anything: its contract is the law.
 
 ghost use Rattle.hj_jobs.specs.Meaning.{meaning};
-ghost use Rattle.hp_peer.specs.Laws.{KeepsItsCalls};
+ghost use Rattle.hp_peer.specs.Laws.{CallOnce, KeepsItsCalls};
 
 use crate::peer::Peer;
-use hd_calls::{peers_are_bounded, peers_keep};
+use hd_calls::{calls_once_as_sent, ids_are_drawn, peers_are_bounded, peers_keep};
+use he_wire::wire_is_faithful;
 use hj_jobs::Hub;
 
 /// Whatever a peer stands for: it is what a peer can do by itself, its ledgers are legal, each of its live calls ends once after its end
@@ -14,4 +15,17 @@ pub fn peers_keep_their_calls<H: Hub>(_peer: &Peer<H>)
 {
     peers_keep::<H::Job>();
     peers_are_bounded::<H::Job>();
+}
+
+/// Two peers carry out each other's calls once: in every world of which they stand for the moves, whatever was lost and however often they
+/// came back, what each end has processed is a first part of what the other sent, each call that was processed begins one job, and its
+/// caller is given a first part of what that job answers by its hub's meaning; all of it, and one ending, once nothing is left to do.
+pub fn peers_call_once<C: Hub, S: Hub>(client: &Peer<C>, server: &Peer<S>)
+    ensures { CallOnce (meaning C.begin_of C.step_of) (meaning S.begin_of S.step_of) client.now server.now }
+{
+    calls_once_as_sent::<C::Job, S::Job>();
+    ids_are_drawn();
+    wire_is_faithful();
+    // Limits are in range, so handshakes and control frames have room in a frame.
+    let _ = client.end.limits().frame();
 }

@@ -1,16 +1,28 @@
-//! What a peer's jobs want: their rounds, and answers to the deeds that they hand up.
+//! What a peer's jobs want: their rounds and turns, and answers to the deeds that they hand up.
 
-ghost use Rattle.std.specs.Prelude.{◌≡◌, ◌↔◌, ◌∷◌, IsTrue, OnOk, OnErr};
+ghost use Rattle.std.specs.Prelude.{◌≡◌, ◌↔◌, ◌∷◌, true, false, IfOk, IsErr, IsTrue, OnOk, OnErr, option_map};
 ghost use Rattle.hd_calls.specs.Peers.{Rounds, is_shut};
 ghost use Rattle.hd_calls.specs.Rules.{IsPeerDue, MayTurn};
 ghost use Rattle.hj_jobs.specs.Meaning.{meaning};
-ghost use Rattle.hp_peer.specs.Stands.{OfEach, Stands};
-ghost use Rattle.hp_peer.specs.Turning.{HasAnswered, IsUnanswerable};
+ghost use Rattle.hp_peer.specs.Stands.{OfEach, Stands, Stays};
+ghost use Rattle.hp_peer.specs.Turning.{HasAnswered, HasTurned, IsUnanswerable, Turns, TurnsSome, turned_with};
 
 use crate::peer::Peer;
-use hd_calls::{Input, UnknownId, tables_agree};
+use hd_calls::{Act, Deed, Input, UnknownId, tables_agree};
 use hd_delivery::{MOST_FRAMING, MOST_MESSAGES, State, numbers_are_named};
-use hj_jobs::Hub;
+use hj_jobs::{Hub, Stepped};
+use std::alloc::{AllocError, Global};
+
+/// What became of a turn.
+#[derive(Drop)]
+pub(crate) enum Turned {
+    /// No job has one now.
+    Nobody,
+    /// A job had it, and what it did is dealt with.
+    Had,
+    /// The job of this number had it, and handed up a deed.
+    HandedUp(u64, Deed),
+}
 
 impl<H: Hub> Peer<H> {
     /// A round begins, in which each job that is due has one turn.
@@ -51,6 +63,60 @@ impl<H: Hub> Peer<H> {
         self.jobs.due()
     }
 
+    /// Jobs have their turns in this round, one after the other, until one hands up a deed, which is told with the job's number. What the others
+    /// say is sent, and what they ask for is called. None if no job has a turn: the round is over, or jobs may not have turns. Out of memory
+    /// the jobs before have had their turns, and no job has another: each call from then on answers so.
+    pub fn step_job(
+        &mut self,
+        alloc: Global,
+        hub: &H,
+        now: u64,
+    ) -> Result<Option<(u64, Deed)>, AllocError>
+        ensures ok { IfOk result (λ deed. OfEach (meaning H.begin_of H.step_of) self.old (λ t h.
+            Turns (meaning H.begin_of H.step_of) t h self.new now deed)) }
+        ensures failed { OnErr result (OfEach (meaning H.begin_of H.step_of) self.old (λ t h.
+            TurnsSome (meaning H.begin_of H.step_of) t h self.new now)) }
+        ensures goes_on { OnOk result (self.new.stalled ≡ false) }
+        ensures stalls { OnErr result (self.new.stalled ≡ true) }
+        ensures stalled { self.old.stalled ≡ true → IsErr result }
+        ensures rests { self.old.stalled ≡ true → self.new ≡ self.old }
+    {
+        if self.stalled {
+            return Err(AllocError);
+        }
+        tables_agree();
+        // Each turn takes the round past one job more, so after as many turns as there are jobs none is left.
+        let jobs = self.jobs.accepted();
+        for _turn in 0..jobs {
+            match self.turn(alloc, hub, now) {
+                Ok(Turned::Had) => {}
+                Ok(Turned::Nobody) => return Ok(None),
+                Ok(Turned::HandedUp(job, deed)) => return Ok(Some((job, deed))),
+                Err(error) => {
+                    self.stalled = true;
+                    return Err(error);
+                }
+            }
+        }
+        Ok(None)
+    }
+
+    /// The next job of the round has its turn, if jobs may have turns.
+    fn turn(&mut self, alloc: Global, hub: &H, now: u64) -> Result<Turned, AllocError>
+        ensures ok { IfOk result (λ turned. OfEach (meaning H.begin_of H.step_of) self.old (λ t h.
+            HasTurned (meaning H.begin_of H.step_of) t h self.new now turned)) }
+        ensures kept { OnErr result (Stays (meaning H.begin_of H.step_of) self.old self.new) }
+        ensures turns { self.new.stalled ≡ self.old.stalled }
+    {
+        tables_agree();
+        let room = self.may_turn();
+        let Some(stepped) = self.jobs.attempt(alloc, hub, now, room)? else {
+            return Ok(Turned::Nobody);
+        };
+        self.carry_out(alloc, &stepped)?;
+        Ok(turned_with(stepped))
+    }
+
     /// Whether jobs may have turns: the end isn't closed, has room for the largest frame, and has a number for a message.
     fn may_turn(&self) -> bool
         ensures { OfEach (meaning H.begin_of H.step_of) self.now (λ t h. IsTrue result ↔ MayTurn t h) }
@@ -76,5 +142,20 @@ impl<H: Hub> Peer<H> {
             State::Ready => false,
             State::Away => false,
         }
+    }
+}
+
+/// What became of a turn that is carried out.
+fn turned_with(stepped: Stepped) -> Turned
+    ensures { result ≡ turned_with stepped.job stepped.act }
+{
+    let Stepped { job, act, .. } = stepped;
+    match act {
+        Act::Do(deed) => Turned::HandedUp(job, deed),
+        Act::More => Turned::Had,
+        Act::Wait => Turned::Had,
+        Act::Item(_) => Turned::Had,
+        Act::End(_) => Turned::Had,
+        Act::Ask { .. } => Turned::Had,
     }
 }
