@@ -7,6 +7,8 @@
 It follows the rules of docs/delivery.md and docs/protocol.md and shares no code with the program. It reads a message of a
 script with Python's json and takes any object of type 1 to 5 for one, so it is for scripts whose messages have their
 fields and are written in the usual way."""
+import collections
+import functools
 import json
 import random
 import subprocess
@@ -86,6 +88,7 @@ def bare(frame, codec):
     return json_text(tree).encode() if codec == "json" else pack(packed_message(tree))
 
 
+@functools.cache
 def spell(frame, codec):
     match frame:
         case ("request", asked, version):
@@ -103,30 +106,31 @@ def spell(frame, codec):
 
 # ---- one end: what it did, the first first
 
+class Steps(list):
+    """What an end did, the first first. For speed it is sorted by kinds and links too."""
+
+    def __init__(self):
+        super().__init__()
+        self.link, self.of, self.on_link = None, collections.defaultdict(list), collections.defaultdict(list)
+
+    def append(self, step):
+        if step[0] == "attached": self.link = step[1]
+        if step[0] in ("detached", "silenced"): self.link = None
+        super().append(step)
+        self.of[step[0]].append(step)
+        self.on_link[step[0], self.link].append(step)
+
+
 class End:
     def __init__(self, side, codec, version, reconnect, limits):
         self.side, self.codec, self.version, self.reconnect, self.limits = side, codec, version, reconnect, limits
-        self.steps = []
+        self.steps = Steps()
 
     # what is read off the steps
-    def of(self, kind): return [s for s in self.steps if s[0] == kind]
-
-    def link(self):
-        for s in reversed(self.steps):
-            if s[0] == "attached": return s[1]
-            if s[0] in ("detached", "silenced"): return None
-
+    def of(self, kind): return self.steps.of[kind]
+    def link(self): return self.steps.link
     def links(self): return [s[1] for s in self.of("attached")]
-
-    def on_link(self, kind, link):
-        """The steps of this kind that were made on the link."""
-        here, found = None, []
-        for s in self.steps:
-            if s[0] == "attached": here = s[1]
-            if s[0] in ("detached", "silenced"): here = None
-            if s[0] == kind and here == link: found.append(s)
-        return found
-
+    def on_link(self, kind, link): return self.steps.on_link[kind, link]
     def lent(self, link): return [s[1] for s in self.on_link("lent", link)]
     def fed(self, link): return b"".join(s[1] for s in self.on_link("fed", link))
     def taken(self, link): return [s[2] for s in self.on_link("took", link)] + [s[2] for s in self.on_link("failed", link)]
@@ -138,6 +142,8 @@ class End:
     def acked(self): return max([0] + [s[1][1] for s in self.of("took") if s[1][0] == "acked"] + [s[1][2] for s in self.of("took") if s[1][0] == "resumed"])
 
     def closed(self):
+        if self.of("closed") or self.of("failed"): return True
+        if not self.of("detached") and not self.of("silenced"): return any(s[1][0] == "closed" for s in self.of("took"))
         shaken = False
         for s in self.steps:
             if s[0] in ("closed", "failed") or s[0] == "took" and s[1][0] == "closed": return True
@@ -169,6 +175,18 @@ class End:
         return max([0] + [p for l, p in self.places() if l == here]) if at else 0
 
     def held(self): return self.sent()[self.acked() if self.kept() else self.most_lent():]
+    def refusal(self, text):
+        """Why a message isn't sent, if it isn't."""
+        count, most, limit = self.limits
+        framed = lambda m: len(spell(("message", m), self.codec))
+        if self.closed(): return "Closed"
+        if not self.shaken(): return "Opening"
+        size = len(bare(("message", text), self.codec))
+        if size > limit: return f"TooLong {size}"
+        held = self.held()
+        if len(held) >= count or sum(map(framed, held)) + framed(text) > most:
+            return f"Full {len(held)} {sum(map(framed, held))} {framed(text)}"
+
     def number(self, frames):
         n = None
         for f in frames:
@@ -229,11 +247,11 @@ class End:
         """The next of the other end's frames whose bytes were all fed."""
         link = self.link()
         if link is None or self.closed(): return None
-        at, fed = 0, len(self.fed(link))
+        at, fed, taken = 0, len(self.fed(link)), len(self.taken(link))
         for i, (frame, size) in enumerate(frames):
             at += size
             if at > fed: return None
-            if i == len(self.taken(link)): return frame
+            if i == taken: return frame
         return None
 
     def makes(self, frame):
@@ -350,26 +368,19 @@ class Script:
         if not self.ends[side].closed(): self.ends[side].steps.append(("closed", None, False))
 
     def tick(self):
-        for side in "cs":
-            e = self.ends[side]
-            heard = e.heard()
-            if e.link() is not None and not e.closed() and heard is not None and self.now >= heard + 30000:
-                e.steps.append(("silenced", self.now))
-                self.say(side, "silent")
-            else: e.steps.append(("ticked", self.now))
+        for side in "cs": self.tick_end(side)
+
+    def tick_end(self, side):
+        e = self.ends[side]
+        heard = e.heard()
+        if e.link() is not None and not e.closed() and heard is not None and self.now >= heard + 30000:
+            e.steps.append(("silenced", self.now))
+            self.say(side, "silent")
+        else: e.steps.append(("ticked", self.now))
 
     def send(self, side, text):
         e = self.ends[side]
-        count, most, limit = e.limits
-        frame = ("message", text)
-        framed = lambda m: len(spell(("message", m), e.codec))
-        if e.closed(): return self.say(side, "refused Closed")
-        if not e.shaken(): return self.say(side, "refused Opening")
-        size = len(bare(frame, e.codec))
-        if size > limit: return self.say(side, f"refused TooLong {size}")
-        held = e.held()
-        if len(held) >= count or sum(map(framed, held)) + framed(text) > most:
-            return self.say(side, f"refused Full {len(held)} {sum(map(framed, held))} {framed(text)}")
+        if words := e.refusal(text): return self.say(side, f"refused {words}")
         e.steps.append(("sent", text))
         self.say(side, f"sent {len(e.sent())}")
 
@@ -410,11 +421,14 @@ class Script:
             case ("closed", error): self.say(side, f"closed {'-' if error is None else json_text(error)}")
             case (name, *rest): self.say(side, " ".join([name, *map(str, rest)]))
 
-    def text(self):
-        if not self.begun: self.begin()
+    def stand(self):
         for side, name in ("c", "client"), ("s", "server"):
             e = self.ends[side]
             self.report.append(f"{name} {e.state()} sent {len(e.sent())} processed {len(e.processed())} held {len(e.held())}")
+
+    def text(self):
+        if not self.begun: self.begin()
+        self.stand()
         return "".join(line + "\n" for line in self.report)
 
 

@@ -123,9 +123,8 @@ class OwnCalls:
     def id(self, n):
         return self.prefix + str(n)
 
-    def begin(self, kind, uploads, target, arguments):
-        if uploads > MOST_UPLOADS:
-            return "not asked"
+    def enter(self, kind, uploads):
+        """The call's number, or why it isn't made."""
         new = uploads + (kind != "notify")
         if len(self.live_calls()) + len(self.live_uploads()) + new > MOST_LIVE:
             return "too many"
@@ -133,6 +132,14 @@ class OwnCalls:
         if n + uploads > MOST_NUMBERS:
             return "spent"
         self.log.append(("called", n, kind, uploads))
+        return n
+
+    def begin(self, kind, uploads, target, arguments):
+        if uploads > MOST_UPLOADS:
+            return "not asked"
+        n = self.enter(kind, uploads)
+        if isinstance(n, str):
+            return n
         name = "StreamInvocation" if kind == "stream" else "Invocation"
         who = "no id" if kind == "notify" else "id " + self.id(n)
         streams = " ".join(["streams", *(self.id(n + 1 + w) for w in range(uploads))])
@@ -266,7 +273,8 @@ class Jobs:
     """What happened: ("accepted", kind, id, streams, target, arguments), ("came", job, stream's place, input), ("marked", job),
     ("turned", job, input, act), ("over", job), ("replied", job, input), ("round",). Jobs are numbered from 1."""
 
-    def __init__(self):
+    def __init__(self, hub=calculator):
+        self.hub = hub
         self.log = []
 
     def calls(self):
@@ -377,21 +385,31 @@ class Jobs:
     def due(self):
         return "due" if any(self.is_due(job) for job, _ in self.live_jobs()) else "none due"
 
-    def step(self, room):
+    def next_turn(self):
+        """The job that has the next turn of this round, with its call."""
         passed = self.passed()
         for job, call in self.live_jobs():
-            if room and job > passed and self.is_due(job):
-                return self.turn(job, call)
-        return "no turn"
+            if job > passed and self.is_due(job):
+                return job, call
 
     def turn(self, job, call):
-        kind, text, streams, target, arguments = call
+        """The act of the job's turn."""
+        kind, _, streams, target, arguments = call
         if ("marked", job) in self.log:
             given, act = None, ("end", ("void",))
         else:
             given = self.next_input(job)
-            act = calculator(kind, target, arguments, streams, self.given(job) + [given])
+            act = self.hub(kind, target, arguments, streams, self.given(job) + [given])
         self.log.append(("turned", job, given, act))
+        return act
+
+    def step(self, room):
+        found = self.next_turn() if room else None
+        if found is None:
+            return "no turn"
+        job, call = found
+        kind, text, *_ = call
+        act = self.turn(job, call)
         return f"turn {job} {kind} {'no id' if kind == 'notify' else 'id ' + text} {self.shown_act(act)}"
 
     @staticmethod

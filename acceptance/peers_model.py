@@ -1,0 +1,492 @@
+#!/usr/bin/env python3
+"""A model of two peers, for crates/ht_peers: two ends as replay_model.py has them, with the tables of tables_model.py.
+
+    acceptance/peers_model.py --check [PROGRAM]    that the committed output is what the model says of the committed scripts, and
+                                                   that PROGRAM, if one is named, prints it
+    acceptance/peers_model.py --write              writes both: cases by hand, and random ones from fixed seeds (peers_script.py)
+    acceptance/peers_model.py                      prints what the model says of scripts on its standard input
+
+Each end, each table of own calls and each table of jobs is the list of what happened to it, and each question scans that list anew. The
+rules are those of docs/delivery.md, docs/calls.md and docs/hubs.md, and the methods those of docs/protocol.md. crates/ht_peers/src has the
+words of a script."""
+import json
+import pathlib
+import subprocess
+import sys
+
+import peers_script
+import replay_model
+from replay_model import Refused, json_text
+from tables_model import MOST_TIMES, MOST_UPLOADS, Jobs, OwnCalls, calculator, differences
+from tables_model import Refused as WordRefused, kind_of, number
+
+CRATE = pathlib.Path(__file__).resolve().parent.parent / "crates" / "ht_peers"
+TOO_LONG = {"error": "The answer is too long."}
+REQUIRED = {
+    1: ["target", "arguments"],
+    2: ["invocationId", "item"],
+    3: ["invocationId"],
+    4: ["invocationId", "target", "arguments"],
+    5: ["invocationId"],
+    6: [],
+    7: [],
+    8: ["sequenceId"],
+    9: ["sequenceId"],
+}
+
+
+# ---- values and messages
+
+
+def depth(value):
+    match value:
+        case list():
+            return 1 + max(map(depth, value), default=0)
+        case dict():
+            return 1 + max(map(depth, value.values()), default=0)
+    return 0
+
+
+def has_fraction(value):
+    match value:
+        case list():
+            return any(map(has_fraction, value))
+        case dict():
+            return any(map(has_fraction, value.values()))
+        case float():
+            return True
+        case int():
+            return not -(2**63) <= value < 2**64
+    return False
+
+
+def value_of(text):
+    """The value of a JSON text in a script."""
+    try:
+        value = json.loads(text)
+    except ValueError:
+        raise Refused
+    if has_fraction(value) or depth(value) > 64:
+        raise Refused
+    return value
+
+
+def values_of(text):
+    values = value_of(text)
+    if not isinstance(values, list):
+        raise Refused
+    return values
+
+
+def fits(tree):
+    """In its frame, which is one level, a message nests at most 64 deep."""
+    return max(depth(tree.get(name)) for name in ("arguments", "item", "result")) <= 63
+
+
+def invocation(kind, id, target, arguments, streams):
+    tree = {"type": 4 if kind == "stream" else 1, "target": target, "arguments": arguments}
+    if kind != "notify":
+        tree["invocationId"] = id
+    return tree | ({"streamIds": streams} if streams else {})
+
+
+def ending_tree(ending):
+    """An ending is ("void",), ("result", value) or ("error", text)."""
+    return {} if ending == ("void",) else {ending[0]: ending[1]}
+
+
+def ending_of(tree):
+    if tree.get("error") is not None:
+        return ("error", tree["error"])
+    return ("result", tree["result"]) if "result" in tree else ("void",)
+
+
+def shown_ending(ending):
+    return " ".join([ending[0], *map(json_text, ending[1:])])
+
+
+def frame_of(tree):
+    """What a frame of this JSON is, as replay_model.py has frames; ("bad", WORDS) if it is none, ("unknown", N) if its type is none."""
+    if not isinstance(tree, dict):
+        return ("bad", "NotObject")
+    kind = tree.get("type")
+    if kind not in REQUIRED:
+        return ("unknown", kind)
+    for name in REQUIRED[kind]:
+        if name not in tree:
+            return ("bad", "Missing " + name)
+    match kind:
+        case 6:
+            return ("ping",)
+        case 7:
+            return ("close", tree.get("error"), tree.get("allowReconnect", False))
+        case 8:
+            return ("ack", tree["sequenceId"])
+        case 9:
+            return ("sequence", tree["sequenceId"], tree.get("received"))
+    return ("message", json_text(tree))
+
+
+def tree_of(array):
+    """The object that says what this array of MessagePack says. Arrays of messages with headers or of other types aren't asked for."""
+    match array:
+        case [1 | 4 as kind, {}, id, target, arguments, *streams]:
+            tree = {"type": kind, "target": target, "arguments": arguments} | ({} if id is None else {"invocationId": id})
+            return tree | ({"streamIds": streams[0]} if streams and streams[0] else {})
+        case [2, {}, id, item]:
+            return {"type": 2, "invocationId": id, "item": item}
+        case [3, {}, id, 1, error]:
+            return {"type": 3, "invocationId": id, "error": error}
+        case [3, {}, id, 3, result]:
+            return {"type": 3, "invocationId": id, "result": result}
+        case [3, {}, id, 2]:
+            return {"type": 3, "invocationId": id}
+        case [5, {}, id]:
+            return {"type": 5, "invocationId": id}
+    raise Refused
+
+
+def confirm(kind, target, arguments, streams, _inputs):
+    """What a job of the client's hub does at its only turn."""
+    if target != "Confirm":
+        return ("end", ("void",))
+    if kind == "stream":
+        return ("end", ("error", "Not a stream."))
+    if streams or len(arguments) != 1:
+        return ("end", ("error", "Wrong arguments."))
+    return ("end", ("result", arguments[0]))
+
+
+# ---- two peers
+
+
+class Pair(replay_model.Script):
+    def __init__(self, options):
+        super().__init__()
+        codec, version, reconnect, *buffer = options.split(" ")
+        for option in (f"codec {codec}", f"version {version}", f"reconnect {reconnect}", "buffer " + " ".join(buffer)):
+            self.line(option)
+        self.begin()
+        self.calls = {"c": OwnCalls(""), "s": OwnCalls("s")}
+        self.jobs = {"c": Jobs(confirm), "s": Jobs(calculator)}
+        # the calls that jobs made: the number of each, and the job
+        self.asked = {"c": [], "s": []}
+
+    def act(self, word, rest):
+        if word == "stand":
+            self.stand()
+        elif word in ("c", "s"):
+            self.act_of(word, *rest.partition(" ")[::2])
+            self.tell_gone(word)
+        else:
+            self.action(f"{word} {rest}".strip())()
+
+    def act_of(self, side, verb, rest):
+        word, _, more = rest.partition(" ")
+        match verb:
+            case "lose" | "close" | "write" | "read":
+                self.action(f"{side} {verb} {rest}".strip())()
+            case "forge":
+                self.forge(side, rest)
+            case "forge-pack":
+                self.forge_pack(side, rest)
+            case "round":
+                self.jobs[side].round()
+                self.turns(side)
+            case "turns":
+                self.turns(side)
+            case "due":
+                due = self.may_turn(side) and self.jobs[side].due() == "due"
+                self.say(side, "due" if due else "none due")
+            case "answer":
+                # No job of these hubs hands up a deed, and an ask has another answer.
+                number(word)
+                if more not in ("done", "failed", "asked"):
+                    raise Refused
+                self.say(side, "refused UnknownId")
+            case "call" | "stream" | "notify":
+                self.call(side, verb, 0, word, values_of(more))
+            case "upload":
+                self.call(side, "call", 1, word, values_of(more))
+            case "with":
+                count, _, more = more.partition(" ")
+                target, _, arguments = more.partition(" ")
+                self.call(side, kind_of(word), number(count, 32), target, values_of(arguments))
+            case "cancel":
+                self.cancel(side, number(word))
+            case "item":
+                self.upload(side, "item-sent", number(word), 0, {"type": 2, "item": value_of(more)})
+            case "item-of":
+                place, _, more = more.partition(" ")
+                self.upload(side, "item-sent", number(word), number(place, 32), {"type": 2, "item": value_of(more)})
+            case "done":
+                self.upload(side, "done", number(word), 0, {"type": 3})
+            case "done-of":
+                self.upload(side, "done", number(word), number(more, 32), {"type": 3})
+            case "fail":
+                self.upload(side, "done", number(word), 0, {"type": 3, "error": more})
+            case _:
+                raise Refused
+
+    # ---- what is forged
+
+    def put(self, side, frame, size):
+        link = self.ends[side].link()
+        if link is not None:
+            self.frames.setdefault((side, link), []).append((frame, size))
+
+    def forge(self, side, text):
+        try:
+            frame = frame_of(json.loads(text))
+        except ValueError:
+            frame = ("bad", "NotJson")
+        self.put(side, frame, len(text.encode()) + 1)
+
+    def forge_pack(self, side, text):
+        array = value_of(text)
+        size = len(replay_model.pack(array))
+        self.put(side, frame_of(tree_of(array)), size + (1 if size < 128 else 2))
+
+    # ---- what is sent
+
+    def send(self, side, tree):
+        """Sends a message, or tells why not."""
+        if not fits(tree):
+            return "TooDeep"
+        refusal = self.ends[side].refusal(json_text(tree))
+        if refusal is None:
+            self.ends[side].steps.append(("sent", json_text(tree)))
+        return refusal
+
+    def make_call(self, side, kind, uploads, target, arguments):
+        """The number of a new call, or why it isn't made."""
+        calls = self.calls[side]
+        made = calls.enter(kind, uploads)
+        if isinstance(made, str):
+            return {"too many": "TooMany", "spent": "Spent"}[made]
+        streams = [calls.id(made + 1 + w) for w in range(uploads)]
+        refusal = self.send(side, invocation(kind, calls.id(made), target, arguments, streams))
+        if refusal is None:
+            return made
+        calls.undo()
+        return refusal
+
+    def call(self, side, kind, uploads, target, arguments):
+        if uploads > MOST_UPLOADS:
+            raise Refused
+        made = self.make_call(side, kind, uploads, target, arguments)
+        self.say(side, f"refused {made}" if isinstance(made, str) else f"call {made}")
+
+    def cancel(self, side, call):
+        calls = self.calls[side]
+        live = call in [n for n, _ in calls.live_calls()]
+        refusal = self.send(side, {"type": 5, "invocationId": calls.id(call)}) if live else "UnknownId"
+        self.say(side, f"refused {refusal}" if refusal else f"cancel {call}")
+
+    def upload(self, side, what, call, place, tree):
+        calls = self.calls[side]
+        live = (call, place) in calls.live_uploads()
+        refusal = self.send(side, tree | {"invocationId": calls.id(call + 1 + place)}) if live else "UnknownId"
+        if refusal is None and tree["type"] == 3:
+            calls.upload_ended(call, place)
+        self.say(side, f"refused {refusal}" if refusal else f"{what} {call}")
+
+    def tell_gone(self, side):
+        if self.ends[side].closed():
+            while (lost := self.calls[side].lose()) != "none lost":
+                self.say(side, f"ended {lost.removeprefix('lost ')} gone")
+
+    def tick_end(self, side):
+        super().tick_end(side)
+        self.tell_gone(side)
+
+    # ---- what comes
+
+    def take(self, side, frame):
+        e = self.ends[side]
+        match frame:
+            case ("bad", words):
+                heard = self.frames["s" if side == "c" else "c", e.link()]
+                at = sum(size for _, size in heard[: len(e.taken(e.link()))])
+                fault = f"frame {len(e.links()) - 1} {at} {words}"
+                e.steps.append(("failed", fault, frame))
+                self.say(side, f"fault {fault}")
+            case ("unknown", kind):
+                e.steps.append(("took", ("skipped", f"unknown {kind}"), frame))
+                self.say(side, f"skipped unknown {kind}")
+            case ("message", text) if e.makes(frame)[0] == "message":
+                e.steps.append(("took", ("message", text), frame))
+                self.handle(side, json.loads(text))
+            case _:
+                super().take(side, frame)
+
+    def handle(self, side, tree):
+        id = tree.get("invocationId")
+        match tree["type"]:
+            case 1:
+                self.accept(side, "notify" if id is None else "call", tree)
+            case 4:
+                self.accept(side, "stream", tree)
+            case 2:
+                streams = [n for n, kind in self.calls[side].live_calls() if self.calls[side].id(n) == id and kind == "stream"]
+                if streams:
+                    self.say(side, f"item {streams[0]} {json_text(tree['item'])}")
+                else:
+                    self.feed(side, id, ("item", tree["item"]))
+            case 3:
+                self.take_ending(side, id, ending_of(tree))
+            case 5:
+                found = self.jobs[side].cancel(id) != "unknown"
+                self.say(side, f"cancelled {id}" if found else f"skipped unknown-id {id}")
+
+    def accept(self, side, kind, tree):
+        id = tree.get("invocationId")
+        answer = self.jobs[side].accept(kind, id, tree.get("streamIds") or [], tree["target"], tree["arguments"])
+        if answer.startswith("in use "):
+            self.break_off(side, "Id in use.", "in-use " + answer.removeprefix("in use "))
+        elif answer == "too many":
+            self.break_off(side, "Too many calls.", "too-many")
+        else:
+            self.say(side, f"began {'-' if id is None else id} {tree['target']}")
+
+    def break_off(self, side, reason, fault):
+        """Closes the end, if it is open, and tells by what."""
+        if not self.ends[side].closed():
+            self.ends[side].steps.append(("closed", reason, False))
+        self.say(side, f"fault {fault}")
+
+    def feed(self, side, id, given):
+        answer = self.jobs[side].feed(id, given)
+        if answer == "unknown":
+            self.say(side, f"skipped unknown-id {id}")
+        elif answer == "flood":
+            self.break_off(side, "Too many inputs.", "flood")
+        else:
+            self.say(side, f"fed {id}")
+
+    def take_ending(self, side, id, ending):
+        calls = self.calls[side]
+        settled = calls.settle(id)
+        if settled == "unknown":
+            return self.feed(side, id, ("stream end", ending[1] if ending[0] == "error" else None))
+        call = int(settled.removeprefix("settled "))
+        for made, job in self.asked[side]:
+            if made == call:
+                self.jobs[side].answer(job, ending)
+        self.say(side, f"ended {call} {shown_ending(ending)}")
+
+    # ---- turns
+
+    def may_turn(self, side):
+        e = self.ends[side]
+        count, most, frame = e.limits
+        held = e.held()
+        framed = sum(len(replay_model.spell(("message", text), e.codec)) for text in held)
+        return not e.closed() and len(held) < count and framed + frame + 5 <= most
+
+    def turns(self, side):
+        """The turns of this round."""
+        jobs = self.jobs[side]
+        while self.may_turn(side) and (found := jobs.next_turn()):
+            job, call = found
+            self.carry_out(side, job, call, jobs.turn(job, call))
+
+    def carry_out(self, side, job, call, act):
+        kind, id, *_ = call
+        match act:
+            case ("item", value) if kind == "stream":
+                if not self.say_answer(side, id, {"type": 2, "invocationId": id, "item": value}):
+                    self.jobs[side].end(job)
+            case ("end", ending) if kind != "notify":
+                self.say_answer(side, id, {"type": 3, "invocationId": id} | ending_tree(ending))
+            case ("ask", target, arguments):
+                made = self.make_call(side, "call", 0, target, arguments)
+                if isinstance(made, str):
+                    self.jobs[side].answer(job, ("error", "The ask was refused."))
+                else:
+                    self.asked[side].append((made, job))
+
+    def say_answer(self, side, id, tree):
+        """Sends an answer or, if that is too long or too deep, the last word: whether it was the answer."""
+        if self.send(side, tree) is None:
+            return True
+        self.send(side, {"type": 3, "invocationId": id} | TOO_LONG)
+        return False
+
+
+# ---- scripts
+
+
+class Play:
+    def __init__(self):
+        self.pair = None
+
+    def act(self, action):
+        """What comes of an action, in lines."""
+        word, _, rest = action.partition(" ")
+        if word == "note":
+            return [rest]
+        if word == "begin":
+            self.pair = Pair(rest)
+            return []
+        if self.pair is None:
+            raise Refused
+        self.pair.report.clear()
+        self.pair.act(word, rest)
+        return list(self.pair.report)
+
+    def answers(self, place, line):
+        """What comes of a line of a script, in lines."""
+        actions = [line]
+        try:
+            if (line + " ").startswith("repeat "):
+                times, _, action = line[7:].partition(" ")
+                if number(times) > MOST_TIMES:
+                    raise Refused
+                actions = [action.replace("#", str(n)) for n in range(1, int(times) + 1)]
+        except (Refused, WordRefused):
+            return [f"line {place} refused"]
+        return [answer for action in actions for answer in self.answer(place, action)]
+
+    def answer(self, place, action):
+        try:
+            return self.act(action)
+        except (Refused, WordRefused):
+            return [f"line {place} refused"]
+
+
+def output_of(script):
+    play = Play()
+    lines = script.removesuffix("\n").split("\n") if script else []
+    return "".join(answer + "\n" for place, line in enumerate(lines, 1) for answer in play.answers(place, line))
+
+
+def check(program):
+    text = (CRATE / "stdin").read_text()
+    wanted = output_of(text)
+    if differences(wanted, (CRATE / "stdout").read_text(), "crates/ht_peers/stdout"):
+        return 1
+    if program:
+        run = subprocess.run([program], input=text, capture_output=True, text=True, timeout=120)
+        if differences(wanted, run.stdout, program):
+            return 1
+    print(f"peers_model: {len(wanted.splitlines())} lines are as the model says")
+    return 0
+
+
+def main():
+    match sys.argv[1:]:
+        case []:
+            sys.stdout.write(output_of(sys.stdin.read()))
+        case ["--write"]:
+            text = peers_script.script(Play)
+            (CRATE / "stdin").write_text(text)
+            (CRATE / "stdout").write_text(output_of(text))
+        case ["--check", *program] if len(program) < 2:
+            sys.exit(check(program[0] if program else None))
+        case _:
+            sys.exit(__doc__)
+
+
+if __name__ == "__main__":
+    main()
