@@ -1,6 +1,9 @@
 pub mod Effects
+pub mod Endings
+pub mod Hearing
 pub mod Keys
 pub mod Seals
 pub mod Sessions
 pub mod Takings
 pub mod Waiting
+pub mod Writing

@@ -26,14 +26,14 @@ use Rattle.hw_socket.specs.Lane.{Lane, fresh_lane}
 use Rattle.hw_socket.specs.Masks.{mask_of, with_mask, after_frame}
 use Rattle.hw_socket.specs.Messages.{content, role_of, Carries, IsSilent, closes}
 use Rattle.hw_socket.specs.Reading.{Finds, after_taking, Takes}
-use Rattle.hw_socket.specs.Sending.{Says}
-use Rattle.hw_socket.specs.Sessions.{Sent, SendsAll, Drains, Hears, IsHeardBy}
+use Rattle.hw_socket.specs.Sending.{Sent, Says}
+use Rattle.hw_socket.specs.Sessions.{SendsAll, Drains, Hears, IsHeardBy}
 use Rattle.hw_socket.proofs.Keys.{key_is_mask}
 use Rattle.hw_socket.proofs.Takings.{sends}
 
 -- ---- what one read answers is determined by what stands in front
 
-same_step : {p q : ℕ × Effect} → ◌≡◌ {A = Result (FrameStatus (ℕ × Effect)) Error} (Ok (Complete p)) (Ok (Complete q)) → p ≡ q
+pub same_step : {p q : ℕ × Effect} → ◌≡◌ {A = Result (FrameStatus (ℕ × Effect)) Error} (Ok (Complete p)) (Ok (Complete q)) → p ≡ q
 same_step e = cc e
 
 pub waiting : (lane next : Lane) (answer : SocketRead) (n : ℕ) → lane.ending ≡ None → read_step lane.conn lane.unread ≡ Ok (Partial n) → Takes lane next answer → (answer ≡ NotYet) × (next ≡ lane)
@@ -44,7 +44,7 @@ waiting lane next NotYet n here waits (inr (still, ([], mid, same, steps))) = (r
 waiting lane next Gone n here waits (inr (still, ([], mid, same, inl steps))) = absurd (cc (waits, rw same at steps.1))
 waiting lane next Gone n here waits (inr (still, ([], mid, same, inr steps))) = absurd (cc (waits, rw same at steps.1))
 
-not_silent : (m : Option Content) (bytes : List ℕ) → Carries m bytes → IsSilent m → ⊥
+pub not_silent : (m : Option Content) (bytes : List ℕ) → Carries m bytes → IsSilent m → ⊥
 not_silent None bytes carries silent = absurd carries
 not_silent (Some (text bs)) bytes carries silent = silent
 not_silent (Some (binary bs)) bytes carries silent = silent
@@ -52,7 +52,7 @@ not_silent (Some (ping bs)) bytes carries silent = absurd carries
 not_silent (Some (pong bs)) bytes carries silent = absurd carries
 not_silent (Some (close frame)) bytes carries silent = absurd carries
 
-not_closing : (m : Option Content) (bytes : List ℕ) → Carries m bytes → closes m ≡ true → ⊥
+pub not_closing : (m : Option Content) (bytes : List ℕ) → Carries m bytes → closes m ≡ true → ⊥
 not_closing None bytes carries ends = absurd carries
 not_closing (Some (text bs)) bytes carries ends = cc ends
 not_closing (Some (binary bs)) bytes carries ends = cc ends
@@ -60,7 +60,7 @@ not_closing (Some (ping bs)) bytes carries ends = absurd carries
 not_closing (Some (pong bs)) bytes carries ends = absurd carries
 not_closing (Some (close frame)) bytes carries ends = absurd carries
 
-one_payload : (m : Option Content) (a b : List ℕ) → Carries m a → Carries m b → b ≡ a
+pub one_payload : (m : Option Content) (a b : List ℕ) → Carries m a → Carries m b → b ≡ a
 one_payload None a b x y = absurd x
 one_payload (Some (text bs)) a b x y = sym y ∙ x
 one_payload (Some (binary bs)) a b x y = sym y ∙ x
@@ -103,12 +103,12 @@ AreValid limit (m ∷ ms) = IsValid limit m × AreValid limit ms
 same_ok : {a b : Effect} → ◌≡◌ {A = Result Effect Error} (Ok a) (Ok b) → b ≡ a
 same_ok e = cc e
 
-said : (lane mid : Lane) (is_text : Bool) (bytes : List ℕ) → lane.conn.state ≡ Active → Says lane mid bytes is_text true
+pub said_as_frame : (lane mid : Lane) (is_text : Bool) (bytes : List ℕ) → lane.conn.state ≡ Active → Says lane mid bytes is_text true
     → mid ≡ record lane { out = after_frame lane.out (frame_of (record { is_text = is_text; bytes = bytes })) }
-said lane mid true bytes active says =
+said_as_frame lane mid true bytes active says =
     let e = same_ok (sym (sends lane.conn true bytes active) ∙ says.2.1) in
     says.2.2 ∙ rw e refl
-said lane mid false bytes active says =
+said_as_frame lane mid false bytes active says =
     let e = same_ok (sym (sends lane.conn false bytes active) ∙ says.2.1) in
     says.2.2 ∙ rw e refl
 
@@ -116,7 +116,7 @@ sent_all : (limit : ℕ) (ms : List Sent) (lane next : Lane) → lane.conn.state
     → (next.out.bytes ≡ lane.out.bytes ++ spell lane.out.side lane.out.frames ms) × AreValid limit ms
 sent_all limit [] lane next active short same = (rw (same, append-nil) refl, tt)
 sent_all limit (m ∷ ms) lane next active short (mid, says, rest) =
-    let is = said lane mid m.is_text m.bytes active says in
+    let is = said_as_frame lane mid m.is_text m.bytes active says in
     let after : Lane = record lane { out = after_frame lane.out (frame_of m) } in
     let later = sent_all limit ms after next active (All-tail (λ (s : Sent). length s.bytes ≤ limit) m ms short) (rw is at rest) in (
       later.0 ∙ append_assoc lane.out.bytes (with_mask (mask_of lane.out.side lane.out.frames) (frame_of m)) (spell lane.out.side ((lane.out.frames + 1) % 2 ^ 64) ms),
@@ -126,7 +126,7 @@ sent_all limit (m ∷ ms) lane next active short (mid, says, rest) =
 -- ---- reading it
 
 -- a connection that is between messages
-abbrev idle : Role → ℕ → Connection
+abbrev pub idle : Role → ℕ → Connection
 idle role limit = record {
   role = role;
   state = Active;
@@ -134,14 +134,14 @@ idle role limit = record {
   fragments = None;
 }
 
-abbrev gives : Connection → Sent → Effect
+abbrev pub gives : Connection → Sent → Effect
 gives conn m = record { message = Some (content m.is_text m.bytes); reply = None; next = conn }
 
 -- the mask is one that this role takes
-abbrev IsTaken : Role → Option (List ℕ) → Type 0
+abbrev pub IsTaken : Role → Option (List ℕ) → Type 0
 IsTaken role mask = (is_some mask ≡ is_server role) × IsMask mask
 
-header_taken : (role : Role) (limit : ℕ) (frame : Outgoing) (mask : Option (List ℕ)) → IsTaken role mask → check_header (idle role limit) (whole_header frame.opcode mask) ≡ Ok tt
+pub header_taken : (role : Role) (limit : ℕ) (frame : Outgoing) (mask : Option (List ℕ)) → IsTaken role mask → check_header (idle role limit) (whole_header frame.opcode mask) ≡ Ok tt
 header_taken Role.Server limit frame mask taken = rw taken.0
 header_taken Role.Client limit frame mask taken = rw taken.0
 
@@ -151,18 +151,18 @@ unfolding on_data on_message_bytes
 delivers role limit true bytes fits valid = rw (ltb_false limit (length bytes) fits, is_utf8-true bytes (valid refl)) refl
 delivers role limit false bytes fits valid = rw (ltb_false limit (length bytes) fits) refl
 
-takes_frame : (role : Role) (limit : ℕ) (mask : Option (List ℕ)) (m : Sent) (rest : List ℕ) → limit < 2 ^ 63 → IsTaken role mask → IsValid limit m
+pub takes_frame : (role : Role) (limit : ℕ) (mask : Option (List ℕ)) (m : Sent) (rest : List ℕ) → limit < 2 ^ 63 → IsTaken role mask → IsValid limit m
     → read_step (idle role limit) (with_mask mask (frame_of m) ++ rest) ≡ Ok (Complete (length (with_mask mask (frame_of m)), gives (idle role limit) m))
 unfolding on_frame
 takes_frame role limit mask m rest small taken valid =
     read_step-encode_frame (idle role limit) (whole_header (frame_of m).opcode mask) m.bytes rest (record { mask = taken.1; top_bit_clear = omega arith })
     ∙ rw (ltb_false limit (length m.bytes) valid.0, header_taken role limit (frame_of m) mask taken, delivers role limit m.is_text m.bytes valid.0 valid.1) refl
 
-nothing_waits : (role : Role) (limit : ℕ) → Waits (read_step (idle role limit) [])
+pub nothing_waits : (role : Role) (limit : ℕ) → Waits (read_step (idle role limit) [])
 unfolding read_step decode_frame decode_header
 nothing_waits role limit = (1, refl)
 
-front_nil : (u more : List ℕ) → u ++ more ≡ [] → u ≡ []
+pub front_nil : (u more : List ℕ) → u ++ more ≡ [] → u ≡ []
 front_nil [] more is = refl
 front_nil (b ∷ u) more is = absurd (cc is)
 
@@ -173,14 +173,14 @@ abbrev at : SocketSide → List ℕ → Lane
 at side u = record (fresh_lane side) { unread = u }
 
 -- each frame of the sender has a mask that the reader takes
-abbrev AreOpposite : SocketSide → SocketSide → Type 0
+abbrev pub AreOpposite : SocketSide → SocketSide → Type 0
 AreOpposite from to = (n : ℕ) → IsTaken (role_of to) (mask_of from n)
 
-carries : (is_text : Bool) (bytes : List ℕ) → Carries (Some (content is_text bytes)) bytes
+pub carries : (is_text : Bool) (bytes : List ℕ) → Carries (Some (content is_text bytes)) bytes
 carries true bytes = refl
 carries false bytes = refl
 
-waits_or_is : (conn : Connection) (u more : List ℕ) (p : ℕ × Effect) (r : Result (FrameStatus (ℕ × Effect)) Error) → read_step conn u ≡ r → read_step conn (u ++ more) ≡ Ok (Complete p)
+pub waits_or_is : (conn : Connection) (u more : List ℕ) (p : ℕ × Effect) (r : Result (FrameStatus (ℕ × Effect)) Error) → read_step conn u ≡ r → read_step conn (u ++ more) ≡ Ok (Complete p)
     → Waits (read_step conn u) ⊎ (read_step conn u ≡ Ok (Complete p))
 waits_or_is conn u more p (Ok (Partial n)) is whole = inl (n, is)
 waits_or_is conn u more p (Ok (Complete q)) is whole = inr (sym (read_step-append conn u more (λ w. cc (is, w.1))) ∙ whole)

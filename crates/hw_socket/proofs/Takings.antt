@@ -82,7 +82,7 @@ side_kept : (w : Written) (reply : _) → (after_reply w reply).side ≡ w.side
 side_kept w None = refl
 side_kept w (Some frame) = refl
 
-silent_stays : (m : Option Content) → IsSilent m → closes m ≡ false
+pub silent_stays : (m : Option Content) → IsSilent m → closes m ≡ false
 silent_stays None h = refl
 silent_stays (Some (text bytes)) h = absurd h
 silent_stays (Some (binary bytes)) h = absurd h
@@ -90,7 +90,7 @@ silent_stays (Some (ping bytes)) h = refl
 silent_stays (Some (pong bytes)) h = refl
 silent_stays (Some (close frame)) h = absurd h
 
-payload_stays : (m : Option Content) (bytes : List ℕ) → Carries m bytes → closes m ≡ false
+pub payload_stays : (m : Option Content) (bytes : List ℕ) → Carries m bytes → closes m ≡ false
 payload_stays None bytes h = absurd h
 payload_stays (Some (text bs)) bytes h = refl
 payload_stays (Some (binary bs)) bytes h = refl

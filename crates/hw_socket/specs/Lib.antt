@@ -1,8 +1,10 @@
+pub mod Calls
 pub mod Closing
 pub mod Lane
+pub mod Limits
 pub mod Masks
 pub mod Messages
 pub mod Reading
 pub mod Sending
 pub mod Sessions
-pub mod Limits
+pub mod Streams

@@ -1,6 +1,6 @@
 //! The lane: what is fed to it, read from it, sent by it and to be written for it.
 
-ghost use Rattle.std.specs.Prelude.{◌≡◌, ◌≤◌, ◌≢◌, [], if◌then◌else◌, None, Some, Ok, true, false, drop, length, IfOk, IfSome, OnOk, OnErr, option_map, IsUtf8};
+ghost use Rattle.std.specs.Prelude.{◌≡◌, ◌≤◌, ◌≢◌, [], if◌then◌else◌, None, Some, Ok, true, false, take, drop, length, IfOk, IfSome, OnOk, OnErr, option_map, IsUtf8};
 ghost use Rattle.websocket.specs.Connection.{closing_state, check_close, IsDoneSending};
 ghost use Rattle.websocket.specs.CloseCode.{close_code_number};
 ghost use Rattle.websocket.specs.Content.{received_content, IsReceivedInside, IsWithinLimit};
@@ -8,7 +8,7 @@ ghost use Rattle.hw_socket.specs.Closing.{status_of, ending_of};
 ghost use Rattle.hw_socket.specs.Lane.{Lane, fresh_lane, limits};
 ghost use Rattle.hw_socket.specs.Messages.{role_of, AreWithin, IsData};
 ghost use Rattle.hw_socket.specs.Reading.{Feeds, Takes, Loses, LosesHere, Steps, Shows, IsWithin, HasLittleLeft, ending_after};
-ghost use Rattle.hw_socket.specs.Sending.{Says, after_shut, shut_ending};
+ghost use Rattle.hw_socket.specs.Sending.{Says, Drops, after_shut, shut_ending};
 
 use crate::inbox::Inbox;
 use crate::outbox::Outbox;
@@ -65,8 +65,8 @@ impl SocketLane {
     }
 
     /// Adds bytes that came. They are kept until a frame takes them, so the caller bounds them: by the length of a piece, and by reading
-    /// until `NotYet` after each. A lane that is gone keeps them and reads none of them, so a caller feeds it no more. If this is out of memory, the lane is
-    /// as before.
+    /// until `NotYet` after each. A lane that is gone keeps them and reads none of them, so a caller feeds it no more. If this is out of
+    /// memory, the lane is as before.
     pub fn feed(&mut self, piece: &[u8]) -> Result<(), AllocError>
         ensures fed { OnOk result (Feeds self.old piece.now self.new) }
         ensures kept { OnErr result (self.new ≡ self.old) }
@@ -84,7 +84,8 @@ impl SocketLane {
     /// Drops the first `count` bytes of `out`, which were written.
     pub fn drop_out(&mut self, count: usize)
         requires { count ≤ length self.old.out.bytes }
-        ensures { self.new ≡ record self.old { out = record self.old.out { bytes = drop count self.old.out.bytes } } }
+        ensures dropped { self.new ≡ record self.old { out = record self.old.out { bytes = drop count self.old.out.bytes } } }
+        ensures left { Drops self.old (take count self.old.out.bytes) self.new }
     {
         self.outbox.drop_front(count);
     }

@@ -16,9 +16,10 @@
 //! lane.drop_out(count);
 //! ```
 //!
-//! Proved: each read takes the frames that the protocol finds in the bytes fed, and says by which its answer came; pings are answered, with masks
-//! that a seed determines; a lane writes one close frame at most, with the status that belongs to its end; what one side sends is what the
-//! other reads, in whatever pieces its bytes come.
+//! Proved: each read takes the frames that the protocol finds in the bytes fed, and says by which its answer came; pings are answered,
+//! with masks that a seed determines; a lane writes one close frame at most, with the status that belongs to its end, and nothing after
+//! it; what one side sends is what the other reads, in whatever pieces its bytes leave and come, and whatever else is done with both
+//! lanes.
 //!
 //! The crate doesn't know sockets, clocks, the opening handshake, nor what a message says. It stands on the kit's `websocket`, the protocol
 //! without IO.
@@ -31,5 +32,8 @@ mod outbox;
 mod vocabulary;
 
 pub use lane::SocketLane;
-pub use laws::{clients_are_heard, limits_are_named, servers_are_heard};
+pub use laws::{
+    clients_are_heard, lanes_end_once, lanes_write_frames, limits_are_named, servers_are_heard,
+    sessions_are_heard,
+};
 pub use vocabulary::{Ending, MOST_FRAME, MOST_MESSAGE, SocketRead, SocketSide};
