@@ -1,0 +1,11 @@
+pub mod IdleTicks
+pub mod InOrder
+pub mod Members
+pub mod SocketAnswers
+pub mod Tests
+pub mod Telling
+pub mod Further
+pub mod Grown
+pub mod OneSession
+pub mod Bodies
+pub mod TokenLetters

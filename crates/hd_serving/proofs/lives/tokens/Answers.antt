@@ -1,0 +1,7 @@
+use Rattle.std.proofs.Common.{refl}
+use Rattle.std.specs.Fmt.{digits}
+use Rattle.hd_serving.proofs.lives.tokens.Goals as goal
+
+pub returns-clause-numbered : goal.returns-clause-numbered
+unfolding digits
+returns-clause-numbered c = refl

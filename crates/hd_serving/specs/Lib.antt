@@ -1,0 +1,13 @@
+pub mod Numbers
+pub mod Lives
+pub mod Texts
+pub mod Table
+pub mod TableExamples
+pub mod LivesExamples
+pub mod Machine
+pub mod Doings
+pub mod Plans
+pub mod Serves
+pub mod Plain
+pub mod Sessions
+pub mod Laws

@@ -1,0 +1,176 @@
+-- What is noted of a server's connections, and the life of a token at a moment, which is read off the notes. The latest note comes first.
+-- This project's own rules: the moments, and that a connection that polls is never resumed.
+use Rattle.std.specs.Prelude.{ℕ, zero, suc, ◌+◌, Bool, true, false, not, ◌&&◌, ◌||◌, ◌==◌, nat_le, List, [], ◌∷◌, ◌++◌, filter, length, Option, Some, None, is_some, option_map, unwrap_or, if◌then◌else◌}
+use Rattle.hm_message.specs.Same.{same_text}
+use Rattle.hd_delivery.specs.Histories.{is_this, first_of}
+use Rattle.hd_serving.specs.declared.vocabulary.Life.{Life}
+use Rattle.hd_serving.specs.declared.vocabulary.Life.TheVariants.{Unknown, Fresh, Socket, Lost, Polling, Ending}
+use Rattle.hd_serving.specs.Numbers.{most_live, most_connections, lives_for}
+
+-- Connections are numbered from 1, each by the note that makes it. A connection comes to its end by one of four notes: `Ended`, by its own
+-- side or the other's while it polls; `Expired`, by its moment, which is the same if it polls, and else the last of it; `LetGo`, for good
+pub data Note : Type 0 where
+  Negotiated : (conn : ℕ) → (token : List ℕ) → (reconnect : Bool) → (now : ℕ) → Note
+  Opened : (conn now : ℕ) → Note  -- without a token
+  Socketed : (conn lane now : ℕ) → Note  -- it stands on that lane from now on
+  Polled : (conn lane now : ℕ) → Note  -- a poll came on that lane
+  Answered : (conn lane now : ℕ) → Note  -- the poll on that lane ended
+  LaneLost : (conn lane now : ℕ) → Note
+  Ended : (conn now : ℕ) → Note
+  Expired : (conn now : ℕ) → Note
+  LetGo : (conn : ℕ) → Note
+
+-- ---- what is read off
+
+-- how many connections were made
+abbrev pub made : List Note → ℕ
+made [] = 0
+made (Negotiated c token reconnect now ∷ h) = suc (made h)
+made (Opened c now ∷ h) = suc (made h)
+made (_ ∷ h) = made h
+
+-- the connection that was made with a token
+abbrev pub conn_with : List ℕ → List Note → Option ℕ
+conn_with token [] = None
+conn_with token (Negotiated c own reconnect now ∷ h) = if same_text token own then Some c else conn_with token h
+conn_with token (_ ∷ h) = conn_with token h
+
+-- when its token was made
+abbrev pub negotiated_at : ℕ → List Note → Option ℕ
+negotiated_at c [] = None
+negotiated_at c (Negotiated k token reconnect now ∷ h) = if c == k then Some now else negotiated_at c h
+negotiated_at c (_ ∷ h) = negotiated_at c h
+
+-- whether reconnect was granted with its token
+abbrev pub is_promised : ℕ → List Note → Bool
+is_promised c [] = false
+is_promised c (Negotiated k token reconnect now ∷ h) = if c == k then reconnect else is_promised c h
+is_promised c (_ ∷ h) = is_promised c h
+
+-- whether it was opened without a token
+abbrev pub is_opened : ℕ → List Note → Bool
+is_opened c [] = false
+is_opened c (Opened k now ∷ h) = (c == k) || is_opened c h
+is_opened c (_ ∷ h) = is_opened c h
+
+-- the lane of the socket on which it stands
+abbrev pub socket_of : ℕ → List Note → Option ℕ
+socket_of c [] = None
+socket_of c (Socketed k lane now ∷ h) = if c == k then Some lane else socket_of c h
+socket_of c (LaneLost k lane now ∷ h) = if (c == k) && is_this lane (socket_of c h) then None else socket_of c h
+socket_of c (_ ∷ h) = socket_of c h
+
+-- when that socket was lost, if it stands on none since
+abbrev pub lost_at : ℕ → List Note → Option ℕ
+lost_at c [] = None
+lost_at c (Socketed k lane now ∷ h) = if c == k then None else lost_at c h
+lost_at c (LaneLost k lane now ∷ h) = if (c == k) && is_this lane (socket_of c h) then Some now else lost_at c h
+lost_at c (_ ∷ h) = lost_at c h
+
+-- the lane and the moment of the poll that is held
+abbrev pub poll_of : ℕ → List Note → Option (ℕ × ℕ)
+poll_of c [] = None
+poll_of c (Polled k lane now ∷ h) = if c == k then Some (lane, now) else poll_of c h
+poll_of c (Answered k lane now ∷ h) = if (c == k) && is_this lane (option_map (λ p. p.0) (poll_of c h)) then None else poll_of c h
+poll_of c (LaneLost k lane now ∷ h) = if (c == k) && is_this lane (option_map (λ p. p.0) (poll_of c h)) then None else poll_of c h
+poll_of c (_ ∷ h) = poll_of c h
+
+-- when its last poll ended, if none came since
+abbrev pub poll_ended : ℕ → List Note → Option ℕ
+poll_ended c [] = None
+poll_ended c (Polled k lane now ∷ h) = if c == k then None else poll_ended c h
+poll_ended c (Answered k lane now ∷ h) = if (c == k) && is_this lane (option_map (λ p. p.0) (poll_of c h)) then Some now else poll_ended c h
+poll_ended c (LaneLost k lane now ∷ h) = if (c == k) && is_this lane (option_map (λ p. p.0) (poll_of c h)) then Some now else poll_ended c h
+poll_ended c (_ ∷ h) = poll_ended c h
+
+-- whether it polls
+abbrev pub is_polling : ℕ → List Note → Bool
+is_polling c h = is_some (poll_of c h) || is_some (poll_ended c h)
+
+-- when its token began to end
+abbrev pub ended_at : ℕ → List Note → Option ℕ
+ended_at c [] = None
+ended_at c (Ended k now ∷ h) = if c == k then Some now else ended_at c h
+ended_at c (Expired k now ∷ h) = if (c == k) && (is_polling c h && not (is_some (ended_at c h))) then Some now else ended_at c h
+ended_at c (_ ∷ h) = ended_at c h
+
+-- whether nothing is known of it any more
+abbrev pub is_let_go : ℕ → List Note → Bool
+is_let_go c [] = false
+is_let_go c (LetGo k ∷ h) = (c == k) || is_let_go c h
+is_let_go c (Expired k now ∷ h) = ((c == k) && (not (is_polling c h) || is_some (ended_at c h))) || is_let_go c h
+is_let_go c (_ ∷ h) = is_let_go c h
+
+-- ---- lives
+
+abbrev pub when : Bool → Life → Option Life
+when true life = Some life
+when false life = None
+
+-- its life but for moments: the first that applies
+abbrev pub standing : ℕ → List Note → Life
+standing c h = unwrap_or
+    (first_of (when (is_let_go c h) Unknown)
+    (first_of (when (is_some (ended_at c h)) Ending)
+    (first_of (option_map Socket (socket_of c h))
+    (first_of (when (is_some (lost_at c h)) Lost)
+    (first_of (when (is_polling c h) Polling)
+    (when (is_opened c h || is_some (negotiated_at c h)) Fresh)))))) Unknown
+
+-- from when on such a life counts towards its end
+abbrev pub since : ℕ → Life → List Note → Option ℕ
+since c Unknown h = None
+since c Fresh h = negotiated_at c h
+since c (Socket lane) h = None
+since c Lost h = lost_at c h
+since c Polling h = poll_ended c h
+since c Ending h = ended_at c h
+
+-- the moment that ends it, if one does
+abbrev pub deadline : ℕ → List Note → Option ℕ
+deadline c h = option_map (λ moment. moment + lives_for) (since c (standing c h) h)
+
+abbrev pub is_past : ℕ → Option ℕ → Bool
+is_past now None = false
+is_past now (Some moment) = nat_le moment now
+
+-- past its moment one that polls is closed, and every other is unknown
+abbrev pub past : Life → Life
+past Polling = Ending
+past _ = Unknown
+
+-- the life of a connection at a moment
+abbrev pub life_of : ℕ → ℕ → List Note → Life
+life_of c now h = if is_past now (deadline c h) then past (standing c h) else standing c h
+
+-- of no connection too
+abbrev pub life_of_some : Option ℕ → ℕ → List Note → Life
+life_of_some None now h = Unknown
+life_of_some (Some c) now h = life_of c now h
+
+-- the life of a token at a moment
+abbrev pub life : List ℕ → ℕ → List Note → Life
+life token now h = life_of_some (conn_with token h) now h
+
+-- ---- all connections
+
+abbrev pub is_known : Life → Bool
+is_known Unknown = false
+is_known _ = true
+
+-- 1 to n
+abbrev pub numbers_to : ℕ → List ℕ
+numbers_to zero = []
+numbers_to (suc n) = numbers_to n ++ suc n ∷ []
+
+-- the connections that live at a moment
+abbrev pub live : ℕ → List Note → List ℕ
+live now h = filter (λ c. is_known (life_of c now h)) (numbers_to (made h))
+
+-- no further connection can be made: as many live as may, or as many were made
+abbrev pub is_busy : ℕ → List Note → Bool
+is_busy now h = nat_le most_live (length (live now h)) || nat_le most_connections (made h)
+
+-- the connections whose moment has come, the least number first
+abbrev pub overdue : ℕ → List Note → List ℕ
+overdue now h = filter (λ c. is_past now (deadline c h)) (numbers_to (made h))

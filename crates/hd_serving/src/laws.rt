@@ -1,0 +1,85 @@
+//! Laws of a server. No function here does anything: its contract is the law.
+
+ghost use Rattle.std.specs.Prelude.{◌≡◌, ◌+◌};
+ghost use Rattle.hd_delivery.specs.Numbers.{most_framing};
+ghost use Rattle.hd_serving.specs.Laws.{BodiesAreBounded, ConnectionsInOrder, EachMemberOnce, FatesAreRefusals, IdleTicksAreUnseen, NothingIsLeft, ServersArePeers, SocketsByLife, TokensDiffer, TurnsAreTested, TurnsGoFurther, WhatIsToldGrows};
+ghost use Rattle.hd_serving.specs.Numbers.{most_before_last, most_connections, most_frame, most_live, most_polled, lives_for, held_for};
+
+use crate::vocabulary::{HELD_FOR, LIVES_FOR, MOST_CONNECTIONS, MOST_LIVE, MOST_POLLED};
+
+/// The constants are the numbers of the definitions.
+pub fn numbers_are_named()
+    ensures live { MOST_LIVE ≡ most_live }
+    ensures made { MOST_CONNECTIONS ≡ most_connections }
+    ensures unused { LIVES_FOR ≡ lives_for }
+    ensures held { HELD_FOR ≡ held_for }
+    ensures polled { MOST_POLLED ≡ most_polled }
+    ensures last { most_before_last + (most_frame + most_framing) ≡ most_polled }
+{}
+
+/// A socket that names a token is answered by the token's life and whether its end may be resumed, and by nothing else.
+pub fn sockets_by_life()
+    ensures { SocketsByLife }
+{}
+
+/// The machine lets a peer's jobs have turns exactly if the rules of peers do.
+pub fn turns_are_tested()
+    ensures { TurnsAreTested }
+{}
+
+/// A member of a broadcast gets it if its end may send it, is closed if its end refuses it for want of room, and is passed over if it
+/// nests too deep or its end refuses it for another reason.
+pub fn fates_are_refusals()
+    ensures { FatesAreRefusals }
+{
+    hm_message::image_is_its_image();
+}
+
+/// A deed is told to each member of its group or user once, also to one that joined twice.
+pub fn broadcasts_once()
+    ensures { EachMemberOnce }
+{
+    hd_server::pairs_stay_distinct();
+}
+
+/// In a round connections have their turns in the order of their numbers.
+pub fn connections_in_order()
+    ensures { ConnectionsInOrder }
+{}
+
+/// A tick that is no silence and makes no new Ping due changes nothing that an end says or reads, so it may be left out.
+pub fn idle_ticks()
+    ensures { IdleTicksAreUnseen }
+{}
+
+/// After an event nothing is due on a connection that stands on a socket or holds a poll.
+pub fn nothing_left<Job>()
+    ensures { NothingIsLeft Job }
+{}
+
+/// An event is heard once in its turn, and what was done before stays.
+pub fn turns_go_further<Job>()
+    ensures { TurnsGoFurther Job }
+{}
+
+/// What was heard, asked, drawn and said is told as lists that only grow.
+pub fn what_is_told_grows()
+    ensures { WhatIsToldGrows }
+{}
+
+/// A server heard what it is said to have heard, and what each of its connections did is what a peer can do by itself.
+pub fn servers_are_peers<Job>()
+    ensures { ServersArePeers Job }
+{
+    turns_go_further::<Job>();
+}
+
+/// The body of a poll's reply has at most 65,536 bytes, if no frame in it has more than 32,773 with its framing.
+pub fn bodies_are_bounded()
+    ensures { BodiesAreBounded }
+{}
+
+/// Two connections have two tokens, whatever was drawn for them.
+pub fn tokens_differ()
+    ensures { TokensDiffer }
+{}

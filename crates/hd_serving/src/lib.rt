@@ -1,0 +1,35 @@
+//! What a server of hubs does at each event, from what it hears to what it says, in definitions that the crates above share. Its functions
+//! do nothing: their contracts are laws, and worked rows that the checker computes.
+//!
+//! - `Lives`: what is noted of connections, and the life of a token at a moment.
+//! - `Texts`: tokens, and the body that tells one.
+//! - `Table`: what is done about a request, by its first row that applies.
+//! - `Machine`: the peers of a server, round by round, and the deeds that their jobs hand up.
+//! - `Doings`: what a server did, as one list, and what is read off it.
+//! - `Plans`, `Serves`: what a server does at one event (`IsTurn`), and at any list of events (`Serves`).
+//!
+//! Proved (`Laws`): each connection of a server does what a peer can do by itself; after an event nothing is due on a socket or a held
+//! poll; a deed is told to each member once, by what its end can send; a socket that names a token is answered by its life; the body of
+//! a poll is bounded if its frames are; a tick that is idle may be left out. The rows of the table and whole sessions are computed.
+//!
+//! The crate doesn't know how a request is spelled, nor how a server keeps any of this.
+#![tactic(auto)]
+
+mod laws;
+mod lives;
+mod sessions;
+mod table;
+mod vocabulary;
+
+pub use laws::{
+    bodies_are_bounded, broadcasts_once, connections_in_order, fates_are_refusals, idle_ticks,
+    nothing_left, numbers_are_named, servers_are_peers, sockets_by_life, tokens_differ,
+    turns_are_tested, turns_go_further, what_is_told_grows,
+};
+pub use lives::{connections, fresh_tokens, polls, sockets, tokens};
+pub use sessions::{
+    a_room_is_joined, broadcasts, closings, conflicts, ends_of_polls, first_sockets, held_polls,
+    histories, idle_servers, losses, refused_lanes, rooms, silences, takeovers,
+};
+pub use table::{by_life, negotiates, without_token};
+pub use vocabulary::{HELD_FOR, LIVES_FOR, Life, MOST_CONNECTIONS, MOST_LIVE, MOST_POLLED, Said};

@@ -1,0 +1,48 @@
+//! The words that the definitions of this crate share with the code above: the life of a token, and what a server says at an event. The
+//! numbers in the rules of a server stand here too.
+
+use hd_lanes::{Reply, Vec8};
+
+/// The most connections of a server that live at one moment.
+pub const MOST_LIVE: u64 = 10_000;
+
+/// The most connections that a server ever makes.
+pub const MOST_CONNECTIONS: u64 = 1 << 62;
+
+/// For how many milliseconds a token lives that is not used: until its first request, after its lane was lost, without a poll, and after
+/// its connection was closed.
+pub const LIVES_FOR: u64 = 30_000;
+
+/// For how many milliseconds a poll is held at most.
+pub const HELD_FOR: u64 = 90_000;
+
+/// The most bytes of the body of a poll's reply.
+pub const MOST_POLLED: usize = 65_536;
+
+/// The life of a token at a moment.
+#[derive(Clone, Copy, Debug, PartialEq, Eq)]
+pub enum Life {
+    /// No connection has it, or not any more.
+    Unknown,
+    /// It was told, and not used.
+    Fresh,
+    /// Its connection stands on this lane, which is a WebSocket.
+    Socket { lane: u64 },
+    /// Its connection lost its lane, and can be resumed.
+    Lost,
+    /// Its connection polls.
+    Polling,
+    /// Its connection polled, and is closed. What is due can still be polled.
+    Ending,
+}
+
+/// What a server says.
+#[derive(Drop, PartialEq, Eq)]
+pub enum Said {
+    /// The reply to the request that the lane waits for.
+    Reply { lane: u64, reply: Reply },
+    /// One message, for a lane that is a WebSocket.
+    Bytes { lane: u64, bytes: Vec8, text: bool },
+    /// The lane is to end, once what was said before is written.
+    Shut { lane: u64 },
+}
