@@ -69,16 +69,20 @@ def peak(command, path):
     return int(status.split("VmHWM:")[1].split()[0]) / 1024
 
 
+def cargo_built(folder, name):
+    """The program of a folder with a Cargo.toml, built over Debian's crates without a network."""
+    target = pathlib.Path(tempfile.gettempdir()) / f"sr-bench-{name}"
+    source = ['source.crates-io.replace-with="debian"', 'source.debian.directory="/usr/share/cargo/registry"']
+    options = [option for setting in source for option in ("--config", setting)]
+    subprocess.run(["cargo", "build", "--quiet", "--release", "--offline", "--target-dir", target, *options], cwd=folder, check=True)
+    return str(target / "release" / name)
+
+
 def peer():
     """The Rust program to measure beside, or None where its crates aren't there."""
-    registry = "/usr/share/cargo/registry"
     if not list(pathlib.Path("/usr/share/cargo").glob("registry/serde_json*")) or not list(pathlib.Path("/usr/share/cargo").glob("registry/rmp-serde*")):
         return None
-    target = pathlib.Path(tempfile.gettempdir()) / "sr-bench-peer"
-    source = ['source.crates-io.replace-with="debian"', f'source.debian.directory="{registry}"']
-    options = [option for setting in source for option in ("--config", setting)]
-    subprocess.run(["cargo", "build", "--quiet", "--release", "--offline", "--target-dir", target, *options], cwd=TOP / "bench" / "peer", check=True)
-    return str(target / "release" / "peer")
+    return cargo_built(TOP / "bench" / "peer", "peer")
 
 
 def instructions(command, path):
