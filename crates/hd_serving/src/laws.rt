@@ -47,7 +47,7 @@ pub fn connections_in_order()
     ensures { ConnectionsInOrder }
 {}
 
-/// A tick that is no silence and makes no new Ping due changes nothing that an end says or reads, so it may be left out.
+/// A tick that is no silence and makes no new Ping due changes nothing that the end says or reads then.
 pub fn idle_ticks()
     ensures { IdleTicksAreUnseen }
 {}

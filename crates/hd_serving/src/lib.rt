@@ -10,7 +10,7 @@
 //!
 //! Proved (`Laws`): each connection of a server does what a peer can do by itself; after an event nothing is due on a socket or a held
 //! poll; a deed is told to each member once, by what its end can send; a socket that names a token is answered by its life; the body of
-//! a poll is bounded if its frames are; a tick that is idle may be left out. The rows of the table and whole sessions are computed.
+//! a poll is bounded if its frames are; an idle tick changes nothing that is said or read then. The rows of the table and whole sessions are computed.
 //!
 //! The crate doesn't know how a request is spelled, nor how a server keeps any of this.
 #![tactic(auto)]
