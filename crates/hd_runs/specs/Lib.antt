@@ -1,0 +1,4 @@
+pub mod Following
+pub mod Sides
+pub mod Alone
+pub mod Laws
