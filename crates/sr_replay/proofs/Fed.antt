@@ -12,11 +12,13 @@ use Rattle.hd_delivery.specs.Worlds.{Limits}
 use Rattle.hd_delivery.specs.Bytes.{Wire, IsSoundWire, ByteStep, Bytes, Does, bare_steps, bytes_on, in_frames, lent_bytes, unread_count}
 use Rattle.hd_delivery.specs.OneHistory.{IsHistory}
 use Rattle.hd_delivery.specs.Laws.{FedIsUnseen}
-use Rattle.sr_replay.specs.declared.action.Count.{Count}
-use Rattle.sr_replay.specs.declared.action.Count.TheVariants.{UpTo, Everything}
+use Rattle.sr_script.specs.declared.action.Count.{Count}
+use Rattle.sr_script.specs.declared.action.Count.TheVariants.{UpTo, Everything}
 use Rattle.sr_replay.specs.declared.player.Player.{Player}
-use Rattle.sr_replay.specs.Laws.{LentStays, TakenHasRoom}
-use Rattle.sr_replay.specs.Runs.{Follow, FollowAll, piece_fed, feeding, reading, read_in_all}
+use Rattle.hd_runs.specs.Laws.{LentStays, TakenHasRoom}
+use Rattle.hd_runs.specs.Following.{Follow, FollowAll}
+use Rattle.hd_runs.specs.Alone.{piece_fed, feeding, reading}
+use Rattle.sr_replay.specs.Runs.{read_in_all}
 use Rattle.sr_replay.specs.Plays.{Plays, limits_at}
 use Rattle.sr_replay.specs.Follows.{IsPlayed}
 use Rattle.sr_replay.proofs.Small.{both, is_this-same, next_piece}

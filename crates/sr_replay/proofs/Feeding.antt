@@ -15,8 +15,9 @@ use Rattle.he_end.specs.declared.end.End.{End}
 use Rattle.he_end.specs.Stands.{Stands}
 use Rattle.he_end.specs.Calls.{taken_at}
 use Rattle.sr_replay.specs.declared.player.Player.{Player}
-use Rattle.sr_replay.specs.Laws.{TakenHasRoom, HasRoomFor}
-use Rattle.sr_replay.specs.Runs.{Next, Follow, piece_fed, feeding, taking, reading}
+use Rattle.hd_runs.specs.Laws.{TakenHasRoom, HasRoomFor}
+use Rattle.hd_runs.specs.Following.{Next, Follow}
+use Rattle.hd_runs.specs.Alone.{piece_fed, feeding, taking, reading}
 use Rattle.sr_replay.specs.Plays.{Plays, Feeds, limits_at, steps_text}
 
 -- the player with another end
@@ -25,7 +26,7 @@ with p e = record p { end = e }
 
 -- ---- lists of steps
 
-pub follow_append : (next : Next) (h rs ss : List ByteStep) → Follow next h rs → Follow next (rs ++ h) ss → Follow next h (ss ++ rs)
+pub follow_append : (next : Next ByteStep) (h rs ss : List ByteStep) → Follow next h rs → Follow next (rs ++ h) ss → Follow next h (ss ++ rs)
 follow_append next h rs [] first then_more = first
 follow_append next h rs (s ∷ ss) first then_more =
     (follow_append next h rs ss first then_more.0, ap next (append_assoc ss rs h) ∙ then_more.1)
@@ -77,12 +78,12 @@ ends limits wire c all h l none at gone false live =
 -- ---- what is fed
 
 -- some bytes that were to be fed were fed
-feeds_some : (next : Next) (wire : Wire) (c : of.Config) (h : List ByteStep) (new : Player) (piece : List ℕ) → 0 < length piece → next h ≡ piece_fed piece
+feeds_some : (next : Next ByteStep) (wire : Wire) (c : of.Config) (h : List ByteStep) (new : Player) (piece : List ℕ) → 0 < length piece → next h ≡ piece_fed piece
     → Plays wire c new (Bytes piece ∷ h) → Feeds next wire c h new piece
 feeds_some next wire c h new [] some is plays = absurd (omega arith)
 feeds_some next wire c h new (b ∷ bytes) some is plays = (is, plays)
 
-feeds_none : (next : Next) (wire : Wire) (c : of.Config) (h : List ByteStep) (new : Player) (piece : List ℕ) → piece ≡ [] → next h ≡ None → Plays wire c new h → Feeds next wire c h new piece
+feeds_none : (next : Next ByteStep) (wire : Wire) (c : of.Config) (h : List ByteStep) (new : Player) (piece : List ℕ) → piece ≡ [] → next h ≡ None → Plays wire c new h → Feeds next wire c h new piece
 feeds_none next wire c h new [] empty is plays = (is, plays)
 feeds_none next wire c h new (b ∷ bytes) empty is plays = absurd (cc)
 

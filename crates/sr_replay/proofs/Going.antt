@@ -11,12 +11,14 @@ use Rattle.he_wire.specs.Laws.{WireIsSound}
 use Rattle.he_wire.specs.Wires.{IsHouseWire}
 use Rattle.hq_resend.specs.Bounds.{AreLimits}
 use Rattle.hd_delivery.specs.Bytes.{Wire, ByteStep, Does, in_frames}
-use Rattle.sr_replay.specs.declared.action.Count.{Count}
-use Rattle.sr_replay.specs.declared.action.Count.TheVariants.{UpTo, Everything}
+use Rattle.sr_script.specs.declared.action.Count.{Count}
+use Rattle.sr_script.specs.declared.action.Count.TheVariants.{UpTo, Everything}
 use Rattle.sr_replay.specs.declared.player.Player.{Player}
-use Rattle.sr_replay.specs.Laws.{WritesFew, TakesFew}
-use Rattle.sr_replay.specs.Runs.{Next, Follow, FollowAll, FollowUpTo, writing, taking}
-use Rattle.sr_replay.specs.Plays.{Plays, Text, Goes, steps_text, lent_text, most_of}
+use Rattle.hd_runs.specs.Laws.{WritesFew, TakesFew}
+use Rattle.hd_runs.specs.Following.{Next, Follow, FollowAll, FollowUpTo}
+use Rattle.hd_runs.specs.Alone.{writing, taking}
+use Rattle.sr_replay.specs.Plays.{Plays, Text, Goes, steps_text, lent_text, most_steps}
+use Rattle.sr_script.specs.Script.{most_of}
 
 -- ---- texts
 
@@ -38,14 +40,14 @@ lent_add wire c = record { none = λ h. refl; more = lent_more wire c }
 -- ---- so many steps
 
 -- these steps followed, this many
-pub record HasGone (next : Next) (text : Text) (wire : Wire) (c : of.Config) (h : List ByteStep) (p : Player) (before now : List ℕ) (n : ℕ) : Type 0 where
+pub record HasGone (next : Next ByteStep) (text : Text) (wire : Wire) (c : of.Config) (h : List ByteStep) (p : Player) (before now : List ℕ) (n : ℕ) : Type 0 where
   pub steps : List ByteStep
   pub follow : Follow next h steps
   pub many : length steps ≡ n
   pub plays : Plays wire c p (steps ++ h)
   pub text_is : now ≡ before ++ text h steps
 
-module _ (next : Next) (text : Text) (adds : Adds text) (wire : Wire) (c : of.Config) (h : List ByteStep) where
+module _ (next : Next ByteStep) (text : Text) (adds : Adds text) (wire : Wire) (c : of.Config) (h : List ByteStep) where
   pub gone_none : (p : Player) (before : List ℕ) → Plays wire c p h → HasGone next text wire c h p before before 0
   gone_none p before plays = record { steps = []; follow = tt; many = refl; plays = plays; text_is = sym (ap (λ x. before ++ x) (adds.none h) ∙ append-nil before) }
 
@@ -68,22 +70,22 @@ module _ (next : Next) (text : Text) (adds : Adds text) (wire : Wire) (c : of.Co
         → (ss : List ByteStep) × (FollowAll next h ss × Plays wire c new (ss ++ h) × (after ≡ before ++ text h ss))
     all_done done = (gone.steps, ((gone.follow, done.0), done.1, done.2 ∙ gone.text_is))
 
-    up_to_all : (count : Count) → n < most_of count → next (gone.steps ++ h) ≡ None → FollowUpTo count next h gone.steps
+    up_to_all : (count : Count) → n < most_steps count → next (gone.steps ++ h) ≡ None → FollowUpTo (most_of count) next h gone.steps
     up_to_all (UpTo m) few none = inr ((gone.follow, none), omega (arith, gone.many))
     up_to_all Everything few none = (gone.follow, none)
 
-    pub up_to_done : (count : Count) → n < most_of count → Goes next text wire c (gone.steps ++ h) new now after false
-        → (ss : List ByteStep) × (FollowUpTo count next h ss × Plays wire c new (ss ++ h) × (after ≡ before ++ text h ss))
+    pub up_to_done : (count : Count) → n < most_steps count → Goes next text wire c (gone.steps ++ h) new now after false
+        → (ss : List ByteStep) × (FollowUpTo (most_of count) next h ss × Plays wire c new (ss ++ h) × (after ≡ before ++ text h ss))
     up_to_done count few done = (gone.steps, (up_to_all count few done.0, done.1, done.2 ∙ gone.text_is))
 
   module _ (p : Player) (before now : List ℕ) where
     -- so many of them
-    up_to_end : (count : Count) (gone : HasGone next text wire c h p before now (most_of count)) → length gone.steps < most_of Everything → FollowUpTo count next h gone.steps
+    up_to_end : (count : Count) (gone : HasGone next text wire c h p before now (most_steps count)) → length gone.steps < most_steps Everything → FollowUpTo (most_of count) next h gone.steps
     up_to_end (UpTo m) gone few = inl (gone.follow, gone.many)
     up_to_end Everything gone few = absurd (let many = gone.many in omega arith)
 
-    pub up_to_most : (count : Count) (gone : HasGone next text wire c h p before now (most_of count)) → length gone.steps < most_of Everything
-        → (ss : List ByteStep) × (FollowUpTo count next h ss × Plays wire c p (ss ++ h) × (now ≡ before ++ text h ss))
+    pub up_to_most : (count : Count) (gone : HasGone next text wire c h p before now (most_steps count)) → length gone.steps < most_steps Everything
+        → (ss : List ByteStep) × (FollowUpTo (most_of count) next h ss × Plays wire c p (ss ++ h) × (now ≡ before ++ text h ss))
     up_to_most count gone few = (gone.steps, (up_to_end count gone few, gone.plays, gone.text_is))
 
 -- ---- they are few
@@ -94,7 +96,7 @@ shorter false n m xs = omega (arith, length-drop m xs)
 
 -- an end that writes makes fewer steps than 64 bits count
 pub written_few : WritesFew → FactsHold → (limits : Limits) (wire : Wire) (c : of.Config) (h ss : List ByteStep) → IsHistory limits wire c h → Follow (writing wire c) h ss
-    → length ss < most_of Everything
+    → length ss < most_steps Everything
 written_few few facts limits wire c h ss history follow =
     let k = in_frames wire c h in
     let all = few limits wire c h ss history follow in
@@ -104,7 +106,7 @@ written_few few facts limits wire c h ss history follow =
 
 -- so does one that takes what it was fed
 pub taken_few : TakesFew → WireIsSound → (limits : Limits) (wire : Wire) (c : of.Config) (h ss : List ByteStep) → AreLimits limits → IsHouseWire limits.frame wire
-    → IsHistory limits wire c h → Follow (taking wire c) h ss → length ss < most_of Everything
+    → IsHistory limits wire c h → Follow (taking wire c) h ss → length ss < most_steps Everything
 taken_few few sound limits wire c h ss are house history follow =
     let all = few limits wire c h ss (sound limits wire house) history follow in
     let most = are.frame_not_more in

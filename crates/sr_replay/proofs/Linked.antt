@@ -6,9 +6,9 @@ use Rattle.std.proofs.lemmas.Bool.{eqb-true, eq-eqb}
 use Rattle.hd_delivery.specs.Histories as of
 use Rattle.hd_delivery.specs.Histories.{Attached, was_on}
 use Rattle.hd_delivery.specs.Bytes.{Wire, ByteStep, in_frames, lent_bytes}
-use Rattle.sr_replay.specs.declared.action.Action.{Action}
-use Rattle.sr_replay.specs.declared.action.Action.TheVariants.{Open, Accept}
-use Rattle.sr_replay.specs.Script.{opened, IsInTurn, AreInTurn}
+use Rattle.sr_script.specs.declared.action.Action.{Action}
+use Rattle.sr_script.specs.declared.action.Action.TheVariants.{Open, Accept}
+use Rattle.sr_script.specs.Script.{opened, IsInTurn, AreInTurn}
 use Rattle.sr_replay.specs.Runs.{steps_of, attaching}
 use Rattle.sr_replay.specs.Follows.{Tries}
 

@@ -9,16 +9,20 @@ use Rattle.hd_delivery.specs.Sending as refusal
 use Rattle.hd_delivery.specs.Sending.{SendRefusal, IsRefusedToSend}
 use Rattle.hd_delivery.specs.Worlds.{Limits, Sizes, HasRoom, MaySend, Terms, config}
 use Rattle.hd_delivery.specs.Bytes.{Wire, sizes_of, ByteStep}
-use Rattle.sr_replay.specs.declared.action.Action.{Action}
-use Rattle.sr_replay.specs.declared.action.Action.TheVariants.{Open, Accept, Lose, Write, Read, Close, Send, Tick}
-use Rattle.sr_replay.specs.declared.action.Count.{Count}
-use Rattle.sr_replay.specs.declared.action.Count.TheVariants.{UpTo, Everything}
-use Rattle.sr_replay.specs.Runs.{Run, Doing, Refuses, refusal_words, Sending, Next, Follow, FollowAll, FollowUpTo, writing, reading, to_be_read, by, made_by, history, world_of, frames_at, Acts, Runs}
+use Rattle.sr_script.specs.declared.action.Action.{Action}
+use Rattle.sr_script.specs.declared.action.Action.TheVariants.{Open, Accept, Lose, Write, Read, Close, Send, Tick}
+use Rattle.sr_script.specs.declared.action.Count.{Count}
+use Rattle.sr_script.specs.declared.action.Count.TheVariants.{UpTo, Everything}
+use Rattle.sr_replay.specs.Runs.{Run, Doing, Refuses, refusal_words, Sending, to_be_read, made_by, world_of, frames_at, Acts, Runs}
+use Rattle.hd_runs.specs.Following.{Next, Follow, FollowAll, FollowUpTo}
+use Rattle.hd_runs.specs.Alone.{writing, reading}
+use Rattle.hd_runs.specs.Sides.{by, history}
+use Rattle.sr_script.specs.Script.{most_of}
 
 -- ---- steps that follow from one another
 
 -- as many of them are the same ones
-same_length : (next : Next) (h ss ts : List ByteStep) → Follow next h ss → Follow next h ts → length ss ≡ length ts → ss ≡ ts
+same_length : (next : Next ByteStep) (h ss ts : List ByteStep) → Follow next h ss → Follow next h ts → length ss ≡ length ts → ss ≡ ts
 same_length next h [] [] f g e = refl
 same_length next h [] (t ∷ ts) f g e = absurd (omega arith)
 same_length next h (s ∷ ss) [] f g e = absurd (omega arith)
@@ -29,7 +33,7 @@ same_length next h (s ∷ ss) (t ∷ ts) f g e =
     ap₂ (λ x xs. x ∷ xs) one same
 
 -- none follow once all did
-none_longer : (next : Next) (h ss ts : List ByteStep) → FollowAll next h ss → Follow next h ts → length ts ≤ length ss
+none_longer : (next : Next ByteStep) (h ss ts : List ByteStep) → FollowAll next h ss → Follow next h ts → length ts ≤ length ss
 none_longer next h ss [] f g = omega arith
 none_longer next h ss (t ∷ ts) f g = go (none_longer next h ss ts f g.0) (cases_order (length ts) (length ss))
   where
@@ -41,10 +45,10 @@ none_longer next h ss (t ∷ ts) f g = go (none_longer next h ss ts f g.0) (case
     go l (inr (inl less)) = omega arith
     go l (inr (inr more)) = absurd (omega arith)
 
-pub all_same : (next : Next) (h ss ts : List ByteStep) → FollowAll next h ss → FollowAll next h ts → ss ≡ ts
+pub all_same : (next : Next ByteStep) (h ss ts : List ByteStep) → FollowAll next h ss → FollowAll next h ts → ss ≡ ts
 all_same next h ss ts f g = same_length next h ss ts f.0 g.0 (omega (arith, none_longer next h ss ts f g.0, none_longer next h ts ss g f.0))
 
-pub up_to_same : (count : Count) (next : Next) (h ss ts : List ByteStep) → FollowUpTo count next h ss → FollowUpTo count next h ts → ss ≡ ts
+pub up_to_same : (count : Count) (next : Next ByteStep) (h ss ts : List ByteStep) → FollowUpTo (most_of count) next h ss → FollowUpTo (most_of count) next h ts → ss ≡ ts
 up_to_same Everything next h ss ts f g = all_same next h ss ts f g
 up_to_same (UpTo n) next h ss ts (inl a) (inl b) = same_length next h ss ts a.0 b.0 (a.1 ∙ sym b.1)
 up_to_same (UpTo n) next h ss ts (inl a) (inr b) = same_length next h ss ts a.0 b.0.0 (omega (arith, none_longer next h ts ss b.0 a.0, a.1, b.1))

@@ -17,20 +17,24 @@ use Rattle.hd_delivery.specs.Bytes.{Wire, sizes_of, ByteStep, Does, bare_steps, 
 use Rattle.hd_facts.specs.Prefixes.{IsPrefix}
 use Rattle.hd_delivery.specs.OneHistory.{IsHistory}
 use Rattle.hd_delivery.specs.Laws.{FedIsUnseen}
-use Rattle.sr_replay.specs.declared.action.Count.{Count}
+use Rattle.sr_script.specs.declared.action.Count.{Count}
 use Rattle.he_wire.specs.Wires.{IsHouseWire}
 use Rattle.hm_message.specs.declared.message.Message.{Message}
 use Rattle.hm_codec.specs.Frames.{said_again}
 use Rattle.he_wire.specs.Laws.{WireIsSound}
 use Rattle.hd_delivery.specs.HistoryLaws.{UnusedIsUntouched}
-use Rattle.sr_replay.specs.Laws.{RunsAreWorlds, IsWorldOf, UnusedIsEmpty, LentComesLast, LentStays, FedIsLent, TakenHasRoom}
-use Rattle.sr_replay.specs.declared.action.Action.{Action}
-use Rattle.sr_replay.specs.declared.action.Action.TheVariants as action
+use Rattle.sr_replay.specs.Laws.{RunsAreWorlds, IsWorldOf}
+use Rattle.hd_runs.specs.Laws.{UnusedIsEmpty, LentComesLast, LentStays, FedIsLent, TakenHasRoom}
+use Rattle.sr_script.specs.declared.action.Action.{Action}
+use Rattle.sr_script.specs.declared.action.Action.TheVariants as action
 use Rattle.sr_replay.specs.declared.player.Player.{Player}
 use Rattle.sr_replay.specs.declared.pair.Lane.{Lane}
 use Rattle.sr_replay.specs.declared.pair.Pair.{Pair}
-use Rattle.sr_replay.specs.Script.{opened, moment_after, IsInTurn}
-use Rattle.sr_replay.specs.Runs.{Doing, Makes, Refuses, Run, Acts, FollowAll, FollowUpTo, writing, reading, read_in_all, to_be_read, other, Sending, refusal_words, steps_of, world_of, by, history, attaching, losing, closing, ticking, frames_at}
+use Rattle.sr_script.specs.Script.{opened, moment_after, IsInTurn, most_of}
+use Rattle.sr_replay.specs.Runs.{Doing, Makes, Refuses, Run, Acts, read_in_all, to_be_read, Sending, refusal_words, steps_of, world_of, attaching, losing, closing, ticking, frames_at}
+use Rattle.hd_runs.specs.Following.{FollowAll, FollowUpTo}
+use Rattle.hd_runs.specs.Alone.{writing, reading}
+use Rattle.hd_runs.specs.Sides.{other, by, history}
 use Rattle.sr_replay.specs.Report.{doing_text, line_at, run_text, standing_line, standing_text, report_text}
 use Rattle.sr_replay.specs.Plays.{Plays, OfEach, limits_at, steps_text, lent_text}
 use Rattle.sr_replay.specs.Follows.{IsPlayed, MayRead, Tries, said_by, IsLane, Holds, Follows, GoesOn}
@@ -407,7 +411,7 @@ abbrev pub IsOn : Option ℕ → Player → Type 0
 IsOn o p = OfEach p (λ wire c h. o ≡ present_link (in_frames wire c h))
 
 abbrev pub WritesTo : Side → Count → Player → Player → Lane → Lane → Type 0
-WritesTo side count old new lane_old lane_new = OfEach old (λ wire c h. (ss : List ByteStep) × (FollowUpTo count (writing wire c) h ss
+WritesTo side count old new lane_old lane_new = OfEach old (λ wire c h. (ss : List ByteStep) × (FollowUpTo (most_of count) (writing wire c) h ss
     × Plays wire c new (ss ++ h) × (said_by side lane_new ≡ said_by side lane_old ++ lent_text wire c h ss)))
 
 pub client_writes_none : (p : Pair) (count : Count) (side : Side) → side ≡ Client → IsOn None p.client → GoesOn p (action.Write side count) p

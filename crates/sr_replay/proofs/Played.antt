@@ -9,7 +9,7 @@ use Rattle.hd_delivery.specs.Processes.{processes, reads, next_number, next_fram
 use Rattle.hd_delivery.specs.Worlds.{Limits}
 use Rattle.hd_delivery.specs.Bytes.{Wire, ByteStep, Does, bytes_on, in_frames, lent_bytes}
 use Rattle.hd_delivery.specs.HistoryLaws.{UnusedIsUntouched}
-use Rattle.sr_replay.specs.Laws.{UnusedIsEmpty}
+use Rattle.hd_runs.specs.Laws.{UnusedIsEmpty}
 use Rattle.sr_replay.specs.declared.player.Player.{Player}
 use Rattle.sr_replay.specs.Runs.{Makes, steps_of, attaching, losing, closing, ticking}
 use Rattle.sr_replay.specs.Plays.{Plays, limits_at}

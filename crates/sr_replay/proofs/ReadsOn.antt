@@ -9,7 +9,8 @@ use Rattle.hd_delivery.specs.Worlds.{Limits}
 use Rattle.hd_delivery.specs.Bytes.{Wire, ByteStep, Bytes, Does, bare_steps, bytes_on, in_frames}
 use Rattle.hd_delivery.specs.Laws.{FedIsUnseen}
 use Rattle.sr_replay.specs.declared.player.Player.{Player}
-use Rattle.sr_replay.specs.Runs.{Next, Follow, FollowAll, taking, reading}
+use Rattle.hd_runs.specs.Following.{Next, Follow, FollowAll}
+use Rattle.hd_runs.specs.Alone.{taking, reading}
 use Rattle.sr_replay.specs.Plays.{Plays, Feeds, steps_text}
 use Rattle.sr_replay.proofs.Feeding.{follow_append, text_append, taken_follow, ends}
 
@@ -47,7 +48,7 @@ pub record HasRead (limits : Limits) (wire : Wire) (c : of.Config) (h : List Byt
   pub here : present_link (in_frames wire c (steps ++ h)) ≡ Some l
   pub read : length (bytes_on l (steps ++ h)) ≡ length (bytes_on l h) + at
 
-feeds_bytes : (next : Next) (wire : Wire) (c : of.Config) (h : List ByteStep) (new : Player) (piece : List ℕ) → 0 < length piece → Feeds next wire c h new piece
+feeds_bytes : (next : Next ByteStep) (wire : Wire) (c : of.Config) (h : List ByteStep) (new : Player) (piece : List ℕ) → 0 < length piece → Feeds next wire c h new piece
     → (next h ≡ Some (Bytes piece)) × Plays wire c new (Bytes piece ∷ h)
 feeds_bytes next wire c h new [] some fed = absurd (omega arith)
 feeds_bytes next wire c h new (b ∷ bytes) some fed = fed

@@ -1,11 +1,11 @@
 -- A script whose actions two ends have done.
 use Rattle.std.proofs.Common.{[], ◌++◌, sym, subst}
-use Rattle.sr_replay.specs.declared.line.Asked.{Asked}
-use Rattle.sr_replay.specs.declared.line.Asked.TheVariants as asked
+use Rattle.sr_script.specs.declared.line.Asked.{Asked}
+use Rattle.sr_script.specs.declared.line.Asked.TheVariants as asked
 use Rattle.sr_replay.specs.declared.pair.Pair.{Pair}
-use Rattle.sr_replay.specs.Script.{Program}
+use Rattle.sr_script.specs.Script.{Program}
 use Rattle.sr_replay.specs.Runs.{Run}
-use Rattle.sr_replay.specs.Asking.{MayCome, and_then}
+use Rattle.sr_script.specs.Asking.{MayCome, and_then}
 use Rattle.sr_replay.specs.Follows.{Follows}
 use Rattle.sr_replay.specs.Replays.{ActsAll, Obeys}
 

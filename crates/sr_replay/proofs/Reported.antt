@@ -4,8 +4,10 @@ use Rattle.he_wire.specs.Laws.{WireIsSound}
 use Rattle.he_end.specs.declared.end.End.{End}
 use Rattle.he_end.specs.Laws.{Deliver}
 use Rattle.hd_delivery.specs.Bytes.{IsWorldOverBytes}
-use Rattle.sr_replay.specs.Runs.{limits_in, terms_in, world_of}
-use Rattle.sr_replay.specs.Laws.{ScriptsAreInTurn, ScriptsAreSettled, RunsOnce, RunsAreWorlds, EndsReport}
+use Rattle.sr_script.specs.Terms.{limits_in, terms_in}
+use Rattle.sr_replay.specs.Runs.{world_of}
+use Rattle.sr_script.specs.Laws.{ScriptsAreInTurn, ScriptsAreSettled}
+use Rattle.sr_replay.specs.Laws.{RunsOnce, RunsAreWorlds, EndsReport}
 
 pub ends_report : (client server : End) → ScriptsAreInTurn → ScriptsAreSettled → RunsOnce → RunsAreWorlds → WireIsSound → Deliver client server → EndsReport client server
 ends_report client server turns settled once worlds sound deliver wire text p r house parses limits runs c s =

@@ -16,7 +16,7 @@ use Rattle.he_end.specs.Stands.{Stands}
 use Rattle.he_end.specs.Words.{next_words}
 use Rattle.sr_replay.specs.declared.player.Player.{Player}
 use Rattle.sr_replay.specs.Report.{line_at, got_words, fault_words}
-use Rattle.sr_replay.specs.Runs.{taking}
+use Rattle.hd_runs.specs.Alone.{taking}
 use Rattle.sr_replay.specs.Plays.{Plays, Goes, steps_text}
 use Rattle.sr_replay.proofs.Feeding.{with}
 

@@ -19,13 +19,17 @@ use Rattle.hd_delivery.specs.Worlds.{Limits, Terms, config, Event, ByClient, ByS
 use Rattle.hd_delivery.specs.Bytes.{Wire, IsSoundWire, ByteStep, Bytes, Does, bytes_on, in_frames, unread, unread_count, lent_bytes, AllowedOverBytes, IsWorldOverBytes}
 use Rattle.hd_delivery.specs.OneHistory.{IsHistory}
 use Rattle.hd_delivery.specs.HistoryLaws.{StandsThere, UnreadGrows, UnreadIsBounded, WorldsAreHistories}
-use Rattle.sr_replay.specs.declared.action.Action.{Action}
-use Rattle.sr_replay.specs.declared.action.Action.TheVariants.{Open, Accept, Lose, Write, Read, Close, Send, Tick}
-use Rattle.sr_replay.specs.declared.action.Count.{Count}
-use Rattle.sr_replay.specs.declared.action.Count.TheVariants.{UpTo, Everything}
-use Rattle.sr_replay.specs.Script.{IsInTurn, AreInTurn, opened, moment_after}
-use Rattle.sr_replay.specs.Runs.{Doing, Makes, Refuses, Run, world_of, by, history, other, attaching, losing, closing, ticking, Sending, Next, Follow, FollowUpTo, writing, piece_fed, feeding, reading, made_by, to_be_read, frames_at, Acts, Runs}
-use Rattle.sr_replay.specs.Laws.{FedIsLent, IsWorldOf}
+use Rattle.sr_script.specs.declared.action.Action.{Action}
+use Rattle.sr_script.specs.declared.action.Action.TheVariants.{Open, Accept, Lose, Write, Read, Close, Send, Tick}
+use Rattle.sr_script.specs.declared.action.Count.{Count}
+use Rattle.sr_script.specs.declared.action.Count.TheVariants.{UpTo, Everything}
+use Rattle.sr_script.specs.Script.{IsInTurn, AreInTurn, opened, moment_after, most_of}
+use Rattle.sr_replay.specs.Runs.{Doing, Makes, Refuses, Run, world_of, attaching, losing, closing, ticking, Sending, made_by, to_be_read, frames_at, Acts, Runs}
+use Rattle.hd_runs.specs.Sides.{by, history, other}
+use Rattle.hd_runs.specs.Following.{Next, Follow, FollowUpTo}
+use Rattle.hd_runs.specs.Alone.{writing, piece_fed, feeding, reading}
+use Rattle.hd_runs.specs.Laws.{FedIsLent}
+use Rattle.sr_replay.specs.Laws.{IsWorldOf}
 use Rattle.sr_replay.proofs.Small.{both, take_prefix, take_few, next_piece}
 use Rattle.sr_replay.proofs.Takes.{IsTaking, is_taking}
 
@@ -172,7 +176,7 @@ module _ (limits : Limits) (wire : Wire) (t : Terms) where
     plain_more side s w i p = one_more side s w i p.allowed (λ l e. i.named side l (sym (p.names l) ∙ e)) (subst (λ n. n ≤ now) (sym p.moves) (i.in_time side))
 
     -- steps of a side that follow from one another
-    module _ (next : Next) (side : Side) (w : List (Event ByteStep)) (i : Is w)
+    module _ (next : Next ByteStep) (side : Side) (w : List (Event ByteStep)) (i : Is w)
         (plain : (ss : List ByteStep) (s : ByteStep) → Is (After side ss w) → present_link (in_frames wire (config side t) (ss ++ history side w)) ≡ present_link (frames_at wire t w side)
         → next (ss ++ history side w) ≡ Some s → Plain (config side t) (config (other side) t) (ss ++ history side w) (history (other side) w) s) where
       follow : (ss : List ByteStep) → Follow next (history side w) ss
@@ -187,7 +191,7 @@ module _ (limits : Limits) (wire : Wire) (t : Terms) where
             p.stands ∙ before.1,
           )
 
-up_to : (count : Count) (next : Next) (h ss : List ByteStep) → FollowUpTo count next h ss → Follow next h ss
+up_to : (count : Count) (next : Next ByteStep) (h ss : List ByteStep) → FollowUpTo (most_of count) next h ss → Follow next h ss
 up_to Everything next h ss f = f.0
 up_to (UpTo n) next h ss f = ⊎_elim (λ a. a.0) (λ a. a.0.0) f
 

@@ -8,14 +8,16 @@ use Rattle.hd_delivery.specs.Due.{due, due_on}
 use Rattle.hd_delivery.specs.Worlds.{Limits}
 use Rattle.hd_delivery.specs.Bytes.{Wire, ByteStep, Does, bytes_on, in_frames, lent_bytes}
 use Rattle.hd_delivery.specs.OneHistory.{IsHistory}
-use Rattle.sr_replay.specs.declared.action.Count.{Count}
-use Rattle.sr_replay.specs.declared.action.Count.TheVariants.{UpTo, Everything}
+use Rattle.sr_script.specs.declared.action.Count.{Count}
+use Rattle.sr_script.specs.declared.action.Count.TheVariants.{UpTo, Everything}
 use Rattle.sr_replay.specs.declared.player.Player.{Player}
-use Rattle.sr_replay.specs.Laws.{LentComesLast, LentStays}
-use Rattle.sr_replay.specs.Runs.{Next, Follow, FollowUpTo, writing}
+use Rattle.hd_runs.specs.Laws.{LentComesLast, LentStays}
+use Rattle.hd_runs.specs.Following.{Next, Follow, FollowUpTo}
+use Rattle.hd_runs.specs.Alone.{writing}
 use Rattle.hd_delivery.specs.declared.vocabulary.Side.{Side}
 use Rattle.sr_replay.specs.Plays.{Plays, limits_at, steps_text, lent_text}
 use Rattle.sr_replay.specs.Follows.{IsPlayed}
+use Rattle.sr_script.specs.Script.{most_of}
 
 -- each of these steps says a frame
 abbrev pub AreLent : List ByteStep → Type 0
@@ -31,7 +33,7 @@ pub are_lent : (wire : Wire) (c : of.Config) (h ss : List ByteStep) → Follow (
 are_lent wire c h [] f = tt
 are_lent wire c h (s ∷ ss) f = one_lent (due c (in_frames wire c (ss ++ h))) s ss f.1 (are_lent wire c h ss f.0)
 
-pub follow_of : (count : Count) (next : Next) (h ss : List ByteStep) → FollowUpTo count next h ss → Follow next h ss
+pub follow_of : (count : Count) (next : Next ByteStep) (h ss : List ByteStep) → FollowUpTo (most_of count) next h ss → Follow next h ss
 follow_of Everything next h ss f = f.0
 follow_of (UpTo n) next h ss f = ⊎_elim (λ a. a.0) (λ b. b.0.0) f
 
@@ -78,7 +80,7 @@ said_elsewhere stays limits wire c l j h (Does (Lent f) ∷ ss) at apart lent i 
 said_elsewhere stays limits wire c l j h (s ∷ ss) at apart lent i = absurd lent
 
 -- without a link nothing is written
-pub none_written : (count : Count) (wire : Wire) (c : of.Config) (h : List ByteStep) → present_link (in_frames wire c h) ≡ None → FollowUpTo count (writing wire c) h []
+pub none_written : (count : Count) (wire : Wire) (c : of.Config) (h : List ByteStep) → present_link (in_frames wire c h) ≡ None → FollowUpTo (most_of count) (writing wire c) h []
 none_written Everything wire c h at = (tt, ap (option_map (λ f. Does (Lent f))) (ap (due_on c (in_frames wire c h)) at))
 none_written (UpTo n) wire c h at = inr ((tt, ap (option_map (λ f. Does (Lent f))) (ap (due_on c (in_frames wire c h)) at)), zero-le)
 

@@ -8,12 +8,13 @@ use Rattle.hd_delivery.specs.Processes.{processes}
 use Rattle.hd_delivery.specs.Worlds.{Limits, Terms, config}
 use Rattle.hd_delivery.specs.Bytes.{Wire, ByteStep, Does, bytes_on, in_frames, lent_bytes}
 use Rattle.he_end.specs.declared.config.Config.{Config}
-use Rattle.sr_replay.specs.declared.action.Action.{Action}
+use Rattle.sr_script.specs.declared.action.Action.{Action}
 use Rattle.sr_replay.specs.declared.player.Player.{Player}
 use Rattle.sr_replay.specs.declared.pair.Lane.{Lane}
 use Rattle.sr_replay.specs.declared.pair.Pair.{Pair}
-use Rattle.sr_replay.specs.Script.{opened, moment_after, IsInTurn, AreInTurn}
-use Rattle.sr_replay.specs.Runs.{Makes, Refuses, Run, Runs, Acts, attaching, world_of, history}
+use Rattle.sr_script.specs.Script.{opened, moment_after, IsInTurn, AreInTurn}
+use Rattle.sr_replay.specs.Runs.{Makes, Refuses, Run, Runs, Acts, attaching, world_of}
+use Rattle.hd_runs.specs.Sides.{history}
 use Rattle.sr_replay.specs.Report.{run_text}
 use Rattle.sr_replay.specs.Plays.{Plays, limits_at}
 

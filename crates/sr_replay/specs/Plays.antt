@@ -6,10 +6,11 @@ use Rattle.hd_delivery.specs.declared.vocabulary.Side.{Side}
 use Rattle.hd_delivery.specs.Worlds.{Limits}
 use Rattle.hd_delivery.specs.Bytes.{Wire, ByteStep, Bytes, Does, bare_steps, in_frames}
 use Rattle.he_end.specs.Stands.{Stands, limits_of}
-use Rattle.sr_replay.specs.declared.action.Count.{Count}
-use Rattle.sr_replay.specs.declared.action.Count.TheVariants.{UpTo, Everything}
+use Rattle.sr_script.specs.declared.action.Count.{Count}
+use Rattle.sr_script.specs.declared.action.Count.TheVariants.{UpTo, Everything}
 use Rattle.sr_replay.specs.declared.player.Player.{Player}
-use Rattle.sr_replay.specs.Runs.{Next, Makes}
+use Rattle.hd_runs.specs.Following.{Next}
+use Rattle.sr_replay.specs.Runs.{Makes}
 use Rattle.sr_replay.specs.Report.{doing_text}
 
 -- the end stands for this history, on the link that it names
@@ -44,16 +45,16 @@ abbrev pub Text : Type 0
 Text = List ByteStep → List ByteStep → List ℕ
 
 -- the step that came next was made, and its text was appended; or, if none was to come, nothing has changed
-abbrev pub Goes : Next → Text → Wire → of.Config → List ByteStep → Player → List ℕ → List ℕ → Bool → Type 0
+abbrev pub Goes : Next ByteStep → Text → Wire → of.Config → List ByteStep → Player → List ℕ → List ℕ → Bool → Type 0
 Goes next text wire c h new before after true = (s : ByteStep) × ((next h ≡ Some s) × Plays wire c new (s ∷ h) × (after ≡ before ++ text h (s ∷ [])))
 Goes next text wire c h new before after false = (next h ≡ None) × Plays wire c new h × (after ≡ before)
 
 -- A first part of what can be fed was fed, where the end feeds or takes what comes next; or, if it is empty, nothing is fed and nothing comes next.
-abbrev pub Feeds : Next → Wire → of.Config → List ByteStep → Player → List ℕ → Type 0
+abbrev pub Feeds : Next ByteStep → Wire → of.Config → List ByteStep → Player → List ℕ → Type 0
 Feeds next wire c h new [] = (next h ≡ None) × Plays wire c new h
 Feeds next wire c h new (b ∷ bytes) = (next h ≡ Some (Bytes (b ∷ bytes))) × Plays wire c new (Bytes (b ∷ bytes) ∷ h)
 
 -- the greatest number of steps: nothing that an end does by itself has so many
-abbrev pub most_of : Count → ℕ
-most_of (UpTo n) = n
-most_of Everything = 2 ^ 64 - 1
+abbrev pub most_steps : Count → ℕ
+most_steps (UpTo n) = n
+most_steps Everything = 2 ^ 64 - 1

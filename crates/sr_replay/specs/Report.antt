@@ -18,8 +18,10 @@ use Rattle.hd_delivery.specs.Histories.{Step, Took, Failed, Sent, Silenced, Faul
 use Rattle.hd_delivery.specs.Worlds.{Terms, config, ByClient, ByServer}
 use Rattle.hd_delivery.specs.Bytes.{Wire, Does, bare_steps, IsWorldOverBytes, DeliveryOverBytes}
 use Rattle.he_wire.specs.Wires.{IsHouseWire}
-use Rattle.sr_replay.specs.Script.{Program, letter}
-use Rattle.sr_replay.specs.Runs.{Doing, Makes, Refuses, Run, Runs, world_of, history, limits_in, terms_in}
+use Rattle.sr_script.specs.Script.{Program, letter}
+use Rattle.sr_replay.specs.Runs.{Doing, Makes, Refuses, Run, Runs, world_of}
+use Rattle.hd_runs.specs.Sides.{history}
+use Rattle.sr_script.specs.Terms.{limits_in, terms_in}
 
 -- a line, which LF (10) ends
 abbrev pub line : List ℕ → List ℕ

@@ -17,45 +17,16 @@ use Rattle.hd_delivery.specs.Sending as refusal
 use Rattle.hd_delivery.specs.Sending.{SendRefusal, IsRefusedToSend}
 use Rattle.hd_delivery.specs.Worlds.{Limits, MaySend, Terms, config, Event, ByClient, ByServer, client_of, server_of}
 use Rattle.hd_delivery.specs.Bytes.{Wire, sizes_of, ByteStep, Bytes, Does, bytes_on, in_frames, lent_bytes, unread_count}
-use Rattle.sr_replay.specs.declared.action.Setting.{Setting}
-use Rattle.sr_replay.specs.declared.action.Setting.TheVariants as setting
-use Rattle.sr_replay.specs.declared.action.Count.{Count}
-use Rattle.sr_replay.specs.declared.action.Count.TheVariants.{UpTo, Everything}
-use Rattle.sr_replay.specs.declared.action.Action.{Action}
-use Rattle.sr_replay.specs.declared.action.Action.TheVariants.{Open, Accept, Lose, Write, Read, Close, Send, Tick}
-use Rattle.sr_replay.specs.Script.{opened, moment_after}
-
--- ---- how the ends are begun
-
-abbrev pub codec_in : List Setting → Codec
-codec_in [] = Json
-codec_in (setting.Codec codec ∷ settings) = codec
-codec_in (_ ∷ settings) = codec_in settings
-
-abbrev pub version_in : List Setting → ℕ
-version_in [] = 2
-version_in (setting.Version version ∷ settings) = version
-version_in (_ ∷ settings) = version_in settings
-
-abbrev pub reconnect_in : List Setting → Bool
-reconnect_in [] = true
-reconnect_in (setting.Reconnect keep ∷ settings) = keep
-reconnect_in (_ ∷ settings) = reconnect_in settings
-
-abbrev pub limits_in : List Setting → Limits
-limits_in [] = record { frame = 32768; count = 1024; bytes = 100000 }
-limits_in (setting.Buffer limits ∷ settings) = limits
-limits_in (_ ∷ settings) = limits_in settings
-
--- both ends are begun alike
-abbrev pub terms_in : List Setting → Terms
-terms_in settings = record {
-  codec = codec_in settings;
-  version = version_in settings;
-  server_codec = codec_in settings;
-  server_version = version_in settings;
-  reconnect = reconnect_in settings;
-}
+use Rattle.sr_script.specs.declared.action.Setting.{Setting}
+use Rattle.sr_script.specs.declared.action.Setting.TheVariants as setting
+use Rattle.sr_script.specs.declared.action.Count.{Count}
+use Rattle.sr_script.specs.declared.action.Count.TheVariants.{UpTo, Everything}
+use Rattle.sr_script.specs.declared.action.Action.{Action}
+use Rattle.sr_script.specs.declared.action.Action.TheVariants.{Open, Accept, Lose, Write, Read, Close, Send, Tick}
+use Rattle.sr_script.specs.Script.{opened, moment_after, most_of}
+use Rattle.hd_runs.specs.Following.{FollowAll, FollowUpTo}
+use Rattle.hd_runs.specs.Sides.{by, history, other}
+use Rattle.hd_runs.specs.Alone.{writing, reading}
 
 -- ---- what one end does
 
@@ -81,21 +52,6 @@ world_of (ByClient (Makes s) ∷ r) = ByClient s ∷ world_of r
 world_of (ByServer (Makes s) ∷ r) = ByServer s ∷ world_of r
 world_of (ByClient (Refuses words) ∷ r) = world_of r
 world_of (ByServer (Refuses words) ∷ r) = world_of r
-
--- at this side
-abbrev pub by : {S : Type 0} → Side → S → Event S
-by Client s = ByClient s
-by Server s = ByServer s
-
--- the steps of this side
-abbrev pub history : Side → List (Event ByteStep) → List ByteStep
-history Client w = client_of w
-history Server w = server_of w
-
--- the other side
-abbrev pub other : Side → Side
-other Client = Server
-other Server = Client
 
 -- an attach. A closed end refuses it, and so does an end that isn't kept and had a link before
 abbrev pub attaching : of.Config → List Step → ℕ → ℕ → Doing
@@ -129,49 +85,6 @@ Sending limits wire c k m d =
     (MaySend limits (sizes_of wire) c k (said_again (codec_of c k) m) × (d ≡ Makes (Does (Sent (said_again (codec_of c k) m)))))
     ⊎ ((why : SendRefusal) × (IsRefusedToSend limits (sizes_of wire) c k (said_again (codec_of c k) m) why × (d ≡ Refuses (refusal_words why))))
 
--- ---- steps that follow from one another
-
--- what an end does next, if anything
-abbrev pub Next : Type 0
-Next = List ByteStep → Option ByteStep
-
--- from this history on the end made these steps, each as the one that came next; the latest stands first
-abbrev pub Follow : Next → List ByteStep → List ByteStep → Type 0
-Follow next h [] = Unit {0}
-Follow next h (s ∷ ss) = Follow next h ss × (next (ss ++ h) ≡ Some s)
-
--- these steps, after which nothing comes next
-abbrev pub FollowAll : Next → List ByteStep → List ByteStep → Type 0
-FollowAll next h ss = Follow next h ss × (next (ss ++ h) ≡ None)
-
--- this many of them, or all if these are fewer
-abbrev pub FollowUpTo : Count → Next → List ByteStep → List ByteStep → Type 0
-FollowUpTo Everything next h ss = FollowAll next h ss
-FollowUpTo (UpTo n) next h ss = (Follow next h ss × (length ss ≡ n)) ⊎ (FollowAll next h ss × (length ss ≤ n))
-
--- an end that writes says what is due
-abbrev pub writing : Wire → of.Config → Next
-writing wire c h = option_map (λ f. Does (Lent f)) (due c (in_frames wire c h))
-
--- a piece is fed if it has a byte
-abbrev pub piece_fed : List ℕ → Option ByteStep
-piece_fed [] = None
-piece_fed (b ∷ bytes) = Some (Bytes (b ∷ bytes))
-
--- of the bytes that are to be read on this link, the next ones that aren't fed yet, as many as there is room for
-abbrev pub feeding : Limits → Wire → of.Config → List ℕ → List ByteStep → Option ℕ → Option ByteStep
-feeding limits wire c bytes h None = None
-feeding limits wire c bytes h (Some link) = piece_fed (take ((limits.frame + most_framing) - unread_count wire c link h) (drop (length (bytes_on link h)) bytes))
-
--- an end takes the next frame
-abbrev pub taking : Wire → of.Config → Next
-taking wire c h = option_map Does (processes c (in_frames wire c h))
-
--- an end that reads takes the next frame, and is fed once there is none; a closed end does nothing
-abbrev pub reading : Limits → Wire → of.Config → List ℕ → Next
-reading limits wire c bytes h = first_of (taking wire c h)
-    (if is_closed c (in_frames wire c h) then None else feeding limits wire c bytes h (present_link (in_frames wire c h)))
-
 -- ---- what an action does
 
 -- the bytes of a link up to where the end reads, of which it read `before` earlier
@@ -201,7 +114,7 @@ Acts limits wire t before r (Accept link) new =
     new ≡ (if was_on link (frames_at wire t (world_of r) Client) then by Server (attaching (config Server t) (frames_at wire t (world_of r) Server) link (moment_after before)) ∷ [] else [])
 Acts limits wire t before r (Lose side) new = new ≡ map (by side) (losing (frames_at wire t (world_of r) side) (moment_after before))
 Acts limits wire t before r (Write side count) new =
-    (ss : List ByteStep) × (FollowUpTo count (writing wire (config side t)) (history side (world_of r)) ss × (new ≡ made_by side ss))
+    (ss : List ByteStep) × (FollowUpTo (most_of count) (writing wire (config side t)) (history side (world_of r)) ss × (new ≡ made_by side ss))
 Acts limits wire t before r (Read side count) new =
     (ss : List ByteStep) × (FollowAll (reading limits wire (config side t) (to_be_read wire t (world_of r) side count (present_link (frames_at wire t (world_of r) side))))
     (history side (world_of r)) ss × (new ≡ made_by side ss))

@@ -10,13 +10,17 @@ ghost use Rattle.hd_delivery.specs.Worlds.{Limits, Terms};
 ghost use Rattle.hd_delivery.specs.Bytes.{Wire, ByteStep, bare_steps, bytes_on, in_frames};
 ghost use Rattle.he_wire.specs.Wires.{IsHouseWire};
 ghost use Rattle.he_end.specs.declared.errors.SendError.TheVariants as send;
-ghost use Rattle.sr_replay.specs.declared.action.Action.{Action};
-ghost use Rattle.sr_replay.specs.declared.action.Action.TheVariants as action;
-ghost use Rattle.sr_replay.specs.Script.{Program, Parses, opened};
-ghost use Rattle.sr_replay.specs.Runs.{limits_in, terms_in, Doing, Run, attaching, ticking, steps_of, Sending, FollowAll, FollowUpTo, writing, reading, read_in_all, other};
+ghost use Rattle.sr_script.specs.declared.action.Action.{Action};
+ghost use Rattle.sr_script.specs.declared.action.Action.TheVariants as action;
+ghost use Rattle.sr_script.specs.Script.{Program, Parses, opened, most_of};
+ghost use Rattle.sr_script.specs.Terms.{limits_in, terms_in};
+ghost use Rattle.sr_replay.specs.Runs.{Doing, Run, attaching, ticking, steps_of, Sending, read_in_all};
+ghost use Rattle.hd_runs.specs.Following.{FollowAll, FollowUpTo};
+ghost use Rattle.hd_runs.specs.Alone.{writing, reading};
+ghost use Rattle.hd_runs.specs.Sides.{other};
 ghost use Rattle.sr_replay.specs.Report.{IsReportOver, doing_text, report_text, standing_text};
 ghost use Rattle.sr_replay.specs.Plays.{Plays, OfEach, limits_at, steps_text, lent_text};
-ghost use Rattle.sr_replay.specs.Asking.{IsWhole};
+ghost use Rattle.sr_script.specs.Asking.{IsWhole};
 ghost use Rattle.sr_replay.specs.Follows.{Follows, GoesOn, MayRead, Tries, said_by, terms_of};
 
 use crate::action::{Action, Count};
@@ -152,7 +156,7 @@ fn tick(player: &mut Player, side: Side, now: u64, report: &mut Vec<u8>) -> Resu
 
 /// Writes on a link.
 fn write(player: &mut Player, side: Side, count: Count, lane: &mut Lane) -> Result<(), AllocError>
-    ensures writes { OnOk result (OfEach player.old (λ wire c h. (ss : List ByteStep) × (FollowUpTo count (writing wire c) h ss
+    ensures writes { OnOk result (OfEach player.old (λ wire c h. (ss : List ByteStep) × (FollowUpTo (most_of count) (writing wire c) h ss
         × Plays wire c player.new (ss ++ h) × (said_by side lane.new ≡ said_by side lane.old ++ lent_text wire c h ss)))) }
     ensures other { said_by (other side) lane.new ≡ said_by (other side) lane.old }
     ensures opened { lane.new.opened ≡ lane.old.opened }

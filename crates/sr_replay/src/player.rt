@@ -14,8 +14,11 @@ ghost use Rattle.he_wire.specs.Wires.{IsHouseWire};
 ghost use Rattle.he_end.specs.Stands.{begun};
 ghost use Rattle.he_end.specs.Words.{attach_words, send_words};
 ghost use Rattle.he_end.specs.declared.errors.SendError.TheVariants as send;
-ghost use Rattle.sr_replay.specs.Runs.{Makes, Refuses, attaching, losing, closing, steps_of, refusal_words, FollowAll, FollowUpTo, writing, reading, taking};
-ghost use Rattle.sr_replay.specs.Plays.{Plays, OfEach, Feeds, Goes, limits_at, most_of, steps_text, lent_text};
+ghost use Rattle.sr_replay.specs.Runs.{Makes, Refuses, attaching, losing, closing, steps_of, refusal_words};
+ghost use Rattle.hd_runs.specs.Following.{FollowAll, FollowUpTo};
+ghost use Rattle.hd_runs.specs.Alone.{writing, reading, taking};
+ghost use Rattle.sr_replay.specs.Plays.{Plays, OfEach, Feeds, Goes, limits_at, most_steps, steps_text, lent_text};
+ghost use Rattle.sr_script.specs.Script.{most_of};
 
 use crate::action::Count;
 use crate::laws::{taken_has_room, takes_few, writes_few};
@@ -156,7 +159,7 @@ impl Player {
 
     /// Puts so many of the frames that are due on the link whose bytes these are.
     pub(crate) fn write(&mut self, count: Count, lane: &mut Vec<u8>) -> Result<(), AllocError>
-        ensures written { OnOk result (OfEach self.old (λ wire c h. (ss : List ByteStep) × (FollowUpTo count (writing wire c) h ss × Plays wire c self.new (ss ++ h)
+        ensures written { OnOk result (OfEach self.old (λ wire c h. (ss : List ByteStep) × (FollowUpTo (most_of count) (writing wire c) h ss × Plays wire c self.new (ss ++ h)
             × (lane.new.items ≡ lane.old.items ++ lent_text wire c h ss)))) }
         ensures limits { OnOk result (limits_at self.new ≡ limits_at self.old) }
     {
@@ -275,7 +278,7 @@ impl Player {
 
 /// A bound of the steps of one call. Nothing that an end does by itself has 2^64-1 steps.
 fn most(count: Count) -> u64
-    ensures { result ≡ most_of count }
+    ensures { result ≡ most_steps count }
 {
     match count {
         Count::UpTo(n) => n,

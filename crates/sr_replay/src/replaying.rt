@@ -4,10 +4,10 @@ ghost use Rattle.std.specs.Prelude.{◌≡◌, ◌≢◌, ℕ, List, [], ◌∷�
 ghost use Rattle.std.specs.Io.KnownBytes.{Appends};
 ghost use Rattle.hd_facts.specs.Counts.{Rose};
 ghost use Rattle.hd_facts.specs.Unique.{IsTheOne};
-ghost use Rattle.sr_replay.specs.declared.action.Setting.{Setting};
-ghost use Rattle.sr_replay.specs.Script.{Program, Parses, IsSetting, opened};
+ghost use Rattle.sr_script.specs.declared.action.Setting.{Setting};
+ghost use Rattle.sr_script.specs.Script.{Program, Parses, IsSetting, opened};
 ghost use Rattle.sr_replay.specs.Report.{IsReport};
-ghost use Rattle.sr_replay.specs.Asking.{IsAllowed};
+ghost use Rattle.sr_script.specs.Asking.{IsAllowed};
 ghost use Rattle.sr_replay.specs.Replays.{Begins, Obeys, ActsAll, Reaches};
 ghost use Rattle.hs_shake.specs.Requests.{IsVersion};
 

@@ -7,7 +7,9 @@ use Rattle.hd_delivery.specs.declared.vocabulary.State.{State}
 use Rattle.hd_delivery.specs.Histories.{sent_messages, processed_messages, held_messages, state}
 use Rattle.hd_delivery.specs.Worlds.{config}
 use Rattle.hd_delivery.specs.Bytes.{bare_steps}
-use Rattle.sr_replay.specs.Runs.{limits_in, terms_in, world_of, history}
+use Rattle.sr_script.specs.Terms.{limits_in, terms_in}
+use Rattle.sr_replay.specs.Runs.{world_of}
+use Rattle.hd_runs.specs.Sides.{history}
 use Rattle.sr_replay.specs.Report.{line, run_text, side_word, state_word, standing_line, standing_text}
 use Rattle.sr_replay.proofs.laws.reports_have_lines.Goals as goal
 

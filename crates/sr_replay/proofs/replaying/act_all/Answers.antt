@@ -1,6 +1,6 @@
 use Rattle.std.proofs.Common.{[], sym, subst}
 use Rattle.sr_replay.specs.Runs.{Run}
-use Rattle.sr_replay.specs.Asking.{and_then}
+use Rattle.sr_script.specs.Asking.{and_then}
 use Rattle.sr_replay.specs.Follows.{Follows}
 use Rattle.sr_replay.proofs.Replayed.{obeyed}
 use Rattle.sr_replay.proofs.replaying.act_all.Goals as goal

@@ -1,6 +1,6 @@
 use Rattle.std.proofs.Common.{◌-◌, length}
-use Rattle.sr_replay.specs.Script.{Program}
-use Rattle.sr_replay.specs.Reading.{HasRead}
+use Rattle.sr_script.specs.Script.{Program}
+use Rattle.sr_script.specs.Reading.{HasRead}
 use Rattle.sr_replay.specs.Replays.{ActsAll}
 use Rattle.sr_replay.proofs.replaying.act_all.Given as goal
 

@@ -1,6 +1,6 @@
 use Rattle.std.proofs.Common.{[], sym, subst}
-use Rattle.sr_replay.specs.Asking.{IsAllowed, and_then}
-use Rattle.sr_replay.specs.Reading.{HasRead}
+use Rattle.sr_script.specs.Asking.{IsAllowed, and_then}
+use Rattle.sr_script.specs.Reading.{HasRead}
 use Rattle.sr_replay.specs.Replays.{Begins}
 use Rattle.sr_replay.proofs.Begun.{first_settings}
 use Rattle.sr_replay.proofs.replaying.options.Goals as goal

@@ -1,6 +1,6 @@
 use Rattle.std.proofs.Common.{sym, ◌∙◌, subst, arith}
 use Rattle.std.specs.Prelude.{OnOk}
-use Rattle.sr_replay.specs.declared.action.Action.TheVariants as action
+use Rattle.sr_script.specs.declared.action.Action.TheVariants as action
 use Rattle.sr_replay.proofs.Played.{on_ok}
 use Rattle.sr_replay.proofs.Linked.{there}
 use Rattle.sr_replay.proofs.Pairs.{ReadsFrom, client_reads, client_reads_none, client_never_past, server_reads, server_reads_none, server_never_past}

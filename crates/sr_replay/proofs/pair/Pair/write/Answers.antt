@@ -1,6 +1,6 @@
 use Rattle.std.proofs.Common.{refl, sym, ◌∙◌, arith}
 use Rattle.std.specs.Vec.{with_item}
-use Rattle.sr_replay.specs.declared.action.Action.TheVariants as action
+use Rattle.sr_script.specs.declared.action.Action.TheVariants as action
 use Rattle.sr_replay.proofs.Played.{on_ok}
 use Rattle.sr_replay.proofs.Linked.{there}
 use Rattle.sr_replay.proofs.Pairs.{client_writes, client_writes_none, client_never_past, server_writes, server_writes_none, server_never_past}

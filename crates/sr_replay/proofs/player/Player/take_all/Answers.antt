@@ -1,8 +1,8 @@
 use Rattle.std.proofs.Common.{◌<◌, ◌++◌, length, refl, ◌∙◌, subst, arith}
 use Rattle.hq_resend.specs.Bounds.{AreLimits}
-use Rattle.sr_replay.specs.declared.action.Count.TheVariants.{Everything}
-use Rattle.sr_replay.specs.Plays.{Goes, steps_text, limits_at, most_of}
-use Rattle.sr_replay.specs.Runs.{taking}
+use Rattle.sr_script.specs.declared.action.Count.TheVariants.{Everything}
+use Rattle.sr_replay.specs.Plays.{Goes, steps_text, limits_at, most_steps}
+use Rattle.hd_runs.specs.Alone.{taking}
 use Rattle.sr_replay.proofs.Going.{steps_add, gone_none, gone_on, all_done, taken_few}
 use Rattle.sr_replay.proofs.player.Player.take_all.Goals as goal
 
@@ -44,7 +44,7 @@ returns c = record {
   taken = λ wire config h plays.
       let has = c.loop-taken.invariant.gone wire config h plays in
       let are : AreLimits (limits_at c.args.self.now) = subst AreLimits c.limits.ensures c.frame.ensures.in_range in
-      let few : length has.steps < most_of Everything =
+      let few : length has.steps < most_steps Everything =
       taken_few c.takes_few.ensures c.wire_is_sound.ensures (limits_at c.args.self.now) wire config h has.steps are plays.stands.house plays.stands.history has.follow in
       absurd (let many = has.many in omega arith);
 }

@@ -1,6 +1,6 @@
 use Rattle.std.proofs.Common.{◌≡◌, ◌++◌, refl, ◌∙◌, subst, arith}
-use Rattle.sr_replay.specs.Plays.{Goes, lent_text, limits_at, most_of}
-use Rattle.sr_replay.specs.Runs.{writing}
+use Rattle.sr_replay.specs.Plays.{Goes, lent_text, limits_at, most_steps}
+use Rattle.hd_runs.specs.Alone.{writing}
 use Rattle.sr_replay.proofs.Going.{HasGone, lent_add, gone_none, gone_on, up_to_done, up_to_most, written_few}
 use Rattle.sr_replay.proofs.player.Player.write.Goals as goal
 
@@ -37,8 +37,8 @@ pub returns : goal.returns
 returns c = record {
   limits = c.loop-written.invariant.limits;
   written = λ wire config h plays.
-      let all : c.loop-written._written ≡ most_of c.args.count = (let most = c.most-written-end.ensures in omega arith) in
-      let has : HasGone (writing wire config) (lent_text wire config) wire config h c.loop-written.self c.args.lane.now.items c.loop-written.lane.items (most_of c.args.count) =
+      let all : c.loop-written._written ≡ most_steps c.args.count = (let most = c.most-written-end.ensures in omega arith) in
+      let has : HasGone (writing wire config) (lent_text wire config) wire config h c.loop-written.self c.args.lane.now.items c.loop-written.lane.items (most_steps c.args.count) =
       subst (HasGone (writing wire config) (lent_text wire config) wire config h c.loop-written.self c.args.lane.now.items c.loop-written.lane.items) all
       (c.loop-written.invariant.gone wire config h plays) in
       up_to_most (writing wire config) (lent_text wire config) (lent_add wire config) wire config h c.loop-written.self c.args.lane.now.items c.loop-written.lane.items c.args.count has

@@ -1,5 +1,0 @@
-use Rattle.sr_replay.proofs.Settled.{settled}
-use Rattle.sr_replay.proofs.laws.scripts_are_settled.Goals as goal
-
-pub returns : goal.returns
-returns c text p = settled text p

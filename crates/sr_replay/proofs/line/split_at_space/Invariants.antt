@@ -1,6 +1,0 @@
-use Rattle.std.proofs.Common.{take}
-use Rattle.sr_replay.specs.Asking.{IsWord}
-use Rattle.sr_replay.proofs.line.split_at_space.Given as goal
-
-abbrev pub invariant-loop-i : goal.invariant-loop-i
-invariant-loop-i l = IsWord (take l.i l.bytes)

@@ -1,6 +1,0 @@
-use Rattle.std.proofs.Common.{take}
-use Rattle.sr_replay.specs.Reading.{IsOneLine}
-use Rattle.sr_replay.proofs.script.line_end.Given as goal
-
-abbrev pub invariant-loop-i : goal.invariant-loop-i
-invariant-loop-i l = IsOneLine (take l.i l.text)

@@ -1,5 +1,0 @@
-use Rattle.std.proofs.Common.{[]}
-use Rattle.sr_replay.proofs.script.parse.Goals as goal
-
-pub loop-reader-init : goal.loop-reader-init
-loop-reader-init c = (record { settings = []; actions = [] }, c.start-reader.ensures c.args.text.now)

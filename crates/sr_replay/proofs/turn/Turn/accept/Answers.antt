@@ -1,6 +1,0 @@
-use Rattle.std.proofs.Common.{refl, sym, arith}
-use Rattle.sr_replay.proofs.Turning.{accept_comes}
-use Rattle.sr_replay.proofs.turn.Turn.accept.Goals as goal
-
-pub returns : goal.returns
-returns c = λ p knows. accept_comes c.args.self.now _ p c.args.link (omega arith) (sym (rw c.if-index.false at c.index.ensures)) knows refl refl refl refl refl refl refl

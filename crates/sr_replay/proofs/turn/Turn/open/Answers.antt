@@ -1,6 +1,0 @@
-use Rattle.std.proofs.Common.{refl, arith}
-use Rattle.sr_replay.proofs.Turning.{open_comes}
-use Rattle.sr_replay.proofs.turn.Turn.open.Goals as goal
-
-pub returns : goal.returns
-returns c = λ p knows. open_comes c.args.self.now _ p (omega (arith, knows.links)) knows refl refl refl refl refl c.in_ok-push.ensures.items refl

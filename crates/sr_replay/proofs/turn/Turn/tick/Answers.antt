@@ -1,6 +1,0 @@
-use Rattle.std.proofs.Common.{refl, arith}
-use Rattle.sr_replay.proofs.Turning.{tick_comes}
-use Rattle.sr_replay.proofs.turn.Turn.tick.Goals as goal
-
-pub returns : goal.returns
-returns c = λ p knows. tick_comes c.args.self.now _ p c.args.now (omega arith) knows refl refl refl refl refl refl refl

@@ -1,0 +1,423 @@
+-- The lines of a script: each asks for one thing at most, which its first bytes tell.
+use Rattle.std.proofs.Common.{◌≡◌, ◌≢◌, ◌<◌, ◌≤◌, ◌^◌, ℕ, ◌⊎◌, inl, inr, true, false, List, [], ◌∷◌, ◌++◌, length, get_or, Option, Some, None, Result, Ok, Err, IfOk, IfSome, IfNone, IsSome, ◌↔◌, refl, sym, ◌∙◌, ap, subst, arith}
+use Rattle.std.specs.Fmt.{decimal}
+use Rattle.std.specs.Int.{IsInRange}
+use Rattle.std.proofs.lemmas.Fmt.{decimal_injective, decimal_is_IsNumeral, decimal_nonempty}
+use Rattle.std.proofs.lemmas.Str.Parse.{digit_at}
+use Rattle.std.proofs.lemmas.List.{append_cancel_left}
+use Rattle.std.proofs.lemmas.List.Elements.{All-head, All-tail, All-from_get_or}
+use Rattle.hm_message.specs.declared.message.Codec.TheVariants.{Json, Pack}
+use Rattle.hm_message.specs.declared.message.Message.{Message}
+use Rattle.hm_message.specs.Message.{is_sequenced}
+use Rattle.hm_json.specs.Says.{Says}
+use Rattle.hd_delivery.specs.declared.vocabulary.Side.{Side}
+use Rattle.hd_delivery.specs.declared.vocabulary.Side.TheVariants.{Client, Server}
+use Rattle.hd_delivery.specs.Worlds.{Limits}
+use Rattle.hd_facts.specs.Unique.{IsTheOne}
+use Rattle.hq_resend.specs.Bounds.{AreLimits}
+use Rattle.hs_shake.specs.Requests.{IsVersion}
+use Rattle.sr_script.specs.declared.action.Setting.{Setting}
+use Rattle.sr_script.specs.declared.action.Setting.TheVariants as setting
+use Rattle.sr_script.specs.declared.action.Count.{Count}
+use Rattle.sr_script.specs.declared.action.Count.TheVariants.{UpTo, Everything}
+use Rattle.sr_script.specs.declared.action.Action.{Action}
+use Rattle.sr_script.specs.declared.action.Action.TheVariants.{Open, Accept, Lose, Write, Read, Close, Send, Tick}
+use Rattle.sr_script.specs.declared.line.Asked.{Asked}
+use Rattle.sr_script.specs.declared.line.Asked.TheVariants as asked
+use Rattle.sr_script.specs.Script.{IsCount, IsShort, count_text, letter, Asks, IsPassedOver}
+use Rattle.sr_script.specs.Asking.{IsWord, buffer_words, IsOption, OfEnd, Wants, HasFit}
+
+-- the first bytes of a line
+abbrev first : List ℕ → ℕ
+first line = get_or line 0 0
+
+abbrev second : List ℕ → ℕ
+second line = get_or line 1 0
+
+-- ---- numbers and counts
+
+digit_of : (n k : ℕ) → n < 2 ^ 64 → k < length (decimal n) → IsInRange 48 57 (get_or (decimal n) k 0)
+digit_of n k small inside = digit_at (decimal n) k (decimal_is_IsNumeral n small).0.1 inside
+
+-- digits are no star
+no_star : (n : ℕ) → n < 2 ^ 64 → decimal n ≡ 42 ∷ [] → ⊥
+no_star n small is =
+    let digit : IsInRange 48 57 (first (decimal n)) = digit_of n 0 small (decimal_nonempty n small) in
+    let star : first (decimal n) ≡ 42 = ap (λ (xs : List ℕ). get_or xs 0 0) is in
+    omega (arith, digit, star)
+
+pub same_count : (a b : Count) → IsCount a → IsCount b → count_text a ≡ count_text b → a ≡ b
+same_count (UpTo n) (UpTo m) p q e = ap (λ (k : ℕ). UpTo k) (decimal_injective n m p q e)
+same_count (UpTo n) Everything p q e = absurd (no_star n p e)
+same_count Everything (UpTo m) p q e = absurd (no_star m q (sym e))
+same_count Everything Everything p q e = refl
+
+-- ---- words
+
+-- a word is cut off at one space alone
+pub one_split : (a b x y : List ℕ) → IsWord a → IsWord b → a ++ 32 ∷ x ≡ b ++ 32 ∷ y → (a ≡ b) × (x ≡ y)
+one_split [] [] x y p q e = (refl, cc)
+one_split [] (c ∷ b) x y p q e = absurd (All-head (λ k. k ≢ 32) c b q (sym (ap first e)))
+one_split (c ∷ a) [] x y p q e = absurd (All-head (λ k. k ≢ 32) c a p (ap first e))
+one_split (c ∷ a) (d ∷ b) x y p q e =
+    let same : c ≡ d = ap first e in
+    let rest : a ++ 32 ∷ x ≡ b ++ 32 ∷ y = cc in
+    let more = one_split a b x y (All-tail (λ k. k ≢ 32) c a p) (All-tail (λ k. k ≢ 32) d b q) rest in
+    (cc (same, more.0), more.1)
+
+-- a word has no space
+pub no_space : (a b x : List ℕ) → IsWord a → a ≡ b ++ 32 ∷ x → ⊥
+no_space [] [] x p e = absurd (omega (arith, ap length e))
+no_space [] (c ∷ b) x p e = absurd (omega (arith, ap length e))
+no_space (c ∷ a) [] x p e = All-head (λ k. k ≢ 32) c a p (ap first e)
+no_space (c ∷ a) (d ∷ b) x p e = no_space a b x (All-tail (λ k. k ≢ 32) c a p) cc
+
+-- digits are a word
+pub decimal_word : (n : ℕ) → n < 2 ^ 64 → IsWord (decimal n)
+decimal_word n small = All-from_get_or (λ b. b ≢ 32) (decimal n) 0
+    (λ k inside is. (let digit : IsInRange 48 57 (get_or (decimal n) k 0) = digit_of n k small inside in omega (arith, digit.0, is)))
+
+-- limits are numbers of 64 bits
+pub short_limits : (limits : Limits) → AreLimits limits → (limits.frame < 2 ^ 64) × (limits.count < 2 ^ 64) × (limits.bytes < 2 ^ 64)
+short_limits limits are = (omega (arith, are.frame_not_more), omega (arith, are.count_not_more), omega (arith, are.bytes_not_more))
+
+-- what the words of the limits are cut into
+pub record AreParts (count bytes frame : List ℕ) (limits : Limits) : Type 0 where
+  pub count_is : count ≡ decimal limits.count
+  pub bytes_is : bytes ≡ decimal limits.bytes
+  pub frame_is : frame ≡ decimal limits.frame
+
+pub buffer_parts : (words count rest bytes frame : List ℕ) (limits : Limits) → AreLimits limits → IsWord count → words ≡ count ++ 32 ∷ rest
+    → IsWord bytes → rest ≡ bytes ++ 32 ∷ frame → words ≡ buffer_words limits → AreParts count bytes frame limits
+buffer_parts words count rest bytes frame limits are word cut word' cut' is =
+    let short = short_limits limits are in
+    let one = one_split count (decimal limits.count) rest (decimal limits.bytes ++ 32 ∷ decimal limits.frame) word (decimal_word limits.count short.1) (sym cut ∙ is) in
+    let two = one_split bytes (decimal limits.bytes) frame (decimal limits.frame) word' (decimal_word limits.bytes short.2) (sym cut' ∙ one.1) in
+    record { count_is = one.0; bytes_is = two.0; frame_is = two.1 }
+
+-- ---- options
+
+-- a line of the option `version`, and of the option `buffer`
+pub version_of : (line digits : List ℕ) (s : Setting) → line ≡ 118 ∷ 101 ∷ 114 ∷ 115 ∷ 105 ∷ 111 ∷ 110 ∷ 32 ∷ digits → IsOption line s
+    → (version : ℕ) × ((s ≡ setting.Version version) × IsVersion version × (digits ≡ decimal version))
+version_of line digits (setting.Codec Json) e is = absurd (let h : 118 ≡ 99 = ap first (sym e ∙ is.0) in omega arith)
+version_of line digits (setting.Codec Pack) e is = absurd (let h : 118 ≡ 99 = ap first (sym e ∙ is.0) in omega arith)
+version_of line digits (setting.Version version) e is =
+    (version, (refl, is.1, append_cancel_left (118 ∷ 101 ∷ 114 ∷ 115 ∷ 105 ∷ 111 ∷ 110 ∷ 32 ∷ []) digits (decimal version) (sym e ∙ is.0)))
+version_of line digits (setting.Reconnect true) e is = absurd (let h : 118 ≡ 114 = ap first (sym e ∙ is.0) in omega arith)
+version_of line digits (setting.Reconnect false) e is = absurd (let h : 118 ≡ 114 = ap first (sym e ∙ is.0) in omega arith)
+version_of line digits (setting.Buffer limits) e is = absurd (let h : 118 ≡ 98 = ap first (sym e ∙ is.0) in omega arith)
+
+pub buffer_of : (line words : List ℕ) (s : Setting) → line ≡ 98 ∷ 117 ∷ 102 ∷ 102 ∷ 101 ∷ 114 ∷ 32 ∷ words → IsOption line s
+    → (limits : Limits) × ((s ≡ setting.Buffer limits) × AreLimits limits × (words ≡ buffer_words limits))
+buffer_of line words (setting.Codec Json) e is = absurd (let h : 98 ≡ 99 = ap first (sym e ∙ is.0) in omega arith)
+buffer_of line words (setting.Codec Pack) e is = absurd (let h : 98 ≡ 99 = ap first (sym e ∙ is.0) in omega arith)
+buffer_of line words (setting.Version version) e is = absurd (let h : 98 ≡ 118 = ap first (sym e ∙ is.0) in omega arith)
+buffer_of line words (setting.Reconnect true) e is = absurd (let h : 98 ≡ 114 = ap first (sym e ∙ is.0) in omega arith)
+buffer_of line words (setting.Reconnect false) e is = absurd (let h : 98 ≡ 114 = ap first (sym e ∙ is.0) in omega arith)
+buffer_of line words (setting.Buffer limits) e is =
+    (limits, (refl, is.1, append_cancel_left (98 ∷ 117 ∷ 102 ∷ 102 ∷ 101 ∷ 114 ∷ 32 ∷ []) words (buffer_words limits) (sym e ∙ is.0)))
+
+same_limits : (a b : Limits) → a.frame ≡ b.frame → a.count ≡ b.count → a.bytes ≡ b.bytes → a ≡ b
+same_limits a b p q r = ap (λ (n : ℕ). record { frame = n; count = a.count; bytes = a.bytes }) p
+    ∙ ap (λ (n : ℕ). record { frame = b.frame; count = n; bytes = a.bytes }) q
+    ∙ ap (λ (n : ℕ). record { frame = b.frame; count = b.count; bytes = n }) r
+
+-- the words of limits are those of no others
+limits_of : (words count rest bytes frame : List ℕ) (limits others : Limits) → AreLimits limits → AreLimits others → AreParts count bytes frame limits
+    → IsWord count → words ≡ count ++ 32 ∷ rest → IsWord bytes → rest ≡ bytes ++ 32 ∷ frame → words ≡ buffer_words others → others ≡ limits
+limits_of words count rest bytes frame limits others are are' parts word cut word' cut' is =
+    let parts' : AreParts count bytes frame others = buffer_parts words count rest bytes frame others are' word cut word' cut' is in
+    let short = short_limits limits are in
+    let short' = short_limits others are' in
+    same_limits others limits (decimal_injective others.frame limits.frame short'.0 short.0 (sym parts'.frame_is ∙ parts.frame_is))
+    (decimal_injective others.count limits.count short'.1 short.1 (sym parts'.count_is ∙ parts.count_is))
+    (decimal_injective others.bytes limits.bytes short'.2 short.2 (sym parts'.bytes_is ∙ parts.bytes_is))
+
+own_parts : (limits : Limits) → AreParts (decimal limits.count) (decimal limits.bytes) (decimal limits.frame) limits
+own_parts limits = record { count_is = refl; bytes_is = refl; frame_is = refl }
+
+same_words : (limits others : Limits) → AreLimits limits → AreLimits others → buffer_words others ≡ buffer_words limits → others ≡ limits
+same_words limits others are are' same =
+    let short = short_limits limits are in
+    limits_of (buffer_words limits) (decimal limits.count) (decimal limits.bytes ++ 32 ∷ decimal limits.frame) (decimal limits.bytes) (decimal limits.frame)
+    limits others are are' (own_parts limits) (decimal_word limits.count short.1) refl (decimal_word limits.bytes short.2) refl (sym same)
+
+-- no words of limits: there is no second space
+pub no_second : (words count rest : List ℕ) (limits : Limits) → AreLimits limits → IsWord count → words ≡ count ++ 32 ∷ rest → IsWord rest
+    → words ≡ buffer_words limits → ⊥
+no_second words count rest limits are word cut last is =
+    let one = one_split count (decimal limits.count) rest (decimal limits.bytes ++ 32 ∷ decimal limits.frame) word
+    (decimal_word limits.count (short_limits limits are).1) (sym cut ∙ is) in
+    no_space rest (decimal limits.bytes) (decimal limits.frame) last one.1
+
+-- these numbers are no limits
+pub no_limits : (r : Option Limits) (count bytes frame : ℕ) (words cw rest bw fw : List ℕ) → (IsSome r ↔ AreLimits (record { frame = frame; count = count; bytes = bytes }))
+    → count < 2 ^ 64 → bytes < 2 ^ 64 → frame < 2 ^ 64 → cw ≡ decimal count → bw ≡ decimal bytes → fw ≡ decimal frame
+    → IsWord cw → words ≡ cw ++ 32 ∷ rest → IsWord bw → rest ≡ bw ++ 32 ∷ fw
+    → IfNone r ((limits : Limits) → AreLimits limits → words ≡ buffer_words limits → ⊥)
+no_limits (Some l) count bytes frame words cw rest bw fw range p q s c b f word cut word' cut' = tt
+no_limits None count bytes frame words cw rest bw fw range p q s c b f word cut word' cut' = λ limits are is.
+    let parts : AreParts cw bw fw limits = buffer_parts words cw rest bw fw limits are word cut word' cut' is in
+    let short = short_limits limits are in
+    let same : limits ≡ record { frame = frame; count = count; bytes = bytes } = same_limits limits (record { frame = frame; count = count; bytes = bytes })
+    (decimal_injective limits.frame frame short.0 s (sym parts.frame_is ∙ f)) (decimal_injective limits.count count short.1 p (sym parts.count_is ∙ c))
+    (decimal_injective limits.bytes bytes short.2 q (sym parts.bytes_is ∙ b)) in
+    no_some None refl (range.1 (subst AreLimits same are)) where
+      no_some : (r : Option Limits) → r ≡ None → IsSome r → ⊥
+      no_some r e some = cc
+
+pub the_version : (line digits : List ℕ) (version : ℕ) → line ≡ 118 ∷ 101 ∷ 114 ∷ 115 ∷ 105 ∷ 111 ∷ 110 ∷ 32 ∷ digits → digits ≡ decimal version → IsVersion version
+    → IsTheOne (IsOption line) (setting.Version version)
+the_version line digits version e is spoken = record {
+  holds = (e ∙ ap (λ (xs : List ℕ). 118 ∷ 101 ∷ 114 ∷ 115 ∷ 105 ∷ 111 ∷ 110 ∷ 32 ∷ xs) is, spoken);
+  only = λ other asks. (let v = version_of line digits other e asks in
+      v.1.0 ∙ ap (λ (n : ℕ). setting.Version n)
+      (decimal_injective v.0 version (omega (arith, v.1.1.1)) (omega (arith, spoken.1)) (sym v.1.2 ∙ is)));
+}
+
+pub the_buffer : (line words : List ℕ) (limits : Limits) → line ≡ 98 ∷ 117 ∷ 102 ∷ 102 ∷ 101 ∷ 114 ∷ 32 ∷ words → words ≡ buffer_words limits → AreLimits limits
+    → IsTheOne (IsOption line) (setting.Buffer limits)
+the_buffer line words limits e is are = record {
+  holds = (e ∙ ap (λ (xs : List ℕ). 98 ∷ 117 ∷ 102 ∷ 102 ∷ 101 ∷ 114 ∷ 32 ∷ xs) is, are);
+  only = λ other asks. (let b = buffer_of line words other e asks in
+      b.1.0 ∙ ap (λ (l : Limits). setting.Buffer l) (same_words limits b.0 are b.1.1 (sym b.1.2 ∙ is)));
+}
+
+-- ---- actions of an end
+
+pub write_of : (side : Side) (words rest : List ℕ) (a : Action) → words ≡ 119 ∷ 114 ∷ 105 ∷ 116 ∷ 101 ∷ 32 ∷ rest → OfEnd side words a
+    → (count : Count) × ((a ≡ Write side count) × IsCount count × (rest ≡ count_text count))
+write_of side words rest Open e is = absurd is
+write_of side words rest (Accept link) e is = absurd is
+write_of side words rest (Lose s) e is = absurd (let h : 119 ≡ 108 = ap first (sym e ∙ is.1) in omega arith)
+write_of side words rest (Write s count) e is =
+    (count, (ap (λ (x : Side). Write x count) is.0, is.1.0, append_cancel_left (119 ∷ 114 ∷ 105 ∷ 116 ∷ 101 ∷ 32 ∷ []) rest (count_text count) (sym e ∙ is.1.1)))
+write_of side words rest (Read s count) e is = absurd (let h : 119 ≡ 114 = ap first (sym e ∙ is.1.1) in omega arith)
+write_of side words rest (Close s) e is = absurd (let h : 119 ≡ 99 = ap first (sym e ∙ is.1) in omega arith)
+write_of side words rest (Send s m) e is = absurd (let h : 119 ≡ 115 = ap first (sym e ∙ is.1.1.0) in omega arith)
+write_of side words rest (Tick now) e is = absurd is
+
+pub read_of : (side : Side) (words rest : List ℕ) (a : Action) → words ≡ 114 ∷ 101 ∷ 97 ∷ 100 ∷ 32 ∷ rest → OfEnd side words a
+    → (count : Count) × ((a ≡ Read side count) × IsCount count × (rest ≡ count_text count))
+read_of side words rest Open e is = absurd is
+read_of side words rest (Accept link) e is = absurd is
+read_of side words rest (Lose s) e is = absurd (let h : 114 ≡ 108 = ap first (sym e ∙ is.1) in omega arith)
+read_of side words rest (Write s count) e is = absurd (let h : 114 ≡ 119 = ap first (sym e ∙ is.1.1) in omega arith)
+read_of side words rest (Read s count) e is =
+    (count, (ap (λ (x : Side). Read x count) is.0, is.1.0, append_cancel_left (114 ∷ 101 ∷ 97 ∷ 100 ∷ 32 ∷ []) rest (count_text count) (sym e ∙ is.1.1)))
+read_of side words rest (Close s) e is = absurd (let h : 114 ≡ 99 = ap first (sym e ∙ is.1) in omega arith)
+read_of side words rest (Send s m) e is = absurd (let h : 114 ≡ 115 = ap first (sym e ∙ is.1.1.0) in omega arith)
+read_of side words rest (Tick now) e is = absurd is
+
+pub send_of : (side : Side) (words rest : List ℕ) (a : Action) → words ≡ 115 ∷ 101 ∷ 110 ∷ 100 ∷ 32 ∷ rest → OfEnd side words a
+    → (m : Message) × ((a ≡ Send side m) × Says rest m × (is_sequenced m ≡ true))
+send_of side words rest Open e is = absurd is
+send_of side words rest (Accept link) e is = absurd is
+send_of side words rest (Lose s) e is = absurd (let h : 115 ≡ 108 = ap first (sym e ∙ is.1) in omega arith)
+send_of side words rest (Write s count) e is = absurd (let h : 115 ≡ 119 = ap first (sym e ∙ is.1.1) in omega arith)
+send_of side words rest (Read s count) e is = absurd (let h : 115 ≡ 114 = ap first (sym e ∙ is.1.1) in omega arith)
+send_of side words rest (Close s) e is = absurd (let h : 115 ≡ 99 = ap first (sym e ∙ is.1) in omega arith)
+send_of side words rest (Send s m) e is =
+    let same : rest ≡ is.1.0 = append_cancel_left (115 ∷ 101 ∷ 110 ∷ 100 ∷ 32 ∷ []) rest is.1.0 (sym e ∙ is.1.1.0) in
+    (m, (ap (λ (x : Side). Send x m) is.0, subst (λ (frame : List ℕ). Says frame m) (sym same) is.1.1.1, is.1.1.2))
+send_of side words rest (Tick now) e is = absurd is
+
+pub the_write : (side : Side) (words rest : List ℕ) (count : Count) → words ≡ 119 ∷ 114 ∷ 105 ∷ 116 ∷ 101 ∷ 32 ∷ rest → rest ≡ count_text count → IsCount count
+    → IsTheOne (OfEnd side words) (Write side count)
+the_write side words rest count e is short = record {
+  holds = (refl, (short, e ∙ ap (λ (xs : List ℕ). 119 ∷ 114 ∷ 105 ∷ 116 ∷ 101 ∷ 32 ∷ xs) is));
+  only = λ other asks. (let w = write_of side words rest other e asks in
+      w.1.0 ∙ ap (λ (n : Count). Write side n) (same_count w.0 count w.1.1 short (sym w.1.2 ∙ is)));
+}
+
+pub the_read : (side : Side) (words rest : List ℕ) (count : Count) → words ≡ 114 ∷ 101 ∷ 97 ∷ 100 ∷ 32 ∷ rest → rest ≡ count_text count → IsCount count
+    → IsTheOne (OfEnd side words) (Read side count)
+the_read side words rest count e is short = record {
+  holds = (refl, (short, e ∙ ap (λ (xs : List ℕ). 114 ∷ 101 ∷ 97 ∷ 100 ∷ 32 ∷ xs) is));
+  only = λ other asks. (let r = read_of side words rest other e asks in
+      r.1.0 ∙ ap (λ (n : Count). Read side n) (same_count r.0 count r.1.1 short (sym r.1.2 ∙ is)));
+}
+
+pub the_send : (side : Side) (words rest : List ℕ) (m : Message) → words ≡ 115 ∷ 101 ∷ 110 ∷ 100 ∷ 32 ∷ rest → IsTheOne (Says rest) m → is_sequenced m ≡ true
+    → IsTheOne (OfEnd side words) (Send side m)
+the_send side words rest m e says sequenced = record {
+  holds = (refl, (rest, (e, says.holds, sequenced)));
+  only = λ other asks. (let s = send_of side words rest other e asks in s.1.0 ∙ ap (λ (n : Message). Send side n) (says.only s.0 s.1.1));
+}
+
+-- ---- lines
+
+-- after the letter of an end and a space
+letter_apart : (side s : Side) (xs ys : List ℕ) → letter side ++ 32 ∷ xs ≡ letter s ++ 32 ∷ ys → (s ≡ side) × (xs ≡ ys)
+letter_apart Client Client xs ys e = (refl, append_cancel_left (99 ∷ 32 ∷ []) xs ys e)
+letter_apart Client Server xs ys e = absurd (let h : 99 ≡ 115 = ap first e in omega arith)
+letter_apart Server Client xs ys e = absurd (let h : 115 ≡ 99 = ap first e in omega arith)
+letter_apart Server Server xs ys e = (refl, append_cancel_left (115 ∷ 32 ∷ []) xs ys e)
+
+letter_second : (side : Side) (xs : List ℕ) → second (letter side ++ 32 ∷ xs) ≡ 32
+letter_second Client xs = refl
+letter_second Server xs = refl
+
+-- such a line asks for what the words after the letter do
+pub end_of : (side : Side) (line words : List ℕ) (a : Action) → line ≡ letter side ++ 32 ∷ words → Asks line a → OfEnd side words a
+end_of side line words Open e is = absurd (let h : 32 ≡ 112 = sym (letter_second side words) ∙ ap second (sym e ∙ is) in omega arith)
+end_of side line words (Accept link) e is = absurd (let h : 32 ≡ 99 = sym (letter_second side words) ∙ ap second (sym e ∙ is.1) in omega arith)
+end_of side line words (Lose s) e is = letter_apart side s words (108 ∷ 111 ∷ 115 ∷ 101 ∷ []) (sym e ∙ is)
+end_of side line words (Write s count) e is =
+    let parts = letter_apart side s words (119 ∷ 114 ∷ 105 ∷ 116 ∷ 101 ∷ 32 ∷ count_text count) (sym e ∙ is.1) in
+    (parts.0, (is.0, parts.1))
+end_of side line words (Read s count) e is =
+    let parts = letter_apart side s words (114 ∷ 101 ∷ 97 ∷ 100 ∷ 32 ∷ count_text count) (sym e ∙ is.1) in
+    (parts.0, (is.0, parts.1))
+end_of side line words (Close s) e is = letter_apart side s words (99 ∷ 108 ∷ 111 ∷ 115 ∷ 101 ∷ []) (sym e ∙ is)
+end_of side line words (Send s m) e is =
+    let parts = letter_apart side s words (115 ∷ 101 ∷ 110 ∷ 100 ∷ 32 ∷ is.0) (sym e ∙ is.1.0) in
+    (parts.0, (is.0, (parts.1, is.1.1, is.1.2)))
+end_of side line words (Tick now) e is = absurd (let h : 32 ≡ 105 = sym (letter_second side words) ∙ ap second (sym e ∙ is.1) in omega arith)
+
+pub asks_of : (side : Side) (line words : List ℕ) (a : Action) → line ≡ letter side ++ 32 ∷ words → OfEnd side words a → Asks line a
+asks_of side line words Open e is = absurd is
+asks_of side line words (Accept link) e is = absurd is
+asks_of side line words (Lose s) e is = e ∙ ap (λ (x : Side). letter x ++ 32 ∷ words) (sym is.0) ∙ ap (λ (xs : List ℕ). letter s ++ 32 ∷ xs) is.1
+asks_of side line words (Write s count) e is = (is.1.0, e ∙ ap (λ (x : Side). letter x ++ 32 ∷ words) (sym is.0) ∙ ap (λ (xs : List ℕ). letter s ++ 32 ∷ xs) is.1.1)
+asks_of side line words (Read s count) e is = (is.1.0, e ∙ ap (λ (x : Side). letter x ++ 32 ∷ words) (sym is.0) ∙ ap (λ (xs : List ℕ). letter s ++ 32 ∷ xs) is.1.1)
+asks_of side line words (Close s) e is = e ∙ ap (λ (x : Side). letter x ++ 32 ∷ words) (sym is.0) ∙ ap (λ (xs : List ℕ). letter s ++ 32 ∷ xs) is.1
+asks_of side line words (Send s m) e is =
+    (is.1.0, (e ∙ ap (λ (x : Side). letter x ++ 32 ∷ words) (sym is.0) ∙ ap (λ (xs : List ℕ). letter s ++ 32 ∷ xs) is.1.1.0, is.1.1.1, is.1.1.2))
+asks_of side line words (Tick now) e is = absurd is
+
+-- what the words ask for, the line does
+pub end_found : {E : Type 0} (side : Side) (line words : List ℕ) (r : Result (Option Action) E) → line ≡ letter side ++ 32 ∷ words
+    → IfOk r (λ found. IfSome found (λ a. IsTheOne (OfEnd side words) a × HasFit a)) → IfOk r (λ found. IfSome found (λ a. IsTheOne (Asks line) a × HasFit a))
+end_found side line words (Ok None) e found = tt
+end_found side line words (Ok (Some a)) e found = (
+  record {
+    holds = asks_of side line words a e found.0.holds;
+    only = λ other asks. found.0.only other (end_of side line words other e asks);
+  },
+  found.1,
+)
+end_found side line words (Err error) e found = tt
+
+pub end_none : {E : Type 0} (side : Side) (line words : List ℕ) (r : Result (Option Action) E) → line ≡ letter side ++ 32 ∷ words
+    → IfOk r (λ found. IfNone found ((a : Action) → OfEnd side words a → ⊥)) → IfOk r (λ found. IfNone found ((a : Action) → Asks line a → ⊥))
+end_none side line words (Ok None) e none = λ a asks. none a (end_of side line words a e asks)
+end_none side line words (Ok (Some a)) e none = tt
+end_none side line words (Err error) e none = tt
+
+-- a line of an end has its letter and a space
+no_letter : (side : Side) (x : ℕ) (line xs : List ℕ) → line ≡ letter side ++ 32 ∷ xs → first line ≡ x → x ≢ 99 → x ≢ 115 → ⊥
+no_letter Client x line xs e is no_client no_server = no_client (sym is ∙ ap first e)
+no_letter Server x line xs e is no_client no_server = no_server (sym is ∙ ap first e)
+
+-- Each line of an end begins with its letter.
+pub record BeginsWith (side : Side) (line : List ℕ) : Type 0 where
+  pub words : List ℕ
+  pub line_is : line ≡ letter side ++ 32 ∷ words
+
+-- an action is that of an end, or its line begins with none of their letters
+abbrev OfNoEnd : List ℕ → Action → Type 0
+OfNoEnd line Open = line ≡ 111 ∷ 112 ∷ 101 ∷ 110 ∷ []
+OfNoEnd line (Accept link) = IsShort link × (line ≡ 97 ∷ 99 ∷ 99 ∷ 101 ∷ 112 ∷ 116 ∷ 32 ∷ decimal link)
+OfNoEnd line (Tick now) = IsShort now × (line ≡ 116 ∷ 105 ∷ 99 ∷ 107 ∷ 32 ∷ decimal now)
+OfNoEnd line _ = ⊥
+
+kinds : (line : List ℕ) (a : Action) → Asks line a → OfNoEnd line a ⊎ ((side : Side) × BeginsWith side line)
+kinds line Open is = inl is
+kinds line (Accept link) is = inl is
+kinds line (Lose s) is = inr (s, record { words = 108 ∷ 111 ∷ 115 ∷ 101 ∷ []; line_is = is })
+kinds line (Write s count) is = inr (s, record { words = 119 ∷ 114 ∷ 105 ∷ 116 ∷ 101 ∷ 32 ∷ count_text count; line_is = is.1 })
+kinds line (Read s count) is = inr (s, record { words = 114 ∷ 101 ∷ 97 ∷ 100 ∷ 32 ∷ count_text count; line_is = is.1 })
+kinds line (Close s) is = inr (s, record { words = 99 ∷ 108 ∷ 111 ∷ 115 ∷ 101 ∷ []; line_is = is })
+kinds line (Send s m) is = inr (s, record { words = 115 ∷ 101 ∷ 110 ∷ 100 ∷ 32 ∷ is.0; line_is = is.1.0 })
+kinds line (Tick now) is = inl is
+
+-- the line begins with no letter of an end
+of_no_end : (x : ℕ) (line : List ℕ) (a : Action) → first line ≡ x → x ≢ 99 → x ≢ 115 → Asks line a → OfNoEnd line a
+of_no_end x line a begins no_client no_server is = by_kind (kinds line a is) where
+  by_kind : OfNoEnd line a ⊎ ((side : Side) × BeginsWith side line) → OfNoEnd line a
+  by_kind (inl none) = none
+  by_kind (inr (side, begin)) = absurd (no_letter side x line begin.words begin.line_is begins no_client no_server)
+
+pub accept_of : (line digits : List ℕ) (a : Action) → line ≡ 97 ∷ 99 ∷ 99 ∷ 101 ∷ 112 ∷ 116 ∷ 32 ∷ digits → Asks line a
+    → (link : ℕ) × ((a ≡ Accept link) × (link < 2 ^ 64) × (digits ≡ decimal link))
+accept_of line digits a e is = by_action a (of_no_end 97 line a (ap first e) (λ h. omega (arith, h)) (λ h. omega (arith, h)) is) where
+  by_action : (a : Action) → OfNoEnd line a → (link : ℕ) × ((a ≡ Accept link) × (link < 2 ^ 64) × (digits ≡ decimal link))
+  by_action Open is = absurd (let h : 97 ≡ 111 = ap first (sym e ∙ is) in omega arith)
+  by_action (Accept link) is =
+      (link, (refl, is.0, append_cancel_left (97 ∷ 99 ∷ 99 ∷ 101 ∷ 112 ∷ 116 ∷ 32 ∷ []) digits (decimal link) (sym e ∙ is.1)))
+  by_action (Lose s) is = absurd is
+  by_action (Write s count) is = absurd is
+  by_action (Read s count) is = absurd is
+  by_action (Close s) is = absurd is
+  by_action (Send s m) is = absurd is
+  by_action (Tick now) is = absurd (let h : 97 ≡ 116 = ap first (sym e ∙ is.1) in omega arith)
+
+pub tick_of : (line digits : List ℕ) (a : Action) → line ≡ 116 ∷ 105 ∷ 99 ∷ 107 ∷ 32 ∷ digits → Asks line a
+    → (now : ℕ) × ((a ≡ Tick now) × (now < 2 ^ 64) × (digits ≡ decimal now))
+tick_of line digits a e is = by_action a (of_no_end 116 line a (ap first e) (λ h. omega (arith, h)) (λ h. omega (arith, h)) is) where
+  by_action : (a : Action) → OfNoEnd line a → (now : ℕ) × ((a ≡ Tick now) × (now < 2 ^ 64) × (digits ≡ decimal now))
+  by_action Open is = absurd (let h : 116 ≡ 111 = ap first (sym e ∙ is) in omega arith)
+  by_action (Accept link) is = absurd (let h : 116 ≡ 97 = ap first (sym e ∙ is.1) in omega arith)
+  by_action (Lose s) is = absurd is
+  by_action (Write s count) is = absurd is
+  by_action (Read s count) is = absurd is
+  by_action (Close s) is = absurd is
+  by_action (Send s m) is = absurd is
+  by_action (Tick now) is =
+      (now, (refl, is.0, append_cancel_left (116 ∷ 105 ∷ 99 ∷ 107 ∷ 32 ∷ []) digits (decimal now) (sym e ∙ is.1)))
+
+pub the_accept : (line digits : List ℕ) (link : ℕ) → line ≡ 97 ∷ 99 ∷ 99 ∷ 101 ∷ 112 ∷ 116 ∷ 32 ∷ digits → digits ≡ decimal link → link < 2 ^ 64
+    → IsTheOne (Asks line) (Accept link)
+the_accept line digits link e is short = record {
+  holds = (short, e ∙ ap (λ (xs : List ℕ). 97 ∷ 99 ∷ 99 ∷ 101 ∷ 112 ∷ 116 ∷ 32 ∷ xs) is);
+  only = λ other asks. (let a = accept_of line digits other e asks in
+      a.1.0 ∙ ap (λ (n : ℕ). Accept n) (decimal_injective a.0 link a.1.1 short (sym a.1.2 ∙ is)));
+}
+
+pub the_tick : (line digits : List ℕ) (now : ℕ) → line ≡ 116 ∷ 105 ∷ 99 ∷ 107 ∷ 32 ∷ digits → digits ≡ decimal now → now < 2 ^ 64
+    → IsTheOne (Asks line) (Tick now)
+the_tick line digits now e is short = record {
+  holds = (short, e ∙ ap (λ (xs : List ℕ). 116 ∷ 105 ∷ 99 ∷ 107 ∷ 32 ∷ xs) is);
+  only = λ other asks. (let t = tick_of line digits other e asks in
+      t.1.0 ∙ ap (λ (n : ℕ). Tick n) (decimal_injective t.0 now t.1.1 short (sym t.1.2 ∙ is)));
+}
+
+-- ---- no line that asks is passed over
+
+option_letter : (line : List ℕ) (s : Setting) → IsOption line s → 97 ≤ first line
+option_letter line (setting.Codec Json) is = (let h : first line ≡ 99 = ap first is.0 in omega arith)
+option_letter line (setting.Codec Pack) is = (let h : first line ≡ 99 = ap first is.0 in omega arith)
+option_letter line (setting.Version version) is = (let h : first line ≡ 118 = ap first is.0 in omega arith)
+option_letter line (setting.Reconnect true) is = (let h : first line ≡ 114 = ap first is.0 in omega arith)
+option_letter line (setting.Reconnect false) is = (let h : first line ≡ 114 = ap first is.0 in omega arith)
+option_letter line (setting.Buffer limits) is = (let h : first line ≡ 98 = ap first is.0 in omega arith)
+
+end_letter : (side : Side) (line xs : List ℕ) → line ≡ letter side ++ 32 ∷ xs → 97 ≤ first line
+end_letter Client line xs e = (let h : first line ≡ 99 = ap first e in omega arith)
+end_letter Server line xs e = (let h : first line ≡ 115 = ap first e in omega arith)
+
+action_letter : (line : List ℕ) (a : Action) → Asks line a → 97 ≤ first line
+action_letter line a is = by_kind (kinds line a is) where
+  by_action : (a : Action) → OfNoEnd line a → 97 ≤ first line
+  by_action Open is = (let h : first line ≡ 111 = ap first is in omega arith)
+  by_action (Accept link) is = (let h : first line ≡ 97 = ap first is.1 in omega arith)
+  by_action (Tick now) is = (let h : first line ≡ 116 = ap first is.1 in omega arith)
+  by_action (Lose s) is = absurd is
+  by_action (Write s count) is = absurd is
+  by_action (Read s count) is = absurd is
+  by_action (Close s) is = absurd is
+  by_action (Send s m) is = absurd is
+
+  by_kind : OfNoEnd line a ⊎ ((side : Side) × BeginsWith side line) → 97 ≤ first line
+  by_kind (inl none) = by_action a none
+  by_kind (inr (side, begin)) = end_letter side line begin.words begin.line_is
+
+asked_letter : (line : List ℕ) (x : Asked) → Wants line x → 97 ≤ first line
+asked_letter line (asked.Setting s) is = option_letter line s is
+asked_letter line (asked.Action a) is = action_letter line a is
+
+pub not_passed : (line : List ℕ) (x : Asked) → Wants line x → IsPassedOver line → ⊥
+not_passed line x wants (inl empty) = (let h : first line ≡ 0 = ap first empty in omega (arith, asked_letter line x wants))
+not_passed line x wants (inr comment) = (let h : first line ≡ 35 = ap first comment.1 in omega (arith, asked_letter line x wants))

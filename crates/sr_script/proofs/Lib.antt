@@ -1,0 +1,7 @@
+pub mod Texts
+pub mod Grammar
+pub mod Scripts
+pub mod Parsing
+pub mod Turning
+pub mod Settled
+pub mod First

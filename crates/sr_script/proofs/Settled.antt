@@ -1,0 +1,50 @@
+-- What the lines of a script bring together.
+use Rattle.std.proofs.Common.{⊎_elim, ℕ, List, [], ◌∷◌, reverse, sym, subst, arith}
+use Rattle.sr_script.specs.declared.action.Setting.{Setting}
+use Rattle.sr_script.specs.declared.action.Setting.TheVariants as setting
+use Rattle.sr_script.specs.Lines.{lines_of}
+use Rattle.sr_script.specs.Script.{Program, IsSetting, IsScript, Adds, Parses, AreInTurn}
+use Rattle.sr_script.specs.Laws.{IsSettled}
+
+-- ---- actions
+
+lines_in_turn : (lines : List (List ℕ)) (p : Program) → IsScript lines p → AreInTurn p.actions
+lines_in_turn [] p e = subst (λ q. AreInTurn q.actions) (sym e) tt
+lines_in_turn (line ∷ before) p e = ⊎_elim (λ f. lines_in_turn before p f.1) (λ f. added f.0 (lines_in_turn before f.0 f.1.0) f.1.1) e.1
+  where
+    added : (q : Program) → AreInTurn q.actions → Adds line q p → AreInTurn p.actions
+    added q turns a = ⊎_elim (λ f. subst (λ r. AreInTurn r.actions) (sym f.1.4) tt) (λ f. subst (λ r. AreInTurn r.actions) (sym f.1.2) (turns, f.1.1)) a
+
+pub in_turn : (text : List ℕ) (p : Program) → Parses text p → AreInTurn p.actions
+in_turn text p e = lines_in_turn (reverse (lines_of text)) p e.script
+
+-- ---- options
+
+one_more : (s : Setting) (settings : List Setting) → IsSetting s → IsSettled settings → IsSettled (s ∷ settings)
+one_more (setting.Codec codec) settings i before = record { version = before.version; limits = before.limits }
+one_more (setting.Version version) settings i before = record { version = i; limits = before.limits }
+one_more (setting.Reconnect keep) settings i before = record { version = before.version; limits = before.limits }
+one_more (setting.Buffer limits) settings i before = record { version = before.version; limits = i }
+
+none_yet : IsSettled []
+none_yet = record {
+  version = (omega arith, omega arith);
+  limits = record {
+    frame_not_less = omega arith;
+    frame_not_more = omega arith;
+    count_not_less = omega arith;
+    count_not_more = omega arith;
+    bytes_not_less = omega arith;
+    bytes_not_more = omega arith;
+  };
+}
+
+lines_settle : (lines : List (List ℕ)) (p : Program) → IsScript lines p → IsSettled p.settings
+lines_settle [] p e = subst (λ q. IsSettled q.settings) (sym e) none_yet
+lines_settle (line ∷ before) p e = ⊎_elim (λ f. lines_settle before p f.1) (λ f. added f.0 (lines_settle before f.0 f.1.0) f.1.1) e.1
+  where
+    added : (q : Program) → IsSettled q.settings → Adds line q p → IsSettled p.settings
+    added q settled a = ⊎_elim (λ f. subst (λ r. IsSettled r.settings) (sym f.1.4) (one_more f.0 q.settings f.1.1 settled)) (λ f. subst (λ r. IsSettled r.settings) (sym f.1.2) settled) a
+
+pub settled : (text : List ℕ) (p : Program) → Parses text p → IsSettled p.settings
+settled text p e = lines_settle (reverse (lines_of text)) p e.script

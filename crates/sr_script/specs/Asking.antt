@@ -1,0 +1,68 @@
+-- What one line of a script asks for.
+use Rattle.std.specs.Prelude.{◌≡◌, ◌≢◌, ℕ, true, List, [], ◌∷◌, ◌++◌, codes, All}
+use Rattle.std.specs.Fmt.{decimal}
+use Rattle.hm_message.specs.Message.{Fits, is_sequenced}
+use Rattle.hm_json.specs.Says.{Says}
+use Rattle.hd_delivery.specs.declared.vocabulary.Side.{Side}
+use Rattle.hd_delivery.specs.Worlds.{Limits}
+use Rattle.sr_script.specs.declared.action.Setting.{Setting}
+use Rattle.sr_script.specs.declared.action.Action.{Action}
+use Rattle.sr_script.specs.declared.action.Action.TheVariants.{Lose, Write, Read, Close, Send}
+use Rattle.sr_script.specs.declared.line.Asked.{Asked}
+use Rattle.sr_script.specs.declared.line.Asked.TheVariants as asked
+use Rattle.sr_script.specs.Script.{Program, setting_line, IsSetting, name_of, IsNew, Asks, IsInTurn, IsCount, count_text}
+
+-- without a space (32)
+abbrev pub IsWord : List ℕ → Type 0
+IsWord bytes = All (λ b. b ≢ 32) bytes
+
+-- the words of the option `buffer`
+abbrev pub buffer_words : Limits → List ℕ
+buffer_words limits = decimal limits.count ++ (codes " " ++ (decimal limits.bytes ++ (codes " " ++ decimal limits.frame)))
+
+-- the line is that of this option
+abbrev pub IsOption : List ℕ → Setting → Type 0
+IsOption line s = (line ≡ setting_line s) × IsSetting s
+
+-- after the letter of this end, these words ask for the action
+abbrev pub OfEnd : Side → List ℕ → Action → Type 0
+OfEnd side words (Lose s) = (s ≡ side) × (words ≡ codes "lose")
+OfEnd side words (Write s count) = (s ≡ side) × (IsCount count × (words ≡ codes "write " ++ count_text count))
+OfEnd side words (Read s count) = (s ≡ side) × (IsCount count × (words ≡ codes "read " ++ count_text count))
+OfEnd side words (Close s) = (s ≡ side) × (words ≡ codes "close")
+OfEnd side words (Send s m) = (s ≡ side) × ((frame : List ℕ) × ((words ≡ codes "send " ++ frame) × Says frame m × (is_sequenced m ≡ true)))
+OfEnd side words _ = ⊥
+
+-- the line asks for this
+abbrev pub Wants : List ℕ → Asked → Type 0
+Wants line (asked.Setting s) = IsOption line s
+Wants line (asked.Action a) = Asks line a
+
+-- a message that is sent fits into a frame
+abbrev pub HasFit : Action → Type 0
+HasFit (Send side m) = Fits m
+HasFit _ = Unit {0}
+
+abbrev pub IsReadable : Asked → Type 0
+IsReadable (asked.Setting s) = Unit {0}
+IsReadable (asked.Action a) = HasFit a
+
+-- a message that is sent is sequenced, and fits into a frame
+abbrev pub IsWhole : Action → Type 0
+IsWhole (Send side m) = (is_sequenced m ≡ true) × Fits m
+IsWhole _ = Unit {0}
+
+-- an option has a line, and a message can be sent
+abbrev pub IsAllowed : Asked → Type 0
+IsAllowed (asked.Setting s) = IsSetting s
+IsAllowed (asked.Action a) = IsWhole a
+
+-- it may come after what these lines ask for
+abbrev pub MayCome : Program → Asked → Type 0
+MayCome before (asked.Setting s) = IsNew (name_of s) before.settings × (before.actions ≡ [])
+MayCome before (asked.Action a) = IsInTurn before.actions a
+
+-- what they ask for with this
+abbrev pub and_then : Program → Asked → Program
+and_then before (asked.Setting s) = record { settings = s ∷ before.settings; actions = [] }
+and_then before (asked.Action a) = record { settings = before.settings; actions = a ∷ before.actions }

@@ -1,0 +1,33 @@
+-- What holds of scripts.
+use Rattle.std.specs.Prelude.{◌≡◌, ◌<◌, ℕ, List, [], ◌∷◌, ◌++◌, length}
+use Rattle.hd_facts.specs.Unique.{IsTheOne}
+use Rattle.hs_shake.specs.Requests.{IsVersion}
+use Rattle.hq_resend.specs.Bounds.{AreLimits}
+use Rattle.sr_script.specs.declared.action.Setting.{Setting}
+use Rattle.sr_script.specs.declared.action.Action.{Action}
+use Rattle.sr_script.specs.declared.script.Reader.{Reader}
+use Rattle.sr_script.specs.Script.{Program, Parses, IsRefusedAt, AreInTurn, most_script}
+use Rattle.sr_script.specs.Terms.{version_in, limits_in}
+use Rattle.sr_script.specs.Reading.{HasRead}
+
+-- the actions of a script are in turn
+abbrev pub ScriptsAreInTurn : Type 0
+ScriptsAreInTurn = (text : List ℕ) (p : Program) → Parses text p → AreInTurn p.actions
+
+-- the ends of a script are begun in a version that there is, within limits that an end may have
+pub record IsSettled (settings : List Setting) : Type 0 where
+  pub version : IsVersion (version_in settings)
+  pub limits : AreLimits (limits_in settings)
+
+abbrev pub ScriptsAreSettled : Type 0
+ScriptsAreSettled = (text : List ℕ) (p : Program) → Parses text p → IsSettled p.settings
+
+-- the options that were read before the first action are those of the script
+abbrev pub SettingsComeFirst : Type 0
+SettingsComeFirst = (text : List ℕ) (reader : Reader) (settings : List Setting) (a : Action) (p : Program)
+    → HasRead reader text (record { settings = settings; actions = a ∷ [] }) → Parses text p → p.settings ≡ settings
+
+-- a text of more bytes than a script may have is refused at the same line with more bytes after it
+abbrev pub LongIsRefusedByItsFront : Type 0
+LongIsRefusedByItsFront = (front more : List ℕ) (number : ℕ) → most_script < length front → IsTheOne (IsRefusedAt front) number
+    → IsTheOne (IsRefusedAt (front ++ more)) number

@@ -1,0 +1,7 @@
+pub mod Lines
+pub mod Script
+pub mod Asking
+pub mod Turns
+pub mod Reading
+pub mod Terms
+pub mod Laws

@@ -1,0 +1,23 @@
+//! What holds of scripts. No function here does anything: its contract is the law.
+
+ghost use Rattle.sr_script.specs.Laws.{LongIsRefusedByItsFront, ScriptsAreInTurn, ScriptsAreSettled, SettingsComeFirst};
+
+/// Each action of a script may come after those before it.
+pub fn scripts_are_in_turn()
+    ensures { ScriptsAreInTurn }
+{}
+
+/// A script begins its ends in a version that there is, within limits that an end may have.
+pub fn scripts_are_settled()
+    ensures { ScriptsAreSettled }
+{}
+
+/// The options that stand before the first action of a script are all its options.
+pub fn settings_come_first()
+    ensures { SettingsComeFirst }
+{}
+
+/// A text of more bytes than a script may have is refused at the line at which its front is.
+pub fn long_is_refused_by_its_front()
+    ensures { LongIsRefusedByItsFront }
+{}

@@ -1,0 +1,253 @@
+//! The grammar of one line of a script: the option or the action that it asks for, if any. It doesn't know other lines.
+
+ghost use Rattle.std.specs.Prelude.{◌≡◌, ◌≢◌, ◌<◌, ◌^◌, ◌↔◌, ℕ, true, List, [], ◌∷◌, ◌++◌, IsTrue, IfOk, IfSome, IfNone, All};
+ghost use Rattle.std.specs.Fmt.{decimal};
+ghost use Rattle.std.specs.Str.{IsUtf8};
+ghost use Rattle.hm_message.specs.declared.message.Message.{Message};
+ghost use Rattle.hm_message.specs.Message.{Fits, is_sequenced};
+ghost use Rattle.hm_json.specs.Says.{Says};
+ghost use Rattle.hd_delivery.specs.Worlds.{Limits};
+ghost use Rattle.hq_resend.specs.Bounds.{AreLimits};
+ghost use Rattle.hs_shake.specs.Requests.{IsVersion};
+ghost use Rattle.hd_facts.specs.Unique.{IsTheOne};
+ghost use Rattle.sr_script.specs.declared.action.Setting.{Setting};
+ghost use Rattle.sr_script.specs.declared.action.Count.{Count};
+ghost use Rattle.sr_script.specs.declared.action.Action.{Action};
+ghost use Rattle.sr_script.specs.declared.line.Asked.{Asked};
+ghost use Rattle.sr_script.specs.Script.{IsCount, count_text, Asks, IsPassedOver};
+ghost use Rattle.sr_script.specs.Asking.{IsWord, buffer_words, IsOption, OfEnd, Wants, HasFit, IsReadable};
+
+use crate::action::{Action, Count, Setting};
+use hd_delivery::Side;
+use hm_json::{Refusal, one_meaning, read_message};
+use hm_message::{Codec, Message, Read};
+use hq_resend::Limits;
+use hs_shake::HIGHEST_VERSION;
+use std::alloc::{AllocError, Global};
+
+/// What a line asks for.
+#[derive(Drop)]
+pub enum Asked {
+    /// An option.
+    Setting(Setting),
+    /// An action.
+    Action(Action),
+}
+
+/// The number whose digits these are, if they have no needless zeros and it is below 2^64.
+fn parse_number(alloc: Global, digits: &[u8]) -> Result<Option<u64>, AllocError>
+    ensures found { IfOk result (λ r. IfSome r (λ n. (digits.now ≡ decimal n) × (n < 2 ^ 64))) }
+    ensures none { IfOk result (λ r. IfNone r ((n : ℕ) → n < 2 ^ 64 → digits.now ≡ decimal n → ⊥)) }
+{
+    let Ok(text) = str::from_utf8(digits) else {
+        return Ok(None);
+    };
+    let Ok(n) = text.parse::<u64>() else {
+        return Ok(None);
+    };
+    let printed = n.to_string(alloc)?;
+    if printed.as_bytes() == digits {
+        Ok(Some(n))
+    } else {
+        Ok(None)
+    }
+}
+
+/// The count that these bytes say.
+fn parse_count(alloc: Global, bytes: &[u8]) -> Result<Option<Count>, AllocError>
+    ensures found { IfOk result (λ r. IfSome r (λ count. (bytes.now ≡ count_text count) × IsCount count)) }
+    ensures none { IfOk result (λ r. IfNone r ((count : Count) → IsCount count → bytes.now ≡ count_text count → ⊥)) }
+{
+    if bytes == b"*".as_slice() {
+        return Ok(Some(Count::Everything));
+    }
+    Ok(parse_number(alloc, bytes)?.map(Count::UpTo))
+}
+
+/// The bytes before the first space, and those after it.
+fn split_at_space(bytes: &[u8]) -> Option<(&[u8], &[u8])>
+    ensures found { IfSome result (λ parts. IsWord parts.0.now × (bytes.now ≡ parts.0.now ++ 32 ∷ parts.1.now)) }
+    ensures none { IfNone result (IsWord bytes.now) }
+{
+    for (i, byte) in bytes.iter().enumerate() {
+        if *byte == b' ' {
+            return Some((&bytes[..i], &bytes[i + 1..]));
+        }
+    }
+    None
+}
+
+/// The limits whose count, bytes and frame these words are, if they are in range.
+fn parse_buffer(alloc: Global, words: &[u8]) -> Result<Option<Limits>, AllocError>
+    ensures found { IfOk result (λ r. IfSome r (λ limits. (words.now ≡ buffer_words limits) × AreLimits limits)) }
+    ensures none { IfOk result (λ r. IfNone r ((limits : Limits) → AreLimits limits → words.now ≡ buffer_words limits → ⊥)) }
+{
+    let Some((count, rest)) = split_at_space(words) else {
+        return Ok(None);
+    };
+    let Some((bytes, frame)) = split_at_space(rest) else {
+        return Ok(None);
+    };
+    let Some(count) = parse_number(alloc, count)? else {
+        return Ok(None);
+    };
+    let Some(bytes) = parse_number(alloc, bytes)? else {
+        return Ok(None);
+    };
+    let Some(frame) = parse_number(alloc, frame)? else {
+        return Ok(None);
+    };
+    Ok(Limits::of(frame as usize, count as usize, bytes as usize))
+}
+
+/// The version whose digits these are.
+fn parse_version(alloc: Global, digits: &[u8]) -> Result<Option<u8>, AllocError>
+    ensures found { IfOk result (λ r. IfSome r (λ version. (digits.now ≡ decimal version) × IsVersion version)) }
+    ensures none { IfOk result (λ r. IfNone r ((version : ℕ) → IsVersion version → digits.now ≡ decimal version → ⊥)) }
+{
+    let Some(version) = parse_number(alloc, digits)? else {
+        return Ok(None);
+    };
+    if 1 <= version && version <= u64::from(HIGHEST_VERSION) {
+        Ok(Some(version as u8))
+    } else {
+        Ok(None)
+    }
+}
+
+/// The option of a line.
+fn parse_setting(alloc: Global, line: &[u8]) -> Result<Option<Setting>, AllocError>
+    ensures found { IfOk result (λ r. IfSome r (λ s. IsTheOne (IsOption line.now) s)) }
+    ensures none { IfOk result (λ r. IfNone r ((s : Setting) → IsOption line.now s → ⊥)) }
+{
+    if line == b"codec json".as_slice() {
+        return Ok(Some(Setting::Codec(Codec::Json)));
+    }
+    if line == b"codec pack".as_slice() {
+        return Ok(Some(Setting::Codec(Codec::Pack)));
+    }
+    if line == b"reconnect on".as_slice() {
+        return Ok(Some(Setting::Reconnect(true)));
+    }
+    if line == b"reconnect off".as_slice() {
+        return Ok(Some(Setting::Reconnect(false)));
+    }
+    if let Some(digits) = line.strip_prefix(b"version ") {
+        return match parse_version(alloc, digits)? {
+            Some(version) => Ok(Some(Setting::Version(version))),
+            None => Ok(None),
+        };
+    }
+    if let Some(words) = line.strip_prefix(b"buffer ") {
+        return match parse_buffer(alloc, words)? {
+            Some(limits) => Ok(Some(Setting::Buffer(limits))),
+            None => Ok(None),
+        };
+    }
+    Ok(None)
+}
+
+/// The message that this frame says, if it is one that is sent.
+fn parse_message(alloc: Global, frame: &[u8]) -> Result<Option<Message>, AllocError>
+    ensures found { IfOk result (λ r. IfSome r (λ m. IsTheOne (Says frame.now) m × (is_sequenced m ≡ true) × Fits m)) }
+    ensures none { IfOk result (λ r. IfNone r ((m : Message) → Says frame.now m → is_sequenced m ≡ true → ⊥)) }
+{
+    one_meaning();
+    match read_message(alloc, frame) {
+        Ok(Read::Message(message)) => {
+            if message.is_sequenced() {
+                Ok(Some(message))
+            } else {
+                Ok(None)
+            }
+        }
+        Ok(Read::Unknown(_)) => Ok(None),
+        Err(Refusal::NoMemory) => Err(AllocError),
+        Err(_) => Ok(None),
+    }
+}
+
+/// The action for which these words ask after the letter of this end.
+fn parse_words(alloc: Global, side: Side, words: &[u8]) -> Result<Option<Action>, AllocError>
+    ensures found { IfOk result (λ r. IfSome r (λ a. IsTheOne (OfEnd side words.now) a × HasFit a)) }
+    ensures none { IfOk result (λ r. IfNone r ((a : Action) → OfEnd side words.now a → ⊥)) }
+{
+    if words == b"lose".as_slice() {
+        return Ok(Some(Action::Lose(side)));
+    }
+    if words == b"close".as_slice() {
+        return Ok(Some(Action::Close(side)));
+    }
+    if let Some(count) = words.strip_prefix(b"write ") {
+        return match parse_count(alloc, count)? {
+            Some(count) => Ok(Some(Action::Write(side, count))),
+            None => Ok(None),
+        };
+    }
+    if let Some(count) = words.strip_prefix(b"read ") {
+        return match parse_count(alloc, count)? {
+            Some(count) => Ok(Some(Action::Read(side, count))),
+            None => Ok(None),
+        };
+    }
+    if let Some(frame) = words.strip_prefix(b"send ") {
+        return match parse_message(alloc, frame)? {
+            Some(message) => Ok(Some(Action::Send(side, message))),
+            None => Ok(None),
+        };
+    }
+    Ok(None)
+}
+
+/// The action of a line.
+fn parse_action(alloc: Global, line: &[u8]) -> Result<Option<Action>, AllocError>
+    ensures found { IfOk result (λ r. IfSome r (λ a. IsTheOne (Asks line.now) a × HasFit a)) }
+    ensures none { IfOk result (λ r. IfNone r ((a : Action) → Asks line.now a → ⊥)) }
+{
+    if line == b"open".as_slice() {
+        return Ok(Some(Action::Open));
+    }
+    if let Some(words) = line.strip_prefix(b"c ") {
+        return parse_words(alloc, Side::Client, words);
+    }
+    if let Some(words) = line.strip_prefix(b"s ") {
+        return parse_words(alloc, Side::Server, words);
+    }
+    if let Some(link) = line.strip_prefix(b"accept ") {
+        return match parse_number(alloc, link)? {
+            Some(link) => Ok(Some(Action::Accept(link))),
+            None => Ok(None),
+        };
+    }
+    if let Some(now) = line.strip_prefix(b"tick ") {
+        return match parse_number(alloc, now)? {
+            Some(now) => Ok(Some(Action::Tick(now))),
+            None => Ok(None),
+        };
+    }
+    Ok(None)
+}
+
+/// What a line asks for, if it is one of the grammar. A message that is sent fits.
+pub(crate) fn parse_line(alloc: Global, line: &[u8]) -> Result<Option<Asked>, AllocError>
+    ensures found { IfOk result (λ r. IfSome r (λ x. IsTheOne (Wants line.now) x × IsReadable x)) }
+    ensures none { IfOk result (λ r. IfNone r ((x : Asked) → Wants line.now x → ⊥)) }
+{
+    if let Some(setting) = parse_setting(alloc, line)? {
+        return Ok(Some(Asked::Setting(setting)));
+    }
+    match parse_action(alloc, line)? {
+        Some(action) => Ok(Some(Asked::Action(action))),
+        None => Ok(None),
+    }
+}
+
+/// Whether the line is passed over: an empty one, or a comment, in UTF-8.
+pub(crate) fn is_passed_over(line: &[u8]) -> bool
+    ensures { IsTrue result ↔ (IsUtf8 line.now × IsPassedOver line.now) }
+{
+    match line.first() {
+        None => true,
+        Some(byte) => *byte == b'#' && str::from_utf8(line).is_ok(),
+    }
+}
