@@ -16,8 +16,8 @@ use Rattle.sr_words.specs.declared.commands.Command.{Command}
 use Rattle.sr_words.specs.declared.commands.Command.TheVariants.{Replay, Check, Convert}
 use Rattle.sr_app.specs.declared.run.Status.{Status}
 use Rattle.sr_app.specs.declared.run.Status.TheVariants.{Done, Usage, Refused, ReadFault, WriteFault, NoMemory}
-use Rattle.sr_replay.specs.Script.{IsRefusedAt}
-use Rattle.sr_replay.specs.Laws.{LongIsRefusedByItsFront}
+use Rattle.sr_script.specs.Script.{IsRefusedAt}
+use Rattle.sr_script.specs.Laws.{LongIsRefusedByItsFront}
 use Rattle.sr_app.specs.Run.{IsReplayed, IsRefused, IsTextAnswer, AnswersWith, Answered, ReadsBounded, Ends, replaying, meaning_of, outside_of, code_of, status_of}
 use Rattle.sr_app.proofs.Told.{consumed_nothing, appended_nothing, text_is_told, whole_is_told}
 

@@ -7,15 +7,13 @@ ghost use Rattle.hd_facts.specs.Writes.{Writes, WritesOfRead};
 ghost use Rattle.sr_check.specs.Stream.{IsTouchedByBytesAlone, most_piece};
 ghost use Rattle.sr_words.specs.Words.{Asks, IsNoCommand};
 ghost use Rattle.sr_app.specs.Run.{Answered, AsksFor, Ends, ReadsBounded, TellsFaults, WritesPartFor, code_of, doing, meaning_of, outside_of, replaying, usage_line};
-ghost use Rattle.sr_replay.specs.Script.{most_script, refusal_line};
+ghost use Rattle.sr_script.specs.Script.{most_script, refusal_line};
 
 use hf_split::empty_waits;
 use hw_io::{Failed, Sink, Source};
 use sr_check::{Stop, Task};
-use sr_replay::{
-    MOST_SCRIPT, ReplayError, ScriptError, long_is_refused_by_its_front, parse, replay,
-    reports_have_lines,
-};
+use sr_replay::{ReplayError, replay, reports_have_lines};
+use sr_script::{MOST_SCRIPT, ScriptError, long_is_refused_by_its_front, parse};
 use sr_words::{Command, WordsError};
 use std::alloc::{AllocError, Global};
 

@@ -6,7 +6,7 @@ use Rattle.std.specs.Prelude.{option_map, if◌then◌else◌}
 use Rattle.hd_facts.specs.Prefixes.{IsPrefix}
 use Rattle.hd_delivery.specs.Numbers.{most_framing}
 use Rattle.hd_delivery.specs.Histories as of
-use Rattle.hd_delivery.specs.Histories.{Step, Took, Failed, Lent, first_of, is_this, present_link, was_on, fed_frames, taken_count, is_shaken, is_closed}
+use Rattle.hd_delivery.specs.Histories.{Step, Took, Failed, first_of, present_link, was_on, is_shaken, is_closed}
 use Rattle.hd_delivery.specs.Processes.{processes, next_frame}
 use Rattle.hd_delivery.specs.Worlds.{Limits}
 use Rattle.hd_delivery.specs.Bytes.{Wire, IsSoundWire, ByteStep, Bytes, Does, bare_steps, bytes_on, in_frames, lent_bytes, unread_count}
@@ -15,14 +15,13 @@ use Rattle.hd_delivery.specs.Laws.{FedIsUnseen}
 use Rattle.sr_script.specs.declared.action.Count.{Count}
 use Rattle.sr_script.specs.declared.action.Count.TheVariants.{UpTo, Everything}
 use Rattle.sr_replay.specs.declared.player.Player.{Player}
-use Rattle.hd_runs.specs.Laws.{LentStays, TakenHasRoom}
+use Rattle.hd_runs.specs.Laws.{FramesAreTaken, LentStays, TakenHasRoom}
 use Rattle.hd_runs.specs.Following.{Follow, FollowAll}
-use Rattle.hd_runs.specs.Alone.{piece_fed, feeding, reading}
+use Rattle.hd_runs.specs.Alone.{IsOfFrame, piece_fed, feeding, reading}
 use Rattle.sr_replay.specs.Runs.{read_in_all}
 use Rattle.sr_replay.specs.Plays.{Plays, limits_at}
 use Rattle.sr_replay.specs.Follows.{IsPlayed}
 use Rattle.sr_replay.proofs.Small.{both, is_this-same, next_piece}
-use Rattle.sr_replay.proofs.Lanes.{IsOfFrame, processed}
 use Rattle.sr_replay.proofs.Played.{took_all, processes_none}
 
 -- ---- steps of an end that reads
@@ -35,7 +34,7 @@ live_of : (b : Bool) (o : Option Step) (u : Step) → (if b then None else o) �
 live_of true o u e = absurd (cc)
 live_of false o u e = refl
 
-module _ (stays : LentStays) (unseen : FedIsUnseen) (limits : Limits) (wire : Wire) (c : of.Config) (l : ℕ) (all : List ℕ) where
+module _ (taken : FramesAreTaken) (stays : LentStays) (unseen : FedIsUnseen) (limits : Limits) (wire : Wire) (c : of.Config) (l : ℕ) (all : List ℕ) where
   -- a step of an end that reads on this link, where it may read these bytes in all
   record Reads (x now : List ByteStep) : Type 0 where
     at : present_link (in_frames wire c now) ≡ Some l
@@ -81,7 +80,7 @@ module _ (stays : LentStays) (unseen : FedIsUnseen) (limits : Limits) (wire : Wi
       go (Some u) p f =
           let q : Does u ≡ s = cc in
           let live = live_of (is_closed c (in_frames wire c x)) (next_frame c (in_frames wire c x) (present_link (in_frames wire c x))) u p in
-          subst (λ s. IsHistory limits wire c (s ∷ x) → Reads x (s ∷ x)) q (took x u at (processed c (in_frames wire c x) u p) live) i
+          subst (λ s. IsHistory limits wire c (s ∷ x) → Reads x (s ∷ x)) q (took x u at (taken c (in_frames wire c x) u p) live) i
 
   follow : (h ss : List ByteStep) → present_link (in_frames wire c h) ≡ Some l → Follow (reading limits wire c all) h ss → IsHistory limits wire c (ss ++ h) → Reads h (ss ++ h)
   follow h [] at f i = record { at = at; names = λ j. refl; lent = λ j. refl; front = λ p. p; live = λ e. e }
@@ -111,18 +110,18 @@ none_left zero xs more e = absurd (omega (arith, more))
 none_left (suc n) [] more e = refl
 none_left (suc n) (x ∷ xs) more e = absurd (omega (arith, e))
 
-module _ (stays : LentStays) (unseen : FedIsUnseen) (room : TakenHasRoom) (limits : Limits) (wire : Wire) (sound : IsSoundWire limits wire) (c : of.Config) (l : ℕ) (all : List ℕ) (h ss : List ByteStep)
+module _ (taken : FramesAreTaken) (stays : LentStays) (unseen : FedIsUnseen) (room : TakenHasRoom) (limits : Limits) (wire : Wire) (sound : IsSoundWire limits wire) (c : of.Config) (l : ℕ) (all : List ℕ) (h ss : List ByteStep)
     (at : present_link (in_frames wire c h) ≡ Some l) (is : FollowAll (reading limits wire c all) h ss) (i : IsHistory limits wire c (ss ++ h)) where
   pub said_as_before : (j : ℕ) → lent_bytes wire c j (ss ++ h) ≡ lent_bytes wire c j h
-  said_as_before = (follow stays unseen limits wire c l all h ss at is.0 i).lent
+  said_as_before = (follow taken stays unseen limits wire c l all h ss at is.0 i).lent
 
   pub named_as_before : (j : ℕ) → was_on j (in_frames wire c (ss ++ h)) ≡ was_on j (in_frames wire c h)
-  named_as_before = (follow stays unseen limits wire c l all h ss at is.0 i).names
+  named_as_before = (follow taken stays unseen limits wire c l all h ss at is.0 i).names
 
   -- an end that isn't closed then has read all
   read_all : IsPrefix (bytes_on l h) all → is_closed c (in_frames wire c (ss ++ h)) ≡ false → length all ≡ length (bytes_on l (ss ++ h))
   read_all p live =
-      let now = follow stays unseen limits wire c l all h ss at is.0 i in
+      let now = follow taken stays unseen limits wire c l all h ss at is.0 i in
       let last = neither (processes c (in_frames wire c (ss ++ h))) (if is_closed c (in_frames wire c (ss ++ h)) then None else feeding limits wire c all (ss ++ h) (present_link (in_frames wire c (ss ++ h)))) is.1 in
       let unfed : feeding limits wire c all (ss ++ h) (Some l) ≡ None =
       ap (feeding limits wire c all (ss ++ h)) (sym now.at)
@@ -137,7 +136,7 @@ module _ (stays : LentStays) (unseen : FedIsUnseen) (room : TakenHasRoom) (limit
   pub reads : (p x : Player) (before place : ℕ) → IsPlayed limits wire c p before h → limits_at x ≡ limits_at p → IsPrefix (bytes_on l h) all
       → (is_closed c (in_frames wire c h) ≡ false → place ≡ length all) → Plays wire c x (ss ++ h) → IsPlayed limits wire c x place (ss ++ h)
   reads p x before place was same front ends plays =
-      let now = follow stays unseen limits wire c l all h ss at is.0 i in
+      let now = follow taken stays unseen limits wire c l all h ss at is.0 i in
       let last = neither (processes c (in_frames wire c (ss ++ h))) (if is_closed c (in_frames wire c (ss ++ h)) then None else feeding limits wire c all (ss ++ h) (present_link (in_frames wire c (ss ++ h)))) is.1 in record {
         plays = plays;
         keeps = same ∙ was.keeps;

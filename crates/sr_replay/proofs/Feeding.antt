@@ -5,7 +5,7 @@ use Rattle.std.proofs.lemmas.List.{append-nil, take_min}
 use Rattle.hd_delivery.specs.declared.vocabulary.Side.{Side}
 use Rattle.hd_delivery.specs.Numbers.{most_framing}
 use Rattle.hd_delivery.specs.Histories as of
-use Rattle.hd_delivery.specs.Histories.{Step, first_of, is_this, present_link, is_closed}
+use Rattle.hd_delivery.specs.Histories.{first_of, present_link, is_closed}
 use Rattle.hd_delivery.specs.Processes.{processes}
 use Rattle.hd_delivery.specs.Worlds.{Limits}
 use Rattle.hd_delivery.specs.Bytes.{Wire, ByteStep, Bytes, Does, bytes_on, in_frames, unread, unread_count}

@@ -22,9 +22,9 @@ use Rattle.he_wire.specs.Wires.{IsHouseWire}
 use Rattle.hm_message.specs.declared.message.Message.{Message}
 use Rattle.hm_codec.specs.Frames.{said_again}
 use Rattle.he_wire.specs.Laws.{WireIsSound}
-use Rattle.hd_delivery.specs.HistoryLaws.{UnusedIsUntouched}
+use Rattle.hd_delivery.specs.HistoryLaws.{FactsHold, UnusedIsUntouched}
 use Rattle.sr_replay.specs.Laws.{RunsAreWorlds, IsWorldOf}
-use Rattle.hd_runs.specs.Laws.{UnusedIsEmpty, LentComesLast, LentStays, FedIsLent, TakenHasRoom}
+use Rattle.hd_runs.specs.Laws.{FramesAreTaken, UnusedIsEmpty, LentComesLast, LentStays, FedIsLent, TakenHasRoom}
 use Rattle.sr_script.specs.declared.action.Action.{Action}
 use Rattle.sr_script.specs.declared.action.Action.TheVariants as action
 use Rattle.sr_replay.specs.declared.player.Player.{Player}
@@ -41,7 +41,6 @@ use Rattle.sr_replay.specs.Follows.{IsPlayed, MayRead, Tries, said_by, IsLane, H
 use Rattle.sr_replay.proofs.Small.{both}
 use Rattle.sr_replay.proofs.Doings.{own, others, text, doings_text, made_is, steps_made, text_made}
 use Rattle.sr_replay.proofs.Linked.{accepted_is_open, not_on, get_last, get_set, attached}
-use Rattle.sr_replay.proofs.Lanes.{here_was}
 use Rattle.sr_replay.proofs.Written.{are_lent, follow_of, same_names, writes, said_here, said_elsewhere, silent, none_written}
 use Rattle.sr_replay.proofs.Fed.{reads, none_read, front_of_all, said_as_before, named_as_before}
 use Rattle.sr_replay.proofs.Played.{SaysNothing, nothing, processes_none, closes, loses, sends, sends_none, ticks, attaches, closing_says_nothing, losing_says_nothing, ticking_says_nothing}
@@ -448,19 +447,19 @@ server_reads_none p count side e off = subst (λ side. GoesOn p (action.Read sid
     (server_quiet limits wire t actions (action.Read Server count) (history Client (world_of r)) (history Server (world_of r)) p p was.holds refl refl was.holds.now h was.holds.server (λ l. refl) refl refl)
     (sym (append-nil p.report.items)))
 
-module _ (worlds : RunsAreWorlds) (sound : WireIsSound) where
+module _ (facts : FactsHold) (worlds : RunsAreWorlds) (sound : WireIsSound) where
   -- the link where an end stands is there
   client_link : (limits : Limits) (wire : Wire) (t : Terms) (actions : List Action) (r : Run) (p : Pair) (link : ℕ) → Follows limits wire t actions r p
       → present_link (frames_at wire t (world_of r) Client) ≡ Some link → link < length p.lanes.items
   client_link limits wire t actions r p link was at =
       let world = the_world worlds sound limits wire t actions r p was in
-      omega (arith, was.holds.links, world.opened_links link (here_was link (frames_at wire t (world_of r) Client) at))
+      omega (arith, was.holds.links, world.opened_links link ((facts (limits_at p.client) wire (config Client t) (history Client (world_of r)) was.holds.client.plays.stands.history).is_where_it_was link at))
 
   server_link : (limits : Limits) (wire : Wire) (t : Terms) (actions : List Action) (r : Run) (p : Pair) (link : ℕ) → Follows limits wire t actions r p
       → present_link (frames_at wire t (world_of r) Server) ≡ Some link → link < length p.lanes.items
   server_link limits wire t actions r p link was at =
       let world = the_world worlds sound limits wire t actions r p was in
-      omega (arith, was.holds.links, accepted_is_open actions link was.turns (world.accepted_links link (here_was link (frames_at wire t (world_of r) Server) at)))
+      omega (arith, was.holds.links, accepted_is_open actions link was.turns (world.accepted_links link ((facts (limits_at p.server) wire (config Server t) (history Server (world_of r)) was.holds.server.plays.stands.history).is_where_it_was link at)))
 
   pub client_never_past : (p : Pair) (a : Action) (link : ℕ) → IsOn (Some link) p.client → length p.lanes.items ≤ link → GoesOn p a p
   client_never_past p a link on past limits wire t actions r was turn =
@@ -559,7 +558,7 @@ ReadsFrom count old new said before after text_before text_after = OfEach old (�
 prefix_length : (xs ys : List ℕ) → IsPrefix xs ys → length xs ≤ length ys
 prefix_length xs ys p = let e = sym (length-append xs p.0) ∙ ap length p.1 in omega (arith, e)
 
-module _ (worlds : RunsAreWorlds) (sound : WireIsSound) (fed_is_lent : FedIsLent) (stays : LentStays) (unseen : FedIsUnseen) (room : TakenHasRoom) where
+module _ (taken : FramesAreTaken) (worlds : RunsAreWorlds) (sound : WireIsSound) (fed_is_lent : FedIsLent) (stays : LentStays) (unseen : FedIsUnseen) (room : TakenHasRoom) where
   pub client_reads : (p : Pair) (x : Player) (link place : ℕ) (report : Vec ℕ Global) (lane : Lane) (count : Count) (side : Side) → side ≡ Client
       → IsOn (Some link) p.client → slice_get p.lanes.items link ≡ Some lane → ReadsFrom count p.client x (said_by Server lane) p.client_place place p.report.items report.items
       → limits_at x ≡ limits_at p.client → GoesOn p (action.Read side count) (record p { client = x; client_place = place; report = report })
@@ -592,8 +591,8 @@ module _ (worlds : RunsAreWorlds) (sound : WireIsSound) (fed_is_lent : FedIsLent
           (client_quiet limits wire t actions (action.Read Client count) (history Client (world_of r)) (history Server (world_of r)) p (record p { client = x; client_place = place; report = report }) was.holds refl refl was.holds.now
           (steps_of made ++ h)
           (subst (λ y. IsPlayed limits wire c x place (y ++ h)) (sym (steps_made ss))
-          (reads stays unseen room limits wire soundly c link all h ss at follows is p.client x p.client_place place was.holds.client same (front_of_all count (bytes_on link h) (said_by Server lane) front) done.1.3 done.1.1))
-          (subst (λ y. SaysNothing wire c h (y ++ h)) (sym (steps_made ss)) (record { lent = said_as_before stays unseen room limits wire soundly c link all h ss at follows is; names = named_as_before stays unseen room limits wire soundly c link all h ss at follows is })) refl refl)
+          (reads taken stays unseen room limits wire soundly c link all h ss at follows is p.client x p.client_place place was.holds.client same (front_of_all count (bytes_on link h) (said_by Server lane) front) done.1.3 done.1.1))
+          (subst (λ y. SaysNothing wire c h (y ++ h)) (sym (steps_made ss)) (record { lent = said_as_before taken stays unseen room limits wire soundly c link all h ss at follows is; names = named_as_before taken stays unseen room limits wire soundly c link all h ss at follows is })) refl refl)
           (done.1.2 ∙ ap (λ x. p.report.items ++ x) (sym (text_made Client h ss)))
 
   pub server_reads : (p : Pair) (x : Player) (link place : ℕ) (report : Vec ℕ Global) (lane : Lane) (count : Count) (side : Side) → side ≡ Server
@@ -628,8 +627,8 @@ module _ (worlds : RunsAreWorlds) (sound : WireIsSound) (fed_is_lent : FedIsLent
           (server_quiet limits wire t actions (action.Read Server count) (history Client (world_of r)) (history Server (world_of r)) p (record p { server = x; server_place = place; report = report }) was.holds refl refl was.holds.now
           (steps_of made ++ h)
           (subst (λ y. IsPlayed limits wire c x place (y ++ h)) (sym (steps_made ss))
-          (reads stays unseen room limits wire soundly c link all h ss at follows is p.server x p.server_place place was.holds.server same (front_of_all count (bytes_on link h) (said_by Client lane) front) done.1.3 done.1.1))
-          (λ l. ap (λ y. lent_bytes wire c l (y ++ h)) (steps_made ss) ∙ said_as_before stays unseen room limits wire soundly c link all h ss at follows is l) refl refl)
+          (reads taken stays unseen room limits wire soundly c link all h ss at follows is p.server x p.server_place place was.holds.server same (front_of_all count (bytes_on link h) (said_by Client lane) front) done.1.3 done.1.1))
+          (λ l. ap (λ y. lent_bytes wire c l (y ++ h)) (steps_made ss) ∙ said_as_before taken stays unseen room limits wire soundly c link all h ss at follows is l) refl refl)
           (done.1.2 ∙ ap (λ x. p.report.items ++ x) (sym (text_made Server h ss)))
 
 -- ---- the report

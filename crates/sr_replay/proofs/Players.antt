@@ -3,7 +3,7 @@ use Rattle.std.proofs.Common.{inl, inr, ◌≡◌, ◌⊎◌, ℕ, Bool, true, f
 use Rattle.hm_message.specs.declared.message.Message.{Message}
 use Rattle.hd_delivery.specs.declared.vocabulary.Reason.TheVariants.{Done}
 use Rattle.hd_delivery.specs.Histories as of
-use Rattle.hd_delivery.specs.Histories.{Step, Attached, Detached, Ticked, Silenced, Closed, present_link, first_link, is_kept, is_closed, is_silence}
+use Rattle.hd_delivery.specs.Histories.{Step, Attached, Detached, Closed, present_link, first_link, is_kept, is_closed}
 use Rattle.hd_delivery.specs.Worlds.{Limits, MayBegin}
 use Rattle.hd_delivery.specs.Sending as refusal
 use Rattle.hd_delivery.specs.Sending.{SendRefusal, IsRefusedToSend}

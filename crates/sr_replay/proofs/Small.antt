@@ -1,6 +1,6 @@
 -- Tests, and first parts of lists.
 use Rattle.std.proofs.Common.{◌≡◌, ℕ, zero, suc, ◌≤◌, Bool, true, false, List, [], ◌∷◌, ◌++◌, length, take, drop, Option, Some, None, refl, sym, ap, ◌∙◌, arith, append_assoc, take-append-drop, if◌then◌else◌}
-use Rattle.std.proofs.lemmas.Bool.{eqb-true, eq-eqb}
+use Rattle.std.proofs.lemmas.Bool.{eq-eqb}
 use Rattle.hd_facts.specs.Prefixes.{IsPrefix}
 use Rattle.hd_delivery.specs.Histories.{is_this}
 
@@ -10,10 +10,6 @@ use Rattle.hd_delivery.specs.Histories.{is_this}
 pub both : {A : Type 0} (P : A → Type 0) (b : Bool) (x y : A) → (b ≡ true → P x) → (b ≡ false → P y) → P (if b then x else y)
 both P true x y f g = f refl
 both P false x y f g = g refl
-
-pub is_this-true : (l : ℕ) (o : Option ℕ) → is_this l o ≡ true → o ≡ Some l
-is_this-true l None e = absurd (cc)
-is_this-true l (Some k) e = ap Some (sym (eqb-true l k e))
 
 pub is_this-same : (l : ℕ) (o : Option ℕ) → o ≡ Some l → is_this l o ≡ true
 is_this-same l None e = absurd (cc)

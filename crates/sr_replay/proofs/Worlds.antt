@@ -12,7 +12,7 @@ use Rattle.hd_delivery.specs.declared.vocabulary.Side.TheVariants.{Client, Serve
 use Rattle.hd_delivery.specs.Numbers.{most_framing}
 use Rattle.hd_delivery.specs.Frames.{LinkFrame}
 use Rattle.hd_delivery.specs.Histories as of
-use Rattle.hd_delivery.specs.Histories.{Step, Attached, Detached, Took, Failed, Sent, Lent, Ticked, Silenced, Closed, present_link, was_on, first_link, first_of, codec_of, is_kept, is_closed, is_silence}
+use Rattle.hd_delivery.specs.Histories.{Step, Attached, Detached, Took, Failed, Sent, Lent, Ticked, Silenced, Closed, present_link, was_on, first_link, first_of, codec_of, is_kept, is_closed, is_shaken, is_silence}
 use Rattle.hd_delivery.specs.Due.{due}
 use Rattle.hd_delivery.specs.Processes.{processes}
 use Rattle.hd_delivery.specs.Worlds.{Limits, Terms, config, Event, ByClient, ByServer, client_of, server_of}
@@ -27,11 +27,10 @@ use Rattle.sr_script.specs.Script.{IsInTurn, AreInTurn, opened, moment_after, mo
 use Rattle.sr_replay.specs.Runs.{Doing, Makes, Refuses, Run, world_of, attaching, losing, closing, ticking, Sending, made_by, to_be_read, frames_at, Acts, Runs}
 use Rattle.hd_runs.specs.Sides.{by, history, other}
 use Rattle.hd_runs.specs.Following.{Next, Follow, FollowUpTo}
-use Rattle.hd_runs.specs.Alone.{writing, piece_fed, feeding, reading}
-use Rattle.hd_runs.specs.Laws.{FedIsLent}
+use Rattle.hd_runs.specs.Alone.{IsOfFrame, writing, piece_fed, feeding, reading}
+use Rattle.hd_runs.specs.Laws.{FedIsLent, FramesAreTaken}
 use Rattle.sr_replay.specs.Laws.{IsWorldOf}
 use Rattle.sr_replay.proofs.Small.{both, take_prefix, take_few, next_piece}
-use Rattle.sr_replay.proofs.Takes.{IsTaking, is_taking}
 
 -- ---- the world of a run
 
@@ -95,16 +94,16 @@ module _ (limits : Limits) (wire : Wire) (t : Terms) where
       go None d f = absurd (cc)
       go (Some f) d g = let q : Does (Lent f) ≡ s = cc in subst (Plain c oc x y) q (record { allowed = d; names = λ l. refl; moves = refl; stands = refl })
 
-  took : (c oc : of.Config) (x y : List ByteStep) (s : Step) → IsTaking s → processes c (in_frames wire c x) ≡ Some s → Plain c oc x y (Does s)
-  took c oc x y (Took got) is e = record { allowed = e; names = λ l. refl; moves = refl; stands = refl }
-  took c oc x y (Failed fault) is e = record { allowed = e; names = λ l. refl; moves = refl; stands = refl }
-  took c oc x y s is e = absurd is
+  took : (c oc : of.Config) (x y : List ByteStep) (shaken : Bool) (s : Step) → IsOfFrame shaken s → processes c (in_frames wire c x) ≡ Some s → Plain c oc x y (Does s)
+  took c oc x y shaken (Took got) is e = record { allowed = e; names = λ l. refl; moves = refl; stands = refl }
+  took c oc x y shaken (Failed fault) is e = record { allowed = e; names = λ l. refl; moves = refl; stands = refl }
+  took c oc x y shaken s is e = absurd is
 
   fed_one : (piece : List ℕ) (s : ByteStep) → piece_fed piece ≡ Some s → Bytes piece ≡ s
   fed_one [] s e = absurd (cc)
   fed_one (b ∷ piece) s e = cc
 
-  module _ (grows : UnreadGrows) (bounded : UnreadIsBounded) (sound : IsSoundWire limits wire) (c oc : of.Config) (x y : List ByteStep) (bytes : List ℕ) (is : IsHistory limits wire c x)
+  module _ (taken : FramesAreTaken) (grows : UnreadGrows) (bounded : UnreadIsBounded) (sound : IsSoundWire limits wire) (c oc : of.Config) (x y : List ByteStep) (bytes : List ℕ) (is : IsHistory limits wire c x)
       (came : (l : ℕ) → present_link (in_frames wire c x) ≡ Some l → IsPrefix (bytes_on l x) (lent_bytes wire oc l y))
       (there : (l : ℕ) → present_link (in_frames wire c x) ≡ Some l → IsPrefix bytes (lent_bytes wire oc l y)) where
     fed : (s : ByteStep) (l : ℕ) → present_link (in_frames wire c x) ≡ Some l → is_closed c (in_frames wire c x) ≡ false → feeding limits wire c bytes x (Some l) ≡ Some s → Plain c oc x y s
@@ -151,7 +150,7 @@ module _ (limits : Limits) (wire : Wire) (t : Terms) where
         go : (o : Option Step) → processes c (in_frames wire c x) ≡ o
             → first_of (option_map Does o) (if is_closed c (in_frames wire c x) then None else feeding limits wire c bytes x (present_link (in_frames wire c x))) ≡ Some s → Plain c oc x y s
         go None p f = open_end (is_closed c (in_frames wire c x)) refl f
-        go (Some u) p f = let q : Does u ≡ s = cc in subst (Plain c oc x y) q (took c oc x y u (is_taking c (in_frames wire c x) u p) p)
+        go (Some u) p f = let q : Does u ≡ s = cc in subst (Plain c oc x y) q (took c oc x y (is_shaken (in_frames wire c x)) u (taken c (in_frames wire c x) u p) p)
 
   module _ (most : ℕ) (accepted : ℕ → Type 0) (now : ℕ) where
     abbrev Is : List (Event ByteStep) → Type 0
@@ -223,7 +222,7 @@ was_not l k never = go (was_on l k) refl
     go true e = absurd (never e)
     go false e = refl
 
-module _ (worlds : WorldsAreHistories) (fed_is_lent : FedIsLent) (grows : UnreadGrows) (bounded : UnreadIsBounded) (limits : Limits) (wire : Wire) (t : Terms) (sound : IsSoundWire limits wire) where
+module _ (worlds : WorldsAreHistories) (taken : FramesAreTaken) (fed_is_lent : FedIsLent) (grows : UnreadGrows) (bounded : UnreadIsBounded) (limits : Limits) (wire : Wire) (t : Terms) (sound : IsSoundWire limits wire) where
   abbrev GoodFor : List Action → List (Event ByteStep) → Type 0
   GoodFor actions w = Good limits wire t (opened actions) (λ l. Contains actions (Accept l)) (moment_after actions) w
 
@@ -331,7 +330,7 @@ module _ (worlds : WorldsAreHistories) (fed_is_lent : FedIsLent) (grows : Unread
       reads side count ss f = subst (GoodFor (a ∷ before)) (sym (made side ss r))
           (follow limits wire t (opened (a ∷ before)) (λ l. Contains (a ∷ before) (Accept l)) (moment_after (a ∷ before))
           (reading limits wire (config side t) (to_be_read wire t (world_of r) side count (present_link (frames_at wire t (world_of r) side)))) side (world_of r) wide
-          (λ ss s good same e. read limits wire t grows bounded sound (config side t) (config (other side) t) (ss ++ history side (world_of r)) (history (other side) (world_of r))
+          (λ ss s good same e. read limits wire t taken grows bounded sound (config side t) (config (other side) t) (ss ++ history side (world_of r)) (history (other side) (world_of r))
           (to_be_read wire t (world_of r) side count (present_link (frames_at wire t (world_of r) side)))
           (subst (IsHistory limits wire (config side t)) (own side ss (world_of r)) (histories side (After side ss (world_of r)) good.world))
           (λ l at. subst (λ y. IsPrefix (bytes_on l (ss ++ history side (world_of r))) (lent_bytes wire (config (other side) t) l y)) (others side ss (world_of r))

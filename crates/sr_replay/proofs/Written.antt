@@ -3,7 +3,7 @@ use Rattle.std.proofs.Common.{◌≡◌, ℕ, List, [], ◌∷◌, ◌++◌, len
 use Rattle.std.specs.Prelude.{slice_get, option_map}
 use Rattle.hd_delivery.specs.Frames.{LinkFrame}
 use Rattle.hd_delivery.specs.Histories as of
-use Rattle.hd_delivery.specs.Histories.{Step, Lent, present_link, was_on, fed_frames, taken_count, codec_of, is_closed}
+use Rattle.hd_delivery.specs.Histories.{Lent, present_link, was_on, fed_frames, taken_count, codec_of, is_closed}
 use Rattle.hd_delivery.specs.Due.{due, due_on}
 use Rattle.hd_delivery.specs.Worlds.{Limits}
 use Rattle.hd_delivery.specs.Bytes.{Wire, ByteStep, Does, bytes_on, in_frames, lent_bytes}

@@ -1,33 +1,19 @@
--- What holds of scripts, of an end that writes or reads, and of runs.
-use Rattle.std.specs.Prelude.{◌≡◌, ◌≢◌, ◌≤◌, ◌<◌, ◌+◌, ℕ, suc, true, false, List, [], ◌∷◌, ◌++◌, length, Contains, Some, None}
-use Rattle.hd_facts.specs.Prefixes.{IsPrefix}
-use Rattle.hs_shake.specs.Requests.{IsVersion}
-use Rattle.hq_resend.specs.Bounds.{AreLimits}
-use Rattle.hd_delivery.specs.declared.vocabulary.Got.{Got}
+-- What holds of runs and of reports.
+use Rattle.std.specs.Prelude.{◌≡◌, ◌≢◌, ◌≤◌, ◌<◌, ℕ, true, List, [], Contains}
 use Rattle.hd_delivery.specs.declared.vocabulary.Side.{Side}
 use Rattle.hd_delivery.specs.declared.vocabulary.Side.TheVariants.{Client, Server}
-use Rattle.hd_delivery.specs.Numbers.{most_framing}
-use Rattle.hd_delivery.specs.Frames.{LinkFrame}
 use Rattle.hd_delivery.specs.Histories as of
-use Rattle.hd_delivery.specs.Histories.{Step, Took, Lent, present_link, was_on, codec_of, is_closed, held_messages}
-use Rattle.hd_delivery.specs.Processes.{processes}
+use Rattle.hd_delivery.specs.Histories.{was_on}
 use Rattle.hd_delivery.specs.Worlds.{Limits, Terms, Event, config, client_of, server_of}
-use Rattle.hd_delivery.specs.Bytes.{Wire, IsSoundWire, Waits, ByteStep, Does, bytes_on, in_frames, unread, unread_count, lent_bytes, IsWorldOverBytes}
-use Rattle.hd_delivery.specs.OneHistory.{IsHistory, next_reader}
-use Rattle.hd_delivery.specs.HistoryLaws.{StandsThere}
+use Rattle.hd_delivery.specs.Bytes.{Wire, IsSoundWire, ByteStep, IsWorldOverBytes}
 use Rattle.he_wire.specs.Wires.{IsHouseWire}
 use Rattle.he_end.specs.declared.end.End.{End}
 use Rattle.he_end.specs.Stands.{Stands, limits_of}
-use Rattle.sr_script.specs.declared.action.Setting.{Setting}
 use Rattle.sr_script.specs.declared.action.Action.{Action}
 use Rattle.sr_script.specs.declared.action.Action.TheVariants.{Accept}
-use Rattle.hd_facts.specs.Unique.{IsTheOne}
-use Rattle.sr_script.specs.Script.{Program, Parses, IsRefusedAt, AreInTurn, opened, moment_after, most_script}
-use Rattle.sr_script.specs.Terms.{version_in, limits_in, terms_in}
+use Rattle.sr_script.specs.Script.{Program, Parses, AreInTurn, opened, moment_after}
+use Rattle.sr_script.specs.Terms.{limits_in, terms_in}
 use Rattle.sr_replay.specs.Runs.{Run, Runs, frames_at, world_of}
-use Rattle.hd_runs.specs.Following.{Follow}
-use Rattle.hd_runs.specs.Alone.{writing, taking}
-use Rattle.hd_runs.specs.Sides.{history, other}
 use Rattle.sr_replay.specs.Report.{report_text, IsReportOver, IsReport}
 
 -- ---- runs

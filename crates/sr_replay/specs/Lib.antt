@@ -1,8 +1,3 @@
-pub mod Lines
-pub mod Script
-pub mod Asking
-pub mod Turns
-pub mod Reading
 pub mod Runs
 pub mod Report
 pub mod Laws

@@ -1,24 +1,17 @@
 -- What the actions of a script make of two ends and the links between them.
-use Rattle.std.specs.Prelude.{◌≡◌, ◌⊎◌, ◌≤◌, ◌-◌, ◌+◌, ℕ, Bool, true, false, not, ◌&&◌, List, [], ◌∷◌, ◌++◌, length, take, drop, map, codes, Option, Some, None, is_some, option_map, if◌then◌else◌}
+use Rattle.std.specs.Prelude.{◌≡◌, ◌⊎◌, ◌+◌, ℕ, false, not, ◌&&◌, List, [], ◌∷◌, ◌++◌, length, take, map, codes, Option, Some, None, is_some, if◌then◌else◌}
 use Rattle.std.specs.Fmt.{decimal}
-use Rattle.hm_message.specs.declared.message.Codec.{Codec}
-use Rattle.hm_message.specs.declared.message.Codec.TheVariants.{Json}
 use Rattle.hm_message.specs.declared.message.Message.{Message}
 use Rattle.hm_codec.specs.Frames.{said_again}
 use Rattle.hd_delivery.specs.declared.vocabulary.Reason.TheVariants.{Done}
 use Rattle.hd_delivery.specs.declared.vocabulary.Side.{Side}
 use Rattle.hd_delivery.specs.declared.vocabulary.Side.TheVariants.{Client, Server}
-use Rattle.hd_delivery.specs.Numbers.{most_framing}
 use Rattle.hd_delivery.specs.Histories as of
-use Rattle.hd_delivery.specs.Histories.{Step, Attached, Detached, Lent, Sent, Ticked, Silenced, Closed, first_of, present_link, was_on, first_link, codec_of, is_kept, is_closed, is_silence}
-use Rattle.hd_delivery.specs.Due.{due}
-use Rattle.hd_delivery.specs.Processes.{processes}
+use Rattle.hd_delivery.specs.Histories.{Step, Attached, Detached, Sent, Ticked, Silenced, Closed, present_link, was_on, first_link, codec_of, is_kept, is_closed, is_silence}
 use Rattle.hd_delivery.specs.Sending as refusal
 use Rattle.hd_delivery.specs.Sending.{SendRefusal, IsRefusedToSend}
-use Rattle.hd_delivery.specs.Worlds.{Limits, MaySend, Terms, config, Event, ByClient, ByServer, client_of, server_of}
-use Rattle.hd_delivery.specs.Bytes.{Wire, sizes_of, ByteStep, Bytes, Does, bytes_on, in_frames, lent_bytes, unread_count}
-use Rattle.sr_script.specs.declared.action.Setting.{Setting}
-use Rattle.sr_script.specs.declared.action.Setting.TheVariants as setting
+use Rattle.hd_delivery.specs.Worlds.{Limits, MaySend, Terms, config, Event, ByClient, ByServer}
+use Rattle.hd_delivery.specs.Bytes.{Wire, sizes_of, ByteStep, Does, bytes_on, in_frames, lent_bytes}
 use Rattle.sr_script.specs.declared.action.Count.{Count}
 use Rattle.sr_script.specs.declared.action.Count.TheVariants.{UpTo, Everything}
 use Rattle.sr_script.specs.declared.action.Action.{Action}

@@ -2,36 +2,27 @@
 //! reported.
 //!
 //! ```text
-//! let script = parse(alloc, text)?;                  // or the number of the first line that no script has
+//! let script = sr_script::parse(alloc, text)?;       // or the number of the first line that no script has
 //! let totals = replay(alloc, &script, &mut out)?;
 //! ```
 //!
-//! `line.rt` reads one line, `turn.rt` says which line may come, and `script.rt` goes over all of them. `player.rt` is one end on its link,
-//! `pair.rt` both and the links between them, and `replaying.rt` lets them do a script's actions. `report.rt` alone spells what is reported.
+//! `player.rt` is one end on its link, `pair.rt` both and the links between them, and `replaying.rt` lets them do a script's actions.
+//! `report.rt` alone spells what is reported.
 //!
-//! Proved: a text is a script that asks for one thing, or is refused at its first line that no script has ([`parse`]). What is put for a
-//! script is the text of the one run that its actions make. The steps of this run are a world of two ends in the words of `hd_delivery`,
-//! and delivery holds in it ([`replay`]). The definitions are `specs/Script.antt`, `Runs.antt` and `Report.antt`.
+//! Proved: what is put for a script is the text of the one run that its actions make. The steps of this run are a world of two ends in the
+//! words of `hd_delivery`, and delivery holds in it ([`replay`]). The definitions are `specs/Runs.antt` and `Report.antt`.
 //!
-//! The crate doesn't know the words of a command line, nor files. A loop over frames runs to a bound that no end reaches, since its measure
-//! can't be a history.
+//! The crate doesn't know how scripts are written, the words of a command line, nor files. A loop over frames runs to a bound that no end
+//! reaches, since its measure can't be a history.
 #![tactic(auto)]
 
-mod action;
 mod laws;
-mod line;
 mod pair;
 mod player;
 mod replaying;
 mod report;
-mod script;
 #[cfg(test)]
 mod tests;
-mod turn;
 
-pub use action::{Action, Count, Setting};
-pub use laws::{
-    long_is_refused_by_its_front, reports_have_lines, reports_once, runs_are_worlds, runs_once,
-};
+pub use laws::{reports_have_lines, reports_once, runs_are_worlds, runs_once};
 pub use replaying::{ReplayError, Totals, replay};
-pub use script::{MOST_SCRIPT, Script, ScriptError, parse};

@@ -23,19 +23,19 @@ ghost use Rattle.sr_replay.specs.Plays.{Plays, OfEach, limits_at, steps_text, le
 ghost use Rattle.sr_script.specs.Asking.{IsWhole};
 ghost use Rattle.sr_replay.specs.Follows.{Follows, GoesOn, MayRead, Tries, said_by, terms_of};
 
-use crate::action::{Action, Count};
-use crate::laws::{
-    ends_report, fed_is_lent, lent_comes_last, lent_stays, runs_are_worlds, taken_has_room,
-    unused_is_empty,
-};
+use crate::laws::{ends_report, runs_are_worlds};
 use crate::player::Player;
 use crate::report::{
     push_refused_attach, push_refused_send, push_sent, push_silent, push_standing,
 };
-use hd_delivery::{Side, State, fed_is_unseen, unused_is_untouched};
+use hd_delivery::{Side, State, facts_hold, fed_is_unseen, unused_is_untouched};
+use hd_runs::{
+    fed_is_lent, frames_are_taken, lent_comes_last, lent_stays, taken_has_room, unused_is_empty,
+};
 use he_end::{Config, SendError};
 use he_wire::wire_is_sound;
 use hm_message::Message;
+use sr_script::{Action, Count};
 use std::alloc::{AllocError, Global};
 
 /// What both ends said on a link. A lost link keeps it.
@@ -348,6 +348,7 @@ impl Pair {
         ensures { OnOk result (GoesOn self.old (action.Write side count) self.new) }
     {
         runs_are_worlds();
+        facts_hold();
         lent_comes_last();
         lent_stays();
         wire_is_sound();
@@ -380,6 +381,8 @@ impl Pair {
         ensures { OnOk result (GoesOn self.old (action.Read side count) self.new) }
     {
         runs_are_worlds();
+        facts_hold();
+        frames_are_taken();
         fed_is_lent();
         lent_stays();
         taken_has_room();

@@ -20,13 +20,13 @@ ghost use Rattle.hd_runs.specs.Alone.{writing, reading, taking};
 ghost use Rattle.sr_replay.specs.Plays.{Plays, OfEach, Feeds, Goes, limits_at, most_steps, steps_text, lent_text};
 ghost use Rattle.sr_script.specs.Script.{most_of};
 
-use crate::action::Count;
-use crate::laws::{taken_has_room, takes_few, writes_few};
 use crate::report::{push_fault, push_got};
 use hd_delivery::{Reason, Side, State, facts_hold, fed_is_unseen};
+use hd_runs::{taken_has_room, takes_few, writes_few};
 use he_end::{AttachError, Config, End, NextError, SendError};
 use he_wire::wire_is_sound;
 use hm_message::Message;
+use sr_script::Count;
 use std::alloc::{AllocError, Global};
 
 /// An end, and the link on which it stands.

@@ -11,16 +11,14 @@ ghost use Rattle.sr_script.specs.Asking.{IsAllowed};
 ghost use Rattle.sr_replay.specs.Replays.{Begins, Obeys, ActsAll, Reaches};
 ghost use Rattle.hs_shake.specs.Requests.{IsVersion};
 
-use crate::action::Setting;
 use crate::laws::reports_once;
-use crate::line::Asked;
 use crate::pair::Pair;
-use crate::script::{Reader, Script};
 use he_end::Config;
 use he_wire::has_wire;
 use hm_message::Codec;
 use hq_resend::Limits;
 use hw_io::{Failed, Sink};
+use sr_script::{Asked, Reader, Script, Setting, settings_come_first};
 use std::alloc::{AllocError, Global};
 use std::error::Error;
 use std::fmt;
@@ -106,6 +104,7 @@ fn options(alloc: Global, script: &Script) -> Result<Config, AllocError>
     ensures spoken { IfOk result (λ config. IsVersion config.version) }
     ensures begins { IfOk result (λ config. (p : Program) → Parses script.now p → Begins p.settings config) }
 {
+    settings_come_first();
     let mut reader = Reader::start(alloc);
     let mut config = usual();
     loop {

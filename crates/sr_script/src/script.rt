@@ -148,11 +148,7 @@ impl Reader {
     }
 
     /// What the next line of a script asks for, or `None` after the last. The script is the same at each call.
-    pub fn next_in(
-        &mut self,
-        alloc: Global,
-        script: &Script,
-    ) -> Result<Option<Asked>, AllocError>
+    pub fn next_in(&mut self, alloc: Global, script: &Script) -> Result<Option<Asked>, AllocError>
         requires { (p : Program) × HasRead self.old script.now p }
         ensures next { IfOk result (λ r. IfSome r (λ x. (p : Program) → HasRead self.old script.now p →
             MayCome p x × IsAllowed x × HasRead self.new script.now (and_then p x))) }

@@ -1,5 +1,5 @@
 use Rattle.std.proofs.Common.{inr, sym, subst}
-use Rattle.sr_replay.specs.Script.{Parses}
+use Rattle.sr_script.specs.Script.{Parses}
 use Rattle.sr_app.proofs.run.answer.Goals as goal
 
 pub returns-in-Ok-replay-clause-touched : goal.returns-in-Ok-replay-clause-touched

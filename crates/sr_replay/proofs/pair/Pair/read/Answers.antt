@@ -10,12 +10,12 @@ pub returns-in_default : goal.returns-in_default
 returns-in_default c = client_reads_none c.args.self.now c.args.count c.args.side c.in-Client.is (λ wire config h plays. sym c.in_default.is ∙ c.link.ensures wire config h plays)
 
 pub returns-then-at-len : goal.returns-then-at-len
-returns-then-at-len c = client_never_past c.runs_are_worlds.ensures c.wire_is_sound.ensures c.args.self.now (action.Read c.args.side c.args.count) c.in-Some.link
+returns-then-at-len c = client_never_past c.facts_hold.ensures c.runs_are_worlds.ensures c.wire_is_sound.ensures c.args.self.now (action.Read c.args.side c.args.count) c.in-Some.link
     (λ wire config h plays. sym c.in-Some.is ∙ c.link.ensures wire config h plays) (omega (arith, c.if-at-len.true, c.len.ensures, c.args.self.now.lanes.ok.0))
 
 pub returns-else-at-len : goal.returns-else-at-len
 returns-else-at-len c = on_ok c.read.result
-    (client_reads c.runs_are_worlds.ensures c.wire_is_sound.ensures c.fed_is_lent.ensures c.lent_stays.ensures c.fed_is_unseen.ensures c.taken_has_room.ensures
+    (client_reads c.frames_are_taken.ensures c.runs_are_worlds.ensures c.wire_is_sound.ensures c.fed_is_lent.ensures c.lent_stays.ensures c.fed_is_unseen.ensures c.taken_has_room.ensures
     c.args.self.now c.read.new.player c.in-Some.link c.read.new.place c.read.new.report c.index.result.now c.args.count c.args.side c.in-Client.is
     (λ wire config h plays. sym c.in-Some.is ∙ c.link.ensures wire config h plays)
     (there c.args.self.now.lanes.items c.in-Some.link c.index.result.now (omega (arith, c.if-at-len.false, c.len.ensures, c.args.self.now.lanes.ok.0)) c.index.ensures))
@@ -27,12 +27,12 @@ pub returns-in_default-link : goal.returns-in_default-link
 returns-in_default-link c = server_reads_none c.args.self.now c.args.count c.args.side c.in-Server.is (λ wire config h plays. sym c.in_default-link.is ∙ c.link-in-Server.ensures wire config h plays)
 
 pub returns-then-at-len-2 : goal.returns-then-at-len-2
-returns-then-at-len-2 c = server_never_past c.runs_are_worlds.ensures c.wire_is_sound.ensures c.args.self.now (action.Read c.args.side c.args.count) c.in-Some-link.link
+returns-then-at-len-2 c = server_never_past c.facts_hold.ensures c.runs_are_worlds.ensures c.wire_is_sound.ensures c.args.self.now (action.Read c.args.side c.args.count) c.in-Some-link.link
     (λ wire config h plays. sym c.in-Some-link.is ∙ c.link-in-Server.ensures wire config h plays) (omega (arith, c.if-at-len-2.true, c.len-in-Server.ensures, c.args.self.now.lanes.ok.0))
 
 pub returns-else-at-len-2 : goal.returns-else-at-len-2
 returns-else-at-len-2 c = on_ok c.read-in-Server.result
-    (server_reads c.runs_are_worlds.ensures c.wire_is_sound.ensures c.fed_is_lent.ensures c.lent_stays.ensures c.fed_is_unseen.ensures c.taken_has_room.ensures
+    (server_reads c.frames_are_taken.ensures c.runs_are_worlds.ensures c.wire_is_sound.ensures c.fed_is_lent.ensures c.lent_stays.ensures c.fed_is_unseen.ensures c.taken_has_room.ensures
     c.args.self.now c.read-in-Server.new.player c.in-Some-link.link c.read-in-Server.new.place c.read-in-Server.new.report c.index-in-Server.result.now c.args.count c.args.side c.in-Server.is
     (λ wire config h plays. sym c.in-Some-link.is ∙ c.link-in-Server.ensures wire config h plays)
     (there c.args.self.now.lanes.items c.in-Some-link.link c.index-in-Server.result.now (omega (arith, c.if-at-len-2.false, c.len-in-Server.ensures, c.args.self.now.lanes.ok.0)) c.index-in-Server.ensures))

@@ -10,7 +10,7 @@ pub returns-in_default : goal.returns-in_default
 returns-in_default c = client_writes_none c.args.self.now c.args.count c.args.side c.in-Client.is (λ wire config h plays. sym c.in_default.is ∙ c.link.ensures wire config h plays)
 
 pub returns-then-at-len : goal.returns-then-at-len
-returns-then-at-len c = client_never_past c.runs_are_worlds.ensures c.wire_is_sound.ensures c.args.self.now (action.Write c.args.side c.args.count) c.in-Some.link
+returns-then-at-len c = client_never_past c.facts_hold.ensures c.runs_are_worlds.ensures c.wire_is_sound.ensures c.args.self.now (action.Write c.args.side c.args.count) c.in-Some.link
     (λ wire config h plays. sym c.in-Some.is ∙ c.link.ensures wire config h plays) (omega (arith, c.if-at-len.true, c.len.ensures, c.args.self.now.lanes.ok.0))
 
 pub returns-else-at-len : goal.returns-else-at-len
@@ -26,7 +26,7 @@ pub returns-in_default-link : goal.returns-in_default-link
 returns-in_default-link c = server_writes_none c.args.self.now c.args.count c.args.side c.in-Server.is (λ wire config h plays. sym c.in_default-link.is ∙ c.link-in-Server.ensures wire config h plays)
 
 pub returns-then-at-len-2 : goal.returns-then-at-len-2
-returns-then-at-len-2 c = server_never_past c.runs_are_worlds.ensures c.wire_is_sound.ensures c.args.self.now (action.Write c.args.side c.args.count) c.in-Some-link.link
+returns-then-at-len-2 c = server_never_past c.facts_hold.ensures c.runs_are_worlds.ensures c.wire_is_sound.ensures c.args.self.now (action.Write c.args.side c.args.count) c.in-Some-link.link
     (λ wire config h plays. sym c.in-Some-link.is ∙ c.link-in-Server.ensures wire config h plays) (omega (arith, c.if-at-len-2.true, c.len-in-Server.ensures, c.args.self.now.lanes.ok.0))
 
 pub returns-else-at-len-2 : goal.returns-else-at-len-2
