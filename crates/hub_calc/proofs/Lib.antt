@@ -2,3 +2,4 @@ pub mod Names
 pub mod Counting
 pub mod Runs
 pub mod Sums
+pub mod Asking

@@ -1,5 +1,5 @@
 -- What whole runs of jobs are, in the terms of who calls.
-use Rattle.std.specs.Prelude.{◌≡◌, ◌≤◌, ℕ, suc, ℤ, pos, ◌+ℤ◌, List, [], ◌∷◌, ◌++◌, map, length, take, replicate, Option, Some, None, codes}
+use Rattle.std.specs.Prelude.{◌≡◌, ◌≤◌, ℕ, suc, ℤ, pos, ◌+ℤ◌, true, false, List, [], ◌∷◌, ◌++◌, map, length, take, replicate, Option, Some, None, codes}
 use Rattle.hv_value.specs.Tree.{Tree, int, text}
 use Rattle.hv_value.specs.View.{tree}
 use Rattle.hv_value.specs.Whole.{IsWhole}
@@ -12,8 +12,9 @@ use Rattle.hd_calls.specs.declared.vocabulary.CallKind.TheVariants as kind
 use Rattle.hd_calls.specs.declared.vocabulary.Input.TheVariants as input
 use Rattle.hd_calls.specs.declared.vocabulary.Act.{Act}
 use Rattle.hd_calls.specs.declared.vocabulary.Act.TheVariants as act
-use Rattle.hd_calls.specs.Hubs.{Turn, Given}
-use Rattle.hd_calls.specs.Rules.{run}
+use Rattle.hd_calls.specs.Hubs.{Turn, Given, Hub}
+use Rattle.hd_calls.specs.Peers.{asks, hands_up}
+use Rattle.hd_calls.specs.Rules.{run, job_after, act_at}
 use Rattle.hub_calc.specs.declared.refusal.Refusal.{Refusal}
 use Rattle.hub_calc.specs.declared.refusal.Refusal.TheVariants.{UnknownMethod, WrongArguments}
 use Rattle.hub_calc.specs.declared.method.Method.{Method}
@@ -149,3 +150,22 @@ ConfirmGivesBack = (call : as_given.Call) (since now : ℕ) (v : Value) → call
 -- every other target ends with no result, whatever the call's kind, arguments and uploads are
 abbrev pub OthersEnd : Type 0
 OthersEnd = (call : as_given.Call) (since now : ℕ) → (call.target ≡ codes "Confirm" → ⊥) → client_run call since now ≡ act.End ending.Void ∷ []
+
+-- ---- what jobs ask for and hand up
+
+-- what the job of a call does at a turn, after these
+abbrev pub act_after : {Job : Type 0} → Hub Job → as_given.Call → ℕ → List Turn → Turn → Act
+act_after hub call since turns turn = act_at hub (job_after hub (hub.begin_of call since) turns) turn
+
+-- no job of the hub ever hands up a deed
+abbrev pub HandsUpNothing : {Job : Type 0} → Hub Job → Type 0
+HandsUpNothing hub = (call : as_given.Call) (since : ℕ) (turns : List Turn) (turn : Turn) → hands_up (Some (act_after hub call since turns turn)) ≡ false
+
+-- no job of the hub ever asks
+abbrev pub AsksNothing : {Job : Type 0} → Hub Job → Type 0
+AsksNothing hub = (call : as_given.Call) (since : ℕ) (turns : List Turn) (turn : Turn) → asks (Some (act_after hub call since turns turn)) ≡ false
+
+-- a job of the hub asks only if its call is of Ask
+abbrev pub AsksOnlyForAsk : {Job : Type 0} → Hub Job → Type 0
+AsksOnlyForAsk hub = (call : as_given.Call) (since : ℕ) (turns : List Turn) (turn : Turn) → asks (Some (act_after hub call since turns turn)) ≡ true
+    → call.target ≡ codes "Ask"

@@ -1,6 +1,8 @@
 //! What whole runs of the jobs are, for whoever calls. No function here does anything: its contract is the law.
 
-ghost use Rattle.hub_calc.specs.Laws.{AddAdds, AddStopsAtItsRange, AskAsks, ConfirmGivesBack, CountCounts, EchoGivesBack, FailFails, OthersEnd, SlowWaits, SumAddsUp, SumStopsAtItsRange, SumTakesWholeNumbers, UnknownIsRefused, WrongArgumentsAreRefused, WrongKindIsRefused};
+ghost use Rattle.hub_calc.specs.Laws.{AddAdds, AddStopsAtItsRange, AskAsks, AsksNothing, AsksOnlyForAsk, ConfirmGivesBack, CountCounts, EchoGivesBack, FailFails, HandsUpNothing, OthersEnd, SlowWaits, SumAddsUp, SumStopsAtItsRange, SumTakesWholeNumbers, UnknownIsRefused, WrongArgumentsAreRefused, WrongKindIsRefused};
+ghost use Rattle.hub_calc.specs.Client.{client_hub};
+ghost use Rattle.hub_calc.specs.Table.{calc_hub};
 
 use hm_message::values_are_trees;
 
@@ -38,3 +40,15 @@ pub fn clients_answer()
 {
     values_are_trees();
 }
+
+/// Neither hub hands up a deed, whatever is called and whatever its job is given.
+pub fn nothing_is_handed_up()
+    ensures calculator { HandsUpNothing calc_hub }
+    ensures client { HandsUpNothing client_hub }
+{}
+
+/// Only a call of the calculator's `Ask` asks. A client asks its server for nothing.
+pub fn only_ask_asks()
+    ensures calculator { AsksOnlyForAsk calc_hub }
+    ensures client { AsksNothing client_hub }
+{}

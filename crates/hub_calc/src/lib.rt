@@ -27,5 +27,8 @@ mod rows;
 pub use calc::CalcHub;
 pub use client::ClientHub;
 pub use job::CalcJob;
-pub use laws::{clients_answer, methods_do_their_work, refusals_have_an_order, sums_add_up};
+pub use laws::{
+    clients_answer, methods_do_their_work, nothing_is_handed_up, only_ask_asks,
+    refusals_have_an_order, sums_add_up,
+};
 pub use refusal::{Refusal, wrong_kind};
