@@ -1,5 +1,5 @@
 -- Elements of list values.
-use Rattle.std.proofs.Common.{◌≡◌, ◌==◌, ◌||◌, ℕ, Bool, List, [], ◌∷◌, ◌++◌, map, refl, sym, ap, ◌∙◌}
+use Rattle.std.proofs.Common.{◌≡◌, ◌==◌, ◌||◌, ℕ, Bool, List, [], ◌∷◌, map, refl, sym, ap}
 use Rattle.std.specs.List.{list_any, slice_split, onto_first}
 use Rattle.httparse.specs.Ascii.{comma}
 use Rattle.httparse.specs.Grammar.{trim_ows}

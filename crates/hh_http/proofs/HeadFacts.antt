@@ -1,5 +1,5 @@
 -- What the spans of a head say of a request.
-use Rattle.std.proofs.Common.{◌≡◌, ◌<◌, ◌≤◌, ◌+◌, ℕ, List, length, take, drop, map, Ok, Err, Option, refl, sym, ap, ◌∙◌, arith, subst}
+use Rattle.std.proofs.Common.{◌≡◌, ◌≤◌, ◌+◌, ℕ, List, length, take, drop, map, Ok, Err, Option, refl, sym, ap, ◌∙◌, arith, subst}
 use Rattle.std.proofs.lemmas.List.{length-map, take_all}
 use Rattle.httparse.specs.Grammar.{RequestHead}
 use Rattle.httparse.specs.Spans.{IsRequestOf, IsRequestAt, header_bytes, name_and_value, span_bytes}
@@ -7,14 +7,15 @@ use Rattle.httparse.specs.declared.spans.HeaderSpan.{HeaderSpan}
 use Rattle.httparse.specs.declared.spans.RequestSpans.{RequestSpans}
 use Rattle.http1.specs.Fields.{Header}
 use Rattle.hd_lanes.specs.declared.http.Request.{Request}
-use Rattle.hh_http.specs.Asks.{HasHead, NamesBy, IsTaken, Says, RefusesBy, Checks, Judges, fields_of}
+use Rattle.hh_http.specs.Asks.{NamesBy, IsTaken, Says, RefusesBy, Checks, fields_of, request_grammar}
+use Rattle.hh_http.specs.Messages.{HasHead, Judges}
 use Rattle.hh_http.specs.declared.error.HttpError.{HttpError}
 use Rattle.hh_http.specs.declared.error.HttpError.TheVariants.{Refused, NoMemory}
 
 -- the head that the spans cover, all of whose headers are given
 pub record Covers (held : List ℕ) (headers : List HeaderSpan) (r : RequestSpans) (h : RequestHead) : Type 0 where
   pub at : IsRequestAt held headers r h
-  pub head : HasHead held h (drop r.len held)
+  pub head : HasHead request_grammar held h (drop r.len held)
   pub fields : map (header_bytes held) headers ≡ map name_and_value h.fields
 
 pub covers : (held : List ℕ) (headers : List HeaderSpan) (r : RequestSpans) → IsRequestOf held headers r → length headers ≤ 100 → r.headers ≡ length headers
@@ -42,20 +43,20 @@ pub judges-ok : (held : List ℕ) (headers : List HeaderSpan) (r : RequestSpans)
     → IsRequestOf held headers r → length headers ≤ 100 → r.headers ≡ length headers
     → NamesBy (span_bytes held r.method) (span_bytes held r.path) r.version (map (header_bytes held) headers) q → q.upgrade ≡ accept
     → IsTaken (span_bytes held r.method) (map (header_bytes held) headers) accept n
-    → Judges held (Ok (record { request = q; start = r.len; end = r.len + n }))
+    → Judges request_grammar held (Ok (record { message = q; start = r.len; end = r.len + n }))
 judges-ok held headers r q accept n o few all names u taken =
     let c = covers held headers r o few all in
     (c.0, drop r.len held, n, c.1.head, says held headers r c.0 q accept n c.1 names u taken, c.1.at.len, refl)
 
 pub judges-refused : (held : List ℕ) (headers : List HeaderSpan) (r : RequestSpans) (status : ℕ) → IsRequestOf held headers r → length headers ≤ 100 → r.headers ≡ length headers
-    → RefusesBy (span_bytes held r.method) (map (header_bytes held) headers) status → Judges held (Err (Refused status))
+    → RefusesBy (span_bytes held r.method) (map (header_bytes held) headers) status → Judges request_grammar held (Err (Refused status))
 judges-refused held headers r status o few all refused =
     let c = covers held headers r o few all in
     let at1 = subst (λ (m : List ℕ). RefusesBy m (map (header_bytes held) headers) status) c.1.at.method refused in
     (c.0, drop r.len held, c.1.head, subst (λ (f : List Header). RefusesBy c.0.method f status) c.1.fields at1)
 
 pub judges-err : (held : List ℕ) (headers : List HeaderSpan) (r : RequestSpans) (name : List ℕ) (e : HttpError) → IsRequestOf held headers r → length headers ≤ 100 → r.headers ≡ length headers
-    → name ≡ span_bytes held r.method → Checks name (map (header_bytes held) headers) (Err e) → Judges held (Err e)
+    → name ≡ span_bytes held r.method → Checks name (map (header_bytes held) headers) (Err e) → Judges request_grammar held (Err e)
 judges-err held headers r name (Refused status) o few all is refused =
     judges-refused held headers r status o few all (subst (λ (m : List ℕ). RefusesBy m (map (header_bytes held) headers) status) is refused)
 judges-err held headers r name NoMemory o few all is refused = tt

@@ -3,5 +3,4 @@ pub mod HeadFacts
 pub mod LaneFacts
 pub mod LengthFacts
 pub mod NumberFacts
-pub mod ResponseFacts
 pub mod StatusFacts

@@ -1,6 +1,6 @@
 -- What the fields of a head say (RFC 9110, sections 5 and 8.6; RFC 6455, section 4.2). A field is a name and a value without the
 -- blanks around it; names are compared without regard to case.
-use Rattle.std.specs.Prelude.{◌≡◌, ◌≢◌, ◌⊎◌, ◌&&◌, ◌||◌, ◌==◌, ℕ, ⊤, Bool, true, List, [], ◌∷◌, take, drop, length, nat_lt, Option, None, Some, is_some, option_and_then, Result, Ok, Err, IsTrue, IsFalse, if◌then◌else◌, codes, bytes_eq}
+use Rattle.std.specs.Prelude.{◌≡◌, ◌≢◌, ◌⊎◌, ◌&&◌, ◌||◌, ◌==◌, ℕ, Bool, true, List, [], ◌∷◌, take, drop, length, nat_lt, Option, None, Some, is_some, option_and_then, IsTrue, IsFalse, if◌then◌else◌, codes, bytes_eq}
 use Rattle.std.specs.List.{list_all}
 use Rattle.std.specs.Char.{is_ascii_digit}
 use Rattle.std.specs.Str.Parse.{digits_value}

@@ -4,13 +4,13 @@ use Rattle.std.specs.Coded.{Coded, code_by, coded×, coded_ℕ, coded_bool, code
 use Rattle.hh_http.specs.declared.limits.TheConstants.{MOST_HEAD, MOST_BODY}
 
 pub record Lane : Type 0 where
-  -- the bytes that were fed and are not part of a request that was handed out
+  -- the bytes that were fed and are not part of a message that was handed out
   pub held : List ℕ
-  -- the length of the request whose head was read, or 0
+  -- the length of the message whose head was read, or 0
   pub want : ℕ
   -- the refusal that was answered
   pub spent : Option ℕ
-  -- the last request that was handed out asks for a WebSocket
+  -- no message follows the last that was handed out
   pub ended : Bool
 
 abbrev pub lane_code : Coded Lane
@@ -25,7 +25,7 @@ lane_code =
 abbrev pub at_start : Lane
 at_start = record { held = []; want = 0; spent = None; ended = false }
 
--- how many bytes a lane may hold: a head's limit, or the request whose head was read
+-- how many bytes a lane may hold: a head's limit, or the message whose head was read
 abbrev pub room_for : ℕ → ℕ
 room_for want = max MOST_HEAD want
 
@@ -38,7 +38,7 @@ room_by (Some status) want held = 0
 abbrev pub room : Lane → ℕ
 room lane = room_by lane.spent lane.want (length lane.held)
 
--- never more is held than a head's limit, or the request whose head was read, whose body has a limit
+-- never more is held than a head's limit, or the message whose head was read, whose body has a limit
 pub record IsWithin (lane : Lane) : Type 0 where
   pub held : length lane.held ≤ room_for lane.want
   pub want : lane.want ≤ MOST_HEAD + MOST_BODY

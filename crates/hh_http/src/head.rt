@@ -2,26 +2,19 @@
 ghost use Rattle.std.specs.Prelude.{◌≡◌, ◌≤◌, ◌+◌, ◌-◌, ◌^◌, ◌<◌, ◌↔◌, min, length, map, option_map, All, IfOk, IsTrue, Some, codes};
 ghost use Rattle.httparse.specs.Spans.{IsHeaderWithin, IsRequestWithin, IsRequestOf, header_bytes, span_bytes};
 ghost use Rattle.hh_http.specs.Heads.{first_named, agree, lengths, number_of, token_of, bearer_of, method_of, path_of, query_of};
-ghost use Rattle.hh_http.specs.Asks.{Upgrading, Allows, Checks, NamesBy, Judges, Reads};
+ghost use Rattle.hh_http.specs.Asks.{Upgrading, Allows, Checks, NamesBy, request_grammar};
+ghost use Rattle.hh_http.specs.Messages.{Judges};
 
 use crate::error::HttpError;
 use crate::fields::{first_named, lists, stated_length};
 use crate::limits::{MOST_BODY, MOST_HEAD, MOST_HEADERS};
+use crate::message::{Head, Message};
 use hd_lanes::{Method, Request, Text8, Vec8, query_value};
 use http1::text::eq_ignore_case;
 use httparse::spans::{EMPTY_HEADER_SPAN, HeaderSpan, RequestSpans, parse_request};
 use httparse::{Error, Status};
 use std::alloc::{AllocError, Global};
 use websocket::handshake::server::accept_key;
-
-/// What a head says of its request, and where its body stands in the bytes that begin with the head.
-#[derive(Drop)]
-pub(crate) struct Head {
-    /// Its body is empty.
-    pub(crate) request: Request,
-    pub(crate) start: usize,
-    pub(crate) end: usize,
-}
 
 fn method(name: &[u8]) -> Method
     ensures { result ≡ method_of name.now }
@@ -189,44 +182,58 @@ fn judge(
     held: &[u8],
     spans: RequestSpans,
     headers: &[HeaderSpan],
-) -> Result<Head, HttpError>
+) -> Result<Head<Request>, HttpError>
     requires within { IsRequestWithin held.now headers.now spans }
     requires reads { IsRequestOf held.now headers.now spans }
     requires few { length headers.now ≤ MOST_HEADERS }
     requires all { spans.headers ≡ length headers.now }
-    ensures { Judges held.now result }
+    ensures { Judges request_grammar held.now result }
 {
     let (accept, length) = check(alloc, held, spans.method.of(held), headers)?;
-    let request = request(alloc, held, spans, headers, accept)?;
+    let message = request(alloc, held, spans, headers, accept)?;
     Ok(Head {
-        request,
+        message,
         start: spans.len,
         end: spans.len + length,
     })
 }
 
-/// The head that the bytes begin with, or `None` if it has not ended.
-pub(crate) fn read_head(alloc: Global, held: &[u8]) -> Result<Option<Head>, HttpError>
-    ensures { Reads held.now result }
-{
-    let mut headers = [EMPTY_HEADER_SPAN; MOST_HEADERS];
-    match parse_request(held, &mut headers) {
-        Ok(Status::Complete(spans)) => {
-            let count = spans.headers;
-            match judge(alloc, held, spans, &headers[..count]) {
-                Ok(head) => Ok(Some(head)),
-                Err(HttpError::Refused(status)) => Err(HttpError::Refused(status)),
-                Err(HttpError::NoMemory) => Err(HttpError::NoMemory),
+impl Message for Request {
+    ghost use Rattle.hh_http.specs.Lawful.{request-grammar};
+
+    ghost grammar = { request_grammar };
+
+    fn read_head(alloc: Global, held: &[u8]) -> Result<Option<Head<Request>>, HttpError> {
+        let mut headers = [EMPTY_HEADER_SPAN; MOST_HEADERS];
+        match parse_request(held, &mut headers) {
+            Ok(Status::Complete(spans)) => {
+                let count = spans.headers;
+                match judge(alloc, held, spans, &headers[..count]) {
+                    Ok(head) => Ok(Some(head)),
+                    Err(HttpError::Refused(status)) => Err(HttpError::Refused(status)),
+                    Err(HttpError::NoMemory) => Err(HttpError::NoMemory),
+                }
             }
-        }
-        Ok(Status::Partial) => {
-            if held.len() < MOST_HEAD {
-                Ok(None)
-            } else {
-                Err(HttpError::Refused(431))
+            Ok(Status::Partial) => {
+                if held.len() < MOST_HEAD {
+                    Ok(None)
+                } else {
+                    Err(HttpError::Refused(431))
+                }
             }
+            Err(Error::TooManyHeaders) => Err(HttpError::Refused(431)),
+            Err(_) => Err(HttpError::Refused(400)),
         }
-        Err(Error::TooManyHeaders) => Err(HttpError::Refused(431)),
-        Err(_) => Err(HttpError::Refused(400)),
     }
+
+    fn with_body(mut self, body: Vec8) -> Request {
+        self.body = body;
+        self
+    }
+
+    fn is_last(&self) -> bool {
+        self.upgrade.is_some()
+    }
+
+    ghost lawful = { request-grammar };
 }

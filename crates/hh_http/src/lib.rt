@@ -30,6 +30,8 @@ mod key;
 mod lane;
 mod laws;
 mod limits;
+mod message;
+mod message_lane;
 mod response;
 mod response_lane;
 mod texts;

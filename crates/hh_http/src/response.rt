@@ -1,12 +1,14 @@
 //! A response's head: what it says, or why it is refused.
 ghost use Rattle.std.specs.Prelude.{◌≡◌, ◌≤◌, length, map, option_map, All, IfOk};
 ghost use Rattle.httparse.specs.Spans.{IsHeaderWithin, IsResponseWithin, IsResponseOf, header_bytes};
-ghost use Rattle.hh_http.specs.Responses.{NamesBy, Measures, Judges, Reads};
+ghost use Rattle.hh_http.specs.Messages.{Judges};
+ghost use Rattle.hh_http.specs.Responses.{NamesBy, Measures, response_grammar};
 
 use crate::error::HttpError;
 use crate::fields::{first_named, stated_length};
 use crate::head::allowed_length;
 use crate::limits::{MOST_HEAD, MOST_HEADERS};
+use crate::message::{Head, Message};
 use hd_lanes::{Text8, Vec8};
 use httparse::spans::{EMPTY_HEADER_SPAN, HeaderSpan, ResponseSpans, parse_response};
 use httparse::{Error, Status};
@@ -22,15 +24,6 @@ pub struct Response {
     /// The value of the first `Sec-WebSocket-Accept`. At 101 it is to be [`accept_key`](crate::accept_key) of the key that was sent.
     pub accept: Option<Text8>,
     pub body: Vec8,
-}
-
-/// What a head says of its response, and where its body stands in the bytes that begin with the head.
-#[derive(Drop)]
-pub(crate) struct StatusHead {
-    /// Its body is empty.
-    pub(crate) response: Response,
-    pub(crate) start: usize,
-    pub(crate) end: usize,
 }
 
 /// The length of the body, or why the head is refused.
@@ -71,44 +64,58 @@ fn judge(
     held: &[u8],
     spans: ResponseSpans,
     headers: &[HeaderSpan],
-) -> Result<StatusHead, HttpError>
+) -> Result<Head<Response>, HttpError>
     requires within { IsResponseWithin held.now headers.now spans }
     requires reads { IsResponseOf held.now headers.now spans }
     requires few { length headers.now ≤ MOST_HEADERS }
     requires all { spans.headers ≡ length headers.now }
-    ensures { Judges held.now result }
+    ensures { Judges response_grammar held.now result }
 {
     let length = body_length(held, headers)?;
-    let response = without_body(alloc, held, spans.code, headers)?;
-    Ok(StatusHead {
-        response,
+    let message = without_body(alloc, held, spans.code, headers)?;
+    Ok(Head {
+        message,
         start: spans.len,
         end: spans.len + length,
     })
 }
 
-/// The head that the bytes begin with, or `None` if it has not ended.
-pub(crate) fn read_status_head(alloc: Global, held: &[u8]) -> Result<Option<StatusHead>, HttpError>
-    ensures { Reads held.now result }
-{
-    let mut headers = [EMPTY_HEADER_SPAN; MOST_HEADERS];
-    match parse_response(held, &mut headers) {
-        Ok(Status::Complete(spans)) => {
-            let count = spans.headers;
-            match judge(alloc, held, spans, &headers[..count]) {
-                Ok(head) => Ok(Some(head)),
-                Err(HttpError::Refused(status)) => Err(HttpError::Refused(status)),
-                Err(HttpError::NoMemory) => Err(HttpError::NoMemory),
+impl Message for Response {
+    ghost use Rattle.hh_http.specs.Lawful.{response-grammar};
+
+    ghost grammar = { response_grammar };
+
+    fn read_head(alloc: Global, held: &[u8]) -> Result<Option<Head<Response>>, HttpError> {
+        let mut headers = [EMPTY_HEADER_SPAN; MOST_HEADERS];
+        match parse_response(held, &mut headers) {
+            Ok(Status::Complete(spans)) => {
+                let count = spans.headers;
+                match judge(alloc, held, spans, &headers[..count]) {
+                    Ok(head) => Ok(Some(head)),
+                    Err(HttpError::Refused(status)) => Err(HttpError::Refused(status)),
+                    Err(HttpError::NoMemory) => Err(HttpError::NoMemory),
+                }
             }
-        }
-        Ok(Status::Partial) => {
-            if held.len() < MOST_HEAD {
-                Ok(None)
-            } else {
-                Err(HttpError::Refused(431))
+            Ok(Status::Partial) => {
+                if held.len() < MOST_HEAD {
+                    Ok(None)
+                } else {
+                    Err(HttpError::Refused(431))
+                }
             }
+            Err(Error::TooManyHeaders) => Err(HttpError::Refused(431)),
+            Err(_) => Err(HttpError::Refused(400)),
         }
-        Err(Error::TooManyHeaders) => Err(HttpError::Refused(431)),
-        Err(_) => Err(HttpError::Refused(400)),
     }
+
+    fn with_body(mut self, body: Vec8) -> Response {
+        self.body = body;
+        self
+    }
+
+    fn is_last(&self) -> bool {
+        self.status == SWITCHING
+    }
+
+    ghost lawful = { response-grammar };
 }

@@ -1,4 +1,4 @@
-use Rattle.std.proofs.Common.{◌≡◌, ◌∙◌, sym, arith}
+use Rattle.std.proofs.Common.{sym, arith}
 use Rattle.std.proofs.lemmas.Bool.{both_ways}
 use Rattle.hh_http.proofs.NumberFacts.{padded_iff, padded_not}
 use Rattle.hh_http.proofs.fields.is_padded.Goals as goal

@@ -1,5 +1,4 @@
-use Rattle.std.proofs.Common.{◌≡◌, ◌∙◌, refl, sym, map, arith}
-use Rattle.std.proofs.lemmas.Bool.Decides.{nat_tests}
+use Rattle.std.proofs.Common.{refl, sym, map}
 use Rattle.httparse.specs.Spans.{header_bytes}
 use Rattle.hh_http.proofs.LengthFacts.{lengths-none, lengths-first}
 use Rattle.hh_http.proofs.fields.lengths_agree.Goals as goal

@@ -1,6 +1,5 @@
-use Rattle.std.proofs.Common.{◌≡◌, ◌∙◌, sym, map, min, arith, IsTrue, Bool, true, false}
+use Rattle.std.proofs.Common.{◌∙◌, sym, map, arith}
 use Rattle.httparse.specs.Spans.{header_bytes}
-use Rattle.http1.specs.Fields.{content_length}
 use Rattle.hh_http.specs.Heads.{lengths}
 use Rattle.hh_http.proofs.LengthFacts.{known-length, absent, value, invalid, invalid_is}
 use Rattle.hh_http.proofs.fields.stated_length.Goals as goal

@@ -1,4 +1,4 @@
-use Rattle.std.proofs.Common.{◌≡◌, ◌∙◌, sym, subst, map, List, ℕ}
+use Rattle.std.proofs.Common.{subst, map, List, ℕ}
 use Rattle.std.proofs.lemmas.Result.{err_from_is_err_and}
 use Rattle.httparse.specs.Spans.{header_bytes}
 use Rattle.hh_http.specs.Asks.{IsTaken}
@@ -13,6 +13,6 @@ returns-in_err-accept c =
 pub returns : goal.returns
 returns c =
     let fields = map (header_bytes c.args.held.now) c.args.headers.now in
-    judges-ok c.args.held.now c.args.headers.now c.args.spans c.in_ok-request.request c.in_ok-accept.accept c.in_ok-accept.length c.requires.reads c.requires.few c.requires.all
-    c.in_ok-request.ensures.names c.in_ok-request.ensures.upgrade
+    judges-ok c.args.held.now c.args.headers.now c.args.spans c.in_ok-message.message c.in_ok-accept.accept c.in_ok-accept.length c.requires.reads c.requires.few c.requires.all
+    c.in_ok-message.ensures.names c.in_ok-message.ensures.upgrade
     (subst (λ (m : List ℕ). IsTaken m fields c.in_ok-accept.accept c.in_ok-accept.length) c.of.ensures c.in_ok-accept.ensures)

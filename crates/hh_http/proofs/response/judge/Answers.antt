@@ -9,5 +9,5 @@ returns-in_err-length c =
 
 pub returns : goal.returns
 returns c =
-    judges-ok c.args.held.now c.args.headers.now c.args.spans c.in_ok-response.response c.in_ok-length.length c.requires.reads c.requires.few c.requires.all
-    c.in_ok-response.ensures c.in_ok-length.ensures
+    judges-ok c.args.held.now c.args.headers.now c.args.spans c.in_ok-message.message c.in_ok-length.length c.requires.reads c.requires.few c.requires.all
+    c.in_ok-message.ensures c.in_ok-length.ensures
