@@ -1,149 +1,245 @@
-//! A door and a dialer in memory: what is heard, in order and then `Quiet`, what is kept of what they are given, and which calls fail.
+//! What doors and dialers in memory are asked, and what they answer.
 
-ghost use Rattle.std.specs.Prelude.{IfOk};
+ghost use Rattle.std.specs.Prelude.{◌≢◌, IfOk, IfSome, IsTrue};
+ghost use Rattle.hd_lanes.specs.Replies.{IsReply};
 ghost use Rattle.hw_door.specs.Memory.{NeverFalls};
 
+use crate::stop::Stop;
+use crate::words::{first_word, number, numbers, shown};
 use hd_lanes::{BodyKind, Method, Reply, Text8, Vec8};
-use hw_door::{Dialer, Door, DoorError, Event, Given, Heard, MemoryDialer, MemoryDoor, Upgrade};
+use hw_door::{Dialer, Door, Event, Given, Heard, MemoryDialer, MemoryDoor, Upgrade};
 use std::alloc::{AllocError, Global};
-use std::process::Abort;
-use std::test::Fail;
 
-/// What is heard in these tests.
-fn three(alloc: Global) -> Result<Vec<Heard>, AllocError>
-    ensures { IfOk result (λ heard. NeverFalls 0 heard.items) }
+/// How long a call of `next` may wait, which no form in memory does.
+const WAIT: u64 = 50;
+
+/// What is heard at a moment, as words say it.
+pub fn heard_of(alloc: Global, words: &str) -> Result<Heard, Stop> {
+    let (moment, rest) = first_word(words);
+    let (kind, rest) = first_word(rest);
+    let (lane, rest) = first_word(rest);
+    let now = number(moment)?;
+    let lane = number(lane)?;
+    let event = event_of(alloc, kind, lane, rest)?;
+    Ok(Heard { now, event })
+}
+
+fn event_of(alloc: Global, kind: &str, lane: u64, rest: &str) -> Result<Event, Stop> {
+    match kind {
+        "bytes" => {
+            let bytes = Vec8::of(alloc, rest.as_bytes())?;
+            Ok(Event::Bytes { lane, bytes })
+        }
+        "response" => {
+            let status = rest.parse::<u16>().ok().ok_or(Stop::Refused)?;
+            let body = Vec8::of(alloc, b"{}")?;
+            Ok(Event::Response { lane, status, body })
+        }
+        "lost" => Ok(Event::Lost { lane }),
+        _ => Err(Stop::Refused),
+    }
+}
+
+/// Whether the moments never fall.
+fn never_falls(heard: &[Heard]) -> bool
+    ensures { IsTrue result → NeverFalls 0 heard.now }
 {
-    let bytes = Vec8::of(alloc, b"hello")?;
-    let body = Vec8::of(alloc, b"{}")?;
-    let first = Heard {
-        now: 3,
-        event: Event::Bytes { lane: 1, bytes },
-    };
-    let second = Heard {
-        now: 3,
-        event: Event::Response {
-            lane: 2,
-            status: 200,
-            body,
-        },
-    };
-    let third = Heard {
-        now: 8,
-        event: Event::Lost { lane: 1 },
-    };
-    Ok(vec![in alloc; first, second, third]?)
-}
-
-/// What a call of `next` answers, as text.
-fn told(alloc: Global, heard: Result<Heard, DoorError>) -> Result<String, AllocError> {
-    match heard {
-        Err(why) => format!(in alloc; "{why}"),
-        Ok(Heard { now, event }) => match event {
-            Event::Bytes { lane, bytes } => {
-                let text = std::str::from_utf8(bytes.bytes()).unwrap_or("no text");
-                format!(in alloc; "{now} bytes {lane} {text}")
-            }
-            Event::Response { lane, status, .. } => {
-                format!(in alloc; "{now} response {lane} {status}")
-            }
-            Event::Lost { lane } => format!(in alloc; "{now} lost {lane}"),
-            Event::Quiet => format!(in alloc; "{now} quiet"),
-            _ => format!(in alloc; "something else"),
-        },
-    }
-}
-
-/// What was given, as text.
-fn given_as(alloc: Global, given: &Given) -> Result<String, AllocError> {
-    match given {
-        Given::Reply { lane, reply } => format!(in alloc; "reply {lane} {}", reply.status),
-        Given::Bytes { lane, bytes, text } => {
-            format!(in alloc; "bytes {lane} {} {text}", bytes.bytes().len())
+    let mut rest = heard;
+    let mut last = 0;
+    loop {
+        let [first, more @ ..] = rest else {
+            return true;
+        };
+        if first.now < last {
+            return false;
         }
-        Given::Shut { lane } => format!(in alloc; "shut {lane}"),
-        Given::Ask { lane, target, .. } => {
-            let target = std::str::from_utf8(target.bytes()).unwrap_or("no text");
-            format!(in alloc; "ask {lane} {target}")
+        last = first.now;
+        rest = more;
+    }
+}
+
+/// A door at which this is heard, and that fails at the calls that the words number.
+pub fn start_door(alloc: Global, heard: Vec<Heard>, failing: &str) -> Result<MemoryDoor, Stop> {
+    let failing = numbers(alloc, failing)?;
+    if !never_falls(&heard) {
+        return Err(Stop::Refused);
+    }
+    Ok(MemoryDoor::start(heard, failing))
+}
+
+/// The same of a dialer.
+pub fn start_dialer(alloc: Global, heard: Vec<Heard>, failing: &str) -> Result<MemoryDialer, Stop> {
+    let failing = numbers(alloc, failing)?;
+    if !never_falls(&heard) {
+        return Err(Stop::Refused);
+    }
+    Ok(MemoryDialer::start(heard, failing))
+}
+
+/// What the door answers to the words.
+pub fn ask_door(alloc: Global, door: &mut MemoryDoor, words: &str) -> Result<String, Stop> {
+    let (word, rest) = first_word(words);
+    match word {
+        "next" => told(alloc, &door.next(WAIT)?),
+        "given" => all_given(alloc, door.given()),
+        "reply" => {
+            let lane = number(rest)?;
+            door.reply(lane, accepted(alloc)?)?;
+            done(alloc)
         }
+        "send" => {
+            let sent = sent_of(rest)?;
+            door.send(sent.lane, sent.bytes, sent.is_text)?;
+            done(alloc)
+        }
+        "shut" => {
+            door.shut(number(rest)?)?;
+            done(alloc)
+        }
+        _ => Err(Stop::Refused),
     }
 }
 
-fn check_given(
-    rt: &impl Abort,
+/// What the dialer answers to the words.
+pub fn ask_dialer(alloc: Global, dialer: &mut MemoryDialer, words: &str) -> Result<String, Stop> {
+    let (word, rest) = first_word(words);
+    match word {
+        "next" => told(alloc, &dialer.next(WAIT)?),
+        "given" => all_given(alloc, dialer.given()),
+        "ask" => ask(alloc, dialer, rest, None),
+        "upgrade" => ask(alloc, dialer, rest, Some(upgrade())),
+        "send" => {
+            let sent = sent_of(rest)?;
+            dialer.send(sent.lane, sent.bytes, sent.is_text)?;
+            done(alloc)
+        }
+        "shut" => {
+            dialer.shut(number(rest)?)?;
+            done(alloc)
+        }
+        _ => Err(Stop::Refused),
+    }
+}
+
+fn done(alloc: Global) -> Result<String, Stop> {
+    Ok(String::from_str(alloc, "done")?)
+}
+
+fn ask(
     alloc: Global,
-    given: &[Given],
-    wants: &[&str],
-) -> Result<(), Fail> {
-    assert_eq!(rt; given.len(), wants.len());
-    for (given, want) in given.iter().zip(wants) {
-        let got = given_as(alloc, given)?;
-        assert_eq!(rt; got.as_str(), *want);
-    }
-    Ok(())
-}
-
-fn check_heard<D: Door>(
-    rt: &impl Abort,
-    alloc: Global,
-    door: &mut D,
-    wants: &[&str],
-) -> Result<(), Fail> {
-    for want in wants {
-        let heard = door.next(50);
-        let got = told(alloc, heard)?;
-        assert_eq!(rt; got.as_str(), *want);
-    }
-    Ok(())
-}
-
-fn failed_as(done: Result<(), DoorError>) -> bool {
-    matches!(done, Err(DoorError::Failed))
-}
-
-#[test]
-fn a_door_in_memory(rt: HostRuntime) -> Result<(), Fail> {
-    let alloc = rt.alloc();
-    let failing = vec![in alloc; 1, 3]?;
-    let mut door = MemoryDoor::start(three(alloc)?, failing);
-    let wants = ["3 bytes 1 hello", "the outside failed", "3 response 2 200"];
-    check_heard(&rt, alloc, &mut door, &wants)?;
-    let reply = Reply {
-        status: 202,
-        kind: BodyKind::None,
-        body: Vec8::of(alloc, b"")?,
-        accept: None,
+    dialer: &mut MemoryDialer,
+    words: &str,
+    upgrade: Option<Upgrade>,
+) -> Result<String, Stop> {
+    let (word, target) = first_word(words);
+    let Some(method) = method(word) else {
+        return Err(Stop::Refused);
     };
-    // Number 3 is to fail, and is not kept.
-    assert!(&rt; failed_as(door.send(1, b"lost", true)));
-    assert!(&rt; door.send(1, b"kept", false).is_ok());
-    assert!(&rt; door.reply(2, reply).is_ok());
-    assert!(&rt; door.shut(1).is_ok());
-    let wants = ["8 lost 1", "8 quiet", "8 quiet"];
-    check_heard(&rt, alloc, &mut door, &wants)?;
-    let wants = ["bytes 1 4 false", "reply 2 202", "shut 1"];
-    check_given(&rt, alloc, door.given(), &wants)?;
-    let mut empty = MemoryDoor::start(Vec::new(alloc), Vec::new(alloc));
-    check_heard(&rt, alloc, &mut empty, &["0 quiet"])
+    let lane = dialer.ask(method, target, upgrade)?;
+    Ok(format!(in alloc; "lane {lane}")?)
 }
 
-#[test]
-fn a_dialer_in_memory(rt: HostRuntime) -> Result<(), Fail> {
-    let alloc = rt.alloc();
-    let failing = vec![in alloc; 1]?;
-    let mut dialer = MemoryDialer::start(three(alloc)?, failing);
-    let upgrade = Upgrade {
+fn method(word: &str) -> Option<Method>
+    ensures { IfSome result (λ method. method ≢ Method.Other) }
+{
+    match word {
+        "GET" => Some(Method::Get),
+        "POST" => Some(Method::Post),
+        "DELETE" => Some(Method::Delete),
+        _ => None,
+    }
+}
+
+fn upgrade() -> Upgrade {
+    Upgrade {
         key: [7; 16],
         seed: [9; 16],
-    };
-    assert!(&rt; dialer.ask(Method::Post, "/negotiate", None).ok() == Some(1));
-    assert!(&rt; dialer.ask(Method::Get, "/lost", None).is_err());
-    assert!(&rt; dialer.ask(Method::Get, "/hub", Some(upgrade)).ok() == Some(2));
-    for want in ["3 bytes 1 hello", "3 response 2 200", "8 lost 1", "8 quiet"] {
-        let got = told(alloc, dialer.next(50))?;
-        assert_eq!(&rt; got.as_str(), want);
     }
-    assert!(&rt; dialer.send(2, b"hi", true).is_ok());
-    assert!(&rt; dialer.shut(2).is_ok());
-    let wants = ["ask 1 /negotiate", "ask 2 /hub", "bytes 2 2 true", "shut 2"];
-    check_given(&rt, alloc, dialer.given(), &wants)
+}
+
+/// A message to send.
+#[derive(Clone, Copy)]
+struct Sent<'a> {
+    lane: u64,
+    is_text: bool,
+    bytes: &'a [u8],
+}
+
+fn sent_of(words: &str) -> Result<Sent<'_>, Stop> {
+    let (lane, rest) = first_word(words);
+    let (kind, text) = first_word(rest);
+    Ok(Sent {
+        lane: number(lane)?,
+        is_text: kind == "text",
+        bytes: text.as_bytes(),
+    })
+}
+
+/// The reply that a request was accepted.
+fn accepted(alloc: Global) -> Result<Reply, Stop>
+    ensures { IfOk result (λ reply. IsReply reply) }
+{
+    Ok(Reply {
+        status: 202,
+        kind: BodyKind::None,
+        body: Vec8::from_vec(Vec::new(alloc)),
+        accept: None,
+    })
+}
+
+/// What was heard.
+fn told(alloc: Global, heard: &Heard) -> Result<String, Stop> {
+    let now = heard.now;
+    let event = event_told(alloc, &heard.event)?;
+    Ok(format!(in alloc; "{now} {event}")?)
+}
+
+fn event_told(alloc: Global, event: &Event) -> Result<String, AllocError> {
+    match event {
+        Event::Bytes { lane, bytes } => {
+            let text = shown(bytes.bytes());
+            format!(in alloc; "bytes {lane} {text}")
+        }
+        Event::Response { lane, status, .. } => format!(in alloc; "response {lane} {status}"),
+        Event::Lost { lane } => format!(in alloc; "lost {lane}"),
+        Event::Quiet => String::from_str(alloc, "quiet"),
+        Event::Request { lane, .. } => format!(in alloc; "request {lane}"),
+        Event::Refused { lane, status } => format!(in alloc; "refused {lane} {status}"),
+        Event::Upgraded { lane } => format!(in alloc; "upgraded {lane}"),
+    }
+}
+
+/// What was given to be said, with a bar between two.
+fn all_given(alloc: Global, given: &[Given]) -> Result<String, Stop> {
+    let mut text = String::from_str(alloc, "given")?;
+    for one in given.iter() {
+        let one = given_told(alloc, one)?;
+        write!(text, " | {one}")?;
+    }
+    Ok(text)
+}
+
+fn given_told(alloc: Global, given: &Given) -> Result<String, AllocError> {
+    match given {
+        Given::Reply { lane, reply } => {
+            let status = reply.status;
+            format!(in alloc; "reply {lane} {status}")
+        }
+        Given::Bytes { lane, bytes, text } => {
+            let kind = if *text { "text" } else { "octets" };
+            let words = shown(bytes.bytes());
+            format!(in alloc; "bytes {lane} {kind} {words}")
+        }
+        Given::Shut { lane } => format!(in alloc; "shut {lane}"),
+        Given::Ask {
+            lane,
+            target,
+            upgrade,
+            ..
+        } => {
+            let kind = if upgrade.is_some() { "upgrade" } else { "ask" };
+            let target = shown(target.bytes());
+            format!(in alloc; "{kind} {lane} {target}")
+        }
+    }
 }

@@ -1,36 +1,38 @@
 //! Lots of memory and of the system.
 
+use crate::stop::Stop;
+use crate::words::{first_word, numbers};
 use hw_door::{Lots, MemoryLots, RandLots};
-use std::test::Fail;
+use std::alloc::Global;
+use std::random::RandomSource;
 
-#[test]
-fn lots_in_memory_give_their_draws(rt: HostRuntime) -> Result<(), Fail> {
-    let alloc = rt.alloc();
-    let draws = vec![in alloc; [1; 16], [2; 16], [3; 16]]?;
-    let failing = vec![in alloc; 1, 9]?;
-    let mut lots = MemoryLots::start(draws, failing);
-    // The call of number 1 is to fail, and the draws end before the calls.
-    let wants: [Option<[u8; 16]>; 6] = [
-        Some([1; 16]),
-        None,
-        Some([2; 16]),
-        Some([3; 16]),
-        None,
-        None,
-    ];
-    for (place, want) in wants.iter().enumerate() {
-        let got = lots.draw().ok();
-        assert!(&rt; got == *want, "draw {place}");
+/// Lots as the words say: the byte of each draw, and the numbers of the calls that are to fail.
+pub fn start(alloc: Global, words: &str) -> Result<MemoryLots, Stop> {
+    let (bytes, failing) = first_word(words);
+    let mut draws = Vec::new(alloc);
+    for byte in numbers(alloc, bytes)?.iter() {
+        let byte = u8::try_from(*byte).ok().ok_or(Stop::Refused)?;
+        draws.push([byte; 16])?;
     }
-    Ok(())
+    Ok(MemoryLots::start(draws, numbers(alloc, failing)?))
 }
 
-#[test]
-fn draws_of_the_system_differ(rt: HostRuntime) {
-    let mut lots = RandLots::new(&rt);
-    let first = lots.draw();
-    let second = lots.draw();
-    assert!(&rt; first.is_ok());
-    assert!(&rt; second.is_ok());
-    assert!(&rt; first != second);
+/// What a draw of the lots gives.
+pub fn draw(alloc: Global, lots: &mut MemoryLots) -> Result<String, Stop> {
+    let draw = lots.draw().ok().ok_or(Stop::Failed)?;
+    let mut text = String::from_str(alloc, "draw")?;
+    for byte in draw.iter() {
+        write!(text, " {byte}")?;
+    }
+    Ok(text)
+}
+
+/// Whether two draws of the system differ.
+pub fn of_the_system(rt: &impl RandomSource) -> &'static str {
+    let mut lots = RandLots::new(rt);
+    match (lots.draw(), lots.draw()) {
+        (Ok(first), Ok(second)) if first != second => "two draws that differ",
+        (Ok(_), Ok(_)) => "one draw, twice",
+        _ => "failed",
+    }
 }

@@ -1,205 +1,150 @@
-//! Wires in memory: what each call answers, at the end of each list and past the room too.
+//! What wires in memory are asked, and what they answer.
 
+ghost use Rattle.std.specs.Prelude.{IsTrue};
+ghost use Rattle.hw_door.specs.Wires.{IsRising};
+
+use crate::stop::Stop;
+use crate::words::{count, first_word, number, numbers, shown};
 use hd_lanes::Vec8;
 use hw_door::{MemoryWire, MemoryWires, WireGiven, WireRead, Wires};
-use std::alloc::{AllocError, Global};
-use std::process::Abort;
-use std::test::Fail;
+use std::alloc::Global;
 
-/// A call of wires: a read has this much room, and a write these bytes.
-#[derive(Clone, Copy)]
-enum Call {
-    Poll,
-    Accept,
-    Connect,
-    Read(u64, usize),
-    Write(u64, &'static str),
-    Shut(u64),
+/// How long `poll` may wait, which no form in memory does.
+const WAIT: u64 = 100;
+
+/// The most bytes that are read at once.
+const MOST_READ: usize = 8;
+
+/// A wire to give, as words say it.
+pub fn wire_of(alloc: Global, words: &str) -> Result<MemoryWire, Stop> {
+    let (from, rest) = first_word(words);
+    let (reads, writes) = first_word(rest);
+    Ok(MemoryWire {
+        from: number(from)?,
+        reads: reads_of(alloc, reads)?,
+        writes: counts(alloc, writes)?,
+    })
 }
 
-fn number(alloc: Global, name: &str, number: u64) -> Result<String, AllocError> {
-    format!(in alloc; "{name} {number}")
-}
-
-/// What a read gave, as text.
-fn told(alloc: Global, read: WireRead, buf: &[u8]) -> Result<String, AllocError> {
-    match read {
-        WireRead::Some(count) => {
-            let bytes = &buf[..count.min(buf.len())];
-            let text = std::str::from_utf8(bytes).unwrap_or("no text");
-            format!(in alloc; "read {text}")
+fn reads_of(alloc: Global, word: &str) -> Result<Vec<WireGiven>, Stop> {
+    let mut reads = Vec::new(alloc);
+    if word != "-" {
+        for part in word.split(',') {
+            reads.push(read_of(alloc, part)?)?;
         }
-        WireRead::NotYet => format!(in alloc; "not yet"),
-        WireRead::Ended => format!(in alloc; "ended"),
+    }
+    Ok(reads)
+}
+
+fn read_of(alloc: Global, part: &str) -> Result<WireGiven, Stop> {
+    match part {
+        "*" => Ok(WireGiven::NotYet),
+        "!" => Ok(WireGiven::Ended),
+        _ => Ok(WireGiven::Bytes(Vec8::of(alloc, part.as_bytes())?)),
     }
 }
 
-/// What a call answers, as text.
-fn answer(alloc: Global, wires: &mut MemoryWires, call: &Call) -> Result<String, AllocError> {
-    match call {
-        Call::Poll => match wires.poll(100) {
-            Ok(now) => number(alloc, "at", now),
-            Err(_) => format!(in alloc; "failed"),
-        },
-        Call::Accept => match wires.accept() {
-            Ok(Some(wire)) => number(alloc, "wire", wire),
-            Ok(None) => format!(in alloc; "none"),
-            Err(_) => format!(in alloc; "failed"),
-        },
-        Call::Connect => match wires.connect("example.org", 80) {
-            Ok(wire) => number(alloc, "wire", wire),
-            Err(_) => format!(in alloc; "failed"),
-        },
-        Call::Read(wire, room) => {
-            let mut space = [0; 8];
-            let room = (*room).min(space.len());
-            let buf = &mut space[..room];
-            match wires.read(*wire, buf) {
-                Ok(read) => told(alloc, read, buf),
-                Err(_) => format!(in alloc; "failed"),
-            }
+fn counts(alloc: Global, word: &str) -> Result<Vec<usize>, Stop> {
+    let mut counts = Vec::new(alloc);
+    if word != "-" {
+        for part in word.split(',') {
+            counts.push(count(part)?)?;
         }
-        Call::Write(wire, text) => match wires.write(*wire, text.as_bytes()) {
-            Ok(count) => number(alloc, "wrote", count as u64),
-            Err(_) => format!(in alloc; "failed"),
-        },
-        Call::Shut(wire) => {
-            wires.shut(*wire);
-            format!(in alloc; "shut")
+    }
+    Ok(counts)
+}
+
+/// Whether the moments never fall.
+fn is_rising(moments: &[u64]) -> bool
+    ensures { IsTrue result → IsRising 0 moments.now }
+{
+    let mut rest = moments;
+    let mut last = 0;
+    loop {
+        let [first, more @ ..] = rest else {
+            return true;
+        };
+        if *first < last {
+            return false;
         }
+        last = *first;
+        rest = more;
     }
 }
 
-fn check(
-    rt: &impl Abort,
+/// Wires that give these, as the words say.
+pub fn start(alloc: Global, wires: Vec<MemoryWire>, words: &str) -> Result<MemoryWires, Stop> {
+    let (moments, rest) = first_word(words);
+    let (failing, rest) = first_word(rest);
+    let (bytes, calls) = first_word(rest);
+    let moments = numbers(alloc, moments)?;
+    let failing = numbers(alloc, failing)?;
+    let bytes = count(bytes)?;
+    let calls = count(calls)?;
+    if !is_rising(&moments) {
+        return Err(Stop::Refused);
+    }
+    Ok(MemoryWires::start(alloc, moments, wires, failing, bytes, calls)?)
+}
+
+/// What the wires answer to the words.
+pub fn answer(alloc: Global, wires: &mut MemoryWires, words: &str) -> Result<String, Stop> {
+    let (word, rest) = first_word(words);
+    match word {
+        "poll" => {
+            let now = wires.poll(WAIT).ok().ok_or(Stop::Failed)?;
+            Ok(format!(in alloc; "at {now}")?)
+        }
+        "accept" => match wires.accept().ok().ok_or(Stop::Failed)? {
+            Some(wire) => Ok(format!(in alloc; "wire {wire}")?),
+            None => Ok(String::from_str(alloc, "none")?),
+        },
+        "connect" => {
+            let wire = wires.connect("example.org", 80).ok().ok_or(Stop::Failed)?;
+            Ok(format!(in alloc; "wire {wire}")?)
+        }
+        _ => answer_of_wire(alloc, wires, word, rest),
+    }
+}
+
+/// What one of the wires answers.
+fn answer_of_wire(
     alloc: Global,
     wires: &mut MemoryWires,
-    cases: &[(Call, &str)],
-) -> Result<(), Fail> {
-    let mut place: usize = 0;
-    for (call, want) in cases {
-        let got = answer(alloc, wires, call)?;
-        assert_eq!(rt; got.as_str(), *want, "call {place}");
-        place = place.saturating_add(1);
+    word: &str,
+    rest: &str,
+) -> Result<String, Stop> {
+    let (wire, rest) = first_word(rest);
+    let wire = number(wire)?;
+    match word {
+        "read" => read(alloc, wires, wire, count(rest)?),
+        "write" => {
+            let written = wires.write(wire, rest.as_bytes());
+            let count = written.ok().ok_or(Stop::Failed)?;
+            Ok(format!(in alloc; "wrote {count}")?)
+        }
+        "shut" => {
+            wires.shut(wire);
+            Ok(String::from_str(alloc, "shut")?)
+        }
+        "written" => {
+            let text = shown(wires.written(wire));
+            Ok(format!(in alloc; "written {text}")?)
+        }
+        _ => Err(Stop::Refused),
     }
-    Ok(())
 }
 
-/// Wires 0 to 2: the second may be accepted from the moment 7 on, the third never in time.
-fn three(alloc: Global) -> Result<Vec<MemoryWire>, AllocError> {
-    let bytes = Vec8::of(alloc, b"abcde")?;
-    let first = MemoryWire {
-        from: 0,
-        reads: vec![in alloc;
-            WireGiven::Bytes(bytes),
-            WireGiven::NotYet,
-            WireGiven::Ended,
-        ]?,
-        writes: vec![in alloc; 3, 0, 9]?,
-    };
-    let second = MemoryWire {
-        from: 7,
-        reads: Vec::new(alloc),
-        writes: Vec::new(alloc),
-    };
-    let third = MemoryWire {
-        from: 1_000,
-        reads: Vec::new(alloc),
-        writes: Vec::new(alloc),
-    };
-    Ok(vec![in alloc; first, second, third]?)
-}
-
-#[test]
-fn wires_answer_as_their_lists_say(rt: HostRuntime) -> Result<(), Fail> {
-    let alloc = rt.alloc();
-    let moments = vec![in alloc; 5, 5, 9]?;
-    let failing = vec![in alloc; 2, 6, 26]?;
-    let mut wires = MemoryWires::start(alloc, moments, three(alloc)?, failing, 100, 100)?;
-    let cases: [(Call, &str); 30] = [
-        (Call::Accept, "wire 0"),
-        (Call::Accept, "none"),
-        // The call of number 2 is to fail, and takes no moment.
-        (Call::Poll, "failed"),
-        (Call::Poll, "at 5"),
-        (Call::Accept, "none"),
-        (Call::Read(0, 2), "read ab"),
-        // Number 6 fails too, and what is left of the first read stays.
-        (Call::Read(0, 2), "failed"),
-        (Call::Read(0, 2), "read cd"),
-        (Call::Read(0, 0), "read "),
-        (Call::Read(0, 2), "read e"),
-        (Call::Read(0, 2), "not yet"),
-        (Call::Read(0, 2), "ended"),
-        (Call::Read(0, 2), "not yet"),
-        (Call::Write(0, "vwxyz"), "wrote 3"),
-        (Call::Write(0, "yz"), "wrote 0"),
-        (Call::Write(0, "yz"), "wrote 2"),
-        (Call::Write(0, "1"), "wrote 0"),
-        (Call::Poll, "at 5"),
-        (Call::Poll, "at 9"),
-        (Call::Poll, "at 9"),
-        (Call::Read(1, 2), "failed"),
-        (Call::Accept, "wire 1"),
-        (Call::Read(1, 2), "not yet"),
-        (Call::Accept, "none"),
-        // To connect no moment is waited for.
-        (Call::Connect, "wire 2"),
-        (Call::Connect, "failed"),
-        // Number 26 is to fail, but is a shut.
-        (Call::Shut(1), "shut"),
-        (Call::Read(1, 2), "failed"),
-        (Call::Write(1, "1"), "failed"),
-        (Call::Write(3, "1"), "failed"),
-    ];
-    check(&rt, alloc, &mut wires, &cases)?;
-    assert_eq!(&rt; wires.written(0), b"vwxyz".as_slice());
-    assert_eq!(&rt; wires.written(1), b"".as_slice());
-    assert_eq!(&rt; wires.written(3), b"".as_slice());
-    Ok(())
-}
-
-#[test]
-fn past_their_room_wires_fail(rt: HostRuntime) -> Result<(), Fail> {
-    let alloc = rt.alloc();
-    // Room for four calls.
-    let mut few = MemoryWires::start(
-        alloc,
-        Vec::new(alloc),
-        three(alloc)?,
-        Vec::new(alloc),
-        100,
-        4,
-    )?;
-    let cases: [(Call, &str); 8] = [
-        (Call::Accept, "wire 0"),
-        (Call::Poll, "at 0"),
-        (Call::Read(0, 4), "read abcd"),
-        (Call::Write(0, "vw"), "wrote 2"),
-        (Call::Write(0, "x"), "failed"),
-        (Call::Poll, "failed"),
-        (Call::Shut(0), "shut"),
-        (Call::Accept, "failed"),
-    ];
-    check(&rt, alloc, &mut few, &cases)?;
-    assert_eq!(&rt; few.written(0), b"vw".as_slice());
-    // Room for five bytes, read and written.
-    let mut short = MemoryWires::start(
-        alloc,
-        Vec::new(alloc),
-        three(alloc)?,
-        Vec::new(alloc),
-        5,
-        100,
-    )?;
-    let cases: [(Call, &str); 5] = [
-        (Call::Accept, "wire 0"),
-        (Call::Read(0, 3), "read abc"),
-        (Call::Write(0, "vwx"), "failed"),
-        (Call::Write(0, ""), "failed"),
-        (Call::Poll, "failed"),
-    ];
-    check(&rt, alloc, &mut short, &cases)?;
-    assert_eq!(&rt; short.written(0), b"".as_slice());
-    Ok(())
+fn read(alloc: Global, wires: &mut MemoryWires, wire: u64, room: usize) -> Result<String, Stop> {
+    let mut space = [0; MOST_READ];
+    let room = room.min(space.len());
+    let buf = &mut space[..room];
+    match wires.read(wire, buf).ok().ok_or(Stop::Failed)? {
+        WireRead::Some(count) => {
+            let text = shown(&buf[..count.min(buf.len())]);
+            Ok(format!(in alloc; "read {text}")?)
+        }
+        WireRead::NotYet => Ok(String::from_str(alloc, "not yet")?),
+        WireRead::Ended => Ok(String::from_str(alloc, "ended")?),
+    }
 }
