@@ -1,9 +1,9 @@
 -- What an end does by itself: it says what is due, is fed what came, and takes what it was fed.
-use Rattle.std.specs.Prelude.{◌≡◌, ◌-◌, ◌+◌, ℕ, Bool, false, List, [], ◌∷◌, length, take, drop, Option, Some, None, option_map, if◌then◌else◌}
+use Rattle.std.specs.Prelude.{◌≡◌, ◌-◌, ◌+◌, ℕ, Bool, false, List, [], ◌∷◌, ◌++◌, length, take, drop, Option, Some, None, option_map, if◌then◌else◌}
 use Rattle.hd_delivery.specs.declared.vocabulary.Got.TheVariants.{Shaken}
 use Rattle.hd_delivery.specs.Numbers.{most_framing}
 use Rattle.hd_delivery.specs.Histories as of
-use Rattle.hd_delivery.specs.Histories.{Step, Took, Failed, Lent, first_of, present_link, is_closed}
+use Rattle.hd_delivery.specs.Histories.{Step, Took, Failed, Lent, first_of, present_link, codec_of, is_closed}
 use Rattle.hd_delivery.specs.Due.{due}
 use Rattle.hd_delivery.specs.Processes.{processes}
 use Rattle.hd_delivery.specs.Worlds.{Limits}
@@ -39,3 +39,9 @@ IsOfFrame shaken (Took (Shaken codec version)) = shaken ≡ false
 IsOfFrame shaken (Took got) = Unit {0}
 IsOfFrame shaken (Failed fault) = Unit {0}
 IsOfFrame shaken s = ⊥
+
+-- the bytes of what was lent in these steps after a history
+abbrev pub lent_text : Wire → of.Config → List ByteStep → List ByteStep → List ℕ
+lent_text wire c h [] = []
+lent_text wire c h (Does (Lent f) ∷ ss) = lent_text wire c h ss ++ wire.spell (codec_of c (in_frames wire c (ss ++ h))) f
+lent_text wire c h (_ ∷ ss) = lent_text wire c h ss

@@ -17,7 +17,8 @@ use Rattle.sr_replay.specs.declared.player.Player.{Player}
 use Rattle.hd_runs.specs.Laws.{WritesFew, TakesFew}
 use Rattle.hd_runs.specs.Following.{Next, Follow, FollowAll, FollowUpTo}
 use Rattle.hd_runs.specs.Alone.{writing, taking}
-use Rattle.sr_replay.specs.Plays.{Plays, Text, Goes, steps_text, lent_text, most_steps}
+use Rattle.sr_replay.specs.Plays.{Plays, Text, Goes, steps_text, most_steps}
+use Rattle.hd_runs.specs.Alone.{lent_text}
 use Rattle.sr_script.specs.Script.{most_of}
 
 -- ---- texts

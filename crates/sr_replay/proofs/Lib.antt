@@ -9,7 +9,6 @@ pub mod Players
 pub mod Taking
 pub mod Worlds
 pub mod Reported
-pub mod Reporting
 pub mod Doings
 pub mod Played
 pub mod Written

@@ -13,7 +13,8 @@ use Rattle.sr_script.specs.declared.action.Action.{Action}
 use Rattle.sr_script.specs.declared.action.Action.TheVariants.{Open, Accept, Lose, Write, Read, Close, Send, Tick}
 use Rattle.sr_script.specs.declared.action.Count.{Count}
 use Rattle.sr_script.specs.declared.action.Count.TheVariants.{UpTo, Everything}
-use Rattle.sr_replay.specs.Runs.{Run, Doing, Refuses, refusal_words, Sending, to_be_read, made_by, world_of, frames_at, Acts, Runs}
+use Rattle.sr_replay.specs.Runs.{Run, Doing, Refuses, Sending, to_be_read, made_by, world_of, frames_at, Acts, Runs}
+use Rattle.sr_lines.specs.Lines.{refusal_words}
 use Rattle.hd_runs.specs.Following.{Next, Follow, FollowAll, FollowUpTo}
 use Rattle.hd_runs.specs.Alone.{writing, reading}
 use Rattle.hd_runs.specs.Sides.{by, history}

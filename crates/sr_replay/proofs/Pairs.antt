@@ -31,12 +31,15 @@ use Rattle.sr_replay.specs.declared.player.Player.{Player}
 use Rattle.sr_replay.specs.declared.pair.Lane.{Lane}
 use Rattle.sr_replay.specs.declared.pair.Pair.{Pair}
 use Rattle.sr_script.specs.Script.{opened, moment_after, IsInTurn, most_of}
-use Rattle.sr_replay.specs.Runs.{Doing, Makes, Refuses, Run, Acts, read_in_all, to_be_read, Sending, refusal_words, steps_of, world_of, attaching, losing, closing, ticking, frames_at}
+use Rattle.sr_replay.specs.Runs.{Doing, Makes, Refuses, Run, Acts, read_in_all, to_be_read, Sending, steps_of, world_of, attaching, losing, closing, ticking, frames_at}
+use Rattle.sr_lines.specs.Lines.{refusal_words}
 use Rattle.hd_runs.specs.Following.{FollowAll, FollowUpTo}
 use Rattle.hd_runs.specs.Alone.{writing, reading}
 use Rattle.hd_runs.specs.Sides.{other, by, history}
-use Rattle.sr_replay.specs.Report.{doing_text, line_at, run_text, standing_line, standing_text, report_text}
-use Rattle.sr_replay.specs.Plays.{Plays, OfEach, limits_at, steps_text, lent_text}
+use Rattle.sr_replay.specs.Report.{doing_text, run_text, standing_text, report_text}
+use Rattle.sr_lines.specs.Lines.{line_at, standing_line}
+use Rattle.sr_replay.specs.Plays.{Plays, OfEach, limits_at, steps_text}
+use Rattle.hd_runs.specs.Alone.{lent_text}
 use Rattle.sr_replay.specs.Follows.{IsPlayed, MayRead, Tries, said_by, IsLane, Holds, Follows, GoesOn}
 use Rattle.sr_replay.proofs.Small.{both}
 use Rattle.sr_replay.proofs.Doings.{own, others, text, doings_text, made_is, steps_made, text_made}

@@ -16,7 +16,8 @@ use Rattle.he_end.specs.Calls.{refusal_of}
 use Rattle.he_end.specs.Stands.{Stands}
 use Rattle.he_end.specs.Words.{attach_words, send_words}
 use Rattle.sr_replay.specs.declared.player.Player.{Player}
-use Rattle.sr_replay.specs.Runs.{Makes, Refuses, steps_of, attaching, losing, closing, refusal_words}
+use Rattle.sr_replay.specs.Runs.{Makes, Refuses, steps_of, attaching, losing, closing}
+use Rattle.sr_lines.specs.Lines.{refusal_words}
 use Rattle.sr_replay.specs.Plays.{Plays}
 
 -- ---- a link

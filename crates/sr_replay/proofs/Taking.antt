@@ -15,7 +15,7 @@ use Rattle.he_end.specs.Calls.{fault_of, FailsBy}
 use Rattle.he_end.specs.Stands.{Stands}
 use Rattle.he_end.specs.Words.{next_words}
 use Rattle.sr_replay.specs.declared.player.Player.{Player}
-use Rattle.sr_replay.specs.Report.{line_at, got_words, fault_words}
+use Rattle.sr_lines.specs.Lines.{line_at, got_words, fault_words}
 use Rattle.hd_runs.specs.Alone.{taking}
 use Rattle.sr_replay.specs.Plays.{Plays, Goes, steps_text}
 use Rattle.sr_replay.proofs.Feeding.{with}

@@ -4,7 +4,7 @@ use Rattle.hd_delivery.specs.Histories as of
 use Rattle.hd_delivery.specs.Histories.{Lent, present_link, codec_of}
 use Rattle.hd_delivery.specs.declared.vocabulary.Side.{Side}
 use Rattle.hd_delivery.specs.Worlds.{Limits}
-use Rattle.hd_delivery.specs.Bytes.{Wire, ByteStep, Bytes, Does, bare_steps, in_frames}
+use Rattle.hd_delivery.specs.Bytes.{Wire, ByteStep, Bytes, bare_steps, in_frames}
 use Rattle.he_end.specs.Stands.{Stands, limits_of}
 use Rattle.sr_script.specs.declared.action.Count.{Count}
 use Rattle.sr_script.specs.declared.action.Count.TheVariants.{UpTo, Everything}
@@ -31,12 +31,6 @@ OfEach p Holds = (wire : Wire) (c : of.Config) (h : List ByteStep) → Plays wir
 abbrev pub steps_text : Side → List ByteStep → List ByteStep → List ℕ
 steps_text side h [] = []
 steps_text side h (s ∷ ss) = steps_text side h ss ++ doing_text side (bare_steps (ss ++ h)) (Makes s)
-
--- the bytes of what was lent in these steps
-abbrev pub lent_text : Wire → of.Config → List ByteStep → List ByteStep → List ℕ
-lent_text wire c h [] = []
-lent_text wire c h (Does (Lent f) ∷ ss) = lent_text wire c h ss ++ wire.spell (codec_of c (in_frames wire c (ss ++ h))) f
-lent_text wire c h (_ ∷ ss) = lent_text wire c h ss
 
 -- ---- one step of what follows
 

@@ -1,6 +1,5 @@
 -- What the actions of a script make of two ends and the links between them.
 use Rattle.std.specs.Prelude.{◌≡◌, ◌⊎◌, ◌+◌, ℕ, false, not, ◌&&◌, List, [], ◌∷◌, ◌++◌, length, take, map, codes, Option, Some, None, is_some, if◌then◌else◌}
-use Rattle.std.specs.Fmt.{decimal}
 use Rattle.hm_message.specs.declared.message.Message.{Message}
 use Rattle.hm_codec.specs.Frames.{said_again}
 use Rattle.hd_delivery.specs.declared.vocabulary.Reason.TheVariants.{Done}
@@ -8,7 +7,6 @@ use Rattle.hd_delivery.specs.declared.vocabulary.Side.{Side}
 use Rattle.hd_delivery.specs.declared.vocabulary.Side.TheVariants.{Client, Server}
 use Rattle.hd_delivery.specs.Histories as of
 use Rattle.hd_delivery.specs.Histories.{Step, Attached, Detached, Sent, Ticked, Silenced, Closed, present_link, was_on, first_link, codec_of, is_kept, is_closed, is_silence}
-use Rattle.hd_delivery.specs.Sending as refusal
 use Rattle.hd_delivery.specs.Sending.{SendRefusal, IsRefusedToSend}
 use Rattle.hd_delivery.specs.Worlds.{Limits, MaySend, Terms, config, Event, ByClient, ByServer}
 use Rattle.hd_delivery.specs.Bytes.{Wire, sizes_of, ByteStep, Does, bytes_on, in_frames, lent_bytes}
@@ -16,6 +14,7 @@ use Rattle.sr_script.specs.declared.action.Count.{Count}
 use Rattle.sr_script.specs.declared.action.Count.TheVariants.{UpTo, Everything}
 use Rattle.sr_script.specs.declared.action.Action.{Action}
 use Rattle.sr_script.specs.declared.action.Action.TheVariants.{Open, Accept, Lose, Write, Read, Close, Send, Tick}
+use Rattle.sr_lines.specs.Lines.{refusal_words}
 use Rattle.sr_script.specs.Script.{opened, moment_after, most_of}
 use Rattle.hd_runs.specs.Following.{FollowAll, FollowUpTo}
 use Rattle.hd_runs.specs.Sides.{by, history, other}
@@ -63,14 +62,6 @@ closing c k = if is_closed c k then [] else Makes (Does (Closed Done false)) ∷
 -- a tick, which may be a silence
 abbrev pub ticking : of.Config → List Step → ℕ → Doing
 ticking c k now = Makes (Does (if is_silence c now k then Silenced now else Ticked now))
-
--- why a message isn't sent, in words
-abbrev pub refusal_words : SendRefusal → List ℕ
-refusal_words refusal.Opening = codes "Opening"
-refusal_words refusal.Closed = codes "Closed"
-refusal_words (refusal.TooLong size) = codes "TooLong " ++ decimal size
-refusal_words (refusal.Full held bytes size) = codes "Full " ++ (decimal held ++ (codes " " ++ (decimal bytes ++ (codes " " ++ decimal size))))
-refusal_words refusal.Exhausted = codes "Exhausted"
 
 -- a message is sent as the other end reads it, or refused
 abbrev pub Sending : Limits → Wire → of.Config → List Step → Message → Doing → Type 0

@@ -7,7 +7,7 @@
 //! ```
 //!
 //! `player.rt` is one end on its link, `pair.rt` both and the links between them, and `replaying.rt` lets them do a script's actions.
-//! `report.rt` alone spells what is reported.
+//! `sr_lines` spells what is reported.
 //!
 //! Proved: what is put for a script is the text of the one run that its actions make. The steps of this run are a world of two ends in the
 //! words of `hd_delivery`, and delivery holds in it ([`replay`]). The definitions are `specs/Runs.antt` and `Report.antt`.
@@ -20,9 +20,6 @@ mod laws;
 mod pair;
 mod player;
 mod replaying;
-mod report;
-#[cfg(test)]
-mod tests;
 
 pub use laws::{reports_have_lines, reports_once, runs_are_worlds, runs_once};
 pub use replaying::{ReplayError, Totals, replay};

@@ -19,15 +19,13 @@ ghost use Rattle.hd_runs.specs.Following.{FollowAll, FollowUpTo};
 ghost use Rattle.hd_runs.specs.Alone.{writing, reading};
 ghost use Rattle.hd_runs.specs.Sides.{other};
 ghost use Rattle.sr_replay.specs.Report.{IsReportOver, doing_text, report_text, standing_text};
-ghost use Rattle.sr_replay.specs.Plays.{Plays, OfEach, limits_at, steps_text, lent_text};
+ghost use Rattle.sr_replay.specs.Plays.{Plays, OfEach, limits_at, steps_text};
+ghost use Rattle.hd_runs.specs.Alone.{lent_text};
 ghost use Rattle.sr_script.specs.Asking.{IsWhole};
 ghost use Rattle.sr_replay.specs.Follows.{Follows, GoesOn, MayRead, Tries, said_by, terms_of};
 
 use crate::laws::{ends_report, runs_are_worlds};
 use crate::player::Player;
-use crate::report::{
-    push_refused_attach, push_refused_send, push_sent, push_silent, push_standing,
-};
 use hd_delivery::{Side, State, facts_hold, fed_is_unseen, unused_is_untouched};
 use hd_runs::{
     fed_is_lent, frames_are_taken, lent_comes_last, lent_stays, taken_has_room, unused_is_empty,
@@ -35,6 +33,7 @@ use hd_runs::{
 use he_end::{Config, SendError};
 use he_wire::wire_is_sound;
 use hm_message::Message;
+use sr_lines::{push_refused_attach, push_refused_send, push_sent, push_silent, push_standing};
 use sr_script::{Action, Count};
 use std::alloc::{AllocError, Global};
 

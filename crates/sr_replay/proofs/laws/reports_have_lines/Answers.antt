@@ -10,7 +10,8 @@ use Rattle.hd_delivery.specs.Bytes.{bare_steps}
 use Rattle.sr_script.specs.Terms.{limits_in, terms_in}
 use Rattle.sr_replay.specs.Runs.{world_of}
 use Rattle.hd_runs.specs.Sides.{history}
-use Rattle.sr_replay.specs.Report.{line, run_text, side_word, state_word, standing_line, standing_text}
+use Rattle.sr_replay.specs.Report.{run_text, standing_text}
+use Rattle.sr_lines.specs.Lines.{line, side_word, state_word, standing_line}
 use Rattle.sr_replay.proofs.laws.reports_have_lines.Goals as goal
 
 line_is_some : (words : List ℕ) → 0 < length (line words)

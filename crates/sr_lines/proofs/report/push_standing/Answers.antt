@@ -1,7 +1,7 @@
 use Rattle.std.proofs.Common.{◌∙◌, append_assoc}
-use Rattle.sr_replay.specs.Report.{standing_line}
-use Rattle.sr_replay.proofs.Reporting.{on_one_line}
-use Rattle.sr_replay.proofs.report.push_standing.Goals as goal
+use Rattle.sr_lines.specs.Lines.{standing_line}
+use Rattle.sr_lines.proofs.Reporting.{on_one_line}
+use Rattle.sr_lines.proofs.report.push_standing.Goals as goal
 
 pub returns : goal.returns
 returns c = on_one_line c.extend_from_slice.result c.args.report.now.items c.extend_from_slice.new.self.items c.as_bytes.result.now

@@ -1,4 +1,4 @@
-//! The lines of a report: the only place where they are spelled.
+//! The lines of what an end does, and of how it stands.
 
 ghost use Rattle.std.specs.Prelude.{◌≡◌, ◌++◌, ℕ, Bool, OnOk, codes};
 ghost use Rattle.std.specs.Fmt.{decimal};
@@ -7,7 +7,7 @@ ghost use Rattle.hd_delivery.specs.declared.vocabulary.Got.TheVariants as gives;
 ghost use Rattle.he_end.specs.Says.{HasFit};
 ghost use Rattle.he_end.specs.Words.{attach_words, next_words, send_words};
 ghost use Rattle.sr_script.specs.Script.{letter};
-ghost use Rattle.sr_replay.specs.Report.{got_words, line_at, side_word, standing_line, state_word};
+ghost use Rattle.sr_lines.specs.Lines.{got_words, line_at, side_word, standing_line, state_word};
 
 use hd_delivery::{Got, Side, State, Why};
 use he_end::{AttachError, NextError, SendError};
@@ -18,7 +18,7 @@ use hv_value::{Text, Value};
 use std::alloc::{AllocError, Global};
 
 /// The letter of a side.
-fn letter(side: Side) -> &'static str
+pub(crate) fn letter(side: Side) -> &'static str
     ensures { result.now ≡ letter side }
 {
     match side {
@@ -49,7 +49,7 @@ fn state_word(state: State) -> &'static str
 }
 
 /// Appends the line of a message that was sent with this number.
-pub(crate) fn push_sent(
+pub fn push_sent(
     alloc: Global,
     report: &mut Vec<u8>,
     side: Side,
@@ -63,7 +63,7 @@ pub(crate) fn push_sent(
 }
 
 /// Appends the line of a message that wasn't sent.
-pub(crate) fn push_refused_send(
+pub fn push_refused_send(
     alloc: Global,
     report: &mut Vec<u8>,
     side: Side,
@@ -77,7 +77,7 @@ pub(crate) fn push_refused_send(
 }
 
 /// Appends the line of a link that wasn't taken.
-pub(crate) fn push_refused_attach(
+pub fn push_refused_attach(
     alloc: Global,
     report: &mut Vec<u8>,
     side: Side,
@@ -91,7 +91,7 @@ pub(crate) fn push_refused_attach(
 }
 
 /// Appends the line of a silence.
-pub(crate) fn push_silent(report: &mut Vec<u8>, side: Side) -> Result<(), AllocError>
+pub fn push_silent(report: &mut Vec<u8>, side: Side) -> Result<(), AllocError>
     ensures { OnOk result (report.new.items ≡ report.old.items ++ line_at side (codes "silent")) }
 {
     let line: &[u8] = match side {
@@ -102,7 +102,7 @@ pub(crate) fn push_silent(report: &mut Vec<u8>, side: Side) -> Result<(), AllocE
 }
 
 /// Appends the line of a fault.
-pub(crate) fn push_fault(
+pub fn push_fault(
     alloc: Global,
     report: &mut Vec<u8>,
     side: Side,
@@ -116,7 +116,7 @@ pub(crate) fn push_fault(
 }
 
 /// Appends the line of what a frame gave. A message has this number.
-pub(crate) fn push_got(
+pub fn push_got(
     alloc: Global,
     report: &mut Vec<u8>,
     side: Side,
@@ -196,7 +196,7 @@ fn push_closed(
 }
 
 /// Appends the line of how an end stands: its state, and how many messages it sent, processed and holds.
-pub(crate) fn push_standing(
+pub fn push_standing(
     alloc: Global,
     report: &mut Vec<u8>,
     side: Side,

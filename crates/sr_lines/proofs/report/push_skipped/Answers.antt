@@ -4,10 +4,10 @@ use mir.Syntax.{w128}
 use mir.Val.{SFits}
 use Rattle.std.specs.String.{string_bytes}
 use Rattle.hd_delivery.specs.declared.vocabulary.Got.TheVariants as gives
-use Rattle.sr_replay.specs.Report.{got_words, line_at}
-use Rattle.sr_replay.proofs.Reporting.{on_line}
-use Rattle.sr_replay.proofs.report.push_skipped.Goals as goal
-use Rattle.sr_replay.proofs.report.push_skipped.Goals.{in-Duplicate+in_ok-line-in-Duplicate, in-Unknown+in_ok-line-in-Unknown, in-BeforeSequence+in_ok-line-in-BeforeSequence, in-NotUsed+in_ok-line-in-NotUsed}
+use Rattle.sr_lines.specs.Lines.{got_words, line_at}
+use Rattle.sr_lines.proofs.Reporting.{on_line}
+use Rattle.sr_lines.proofs.report.push_skipped.Goals as goal
+use Rattle.sr_lines.proofs.report.push_skipped.Goals.{in-Duplicate+in_ok-line-in-Duplicate, in-Unknown+in_ok-line-in-Unknown, in-BeforeSequence+in_ok-line-in-BeforeSequence, in-NotUsed+in_ok-line-in-NotUsed}
 
 pub returns : goal.returns
 returns c = on_line c.extend_from_slice.result c.args.report.now.items c.extend_from_slice.new.self.items c.as_bytes.result.now
