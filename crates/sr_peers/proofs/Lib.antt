@@ -1,0 +1,4 @@
+pub mod Joining
+pub mod Saying
+pub mod Hearing
+pub mod Keeping

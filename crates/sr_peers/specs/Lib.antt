@@ -1,0 +1,4 @@
+pub mod Doings
+pub mod Told
+pub mod Grows
+pub mod Laws
