@@ -116,7 +116,7 @@ module _ (unseen : FedIsUnseen) (taken : FramesAreTaken) (p : Pair) (w : List (E
       subst (λ y. Hears (Bytes y ∷ byte_steps t h)) is (fed x ((p.limits.frame + most_framing) - unread_count p.wire (config side p.terms) l x) r) in
       (more, fits_piece h piece r more)
   one h (Plain (Does s)) r next =
-      let is = taken (config side p.terms) (steps t h) s next.1 in
+      let is = taken (config side p.terms) (steps t h) s next.2 in
       (took (byte_steps t h) s is r, fits_frame h (is_shaken (steps t h)) s is)
   one h (Reads m) r next = (record { at = r.at; front = r.front }, tt)
   one h (Handles m e) r next = (closed (is_shut t h) (reason_of e) (byte_steps t h) r, tt)

@@ -74,7 +74,7 @@ frame_lends_none shaken s ds is n = absurd is
 module _ (taken : FramesAreTaken) (t : Settings) (now : ℕ) (bytes : List ℕ) where
   one_read : (h : List Move) (d : Move) (ds : List Move) → Reading t now bytes h (Some d) → LendNothing ds → LendNothing (d ∷ ds)
   one_read h (Plain (Bytes piece)) ds f n = n
-  one_read h (Plain (Does s)) ds f n = frame_lends_none (is_shaken (steps t h)) s ds (taken t.config (steps t h) s f.1) n
+  one_read h (Plain (Does s)) ds f n = frame_lends_none (is_shaken (steps t h)) s ds (taken t.config (steps t h) s f.2) n
   one_read h (Reads m) ds f n = n
   one_read h (Handles m e) ds f n = n
   one_read h d ds f n = absurd f

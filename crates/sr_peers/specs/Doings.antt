@@ -11,7 +11,7 @@ use Rattle.hd_runs.specs.Alone.{writing, feeding}
 use Rattle.hd_calls.specs.declared.vocabulary.CallKind.{CallKind}
 use Rattle.hd_calls.specs.Hubs.{Answer}
 use Rattle.hd_calls.specs.Peers.{Effect, Begins, Move, Plain, Calls, Uploads, Cancels, Reads, Handles, Loses, Rounds, Settings, drawn, live_call, waiting, byte_steps, steps, is_shut}
-use Rattle.hd_calls.specs.Rules.{CallRefusal, IsRefusedCall, IsRefusedUpload, IsRefusedCancel, MayTurn, next_job}
+use Rattle.hd_calls.specs.Rules.{IsPlain, asking, CallRefusal, IsRefusedCall, IsRefusedUpload, IsRefusedCancel, MayTurn, next_job}
 use Rattle.hi_calls.specs.Numbering.{number_after}
 use Rattle.hp_peer.specs.Calling.{heard_call}
 use Rattle.hp_peer.specs.Turning.{AreTurns}
@@ -66,7 +66,7 @@ abbrev pub Taking : Settings → ℕ → Next
 Taking t now h None = (waiting h ≡ None) × (processes t.config (steps t h) ≡ None)
 Taking t now h (Some (Handles m e)) = (waiting h ≡ Some m) × BeginsAt now e
 Taking t now h (Some (Reads m)) = (waiting h ≡ None) × (processes t.config (steps t h) ≡ Some (Took (gives.Message m)))
-Taking t now h (Some (Plain (Does s))) = (waiting h ≡ None) × (processes t.config (steps t h) ≡ Some s)
+Taking t now h (Some (Plain (Does s))) = IsPlain h (Does s) × (waiting h ≡ None) × (processes t.config (steps t h) ≡ Some s)
 Taking t now h (Some d) = ⊥
 
 -- what of these bytes of its link the end is fed next; a closed one is fed nothing
@@ -141,4 +141,5 @@ pub record IsRound (t : Settings) (h : List Move) (now : ℕ) (ds : List Move) :
   pub turns : List Move
   pub are_turns : AreTurns now turns
   pub is : ds ≡ turns ++ Rounds ∷ []
+  pub settled : asking (ds ++ h) ≡ None
   pub over : (MayTurn t (ds ++ h) → ⊥) ⊎ (next_job t (ds ++ h) ≡ None)

@@ -28,7 +28,7 @@ TellsEffect t h m Flood words = words ≡ codes "fault flood"
 TellsEffect t h m (Marks j) words = words ≡ cancelled_words (id_in (purpose_of m))
 TellsEffect t h m Nothing words = words ≡ unknown_words (id_in (purpose_of m))
 
--- the line of a move after others: most have none. A call that a job asks for has none
+-- the line of a move after others: most have none. A call that a job asks for has none, made or refused
 abbrev pub TellsMove : Settings → List Move → Move → List ℕ → Type 0
 TellsMove t h (Plain (Bytes piece)) text = text ≡ []
 TellsMove t h (Plain (Does s)) text = text ≡ step_text t.config.side (steps t h) s
