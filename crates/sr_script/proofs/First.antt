@@ -16,7 +16,7 @@ record Keeps (q p : Program) : Type 0 where
 -- after an action a line adds no option
 keeps_on : (line : List ℕ) (q m p : Program) → Keeps q m → Adds line m p → Keeps q p
 keeps_on line q m p k (inl (s, (line_is, is, new, none, now_is))) = absurd (k.some none)
-keeps_on line q m p k (inr (a, (asks, turn, now_is))) = record {
+keeps_on line q m p k (inr (a, (asks, turn, suits, now_is))) = record {
   settings = ap (λ x. x.settings) now_is ∙ k.settings;
   some = λ e. (let z : ◌≡◌ {A = List Action} (a ∷ m.actions) [] = sym (ap (λ x. x.actions) now_is) ∙ e in cc);
 }

@@ -21,11 +21,11 @@ use Rattle.sr_script.specs.declared.action.Setting.TheVariants as setting
 use Rattle.sr_script.specs.declared.action.Count.{Count}
 use Rattle.sr_script.specs.declared.action.Count.TheVariants.{UpTo, Everything}
 use Rattle.sr_script.specs.declared.action.Action.{Action}
-use Rattle.sr_script.specs.declared.action.Action.TheVariants.{Open, Accept, Lose, Write, Read, Close, Send, Tick}
+use Rattle.sr_script.specs.declared.action.Action.TheVariants.{Open, Accept, Lose, Write, Read, Close, Send, Tick, Call, Item, Done, Cancel, Round}
 use Rattle.sr_script.specs.declared.line.Asked.{Asked}
 use Rattle.sr_script.specs.declared.line.Asked.TheVariants as asked
-use Rattle.sr_script.specs.Script.{IsCount, IsShort, count_text, letter, Asks, IsPassedOver}
-use Rattle.sr_script.specs.Asking.{IsWord, buffer_words, IsOption, OfEnd, Wants, HasFit}
+use Rattle.sr_script.specs.Script.{IsCount, IsShort, count_text, letter, WantsCall, Asks, IsPassedOver}
+use Rattle.sr_script.specs.Asking.{IsWord, buffer_words, IsOption, OfLink, OfPeer, OfEnd, Wants, HasFit}
 
 -- the first bytes of a line
 abbrev first : List ℕ → ℕ
@@ -106,6 +106,7 @@ version_of line digits (setting.Version version) e is =
     (version, (refl, is.1, append_cancel_left (118 ∷ 101 ∷ 114 ∷ 115 ∷ 105 ∷ 111 ∷ 110 ∷ 32 ∷ []) digits (decimal version) (sym e ∙ is.0)))
 version_of line digits (setting.Reconnect true) e is = absurd (let h : 118 ≡ 114 = ap first (sym e ∙ is.0) in omega arith)
 version_of line digits (setting.Reconnect false) e is = absurd (let h : 118 ≡ 114 = ap first (sym e ∙ is.0) in omega arith)
+version_of line digits setting.Peers e is = absurd (let h : 118 ≡ 112 = ap first (sym e ∙ is.0) in omega arith)
 version_of line digits (setting.Buffer limits) e is = absurd (let h : 118 ≡ 98 = ap first (sym e ∙ is.0) in omega arith)
 
 pub buffer_of : (line words : List ℕ) (s : Setting) → line ≡ 98 ∷ 117 ∷ 102 ∷ 102 ∷ 101 ∷ 114 ∷ 32 ∷ words → IsOption line s
@@ -115,6 +116,7 @@ buffer_of line words (setting.Codec Pack) e is = absurd (let h : 98 ≡ 99 = ap 
 buffer_of line words (setting.Version version) e is = absurd (let h : 98 ≡ 118 = ap first (sym e ∙ is.0) in omega arith)
 buffer_of line words (setting.Reconnect true) e is = absurd (let h : 98 ≡ 114 = ap first (sym e ∙ is.0) in omega arith)
 buffer_of line words (setting.Reconnect false) e is = absurd (let h : 98 ≡ 114 = ap first (sym e ∙ is.0) in omega arith)
+buffer_of line words setting.Peers e is = absurd (let h : 98 ≡ 112 = ap first (sym e ∙ is.0) in omega arith)
 buffer_of line words (setting.Buffer limits) e is =
     (limits, (refl, is.1, append_cancel_left (98 ∷ 117 ∷ 102 ∷ 102 ∷ 101 ∷ 114 ∷ 32 ∷ []) words (buffer_words limits) (sym e ∙ is.0)))
 
@@ -186,34 +188,28 @@ the_buffer line words limits e is are = record {
 
 -- ---- actions of an end
 
-pub write_of : (side : Side) (words rest : List ℕ) (a : Action) → words ≡ 119 ∷ 114 ∷ 105 ∷ 116 ∷ 101 ∷ 32 ∷ rest → OfEnd side words a
+pub write_of : (side : Side) (words rest : List ℕ) (a : Action) → words ≡ 119 ∷ 114 ∷ 105 ∷ 116 ∷ 101 ∷ 32 ∷ rest → OfLink side words a
     → (count : Count) × ((a ≡ Write side count) × IsCount count × (rest ≡ count_text count))
-write_of side words rest Open e is = absurd is
-write_of side words rest (Accept link) e is = absurd is
 write_of side words rest (Lose s) e is = absurd (let h : 119 ≡ 108 = ap first (sym e ∙ is.1) in omega arith)
 write_of side words rest (Write s count) e is =
     (count, (ap (λ (x : Side). Write x count) is.0, is.1.0, append_cancel_left (119 ∷ 114 ∷ 105 ∷ 116 ∷ 101 ∷ 32 ∷ []) rest (count_text count) (sym e ∙ is.1.1)))
 write_of side words rest (Read s count) e is = absurd (let h : 119 ≡ 114 = ap first (sym e ∙ is.1.1) in omega arith)
 write_of side words rest (Close s) e is = absurd (let h : 119 ≡ 99 = ap first (sym e ∙ is.1) in omega arith)
 write_of side words rest (Send s m) e is = absurd (let h : 119 ≡ 115 = ap first (sym e ∙ is.1.1.0) in omega arith)
-write_of side words rest (Tick now) e is = absurd is
+write_of side words rest _ e is = absurd is
 
-pub read_of : (side : Side) (words rest : List ℕ) (a : Action) → words ≡ 114 ∷ 101 ∷ 97 ∷ 100 ∷ 32 ∷ rest → OfEnd side words a
+pub read_of : (side : Side) (words rest : List ℕ) (a : Action) → words ≡ 114 ∷ 101 ∷ 97 ∷ 100 ∷ 32 ∷ rest → OfLink side words a
     → (count : Count) × ((a ≡ Read side count) × IsCount count × (rest ≡ count_text count))
-read_of side words rest Open e is = absurd is
-read_of side words rest (Accept link) e is = absurd is
 read_of side words rest (Lose s) e is = absurd (let h : 114 ≡ 108 = ap first (sym e ∙ is.1) in omega arith)
 read_of side words rest (Write s count) e is = absurd (let h : 114 ≡ 119 = ap first (sym e ∙ is.1.1) in omega arith)
 read_of side words rest (Read s count) e is =
     (count, (ap (λ (x : Side). Read x count) is.0, is.1.0, append_cancel_left (114 ∷ 101 ∷ 97 ∷ 100 ∷ 32 ∷ []) rest (count_text count) (sym e ∙ is.1.1)))
 read_of side words rest (Close s) e is = absurd (let h : 114 ≡ 99 = ap first (sym e ∙ is.1) in omega arith)
 read_of side words rest (Send s m) e is = absurd (let h : 114 ≡ 115 = ap first (sym e ∙ is.1.1.0) in omega arith)
-read_of side words rest (Tick now) e is = absurd is
+read_of side words rest _ e is = absurd is
 
-pub send_of : (side : Side) (words rest : List ℕ) (a : Action) → words ≡ 115 ∷ 101 ∷ 110 ∷ 100 ∷ 32 ∷ rest → OfEnd side words a
+pub send_of : (side : Side) (words rest : List ℕ) (a : Action) → words ≡ 115 ∷ 101 ∷ 110 ∷ 100 ∷ 32 ∷ rest → OfLink side words a
     → (m : Message) × ((a ≡ Send side m) × Says rest m × (is_sequenced m ≡ true))
-send_of side words rest Open e is = absurd is
-send_of side words rest (Accept link) e is = absurd is
 send_of side words rest (Lose s) e is = absurd (let h : 115 ≡ 108 = ap first (sym e ∙ is.1) in omega arith)
 send_of side words rest (Write s count) e is = absurd (let h : 115 ≡ 119 = ap first (sym e ∙ is.1.1) in omega arith)
 send_of side words rest (Read s count) e is = absurd (let h : 115 ≡ 114 = ap first (sym e ∙ is.1.1) in omega arith)
@@ -221,10 +217,10 @@ send_of side words rest (Close s) e is = absurd (let h : 115 ≡ 99 = ap first (
 send_of side words rest (Send s m) e is =
     let same : rest ≡ is.1.0 = append_cancel_left (115 ∷ 101 ∷ 110 ∷ 100 ∷ 32 ∷ []) rest is.1.0 (sym e ∙ is.1.1.0) in
     (m, (ap (λ (x : Side). Send x m) is.0, subst (λ (frame : List ℕ). Says frame m) (sym same) is.1.1.1, is.1.1.2))
-send_of side words rest (Tick now) e is = absurd is
+send_of side words rest _ e is = absurd is
 
 pub the_write : (side : Side) (words rest : List ℕ) (count : Count) → words ≡ 119 ∷ 114 ∷ 105 ∷ 116 ∷ 101 ∷ 32 ∷ rest → rest ≡ count_text count → IsCount count
-    → IsTheOne (OfEnd side words) (Write side count)
+    → IsTheOne (OfLink side words) (Write side count)
 the_write side words rest count e is short = record {
   holds = (refl, (short, e ∙ ap (λ (xs : List ℕ). 119 ∷ 114 ∷ 105 ∷ 116 ∷ 101 ∷ 32 ∷ xs) is));
   only = λ other asks. (let w = write_of side words rest other e asks in
@@ -232,7 +228,7 @@ the_write side words rest count e is short = record {
 }
 
 pub the_read : (side : Side) (words rest : List ℕ) (count : Count) → words ≡ 114 ∷ 101 ∷ 97 ∷ 100 ∷ 32 ∷ rest → rest ≡ count_text count → IsCount count
-    → IsTheOne (OfEnd side words) (Read side count)
+    → IsTheOne (OfLink side words) (Read side count)
 the_read side words rest count e is short = record {
   holds = (refl, (short, e ∙ ap (λ (xs : List ℕ). 114 ∷ 101 ∷ 97 ∷ 100 ∷ 32 ∷ xs) is));
   only = λ other asks. (let r = read_of side words rest other e asks in
@@ -240,7 +236,7 @@ the_read side words rest count e is short = record {
 }
 
 pub the_send : (side : Side) (words rest : List ℕ) (m : Message) → words ≡ 115 ∷ 101 ∷ 110 ∷ 100 ∷ 32 ∷ rest → IsTheOne (Says rest) m → is_sequenced m ≡ true
-    → IsTheOne (OfEnd side words) (Send side m)
+    → IsTheOne (OfLink side words) (Send side m)
 the_send side words rest m e says sequenced = record {
   holds = (refl, (rest, (e, says.holds, sequenced)));
   only = λ other asks. (let s = send_of side words rest other e asks in s.1.0 ∙ ap (λ (n : Message). Send side n) (says.only s.0 s.1.1));
@@ -263,29 +259,57 @@ letter_second Server xs = refl
 pub end_of : (side : Side) (line words : List ℕ) (a : Action) → line ≡ letter side ++ 32 ∷ words → Asks line a → OfEnd side words a
 end_of side line words Open e is = absurd (let h : 32 ≡ 112 = sym (letter_second side words) ∙ ap second (sym e ∙ is) in omega arith)
 end_of side line words (Accept link) e is = absurd (let h : 32 ≡ 99 = sym (letter_second side words) ∙ ap second (sym e ∙ is.1) in omega arith)
-end_of side line words (Lose s) e is = letter_apart side s words (108 ∷ 111 ∷ 115 ∷ 101 ∷ []) (sym e ∙ is)
+end_of side line words (Lose s) e is = inl (letter_apart side s words (108 ∷ 111 ∷ 115 ∷ 101 ∷ []) (sym e ∙ is))
 end_of side line words (Write s count) e is =
     let parts = letter_apart side s words (119 ∷ 114 ∷ 105 ∷ 116 ∷ 101 ∷ 32 ∷ count_text count) (sym e ∙ is.1) in
-    (parts.0, (is.0, parts.1))
+    inl (parts.0, (is.0, parts.1))
 end_of side line words (Read s count) e is =
     let parts = letter_apart side s words (114 ∷ 101 ∷ 97 ∷ 100 ∷ 32 ∷ count_text count) (sym e ∙ is.1) in
-    (parts.0, (is.0, parts.1))
-end_of side line words (Close s) e is = letter_apart side s words (99 ∷ 108 ∷ 111 ∷ 115 ∷ 101 ∷ []) (sym e ∙ is)
+    inl (parts.0, (is.0, parts.1))
+end_of side line words (Close s) e is = inl (letter_apart side s words (99 ∷ 108 ∷ 111 ∷ 115 ∷ 101 ∷ []) (sym e ∙ is))
 end_of side line words (Send s m) e is =
     let parts = letter_apart side s words (115 ∷ 101 ∷ 110 ∷ 100 ∷ 32 ∷ is.0) (sym e ∙ is.1.0) in
-    (parts.0, (is.0, (parts.1, is.1.1, is.1.2)))
+    inl (parts.0, (is.0, (parts.1, is.1.1, is.1.2)))
 end_of side line words (Tick now) e is = absurd (let h : 32 ≡ 105 = sym (letter_second side words) ∙ ap second (sym e ∙ is.1) in omega arith)
+end_of side line words (Call s a) e is =
+    let parts = letter_apart side s words is.0 (sym e ∙ is.1.0) in
+    inr (parts.0, subst (λ (xs : List ℕ). WantsCall xs a) (sym parts.1) is.1.1)
+end_of side line words (Item s call value) e is =
+    let parts = letter_apart side s words (105 ∷ 116 ∷ 101 ∷ 109 ∷ 32 ∷ is.0) (sym e ∙ is.1.0) in
+    inr (parts.0, (is.0, (parts.1, is.1.1)))
+end_of side line words (Done s call) e is =
+    let parts = letter_apart side s words (100 ∷ 111 ∷ 110 ∷ 101 ∷ 32 ∷ decimal call) (sym e ∙ is.1) in
+    inr (parts.0, (is.0, parts.1))
+end_of side line words (Cancel s call) e is =
+    let parts = letter_apart side s words (99 ∷ 97 ∷ 110 ∷ 99 ∷ 101 ∷ 108 ∷ 32 ∷ decimal call) (sym e ∙ is.1) in
+    inr (parts.0, (is.0, parts.1))
+end_of side line words (Round s) e is = inr (letter_apart side s words (114 ∷ 111 ∷ 117 ∷ 110 ∷ 100 ∷ []) (sym e ∙ is))
+
+-- the line of this end, which is the action's
+same_letter : (side s : Side) (line words rest : List ℕ) → line ≡ letter side ++ 32 ∷ words → s ≡ side → words ≡ rest → line ≡ letter s ++ 32 ∷ rest
+same_letter side s line words rest e same is = e ∙ ap (λ (x : Side). letter x ++ 32 ∷ words) (sym same) ∙ ap (λ (xs : List ℕ). letter s ++ 32 ∷ xs) is
+
+of_link : (side : Side) (line words : List ℕ) (a : Action) → line ≡ letter side ++ 32 ∷ words → OfLink side words a → Asks line a
+of_link side line words (Lose s) e is = same_letter side s line words (108 ∷ 111 ∷ 115 ∷ 101 ∷ []) e is.0 is.1
+of_link side line words (Write s count) e is = (is.1.0, same_letter side s line words (119 ∷ 114 ∷ 105 ∷ 116 ∷ 101 ∷ 32 ∷ count_text count) e is.0 is.1.1)
+of_link side line words (Read s count) e is = (is.1.0, same_letter side s line words (114 ∷ 101 ∷ 97 ∷ 100 ∷ 32 ∷ count_text count) e is.0 is.1.1)
+of_link side line words (Close s) e is = same_letter side s line words (99 ∷ 108 ∷ 111 ∷ 115 ∷ 101 ∷ []) e is.0 is.1
+of_link side line words (Send s m) e is =
+    (is.1.0, (same_letter side s line words (115 ∷ 101 ∷ 110 ∷ 100 ∷ 32 ∷ is.1.0) e is.0 is.1.1.0, is.1.1.1, is.1.1.2))
+of_link side line words _ e is = absurd is
+
+of_peer : (side : Side) (line words : List ℕ) (a : Action) → line ≡ letter side ++ 32 ∷ words → OfPeer side words a → Asks line a
+of_peer side line words (Call s a) e is = (words, (same_letter side s line words words e is.0 refl, is.1))
+of_peer side line words (Item s call value) e is =
+    (is.1.0, (same_letter side s line words (105 ∷ 116 ∷ 101 ∷ 109 ∷ 32 ∷ is.1.0) e is.0 is.1.1.0, is.1.1.1))
+of_peer side line words (Done s call) e is = (is.1.0, same_letter side s line words (100 ∷ 111 ∷ 110 ∷ 101 ∷ 32 ∷ decimal call) e is.0 is.1.1)
+of_peer side line words (Cancel s call) e is = (is.1.0, same_letter side s line words (99 ∷ 97 ∷ 110 ∷ 99 ∷ 101 ∷ 108 ∷ 32 ∷ decimal call) e is.0 is.1.1)
+of_peer side line words (Round s) e is = same_letter side s line words (114 ∷ 111 ∷ 117 ∷ 110 ∷ 100 ∷ []) e is.0 is.1
+of_peer side line words _ e is = absurd is
 
 pub asks_of : (side : Side) (line words : List ℕ) (a : Action) → line ≡ letter side ++ 32 ∷ words → OfEnd side words a → Asks line a
-asks_of side line words Open e is = absurd is
-asks_of side line words (Accept link) e is = absurd is
-asks_of side line words (Lose s) e is = e ∙ ap (λ (x : Side). letter x ++ 32 ∷ words) (sym is.0) ∙ ap (λ (xs : List ℕ). letter s ++ 32 ∷ xs) is.1
-asks_of side line words (Write s count) e is = (is.1.0, e ∙ ap (λ (x : Side). letter x ++ 32 ∷ words) (sym is.0) ∙ ap (λ (xs : List ℕ). letter s ++ 32 ∷ xs) is.1.1)
-asks_of side line words (Read s count) e is = (is.1.0, e ∙ ap (λ (x : Side). letter x ++ 32 ∷ words) (sym is.0) ∙ ap (λ (xs : List ℕ). letter s ++ 32 ∷ xs) is.1.1)
-asks_of side line words (Close s) e is = e ∙ ap (λ (x : Side). letter x ++ 32 ∷ words) (sym is.0) ∙ ap (λ (xs : List ℕ). letter s ++ 32 ∷ xs) is.1
-asks_of side line words (Send s m) e is =
-    (is.1.0, (e ∙ ap (λ (x : Side). letter x ++ 32 ∷ words) (sym is.0) ∙ ap (λ (xs : List ℕ). letter s ++ 32 ∷ xs) is.1.1.0, is.1.1.1, is.1.1.2))
-asks_of side line words (Tick now) e is = absurd is
+asks_of side line words a e (inl is) = of_link side line words a e is
+asks_of side line words a e (inr is) = of_peer side line words a e is
 
 -- what the words ask for, the line does
 pub end_found : {E : Type 0} (side : Side) (line words : List ℕ) (r : Result (Option Action) E) → line ≡ letter side ++ 32 ∷ words
@@ -332,6 +356,11 @@ kinds line (Read s count) is = inr (s, record { words = 114 ∷ 101 ∷ 97 ∷ 1
 kinds line (Close s) is = inr (s, record { words = 99 ∷ 108 ∷ 111 ∷ 115 ∷ 101 ∷ []; line_is = is })
 kinds line (Send s m) is = inr (s, record { words = 115 ∷ 101 ∷ 110 ∷ 100 ∷ 32 ∷ is.0; line_is = is.1.0 })
 kinds line (Tick now) is = inl is
+kinds line (Call s a) is = inr (s, record { words = is.0; line_is = is.1.0 })
+kinds line (Item s call value) is = inr (s, record { words = 105 ∷ 116 ∷ 101 ∷ 109 ∷ 32 ∷ is.0; line_is = is.1.0 })
+kinds line (Done s call) is = inr (s, record { words = 100 ∷ 111 ∷ 110 ∷ 101 ∷ 32 ∷ decimal call; line_is = is.1 })
+kinds line (Cancel s call) is = inr (s, record { words = 99 ∷ 97 ∷ 110 ∷ 99 ∷ 101 ∷ 108 ∷ 32 ∷ decimal call; line_is = is.1 })
+kinds line (Round s) is = inr (s, record { words = 114 ∷ 111 ∷ 117 ∷ 110 ∷ 100 ∷ []; line_is = is })
 
 -- the line begins with no letter of an end
 of_no_end : (x : ℕ) (line : List ℕ) (a : Action) → first line ≡ x → x ≢ 99 → x ≢ 115 → Asks line a → OfNoEnd line a
@@ -347,12 +376,8 @@ accept_of line digits a e is = by_action a (of_no_end 97 line a (ap first e) (λ
   by_action Open is = absurd (let h : 97 ≡ 111 = ap first (sym e ∙ is) in omega arith)
   by_action (Accept link) is =
       (link, (refl, is.0, append_cancel_left (97 ∷ 99 ∷ 99 ∷ 101 ∷ 112 ∷ 116 ∷ 32 ∷ []) digits (decimal link) (sym e ∙ is.1)))
-  by_action (Lose s) is = absurd is
-  by_action (Write s count) is = absurd is
-  by_action (Read s count) is = absurd is
-  by_action (Close s) is = absurd is
-  by_action (Send s m) is = absurd is
   by_action (Tick now) is = absurd (let h : 97 ≡ 116 = ap first (sym e ∙ is.1) in omega arith)
+  by_action _ is = absurd is
 
 pub tick_of : (line digits : List ℕ) (a : Action) → line ≡ 116 ∷ 105 ∷ 99 ∷ 107 ∷ 32 ∷ digits → Asks line a
     → (now : ℕ) × ((a ≡ Tick now) × (now < 2 ^ 64) × (digits ≡ decimal now))
@@ -360,13 +385,9 @@ tick_of line digits a e is = by_action a (of_no_end 116 line a (ap first e) (λ 
   by_action : (a : Action) → OfNoEnd line a → (now : ℕ) × ((a ≡ Tick now) × (now < 2 ^ 64) × (digits ≡ decimal now))
   by_action Open is = absurd (let h : 116 ≡ 111 = ap first (sym e ∙ is) in omega arith)
   by_action (Accept link) is = absurd (let h : 116 ≡ 97 = ap first (sym e ∙ is.1) in omega arith)
-  by_action (Lose s) is = absurd is
-  by_action (Write s count) is = absurd is
-  by_action (Read s count) is = absurd is
-  by_action (Close s) is = absurd is
-  by_action (Send s m) is = absurd is
   by_action (Tick now) is =
       (now, (refl, is.0, append_cancel_left (116 ∷ 105 ∷ 99 ∷ 107 ∷ 32 ∷ []) digits (decimal now) (sym e ∙ is.1)))
+  by_action _ is = absurd is
 
 pub the_accept : (line digits : List ℕ) (link : ℕ) → line ≡ 97 ∷ 99 ∷ 99 ∷ 101 ∷ 112 ∷ 116 ∷ 32 ∷ digits → digits ≡ decimal link → link < 2 ^ 64
     → IsTheOne (Asks line) (Accept link)
@@ -392,6 +413,7 @@ option_letter line (setting.Codec Pack) is = (let h : first line ≡ 99 = ap fir
 option_letter line (setting.Version version) is = (let h : first line ≡ 118 = ap first is.0 in omega arith)
 option_letter line (setting.Reconnect true) is = (let h : first line ≡ 114 = ap first is.0 in omega arith)
 option_letter line (setting.Reconnect false) is = (let h : first line ≡ 114 = ap first is.0 in omega arith)
+option_letter line setting.Peers is = (let h : first line ≡ 112 = ap first is.0 in omega arith)
 option_letter line (setting.Buffer limits) is = (let h : first line ≡ 98 = ap first is.0 in omega arith)
 
 end_letter : (side : Side) (line xs : List ℕ) → line ≡ letter side ++ 32 ∷ xs → 97 ≤ first line
@@ -404,11 +426,7 @@ action_letter line a is = by_kind (kinds line a is) where
   by_action Open is = (let h : first line ≡ 111 = ap first is in omega arith)
   by_action (Accept link) is = (let h : first line ≡ 97 = ap first is.1 in omega arith)
   by_action (Tick now) is = (let h : first line ≡ 116 = ap first is.1 in omega arith)
-  by_action (Lose s) is = absurd is
-  by_action (Write s count) is = absurd is
-  by_action (Read s count) is = absurd is
-  by_action (Close s) is = absurd is
-  by_action (Send s m) is = absurd is
+  by_action _ is = absurd is
 
   by_kind : OfNoEnd line a ⊎ ((side : Side) × BeginsWith side line) → 97 ≤ first line
   by_kind (inl none) = by_action a none

@@ -1,5 +1,6 @@
 pub mod Texts
 pub mod Grammar
+pub mod Calls
 pub mod Scripts
 pub mod Parsing
 pub mod Turning

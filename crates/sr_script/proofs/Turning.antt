@@ -9,10 +9,11 @@ use Rattle.hd_delivery.specs.Worlds.{Limits}
 use Rattle.sr_script.specs.declared.action.Setting.{Setting}
 use Rattle.sr_script.specs.declared.action.Setting.TheVariants as setting
 use Rattle.sr_script.specs.declared.action.Action.{Action}
-use Rattle.sr_script.specs.declared.action.Action.TheVariants.{Open, Accept, Lose, Write, Read, Close, Send, Tick}
+use Rattle.sr_script.specs.declared.action.Action.TheVariants.{Open, Accept, Lose, Write, Read, Close, Send, Tick, Call, Item, Done, Cancel, Round}
 use Rattle.sr_script.specs.declared.line.Asked.TheVariants as asked
 use Rattle.sr_script.specs.declared.turn.Turn.{Turn}
-use Rattle.sr_script.specs.Script.{Program, Name, TheCodec, TheVersion, TheReconnect, TheBuffer, name_of, IsNew, opened, moment_after}
+use Rattle.sr_script.specs.Script.{Program, Name, TheCodec, TheVersion, TheReconnect, TheBuffer, ThePeers, name_of, IsNew, Suits, opened, moment_after}
+use Rattle.sr_script.specs.Terms.{peers_in}
 use Rattle.sr_script.specs.Asking.{and_then}
 use Rattle.sr_script.specs.Turns.{comes, TellsAccepted, Knows, Admits, IsPlain}
 
@@ -67,80 +68,89 @@ tells_accepted accepted actions at inside tells = λ link. by_link link (cases_e
 
 -- ---- actions
 
--- the options may come as before
-same_names : (turn now : Turn) → now.codec ≡ turn.codec → now.version ≡ turn.version → now.reconnect ≡ turn.reconnect → now.buffer ≡ turn.buffer
-    → (name : Name) → comes now name ≡ comes turn name
-same_names turn now codec version reconnect buffer TheCodec = codec
-same_names turn now codec version reconnect buffer TheVersion = version
-same_names turn now codec version reconnect buffer TheReconnect = reconnect
-same_names turn now codec version reconnect buffer TheBuffer = buffer
+-- what is known of the options is as before
+pub record AsBefore (turn now : Turn) : Type 0 where
+  pub codec : now.codec ≡ turn.codec
+  pub version : now.version ≡ turn.version
+  pub reconnect : now.reconnect ≡ turn.reconnect
+  pub buffer : now.buffer ≡ turn.buffer
+  pub peers : now.peers ≡ turn.peers
+  pub between : now.between_peers ≡ turn.between_peers
 
-acted_by : (turn now : Turn) (p : Program) (a : Action) → Knows turn p → ((name : Name) → comes now name ≡ comes turn name) → now.options ≡ false
+same_names : (turn now : Turn) → AsBefore turn now → (name : Name) → comes now name ≡ comes turn name
+same_names turn now same TheCodec = same.codec
+same_names turn now same TheVersion = same.version
+same_names turn now same TheReconnect = same.reconnect
+same_names turn now same TheBuffer = same.buffer
+same_names turn now same ThePeers = same.peers
+
+acted_by : (turn now : Turn) (p : Program) (a : Action) → Knows turn p → AsBefore turn now → now.options ≡ false
     → length now.accepted.items ≡ opened (a ∷ p.actions) → TellsAccepted now.accepted.items (a ∷ p.actions) → now.now ≡ moment_after (a ∷ p.actions)
     → Knows now (and_then p (asked.Action a))
 acted_by turn now p a knows same options links accepted moment = record {
   options = (λ yes. cc, λ none. cc);
-  new = λ name. (λ yes. (knows.new name).0 (sym (same name) ∙ yes), λ is. same name ∙ (knows.new name).1 is);
+  new = λ name. (λ yes. (knows.new name).0 (sym (same_names turn now same name) ∙ yes), λ is. same_names turn now same name ∙ (knows.new name).1 is);
   links = links;
   accepted = accepted;
   moment = moment;
+  between = same.between ∙ knows.between;
 }
 
 -- an action that opens no link, accepts none and brings no moment
 passing : (turn now : Turn) (p : Program) (a : Action) → ((link : ℕ) → a ≢ Accept link) → opened (a ∷ p.actions) ≡ opened p.actions
-    → moment_after (a ∷ p.actions) ≡ moment_after p.actions → Knows turn p → ((name : Name) → comes now name ≡ comes turn name)
+    → moment_after (a ∷ p.actions) ≡ moment_after p.actions → Knows turn p → AsBefore turn now
     → now.options ≡ false → now.accepted.items ≡ turn.accepted.items → now.now ≡ turn.now → Knows now (and_then p (asked.Action a))
 passing turn now p a other links moments knows same options accepted moment = acted_by turn now p a knows same options
     (ap length accepted ∙ knows.links ∙ sym links)
     (subst (λ (xs : List Bool). TellsAccepted xs (a ∷ p.actions)) (sym accepted) (tells_past turn.accepted.items p.actions a other knows.accepted))
     (moment ∙ knows.moment ∙ sym moments)
 
-pub plain_comes : (turn now : Turn) (p : Program) (a : Action) → IsPlain a → Knows turn p → now.codec ≡ turn.codec → now.version ≡ turn.version
-    → now.reconnect ≡ turn.reconnect → now.buffer ≡ turn.buffer
+pub plain_comes : (turn now : Turn) (p : Program) (a : Action) → IsPlain a → Suits turn.between_peers a → Knows turn p → AsBefore turn now
     → now.options ≡ false → now.accepted.items ≡ turn.accepted.items → now.now ≡ turn.now → Admits true now p (asked.Action a)
-plain_comes turn now p Open plain knows codec version reconnect buffer options accepted moment = absurd plain
-plain_comes turn now p (Accept link) plain knows codec version reconnect buffer options accepted moment = absurd plain
-plain_comes turn now p (Tick at) plain knows codec version reconnect buffer options accepted moment = absurd plain
-plain_comes turn now p (Lose side) plain knows codec version reconnect buffer options accepted moment =
-    (tt, passing turn now p (Lose side) (λ link e. cc) refl refl knows (same_names turn now codec version reconnect buffer) options accepted moment)
-plain_comes turn now p (Write side count) plain knows codec version reconnect buffer options accepted moment =
-    (tt, passing turn now p (Write side count) (λ link e. cc) refl refl knows (same_names turn now codec version reconnect buffer) options accepted moment)
-plain_comes turn now p (Read side count) plain knows codec version reconnect buffer options accepted moment =
-    (tt, passing turn now p (Read side count) (λ link e. cc) refl refl knows (same_names turn now codec version reconnect buffer) options accepted moment)
-plain_comes turn now p (Close side) plain knows codec version reconnect buffer options accepted moment =
-    (tt, passing turn now p (Close side) (λ link e. cc) refl refl knows (same_names turn now codec version reconnect buffer) options accepted moment)
-plain_comes turn now p (Send side m) plain knows codec version reconnect buffer options accepted moment =
-    (tt, passing turn now p (Send side m) (λ link e. cc) refl refl knows (same_names turn now codec version reconnect buffer) options accepted moment)
+plain_comes turn now p a plain suits knows same options accepted moment = suited a plain (subst (λ (b : Bool). Suits b a) knows.between suits) where
+  suited : (a : Action) → IsPlain a → Suits (peers_in p.settings) a → Admits true now p (asked.Action a)
+  suited (Lose side) plain suits = ((tt, suits), passing turn now p (Lose side) (λ link e. cc) refl refl knows same options accepted moment)
+  suited (Write side count) plain suits = ((tt, suits), passing turn now p (Write side count) (λ link e. cc) refl refl knows same options accepted moment)
+  suited (Read side count) plain suits = ((tt, suits), passing turn now p (Read side count) (λ link e. cc) refl refl knows same options accepted moment)
+  suited (Close side) plain suits = ((tt, suits), passing turn now p (Close side) (λ link e. cc) refl refl knows same options accepted moment)
+  suited (Send side m) plain suits = ((tt, suits), passing turn now p (Send side m) (λ link e. cc) refl refl knows same options accepted moment)
+  suited (Call side asking) plain suits = ((tt, suits), passing turn now p (Call side asking) (λ link e. cc) refl refl knows same options accepted moment)
+  suited (Item side call value) plain suits = ((tt, suits), passing turn now p (Item side call value) (λ link e. cc) refl refl knows same options accepted moment)
+  suited (Done side call) plain suits = ((tt, suits), passing turn now p (Done side call) (λ link e. cc) refl refl knows same options accepted moment)
+  suited (Cancel side call) plain suits = ((tt, suits), passing turn now p (Cancel side call) (λ link e. cc) refl refl knows same options accepted moment)
+  suited (Round side) plain suits = ((tt, suits), passing turn now p (Round side) (λ link e. cc) refl refl knows same options accepted moment)
+  suited Open plain suits = absurd plain
+  suited (Accept link) plain suits = absurd plain
+  suited (Tick at) plain suits = absurd plain
 
-pub open_comes : (turn now : Turn) (p : Program) → opened p.actions < 1024 → Knows turn p → now.codec ≡ turn.codec → now.version ≡ turn.version
-    → now.reconnect ≡ turn.reconnect → now.buffer ≡ turn.buffer
-    → now.options ≡ false → now.accepted.items ≡ turn.accepted.items ++ false ∷ [] → now.now ≡ turn.now → Admits true now p (asked.Action Open)
-open_comes turn now p few knows codec version reconnect buffer options accepted moment = (
-  few,
-  acted_by turn now p Open knows (same_names turn now codec version reconnect buffer) options
+-- an action that doesn't suit the options
+pub plain_cant : (turn : Turn) (p : Program) (a : Action) → (Suits turn.between_peers a → ⊥) → Knows turn p → Admits false turn p (asked.Action a)
+plain_cant turn p a unsuited knows = (λ may. unsuited (subst (λ (b : Bool). Suits b a) (sym knows.between) may.1), knows)
+
+pub open_comes : (turn now : Turn) (p : Program) → opened p.actions < 1024 → Knows turn p → AsBefore turn now → now.options ≡ false → now.accepted.items ≡ turn.accepted.items ++ false ∷ [] → now.now ≡ turn.now → Admits true now p (asked.Action Open)
+open_comes turn now p few knows same options accepted moment = (
+  (few, tt),
+  acted_by turn now p Open knows same options
       (omega (arith, ap length accepted, length-append turn.accepted.items (false ∷ []), knows.links))
       (subst (λ (xs : List Bool). TellsAccepted xs (Open ∷ p.actions)) (sym accepted) (tells_opened turn.accepted.items p.actions knows.accepted))
       (moment ∙ knows.moment),
 )
 
 pub accept_comes : (turn now : Turn) (p : Program) (at : ℕ) → at < length turn.accepted.items → get_or turn.accepted.items at false ≡ false → Knows turn p
-    → now.codec ≡ turn.codec → now.version ≡ turn.version
-    → now.reconnect ≡ turn.reconnect → now.buffer ≡ turn.buffer → now.options ≡ false → now.accepted.items ≡ set turn.accepted.items at true → now.now ≡ turn.now
+    → AsBefore turn now → now.options ≡ false → now.accepted.items ≡ set turn.accepted.items at true → now.now ≡ turn.now
     → Admits true now p (asked.Action (Accept at))
-accept_comes turn now p at inside free knows codec version reconnect buffer options accepted moment = (
-  (omega (arith, knows.links), λ has. (let yes : get_or turn.accepted.items at false ≡ true = (knows.accepted at).1 has in cc)),
-  acted_by turn now p (Accept at) knows (same_names turn now codec version reconnect buffer) options
+accept_comes turn now p at inside free knows same options accepted moment = (
+  ((omega (arith, knows.links), λ has. (let yes : get_or turn.accepted.items at false ≡ true = (knows.accepted at).1 has in cc)), tt),
+  acted_by turn now p (Accept at) knows same options
       (ap length accepted ∙ length-set turn.accepted.items at true ∙ knows.links)
       (subst (λ (xs : List Bool). TellsAccepted xs (Accept at ∷ p.actions)) (sym accepted) (tells_accepted turn.accepted.items p.actions at inside knows.accepted))
       (moment ∙ knows.moment),
 )
 
-pub tick_comes : (turn now : Turn) (p : Program) (moment : ℕ) → turn.now ≤ moment → Knows turn p → now.codec ≡ turn.codec → now.version ≡ turn.version
-    → now.reconnect ≡ turn.reconnect → now.buffer ≡ turn.buffer
-    → now.options ≡ false → now.accepted.items ≡ turn.accepted.items → now.now ≡ moment → Admits true now p (asked.Action (Tick moment))
-tick_comes turn now p moment later knows codec version reconnect buffer options accepted moves = (
-  omega (arith, knows.moment),
-  acted_by turn now p (Tick moment) knows (same_names turn now codec version reconnect buffer) options
+pub tick_comes : (turn now : Turn) (p : Program) (moment : ℕ) → turn.now ≤ moment → Knows turn p → AsBefore turn now → now.options ≡ false → now.accepted.items ≡ turn.accepted.items → now.now ≡ moment → Admits true now p (asked.Action (Tick moment))
+tick_comes turn now p moment later knows same options accepted moves = (
+  (omega (arith, knows.moment), tt),
+  acted_by turn now p (Tick moment) knows same options
       (ap length accepted ∙ knows.links)
       (subst (λ (xs : List Bool). TellsAccepted xs (Tick moment ∷ p.actions)) (sym accepted) (tells_past turn.accepted.items p.actions (Tick moment) (λ link e. cc) knows.accepted))
       moves,
@@ -152,35 +162,46 @@ tick_comes turn now p moment later knows codec version reconnect buffer options 
 abbrev Alone : Turn → Turn → Name → Type 0
 Alone turn now this = (name : Name) → (name ≡ this) ⊎ ((name ≢ this) × (comes now name ≡ comes turn name))
 
-codec_alone : (turn now : Turn) → now.version ≡ turn.version → now.reconnect ≡ turn.reconnect → now.buffer ≡ turn.buffer → Alone turn now TheCodec
-codec_alone turn now version reconnect buffer TheCodec = inl refl
-codec_alone turn now version reconnect buffer TheVersion = inr (λ e. cc, version)
-codec_alone turn now version reconnect buffer TheReconnect = inr (λ e. cc, reconnect)
-codec_alone turn now version reconnect buffer TheBuffer = inr (λ e. cc, buffer)
+codec_alone : (turn now : Turn) → now.version ≡ turn.version → now.reconnect ≡ turn.reconnect → now.buffer ≡ turn.buffer → now.peers ≡ turn.peers → Alone turn now TheCodec
+codec_alone turn now version reconnect buffer peers TheCodec = inl refl
+codec_alone turn now version reconnect buffer peers TheVersion = inr (λ e. cc, version)
+codec_alone turn now version reconnect buffer peers TheReconnect = inr (λ e. cc, reconnect)
+codec_alone turn now version reconnect buffer peers TheBuffer = inr (λ e. cc, buffer)
+codec_alone turn now version reconnect buffer peers ThePeers = inr (λ e. cc, peers)
 
-version_alone : (turn now : Turn) → now.codec ≡ turn.codec → now.reconnect ≡ turn.reconnect → now.buffer ≡ turn.buffer → Alone turn now TheVersion
-version_alone turn now codec reconnect buffer TheCodec = inr (λ e. cc, codec)
-version_alone turn now codec reconnect buffer TheVersion = inl refl
-version_alone turn now codec reconnect buffer TheReconnect = inr (λ e. cc, reconnect)
-version_alone turn now codec reconnect buffer TheBuffer = inr (λ e. cc, buffer)
+version_alone : (turn now : Turn) → now.codec ≡ turn.codec → now.reconnect ≡ turn.reconnect → now.buffer ≡ turn.buffer → now.peers ≡ turn.peers → Alone turn now TheVersion
+version_alone turn now codec reconnect buffer peers TheCodec = inr (λ e. cc, codec)
+version_alone turn now codec reconnect buffer peers TheVersion = inl refl
+version_alone turn now codec reconnect buffer peers TheReconnect = inr (λ e. cc, reconnect)
+version_alone turn now codec reconnect buffer peers TheBuffer = inr (λ e. cc, buffer)
+version_alone turn now codec reconnect buffer peers ThePeers = inr (λ e. cc, peers)
 
-reconnect_alone : (turn now : Turn) → now.codec ≡ turn.codec → now.version ≡ turn.version → now.buffer ≡ turn.buffer → Alone turn now TheReconnect
-reconnect_alone turn now codec version buffer TheCodec = inr (λ e. cc, codec)
-reconnect_alone turn now codec version buffer TheVersion = inr (λ e. cc, version)
-reconnect_alone turn now codec version buffer TheReconnect = inl refl
-reconnect_alone turn now codec version buffer TheBuffer = inr (λ e. cc, buffer)
+reconnect_alone : (turn now : Turn) → now.codec ≡ turn.codec → now.version ≡ turn.version → now.buffer ≡ turn.buffer → now.peers ≡ turn.peers → Alone turn now TheReconnect
+reconnect_alone turn now codec version buffer peers TheCodec = inr (λ e. cc, codec)
+reconnect_alone turn now codec version buffer peers TheVersion = inr (λ e. cc, version)
+reconnect_alone turn now codec version buffer peers TheReconnect = inl refl
+reconnect_alone turn now codec version buffer peers TheBuffer = inr (λ e. cc, buffer)
+reconnect_alone turn now codec version buffer peers ThePeers = inr (λ e. cc, peers)
 
-buffer_alone : (turn now : Turn) → now.codec ≡ turn.codec → now.version ≡ turn.version → now.reconnect ≡ turn.reconnect → Alone turn now TheBuffer
-buffer_alone turn now codec version reconnect TheCodec = inr (λ e. cc, codec)
-buffer_alone turn now codec version reconnect TheVersion = inr (λ e. cc, version)
-buffer_alone turn now codec version reconnect TheReconnect = inr (λ e. cc, reconnect)
-buffer_alone turn now codec version reconnect TheBuffer = inl refl
+buffer_alone : (turn now : Turn) → now.codec ≡ turn.codec → now.version ≡ turn.version → now.reconnect ≡ turn.reconnect → now.peers ≡ turn.peers → Alone turn now TheBuffer
+buffer_alone turn now codec version reconnect peers TheCodec = inr (λ e. cc, codec)
+buffer_alone turn now codec version reconnect peers TheVersion = inr (λ e. cc, version)
+buffer_alone turn now codec version reconnect peers TheReconnect = inr (λ e. cc, reconnect)
+buffer_alone turn now codec version reconnect peers TheBuffer = inl refl
+buffer_alone turn now codec version reconnect peers ThePeers = inr (λ e. cc, peers)
+
+peers_alone : (turn now : Turn) → now.codec ≡ turn.codec → now.version ≡ turn.version → now.reconnect ≡ turn.reconnect → now.buffer ≡ turn.buffer → Alone turn now ThePeers
+peers_alone turn now codec version reconnect buffer TheCodec = inr (λ e. cc, codec)
+peers_alone turn now codec version reconnect buffer TheVersion = inr (λ e. cc, version)
+peers_alone turn now codec version reconnect buffer TheReconnect = inr (λ e. cc, reconnect)
+peers_alone turn now codec version reconnect buffer TheBuffer = inr (λ e. cc, buffer)
+peers_alone turn now codec version reconnect buffer ThePeers = inl refl
 
 -- the option comes, and isn't new any more
 option_comes : (turn now : Turn) (p : Program) (s : Setting) → Knows turn p → turn.options ≡ true → comes turn (name_of s) ≡ true
-    → comes now (name_of s) ≡ false → Alone turn now (name_of s) → now.options ≡ turn.options → now.accepted.items ≡ turn.accepted.items → now.now ≡ turn.now
-    → Admits true now p (asked.Setting s)
-option_comes turn now p s knows may new taken alone options accepted moment =
+    → comes now (name_of s) ≡ false → Alone turn now (name_of s) → now.between_peers ≡ peers_in (s ∷ p.settings)
+    → now.options ≡ turn.options → now.accepted.items ≡ turn.accepted.items → now.now ≡ turn.now → Admits true now p (asked.Setting s)
+option_comes turn now p s knows may new taken alone between options accepted moment =
     let none : p.actions ≡ [] = knows.options.0 may in (
       ((knows.new (name_of s)).0 new, none),
       record {
@@ -189,6 +210,7 @@ option_comes turn now p s knows may new taken alone options accepted moment =
         links = ap length accepted ∙ knows.links ∙ ap opened none;
         accepted = subst (λ (xs : List Bool). TellsAccepted xs []) (sym accepted) (subst (λ (xs : List Action). TellsAccepted turn.accepted.items xs) none knows.accepted);
         moment = moment ∙ knows.moment ∙ ap moment_after none;
+        between = between;
       },
     ) where
       by_name : (name : Name) → (name ≡ name_of s) ⊎ ((name ≢ name_of s) × (comes now name ≡ comes turn name)) → IsTrue (comes now name) ↔ IsNew name (s ∷ p.settings)
@@ -203,8 +225,8 @@ option_comes turn now p s knows may new taken alone options accepted moment =
 
 -- it came before
 option_came : (turn now : Turn) (p : Program) (s : Setting) → Knows turn p → comes turn (name_of s) ≡ false → ((name : Name) → comes now name ≡ comes turn name)
-    → now.options ≡ turn.options → now.accepted.items ≡ turn.accepted.items → now.now ≡ turn.now → Admits false now p (asked.Setting s)
-option_came turn now p s knows came same options accepted moment = (
+    → now.between_peers ≡ turn.between_peers → now.options ≡ turn.options → now.accepted.items ≡ turn.accepted.items → now.now ≡ turn.now → Admits false now p (asked.Setting s)
+option_came turn now p s knows came same between options accepted moment = (
   λ may. both_ways (comes turn (name_of s)) came ((knows.new (name_of s)).1 may.0),
   record {
     options = (λ yes. knows.options.0 (sym options ∙ yes), λ is. options ∙ knows.options.1 is);
@@ -212,39 +234,51 @@ option_came turn now p s knows came same options accepted moment = (
     links = ap length accepted ∙ knows.links;
     accepted = subst (λ (xs : List Bool). TellsAccepted xs p.actions) (sym accepted) knows.accepted;
     moment = moment ∙ knows.moment;
+    between = between ∙ knows.between;
   },
 )
 
 option_admits : (turn now : Turn) (p : Program) (s : Setting) (may : Bool) → Knows turn p → turn.options ≡ true → may ≡ comes turn (name_of s)
-    → comes now (name_of s) ≡ false → Alone turn now (name_of s) → now.options ≡ turn.options → now.accepted.items ≡ turn.accepted.items → now.now ≡ turn.now
-    → Admits may now p (asked.Setting s)
-option_admits turn now p s true knows options may taken alone same accepted moment = option_comes turn now p s knows options (sym may) taken alone same accepted moment
-option_admits turn now p s false knows options may taken alone same accepted moment =
-    option_came turn now p s knows (sym may) (λ name. by_name name (alone name)) same accepted moment where
+    → comes now (name_of s) ≡ false → Alone turn now (name_of s) → peers_in (s ∷ p.settings) ≡ peers_in p.settings → now.between_peers ≡ turn.between_peers
+    → now.options ≡ turn.options → now.accepted.items ≡ turn.accepted.items → now.now ≡ turn.now → Admits may now p (asked.Setting s)
+option_admits turn now p s true knows options may taken alone other between same accepted moment =
+    option_comes turn now p s knows options (sym may) taken alone (between ∙ knows.between ∙ sym other) same accepted moment
+option_admits turn now p s false knows options may taken alone other between same accepted moment =
+    option_came turn now p s knows (sym may) (λ name. by_name name (alone name)) between same accepted moment where
       by_name : (name : Name) → (name ≡ name_of s) ⊎ ((name ≢ name_of s) × (comes now name ≡ comes turn name)) → comes now name ≡ comes turn name
       by_name name (inl is) = ap (λ (n : Name). comes now n) is ∙ taken ∙ may ∙ ap (λ (n : Name). comes turn n) (sym is)
-      by_name name (inr (other, unchanged)) = unchanged
+      by_name name (inr (apart, unchanged)) = unchanged
 
 pub codec_admits : (turn now : Turn) (p : Program) (which : Codec) (may : Bool) → Knows turn p → turn.options ≡ true → may ≡ turn.codec → now.codec ≡ false
-    → now.version ≡ turn.version → now.reconnect ≡ turn.reconnect → now.buffer ≡ turn.buffer → now.options ≡ turn.options → now.accepted.items ≡ turn.accepted.items → now.now ≡ turn.now
-    → Admits may now p (asked.Setting (setting.Codec which))
-codec_admits turn now p which may knows options was taken same_version same_reconnect same_buffer same accepted moment =
-    option_admits turn now p (setting.Codec which) may knows options was taken (codec_alone turn now same_version same_reconnect same_buffer) same accepted moment
+    → now.version ≡ turn.version → now.reconnect ≡ turn.reconnect → now.buffer ≡ turn.buffer → now.peers ≡ turn.peers → now.between_peers ≡ turn.between_peers
+    → now.options ≡ turn.options → now.accepted.items ≡ turn.accepted.items → now.now ≡ turn.now → Admits may now p (asked.Setting (setting.Codec which))
+codec_admits turn now p which may knows options was taken same_version same_reconnect same_buffer same_peers between same accepted moment =
+    option_admits turn now p (setting.Codec which) may knows options was taken (codec_alone turn now same_version same_reconnect same_buffer same_peers) refl between same accepted moment
 
 pub version_admits : (turn now : Turn) (p : Program) (number : ℕ) (may : Bool) → Knows turn p → turn.options ≡ true → may ≡ turn.version → now.version ≡ false
-    → now.codec ≡ turn.codec → now.reconnect ≡ turn.reconnect → now.buffer ≡ turn.buffer → now.options ≡ turn.options → now.accepted.items ≡ turn.accepted.items → now.now ≡ turn.now
-    → Admits may now p (asked.Setting (setting.Version number))
-version_admits turn now p number may knows options was taken same_codec same_reconnect same_buffer same accepted moment =
-    option_admits turn now p (setting.Version number) may knows options was taken (version_alone turn now same_codec same_reconnect same_buffer) same accepted moment
+    → now.codec ≡ turn.codec → now.reconnect ≡ turn.reconnect → now.buffer ≡ turn.buffer → now.peers ≡ turn.peers → now.between_peers ≡ turn.between_peers
+    → now.options ≡ turn.options → now.accepted.items ≡ turn.accepted.items → now.now ≡ turn.now → Admits may now p (asked.Setting (setting.Version number))
+version_admits turn now p number may knows options was taken same_codec same_reconnect same_buffer same_peers between same accepted moment =
+    option_admits turn now p (setting.Version number) may knows options was taken (version_alone turn now same_codec same_reconnect same_buffer same_peers) refl between same accepted moment
 
 pub reconnect_admits : (turn now : Turn) (p : Program) (keep : Bool) (may : Bool) → Knows turn p → turn.options ≡ true → may ≡ turn.reconnect → now.reconnect ≡ false
-    → now.codec ≡ turn.codec → now.version ≡ turn.version → now.buffer ≡ turn.buffer → now.options ≡ turn.options → now.accepted.items ≡ turn.accepted.items → now.now ≡ turn.now
-    → Admits may now p (asked.Setting (setting.Reconnect keep))
-reconnect_admits turn now p keep may knows options was taken same_codec same_version same_buffer same accepted moment =
-    option_admits turn now p (setting.Reconnect keep) may knows options was taken (reconnect_alone turn now same_codec same_version same_buffer) same accepted moment
+    → now.codec ≡ turn.codec → now.version ≡ turn.version → now.buffer ≡ turn.buffer → now.peers ≡ turn.peers → now.between_peers ≡ turn.between_peers
+    → now.options ≡ turn.options → now.accepted.items ≡ turn.accepted.items → now.now ≡ turn.now → Admits may now p (asked.Setting (setting.Reconnect keep))
+reconnect_admits turn now p keep may knows options was taken same_codec same_version same_buffer same_peers between same accepted moment =
+    option_admits turn now p (setting.Reconnect keep) may knows options was taken (reconnect_alone turn now same_codec same_version same_buffer same_peers) refl between same accepted moment
 
 pub buffer_admits : (turn now : Turn) (p : Program) (limits : Limits) (may : Bool) → Knows turn p → turn.options ≡ true → may ≡ turn.buffer → now.buffer ≡ false
-    → now.codec ≡ turn.codec → now.version ≡ turn.version → now.reconnect ≡ turn.reconnect → now.options ≡ turn.options → now.accepted.items ≡ turn.accepted.items → now.now ≡ turn.now
-    → Admits may now p (asked.Setting (setting.Buffer limits))
-buffer_admits turn now p limits may knows options was taken same_codec same_version same_reconnect same accepted moment =
-    option_admits turn now p (setting.Buffer limits) may knows options was taken (buffer_alone turn now same_codec same_version same_reconnect) same accepted moment
+    → now.codec ≡ turn.codec → now.version ≡ turn.version → now.reconnect ≡ turn.reconnect → now.peers ≡ turn.peers → now.between_peers ≡ turn.between_peers
+    → now.options ≡ turn.options → now.accepted.items ≡ turn.accepted.items → now.now ≡ turn.now → Admits may now p (asked.Setting (setting.Buffer limits))
+buffer_admits turn now p limits may knows options was taken same_codec same_version same_reconnect same_peers between same accepted moment =
+    option_admits turn now p (setting.Buffer limits) may knows options was taken (buffer_alone turn now same_codec same_version same_reconnect same_peers) refl between same accepted moment
+
+-- the option of peers, which tells whether there are some
+pub peers_come : (turn now : Turn) (p : Program) → Knows turn p → turn.options ≡ true → turn.peers ≡ true → now.peers ≡ false
+    → now.codec ≡ turn.codec → now.version ≡ turn.version → now.reconnect ≡ turn.reconnect → now.buffer ≡ turn.buffer → now.between_peers ≡ true
+    → now.options ≡ turn.options → now.accepted.items ≡ turn.accepted.items → now.now ≡ turn.now → Admits true now p (asked.Setting setting.Peers)
+peers_come turn now p knows options was taken same_codec same_version same_reconnect same_buffer between same accepted moment =
+    option_comes turn now p setting.Peers knows options was taken (peers_alone turn now same_codec same_version same_reconnect same_buffer) between same accepted moment
+
+pub peers_came : (turn : Turn) (p : Program) → Knows turn p → turn.peers ≡ false → Admits false turn p (asked.Setting setting.Peers)
+peers_came turn p knows came = (λ may. both_ways (comes turn ThePeers) came ((knows.new ThePeers).1 may.0), knows)

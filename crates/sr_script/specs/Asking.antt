@@ -1,5 +1,5 @@
 -- What one line of a script asks for.
-use Rattle.std.specs.Prelude.{◌≡◌, ◌≢◌, ℕ, true, List, [], ◌∷◌, ◌++◌, codes, All}
+use Rattle.std.specs.Prelude.{◌≡◌, ◌≢◌, ◌⊎◌, ◌≤◌, ℕ, true, List, [], ◌∷◌, ◌++◌, codes, All}
 use Rattle.std.specs.Fmt.{decimal}
 use Rattle.hm_message.specs.Message.{Fits, is_sequenced}
 use Rattle.hm_json.specs.Says.{Says}
@@ -7,10 +7,11 @@ use Rattle.hd_delivery.specs.declared.vocabulary.Side.{Side}
 use Rattle.hd_delivery.specs.Worlds.{Limits}
 use Rattle.sr_script.specs.declared.action.Setting.{Setting}
 use Rattle.sr_script.specs.declared.action.Action.{Action}
-use Rattle.sr_script.specs.declared.action.Action.TheVariants.{Lose, Write, Read, Close, Send}
+use Rattle.sr_script.specs.declared.action.Action.TheVariants.{Lose, Write, Read, Close, Send, Call, Item, Done, Cancel, Round}
 use Rattle.sr_script.specs.declared.line.Asked.{Asked}
 use Rattle.sr_script.specs.declared.line.Asked.TheVariants as asked
-use Rattle.sr_script.specs.Script.{Program, setting_line, IsSetting, name_of, IsNew, Asks, IsInTurn, IsCount, count_text}
+use Rattle.sr_script.specs.Script.{Program, setting_line, IsSetting, name_of, IsNew, Asks, IsInTurn, IsShort, IsCount, count_text, WantsCall, NamesItem, Suits}
+use Rattle.sr_script.specs.Terms.{peers_in}
 
 -- without a space (32)
 abbrev pub IsWord : List ℕ → Type 0
@@ -24,14 +25,27 @@ buffer_words limits = decimal limits.count ++ (codes " " ++ (decimal limits.byte
 abbrev pub IsOption : List ℕ → Setting → Type 0
 IsOption line s = (line ≡ setting_line s) × IsSetting s
 
--- after the letter of this end, these words ask for the action
+-- after the letter of this end, these words ask for the action of an end
+abbrev pub OfLink : Side → List ℕ → Action → Type 0
+OfLink side words (Lose s) = (s ≡ side) × (words ≡ codes "lose")
+OfLink side words (Write s count) = (s ≡ side) × (IsCount count × (words ≡ codes "write " ++ count_text count))
+OfLink side words (Read s count) = (s ≡ side) × (IsCount count × (words ≡ codes "read " ++ count_text count))
+OfLink side words (Close s) = (s ≡ side) × (words ≡ codes "close")
+OfLink side words (Send s m) = (s ≡ side) × ((frame : List ℕ) × ((words ≡ codes "send " ++ frame) × Says frame m × (is_sequenced m ≡ true)))
+OfLink side words _ = ⊥
+
+-- or for the action of a peer
+abbrev pub OfPeer : Side → List ℕ → Action → Type 0
+OfPeer side words (Call s a) = (s ≡ side) × WantsCall words a
+OfPeer side words (Item s call value) = (s ≡ side) × ((rest : List ℕ) × ((words ≡ codes "item " ++ rest) × NamesItem rest call value))
+OfPeer side words (Done s call) = (s ≡ side) × (IsShort call × (words ≡ codes "done " ++ decimal call))
+OfPeer side words (Cancel s call) = (s ≡ side) × (IsShort call × (words ≡ codes "cancel " ++ decimal call))
+OfPeer side words (Round s) = (s ≡ side) × (words ≡ codes "round")
+OfPeer side words _ = ⊥
+
+-- either
 abbrev pub OfEnd : Side → List ℕ → Action → Type 0
-OfEnd side words (Lose s) = (s ≡ side) × (words ≡ codes "lose")
-OfEnd side words (Write s count) = (s ≡ side) × (IsCount count × (words ≡ codes "write " ++ count_text count))
-OfEnd side words (Read s count) = (s ≡ side) × (IsCount count × (words ≡ codes "read " ++ count_text count))
-OfEnd side words (Close s) = (s ≡ side) × (words ≡ codes "close")
-OfEnd side words (Send s m) = (s ≡ side) × ((frame : List ℕ) × ((words ≡ codes "send " ++ frame) × Says frame m × (is_sequenced m ≡ true)))
-OfEnd side words _ = ⊥
+OfEnd side words a = OfLink side words a ⊎ OfPeer side words a
 
 -- the line asks for this
 abbrev pub Wants : List ℕ → Asked → Type 0
@@ -47,9 +61,10 @@ abbrev pub IsReadable : Asked → Type 0
 IsReadable (asked.Setting s) = Unit {0}
 IsReadable (asked.Action a) = HasFit a
 
--- a message that is sent is sequenced, and fits into a frame
+-- a message that is sent is sequenced, and fits into a frame; a call has one upload at most
 abbrev pub IsWhole : Action → Type 0
 IsWhole (Send side m) = (is_sequenced m ≡ true) × Fits m
+IsWhole (Call side a) = a.uploads ≤ 1
 IsWhole _ = Unit {0}
 
 -- an option has a line, and a message can be sent
@@ -60,7 +75,7 @@ IsAllowed (asked.Action a) = IsWhole a
 -- it may come after what these lines ask for
 abbrev pub MayCome : Program → Asked → Type 0
 MayCome before (asked.Setting s) = IsNew (name_of s) before.settings × (before.actions ≡ [])
-MayCome before (asked.Action a) = IsInTurn before.actions a
+MayCome before (asked.Action a) = IsInTurn before.actions a × Suits (peers_in before.settings) a
 
 -- what they ask for with this
 abbrev pub and_then : Program → Asked → Program

@@ -6,13 +6,17 @@ use Rattle.hq_resend.specs.Bounds.{AreLimits}
 use Rattle.sr_script.specs.declared.action.Setting.{Setting}
 use Rattle.sr_script.specs.declared.action.Action.{Action}
 use Rattle.sr_script.specs.declared.script.Reader.{Reader}
-use Rattle.sr_script.specs.Script.{Program, Parses, IsRefusedAt, AreInTurn, most_script}
-use Rattle.sr_script.specs.Terms.{version_in, limits_in}
+use Rattle.sr_script.specs.Script.{Program, Parses, IsRefusedAt, AreInTurn, AllSuit, most_script}
+use Rattle.sr_script.specs.Terms.{version_in, limits_in, peers_in}
 use Rattle.sr_script.specs.Reading.{HasRead}
 
 -- the actions of a script are in turn
 abbrev pub ScriptsAreInTurn : Type 0
 ScriptsAreInTurn = (text : List ℕ) (p : Program) → Parses text p → AreInTurn p.actions
+
+-- and suit its options
+abbrev pub ScriptsSuit : Type 0
+ScriptsSuit = (text : List ℕ) (p : Program) → Parses text p → AllSuit (peers_in p.settings) p.actions
 
 -- the ends of a script are begun in a version that there is, within limits that an end may have
 pub record IsSettled (settings : List Setting) : Type 0 where

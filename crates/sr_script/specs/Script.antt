@@ -1,10 +1,16 @@
 -- The grammar of a script, line by line, and the first line that it lacks.
-use Rattle.std.specs.Prelude.{◌≡◌, ◌≢◌, ◌⊎◌, ◌≤◌, ◌<◌, ◌^◌, ℕ, suc, min, true, false, List, [], ◌∷◌, ◌++◌, length, take, reverse, codes, All, Contains, Option, Some, None}
+use Rattle.std.specs.Prelude.{◌≡◌, ◌≢◌, ◌⊎◌, ◌≤◌, ◌<◌, ◌^◌, ℕ, suc, min, Bool, true, false, List, [], ◌∷◌, ◌++◌, length, take, reverse, codes, All, Contains, Option, Some, None, Ok}
 use Rattle.std.specs.Fmt.{decimal}
 use Rattle.std.specs.Str.{IsUtf8}
 use Rattle.hm_message.specs.declared.message.Codec.TheVariants.{Json, Pack}
 use Rattle.hm_message.specs.Message.{is_sequenced}
 use Rattle.hm_json.specs.Says.{Says}
+use Rattle.hv_value.specs.Tree.{list, trees}
+use Rattle.hv_value.specs.View.{tree}
+use Rattle.hv_value.specs.declared.value.Value.{Value}
+use Rattle.hv_json.specs.Reading.{reading}
+use Rattle.hd_calls.specs.declared.vocabulary.CallKind.{CallKind}
+use Rattle.hd_calls.specs.declared.vocabulary.CallKind.TheVariants as kind
 use Rattle.hs_shake.specs.Requests.{IsVersion}
 use Rattle.hq_resend.specs.Bounds.{AreLimits}
 use Rattle.hd_delivery.specs.declared.vocabulary.Side.{Side}
@@ -14,8 +20,10 @@ use Rattle.sr_script.specs.declared.action.Setting.TheVariants as setting
 use Rattle.sr_script.specs.declared.action.Count.{Count}
 use Rattle.sr_script.specs.declared.action.Count.TheVariants.{UpTo, Everything}
 use Rattle.sr_script.specs.declared.action.Action.{Action}
-use Rattle.sr_script.specs.declared.action.Action.TheVariants.{Open, Accept, Lose, Write, Read, Close, Send, Tick}
+use Rattle.sr_script.specs.declared.action.Action.TheVariants.{Open, Accept, Lose, Write, Read, Close, Send, Tick, Call, Item, Done, Cancel, Round}
+use Rattle.sr_script.specs.declared.action.Asking.{Asking}
 use Rattle.sr_script.specs.Lines.{lines_of, text_of}
+use Rattle.sr_script.specs.Terms.{peers_in}
 
 -- the most bytes of a script: 16 MiB
 abbrev pub most_script : ℕ
@@ -34,6 +42,7 @@ setting_line (setting.Codec Pack) = codes "codec pack"
 setting_line (setting.Version version) = codes "version " ++ decimal version
 setting_line (setting.Reconnect true) = codes "reconnect on"
 setting_line (setting.Reconnect false) = codes "reconnect off"
+setting_line setting.Peers = codes "peers on"
 setting_line (setting.Buffer limits) = codes "buffer " ++ (decimal limits.count ++ (codes " " ++ (decimal limits.bytes ++ (codes " " ++ decimal limits.frame))))
 
 -- an option whose numbers are in range
@@ -42,6 +51,7 @@ IsSetting (setting.Codec codec) = Unit {0}
 IsSetting (setting.Version version) = IsVersion version
 IsSetting (setting.Reconnect keep) = Unit {0}
 IsSetting (setting.Buffer limits) = AreLimits limits
+IsSetting setting.Peers = Unit {0}
 
 -- which option it is
 pub data Name : Type 0 where
@@ -49,12 +59,14 @@ pub data Name : Type 0 where
   TheVersion : Name
   TheReconnect : Name
   TheBuffer : Name
+  ThePeers : Name
 
 abbrev pub name_of : Setting → Name
 name_of (setting.Codec codec) = TheCodec
 name_of (setting.Version version) = TheVersion
 name_of (setting.Reconnect keep) = TheReconnect
 name_of (setting.Buffer limits) = TheBuffer
+name_of setting.Peers = ThePeers
 
 -- ---- actions
 
@@ -81,6 +93,44 @@ abbrev pub IsCount : Count → Type 0
 IsCount (UpTo n) = IsShort n
 IsCount Everything = Unit {0}
 
+-- ---- calls
+
+-- the word calls so, with so many uploads
+abbrev pub IsCallWord : List ℕ → CallKind → ℕ → Type 0
+IsCallWord word kind.Call uploads = ((word ≡ codes "call") × (uploads ≡ 0)) ⊎ ((word ≡ codes "upload") × (uploads ≡ 1))
+IsCallWord word kind.Stream uploads = (word ≡ codes "stream") × (uploads ≡ 0)
+IsCallWord word kind.Notify uploads = (word ≡ codes "notify") × (uploads ≡ 0)
+
+-- a method's name: characters without a space (32)
+pub record IsTarget (bytes : List ℕ) : Type 0 where
+  pub some : bytes ≢ []
+  pub spaceless : All (λ b. b ≢ 32) bytes
+  pub utf8 : IsUtf8 bytes
+
+-- the words name the target of the call, and then its arguments, by any JSON list of them
+pub record NamesCall (words : List ℕ) (a : Asking) : Type 0 where
+  pub list_text : List ℕ
+  pub words_are : words ≡ a.target ++ (codes " " ++ list_text)
+  pub target : IsTarget a.target
+  pub arguments : reading list_text ≡ Ok (list (trees a.arguments))
+
+-- the words ask for the call: how it is called, and then what it names
+pub record WantsCall (words : List ℕ) (a : Asking) : Type 0 where
+  pub word : List ℕ
+  pub rest : List ℕ
+  pub words_are : words ≡ word ++ (codes " " ++ rest)
+  pub called : IsCallWord word a.kind a.uploads
+  pub names : NamesCall rest a
+
+-- the words name a call by its number, and then say the value, by any JSON text of it
+pub record NamesItem (words : List ℕ) (call : ℕ) (value : Value) : Type 0 where
+  pub value_text : List ℕ
+  pub words_are : words ≡ decimal call ++ (codes " " ++ value_text)
+  pub short : IsShort call
+  pub value_is : reading value_text ≡ Ok (tree value)
+
+-- ---- lines of actions
+
 -- the line asks for the action. A message may be written as any JSON text that says it; its tree has at most 64 levels, so the message fits
 abbrev pub Asks : List ℕ → Action → Type 0
 Asks line Open = line ≡ codes "open"
@@ -91,6 +141,11 @@ Asks line (Read side count) = IsCount count × (line ≡ letter side ++ (codes "
 Asks line (Close side) = line ≡ letter side ++ codes " close"
 Asks line (Send side m) = (frame : List ℕ) × ((line ≡ letter side ++ (codes " send " ++ frame)) × Says frame m × (is_sequenced m ≡ true))
 Asks line (Tick now) = IsShort now × (line ≡ codes "tick " ++ decimal now)
+Asks line (Call side a) = (words : List ℕ) × ((line ≡ letter side ++ (codes " " ++ words)) × WantsCall words a)
+Asks line (Item side call value) = (words : List ℕ) × ((line ≡ letter side ++ (codes " item " ++ words)) × NamesItem words call value)
+Asks line (Done side call) = IsShort call × (line ≡ letter side ++ (codes " done " ++ decimal call))
+Asks line (Cancel side call) = IsShort call × (line ≡ letter side ++ (codes " cancel " ++ decimal call))
+Asks line (Round side) = line ≡ letter side ++ codes " round"
 
 -- Lists of options and of actions have the latest first, and so have the lines that `IsScript` is given.
 
@@ -113,6 +168,21 @@ IsInTurn before (Accept link) = (link < opened before) × (Contains before (Acce
 IsInTurn before (Tick now) = moment_after before ≤ now
 IsInTurn before _ = Unit {0}
 
+-- a message is sent where there are no peers, and calls go where there are some
+abbrev pub Suits : Bool → Action → Type 0
+Suits peers (Send side m) = peers ≡ false
+Suits peers (Call side a) = peers ≡ true
+Suits peers (Item side call value) = peers ≡ true
+Suits peers (Done side call) = peers ≡ true
+Suits peers (Cancel side call) = peers ≡ true
+Suits peers (Round side) = peers ≡ true
+Suits peers _ = Unit {0}
+
+-- each of these does
+abbrev pub AllSuit : Bool → List Action → Type 0
+AllSuit peers [] = Unit {0}
+AllSuit peers (a ∷ before) = AllSuit peers before × Suits peers a
+
 -- each of these may come after those before it
 abbrev pub AreInTurn : List Action → Type 0
 AreInTurn [] = Unit {0}
@@ -133,12 +203,12 @@ IsPassedOver line = (line ≡ []) ⊎ ((comment : List ℕ) × (line ≡ 35 ∷ 
 abbrev pub IsNew : Name → List Setting → Type 0
 IsNew name settings = All (λ s. name ≢ name_of s) settings
 
--- the line adds this to what the lines before it ask for: an option, before all actions and the only one of its name, or an action
+-- the line adds this to what the lines before it ask for: an option, before all actions and the only one of its name, or an action that suits the options
 abbrev pub Adds : List ℕ → Program → Program → Type 0
 Adds line before now =
     ((s : Setting) × ((line ≡ setting_line s) × IsSetting s × IsNew (name_of s) before.settings × (before.actions ≡ [])
     × (now ≡ record { settings = s ∷ before.settings; actions = [] })))
-    ⊎ ((a : Action) × (Asks line a × IsInTurn before.actions a
+    ⊎ ((a : Action) × (Asks line a × IsInTurn before.actions a × Suits (peers_in before.settings) a
     × (now ≡ record { settings = before.settings; actions = a ∷ before.actions })))
 
 -- these lines are a script, and this is what it asks for

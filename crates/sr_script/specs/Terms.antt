@@ -1,5 +1,5 @@
 -- How both ends of a script are begun: what its options, the latest first, say, and what holds where none does.
-use Rattle.std.specs.Prelude.{ℕ, Bool, true, List, [], ◌∷◌}
+use Rattle.std.specs.Prelude.{ℕ, Bool, true, false, List, [], ◌∷◌}
 use Rattle.hm_message.specs.declared.message.Codec.{Codec}
 use Rattle.hm_message.specs.declared.message.Codec.TheVariants.{Json}
 use Rattle.hd_delivery.specs.Worlds.{Limits, Terms}
@@ -29,6 +29,12 @@ abbrev pub limits_in : List Setting → Limits
 limits_in [] = record { frame = 32768; count = 1024; bytes = 100000 }
 limits_in (setting.Buffer limits ∷ settings) = limits
 limits_in (_ ∷ settings) = limits_in settings
+
+-- whether there are peers, by which calls go
+abbrev pub peers_in : List Setting → Bool
+peers_in [] = false
+peers_in (setting.Peers ∷ settings) = true
+peers_in (_ ∷ settings) = peers_in settings
 
 -- both ends are begun alike
 abbrev pub terms_in : List Setting → Terms

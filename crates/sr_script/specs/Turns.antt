@@ -4,7 +4,8 @@ use Rattle.sr_script.specs.declared.action.Action.{Action}
 use Rattle.sr_script.specs.declared.action.Action.TheVariants.{Open, Accept, Tick}
 use Rattle.sr_script.specs.declared.line.Asked.{Asked}
 use Rattle.sr_script.specs.declared.turn.Turn.{Turn}
-use Rattle.sr_script.specs.Script.{Program, Name, TheCodec, TheVersion, TheReconnect, TheBuffer, IsNew, opened, moment_after}
+use Rattle.sr_script.specs.Script.{Program, Name, TheCodec, TheVersion, TheReconnect, TheBuffer, ThePeers, IsNew, opened, moment_after}
+use Rattle.sr_script.specs.Terms.{peers_in}
 use Rattle.sr_script.specs.Asking.{MayCome, and_then}
 
 -- whether the option of this name may come
@@ -13,6 +14,7 @@ comes turn TheCodec = turn.codec
 comes turn TheVersion = turn.version
 comes turn TheReconnect = turn.reconnect
 comes turn TheBuffer = turn.buffer
+comes turn ThePeers = turn.peers
 
 -- of each link, whether it was accepted
 abbrev pub TellsAccepted : List Bool → List Action → Type 0
@@ -25,13 +27,14 @@ pub record Knows (turn : Turn) (p : Program) : Type 0 where
   pub links : length turn.accepted.items ≡ opened p.actions
   pub accepted : TellsAccepted turn.accepted.items p.actions
   pub moment : turn.now ≡ moment_after p.actions
+  pub between : turn.between_peers ≡ peers_in p.settings
 
 -- the answer whether this may come, and what is known then
 abbrev pub Admits : Bool → Turn → Program → Asked → Type 0
 Admits true now p x = MayCome p x × Knows now (and_then p x)
 Admits false now p x = (MayCome p x → ⊥) × Knows now p
 
--- an action that may come at any time
+-- an action that may come at any time, if it suits the options
 abbrev pub IsPlain : Action → Type 0
 IsPlain Open = ⊥
 IsPlain (Accept link) = ⊥

@@ -1,10 +1,15 @@
 //! What holds of scripts. No function here does anything: its contract is the law.
 
-ghost use Rattle.sr_script.specs.Laws.{LongIsRefusedByItsFront, ScriptsAreInTurn, ScriptsAreSettled, SettingsComeFirst};
+ghost use Rattle.sr_script.specs.Laws.{LongIsRefusedByItsFront, ScriptsAreInTurn, ScriptsAreSettled, ScriptsSuit, SettingsComeFirst};
 
 /// Each action of a script may come after those before it.
 pub fn scripts_are_in_turn()
     ensures { ScriptsAreInTurn }
+{}
+
+/// Each action of a script suits its options: calls go where there are peers, and messages are sent where there are none.
+pub fn scripts_suit()
+    ensures { ScriptsSuit }
 {}
 
 /// A script begins its ends in a version that there is, within limits that an end may have.

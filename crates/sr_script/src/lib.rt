@@ -20,9 +20,10 @@ mod line;
 mod script;
 mod turn;
 
-pub use action::{Action, Count, Setting};
+pub use action::{Action, Asking, Count, Setting};
 pub use laws::{
-    long_is_refused_by_its_front, scripts_are_in_turn, scripts_are_settled, settings_come_first,
+    long_is_refused_by_its_front, scripts_are_in_turn, scripts_are_settled, scripts_suit,
+    settings_come_first,
 };
 pub use line::Asked;
 pub use script::{MOST_SCRIPT, Reader, Script, ScriptError, parse};

@@ -1,11 +1,11 @@
 //! What of the lines before decides which line may come next. It doesn't know how lines are written.
 
-ghost use Rattle.std.specs.Prelude.{◌≡◌, ℕ, List, [], ◌∷◌, IfOk};
+ghost use Rattle.std.specs.Prelude.{◌≡◌, ◌↔◌, ℕ, true, List, [], ◌∷◌, IfOk, IsTrue};
 ghost use Rattle.sr_script.specs.declared.action.Setting.TheVariants as setting;
 ghost use Rattle.sr_script.specs.declared.action.Action.{Action};
 ghost use Rattle.sr_script.specs.declared.action.Action.TheVariants.{Open, Accept, Tick};
 ghost use Rattle.sr_script.specs.declared.line.Asked.TheVariants as asked;
-ghost use Rattle.sr_script.specs.Script.{Program};
+ghost use Rattle.sr_script.specs.Script.{Program, Suits};
 ghost use Rattle.sr_script.specs.Turns.{Knows, Admits, IsPlain};
 
 use crate::action::{Action, Setting};
@@ -26,6 +26,9 @@ pub(crate) struct Turn {
     version: bool,
     reconnect: bool,
     buffer: bool,
+    peers: bool,
+    // whether there are peers
+    between_peers: bool,
     // of each link that was opened, whether it was accepted
     accepted: Vec<bool>,
     // the moment that came last
@@ -43,6 +46,8 @@ impl Turn {
             version: true,
             reconnect: true,
             buffer: true,
+            peers: true,
+            between_peers: false,
             accepted: Vec::new(alloc),
             now: 0,
         }
@@ -73,7 +78,21 @@ impl Turn {
             Setting::Version(_) => mem::replace(&mut self.version, false),
             Setting::Reconnect(_) => mem::replace(&mut self.reconnect, false),
             Setting::Buffer(_) => mem::replace(&mut self.buffer, false),
+            Setting::Peers => self.admit_peers(),
         }
+    }
+
+    /// Whether the option of peers may come now, where options may.
+    fn admit_peers(&mut self) -> bool
+        requires { self.old.options ≡ true }
+        ensures { (p : Program) → Knows self.old p → Admits result self.new p (asked.Setting setting.Peers) }
+    {
+        if !self.peers {
+            return false;
+        }
+        self.peers = false;
+        self.between_peers = true;
+        true
     }
 
     /// Whether one link more may be opened.
@@ -116,13 +135,30 @@ impl Turn {
         true
     }
 
-    /// An action that may come at any time.
+    /// Whether an action that may come at any time suits the options.
     fn act(&mut self, action: &Action) -> bool
         requires { IsPlain action.now }
         ensures { (p : Program) → Knows self.old p → Admits result self.new p (asked.Action action.now) }
     {
-        let _action = action;
+        if !suits(action, self.between_peers) {
+            return false;
+        }
         self.options = false;
         true
+    }
+}
+
+/// Whether the action is one of peers where there are peers, or of ends alone where there are none, or of both.
+fn suits(action: &Action, peers: bool) -> bool
+    ensures { IsTrue result ↔ Suits peers action.now }
+{
+    match action {
+        Action::Send(_, _) => !peers,
+        Action::Call(_, _) => peers,
+        Action::Item(_, _, _) => peers,
+        Action::Done(_, _) => peers,
+        Action::Cancel(_, _) => peers,
+        Action::Round(_) => peers,
+        _ => true,
     }
 }
