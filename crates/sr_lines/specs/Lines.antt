@@ -16,6 +16,7 @@ use Rattle.hd_delivery.specs.declared.vocabulary.Side.TheVariants.{Client, Serve
 use Rattle.hd_delivery.specs.declared.vocabulary.State.{State}
 use Rattle.hd_delivery.specs.declared.vocabulary.State.TheVariants.{Opening, Ready, Away}
 use Rattle.hd_delivery.specs.declared.vocabulary.State.TheVariants as states
+use Rattle.hd_delivery.specs.Histories as of
 use Rattle.hd_delivery.specs.Histories.{Step, Took, Failed, Sent, Silenced, Fault, Unread, Shake, Gap, AckBeyond, sent_messages, processed_messages}
 use Rattle.hd_delivery.specs.Sending as refusal
 use Rattle.hd_delivery.specs.Sending.{SendRefusal}
@@ -199,3 +200,7 @@ side_word Server = codes "server"
 abbrev pub standing_line : Side → State → ℕ → ℕ → ℕ → List ℕ
 standing_line side state sent processed held = line (side_word side ++ (codes " " ++ (state_word state ++ (codes " sent " ++ (decimal sent
     ++ (codes " processed " ++ (decimal processed ++ (codes " held " ++ decimal held))))))))
+
+-- the line of an end that is begun so and has this history
+abbrev pub standing_text : Side → of.Config → List Step → List ℕ
+standing_text side c k = standing_line side (of.state c k) (length (sent_messages k)) (length (processed_messages k)) (length (of.held_messages c k))
