@@ -1,14 +1,11 @@
 -- A side that reads what the other side lent may join a world.
-use Rattle.std.proofs.Common.{◌≡◌, ℕ, zero, suc, ◌+◌, ◌-◌, Bool, true, false, List, [], ◌∷◌, ◌++◌, length, take, drop, Option, Some, None, refl, sym, ap, ◌∙◌, subst, append_assoc, append-nil, take-append-drop, if◌then◌else◌}
-use Rattle.std.specs.Prelude.{option_map}
+use Rattle.std.proofs.Common.{◌≡◌, ℕ, ◌+◌, ◌-◌, Bool, true, false, List, [], ◌∷◌, ◌++◌, length, take, drop, Option, Some, None, refl, sym, ap, ◌∙◌, subst, append_assoc, take-append-drop, if◌then◌else◌}
 use Rattle.std.proofs.lemmas.Bool.{eq-eqb}
-use Rattle.hm_message.specs.declared.message.Message.{Message}
 use Rattle.hd_facts.specs.Prefixes.{IsPrefix}
 use Rattle.hd_delivery.specs.declared.vocabulary.Reason.{Reason}
 use Rattle.hd_delivery.specs.declared.vocabulary.Side.{Side}
 use Rattle.hd_delivery.specs.Numbers.{most_framing}
 use Rattle.hd_delivery.specs.Histories.{Step, Took, Failed, is_this, present_link, is_shaken}
-use Rattle.hd_delivery.specs.Processes.{processes}
 use Rattle.hd_delivery.specs.Worlds.{Event, config}
 use Rattle.hd_delivery.specs.Bytes.{ByteStep, Bytes, Does, bare_steps, bytes_on, in_frames, unread_count}
 use Rattle.hd_delivery.specs.Laws.{FedIsUnseen}
@@ -17,7 +14,7 @@ use Rattle.hd_runs.specs.Laws.{FramesAreTaken}
 use Rattle.hd_runs.specs.Sides.{other, history}
 use Rattle.hd_calls.specs.Peers.{Move, Plain, Calls, Uploads, Cancels, Reads, Handles, Runs, Answers, Refuses, Loses, Rounds, Settings, reason_of, shuts, add, byte_steps, steps, is_shut}
 use Rattle.hd_calls.specs.PeerWorlds.{Pair, settings}
-use Rattle.sr_peers.specs.Doings.{Chain, Losing, fed_next, Reading, ReadsTo}
+use Rattle.sr_peers.specs.Doings.{Chain, Losing, Reading, ReadsTo}
 use Rattle.sr_peers.specs.Grows.{lent_in, FitsOther, MayJoin}
 
 -- ---- first parts

@@ -19,7 +19,7 @@ use Rattle.sr_peers.specs.Laws.{DoingsKeep, WritesLend}
 use Rattle.sr_peers.proofs.Saying.{follow_of}
 
 -- a test, with what it says
-both : {A : Type 0} (P : A → Type 0) (b : Bool) (x y : A) → P x → P y → P (if b then x else y)
+pub both : {A : Type 0} (P : A → Type 0) (b : Bool) (x y : A) → P x → P y → P (if b then x else y)
 both P true x y f g = f
 both P false x y f g = g
 
@@ -88,7 +88,7 @@ gone_lend_none t k [] ds f n = n
 gone_lend_none t k (Loses c ∷ gone) ds f n = gone_lend_none t k gone ds f.0 n
 gone_lend_none t k (d ∷ gone) ds f n = absurd f.1
 
-nowhere : (t : Settings) (l : ℕ) (h ds : List Move) → LendNothing ds → LendNothingOn t l h ds
+pub nowhere : (t : Settings) (l : ℕ) (h ds : List Move) → LendNothing ds → LendNothingOn t l h ds
 nowhere t l h [] n = tt
 nowhere t l h (Plain (Bytes piece) ∷ ds) n = nowhere t l h ds n
 nowhere t l h (Plain (Does (Lent f)) ∷ ds) n = absurd n

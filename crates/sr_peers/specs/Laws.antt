@@ -1,5 +1,5 @@
 -- What holds of moves that one side makes after a world of two peers.
-use Rattle.std.specs.Prelude.{◌≡◌, ℕ, List, [], ◌∷◌, ◌++◌, map, Option, Some}
+use Rattle.std.specs.Prelude.{◌≡◌, ◌≤◌, ℕ, suc, List, [], ◌∷◌, ◌++◌, length, map, Option, Some}
 use Rattle.hv_value.specs.Tree.{Tree}
 use Rattle.hd_facts.specs.Prefixes.{IsPrefix}
 use Rattle.hd_delivery.specs.declared.vocabulary.Side.{Side}
@@ -12,9 +12,9 @@ use Rattle.hd_runs.specs.Alone.{writing, lent_text}
 use Rattle.hd_runs.specs.Sides.{by, other, history}
 use Rattle.hd_calls.specs.declared.vocabulary.CallKind.{CallKind}
 use Rattle.hd_calls.specs.Hubs.{Answer}
-use Rattle.hd_calls.specs.Peers.{Move, Settings, byte_steps, steps}
+use Rattle.hd_calls.specs.Peers.{Move, Settings, drawn, byte_steps, steps}
 use Rattle.hd_calls.specs.PeerWorlds.{Pair, settings, ends}
-use Rattle.sr_peers.specs.Doings.{Doing, moves_of, WithLosses, attaching, leaving, closing, ticking, lifted, Writes, ReadsTo, Asks, Sends, Cancelling, IsRound}
+use Rattle.sr_peers.specs.Doings.{Doing, moves_of, Chain, Losing, WithLosses, attaching, leaving, closing, ticking, lifted, Writes, ReadsTo, Asks, Sends, Cancelling, IsRound}
 use Rattle.sr_peers.specs.Grows.{lent_in, MayJoin, NeedNoOther, LendNothingOn, LendNothing, KeepToTheirSide}
 
 -- the moves of one side are its own, and the other side's stay as they were
@@ -69,3 +69,7 @@ pub record WritesLend : Type 0 where
   pub writes : (t : Settings) (h : List Move) (most : Option ℕ) (ds : List Move) → Writes t h most ds → NeedNoOther ds
   pub elsewhere : (t : Settings) (h : List Move) (most : Option ℕ) (ds : List Move) (l : ℕ) → Writes t h most ds → (present_link (steps t h) ≡ Some l → ⊥) → LendNothingOn t l h ds
   pub nowhere : (t : Settings) (l : ℕ) (h ds : List Move) → LendNothing ds → LendNothingOn t l h ds
+
+-- a closed end hands out no more calls as gone than numbers were drawn, and one
+abbrev pub LossesAreFew : Type 0
+LossesAreFew = (t : Settings) (h ds : List Move) → Chain (Losing t) h ds → length ds ≤ suc (drawn h)

@@ -2,3 +2,8 @@ pub mod Doings
 pub mod Told
 pub mod Grows
 pub mod Laws
+pub mod Plays
+pub mod Begun
+pub mod Runs
+pub mod Follows
+pub mod Report

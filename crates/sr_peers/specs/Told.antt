@@ -1,5 +1,5 @@
 -- The lines of what a peer does.
-use Rattle.std.specs.Prelude.{◌≡◌, ℕ, List, [], ◌∷◌, ◌++◌, codes, None, Some}
+use Rattle.std.specs.Prelude.{◌≡◌, ℕ, List, [], ◌∷◌, ◌++◌, codes, None}
 use Rattle.hm_message.specs.declared.message.Message.{Message}
 use Rattle.hd_delivery.specs.Bytes.{Bytes, Does}
 use Rattle.hd_calls.specs.Hubs.{Item, End, Purpose, ToBegin, ToAnswer, ToCancel, ToNothing, purpose_of, id_of}

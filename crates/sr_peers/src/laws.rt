@@ -1,6 +1,6 @@
 //! What holds of moves that one side makes after a world of two peers. No function here does anything: its contract is the law.
 
-ghost use Rattle.sr_peers.specs.Laws.{DoingsKeep, LentGoesOn, OneSideGrows, OthersJoin, ReadsAreSaid, WorldsGrow, WritesLend};
+ghost use Rattle.sr_peers.specs.Laws.{DoingsKeep, LentGoesOn, LossesAreFew, OneSideGrows, OthersJoin, ReadsAreSaid, WorldsGrow, WritesLend};
 
 use hd_delivery::fed_is_unseen;
 use hd_runs::{frames_are_taken, lent_comes_last, lent_stays};
@@ -48,3 +48,8 @@ pub fn writes_lend()
 {
     frames_are_taken();
 }
+
+/// A closed end hands out no more calls as gone than numbers were drawn, and one.
+pub(crate) fn losses_are_few()
+    ensures { LossesAreFew }
+{}
