@@ -2,6 +2,7 @@ pub mod Small
 pub mod Once
 pub mod Begun
 pub mod Replayed
+pub mod WithPeers
 pub mod Going
 pub mod Feeding
 pub mod ReadsOn

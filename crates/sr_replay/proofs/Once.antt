@@ -120,6 +120,7 @@ acts_once limits wire t before r (Close side) m n e f = e ∙ sym f
 acts_once limits wire t before r (Send side message) m n e f =
     e.1.1 ∙ (ap (λ d. by side d ∷ []) (sending_once limits wire (config side t) (frames_at wire t (world_of r) side) message e.0 f.0 e.1.0 f.1.0) ∙ sym f.1.1)
 acts_once limits wire t before r (Tick now) m n e f = e ∙ sym f
+acts_once limits wire t before r _ m n e f = absurd e
 
 pub runs_once : (limits : Limits) (wire : Wire) (t : Terms) (actions : List Action) (r q : Run) → Runs limits wire t actions r → Runs limits wire t actions q → r ≡ q
 runs_once limits wire t [] r q e f = e ∙ sym f

@@ -382,6 +382,7 @@ module _ (worlds : WorldsAreHistories) (taken : FramesAreTaken) (fed_is_lent : F
     acts (Send side m) new turn e = subst (λ n. GoodFor (Send side m ∷ before) (world_of (n ++ r))) (sym e.1.1)
         (sends (Send side m) (le_refl (opened before)) (le_refl (moment_after before)) side m e.0 e.1.0)
     acts (Tick now) new turn e = subst (λ n. GoodFor (Tick now ∷ before) (world_of (n ++ r))) (sym e) (ticks now turn)
+    acts _ new turn e = absurd e
 
   good : (actions : List Action) (r : Run) → AreInTurn actions → Runs limits wire t actions r → GoodFor actions (world_of r)
   good [] r turns e = subst (λ r. GoodFor [] (world_of r)) (sym e) (record {

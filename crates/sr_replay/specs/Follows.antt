@@ -7,8 +7,9 @@ use Rattle.hd_delivery.specs.Histories.{Step, Attached, present_link, was_on, fe
 use Rattle.hd_delivery.specs.Processes.{processes}
 use Rattle.hd_delivery.specs.Worlds.{Limits, Terms, config}
 use Rattle.hd_delivery.specs.Bytes.{Wire, ByteStep, Does, bytes_on, in_frames, lent_bytes}
-use Rattle.he_end.specs.declared.config.Config.{Config}
 use Rattle.sr_script.specs.declared.action.Action.{Action}
+use Rattle.sr_script.specs.declared.action.Action.TheVariants.{Call, Item, Done, Cancel, Round}
+use Rattle.sr_script.specs.Asking.{IsWhole}
 use Rattle.sr_replay.specs.declared.player.Player.{Player}
 use Rattle.sr_replay.specs.declared.pair.Lane.{Lane}
 use Rattle.sr_replay.specs.declared.pair.Pair.{Pair}
@@ -68,17 +69,16 @@ pub record Follows (limits : Limits) (wire : Wire) (t : Terms) (actions : List A
   pub holds : Holds limits wire t actions (history Client (world_of r)) (history Server (world_of r)) p
   pub report : p.report.items ≡ run_text r
 
+-- an action of ends alone: no call goes, and a message that is sent is sequenced and fits into a frame
+abbrev pub IsOfEnds : Action → Type 0
+IsOfEnds (Call side a) = ⊥
+IsOfEnds (Item side call value) = ⊥
+IsOfEnds (Done side call) = ⊥
+IsOfEnds (Cancel side call) = ⊥
+IsOfEnds (Round side) = ⊥
+IsOfEnds a = IsWhole a
+
 -- whatever actions and run the pair stood for, it now stands for one action more, and for what that made after the run
 abbrev pub GoesOn : Pair → Action → Pair → Type 0
 GoesOn old a new = (limits : Limits) (wire : Wire) (t : Terms) (actions : List Action) (r : Run) → Follows limits wire t actions r old → IsInTurn actions a
     → (made : Run) × (Acts limits wire t actions r a made × Follows limits wire t (a ∷ actions) (made ++ r) new)
-
--- how two ends are begun that are begun alike
-abbrev pub terms_of : Config → Terms
-terms_of config = record {
-  codec = config.codec;
-  version = config.version;
-  server_codec = config.codec;
-  server_version = config.version;
-  reconnect = config.reconnect;
-}

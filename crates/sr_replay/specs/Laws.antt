@@ -14,7 +14,7 @@ use Rattle.sr_script.specs.declared.action.Action.TheVariants.{Accept}
 use Rattle.sr_script.specs.Script.{Program, Parses, AreInTurn, opened, moment_after}
 use Rattle.sr_script.specs.Terms.{limits_in, terms_in}
 use Rattle.sr_replay.specs.Runs.{Run, Runs, frames_at, world_of}
-use Rattle.sr_replay.specs.Report.{report_text, IsReportOver, IsReport}
+use Rattle.sr_replay.specs.Report.{report_text, IsReportOver, IsReport, IsReportOf}
 
 -- ---- runs
 
@@ -34,13 +34,13 @@ abbrev pub RunsAreWorlds : Type 0
 RunsAreWorlds = (limits : Limits) (wire : Wire) (t : Terms) (actions : List Action) (r : Run) → IsSoundWire limits wire → AreInTurn actions
     → Runs limits wire t actions r → IsWorldOf limits wire t actions (world_of r)
 
--- a script has one report
+-- a script without peers has one report
 abbrev pub ReportsOnce : Type 0
 ReportsOnce = (p : Program) (x y : List ℕ) → IsReport p x → IsReport p y → x ≡ y
 
 -- a report has a line at least
 abbrev pub ReportsHaveLines : Type 0
-ReportsHaveLines = (p : Program) (text : List ℕ) → IsReport p text → text ≢ []
+ReportsHaveLines = (p : Program) (text : List ℕ) → IsReportOf p text → text ≢ []
 
 -- Where these ends stand for a script's run, the text of the run is the script's report over this project's wire.
 abbrev pub EndsReport : End → End → Type 0

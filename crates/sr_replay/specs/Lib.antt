@@ -4,3 +4,4 @@ pub mod Laws
 pub mod Follows
 pub mod Plays
 pub mod Replays
+pub mod WithPeers

@@ -1,5 +1,5 @@
 -- How a replay goes along a script: what its ends are begun with, and the two ends that stand for the actions that were read.
-use Rattle.std.specs.Prelude.{◌≡◌, List, []}
+use Rattle.std.specs.Prelude.{◌≡◌, ℕ, false, List, []}
 use Rattle.hs_shake.specs.Requests.{IsVersion}
 use Rattle.hd_delivery.specs.Worlds.{Limits, Terms}
 use Rattle.hd_delivery.specs.Bytes.{Wire}
@@ -10,10 +10,10 @@ use Rattle.sr_script.specs.declared.action.Action.{Action}
 use Rattle.sr_script.specs.declared.line.Asked.{Asked}
 use Rattle.sr_script.specs.declared.line.Asked.TheVariants as asked
 use Rattle.sr_replay.specs.declared.pair.Pair.{Pair}
-use Rattle.sr_script.specs.Script.{Program}
+use Rattle.sr_script.specs.Script.{Program, Parses}
 use Rattle.sr_replay.specs.Runs.{Run}
-use Rattle.sr_script.specs.Terms.{codec_in, version_in, reconnect_in, limits_in, terms_in}
-use Rattle.sr_replay.specs.Follows.{Follows, GoesOn}
+use Rattle.sr_script.specs.Terms.{codec_in, version_in, reconnect_in, limits_in, peers_in, terms_in}
+use Rattle.sr_replay.specs.Follows.{Follows, GoesOn, IsOfEnds}
 
 -- both ends are begun so if these are the options
 pub record Begins (settings : List Setting) (config : Config) : Type 0 where
@@ -26,6 +26,19 @@ pub record Begins (settings : List Setting) (config : Config) : Type 0 where
 -- two ends that stood for no action stand for these
 abbrev pub ActsAll : Pair → List Action → Pair → Type 0
 ActsAll old actions new = (limits : Limits) (wire : Wire) (t : Terms) → Follows limits wire t [] [] old → (r : Run) × Follows limits wire t actions r new
+
+-- the text is no script with peers
+abbrev pub IsWithoutPeers : List ℕ → Type 0
+IsWithoutPeers text = (p : Program) → Parses text p → peers_in p.settings ≡ false
+
+-- the options that were read are those of the script, once there was an action
+abbrev pub HasSettings : List ℕ → Program → Type 0
+HasSettings text q = (q.actions ≡ [] → ⊥) → (p : Program) → Parses text p → p.settings ≡ q.settings
+
+-- two ends alone can do what the line asks for
+abbrev pub IsForEnds : Asked → Type 0
+IsForEnds (asked.Setting s) = Unit {0}
+IsForEnds (asked.Action a) = IsOfEnds a
 
 -- an option changes nothing any more, and an action is done
 abbrev pub Obeys : Pair → Asked → Pair → Type 0

@@ -1,18 +1,18 @@
 -- The text that is reported of a run, and what is promised of it.
-use Rattle.std.specs.Prelude.{◌≡◌, ℕ, List, [], ◌∷◌, ◌++◌, length, codes}
+use Rattle.std.specs.Prelude.{◌≡◌, ℕ, Bool, true, false, List, [], ◌∷◌, ◌++◌, codes}
 use Rattle.hd_facts.specs.Unique.{IsTheOne}
 use Rattle.hd_delivery.specs.declared.vocabulary.Side.{Side}
 use Rattle.hd_delivery.specs.declared.vocabulary.Side.TheVariants.{Client, Server}
-use Rattle.hd_delivery.specs.Histories as of
-use Rattle.hd_delivery.specs.Histories.{Step, Took, Failed, Sent, Silenced, Fault, Unread, Shake, Gap, AckBeyond, sent_messages, processed_messages, held_messages, state}
+use Rattle.hd_delivery.specs.Histories.{Step}
 use Rattle.hd_delivery.specs.Worlds.{Terms, config, ByClient, ByServer}
 use Rattle.hd_delivery.specs.Bytes.{Wire, Does, bare_steps, IsWorldOverBytes, DeliveryOverBytes}
 use Rattle.he_wire.specs.Wires.{IsHouseWire}
 use Rattle.sr_script.specs.Script.{Program}
-use Rattle.sr_lines.specs.Lines.{line_at, step_text, standing_line}
+use Rattle.sr_lines.specs.Lines.{line_at, step_text, standing_text}
 use Rattle.sr_replay.specs.Runs.{Doing, Makes, Refuses, Run, Runs, world_of}
 use Rattle.hd_runs.specs.Sides.{history}
-use Rattle.sr_script.specs.Terms.{limits_in, terms_in}
+use Rattle.sr_script.specs.Terms.{limits_in, peers_in, terms_in}
+use Rattle.sr_peers.specs.Report as of_peers
 
 -- the line of what an end did
 abbrev pub doing_text : Side → List Step → Doing → List ℕ
@@ -25,10 +25,6 @@ abbrev pub run_text : Run → List ℕ
 run_text [] = []
 run_text (ByClient d ∷ r) = run_text r ++ doing_text Client (bare_steps (history Client (world_of r))) d
 run_text (ByServer d ∷ r) = run_text r ++ doing_text Server (bare_steps (history Server (world_of r))) d
-
--- the line of an end with this history
-abbrev pub standing_text : Side → of.Config → List Step → List ℕ
-standing_text side c k = standing_line side (state c k) (length (sent_messages k)) (length (processed_messages k)) (length (held_messages c k))
 
 -- the whole report of a run
 abbrev pub report_text : Terms → Run → List ℕ
@@ -48,3 +44,12 @@ pub record IsReportOver (wire : Wire) (p : Program) (text : List ℕ) : Type 0 w
 -- so it is over each wire of this project, of which there is one for every limit (`he_wire::has_wire`)
 abbrev pub IsReport : Program → List ℕ → Type 0
 IsReport p text = (wire : Wire) → IsHouseWire (limits_in p.settings).frame wire → IsReportOver wire p text
+
+-- What is put for a program is its report. That a program with peers has one report alone isn't claimed.
+abbrev pub IsReportBy : Bool → Program → List ℕ → Type 0
+IsReportBy true p text = of_peers.IsReport p text
+IsReportBy false p text = IsTheOne (IsReport p) text
+
+-- so it is with peers, if the program's options say so
+abbrev pub IsReportOf : Program → List ℕ → Type 0
+IsReportOf p text = IsReportBy (peers_in p.settings) p text

@@ -2,7 +2,7 @@
 use Rattle.std.specs.Prelude.{◌≡◌, ◌⊎◌, ◌+◌, ℕ, false, not, ◌&&◌, List, [], ◌∷◌, ◌++◌, length, take, map, codes, Option, Some, None, is_some, if◌then◌else◌}
 use Rattle.hm_message.specs.declared.message.Message.{Message}
 use Rattle.hm_codec.specs.Frames.{said_again}
-use Rattle.hd_delivery.specs.declared.vocabulary.Reason.TheVariants.{Done}
+use Rattle.hd_delivery.specs.declared.vocabulary.Reason.TheVariants as reason
 use Rattle.hd_delivery.specs.declared.vocabulary.Side.{Side}
 use Rattle.hd_delivery.specs.declared.vocabulary.Side.TheVariants.{Client, Server}
 use Rattle.hd_delivery.specs.Histories as of
@@ -13,7 +13,7 @@ use Rattle.hd_delivery.specs.Bytes.{Wire, sizes_of, ByteStep, Does, bytes_on, in
 use Rattle.sr_script.specs.declared.action.Count.{Count}
 use Rattle.sr_script.specs.declared.action.Count.TheVariants.{UpTo, Everything}
 use Rattle.sr_script.specs.declared.action.Action.{Action}
-use Rattle.sr_script.specs.declared.action.Action.TheVariants.{Open, Accept, Lose, Write, Read, Close, Send, Tick}
+use Rattle.sr_script.specs.declared.action.Action.TheVariants.{Open, Accept, Lose, Write, Read, Close, Send, Tick, Call, Item, Done, Cancel, Round}
 use Rattle.sr_lines.specs.Lines.{refusal_words}
 use Rattle.sr_script.specs.Script.{opened, moment_after, most_of}
 use Rattle.hd_runs.specs.Following.{FollowAll, FollowUpTo}
@@ -57,7 +57,7 @@ losing k now = if is_some (present_link k) then Makes (Does (Detached now)) ∷ 
 
 -- a close, of an end that isn't closed
 abbrev pub closing : of.Config → List Step → List Doing
-closing c k = if is_closed c k then [] else Makes (Does (Closed Done false)) ∷ []
+closing c k = if is_closed c k then [] else Makes (Does (Closed reason.Done false)) ∷ []
 
 -- a tick, which may be a silence
 abbrev pub ticking : of.Config → List Step → ℕ → Doing
@@ -90,7 +90,7 @@ to_be_read wire t w side count (Some link) =
 abbrev pub frames_at : Wire → Terms → List (Event ByteStep) → Side → List Step
 frames_at wire t w side = in_frames wire (config side t) (history side w)
 
--- after these actions and their run the action makes this
+-- After these actions and their run the action makes this. No call goes between ends alone.
 abbrev pub Acts : Limits → Wire → Terms → List Action → Run → Action → Run → Type 0
 Acts limits wire t before r Open new =
     new ≡ by Client (attaching (config Client t) (frames_at wire t (world_of r) Client) (opened before) (moment_after before)) ∷ []
@@ -107,6 +107,11 @@ Acts limits wire t before r (Send side m) new =
     (d : Doing) × (Sending limits wire (config side t) (frames_at wire t (world_of r) side) m d × (new ≡ by side d ∷ []))
 Acts limits wire t before r (Tick now) new =
     new ≡ by Server (ticking (config Server t) (frames_at wire t (world_of r) Server) now) ∷ by Client (ticking (config Client t) (frames_at wire t (world_of r) Client) now) ∷ []
+Acts limits wire t before r (Call side a) new = ⊥
+Acts limits wire t before r (Item side call value) new = ⊥
+Acts limits wire t before r (Done side call) new = ⊥
+Acts limits wire t before r (Cancel side call) new = ⊥
+Acts limits wire t before r (Round side) new = ⊥
 
 -- the run of these actions, the latest of which comes first
 abbrev pub Runs : Limits → Wire → Terms → List Action → Run → Type 0

@@ -24,7 +24,7 @@ pub fn runs_are_worlds()
     unread_is_bounded();
 }
 
-/// A script has one report.
+/// A script without peers has one report.
 pub fn reports_once()
     ensures { ReportsOnce }
 {

@@ -1,16 +1,17 @@
-//! Replays a script: a client's and a server's end (`he_end`) do what its lines say, over links that come and go, and what they do is
-//! reported.
+//! Replays a script: a client's and a server's end (`he_end`), or two peers (`sr_peers`) if its options say so, do what its lines say, over
+//! links that come and go, and what they do is reported.
 //!
 //! ```text
 //! let script = sr_script::parse(alloc, text)?;       // or the number of the first line that no script has
 //! let totals = replay(alloc, &script, &mut out)?;
 //! ```
 //!
-//! `player.rt` is one end on its link, `pair.rt` both and the links between them, and `replaying.rt` lets them do a script's actions.
-//! `sr_lines` spells what is reported.
+//! `player.rt` is one end on its link, and `pair.rt` both and the links between them. `replaying.rt` lets them do a script's actions and puts
+//! the report, and `peering.rt` lets two peers do them. `sr_lines` spells what is reported.
 //!
-//! Proved: what is put for a script is the text of the one run that its actions make. The steps of this run are a world of two ends in the
-//! words of `hd_delivery`, and delivery holds in it ([`replay`]). The definitions are `specs/Runs.antt` and `Report.antt`.
+//! Proved: what is put for a script without peers is the text of the one run that its actions make. The steps of this run are a world of two
+//! ends in the words of `hd_delivery`, and delivery holds in it. With peers it is the text of a run of its actions, in which calls are carried
+//! out once ([`replay`]). The definitions are `specs/Runs.antt` and `Report.antt`, and those of `sr_peers`.
 //!
 //! The crate doesn't know how scripts are written, the words of a command line, nor files. A loop over frames runs to a bound that no end
 //! reaches, since its measure can't be a history.
@@ -18,8 +19,10 @@
 
 mod laws;
 mod pair;
+mod peering;
 mod player;
 mod replaying;
+mod told;
 
 pub use laws::{reports_have_lines, reports_once, runs_are_worlds, runs_once};
 pub use replaying::{ReplayError, Totals, replay};

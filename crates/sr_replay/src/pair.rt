@@ -18,11 +18,12 @@ ghost use Rattle.sr_replay.specs.Runs.{Doing, Run, attaching, ticking, steps_of,
 ghost use Rattle.hd_runs.specs.Following.{FollowAll, FollowUpTo};
 ghost use Rattle.hd_runs.specs.Alone.{writing, reading};
 ghost use Rattle.hd_runs.specs.Sides.{other};
-ghost use Rattle.sr_replay.specs.Report.{IsReportOver, doing_text, report_text, standing_text};
+ghost use Rattle.sr_lines.specs.Lines.{standing_text};
+ghost use Rattle.sr_replay.specs.Report.{IsReportOver, doing_text, report_text};
 ghost use Rattle.sr_replay.specs.Plays.{Plays, OfEach, limits_at, steps_text};
 ghost use Rattle.hd_runs.specs.Alone.{lent_text};
-ghost use Rattle.sr_script.specs.Asking.{IsWhole};
-ghost use Rattle.sr_replay.specs.Follows.{Follows, GoesOn, MayRead, Tries, said_by, terms_of};
+ghost use Rattle.sr_replay.specs.Follows.{Follows, GoesOn, IsOfEnds, MayRead, Tries, said_by};
+ghost use Rattle.sr_peers.specs.Begun.{terms_of};
 
 use crate::laws::{ends_report, runs_are_worlds};
 use crate::player::Player;
@@ -240,7 +241,7 @@ impl Pair {
 
     /// Does what an action asks for. After an error the pair is of no use.
     pub(crate) fn act(&mut self, alloc: Global, action: &Action) -> Result<(), AllocError>
-        requires { IsWhole action.now }
+        requires { IsOfEnds action.now }
         ensures { OnOk result (GoesOn self.old action.now self.new) }
     {
         match action {
@@ -258,6 +259,11 @@ impl Pair {
             }
             Action::Send(side, message) => self.send(alloc, *side, message),
             Action::Tick(now) => self.tick(*now),
+            Action::Call(_, _) => unreachable!(),
+            Action::Item(_, _, _) => unreachable!(),
+            Action::Done(_, _) => unreachable!(),
+            Action::Cancel(_, _) => unreachable!(),
+            Action::Round(_) => unreachable!(),
         }
     }
 

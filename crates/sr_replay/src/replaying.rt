@@ -1,4 +1,4 @@
-//! A script, replayed over two real ends: its run, and the report of it.
+//! A script, replayed: over two real ends here, or over two peers, and the report of it put.
 
 ghost use Rattle.std.specs.Prelude.{◌≡◌, ◌≢◌, ℕ, List, [], ◌∷◌, IfOk, OnOk, Err, take};
 ghost use Rattle.std.specs.Io.KnownBytes.{Appends};
@@ -6,13 +6,15 @@ ghost use Rattle.hd_facts.specs.Counts.{Rose};
 ghost use Rattle.hd_facts.specs.Unique.{IsTheOne};
 ghost use Rattle.sr_script.specs.declared.action.Setting.{Setting};
 ghost use Rattle.sr_script.specs.Script.{Program, Parses, IsSetting, opened};
-ghost use Rattle.sr_replay.specs.Report.{IsReport};
-ghost use Rattle.sr_script.specs.Asking.{IsAllowed};
-ghost use Rattle.sr_replay.specs.Replays.{Begins, Obeys, ActsAll, Reaches};
+ghost use Rattle.sr_script.specs.Terms.{peers_in};
+ghost use Rattle.sr_replay.specs.Report.{IsReport, IsReportOf};
+ghost use Rattle.sr_replay.specs.Replays.{Begins, IsWithoutPeers, IsForEnds, Obeys, ActsAll, Reaches};
 ghost use Rattle.hs_shake.specs.Requests.{IsVersion};
 
 use crate::laws::reports_once;
 use crate::pair::Pair;
+use crate::peering;
+use crate::told::Told;
 use he_end::Config;
 use he_wire::has_wire;
 use hm_message::Codec;
@@ -96,6 +98,7 @@ fn set(config: &mut Config, setting: Setting)
         Setting::Version(version) => config.version = version,
         Setting::Reconnect(reconnect) => config.reconnect = reconnect,
         Setting::Buffer(limits) => config.limits = limits,
+        Setting::Peers => {}
     }
 }
 
@@ -121,7 +124,7 @@ fn options(alloc: Global, script: &Script) -> Result<Config, AllocError>
 
 /// Does what a line asks for, once the options are known.
 fn obey(alloc: Global, asked: Asked, pair: &mut Pair) -> Result<(), AllocError>
-    requires { IsAllowed asked }
+    requires { IsForEnds asked }
     ensures { OnOk result (Obeys pair.old asked pair.new) }
 {
     match asked {
@@ -130,10 +133,14 @@ fn obey(alloc: Global, asked: Asked, pair: &mut Pair) -> Result<(), AllocError>
     }
 }
 
-/// Does the actions of a script with two ends that did nothing yet.
+/// Does the actions of a script without peers, with two ends that did nothing yet.
 fn act_all(alloc: Global, script: &Script, pair: &mut Pair) -> Result<(), AllocError>
+    requires { IsWithoutPeers script.now }
     ensures { OnOk result ((p : Program) → Parses script.now p → ActsAll pair.old p.actions pair.new) }
 {
+    settings_come_first();
+    // The text of a script is one.
+    let _ = script.text();
     let mut reader = Reader::start(alloc);
     loop {
         match reader.next_in(alloc, script)? {
@@ -143,8 +150,9 @@ fn act_all(alloc: Global, script: &Script, pair: &mut Pair) -> Result<(), AllocE
     }
 }
 
-/// The two ends after all actions of a script.
+/// The two ends after all actions of a script without peers.
 fn run(alloc: Global, script: &Script) -> Result<Pair, AllocError>
+    requires { IsWithoutPeers script.now }
     ensures { IfOk result (λ pair. (p : Program) → Parses script.now p → Reaches p pair) }
 {
     let config = options(alloc, script)?;
@@ -153,15 +161,10 @@ fn run(alloc: Global, script: &Script) -> Result<Pair, AllocError>
     Ok(pair)
 }
 
-/// Replays a script: runs a client's and a server's end as its actions say, and puts the report. It is made whole first and put in one
-/// call, so nothing was written when memory runs out.
-pub fn replay<K: Sink>(alloc: Global, script: &Script, out: &mut K) -> Result<Totals, ReplayError>
-    ensures ok { IfOk result (λ totals. (p : Program) → Parses script.now p → (text : List ℕ) × (IsTheOne (IsReport p) text
-        × Appends (K.holds out.old) (K.holds out.new) text × (totals.links ≡ opened p.actions))) }
-    ensures write { result ≡ Err ReplayError.Write → Rose (K.faults out.old) (K.faults out.new) × ((p : Program) → Parses script.now p →
-        (text : List ℕ) × (IsTheOne (IsReport p) text × ((n : ℕ) × Appends (K.holds out.old) (K.holds out.new) (take n text)))) }
-    ensures no_memory { result ≡ Err ReplayError.NoMemory → out.new ≡ out.old }
-    ensures unfailed { result ≢ Err ReplayError.Write → K.faults out.new ≡ K.faults out.old }
+/// What is told of a script without peers.
+fn tell_ends(alloc: Global, script: &Script) -> Result<Told, AllocError>
+    requires { IsWithoutPeers script.now }
+    ensures { IfOk result (λ told. (p : Program) → Parses script.now p → IsTheOne (IsReport p) told.report.items × (told.links ≡ opened p.actions)) }
 {
     reports_once();
     has_wire();
@@ -169,8 +172,68 @@ pub fn replay<K: Sink>(alloc: Global, script: &Script, out: &mut K) -> Result<To
     pair.reports();
     let links = pair.links();
     let report = pair.finish(alloc)?;
-    match out.put(&report) {
-        Ok(()) => Ok(Totals { links }),
+    Ok(Told { report, links })
+}
+
+/// Whether there are peers, if a further option is this.
+fn has_peers_with(has: bool, setting: Setting) -> bool
+    ensures { (settings : List Setting) → has ≡ peers_in settings → result ≡ peers_in (setting ∷ settings) }
+{
+    match setting {
+        Setting::Codec(_) => has,
+        Setting::Version(_) => has,
+        Setting::Reconnect(_) => has,
+        Setting::Buffer(_) => has,
+        Setting::Peers => true,
+    }
+}
+
+/// Whether a script has peers. Its options come before its first action.
+fn has_peers(alloc: Global, script: &Script) -> Result<bool, AllocError>
+    ensures { IfOk result (λ has. (p : Program) → Parses script.now p → has ≡ peers_in p.settings) }
+{
+    settings_come_first();
+    let mut reader = Reader::start(alloc);
+    let mut has = false;
+    loop {
+        match reader.next_in(alloc, script)? {
+            Some(Asked::Setting(setting)) => has = has_peers_with(has, setting),
+            Some(Asked::Action(action)) => {
+                drop(action);
+                return Ok(has);
+            }
+            None => return Ok(has),
+        }
+    }
+}
+
+/// What is told of a script, with peers or without.
+fn tell(alloc: Global, script: &Script) -> Result<Told, AllocError>
+    ensures { IfOk result (λ told. (p : Program) → Parses script.now p → IsReportOf p told.report.items × (told.links ≡ opened p.actions)) }
+{
+    let has = has_peers(alloc, script)?;
+    if has {
+        let config = options(alloc, script)?;
+        let told = peering::tell(alloc, config, script)?;
+        return Ok(told);
+    }
+    let told = tell_ends(alloc, script)?;
+    Ok(told)
+}
+
+/// Replays a script: runs a client's and a server's end, or two peers, as its actions say, and puts the report. It is made whole first and
+/// put in one call, so nothing was written when memory runs out.
+pub fn replay<K: Sink>(alloc: Global, script: &Script, out: &mut K) -> Result<Totals, ReplayError>
+    ensures ok { IfOk result (λ totals. (p : Program) → Parses script.now p → (text : List ℕ) × (IsReportOf p text
+        × Appends (K.holds out.old) (K.holds out.new) text × (totals.links ≡ opened p.actions))) }
+    ensures write { result ≡ Err ReplayError.Write → Rose (K.faults out.old) (K.faults out.new) × ((p : Program) → Parses script.now p →
+        (text : List ℕ) × (IsReportOf p text × ((n : ℕ) × Appends (K.holds out.old) (K.holds out.new) (take n text)))) }
+    ensures no_memory { result ≡ Err ReplayError.NoMemory → out.new ≡ out.old }
+    ensures unfailed { result ≢ Err ReplayError.Write → K.faults out.new ≡ K.faults out.old }
+{
+    let told = tell(alloc, script)?;
+    match out.put(&told.report) {
+        Ok(()) => Ok(Totals { links: told.links }),
         Err(Failed) => Err(ReplayError::Write),
     }
 }
