@@ -8,7 +8,7 @@ use Rattle.hd_facts.specs.Writes.{Writes, WritesPart, WritesOfRead}
 use Rattle.sr_app.specs.declared.run.Status.{Status}
 use Rattle.sr_app.specs.declared.run.Status.TheVariants.{Done, Usage, Refused, ReadFault, WriteFault, NoMemory}
 use Rattle.sr_script.specs.Script.{Program, Parses, IsRefusedAt, refusal_line, most_script}
-use Rattle.sr_replay.specs.Report.{IsReport}
+use Rattle.sr_replay.specs.Report.{IsReportOf}
 use Rattle.sr_check.specs.declared.task.Task.{Task}
 use Rattle.sr_check.specs.declared.task.Task.TheVariants as task
 use Rattle.sr_check.specs.declared.task.Stop.{Stop}
@@ -51,11 +51,11 @@ pub record Meaning : Type 1 where
   -- what the input has left before and after
   pub reads : Option (List ℕ) → Option (List ℕ) → Type 0
 
--- The text is a script, and this is the report of what it asks for: that is one program, which has one report.
+-- the text is a script, which asks for one program, and this is a report of that: the one there is, if it has no peers
 pub record IsReplayed (text report : List ℕ) : Type 0 where
   pub asks : Program
   pub script : IsTheOne (Parses text) asks
-  pub report_is : IsTheOne (IsReport asks) report
+  pub report_is : IsReportOf asks report
 
 -- the text is no script, and this is its refusal
 pub record IsRefused (text answer : List ℕ) : Type 0 where

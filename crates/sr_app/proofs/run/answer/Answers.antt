@@ -7,4 +7,4 @@ returns-in-Ok-replay-clause-touched g c = λ differ.
     let asks = c.in-Ok.ensures.ok in
     let p = asks.1.0 in
     let wrote = c.in-Ok-replay.ensures.ok p (subst (λ x. Parses x p) (sym asks.0) asks.1.1.holds) in
-    inr (wrote.0, c.reports_have_lines.ensures p wrote.0 wrote.1.0.holds, wrote.1.1)
+    inr (wrote.0, c.reports_have_lines.ensures p wrote.0 wrote.1.0, wrote.1.1)
