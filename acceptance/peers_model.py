@@ -16,7 +16,7 @@ import sys
 
 import peers_script
 import replay_model
-from replay_model import Refused, json_text
+from replay_model import Refused, json_text, number_of
 from tables_model import MOST_TIMES, MOST_UPLOADS, Jobs, OwnCalls, calculator, differences
 from tables_model import Refused as WordRefused, kind_of, number
 
@@ -161,16 +161,18 @@ def confirm(kind, target, arguments, streams, _inputs):
 
 
 class Pair(replay_model.Script):
-    def __init__(self, options):
+    def __init__(self):
         super().__init__()
-        codec, version, reconnect, *buffer = options.split(" ")
-        for option in (f"codec {codec}", f"version {version}", f"reconnect {reconnect}", "buffer " + " ".join(buffer)):
-            self.line(option)
-        self.begin()
         self.calls = {"c": OwnCalls(""), "s": OwnCalls("s")}
         self.jobs = {"c": Jobs(confirm), "s": Jobs(calculator)}
         # the calls that jobs made: the number of each, and the job
         self.asked = {"c": [], "s": []}
+
+    def begin_with(self, options):
+        codec, version, reconnect, *buffer = options.split(" ")
+        for option in (f"codec {codec}", f"version {version}", f"reconnect {reconnect}", "buffer " + " ".join(buffer)):
+            self.line(option)
+        self.begin()
 
     def act(self, word, rest):
         if word == "stand":
@@ -191,8 +193,7 @@ class Pair(replay_model.Script):
             case "forge-pack":
                 self.forge_pack(side, rest)
             case "round":
-                self.jobs[side].round()
-                self.turns(side)
+                self.round(side)
             case "turns":
                 self.turns(side)
             case "due":
@@ -377,6 +378,10 @@ class Pair(replay_model.Script):
 
     # ---- turns
 
+    def round(self, side):
+        self.jobs[side].round()
+        self.turns(side)
+
     def may_turn(self, side):
         e = self.ends[side]
         count, most, frame = e.limits
@@ -414,6 +419,51 @@ class Pair(replay_model.Script):
         return False
 
 
+class Replay(Pair):
+    """A script of `sr replay` in which the line `peers on` stands, for replay_model.py."""
+
+    def option(self, word, rest):
+        if word != "peers":
+            return super().option(word, rest)
+        if self.begun or word in self.options or rest != "on":
+            raise Refused
+        self.options[word] = True
+
+    def action(self, text):
+        side, _, words = text.partition(" ")
+        act = self.action_of_peer(side, words) if side in ("c", "s") and "peers" in self.options else None
+        act = act or super().action(text)
+
+        def do():
+            act()
+            self.tell_gone("c")
+            self.tell_gone("s")
+
+        return do
+
+    def action_of_peer(self, side, words):
+        verb, _, rest = words.partition(" ")
+        word, _, more = rest.partition(" ")
+        match verb:
+            case "round" if words == verb:
+                return lambda: self.round(side)
+            case "call" | "stream" | "notify" | "upload" if word:
+                kind, uploads = ("call", 1) if verb == "upload" else (verb, 0)
+                arguments = values_of(more)
+                return lambda: self.call(side, kind, uploads, word, arguments)
+            case "item":
+                call, tree = number_of(word), {"type": 2, "item": value_of(more)}
+                return lambda: self.upload(side, "item-sent", call, 0, tree)
+            case "done":
+                call = number_of(rest)
+                return lambda: self.upload(side, "done", call, 0, {"type": 3})
+            case "cancel":
+                call = number_of(rest)
+                return lambda: self.cancel(side, call)
+            case "send":
+                raise Refused
+
+
 # ---- scripts
 
 
@@ -427,7 +477,8 @@ class Play:
         if word == "note":
             return [rest]
         if word == "begin":
-            self.pair = Pair(rest)
+            self.pair = Pair()
+            self.pair.begin_with(rest)
             return []
         if self.pair is None:
             raise Refused

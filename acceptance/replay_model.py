@@ -4,7 +4,8 @@
     acceptance/replay_model.py < SCRIPT                 the report that the definitions give
     acceptance/replay_model.py --random SEED N PROGRAM  N random scripts, each run by PROGRAM too and compared
 
-It follows the rules of docs/delivery.md and docs/protocol.md and shares no code with the program. It reads a message of a
+It follows the rules of docs/delivery.md and docs/protocol.md and shares no code with the program. What scripts with `peers on` do
+beside that stands in peers_model.py. It reads a message of a
 script with Python's json and takes any object of type 1 to 5 for one, so it is for scripts whose messages have their
 fields and are written in the usual way."""
 import collections
@@ -296,7 +297,7 @@ class Script:
     def line(self, text):
         if text == "" or text.startswith("#"): return
         word, _, rest = text.partition(" ")
-        if word in ("codec", "version", "reconnect", "buffer"): return self.option(word, rest)
+        if word in ("codec", "version", "reconnect", "buffer", "peers"): return self.option(word, rest)
         act = self.action(text)
         if not self.begun: self.begin()
         act()
@@ -432,44 +433,120 @@ class Script:
         return "".join(line + "\n" for line in self.report)
 
 
+def new_script(lines):
+    if "peers on" not in lines: return Script()
+    import peers_model
+    return peers_model.Replay()
+
+
 def report_of(script):
     """The report and the exit status."""
-    s = Script()
-    for number, line in enumerate(script.split("\n")[:-1] if script.endswith("\n") else script.split("\n") if script else [], 1):
+    lines = script.removesuffix("\n").split("\n") if script else []
+    s = new_script(lines)
+    for number, line in enumerate(lines, 1):
         try: s.line(line)
         except Refused: return f"line {number} refused\n", 2
     return s.text(), 0
 
 
-def random_script(draw):
-    lines = []
-    if draw.random() < .5: lines.append(f"codec {draw.choice(['json', 'pack'])}")
-    if draw.random() < .8: lines.append(f"version {draw.choice([1, 2, 3])}")
-    if draw.random() < .3: lines.append(f"reconnect {draw.choice(['on', 'off', 'on'])}")
-    if draw.random() < .4: lines.append(draw.choice(["buffer 3 400 256", "buffer 2 1000 300", "buffer 1 261 256"]))
-    if draw.random() < .9: lines += ["open", "accept 0", "c write *", "s read *", "s write *", "c read *"]
-    opened, accepted, now = lines.count("open"), {0} if "accept 0" in lines else set(), 0
-    for _ in range(draw.randrange(60)):
-        side = draw.choice("cs")
-        k = draw.randrange(20)
-        if k < 5: lines.append(f"{side} write {draw.choice(['*', '*', '1', '2'])}")
-        elif k < 10: lines.append(f"{side} read {draw.choice(['*', '*', '1', '20', '45', '300'])}")
-        elif k < 14:
-            target = draw.choice("abc") * draw.choice([1, 1, 5, 200])
-            lines.append(f"{side} send " + json_text({"arguments": [draw.choice([1, -5, "é", None, [True]])], "target": target, "type": 1}))
-        elif k < 16:
-            lines.append("open")
-            opened += 1
-        elif k < 18:
-            free = [l for l in range(opened) if l not in accepted]
-            if free:
-                accepted.add(draw.choice(free[-3:]))
-                lines.append(f"accept {max(accepted - set(int(l.split()[1]) for l in lines if l.startswith('accept')))}")
+OPENING = ["open", "accept 0", "c write *", "s read *", "s write *", "c read *"]
+TURN = ["c write *", "s read *", "s round", "s write *", "c read *", "c round"]
+VALUES = ["1", "-5", '"é"', "null", "true", "[false]"]
+
+
+class RandomScript:
+    """The lines of a script, as they are drawn. With peers they are played too, so that lines about calls can name live ones."""
+
+    def __init__(self, draw):
+        self.draw, self.lines, self.peers = draw, [], draw.random() < .5
+        self.links, self.left, self.now = 0, [], 0
+        self.played = new_script(["peers on"]) if self.peers else None
+
+    def say(self, *lines):
+        self.lines += lines
+        if self.peers:
+            for line in lines: self.played.line(line)
+
+    def options(self):
+        draw = self.draw
+        if self.peers: self.say("peers on")
+        if draw.random() < .5: self.say(f"codec {draw.choice(['json', 'pack'])}")
+        if draw.random() < .8: self.say(f"version {draw.choice([1, 2, 3])}")
+        if draw.random() < .3: self.say(f"reconnect {draw.choice(['on', 'off', 'on'])}")
+        if draw.random() < .4: self.say(draw.choice(["buffer 3 400 256", "buffer 2 1000 300", "buffer 1 261 256", "buffer 9 1500 256"]))
+
+    def open(self):
+        self.say("open")
+        self.left.append(self.links)
+        self.links += 1
+
+    def accept(self):
+        if self.left: self.say(f"accept {self.left.pop(-1 - self.draw.randrange(min(3, len(self.left))))}")
+
+    def send(self, side):
+        draw = self.draw
+        target = draw.choice("abc") * draw.choice([1, 1, 5, 200])
+        self.say(f'{side} send {{"arguments":[{draw.choice(VALUES)}],"target":"{target}","type":1}}')
+
+    def call(self, side):
+        draw = self.draw
+        value, n, long = draw.choice(VALUES), draw.randrange(4), "x" * draw.choice([5, 150, 190, 250])
+        calls = [f"stream Count [{n}]", f"call Slow [{n},{value}]", f"call Echo [{value}]", f'call Ask ["Confirm",{value}]', f'call Ask ["Sum",{n}]']
+        calls += [f"call Add [{n},{value}]", f"call Add [18446744073709551615,{n}]", 'call Fail ["It failed."]', f'call Echo ["{long}"]']
+        calls += ["stream Sum []", f"call Count [{n}]", "call a []", f"notify Slow [{n},1]", f'notify Ask ["Confirm",{n}]', f"notify Count [{n}]"]
+        if side == "s" and draw.random() < .9:
+            calls = [f"call Confirm [{value}]", "call Confirm []", f"stream Confirm [{value}]", "call a []", "stream b [1]", f"notify Confirm [{value}]"]
+            calls += [f'call Confirm ["{long}"]', "notify c [2]"]
+        uploads = ["upload Sum []"] * 4 + ["upload Echo [1]", "upload Count [2]"] if side == "c" else ["upload Confirm [1]", "upload d []"]
+        self.say(f"{side} {draw.choice(uploads if draw.random() < .3 else calls)}")
+
+    def use(self, side):
+        draw, calls = self.draw, self.played.calls[side]
+        live, uploads = [call for call, _ in calls.live_calls()], [call for call, _ in calls.live_uploads()]
+        if draw.random() < .1: live = uploads = [draw.randint(0, calls.drawn() + 1)]
+        if uploads and draw.random() < .8:
+            upload = draw.choice(uploads[-4:])
+            self.say(f"{side} " + draw.choice([f"item {upload} {value}" for value in ("1", "5", "-7", "20", "1", "true")] + [f"done {upload}"] * 2))
+        elif live and draw.random() < .5: self.say(f"{side} cancel {draw.choice(live[-3:])}")
+        else: self.call(side)
+
+    def speak(self, side):
+        if not self.peers: self.send(side)
+        elif self.draw.random() < .5: self.call(side)
+        elif self.draw.random() < .6: self.use(side)
+        else: self.say(f"{side} round")
+
+    def step(self):
+        draw = self.draw
+        side, k = draw.choice("ccs"), draw.randrange(20)
+        if k < 5: self.say(f"{side} write {draw.choice(['*', '*', '1', '2'])}")
+        elif k < 9: self.say(f"{side} read {draw.choice(['*', '*', '1', '20', '45', '300'])}")
+        elif k < 14: self.speak(side)
+        elif k < 16 and self.peers: self.say(*TURN)
+        elif k < 17 and draw.random() < .7:
+            self.open()
+            if draw.random() < .5: self.accept()
+        elif k < 18: self.accept()
         elif k < 19 and draw.random() < .5:
-            now += draw.choice([0, 1, 14999, 15000, 30000])
-            lines.append(f"tick {now}")
-        elif draw.random() < .3: lines.append(f"{side} {draw.choice(['lose', 'lose', 'close'])}")
-    return "".join(line + "\n" for line in lines)
+            self.now += draw.choice([0, 1, 14999, 15000, 30000])
+            self.say(f"tick {self.now}")
+        elif draw.random() < .2: self.say(f"{side} {draw.choice(['lose', 'lose', 'close'])}")
+
+    def text(self):
+        draw = self.draw
+        self.options()
+        if draw.random() < .9:
+            self.say(*OPENING)
+            self.links = 1
+        for _ in range(draw.randrange(90 if self.peers else 60)): self.step()
+        if self.peers and draw.random() < .5:
+            self.open()
+            self.say(f"accept {self.left.pop()}", *TURN * 6)
+        return "".join(line + "\n" for line in self.lines)
+
+
+def random_script(draw):
+    return RandomScript(draw).text()
 
 
 def main():
@@ -490,4 +567,6 @@ def main():
 
 
 if __name__ == "__main__":
-    main()
+    # peers_model.py needs this module by its name.
+    import replay_model
+    replay_model.main()

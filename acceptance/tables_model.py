@@ -49,6 +49,11 @@ def is_whole(n):
     return -(2**63) <= n < 2**64
 
 
+def is_int(v):
+    """Python takes a truth value for a number too."""
+    return isinstance(v, int) and not isinstance(v, bool)
+
+
 def value(word):
     if re.fullmatch(r"[+-]?[0-9]+", word, re.ASCII) and is_whole(int(word)):
         return int(word)
@@ -237,13 +242,13 @@ def calculator(kind, target, arguments, streams, inputs):
     match [target, *arguments]:
         case ["Echo", v]:
             return ("end", ("result", v))
-        case ["Add", int(a), int(b)]:
+        case ["Add", a, b] if is_int(a) and is_int(b):
             return ("end", ("result", a + b) if is_whole(a + b) else ("error", "Out of range."))
-        case ["Count", int(n)] if 0 <= n <= MOST_TURNS:
+        case ["Count", n] if is_int(n) and 0 <= n <= MOST_TURNS:
             return ("item", turn + 1) if turn < n else ("end", ("void",))
         case ["Sum"]:
             return sum_of(inputs)
-        case ["Slow", int(n), v] if 0 <= n <= MOST_TURNS:
+        case ["Slow", n, v] if is_int(n) and 0 <= n <= MOST_TURNS:
             return ("more",) if turn < n else ("end", ("result", v))
         case ["Fail", str(t)]:
             return ("end", ("error", t))
@@ -258,7 +263,7 @@ def sum_of(inputs):
     match inputs[-1]:
         case ("go",):
             return ("wait",)
-        case ("item", int(v)):
+        case ("item", v) if is_int(v):
             return ("wait",) if is_whole(total + v) else ("end", ("error", "Out of range."))
         case ("item", _):
             return ("end", ("error", "Wrong arguments."))
