@@ -3,4 +3,3 @@ pub mod HeadFacts
 pub mod LaneFacts
 pub mod LengthFacts
 pub mod NumberFacts
-pub mod StatusFacts

@@ -1,13 +1,12 @@
 -- The requests of a list of bytes, by the grammar of heads (RFC 9112) and by what their fields say.
-use Rattle.std.specs.Prelude.{◌≡◌, ◌<◌, ◌≤◌, ◌⊎◌, ⊤, ℕ, List, length, map, Option, is_some, Result, Ok, Err, IsTrue, IsFalse}
+use Rattle.std.specs.Prelude.{◌≡◌, ◌<◌, ◌≤◌, ◌⊎◌, ℕ, List, length, Option, is_some, Result, IsTrue, IsFalse}
 use Rattle.httparse.specs.Grammar.{RequestHead, print_request, ReadsRequest, HasNoRequest, NeverHasRequest, MayBecomeRequest}
-use Rattle.httparse.specs.Spans.{name_and_value, RequestExceeds}
+use Rattle.httparse.specs.Spans.{RequestExceeds}
 use Rattle.http1.specs.Fields.{Header}
 use Rattle.hd_lanes.specs.declared.http.Request.{Request}
-use Rattle.hh_http.specs.Heads.{agree, lengths, body_length, is_coded, path_of, query_of, method_of, bearer_of, is_shut, Upgrades, HasBadUpgrade}
-use Rattle.hh_http.specs.Messages.{Grammar, Series}
+use Rattle.hh_http.specs.Heads.{names_and_values, agree, lengths, body_length, is_coded, path_of, query_of, method_of, bearer_of, is_shut, Upgrades, HasBadUpgrade}
+use Rattle.hh_http.specs.Messages.{Grammar, Series, Decides}
 use Rattle.hh_http.specs.declared.error.HttpError.{HttpError}
-use Rattle.hh_http.specs.declared.error.HttpError.TheVariants.{Refused, NoMemory}
 use Rattle.hh_http.specs.declared.limits.TheConstants.{MOST_BODY}
 
 -- ---- heads
@@ -46,14 +45,11 @@ RefusesBy method fields status =
     ((status ≡ 400) × (IsFalse (agree (lengths fields)) ⊎ HasBadUpgrade method fields))
     ⊎ (((accept : Option (List ℕ)) × Upgrades method fields accept) × RefusesBody fields status)
 
--- the names and the values of a head
-abbrev pub fields_of : RequestHead → List Header
-fields_of h = map name_and_value h.fields
-
 -- a head with these fields is taken: this is its request but for the body, which has this length
 abbrev pub Says : RequestHead → Request → ℕ → Type 0
 Says h q length =
-    NamesBy h.method h.target h.minor (fields_of h) q × IsTaken h.method (fields_of h) q.upgrade length
+    NamesBy h.method h.target h.minor (names_and_values h.fields) q
+    × IsTaken h.method (names_and_values h.fields) q.upgrade length
 
 -- ---- requests
 
@@ -70,7 +66,7 @@ request_grammar =
       MayBecome = MayBecomeRequest;
       Exceeds = RequestExceeds;
       Says = Says;
-      Breaks = λ h status. RefusesBy h.method (fields_of h) status;
+      Breaks = λ h status. RefusesBy h.method (names_and_values h.fields) status;
       body = λ q. q.body;
       with_body = λ q body. record q { body = body };
       is_last = λ q. is_some q.upgrade;
@@ -84,18 +80,14 @@ Asks bytes requests rest = Series request_grammar bytes requests rest
 
 -- what an upgrade comes to
 abbrev pub Upgrading : List ℕ → List Header → Result (Option (List ℕ)) HttpError → Type 0
-Upgrading method fields (Ok accept) = Upgrades method fields accept
-Upgrading method fields (Err (Refused status)) = (status ≡ 400) × HasBadUpgrade method fields
-Upgrading method fields (Err NoMemory) = ⊤
+Upgrading method fields result =
+    Decides (Upgrades method fields) (λ status. (status ≡ 400) × HasBadUpgrade method fields) result
 
 -- whether a body is taken
 abbrev pub Allows : List Header → Result ℕ HttpError → Type 0
-Allows fields (Ok n) = HasBody fields n
-Allows fields (Err (Refused status)) = RefusesBody fields status
-Allows fields (Err NoMemory) = ⊤
+Allows fields result = Decides (HasBody fields) (RefusesBody fields) result
 
 -- whether a head is taken
 abbrev pub Checks : List ℕ → List Header → Result (Option (List ℕ) × ℕ) HttpError → Type 0
-Checks method fields (Ok taken) = IsTaken method fields taken.0 taken.1
-Checks method fields (Err (Refused status)) = RefusesBy method fields status
-Checks method fields (Err NoMemory) = ⊤
+Checks method fields result =
+    Decides (λ taken. IsTaken method fields taken.0 taken.1) (RefusesBy method fields) result

@@ -1,9 +1,11 @@
 -- What the fields of a head say (RFC 9110, sections 5 and 8.6; RFC 6455, section 4.2). A field is a name and a value without the
 -- blanks around it; names are compared without regard to case.
-use Rattle.std.specs.Prelude.{◌≡◌, ◌≢◌, ◌⊎◌, ◌&&◌, ◌||◌, ◌==◌, ℕ, Bool, true, List, [], ◌∷◌, take, drop, length, nat_lt, Option, None, Some, is_some, option_and_then, IsTrue, IsFalse, if◌then◌else◌, codes, bytes_eq}
+use Rattle.std.specs.Prelude.{◌≡◌, ◌≢◌, ◌⊎◌, ◌&&◌, ◌||◌, ◌==◌, ℕ, Bool, true, List, [], ◌∷◌, take, drop, length, map, nat_lt, Option, None, Some, is_some, option_and_then, IsTrue, IsFalse, if◌then◌else◌, codes, bytes_eq}
 use Rattle.std.specs.List.{list_all}
 use Rattle.std.specs.Char.{is_ascii_digit}
 use Rattle.std.specs.Str.Parse.{digits_value}
+use Rattle.httparse.specs.Grammar.{Field}
+use Rattle.httparse.specs.Spans.{name_and_value}
 use Rattle.http1.specs.Text.{eq_ignore_case}
 use Rattle.http1.specs.Fields.{Header, is_named, values_named, elements_named, has_option}
 use Rattle.form_urlencoded.specs.Form.{split_once}
@@ -11,6 +13,10 @@ use Rattle.websocket.specs.Handshake.{IsValidKey, accept_key_of}
 use Rattle.hd_lanes.specs.Query.{query_value_of}
 use Rattle.hd_lanes.specs.declared.http.Method.{Method}
 use Rattle.hd_lanes.specs.declared.http.Method.TheVariants.{Get, Post, Delete, Other}
+
+-- the names and the values of a head's fields
+abbrev pub names_and_values : List Field → List Header
+names_and_values fields = map name_and_value fields
 
 -- the value of the first field of this name
 abbrev pub first_named : List ℕ → List Header → Option (List ℕ)

@@ -6,6 +6,12 @@ use Rattle.hh_http.specs.declared.message.Head.{Head}
 use Rattle.hh_http.specs.declared.limits.TheConstants.{MOST_HEAD, MOST_BODY, MOST_HEADERS}
 use Rattle.hh_http.specs.Lane.{Lane, room_for}
 
+-- the first of these holds of an answer, the second of the status of a refusal
+abbrev pub Decides : {A : Type 0} → (A → Type 0) → (ℕ → Type 0) → Result A HttpError → Type 0
+Decides Takes Refuses (Ok a) = Takes a
+Decides Takes Refuses (Err (Refused status)) = Refuses status
+Decides Takes Refuses (Err NoMemory) = ⊤
+
 -- A kind of messages.
 pub record Grammar (M : Type 0) : Type 1 where
   -- the parts of a head
@@ -97,9 +103,7 @@ module _ {M : Type 0} (g : Grammar M) where
 
   -- what a head that was parsed comes to
   abbrev pub Judges : List ℕ → Result (Head M) HttpError → Type 0
-  Judges bytes (Ok head) = IsHeadAt bytes head
-  Judges bytes (Err (Refused status)) = RefusesHead bytes status
-  Judges bytes (Err NoMemory) = ⊤
+  Judges bytes result = Decides (IsHeadAt bytes) (RefusesHead bytes) result
 
   -- what the bytes begin with
   abbrev pub Reads : List ℕ → Result (Option (Head M)) HttpError → Type 0

@@ -1,19 +1,14 @@
 -- The responses of a list of bytes, by the grammar of heads (RFC 9112) and by what their fields say.
-use Rattle.std.specs.Prelude.{◌≡◌, ◌⊎◌, ◌==◌, ⊤, ℕ, List, length, map, Result, Ok, Err, IsFalse, codes}
+use Rattle.std.specs.Prelude.{◌≡◌, ◌⊎◌, ◌==◌, ℕ, List, length, Result, IsFalse, codes}
 use Rattle.httparse.specs.Grammar.{ResponseHead, print_response, ReadsResponse, HasNoResponse, NeverHasResponse, MayBecomeResponse, status_code}
-use Rattle.httparse.specs.Spans.{name_and_value, ResponseExceeds}
+use Rattle.httparse.specs.Spans.{ResponseExceeds}
 use Rattle.http1.specs.Fields.{Header}
-use Rattle.hh_http.specs.Heads.{first_named, agree, lengths}
+use Rattle.hh_http.specs.Heads.{names_and_values, first_named, agree, lengths}
 use Rattle.hh_http.specs.Asks.{HasBody, RefusesBody}
-use Rattle.hh_http.specs.Messages.{Grammar, Series}
+use Rattle.hh_http.specs.Messages.{Grammar, Series, Decides}
 use Rattle.hh_http.specs.declared.error.HttpError.{HttpError}
-use Rattle.hh_http.specs.declared.error.HttpError.TheVariants.{Refused, NoMemory}
 use Rattle.hh_http.specs.declared.response.Response.{Response}
 use Rattle.hh_http.specs.declared.response.TheConstants.{SWITCHING}
-
--- the names and the values of a head
-abbrev pub fields_of : ResponseHead → List Header
-fields_of h = map name_and_value h.fields
 
 -- what a head's status and fields say of its response
 pub record NamesBy (status : ℕ) (fields : List Header) (r : Response) : Type 0 where
@@ -22,7 +17,7 @@ pub record NamesBy (status : ℕ) (fields : List Header) (r : Response) : Type 0
 
 -- a head with these fields is taken: this is its response but for the body, which has this length
 abbrev pub Says : ResponseHead → Response → ℕ → Type 0
-Says h r n = NamesBy (status_code h) (fields_of h) r × HasBody (fields_of h) n
+Says h r n = NamesBy (status_code h) (names_and_values h.fields) r × HasBody (names_and_values h.fields) n
 
 -- why a head is refused, the first that holds: its lengths are no one number, or its body is in a transfer coding or too long
 abbrev pub RefusesBy : List Header → ℕ → Type 0
@@ -43,7 +38,7 @@ response_grammar =
       MayBecome = MayBecomeResponse;
       Exceeds = ResponseExceeds;
       Says = Says;
-      Breaks = λ h status. RefusesBy (fields_of h) status;
+      Breaks = λ h status. RefusesBy (names_and_values h.fields) status;
       body = λ r. r.body;
       with_body = λ r body. record r { body = body };
       is_last = λ r. r.status == SWITCHING;
@@ -57,6 +52,4 @@ Gives bytes responses rest = Series response_grammar bytes responses rest
 
 -- how long the body of a head with these fields is
 abbrev pub Measures : List Header → Result ℕ HttpError → Type 0
-Measures fields (Ok n) = HasBody fields n
-Measures fields (Err (Refused status)) = RefusesBy fields status
-Measures fields (Err NoMemory) = ⊤
+Measures fields result = Decides (HasBody fields) (RefusesBy fields) result

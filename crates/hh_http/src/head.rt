@@ -1,18 +1,16 @@
 //! A request's head: what it says, or why it is refused.
-ghost use Rattle.std.specs.Prelude.{◌≡◌, ◌≤◌, ◌+◌, ◌-◌, ◌^◌, ◌<◌, ◌↔◌, min, length, map, option_map, All, IfOk, IsTrue, Some, codes};
+ghost use Rattle.std.specs.Prelude.{◌≡◌, ◌+◌, ◌-◌, ◌^◌, ◌<◌, ◌↔◌, min, length, map, option_map, All, IfOk, IsTrue, Some, codes};
 ghost use Rattle.httparse.specs.Spans.{IsHeaderWithin, IsRequestWithin, IsRequestOf, header_bytes, span_bytes};
 ghost use Rattle.hh_http.specs.Heads.{first_named, agree, lengths, number_of, token_of, bearer_of, method_of, path_of, query_of};
 ghost use Rattle.hh_http.specs.Asks.{Upgrading, Allows, Checks, NamesBy, request_grammar};
-ghost use Rattle.hh_http.specs.Messages.{Judges};
 
 use crate::error::HttpError;
 use crate::fields::{first_named, lists, stated_length};
-use crate::limits::{MOST_BODY, MOST_HEAD, MOST_HEADERS};
+use crate::limits::MOST_BODY;
 use crate::message::{Head, Message};
 use hd_lanes::{Method, Request, Text8, Vec8, query_value};
 use http1::text::eq_ignore_case;
-use httparse::spans::{EMPTY_HEADER_SPAN, HeaderSpan, RequestSpans, parse_request};
-use httparse::{Error, Status};
+use httparse::spans::{HeaderSpan, RequestSpans, parse_request};
 use std::alloc::{AllocError, Global};
 use websocket::handshake::server::accept_key;
 
@@ -176,54 +174,33 @@ fn request(
     })
 }
 
-/// What a head that was parsed comes to.
-fn judge(
-    alloc: Global,
-    held: &[u8],
-    spans: RequestSpans,
-    headers: &[HeaderSpan],
-) -> Result<Head<Request>, HttpError>
-    requires within { IsRequestWithin held.now headers.now spans }
-    requires reads { IsRequestOf held.now headers.now spans }
-    requires few { length headers.now ≤ MOST_HEADERS }
-    requires all { spans.headers ≡ length headers.now }
-    ensures { Judges request_grammar held.now result }
-{
-    let (accept, length) = check(alloc, held, spans.method.of(held), headers)?;
-    let message = request(alloc, held, spans, headers, accept)?;
-    Ok(Head {
-        message,
-        start: spans.len,
-        end: spans.len + length,
-    })
-}
-
 impl Message for Request {
+    type Spans = RequestSpans;
+
     ghost use Rattle.hh_http.specs.Lawful.{request-grammar};
 
     ghost grammar = { request_grammar };
 
-    fn read_head(alloc: Global, held: &[u8]) -> Result<Option<Head<Request>>, HttpError> {
-        let mut headers = [EMPTY_HEADER_SPAN; MOST_HEADERS];
-        match parse_request(held, &mut headers) {
-            Ok(Status::Complete(spans)) => {
-                let count = spans.headers;
-                match judge(alloc, held, spans, &headers[..count]) {
-                    Ok(head) => Ok(Some(head)),
-                    Err(HttpError::Refused(status)) => Err(HttpError::Refused(status)),
-                    Err(HttpError::NoMemory) => Err(HttpError::NoMemory),
-                }
-            }
-            Ok(Status::Partial) => {
-                if held.len() < MOST_HEAD {
-                    Ok(None)
-                } else {
-                    Err(HttpError::Refused(431))
-                }
-            }
-            Err(Error::TooManyHeaders) => Err(HttpError::Refused(431)),
-            Err(_) => Err(HttpError::Refused(400)),
-        }
+    ghost covers = { λ held headers spans. IsRequestWithin held headers spans × IsRequestOf held headers spans };
+
+    fn parse(held: &[u8], headers: &mut [HeaderSpan]) -> httparse::Result<RequestSpans> {
+        parse_request(held, headers)
+    }
+
+    fn judge(
+        alloc: Global,
+        held: &[u8],
+        spans: RequestSpans,
+        headers: &[HeaderSpan],
+    ) -> Result<Head<Request>, HttpError> {
+        let headers = &headers[..spans.headers];
+        let (accept, length) = check(alloc, held, spans.method.of(held), headers)?;
+        let message = request(alloc, held, spans, headers, accept)?;
+        Ok(Head {
+            message,
+            start: spans.len,
+            end: spans.len + length,
+        })
     }
 
     fn with_body(mut self, body: Vec8) -> Request {

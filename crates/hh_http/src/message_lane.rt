@@ -6,7 +6,7 @@ ghost use Rattle.hh_http.specs.Messages.{Answers, IsHeadAt, Repeats, Rests, Seri
 use crate::body::take_body;
 use crate::error::HttpError;
 use crate::limits::MOST_HEAD;
-use crate::message::{Head, Message};
+use crate::message::{Head, Message, read_head};
 use std::alloc::{AllocError, Global};
 use std::marker::Model;
 
@@ -153,7 +153,7 @@ impl<M: Message> MessageLane<M> {
         ensures answers { Answers M.grammar self.old self.new result }
         ensures within { IsWithin self.new }
     {
-        match M::read_head(self.alloc, &self.held) {
+        match read_head::<M>(self.alloc, &self.held) {
             Ok(Some(head)) => self.accept(head),
             Ok(None) => Ok(None),
             Err(HttpError::Refused(status)) => self.refuse(status),

@@ -1,17 +1,14 @@
 //! A response's head: what it says, or why it is refused.
-ghost use Rattle.std.specs.Prelude.{◌≡◌, ◌≤◌, length, map, option_map, All, IfOk};
+ghost use Rattle.std.specs.Prelude.{length, map, option_map, All, IfOk};
 ghost use Rattle.httparse.specs.Spans.{IsHeaderWithin, IsResponseWithin, IsResponseOf, header_bytes};
-ghost use Rattle.hh_http.specs.Messages.{Judges};
 ghost use Rattle.hh_http.specs.Responses.{NamesBy, Measures, response_grammar};
 
 use crate::error::HttpError;
 use crate::fields::{first_named, stated_length};
 use crate::head::allowed_length;
-use crate::limits::{MOST_HEAD, MOST_HEADERS};
 use crate::message::{Head, Message};
 use hd_lanes::{Text8, Vec8};
-use httparse::spans::{EMPTY_HEADER_SPAN, HeaderSpan, ResponseSpans, parse_response};
-use httparse::{Error, Status};
+use httparse::spans::{HeaderSpan, ResponseSpans, parse_response};
 use std::alloc::{AllocError, Global};
 
 /// The status of a response that accepts a WebSocket (RFC 9110, section 15.2.2).
@@ -58,54 +55,33 @@ fn without_body(
     })
 }
 
-/// What a head that was parsed comes to.
-fn judge(
-    alloc: Global,
-    held: &[u8],
-    spans: ResponseSpans,
-    headers: &[HeaderSpan],
-) -> Result<Head<Response>, HttpError>
-    requires within { IsResponseWithin held.now headers.now spans }
-    requires reads { IsResponseOf held.now headers.now spans }
-    requires few { length headers.now ≤ MOST_HEADERS }
-    requires all { spans.headers ≡ length headers.now }
-    ensures { Judges response_grammar held.now result }
-{
-    let length = body_length(held, headers)?;
-    let message = without_body(alloc, held, spans.code, headers)?;
-    Ok(Head {
-        message,
-        start: spans.len,
-        end: spans.len + length,
-    })
-}
-
 impl Message for Response {
+    type Spans = ResponseSpans;
+
     ghost use Rattle.hh_http.specs.Lawful.{response-grammar};
 
     ghost grammar = { response_grammar };
 
-    fn read_head(alloc: Global, held: &[u8]) -> Result<Option<Head<Response>>, HttpError> {
-        let mut headers = [EMPTY_HEADER_SPAN; MOST_HEADERS];
-        match parse_response(held, &mut headers) {
-            Ok(Status::Complete(spans)) => {
-                let count = spans.headers;
-                match judge(alloc, held, spans, &headers[..count]) {
-                    Ok(head) => Ok(Some(head)),
-                    Err(HttpError::Refused(status)) => Err(HttpError::Refused(status)),
-                    Err(HttpError::NoMemory) => Err(HttpError::NoMemory),
-                }
-            }
-            Ok(Status::Partial) => {
-                if held.len() < MOST_HEAD {
-                    Ok(None)
-                } else {
-                    Err(HttpError::Refused(431))
-                }
-            }
-            Err(Error::TooManyHeaders) => Err(HttpError::Refused(431)),
-            Err(_) => Err(HttpError::Refused(400)),
-        }
+    ghost covers = { λ held headers spans. IsResponseWithin held headers spans × IsResponseOf held headers spans };
+
+    fn parse(held: &[u8], headers: &mut [HeaderSpan]) -> httparse::Result<ResponseSpans> {
+        parse_response(held, headers)
+    }
+
+    fn judge(
+        alloc: Global,
+        held: &[u8],
+        spans: ResponseSpans,
+        headers: &[HeaderSpan],
+    ) -> Result<Head<Response>, HttpError> {
+        let headers = &headers[..spans.headers];
+        let length = body_length(held, headers)?;
+        let message = without_body(alloc, held, spans.code, headers)?;
+        Ok(Head {
+            message,
+            start: spans.len,
+            end: spans.len + length,
+        })
     }
 
     fn with_body(mut self, body: Vec8) -> Response {
