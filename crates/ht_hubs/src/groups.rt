@@ -1,68 +1,141 @@
-//! Groups and users beside two plain lists of pairs that the test scans, and how long many members take.
+//! A registry of groups and users, alone and with many members.
 
+use crate::report::push_numbers;
+use crate::stop::Stop;
+use crate::words::{first_word, name, number};
 use hg_groups::Registry;
 use hv_value::Text;
 use std::alloc::{AllocError, Global};
-use std::process::Abort;
-use std::test::Fail;
 
-/// How many calls are made by chance.
-const CALLS: u32 = 3_000;
-
-/// How many names and connections they draw from.
-const NAMES: u64 = 4;
-
-const CONNS: u64 = 7;
-
-/// How many connections join how many of all groups, and how many users they are of.
-const MANY: u64 = 10_000;
-
-const JOINED: u64 = 60;
-
-const GROUPS: u64 = 2_000;
-
-const USERS: u64 = 100;
-
-/// A plain list of pairs of a name's number and a connection, in order of joining.
+/// A registry, and the names whose members are printed after each change.
 #[derive(Drop)]
-struct Plain {
-    pairs: Vec<(u64, u64)>,
+pub struct Groups {
+    registry: Registry,
+    watched: Vec<Text>,
 }
 
-impl Plain {
-    fn has(&self, name: u64, conn: u64) -> bool {
-        self.pairs.iter().any(|pair| *pair == (name, conn))
+impl Groups {
+    pub fn start(alloc: Global) -> Result<Groups, AllocError> {
+        Ok(Groups {
+            registry: Registry::start(alloc)?,
+            watched: Vec::new(alloc),
+        })
     }
 
-    /// Whether the pair is new.
-    fn add(&mut self, name: u64, conn: u64) -> Result<bool, AllocError> {
-        if self.has(name, conn) {
-            return Ok(false);
+    /// What the registry answers to the words.
+    pub fn ask(&mut self, alloc: Global, words: &str) -> Result<String, Stop> {
+        let (word, rest) = first_word(words);
+        match word {
+            "new" => self.renew(alloc, rest),
+            "members" => self.told(alloc, &name(alloc, rest)?),
+            "fill" => self.fill(alloc, rest),
+            "sizes" => self.sizes(alloc, number(rest)?),
+            "empty" => self.empty(alloc, number(rest)?),
+            _ => self.change(alloc, word, rest),
         }
-        self.pairs.push((name, conn))?;
-        Ok(true)
     }
 
-    fn gone(&mut self, conn: u64) {
-        self.pairs.retain(|pair| pair.1 != conn);
-    }
-
-    fn members(&self, alloc: Global, name: u64) -> Result<Vec<u64>, AllocError> {
-        let mut members = Vec::new(alloc);
-        for pair in &self.pairs {
-            if pair.0 == name {
-                members.push(pair.1)?;
+    fn renew(&mut self, alloc: Global, words: &str) -> Result<String, Stop> {
+        let mut watched = Vec::new(alloc);
+        if !words.is_empty() {
+            for word in words.split(' ') {
+                watched.push(name(alloc, word)?)?;
             }
         }
-        Ok(members)
+        self.registry = Registry::start(alloc)?;
+        self.watched = watched;
+        Ok(String::from_str(alloc, "a registry")?)
+    }
+
+    /// The answer to a change, and then the watched names.
+    fn change(&mut self, alloc: Global, word: &str, words: &str) -> Result<String, Stop> {
+        let answer = self.changed(alloc, word, words)?;
+        let mut told = String::from_str(alloc, answer)?;
+        for name in &self.watched {
+            told.push_str(" | ")?;
+            push_members(&mut told, alloc, &self.registry, name)?;
+        }
+        Ok(told)
+    }
+
+    fn changed(&mut self, alloc: Global, word: &str, words: &str) -> Result<&'static str, Stop> {
+        let (first, rest) = first_word(words);
+        if word == "gone" {
+            self.registry.gone(number(first)?);
+            return Ok("gone");
+        }
+        let (called, conn) = (name(alloc, first)?, number(rest)?);
+        match word {
+            "add" => {
+                let is_new = self.registry.add(alloc, &called, conn)?;
+                Ok(if is_new { "new" } else { "there already" })
+            }
+            "remove" => {
+                let was_there = self.registry.remove(&called, conn);
+                Ok(if was_there { "left" } else { "not there" })
+            }
+            "name" => {
+                self.registry.name(alloc, &called, conn)?;
+                Ok("named")
+            }
+            _ => Err(Stop::Refused),
+        }
+    }
+
+    fn told(&self, alloc: Global, name: &Text) -> Result<String, Stop> {
+        let mut told = String::new(alloc);
+        push_members(&mut told, alloc, &self.registry, name)?;
+        Ok(told)
+    }
+
+    /// How many of the joins were new.
+    fn fill(&mut self, alloc: Global, words: &str) -> Result<String, Stop> {
+        let (conns, rest) = first_word(words);
+        let (each, rest) = first_word(rest);
+        let (groups, users) = first_word(rest);
+        let names = names(alloc, number(groups)?)?;
+        let (each, users) = (number(each)?, number(users)?);
+        let mut new: u64 = 0;
+        for conn in 0..number(conns)? {
+            for k in 0..each {
+                if self.registry.add(alloc, group_of(&names, conn, k)?, conn)? {
+                    new = new.saturating_add(1);
+                }
+            }
+            let user = user_of(&names, conn, users)?;
+            self.registry.name(alloc, user, conn)?;
+        }
+        Ok(format!(in alloc; "{new} new")?)
+    }
+
+    fn sizes(&self, alloc: Global, groups: u64) -> Result<String, Stop> {
+        let mut members: usize = 0;
+        let mut conns: usize = 0;
+        for name in &names(alloc, groups)? {
+            members = members.saturating_add(self.registry.members(alloc, name)?.len());
+            conns = conns.saturating_add(self.registry.of_user(alloc, name)?.len());
+        }
+        Ok(format!(in alloc; "{members} members, {conns} connections of users")?)
+    }
+
+    fn empty(&mut self, alloc: Global, conns: u64) -> Result<String, Stop> {
+        for conn in 0..conns {
+            self.registry.gone(conn);
+        }
+        Ok(String::from_str(alloc, "gone")?)
     }
 }
 
-/// The next of a row of numbers that look random (MMIX's, by Knuth).
-fn next_random(state: u64) -> u64 {
-    state
-        .wrapping_mul(6_364_136_223_846_793_005)
-        .wrapping_add(1_442_695_040_888_963_407)
+/// The members of the group, and the connections of the user.
+fn push_members(
+    out: &mut String,
+    alloc: Global,
+    registry: &Registry,
+    name: &Text,
+) -> Result<(), AllocError> {
+    push_numbers(out, &registry.members(alloc, name)?)?;
+    out.push_str(" ")?;
+    push_numbers(out, &registry.of_user(alloc, name)?)
 }
 
 /// The names by number. Some begin as others do, and the first is empty.
@@ -79,101 +152,15 @@ fn names(alloc: Global, count: u64) -> Result<Vec<Text>, AllocError> {
     Ok(names)
 }
 
-/// Checks the lists of each name.
-fn are_same(
-    rt: &impl Abort,
-    alloc: Global,
-    registry: &Registry,
-    groups: &Plain,
-    users: &Plain,
-    names: &[Text],
-) -> Result<(), Fail> {
-    for (number, name) in names.iter().enumerate() {
-        let number = number as u64;
-        let (group, user) = (
-            registry.members(alloc, name)?,
-            registry.of_user(alloc, name)?,
-        );
-        assert_eq!(rt; group, groups.members(alloc, number)?, "group {number}");
-        assert_eq!(rt; user, users.members(alloc, number)?, "user {number}");
-    }
-    Ok(())
+/// The group that a connection joins as its `k`th.
+fn group_of(names: &[Text], conn: u64, k: u64) -> Result<&Text, Stop> {
+    let number = conn.wrapping_mul(17).wrapping_add(k.wrapping_mul(31));
+    let place = number.checked_rem(names.len() as u64).ok_or(Stop::Refused)?;
+    names.get(place as usize).ok_or(Stop::Refused)
 }
 
-#[test]
-fn a_registry_is_two_plain_lists(rt: HostRuntime) -> Result<(), Fail> {
-    let alloc = rt.alloc();
-    let names = names(alloc, NAMES)?;
-    let mut registry = Registry::start(alloc)?;
-    let mut groups = Plain {
-        pairs: Vec::new(alloc),
-    };
-    let mut users = Plain {
-        pairs: Vec::new(alloc),
-    };
-    let mut state = 1;
-    for call in 0..CALLS {
-        state = next_random(state);
-        let (number, conn) = ((state >> 40) % NAMES, (state >> 50) % CONNS);
-        let Some(name) = names.get(number as usize) else {
-            continue;
-        };
-        match (state >> 33) % 16 {
-            0..=6 => {
-                let new = registry.add(alloc, name, conn)?;
-                assert_eq!(rt; new, groups.add(number, conn)?, "at call {call}");
-            }
-            7..=10 => {
-                let was = groups.has(number, conn);
-                groups.pairs.retain(|pair| *pair != (number, conn));
-                assert_eq!(rt; registry.remove(name, conn), was, "at call {call}");
-            }
-            11..=14 => {
-                registry.name(alloc, name, conn)?;
-                let _ = users.add(number, conn)?;
-            }
-            _ => {
-                registry.gone(conn);
-                groups.gone(conn);
-                users.gone(conn);
-            }
-        }
-        are_same(&rt, alloc, &registry, &groups, &users, &names)?;
-    }
-    Ok(())
-}
-
-/// The number of the group that a connection joins as its `k`th.
-fn group_of(conn: u64, k: u64) -> u64 {
-    conn.wrapping_mul(17).wrapping_add(k.wrapping_mul(31)) % GROUPS
-}
-
-#[test]
-fn ten_thousand_connections_join_and_go(rt: HostRuntime) -> Result<(), Fail> {
-    let alloc = rt.alloc();
-    let names = names(alloc, GROUPS)?;
-    let mut registry = Registry::start(alloc)?;
-    for conn in 0..MANY {
-        for k in 0..JOINED {
-            if let Some(name) = names.get(group_of(conn, k) as usize) {
-                assert!(rt; registry.add(alloc, name, conn)?);
-            }
-        }
-        if let Some(name) = names.get((conn % USERS) as usize) {
-            registry.name(alloc, name, conn)?;
-        }
-    }
-    let mut pairs: usize = 0;
-    for name in &names {
-        pairs = pairs.saturating_add(registry.members(alloc, name)?.len());
-    }
-    assert_eq!(rt; pairs as u64, MANY * JOINED);
-    for conn in 0..MANY {
-        registry.gone(conn);
-    }
-    for name in &names {
-        assert!(rt; registry.members(alloc, name)?.is_empty());
-        assert!(rt; registry.of_user(alloc, name)?.is_empty());
-    }
-    Ok(())
+/// The user whose a connection is.
+fn user_of(names: &[Text], conn: u64, users: u64) -> Result<&Text, Stop> {
+    let place = conn.checked_rem(users).ok_or(Stop::Refused)?;
+    names.get(place as usize).ok_or(Stop::Refused)
 }

@@ -1,229 +1,106 @@
-//! The keeper in memory beside two plain lists that the test scans, and worked calls.
+//! A keeper in memory.
 
-use hk_keeper::{KeepError, Keeper, MemoryKeeper, ask_all};
+use crate::report::push_text;
+use crate::stop::Stop;
+use crate::words::{count, first_word, numbers, text};
+use hk_keeper::{Keeper, MemoryKeeper, ask_all};
 use hv_value::{Text, Texts};
-use std::alloc::{AllocError, Global};
-use std::process::Abort;
-use std::test::Fail;
+use std::alloc::Global;
 
-/// How many calls are made by chance.
-const CALLS: u64 = 700;
-
-/// The next of a row of numbers that look random (MMIX's, by Knuth).
-fn next_random(state: u64) -> u64 {
-    state
-        .wrapping_mul(6_364_136_223_846_793_005)
-        .wrapping_add(1_442_695_040_888_963_407)
+/// A keeper with the users and failing calls that the words say.
+pub fn start(alloc: Global, words: &str) -> Result<MemoryKeeper, Stop> {
+    let (users, failing) = first_word(words);
+    let failing = numbers(alloc, failing)?;
+    Ok(MemoryKeeper::start(alloc, users_of(alloc, users)?, failing)?)
 }
 
-/// A text of its own for each kind and number.
-fn text_of(alloc: Global, kind: &str, number: u64) -> Result<Text, AllocError> {
-    let text = format!(in alloc; "{kind}{number}")?;
-    Text::of(alloc, text.as_str())
-}
-
-/// A keeper, and the same as plain lists: users as numbers of token and name, rows as numbers of room and text.
-#[derive(Drop)]
-struct Both {
-    keeper: MemoryKeeper,
-    users: Vec<(u64, u64)>,
-    rows: Vec<(u64, u64)>,
-}
-
-impl Both {
-    fn name_of(&self, token: u64) -> Option<u64> {
-        for (known, name) in &self.users {
-            if *known == token {
-                return Some(*name);
-            }
-        }
-        None
-    }
-
-    /// The last texts of a room, the latest first.
-    fn latest(&self, alloc: Global, room: u64, most: u64) -> Result<Vec<u64>, AllocError> {
-        let mut texts = Vec::new(alloc);
-        for (place, text) in self.rows.iter().rev() {
-            if *place == room && (texts.len() as u64) < most {
-                texts.push(*text)?;
-            }
-        }
-        Ok(texts)
-    }
-
-    fn log(&mut self, rt: &impl Abort, alloc: Global, room: u64, text: u64) -> Result<(), Fail> {
-        let place = text_of(alloc, "room", room)?;
-        let who = text_of(alloc, "name", text)?;
-        let said = text_of(alloc, "text", text)?;
-        let answer = self.keeper.log(alloc, &place, &who, &said);
-        assert!(rt; answer == Ok(()));
-        self.rows.push((room, text))?;
-        Ok(())
-    }
-
-    fn history(
-        &mut self,
-        rt: &impl Abort,
-        alloc: Global,
-        room: u64,
-        most: u32,
-    ) -> Result<(), Fail> {
-        let place = text_of(alloc, "room", room)?;
-        let latest = self.latest(alloc, room, u64::from(most))?;
-        let Ok(texts) = self.keeper.history(alloc, &place, most) else {
-            panic!(rt; "no history");
-        };
-        assert_eq!(rt; texts.texts().len(), latest.len());
-        for (text, number) in texts.texts().iter().zip(latest.iter().rev()) {
-            let expected = text_of(alloc, "text", *number)?;
-            assert!(rt; *text == expected);
-        }
-        Ok(())
-    }
-
-    fn user_of(&mut self, rt: &impl Abort, alloc: Global, token: u64) -> Result<(), Fail> {
-        let text = text_of(alloc, "token", token)?;
-        let Ok(name) = self.keeper.user_of(alloc, &text) else {
-            panic!(rt; "no answer");
-        };
-        let Some(number) = self.name_of(token) else {
-            assert!(rt; name.is_none());
-            return Ok(());
-        };
-        let expected = text_of(alloc, "name", number)?;
-        assert!(rt; name == Some(expected));
-        Ok(())
-    }
-
-    fn add_user(
-        &mut self,
-        rt: &impl Abort,
-        alloc: Global,
-        token: u64,
-        name: u64,
-    ) -> Result<(), Fail> {
-        let text = text_of(alloc, "token", token)?;
-        let called = text_of(alloc, "name", name)?;
-        let is_new = self.name_of(token).is_none();
-        let answer = self.keeper.add_user(alloc, &text, &called);
-        assert!(rt; answer == Ok(is_new));
-        if is_new {
-            self.users.push((token, name))?;
-        }
-        Ok(())
-    }
-
-    fn rows(&mut self, rt: &impl Abort) {
-        let answer = self.keeper.rows();
-        assert!(rt; answer == Ok(self.rows.len() as u64));
-    }
-
-    /// One call, by chance.
-    fn call(&mut self, rt: &impl Abort, alloc: Global, call: u64, chance: u64) -> Result<(), Fail> {
-        let (first, second) = (chance % 3, chance / 3 % 5);
-        match chance / 15 % 5 {
-            0 => self.log(rt, alloc, first, call),
-            1 => self.history(rt, alloc, first, second as u32),
-            2 => self.user_of(rt, alloc, second),
-            3 => self.add_user(rt, alloc, second, call),
-            _ => {
-                self.rows(rt);
-                Ok(())
-            }
-        }
-    }
-}
-
-/// Of two users with one token the first counts. A copy was asked the same.
-#[test]
-fn answers_as_plain_lists(rt: HostRuntime) -> Result<(), Fail> {
-    let alloc = rt.alloc();
+fn users_of(alloc: Global, words: &str) -> Result<Vec<(Text, Text)>, Stop> {
     let mut users = Vec::new(alloc);
-    for (token, name) in [(1, 10), (1, 11), (2, 12)] {
-        users.push((
-            text_of(alloc, "token", token)?,
-            text_of(alloc, "name", name)?,
-        ))?;
+    if words != "-" {
+        for word in words.split(',') {
+            let (token, name) = word.split_once(':').ok_or(Stop::Refused)?;
+            users.push((text(alloc, token)?, text(alloc, name)?))?;
+        }
     }
-    let mut both = Both {
-        keeper: MemoryKeeper::start(alloc, users, Vec::new(alloc))?,
-        users: Vec::from_slice(alloc, &[(1, 10), (1, 11), (2, 12)])?,
-        rows: Vec::new(alloc),
-    };
-    let mut state = 1;
-    for call in 0..CALLS {
-        state = next_random(state);
-        both.call(&rt, alloc, call, state >> 33)?;
-    }
-    let copy = both.keeper.copy()?;
-    assert!(rt; both.keeper.was_asked().len() as u64 == CALLS);
-    assert!(rt; copy.was_asked() == both.keeper.was_asked());
-    Ok(())
+    Ok(users)
 }
 
-/// The calls 0, 2 and 3 fail, and change nothing.
-#[test]
-fn fails_at_chosen_calls(rt: HostRuntime) -> Result<(), Fail> {
-    let alloc = rt.alloc();
-    let failing = Vec::from_slice(alloc, &[3, 0, 2])?;
-    let mut keeper = MemoryKeeper::start(alloc, Vec::new(alloc), failing)?;
-    let text = Text::of(alloc, "a")?;
-    let failed: Result<u64, KeepError> = Err(KeepError::Failed);
-    assert!(rt; keeper.rows() == failed);
-    assert!(rt; keeper.rows() == Ok(0));
-    let logged = keeper.log(alloc, &text, &text, &text);
-    assert!(rt; logged == Err(KeepError::Failed));
-    let added = keeper.add_user(alloc, &text, &text);
-    assert!(rt; added == Err(KeepError::Failed));
-    assert!(rt; keeper.rows() == Ok(0));
-    let added = keeper.add_user(alloc, &text, &text);
-    assert!(rt; added == Ok(true));
-    Ok(())
+/// What the keeper answers to the words.
+pub fn ask(alloc: Global, keeper: &mut MemoryKeeper, words: &str) -> Result<String, Stop> {
+    let (word, rest) = first_word(words);
+    match word {
+        "log" => log(alloc, keeper, rest),
+        "history" => history(alloc, keeper, rest),
+        "user" => user(alloc, keeper, rest),
+        "add" => add(alloc, keeper, rest),
+        "rows" => rows(alloc, keeper),
+        "copy" => copy(alloc, keeper),
+        "each" => each(alloc, keeper, rest),
+        _ => Err(Stop::Refused),
+    }
 }
 
-/// The texts, each with a bar after it.
-fn joined(alloc: Global, texts: &Texts) -> Result<String, AllocError> {
-    let mut words = String::new(alloc);
+fn log(alloc: Global, keeper: &mut MemoryKeeper, words: &str) -> Result<String, Stop> {
+    let (room, rest) = first_word(words);
+    let (who, said) = first_word(rest);
+    let (room, who, said) = (text(alloc, room)?, text(alloc, who)?, text(alloc, said)?);
+    keeper.log(alloc, &room, &who, &said)?;
+    Ok(String::from_str(alloc, "kept")?)
+}
+
+fn history(alloc: Global, keeper: &mut MemoryKeeper, words: &str) -> Result<String, Stop> {
+    let (room, most) = first_word(words);
+    let texts = keeper.history(alloc, &text(alloc, room)?, count(most)?)?;
+    told(alloc, &texts)
+}
+
+fn told(alloc: Global, texts: &Texts) -> Result<String, Stop> {
+    let mut told = String::from_str(alloc, "texts")?;
     for text in texts.texts() {
-        words.push_str(text.as_str())?;
-        words.push_str("|")?;
+        push_text(&mut told, " ", text)?;
     }
-    Ok(words)
+    Ok(told)
 }
 
-/// Three rows of two rooms, and a user who is added once.
-#[test]
-fn keeps_what_it_is_given(rt: HostRuntime) -> Result<(), Fail> {
-    let alloc = rt.alloc();
-    let mut keeper = MemoryKeeper::start(alloc, Vec::new(alloc), Vec::new(alloc))?;
-    let ann = Text::of(alloc, "ann")?;
-    for (room, text) in [("r", "a"), ("s", "b"), ("r", "c")] {
-        let (room, text) = (Text::of(alloc, room)?, Text::of(alloc, text)?);
-        let logged = keeper.log(alloc, &room, &ann, &text);
-        assert!(rt; logged == Ok(()));
-    }
-    for (room, most, expected) in [
-        ("r", 1, "c|"),
-        ("r", 10, "a|c|"),
-        ("r", 0, ""),
-        ("x", 10, ""),
-    ] {
-        let room = Text::of(alloc, room)?;
-        let Ok(texts) = keeper.history(alloc, &room, most) else {
-            panic!(rt; "no texts of {most}");
-        };
-        let words = joined(alloc, &texts)?;
-        assert_eq!(rt; words.as_str(), expected);
-    }
-    let user = (Text::of(alloc, "t1")?, ann);
-    let said = (Text::of(alloc, "s")?, Text::of(alloc, "d")?);
-    let Ok(texts) = ask_all(&mut keeper, alloc, &user, &said) else {
-        panic!(rt; "a call failed");
+fn user(alloc: Global, keeper: &mut MemoryKeeper, token: &str) -> Result<String, Stop> {
+    let Some(name) = keeper.user_of(alloc, &text(alloc, token)?)? else {
+        return Ok(String::from_str(alloc, "nobody")?);
     };
-    assert_eq!(rt; texts.texts().len(), 1);
-    let (token, ann) = user;
-    let name = keeper.user_of(alloc, &token);
-    assert!(rt; name == Ok(Some(ann)));
-    assert!(rt; keeper.rows() == Ok(4));
-    Ok(())
+    let mut told = String::new(alloc);
+    push_text(&mut told, "user ", &name)?;
+    Ok(told)
+}
+
+fn add(alloc: Global, keeper: &mut MemoryKeeper, words: &str) -> Result<String, Stop> {
+    let (token, name) = first_word(words);
+    let is_new = keeper.add_user(alloc, &text(alloc, token)?, &text(alloc, name)?)?;
+    let answer = if is_new { "new" } else { "known" };
+    Ok(String::from_str(alloc, answer)?)
+}
+
+fn rows(alloc: Global, keeper: &mut MemoryKeeper) -> Result<String, Stop> {
+    let rows = keeper.rows()?;
+    Ok(format!(in alloc; "{rows} rows")?)
+}
+
+/// Whether a copy was asked the same.
+fn copy(alloc: Global, keeper: &MemoryKeeper) -> Result<String, Stop> {
+    let copy = keeper.copy()?;
+    let asked = keeper.was_asked().len();
+    let same = if copy.was_asked() == keeper.was_asked() {
+        "the same"
+    } else {
+        "not the same"
+    };
+    Ok(format!(in alloc; "{asked} calls, and {same} of a copy")?)
+}
+
+fn each(alloc: Global, keeper: &mut MemoryKeeper, words: &str) -> Result<String, Stop> {
+    let (token, rest) = first_word(words);
+    let (name, rest) = first_word(rest);
+    let (room, said) = first_word(rest);
+    let user = (text(alloc, token)?, text(alloc, name)?);
+    let row = (text(alloc, room)?, text(alloc, said)?);
+    let texts = ask_all(keeper, alloc, &user, &row)?;
+    told(alloc, &texts)
 }

@@ -1,0 +1,57 @@
+//! The lines of a script, and what they speak to.
+
+use crate::groups::Groups;
+use crate::stop::Stop;
+use crate::words::first_word;
+use crate::{hubs, keeper};
+use hk_keeper::MemoryKeeper;
+use std::alloc::{AllocError, Global};
+
+/// A registry and a keeper. Hubs keep nothing.
+#[derive(Drop)]
+pub struct Bench {
+    alloc: Global,
+    groups: Groups,
+    keeper: MemoryKeeper,
+}
+
+impl Bench {
+    pub fn start(alloc: Global) -> Result<Bench, AllocError> {
+        Ok(Bench {
+            alloc,
+            groups: Groups::start(alloc)?,
+            keeper: MemoryKeeper::start(alloc, Vec::new(alloc), Vec::new(alloc))?,
+        })
+    }
+
+    /// Carries out the action of a line, and answers what it answers.
+    pub fn carry_out(&mut self, line: &str) -> Result<String, AllocError> {
+        match self.act(line) {
+            Ok(answer) => Ok(answer),
+            Err(Stop::Failed) => String::from_str(self.alloc, "failed"),
+            Err(Stop::Refused) => format!(in self.alloc; "no action: {line}"),
+            Err(Stop::NoMemory) => Err(AllocError),
+        }
+    }
+
+    fn act(&mut self, line: &str) -> Result<String, Stop> {
+        let (word, rest) = first_word(line);
+        match word {
+            "note" => Ok(String::from_str(self.alloc, line)?),
+            "count" => hubs::count_numbers(self.alloc, rest),
+            "groups" => self.groups.ask(self.alloc, rest),
+            "keeper" => self.ask_keeper(rest),
+            _ => hubs::play(self.alloc, word, rest),
+        }
+    }
+
+    /// Makes a new keeper, or asks the one that is there.
+    fn ask_keeper(&mut self, words: &str) -> Result<String, Stop> {
+        let (word, rest) = first_word(words);
+        if word != "new" {
+            return keeper::ask(self.alloc, &mut self.keeper, words);
+        }
+        self.keeper = keeper::start(self.alloc, rest)?;
+        Ok(String::from_str(self.alloc, "a keeper")?)
+    }
+}
