@@ -6,7 +6,7 @@ ghost use Rattle.hv_value.specs.Tree.{Tree};
 ghost use Rattle.hm_message.specs.Message.{is_sequenced};
 ghost use Rattle.hd_calls.specs.Numbers.{most_live, most_numbers, most_uploads};
 ghost use Rattle.hd_calls.specs.Hubs.{End, Item, message_of};
-ghost use Rattle.hd_calls.specs.Tables.{live_call_in, live_upload_in, own_live_in};
+ghost use Rattle.hd_calls.specs.Tables.{drawn_in, live_call_in, live_upload_in, own_live_in};
 ghost use Rattle.hi_calls.specs.Maps.{is_answered, least_with, one_if, takes_items, Enters, HoldsTheSame, Removes};
 ghost use Rattle.hi_calls.specs.Numbering.{call_numbered, id_with, next_call, next_number, HasPlaceIn};
 ghost use Rattle.hi_calls.specs.Stands.{Stands};
@@ -59,6 +59,13 @@ impl Calls {
         ensures limit { OfEach self.now (λ prefix h. own_live_in h ≤ most_live) }
     {
         self.calls.len() as u64 + self.owners.len() as u64
+    }
+
+    /// The greatest number that calls and their uploads have drawn.
+    pub fn drawn(&self) -> u64
+        ensures { OfEach self.now (λ prefix h. result ≡ drawn_in h) }
+    {
+        self.drawn
     }
 
     // ---- what is called

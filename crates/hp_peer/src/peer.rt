@@ -10,11 +10,13 @@ ghost use Rattle.hd_delivery.specs.Bytes.{Wire, Bytes, Does, unread};
 ghost use Rattle.hd_delivery.specs.OneHistory.{next_reader};
 ghost use Rattle.he_wire.specs.Wires.{IsHouseWire};
 ghost use Rattle.he_end.specs.Calls.{taken_at};
-ghost use Rattle.hd_calls.specs.Peers.{Plain, byte_steps, codec, is_shut, steps};
+ghost use Rattle.hd_calls.specs.Peers.{Plain, byte_steps, codec, drawn, is_shut, steps};
+ghost use Rattle.hd_calls.specs.Rules.{own_live};
 ghost use Rattle.hj_jobs.specs.Meaning.{meaning};
 ghost use Rattle.hp_peer.specs.Lending.{EndsAs, Lends};
 ghost use Rattle.hp_peer.specs.Stands.{OfEach, settings, Stands, Stays};
 
+use hd_calls::tables_agree;
 use hd_delivery::{Reason, Side};
 use he_end::{AttachError, Config, End};
 use hi_calls::{Calls, ids_are_of_a_side};
@@ -74,6 +76,22 @@ impl<H: Hub> Peer<H> {
         ensures { result.now ≡ self.now.end }
     {
         &self.end
+    }
+
+    /// The greatest number that its calls and their uploads have drawn.
+    pub fn drawn(&self) -> u64
+        ensures { OfEach (meaning H.begin_of H.step_of) self.now (λ t h. result ≡ drawn h) }
+    {
+        tables_agree();
+        self.calls.drawn()
+    }
+
+    /// How many of its calls and uploads are live: at most `hd_calls::MOST_LIVE`.
+    pub fn live(&self) -> u64
+        ensures { OfEach (meaning H.begin_of H.step_of) self.now (λ t h. result ≡ own_live h) }
+    {
+        tables_agree();
+        self.calls.live()
     }
 
     // ---- its end's calls: each does what the end's call of its name does
