@@ -22,6 +22,7 @@ use Rattle.hp_peer.specs.Lending.{HasLent, Lends}
 use Rattle.sr_peers.specs.declared.party.Party.{Party}
 use Rattle.sr_peers.specs.Doings.{Chain, WholeChain, Taking, lifted}
 use Rattle.sr_peers.specs.Plays.{Plays, Goes, IsOneTake, TakesOne, WritesOne}
+use Rattle.sr_peers.specs.Works.{moves_bytes}
 use Rattle.sr_peers.proofs.Chains.{with, chain_append, goes_none, goes_on, goes_same, plays_still}
 use Rattle.sr_peers.proofs.Takes.{shut_or_same}
 
@@ -144,31 +145,38 @@ lent_more : (wire : Wire) (c : of.Config) (h ss : List ByteStep) (s : ByteStep) 
 lent_more wire c h ss (Does (Lent f)) = refl
 lent_more wire c h ss _ = sym (append-nil (lent_text wire c h ss))
 
-pub record HasWritten {H Job : Type 0} (hub : Hub Job) (t : Settings) (h : List Move) (p : Party H Job) (before after : List ℕ) (n : ℕ) : Type 0 where
+-- a frame that is due is written
+lends_one : (o : Option LinkFrame) (s : ByteStep) (ss : List ByteStep) → option_map (λ f. Does (Lent f)) o ≡ Some s → moves_bytes (lifted (s ∷ ss)) ≡ true
+lends_one None s ss e = absurd (cc)
+lends_one (Some f) s ss e = let q : Does (Lent f) ≡ s = cc in subst (λ s. moves_bytes (lifted (s ∷ ss)) ≡ true) q refl
+
+pub record HasWritten {H Job : Type 0} (hub : Hub Job) (t : Settings) (h : List Move) (p : Party H Job) (before after : List ℕ) (n : ℕ) (wrote : Bool) : Type 0 where
   pub written : List ByteStep
   pub follow : Follow (writing t.wire t.config) (byte_steps t h) written
   pub many : length written ≡ n
   pub plays : Plays hub t p (lifted written ++ h)
   pub text_is : after ≡ before ++ lent_text t.wire t.config (byte_steps t h) written
+  pub wrote_is : wrote ≡ moves_bytes (lifted written)
 
 -- what was written, of so many frames at most
-abbrev pub IsWritten : {H Job : Type 0} → Hub Job → Settings → List Move → Party H Job → List ℕ → List ℕ → Option ℕ → Type 0
-IsWritten hub t h new before after most = (ss : List ByteStep) × (FollowUpTo most (writing t.wire t.config) (byte_steps t h) ss
-    × Plays hub t new (lifted ss ++ h) × (after ≡ before ++ lent_text t.wire t.config (byte_steps t h) ss))
+abbrev pub IsWritten : {H Job : Type 0} → Hub Job → Settings → List Move → Party H Job → List ℕ → List ℕ → Option ℕ → Bool → Type 0
+IsWritten hub t h new before after most wrote = (ss : List ByteStep) × (FollowUpTo most (writing t.wire t.config) (byte_steps t h) ss
+    × Plays hub t new (lifted ss ++ h) × (after ≡ before ++ lent_text t.wire t.config (byte_steps t h) ss) × (wrote ≡ moves_bytes (lifted ss)))
 
 -- the greatest number of frames; no end writes so many as 64 bits count
 abbrev pub most_of : Option ℕ → ℕ
 most_of most = unwrap_or most (2 ^ 64 - 1)
 
 module _ {H Job : Type 0} (hub : Hub Job) (t : Settings) (h : List Move) where
-  pub written_none : (p : Party H Job) (before : List ℕ) → Plays hub t p h → HasWritten hub t h p before before 0
-  written_none p before plays = record { written = []; follow = tt; many = refl; plays = plays; text_is = sym (append-nil before) }
+  pub written_none : (p : Party H Job) (before : List ℕ) → Plays hub t p h → HasWritten hub t h p before before 0 false
+  written_none p before plays =
+      record { written = []; follow = tt; many = refl; plays = plays; text_is = sym (append-nil before); wrote_is = refl }
 
-  module _ (p new : Party H Job) (before mid after : List ℕ) (n : ℕ) (has : HasWritten hub t h p before mid n) where
+  module _ (p new : Party H Job) (before mid after : List ℕ) (n : ℕ) (wrote : Bool) (has : HasWritten hub t h p before mid n wrote) where
     next_at : (o : Option ByteStep) → writing t.wire t.config (byte_steps t (lifted has.written ++ h)) ≡ o → writing t.wire t.config (has.written ++ byte_steps t h) ≡ o
     next_at o e = sym (ap (writing t.wire t.config) (steps_lifted t h has.written)) ∙ e
 
-    pub written_more : WritesOne hub t (lifted has.written ++ h) new mid after true → HasWritten hub t h new before after (n + 1)
+    pub written_more : WritesOne hub t (lifted has.written ++ h) new mid after true → HasWritten hub t h new before after (n + 1) true
     written_more one =
         let text = lent_text t.wire t.config in
         let bytes = byte_steps t h in
@@ -181,6 +189,7 @@ module _ {H Job : Type 0} (hub : Hub Job) (t : Settings) (h : List Move) where
           text_is = one.1.2 ∙ (last ∙ (ap (λ x. x ++ text (has.written ++ bytes) (one.0 ∷ [])) has.text_is
               ∙ (append_assoc before (text bytes has.written) (text (has.written ++ bytes) (one.0 ∷ []))
               ∙ ap (λ x. before ++ x) (sym (lent_more t.wire t.config bytes has.written one.0)))));
+          wrote_is = sym (lends_one (due t.config (steps t (lifted has.written ++ h))) one.0 has.written one.1.0);
         }
 
     up_to_all : (most : Option ℕ) → n < most_of most → writing t.wire t.config (has.written ++ byte_steps t h) ≡ None
@@ -189,18 +198,19 @@ module _ {H Job : Type 0} (hub : Hub Job) (t : Settings) (h : List Move) where
     up_to_all None few none = (has.follow, none)
 
     -- none is due
-    pub written_all : (most : Option ℕ) → n < most_of most → WritesOne hub t (lifted has.written ++ h) new mid after false → IsWritten hub t h new before after most
-    written_all most few done = (has.written, (up_to_all most few (next_at None done.0), done.1, done.2 ∙ has.text_is))
+    pub written_all : (most : Option ℕ) → n < most_of most → WritesOne hub t (lifted has.written ++ h) new mid after false → IsWritten hub t h new before after most wrote
+    written_all most few done = (has.written, (up_to_all most few (next_at None done.0), done.1, done.2 ∙ has.text_is, has.wrote_is))
 
-  module _ (p : Party H Job) (before after : List ℕ) where
-    up_to_most : (most : Option ℕ) (has : HasWritten hub t h p before after (most_of most)) → length has.written < 2 ^ 64 - 1
+  module _ (p : Party H Job) (before after : List ℕ) (wrote : Bool) where
+    up_to_most : (most : Option ℕ) (has : HasWritten hub t h p before after (most_of most) wrote) → length has.written < 2 ^ 64 - 1
         → FollowUpTo most (writing t.wire t.config) (byte_steps t h) has.written
     up_to_most (Some m) has few = inl (has.follow, has.many)
     up_to_most None has few = absurd (let many = has.many in omega arith)
 
     -- so many of them
-    pub written_most : (most : Option ℕ) (has : HasWritten hub t h p before after (most_of most)) → length has.written < 2 ^ 64 - 1 → IsWritten hub t h p before after most
-    written_most most has few = (has.written, (up_to_most most has few, has.plays, has.text_is))
+    pub written_most : (most : Option ℕ) (has : HasWritten hub t h p before after (most_of most) wrote) → length has.written < 2 ^ 64 - 1
+        → IsWritten hub t h p before after most wrote
+    written_most most has few = (has.written, (up_to_most most has few, has.plays, has.text_is, has.wrote_is))
 
 shorter : {A : Type 0} (b : Bool) (n m : ℕ) (xs : List A) → length (if b then drop n xs else drop m xs) ≤ length xs
 shorter true n m xs = omega (arith, length-drop n xs)

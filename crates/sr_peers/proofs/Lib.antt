@@ -24,3 +24,4 @@ pub mod Reporting
 pub mod Standing
 pub mod Writing
 pub mod Reading
+pub mod Counting

@@ -28,14 +28,15 @@ use Rattle.sr_peers.specs.Grows.{lent_in}
 use Rattle.sr_peers.specs.Laws.{LentGoesOn, WritesLend}
 use Rattle.sr_peers.specs.Plays.{Goes, OfEach}
 use Rattle.sr_peers.specs.Runs.{ReadsOn, read_in_all, world_of}
-use Rattle.sr_peers.specs.Follows.{GoesOn, HasTakenAll, MayRead, said_by}
+use Rattle.sr_peers.specs.Follows.{WorksOn, HasTakenAll, MayRead, said_by}
+use Rattle.sr_peers.specs.Works.{moves_bytes}
 use Rattle.sr_peers.proofs.Hearing.{reads_join}
 use Rattle.sr_peers.proofs.Timely.{reads_in_time}
 use Rattle.sr_peers.proofs.Around.{one_beyond, lanes_same}
 use Rattle.sr_peers.proofs.Chains.{goes_none}
-use Rattle.sr_peers.proofs.Steps.{history_of, goes_on_by_moves}
+use Rattle.sr_peers.proofs.Steps.{history_of, made_by_moves, own_made}
 use Rattle.sr_peers.proofs.Seats.{Seat}
-use Rattle.sr_peers.proofs.Acting.{goes_on_made}
+use Rattle.sr_peers.proofs.Acting.{works_on_made}
 use Rattle.sr_peers.proofs.Standing.{IsOn, HoldsOn, prefix_length, fed_there, was_heard, world_after}
 
 -- ---- the link of an end that reads
@@ -134,27 +135,31 @@ is_said (UpTo n) before said = (drop (before + n) said, take-append-drop (before
 -- ---- the side
 
 pub reads_none : (side : Side) (seat : Seat side) → LentGoesOn → (x : Peers) → seat.Alike x x → (count : Count) → IsOn side seat None x
-    → (report : List ℕ) → GoesOn x (Read side count) x report report
+    → (report : List ℕ) → WorksOn x (Read side count) x report report false
 reads_none side seat lent x alike count off report =
-    goes_on_made side seat lent x x alike refl report report (Read side count) (record { links = λ actions. refl; later = λ actions. refl }) (λ p actions r follows.
+    works_on_made side seat lent x x alike refl report report (Read side count) (record { links = λ actions. refl; later = λ actions. refl }) false (λ p actions r follows.
     let t = settings side p in
     let h = history side (world_of r) in
-    let plays = (seat.played p actions (world_of r) x follows.holds).plays in record {
-      moves = [];
-      acts = subst (λ o. ReadsOn p r (moment_after actions) side count o []) (off t h plays) refl;
-      keep = (tt, tt);
-      timely = tt;
-      goes = goes_none seat.hub t h (seat.at x) report plays;
-      stay = lanes_same p _ x.lanes.items;
-    })
+    let plays = (seat.played p actions (world_of r) x follows.holds).plays in (
+      record {
+        moves = [];
+        acts = subst (λ o. ReadsOn p r (moment_after actions) side count o []) (off t h plays) refl;
+        keep = (tt, tt);
+        timely = tt;
+        goes = goes_none seat.hub t h (seat.at x) report plays;
+        stay = lanes_same p _ x.lanes.items;
+      },
+      ap moves_bytes (sym (own_made side [])),
+    ))
 
 -- of what was said on its link and wasn't read the side read as much, and the rest is left
-abbrev pub ReadsFrom : (side : Side) (seat : Seat side) → ℕ → Count → Peers → Peers → List ℕ → List ℕ → List ℕ → List ℕ → Type 0
-ReadsFrom side seat now count old new before after was left = OfEach seat.hub (seat.at old) (λ t h. (l : ℕ) (lent : List ℕ) → present_link (steps t h) ≡ Some l
+abbrev pub ReadsFrom : (side : Side) (seat : Seat side) → ℕ → Count → Peers → Peers → List ℕ → List ℕ → List ℕ → List ℕ → Bool → Type 0
+ReadsFrom side seat now count old new before after was left has_read = OfEach seat.hub (seat.at old) (λ t h. (l : ℕ) (lent : List ℕ) → present_link (steps t h) ≡ Some l
     → length (bytes_on l (byte_steps t h)) ≤ length lent → was ≡ drop (length (bytes_on l (byte_steps t h))) lent → processes t.config (steps t h) ≡ None
     → (ds : List Move) × (ReadsTo t h now (read_in_all count (length (bytes_on l (byte_steps t h))) lent) ds
     × Goes seat.hub t h (seat.at new) before after ds
-    × (left ≡ drop (length (bytes_on l (byte_steps t (ds ++ h)))) lent)))
+    × (left ≡ drop (length (bytes_on l (byte_steps t (ds ++ h)))) lent)
+    × (has_read ≡ moves_bytes ds)))
 
 module _ (unseen : FedIsUnseen) (taken : FramesAreTaken) (fed_is_lent : FedIsLent) (lends : WritesLend) where
   -- the end stays on its link, and has taken what came
@@ -183,10 +188,10 @@ module _ (unseen : FedIsUnseen) (taken : FramesAreTaken) (fed_is_lent : FedIsLen
   pub reads_on : (side : Side) (seat : Seat side) → HoldsOn side seat → LentGoesOn → (old new : Peers) → seat.Alike old new → new.now ≡ old.now
       → (link : ℕ) (count : Count) (lane new_lane : Lane) → IsOn side seat (Some link) old
       → slice_get old.lanes.items link ≡ Some lane → new.lanes.items ≡ slice_set old.lanes.items link new_lane → new_lane.opened ≡ lane.opened
-      → said_by side new_lane ≡ said_by side lane → (before after : List ℕ)
-      → ReadsFrom side seat old.now count old new before after (said_by (other side) lane) (said_by (other side) new_lane)
-      → GoesOn old (Read side count) new before after
-  reads_on side seat holds_on lent old new alike same_now link count lane new_lane on there set opened kept before after did p actions r follows turn =
+      → said_by side new_lane ≡ said_by side lane → (before after : List ℕ) (worked : Bool)
+      → ReadsFrom side seat old.now count old new before after (said_by (other side) lane) (said_by (other side) new_lane) worked
+      → WorksOn old (Read side count) new before after worked
+  reads_on side seat holds_on lent old new alike same_now link count lane new_lane on there set opened kept before after worked did p actions r follows turn =
       let t = settings side p in
       let w = world_of r in
       let h = history side w in
@@ -213,7 +218,7 @@ module _ (unseen : FedIsUnseen) (taken : FramesAreTaken) (fed_is_lent : FedIsLen
       let may_before : (j : ℕ) → MayRead (steps t (ds ++ h)) j → MayRead (steps t h) j =
       (λ j may. ⊎_elim (λ here. inl (at ∙ sym has.at ∙ here)) (λ never. inr (sym (has.names j) ∙ never)) may) in
       let fed_to_other = bytes_on link (byte_steps (settings (other side) p) (history (other side) w)) in
-      goes_on_by_moves p actions r a old new follows turn before after side ds goes.text
+      let is_made = made_by_moves p actions r a old new follows turn before after side ds goes.text
       (subst (λ o. ReadsOn p r (moment_after actions) side count o (map (by side) (made ds))) (sym at) (ds, (read, refl)))
       goes.tells goes.appended
       (holds_on p actions (a ∷ actions) w old new ds follows.holds
@@ -223,7 +228,8 @@ module _ (unseen : FedIsUnseen) (taken : FramesAreTaken) (fed_is_lent : FedIsLen
       ∙ was_heard p actions (a ∷ actions) w side ds old.lanes.items is_world is_history joins timely beyond has.names link lane is_lane may
       ∙ ap (drop (length fed_to_other)) (sym (same_lent link)))
       may_before has.elsewhere (λ j apart. same_lent j))
-      goes.plays has.took alike (same_now ∙ follows.holds.now))
+      goes.plays has.took alike (same_now ∙ follows.holds.now)) in
+      (map (by side) (made ds), goes.text, (is_made, done.1.3 ∙ ap moves_bytes (sym (own_made side ds))))
 
 -- ---- the bytes that are handed to the end
 

@@ -1,10 +1,11 @@
 -- What a peer of a replay has read of its link so far.
 use Rattle.std.proofs.Common.{◌≡◌, ℕ, ◌+◌, ◌<◌, ◌≤◌, Bool, true, false, List, [], ◌∷◌, ◌++◌, length, take, drop, Option, Some, None, refl, sym, ap, ◌∙◌, arith, append_assoc, length-append, length-take, if◌then◌else◌}
-use Rattle.std.proofs.lemmas.Bool.{eq-eqb}
+use Rattle.std.specs.Prelude.{nat_lt}
+use Rattle.std.proofs.lemmas.Bool.{eq-eqb, lt-ltb}
 use Rattle.std.proofs.lemmas.List.{append-nil, drop-drop, drop_all}
 use Rattle.std.proofs.Math.Seq.{take-add}
 use Rattle.hd_delivery.specs.declared.vocabulary.Reason.{Reason}
-use Rattle.hd_delivery.specs.Histories.{is_this, stands_on, present_link}
+use Rattle.hd_delivery.specs.Histories.{Lent, is_this, stands_on, present_link}
 use Rattle.hd_delivery.specs.Processes.{processes}
 use Rattle.hd_delivery.specs.Bytes.{ByteStep, Bytes, Does, bare_steps, bytes_on}
 use Rattle.hd_delivery.specs.Laws.{FedIsUnseen}
@@ -13,6 +14,7 @@ use Rattle.hd_calls.specs.Peers.{Move, Plain, Reads, Handles, Loses, Settings, a
 use Rattle.sr_peers.specs.declared.party.Party.{Party}
 use Rattle.sr_peers.specs.Doings.{Chain, WholeChain, Losing, Taking, Reading, ReadsTo, fed_next}
 use Rattle.sr_peers.specs.Plays.{Plays, Goes, Feeds}
+use Rattle.sr_peers.specs.Works.{moves_bytes}
 use Rattle.sr_peers.proofs.Chains.{chain_append, goes_none, goes_one, goes_on, goes_same}
 use Rattle.sr_peers.proofs.Feeding.{unfed, ends}
 
@@ -38,6 +40,20 @@ lost_steps : (t : Settings) (h gone : List Move) → Chain (Losing t) h gone →
 lost_steps t h [] f = refl
 lost_steps t h (Loses n ∷ gone) f = lost_steps t h gone f.0
 lost_steps t h (d ∷ gone) f = absurd f.1
+
+-- nor do they move bytes
+lost_moves : (t : Settings) (h gone ds : List Move) → Chain (Losing t) h gone → moves_bytes (gone ++ ds) ≡ moves_bytes ds
+lost_moves t h [] ds f = refl
+lost_moves t h (Loses n ∷ gone) ds f = lost_moves t h gone ds f.0
+lost_moves t h (d ∷ gone) ds f = absurd f.1
+
+-- once bytes were moved, they were
+moved_still : (ds before : List Move) → moves_bytes before ≡ true → moves_bytes (ds ++ before) ≡ true
+moved_still [] before e = e
+moved_still (Plain (Bytes piece) ∷ ds) before e = refl
+moved_still (Plain (Does (Lent f)) ∷ ds) before e = refl
+moved_still (Plain (Does s) ∷ ds) before e = moved_still ds before e
+moved_still (d ∷ ds) before e = moved_still ds before e
 
 fed_bytes : FedIsUnseen → (t : Settings) (h : List Move) (l : ℕ) (piece : List ℕ) → present_link (steps t h) ≡ Some l
     → bytes_on l (Bytes piece ∷ byte_steps t h) ≡ bytes_on l (byte_steps t h) ++ piece
@@ -66,13 +82,15 @@ pub record HasRead {H Job : Type 0} (hub : Hub Job) (t : Settings) (now : ℕ) (
   pub none : processes t.config (steps t (moves ++ h)) ≡ None
   pub here : present_link (steps t (moves ++ h)) ≡ Some l
   pub read : bytes_on l (byte_steps t (moves ++ h)) ≡ bytes_on l (byte_steps t h) ++ take at bytes
+  pub moved : moves_bytes moves ≡ nat_lt 0 at
 
 -- the bytes up to where these end were read, so many of those that were left
 abbrev pub IsRead : {H Job : Type 0} → Hub Job → Settings → ℕ → List Move → Party H Job → ℕ → List ℕ → List ℕ → List ℕ → List ℕ → ℕ → Type 0
 IsRead hub t now h new l all bytes before after fed = (ds : List Move) × (ReadsTo t h now all ds
     × Goes hub t h new before after ds
     × (bytes_on l (byte_steps t (ds ++ h)) ≡ bytes_on l (byte_steps t h) ++ take fed bytes)
-    × (fed ≤ length bytes))
+    × (fed ≤ length bytes)
+    × (moves_bytes ds ≡ nat_lt 0 fed))
 
 -- some bytes that were fed were next
 feeds_bytes : {H Job : Type 0} (hub : Hub Job) (t : Settings) (h : List Move) (new : Party H Job) (all piece : List ℕ) → 0 < length piece
@@ -90,6 +108,7 @@ module _ {H Job : Type 0} (hub : Hub Job) (t : Settings) (now : ℕ) (h : List M
     none = none;
     here = at;
     read = sym (append-nil (bytes_on l (byte_steps t h)));
+    moved = refl;
   }
 
   module _ (is : bytes ≡ unfed t all h l) (p : Party H Job) (mid : List ℕ) (at : ℕ)
@@ -115,7 +134,7 @@ module _ {H Job : Type 0} (hub : Hub Job) (t : Settings) (now : ℕ) (h : List M
         ap (λ k. bytes_on l (byte_steps t k)) (append_assoc gone.0 has.moves h) ∙ ap (bytes_on l) (lost_steps t x gone.0 gone.1.0.0) in
         let reads : ReadsTo t h now all (gone.0 ++ has.moves) =
         (has.moves, ((has.chain, ((has.goes.plays.handled, has.none), over)), (gone.0, (gone.1.0, refl)))) in
-        (gone.0 ++ has.moves, (reads, all_moves, same ∙ has.read, within))
+        (gone.0 ++ has.moves, (reads, all_moves, same ∙ has.read, within, lost_moves t x gone.0 has.moves gone.1.0.0 ∙ has.moved))
 
     -- all of them were fed
     pub read_end : length bytes ≤ at → (b : Bool) → is_shut t x ≡ b → fed_next t all x ≡ None
@@ -154,4 +173,5 @@ module _ {H Job : Type 0} (hub : Hub Job) (t : Settings) (now : ℕ) (h : List M
             none = ap (λ k. processes t.config (steps t k)) there ∙ took.1.0.1.1;
             here = ap (λ k. present_link (steps t k)) there ∙ (sym took.1.1.plays.link_is ∙ (link ∙ (has.goes.plays.link_is ∙ has.here)));
             read = ap (λ k. bytes_on l (byte_steps t k)) there ∙ read;
+            moved = moved_still ds fed_moves refl ∙ sym (lt-ltb 0 (at + n) (omega (arith, some, length-take n (drop at bytes))));
           }

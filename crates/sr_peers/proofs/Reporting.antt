@@ -24,7 +24,7 @@ use Rattle.sr_peers.specs.declared.peers.Peers.{Peers}
 use Rattle.sr_peers.specs.Plays.{OfEach}
 use Rattle.sr_peers.specs.Runs.{Run, TellsRun, steps_at, world_of}
 use Rattle.sr_peers.specs.Follows.{Follows}
-use Rattle.sr_peers.specs.Report.{IsReportOver, pair_in, standing_lines}
+use Rattle.sr_peers.specs.Report.{IsOnce, IsReportOver, pair_in, standing_lines}
 
 -- of every history for which the end stands
 abbrev OfEnd : End → (Wire → of.Config → List ByteStep → Type 0) → Type 0
@@ -56,16 +56,15 @@ both_told peers before between after client server p actions r follows =
     let server_text = standing_text Server (config Server p.terms) (steps_at p w Server) in
     s ∙ (ap (λ x. x ++ server_text) c ∙ append_assoc before client_text server_text)
 
--- the run of a script that two peers stand for has its report
-reported : (peers : Peers) → CallOnce client_hub calc_hub peers.client.peer peers.server.peer → (wire : Wire) (p : Program) (r : Run) (lines : List ℕ)
-    → Follows (pair_in wire p) p.actions r peers → TellsRun (pair_in wire p) [] r lines → IsReportOver wire p (lines ++ standing_lines (pair_in wire p) (world_of r))
-reported peers once wire p r lines follows told =
+-- in the run that two peers stand for calls are carried out once
+pub follows_once : (peers : Peers) → CallOnce client_hub calc_hub peers.client.peer peers.server.peer → (p : Pair) (actions : List Action) (r : Run)
+    → Follows p actions r peers → IsOnce p actions r
+follows_once peers once p actions r follows =
     let holds = follows.holds in
     let client = holds.client.plays.stands in
     let server = holds.server.plays.stands in
-    let both = once (pair_in wire p) (world_of r)
+    let both = once p (world_of r)
     (record { version = follows.version; world = holds.is_world.world; client_stands = client; server_stands = server }) in record {
-      run = r;
       is_run = record {
         runs = follows.runs;
         world = record {
@@ -78,10 +77,13 @@ reported peers once wire p r lines follows told =
       };
       delivers = both.0;
       once = both.1;
-      lines = lines;
-      told = told;
-      text_is = refl;
     }
+
+-- and of a script it has its report
+reported : (peers : Peers) → CallOnce client_hub calc_hub peers.client.peer peers.server.peer → (wire : Wire) (p : Program) (r : Run) (lines : List ℕ)
+    → Follows (pair_in wire p) p.actions r peers → TellsRun (pair_in wire p) [] r lines → IsReportOver wire p (lines ++ standing_lines (pair_in wire p) (world_of r))
+reported peers once wire p r lines follows told =
+    record { run = r; once = follows_once peers once (pair_in wire p) p.actions r follows; lines = lines; told = told; text_is = refl }
 
 -- with how both ends stand the report is whole
 pub finished : (peers : Peers) → CallOnce client_hub calc_hub peers.client.peer peers.server.peer → (before between after : List ℕ)

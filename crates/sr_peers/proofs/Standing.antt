@@ -1,5 +1,5 @@
 -- A side that does something on the link where it stands, and what is kept of that link.
-use Rattle.std.proofs.Common.{inl, inr, ◌≡◌, ◌⊎◌, ℕ, zero, suc, ◌≤◌, ◌<◌, true, List, [], ◌∷◌, ◌++◌, length, map, drop, Contains, Option, Some, refl, sym, ap, ◌∙◌, subst, arith, slice_index_or, slice_set, length-append, length-set}
+use Rattle.std.proofs.Common.{inl, inr, ◌≡◌, ◌⊎◌, ℕ, zero, suc, ◌≤◌, ◌<◌, Bool, true, List, [], ◌∷◌, ◌++◌, length, map, drop, Contains, Option, Some, refl, sym, ap, ◌∙◌, subst, arith, slice_index_or, slice_set, length-append, length-set}
 use Rattle.std.specs.Prelude.{slice_get}
 use Rattle.hd_facts.specs.Prefixes.{IsPrefix}
 use Rattle.hd_delivery.specs.declared.vocabulary.Side.{Side}
@@ -23,7 +23,7 @@ use Rattle.sr_peers.specs.declared.peers.Peers.{Peers}
 use Rattle.sr_peers.specs.Grows.{lent_in, MayJoin}
 use Rattle.sr_peers.specs.Plays.{Plays, OfEach}
 use Rattle.sr_peers.specs.Runs.{steps_at, world_of}
-use Rattle.sr_peers.specs.Follows.{GoesOn, HasTakenAll, Holds, IsPlayed, MayRead, IsLane, IsWorldOf, said_by, unfed}
+use Rattle.sr_peers.specs.Follows.{WorksOn, HasTakenAll, Holds, IsPlayed, MayRead, IsLane, IsWorldOf, said_by, unfed}
 use Rattle.sr_peers.proofs.Joining.{one_side, worlds_grow, steps_in}
 use Rattle.sr_peers.proofs.Saying.{lent_apart}
 use Rattle.sr_peers.proofs.Timely.{AreInTime}
@@ -99,8 +99,8 @@ server_holds p before actions w old new ds was world plays took same now = recor
 
 -- a side never stands on a link that isn't kept
 pub never_past : (side : Side) (seat : Seat side) → FactsHold → (x : Peers) (link : ℕ) → IsOn side seat (Some link) x → length x.lanes.items ≤ link
-    → (a : Action) (before after : List ℕ) → GoesOn x a x before after
-never_past side seat facts x link on past a before after p actions r follows turn =
+    → (a : Action) (before after : List ℕ) (worked : Bool) → WorksOn x a x before after worked
+never_past side seat facts x link on past a before after worked p actions r follows turn =
     let t = settings side p in
     let h = history side (world_of r) in
     let plays = (seat.played p actions (world_of r) x follows.holds).plays in

@@ -19,9 +19,9 @@ use Rattle.sr_peers.specs.Doings.{Doing, Makes, Refuses, made, moves_of}
 use Rattle.sr_peers.specs.Told.{Tells, TellsAll}
 use Rattle.sr_peers.specs.Grows.{KeepToTheirSide}
 use Rattle.sr_peers.specs.Laws.{LentGoesOn}
-use Rattle.sr_peers.specs.Plays.{Plays, Goes, HasDone}
+use Rattle.sr_peers.specs.Plays.{Plays, HasDone}
 use Rattle.sr_peers.specs.Runs.{Run, Acts, TellsRun, world_of}
-use Rattle.sr_peers.specs.Follows.{Follows, Holds, IsPlayed}
+use Rattle.sr_peers.specs.Follows.{Follows, Holds, IsMade, IsPlayed}
 use Rattle.sr_peers.proofs.Joining.{one_side}
 use Rattle.sr_peers.proofs.Quiet.{quiet_moves, took_still}
 use Rattle.sr_peers.proofs.Timely.{AreInTime}
@@ -33,6 +33,13 @@ pub world_made : (side : Side) (ds : List Move) (r : Run) → world_of (map (by 
 world_made side [] r = refl
 world_made Client (d ∷ ds) r = ap (λ w. ByClient d ∷ w) (world_made Client ds r)
 world_made Server (d ∷ ds) r = ap (λ w. ByServer d ∷ w) (world_made Server ds r)
+
+-- of what a side did the moves are its own
+pub own_made : (side : Side) (ds : List Move) → history side (world_of (map (by side) (made ds))) ≡ ds
+own_made Client [] = refl
+own_made Server [] = refl
+own_made Client (d ∷ ds) = ap (λ h. d ∷ h) (own_made Client ds)
+own_made Server (d ∷ ds) = ap (λ h. d ∷ h) (own_made Server ds)
 
 pub world_did : (side : Side) (did : Doing) (r : Run) → world_of (by side did ∷ r) ≡ map (by side) (moves_of (did ∷ [])) ++ world_of r
 world_did Client (Makes d) r = refl
@@ -137,22 +144,17 @@ follows_more p actions r new_run a old new was turn acts holds =
 
 -- one action more, with what it made and the lines of that
 abbrev pub GoesOnBy : Pair → List Action → Run → Action → Peers → List ℕ → List ℕ → Type 0
-GoesOnBy p actions r a new before after =
-    (made : Run) × (text : List ℕ) × (Acts p actions r a made × Follows p (a ∷ actions) (made ++ r) new × TellsRun p r made text × (after ≡ before ++ text))
+GoesOnBy p actions r a new before after = (made : Run) × (text : List ℕ) × IsMade p actions r a new before after made text
 
 module _ (p : Pair) (actions : List Action) (r : Run) (a : Action) (old new : Peers) (follows : Follows p actions r old) (turn : IsInTurn actions a) (before after : List ℕ) where
   -- a side made moves, and these were told
-  pub goes_on_by_moves : (side : Side) (ds : List Move) (text : List ℕ) → Acts p actions r a (map (by side) (made ds)) → TellsAll (settings side p) (history side (world_of r)) ds text
-      → after ≡ before ++ text → Holds p (a ∷ actions) (map (by side) ds ++ world_of r) new → GoesOnBy p actions r a new before after
-  goes_on_by_moves side ds text acts tells appended holds = (
-    map (by side) (made ds),
-    text,
-    (
-      acts,
-      follows_more p actions r (map (by side) (made ds)) a old new follows turn acts (subst (λ w. Holds p (a ∷ actions) w new) (sym (world_made side ds r)) holds),
-      tells_made p side r ds text tells,
-      appended,
-    ),
+  pub made_by_moves : (side : Side) (ds : List Move) (text : List ℕ) → Acts p actions r a (map (by side) (made ds)) → TellsAll (settings side p) (history side (world_of r)) ds text
+      → after ≡ before ++ text → Holds p (a ∷ actions) (map (by side) ds ++ world_of r) new → IsMade p actions r a new before after (map (by side) (made ds)) text
+  made_by_moves side ds text acts tells appended holds = (
+    acts,
+    follows_more p actions r (map (by side) (made ds)) a old new follows turn acts (subst (λ w. Holds p (a ∷ actions) w new) (sym (world_made side ds r)) holds),
+    tells_made p side r ds text tells,
+    appended,
   )
 
   -- a side did one thing, and this was told
@@ -177,20 +179,6 @@ module _ (p : Pair) (actions : List Action) (r : Run) (a : Action) (old new : Pe
 
     abbrev beyond : GoBeyond actions (a ∷ actions)
     beyond = one_beyond a actions links (omega (arith, later))
-
-    pub client_made : (ds : List Move) → Goes client_hub (settings Client p) (client_of (world_of r)) new.client before after ds → Acts p actions r a (map (by Client) (made ds))
-        → KeepToTheirSide ds → AreInTime (moment_after (a ∷ actions)) ds → new.server ≡ old.server
-        → LanesStay p (map (by Client) ds ++ world_of r) old.lanes.items new.lanes.items → GoesOnBy p actions r a new before after
-    client_made ds goes acts keep timely same stay =
-        goes_on_by_moves Client ds goes.text acts goes.tells goes.appended
-        (client_goes_on lent p actions (a ∷ actions) (world_of r) old new ds follows.holds keep timely beyond same_moment goes.plays same stay)
-
-    pub server_made : (ds : List Move) → Goes calc_hub (settings Server p) (server_of (world_of r)) new.server before after ds → Acts p actions r a (map (by Server) (made ds))
-        → KeepToTheirSide ds → AreInTime (moment_after (a ∷ actions)) ds → new.client ≡ old.client
-        → LanesStay p (map (by Server) ds ++ world_of r) old.lanes.items new.lanes.items → GoesOnBy p actions r a new before after
-    server_made ds goes acts keep timely same stay =
-        goes_on_by_moves Server ds goes.text acts goes.tells goes.appended
-        (server_goes_on lent p actions (a ∷ actions) (world_of r) old new ds follows.holds keep timely beyond same_moment goes.plays same stay)
 
     pub client_did : (did : Doing) → HasDone client_hub (settings Client p) (client_of (world_of r)) new.client before after did → Acts p actions r a (by Client did ∷ [])
         → KeepToTheirSide (moves_of (did ∷ [])) → AreInTime (moment_after (a ∷ actions)) (moves_of (did ∷ [])) → new.server ≡ old.server

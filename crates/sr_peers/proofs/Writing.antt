@@ -1,5 +1,5 @@
 -- What a side that writes on its link makes of two peers.
-use Rattle.std.proofs.Common.{inl, inr, ⊎_elim, ◌≡◌, ℕ, zero, suc, ◌≤◌, List, [], ◌∷◌, ◌++◌, length, drop, Option, Some, None, refl, sym, ap, ◌∙◌, subst, arith, append-nil, zero-le}
+use Rattle.std.proofs.Common.{inl, inr, ⊎_elim, ◌≡◌, ℕ, zero, suc, ◌≤◌, Bool, false, List, [], ◌∷◌, ◌++◌, length, map, drop, Option, Some, None, refl, sym, ap, ◌∙◌, subst, arith, append-nil, zero-le}
 use Rattle.std.specs.Prelude.{slice_get, slice_set, option_map}
 use Rattle.hd_facts.specs.Prefixes.{IsPrefix}
 use Rattle.hd_delivery.specs.declared.vocabulary.Side.{Side}
@@ -11,7 +11,7 @@ use Rattle.hd_delivery.specs.Bytes.{Wire, ByteStep, Does, bytes_on, in_frames}
 use Rattle.hd_runs.specs.Following.{Follow, FollowUpTo}
 use Rattle.hd_runs.specs.Alone.{writing, lent_text}
 use Rattle.hd_runs.specs.Laws.{FedIsLent}
-use Rattle.hd_runs.specs.Sides.{other, history}
+use Rattle.hd_runs.specs.Sides.{by, other, history}
 use Rattle.hd_calls.specs.Peers.{Move, Settings, byte_steps, steps}
 use Rattle.hd_calls.specs.PeerWorlds.{settings}
 use Rattle.sr_script.specs.declared.action.Count.{Count}
@@ -19,22 +19,23 @@ use Rattle.sr_script.specs.declared.action.Action.TheVariants.{Write}
 use Rattle.sr_script.specs.Script.{moment_after, most_of}
 use Rattle.sr_peers.specs.declared.lane.Lane.{Lane}
 use Rattle.sr_peers.specs.declared.peers.Peers.{Peers}
-use Rattle.sr_peers.specs.Doings.{lifted, Writes}
+use Rattle.sr_peers.specs.Doings.{lifted, made, Writes}
 use Rattle.sr_peers.specs.Told.{TellsAll}
 use Rattle.sr_peers.specs.Grows.{lent_in}
 use Rattle.sr_peers.specs.Laws.{LentGoesOn, WritesLend}
 use Rattle.sr_peers.specs.Plays.{Plays, OfEach}
 use Rattle.sr_peers.specs.Runs.{world_of}
-use Rattle.sr_peers.specs.Follows.{GoesOn, MayRead, said_by}
+use Rattle.sr_peers.specs.Follows.{WorksOn, MayRead, said_by}
+use Rattle.sr_peers.specs.Works.{moves_bytes}
 use Rattle.sr_peers.proofs.Joining.{others_join}
 use Rattle.sr_peers.proofs.Saying.{follow_of}
 use Rattle.sr_peers.proofs.Quiet.{quiet_moves, took_still}
 use Rattle.sr_peers.proofs.Timely.{writes_in_time}
 use Rattle.sr_peers.proofs.Around.{back_again, one_beyond, lanes_same}
 use Rattle.sr_peers.proofs.Chains.{goes_none}
-use Rattle.sr_peers.proofs.Steps.{history_of, goes_on_by_moves}
+use Rattle.sr_peers.proofs.Steps.{history_of, made_by_moves, own_made}
 use Rattle.sr_peers.proofs.Seats.{Seat}
-use Rattle.sr_peers.proofs.Acting.{goes_on_made}
+use Rattle.sr_peers.proofs.Acting.{works_on_made}
 use Rattle.sr_peers.proofs.Standing.{IsOn, HoldsOn, prefix_length, fed_there, was_heard, world_after}
 
 -- without a link nothing is written
@@ -43,19 +44,22 @@ none_written None wire c h at = (tt, ap (λ o. option_map (λ f. Does (Lent f)) 
 none_written (Some n) wire c h at = inr ((tt, ap (λ o. option_map (λ f. Does (Lent f)) (due_on c (in_frames wire c h) o)) (sym at)), zero-le)
 
 pub writes_none : (side : Side) (seat : Seat side) → LentGoesOn → (x : Peers) → seat.Alike x x → (count : Count) → IsOn side seat None x
-    → (report : List ℕ) → GoesOn x (Write side count) x report report
+    → (report : List ℕ) → WorksOn x (Write side count) x report report false
 writes_none side seat lent x alike count off report =
-    goes_on_made side seat lent x x alike refl report report (Write side count) (record { links = λ actions. refl; later = λ actions. refl }) (λ p actions r follows.
+    works_on_made side seat lent x x alike refl report report (Write side count) (record { links = λ actions. refl; later = λ actions. refl }) false (λ p actions r follows.
     let t = settings side p in
     let h = history side (world_of r) in
-    let plays = (seat.played p actions (world_of r) x follows.holds).plays in record {
-      moves = [];
-      acts = ([], (([], (none_written (most_of count) t.wire t.config (byte_steps t h) (off t h plays), refl)), refl));
-      keep = (tt, tt);
-      timely = tt;
-      goes = goes_none seat.hub t h (seat.at x) report plays;
-      stay = lanes_same p _ x.lanes.items;
-    })
+    let plays = (seat.played p actions (world_of r) x follows.holds).plays in (
+      record {
+        moves = [];
+        acts = ([], (([], (none_written (most_of count) t.wire t.config (byte_steps t h) (off t h plays), refl)), refl));
+        keep = (tt, tt);
+        timely = tt;
+        goes = goes_none seat.hub t h (seat.at x) report plays;
+        stay = lanes_same p _ x.lanes.items;
+      },
+      ap moves_bytes (sym (own_made side [])),
+    ))
 
 -- nothing of what is written is reported
 one_silent : (t : Settings) (h : List Move) (ss : List ByteStep) (s : ByteStep) (o : Option LinkFrame) → option_map (λ f. Does (Lent f)) o ≡ Some s
@@ -75,16 +79,16 @@ drop_more (suc n) [] ys few = absurd (omega (arith, few))
 drop_more (suc n) (x ∷ xs) ys few = drop_more n xs ys (omega (arith, few))
 
 -- the side wrote up to `most` frames, which came after what it had said on the link
-abbrev pub WritesOn : (side : Side) (seat : Seat side) → Option ℕ → Peers → Peers → List ℕ → List ℕ → Type 0
-WritesOn side seat most old new was now = OfEach seat.hub (seat.at old) (λ t h. (ss : List ByteStep) × (FollowUpTo most (writing t.wire t.config) (byte_steps t h) ss
-    × Plays seat.hub t (seat.at new) (lifted ss ++ h) × (now ≡ was ++ lent_text t.wire t.config (byte_steps t h) ss)))
+abbrev pub WritesOn : (side : Side) (seat : Seat side) → Option ℕ → Peers → Peers → List ℕ → List ℕ → Bool → Type 0
+WritesOn side seat most old new was now wrote = OfEach seat.hub (seat.at old) (λ t h. (ss : List ByteStep) × (FollowUpTo most (writing t.wire t.config) (byte_steps t h) ss
+    × Plays seat.hub t (seat.at new) (lifted ss ++ h) × (now ≡ was ++ lent_text t.wire t.config (byte_steps t h) ss) × (wrote ≡ moves_bytes (lifted ss))))
 
 pub writes : (side : Side) (seat : Seat side) → HoldsOn side seat → LentGoesOn → WritesLend → FedIsLent → (old new : Peers) → seat.Alike old new → new.now ≡ old.now
     → (link : ℕ) (count : Count) (most : Option ℕ) → most ≡ most_of count → (lane new_lane : Lane) → IsOn side seat (Some link) old
     → slice_get old.lanes.items link ≡ Some lane → new.lanes.items ≡ slice_set old.lanes.items link new_lane → new_lane.opened ≡ lane.opened
-    → said_by (other side) new_lane ≡ said_by (other side) lane → WritesOn side seat most old new (said_by side lane) (said_by side new_lane)
-    → (report : List ℕ) → GoesOn old (Write side count) new report report
-writes side seat holds_on lent lends fed_is_lent old new alike same_now link count most most_is lane new_lane on there set opened kept did report p actions r follows turn =
+    → said_by (other side) new_lane ≡ said_by (other side) lane → (wrote : Bool) → WritesOn side seat most old new (said_by side lane) (said_by side new_lane) wrote
+    → (report : List ℕ) → WorksOn old (Write side count) new report report wrote
+writes side seat holds_on lent lends fed_is_lent old new alike same_now link count most most_is lane new_lane on there set opened kept wrote did report p actions r follows turn =
     let t = settings side p in
     let w = world_of r in
     let h = history side w in
@@ -110,7 +114,7 @@ writes side seat holds_on lent lends fed_is_lent old new alike same_now link cou
     (subst (λ x. IsPrefix fed (lent_in p w x link)) (back_again side) (fed_there fed_is_lent p w is_world.world (other side) link)) in
     let may_before : (j : ℕ) → MayRead (steps t (ds ++ h)) j → MayRead (steps t h) j =
     (λ j may. ⊎_elim (λ here. inl (quiet.stands j here)) (λ never. inr (sym (quiet.names j) ∙ never)) may) in
-    goes_on_by_moves p actions r a old new follows turn report report side ds [] (ds, (written, refl))
+    let is_made = made_by_moves p actions r a old new follows turn report report side ds [] (ds, (written, refl))
     (silent t h ss (follow_of (most_of count) (writing t.wire t.config) (byte_steps t h) ss up_to)) (sym (append-nil report))
     (holds_on p actions (a ∷ actions) w old new ds follows.holds
     (world_after p actions (a ∷ actions) w side ds old.lanes.items is_world is_history joins timely beyond quiet.names link lane new_lane new.lanes.items there set opened
@@ -121,4 +125,5 @@ writes side seat holds_on lent lends fed_is_lent old new alike same_now link cou
     may_before (λ j apart. quiet.bytes j)
     (λ j apart. lent.stays t j h ds is_history
     (lends.elsewhere t h (most_of count) ds j written (λ here. apart (let both : Some link ≡ Some j = sym at ∙ here in let e : link ≡ j = cc in sym e)))))
-    done.1.1 (took_still t h ds quiet played.took_all) alike (same_now ∙ follows.holds.now))
+    done.1.1 (took_still t h ds quiet played.took_all) alike (same_now ∙ follows.holds.now)) in
+    (map (by side) (made ds), [], (is_made, done.1.3 ∙ ap moves_bytes (sym (own_made side ds))))

@@ -23,6 +23,7 @@ use Rattle.sr_peers.specs.declared.peers.Peers.{Peers}
 use Rattle.sr_peers.specs.Grows.{lent_in}
 use Rattle.sr_peers.specs.Plays.{Plays, OfEach}
 use Rattle.sr_peers.specs.Runs.{Run, Runs, Acts, TellsRun, world_of, steps_at}
+use Rattle.sr_peers.specs.Works.{Works}
 
 -- ---- one peer
 
@@ -113,7 +114,16 @@ abbrev pub IsOfPeers : Action → Type 0
 IsOfPeers (Send side m) = ⊥
 IsOfPeers a = IsWhole a
 
+-- after these actions and their run, whose peers stand so, the action made this, and these are its lines
+abbrev pub IsMade : Pair → List Action → Run → Action → Peers → List ℕ → List ℕ → Run → List ℕ → Type 0
+IsMade p actions r a new before after made text = Acts p actions r a made × Follows p (a ∷ actions) (made ++ r) new × TellsRun p r made text × (after ≡ before ++ text)
+
 -- whatever actions and run the peers stood for, they now stand for one action more, and for what that made after the run, whose lines were appended
 abbrev pub GoesOn : Peers → Action → Peers → List ℕ → List ℕ → Type 0
 GoesOn old a new before after = (p : Pair) (actions : List Action) (r : Run) → Follows p actions r old → IsInTurn actions a
-    → (made : Run) × (text : List ℕ) × (Acts p actions r a made × Follows p (a ∷ actions) (made ++ r) new × TellsRun p r made text × (after ≡ before ++ text))
+    → (made : Run) × (text : List ℕ) × IsMade p actions r a new before after made text
+
+-- and this says whether it wrote, read or stepped anything
+abbrev pub WorksOn : Peers → Action → Peers → List ℕ → List ℕ → Bool → Type 0
+WorksOn old a new before after worked = (p : Pair) (actions : List Action) (r : Run) → Follows p actions r old → IsInTurn actions a
+    → (made : Run) × (text : List ℕ) × (IsMade p actions r a new before after made text × Works p r a made worked)

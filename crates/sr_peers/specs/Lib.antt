@@ -5,5 +5,6 @@ pub mod Laws
 pub mod Plays
 pub mod Begun
 pub mod Runs
+pub mod Works
 pub mod Follows
 pub mod Report

@@ -19,6 +19,13 @@ pub record IsRunOf (p : Pair) (actions : List Action) (r : Run) : Type 0 where
   pub runs : Runs p actions r
   pub world : IsPeerWorld client_hub calc_hub p (world_of r)
 
+-- It is such a run. In it each end has processed a first part of what the other sent, and each call that was processed begins one job, but for one that waits
+-- or that closed the end. Of what its job answers a caller is given a first part: all of it, with one ending, once nothing is left to do.
+pub record IsOnce (p : Pair) (actions : List Action) (r : Run) : Type 0 where
+  pub is_run : IsRunOf p actions r
+  pub delivers : DeliveryOverBytes p.wire p.terms (ends p (world_of r))
+  pub once : BothOnce client_hub calc_hub p (world_of r)
+
 -- the two lines of how both ends stand
 abbrev pub standing_lines : Pair → List (Event Move) → List ℕ
 standing_lines p w = standing_text Client (config Client p.terms) (steps_at p w Client) ++ standing_text Server (config Server p.terms) (steps_at p w Server)
@@ -27,14 +34,10 @@ standing_lines p w = standing_text Client (config Client p.terms) (steps_at p w 
 abbrev pub pair_in : Wire → Program → Pair
 pair_in wire p = pair_of (limits_in p.settings) wire (terms_in p.settings)
 
--- The text is the report of a run that the program's actions make: its lines, and then how both ends stand. In it each end has processed a first
--- part of what the other sent, and each call that was processed begins one job, of whose answers its caller is given a first part: all of them, with one
--- ending, once nothing is left to do.
+-- The text is the report of such a run of the program's actions: its lines, and then how both ends stand.
 pub record IsReportOver (wire : Wire) (p : Program) (text : List ℕ) : Type 0 where
   pub run : Run
-  pub is_run : IsRunOf (pair_in wire p) p.actions run
-  pub delivers : DeliveryOverBytes wire (terms_in p.settings) (ends (pair_in wire p) (world_of run))
-  pub once : BothOnce client_hub calc_hub (pair_in wire p) (world_of run)
+  pub once : IsOnce (pair_in wire p) p.actions run
   pub lines : List ℕ
   pub told : TellsRun (pair_in wire p) [] run lines
   pub text_is : text ≡ lines ++ standing_lines (pair_in wire p) (world_of run)

@@ -3,6 +3,7 @@
 ghost use Rattle.sr_peers.specs.Follows.{IsLeft};
 
 use hd_delivery::Side;
+use std::alloc::Global;
 
 /// What was said on a link and isn't read yet.
 #[derive(Drop)]
@@ -13,8 +14,8 @@ pub(crate) struct Lane {
     pub(crate) opened: bool,
 }
 
-/// Forgets what came to a side on a link that it has left: nobody reads it.
-pub(crate) fn leave(lanes: &mut Vec<Lane>, side: Side, link: Option<u64>)
+/// Forgets what came to a side on a link that it has left, and gives its memory back: nobody reads it.
+pub(crate) fn leave(alloc: Global, lanes: &mut Vec<Lane>, side: Side, link: Option<u64>)
     ensures { IsLeft side link lanes.old.items lanes.new.items }
 {
     let Some(link) = link else {
@@ -26,7 +27,7 @@ pub(crate) fn leave(lanes: &mut Vec<Lane>, side: Side, link: Option<u64>)
     }
     let lane = &mut lanes[at];
     match side {
-        Side::Client => lane.to_client.clear(),
-        Side::Server => lane.to_server.clear(),
+        Side::Client => lane.to_client = Vec::new(alloc),
+        Side::Server => lane.to_server = Vec::new(alloc),
     }
 }

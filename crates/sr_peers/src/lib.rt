@@ -10,13 +10,13 @@
 //! `party.rt` is one peer on its link, `peers.rt` both and the links between them, `lane.rt` one link.
 //!
 //! `specs/Doings.antt` says what a peer makes of an action: the moves that follow from one another, each the one that comes next, and the calls
-//! that are gone once its end is closed. `specs/Told.antt` has the lines of these moves, `specs/Runs.antt` the runs of two peers, and
-//! `specs/Report.antt` what is promised of a report. What a peer can do by itself goes on as a world of two ([`worlds_grow`],
+//! that are gone once its end is closed. `specs/Told.antt` has the lines of these moves, `specs/Runs.antt` the runs of two peers,
+//! `specs/Works.antt` which actions write, read or step anything, and `specs/Report.antt` what is promised of a report. What a peer can do by itself goes on as a world of two ([`worlds_grow`],
 //! `specs/Grows.antt`) if what it reads is what the other side lent ([`reads_are_said`]); all else keeps to its side ([`others_join`],
 //! [`doings_keep`]).
 //!
 //! Proved: the moves of two peers are those of a run of the actions that they did, and a world of two peers, so calls are carried out once in it
-//! ([`Peers::act`], [`Peers::finish`]).
+//! ([`Peers::act`], [`Peers::finish`]; without a report [`Peers::calls_once`]).
 //!
 //! The crate doesn't know how scripts are written.
 #![tactic(auto)]

@@ -1,7 +1,7 @@
 //! One peer of a replay: what it does on the link where it stands, with the lines that are reported of that. It doesn't know scripts, nor
 //! the other peer.
 
-ghost use Rattle.std.specs.Prelude.{◌≡◌, ◌<◌, ◌≤◌, ℕ, false, List, [], ◌∷◌, ◌++◌, Some, None, IfOk, OnOk, codes, length, drop, take};
+ghost use Rattle.std.specs.Prelude.{◌≡◌, ◌<◌, ◌≤◌, ◌↔◌, ℕ, IsTrue, false, nat_lt, List, [], ◌∷◌, ◌++◌, Some, None, IfOk, OnOk, codes, length, drop, take};
 ghost use Rattle.hs_shake.specs.Requests.{IsVersion};
 ghost use Rattle.hd_delivery.specs.Histories as of;
 ghost use Rattle.hd_delivery.specs.Histories.{present_link, was_on};
@@ -12,6 +12,7 @@ ghost use Rattle.hd_runs.specs.Alone.{writing, lent_text};
 ghost use Rattle.he_wire.specs.Wires.{IsHouseWire};
 ghost use Rattle.hd_calls.specs.Numbers.{most_uploads};
 ghost use Rattle.hd_calls.specs.Peers.{Move, byte_steps, steps};
+ghost use Rattle.hd_calls.specs.Rules.{IsPeerDue};
 ghost use Rattle.hj_jobs.specs.Meaning.{meaning};
 ghost use Rattle.hub_calc.specs.Laws.{HandsUpNothing};
 ghost use Rattle.hp_peer.specs.declared.errors.AskError.TheVariants as ask;
@@ -19,6 +20,7 @@ ghost use Rattle.hp_peer.specs.Calling.{upload_end, upload_item};
 ghost use Rattle.hp_peer.specs.Stands.{settings};
 ghost use Rattle.sr_peers.specs.Doings.{Asks, Cancelling, Doing, IsRound, IsTried, Losing, ReadsTo, Reading, Sends, Taking, WholeChain, WithLosses, attaching, closing, leaving, lifted, ticking};
 ghost use Rattle.sr_lines.specs.Lines.{ask_words, line_at};
+ghost use Rattle.sr_peers.specs.Works.{moves_bytes};
 ghost use Rattle.sr_peers.specs.Plays.{Feeds, Goes, HasDone, OfEach, Plays, TakesOne, WritesOne};
 
 use crate::laws::losses_are_few;
@@ -153,20 +155,23 @@ impl<H: Hub> Party<H> {
         Ok(())
     }
 
-    /// Puts so many of the frames that are due on the link whose bytes these are; `None`: all of them.
-    pub fn write(&mut self, most: Option<u64>, lane: &mut Vec<u8>) -> Result<(), AllocError>
-        ensures { OnOk result (OfEach (meaning H.begin_of H.step_of) self.old (λ t h. (ss : List ByteStep) × (FollowUpTo most (writing t.wire t.config) (byte_steps t h) ss
+    /// Puts so many of the frames that are due on the link whose bytes these are; `None`: all of them. True exactly if it put any.
+    pub fn write(&mut self, most: Option<u64>, lane: &mut Vec<u8>) -> Result<bool, AllocError>
+        ensures { IfOk result (λ wrote. OfEach (meaning H.begin_of H.step_of) self.old (λ t h. (ss : List ByteStep) × (FollowUpTo most (writing t.wire t.config) (byte_steps t h) ss
             × Plays (meaning H.begin_of H.step_of) t self.new (lifted ss ++ h)
-            × (lane.new.items ≡ lane.old.items ++ lent_text t.wire t.config (byte_steps t h) ss)))) }
+            × (lane.new.items ≡ lane.old.items ++ lent_text t.wire t.config (byte_steps t h) ss)
+            × (wrote ≡ moves_bytes (lifted ss))))) }
     {
         facts_hold();
         writes_few();
+        let mut wrote = false;
         for _written in 0..most.unwrap_or(u64::MAX) {
             if !self.write_one(lane)? {
-                return Ok(());
+                return Ok(wrote);
             }
+            wrote = true;
         }
-        Ok(())
+        Ok(wrote)
     }
 
     /// Reads these bytes of its link, which are all that are to be read of what comes next there, and answers how many it was fed: all of
@@ -184,7 +189,8 @@ impl<H: Hub> Party<H> {
             (ds : List Move) × (ReadsTo t h now all ds
             × Goes (meaning H.begin_of H.step_of) t h self.new report.old.items report.new.items ds
             × (bytes_on l (byte_steps t (ds ++ h)) ≡ bytes_on l (byte_steps t h) ++ take fed bytes.now)
-            × (fed ≤ length bytes.now)))) }
+            × (fed ≤ length bytes.now)
+            × (moves_bytes ds ≡ nat_lt 0 fed)))) }
     {
         fed_is_unseen();
         let mut at = 0;
@@ -294,16 +300,18 @@ impl<H: Hub> Party<H> {
         }
     }
 
-    /// Each job that is due has one turn. The hub hands up no deeds.
-    pub fn round(&mut self, alloc: Global, hub: &H, now: u64) -> Result<(), AllocError>
+    /// Each job that is due has one turn. True exactly if one is due. The hub hands up no deeds.
+    pub fn round(&mut self, alloc: Global, hub: &H, now: u64) -> Result<bool, AllocError>
         requires { HandsUpNothing (meaning H.begin_of H.step_of) }
-        ensures { OnOk result (OfEach (meaning H.begin_of H.step_of) self.old (λ t h. (ds : List Move) × (IsRound t h now ds
-            × Plays (meaning H.begin_of H.step_of) t self.new (ds ++ h)))) }
+        ensures { IfOk result (λ due. OfEach (meaning H.begin_of H.step_of) self.old (λ t h. (ds : List Move) × (IsRound t h now ds
+            × Plays (meaning H.begin_of H.step_of) t self.new (ds ++ h)
+            × (IsTrue due ↔ IsPeerDue t h)))) }
     {
+        let due = self.peer.due();
         self.peer.begin_round();
         // No job hands up a deed, so each that was due has had its turn.
         let _deed = self.peer.step_job(alloc, hub, now)?;
-        Ok(())
+        Ok(due)
     }
 
     // ---- inside

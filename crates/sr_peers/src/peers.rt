@@ -1,14 +1,15 @@
 //! The two peers of a replay and what is kept of the links between them: what each action of a script makes of these. It doesn't know
 //! texts.
 
-ghost use Rattle.std.specs.Prelude.{◌≡◌, ◌≤◌, ℕ, false, List, [], ◌++◌, length, drop, take, Some, None, IfOk, OnOk};
+ghost use Rattle.std.specs.Prelude.{◌≡◌, ◌≤◌, ◌+◌, ℕ, false, List, [], ◌++◌, length, drop, take, Some, None, IfOk, OnOk};
 ghost use Rattle.hs_shake.specs.Requests.{IsVersion};
 ghost use Rattle.hd_delivery.specs.Histories as of;
 ghost use Rattle.hd_delivery.specs.Histories.{present_link, was_on};
 ghost use Rattle.hd_delivery.specs.Processes.{processes};
 ghost use Rattle.hd_delivery.specs.Bytes.{Wire, bytes_on};
 ghost use Rattle.he_wire.specs.Wires.{IsHouseWire};
-ghost use Rattle.hd_calls.specs.Peers.{Move, byte_steps, steps};
+ghost use Rattle.hd_calls.specs.Peers.{Move, byte_steps, drawn, steps};
+ghost use Rattle.hd_calls.specs.Rules.{own_live};
 ghost use Rattle.hj_jobs.specs.Meaning.{meaning};
 ghost use Rattle.hd_calls.specs.PeerWorlds.{Pair};
 ghost use Rattle.sr_lines.specs.Lines.{standing_text};
@@ -17,9 +18,12 @@ ghost use Rattle.sr_script.specs.Script.{Program, most_of, opened};
 ghost use Rattle.sr_peers.specs.Doings.{IsTried, ReadsTo, WithLosses, attaching, ticking};
 ghost use Rattle.sr_peers.specs.Plays.{Goes, HasDone, OfEach};
 ghost use Rattle.sr_script.specs.declared.action.Action.TheVariants as action;
-ghost use Rattle.sr_peers.specs.Follows.{Follows, GoesOn, HasForgotten, HasMoved, IsOfPeers};
-ghost use Rattle.sr_peers.specs.Runs.{Run, TellsRun, pair_of, read_in_all};
-ghost use Rattle.sr_peers.specs.Report.{IsReportOver, pair_in};
+ghost use Rattle.sr_peers.specs.Follows.{Follows, GoesOn, HasForgotten, HasMoved, IsOfPeers, WorksOn};
+ghost use Rattle.sr_peers.specs.Works.{moves_bytes};
+ghost use Rattle.sr_peers.specs.Runs.{Run, TellsRun, pair_of, read_in_all, world_of};
+ghost use Rattle.hd_runs.specs.Sides.{history};
+ghost use Rattle.hd_delivery.specs.declared.vocabulary.Side.TheVariants.{Client, Server};
+ghost use Rattle.sr_peers.specs.Report.{IsOnce, IsReportOver, pair_in};
 ghost use Rattle.sr_peers.specs.Begun.{terms_of};
 
 use crate::lane::{Lane, leave};
@@ -29,7 +33,7 @@ use hd_delivery::{Side, facts_hold, fed_is_unseen, unused_is_untouched};
 use hd_runs::{fed_is_lent, frames_are_taken, unused_is_empty};
 use he_end::Config;
 use hj_jobs::Hub;
-use hp_peer::peers_call_once;
+use hp_peer::{peers_call_once, peers_keep_their_calls};
 use hub_calc::{CalcHub, ClientHub, nothing_is_handed_up};
 use hv_value::{Text, Value};
 use sr_lines::push_standing;
@@ -80,23 +84,66 @@ impl Peers {
             Action::Open => self.open(alloc, report),
             Action::Accept(link) => self.accept(alloc, link, report),
             Action::Lose(side) => self.lose(alloc, side, report),
-            Action::Write(side, count) => self.write(side, count),
-            Action::Read(side, count) => self.read(alloc, side, count, report),
+            Action::Write(side, count) => {
+                self.write(side, count)?;
+                Ok(())
+            }
+            Action::Read(side, count) => {
+                self.read(alloc, side, count, report)?;
+                Ok(())
+            }
             Action::Close(side) => self.close(alloc, side, report),
             Action::Tick(now) => self.tick(alloc, now, report),
             Action::Call(side, asking) => self.call(alloc, side, asking, report),
             Action::Item(side, call, value) => self.item(alloc, side, call, value, report),
             Action::Done(side, call) => self.done(alloc, side, call, report),
             Action::Cancel(side, call) => self.cancel(alloc, side, call, report),
-            Action::Round(side) => self.round(alloc, side),
+            Action::Round(side) => {
+                self.round(alloc, side)?;
+                Ok(())
+            }
             Action::Send(_, _) => unreachable!(),
         }
     }
+
     /// How many links were opened.
     pub fn links(&self) -> u64
         ensures { (p : Pair) (actions : List Action) (r : Run) → Follows p actions r self.entry.now → result ≡ opened actions }
     {
         self.lanes.len() as u64
+    }
+
+    /// How many numbers the calls and uploads of both have drawn.
+    pub fn drawn(&self) -> u64
+        ensures { (p : Pair) (actions : List Action) (r : Run) → Follows p actions r self.entry.now →
+            result ≡ drawn (history Client (world_of r)) + drawn (history Server (world_of r)) }
+    {
+        peers_keep_their_calls(self.client.peer());
+        peers_keep_their_calls(self.server.peer());
+        // What both draw lies far below 2^64.
+        let client = self.client.peer().drawn();
+        let server = self.server.peer().drawn();
+        client.saturating_add(server)
+    }
+
+    /// How many calls and uploads of both are live.
+    pub fn live(&self) -> u64
+        ensures { (p : Pair) (actions : List Action) (r : Run) → Follows p actions r self.entry.now →
+            result ≡ own_live (history Client (world_of r)) + own_live (history Server (world_of r)) }
+    {
+        peers_keep_their_calls(self.client.peer());
+        peers_keep_their_calls(self.server.peer());
+        let client = self.client.peer().live();
+        let server = self.server.peer().live();
+        client.saturating_add(server)
+    }
+
+    /// A law, which does nothing: what two peers did is a world in which each has processed a first part of what the other sent, and calls
+    /// are carried out once.
+    pub fn calls_once(&self)
+        ensures { (p : Pair) (actions : List Action) (r : Run) → Follows p actions r self.entry.now → IsOnce p actions r }
+    {
+        peers_call_once(self.client.peer(), self.server.peer());
     }
 
     /// Reports how both ends stand, the client first. After the lines of a script's run that makes the report whole.
@@ -172,20 +219,20 @@ impl Peers {
             Side::Client => {
                 let left = self.client.link();
                 self.client.lose(alloc, self.now, report)?;
-                leave(&mut self.lanes, side, left);
+                leave(alloc, &mut self.lanes, side, left);
             }
             Side::Server => {
                 let left = self.server.link();
                 self.server.lose(alloc, self.now, report)?;
-                leave(&mut self.lanes, side, left);
+                leave(alloc, &mut self.lanes, side, left);
             }
         }
         Ok(())
     }
 
-    /// A peer puts so many of its frames on its link.
-    fn write(&mut self, side: Side, count: Count) -> Result<(), AllocError>
-        ensures { OnOk result ((report : List ℕ) → GoesOn self.old (action.Write side count) self.new report report) }
+    /// A peer puts so many of its frames on its link. True exactly if it put any. What this reports is nothing.
+    pub fn write(&mut self, side: Side, count: Count) -> Result<bool, AllocError>
+        ensures { IfOk result (λ wrote. (report : List ℕ) → WorksOn self.old (action.Write side count) self.new report report wrote) }
     {
         what_is_lent_goes_on();
         writes_lend();
@@ -194,22 +241,22 @@ impl Peers {
         match side {
             Side::Client => {
                 let Some(link) = self.client.link() else {
-                    return Ok(());
+                    return Ok(false);
                 };
                 let at = link as usize;
                 if at >= self.lanes.len() {
-                    return Ok(());
+                    return Ok(false);
                 }
                 self.client
                     .write(most(count), &mut self.lanes[at].to_server)
             }
             Side::Server => {
                 let Some(link) = self.server.link() else {
-                    return Ok(());
+                    return Ok(false);
                 };
                 let at = link as usize;
                 if at >= self.lanes.len() {
-                    return Ok(());
+                    return Ok(false);
                 }
                 self.server
                     .write(most(count), &mut self.lanes[at].to_client)
@@ -217,15 +264,15 @@ impl Peers {
         }
     }
 
-    /// A peer reads so many bytes of its link.
-    fn read(
+    /// A peer reads so many bytes of its link, and reports what comes of it. True exactly if it read any.
+    pub fn read(
         &mut self,
         alloc: Global,
         side: Side,
         count: Count,
         report: &mut Vec<u8>,
-    ) -> Result<(), AllocError>
-        ensures { OnOk result (GoesOn self.old (action.Read side count) self.new report.old.items report.new.items) }
+    ) -> Result<bool, AllocError>
+        ensures { IfOk result (λ has_read. WorksOn self.old (action.Read side count) self.new report.old.items report.new.items has_read) }
     {
         what_is_lent_goes_on();
         writes_lend();
@@ -236,11 +283,11 @@ impl Peers {
         match side {
             Side::Client => {
                 let Some(link) = self.client.link() else {
-                    return Ok(());
+                    return Ok(false);
                 };
                 let at = link as usize;
                 if at >= self.lanes.len() {
-                    return Ok(());
+                    return Ok(false);
                 }
                 let bytes = &mut self.lanes[at].to_client;
                 read(
@@ -255,11 +302,11 @@ impl Peers {
             }
             Side::Server => {
                 let Some(link) = self.server.link() else {
-                    return Ok(());
+                    return Ok(false);
                 };
                 let at = link as usize;
                 if at >= self.lanes.len() {
-                    return Ok(());
+                    return Ok(false);
                 }
                 let bytes = &mut self.lanes[at].to_server;
                 read(
@@ -392,9 +439,9 @@ impl Peers {
         }
     }
 
-    /// The jobs of a peer have their turns.
-    fn round(&mut self, alloc: Global, side: Side) -> Result<(), AllocError>
-        ensures { OnOk result ((report : List ℕ) → GoesOn self.old (action.Round side) self.new report report) }
+    /// The jobs of a peer have their turns. True exactly if one has any. What this reports is nothing.
+    pub fn round(&mut self, alloc: Global, side: Side) -> Result<bool, AllocError>
+        ensures { IfOk result (λ due. (report : List ℕ) → WorksOn self.old (action.Round side) self.new report report due) }
     {
         what_is_lent_goes_on();
         nothing_is_handed_up();
@@ -455,7 +502,7 @@ fn attach<H: Hub>(
     let left = party.link();
     let taken = party.attach(alloc, link, now, report)?;
     if taken {
-        leave(lanes, side, left);
+        leave(alloc, lanes, side, left);
     }
     Ok(taken)
 }
@@ -477,7 +524,7 @@ fn tick<H: Hub>(
     let left = party.link();
     party.tick(alloc, now, report)?;
     if party.link().is_none() {
-        leave(lanes, side, left);
+        leave(alloc, lanes, side, left);
     }
     Ok(())
 }
@@ -503,19 +550,20 @@ fn read<H: Hub>(
     count: Count,
     bytes: &mut Vec<u8>,
     report: &mut Vec<u8>,
-) -> Result<(), AllocError>
-    ensures { OnOk result (OfEach (meaning H.begin_of H.step_of) party.old (λ t h. (l : ℕ) (lent : List ℕ) → present_link (steps t h) ≡ Some l →
+) -> Result<bool, AllocError>
+    ensures { IfOk result (λ has_read. OfEach (meaning H.begin_of H.step_of) party.old (λ t h. (l : ℕ) (lent : List ℕ) → present_link (steps t h) ≡ Some l →
         length (bytes_on l (byte_steps t h)) ≤ length lent → bytes.old.items ≡ drop (length (bytes_on l (byte_steps t h))) lent → processes t.config (steps t h) ≡ None →
         (ds : List Move) × (ReadsTo t h now (read_in_all count (length (bytes_on l (byte_steps t h))) lent) ds
         × Goes (meaning H.begin_of H.step_of) t h party.new report.old.items report.new.items ds
-        × (bytes.new.items ≡ drop (length (bytes_on l (byte_steps t (ds ++ h)))) lent)))) }
+        × (bytes.new.items ≡ drop (length (bytes_on l (byte_steps t (ds ++ h)))) lent)
+        × (has_read ≡ moves_bytes ds)))) }
 {
     let len = bytes.len();
     let end = end_of_read(count, len);
     let fed = party.read(alloc, hub, now, &bytes[..end], report)?;
     // A party that stands for its moves is fed no more than there was.
     drop_front(bytes, fed.min(len));
-    Ok(())
+    Ok(fed > 0)
 }
 
 /// Drops the first `count` bytes.

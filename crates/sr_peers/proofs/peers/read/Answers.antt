@@ -21,4 +21,4 @@ returns g c t h plays l lent at few bytes_are none =
     let least : c.min.result ≡ min c.in_ok-fed.fed (length was) = c.min.ensures ∙ ap (min c.in_ok-fed.fed) len_is in
     let dropped : ◌≡◌ {A = List ℕ} c.drop_front.new.bytes.items (drop (min c.in_ok-fed.fed (length was)) was) = ◌∙◌ {A = List ℕ} c.drop_front.ensures (ap (λ n. drop n was) least) in
     let left = left_after c.in_ok-fed.fed end (length front) lent was piece (bytes_on l (byte_steps t (done.0 ++ h))) bytes_are within piece_is done.1.3 front refl done.1.2 in
-    (done.0, (done.1.0, done.1.1, dropped ∙ left))
+    (done.0, (done.1.0, done.1.1, dropped ∙ left, sym done.1.4))

@@ -1,8 +1,11 @@
-use Rattle.std.proofs.lemmas.Result.{on_ok_weaker}
 use Rattle.sr_peers.proofs.peers.Peers.act.Goals as goal
 
-pub returns-in-Write : goal.returns-in-Write
-returns-in-Write c = rw c.in-Write.is (on_ok_weaker c.write.result (λ goes. goes c.args.report.now.items) c.write.ensures)
+pub returns-in_ok-write-in-Write : goal.returns-in_ok-write-in-Write
+returns-in_ok-write-in-Write c =
+    rw c.in-Write.is (λ p actions r follows turn.
+    let done = c.in_ok-write-in-Write.ensures c.args.report.now.items p actions r follows turn in (done.0, done.1, done.2.0))
 
-pub returns-in-Round : goal.returns-in-Round
-returns-in-Round c = rw c.in-Round.is (on_ok_weaker c.round.result (λ goes. goes c.args.report.now.items) c.round.ensures)
+pub returns-in_ok-round-in-Round : goal.returns-in_ok-round-in-Round
+returns-in_ok-round-in-Round c =
+    rw c.in-Round.is (λ p actions r follows turn.
+    let done = c.in_ok-round-in-Round.ensures c.args.report.now.items p actions r follows turn in (done.0, done.1, done.2.0))

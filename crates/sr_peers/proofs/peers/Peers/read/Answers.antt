@@ -1,6 +1,6 @@
-use Rattle.std.proofs.Common.{refl, sym, ◌∙◌, arith}
+use Rattle.std.proofs.Common.{false, refl, sym, ◌∙◌, arith}
 use Rattle.std.specs.Vec.{with_item}
-use Rattle.std.proofs.lemmas.Result.{on_ok_weaker}
+use Rattle.std.proofs.lemmas.Result.{IfOk-weaker}
 use Rattle.sr_peers.proofs.Seats.{the_client, the_server}
 use Rattle.sr_peers.proofs.Lanes.{there}
 use Rattle.sr_peers.proofs.Standing.{never_past, client_holds, server_holds}
@@ -16,7 +16,7 @@ returns-in_default c =
 pub returns-then-at-len : goal.returns-then-at-len
 returns-then-at-len c =
     never_past _ the_client c.facts_hold.ensures c.args.self.now c.in-Some.link (λ t h plays. sym c.in-Some.is ∙ c.link.ensures t h plays)
-    (omega (arith, c.if-at-len.true, c.len.ensures, c.args.self.now.lanes.ok.0)) _ c.args.report.now.items c.args.report.now.items
+    (omega (arith, c.if-at-len.true, c.len.ensures, c.args.self.now.lanes.ok.0)) _ c.args.report.now.items c.args.report.now.items false
 
 pub returns-in_default-link : goal.returns-in_default-link
 returns-in_default-link c =
@@ -27,13 +27,13 @@ returns-in_default-link c =
 pub returns-then-at-len-2 : goal.returns-then-at-len-2
 returns-then-at-len-2 c =
     never_past _ the_server c.facts_hold.ensures c.args.self.now c.in-Some-link.link (λ t h plays. sym c.in-Some-link.is ∙ c.link-in-Server.ensures t h plays)
-    (omega (arith, c.if-at-len-2.true, c.len-in-Server.ensures, c.args.self.now.lanes.ok.0)) _ c.args.report.now.items c.args.report.now.items
+    (omega (arith, c.if-at-len-2.true, c.len-in-Server.ensures, c.args.self.now.lanes.ok.0)) _ c.args.report.now.items c.args.report.now.items false
 
 pub returns-else-at-len : goal.returns-else-at-len
 returns-else-at-len c =
     rw c.in-Client.is
     (let new_lane = record (c.index_mut.result.now) { to_client = c.read.new.bytes } in
-    on_ok_weaker c.read.result
+    IfOk-weaker c.read.result _ _
     (reads_on c.fed_is_unseen.ensures c.frames_are_taken.ensures c.fed_is_lent.ensures c.writes_lend.ensures _ the_client client_holds c.what_is_lent_goes_on.ensures
     c.args.self.now (record (c.args.self.now) { client = c.read.new.party; lanes = with_item c.args.self.now.lanes c.in-Some.link new_lane }) refl refl c.in-Some.link
     c.args.count c.index_mut.result.now new_lane (λ t h plays. sym c.in-Some.is ∙ c.link.ensures t h plays)
@@ -46,7 +46,7 @@ pub returns-else-at-len-2 : goal.returns-else-at-len-2
 returns-else-at-len-2 c =
     rw c.in-Server.is
     (let new_lane = record (c.index_mut-in-Server.result.now) { to_server = c.read-in-Server.new.bytes } in
-    on_ok_weaker c.read-in-Server.result
+    IfOk-weaker c.read-in-Server.result _ _
     (reads_on c.fed_is_unseen.ensures c.frames_are_taken.ensures c.fed_is_lent.ensures c.writes_lend.ensures _ the_server server_holds c.what_is_lent_goes_on.ensures
     c.args.self.now (record (c.args.self.now) { server = c.read-in-Server.new.party; lanes = with_item c.args.self.now.lanes c.in-Some-link.link new_lane }) refl refl
     c.in-Some-link.link c.args.count c.index_mut-in-Server.result.now new_lane (λ t h plays. sym c.in-Some-link.is ∙ c.link-in-Server.ensures t h plays)
