@@ -25,4 +25,4 @@ mod replaying;
 mod told;
 
 pub use laws::{reports_have_lines, reports_once, runs_are_worlds, runs_once};
-pub use replaying::{ReplayError, Totals, replay};
+pub use replaying::{ReplayError, Totals, replay, usual};

@@ -74,7 +74,7 @@ impl From<AllocError> for ReplayError {
 }
 
 /// How both ends are begun if no line says otherwise.
-fn usual() -> Config
+pub fn usual() -> Config
     ensures { Begins [] result }
 {
     let Some(limits) = Limits::of(USUAL_FRAME, USUAL_COUNT, USUAL_BYTES) else {
