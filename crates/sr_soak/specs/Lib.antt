@@ -1,0 +1,5 @@
+pub mod Recipe
+pub mod Counts
+pub mod Soaks
+pub mod Steps
+pub mod Plays

@@ -1,0 +1,36 @@
+//! The numbers that are drawn from a seed.
+
+ghost use Rattle.std.specs.Prelude.{◌≡◌, ◌/◌, ◌^◌};
+ghost use Rattle.sr_soak.specs.Recipe.{after};
+
+/// What each number is multiplied by, and then what is added, for the next one (Knuth's MMIX).
+const MULTIPLIER: u64 = 6_364_136_223_846_793_005;
+
+const INCREMENT: u64 = 1_442_695_040_888_963_407;
+
+/// The lower bits of a number, which are not given: they repeat sooner.
+const LOWER_BITS: u32 = 33;
+
+/// A linear congruential generator of 64 bits.
+#[derive(Drop)]
+pub(crate) struct Draws {
+    x: u64,
+}
+
+impl Draws {
+    /// One that begins with this seed.
+    pub(crate) fn of(seed: u64) -> Draws
+        ensures { result.x ≡ seed }
+    {
+        Draws { x: seed }
+    }
+
+    /// Draws a number: 31 bits of the next.
+    pub(crate) fn next(&mut self) -> u64
+        ensures gives { result ≡ after self.old.x / 2 ^ 33 }
+        ensures draws { self.new.x ≡ after self.old.x }
+    {
+        self.x = self.x.wrapping_mul(MULTIPLIER).wrapping_add(INCREMENT);
+        self.x >> LOWER_BITS
+    }
+}
