@@ -1,10 +1,12 @@
 -- Names that differ, and what a name says of its codec.
-use Rattle.std.proofs.Common.{◌≡◌, ◌∙◌, Some, true, false, codes, refl, sym}
+use Rattle.std.proofs.Common.{◌≡◌, ◌∙◌, ℕ, List, ap, Some, true, false, codes, refl, sym}
 use Rattle.std.specs.Str.{bytes_eq}
 use Rattle.std.proofs.lemmas.Slice.Eq.{bytes_eq-Decides}
-use Rattle.clap.specs.Words.{Text}
+use Rattle.clap.specs.Words.{Row, Text}
+use Rattle.std.specs.Str.Parse.{digits_value, without_leading_plus}
 use Rattle.hm_message.specs.declared.message.Codec.{Codec}
 use Rattle.hm_message.specs.declared.message.Codec.TheVariants.{Json, Pack}
+use Rattle.sr_words.specs.Clap.{SaysNumber}
 use Rattle.sr_words.specs.Words.{codec_name}
 
 pub apart : (a b : Text) → bytes_eq a b ≡ false → a ≡ b → ⊥
@@ -20,3 +22,9 @@ same_codec Json Json e = refl
 same_codec Json Pack e = absurd (apart (codes "json") (codes "pack") refl (inside e))
 same_codec Pack Json e = absurd (apart (codes "pack") (codes "json") refl (inside e))
 same_codec Pack Pack e = refl
+
+-- rows say one number of an argument
+pub same_number : (id : Text) (rows : List Row) (m n : ℕ) → SaysNumber id m rows → SaysNumber id n rows → m ≡ n
+same_number id rows m n x y =
+    let same : x.0 ≡ y.0 = inside (sym x.1.0 ∙ y.1.0) in
+    sym x.1.1.value ∙ ap (λ text. digits_value 10 (without_leading_plus text)) same ∙ y.1.1.value

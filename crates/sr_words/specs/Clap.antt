@@ -1,6 +1,7 @@
 -- What `clap` makes of the words after a command's name, and the commands that this crate gives it.
-use Rattle.std.specs.Prelude.{◌≡◌, [], true, Some, List}
-use Rattle.clap.specs.Words.{App, Rule, Text, new_app, new_rule, fault_of, first_of, matches_of}
+use Rattle.std.specs.Prelude.{◌≡◌, ◌<◌, ◌^◌, ℕ, [], true, Some, List}
+use Rattle.std.specs.Str.Parse.{IsNumeral, digits_value, without_leading_plus}
+use Rattle.clap.specs.Words.{App, Row, Rule, Text, new_app, new_rule, fault_of, first_of, matches_of}
 use Rattle.clap.specs.declared.builder.action.ArgAction.TheVariants.{Set}
 
 -- a command of this name with no argument, also none of clap's own for help and for the version
@@ -20,3 +21,13 @@ Takes app words = fault_of app words ≡ []
 -- clap's parse of the words gives the argument `id` this value
 abbrev pub Gives : App → List Text → Text → Text → Type 0
 Gives app words id value = first_of id (matches_of app words) ≡ Some value
+
+-- the text is a number of 64 bits as Rust reads it: decimal digits, and a plus before them or none
+pub record IsNumber (text : Text) (n : ℕ) : Type 0 where
+  pub digits : IsNumeral 10 (without_leading_plus text)
+  pub value : digits_value 10 (without_leading_plus text) ≡ n
+  pub short : n < 2 ^ 64
+
+-- these rows give the argument `id` a text that is this number
+abbrev pub SaysNumber : Text → ℕ → List Row → Type 0
+SaysNumber id n rows = (text : Text) × ((first_of id rows ≡ Some text) × IsNumber text n)

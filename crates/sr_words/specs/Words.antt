@@ -1,20 +1,27 @@
 -- What the words of the command line ask for.
-use Rattle.std.specs.Prelude.{◌≡◌, ◌≢◌, List, ◌∷◌, map, codes, String, string_bytes}
+use Rattle.std.specs.Prelude.{◌≡◌, ◌≢◌, ◌≤◌, ℕ, List, ◌∷◌, map, codes, String, string_bytes}
 use Rattle.std.specs.declared.alloc.Global.{Global}
-use Rattle.clap.specs.Words.{App, Text, with_rule}
+use Rattle.clap.specs.Words.{App, Text, matches_of, with_rule}
 use Rattle.hm_message.specs.declared.message.Codec.{Codec}
 use Rattle.hm_message.specs.declared.message.Codec.TheVariants.{Json, Pack}
 use Rattle.sr_words.specs.declared.commands.Command.{Command}
-use Rattle.sr_words.specs.declared.commands.Command.TheVariants.{Replay, Check, Convert}
-use Rattle.sr_words.specs.Clap.{Gives, Takes, bare_app, required}
+use Rattle.sr_words.specs.declared.commands.Command.TheVariants.{Replay, Soak, Check, Convert}
+use Rattle.sr_words.specs.Clap.{Gives, SaysNumber, Takes, bare_app, required}
 
 abbrev pub codec_name : Codec → Text
 codec_name Json = codes "json"
 codec_name Pack = codes "pack"
 
+-- the most steps of a soak
+abbrev pub most_steps : ℕ
+most_steps = 100000
+
 -- what clap is told of the words after each name
 abbrev pub replay_app : App
 replay_app = bare_app (codes "replay")
+
+abbrev pub soak_app : App
+soak_app = with_rule (with_rule (bare_app (codes "soak")) (required (codes "seed"))) (required (codes "steps"))
 
 abbrev pub check_app : App
 check_app = with_rule (bare_app (codes "check")) (required (codes "codec"))
@@ -25,6 +32,9 @@ convert_app = with_rule (with_rule (bare_app (codes "convert")) (required (codes
 -- the command of this name, with these words after it, asks for this
 abbrev pub AsksAfter : Text → List Text → Command → Type 0
 AsksAfter name rest Replay = (name ≡ codes "replay") × Takes replay_app rest
+AsksAfter name rest (Soak seed steps) =
+    (name ≡ codes "soak") × Takes soak_app rest × SaysNumber (codes "seed") seed (matches_of soak_app rest)
+    × SaysNumber (codes "steps") steps (matches_of soak_app rest) × (steps ≤ most_steps)
 AsksAfter name rest (Check codec) =
     (name ≡ codes "check") × Takes check_app rest × Gives check_app rest (codes "codec") (codec_name codec)
 AsksAfter name rest (Convert from to) =

@@ -10,7 +10,7 @@ mod words;
 
 pub use commands::Command;
 pub use error::WordsError;
-pub use words::parse;
+pub use words::{MOST_STEPS, parse};
 
 #[cfg(test)]
 mod tests;

@@ -11,6 +11,11 @@ const PACK: Codec = Codec::Pack;
 
 const NONE: Result<Command, WordsError> = Err(WordsError::NoCommand);
 
+/// Numbers are what `u64::from_str` of Rust's standard library takes.
+fn soak(seed: u64, steps: u32) -> Result<Command, WordsError> {
+    Ok(Command::Soak { seed, steps })
+}
+
 fn owned(alloc: Global, words: &[&str]) -> Result<Vec<String>, AllocError> {
     let mut owned = Vec::new(alloc);
     for word in words {
@@ -23,13 +28,28 @@ fn owned(alloc: Global, words: &[&str]) -> Result<Vec<String>, AllocError> {
 /// conventions of POSIX and GNU, as `clap` keeps them). No command has an option.
 #[test]
 fn words_ask(rt: HostRuntime) -> Result<(), Fail> {
-    let cases: [(&[&str], Result<Command, WordsError>); 31] = [
+    let cases: [(&[&str], Result<Command, WordsError>); 43] = [
         (&["replay"], Ok(Command::Replay)),
         (&["replay", "--"], Ok(Command::Replay)),
         (&["replay", "x"], NONE),
         (&["replay", ""], NONE),
         (&["replay", "--", "x"], NONE),
         (&["replay", "--help"], NONE),
+        (&["soak", "1", "0"], soak(1, 0)),
+        (&["soak", "+1", "007"], soak(1, 7)),
+        (&["soak", "--", "7", "2000"], soak(7, 2_000)),
+        (
+            &["soak", "18446744073709551615", "100000"],
+            soak(u64::MAX, 100_000),
+        ),
+        (&["soak", "18446744073709551616", "1"], NONE),
+        (&["soak", "1", "100001"], NONE),
+        (&["soak", "1", "4294967297"], NONE),
+        (&["soak", "-1", "1"], NONE),
+        (&["soak", "0x1", "1"], NONE),
+        (&["soak", "", "1"], NONE),
+        (&["soak", "1"], NONE),
+        (&["soak", "1", "2", "3"], NONE),
         (&["check", "json"], Ok(Command::Check { codec: JSON })),
         (&["check", "pack"], Ok(Command::Check { codec: PACK })),
         (&["check", "--", "json"], Ok(Command::Check { codec: JSON })),

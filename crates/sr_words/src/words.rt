@@ -1,10 +1,10 @@
 //! What the words of a command line ask for, command by command.
 
-ghost use Rattle.std.specs.Prelude.{◌≡◌, Err, IfOk, IfErr, Some, true, false, codes};
+ghost use Rattle.std.specs.Prelude.{◌≡◌, ℕ, Err, IfOk, IfErr, Some, true, false, codes};
 ghost use Rattle.clap.specs.Words.{app_of, rule_of, first_of, found_of, is_simple_and_free, matches_of, rows_of};
 ghost use Rattle.hd_facts.specs.Unique.{IsTheOne};
-ghost use Rattle.sr_words.specs.Clap.{Takes, bare_app, required};
-ghost use Rattle.sr_words.specs.Words.{Asks, AsksAfter, AsksNothingAfter, IsNoCommand, check_app, codec_name, convert_app, replay_app, texts};
+ghost use Rattle.sr_words.specs.Clap.{SaysNumber, Takes, bare_app, required};
+ghost use Rattle.sr_words.specs.Words.{Asks, AsksAfter, AsksNothingAfter, IsNoCommand, check_app, codec_name, convert_app, replay_app, soak_app, texts};
 ghost use Rattle.hm_message.specs.declared.message.Codec.{Codec};
 
 use crate::commands::Command;
@@ -90,6 +90,49 @@ fn check_words(alloc: Global, words: &[String]) -> Result<Command, WordsError>
     Ok(Command::Check { codec })
 }
 
+/// The most steps of a soak.
+pub const MOST_STEPS: u64 = 100_000;
+
+/// The number that this argument says, as Rust reads a `u64`.
+fn number(matches: &ArgMatches, id: &str) -> Result<u64, WordsError>
+    ensures said { IfOk result (λ n. SaysNumber id.now n (rows_of (found_of matches.now))) }
+    ensures none { IfErr result (λ e. (e ≡ WordsError.NoCommand)
+        × ((n : ℕ) → SaysNumber id.now n (rows_of (found_of matches.now)) → ⊥)) }
+{
+    let Some(text) = matches.get_str(id) else {
+        return Err(WordsError::NoCommand);
+    };
+    match text.parse::<u64>() {
+        Ok(n) => Ok(n),
+        Err(_) => Err(WordsError::NoCommand),
+    }
+}
+
+/// The command `soak SEED STEPS`.
+fn soak_command<'a>(alloc: Global) -> Result<clap::Command<'a>, AllocError>
+    ensures { IfOk result (λ command. app_of command ≡ soak_app) }
+{
+    let command = bare(alloc, "soak").arg(required(alloc, "seed"))?;
+    command.arg(required(alloc, "steps"))
+}
+
+/// What `soak` asks for with these words after it.
+fn soak_words(alloc: Global, words: &[String]) -> Result<Command, WordsError>
+    ensures ok { IfOk result (IsTheOne (AsksAfter (codes "soak") (texts words.now))) }
+    ensures no_command { result ≡ Err WordsError.NoCommand → AsksNothingAfter (codes "soak") (texts words.now) }
+{
+    let matches = matches_in(soak_command(alloc)?, words)?;
+    let seed = number(&matches, "seed")?;
+    let steps = number(&matches, "steps")?;
+    if steps > MOST_STEPS {
+        return Err(WordsError::NoCommand);
+    }
+    Ok(Command::Soak {
+        seed,
+        steps: steps as u32,
+    })
+}
+
 /// The command `convert FROM TO`.
 fn convert_command<'a>(alloc: Global) -> Result<clap::Command<'a>, AllocError>
     ensures { IfOk result (λ command. app_of command ≡ convert_app) }
@@ -117,7 +160,7 @@ fn convert_words(alloc: Global, words: &[String]) -> Result<Command, WordsError>
 /// # Errors
 ///
 /// `NoCommand` if they ask for none: the first is no command's name, the words after it are none that the command
-/// takes, or they ask to convert from a codec to itself. `NoMemory` if memory ran out, which says nothing of the words.
+/// takes, a number is none or too great, or they ask to convert from a codec to itself. `NoMemory` if memory ran out, which says nothing of the words.
 pub fn parse(alloc: Global, words: &[String]) -> Result<Command, WordsError>
     ensures ok { IfOk result (IsTheOne (Asks words.now)) }
     ensures no_command { result ≡ Err WordsError.NoCommand → IsNoCommand words.now }
@@ -127,6 +170,7 @@ pub fn parse(alloc: Global, words: &[String]) -> Result<Command, WordsError>
     };
     match name.as_str() {
         "replay" => replay_words(alloc, rest),
+        "soak" => soak_words(alloc, rest),
         "check" => check_words(alloc, rest),
         "convert" => convert_words(alloc, rest),
         _ => Err(WordsError::NoCommand),
