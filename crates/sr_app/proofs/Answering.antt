@@ -13,13 +13,15 @@ use Rattle.sr_check.specs.declared.task.Task.{Task}
 use Rattle.sr_check.specs.declared.task.Task.TheVariants as task
 use Rattle.sr_check.specs.Stream.{ReadsNoFurther}
 use Rattle.sr_words.specs.declared.commands.Command.{Command}
-use Rattle.sr_words.specs.declared.commands.Command.TheVariants.{Replay, Check, Convert}
+use Rattle.sr_words.specs.declared.commands.Command.TheVariants.{Replay, Soak, Check, Convert}
 use Rattle.sr_app.specs.declared.run.Status.{Status}
 use Rattle.sr_app.specs.declared.run.Status.TheVariants.{Done, Usage, Refused, ReadFault, WriteFault, NoMemory}
 use Rattle.sr_script.specs.Script.{IsRefusedAt}
 use Rattle.sr_script.specs.Laws.{LongIsRefusedByItsFront}
-use Rattle.sr_app.specs.Run.{IsReplayed, IsRefused, IsTextAnswer, AnswersWith, Answered, ReadsBounded, Ends, replaying, meaning_of, outside_of, code_of, status_of}
-use Rattle.sr_app.proofs.Told.{consumed_nothing, appended_nothing, text_is_told, whole_is_told}
+use Rattle.sr_soak.specs.declared.totals.Totals.{Totals}
+use Rattle.sr_soak.specs.Soaks.{IsSoak, soak_line}
+use Rattle.sr_app.specs.Run.{soaking, IsReplayed, IsRefused, IsTextAnswer, AnswersWith, Answered, ReadsBounded, Ends, replaying, meaning_of, outside_of, code_of, status_of}
+use Rattle.sr_app.proofs.Told.{bytes_of, consumed_nothing, appended_nothing, text_is_told, whole_is_told}
 
 -- ---- statuses, their codes, and how tasks stop
 
@@ -256,5 +258,46 @@ task_reads_nothing waits t input = record {
 -- no command reads too far that reads nothing
 pub reads_nothing : EmptyWaits → (command : Command) (input : Option (List ℕ)) → (meaning_of command).reads input input
 reads_nothing waits Replay input = ([], consumed_nothing input, omega arith)
+reads_nothing waits (Soak seed steps) input = refl
 reads_nothing waits (Check codec) input = task_reads_nothing waits (task.Check codec) input
 reads_nothing waits (Convert from to) input = task_reads_nothing waits (task.Convert from to) input
+
+-- ---- how a soak ends, whatever the input is
+
+pub soak_done : (seed steps : ℕ) (totals : Totals) (input before now : Option (List ℕ)) (faults sink sink' : ℕ) (result : Status) → IsSoak seed steps totals
+    → Appends before now (soak_line seed steps totals) → result ≡ Done → Ends (soaking seed steps) result (outside_of input faults before sink) (outside_of input faults now sink')
+soak_done seed steps totals input before now faults sink sink' result is whole same = record {
+  done = λ same. (tt, (bytes_of input, soak_line seed steps totals, text_is_told input, record { totals = totals; is_soak = is; line_is = refl }, whole));
+  usage = apart result Done Usage same (inl (omega arith));
+  refused = λ other. absurd (apart result Done Refused same (inl (omega arith)) other);
+  read_fault = λ other. absurd (apart result Done ReadFault same (inl (omega arith)) other);
+  write_fault = λ other. absurd (apart result Done WriteFault same (inl (omega arith)) other);
+  no_memory = λ other. absurd (apart result Done NoMemory same (inl (omega arith)) other);
+  reads = refl;
+}
+
+pub soak_part : (seed steps : ℕ) (totals : Totals) (input before now : Option (List ℕ)) (faults sink sink' : ℕ) (result : Status) → IsSoak seed steps totals
+    → Rose sink sink' → (n : ℕ) → Appends before now (take n (soak_line seed steps totals)) → result ≡ WriteFault
+    → Ends (soaking seed steps) result (outside_of input faults before sink) (outside_of input faults now sink')
+soak_part seed steps totals input before now faults sink sink' result is rose n part same = record {
+  done = λ other. absurd (apart result WriteFault Done same (inr (omega arith)) other);
+  usage = apart result WriteFault Usage same (inr (omega arith));
+  refused = λ other. absurd (apart result WriteFault Refused same (inr (omega arith)) other);
+  read_fault = λ other. absurd (apart result WriteFault ReadFault same (inr (omega arith)) other);
+  write_fault = λ same.
+      (rose, (bytes_of input, soak_line seed steps totals, text_is_told input, record { totals = totals; is_soak = is; line_is = refl }, (n, part)));
+  no_memory = λ other. absurd (apart result WriteFault NoMemory same (inl (omega arith)) other);
+  reads = refl;
+}
+
+pub soak_forgone : (seed steps : ℕ) (input before now : Option (List ℕ)) (faults sink sink' : ℕ) (result : Status) → now ≡ before → result ≡ NoMemory
+    → Ends (soaking seed steps) result (outside_of input faults before sink) (outside_of input faults now sink')
+soak_forgone seed steps input before now faults sink sink' result kept same = record {
+  done = λ other. absurd (apart result NoMemory Done same (inr (omega arith)) other);
+  usage = apart result NoMemory Usage same (inr (omega arith));
+  refused = λ other. absurd (apart result NoMemory Refused same (inr (omega arith)) other);
+  read_fault = λ other. absurd (apart result NoMemory ReadFault same (inr (omega arith)) other);
+  write_fault = λ other. absurd (apart result NoMemory WriteFault same (inr (omega arith)) other);
+  no_memory = λ same. (bytes_of input, [], text_is_told input, refl, subst (λ held. Appends before held []) (sym kept) (appended_nothing before));
+  reads = refl;
+}

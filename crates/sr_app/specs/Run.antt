@@ -9,13 +9,15 @@ use Rattle.sr_app.specs.declared.run.Status.{Status}
 use Rattle.sr_app.specs.declared.run.Status.TheVariants.{Done, Usage, Refused, ReadFault, WriteFault, NoMemory}
 use Rattle.sr_script.specs.Script.{Program, Parses, IsRefusedAt, refusal_line, most_script}
 use Rattle.sr_replay.specs.Report.{IsReportOf}
+use Rattle.sr_soak.specs.declared.totals.Totals.{Totals}
+use Rattle.sr_soak.specs.Soaks.{IsSoak, soak_line}
 use Rattle.sr_check.specs.declared.task.Task.{Task}
 use Rattle.sr_check.specs.declared.task.Task.TheVariants as task
 use Rattle.sr_check.specs.declared.task.Stop.{Stop}
 use Rattle.sr_check.specs.declared.task.Stop.TheVariants as stop
 use Rattle.sr_check.specs.Stream.{IsDone, IsStopped, IsBegun, IsAllSoFar, IsPart, ReadsNoFurther, most_piece}
 use Rattle.sr_words.specs.declared.commands.Command.{Command}
-use Rattle.sr_words.specs.declared.commands.Command.TheVariants.{Replay, Check, Convert}
+use Rattle.sr_words.specs.declared.commands.Command.TheVariants.{Replay, Soak, Check, Convert}
 use Rattle.sr_words.specs.Words.{Asks, IsNoCommand}
 
 abbrev pub usage_line : List ℕ
@@ -50,6 +52,8 @@ pub record Meaning : Type 1 where
   pub read : Answers
   -- what the input has left before and after
   pub reads : Option (List ℕ) → Option (List ℕ) → Type 0
+  -- what it has left once the command is done
+  pub leaves : Option (List ℕ) → Type 0
 
 -- the text is a script, which asks for one program, and this is a report of that: the one there is, if it has no peers
 pub record IsReplayed (text report : List ℕ) : Type 0 where
@@ -90,6 +94,7 @@ replaying = record {
   begun = IsNothing;
   read = IsNothing;
   reads = ReadsBounded;
+  leaves = IsAtEnd;
 }
 
 -- A task over frames writes of each frame before it has read the next piece.
@@ -101,13 +106,48 @@ doing task = record {
   begun = IsBegun task;
   read = IsAllSoFar task;
   reads = ReadsNoFurther task;
+  leaves = IsAtEnd;
+}
+
+-- a soak of this seed and so many steps, whatever the input is, and its line
+pub record IsSoaked (seed steps : ℕ) (text line : List ℕ) : Type 0 where
+  pub totals : Totals
+  pub is_soak : IsSoak seed steps totals
+  pub line_is : line ≡ soak_line seed steps totals
+
+-- no input is refused, and none fails
+abbrev pub Never : Answers
+Never text answer = ⊥
+
+-- A soak reads nothing.
+abbrev pub soaking : ℕ → ℕ → Meaning
+soaking seed steps = record {
+  done = IsSoaked seed steps;
+  refused = Never;
+  part = IsSoaked seed steps;
+  begun = IsNothing;
+  read = Never;
+  reads = λ before now. now ≡ before;
+  leaves = λ left. Unit {0};
 }
 
 -- what each command means
 abbrev pub meaning_of : Command → Meaning
 meaning_of Replay = replaying
+meaning_of (Soak seed steps) = soaking seed steps
 meaning_of (Check codec) = doing (task.Check codec)
 meaning_of (Convert from to) = doing (task.Convert from to)
+
+-- the command reads no input
+abbrev pub ReadsNothing : Command → Type 0
+ReadsNothing (Soak seed steps) = Unit {0}
+ReadsNothing command = ⊥
+
+-- the command writes its whole answer at once, once it is known
+abbrev pub WritesOnce : Command → Type 0
+WritesOnce Replay = Unit {0}
+WritesOnce (Soak seed steps) = Unit {0}
+WritesOnce command = ⊥
 
 -- ---- what a command did
 
@@ -133,7 +173,7 @@ outside_of left source_faults holds sink_faults =
 
 -- What a command of this meaning did that ended with this status.
 pub record Ends (m : Meaning) (status : Status) (before now : Outside) : Type 0 where
-  pub done : status ≡ Done → IsAtEnd now.left × Writes m.done before.left before.holds now.holds
+  pub done : status ≡ Done → m.leaves now.left × Writes m.done before.left before.holds now.holds
   pub usage : status ≢ Usage
   pub refused : status ≡ Refused → Writes m.refused before.left before.holds now.holds
   pub read_fault : status ≡ ReadFault → Rose before.source_faults now.source_faults

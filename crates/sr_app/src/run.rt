@@ -1,12 +1,12 @@
 //! What the program does: the command that its words ask for, from its input to its exit status.
 
-ghost use Rattle.std.specs.Prelude.{◌≡◌, ◌≢◌, ◌≤◌, ◌+◌, ◌⊎◌, ℕ, IfOk, Err, [], length, take};
+ghost use Rattle.std.specs.Prelude.{◌≡◌, ◌≢◌, ◌≤◌, ◌+◌, ◌⊎◌, ℕ, IfOk, Err, List, [], Option, length, take};
 ghost use Rattle.std.specs.Io.KnownBytes.{Appends, Consumes, IsAtEnd};
 ghost use Rattle.hd_facts.specs.Counts.{Rose};
 ghost use Rattle.hd_facts.specs.Writes.{Writes, WritesOfRead};
 ghost use Rattle.sr_check.specs.Stream.{IsTouchedByBytesAlone, most_piece};
 ghost use Rattle.sr_words.specs.Words.{Asks, IsNoCommand};
-ghost use Rattle.sr_app.specs.Run.{Answered, AsksFor, Ends, ReadsBounded, TellsFaults, WritesPartFor, code_of, doing, meaning_of, outside_of, replaying, usage_line};
+ghost use Rattle.sr_app.specs.Run.{Answered, AsksFor, Ends, ReadsBounded, ReadsNothing, TellsFaults, WritesOnce, WritesPartFor, code_of, doing, meaning_of, outside_of, replaying, soaking, usage_line};
 ghost use Rattle.sr_script.specs.Script.{most_script, refusal_line};
 
 use hf_split::empty_waits;
@@ -14,6 +14,7 @@ use hw_io::{Failed, Sink, Source};
 use sr_check::{Stop, Task};
 use sr_replay::{ReplayError, replay, reports_have_lines};
 use sr_script::{MOST_SCRIPT, ScriptError, long_is_refused_by_its_front, parse};
+use sr_soak::soak;
 use sr_words::{Command, WordsError};
 use std::alloc::{AllocError, Global};
 
@@ -149,6 +150,22 @@ fn run_replay<S: Source, K: Sink>(alloc: Global, input: &mut S, out: &mut K) -> 
     }
 }
 
+/// Soaks, and writes the one line of that.
+fn run_soak<K: Sink>(alloc: Global, seed: u64, steps: u32, out: &mut K) -> Status
+    ensures ends { (left : Option (List ℕ)) (faults : ℕ) → Ends (soaking seed steps) result
+        (outside_of left faults (K.holds out.old) (K.faults out.old)) (outside_of left faults (K.holds out.new) (K.faults out.new)) }
+    ensures unfailed { result ≢ Status.WriteFault → K.faults out.new ≡ K.faults out.old }
+    ensures touched { result ≢ Status.WriteFault → IsTouchedByBytesAlone K.holds out.old out.new }
+    ensures no_memory { result ≡ Status.NoMemory → out.new ≡ out.old }
+    ensures same { (result ≡ Status.Done) ⊎ (result ≡ Status.WriteFault) ⊎ (result ≡ Status.NoMemory) }
+{
+    match soak(alloc, seed, steps, out) {
+        Ok(_) => Status::Done,
+        Err(ReplayError::Write) => Status::WriteFault,
+        Err(ReplayError::NoMemory) => Status::NoMemory,
+    }
+}
+
 impl From<Stop> for Status {
     ghost use Rattle.std.specs.Prelude.{◌≡◌};
     ghost use Rattle.sr_app.specs.Run.{status_of};
@@ -195,11 +212,12 @@ fn carry_out<S: Source, K: Sink>(
         (outside_of (S.left input.old) (S.faults input.old) (K.holds out.old) (K.faults out.old))
         (outside_of (S.left input.new) (S.faults input.new) (K.holds out.new) (K.faults out.new)) }
     ensures touched { result ≢ Status.WriteFault → IsTouchedByBytesAlone K.holds out.old out.new }
-    ensures untouched { command ≡ Command.Replay → (result ≡ Status.ReadFault) ⊎ (result ≡ Status.NoMemory)
-        → out.new ≡ out.old }
+    ensures untouched { WritesOnce command → (result ≡ Status.ReadFault) ⊎ (result ≡ Status.NoMemory) → out.new ≡ out.old }
+    ensures unread { ReadsNothing command → input.new ≡ input.old }
 {
     match command {
         Command::Replay => run_replay(alloc, input, out),
+        Command::Soak { seed, steps } => run_soak(alloc, seed, steps, out),
         Command::Check { codec } => run_task(alloc, Task::Check { codec }, input, out),
         Command::Convert { from, to } => run_task(alloc, Task::Convert { from, to }, input, out),
     }
@@ -209,7 +227,7 @@ fn carry_out<S: Source, K: Sink>(
 ///
 /// | status | if |
 /// |---|---|
-/// | 0 | the input is what the command asks for; its whole answer was written |
+/// | 0 | the input, if the command asks for one, is what it asks for; its whole answer was written |
 /// | 1 | the words are no command; the usage line was written |
 /// | 2 | the input is refused; what is written of the frames before, and the refusal, was written |
 /// | 3 | the input failed; nothing was written but what is written of the frames that were read |
@@ -220,8 +238,8 @@ fn carry_out<S: Source, K: Sink>(
 pub fn run<S: Source, K: Sink>(alloc: Global, words: &[String], input: &mut S, out: &mut K) -> u8
     ensures status { (result ≡ 0) ⊎ (result ≡ 1) ⊎ (result ≡ 2) ⊎ (result ≡ 3) ⊎ (result ≡ 4) ⊎ (result ≡ 7) }
 
-    ensures done { result ≡ 0 → IsAtEnd (S.left input.new)
-        × AsksFor words.now (λ m. Writes m.done (S.left input.old) (K.holds out.old) (K.holds out.new)) }
+    ensures done { result ≡ 0
+        → AsksFor words.now (λ m. m.leaves (S.left input.new) × Writes m.done (S.left input.old) (K.holds out.old) (K.holds out.new)) }
 
     ensures usage { result ≡ 1 → IsNoCommand words.now × Appends (K.holds out.old) (K.holds out.new) usage_line }
     ensures wrong_words { IsNoCommand words.now → (result ≡ 1) ⊎ (result ≡ 4) ⊎ (result ≡ 7) }
@@ -240,8 +258,8 @@ pub fn run<S: Source, K: Sink>(alloc: Global, words: &[String], input: &mut S, o
 
     // Where nothing was written the output was not touched, unless it failed.
     ensures touched { result ≢ 4 → IsTouchedByBytesAlone K.holds out.old out.new }
-    ensures untouched { Asks words.now Command.Replay → (result ≡ 3) ⊎ (result ≡ 7) → out.new ≡ out.old }
-    ensures unread { IsNoCommand words.now → input.new ≡ input.old }
+    ensures untouched { (command : Command) → Asks words.now command → WritesOnce command → (result ≡ 3) ⊎ (result ≡ 7) → out.new ≡ out.old }
+    ensures unread { IsNoCommand words.now ⊎ ((command : Command) × (Asks words.now command × ReadsNothing command)) → input.new ≡ input.old }
 
     ensures within { (command : Command) → Asks words.now command
         → (meaning_of command).reads (S.left input.old) (S.left input.new) }

@@ -19,6 +19,9 @@ const PACK_PINGS: &[u8] = b"\x02\x91\x06\x02\x91\x06";
 
 const LINES: &[u8] = b"0 message {\"type\":6}\n11 message {\"type\":6}\n";
 
+/// The first draw of the seed 1 is 908,834,774, so the step is a call of `Slow`.
+const SOAKED: &[u8] = b"seed 1 actions 1 calls 1 endings 1 live 0 links 2\n";
+
 const USAGE: &[u8] = b"usage: sr replay, soak, serve, client, check or convert\n";
 
 fn one(alloc: Global, number: Option<u64>) -> Result<Vec<u64>, Fail> {
@@ -49,7 +52,7 @@ fn outcome(
 
 #[test]
 fn each_status_comes(rt: HostRuntime) -> Result<(), Fail> {
-    let cases: [(&[&str], &[u8], u8, &[u8]); 8] = [
+    let cases: [(&[&str], &[u8], u8, &[u8]); 9] = [
         (&["replay"], SCRIPT, 0, REPORT),
         (
             &["replay"],
@@ -63,6 +66,7 @@ fn each_status_comes(rt: HostRuntime) -> Result<(), Fail> {
         (&["check", "pack"], b"\x02\x91", 2, b"0 unfinished 2\n"),
         (&["convert", "json", "pack"], JSON_PINGS, 0, PACK_PINGS),
         (&["convert", "pack", "json"], PACK_PINGS, 0, JSON_PINGS),
+        (&["soak", "1", "1"], b"", 0, SOAKED),
     ];
     for (command, bytes, status, written) in cases {
         let got = outcome(rt.alloc(), command, bytes, None, None)?;
@@ -75,13 +79,15 @@ fn each_status_comes(rt: HostRuntime) -> Result<(), Fail> {
 /// Where both fail, the sink does so first: it is given what is written of a piece before the next is read.
 #[test]
 fn faults_end_it_and_output_is_not_held_back(rt: HostRuntime) -> Result<(), Fail> {
-    let cases: [(&[&str], &[u8], Option<u64>, Option<u64>, u8, &[u8]); 6] = [
+    let cases: [(&[&str], &[u8], Option<u64>, Option<u64>, u8, &[u8]); 8] = [
         (&["replay"], SCRIPT, Some(0), None, 3, b""),
         (&["replay"], SCRIPT, Some(1), None, 3, b""),
         (&["replay"], SCRIPT, None, Some(0), 4, b""),
         (&["check", "json"], JSON_PINGS, Some(1), None, 3, LINES),
         (&["check", "json"], JSON_PINGS, None, Some(0), 4, b""),
         (&["check", "json"], JSON_PINGS, Some(1), Some(0), 4, b""),
+        (&["soak", "1", "1"], b"", Some(0), None, 0, SOAKED),
+        (&["soak", "1", "1"], b"", None, Some(0), 4, b""),
     ];
     for (command, bytes, source_fails, sink_fails, status, written) in cases {
         let got = outcome(rt.alloc(), command, bytes, source_fails, sink_fails)?;

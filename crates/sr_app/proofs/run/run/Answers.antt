@@ -1,7 +1,7 @@
-use Rattle.std.proofs.Common.{◌∙◌, sym, ap, inr}
+use Rattle.std.proofs.Common.{◌∙◌, sym, ap, inl, inr, ⊎_elim, subst}
 use Rattle.sr_words.specs.Words.{IsNoCommand}
-use Rattle.sr_app.specs.declared.run.Status.TheVariants.{Done, Usage, WriteFault}
-use Rattle.sr_app.specs.Run.{code_of}
+use Rattle.sr_app.specs.declared.run.Status.TheVariants.{Done, Usage, ReadFault, WriteFault, NoMemory}
+use Rattle.sr_app.specs.Run.{ReadsNothing, WritesOnce, code_of}
 use Rattle.sr_app.proofs.Answering.{same_status, is_code, reads_nothing}
 use Rattle.sr_app.proofs.run.run.Goals as goal
 
@@ -10,14 +10,20 @@ returns-in-Ok-clause-status g c = rw c.code.ensures (is_code c.carry_out.result)
 
 pub returns-in-Ok-clause-done : goal.returns-in-Ok-clause-done
 returns-in-Ok-clause-done g c = λ is.
-    let ends = c.carry_out.ensures.ends.done (same_status c.carry_out.result Done (sym c.code.ensures ∙ is)) in
-    (ends.0, (c.in-Ok.command, c.in-Ok.ensures.ok, ends.1))
+    (c.in-Ok.command, c.in-Ok.ensures.ok, c.carry_out.ensures.ends.done (same_status c.carry_out.result Done (sym c.code.ensures ∙ is)))
 
 pub returns-in-Ok-clause-wrong_words : goal.returns-in-Ok-clause-wrong_words
 returns-in-Ok-clause-wrong_words g c = λ none. absurd (none c.in-Ok.command c.in-Ok.ensures.ok.holds)
 
+pub returns-in-Ok-clause-untouched : goal.returns-in-Ok-clause-untouched
+returns-in-Ok-clause-untouched g c = λ command asks once status.
+    c.carry_out.ensures.untouched (subst WritesOnce (c.in-Ok.ensures.ok.only command asks) once)
+    (⊎_elim (λ is. inl (same_status c.carry_out.result ReadFault (sym c.code.ensures ∙ is))) (λ is. inr (same_status c.carry_out.result NoMemory (sym c.code.ensures ∙ is))) status)
+
 pub returns-in-Ok-clause-unread : goal.returns-in-Ok-clause-unread
-returns-in-Ok-clause-unread g c = λ none. absurd (none c.in-Ok.command c.in-Ok.ensures.ok.holds)
+returns-in-Ok-clause-unread g c = λ either.
+    ⊎_elim (λ none. absurd (none c.in-Ok.command c.in-Ok.ensures.ok.holds))
+    (λ soaks. c.carry_out.ensures.unread (subst ReadsNothing (c.in-Ok.ensures.ok.only soaks.0 soaks.1.0) soaks.1.1)) either
 
 pub returns-in-Err-NoCommand-clause-usage : goal.returns-in-Err-NoCommand-clause-usage
 returns-in-Err-NoCommand-clause-usage g c = λ is.
