@@ -1,305 +1,140 @@
-//! Handshakes read and written, in tables of frames beside what is read of them.
+//! Handshakes read and written. The actions, and what they are answered:
+//!
+//! ```text
+//! request BYTES       for which codec and version a request of this frame asks, or why it is refused
+//! refuse BYTES        why such a request is refused, and the answer to it, which is written as it is lent
+//! response BYTES      what a response of this frame says: `taken`, why the request is refused, or why it is no response
+//! ask CODEC VERSION   writes a request behind `before`: what stands there then
+//! take                writes the response that takes a request behind `before`: what stands there then
+//! lend                that response, as it is lent
+//! fault FAULT         the words of this fault, which are the same as `Display` and as `Debug`
+//! laws                calls the laws as any function: `called`
+//! ```
+//!
+//! A FAULT is `not-json`, `missing-protocol`, `wrong-error`, `unspoken`, `version NUMBER`, `refused TEXT` or `no-memory`.
+
+use crate::stop::Stop;
+use crate::words::{bytes, first_word, shake, shown, told};
 use hm_message::{Codec, Field};
 use hs_shake::{
-    HIGHEST_VERSION, MOST_HANDSHAKE, Shake, ShakeError, numbers_are_named, one_request_meaning,
+    MOST_HANDSHAKE, Shake, ShakeError, numbers_are_named, one_request_meaning,
     one_response_meaning, read_request, read_response, refusals_are_read, requests_are_read,
     response, response_is_read, texts_are_plain, texts_are_short, write_request, write_response,
 };
 use hv_value::Text;
-use std::alloc::{AllocError, Global};
-use std::process::Abort;
-use std::test::Fail;
+use std::alloc::Global;
+
+/// What stands there before a handshake is written.
+const BEFORE: &str = "before";
+
+/// Carries out an action, and answers what comes of it.
+pub fn answer(alloc: Global, words: &str) -> Result<String, Stop> {
+    let (verb, rest) = first_word(words);
+    match verb {
+        "request" => asked(alloc, &bytes(alloc, rest)?),
+        "refuse" => refused(alloc, &bytes(alloc, rest)?),
+        "response" => said(alloc, &bytes(alloc, rest)?),
+        "ask" => ask(alloc, shake(rest)?),
+        "take" => take(alloc),
+        "lend" => Ok(shown(alloc, response(None))?),
+        "fault" => fault_words(alloc, rest),
+        "laws" => laws(alloc),
+        _ => Err(Stop::Refused),
+    }
+}
 
 /// What a request of this frame asks for, or why it is refused.
-fn asked(alloc: Global, frame: &str) -> Result<String, AllocError> {
-    match read_request(alloc, frame.as_bytes()) {
+fn asked(alloc: Global, frame: &[u8]) -> Result<String, Stop> {
+    match read_request(alloc, frame) {
         Ok(
             Shake {
                 codec: Codec::Json,
                 version,
             },
-        ) => format!(in alloc; "json {version}"),
+        ) => Ok(format!(in alloc; "json {version}")?),
         Ok(
             Shake {
                 codec: Codec::Pack,
                 version,
             },
-        ) => format!(in alloc; "messagepack {version}"),
-        Err(fault) => format!(in alloc; "{fault}"),
-    }
-}
-
-/// What a response of this frame says.
-fn told(alloc: Global, frame: &str) -> Result<String, AllocError> {
-    match read_response(alloc, frame.as_bytes()) {
-        Ok(()) => format!(in alloc; "taken"),
-        Err(ShakeError::Refused(text)) => format!(in alloc; "Refused: {}", text.as_str()),
-        Err(fault) => format!(in alloc; "{fault}"),
+        ) => Ok(format!(in alloc; "messagepack {version}")?),
+        Err(ShakeError::NoMemory) => Err(Stop::NoMemory),
+        Err(fault) => Ok(format!(in alloc; "{fault}")?),
     }
 }
 
 /// Why a request of this frame is refused, and the answer to it, written and lent.
-fn refused(alloc: Global, frame: &str) -> Result<(String, Vec<u8>), Fail> {
-    match read_request(alloc, frame.as_bytes()) {
-        Ok(_) => Err(Fail::from("a request that is taken")),
-        Err(ShakeError::NoMemory) => Err(Fail::from(AllocError)),
+fn refused(alloc: Global, frame: &[u8]) -> Result<String, Stop> {
+    match read_request(alloc, frame) {
+        Ok(_) => told(alloc, "taken"),
+        Err(ShakeError::NoMemory) => Err(Stop::NoMemory),
         Err(fault) => {
-            let words = format!(in alloc; "{fault}")?;
             let mut out = Vec::new(alloc);
             write_response(Some(&fault), &mut out)?;
             if out.as_slice() != response(Some(&fault)) {
-                return Err(Fail::from("one answer"));
+                return told(alloc, "two answers");
             }
-            Ok((words, out))
+            let answer = shown(alloc, &out)?;
+            Ok(format!(in alloc; "{fault}: {answer}")?)
         }
     }
 }
 
-#[test]
-fn requests_that_are_taken(rt: HostRuntime) -> Result<(), Fail> {
-    let cases: [(&str, &str); 6] = [
-        ("{\"protocol\":\"json\",\"version\":1}", "json 1"),
-        (
-            "{\"protocol\":\"messagepack\",\"version\":2}",
-            "messagepack 2",
-        ),
-        ("{\"protocol\":\"json\",\"version\":3}", "json 3"),
-        // Spaces, escapes, another order.
-        (
-            "\n{ \"version\" : 2 ,\t\"\\u0070rotocol\" : \"js\\u006fn\" } ",
-            "json 2",
-        ),
-        // Other properties are ignored.
-        (
-            "{\"a\":[{\"version\":9}],\"protocol\":\"json\",\"version\":2,\"error\":1}",
-            "json 2",
-        ),
-        // The last of a name counts.
-        (
-            "{\"protocol\":\"x\",\"version\":null,\"version\":2,\"protocol\":\"json\"}",
-            "json 2",
-        ),
-    ];
-    for (frame, wanted) in &cases {
-        let got = asked(rt.alloc(), frame)?;
-        assert_eq!(rt; got.as_str(), *wanted);
+/// What a response of this frame says.
+fn said(alloc: Global, frame: &[u8]) -> Result<String, Stop> {
+    match read_response(alloc, frame) {
+        Ok(()) => told(alloc, "taken"),
+        Err(ShakeError::Refused(text)) => Ok(format!(in alloc; "Refused: {}", text.as_str())?),
+        Err(ShakeError::NoMemory) => Err(Stop::NoMemory),
+        Err(fault) => Ok(format!(in alloc; "{fault}")?),
     }
-    Ok(())
 }
 
-#[test]
-fn requests_that_are_no_object(rt: HostRuntime) -> Result<(), Fail> {
-    let cases: [&str; 9] = [
-        "",
-        "null",
-        "[\"json\",2]",
-        "{\"protocol\":\"json\",\"version\":2",
-        "{\"protocol\":\"json\",\"version\":2}\x1e",
-        // Numbers that no value holds: a fraction, an exponent, -0 and 2^64.
-        "{\"protocol\":\"json\",\"version\":2.5}",
-        "{\"protocol\":\"json\",\"version\":2e0}",
-        "{\"protocol\":\"json\",\"version\":-0}",
-        "{\"protocol\":\"json\",\"version\":18446744073709551616}",
-    ];
-    for frame in &cases {
-        let got = asked(rt.alloc(), frame)?;
-        assert_eq!(rt; got.as_str(), "NotJson");
+/// Writes a request behind what is there.
+fn ask(alloc: Global, shake: Shake) -> Result<String, Stop> {
+    let mut out = Vec::from_slice(alloc, BEFORE.as_bytes())?;
+    write_request(&shake, &mut out)?;
+    if out.len() > BEFORE.len() + MOST_HANDSHAKE + 1 {
+        return told(alloc, "too long");
     }
-    Ok(())
+    Ok(shown(alloc, &out)?)
 }
 
-#[test]
-fn requests_that_are_refused(rt: HostRuntime) -> Result<(), Fail> {
-    let lacks = "{\"error\":\"The handshake lacks a field.\"}\x1e";
-    let no_protocol = "{\"error\":\"The protocol is not known.\"}\x1e";
-    let no_version = "{\"error\":\"The version is not known.\"}\x1e";
-    let cases: [(&str, &str, &str); 22] = [
-        (
-            "[]",
-            "NotJson",
-            "{\"error\":\"The handshake is not JSON.\"}\x1e",
-        ),
-        ("{}", "Missing protocol", lacks),
-        ("{\"version\":2}", "Missing protocol", lacks),
-        ("{\"Protocol\":\"json\"}", "Missing protocol", lacks),
-        ("{\"protocol\":null}", "Wrong protocol", lacks),
-        (
-            "{\"protocol\":[\"json\"],\"version\":9}",
-            "Wrong protocol",
-            lacks,
-        ),
-        ("{\"protocol\":\"json\"}", "Missing version", lacks),
-        // A protocol that isn't spoken comes after what is wrong with the version.
-        ("{\"protocol\":\"x\"}", "Missing version", lacks),
-        (
-            "{\"protocol\":\"x\",\"version\":\"2\"}",
-            "Wrong version",
-            lacks,
-        ),
-        (
-            "{\"protocol\":\"json\",\"version\":null}",
-            "Wrong version",
-            lacks,
-        ),
-        (
-            "{\"protocol\":\"json\",\"version\":true}",
-            "Wrong version",
-            lacks,
-        ),
-        ("{\"protocol\":\"\",\"version\":2}", "Unspoken", no_protocol),
-        (
-            "{\"protocol\":\"JSON\",\"version\":2}",
-            "Unspoken",
-            no_protocol,
-        ),
-        (
-            "{\"protocol\":\"jsonx\",\"version\":2}",
-            "Unspoken",
-            no_protocol,
-        ),
-        (
-            "{\"protocol\":\"messagepac\",\"version\":2}",
-            "Unspoken",
-            no_protocol,
-        ),
-        // A version that isn't spoken comes last.
-        (
-            "{\"protocol\":\"x\",\"version\":9}",
-            "Unspoken",
-            no_protocol,
-        ),
-        (
-            "{\"protocol\":\"json\",\"version\":0}",
-            "Version 0",
-            no_version,
-        ),
-        (
-            "{\"protocol\":\"json\",\"version\":4}",
-            "Version 4",
-            no_version,
-        ),
-        (
-            "{\"protocol\":\"json\",\"version\":-1}",
-            "Version -1",
-            no_version,
-        ),
-        // 2 in its low 8 bits.
-        (
-            "{\"protocol\":\"json\",\"version\":258}",
-            "Version 258",
-            no_version,
-        ),
-        (
-            "{\"protocol\":\"json\",\"version\":18446744073709551615}",
-            "Version 18446744073709551615",
-            no_version,
-        ),
-        (
-            "{\"protocol\":\"messagepack\",\"version\":-9223372036854775808}",
-            "Version -9223372036854775808",
-            no_version,
-        ),
-    ];
-    for (frame, wanted, answer) in &cases {
-        let (words, text) = refused(rt.alloc(), frame)?;
-        assert_eq!(rt; words.as_str(), *wanted);
-        assert_eq!(rt; text.as_slice(), answer.as_bytes());
-    }
-    Ok(())
-}
-
-#[test]
-fn responses(rt: HostRuntime) -> Result<(), Fail> {
-    let cases: [(&str, &str); 15] = [
-        ("{}", "taken"),
-        (" { \"minorVersion\" : 0 } ", "taken"),
-        ("{\"error\":null}", "taken"),
-        ("{\"Error\":\"a\"}", "taken"),
-        ("{\"error\":\"a\",\"error\":null}", "taken"),
-        ("{\"error\":\"Not today.\"}", "Refused: Not today."),
-        ("{\"error\":\"\"}", "Refused: "),
-        (
-            "{\"type\":7,\"\\u0065rror\":\"\\\"\\u00e9\\\"\"}",
-            "Refused: \"é\"",
-        ),
-        ("{\"error\":null,\"error\":\"b\"}", "Refused: b"),
-        ("{\"error\":0}", "Wrong error"),
-        ("{\"error\":false}", "Wrong error"),
-        ("{\"error\":{}}", "Wrong error"),
-        ("", "NotJson"),
-        ("\"Not today.\"", "NotJson"),
-        ("{\"error\":0.5}", "NotJson"),
-    ];
-    for (frame, wanted) in &cases {
-        let got = told(rt.alloc(), frame)?;
-        assert_eq!(rt; got.as_str(), *wanted);
-    }
-    Ok(())
-}
-
-#[test]
-fn writes_behind_what_is_there(rt: HostRuntime) -> Result<(), Fail> {
-    let cases: [(Codec, u8, &str); 4] = [
-        (Codec::Json, 1, "{\"protocol\":\"json\",\"version\":1}\x1e"),
-        (
-            Codec::Pack,
-            2,
-            "{\"protocol\":\"messagepack\",\"version\":2}\x1e",
-        ),
-        (
-            Codec::Json,
-            HIGHEST_VERSION,
-            "{\"protocol\":\"json\",\"version\":3}\x1e",
-        ),
-        // A version that nobody speaks can be asked for.
-        (
-            Codec::Pack,
-            255,
-            "{\"protocol\":\"messagepack\",\"version\":255}\x1e",
-        ),
-    ];
-    for (codec, version, wanted) in &cases {
-        let shake = Shake {
-            codec: *codec,
-            version: *version,
-        };
-        let mut out = Vec::from_slice(rt.alloc(), b"before")?;
-        write_request(&shake, &mut out)?;
-        let bytes = format!(in rt.alloc(); "before{wanted}")?;
-        assert_eq!(rt; out.as_slice(), bytes.as_bytes());
-        assert!(rt; out.len() <= 6 + MOST_HANDSHAKE + 1);
-    }
-    let mut out = Vec::from_slice(rt.alloc(), b"before")?;
+/// Writes the response that takes a request behind what is there.
+fn take(alloc: Global) -> Result<String, Stop> {
+    let mut out = Vec::from_slice(alloc, BEFORE.as_bytes())?;
     write_response(None, &mut out)?;
-    assert_eq!(rt; out.as_slice(), b"before{}\x1e".as_slice());
-    assert_eq!(rt; response(None), b"{}\x1e".as_slice());
-    Ok(())
+    Ok(shown(alloc, &out)?)
 }
 
-#[test]
-fn says_why_in_the_words_of_a_report(rt: HostRuntime) -> Result<(), Fail> {
-    let text = Text::of(rt.alloc(), "Not today.")?;
-    let cases: [(ShakeError, &str); 7] = [
-        (ShakeError::NotJson, "NotJson"),
-        (ShakeError::Missing(Field::Protocol), "Missing protocol"),
-        (ShakeError::Wrong(Field::Error), "Wrong error"),
-        (ShakeError::Unspoken, "Unspoken"),
-        (ShakeError::Version(-4), "Version -4"),
-        (ShakeError::Refused(text), "Refused"),
-        (ShakeError::NoMemory, "out of memory"),
-    ];
-    for (fault, wanted) in &cases {
-        let words = format!(in rt.alloc(); "{fault}")?;
-        assert_eq!(rt; words.as_str(), *wanted);
-        let debug = format!(in rt.alloc(); "{fault:?}")?;
-        assert_eq!(rt; debug.as_str(), *wanted);
+fn fault_words(alloc: Global, words: &str) -> Result<String, Stop> {
+    let fault = fault_of(alloc, words)?;
+    let displayed = format!(in alloc; "{fault}")?;
+    let debugged = format!(in alloc; "{fault:?}")?;
+    if displayed.as_str() != debugged.as_str() {
+        return told(alloc, "two texts");
     }
-    Ok(())
+    Ok(displayed)
 }
 
-/// The laws are called as any function.
-#[test]
-fn laws() {
+fn fault_of(alloc: Global, words: &str) -> Result<ShakeError, Stop> {
+    let (name, rest) = first_word(words);
+    match name {
+        "not-json" => Ok(ShakeError::NotJson),
+        "missing-protocol" => Ok(ShakeError::Missing(Field::Protocol)),
+        "wrong-error" => Ok(ShakeError::Wrong(Field::Error)),
+        "unspoken" => Ok(ShakeError::Unspoken),
+        "version" => match rest.parse::<i128>() {
+            Ok(number) => Ok(ShakeError::Version(number)),
+            Err(_) => Err(Stop::Refused),
+        },
+        "refused" => Ok(ShakeError::Refused(Text::of(alloc, rest)?)),
+        "no-memory" => Ok(ShakeError::NoMemory),
+        _ => Err(Stop::Refused),
+    }
+}
+
+fn laws(alloc: Global) -> Result<String, Stop> {
     numbers_are_named();
     one_request_meaning();
     one_response_meaning();
@@ -308,4 +143,5 @@ fn laws() {
     refusals_are_read();
     texts_are_plain();
     texts_are_short();
+    told(alloc, "called")
 }
