@@ -19,11 +19,11 @@ use Rattle.hd_serving.specs.Serves.{lending, writing, all_of, bytes_of, is_text,
 use Rattle.hd_serving.specs.Laws.{NothingIsLeft}
 
 -- a connection is one of these
-abbrev is_in : ℕ → List ℕ → Bool
+abbrev pub is_in : ℕ → List ℕ → Bool
 is_in c [] = false
 is_in c (k ∷ ks) = (c == k) || is_in c ks
 
-abbrev AreApart : List ℕ → Type 0
+abbrev pub AreApart : List ℕ → Type 0
 AreApart [] = Unit {0}
 AreApart (c ∷ cs) = (is_in c cs ≡ false) × AreApart cs
 
@@ -33,8 +33,8 @@ abbrev pub Tells : ℕ → Doing → Type 0
 Tells k (Works (Does c (Plain (Step_of (Lent f))))) = c ≡ k
 Tells k (Works (Goes c)) = c ≡ k
 Tells k (Notes (Answered c lane now)) = c ≡ k
-Tells k (Notes (Ended c now)) = Unit {0}
-Tells k (Notes (LetGo c)) = Unit {0}
+Tells k (Notes (Ended c now)) = c ≡ k
+Tells k (Notes (LetGo c)) = c ≡ k
 Tells k (Says x) = Unit {0}
 Tells k _ = ⊥
 
@@ -59,7 +59,7 @@ writing_tells k s lane [] h = tt
 writing_tells k s lane (p ∷ ps) h = (tt, writing_tells k s lane ps h)
 
 letting_tells : (k : ℕ) (h : List Doing) → AllTell k (letting_go k h)
-letting_tells k h = join_tell k _ _ (either_tell k (has_peer k h) (Works (Goes k) ∷ []) [] (refl, tt) tt) (tt, tt)
+letting_tells k h = join_tell k _ _ (either_tell k (has_peer k h) (Works (Goes k) ∷ []) [] (refl, tt) tt) (refl, tt)
 
 shutting_tells : (k lane : ℕ) (h : List Doing) → AllTell k (shutting lane h)
 shutting_tells k lane h = either_tell k (was_refused lane h) [] (Says (say.Shut lane) ∷ []) tt (tt, tt)
@@ -86,17 +86,17 @@ telling_tells s now k (Some lane) pieces h =
     (either_tell k (has_closed k h) (shutting lane h ++ letting_go k h) [] (join_tell k (shutting lane h) _ (shutting_tells k lane h) (letting_tells k h)) tt)
 telling_tells s now k None pieces h =
     either_tell k (is_polling k (notes h)) _ _
-    (join_tell k (ending now k h) _ (either_tell k (has_closed k h && not (is_some (ended_at k (notes h)))) (Notes (Ended k now) ∷ []) [] (tt, tt) tt) (some_poll_tells s now k (poll_of k (notes h)) (all_of pieces) h))
+    (join_tell k (ending now k h) _ (either_tell k (has_closed k h && not (is_some (ended_at k (notes h)))) (Notes (Ended k now) ∷ []) [] (refl, tt) tt) (some_poll_tells s now k (poll_of k (notes h)) (all_of pieces) h))
     (either_tell k (has_closed k h) (letting_go k h) [] (letting_tells k h) tt)
 
 -- ---- of another connection all stays the same
 
-record Same (c : ℕ) (h g : List Doing) : Type 0 where
-  same_moves : moves c (work g) ≡ moves c (work h)
-  same_settings : settings_of c (work g) ≡ settings_of c (work h)
-  same_gone : has_gone c (work g) ≡ has_gone c (work h)
-  same_socket : socket_of c (notes g) ≡ socket_of c (notes h)
-  same_poll : poll_of c (notes g) ≡ poll_of c (notes h)
+pub record Same (c : ℕ) (h g : List Doing) : Type 0 where
+  pub same_moves : moves c (work g) ≡ moves c (work h)
+  pub same_settings : settings_of c (work g) ≡ settings_of c (work h)
+  pub same_gone : has_gone c (work g) ≡ has_gone c (work h)
+  pub same_socket : socket_of c (notes g) ≡ socket_of c (notes h)
+  pub same_poll : poll_of c (notes g) ≡ poll_of c (notes h)
 
 same_itself : (c : ℕ) (h : List Doing) → Same c h h
 same_itself c h = record { same_moves = refl; same_settings = refl; same_gone = refl; same_socket = refl; same_poll = refl }
@@ -131,7 +131,7 @@ one_same c k (Notes (LetGo x)) h n e = record { same_moves = refl; same_settings
 one_same c k (Says x) h n e = record { same_moves = refl; same_settings = refl; same_gone = refl; same_socket = refl; same_poll = refl }
 one_same c k d h n e = absurd e
 
-all_same : (c k : ℕ) (ds h : List Doing) → (c == k) ≡ false → AllTell k ds → Same c h (onto ds h)
+pub all_same : (c k : ℕ) (ds h : List Doing) → (c == k) ≡ false → AllTell k ds → Same c h (onto ds h)
 all_same c k [] h n a = same_itself c h
 all_same c k (d ∷ ds) h n a = same_then c h (d ∷ h) (onto ds (d ∷ h)) (one_same c k d h n a.0) (all_same c k ds (d ∷ h) n a.1)
 
@@ -249,7 +249,7 @@ one_less n c e f = by (nat_le c n) refl where
   by true g = leb-true c n g
   by false g = let over = leb-false c n g in let same : (c == suc n) ≡ true = eq-eqb c (suc n) (omega arith) in absurd (cc)
 
-within : (n c : ℕ) → 0 < c → c ≤ n → is_in c (numbers_to n) ≡ true
+pub within : (n c : ℕ) → 0 < c → c ≤ n → is_in c (numbers_to n) ≡ true
 within zero c p e = absurd (omega arith)
 within (suc n) c p e = by (c == suc n) refl (λ f. within n c p (one_less n c e f)) where
   by : (b : Bool) → (c == suc n) ≡ b → ((c == suc n) ≡ false → is_in c (numbers_to n) ≡ true) → is_in c (numbers_to n ++ suc n ∷ []) ≡ true
@@ -262,7 +262,7 @@ apart-last (x ∷ xs) y a e =
     let parts = or_parts (y == x) (is_in y xs) e in
     (is_in-append x xs (y ∷ []) ∙ ap (λ b. b || ((x == y) || false)) a.0 ∙ ap (λ b. b || false) (nat_eq_equiv.symm x y ∙ parts.0), apart-last xs y a.1 parts.1)
 
-numbers_apart : (n : ℕ) → AreApart (numbers_to n)
+pub numbers_apart : (n : ℕ) → AreApart (numbers_to n)
 numbers_apart zero = tt
 numbers_apart (suc n) = apart-last (numbers_to n) (suc n) (numbers_apart n) (above n (suc n) (omega arith))
 
@@ -281,7 +281,7 @@ module _ (t : ℕ → Bool) where
     by true g = (out-filter x xs a.0, g)
     by false g = g
 
-  in-filter : (c : ℕ) (xs : List ℕ) → t c ≡ true → is_in c xs ≡ true → is_in c (filter t xs) ≡ true
+  pub in-filter : (c : ℕ) (xs : List ℕ) → t c ≡ true → is_in c xs ≡ true → is_in c (filter t xs) ≡ true
   in-filter c [] e i = absurd (cc)
   in-filter c (x ∷ xs) e i = by (c == x) refl (t x) refl i (in-filter c xs e) where
     by : (a : Bool) → (c == x) ≡ a → (b : Bool) → t x ≡ b → (a || is_in c xs) ≡ true → (is_in c xs ≡ true → is_in c (filter t xs) ≡ true)
@@ -291,11 +291,11 @@ module _ (t : ℕ → Bool) where
     by false f true g j rest = or_right (c == x) (is_in c (filter t xs)) (rest j)
     by false f false g j rest = rest j
 
-some_of : {A : Type 0} (o : Option A) → is_some o ≡ true → (x : A) × (o ≡ Some x)
+pub some_of : {A : Type 0} (o : Option A) → is_some o ≡ true → (x : A) × (o ≡ Some x)
 some_of None e = absurd (cc)
 some_of (Some x) e = (x, refl)
 
-to_greatest : (c : ℕ) (t : Settings) (w : List Happening) → settings_of c w ≡ Some t → c ≤ greatest w
+pub to_greatest : (c : ℕ) (t : Settings) (w : List Happening) → settings_of c w ≡ Some t → c ≤ greatest w
 to_greatest c t [] e = absurd (cc)
 to_greatest c t (Connects k u user ∷ w) e = by (c == k) refl e (to_greatest c t w) where
   by : (b : Bool) → (c == k) ≡ b → (if b then Some u else settings_of c w) ≡ Some t → (settings_of c w ≡ Some t → c ≤ greatest w) → c ≤ max k (greatest w)
@@ -455,7 +455,7 @@ held_tells s now c poll [] h g same sock held l =
     let nothing : due (config_of c h) (history c h) ≡ None = ⊎_elim (λ e. e) (λ over. absurd (let no : ⊥ = omega (arith, over) in no)) l in
     let all_still = join_all IsStill (ending now c h) (telling_poll s now c poll [] h) (ending_all IsStill now c h tt) (empty_still s now c poll h) in
     let all_tell = join_tell c (ending now c h) (telling_poll s now c poll [] h)
-    (either_tell c (has_closed c h && not (is_some (ended_at c (notes h)))) (Notes (Ended c now) ∷ []) [] (tt, tt) tt) (poll_tells s now c poll [] h) in
+    (either_tell c (has_closed c h && not (is_some (ended_at c (notes h)))) (Notes (Ended c now) ∷ []) [] (refl, tt) tt) (poll_tells s now c poll [] h) in
     inr (inl (due_of c h (onto words g) ((all_kept c c words g all_tell).kept_settings ∙ same.same_settings) (still_moves c words g all_still ∙ same.same_moves) nothing))
 held_tells s now c poll (f ∷ fs) h g same sock held l =
     let reply : List Doing = replying poll.0 (frames_reply (bytes_of s c (f ∷ fs) h)) h in
@@ -468,7 +468,7 @@ held_tells s now c poll (f ∷ fs) h g same sock held l =
     (join_all IsUnpolled (lending c (f ∷ fs)) reply (lending_unpolled c (f ∷ fs)) (replying_all IsUnpolled poll.0 (frames_reply (bytes_of s c (f ∷ fs) h)) h tt tt))
     ∙ unpolled c (ending now c h) g (ending_all IsUnpolled now c h tt) ∙ same.same_poll ∙ held in
     let all_tell = join_tell c (ending now c h) words
-    (either_tell c (has_closed c h && not (is_some (ended_at c (notes h)))) (Notes (Ended c now) ∷ []) [] (tt, tt) tt) (poll_tells s now c poll (f ∷ fs) h) in
+    (either_tell c (has_closed c h && not (is_some (ended_at c (notes h)))) (Notes (Ended c now) ∷ []) [] (refl, tt) tt) (poll_tells s now c poll (f ∷ fs) h) in
     let no_socket : socket_of c (notes (onto (ending now c h ++ words) g)) ≡ None
     = (all_kept c c (ending now c h ++ words) g all_tell).kept_socket ∙ same.same_socket ∙ sock in
     let no_poll : poll_of c (notes (onto (ending now c h ++ words) g)) ≡ None

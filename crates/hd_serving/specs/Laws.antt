@@ -1,5 +1,5 @@
 -- What holds of these definitions, in their own words.
-use Rattle.std.specs.Prelude.{◌≡◌, ◌↔◌, ◌⊎◌, ℕ, ◌+◌, ◌^◌, ◌<◌, ◌≤◌, ◌==◌, ◌||◌, map, Bool, true, false, nat_lt, nat_le, List, [], ◌∷◌, ◌++◌, length, nat_eq, Option, Some, None, is_some, if◌then◌else◌, All}
+use Rattle.std.specs.Prelude.{◌≡◌, ◌↔◌, ◌⊎◌, ℕ, ◌+◌, ◌^◌, ◌<◌, ◌≤◌, ◌||◌, map, reverse, Bool, true, false, nat_le, List, [], ◌∷◌, ◌++◌, length, nat_eq, None, Some, is_some, All}
 use Rattle.std.specs.List.{IsDistinct}
 use Rattle.hv_value.specs.Tree.{Tree}
 use Rattle.hm_message.specs.declared.message.Message.{Message}
@@ -21,14 +21,20 @@ use Rattle.hd_calls.specs.Peers.{Move, Runs, Settings, steps, codec, is_shut}
 use Rattle.hd_calls.specs.Rules.{MayTurn}
 use Rattle.hw_door.specs.declared.heard.Event.{Event}
 use Rattle.hw_door.specs.declared.heard.Heard.{Heard}
-use Rattle.hd_serving.specs.Numbers.{most_frame, most_polled}
-use Rattle.hd_serving.specs.Lives.{socket_of, poll_of}
+use Rattle.hd_serving.specs.Numbers.{most_frame, most_live, most_polled}
+use Rattle.hd_serving.specs.Lives.{Note, Expired, AreInOrder, is_made, last_moment, life_of, live, overdue, poll_of, socket_of, standing}
 use Rattle.hd_serving.specs.Texts.{token_of}
-use Rattle.hd_serving.specs.Table.{Facts, Outcome, is_base, is_negotiate, is_socket, has_id, socket_outcome, outcome}
-use Rattle.hd_serving.specs.Machine.{Happening, Does, Rounds, IsRound, Fate, Got, TooSlow, PassedOver, ArePeers, notice, fate_of, fates_of, may_turn}
-use Rattle.hd_serving.specs.Doings.{Doing, notes, work, hears, asked, draws, said, history, config_of, has_peer}
+use Rattle.hd_serving.specs.Table.{Facts, is_base, is_negotiate, is_socket, has_id, socket_outcome, outcome}
+use Rattle.hd_serving.specs.Machine.{Happening, Does, IsRound, Fate, Got, TooSlow, PassedOver, ArePeers, notice, fate_of, fates_of, may_turn}
+use Rattle.hd_lanes.specs.Replies.{IsReply}
+use Rattle.hd_serving.specs.declared.vocabulary.Said.TheVariants as say
+use Rattle.hd_serving.specs.Doings.{Doing, Says, notes, work, hears, asked, draws, said, history, awaits_reply, config_of, has_peer}
+use Rattle.hd_facts.specs.Prefixes.{IsPrefix}
+use Rattle.hd_serving.specs.Doings.{moment as moment_heard}
 use Rattle.hd_serving.specs.Plans.{Setup}
-use Rattle.hd_serving.specs.Serves.{LendsUpTo, IsTurn, Serves}
+use Rattle.hd_serving.specs.Serves.{LendsUpTo, IsFree, IsTurn, Serves}
+use Rattle.hd_serving.specs.Serving.{ServesOn, given_as}
+use Rattle.hw_door.specs.declared.heard.Given.{Given}
 
 -- ---- sockets that name a token
 
@@ -161,9 +167,77 @@ BodiesAreBounded = (wire : Wire) (c : Config) (s : List Step) (fs : List LinkFra
     → All (λ f. length (wire.spell (codec_of c s) f) ≤ most_frame + most_framing) fs
     → LendsUpTo wire c s 0 fs → length (spelling_of wire (codec_of c s) fs) ≤ most_polled
 
+-- ---- moments
+
+-- once the first of the connections whose moment has come has expired, the others are left
+abbrev pub MomentsComeOnce : Type 0
+MomentsComeOnce = (c : ℕ) (rest : List ℕ) (now : ℕ) (h : List Note) → overdue now h ≡ c ∷ rest → overdue now (Expired c now ∷ h) ≡ rest
+
 -- ---- tokens
 
 -- two connections have two tokens, whatever was drawn for them
 abbrev pub TokensDiffer : Type 0
 TokensDiffer = (drawn other : List ℕ) (c k : ℕ) → length drawn ≡ 16 → length other ≡ 16 → c < 2 ^ 64 → k < 2 ^ 64
     → token_of drawn c ≡ token_of other k → c ≡ k
+
+-- where no moment has come unnoted, lives are what they are but for moments
+abbrev pub LivesAreSettled : Type 0
+LivesAreSettled = (c now : ℕ) (h : List Note) → is_made c h ≡ true → overdue now h ≡ [] → life_of c now h ≡ standing c h
+
+-- at most so many connections live, if notes come in order
+abbrev pub FewLive : Type 0
+FewLive = (now : ℕ) (h : List Note) → AreInOrder h → last_moment h ≤ now → length (live now h) ≤ most_live
+
+-- ---- serving
+
+-- these are not answered: there are none; or the first is a request that may not come; or, if it may be cut, it is one, which was cut short
+abbrev pub AreLeft : Bool → List Doing → List Heard → Type 0
+AreLeft cut h [] = Unit {0}
+AreLeft cut h (e ∷ es) = (IsFree e.event h → ⊥) ⊎ ((cut ≡ true) × (es ≡ []))
+
+-- a server that heard `before`, the latest first, and then these, in order, is one that heard the first of them, and gave first what it says,
+-- and nothing else if it heard them all
+pub record HasServed {Job : Type 0} (hub : Hub Job) (s : Setup) (cut : Bool) (h : List Doing) (before es : List Heard) (given : List Given) : Type 0 where
+  pub answered : List Heard
+  pub rest : List Heard
+  pub are : es ≡ answered ++ rest
+  pub after : List Doing
+  pub serves : Serves hub s (reverse answered ++ before) after
+  pub gives : IsPrefix (map given_as (said after)) (map given_as (said h) ++ given)
+  pub left : AreLeft cut after rest
+  pub all_given : rest ≡ [] → map given_as (said after) ≡ map given_as (said h) ++ given
+
+abbrev pub ServedIsServes : Type 0 → Type 0
+ServedIsServes Job = (hub : Hub Job) (s : Setup) (cut : Bool) (h : List Doing) (before es : List Heard) (waits : List ℕ) (given : List Given)
+    → Serves hub s before h → ServesOn hub s cut (λ after. Unit {0}) (λ after. Unit {0}) h es waits given → HasServed hub s cut h before es given
+
+-- ---- what a server notes
+
+-- its notes come in order, none later than what was heard last
+pub record NotesInOrder (h : List Doing) : Type 0 where
+  pub in_order : AreInOrder (notes h)
+  pub not_later : last_moment (notes h) ≤ moment_heard h
+
+abbrev pub ServersNoteInOrder : Type 0 → Type 0
+ServersNoteInOrder Job = (hub : Hub Job) (s : Setup) (es : List Heard) (h : List Doing) → Serves hub s es h → NotesInOrder h
+
+-- at most so many connections of a server live
+abbrev pub ServersHaveFew : Type 0 → Type 0
+ServersHaveFew Job = (hub : Hub Job) (s : Setup) (es : List Heard) (h : List Doing) (now : ℕ) → Serves hub s es h → moment_heard h ≤ now
+    → length (live now (notes h)) ≤ most_live
+
+-- ---- replies
+
+-- each reply is one that may be sent, and comes on a lane that waits for one
+abbrev pub AreAwaited : List Doing → Type 0
+AreAwaited [] = Unit {0}
+AreAwaited (Says (say.Reply lane reply) ∷ h) = (awaits_reply lane h ≡ true) × IsReply reply × AreAwaited h
+AreAwaited (_ ∷ h) = AreAwaited h
+
+-- a request that waits for its reply is a poll that is held
+abbrev pub OnlyPollsWait : List Doing → Type 0
+OnlyPollsWait h = (lane : ℕ) → awaits_reply lane h ≡ true → (c now : ℕ) × (poll_of c (notes h) ≡ Some (lane, now))
+
+-- a server answers each request once, and leaves none without a reply but the polls that it holds
+abbrev pub EachRequestIsAnswered : Type 0 → Type 0
+EachRequestIsAnswered Job = (hub : Hub Job) (s : Setup) (es : List Heard) (h : List Doing) → Serves hub s es h → AreAwaited h × OnlyPollsWait h

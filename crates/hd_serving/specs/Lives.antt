@@ -1,6 +1,6 @@
 -- What is noted of a server's connections, and the life of a token at a moment, which is read off the notes. The latest note comes first.
 -- This project's own rules: the moments, and that a connection that polls is never resumed.
-use Rattle.std.specs.Prelude.{ℕ, zero, suc, ◌+◌, Bool, true, false, not, ◌&&◌, ◌||◌, ◌==◌, nat_le, List, [], ◌∷◌, ◌++◌, filter, length, Option, Some, None, is_some, option_map, unwrap_or, if◌then◌else◌}
+use Rattle.std.specs.Prelude.{◌≡◌, ◌≤◌, ℕ, zero, suc, ◌+◌, Bool, true, false, not, ◌&&◌, ◌||◌, ◌==◌, nat_lt, nat_le, List, [], ◌∷◌, ◌++◌, filter, length, Option, Some, None, is_some, option_map, unwrap_or, if◌then◌else◌}
 use Rattle.hm_message.specs.Same.{same_text}
 use Rattle.hd_delivery.specs.Histories.{is_this, first_of}
 use Rattle.hd_serving.specs.declared.vocabulary.Life.{Life}
@@ -8,7 +8,7 @@ use Rattle.hd_serving.specs.declared.vocabulary.Life.TheVariants.{Unknown, Fresh
 use Rattle.hd_serving.specs.Numbers.{most_live, most_connections, lives_for}
 
 -- Connections are numbered from 1, each by the note that makes it. A connection comes to its end by one of four notes: `Ended`, by its own
--- side or the other's while it polls; `Expired`, by its moment, which is the same if it polls, and else the last of it; `LetGo`, for good
+-- side or the other's while it polls; `Expired`, by its moment, which is the same if it only polls, and else the last of it; `LetGo`, for good
 pub data Note : Type 0 where
   Negotiated : (conn : ℕ) → (token : List ℕ) → (reconnect : Bool) → (now : ℕ) → Note
   Opened : (conn now : ℕ) → Note  -- without a token
@@ -87,21 +87,33 @@ poll_ended c (_ ∷ h) = poll_ended c h
 abbrev pub is_polling : ℕ → List Note → Bool
 is_polling c h = is_some (poll_of c h) || is_some (poll_ended c h)
 
--- when its token began to end
+-- whether it polls, and neither stands on a socket nor lost one
+abbrev pub only_polls : ℕ → List Note → Bool
+only_polls c h = is_polling c h && not (is_some (socket_of c h) || is_some (lost_at c h))
+
+-- when its token began to end, which it does once
 abbrev pub ended_at : ℕ → List Note → Option ℕ
 ended_at c [] = None
-ended_at c (Ended k now ∷ h) = if c == k then Some now else ended_at c h
-ended_at c (Expired k now ∷ h) = if (c == k) && (is_polling c h && not (is_some (ended_at c h))) then Some now else ended_at c h
+ended_at c (Ended k now ∷ h) = if (c == k) && not (is_some (ended_at c h)) then Some now else ended_at c h
+ended_at c (Expired k now ∷ h) = if (c == k) && (only_polls c h && not (is_some (ended_at c h))) then Some now else ended_at c h
 ended_at c (_ ∷ h) = ended_at c h
+
+-- whether its token begins to end at its moment. Else nothing is known of it from then on
+abbrev pub ends_then : ℕ → List Note → Bool
+ends_then c h = only_polls c h && not (is_some (ended_at c h))
 
 -- whether nothing is known of it any more
 abbrev pub is_let_go : ℕ → List Note → Bool
 is_let_go c [] = false
 is_let_go c (LetGo k ∷ h) = (c == k) || is_let_go c h
-is_let_go c (Expired k now ∷ h) = ((c == k) && (not (is_polling c h) || is_some (ended_at c h))) || is_let_go c h
+is_let_go c (Expired k now ∷ h) = ((c == k) && not (ends_then c h)) || is_let_go c h
 is_let_go c (_ ∷ h) = is_let_go c h
 
 -- ---- lives
+
+abbrev pub is_known : Life → Bool
+is_known Unknown = false
+is_known _ = true
 
 abbrev pub when : Bool → Life → Option Life
 when true life = Some life
@@ -152,11 +164,15 @@ life_of_some (Some c) now h = life_of c now h
 abbrev pub life : List ℕ → ℕ → List Note → Life
 life token now h = life_of_some (conn_with token h) now h
 
--- ---- all connections
+-- the connection of a token, as long as its life is known
+abbrev pub known_conn : List ℕ → ℕ → List Note → Option ℕ
+known_conn token now h = if is_known (life token now h) then conn_with token h else None
 
-abbrev pub is_known : Life → Bool
-is_known Unknown = false
-is_known _ = true
+-- whether the number is that of a connection that was made
+abbrev pub is_made : ℕ → List Note → Bool
+is_made c h = nat_lt 0 c && nat_le c (made h)
+
+-- ---- all connections
 
 -- 1 to n
 abbrev pub numbers_to : ℕ → List ℕ
@@ -174,3 +190,39 @@ is_busy now h = nat_le most_live (length (live now h)) || nat_le most_connection
 -- the connections whose moment has come, the least number first
 abbrev pub overdue : ℕ → List Note → List ℕ
 overdue now h = filter (λ c. is_past now (deadline c h)) (numbers_to (made h))
+
+-- ---- notes in order
+
+-- the moment of a note, if it has one
+abbrev pub moment_of : Note → Option ℕ
+moment_of (Negotiated c token reconnect now) = Some now
+moment_of (Opened c now) = Some now
+moment_of (Socketed c lane now) = Some now
+moment_of (Polled c lane now) = Some now
+moment_of (Answered c lane now) = Some now
+moment_of (LaneLost c lane now) = Some now
+moment_of (Ended c now) = Some now
+moment_of (Expired c now) = Some now
+moment_of (LetGo c) = None
+
+abbrev pub last_moment : List Note → ℕ
+last_moment [] = 0
+last_moment (n ∷ h) = unwrap_or (moment_of n) (last_moment h)
+
+-- what may be noted next: a new connection while there is room; that a moment has come, of the first for which it has; and of a connection
+-- whose life is known anything
+abbrev pub MayBeNoted : Note → List Note → Type 0
+MayBeNoted (Negotiated c token reconnect now) h = (c ≡ suc (made h)) × (is_busy now h ≡ false)
+MayBeNoted (Opened c now) h = (c ≡ suc (made h)) × (is_busy now h ≡ false)
+MayBeNoted (Socketed c lane now) h = is_known (life_of c now h) ≡ true
+MayBeNoted (Polled c lane now) h = is_known (life_of c now h) ≡ true
+MayBeNoted (Answered c lane now) h = is_known (life_of c now h) ≡ true
+MayBeNoted (LaneLost c lane now) h = is_known (life_of c now h) ≡ true
+MayBeNoted (Ended c now) h = is_known (life_of c now h) ≡ true
+MayBeNoted (Expired c now) h = (rest : List ℕ) × (overdue now h ≡ c ∷ rest)
+MayBeNoted (LetGo c) h = Unit {0}
+
+-- moments never fall, and each note is one that may come next
+abbrev pub AreInOrder : List Note → Type 0
+AreInOrder [] = Unit {0}
+AreInOrder (n ∷ h) = AreInOrder h × (last_moment h ≤ last_moment (n ∷ h)) × MayBeNoted n h

@@ -34,3 +34,7 @@ most_held = 1024
 
 abbrev pub most_held_bytes : ℕ
 most_held_bytes = 100000
+
+-- for how many milliseconds a server lets its door wait at most
+abbrev pub most_wait : ℕ
+most_wait = 100

@@ -40,3 +40,12 @@ body_with number token reconnect =
 -- the body that tells a connection and its token
 abbrev pub negotiate_body : ℕ → List ℕ → Bool → List ℕ
 negotiate_body conn token reconnect = body_with (decimal conn) token reconnect
+
+-- the same where only sockets are offered
+abbrev pub sockets_body_with : List ℕ → List ℕ → Bool → List ℕ
+sockets_body_with number token reconnect =
+    codes "{\"availableTransports\":[{\"transferFormats\":[\"Text\",\"Binary\"],\"transport\":\"WebSockets\"}],\"connectionId\":\""
+    ++ number ++ codes "\",\"connectionToken\":\"" ++ token ++ codes "\",\"negotiateVersion\":1" ++ reconnect_text reconnect
+
+abbrev pub sockets_body : ℕ → List ℕ → Bool → List ℕ
+sockets_body conn token reconnect = sockets_body_with (decimal conn) token reconnect

@@ -2,10 +2,10 @@
 
 ghost use Rattle.std.specs.Prelude.{◌≡◌, ◌+◌};
 ghost use Rattle.hd_delivery.specs.Numbers.{most_framing};
-ghost use Rattle.hd_serving.specs.Laws.{BodiesAreBounded, ConnectionsInOrder, EachMemberOnce, FatesAreRefusals, IdleTicksAreUnseen, NothingIsLeft, ServersArePeers, SocketsByLife, TokensDiffer, TurnsAreTested, TurnsGoFurther, WhatIsToldGrows};
-ghost use Rattle.hd_serving.specs.Numbers.{most_before_last, most_connections, most_frame, most_live, most_polled, lives_for, held_for};
+ghost use Rattle.hd_serving.specs.Laws.{BodiesAreBounded, ConnectionsInOrder, EachMemberOnce, EachRequestIsAnswered, FatesAreRefusals, FewLive, IdleTicksAreUnseen, LivesAreSettled, MomentsComeOnce, NothingIsLeft, ServedIsServes, ServersArePeers, ServersHaveFew, ServersNoteInOrder, SocketsByLife, TokensDiffer, TurnsAreTested, TurnsGoFurther, WhatIsToldGrows};
+ghost use Rattle.hd_serving.specs.Numbers.{most_before_last, most_connections, most_frame, most_live, most_polled, most_wait, lives_for, held_for};
 
-use crate::vocabulary::{HELD_FOR, LIVES_FOR, MOST_CONNECTIONS, MOST_LIVE, MOST_POLLED};
+use crate::vocabulary::{HELD_FOR, LIVES_FOR, MOST_CONNECTIONS, MOST_LIVE, MOST_POLLED, MOST_WAIT};
 
 /// The constants are the numbers of the definitions.
 pub fn numbers_are_named()
@@ -14,6 +14,7 @@ pub fn numbers_are_named()
     ensures unused { LIVES_FOR ≡ lives_for }
     ensures held { HELD_FOR ≡ held_for }
     ensures polled { MOST_POLLED ≡ most_polled }
+    ensures wait { MOST_WAIT ≡ most_wait }
     ensures last { most_before_last + (most_frame + most_framing) ≡ most_polled }
 {}
 
@@ -79,7 +80,47 @@ pub fn bodies_are_bounded()
     ensures { BodiesAreBounded }
 {}
 
+/// Once the first of the connections whose moment has come has expired, the others are left.
+pub fn moments_come_once()
+    ensures { MomentsComeOnce }
+{}
+
 /// Two connections have two tokens, whatever was drawn for them.
 pub fn tokens_differ()
     ensures { TokensDiffer }
+{}
+
+/// Where no moment has come that wasn't noted, the life of a connection is what it is but for moments.
+pub fn lives_are_settled()
+    ensures { LivesAreSettled }
+{}
+
+/// At most 10,000 connections live, if moments don't fall, new ones are made while there is room, of the moments that come the first is
+/// noted, and anything else is noted only of one whose life is known.
+pub fn few_live()
+    ensures { FewLive }
+{}
+
+/// A server that hears through a door is one that heard all that it answered, and gave first what it says of that. Not answered is what
+/// comes from a request on that may not come, and the last event if its answer was cut short.
+pub fn served_is_serves<Job>()
+    ensures { ServedIsServes Job }
+{}
+
+/// What a server notes of its connections comes in order, and nothing later than what it heard last.
+pub fn servers_note_in_order<Job>()
+    ensures { ServersNoteInOrder Job }
+{}
+
+/// At most 10,000 connections of a server live, after each event and until the next.
+pub fn servers_have_few<Job>()
+    ensures { ServersHaveFew Job }
+{
+    servers_note_in_order::<Job>();
+    few_live();
+}
+
+/// A server answers each request once, by a reply that may be sent, and leaves none without a reply but the polls that it holds.
+pub fn each_request_is_answered<Job>()
+    ensures { EachRequestIsAnswered Job }
 {}

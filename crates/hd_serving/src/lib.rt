@@ -7,10 +7,12 @@
 //! - `Machine`: the peers of a server, round by round, and the deeds that their jobs hand up.
 //! - `Doings`: what a server did, as one list, and what is read off it.
 //! - `Plans`, `Serves`: what a server does at one event (`IsTurn`), and at any list of events (`Serves`).
+//! - `Serving`: how long it lets its door wait, and what it gives it to say (`ServesOn`).
 //!
 //! Proved (`Laws`): each connection of a server does what a peer can do by itself; after an event nothing is due on a socket or a held
-//! poll; a deed is told to each member once, by what its end can send; a socket that names a token is answered by its life; the body of
-//! a poll is bounded if its frames are; an idle tick changes nothing that is said or read then. The rows of the table and whole sessions are computed.
+//! poll; at most 10,000 connections live; each request has one reply; a deed is told to each member once, by what its end can send; a
+//! socket that names a token is answered by its life; a moment that has come comes once; the body of a poll is bounded if its frames are;
+//! an idle tick changes nothing that is said or read then. The rows of the table and whole sessions are computed.
 //!
 //! The crate doesn't know how a request is spelled, nor how a server keeps any of this.
 #![tactic(auto)]
@@ -22,14 +24,18 @@ mod table;
 mod vocabulary;
 
 pub use laws::{
-    bodies_are_bounded, broadcasts_once, connections_in_order, fates_are_refusals, idle_ticks,
-    nothing_left, numbers_are_named, servers_are_peers, sockets_by_life, tokens_differ,
-    turns_are_tested, turns_go_further, what_is_told_grows,
+    bodies_are_bounded, broadcasts_once, connections_in_order, each_request_is_answered,
+    fates_are_refusals, few_live, idle_ticks, lives_are_settled, moments_come_once, nothing_left,
+    numbers_are_named, served_is_serves, servers_are_peers, servers_have_few,
+    servers_note_in_order, sockets_by_life, tokens_differ, turns_are_tested, turns_go_further,
+    what_is_told_grows,
 };
-pub use lives::{connections, fresh_tokens, polls, sockets, tokens};
+pub use lives::{connections, fresh_tokens, known_tokens, polls, sockets, tokens};
 pub use sessions::{
     a_room_is_joined, broadcasts, closings, conflicts, ends_of_polls, first_sockets, held_polls,
     histories, idle_servers, losses, refused_lanes, rooms, silences, takeovers,
 };
 pub use table::{by_life, negotiates, without_token};
-pub use vocabulary::{HELD_FOR, LIVES_FOR, Life, MOST_CONNECTIONS, MOST_LIVE, MOST_POLLED, Said};
+pub use vocabulary::{
+    HELD_FOR, LIVES_FOR, Life, MOST_CONNECTIONS, MOST_LIVE, MOST_POLLED, MOST_WAIT, Said,
+};

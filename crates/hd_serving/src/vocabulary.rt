@@ -19,6 +19,9 @@ pub const HELD_FOR: u64 = 90_000;
 /// The most bytes of the body of a poll's reply.
 pub const MOST_POLLED: usize = 65_536;
 
+/// For how many milliseconds a server lets its door wait at most.
+pub const MOST_WAIT: u64 = 100;
+
 /// The life of a token at a moment.
 #[derive(Clone, Copy, Debug, PartialEq, Eq)]
 pub enum Life {

@@ -5,3 +5,7 @@ use Rattle.hd_serving.proofs.lives.tokens.Goals as goal
 pub returns-clause-numbered : goal.returns-clause-numbered
 unfolding digits
 returns-clause-numbered c = refl
+
+pub returns-clause-sockets_numbered : goal.returns-clause-sockets_numbered
+unfolding digits
+returns-clause-sockets_numbered c = refl
