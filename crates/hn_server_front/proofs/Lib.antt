@@ -1,0 +1,12 @@
+pub mod Tokens
+pub mod Pieces
+pub mod Counting
+pub mod Noting
+pub mod Placed
+pub mod Passing
+pub mod Alike
+pub mod Expiring
+pub mod Routing
+pub mod Versions
+pub mod Forgotten
+pub mod Making

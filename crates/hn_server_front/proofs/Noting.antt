@@ -1,0 +1,514 @@
+-- What one more note about a connection changes of all that a front stands for.
+use Rattle.std.proofs.Common.{◌≡◌, ◌≤◌, ◌<◌, ℕ, ◌+◌, Bool, true, false, cond, not, ◌&&◌, ◌||◌, List, ◌∷◌, length, Option, Some, None, is_some, nat_eq, refl, sym, ap, ◌∙◌, subst, arith, inl, inr, eq-eqb, ne_eqb, if◌then◌else◌}
+use Rattle.std.specs.Prelude.{◌==◌, filter, option_map, unwrap_or, nat_lt, nat_le}
+use Rattle.std.specs.Vec.{vec_capacity}
+use Rattle.std.specs.Map.{lookup}
+use Rattle.std.specs.BTreeMap as tree
+use Rattle.std.specs.BTreeMap.{is_at}
+use Rattle.std.specs.Ordering.{nat_cmp}
+use Rattle.std.specs.Cmp.Lexicographic.{slice_cmp}
+use Rattle.std.proofs.lemmas.Option.{none-some, same_Some}
+use Rattle.std.proofs.lemmas.Map.Text.{is_eq-slice_cmp}
+use Rattle.std.proofs.lemmas.Slice.Eq.{bytes_eq-Decides}
+use Rattle.std.proofs.lemmas.Bool.{and_parts, and_right, cases_eq, ltb-true, leb-true, or_left}
+use Rattle.indexmap.specs.IndexMap.{index_map_len}
+use Rattle.hd_delivery.specs.Histories.{is_this, first_of}
+use Rattle.hd_serving.specs.declared.vocabulary.Life.{Life}
+use Rattle.hd_serving.specs.declared.vocabulary.Life.TheVariants as lives
+use Rattle.hd_serving.specs.Numbers.{most_connections}
+use Rattle.hd_serving.specs.Lives.{Note, LetGo, made, numbers_to, is_made, is_let_go, is_opened, negotiated_at, is_promised, socket_of, lost_at, poll_of, poll_ended, ended_at, conn_with, when, standing, since}
+use Rattle.hn_server_front.specs.declared.entry.Entry.{Entry}
+use Rattle.hn_server_front.specs.declared.entry.Noted.{Noted}
+use Rattle.hn_server_front.specs.declared.entry.Noted.TheVariants as noted
+use Rattle.hn_server_front.specs.declared.front.Front.{Front}
+use Rattle.hn_server_front.specs.declared.moments.Moments.{Moments}
+use Rattle.hn_server_front.specs.declared.moments.Waiting.{Waiting}
+use Rattle.hn_server_front.specs.Entries.{Remembers, note_of, text_told, token_told}
+use Rattle.hn_server_front.specs.Moments.{HasPlace, IsInOrder, at, is_within, waits_as}
+use Rattle.hn_server_front.specs.Stands.{IsEntryOf, IsUnborn, Stands, conn_at, entry_at, is_there, kept, since_of}
+use Rattle.hn_server_front.proofs.Counting.{count_same, count_without, waiting_fewer}
+
+pub no_bool : {A : Type 0} → false ≡ true → A
+no_bool e = absurd (let z : false ≡ true = e in cc)
+
+-- ---- what is read off a number
+
+-- it is the same of both lists
+pub record SameAt (c : ℕ) (g h : List Note) : Type 0 where
+  pub there : is_made c g ≡ is_made c h
+  pub held : is_let_go c g ≡ is_let_go c h
+  pub opened : is_opened c g ≡ is_opened c h
+  pub told : negotiated_at c g ≡ negotiated_at c h
+  pub promise : is_promised c g ≡ is_promised c h
+  pub token : token_told c g ≡ token_told c h
+  pub socket : socket_of c g ≡ socket_of c h
+  pub lost : lost_at c g ≡ lost_at c h
+  pub poll : poll_of c g ≡ poll_of c h
+  pub polled : poll_ended c g ≡ poll_ended c h
+  pub ended : ended_at c g ≡ ended_at c h
+
+-- one more note about this number, which makes no connection
+pub record Follows (k : ℕ) (g h : List Note) : Type 0 where
+  pub made_same : made g ≡ made h
+  pub conns : (token : List ℕ) → conn_with token g ≡ conn_with token h
+  pub tokens : (c : ℕ) → token_told c g ≡ token_told c h
+  pub others : (c : ℕ) → (c ≡ k → ⊥) → SameAt c g h
+
+elsewhere : {A : Type 0} (c k : ℕ) (x y : A) → (c ≡ k → ⊥) → (if c == k then x else y) ≡ y
+elsewhere {A} c k x y ne = ap (λ (b : Bool). if b then x else y) (ne_eqb c k ne)
+
+elsewhere_and : {A : Type 0} (c k : ℕ) (t : Bool) (x y : A) → (c ≡ k → ⊥) → (if (c == k) && t then x else y) ≡ y
+elsewhere_and {A} c k t x y ne = ap (λ (b : Bool). if b && t then x else y) (ne_eqb c k ne)
+
+others_noted : (c k : ℕ) (n : Noted) (h : List Note) → (c ≡ k → ⊥) → SameAt c (note_of k n ∷ h) h
+others_noted c k (noted.Socket lane now) h ne = record {
+  there = refl;
+  held = refl;
+  opened = refl;
+  told = refl;
+  promise = refl;
+  token = refl;
+  socket = elsewhere c k (Some lane) (socket_of c h) ne;
+  lost = elsewhere c k None (lost_at c h) ne;
+  poll = refl;
+  polled = refl;
+  ended = refl;
+}
+others_noted c k (noted.Poll lane now) h ne = record {
+  there = refl;
+  held = refl;
+  opened = refl;
+  told = refl;
+  promise = refl;
+  token = refl;
+  socket = refl;
+  lost = refl;
+  poll = elsewhere c k (Some (lane, now)) (poll_of c h) ne;
+  polled = elsewhere c k None (poll_ended c h) ne;
+  ended = refl;
+}
+others_noted c k (noted.Answer lane now) h ne = record {
+  there = refl;
+  held = refl;
+  opened = refl;
+  told = refl;
+  promise = refl;
+  token = refl;
+  socket = refl;
+  lost = refl;
+  poll = elsewhere_and c k (is_this lane (option_map (λ p. p.0) (poll_of c h))) None (poll_of c h) ne;
+  polled = elsewhere_and c k (is_this lane (option_map (λ p. p.0) (poll_of c h))) (Some now) (poll_ended c h) ne;
+  ended = refl;
+}
+others_noted c k (noted.Loss lane now) h ne = record {
+  there = refl;
+  held = refl;
+  opened = refl;
+  told = refl;
+  promise = refl;
+  token = refl;
+  socket = elsewhere_and c k (is_this lane (socket_of c h)) None (socket_of c h) ne;
+  lost = elsewhere_and c k (is_this lane (socket_of c h)) (Some now) (lost_at c h) ne;
+  poll = elsewhere_and c k (is_this lane (option_map (λ p. p.0) (poll_of c h))) None (poll_of c h) ne;
+  polled = elsewhere_and c k (is_this lane (option_map (λ p. p.0) (poll_of c h))) (Some now) (poll_ended c h) ne;
+  ended = refl;
+}
+others_noted c k (noted.End now) h ne = record {
+  there = refl;
+  held = refl;
+  opened = refl;
+  told = refl;
+  promise = refl;
+  token = refl;
+  socket = refl;
+  lost = refl;
+  poll = refl;
+  polled = refl;
+  ended = elsewhere_and c k (not (is_some (ended_at c h))) (Some now) (ended_at c h) ne;
+}
+
+pub noted_follows : (k : ℕ) (n : Noted) (h : List Note) → Follows k (note_of k n ∷ h) h
+noted_follows k n h = record {
+  made_same = count n;
+  conns = λ token. conns n token;
+  tokens = λ c. tokens n c;
+  others = λ c ne. others_noted c k n h ne;
+}
+  where
+    count : (n : Noted) → made (note_of k n ∷ h) ≡ made h
+    count (noted.Socket lane now) = refl
+    count (noted.Poll lane now) = refl
+    count (noted.Answer lane now) = refl
+    count (noted.Loss lane now) = refl
+    count (noted.End now) = refl
+
+    conns : (n : Noted) (token : List ℕ) → conn_with token (note_of k n ∷ h) ≡ conn_with token h
+    conns (noted.Socket lane now) token = refl
+    conns (noted.Poll lane now) token = refl
+    conns (noted.Answer lane now) token = refl
+    conns (noted.Loss lane now) token = refl
+    conns (noted.End now) token = refl
+
+    tokens : (n : Noted) (c : ℕ) → token_told c (note_of k n ∷ h) ≡ token_told c h
+    tokens (noted.Socket lane now) c = refl
+    tokens (noted.Poll lane now) c = refl
+    tokens (noted.Answer lane now) c = refl
+    tokens (noted.Loss lane now) c = refl
+    tokens (noted.End now) c = refl
+
+pub let_go_follows : (k : ℕ) (h : List Note) → Follows k (LetGo k ∷ h) h
+let_go_follows k h = record {
+  made_same = refl;
+  conns = λ token. refl;
+  tokens = λ c. refl;
+  others = λ c ne. record {
+    there = refl;
+    held = ap (λ (b : Bool). b || is_let_go c h) (ne_eqb c k ne);
+    opened = refl;
+    told = refl;
+    promise = refl;
+    token = refl;
+    socket = refl;
+    lost = refl;
+    poll = refl;
+    polled = refl;
+    ended = refl;
+  };
+}
+
+-- ---- what follows from what is read off
+
+same_there : (c : ℕ) (g h : List Note) → SameAt c g h → is_there c g ≡ is_there c h
+same_there c g h s = ap (λ (b : Bool). b && not (is_let_go c g)) s.there ∙ ap (λ (b : Bool). is_made c h && not b) s.held
+
+same_entry : (o : Option Entry) (c : ℕ) (g h : List Note) → SameAt c g h → IsEntryOf o c h → IsEntryOf o c g
+same_entry None c g h s e = same_there c g h s ∙ e
+same_entry (Some e) c g h s r = record {
+  there = s.there ∙ r.there;
+  held = s.held ∙ r.held;
+  begun = ap (λ (b : Bool). b || is_some (negotiated_at c g)) s.opened ∙ (ap (λ (o : Option ℕ). is_opened c h || is_some o) s.told ∙ r.begun);
+  told = r.told ∙ sym s.told;
+  token = r.token ∙ sym s.token;
+  promise = r.promise ∙ sym s.promise;
+  socket = r.socket ∙ sym s.socket;
+  lost = r.lost ∙ sym s.lost;
+  poll = r.poll ∙ sym s.poll;
+  polled = r.polled ∙ sym s.polled;
+  ended = r.ended ∙ sym s.ended;
+}
+
+same_unborn : (c : ℕ) (g h : List Note) → SameAt c g h → IsUnborn c h → IsUnborn c g
+same_unborn c g h s u = record {
+  held = s.held ∙ u.held;
+  opened = s.opened ∙ u.opened;
+  told = s.told ∙ u.told;
+  promise = s.promise ∙ u.promise;
+  token = s.token ∙ u.token;
+  socket = s.socket ∙ u.socket;
+  lost = s.lost ∙ u.lost;
+  poll = s.poll ∙ u.poll;
+  polled = s.polled ∙ u.polled;
+  ended = s.ended ∙ u.ended;
+}
+
+-- its life but for moments, of what is read off
+abbrev standing_at : Bool → Option ℕ → Option ℕ → Option ℕ → Option (ℕ × ℕ) → Option ℕ → Bool → Option ℕ → Life
+standing_at held ended socket lost poll polled opened told = unwrap_or
+    (first_of (when held lives.Unknown)
+    (first_of (when (is_some ended) lives.Ending)
+    (first_of (option_map lives.Socket socket)
+    (first_of (when (is_some lost) lives.Lost)
+    (first_of (when (is_some poll || is_some polled) lives.Polling)
+    (when (opened || is_some told) lives.Fresh)))))) lives.Unknown
+
+abbrev since_at : Life → Option ℕ → Option ℕ → Option ℕ → Option ℕ → Option ℕ
+since_at lives.Unknown told lost polled ended = None
+since_at lives.Fresh told lost polled ended = told
+since_at (lives.Socket lane) told lost polled ended = None
+since_at lives.Lost told lost polled ended = lost
+since_at lives.Polling told lost polled ended = polled
+since_at lives.Ending told lost polled ended = ended
+
+abbrev read_since : Bool → Option ℕ → Option ℕ → Option ℕ → Option (ℕ × ℕ) → Option ℕ → Bool → Option ℕ → Option ℕ
+read_since held ended socket lost poll polled opened told = since_at (standing_at held ended socket lost poll polled opened told) told lost polled ended
+
+since_is : (c : ℕ) (h : List Note)
+    → since_of c h ≡
+    read_since (is_let_go c h) (ended_at c h) (socket_of c h) (lost_at c h) (poll_of c h) (poll_ended c h) (is_opened c h) (negotiated_at c h)
+since_is c h = by (standing c h)
+  where
+    by : (l : Life) → since c l h ≡ since_at l (negotiated_at c h) (lost_at c h) (poll_ended c h) (ended_at c h)
+    by lives.Unknown = refl
+    by lives.Fresh = refl
+    by (lives.Socket lane) = refl
+    by lives.Lost = refl
+    by lives.Polling = refl
+    by lives.Ending = refl
+
+same_eight : (f : Bool → Option ℕ → Option ℕ → Option ℕ → Option (ℕ × ℕ) → Option ℕ → Bool → Option ℕ → Option ℕ)
+    (a a' : Bool) (b b' c c' d d' : Option ℕ) (e e' : Option (ℕ × ℕ)) (i i' : Option ℕ) (j j' : Bool) (k k' : Option ℕ)
+    → a ≡ a' → b ≡ b' → c ≡ c' → d ≡ d' → e ≡ e' → i ≡ i' → j ≡ j' → k ≡ k' → f a b c d e i j k ≡ f a' b' c' d' e' i' j' k'
+same_eight f a a' b b' c c' d d' e e' i i' j j' k k' p q r s t u v w = cc
+
+same_since : (c : ℕ) (g h : List Note) → SameAt c g h → since_of c g ≡ since_of c h
+same_since c g h s =
+    since_is c g
+    ∙ (same_eight read_since (is_let_go c g) (is_let_go c h) (ended_at c g) (ended_at c h) (socket_of c g) (socket_of c h) (lost_at c g) (lost_at c h)
+    (poll_of c g) (poll_of c h) (poll_ended c g) (poll_ended c h) (is_opened c g) (is_opened c h) (negotiated_at c g) (negotiated_at c h)
+    s.held s.ended s.socket s.lost s.poll s.polled s.opened s.told
+    ∙ sym (since_is c h))
+
+-- one that is let go has no life
+gone_standing : (c : ℕ) (h : List Note) → is_let_go c h ≡ true → standing c h ≡ lives.Unknown
+gone_standing c h e =
+    ap (λ (b : Bool). standing_at b (ended_at c h) (socket_of c h) (lost_at c h) (poll_of c h) (poll_ended c h) (is_opened c h) (negotiated_at c h)) e
+
+gone_since : (c : ℕ) (h : List Note) → is_let_go c h ≡ true → since_of c h ≡ None
+gone_since c h e = ap (λ (l : Life). since c l h) (gone_standing c h e)
+
+-- ---- one that was made, and is kept or let go
+
+made_number : (c : ℕ) (h : List Note) → is_made c h ≡ true → (0 < c) × (c ≤ made h)
+made_number c h e =
+    let p = and_parts (nat_lt 0 c) (nat_le c (made h)) e in
+    (ltb-true 0 c p.0, leb-true c (made h) p.1)
+
+is_gone : (a b : Bool) → a ≡ true → (a && not b) ≡ false → b ≡ true
+is_gone true true e g = refl
+is_gone true false e g = no_bool (sym g)
+is_gone false b e g = no_bool e
+
+gone_from_there : (c : ℕ) (h : List Note) → is_made c h ≡ true → is_there c h ≡ false → is_let_go c h ≡ true
+gone_from_there c h e g = is_gone (is_made c h) (is_let_go c h) e g
+
+there_from_kept : (e : Entry) (c : ℕ) (h : List Note) → Remembers e c h → is_there c h ≡ true
+there_from_kept e c h r = ap (λ (b : Bool). b && not (is_let_go c h)) r.there ∙ ap (λ (b : Bool). not b) r.held
+
+not_there : (c : ℕ) (h : List Note) → is_let_go c h ≡ true → is_there c h ≡ false
+not_there c h e = and_right (is_made c h) (not (is_let_go c h)) (ap (λ (b : Bool). not b) e)
+
+-- what is kept of a connection is kept of its token
+kept_same : (o : Option ℕ) (g h : List Note) → ((c : ℕ) → o ≡ Some c → is_let_go c g ≡ is_let_go c h) → kept o h ≡ kept o g
+kept_same None g h same = refl
+kept_same (Some c) g h same = ap (λ (b : Bool). if b then None else Some c) (sym (same c refl))
+
+-- ---- moments
+
+waits_is : (k : ℕ) (o : Option ℕ) (ws : List Waiting) → waits_as k o ws → (since : ℕ) → is_within (at since k) ws ≡ is_this since o
+waits_is k None ws p since = p since
+waits_is k (Some moment) ws p since = p since
+
+waits_from : (k : ℕ) (o : Option ℕ) (ws : List Waiting) → ((since : ℕ) → is_within (at since k) ws ≡ is_this since o) → waits_as k o ws
+waits_from k None ws p = p
+waits_from k (Some moment) ws p = p
+
+waits_in : (f : Front) (h : List Note) (k : ℕ) → Stands f h → waits_as k (since_of k h) f.moments.waiting.items
+waits_in f h k s = waits_from k (since_of k h) f.moments.waiting.items (λ m. s.waiting (at m k))
+
+-- what a change of the moments says
+pub record Changes (old new : Moments) (k : ℕ) (before after : Option ℕ) : Type 0 where
+  pub changed : IsInOrder old.waiting.items → waits_as k before old.waiting.items → HasPlace old before → waits_as k after new.waiting.items
+  pub others : IsInOrder old.waiting.items → waits_as k before old.waiting.items → HasPlace old before → (since c : ℕ) → (c ≡ k → ⊥)
+      → is_within (at since c) new.waiting.items ≡ is_within (at since c) old.waiting.items
+  pub order : IsInOrder old.waiting.items → IsInOrder new.waiting.items
+  pub capacity : vec_capacity old.waiting ≤ vec_capacity new.waiting
+
+has_place : (f : Front) (h : List Note) (k : ℕ) → Stands f h → is_there k h ≡ true → HasPlace f.moments (since_of k h)
+has_place f h k s t = go (since_of k h) refl
+  where
+    go : (o : Option ℕ) → since_of k h ≡ o → HasPlace f.moments o
+    go None e = let l = waiting_fewer f h k s t e in let r = s.room in omega (arith, l, r)
+    go (Some moment) e = tt
+
+-- ---- one more note
+
+module _ (f n : Front) (k : ℕ) (g h : List Note) (z : Follows k g h) (s : Stands f h) where
+  same_made : (c : ℕ) → is_made c g ≡ is_made c h
+  same_made c = ap (λ (m : ℕ). nat_lt 0 c && nat_le c m) z.made_same
+
+  stands_after : is_made k h ≡ true → n.made ≡ f.made
+      → ((c : ℕ) → (c ≡ k → ⊥) → entry_at n c ≡ entry_at f c) → IsEntryOf (entry_at n k) k g
+      → index_map_len n.entries ≡ length (filter (λ c. is_there c g) (numbers_to (made h)))
+      → ((token : List ℕ) → conn_at n token ≡ kept (conn_with token h) g)
+      → waits_as k (since_of k g) n.moments.waiting.items
+      → ((since c : ℕ) → (c ≡ k → ⊥) → is_within (at since c) n.moments.waiting.items ≡ is_within (at since c) f.moments.waiting.items)
+      → IsInOrder n.moments.waiting.items → index_map_len n.entries ≤ vec_capacity n.moments.waiting → Stands n g
+  stands_after there made_so entries own size tokens waits others order room = record {
+    made_so = made_so ∙ (s.made_so ∙ sym z.made_same);
+    few = subst (λ (m : ℕ). m ≤ most_connections) (sym z.made_same) s.few;
+    entries = λ c. elim (cases_eq c k) [
+      | inl e ↦ subst (λ (x : ℕ). IsEntryOf (entry_at n x) x g) (sym e) own
+      | inr e ↦ same_entry (entry_at n c) c g h (z.others c e) (subst (λ (o : Option Entry). IsEntryOf o c h) (sym (entries c e)) (s.entries c))
+    ];
+    unborn = λ c u. elim (cases_eq c k) [
+      | inl e ↦ no_bool (sym u ∙ (same_made c ∙ (ap (λ (x : ℕ). is_made x h) e ∙ there)))
+      | inr e ↦ same_unborn c g h (z.others c e) (s.unborn c (sym (same_made c) ∙ u))
+    ];
+    size = size ∙ ap (λ (m : ℕ). length (filter (λ c. is_there c g) (numbers_to m))) (sym z.made_same);
+    tokens = λ token. tokens token ∙ ap (λ (o : Option ℕ). kept o g) (sym (z.conns token));
+    agree = record {
+      spelled = λ c token e. s.agree.spelled c token (sym (z.tokens c) ∙ e);
+      told = λ c token e. z.conns token ∙ s.agree.told c token (sym (z.tokens c) ∙ e);
+      had = λ c token e. z.tokens c ∙ s.agree.had c token (sym (z.conns token) ∙ e);
+    };
+    waiting = λ w. elim (cases_eq w.conn k) [
+      | inl e ↦ subst (λ (x : ℕ). is_within (at w.since x) n.moments.waiting.items ≡ is_this w.since (since_of x g)) (sym e)
+          (waits_is k (since_of k g) n.moments.waiting.items waits w.since)
+      | inr e ↦ others w.since w.conn e ∙ (s.waiting w ∙ ap (λ (o : Option ℕ). is_this w.since o) (sym (same_since w.conn g h (z.others w.conn e))))
+    ];
+    order = order;
+    room = room;
+  }
+
+  -- it is kept before and after
+  pub stands_kept : (e own : Entry) → Remembers e k h → Remembers own k g → n.made ≡ f.made
+      → ((c : ℕ) → entry_at n c ≡ cond (nat_eq k c) (Some own) (entry_at f c))
+      → index_map_len n.entries ≡ index_map_len f.entries → n.tokens ≡ f.tokens
+      → (before after : Option ℕ) → before ≡ since_of k h → after ≡ since_of k g → Changes f.moments n.moments k before after → Stands n g
+  stands_kept e own r q made_so entries size tokens before after b a ch =
+      let order : IsInOrder f.moments.waiting.items = s.order in
+      let waits : waits_as k before f.moments.waiting.items = subst (λ (o : Option ℕ). waits_as k o f.moments.waiting.items) (sym b) (waits_in f h k s) in
+      let place : HasPlace f.moments before = subst (λ (o : Option ℕ). HasPlace f.moments o) (sym b) (has_place f h k s (there_from_kept e k h r)) in
+      let room : index_map_len f.entries ≤ vec_capacity f.moments.waiting = s.room in
+      let more = ch.capacity in
+      stands_after r.there made_so
+      (λ c ne. entries c ∙ ap (λ (t : Bool). cond t (Some own) (entry_at f c)) (ne_eqb k c (λ x. ne (sym x))))
+      (subst (λ (o : Option Entry). IsEntryOf o k g) (sym (entries k ∙ ap (λ (t : Bool). cond t (Some own) (entry_at f k)) (eq-eqb k k refl))) q)
+      (size ∙ (s.size ∙ count_same (made h) (λ c. is_there c h) (λ c. is_there c g) there_too))
+      (λ token. ap (λ m. tree.get (slice_cmp nat_cmp) m token) tokens ∙ (s.tokens token ∙ kept_same (conn_with token h) g h (λ c _. held_too c)))
+      (subst (λ (o : Option ℕ). waits_as k o n.moments.waiting.items) a (ch.changed order waits place))
+      (ch.others order waits place)
+      (ch.order order)
+      (omega (arith, size, room, more))
+    where
+      there_too : (c : ℕ) → is_there c h ≡ is_there c g
+      there_too c = elim (cases_eq c k) [
+        | inl x ↦ ap (λ (i : ℕ). is_there i h) x
+            ∙ (there_from_kept e k h r ∙ (sym (there_from_kept own k g q) ∙ ap (λ (i : ℕ). is_there i g) (sym x)))
+        | inr x ↦ sym (same_there c g h (z.others c x))
+      ]
+
+      held_too : (c : ℕ) → is_let_go c g ≡ is_let_go c h
+      held_too c = elim (cases_eq c k) [
+        | inl x ↦ ap (λ (i : ℕ). is_let_go i g) x ∙ (q.held ∙ (sym r.held ∙ ap (λ (i : ℕ). is_let_go i h) (sym x)))
+        | inr x ↦ (z.others c x).held
+      ]
+
+-- nothing changes where it was let go before
+pub stands_gone : (f : Front) (k : ℕ) (g h : List Note) → Follows k g h → Stands f h → entry_at f k ≡ None → is_made k h ≡ true
+    → (is_let_go k h ≡ true → is_let_go k g ≡ true) → Stands f g
+stands_gone f k g h z s none there still =
+    stands_after f f k g h z s there refl (λ c ne. refl)
+    (subst (λ (o : Option Entry). IsEntryOf o k g) (sym none) (not_there k g gone_too))
+    (s.size ∙ count_same (made h) (λ c. is_there c h) (λ c. is_there c g) there_too)
+    (λ token. s.tokens token ∙ kept_same (conn_with token h) g h (λ c _. held_too c))
+    (subst (λ (o : Option ℕ). waits_as k o f.moments.waiting.items) (gone_since k h gone ∙ sym (gone_since k g gone_too)) (waits_in f h k s))
+    (λ since c ne. refl)
+    s.order
+    s.room
+  where
+    gone : is_let_go k h ≡ true
+    gone = gone_from_there k h there (subst (λ (o : Option Entry). IsEntryOf o k h) none (s.entries k))
+
+    gone_too : is_let_go k g ≡ true
+    gone_too = still gone
+
+    there_too : (c : ℕ) → is_there c h ≡ is_there c g
+    there_too c = elim (cases_eq c k) [
+      | inl x ↦ ap (λ (i : ℕ). is_there i h) x ∙ (not_there k h gone ∙ (sym (not_there k g gone_too) ∙ ap (λ (i : ℕ). is_there i g) (sym x)))
+      | inr x ↦ sym (same_there c g h (z.others c x))
+    ]
+
+    held_too : (c : ℕ) → is_let_go c g ≡ is_let_go c h
+    held_too c = elim (cases_eq c k) [
+      | inl x ↦ ap (λ (i : ℕ). is_let_go i g) x ∙ (gone_too ∙ (sym gone ∙ ap (λ (i : ℕ). is_let_go i h) (sym x)))
+      | inr x ↦ (z.others c x).held
+    ]
+
+pub still_gone : (k : ℕ) (n : Noted) (h : List Note) → is_let_go k h ≡ true → is_let_go k (note_of k n ∷ h) ≡ true
+still_gone k (noted.Socket lane now) h e = e
+still_gone k (noted.Poll lane now) h e = e
+still_gone k (noted.Answer lane now) h e = e
+still_gone k (noted.Loss lane now) h e = e
+still_gone k (noted.End now) h e = e
+
+-- ---- nothing is kept of it any more
+
+pub let_go : (k : ℕ) (h : List Note) → is_let_go k (LetGo k ∷ h) ≡ true
+let_go k h = or_left (k == k) (is_let_go k h) (eq-eqb k k refl)
+
+-- the map of tokens loses its connection's token, if it had one
+pub tokens_without : (f : Front) (k : ℕ) (h : List Note) (e : Entry) → Stands f h → Remembers e k h
+    → (own : List ℕ) → text_told e.told ≡ Some own → (token : List ℕ)
+    → cond (is_at (slice_cmp nat_cmp own) token) None (conn_at f token) ≡ kept (conn_with token h) (LetGo k ∷ h)
+tokens_without f k h e s r own is token = go (is_at (slice_cmp nat_cmp own) token) refl
+  where
+    told : token_told k h ≡ Some own
+    told = sym r.token ∙ is
+
+    go : (b : Bool) → is_at (slice_cmp nat_cmp own) token ≡ b → cond b None (conn_at f token) ≡ kept (conn_with token h) (LetGo k ∷ h)
+    go true x =
+        let same : own ≡ token = (bytes_eq-Decides own token).0 (sym (is_eq-slice_cmp own token) ∙ x) in
+        sym (ap (λ (t : List ℕ). kept (conn_with t h) (LetGo k ∷ h)) (sym same)
+        ∙ (ap (λ (o : Option ℕ). kept o (LetGo k ∷ h)) (s.agree.told k own told)
+        ∙ ap (λ (b : Bool). if b then None else Some k) (let_go k h)))
+    go false x = s.tokens token ∙ kept_same (conn_with token h) (LetGo k ∷ h) h (λ c at. ((let_go_follows k h).others c (λ q. apart c at q)).held)
+      where
+        apart : (c : ℕ) → conn_with token h ≡ Some c → c ≡ k → ⊥
+        apart c at q =
+            let had : token_told k h ≡ Some token = ap (λ (i : ℕ). token_told i h) (sym q) ∙ s.agree.had c token at in
+            let same : own ≡ token = same_Some own token (sym told ∙ had) in
+            no_bool (sym x ∙ (is_eq-slice_cmp own token ∙ (bytes_eq-Decides own token).1 same))
+
+pub tokens_with : (f : Front) (k : ℕ) (h : List Note) (e : Entry) → Stands f h → Remembers e k h
+    → text_told e.told ≡ None → (token : List ℕ) → conn_at f token ≡ kept (conn_with token h) (LetGo k ∷ h)
+tokens_with f k h e s r is token =
+    s.tokens token ∙ kept_same (conn_with token h) (LetGo k ∷ h) h (λ c at. ((let_go_follows k h).others c (λ q. apart c at q)).held)
+  where
+    apart : (c : ℕ) → conn_with token h ≡ Some c → c ≡ k → ⊥
+    apart c at q =
+        let had : token_told k h ≡ Some token = ap (λ (i : ℕ). token_told i h) (sym q) ∙ s.agree.had c token at in
+        none-some token (sym is ∙ (r.token ∙ had))
+
+pub stands_without : (f n : Front) (k : ℕ) (h : List Note) (e : Entry) → Stands f h → Remembers e k h → n.made ≡ f.made
+    → ((c : ℕ) → entry_at n c ≡ cond (nat_eq k c) None (entry_at f c)) → index_map_len n.entries + 1 ≡ index_map_len f.entries
+    → ((token : List ℕ) → conn_at n token ≡ kept (conn_with token h) (LetGo k ∷ h))
+    → (before : Option ℕ) → before ≡ since_of k h → Changes f.moments n.moments k before None → Stands n (LetGo k ∷ h)
+stands_without f n k h e s r made_so entries size tokens before b ch =
+    let order : IsInOrder f.moments.waiting.items = s.order in
+    let waits : waits_as k before f.moments.waiting.items = subst (λ (o : Option ℕ). waits_as k o f.moments.waiting.items) (sym b) (waits_in f h k s) in
+    let place : HasPlace f.moments before = subst (λ (o : Option ℕ). HasPlace f.moments o) (sym b) (has_place f h k s (there_from_kept e k h r)) in
+    let room : index_map_len f.entries ≤ vec_capacity f.moments.waiting = s.room in
+    let more = ch.capacity in
+    let number = made_number k h r.there in
+    let count = count_without (made h) k (λ c. is_there c h) (λ c. is_there c (LetGo k ∷ h)) number.0 number.1 (there_from_kept e k h r)
+    (not_there k (LetGo k ∷ h) (let_go k h)) (λ c ne. sym (same_there c (LetGo k ∷ h) h ((let_go_follows k h).others c ne))) in
+    let had = s.size in
+    stands_after f n k (LetGo k ∷ h) h (let_go_follows k h) s r.there made_so
+    (λ c ne. entries c ∙ ap (λ (t : Bool). cond t None (entry_at f c)) (ne_eqb k c (λ x. ne (sym x))))
+    (subst (λ (o : Option Entry). IsEntryOf o k (LetGo k ∷ h)) (sym (entries k ∙ ap (λ (t : Bool). cond t None (entry_at f k)) (eq-eqb k k refl)))
+    (not_there k (LetGo k ∷ h) (let_go k h)))
+    (omega (arith, size, had, count))
+    tokens
+    (subst (λ (o : Option ℕ). waits_as k o n.moments.waiting.items) (sym (gone_since k (LetGo k ∷ h) (let_go k h))) (ch.changed order waits place))
+    (ch.others order waits place)
+    (ch.order order)
+    (omega (arith, size, room, more))
+
+-- the same is kept, in a map with another room
+pub stands_same : (f n : Front) (h : List Note)
+    → n.made ≡ f.made → n.entries.entries ≡ f.entries.entries → n.tokens ≡ f.tokens → n.moments ≡ f.moments
+    → Stands f h → Stands n h
+stands_same f n h made_so entries tokens moments s = record {
+  made_so = made_so ∙ s.made_so;
+  few = s.few;
+  entries = λ c. subst (λ (es : List (ℕ × Entry)). IsEntryOf (lookup (nat_eq c) es) c h) (sym entries) (s.entries c);
+  unborn = s.unborn;
+  size = ap (λ (es : List (ℕ × Entry)). length es) entries ∙ s.size;
+  tokens = λ token. ap (λ m. tree.get (slice_cmp nat_cmp) m token) tokens ∙ s.tokens token;
+  agree = s.agree;
+  waiting = λ w. ap (λ (m : Moments). is_within w m.waiting.items) moments ∙ s.waiting w;
+  order = subst (λ (m : Moments). IsInOrder m.waiting.items) (sym moments) s.order;
+  room = subst (λ (m : Moments). index_map_len n.entries ≤ vec_capacity m.waiting) (sym moments)
+      (subst (λ (es : List (ℕ × Entry)). length es ≤ vec_capacity f.moments.waiting) (sym entries) s.room);
+}

@@ -1,0 +1,6 @@
+pub mod Routes
+pub mod Bodies
+pub mod Moments
+pub mod Entries
+pub mod Stands
+pub mod Calls

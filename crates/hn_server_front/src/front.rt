@@ -1,0 +1,355 @@
+//! The connections of a server: what is noted of them, and the lives of their tokens.
+
+ghost use Rattle.std.specs.Prelude.{◌≡◌, ◌↔◌, ◌+◌, ◌≤◌, ◌&&◌, suc, [], true, false, nat_le, Err, IfOk, IfErr, IfSome, OnOk, OnErr, length};
+ghost use Rattle.indexmap.specs.IndexMap.{index_map_len};
+ghost use Rattle.hd_serving.specs.Numbers.{most_connections, most_live};
+ghost use Rattle.hd_serving.specs.Lives.{Answered, Ended, LaneLost, LetGo, Note, Polled, Socketed};
+ghost use Rattle.hd_serving.specs.Lives.{ends_then, is_busy, is_made, is_promised, known_conn, life, life_of, live};
+ghost use Rattle.hn_server_front.specs.Calls.{Expires, IsNoted, OfEach, Opens, Stays, Tells, poll_held};
+ghost use Rattle.hn_server_front.specs.Entries.{held_as, note_of};
+ghost use Rattle.hn_server_front.specs.Routes.{RoutesTo};
+ghost use Rattle.hn_server_front.specs.Stands.{HasRoom, IsEntered, IsRoomier, Stands, is_there};
+ghost use Rattle.hn_server_front.specs.declared.bodies.Transports.TheVariants.{All, Sockets};
+ghost use Rattle.hn_server_front.specs.declared.errors.FrontError.TheVariants.{Busy};
+
+use crate::bodies::{Transports, body};
+use crate::entry::{Entry, Held, Noted, Told, told_at};
+use crate::errors::FrontError;
+use crate::moments::Moments;
+use crate::route::Route;
+use crate::token::Token;
+use hd_lanes::{Request, Vec8};
+use hd_serving::{Life, MOST_CONNECTIONS, MOST_LIVE, tokens_differ};
+use indexmap::IndexMap;
+use std::alloc::{AllocError, Global};
+use std::collections::BTreeMap;
+
+/// A connection that was made, and the body that tells its token.
+#[derive(Drop)]
+pub struct Made {
+    /// Its number, from 1.
+    pub conn: u64,
+    /// JSON.
+    pub body: Vec8,
+}
+
+/// The connections of a server, by their numbers and by their tokens. Moments are in milliseconds.
+#[derive(Drop)]
+pub struct Front {
+    /// How many were made.
+    made: u64,
+    /// Those that aren't let go.
+    entries: IndexMap<u64, Entry>,
+    tokens: BTreeMap<Token, u64>,
+    moments: Moments,
+}
+
+impl Front {
+    /// No connections.
+    pub fn start(alloc: Global) -> Result<Front, AllocError>
+        ensures { IfOk result (λ front. Stands front []) }
+    {
+        Ok(Front {
+            made: 0,
+            entries: IndexMap::new(alloc),
+            tokens: BTreeMap::new(alloc),
+            moments: Moments::start(alloc),
+        })
+    }
+
+    // ---- requests
+
+    /// Where a request leads at a server of this base, such as `/hub`.
+    pub fn route(&self, alloc: Global, base: &[u8], request: &Request) -> Result<Route, AllocError>
+        ensures { IfOk result (λ route. RoutesTo base.now request.now route) }
+    {
+        Route::of(alloc, base, request)
+    }
+
+    /// The life of a token at a moment.
+    pub fn life(&self, token: &Token, now: u64) -> Life
+        ensures { OfEach self.now (λ h. result ≡ life token.now now h) }
+    {
+        match self.tokens.get(token) {
+            Some(conn) => self.life_at(*conn, now),
+            None => Life::Unknown,
+        }
+    }
+
+    /// The token's connection, as long as the token's life is known.
+    pub fn conn_of(&self, token: &Token, now: u64) -> Option<u64>
+        ensures known { OfEach self.now (λ h. result ≡ known_conn token.now now h) }
+        ensures made { OfEach self.now (λ h. IfSome result (λ conn. is_made conn h ≡ true)) }
+    {
+        if self.life(token, now) == Life::Unknown {
+            return None;
+        }
+        self.tokens.get(token).copied()
+    }
+
+    // ---- connections
+
+    /// The life of a connection at a moment.
+    pub fn life_at(&self, conn: u64, now: u64) -> Life
+        ensures { OfEach self.now (λ h. result ≡ life_of conn now h) }
+    {
+        match self.entries.get(&conn) {
+            Some(entry) => entry.life(now),
+            None => Life::Unknown,
+        }
+    }
+
+    /// The poll that a connection holds.
+    pub fn held(&self, conn: u64) -> Option<Held>
+        ensures { OfEach self.now (λ h. held_as result ≡ poll_held conn h) }
+    {
+        match self.entries.get(&conn) {
+            Some(entry) => entry.poll,
+            None => None,
+        }
+    }
+
+    /// Whether the connection's token was told with reconnect, and it isn't let go.
+    pub fn is_promised(&self, conn: u64) -> bool
+        ensures { OfEach self.now (λ h. result ≡ (is_there conn h && is_promised conn h)) }
+    {
+        match self.entries.get(&conn) {
+            Some(entry) => entry.is_promised(),
+            None => false,
+        }
+    }
+
+    /// Whether no further connection can be made: 10,000 live, or 2^62 were made.
+    pub fn busy(&self, now: u64) -> bool
+        ensures { OfEach self.now (λ h. result ≡ is_busy now h) }
+    {
+        self.next(now).is_err()
+    }
+
+    /// Makes a connection with a token of the 16 bytes that were drawn. `asked`: it can be resumed. After an error nothing has changed.
+    pub fn negotiate(
+        &mut self,
+        alloc: Global,
+        asked: bool,
+        drawn: [u8; 16],
+        now: u64,
+    ) -> Result<Made, FrontError>
+        ensures ok { IfOk result (λ made_now. OfEach self.old (λ h. Tells All self.new h asked drawn now made_now)) }
+        ensures busy { OfEach self.old (λ h. (is_busy now h ≡ true) ↔ (result ≡ Err Busy)) }
+        ensures kept { OnErr result (Stays self.old self.new) }
+    {
+        self.tell(alloc, Transports::All, asked, drawn, now)
+    }
+
+    /// The same where only sockets are offered.
+    pub fn negotiate_sockets(
+        &mut self,
+        alloc: Global,
+        asked: bool,
+        drawn: [u8; 16],
+        now: u64,
+    ) -> Result<Made, FrontError>
+        ensures ok { IfOk result (λ made_now. OfEach self.old (λ h. Tells Sockets self.new h asked drawn now made_now)) }
+        ensures busy { OfEach self.old (λ h. (is_busy now h ≡ true) ↔ (result ≡ Err Busy)) }
+        ensures kept { OnErr result (Stays self.old self.new) }
+    {
+        self.tell(alloc, Transports::Sockets, asked, drawn, now)
+    }
+
+    /// Makes a connection without a token: its number. After an error nothing has changed.
+    pub fn open(&mut self, now: u64) -> Result<u64, FrontError>
+        ensures ok { IfOk result (λ conn. OfEach self.old (λ h. Opens self.new h now conn)) }
+        ensures busy { OfEach self.old (λ h. (is_busy now h ≡ true) ↔ (result ≡ Err Busy)) }
+        ensures kept { OnErr result (Stays self.old self.new) }
+    {
+        let conn = self.next(now)?;
+        self.make_room()?;
+        self.enter(conn, None);
+        Ok(conn)
+    }
+
+    // ---- what is noted, which takes no memory. Of a number that no connection has nothing is noted
+
+    /// It stands on this lane from now on, which is a WebSocket.
+    pub fn socket(&mut self, conn: u64, lane: u64, now: u64)
+        ensures { IsNoted self.old self.new conn (Socketed conn lane now) }
+    {
+        self.note(conn, Noted::Socket { lane, now });
+    }
+
+    /// A poll came on this lane.
+    pub fn poll(&mut self, conn: u64, lane: u64, now: u64)
+        ensures { IsNoted self.old self.new conn (Polled conn lane now) }
+    {
+        self.note(conn, Noted::Poll { lane, now });
+    }
+
+    /// The poll on this lane ended.
+    pub fn answered(&mut self, conn: u64, lane: u64, now: u64)
+        ensures { IsNoted self.old self.new conn (Answered conn lane now) }
+    {
+        self.note(conn, Noted::Answer { lane, now });
+    }
+
+    /// The lane was lost.
+    pub fn lost(&mut self, conn: u64, lane: u64, now: u64)
+        ensures { IsNoted self.old self.new conn (LaneLost conn lane now) }
+    {
+        self.note(conn, Noted::Loss { lane, now });
+    }
+
+    /// Its token is ending from now on.
+    pub fn ending(&mut self, conn: u64, now: u64)
+        ensures { IsNoted self.old self.new conn (Ended conn now) }
+    {
+        self.note(conn, Noted::End { now });
+    }
+
+    /// It is let go.
+    pub fn closed(&mut self, conn: u64)
+        ensures { IsNoted self.old self.new conn (LetGo conn) }
+    {
+        self.forget(conn);
+    }
+
+    /// Of the connections whose moment has come, and that weren't handed out for it, the one of the least number: one that only
+    /// polled begins to end, if it doesn't yet, and every other is let go.
+    pub fn expired(&mut self, now: u64) -> Option<u64>
+        ensures { OfEach self.old (λ h. Expires self.new h now result) }
+    {
+        let conn = self.moments.first_due(now)?;
+        if self.ends_then(conn) {
+            self.note(conn, Noted::End { now });
+        } else {
+            self.forget(conn);
+        }
+        Some(conn)
+    }
+
+    // ---- parts of these
+
+    /// The number of the next connection, if one can be made.
+    fn next(&self, now: u64) -> Result<u64, FrontError>
+        ensures ok { IfOk result (λ conn. (conn ≡ suc self.now.made) × (conn ≤ most_connections)) }
+        ensures free { OnOk result (OfEach self.now (λ h. is_busy now h ≡ false)) }
+        ensures busy { OnErr result (OfEach self.now (λ h. is_busy now h ≡ true)) }
+        ensures refused { IfErr result (λ e. e ≡ Busy) }
+    {
+        if self.made >= MOST_CONNECTIONS || self.is_full(now) {
+            return Err(FrontError::Busy);
+        }
+        Ok(self.made + 1)
+    }
+
+    /// Whether as many connections live as may.
+    fn is_full(&self, now: u64) -> bool
+        ensures { OfEach self.now (λ h. result ≡ nat_le most_live (length (live now h))) }
+    {
+        let there = self.entries.len() as u64;
+        there >= MOST_LIVE && there.saturating_sub(self.forgotten(now)) >= MOST_LIVE
+    }
+
+    /// How many of those that aren't let go yet are unknown at a moment.
+    fn forgotten(&self, now: u64) -> u64
+        ensures { OfEach self.now (λ h. result + length (live now h) ≡ index_map_len self.now.entries) }
+    {
+        let mut count = 0;
+        for waiting in self.moments.due(now) {
+            if self.life_at(waiting.conn, now) == Life::Unknown {
+                count += 1;
+            }
+        }
+        count
+    }
+
+    /// Makes a connection with a token, and the body that tells it.
+    fn tell(
+        &mut self,
+        alloc: Global,
+        transports: Transports,
+        asked: bool,
+        drawn: [u8; 16],
+        now: u64,
+    ) -> Result<Made, FrontError>
+        ensures ok { IfOk result (λ made_now. OfEach self.old (λ h. Tells transports self.new h asked drawn now made_now)) }
+        ensures busy { OfEach self.old (λ h. (is_busy now h ≡ true) ↔ (result ≡ Err Busy)) }
+        ensures kept { OnErr result (Stays self.old self.new) }
+    {
+        // A law: so the token is no other connection's.
+        tokens_differ();
+        let conn = self.next(now)?;
+        let token = Token::of(alloc, drawn, conn)?;
+        let body = body(alloc, transports, conn, &token, asked)?;
+        let own = token.copy()?;
+        self.make_room()?;
+        if self.tokens.insert(own, conn).is_err() {
+            return Err(FrontError::NoMemory);
+        }
+        self.enter(
+            conn,
+            Some(Told {
+                token,
+                now,
+                reconnect: asked,
+            }),
+        );
+        Ok(Made { conn, body })
+    }
+
+    /// Makes room for one more connection, and for all that is noted of it.
+    fn make_room(&mut self) -> Result<(), AllocError>
+        ensures room { OnOk result (HasRoom self.new) }
+        ensures same { IsRoomier self.old self.new }
+    {
+        self.entries.reserve(1)?;
+        let count = self.entries.len() + 1;
+        self.moments.reserve(count)
+    }
+
+    /// Enters the connection of this number, for which there is room.
+    fn enter(&mut self, conn: u64, told: Option<Told>)
+        requires { HasRoom self.old }
+        ensures { IsEntered self.old self.new conn told }
+    {
+        let since = told_at(&told);
+        let _ = self.entries.insert(conn, Entry::new(told));
+        self.moments.change(conn, None, since);
+        self.made = conn;
+    }
+
+    /// Something is noted of a connection.
+    fn note(&mut self, conn: u64, noted: Noted)
+        ensures { IsNoted self.old self.new conn (note_of conn noted) }
+    {
+        let Some(entry) = self.entries.get_mut(&conn) else {
+            return;
+        };
+        let before = entry.since();
+        entry.note(noted);
+        let after = entry.since();
+        self.moments.change(conn, before, after);
+    }
+
+    /// Nothing is kept of a connection any more.
+    fn forget(&mut self, conn: u64)
+        ensures { IsNoted self.old self.new conn (LetGo conn) }
+    {
+        let Some(entry) = self.entries.swap_remove(&conn) else {
+            return;
+        };
+        self.moments.change(conn, entry.since(), None);
+        if let Some(told) = entry.told {
+            let _ = self.tokens.remove(&told.token);
+        }
+    }
+
+    /// Whether a connection's token begins to end when its moment comes.
+    fn ends_then(&self, conn: u64) -> bool
+        ensures { OfEach self.now (λ h. result ≡ (is_there conn h && ends_then conn h)) }
+    {
+        match self.entries.get(&conn) {
+            Some(entry) => entry.ends_then(),
+            None => false,
+        }
+    }
+}

@@ -1,0 +1,37 @@
+//! The front of a server of hubs: its tokens and the lives of its connections, and which of a server's parts a request is for
+//! (TransportProtocols.md of ASP.NET Core, "POST endpoint-base/negotiate", "WebSockets" and "Long Polling").
+//!
+//! ```text
+//! while let Some(conn) = front.expired(now) { .. }        // those whose moment has come, the least number first
+//! match front.route(alloc, base, &request)? {             // what is asked, before any token is looked at
+//!     Route::Negotiate { asked } => front.negotiate(alloc, asked, drawn, now)?,   // a connection with a token, and the body that tells it
+//!     Route::Open => front.open(now)?,                    // a connection without one
+//!     Route::Socket { token } => match front.life(&token, now) { .. },
+//!     ..
+//! }
+//! front.socket(conn, lane, now);                          // what becomes of a connection is noted
+//! ```
+//!
+//! A front stands for the list of its notes, as `hd_serving` has it: each call that makes or changes a connection adds its note. Proved:
+//! each answer but want of memory is what the definitions say of that list, whatever the order of calls and moments. At most 10,000
+//! connections live when one is made.
+//!
+//! The calls that note something take no memory: `negotiate` and `open` make room for all of a connection's notes. No call goes through
+//! connections but those whose moment has come.
+//!
+//! The crate doesn't know peers, lanes, nor what is said.
+#![tactic(auto)]
+
+mod bodies;
+mod entry;
+mod errors;
+mod front;
+mod moments;
+mod route;
+mod token;
+
+pub use entry::Held;
+pub use errors::FrontError;
+pub use front::{Front, Made};
+pub use route::Route;
+pub use token::Token;
