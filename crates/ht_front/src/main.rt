@@ -1,0 +1,59 @@
+//! Calls a front as the lines of its input say, and prints what it answers: a program to test `hn_server_front` by. Its input and the
+//! output that is wanted are those of `acceptance/front_model.py`, which knows the rules but no code of this repository. It promises
+//! nothing of its own, so no edit of it must fail.
+//!
+//! A line is one action, and a line that is none is refused. NOW is a moment; DRAWN is 32 hexadecimal digits. If memory is out, the
+//! program prints `no memory` and ends with status 7.
+//!
+//! ```text
+//! note TEXT                              is printed
+//! front                                  a front without connections
+//! route METHOD PATH QUERY KIND           where a request leads at the base /hub; METHOD is `get`, `post`, `delete` or `other`, KIND `socket` or
+//!                                        `plain`, and a QUERY of `-` is none
+//! negotiate ASKED DRAWN NOW              `yes` or `no`: a connection that can be resumed; so is `sockets ASKED DRAWN NOW`
+//! open NOW                               a connection without a token
+//! many COUNT NOW                         so many of them, or as many as can be made
+//! busy NOW
+//! life TOKEN NOW                         and `conn TOKEN NOW`; by a number `at CONN NOW`, `held CONN` and `promised CONN`
+//! socket CONN LANE NOW                   is noted; so are `poll CONN LANE NOW`, `answered CONN LANE NOW`, `lost CONN LANE NOW`,
+//!                                        `ending CONN NOW` and `closed CONN`
+//! expired NOW                            all that are handed out
+//! ```
+#![tactic(auto)]
+
+mod asking;
+mod noting;
+mod script;
+mod stop;
+mod words;
+
+use script::Bench;
+use std::io::{self, BufRead, BufReader};
+use std::process::ExitCode;
+
+const OUT_OF_MEMORY: u8 = 7;
+
+const NO_INPUT: u8 = 3;
+
+/// Reads the script, and prints the answers.
+fn run(rt: &(impl Input + Print + AllocGlobal)) -> io::Result<()> {
+    let alloc = rt.alloc();
+    let mut bench = Bench::start(alloc)?;
+    for line in BufReader::new(alloc, rt.reader())?.lines(alloc) {
+        let line = line?;
+        let answer = bench.carry_out(&line)?;
+        println!(rt; "{answer}")?;
+    }
+    Ok(())
+}
+
+fn main(rt: HostRuntime) -> ExitCode {
+    let Err(error) = run(&rt) else {
+        return ExitCode::SUCCESS;
+    };
+    if error.kind() != io::ErrorKind::OutOfMemory {
+        return ExitCode::from(NO_INPUT);
+    }
+    let _ = println!(rt; "no memory");
+    ExitCode::from(OUT_OF_MEMORY)
+}

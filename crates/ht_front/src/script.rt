@@ -1,0 +1,80 @@
+//! The lines of a script, and the front that they speak to.
+
+use crate::stop::Stop;
+use crate::words::{first_word, number};
+use crate::{asking, noting};
+use hn_server_front::Front;
+use std::alloc::{AllocError, Global};
+
+/// A front.
+#[derive(Drop)]
+pub struct Bench {
+    alloc: Global,
+    front: Front,
+}
+
+impl Bench {
+    /// A front without connections.
+    pub fn start(alloc: Global) -> Result<Bench, AllocError> {
+        Ok(Bench {
+            alloc,
+            front: Front::start(alloc)?,
+        })
+    }
+
+    /// Carries out the action of a line, and answers what it answers.
+    pub fn carry_out(&mut self, line: &str) -> Result<String, AllocError> {
+        match self.act(line) {
+            Ok(answer) => Ok(answer),
+            Err(Stop::Busy) => String::from_str(self.alloc, "busy"),
+            Err(Stop::Refused) => format!(in self.alloc; "no action: {line}"),
+            Err(Stop::NoMemory) => Err(AllocError),
+        }
+    }
+
+    fn act(&mut self, line: &str) -> Result<String, Stop> {
+        let (word, rest) = first_word(line);
+        match word {
+            "note" => Ok(format!(in self.alloc; "note {rest}")?),
+            "front" => self.start_anew(),
+            "negotiate" => asking::negotiate(self.alloc, &mut self.front, true, rest),
+            "sockets" => asking::negotiate(self.alloc, &mut self.front, false, rest),
+            "open" => self.open(rest),
+            "many" => asking::open_many(self.alloc, &mut self.front, rest),
+            "expired" => asking::expired(self.alloc, &mut self.front, rest),
+            _ => self.ask(word, rest),
+        }
+    }
+
+    fn start_anew(&mut self) -> Result<String, Stop> {
+        self.front = Front::start(self.alloc)?;
+        Ok(String::from_str(self.alloc, "a front")?)
+    }
+
+    fn open(&mut self, words: &str) -> Result<String, Stop> {
+        let conn = self.front.open(number(words)?)?;
+        Ok(format!(in self.alloc; "made {conn}")?)
+    }
+
+    /// What changes no connection is asked, and the rest noted.
+    fn ask(&mut self, word: &str, words: &str) -> Result<String, Stop> {
+        match word {
+            "route" => asking::route(self.alloc, &self.front, words),
+            "life" => asking::life(self.alloc, &self.front, words),
+            "conn" => asking::conn(self.alloc, &self.front, words),
+            "at" => asking::life_at(self.alloc, &self.front, words),
+            "held" => asking::held(self.alloc, &self.front, words),
+            "promised" => self.yes_or_no(self.front.is_promised(number(words)?)),
+            "busy" => self.yes_or_no(self.front.busy(number(words)?)),
+            _ => {
+                noting::note(&mut self.front, word, words)?;
+                Ok(String::from_str(self.alloc, "noted")?)
+            }
+        }
+    }
+
+    fn yes_or_no(&self, is_so: bool) -> Result<String, Stop> {
+        let word = if is_so { "yes" } else { "no" };
+        Ok(String::from_str(self.alloc, word)?)
+    }
+}
