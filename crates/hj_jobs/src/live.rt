@@ -1,16 +1,19 @@
 //! The live jobs, by number. Numbers are drawn here and not by the other side, so a hashed map serves.
 
-ghost use Rattle.std.specs.Prelude.{◌≡◌, ℕ, ◌∷◌, [], None, IfOk, OnOk, OnErr};
+ghost use Rattle.std.specs.Prelude.{◌≡◌, ◌<◌, ℕ, ◌∷◌, [], None, IfOk, OnOk, OnErr};
 ghost use Rattle.hj_jobs.specs.Entries.{IsTurned};
 ghost use Rattle.hj_jobs.specs.Live.{Alters, AttemptsAt, awaits_at, entry_at, Gains, HasRoom, is_due_at, is_unmarked_at, IsAnswered, IsFed, IsMarked, live_count, Loses, Retains, waits_at};
 ghost use Rattle.hj_jobs.specs.Meaning.{meaning};
 
 use crate::entry::Entry;
 use crate::hub::Hub;
-use hd_calls::{Act, CallKind, Input};
+use hd_calls::{Act, CallKind, Input, MOST_LIVE};
 use hv_value::Text;
 use indexmap::IndexMap;
 use std::alloc::{AllocError, Global};
+
+/// Most connections have fewer live jobs: for these the table grows as they come.
+const FEW: usize = 16;
 
 /// A job had the hub's part of its turn. `job` is its number, from 1 in order of acceptance; `id` and `kind` are those of its call.
 #[derive(Drop)]
@@ -89,7 +92,7 @@ impl<J: Drop> Live<J> {
         ensures ok { OnOk result (HasRoom self.new) }
         ensures entries { Retains self.old self.new }
     {
-        self.entries.reserve(1)
+        self.entries.reserve(more_than(self.entries.len()))
     }
 
     /// A job is live now, whose number is new. There is room for it.
@@ -175,6 +178,17 @@ impl<J: Drop> Live<J> {
             entry.turned(act);
         }
     }
+}
+
+/// For how many more jobs room is taken where this many are live: past a few for as many as may be live, so that a growing table isn't
+/// copied again and again.
+fn more_than(live: usize) -> usize
+    ensures { 0 < result }
+{
+    if live < FEW {
+        return 1;
+    }
+    (MOST_LIVE as usize).saturating_sub(live).max(1)
 }
 
 fn copy_of(id: &Option<Text>) -> Result<Option<Text>, AllocError>
