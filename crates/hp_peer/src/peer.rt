@@ -10,7 +10,7 @@ ghost use Rattle.hd_delivery.specs.Bytes.{Wire, Bytes, Does, unread};
 ghost use Rattle.hd_delivery.specs.OneHistory.{next_reader};
 ghost use Rattle.he_wire.specs.Wires.{IsHouseWire};
 ghost use Rattle.he_end.specs.Calls.{taken_at};
-ghost use Rattle.hd_calls.specs.Peers.{Plain, byte_steps, codec, drawn, is_shut, steps};
+ghost use Rattle.hd_calls.specs.Peers.{Plain, begun, byte_steps, codec, drawn, is_shut, steps};
 ghost use Rattle.hd_calls.specs.Rules.{own_live};
 ghost use Rattle.hj_jobs.specs.Meaning.{meaning};
 ghost use Rattle.hp_peer.specs.Lending.{EndsAs, Lends};
@@ -76,6 +76,21 @@ impl<H: Hub> Peer<H> {
         ensures { result.now ≡ self.now.end }
     {
         &self.end
+    }
+
+    /// The name of the other side, as hubs are told it.
+    pub fn who(&self) -> &Text
+        ensures { OfEach (meaning H.begin_of H.step_of) self.now (λ t h. result.now ≡ t.who) }
+    {
+        &self.who
+    }
+
+    /// How many calls of the other side have begun a job, which is the number of the latest.
+    pub fn begun(&self) -> u64
+        ensures { OfEach (meaning H.begin_of H.step_of) self.now (λ t h. result ≡ length (begun h)) }
+    {
+        tables_agree();
+        self.jobs.accepted()
     }
 
     /// The greatest number that its calls and their uploads have drawn.
