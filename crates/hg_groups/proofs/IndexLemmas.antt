@@ -1,19 +1,21 @@
 -- How the two maps of an index change together, and which lists of pairs they then stand for.
-use Rattle.std.proofs.Common.{◌≡◌, ℕ, ◌<◌, Bool, true, false, not, ◌&&◌, ◌||◌, eqb, List, [], ◌∷◌, length, if◌then◌else◌, IsTrue, refl, sym, ap, ◌∙◌, true≢false, arith}
-use Rattle.std.specs.List.{list_any}
+use Rattle.std.proofs.Common.{◌≡◌, ℕ, ◌<◌, Bool, true, false, not, ◌&&◌, ◌||◌, eqb, nat_eq, List, [], ◌∷◌, ◌++◌, length, if◌then◌else◌, IsTrue, refl, sym, ap, subst, ◌∙◌, true≢false, arith}
+use Rattle.std.specs.List.{list_any, IsDistinct}
 use Rattle.std.specs.Ordering.{nat_cmp}
 use Rattle.std.specs.Cmp.Lexicographic.{slice_cmp, nat_list_eq_equiv}
 use Rattle.std.specs.BTreeMap.{is_at}
 use Rattle.std.specs.BTreeSet.{BTreeSet}
 use Rattle.std.proofs.lemmas.Bool.{eqb-true, eq-eqb}
+use Rattle.std.specs.Cmp.{nat_eq_equiv}
+use Rattle.std.proofs.lemmas.Map.Keys.{IsDistinct-push}
 use Rattle.std.proofs.lemmas.Map.Text.{is_eq-slice_cmp}
 use Rattle.std.proofs.lemmas.Slice.Eq.{bytes_eq-Decides}
 use Rattle.hd_server.specs.Registry.{Pair, same_text, members, without_pair, without}
 use Rattle.hd_server.specs.RegistryLaws.{is_among, others_than, MembersFollow, PairsStayDistinct}
 use Rattle.hg_groups.specs.declared.index.Index.{Index}
-use Rattle.hg_groups.specs.Maps.{ByName, ByConn, listed, holds, has_name, Agree, SameLists, Left, LeftAll, Entered, Exited, Forgotten}
+use Rattle.hg_groups.specs.Maps.{ByName, ByConn, listed, holds, has_name, Agree, EachOnce, SameLists, Joined, Left, LeftAll, Entered, Exited, Forgotten}
 use Rattle.hg_groups.specs.Standing.{StandsIndex}
-use Rattle.hg_groups.proofs.ListLemmas.{others_than-absent, is_among-others_than, others_than-twice}
+use Rattle.hg_groups.proofs.ListLemmas.{others_than-absent, is_among-others_than, others_than-twice, IsDistinct-others_than}
 
 -- both parts of a test that holds
 both : (a b : Bool) → (a && b) ≡ true → (a ≡ true) × (b ≡ true)
@@ -57,6 +59,46 @@ module _ {S : Type 0} (old new : ByConn S) (before after : ByName) (conn : ℕ) 
   Agree-gone agree forgotten left = λ who other.
       forgotten who other ∙ ap (λ h. not (eqb conn who) && h) (agree who other)
       ∙ sym (is_among-others_than who conn (listed before other)) ∙ ap (is_among who) (sym (left other))
+
+-- ---- each once
+
+-- nobody is in an empty list twice
+nobody_twice : IsDistinct nat_eq []
+unfolding IsDistinct
+nobody_twice = tt
+
+-- nor in a map without connections
+pub EachOnce-nobody : (by_name : ByName) → ((name : List ℕ) → listed by_name name ≡ []) → EachOnce by_name
+EachOnce-nobody by_name none = λ other. subst (IsDistinct nat_eq) (sym (none other)) nobody_twice
+
+module _ (before after : ByName) where
+  -- nothing has changed
+  pub EachOnce-same : EachOnce before → SameLists before after → EachOnce after
+  EachOnce-same once lists = λ other. subst (IsDistinct nat_eq) (sym (lists other)) (once other)
+
+  -- who wasn't there is there once
+  pub EachOnce-joined : (name : List ℕ) (conn : ℕ) → EachOnce before → is_among conn (listed before name) ≡ false
+      → Joined before after name conn → EachOnce after
+  EachOnce-joined name conn once out joined = λ other. subst (IsDistinct nat_eq) (sym (joined other)) (by other (same_text name other) refl)
+    where
+      by : (other : List ℕ) (b : Bool) → same_text name other ≡ b
+          → IsDistinct nat_eq (if b then listed before other ++ conn ∷ [] else listed before other)
+      by other true e = IsDistinct-push nat_eq_equiv (listed before other) conn (once other)
+          (ap (λ n. is_among conn (listed before n)) (sym ((bytes_eq-Decides name other).0 e)) ∙ out)
+      by other false e = once other
+
+  -- one left a name
+  pub EachOnce-left : (name : List ℕ) (conn : ℕ) → EachOnce before → Left before after name conn → EachOnce after
+  EachOnce-left name conn once left = λ other. subst (IsDistinct nat_eq) (sym (left other)) (by other (same_text name other))
+    where
+      by : (other : List ℕ) (b : Bool) → IsDistinct nat_eq (if b then others_than conn (listed before other) else listed before other)
+      by other true = IsDistinct-others_than conn (listed before other) (once other)
+      by other false = once other
+
+  -- or all names
+  pub EachOnce-gone : (conn : ℕ) → EachOnce before → LeftAll before after conn → EachOnce after
+  EachOnce-gone conn once left = λ other.
+      subst (IsDistinct nat_eq) (sym (left other)) (IsDistinct-others_than conn (listed before other) (once other))
 
 -- ---- one name after another
 

@@ -1,6 +1,8 @@
 -- What follows for lists of connections when one is taken out, and for the pairs of an index.
-use Rattle.std.proofs.Common.{◌≡◌, ℕ, Bool, true, false, cond, not, ◌&&◌, ◌||◌, eqb, List, [], ◌∷◌, refl, sym, ap, ◌∙◌, true≢false}
+use Rattle.std.proofs.Common.{◌≡◌, ℕ, Bool, true, false, cond, not, ◌&&◌, ◌||◌, eqb, nat_eq, List, [], ◌∷◌, refl, sym, ap, ◌∙◌, true≢false}
+use Rattle.std.specs.List.{IsDistinct, AllByRecursion}
 use Rattle.std.proofs.lemmas.Bool.{eqb-true, eq-eqb}
+use Rattle.std.proofs.lemmas.Map.Keys.{IsDistinct-head, IsDistinct-tail, IsDistinct-cons}
 use Rattle.hd_server.specs.RegistryLaws.{is_among, others_than}
 
 -- who isn't there isn't missed
@@ -44,3 +46,24 @@ is_among-others_than who conn (c ∷ conns) =
 pub others_than-twice : (conn : ℕ) (conns : List ℕ) → others_than conn (others_than conn conns) ≡ others_than conn conns
 others_than-twice conn conns = others_than-absent conn (others_than conn conns)
     (is_among-others_than conn conn conns ∙ ap (λ b. not b && is_among conn conns) (eq-eqb conn conn refl))
+
+-- what holds of each connection holds of each of the others
+all_others : (P : ℕ → Type 0) (conn : ℕ) (conns : List ℕ) → AllByRecursion P conns → AllByRecursion P (others_than conn conns)
+all_others P conn [] all = all
+all_others P conn (c ∷ conns) all = by (eqb conn c) (all_others P conn conns all.1)
+  where
+    by : (b : Bool) → AllByRecursion P (others_than conn conns)
+        → AllByRecursion P (cond (not b) (c ∷ others_than conn conns) (others_than conn conns))
+    by true rest = rest
+    by false rest = (all.0, rest)
+
+-- the others are each there once, as all were
+pub IsDistinct-others_than : (conn : ℕ) (conns : List ℕ) → IsDistinct nat_eq conns → IsDistinct nat_eq (others_than conn conns)
+IsDistinct-others_than conn [] once = once
+IsDistinct-others_than conn (c ∷ conns) once = by (eqb conn c) (IsDistinct-others_than conn conns (IsDistinct-tail nat_eq c conns once))
+  where
+    by : (b : Bool) → IsDistinct nat_eq (others_than conn conns)
+        → IsDistinct nat_eq (cond (not b) (c ∷ others_than conn conns) (others_than conn conns))
+    by true rest = rest
+    by false rest = IsDistinct-cons nat_eq c (others_than conn conns)
+        (all_others (λ d. nat_eq c d ≡ false) conn conns (IsDistinct-head nat_eq c conns once)) rest

@@ -2,6 +2,7 @@
 use Rattle.std.specs.Prelude.{◌≡◌, ℕ, ◌<◌, Bool, false, not, ◌&&◌, ◌||◌, ◌==◌, List, [], ◌∷◌, ◌++◌, Option, Vec, vec_len, if◌then◌else◌, nat_eq}
 use Rattle.std.specs.declared.alloc.Global.{Global}
 use Rattle.std.specs.Option.{ForSome, option_map_or}
+use Rattle.std.specs.List.{IsDistinct}
 use Rattle.std.specs.Ordering.{nat_cmp}
 use Rattle.std.specs.Cmp.Lexicographic.{slice_cmp}
 use Rattle.std.specs.BTreeMap.{BTreeMap}
@@ -51,6 +52,10 @@ NoneIsNameless m = (conn : ℕ) → ForSome (at_conn m conn) (λ names. 0 < btre
 -- Both maps have the same pairs.
 abbrev pub Agree : {S : Type 0} → ByConn S → ByName → Type 0
 Agree by_conn by_name = (conn : ℕ) (name : List ℕ) → holds by_conn conn name ≡ is_among conn (listed by_name name)
+
+-- No connection is twice under a name.
+abbrev pub EachOnce : ByName → Type 0
+EachOnce m = (name : List ℕ) → IsDistinct nat_eq (listed m name)
 
 -- ---- what a change leaves, old map first
 

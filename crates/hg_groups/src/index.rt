@@ -1,21 +1,24 @@
 //! One list of distinct pairs of a name and a connection, indexed both ways.
-ghost use Rattle.hg_groups.specs.Maps.{Agree};
+ghost use Rattle.std.proofs.Props.{props};
+ghost use Rattle.hg_groups.specs.Maps.{Agree, EachOnce};
 
 use crate::members::Members;
 use crate::names::Names;
 use hv_value::Text;
 use std::alloc::{AllocError, Global};
 
-/// Names and the connections under them. Both sides have the same pairs.
+/// Names and the connections under them. Both sides have the same pairs, and each once.
 #[derive(Drop)]
 pub struct Index {
     members: Members,
     names: Names,
     ghost agree: { Agree names.by_conn members.by_name },
+    ghost once: { EachOnce members.by_name } by { Prim.hlevel props },
 }
 
 impl Index {
-    ghost use Rattle.std.specs.Prelude.{◌≡◌, ℕ, List, [], not, IfOk, OnOk, OnErr};
+    ghost use Rattle.std.specs.Prelude.{◌≡◌, ℕ, List, [], not, IfOk, OnOk, OnErr, nat_eq};
+    ghost use Rattle.std.specs.List.{IsDistinct};
     ghost use Rattle.hd_server.specs.Registry.{Pair, has, members, with_pair, without_pair, without};
     ghost use Rattle.hg_groups.specs.Standing.{StandsIndex};
 
@@ -31,7 +34,8 @@ impl Index {
 
     /// The connections of a name, in order of joining, each once.
     pub(crate) fn of(&self, name: &Text) -> &[u64]
-        ensures { (pairs : List Pair) → StandsIndex self.now pairs → result.now ≡ members name.now pairs }
+        ensures listed { (pairs : List Pair) → StandsIndex self.now pairs → result.now ≡ members name.now pairs }
+        ensures once { IsDistinct nat_eq result.now }
     {
         self.members.of(name)
     }

@@ -1,5 +1,6 @@
 //! Groups and users: who joined what, in order of joining.
-ghost use Rattle.std.specs.Prelude.{◌≡◌, ℕ, not, IfOk, OnOk, OnErr};
+ghost use Rattle.std.specs.Prelude.{◌≡◌, ℕ, not, IfOk, OnOk, OnErr, nat_eq};
+ghost use Rattle.std.specs.List.{IsDistinct};
 ghost use Rattle.hd_server.specs.Registry.{Lists, nobody, has, members, added, removed, named, gone};
 ghost use Rattle.hg_groups.specs.Standing.{StandsRegistry};
 
@@ -67,14 +68,16 @@ impl Registry {
 
     /// The members of a group, in order of joining, each once.
     pub fn members(&self, alloc: Global, group: &Text) -> Result<Vec<u64>, AllocError>
-        ensures { IfOk result (λ v. (l : Lists) → StandsRegistry self.now l → v.items ≡ members group.now l.groups) }
+        ensures listed { IfOk result (λ v. (l : Lists) → StandsRegistry self.now l → v.items ≡ members group.now l.groups) }
+        ensures once { IfOk result (λ v. IsDistinct nat_eq v.items) }
     {
         Vec::from_slice(alloc, self.groups.of(group))
     }
 
     /// The connections of a user, in order of joining, each once.
     pub fn of_user(&self, alloc: Global, user: &Text) -> Result<Vec<u64>, AllocError>
-        ensures { IfOk result (λ v. (l : Lists) → StandsRegistry self.now l → v.items ≡ members user.now l.users) }
+        ensures listed { IfOk result (λ v. (l : Lists) → StandsRegistry self.now l → v.items ≡ members user.now l.users) }
+        ensures once { IfOk result (λ v. IsDistinct nat_eq v.items) }
     {
         Vec::from_slice(alloc, self.users.of(user))
     }

@@ -1,6 +1,6 @@
 use Rattle.std.proofs.Common.{refl}
 use Rattle.hd_server.specs.Registry.{without}
-use Rattle.hg_groups.proofs.IndexLemmas.{Agree-gone, Stands-same, Stands-without, Stands-gone}
+use Rattle.hg_groups.proofs.IndexLemmas.{EachOnce-gone, Agree-gone, Stands-same, Stands-without, Stands-gone}
 use Rattle.hg_groups.proofs.index.Index.gone.Goals as goal
 
 pub returns-in_default : goal.returns-in_default
@@ -13,6 +13,7 @@ pub invariant_of-self-2 : goal.invariant_of-self-2
 invariant_of-self-2 c = record {
   agree = Agree-gone c.args.self.now.names.by_conn c.forget.new.self.by_conn c.args.self.now.members.by_name c.leave_all.new.self.by_name c.args.conn
       c.args.self.now.agree c.forget.ensures.forgotten c.leave_all.ensures;
+  once = EachOnce-gone c.args.self.now.members.by_name c.leave_all.new.self.by_name c.args.conn c.args.self.now.once c.leave_all.ensures;
 }
 
 pub returns : goal.returns
