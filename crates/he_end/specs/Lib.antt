@@ -6,3 +6,4 @@ pub mod Calls
 pub mod EndLending
 pub mod Laws
 pub mod Words
+pub mod Spoken

@@ -20,6 +20,7 @@ ghost use Rattle.he_wire.specs.Spelling.{spelling};
 ghost use Rattle.he_wire.specs.Controls.{frame_of_control};
 ghost use Rattle.he_wire.specs.Gives.{Begins};
 ghost use Rattle.he_end.specs.Stands.{Stands, begun, limits_of, is_client};
+ghost use Rattle.he_end.specs.Spoken.{spoken_in};
 ghost use Rattle.he_end.specs.Calls.{OfEach, taken_at, Said, IsReading, Takes, Greets, Refuses, FailsAt, Gives, Fails, IsSpelled, Sends, RefusesToSend, Lends, AreDue};
 ghost use Rattle.he_end.specs.EndLending.{EndsAs};
 ghost use Rattle.he_end.specs.Says.{HasFit};
@@ -172,6 +173,7 @@ impl End {
         ensures ok { IfOk result (Sends self.old self.new message.now) }
         ensures refused { IfErr result (RefusesToSend self.old self.new message.now) }
         ensures limits { limits_of self.new ≡ limits_of self.old }
+        ensures codec { spoken_in self.new ≡ spoken_in self.old }
     {
         self.may_send()?;
         self.push(frame.share()?)
@@ -248,6 +250,7 @@ impl End {
         ensures value { OfEach self.now (λ wire c h. let k = in_frames wire c h in
             result ≡ (if of.is_shaken k || is_client c.side then Some (codec_of c k) else None)) }
         ensures own { IfSome result (λ codec. codec ≡ self.now.session.codec) }
+        ensures exact { result ≡ spoken_in self.now }
     {
         if self.session.agreed.is_some() || self.session.side == Side::Client {
             Some(self.session.codec)
@@ -500,6 +503,7 @@ impl End {
             Sends self.old self.new m number) }
         ensures refused { IfErr result (λ e. (m : Message) → IsSpelled self.old.session.codec m frame → RefusesToSend self.old self.new m e) }
         ensures limits { limits_of self.new ≡ limits_of self.old }
+        ensures codec { spoken_in self.new ≡ spoken_in self.old }
     {
         values_are_trees();
         image_is_its_image();

@@ -281,6 +281,7 @@ impl Session {
         ensures err { IfErr result (λ e. IsPushFault self.old.ring (length frame) e ×
             (self.new ≡ self.old)) }
         ensures limits { self.new.ring.limits ≡ self.old.ring.limits }
+        ensures others { self.new ≡ record self.old { ring = self.new.ring } }
     {
         buffer_is_within(&self.ring);
         match self.ring.push(frame) {

@@ -3,6 +3,7 @@
 ghost use Rattle.std.specs.Prelude.{◌≡◌, ◌≤◌, ℕ, suc, true, List, ◌∷◌, IfOk, IfErr, OnOk, OnErr};
 ghost use Rattle.hm_message.specs.Message.{Fits, is_sequenced};
 ghost use Rattle.he_end.specs.Calls.{IsSpelled};
+ghost use Rattle.he_end.specs.Spoken.{spoken_in};
 ghost use Rattle.he_end.specs.Stands.{limits_of};
 ghost use Rattle.hd_calls.specs.Numbers.{most_uploads};
 ghost use Rattle.hd_calls.specs.Hubs.{Invoked};
@@ -128,6 +129,7 @@ impl<H: Hub> Peer<H> {
             IsUnnotified t h c e)) }
         ensures kept { OnErr result (Stays (meaning H.begin_of H.step_of) self.old self.new) }
         ensures turns { self.new.stalled ≡ self.old.stalled }
+        ensures codec { spoken_in self.new.end ≡ spoken_in self.old.end }
     {
         tables_agree();
         notices_pass();
