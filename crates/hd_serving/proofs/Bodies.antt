@@ -1,11 +1,11 @@
 -- What a poll is answered has at most so many bytes.
 use Rattle.std.specs.Prelude.{All}
-use Rattle.std.proofs.Common.{refl, ◌≡◌, ◌≤◌, ◌+◌, ℕ, suc, List, [], ◌∷◌, ◌++◌, length, arith, length-append}
+use Rattle.std.proofs.Common.{◌≤◌, ◌+◌, ℕ, suc, List, [], ◌∷◌, length, arith, length-append}
 use Rattle.hd_delivery.specs.Numbers.{most_framing}
 use Rattle.hd_delivery.specs.Frames.{LinkFrame}
 use Rattle.hd_delivery.specs.Histories.{Step, Lent, Config, codec_of}
 use Rattle.hd_delivery.specs.Bytes.{Wire, spelling_of}
-use Rattle.hd_serving.specs.Numbers.{most_frame, most_polled, most_before_last}
+use Rattle.hd_serving.specs.Numbers.{most_frame, most_polled}
 use Rattle.hd_serving.specs.Serves.{LendsUpTo}
 use Rattle.hd_serving.specs.Laws.{BodiesAreBounded}
 

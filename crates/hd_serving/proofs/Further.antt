@@ -2,27 +2,24 @@
 use Rattle.std.proofs.Common.{refl, ap, subst, sym, ◌∙◌, ◌≡◌, ℕ, Bool, true, false, List, [], ◌∷◌, ◌++◌, Option, Some, None, append_assoc}
 use Rattle.std.specs.Prelude.{is_some, map, not, ◌&&◌, ◌||◌, ◌==◌, suc, unwrap_or, if◌then◌else◌}
 use Rattle.std.specs.List.{flat_map}
-use Rattle.hd_lanes.specs.declared.http.Request.{Request}
 use Rattle.hd_lanes.specs.declared.http.Reply.{Reply}
 use Rattle.hd_delivery.specs.declared.vocabulary.Reason.{Reason}
 use Rattle.hd_delivery.specs.Frames.{LinkFrame}
-use Rattle.hd_delivery.specs.Histories.{Step, Detached, Ticked, Silenced, Lent, present_link, is_silence}
-use Rattle.hd_delivery.specs.Bytes.{Does as Step_of}
-use Rattle.hd_calls.specs.Peers.{Move, Plain}
+use Rattle.hd_delivery.specs.Histories.{present_link, is_silence}
+use Rattle.hd_calls.specs.Peers.{Move}
 use Rattle.hw_door.specs.declared.heard.Event.{Event}
 use Rattle.hw_door.specs.declared.heard.Event.TheVariants as event
 use Rattle.hd_serving.specs.declared.vocabulary.Life.{Life}
 use Rattle.hd_serving.specs.declared.vocabulary.Life.TheVariants.{Polling}
-use Rattle.hd_serving.specs.declared.vocabulary.Said.TheVariants as say
 use Rattle.hd_serving.specs.Lives.{LetGo, Opened, made, is_promised, standing, socket_of, poll_of, overdue}
 use Rattle.hd_serving.specs.Texts.{token_of, negotiate_body}
 use Rattle.hd_serving.specs.Table.{Outcome, Refusal, NewToken, PlainSocket, TokenSocket, FirstPoll, NextPoll, LastPoll, Posting, Deletion, asks_keeper, outcome}
 use Rattle.hd_serving.specs.Machine.{Happening, Does, Goes, Rounds, settings_of, connections}
-use Rattle.hd_serving.specs.Doings.{Doing, Hears, Notes, Works, Says, Learns, Draws, notes, work, hears, was_refused, wants_shut, user_of, history, config_of, has_peer, is_up, is_granted}
-use Rattle.hd_serving.specs.Plans.{Setup, Occasion, Plan, onto, step, connecting, attaching, closing, dropping, letting_go, expiring, expiries, bare_reply, socket_reply, token_reply, shutting, replying, ending_poll, ending_held, learning, asks_lots, questions, standing_on, shutting_some, new_token, new_plain, request_plan, conn_on, poller_on, losing, losing_lane, named_conn, facts, plan}
-use Rattle.hd_serving.specs.Serves.{Feeds, FeedsOne, IsFed, moving, silenced, ticking, ticks, telling, telling_on, all_telling, IsTurn}
-use Rattle.hd_serving.specs.Laws.{GoesFurther, TurnsGoFurther}
-use Rattle.hd_serving.proofs.Telling.{Tells, AllTell, telling_tells}
+use Rattle.hd_serving.specs.Doings.{Doing, Hears, Notes, Works, Says, Learns, Draws, notes, work, hears, was_refused, wants_shut, history, config_of, has_peer, is_up, is_granted}
+use Rattle.hd_serving.specs.Plans.{Setup, Occasion, onto, connecting, attaching, closing, dropping, letting_go, expiring, expiries, bare_reply, socket_reply, token_reply, shutting, replying, ending_poll, ending_held, learning, asks_lots, questions, standing_on, shutting_some, request_plan, conn_on, poller_on, losing, losing_lane, named_conn, facts, plan}
+use Rattle.hd_serving.specs.Serves.{IsFed, silenced, ticking, ticks, telling, all_telling}
+use Rattle.hd_serving.specs.Laws.{TurnsGoFurther}
+use Rattle.hd_serving.proofs.Telling.{AllTell, telling_tells}
 
 -- ---- doings that hear nothing
 

@@ -1,13 +1,9 @@
 -- What more doings tell comes after what was told before; and what holds of every server.
-use Rattle.std.proofs.Common.{refl, ap, subst, sym, ◌∙◌, ◌≡◌, List, [], ◌∷◌, ◌++◌, Option, Some, None, append_assoc, append-nil}
+use Rattle.std.proofs.Common.{ap, subst, sym, ◌∙◌, ◌≡◌, List, [], ◌∷◌, ◌++◌, Some, append_assoc, append-nil}
 use Rattle.hd_calls.specs.Hubs.{Hub}
-use Rattle.hd_calls.specs.Peers.{Settings}
-use Rattle.hw_door.specs.declared.heard.Heard.{Heard}
-use Rattle.hd_serving.specs.Machine.{Happening, Connects, Does, Rounds, Carries, Goes, ArePeers}
-use Rattle.hd_serving.specs.Doings.{Doing, Hears, Learns, Draws, Notes, Works, Says, work, hears}
-use Rattle.hd_serving.specs.Plans.{Setup}
-use Rattle.hd_serving.specs.Serves.{Serves}
-use Rattle.hd_serving.specs.Laws.{TellsGrow, WhatIsToldGrows, TurnsGoFurther, IsServer, ServersArePeers, in_order}
+use Rattle.hd_serving.specs.Machine.{Carries, ArePeers}
+use Rattle.hd_serving.specs.Doings.{Hears, Learns, Draws, Works, Says, work, hears}
+use Rattle.hd_serving.specs.Laws.{WhatIsToldGrows, TurnsGoFurther, ServersArePeers}
 
 one_more : {A : Type 0} (x : A) (xs ys zs : List A) → xs ≡ ys ++ zs → xs ++ x ∷ [] ≡ ys ++ (zs ++ x ∷ [])
 one_more x xs ys zs e = ap (λ l. l ++ x ∷ []) e ∙ append_assoc ys zs (x ∷ [])

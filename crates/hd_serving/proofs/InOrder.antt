@@ -1,10 +1,10 @@
 -- In a round connections have their turns in the order of their numbers.
-use Rattle.std.proofs.Common.{refl, subst, sym, ◌≡◌, ◌≤◌, ℕ, Bool, true, false, List, [], ◌∷◌, ◌++◌, Option, Some, None}
+use Rattle.std.proofs.Common.{refl, subst, sym, ◌≡◌, ◌≤◌, ℕ, Bool, true, false, List, [], ◌∷◌, ◌++◌, Option, Some}
 use Rattle.std.specs.Prelude.{find, nat_le, ◌&&◌, is_some, if◌then◌else◌}
 use Rattle.std.proofs.lemmas.Bool.{and_parts, leb-true}
 use Rattle.hd_calls.specs.Peers.{Move, Calls, Refuses}
 use Rattle.hd_calls.specs.Rules.{settles}
-use Rattle.hd_serving.specs.Machine.{Happening, Does, Rounds, Owed, NothingOwed, OwesDeed, OwesCall, owed, last_turn, turn_at, next_turn, connections, MayFollow, GoesOn}
+use Rattle.hd_serving.specs.Machine.{Happening, Does, Rounds, Owed, NothingOwed, OwesDeed, OwesCall, owed, last_turn, turn_at, connections, MayFollow, GoesOn}
 use Rattle.hd_serving.specs.Laws.{ran, NeverRise, ConnectionsInOrder}
 
 module _ {A : Type 0} (p : A → Bool) where

@@ -1,5 +1,5 @@
 -- The pairs of a registry are distinct, so each member of a name is told a deed once.
-use Rattle.std.proofs.Common.{refl, ap, subst, sym, ◌≡◌, ℕ, Bool, true, false, cond, List, [], ◌∷◌, ◌||◌, filter, map, if◌then◌else◌, nat_eq, true≢false}
+use Rattle.std.proofs.Common.{refl, ap, subst, sym, ◌≡◌, ℕ, Bool, true, false, cond, List, [], ◌∷◌, ◌||◌, filter, map, nat_eq, true≢false}
 use Rattle.std.specs.Prelude.{Some}
 use Rattle.std.specs.List.{IsDistinct}
 use Rattle.hv_value.specs.Tree.{Tree}

@@ -1,6 +1,6 @@
 -- A first session, step by step. The histories are written out, the latest doing first.
-use Rattle.std.proofs.Common.{inl, inr, refl, subst, sym, ◌∙◌, ◌≡◌, ℕ, Bool, true, false, List, [], ◌∷◌, ◌++◌, Option, Some, None}
-use Rattle.std.specs.Prelude.{codes, ◌==◌, if◌then◌else◌}
+use Rattle.std.proofs.Common.{inl, inr, refl, subst, sym, ◌≡◌, ℕ, Bool, true, false, List, [], ◌∷◌, ◌++◌, Some, None}
+use Rattle.std.specs.Prelude.{codes, ◌==◌}
 use Rattle.std.proofs.lemmas.Bool.{leb-true, ltb-true, eqb-true}
 use Rattle.form_urlencoded.proofs.OnLiterals.{form_urlencoded_on_literals}
 use Rattle.hv_value.specs.Tree.{text}
@@ -10,7 +10,7 @@ use Rattle.hm_message.specs.declared.message.Message.{Message}
 use Rattle.hm_message.specs.declared.message.Message.TheVariants.{Invocation, Completion}
 use Rattle.hm_message.specs.declared.message.Ending.TheVariants.{Void}
 use Rattle.hd_delivery.specs.declared.vocabulary.Got.TheVariants.{Shaken}
-use Rattle.hd_delivery.specs.Frames.{LinkFrame, Response, Numbered}
+use Rattle.hd_delivery.specs.Frames.{Response, Numbered}
 use Rattle.hd_delivery.specs.Histories.{Attached, Took, Lent, Ticked}
 use Rattle.hd_delivery.specs.Bytes.{Bytes}
 use Rattle.hd_delivery.specs.Bytes.{Does as Step_of}

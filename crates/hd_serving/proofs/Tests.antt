@@ -1,6 +1,6 @@
 -- The tests of the hub machine are the rules of peers and of ends.
-use Rattle.std.proofs.Common.{refl, inl, inr, List, [], None, ◌≡◌, ◌≤◌, ◌<◌, ℕ, Bool, true, false, not, ◌&&◌, if◌then◌else◌, true≢false, sym, ◌∙◌, arith}
-use Rattle.std.specs.Prelude.{nat_lt, nat_le, length, sum_by, ◌+◌}
+use Rattle.std.proofs.Common.{refl, inl, inr, List, [], None, ◌≡◌, ◌≤◌, ◌<◌, ℕ, Bool, true, false, not, if◌then◌else◌, true≢false, sym, ◌∙◌, arith}
+use Rattle.std.specs.Prelude.{nat_lt, nat_le, ◌+◌}
 use Rattle.std.proofs.lemmas.Bool.{and_parts, leb-true, leb-false, ltb-true, ltb-false, not-true}
 use Rattle.hv_value.specs.Tree.{Tree}
 use Rattle.hm_message.specs.declared.message.Codec.{Codec}
@@ -9,15 +9,15 @@ use Rattle.hm_message.specs.declared.message.Message.{Message}
 use Rattle.hm_message.specs.declared.message.Message.TheVariants.{Invocation}
 use Rattle.hm_message.specs.Message.{Fits, content_depth}
 use Rattle.hm_message.specs.Laws.{ImageIsItsImage}
-use Rattle.hd_delivery.specs.Numbers.{most_messages, most_framing}
-use Rattle.hd_delivery.specs.Histories.{is_shaken, is_closed, sent_messages, held_messages}
+use Rattle.hd_delivery.specs.Numbers.{most_framing}
+use Rattle.hd_delivery.specs.Histories.{is_shaken}
 use Rattle.hd_delivery.specs.Worlds.{HasRoom, IsAsRead, CanBeSent}
 use Rattle.hd_delivery.specs.Bytes.{sizes_of}
 use Rattle.hd_calls.specs.Numbers.{most_depth}
 use Rattle.hd_calls.specs.Hubs.{message_of}
 use Rattle.hd_calls.specs.Peers.{Move, Settings, steps, codec, is_shut}
 use Rattle.hd_calls.specs.Rules.{MayTurn}
-use Rattle.hd_serving.specs.Machine.{Fate, Got, TooSlow, PassedOver, has_room, has_number, may_turn, notice, fate_of}
+use Rattle.hd_serving.specs.Machine.{Got, TooSlow, PassedOver, has_room, has_number, may_turn, notice}
 use Rattle.hd_serving.specs.Laws.{TurnsAreTested, IsRightFate, FatesAreRefusals}
 
 le-test : (m n : ℕ) → m ≤ n → nat_le m n ≡ true

@@ -1,9 +1,9 @@
 -- Two connections have two tokens: the letters tell the bytes, and the bytes the number.
-use Rattle.std.proofs.Common.{refl, ap, sym, ◌∙◌, ◌≡◌, ◌<◌, ◌≤◌, ℕ, zero, suc, ◌+◌, ◌-◌, ◌*◌, ◌/◌, ◌%◌, Bool, true, false, not, ◌||◌, List, [], ◌∷◌, ◌++◌, length, arith, if◌then◌else◌}
+use Rattle.std.proofs.Common.{refl, ap, sym, ◌∙◌, ◌≡◌, ◌<◌, ℕ, zero, suc, ◌+◌, ◌-◌, ◌*◌, ◌/◌, ◌%◌, Bool, true, false, not, List, [], ◌∷◌, ◌++◌, length, arith, if◌then◌else◌}
 use Rattle.std.specs.Prelude.{nat_lt, ◌==◌, drop, ◌^◌}
 use Rattle.std.proofs.lemmas.Bool.{or_parts, eqb-true, eq-eqb}
 use Rattle.hd_calls.specs.Rules.{any_below}
-use Rattle.hd_serving.specs.Texts.{letter, letters, eight_bytes, token_of}
+use Rattle.hd_serving.specs.Texts.{letter, letters, eight_bytes}
 use Rattle.hd_serving.specs.Laws.{TokensDiffer}
 
 -- ---- letters

@@ -1,6 +1,6 @@
 -- What a server did, as one list, the latest first, and what is read off it: its connections' notes, the happenings of the hub machine,
 -- and with them each peer's moves and the history of its end; what was heard, asked, drawn and said.
-use Rattle.std.specs.Prelude.{ℕ, ◌+◌, Bool, true, false, not, ◌&&◌, ◌||◌, ◌==◌, List, [], ◌∷◌, ◌++◌, Option, Some, None, is_some, if◌then◌else◌}
+use Rattle.std.specs.Prelude.{ℕ, Bool, false, ◌&&◌, ◌||◌, ◌==◌, List, [], ◌∷◌, ◌++◌, Option, Some, None, if◌then◌else◌}
 use Rattle.hm_message.specs.declared.message.Codec.TheVariants.{Json}
 use Rattle.hd_delivery.specs.declared.vocabulary.Side.TheVariants.{Server}
 use Rattle.hd_delivery.specs.Histories.{Step, Config, is_closed, is_kept}

@@ -1,6 +1,6 @@
 -- Notes of some connections, for the worked rows of lives and tokens.
-use Rattle.std.specs.Prelude.{ℕ, true, List, [], ◌∷◌, ◌++◌, codes}
-use Rattle.hd_serving.specs.Lives.{Note, Negotiated, Opened, Socketed, Polled, Answered, LaneLost, Ended, Expired}
+use Rattle.std.specs.Prelude.{ℕ, true, List, [], ◌∷◌, codes}
+use Rattle.hd_serving.specs.Lives.{Note, Negotiated, Opened, Socketed, Polled, Answered}
 
 abbrev pub sixteen_zeros : List ℕ
 sixteen_zeros = 0 ∷ 0 ∷ 0 ∷ 0 ∷ 0 ∷ 0 ∷ 0 ∷ 0 ∷ 0 ∷ 0 ∷ 0 ∷ 0 ∷ 0 ∷ 0 ∷ 0 ∷ 0 ∷ []

@@ -1,7 +1,7 @@
 -- The hub machine: what the peers of a server do, round by round, and the deeds that their jobs hand up. The latest happening comes first.
 -- This project's own rules: in a round each due job has one turn, connection by connection in the order of their numbers; a deed is
 -- carried out as it is handed up; a member of a broadcast that has no room is closed as too slow.
-use Rattle.std.specs.Prelude.{◌≡◌, ℕ, zero, suc, ◌+◌, ◌<◌, max, Bool, true, false, not, ◌&&◌, ◌||◌, ◌==◌, nat_lt, nat_le, List, [], ◌∷◌, ◌++◌, map, filter, find, length, sum_by, Option, Some, None, is_some, if◌then◌else◌}
+use Rattle.std.specs.Prelude.{◌≡◌, ℕ, ◌+◌, max, Bool, false, not, ◌&&◌, ◌||◌, ◌==◌, nat_lt, nat_le, List, [], ◌∷◌, ◌++◌, map, filter, find, length, sum_by, Option, Some, None, is_some, if◌then◌else◌}
 use Rattle.hv_value.specs.Tree.{Tree, text}
 use Rattle.hv_value.specs.declared.value.Value.TheVariants as value
 use Rattle.hm_message.specs.declared.message.Codec.{Codec}
@@ -9,7 +9,7 @@ use Rattle.hm_message.specs.declared.message.Message.{Message}
 use Rattle.hm_message.specs.Message.{content_depth}
 use Rattle.hd_delivery.specs.declared.vocabulary.Reason.TheVariants.{Slow}
 use Rattle.hd_delivery.specs.Numbers.{most_messages, most_framing}
-use Rattle.hd_delivery.specs.Histories.{Closed, sent_messages, held_messages, is_shaken, codec_of}
+use Rattle.hd_delivery.specs.Histories.{Closed, sent_messages, held_messages, is_shaken}
 use Rattle.hd_delivery.specs.Bytes.{Does as Step_of, sizes_of}
 use Rattle.hd_calls.specs.declared.vocabulary.Deed.{Deed}
 use Rattle.hd_calls.specs.declared.vocabulary.Deed.TheVariants.{Join, Leave, Post, Tell, Log, History}

@@ -1,6 +1,6 @@
 -- What a server does about an event that it hears: what it notes, which connections begin or end, which bytes go to which of them, and
 -- what it replies at once.
-use Rattle.std.specs.Prelude.{◌≡◌, ℕ, suc, Bool, true, false, not, ◌&&◌, ◌||◌, ◌==◌, List, [], ◌∷◌, ◌++◌, find, Option, Some, None, is_some, option_map, unwrap_or, if◌then◌else◌}
+use Rattle.std.specs.Prelude.{ℕ, suc, Bool, true, false, not, ◌&&◌, ◌||◌, ◌==◌, List, [], ◌∷◌, ◌++◌, find, Option, Some, None, is_some, option_map, unwrap_or, if◌then◌else◌}
 use Rattle.std.specs.List.{flat_map}
 use Rattle.std.specs.Fmt.{decimal}
 use Rattle.hd_lanes.specs.declared.http.Request.{Request}
@@ -26,7 +26,7 @@ use Rattle.hd_serving.specs.Lives.{Note, Negotiated, Opened, Socketed, Polled, A
 use Rattle.hd_serving.specs.Texts.{token_of, negotiate_body}
 use Rattle.hd_serving.specs.Table.{Caller, Facts, Outcome, Refusal, NewToken, PlainSocket, TokenSocket, FirstPoll, NextPoll, LastPoll, Posting, Deletion, id_in, asks_keeper, caller_without, caller_told, outcome}
 use Rattle.hd_serving.specs.Machine.{Connects, Does, Goes, settings_of, connections}
-use Rattle.hd_serving.specs.Doings.{Doing, Hears, Learns, Draws, Notes, Works, Says, notes, work, wants_shut, was_refused, user_of, history, config_for, has_peer, is_up, is_granted}
+use Rattle.hd_serving.specs.Doings.{Doing, Learns, Draws, Notes, Works, Says, notes, work, wants_shut, was_refused, user_of, history, config_for, has_peer, is_up, is_granted}
 
 -- how a server is begun: its base, how frames are written and read, and the limits of each end
 pub record Setup : Type 0 where

@@ -22,7 +22,7 @@ use Rattle.hd_serving.specs.Numbers.{held_for, most_before_last}
 use Rattle.hd_serving.specs.Lives.{Ended, Answered, socket_of, poll_of, is_polling, ended_at}
 use Rattle.hd_serving.specs.Machine.{Happening, Does, Rounds, settings_of, connections, ArePeers, IsRound}
 use Rattle.hd_serving.specs.Doings.{Doing, Hears, Notes, Works, Says, notes, work, moment, is_upgraded, awaits_reply, peer, history, config_of, has_closed}
-use Rattle.hd_serving.specs.Plans.{Setup, Plan, onto, step, letting_go, losing, bare_reply, frames_reply, shutting, replying, expiries, questions, plan}
+use Rattle.hd_serving.specs.Plans.{Setup, onto, step, letting_go, losing, bare_reply, frames_reply, shutting, replying, expiries, questions, plan}
 
 -- ---- bytes that come
 

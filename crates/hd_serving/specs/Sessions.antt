@@ -9,11 +9,8 @@ use Rattle.hm_message.specs.declared.message.Ending.TheVariants.{Void, Result, E
 use Rattle.hm_message.specs.declared.message.Message.{Message}
 use Rattle.hm_message.specs.declared.message.Message.TheVariants.{Invocation, Completion}
 use Rattle.hd_delivery.specs.Frames.{LinkFrame, Request, Response, Refusal, Numbered, Ack, Sequence, Ping, Close, Strange}
-use Rattle.hd_delivery.specs.Worlds.{Limits}
 use Rattle.hd_delivery.specs.Bytes.{Reading, Waits, Reads, Wire}
-use Rattle.hd_lanes.specs.declared.http.Method.{Method}
 use Rattle.hd_lanes.specs.declared.http.Method.TheVariants.{Get, Post, Delete}
-use Rattle.hd_lanes.specs.declared.http.Request as lanes
 use Rattle.hd_server.specs.declared.vocabulary.Asked.{Asked}
 use Rattle.hd_server.specs.declared.vocabulary.Asked.TheVariants as keeper
 use Rattle.hd_server.specs.Registry.{members}

@@ -1,5 +1,5 @@
 -- Requests and lives for the worked rows of the table.
-use Rattle.std.specs.Prelude.{ℕ, Bool, false, List, [], ◌∷◌, ◌++◌, map, codes, Option, Some, None}
+use Rattle.std.specs.Prelude.{ℕ, Bool, false, List, [], ◌∷◌, map, codes, Option, Some, None}
 use Rattle.hd_lanes.specs.declared.http.Method.{Method}
 use Rattle.hd_lanes.specs.declared.http.Method.TheVariants.{Post}
 use Rattle.hd_lanes.specs.declared.http.Request.{Request}

@@ -10,9 +10,10 @@
 //! - `Serving`: how long it lets its door wait, and what it gives it to say (`ServesOn`).
 //!
 //! Proved (`Laws`): each connection of a server does what a peer can do by itself; after an event nothing is due on a socket or a held
-//! poll; at most 10,000 connections live; each request has one reply; a deed is told to each member once, by what its end can send; a
-//! socket that names a token is answered by its life; a moment that has come comes once; the body of a poll is bounded if its frames are;
-//! an idle tick changes nothing that is said or read then. The rows of the table and whole sessions are computed.
+//! poll; at most 10,000 connections live; each request has at most one reply, and none waits for one but held polls; a deed is told to
+//! each member once, by what its end can send; a socket that names a token is answered by its life; a moment that has come comes once;
+//! the body of a poll is bounded if its frames are; an idle tick changes nothing that is said or read then. The rows of the table and
+//! whole sessions are computed.
 //!
 //! The crate doesn't know how a request is spelled, nor how a server keeps any of this.
 #![tactic(auto)]
