@@ -131,7 +131,7 @@ as_they_were_later new now own to i d others w k past within =
 
 -- ---- which aren't among them
 
-not_at : (k : ℕ) (to : List ℕ) (i : ℕ) → i < length to → is_listed k to ≡ false → k ≡ get_or to i 0 → ⊥
+pub not_at : (k : ℕ) (to : List ℕ) (i : ℕ) → i < length to → is_listed k to ≡ false → k ≡ get_or to i 0 → ⊥
 not_at k [] i l f e = absurd (omega (arith, l))
 not_at k (c ∷ cs) zero l f e = absurd (let is : (k == c) ≡ true = eq-eqb k c e in let is_not = (or_parts (k == c) (is_listed k cs) f).0 in cc)
 not_at k (c ∷ cs) (suc i) l f e = not_at k cs i (omega (arith, l)) (or_parts (k == c) (is_listed k cs) f).1 e

@@ -1,0 +1,115 @@
+-- Calls of one connection's end: its peer changes in the machine, and one whose end is closed leaves everything.
+use Rattle.std.proofs.Common.{◌≡◌, ℕ, ◌==◌, Bool, true, false, List, ◌++◌, Some, None, is_some, refl, sym, ap, subst, ◌∙◌}
+use Rattle.std.proofs.lemmas.Bool.{eqb-true}
+use Rattle.std.specs.Prelude.{if◌then◌else◌, nat_lt}
+use Rattle.std.proofs.Common.{Less, Equal, Greater}
+use Rattle.std.specs.Ordering.{is_eq, nat_cmp}
+use Rattle.std.specs.BTreeMap.{BTreeMap, get, is_at, WritesThrough}
+use Rattle.hd_calls.specs.Hubs.{Hub}
+use Rattle.hd_calls.specs.Peers.{Move, Settings, is_shut}
+use Rattle.hg_groups.specs.Standing.{StandsRegistry}
+use Rattle.hd_serving.specs.Machine.{Happening, moves, registry}
+use Rattle.hp_peer.specs.declared.peer.Peer.{Peer}
+use Rattle.hp_peer.specs.Stands.{Stands}
+use Rattle.hub_server.specs.declared.machine.Machine.{Machine}
+use Rattle.hub_server.specs.Machines.{IsAsItWas, IsPeerOf, StandsMachine, peer_at, settings_there}
+use Rattle.hub_server.specs.Calls.{ClosesOut, doing}
+use Rattle.hub_server.proofs.Doing.{PutsPeer, stands_closing, stands_on}
+
+-- ---- a peer that is lent
+
+-- the order of numbers finds no other
+pub apart : (c k : ℕ) → (c == k) ≡ false → is_at (nat_cmp c) k ≡ false
+apart c k e = ap (λ b. is_eq (if nat_lt c k then Less else (if b then Equal else Greater))) e ∙ either (nat_lt c k)
+  where
+    either : (b : Bool) → is_eq (if b then Less else Greater) ≡ false
+    either true = refl
+    either false = refl
+
+-- what was lent was written
+pub written : {H Job : Type 0} (old new : Machine H Job) (c : ℕ) (p q : Peer H Job) → Some p ≡ peer_at old c
+    → WritesThrough nat_cmp (nat_cmp c) old.peers q new.peers → PutsPeer {H = H} old new c q
+written old new c p q at through =
+    let updates = through.3 (sym (ap is_some at)) in
+    record { at = updates.1; others = λ k e. updates.2 k (apart c k e) }
+
+-- ---- one that is there
+
+-- its peer stands for what it did
+pub stood : {H Job : Type 0} (hub : Hub Job) (m : Machine H Job) (w : List Happening) (c : ℕ) (t : Settings) (p : Peer H Job)
+    → StandsMachine {H = H} hub m w → settings_there c w ≡ Some t → Some p ≡ peer_at m c → Stands {H = H} hub t p (moves c w)
+stood {H} {Job} hub m w c t p s there at =
+    subst (λ o. IsPeerOf {H = H} hub o (moves c w) (Some p)) there (subst (λ q. IsPeerOf {H = H} hub (settings_there c w) (moves c w) q) (sym at) (s.at c))
+
+-- it has a peer
+pub unstood : {H Job : Type 0} (hub : Hub Job) (m : Machine H Job) (w : List Happening) (c : ℕ) (t : Settings)
+    → StandsMachine {H = H} hub m w → settings_there c w ≡ Some t → None ≡ peer_at m c → ⊥
+unstood {H} {Job} hub m w c t s there at =
+    subst (λ o. IsPeerOf {H = H} hub o (moves c w) None) there (subst (λ q. IsPeerOf {H = H} hub (settings_there c w) (moves c w) q) (sym at) (s.at c))
+
+-- ---- a call of its end
+
+module _ {H Job : Type 0} (hub : Hub Job) (old : Machine H Job) (w : List Happening) (c : ℕ) (t : Settings) (was p : Peer H Job) (ms : List Move)
+    (s : StandsMachine {H = H} hub old w) (there : settings_there c w ≡ Some t) (at : Some was ≡ peer_at old c)
+    (ps : BTreeMap ℕ (Peer H Job)) (through : WritesThrough nat_cmp (nat_cmp c) old.peers p ps)
+    (does : Stands {H = H} hub t was (moves c w) → Stands {H = H} hub t p (ms ++ moves c w)) where
+  now : Stands {H = H} hub t p (ms ++ moves c w)
+  now = does (stood {H = H} {Job = Job} hub old w c t was s there at)
+
+  -- it left everything if its end is closed now, and only then
+  pub closes_out : (mid new : Machine H Job) → mid ≡ record { peers = ps; registry = old.registry } → ClosesOut {H = H} hub mid new c
+      → StandsMachine {H = H} hub new (doing c ms w)
+  closes_out mid new is out =
+      let wrote = subst (λ m. WritesThrough nat_cmp (nat_cmp c) old.peers p m) (sym (ap (λ m. m.peers) is)) through in
+      let puts = written {H = H} {Job = Job} old mid c was p at wrote in
+      let kept : mid.registry ≡ old.registry = ap (λ m. m.registry) is in
+      stands_closing {H = H} {Job = Job} hub old new w c t p ms s there
+      (record {
+        at = ap (λ m. get nat_cmp m c) out.peers ∙ puts.at;
+        others = λ k e. ap (λ m. get nat_cmp m k) out.peers ∙ puts.others k e;
+      })
+      now
+      (λ e. out.unshut p t (ms ++ moves c w) puts.at now e ∙ kept)
+      (λ e l r. out.shut p t (ms ++ moves c w) puts.at now e l (subst (λ x. StandsRegistry x l) (sym kept) r))
+
+  -- it is as closed as it was
+  pub goes_on : is_shut t (ms ++ moves c w) ≡ is_shut t (moves c w) → StandsMachine {H = H} hub (record old { peers = ps }) (doing c ms w)
+  goes_on same =
+      stands_on {H = H} {Job = Job} hub old (record old { peers = ps }) w c t p ms s there
+      (written {H = H} {Job = Job} old (record old { peers = ps }) c was p at through)
+      now same refl
+
+-- ---- a call that changes nothing
+
+-- the peers and the registry are what they were
+pub unchanged : {H Job : Type 0} (hub : Hub Job) (old new : Machine H Job) → ((c : ℕ) → peer_at new c ≡ peer_at old c) → new.registry ≡ old.registry
+    → IsAsItWas {H = H} hub old new
+unchanged {H} hub old new peers kept = record {
+  peers = peers;
+  registry = kept;
+  stands = λ w s. record {
+    at = λ c. subst (λ p. IsPeerOf {H = H} hub (settings_there c w) (moves c w) p) (sym (peers c)) (s.at c);
+    registry = subst (λ r. StandsRegistry r (registry w)) (sym kept) s.registry;
+    peers = s.peers;
+    strangers = s.strangers;
+    from_one = s.from_one;
+  };
+}
+
+-- the peer that was lent is what it was
+pub written_same : {H Job : Type 0} (hub : Hub Job) (old : Machine H Job) (c : ℕ) (was p : Peer H Job) (ps : BTreeMap ℕ (Peer H Job)) → Some was ≡ peer_at old c
+    → WritesThrough nat_cmp (nat_cmp c) old.peers p ps → p ≡ was → IsAsItWas {H = H} hub old (record old { peers = ps })
+written_same {H} {Job} hub old c was p ps at through same =
+    unchanged {H = H} {Job = Job} hub old (record old { peers = ps }) (λ k. go k (c == k) refl) refl
+  where
+    puts : PutsPeer {H = H} old (record old { peers = ps }) c p
+    puts = written {H = H} {Job = Job} old (record old { peers = ps }) c was p at through
+
+    go : (k : ℕ) (b : Bool) → (c == k) ≡ b → get nat_cmp ps k ≡ peer_at old k
+    go k true e = subst (λ n. get nat_cmp ps n ≡ peer_at old n) (eqb-true c k e) (puts.at ∙ ap Some same ∙ at)
+    go k false e = puts.others k e
+
+-- no peer was lent
+pub unlent : {H Job : Type 0} (hub : Hub Job) (old : Machine H Job) (ps : BTreeMap ℕ (Peer H Job)) → ps ≡ old.peers
+    → IsAsItWas {H = H} hub old (record old { peers = ps })
+unlent {H} {Job} hub old ps e = unchanged {H = H} {Job = Job} hub old (record old { peers = ps }) (λ c. ap (λ m. get nat_cmp m c) e) refl

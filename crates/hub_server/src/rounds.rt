@@ -1,0 +1,148 @@
+//! Rounds: each job that is due has one turn, connection by connection in the order of their numbers, and what a job hands up is carried out
+//! before the next turn.
+
+ghost use Rattle.std.specs.Prelude.{◌≡◌, ◌==◌, ◌<◌, ℕ, false, List, ◌∷◌, Some, None, IfOk, OnOk, is_some, not};
+ghost use Rattle.std.specs.Ordering.{nat_cmp};
+ghost use Rattle.hd_serving.specs.Machine.{first_turn, Happening, Rounds};
+ghost use Rattle.hj_jobs.specs.Meaning.{meaning};
+ghost use Rattle.hub_server.specs.Machines.{StandsMachine, peer_at};
+ghost use Rattle.hub_server.specs.Outside.{outside};
+ghost use Rattle.hub_server.specs.Rounds.{AreNumbers, HasBegun, HasRound, HasTurned, InRound, IsCountOfJobs, Steps as StepsTo};
+
+use crate::machine::Machine;
+use hd_calls::Deed;
+use hd_serving::turns_are_tested;
+use he_end::Steps;
+use hj_jobs::Hub;
+use hk_keeper::Keeper;
+use std::alloc::{AllocError, Global};
+use std::sync::ledger::Ledger;
+
+impl<H: Hub> Machine<H> {
+    /// A round: each job that is due has one turn, connection by connection in the order of their numbers, and what it hands up is carried out
+    /// before the next. A message to many is spelled in `steps`, once for each codec among its members.
+    ///
+    /// A fault of the keeper is what its job is told. Out of memory the round is halfway, and nothing more is said of the machine.
+    pub fn round<K: Keeper, L: Ledger>(
+        &mut self,
+        alloc: Global,
+        hub: &H,
+        keeper: &mut K,
+        steps: &mut Steps<L>,
+        now: u64,
+    ) -> Result<(), AllocError>
+        ensures { OnOk result ((w : List Happening) → StandsMachine (meaning H.begin_of H.step_of) self.old w → HasRound (meaning H.begin_of H.step_of) self.new
+            (outside (K.holds keeper.old) (K.answers keeper.old) (K.faults keeper.old) steps.old)
+            (outside (K.holds keeper.new) (K.answers keeper.new) (K.faults keeper.new) steps.new) now w) }
+    {
+        hd_server::answers_join();
+        let conns = self.numbers(alloc)?;
+        self.begin_rounds(&conns);
+        for &conn in &conns {
+            self.turns(alloc, hub, keeper, steps, conn, now)?;
+        }
+        Ok(())
+    }
+
+    /// Whether a round that begins now would give no job a turn.
+    pub fn idle(&self) -> bool
+        ensures { (w : List Happening) (now : ℕ) → StandsMachine (meaning H.begin_of H.step_of) self.now w → result ≡ not (is_some (first_turn now w)) }
+    {
+        turns_are_tested();
+        for (_, peer) in self.peers.iter() {
+            if peer.due() {
+                return false;
+            }
+        }
+        true
+    }
+
+    /// The connections that are there, in order.
+    fn numbers(&self, alloc: Global) -> Result<Vec<u64>, AllocError>
+        ensures { IfOk result (λ conns. AreNumbers self.now conns.items) }
+    {
+        let mut conns = Vec::with_capacity(alloc, self.peers.len())?;
+        for &conn in self.peers.keys() {
+            conns.push(conn)?;
+        }
+        Ok(conns)
+    }
+
+    /// A round begins at each of these, which are all.
+    fn begin_rounds(&mut self, conns: &[u64])
+        ensures { (w : List Happening) (now : ℕ) → AreNumbers self.old conns.now → StandsMachine (meaning H.begin_of H.step_of) self.old w →
+            StandsMachine (meaning H.begin_of H.step_of) self.new (Rounds now ∷ w) }
+    {
+        for &conn in conns {
+            self.begin_round_at(conn);
+        }
+    }
+
+    /// A round begins at the connection, if it is there.
+    fn begin_round_at(&mut self, conn: u64)
+        ensures begun { HasBegun (meaning H.begin_of H.step_of) (peer_at self.old conn) (peer_at self.new conn) }
+        ensures others { (k : ℕ) → (conn == k) ≡ false → peer_at self.new k ≡ peer_at self.old k }
+        ensures registry { self.new.registry ≡ self.old.registry }
+    {
+        if let Some(peer) = self.peers.get_mut(&conn) {
+            peer.begin_round();
+        }
+    }
+
+    /// The turns of one connection's jobs.
+    fn turns<K: Keeper, L: Ledger>(
+        &mut self,
+        alloc: Global,
+        hub: &H,
+        keeper: &mut K,
+        steps: &mut Steps<L>,
+        conn: u64,
+        now: u64,
+    ) -> Result<(), AllocError>
+        ensures { OnOk result ((w r : List Happening) → StandsMachine (meaning H.begin_of H.step_of) self.old r → InRound now w r conn →
+            HasTurned (meaning H.begin_of H.step_of) self.new
+            (outside (K.holds keeper.old) (K.answers keeper.old) (K.faults keeper.old) steps.old)
+            (outside (K.holds keeper.new) (K.answers keeper.new) (K.faults keeper.new) steps.new) now w r conn) }
+    {
+        // Each deed takes the round past one job more, so after as many deeds as there are jobs none is left.
+        hd_server::answers_join();
+        let jobs = self.jobs(conn);
+        for _deed in 0..jobs {
+            let Some((job, deed)) = self.step_job(alloc, hub, conn, now)? else {
+                return Ok(());
+            };
+            self.carry(alloc, keeper, steps, conn, job, deed)?;
+        }
+        Ok(())
+    }
+
+    /// How many calls have begun a job at this connection.
+    fn jobs(&self, conn: u64) -> u64
+        ensures { (r : List Happening) → StandsMachine (meaning H.begin_of H.step_of) self.now r → IsCountOfJobs conn r result }
+    {
+        match self.peers.get(&conn) {
+            Some(peer) => peer.begun(),
+            None => 0,
+        }
+    }
+
+    /// Jobs of a connection have turns, until one hands up a deed, which is told with the job's number.
+    fn step_job(
+        &mut self,
+        alloc: Global,
+        hub: &H,
+        conn: u64,
+        now: u64,
+    ) -> Result<Option<(u64, Deed)>, AllocError>
+        ensures { IfOk result (λ found. (w r : List Happening) → StandsMachine (meaning H.begin_of H.step_of) self.old r → InRound now w r conn →
+            StepsTo (meaning H.begin_of H.step_of) self.new now w r conn found) }
+    {
+        turns_are_tested();
+        let Some(peer) = self.peers.get_mut(&conn) else {
+            return Ok(None);
+        };
+        let found = peer.step_job(alloc, hub, now)?;
+        self.close_out(conn);
+        Ok(found)
+    }
+}
