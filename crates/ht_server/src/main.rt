@@ -12,10 +12,13 @@
 //!                                    spellings as that takes at most. CONNS have a comma between two, and are none if they are `-`
 //! got CONN                           its codec, how many more messages it has room for, and the digits of all bytes that it got
 //! ```
+//!
+//! The lines of a machine are in `rooms`.
 #![tactic(auto)]
 
 mod notices;
 mod room;
+mod rooms;
 mod script;
 mod sending;
 mod stop;
@@ -32,7 +35,7 @@ const NO_INPUT: u8 = 3;
 /// Reads the script, and prints the answers.
 fn run(rt: &(impl Input + Print + AllocGlobal)) -> io::Result<()> {
     let alloc = rt.alloc();
-    let mut bench = Bench::start(alloc);
+    let mut bench = Bench::start(alloc)?;
     for line in BufReader::new(alloc, rt.reader())?.lines(alloc) {
         let line = line?;
         let answer = bench.carry_out(&line)?;

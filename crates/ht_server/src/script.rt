@@ -2,25 +2,28 @@
 
 use crate::notices::notice;
 use crate::room::Room;
+use crate::rooms::Rooms;
 use crate::sending::send;
 use crate::stop::Stop;
 use crate::words::{codec, conns, first_word, number};
 use std::alloc::{AllocError, Global};
 
-/// A room.
+/// A room, and a machine.
 #[derive(Drop)]
 pub struct Bench {
     alloc: Global,
     room: Room,
+    rooms: Rooms,
 }
 
 impl Bench {
-    /// A room without members.
-    pub fn start(alloc: Global) -> Bench {
-        Bench {
+    /// A room without members, and a machine without connections.
+    pub fn start(alloc: Global) -> Result<Bench, AllocError> {
+        Ok(Bench {
             alloc,
             room: Room::start(alloc),
-        }
+            rooms: Rooms::start(alloc, 1, Vec::new(alloc))?,
+        })
     }
 
     /// Carries out the action of a line, and answers what comes of it.
@@ -40,7 +43,7 @@ impl Bench {
             "member" => self.enter(rest),
             "spread" => self.spread(rest),
             "got" => self.got(rest),
-            _ => Err(Stop::Refused),
+            verb => self.rooms.act(verb, rest),
         }
     }
 

@@ -41,6 +41,25 @@ pub fn conns(alloc: Global, word: &str) -> Result<Vec<u64>, Stop>
     Ok(conns)
 }
 
+/// Numbers with a comma between two, or none for `-`.
+pub fn numbers(alloc: Global, word: &str) -> Result<Vec<u64>, Stop> {
+    let mut numbers = Vec::new(alloc);
+    if word == "-" {
+        return Ok(numbers);
+    }
+    for part in word.split(',') {
+        numbers.push(number(part)?)?;
+    }
+    Ok(numbers)
+}
+
+/// The bytes of hexadecimal digits.
+pub fn bytes(alloc: Global, digits: &str) -> Result<Vec<u8>, Stop> {
+    hex::decode(alloc, digits.as_bytes())
+        .ok()
+        .ok_or(Stop::Refused)
+}
+
 /// One more, which is new.
 fn add(conns: &mut Vec<u64>, conn: u64) -> Result<(), Stop>
     requires { IsDistinct nat_eq conns.old.items }
