@@ -302,6 +302,20 @@ impl End {
         self.session.ring.has_room(size)
     }
 
+    /// Whether it stands on a link. A closed end may.
+    pub fn is_attached(&self) -> bool
+        ensures { OfEach self.now (λ wire c h. result ≡ is_some (present_link (in_frames wire c h))) }
+    {
+        self.session.link.is_some()
+    }
+
+    /// Whether the connection is kept when its link is lost.
+    pub fn is_kept(&self) -> bool
+        ensures { OfEach self.now (λ wire c h. result ≡ is_kept c (in_frames wire c h)) }
+    {
+        self.session.is_kept()
+    }
+
     /// What the end may hold and read.
     pub fn limits(&self) -> Limits
         ensures { result ≡ limits_of self.now }
