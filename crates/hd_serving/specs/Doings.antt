@@ -78,10 +78,11 @@ wants_shut lane [] = false
 wants_shut lane (Hears now (event.Request l r) ∷ h) = if lane == l then r.shut else wants_shut lane h
 wants_shut lane (_ ∷ h) = wants_shut lane h
 
--- the door refused what came on the lane, and has shut it
+-- the door refused what came on the lane, and has shut it. A request that comes under its number afterwards comes on a new lane
 abbrev pub was_refused : ℕ → List Doing → Bool
 was_refused lane [] = false
 was_refused lane (Hears now (event.Refused l status) ∷ h) = (lane == l) || was_refused lane h
+was_refused lane (Hears now (event.Request l r) ∷ h) = if lane == l then false else was_refused lane h
 was_refused lane (_ ∷ h) = was_refused lane h
 
 -- since the lane was lost last, 101 was said there

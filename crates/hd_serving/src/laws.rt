@@ -3,9 +3,12 @@
 ghost use Rattle.std.specs.Prelude.{◌≡◌, ◌+◌};
 ghost use Rattle.hd_delivery.specs.Numbers.{most_framing};
 ghost use Rattle.hd_serving.specs.Laws.{BodiesAreBounded, ConnectionsInOrder, EachMemberOnce, EachRequestIsAnswered, FatesAreRefusals, FewLive, IdleTicksAreUnseen, LivesAreSettled, MomentsComeOnce, NothingIsLeft, ServedIsServes, ServersArePeers, ServersHaveFew, ServersNoteInOrder, SocketsByLife, TokensDiffer, TurnsAreTested, TurnsGoFurther, WhatIsToldGrows};
-ghost use Rattle.hd_serving.specs.Numbers.{most_before_last, most_connections, most_frame, most_live, most_polled, most_wait, lives_for, held_for};
+ghost use Rattle.hd_serving.specs.Numbers.{most_before_last, most_connections, most_frame, most_held, most_held_bytes, most_live, most_polled, most_wait, lives_for, held_for};
 
-use crate::vocabulary::{HELD_FOR, LIVES_FOR, MOST_CONNECTIONS, MOST_LIVE, MOST_POLLED, MOST_WAIT};
+use crate::vocabulary::{
+    HELD_FOR, LIVES_FOR, MOST_BEFORE_LAST, MOST_CONNECTIONS, MOST_FRAME, MOST_HELD,
+    MOST_HELD_BYTES, MOST_LIVE, MOST_POLLED, MOST_WAIT,
+};
 
 /// The constants are the numbers of the definitions.
 pub fn numbers_are_named()
@@ -15,6 +18,10 @@ pub fn numbers_are_named()
     ensures held { HELD_FOR ≡ held_for }
     ensures polled { MOST_POLLED ≡ most_polled }
     ensures wait { MOST_WAIT ≡ most_wait }
+    ensures before_last { MOST_BEFORE_LAST ≡ most_before_last }
+    ensures frame { MOST_FRAME ≡ most_frame }
+    ensures count { MOST_HELD ≡ most_held }
+    ensures bytes { MOST_HELD_BYTES ≡ most_held_bytes }
     ensures last { most_before_last + (most_frame + most_framing) ≡ most_polled }
 {}
 

@@ -38,5 +38,6 @@ pub use sessions::{
 };
 pub use table::{by_life, negotiates, without_token};
 pub use vocabulary::{
-    HELD_FOR, LIVES_FOR, Life, MOST_CONNECTIONS, MOST_LIVE, MOST_POLLED, MOST_WAIT, Said,
+    HELD_FOR, LIVES_FOR, Life, MOST_BEFORE_LAST, MOST_CONNECTIONS, MOST_FRAME, MOST_HELD,
+    MOST_HELD_BYTES, MOST_LIVE, MOST_POLLED, MOST_WAIT, Said,
 };

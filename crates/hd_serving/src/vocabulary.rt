@@ -19,6 +19,18 @@ pub const HELD_FOR: u64 = 90_000;
 /// The most bytes of the body of a poll's reply.
 pub const MOST_POLLED: usize = 65_536;
 
+/// A poll's reply has a further frame as long as its body has at most this many bytes.
+pub const MOST_BEFORE_LAST: usize = 32_763;
+
+/// The most bytes of a frame without its framing.
+pub const MOST_FRAME: usize = 32_768;
+
+/// The most messages that the end of a connection holds.
+pub const MOST_HELD: usize = 1_024;
+
+/// The most framed bytes of these.
+pub const MOST_HELD_BYTES: usize = 100_000;
+
 /// For how many milliseconds a server lets its door wait at most.
 pub const MOST_WAIT: u64 = 100;
 
