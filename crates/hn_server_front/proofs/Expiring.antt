@@ -9,7 +9,7 @@ use Rattle.hd_serving.specs.Numbers.{lives_for}
 use Rattle.hd_serving.specs.Lives.{Note, Ended, Expired, LetGo, made, numbers_to, is_made, is_let_go, ended_at, only_polls, ends_then, deadline, is_past, overdue, standing, since, is_opened, negotiated_at, socket_of, lost_at, poll_of, poll_ended}
 use Rattle.hn_server_front.specs.declared.front.Front.{Front}
 use Rattle.hn_server_front.specs.declared.moments.Waiting.{Waiting}
-use Rattle.hn_server_front.specs.Calls.{Expires, IsNoted}
+use Rattle.hn_server_front.specs.Calls.{Expires, IsFirst, IsNoted}
 use Rattle.hn_server_front.specs.Moments.{at, is_due, is_same, is_within, IsLeast}
 use Rattle.hn_server_front.specs.Stands.{IsUnborn, Stands, is_there, since_of}
 use Rattle.hn_server_front.proofs.Placed.{same_is}
@@ -230,3 +230,7 @@ expired_goes f new h s now c r l e t n =
     let m = subst (λ r. IsLeast (due_of now f) r) e l in
     let p : ends_then c h ≡ false = sym (ap (λ b. b && ends_then c h) (least_is_there f h s now c m)) ∙ t in
     (first_overdue f h s now c m, stands_alike new (LetGo c ∷ h) (Expired c now ∷ h) (goes_alike c now h p) ((n h s).0 (least_is_made f h s now c m)))
+
+pub least_is_first : (f : Front) (h : List Note) → Stands f h → (now : ℕ) (r : Option ℕ) → IsLeast (due_of now f) r → IsFirst r (overdue now h)
+least_is_first f h s now None l = none_overdue f h s now l
+least_is_first f h s now (Some c) l = first_overdue f h s now c l

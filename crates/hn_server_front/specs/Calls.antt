@@ -1,6 +1,6 @@
 -- What calls make of a front, and what they answer, in the words of the notes.
 use Rattle.std.specs.Prelude.{◌≡◌, ◌≤◌, ℕ, suc, Bool, true, false, List, [], ◌∷◌, length, Option, Some, None, if◌then◌else◌}
-use Rattle.hd_serving.specs.Lives.{Note, Negotiated, Opened, Expired, made, is_made, live, overdue, poll_of}
+use Rattle.hd_serving.specs.Lives.{Note, Negotiated, Opened, Expired, made, is_made, live, overdue, poll_of, socket_of}
 use Rattle.hd_serving.specs.Numbers.{most_live}
 use Rattle.hd_serving.specs.Texts.{token_of}
 use Rattle.hn_server_front.specs.declared.bodies.Transports.{Transports}
@@ -33,6 +33,11 @@ pub record Opens (new : Front) (h : List Note) (now c : ℕ) : Type 0 where
   pub noted : Stands new (Opened c now ∷ h)
   pub few : length (live now (Opened c now ∷ h)) ≤ most_live
 
+-- it is the first of these, if there is one
+abbrev pub IsFirst : Option ℕ → List ℕ → Type 0
+IsFirst None cs = cs ≡ []
+IsFirst (Some c) cs = (rest : List ℕ) × (cs ≡ c ∷ rest)
+
 -- the first of these is handed out, if there is one
 abbrev pub Expires : Front → List Note → ℕ → Option ℕ → Type 0
 Expires new h now None = (overdue now h ≡ []) × Stands new h
@@ -41,3 +46,7 @@ Expires new h now (Some c) = ((rest : List ℕ) × (overdue now h ≡ c ∷ rest
 -- the poll that it holds, as long as it isn't let go
 abbrev pub poll_held : ℕ → List Note → Option (ℕ × ℕ)
 poll_held c h = if is_there c h then poll_of c h else None
+
+-- the lane of the socket on which it stands, as long as it isn't let go
+abbrev pub lane_of : ℕ → List Note → Option ℕ
+lane_of c h = if is_there c h then socket_of c h else None

@@ -125,7 +125,7 @@ impl Entry {
     }
 
     /// Whether it polls.
-    fn polls(&self) -> bool
+    pub(crate) fn polls(&self) -> bool
         ensures { (c : ℕ) (h : List Note) → Remembers self.now c h → result ≡ is_polling c h }
     {
         self.poll.is_some() || self.polled.is_some()

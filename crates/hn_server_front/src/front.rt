@@ -1,11 +1,11 @@
 //! The connections of a server: what is noted of them, and the lives of their tokens.
 
-ghost use Rattle.std.specs.Prelude.{◌≡◌, ◌↔◌, ◌+◌, ◌≤◌, ◌&&◌, suc, [], true, false, nat_le, Err, IfOk, IfErr, IfSome, OnOk, OnErr, length};
+ghost use Rattle.std.specs.Prelude.{◌≡◌, ◌↔◌, ◌+◌, ◌≤◌, ◌&&◌, suc, [], true, false, nat_le, Err, IfOk, IfErr, IfSome, OnOk, OnErr, length, is_some};
 ghost use Rattle.indexmap.specs.IndexMap.{index_map_len};
 ghost use Rattle.hd_serving.specs.Numbers.{most_connections, most_live};
 ghost use Rattle.hd_serving.specs.Lives.{Answered, Ended, LaneLost, LetGo, Note, Polled, Socketed};
-ghost use Rattle.hd_serving.specs.Lives.{ends_then, is_busy, is_made, is_promised, known_conn, life, life_of, live};
-ghost use Rattle.hn_server_front.specs.Calls.{Expires, IsNoted, OfEach, Opens, Stays, Tells, poll_held};
+ghost use Rattle.hd_serving.specs.Lives.{ended_at, ends_then, is_busy, is_made, is_polling, is_promised, known_conn, life, life_of, live, overdue};
+ghost use Rattle.hn_server_front.specs.Calls.{Expires, IsFirst, IsNoted, OfEach, Opens, Stays, Tells, lane_of, poll_held};
 ghost use Rattle.hn_server_front.specs.Entries.{held_as, note_of};
 ghost use Rattle.hn_server_front.specs.Routes.{RoutesTo};
 ghost use Rattle.hn_server_front.specs.Stands.{HasRoom, IsEntered, IsRoomier, Stands, is_there};
@@ -96,6 +96,36 @@ impl Front {
         match self.entries.get(&conn) {
             Some(entry) => entry.life(now),
             None => Life::Unknown,
+        }
+    }
+
+    /// The lane of the socket on which a connection stands.
+    pub fn lane(&self, conn: u64) -> Option<u64>
+        ensures { OfEach self.now (λ h. result ≡ lane_of conn h) }
+    {
+        match self.entries.get(&conn) {
+            Some(entry) => entry.socket,
+            None => None,
+        }
+    }
+
+    /// Whether a connection polls, and isn't let go.
+    pub fn polls(&self, conn: u64) -> bool
+        ensures { OfEach self.now (λ h. result ≡ (is_there conn h && is_polling conn h)) }
+    {
+        match self.entries.get(&conn) {
+            Some(entry) => entry.polls(),
+            None => false,
+        }
+    }
+
+    /// Whether a connection's token is ending, and it isn't let go.
+    pub fn is_ending(&self, conn: u64) -> bool
+        ensures { OfEach self.now (λ h. result ≡ (is_there conn h && is_some (ended_at conn h))) }
+    {
+        match self.entries.get(&conn) {
+            Some(entry) => entry.ended.is_some(),
+            None => false,
         }
     }
 
@@ -212,8 +242,15 @@ impl Front {
         self.forget(conn);
     }
 
-    /// Of the connections whose moment has come, and that weren't handed out for it, the one of the least number: one that only
-    /// polled begins to end, if it doesn't yet, and every other is let go.
+    /// Of the connections whose moment has come, and that weren't handed out for it, the one of the least number.
+    pub fn overdue(&self, now: u64) -> Option<u64>
+        ensures { OfEach self.now (λ h. IsFirst result (overdue now h)) }
+    {
+        self.moments.first_due(now)
+    }
+
+    /// The one that is overdue comes to its moment, and is handed out: one that only polled begins to end, if it doesn't yet, and every
+    /// other is let go.
     pub fn expired(&mut self, now: u64) -> Option<u64>
         ensures { OfEach self.old (λ h. Expires self.new h now result) }
     {
