@@ -29,14 +29,14 @@ module _ (p : ℕ → Bool) where
   find_last n = find-append p (numbers_to n) (suc n ∷ [])
 
   -- the test holds of none of them
-  none_to : (n : ℕ) → ((k : ℕ) → k ≤ n → p k ≡ false) → find p (numbers_to n) ≡ None
+  pub none_to : (n : ℕ) → ((k : ℕ) → k ≤ n → p k ≡ false) → find p (numbers_to n) ≡ None
   none_to zero none = refl
   none_to (suc n) none =
       find_last n ∙ ap (λ o. option_or o (cond (p (suc n)) (Some (suc n)) None)) (none_to n (λ k e. none k (omega (arith, e))))
       ∙ ap (λ b. cond b (Some (suc n)) None) (none (suc n) (omega arith))
 
   -- the first of which the test holds
-  first_to : (n c : ℕ) → 0 < c → c ≤ n → p c ≡ true → ((k : ℕ) → k < c → p k ≡ false) → find p (numbers_to n) ≡ Some c
+  pub first_to : (n c : ℕ) → 0 < c → c ≤ n → p c ≡ true → ((k : ℕ) → k < c → p k ≡ false) → find p (numbers_to n) ≡ Some c
   first_to zero c from to holds before = absurd (omega (arith, from, to))
   first_to (suc n) c from to holds before = by (nat_le c n) refl (first_to n c from)
     where

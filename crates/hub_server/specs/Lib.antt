@@ -6,3 +6,13 @@ pub mod Outside
 pub mod Rounds
 pub mod Carrying
 pub mod Calls
+pub mod Words
+pub mod Traffic
+pub mod Lanes
+pub mod Servers
+pub mod Steps
+pub mod Requests
+pub mod Connections
+pub mod Events
+pub mod Tells
+pub mod Serving

@@ -58,7 +58,7 @@ impl<H: Hub> Machine<H> {
     }
 
     /// The connections that are there, in order.
-    fn numbers(&self, alloc: Global) -> Result<Vec<u64>, AllocError>
+    pub(crate) fn numbers(&self, alloc: Global) -> Result<Vec<u64>, AllocError>
         ensures { IfOk result (λ conns. AreNumbers self.now conns.items) }
     {
         let mut conns = Vec::with_capacity(alloc, self.peers.len())?;

@@ -1,0 +1,362 @@
+-- A server that hears through a door: one turn after the others.
+use Rattle.std.proofs.Common.{◌≡◌, ◌⊎◌, inl, inr, ℕ, ◌+◌, ◌≤◌, Bool, true, false, not, List, [], ◌∷◌, ◌++◌, length, map, Option, Some, None, arith}
+use Rattle.std.proofs.Common.{refl, sym, ap, subst, ◌∙◌}
+use Rattle.std.proofs.Common.{Result, Ok, Err}
+use Rattle.std.specs.Prelude.{option_map}
+use Rattle.std.specs.Result.{IsErr, IsErrAnd, is_ok}
+use Rattle.std.proofs.lemmas.Result.{err_from_is_err_and}
+use Rattle.std.proofs.lemmas.List.{append_assoc, append-nil, length-append}
+use Rattle.hd_calls.specs.Hubs.{Hub}
+use Rattle.hd_server.specs.KeptLaws.{AnswersJoin}
+use Rattle.hw_door.specs.declared.heard.Given.{Given}
+use Rattle.hw_door.specs.declared.heard.Heard.{Heard}
+use Rattle.hw_door.specs.declared.error.DoorError.{DoorError}
+use Rattle.hw_door.specs.declared.error.DoorError.TheVariants as door
+use Rattle.hw_door.specs.Calls.{IsCaused, Told, with_heard}
+use Rattle.hd_serving.specs.declared.vocabulary.Said.{Said}
+use Rattle.hd_serving.specs.declared.vocabulary.Said.TheVariants as say
+use Rattle.hd_serving.specs.Doings.{Doing, moment}
+use Rattle.hd_serving.specs.Plans.{Setup}
+use Rattle.hd_serving.specs.Serves.{IsFree}
+use Rattle.hd_serving.specs.Serving.{IsAnswered, IsCutShort, IsGivenWhole, ServesOn, given_as, wait_for}
+use Rattle.hub_server.specs.declared.server.Server.{Server}
+use Rattle.hub_server.specs.declared.serving.ServeFault.{ServeFault}
+use Rattle.hub_server.specs.declared.serving.ServeFault.TheVariants as fault
+use Rattle.hub_server.specs.Serving.{AreTurns, AtEnd, GivesAll, GivesMore, HasEnded, HasServed, IsCausedBy, IsGiven, TellsMore, cause_of}
+use Rattle.hub_server.specs.Words.{AreReplies}
+use Rattle.hub_server.specs.Steps.{Around, HasTurn, StandsServer}
+use Rattle.hub_server.proofs.ServeMoment.{turn_moment}
+use Rattle.hub_server.proofs.ServeWent.{went_none, went_then}
+
+-- ---- faults
+
+pub unok : {A E : Type 0} (r : Result A E) → IsErr r → is_ok r ≡ false
+unok (Ok x) e = sym e
+unok (Err x) e = refl
+
+-- the door's own fault is passed on
+pub caused_door : {A : Type 0} (before now : ℕ) (why : DoorError) (r : Result A ServeFault) → IsCaused before now why
+    → IsErrAnd r (λ e. e ≡ cause_of why)
+    → IsCausedBy before now r
+caused_door {A} before now why r caused err =
+    let p = err_from_is_err_and r err in subst (λ x. IsCausedBy before now x) (sym (p.1 ∙ ap Err p.2)) (go why caused)
+  where
+    go : (why : DoorError) → IsCaused before now why → IsCausedBy {T = A} before now (Err (cause_of why))
+    go door.Failed x = x
+    go door.NoMemory x = x
+
+-- memory ran out, which is no fault of the door
+pub caused_memory : {A : Type 0} (before now : ℕ) (r : Result A ServeFault) → now ≡ before → IsErrAnd r (λ e. e ≡ fault.NoMemory)
+    → IsCausedBy before now r
+caused_memory {A} before now r same err =
+    let p = err_from_is_err_and r err in subst (λ x. IsCausedBy before now x) (sym (p.1 ∙ ap Err p.2)) same
+
+-- the same fault
+pub caused_same : {A : Type 0} (before mid now : ℕ) (why : ServeFault) (r : Result A ServeFault) → mid ≡ before → IsCausedBy {T = A} mid now (Err why)
+    → IsErrAnd r (λ e. e ≡ why) → IsCausedBy before now r
+caused_same {A} before mid now why r same caused err =
+    let p = err_from_is_err_and r err in
+    subst (λ x. IsCausedBy before now x) (sym (p.1 ∙ ap Err p.2)) (subst (λ n. IsCausedBy {T = A} n now (Err why)) same caused)
+
+-- ---- what was given
+
+pub first_reply : (word : Said) (words : List Said) → AreReplies (word ∷ words) → AreReplies (word ∷ [])
+first_reply (say.Reply lane reply) words x = (x.0, tt)
+first_reply (say.Bytes lane bytes text) words x = tt
+first_reply (say.Shut lane) words x = tt
+
+pub later_replies : (word : Said) (words : List Said) → AreReplies (word ∷ words) → AreReplies words
+later_replies (say.Reply lane reply) words x = x.1
+later_replies (say.Bytes lane bytes text) words x = x
+later_replies (say.Shut lane) words x = x
+
+-- the door took nothing of these words
+pub gives_none : (before now : Option Told) (word : Said) (words : List Said) → now ≡ before → GivesAll before now (word ∷ words) false
+gives_none before now word words same = record { given = []; told = more before now same; all = (given_as word, (map given_as words, refl)) }
+  where
+    more : (before now : Option Told) → now ≡ before → GivesMore before now []
+    more None now e = subst (λ o. GivesMore None o []) (sym e) tt
+    more (Some b) now e = subst (λ o. GivesMore (Some b) o []) (sym e) (refl, refl, sym (append-nil b.given))
+
+more_then : (a b c : Option Told) (gs ks : List Given) → GivesMore a b gs → GivesMore b c ks → GivesMore a c (gs ++ ks)
+more_then None None None gs ks x y = tt
+more_then None None (Some c) gs ks x y = absurd y
+more_then None (Some b) c gs ks x y = absurd x
+more_then (Some a) None c gs ks x y = absurd x
+more_then (Some a) (Some b) None gs ks x y = absurd y
+more_then (Some a) (Some b) (Some c) gs ks x y =
+    (y.0 ∙ x.0, y.1 ∙ x.1, y.2 ∙ ap (λ l. l ++ ks) x.2 ∙ append_assoc a.given gs ks)
+
+map_append : (xs ys : List Said) → map given_as (xs ++ ys) ≡ map given_as xs ++ map given_as ys
+map_append [] ys = refl
+map_append (x ∷ xs) ys = ap (λ l. given_as x ∷ l) (map_append xs ys)
+
+-- nothing is given of no words
+pub gives_start : (o : Option Told) → GivesAll o o [] true
+gives_start o = record { given = []; told = none o; all = refl }
+  where
+    none : (o : Option Told) → GivesMore o o []
+    none None = tt
+    none (Some t) = (refl, refl, sym (append-nil t.given))
+
+-- all of these words are given after all of those
+pub gives_more : (a b c : Option Told) (xs ys : List Said) → GivesAll a b xs true → GivesAll b c ys true → GivesAll a c (xs ++ ys) true
+gives_more a b c xs ys x y = record {
+  given = x.given ++ y.given;
+  told = more_then a b c x.given y.given x.told y.told;
+  all = ap (λ l. l ++ y.given) x.all ∙ ap (λ l. map given_as xs ++ l) y.all ∙ sym (map_append xs ys);
+}
+
+begins : (xs ys mx my mr p : List Given) (next : Given) → xs ≡ mx → (ys ++ next ∷ []) ++ p ≡ my
+    → ((xs ++ ys) ++ next ∷ []) ++ (p ++ mr) ≡ mx ++ (my ++ mr)
+begins xs ys mx my mr p next e f =
+    ap (λ l. l ++ (p ++ mr)) (append_assoc xs ys (next ∷ [])) ∙ append_assoc xs (ys ++ next ∷ []) (p ++ mr)
+    ∙ ap (λ l. xs ++ l) (sym (append_assoc (ys ++ next ∷ []) p mr)) ∙ ap (λ l. xs ++ (l ++ mr)) f ∙ ap (λ l. l ++ (my ++ mr)) e
+
+-- not all of these words are given after all of those, and so nothing of the rest
+pub gives_short : (a b c : Option Told) (xs ys rest : List Said) → GivesAll a b xs true → GivesAll b c ys false
+    → GivesAll a c (xs ++ (ys ++ rest)) false
+gives_short a b c xs ys rest x y = record {
+  given = x.given ++ y.given;
+  told = more_then a b c x.given y.given x.told y.told;
+  all = (
+    y.all.0,
+    (
+      y.all.1.0 ++ map given_as rest,
+      begins x.given y.given (map given_as xs) (map given_as ys) (map given_as rest) y.all.1.0 y.all.0 x.all y.all.1.1
+          ∙ ap (λ l. map given_as xs ++ l) (sym (map_append ys rest)) ∙ sym (map_append xs (ys ++ rest)),
+    ),
+  );
+}
+
+-- ---- what was heard
+
+-- it was heard, and this was given
+pub tells_answer : (a b c : Option Told) (e : Heard) (wait : ℕ) (gs : List Given) → b ≡ option_map (with_heard wait e) a → GivesMore b c gs
+    → TellsMore a c (e ∷ []) (wait ∷ []) gs
+tells_answer None b c e wait gs heard more = go c (subst (λ o. GivesMore o c gs) heard more)
+  where
+    go : (c : Option Told) → GivesMore None c gs → TellsMore None c (e ∷ []) (wait ∷ []) gs
+    go None x = tt
+    go (Some c) x = absurd x
+tells_answer (Some a) b c e wait gs heard more = go c (subst (λ o. GivesMore o c gs) heard more)
+  where
+    go : (c : Option Told) → GivesMore (Some (with_heard wait e a)) c gs → TellsMore (Some a) c (e ∷ []) (wait ∷ []) gs
+    go None x = absurd x
+    go (Some c) x = (x.0, x.1, x.2)
+
+more_none : (o : Option Told) → GivesMore o o []
+more_none None = tt
+more_none (Some t) = (refl, refl, sym (append-nil t.given))
+
+tells_none : (o : Option Told) → TellsMore o o [] [] []
+tells_none None = tt
+tells_none (Some t) = (sym (append-nil t.heard), sym (append-nil t.waits), sym (append-nil t.given))
+
+tells_then : (a b c : Option Told) (es fs : List Heard) (ws vs : List ℕ) (gs ks : List Given) → TellsMore a b es ws gs → TellsMore b c fs vs ks
+    → TellsMore a c (es ++ fs) (ws ++ vs) (gs ++ ks)
+tells_then None None None es fs ws vs gs ks x y = tt
+tells_then None None (Some c) es fs ws vs gs ks x y = absurd y
+tells_then None (Some b) c es fs ws vs gs ks x y = absurd x
+tells_then (Some a) None c es fs ws vs gs ks x y = absurd x
+tells_then (Some a) (Some b) None es fs ws vs gs ks x y = absurd y
+tells_then (Some a) (Some b) (Some c) es fs ws vs gs ks x y = (
+  y.0 ∙ ap (λ l. l ++ fs) x.0 ∙ append_assoc a.heard es fs,
+  y.1 ∙ ap (λ l. l ++ vs) x.1 ∙ append_assoc a.waits ws vs,
+  y.2 ∙ ap (λ l. l ++ ks) x.2 ∙ append_assoc a.given gs ks,
+)
+
+-- ---- what is served
+
+-- an event is answered whole or, the last one, in part
+abbrev Answers : {Job : Type 0} → Hub Job → Setup → Bool → (List Doing → Type 0) → (List Doing → Type 0)
+    → List Doing → Heard → List Heard → List ℕ → List Given → Type 0
+Answers hub s cut A B h e es ws given =
+    IsGivenWhole hub s h e given (λ after rest. ServesOn hub s cut A B after es ws rest)
+    ⊎ ((cut ≡ true) × (es ≡ []) × (ws ≡ []) × IsCutShort hub s A B h e given)
+
+-- what holds at the end may be said in other words
+serves_as : {Job : Type 0} (hub : Hub Job) (s : Setup) (cut : Bool) (P Q R S : List Doing → Type 0) → ((x : List Doing) → P x → R x)
+    → ((x : List Doing) → Q x → S x) → (h : List Doing) (es : List Heard) (ws : List ℕ) (given : List Given)
+    → ServesOn hub s cut P Q h es ws given → ServesOn hub s cut R S h es ws given
+serves_as hub s cut P Q R S p q h [] [] given x = (x.0, p h x.1)
+serves_as hub s cut P Q R S p q h [] (w ∷ ws) given x = absurd x
+serves_as hub s cut P Q R S p q h (e ∷ es) [] given x = absurd x
+serves_as {Job} hub s cut P Q R S p q h (e ∷ es) (w ∷ ws) given x =
+    (x.0, x.1, λ free. go (λ after rest. serves_as hub s cut P Q R S p q after es ws rest) (x.2 free))
+  where
+    cuts : IsCutShort hub s P Q h e given → IsCutShort hub s R S h e given
+    cuts (inl y) = inl (y.0, q h y.1)
+    cuts (inr y) = inr (y.0, y.1, y.2, y.3, p y.0 y.4)
+
+    go : ((after : List Doing) (rest : List Given) → ServesOn hub s cut P Q after es ws rest → ServesOn hub s cut R S after es ws rest)
+        → Answers hub s cut P Q h e es ws given → Answers hub s cut R S h e es ws given
+    go next (inl y) = inl (y.0, y.1, y.2, y.3, y.4, next y.0 y.2 y.5)
+    go next (inr y) = inr (y.0, y.1, y.2, cuts y.3)
+
+-- what is served on from the end is served after all that was served before
+serves_then : {Job : Type 0} (hub : Hub Job) (s : Setup) (cut : Bool) (P Q R S : List Doing → Type 0) (fs : List Heard) (vs : List ℕ)
+    (more : List Given)
+    → ((x : List Doing) → P x → ServesOn hub s cut R S x fs vs more) → (h : List Doing) (es : List Heard) (ws : List ℕ) (given : List Given)
+    → ServesOn hub s false P Q h es ws given → ServesOn hub s cut R S h (es ++ fs) (ws ++ vs) (given ++ more)
+serves_then hub s cut P Q R S fs vs more on h [] [] given x =
+    subst (λ l. ServesOn hub s cut R S h fs vs (l ++ more)) (sym x.0) (on h x.1)
+serves_then hub s cut P Q R S fs vs more on h [] (w ∷ ws) given x = absurd x
+serves_then hub s cut P Q R S fs vs more on h (e ∷ es) [] given x = absurd x
+serves_then {Job} hub s cut P Q R S fs vs more on h (e ∷ es) (w ∷ ws) given x =
+    (x.0, x.1, λ free. inl (go (λ after rest. serves_then hub s cut P Q R S fs vs more on after es ws rest) (x.2 free)))
+  where
+    go : ((after : List Doing) (rest : List Given) → ServesOn hub s false P Q after es ws rest → ServesOn hub s cut R S after (es ++ fs) (ws ++ vs)
+        (rest ++ more))
+        → Answers hub s false P Q h e es ws given
+        → IsGivenWhole hub s h e (given ++ more) (λ after rest. ServesOn hub s cut R S after (es ++ fs) (ws ++ vs) rest)
+    go next (inl y) = (y.0, y.1, y.2 ++ more, y.3, ap (λ l. l ++ more) y.4 ∙ append_assoc y.1 y.2 more, next y.0 y.2 y.5)
+    go next (inr y) = absurd (let z : false ≡ true = y.0 in cc)
+
+-- ---- one turn
+
+-- nothing was heard
+pub served_nothing : {H Job : Type 0} (hub : Hub Job) (x : Server H Job) (at : Around) (a b : Option Told) (first last : ℕ) → b ≡ a → last ≡ first
+    → HasServed {H = H} hub x x at at a b first last 1 false
+served_nothing {H} hub x at a b first last same still = record {
+  heard = [];
+  waits = [];
+  given = [];
+  told = subst (λ o. TellsMore a o [] [] []) (sym same) (tells_none a);
+  count = omega arith;
+  serves = λ s h stands before. (refl, record { stands = stands; went = went_none at h; timely = subst (λ n. moment h ≤ n) (sym still) before });
+}
+
+module _ {H Job : Type 0} (hub : Hub Job) (old new : Server H Job) (at since : Around) (a b c : Option Told) (first last wait : ℕ) (e : Heard) where
+  -- memory ran out before anything was said
+  pub served_ended : b ≡ option_map (with_heard wait e) a → (first ≤ e.now) × (last ≡ e.now) → new.is_ended ≡ true
+      → ((s : Setup) (h : List Doing) → StandsServer {H = H} hub s old h → wait ≡ wait_for h)
+      → HasServed {H = H} hub old new at since a b first last 1 false
+  served_ended heard later ended waited = record {
+    heard = e ∷ [];
+    waits = wait ∷ [];
+    given = [];
+    told = tells_answer a b b e wait [] heard (more_none b);
+    count = omega arith;
+    serves = λ s h stands before. (
+      waited s h stands,
+      (let k = later.0 in omega (arith, before, k)),
+      λ free. inr (
+        refl,
+        refl,
+        refl,
+        inl (
+          refl,
+          record {
+            ended = ended;
+            until = at;
+            went = went_none at h;
+            timely = (let k = later.0 in let l = later.1 in omega (arith, before, k, l));
+          },
+        ),
+      ),
+    );
+  }
+
+  -- what was heard is answered, in part at least
+  pub served_answer : (ok : Bool) (words : List Said) → b ≡ option_map (with_heard wait e) a → (first ≤ e.now) × (last ≡ e.now)
+      → ((s : Setup) (h : List Doing) → StandsServer {H = H} hub s old h → (moment h ≤ e.now) × IsFree e.event h
+      → HasTurn {H = H} hub s new at since e h words)
+      → ((s : Setup) (h : List Doing) → StandsServer {H = H} hub s old h → wait ≡ wait_for h) → GivesAll b c words ok
+      → HasServed {H = H} hub old new at since a c first last 1 ok
+  served_answer ok words heard later turned waited gives = record {
+    heard = e ∷ [];
+    waits = wait ∷ [];
+    given = gives.given;
+    told = tells_answer a b c e wait gives.given heard gives.told;
+    count = count ok;
+    serves = λ s h stands before. (
+      waited s h stands,
+      soon h before,
+      λ free. answered s h ok gives.given gives.all (turned s h stands (soon h before, free)),
+    );
+  }
+    where
+      count : (ok : Bool) → AreTurns ok 1 (length (e ∷ []))
+      count true = refl
+      count false = omega arith
+
+      soon : (h : List Doing) → moment h ≤ first → moment h ≤ e.now
+      soon h before = let k = later.0 in omega (arith, before, k)
+
+      at_end : (s : Setup) (h : List Doing) (t : HasTurn {H = H} hub s new at since e h words) → AtEnd {H = H} hub s new at since last h t.after
+      at_end s h t = record {
+        stands = t.stands;
+        went = t.went;
+        timely = let k = later.1 in let m = turn_moment hub s e.now e.event h t.after t.turn in omega (arith, k, m);
+      }
+
+      answer : (s : Setup) (h : List Doing) (t : HasTurn {H = H} hub s new at since e h words) → IsAnswered hub s h e t.after (map given_as words)
+      answer s h t = record { turn = t.turn; new = words; tells = t.tells; gives = refl }
+
+      answered : (s : Setup) (h : List Doing) (ok : Bool) (given : List Given) → IsGiven ok given (map given_as words)
+          → (t : HasTurn {H = H} hub s new at since e h words)
+          → Answers hub s (not ok) (AtEnd {H = H} hub s new at since last h) (HasEnded {H = H} new at last h) h e [] [] given
+      answered s h true given all t =
+          inl (t.after, map given_as words, [], answer s h t, all ∙ sym (append-nil (map given_as words)), (refl, at_end s h t))
+      answered s h false given all t = inr (refl, refl, refl, inr (t.after, map given_as words, answer s h t, all, at_end s h t))
+
+-- ---- a turn more
+
+turns_then : (ok : Bool) (n turns : ℕ) (es fs : List Heard) → length es ≡ n → AreTurns ok 1 (length fs) → (ok ≡ true → turns ≡ n + 1) → n + 1 ≤ turns
+    → AreTurns ok turns (length (es ++ fs))
+turns_then true n turns es fs e f whole few = length-append es fs ∙ (let w = whole refl in omega (arith, e, f, w))
+turns_then false n turns es fs e f whole few = let l = length-append es fs in omega (arith, e, f, few, l)
+
+pub served_then : {H Job : Type 0} (hub : Hub Job) (x y z : Server H Job) (at mid since : Around) (a b c : Option Told)
+    (first then_at last n turns : ℕ) (ok : Bool)
+    → AnswersJoin → (ok ≡ true → turns ≡ n + 1) → n + 1 ≤ turns
+    → HasServed {H = H} hub x y at mid a b first then_at n true → HasServed {H = H} hub y z mid since b c then_at last 1 ok
+    → HasServed {H = H} hub x z at since a c first last turns ok
+served_then {H} hub x y z at mid since a b c first then_at last n turns ok join whole few f g = record {
+  heard = f.heard ++ g.heard;
+  waits = f.waits ++ g.waits;
+  given = f.given ++ g.given;
+  told = tells_then a b c f.heard g.heard f.waits g.waits f.given g.given f.told g.told;
+  count = turns_then ok n turns f.heard g.heard f.count g.count whole few;
+  serves = λ s h stands before.
+      serves_then hub s (not ok) (AtEnd {H = H} hub s y at mid then_at h) (HasEnded {H = H} y at then_at h)
+      (AtEnd {H = H} hub s z at since last h) (HasEnded {H = H} z at last h) g.heard g.waits g.given
+      (λ m end. serves_as hub s (not ok) (AtEnd {H = H} hub s z mid since last m) (HasEnded {H = H} z mid last m)
+      (AtEnd {H = H} hub s z at since last h) (HasEnded {H = H} z at last h)
+      (λ k there. record { stands = there.stands; went = went_then join at mid since h m k end.went there.went; timely = there.timely })
+      (λ k there. record {
+        ended = there.ended;
+        until = there.until;
+        went = went_then join at mid there.until h m k end.went there.went;
+        timely = there.timely;
+      })
+      m g.heard g.waits g.given (g.serves s m end.stands end.timely))
+      h f.heard f.waits f.given (f.serves s h stands before);
+}
+
+-- before the first turn
+pub served_none : {H Job : Type 0} (hub : Hub Job) (x : Server H Job) (at : Around) (a : Option Told) (first : ℕ)
+    → HasServed {H = H} hub x x at at a a first first 0 true
+served_none {H} hub x at a first = record {
+  heard = [];
+  waits = [];
+  given = [];
+  told = tells_none a;
+  count = refl;
+  serves = λ s h stands before. (refl, record { stands = stands; went = went_none at h; timely = before });
+}
+
+-- ---- the same in other words
+
+pub served_count : {H Job : Type 0} {hub : Hub Job} {x y : Server H Job} {at since : Around} {a b : Option Told}
+    {first last : ℕ} {ok : Bool} (n turns : ℕ) → n ≡ turns
+    → HasServed {H = H} {Job = Job} hub x y at since a b first last n ok → HasServed {H = H} {Job = Job} hub x y at since a b first last turns ok
+served_count {H} {Job} {hub} {x} {y} {at} {since} {a} {b} {first} {last} {ok} n turns same f =
+    subst (λ k. HasServed {H = H} {Job = Job} hub x y at since a b first last k ok) same f
+
+pub unok_served : {H Job A E : Type 0} {hub : Hub Job} {x y : Server H Job} {at since : Around} {a b : Option Told} {first last turns : ℕ}
+    (r : Result A E) → IsErr r → HasServed {H = H} {Job = Job} hub x y at since a b first last turns false
+    → HasServed {H = H} {Job = Job} hub x y at since a b first last turns (is_ok r)
+unok_served {H} {Job} {A} {E} {hub} {x} {y} {at} {since} {a} {b} {first} {last} {turns} r err f =
+    subst (λ ok. HasServed {H = H} {Job = Job} hub x y at since a b first last turns ok) (sym (unok r err)) f

@@ -1,0 +1,199 @@
+-- What a connection says on its socket, in one message, and its end there.
+use Rattle.std.proofs.Common.{◌≡◌, ℕ, Bool, true, false, not, ◌||◌, List, [], ◌∷◌, ◌++◌, Option, Some}
+use Rattle.std.proofs.Common.{refl, sym, ap, subst, ◌∙◌, arith}
+use Rattle.std.specs.Prelude.{if◌then◌else◌, ◌&&◌}
+use Rattle.std.proofs.lemmas.Bool.{both_ways, eq-eqb, true≢false}
+use Rattle.std.proofs.lemmas.List.{append-nil}
+use Rattle.hd_delivery.specs.Frames.{LinkFrame}
+use Rattle.hd_delivery.specs.Histories.{is_this}
+use Rattle.hd_calls.specs.Hubs.{Hub}
+use Rattle.hd_calls.specs.Peers.{is_shut, steps}
+use Rattle.hd_serving.specs.declared.vocabulary.Said.{Said}
+use Rattle.hd_serving.specs.declared.vocabulary.Said.TheVariants as say
+use Rattle.hd_serving.specs.Lives.{poll_of, socket_of}
+use Rattle.hd_serving.specs.Doings.{Doing, Says, config_of, has_closed, has_peer, history, notes, was_refused}
+use Rattle.hd_serving.specs.Plans.{Setup, letting_go, onto, shutting}
+use Rattle.hd_serving.specs.Serves.{AreNonempty, LendsAll, all_of, bytes_of, is_text, lending, telling_socket, writing}
+use Rattle.hub_server.specs.declared.machine.Machine.{Machine}
+use Rattle.hub_server.specs.declared.server.Server.{Server}
+use Rattle.hub_server.specs.Machines.{OfConn}
+use Rattle.hub_server.specs.Traffic.{IsServers, LendsDue, is_any}
+use Rattle.hub_server.specs.Connections.{Frees, IsKnown}
+use Rattle.hub_server.specs.Lanes.{Unsettled, is_at, poll_lane, settled}
+use Rattle.hub_server.specs.Servers.{IsRested, OfEach, Standing}
+use Rattle.hub_server.specs.Tells.{TellsOne, Writes}
+use Rattle.hub_server.proofs.LaneKept.{standing_shuts, standing_tells}
+use Rattle.hub_server.proofs.OntoAlike.{onto_append}
+use Rattle.hub_server.proofs.TellSaid.{Mild, SaidAll, closed_is, gone_after, is_one, known_mild, letting_mild, mild_lends, mild_says, mild_then}
+use Rattle.hub_server.proofs.TellSaid.{said_all, shutting_mild, shutting_says, text_is, up_there, writing_says}
+
+-- ---- what is written
+
+-- all in one message, if there is any
+abbrev pub in_one : List LinkFrame → List (List LinkFrame)
+in_one [] = []
+in_one (f ∷ fs) = (f ∷ fs) ∷ []
+
+in_one_all : (fs : List LinkFrame) → all_of (in_one fs) ≡ fs
+in_one_all [] = refl
+in_one_all (f ∷ fs) = append-nil (f ∷ fs)
+
+in_one_some : (fs : List LinkFrame) → AreNonempty (in_one fs)
+in_one_some [] = tt
+in_one_some (f ∷ fs) = (omega arith, tt)
+
+module _ {H Job : Type 0} (hub : Hub Job) (s : Setup) (u : Unsettled) (before : List Said) (v : Server H Job) (m : Machine H Job) (c lane : ℕ)
+    (any text : Bool) (old out : List ℕ) (h : List Doing)
+    (none : old ≡ []) (x : Standing {H = H} hub s u before v h) (there : has_peer c h ≡ true)
+    (of : OfConn {H = H} hub v.machine c (λ w t k. LendsDue {H = H} hub m c w t k any old out)) where
+  said : SaidAll {H = H} hub s u before (record v { machine = m }) c any out h
+  said = said_all {H = H} {Job = Job} hub s u before v m c any old out h none x there of
+
+  -- nothing was due
+  pub writes_none : any ≡ false → Writes {H = H} hub s u before (record v { machine = m }) c lane h
+  writes_none e = go said.frames said.due (sym said.some ∙ e) said.stands
+    where
+      go : (fs : List LinkFrame) → LendsAll (config_of c h) (history c h) fs → is_any fs ≡ false
+          → Standing {H = H} hub s u before (record v { machine = m }) (onto (lending c fs) h)
+          → Writes {H = H} hub s u before (record v { machine = m }) c lane h
+      go [] due f stands = record { pieces = []; some = tt; due = due; stands = stands }
+      go (f ∷ fs) due e stands = absurd (true≢false e)
+
+  -- something was
+  pub writes_some : (bytes : List ℕ) (words : List Said) → any ≡ true → bytes ≡ out
+      → OfConn {H = H} hub v.machine c (λ w t k. IsServers t k → text ≡ is_text t.config (steps t k))
+      → words ≡ v.words ++ say.Bytes lane bytes text ∷ [] → Writes {H = H} hub s u before (record v { machine = m; words = words }) c lane h
+  writes_some bytes words e same texts are = record {
+    pieces = in_one said.frames;
+    some = in_one_some said.frames;
+    due = subst (λ fs. LendsAll (config_of c h) (history c h) fs) (sym (in_one_all said.frames)) said.due;
+    stands = subst (λ fs. Standing {H = H} hub s u before (record v { machine = m; words = words })
+        (onto (lending c fs ++ writing s c lane (in_one said.frames) h) h))
+        (sym (in_one_all said.frames))
+        (subst (λ g. Standing {H = H} hub s u before (record v { machine = m; words = words }) g)
+        (sym (onto_append (lending c said.frames) (writing s c lane (in_one said.frames) h) h))
+        (go said.frames (sym said.some ∙ e) (same ∙ said.bytes) said.stands));
+  }
+    where
+      go : (fs : List LinkFrame) → is_any fs ≡ true → bytes ≡ bytes_of s c fs h
+          → Standing {H = H} hub s u before (record v { machine = m }) (onto (lending c fs) h)
+          → Standing {H = H} hub s u before (record v { machine = m; words = words }) (onto (writing s c lane (in_one fs) h) (onto (lending c fs) h))
+      go [] f b stands = absurd (true≢false (sym f))
+      go (f ∷ fs) e b stands =
+          subst (λ (ws : List Said). Standing {H = H} hub s u before (record v { machine = m; words = ws })
+          (onto (writing s c lane ((f ∷ fs) ∷ []) h) (onto (lending c (f ∷ fs)) h))) (sym are)
+          (subst (λ (d : Doing). Standing {H = H} hub s u before (record v { machine = m; words = v.words ++ say.Bytes lane bytes text ∷ [] })
+          (d ∷ onto (lending c (f ∷ fs)) h))
+          (ap (λ (bs : List ℕ). Says (say.Bytes lane bs text)) b
+          ∙ ap (λ (z : Bool). Says (say.Bytes lane (bytes_of s c (f ∷ fs) h) z)) (text_is {H = H}
+          {Job = Job} hub s u before v c h x there text texts))
+          (standing_tells {H = H} {Job = Job} hub s u before (record v { machine = m }) lane bytes text (onto (lending c (f ∷ fs)) h) stands))
+
+-- ---- a lane is shut
+
+pub shuts_none : {H Job : Type 0} (hub : Hub Job) (s : Setup) (u : Unsettled) (before : List Said) (v : Server H Job) (lane : ℕ) (h : List Doing)
+    (r : Bool)
+    → r ≡ false → r ≡ not (was_refused lane h) → Standing {H = H} hub s u before v h → Standing {H = H} hub s u before v (onto (shutting lane h) h)
+shuts_none {H} hub s u before v lane h r e f x = go (was_refused lane h) (sym f ∙ e)
+  where
+    go : (b : Bool) → not b ≡ false → Standing {H = H} hub s u before v (onto (if b then [] else Says (say.Shut lane) ∷ []) h)
+    go true g = x
+    go false g = absurd (true≢false g)
+
+pub shuts_one : {H Job : Type 0} (hub : Hub Job) (s : Setup) (u : Unsettled) (before : List Said) (v : Server H Job) (words : List Said) (lane : ℕ)
+    (h : List Doing) (r : Bool)
+    → r ≡ true → r ≡ not (was_refused lane h) → words ≡ v.words ++ say.Shut lane ∷ [] → Standing {H = H} hub s u before v h
+    → Standing {H = H} hub s u before (record v { words = words }) (onto (shutting lane h) h)
+shuts_one {H} {Job} hub s u before v words lane h r e f are x = go (was_refused lane h) (sym f ∙ e)
+  where
+    go : (b : Bool) → not b ≡ true → Standing {H = H} hub s u before (record v { words = words })
+        (onto (if b then [] else Says (say.Shut lane) ∷ []) h)
+    go true g = absurd (true≢false (sym g))
+    go false g =
+        subst (λ (ws : List Said). Standing {H = H} hub s u before (record v { words = ws }) (Says (say.Shut lane) ∷ h)) (sym are)
+        (standing_shuts {H = H} {Job = Job} hub s u before v lane h x)
+
+-- ---- the connection has told
+
+pub settled_writes : {H Job : Type 0} (hub : Hub Job) (s : Setup) (u : Unsettled) (before : List Said) (v : Server H Job) (c lane : ℕ)
+    (h : List Doing) → u ≡ settled
+    → Writes {H = H} hub s u before v c lane h → Writes {H = H} hub s settled before v c lane h
+settled_writes {H} hub s u before v c lane h calm w = subst (λ z. Writes {H = H} hub s z before v c lane h) calm w
+
+-- one that stands on a socket is there on its lane
+pub at_socket : (lane c : ℕ) (h : List Doing) → has_peer c h ≡ true → socket_of c (notes h) ≡ Some lane → is_at lane c h ≡ true
+at_socket lane c h there on =
+    ap (λ (b : Bool). b && (is_this lane (socket_of c (notes h)) || is_this lane (poll_lane c (notes h)))) there
+    ∙ ap (λ (o : Option ℕ). is_this lane o || is_this lane (poll_lane c (notes h))) on
+    ∙ ap (λ (b : Bool). b || is_this lane (poll_lane c (notes h))) (eq-eqb lane lane refl)
+
+module _ {H Job : Type 0} (hub : Hub Job) (s : Setup) (before : List Said) (v : Server H Job) (c lane : ℕ) (h : List Doing)
+    (w : Writes {H = H} hub s settled before v c lane h) (there : has_peer c h ≡ true) (on : socket_of c (notes h) ≡ Some lane) where
+  mild : Mild c (onto (lending c (all_of w.pieces) ++ writing s c lane w.pieces h) h) h
+  mild = subst (λ g. Mild c g h) (sym (onto_append (lending c (all_of w.pieces)) (writing s c lane w.pieces h) h))
+      (mild_then c (onto (writing s c lane w.pieces h) (onto (lending c (all_of w.pieces)) h)) (onto (lending c (all_of w.pieces)) h) h
+      (mild_says c (writing s c lane w.pieces h) (onto (lending c (all_of w.pieces)) h) (writing_says s c lane w.pieces h))
+      (mild_lends c (all_of w.pieces) h))
+
+  -- its end is open
+  pub tells_open : (r : Bool) → r ≡ false → OfConn {H = H} hub v.machine c (λ k t ms. r ≡ is_shut t ms)
+      → TellsOne {H = H} hub s before v c (Some lane) (poll_of c (notes h)) h
+  tells_open r e of = record {
+    pieces = w.pieces;
+    due = (w.some, w.due);
+    stands = subst (λ g. Standing {H = H} hub s settled before v g) (sym after) w.stands;
+    rested = subst (λ g. IsRested c g) (sym after)
+        (λ at off. up_there c (onto (lending c (all_of w.pieces) ++ writing s c lane w.pieces h) h) at (mild.closed ∙ unclosed));
+  }
+    where
+      unclosed : has_closed c h ≡ false
+      unclosed = sym mild.closed ∙ sym (closed_is {H = H} {Job = Job} hub s settled before v c
+          (onto (lending c (all_of w.pieces) ++ writing s c lane w.pieces h) h) w.stands (mild.there ∙ there) r of) ∙ e
+
+      after : onto (telling_socket s c lane w.pieces h) h ≡ onto (lending c (all_of w.pieces) ++ writing s c lane w.pieces h) h
+      after =
+          ap (λ (b : Bool). onto (lending c (all_of w.pieces) ++ writing s c lane w.pieces h ++
+          (if b then shutting lane h ++ letting_go c h else [])) h) unclosed
+          ∙ ap (λ (xs : List Doing). onto xs h) (append-nil (lending c (all_of w.pieces) ++ writing s c lane w.pieces h))
+
+  -- it is closed: its lane was shut, and nothing is kept of it
+  pub tells_closed : (r : Bool) (mid new : Server H Job) → r ≡ true → OfConn {H = H} hub v.machine c (λ k t ms. r ≡ is_shut t ms)
+      → OfEach {H = H} hub v (λ t u said g. (k : ℕ) → is_at lane k g ≡ true → Standing {H = H} hub t u said mid (onto (shutting lane g) g))
+      → OfEach {H = H} hub mid (λ t u said g. IsKnown c g → Frees {H = H} hub t u said new c g (onto (letting_go c g) g))
+      → TellsOne {H = H} hub s before new c (Some lane) (poll_of c (notes h)) h
+  tells_closed r mid new e of shuts frees = record {
+    pieces = w.pieces;
+    due = (w.some, w.due);
+    stands = subst (λ g. Standing {H = H} hub s settled before new g) (sym after) freed.stands;
+    rested = subst (λ g. IsRested c g) (sym after)
+        (λ at. absurd (both_ways (has_peer c (onto (letting_go c (onto (shutting lane base) base)) (onto (shutting lane base) base)))
+        (gone_after c (onto (shutting lane base) base) (onto (shutting lane base) base) (both.there ∙ there)) at));
+  }
+    where
+      base : List Doing
+      base = onto (lending c (all_of w.pieces) ++ writing s c lane w.pieces h) h
+
+      shut : Mild c (onto (shutting lane base) base) base
+      shut = mild_says c (shutting lane base) base (shutting_says lane base)
+
+      both : Mild c (onto (shutting lane base) base) h
+      both = mild_then c (onto (shutting lane base) base) base h shut mild
+
+      closed : has_closed c h ≡ true
+      closed = sym mild.closed ∙ sym (closed_is {H = H} {Job = Job} hub s settled before v c base w.stands (mild.there ∙ there) r of) ∙ e
+
+      freed : Frees {H = H} hub s settled before new c (onto (shutting lane base) base)
+          (onto (letting_go c (onto (shutting lane base) base)) (onto (shutting lane base) base))
+      freed = frees s settled before (onto (shutting lane base) base)
+          (shuts s settled before base w.stands c (at_socket lane c base (mild.there ∙ there) (ap (socket_of c) mild.noted ∙ on)))
+          (known_mild c (onto (shutting lane base) base) base shut (is_one {H = H} {Job = Job} hub s settled before v c base w.stands
+          (mild.there ∙ there)).known)
+
+      after : onto (telling_socket s c lane w.pieces h) h ≡ onto (letting_go c (onto (shutting lane base) base)) (onto (shutting lane base) base)
+      after =
+          ap (λ (b : Bool). onto (lending c (all_of w.pieces) ++ writing s c lane w.pieces h ++
+          (if b then shutting lane h ++ letting_go c h else [])) h) closed
+          ∙ onto_append (lending c (all_of w.pieces) ++ writing s c lane w.pieces h) (shutting lane h ++ letting_go c h) h
+          ∙ onto_append (shutting lane h) (letting_go c h) base
+          ∙ ap (λ (xs : List Doing). onto (letting_go c h) (onto xs base)) (sym (shutting_mild c lane base h mild))
+          ∙ ap (λ (xs : List Doing). onto xs (onto (shutting lane base) base)) (sym (letting_mild c (onto (shutting lane base) base) h both))

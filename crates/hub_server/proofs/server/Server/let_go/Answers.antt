@@ -1,0 +1,36 @@
+use Rattle.std.proofs.Common.{sym, ap, subst, ◌∙◌}
+use Rattle.std.specs.Ordering.{nat_cmp}
+use Rattle.std.specs.BTreeMap.{get}
+use Rattle.hd_serving.specs.Doings.{notes, work}
+use Rattle.hj_jobs.specs.Meaning.{meaning}
+use Rattle.hn_server_front.specs.Stands as front
+use Rattle.hub_server.specs.Machines.{StandsMachine}
+use Rattle.hub_server.proofs.Ends.{apart}
+use Rattle.hub_server.proofs.GoneServer.{lets_go, no_peer}
+use Rattle.hub_server.proofs.server.Server.let_go.Goals as goal
+
+pub returns : goal.returns
+returns g c = record {
+  gone = λ s u before h stands known.
+      let hub = meaning g.H.Hub.begin_of g.H.Hub.step_of in
+      let left = c.leave.ensures.left s u before h stands known in
+      lets_go {H = g.row.H.Denot} {Job = g.row.H-Job.Denot} hub s u before c.args.self.now
+      (record {
+        base = c.leave.new.self.base;
+        machine = c.drop_conn.new.self;
+        front = c.closed.new.self;
+        callers = c.remove.new.self;
+        lanes = c.leave.new.self.lanes;
+        moment = c.leave.new.self.moment;
+        words = c.leave.new.self.words;
+        is_ended = c.leave.new.self.is_ended;
+      })
+      c.args.conn h stands known left.base left.clock left.words left.lanes
+      c.remove.ensures.updates.1 (λ k e. c.remove.ensures.updates.2 k (apart c.args.conn k e) ∙ ap (λ m. get nat_cmp m k) left.callers)
+      (λ t there. c.drop_conn.ensures.gone (work h) t
+      (subst (λ m. StandsMachine {H = g.row.H.Denot} hub m (work h)) (sym left.machine) stands.machine) there)
+      (λ none. subst (λ m. StandsMachine {H = g.row.H.Denot} hub m (work h)) (sym (c.drop_conn.ensures.none
+      (no_peer {H = g.row.H.Denot} {Job = g.row.H-Job.Denot} hub c.leave.new.self.machine (work h) c.args.conn
+      (subst (λ m. StandsMachine {H = g.row.H.Denot} hub m (work h)) (sym left.machine) stands.machine) none) ∙ left.machine)) stands.machine)
+      ((c.closed.ensures (notes h) (subst (λ f. front.Stands f (notes h)) (sym left.front) stands.front)).0 known.made);
+}

@@ -1,0 +1,21 @@
+use Rattle.std.proofs.lemmas.List.{drop_all}
+use Rattle.hj_jobs.specs.Meaning.{meaning}
+use Rattle.hub_server.proofs.RoundWhole.{same_numbers}
+use Rattle.hub_server.proofs.TickAll.{ticks_begin, ticks_on, ticks_over}
+use Rattle.hub_server.proofs.server.Server.tick_all.Goals as goal
+
+pub loop-conn-init : goal.loop-conn-init
+loop-conn-init g c =
+    ticks_begin {H = g.row.H.Denot} (meaning g.H.Hub.begin_of g.H.Hub.step_of) c.args.self.now c.deref-conn-items.result.now
+    (same_numbers c.args.self.now.machine _ c.deref-conn-items.result.now c.deref-conn-items.ensures.value c.in_ok-conns.ensures)
+
+pub loop-conn-preserved : goal.loop-conn-preserved
+loop-conn-preserved g c =
+    ticks_on {H = g.row.H.Denot} (meaning g.H.Hub.begin_of g.H.Hub.step_of) c.args.self.now c.deref-conn-items.result.now
+    c.loop-conn.self c.tick.new.self c.loop-conn.conn-index c.loop-conn-test.true c.in_ok-tick.ensures c.loop-conn.invariant
+
+pub returns : goal.returns
+returns g c =
+    ticks_over {H = g.row.H.Denot} (meaning g.H.Hub.begin_of g.H.Hub.step_of) c.args.self.now c.deref-conn-items.result.now
+    c.loop-conn.self c.loop-conn.conn-index (drop_all c.loop-conn.conn-index c.deref-conn-items.result.now c.loop-conn-test.false)
+    c.loop-conn.invariant

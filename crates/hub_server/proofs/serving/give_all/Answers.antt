@@ -1,0 +1,64 @@
+use Rattle.std.proofs.Common.{◌≡◌, [], ◌∷◌, ◌++◌, true, arith, refl, sym, ap, subst, ◌∙◌}
+use Rattle.std.specs.Vec.Iter.{into_iter_items}
+use Rattle.std.proofs.lemmas.Grind.{common_steps}
+use Rattle.std.proofs.lemmas.List.{append_assoc}
+use Rattle.hub_server.specs.Serving.{GivesAll}
+use Rattle.hub_server.specs.Words.{AreReplies}
+use Rattle.hub_server.proofs.ServeRun.{caused_same, first_reply, gives_more, gives_short, gives_start, later_replies, unok}
+use Rattle.hub_server.proofs.serving.give_all.Goals as goal
+
+pub loop-word-init : goal.loop-word-init
+loop-word-init g c = record {
+  are = c.into_iter-word-iterator.ensures.into_iter_gives.0;
+  replies = subst AreReplies (sym c.into_iter-word-iterator.ensures.into_iter_gives.0) c.requires;
+  given = gives_start (g.D.Door.told c.args.door.now);
+  still = refl;
+  unfailed = refl;
+}
+
+pub give-requires : goal.give-requires
+give-requires g c =
+    first_reply c.in-Some.word (into_iter_items c.next.new.self) (subst AreReplies c.in-Some.ensures.steps.0 c.loop-word.invariant.replies)
+
+pub loop-word-preserved : goal.loop-word-preserved
+loop-word-preserved g c = record {
+  are =
+      append_assoc c.loop-word.yielded (c.in-Some.word ∷ []) (into_iter_items c.next.new.self)
+      ∙ ap (λ l. c.loop-word.yielded ++ l) (sym c.in-Some.ensures.steps.0) ∙ c.loop-word.invariant.are;
+  replies = later_replies c.in-Some.word (into_iter_items c.next.new.self) (subst AreReplies c.in-Some.ensures.steps.0 c.loop-word.invariant.replies);
+  given =
+      gives_more (g.D.Door.told c.args.door.now) (g.D.Door.told c.loop-word.door) (g.D.Door.told c.give.new.door) c.loop-word.yielded
+      (c.in-Some.word ∷ [])
+      c.loop-word.invariant.given c.in_ok-give.ensures.given;
+  still = c.in_ok-give.ensures.still ∙ c.loop-word.invariant.still;
+  unfailed = c.in_ok-give.ensures.cause ∙ c.loop-word.invariant.unfailed;
+}
+
+pub returns-in_err-give-clause-given : goal.returns-in_err-give-clause-given
+returns-in_err-give-clause-given g c =
+    subst (λ ok. GivesAll (g.D.Door.told c.args.door.now) (g.D.Door.told c.give.new.door) c.args.words.items ok)
+    (sym (unok c.from_residual.result c.from_residual.ensures.0))
+    (subst (λ l. GivesAll (g.D.Door.told c.args.door.now) (g.D.Door.told c.give.new.door) l _)
+    (ap (λ l. c.loop-word.yielded ++ l) (sym c.in-Some.ensures.steps.0) ∙ c.loop-word.invariant.are)
+    (gives_short (g.D.Door.told c.args.door.now) (g.D.Door.told c.loop-word.door) (g.D.Door.told c.give.new.door) c.loop-word.yielded
+    (c.in-Some.word ∷ [])
+    (into_iter_items c.next.new.self) c.loop-word.invariant.given c.in_err-give.ensures.given))
+
+pub returns-in_err-give-clause-still : goal.returns-in_err-give-clause-still
+returns-in_err-give-clause-still g c = c.in_err-give.ensures.still ∙ c.loop-word.invariant.still
+
+pub returns-in_err-give-clause-cause : goal.returns-in_err-give-clause-cause
+returns-in_err-give-clause-cause g c =
+    caused_same (g.D.Door.faults c.args.door.now) (g.D.Door.faults c.loop-word.door) (g.D.Door.faults c.give.new.door) c.in_err-give.field-0.0
+    c.from_residual.result c.loop-word.invariant.unfailed c.in_err-give.ensures.cause c.from_residual.ensures.1
+
+pub returns-clause-given : goal.returns-clause-given
+returns-clause-given g c =
+    let all : c.loop-word.yielded ≡ c.args.words.items = grind (arith, common_steps) in
+    subst (λ l. GivesAll (g.D.Door.told c.args.door.now) (g.D.Door.told c.loop-word.door) l true) all c.loop-word.invariant.given
+
+pub returns-clause-still : goal.returns-clause-still
+returns-clause-still g c = c.loop-word.invariant.still
+
+pub returns-clause-cause : goal.returns-clause-cause
+returns-clause-cause g c = c.loop-word.invariant.unfailed

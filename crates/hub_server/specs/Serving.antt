@@ -1,0 +1,86 @@
+-- A server that hears through a door: what it gave the door for all that it heard.
+use Rattle.std.specs.Prelude.{◌≡◌, ◌≤◌, ℕ, Bool, true, false, not, List, [], ◌∷◌, ◌++◌, length, map, Option, Some, None, Result, Ok, Err}
+use Rattle.hd_facts.specs.Counts.{Rose}
+use Rattle.hd_facts.specs.Prefixes.{IsPrefix}
+use Rattle.hd_calls.specs.Hubs.{Hub}
+use Rattle.hw_door.specs.declared.error.DoorError.{DoorError}
+use Rattle.hw_door.specs.declared.error.DoorError.TheVariants as door
+use Rattle.hw_door.specs.declared.heard.Given.{Given}
+use Rattle.hw_door.specs.declared.heard.Heard.{Heard}
+use Rattle.hw_door.specs.Calls.{Told}
+use Rattle.hd_serving.specs.declared.vocabulary.Said.{Said}
+use Rattle.hd_serving.specs.Doings.{Doing, moment}
+use Rattle.hd_serving.specs.Plans.{Setup}
+use Rattle.hd_serving.specs.Serving.{ServesOn, given_as}
+use Rattle.hub_server.specs.declared.server.Server.{Server}
+use Rattle.hub_server.specs.declared.serving.ServeFault.{ServeFault}
+use Rattle.hub_server.specs.declared.serving.ServeFault.TheVariants as fault
+use Rattle.hub_server.specs.Steps.{Around, StandsServer, Went}
+
+-- ---- faults
+
+abbrev pub cause_of : DoorError → ServeFault
+cause_of door.Failed = fault.Door
+cause_of door.NoMemory = fault.NoMemory
+
+-- the door failed only if its count of faults rose. Else that is as it was
+abbrev pub IsCausedBy : {T : Type 0} → ℕ → ℕ → Result T ServeFault → Type 0
+IsCausedBy before now (Ok answer) = now ≡ before
+IsCausedBy before now (Err fault.Door) = (before ≤ now) × Rose before now
+IsCausedBy before now (Err fault.NoMemory) = now ≡ before
+
+-- ---- what a door tells
+
+-- it was given this too
+abbrev pub GivesMore : Option Told → Option Told → List Given → Type 0
+GivesMore None None given = Unit {0}
+GivesMore (Some before) (Some now) given = (now.heard ≡ before.heard) × (now.waits ≡ before.waits) × (now.given ≡ before.given ++ given)
+GivesMore _ _ given = ⊥
+
+-- these were heard too, each after its wait, and this was given
+abbrev pub TellsMore : Option Told → Option Told → List Heard → List ℕ → List Given → Type 0
+TellsMore None None heard waits given = Unit {0}
+TellsMore (Some before) (Some now) heard waits given =
+    (now.heard ≡ before.heard ++ heard) × (now.waits ≡ before.waits ++ waits) × (now.given ≡ before.given ++ given)
+TellsMore _ _ heard waits given = ⊥
+
+-- all of these words are given; after a fault, a first part of them but not all
+abbrev pub IsGiven : Bool → List Given → List Given → Type 0
+IsGiven true given whole = given ≡ whole
+IsGiven false given whole = (next : Given) × IsPrefix (given ++ next ∷ []) whole
+
+pub record GivesAll (before now : Option Told) (words : List Said) (ok : Bool) : Type 0 where
+  pub given : List Given
+  pub told : GivesMore before now given
+  pub all : IsGiven ok given (map given_as words)
+
+-- ---- a whole run
+
+-- at its end the server stands for this, and what is around it went on so
+pub record AtEnd {H Job : Type 0} (hub : Hub Job) (s : Setup) (new : Server H Job) (at since : Around) (last : ℕ) (h after : List Doing) : Type 0 where
+  pub stands : StandsServer hub s new after
+  pub went : Went at since h after
+  pub timely : moment after ≤ last
+
+-- memory ran out in the middle of an event, before which what is around it had gone on so
+pub record HasEnded {H Job : Type 0} (new : Server H Job) (at : Around) (last : ℕ) (h after : List Doing) : Type 0 where
+  pub ended : new.is_ended ≡ true
+  pub until : Around
+  pub went : Went at until h after
+  pub timely : moment after ≤ last
+
+-- how many events were heard
+abbrev pub AreTurns : Bool → ℕ → ℕ → Type 0
+AreTurns true turns n = n ≡ turns
+AreTurns false turns n = n ≤ turns
+
+-- These were heard, and this given. For all doings for which the server stood, it was given as the server does; if not all turns were done,
+-- the last event may be answered in part
+pub record HasServed {H Job : Type 0} (hub : Hub Job) (old new : Server H Job) (at since : Around) (before now : Option Told) (first last turns : ℕ) (ok : Bool) : Type 0 where
+  pub heard : List Heard
+  pub waits : List ℕ
+  pub given : List Given
+  pub told : TellsMore before now heard waits given
+  pub count : AreTurns ok turns (length heard)
+  pub serves : (s : Setup) (h : List Doing) → StandsServer hub s old h → moment h ≤ first
+      → ServesOn hub s (not ok) (AtEnd hub s new at since last h) (HasEnded new at last h) h heard waits given
