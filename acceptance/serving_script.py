@@ -1,0 +1,361 @@
+#!/usr/bin/env python3
+"""What `crates/ht_serving` is to print: each line of its script stands beside what it wants.
+
+    acceptance/serving_script.py --check   that the committed lines and answers are these
+    acceptance/serving_script.py --write   writes both
+
+The sessions at its beginning are written by hand. Those behind them are random, of five connections or so each, and their answers are those of
+`serving_model.py`, a server over plain lists."""
+import pathlib
+import random
+import sys
+
+from serving_model import Server, compact, token_of
+
+CRATE = pathlib.Path(__file__).resolve().parent.parent / "crates" / "ht_serving"
+
+SESSIONS = 150
+STEPS = 60
+
+SHAKE = '{"protocol":"json","version":1}|'
+SHAKE_2 = '{"protocol":"json","version":2}|'
+NEGOTIATE = "POST /hub/negotiate?negotiateVersion=1"
+RECONNECT = NEGOTIATE + "&useStatefulReconnect=true"
+
+
+def call(number, target, *arguments):
+    return compact({"type": 1, "invocationId": str(number), "target": target, "arguments": list(arguments)}) + "|"
+
+
+def notify(target, *arguments): return compact({"type": 1, "target": target, "arguments": list(arguments)}) + "|"
+
+
+def ended(number, **ending): return compact({"type": 3, "invocationId": str(number), **ending}) + "|"
+
+
+def body(conn, token, reconnect):
+    transports = '[{"transferFormats":["Text","Binary"],"transport":"WebSockets"},{"transferFormats":["Text","Binary"],"transport":"LongPolling"}]'
+    end = ',"useStatefulReconnect":true}' if reconnect else "}"
+    return f'{{"availableTransports":{transports},"connectionId":"{conn}","connectionToken":"{token}","negotiateVersion":1{end}'
+
+
+FIRST = "AAAAAAAAAAAAAAAAAAAAAAAAAAAAAAAB"
+
+
+def socket(lane, token, key="k"): return f"request {lane} GET /hub?id={token} upgrade={key}"
+
+
+def rows():
+    """Rooms, a store that fails, tokens and their moments, polls, broadcasts in both codecs, and a door that fails."""
+    token = f"reply 1 200 Json {body(1, FIRST, True)}"
+    posted = notify("Posted", "r", "1", "hi")
+    slow = "x" * 30000
+    seq = '{"sequenceId":1,"type":9}|'
+    return f"""
+note a room
+server - - - => a server
+0 request 1 GET /hub upgrade=k => reply 1 101 None accept k
+0 text 1 {SHAKE} => text 1 {{}}|
+0 text 1 {call(1, "Join", "r")} => -
+idle => false
+0 quiet => text 1 {ended(1)}
+0 text 1 {call(2, "Post", "r", "hi")} => -
+0 quiet => text 1 {posted}
+0 quiet => text 1 {ended(2)}
+idle => true
+note a store that fails
+server 0 - - => a server
+0 request 1 GET /hub upgrade=k => reply 1 101 None accept k
+0 text 1 {SHAKE}{call(1, "Join", "r")} => text 1 {{}}|
+0 quiet => text 1 {ended(1)}
+0 text 1 {call(2, "Post", "r", "hi")} => -
+0 quiet => text 1 {ended(2, error="The store failed.")}
+0 quiet => -
+note a token in time
+server - - - => a server
+1000 request 1 {RECONNECT} => {token}
+30999 {socket(2, FIRST)} => reply 2 101 None accept k
+note a token too late
+server - - - => a server
+1000 request 1 {RECONNECT} => {token}
+31000 {socket(2, FIRST)} => reply 2 404 None
+note a resumption in time
+server - - - => a server
+1000 request 1 {RECONNECT} => {token}
+1000 {socket(2, FIRST)} => reply 2 101 None accept k
+1000 text 2 {SHAKE_2} => text 2 {{}}|
+2000 lost 2 => -
+31999 {socket(3, FIRST, "l")} => reply 3 101 None accept l; text 3 {seq}
+note a resumption too late
+server - - - => a server
+1000 request 1 {RECONNECT} => {token}
+1000 {socket(2, FIRST)} => reply 2 101 None accept k
+1000 text 2 {SHAKE_2} => text 2 {{}}|
+2000 lost 2 => -
+32000 {socket(3, FIRST)} => reply 3 404 None
+note what a life excludes
+server - - - => a server
+0 request 1 {RECONNECT} => {token}
+0 {socket(2, FIRST)} => reply 2 101 None accept k
+0 request 3 GET /hub?id={FIRST} => reply 3 409 None
+0 request 3 DELETE /hub?id={FIRST} => reply 3 409 None
+0 {socket(4, FIRST)} => reply 4 409 None
+0 request 5 POST /hub/negotiate?negotiateVersion=0 => reply 5 400 None; shut 5
+0 request 6 GET /hub/negotiate?negotiateVersion=1 => reply 6 405 None
+0 request 6 {NEGOTIATE} => reply 6 200 Json {body(2, token_of(1, 2), False)}
+0 request 7 GET /hub?id={token_of(1, 2)} => reply 7 200 None
+0 {socket(8, token_of(1, 2))} => reply 8 409 None
+note polls
+server - - - => a server
+0 request 1 {NEGOTIATE} => reply 1 200 Json {body(1, FIRST, False)}
+0 request 2 GET /hub?id={FIRST} => reply 2 200 None
+0 request 3 GET /hub?id={FIRST} => -
+0 request 4 GET /hub?id={FIRST} => reply 3 204 None
+0 request 5 POST /hub?id={FIRST} body={SHAKE}{compact({"type": 6})}| => reply 5 200 None; reply 4 200 Octets {{}}|
+0 request 6 DELETE /hub?id={FIRST} shut => reply 6 202 None; shut 6
+0 request 7 GET /hub?id={FIRST} => reply 7 404 None
+note a broadcast, to a member in MessagePack and to one that acknowledges nothing
+server - - - => a server
+0 request 1 GET /hub upgrade=k => reply 1 101 None accept k
+0 text 1 {SHAKE}{notify("Join", "r")}{notify("Join", "r")} => text 1 {{}}|
+0 request 2 GET /hub upgrade=k => reply 2 101 None accept k
+0 text 2 {{"protocol":"messagepack","version":1}}| => bytes 2 7b7d1e
+0 bytes 2 0d960180c0a44a6f696e91a17290 => -
+0 request 3 {RECONNECT} => reply 3 200 Json {body(3, token_of(0, 3), True)}
+0 {socket(4, token_of(0, 3))} => reply 4 101 None accept k
+0 text 4 {SHAKE_2}{notify("Join", "s")} => text 4 {{}}|{{"sequenceId":1,"type":8}}|
+0 quiet => -
+0 text 1 {notify("Post", "r", "hi")} => -
+0 quiet => text 1 {posted}; bytes 2 14960180c0a6506f7374656493a172a131a2686990
+0 text 1 {notify("Post", "s", slow)} => -
+0 quiet => text 4 {notify("Posted", "s", "1", slow)}
+0 text 1 {notify("Post", "s", slow)} => -
+0 quiet => text 4 {notify("Posted", "s", "1", slow)}
+0 text 1 {notify("Post", "s", slow)} => -
+0 quiet => text 4 {notify("Posted", "s", "1", slow)}
+0 text 1 {notify("Post", "s", slow)} => -
+0 quiet => text 4 {compact({"type": 7, "error": "Too slow."})}|; shut 4
+0 {socket(5, token_of(0, 3))} => reply 5 404 None
+0 text 1 {call(9, "History", "r", 10)} => -
+0 quiet => text 1 {ended(9, result=["hi"])}
+note who calls
+server 1 0 Ann,Bob => a server
+0 request 1 GET /hub upgrade=k bearer=Eve => reply 1 401 None
+0 request 1 GET /hub upgrade=k bearer=Ann => reply 1 500 None
+0 request 1 {NEGOTIATE} bearer=Ann => reply 1 500 None
+0 request 1 {NEGOTIATE} bearer=Ann => reply 1 200 Json {body(1, FIRST, False)}
+0 {socket(2, FIRST)} => reply 2 101 None accept k
+0 request 3 GET /hub upgrade=l bearer=Bob => reply 3 101 None accept l
+0 text 3 {SHAKE}{call(1, "Tell", "Ann", "hi")} => text 3 {{}}|
+0 quiet => text 3 {ended(1)}
+0 text 2 {SHAKE} => text 2 {{}}|
+0 text 3 {call(2, "Tell", "Ann", "you")} => text 2 {notify("Told", "Bob", "you")}
+note a door that fails
+server - - - => a server
+hear 0 request 1 GET /hub upgrade=k => to be heard
+hear 0 text 1 {SHAKE} => to be heard
+serve 5 - => served: reply 1 101 None accept k; text 1 {{}}|
+hear 0 text 1 {call(1, "Join", "r")} => to be heard
+hear 0 quiet => to be heard
+serve 3 2 => the door failed: -
+serve 1 0 => the door failed: -
+serve 1 - => served: -
+"""
+
+
+# what is said to a request that names a token, by the token's life: a socket, a poll, a POST, a DELETE and another method. `-` is a poll that is held
+LIVES = {
+    "unknown": ([], ["404 None", "404 None", "404 None", "404 None", "405 None"]),
+    "fresh": ([RECONNECT], ["101 None accept k", "200 None", "409 None", "202 None", "405 None"]),
+    "on a socket, not granted": ([NEGOTIATE, "socket", SHAKE_2], ["409 None", "409 None", "409 None", "409 None", "405 None"]),
+    "on a socket, before its handshake": ([RECONNECT, "socket"], ["409 None", "409 None", "409 None", "409 None", "405 None"]),
+    "on a socket, granted": ([RECONNECT, "socket", SHAKE_2], ["101 None accept k", "409 None", "409 None", "409 None", "405 None"]),
+    "lost": ([RECONNECT, "socket", SHAKE_2, "lost"], ["101 None accept k", "409 None", "409 None", "409 None", "405 None"]),
+    "polling": ([RECONNECT, "poll"], ["409 None", "-", "200 None", "202 None", "405 None"]),
+    "ending": ([RECONNECT, "poll", "close"], ["404 None", "200 Octets {}|", "404 None", "202 None", "405 None"]),
+}
+
+
+def begun(actions):
+    """The lines that bring the first token to a life."""
+    lines = ["server - - - => a server"]
+    for action in actions:
+        if action in (NEGOTIATE, RECONNECT):
+            lines.append(f"0 request 1 {action} => reply 1 200 Json {body(1, FIRST, action == RECONNECT)}")
+        elif action == "socket":
+            lines.append(f"0 {socket(2, FIRST)} => reply 2 101 None accept k")
+        elif action == SHAKE_2:
+            lines.append(f"0 text 2 {SHAKE_2} => text 2 {{}}|")
+        elif action == "lost":
+            lines.append("0 lost 2 => -")
+        elif action == "poll":
+            lines.append(f"0 request 2 GET /hub?id={FIRST} => reply 2 200 None")
+        else:
+            lines.append(f"0 request 3 POST /hub?id={FIRST} body={SHAKE}{compact({'type': 7})}| => reply 3 200 None")
+    return lines
+
+
+def by_life():
+    """Each row of the table that looks at a life."""
+    lines = []
+    for life, (actions, answers) in LIVES.items():
+        for method, answer in zip(["GET", "GET", "POST", "DELETE", "PUT"], answers):
+            is_socket = method == "GET" and answer is answers[0]
+            lines += [f"note {method} of a token that is {life}"] + begun(actions)
+            said = answer if answer == "-" else f"reply 9 {answer}"
+            if is_socket and "101" in answer and life not in ("fresh", "unknown"):
+                said += '; text 9 {"sequenceId":1,"type":9}|'
+                said = ("shut 2; " if "granted" in life else "") + said
+            lines.append(f"0 request 9 {method} /hub?id={FIRST}{' upgrade=k' if is_socket else ''} => {said}")
+    return "\n".join(lines)
+
+
+def doors():
+    """A door that fails at each of its calls in turn: what it was given before stands."""
+    server, given = Server([], [], []), []
+    socket_1 = dict(method="GET", path="/hub", query={}, upgrade="k", bearer=None, shut=False, body="")
+    events = [("request 1 GET /hub upgrade=k", "request", 1, socket_1), (f"text 1 {SHAKE}{call(1, 'Join', 'r')}", "text", 1, SHAKE + call(1, "Join", "r")),
+              ("quiet", "quiet"), (f"text 1 {call(2, 'Post', 'r', 'hi')}", "text", 1, call(2, "Post", "r", "hi")), ("quiet", "quiet"), ("quiet", "quiet"),
+              (f"text 1 {compact({'type': 7})}|", "text", 1, compact({"type": 7}) + "|")]
+    calls = []
+    for _line, *event in events:
+        calls += [None] + server.hear(0, *event)
+    lines = []
+    for failing in range(len(calls) + 1):
+        lines += [f"note a door that fails at call {failing}", "server - - - => a server"] + [f"hear 0 {line} => to be heard" for line, *_ in events]
+        given = [word for word in calls[:failing] if word]
+        lines.append(f"serve {len(events)} {failing} => {'served' if failing == len(calls) else 'the door failed'}: {'; '.join(given) or '-'}")
+    return "\n".join(lines)
+
+
+class Draw:
+    """A random session: a model of the server, and what its clients know."""
+
+    def __init__(self, seed):
+        self.random = random.Random(seed)
+        self.fails = [sorted(self.random.sample(range(14), self.random.randrange(3))), sorted(self.random.sample(range(5), self.random.randrange(2)))]
+        self.server, self.now, self.lane, self.number = Server(*self.fails, ["Ann", "Bob"]), 0, 0, 0
+        comma = [",".join(map(str, fails)) or "-" for fails in self.fails]
+        self.lines = [f"note session {seed}", f"server {comma[0]} {comma[1]} Ann,Bob => a server"]
+
+    def hear(self, line, *event):
+        said = self.server.hear(self.now, *event)
+        self.lines.append(f"{self.now} {line} => {'; '.join(said) or '-'}")
+
+    def request(self, method, path, query=None, upgrade=None, bearer=None, shut=False, text=""):
+        self.lane += 1
+        lane, query = self.lane, query or {}
+        target = path + ("?" + "&".join(f"{k}={v}" for k, v in query.items()) if query else "")
+        words = [f"bearer={bearer}"] * bool(bearer) + [f"upgrade={upgrade}"] * bool(upgrade) + ["shut"] * shut + [f"body={text}"] * bool(text)
+        self.hear(" ".join(["request", str(lane), method, target, *words]), "request", lane,
+                  dict(method=method, path=path, query=query, upgrade=upgrade, bearer=bearer, shut=shut, body=text))
+
+    def conn(self):
+        some = [conn for conn in self.server.conns.values() if not conn.gone or self.random.randrange(8) == 0]
+        return self.random.choice(some) if some else None
+
+    def named(self, method, upgrade=None, text=""):
+        conn = self.conn()
+        token = conn.token if conn and conn.token else token_of(99, 77)
+        self.request(method, "/hub", {"id": token}, upgrade, None, self.random.randrange(5) == 0, text)
+
+    def frames(self, conn):
+        """What a client sends: its handshake first; after a resumption its Sequence; then calls, Acks, Pings, rarely a Close."""
+        end = conn.end
+        if end is None or not end.shaken:
+            return self.random.choice([SHAKE, SHAKE, SHAKE_2, SHAKE_2, SHAKE_2 + self.message(), "x|"] if self.random.randrange(9) else ["x|"])
+        if end.link and end.link["next"] is None and self.random.randrange(4):
+            return compact({"type": 9, "sequenceId": self.random.randrange(1, end.processed + 2)}) + "|" + self.message()
+        what = self.random.randrange(16)
+        if what == 0:
+            return compact({"type": 6}) + "|"
+        if what == 1 and self.random.randrange(3) == 0:
+            return compact({"type": 7}) + "|"
+        if what < 5 and end.kept:
+            return compact({"type": 8, "sequenceId": self.random.randrange(end.lent + 1)}) + "|"
+        if what == 5 and end.kept and self.random.randrange(6) == 0:
+            return compact({"type": 8, "sequenceId": end.lent + 1}) + "|" + self.message()
+        return self.message() + (self.message() if what == 6 else "")
+
+    def message(self):
+        room, text = self.random.choice("rst"), self.random.choice(["hi", "there", "x"])
+        target = self.random.choice(["Join", "Join", "Leave", "Post", "Post", "Post", "Tell", "History", "Away"])
+        arguments = {"Join": [room], "Leave": [room], "Post": [room, text], "Tell": [self.random.choice(["Ann", "Bob"]), text],
+                     "History": [room, self.random.randrange(4)], "Away": []}[target]
+        if self.random.randrange(3) == 0:
+            return notify(target, *arguments)
+        self.number += 1
+        return call(self.number, target, *arguments)
+
+    def standing(self):
+        some = [conn for conn in self.server.conns.values() if conn.socket is not None and not conn.gone]
+        return self.random.choice(some) if some else None
+
+    def step(self):
+        self.now += self.random.choice([0, 0, 0, 0, 1, 10, 500, 4000, 14000, 16000, 29999, 30000] if self.random.randrange(4) == 0 else [0, 1])
+        what = self.random.randrange(24)
+        conn = self.standing()
+        if what < 9 and conn:
+            text = self.frames(conn)
+            self.hear(f"text {conn.socket} {text}", "text", conn.socket, text)
+        elif what < 12 and len(self.server.conns) < 7:
+            bearer = self.random.choice([None, None, "Ann", "Bob", "Eve"])
+            if self.random.randrange(3) == 0:
+                self.request("GET", "/hub", None, "k", bearer, self.random.randrange(4) == 0)
+            else:
+                reconnect = {"useStatefulReconnect": self.random.choice(["true", "false"])} if self.random.randrange(3) else {}
+                self.request("POST", "/hub/negotiate", {"negotiateVersion": self.random.choice(["1", "1", "1", "2", "0", "x"]), **reconnect}, None, bearer)
+        elif what < 14:
+            self.named("GET", "k")
+        elif what < 17:
+            self.named("GET")
+        elif what < 19:
+            poller = self.conn()
+            text = self.frames(poller) if poller else SHAKE
+            token = poller.token if poller and poller.token else token_of(98, 1)
+            self.request("POST", "/hub", {"id": token}, None, None, False, text)
+        elif what < 20 and self.random.randrange(3) == 0:
+            self.named("DELETE")
+        elif what < 21:
+            lanes = [c.socket for c in self.server.conns.values() if c.socket is not None and not c.gone] + [c.poll[0] for c in self.server.conns.values() if c.poll and not c.gone]
+            if lanes:
+                lane = self.random.choice(lanes)
+                if self.random.randrange(8) == 0:
+                    self.hear(f"refused {lane} 400", "refused", lane)
+                else:
+                    self.hear(f"lost {lane}", "lost", lane)
+        elif what < 22 and self.random.randrange(6) == 0:
+            self.request(self.random.choice(["GET", "PUT"]), self.random.choice(["/hub", "/", "/hub/"]))
+        else:
+            self.hear("quiet", "quiet")
+
+
+def session(seed):
+    draw = Draw(seed)
+    for _step in range(STEPS):
+        draw.step()
+    return "\n".join(draw.lines)
+
+
+def main():
+    lines, answers = "", ""
+    whole = rows().strip() + "\n" + by_life() + "\n" + doors() + "\n" + "\n".join(session(seed) for seed in range(SESSIONS))
+    for pair in whole.split("\n"):
+        line, arrow, answer = pair.partition(" => ")
+        assert bool(arrow) != line.startswith("note "), pair
+        lines += line + "\n"
+        answers += (answer if arrow else line) + "\n"
+    if sys.argv[1:] == ["--write"]:
+        (CRATE / "stdin").write_text(lines)
+        (CRATE / "stdout").write_text(answers)
+        return 0
+    if sys.argv[1:] == ["--check"]:
+        same = lines == (CRATE / "stdin").read_text() and answers == (CRATE / "stdout").read_text()
+        print(f"serving_script: the committed lines and answers are {'' if same else 'not '}these")
+        return 0 if same else 1
+    print(__doc__)
+    return 2
+
+
+if __name__ == "__main__":
+    sys.exit(main())

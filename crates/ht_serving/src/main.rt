@@ -1,0 +1,58 @@
+//! Has a server of rooms hear the events of its input, and prints what it says: a program to test `hub_server` by. Its input and the output
+//! that is wanted are those of `acceptance/serving_script.py`, where each line stands beside what it wants.
+//!
+//! A line is one action, and a line that is none is refused. If memory is out, the program prints `no memory` and ends with status 7.
+//!
+//! ```text
+//! note TEXT                        is printed
+//! server KEEPER LOTS USERS         a server at `/hub`, whose keeper and lots fail at these of their calls; the n-th draw is sixteen times
+//!                                  the byte n. Numbers have a comma between two, and are none if they are `-`; so it is of users, whose
+//!                                  names are their access tokens
+//! NOW request LANE METHOD TARGET WORDS    a request; its words are `bearer=TOKEN`, `upgrade=KEY`, `shut` and `body=TEXT`
+//! NOW text LANE TEXT               a message; each `|` of its text stands for a separator
+//! NOW bytes LANE DIGITS            a message of these bytes
+//! NOW lost LANE                    the lane was lost
+//! NOW refused LANE STATUS          the door refused a request there
+//! NOW quiet                        nothing
+//! idle                             whether no job is due
+//! hear EVENT                       the event is kept for the next `serve`
+//! serve TURNS FAILING              the server serves so many turns through a door that hears these, and fails at these of its calls
+//! ```
+#![tactic(auto)]
+
+mod events;
+mod script;
+mod show;
+mod stop;
+mod words;
+
+use script::Bench;
+use std::io::{self, BufRead, BufReader};
+use std::process::ExitCode;
+
+const OUT_OF_MEMORY: u8 = 7;
+
+const NO_INPUT: u8 = 3;
+
+/// Reads the script, and prints the answers.
+fn run(rt: &(impl Input + Print + AllocGlobal)) -> io::Result<()> {
+    let alloc = rt.alloc();
+    let mut bench = Bench::start(alloc)?;
+    for line in BufReader::new(alloc, rt.reader())?.lines(alloc) {
+        let line = line?;
+        let answer = bench.carry_out(&line)?;
+        println!(rt; "{answer}")?;
+    }
+    Ok(())
+}
+
+fn main(rt: HostRuntime) -> ExitCode {
+    let Err(error) = run(&rt) else {
+        return ExitCode::SUCCESS;
+    };
+    if error.kind() != io::ErrorKind::OutOfMemory {
+        return ExitCode::from(NO_INPUT);
+    }
+    let _ = println!(rt; "no memory");
+    ExitCode::from(OUT_OF_MEMORY)
+}
