@@ -150,6 +150,35 @@ server 1 0 Ann,Bob => a server
 0 quiet => text 3 {ended(1)}
 0 text 2 {SHAKE} => text 2 {{}}|
 0 text 3 {call(2, "Tell", "Ann", "you")} => text 2 {notify("Told", "Bob", "you")}
+note a Ping, a silence, and a resumption in time
+server - - - => a server
+1000 request 1 {RECONNECT} => {token}
+2000 {socket(2, FIRST)} => reply 2 101 None accept k
+2000 text 2 {SHAKE_2} => text 2 {{}}|
+16999 quiet => -
+17000 quiet => text 2 {{"type":6}}|
+31999 quiet => -
+32000 quiet => shut 2
+61999 {socket(3, FIRST)} => reply 3 101 None accept k; text 3 {seq}
+note a silence, and a resumption too late
+server - - - => a server
+1000 request 1 {RECONNECT} => {token}
+2000 {socket(2, FIRST)} => reply 2 101 None accept k
+2000 text 2 {SHAKE_2} => text 2 {{}}|
+17000 quiet => text 2 {{"type":6}}|
+32000 quiet => shut 2
+62000 {socket(3, FIRST)} => reply 3 404 None
+note a keeper that fails when it is asked who calls
+server 0 - Ann => a server
+0 request 1 GET /hub upgrade=k bearer=Ann => reply 1 500 None
+note a keeper that fails at a deed
+server 1 - Ann => a server
+0 request 1 GET /hub upgrade=k bearer=Ann => reply 1 101 None accept k
+0 text 1 {SHAKE} => text 1 {{}}|
+0 text 1 {call(1, "Join", "r")} => -
+0 quiet => text 1 {ended(1)}
+0 text 1 {call(2, "Post", "r", "hi")} => -
+0 quiet => text 1 {ended(2, error="The store failed.")}
 note a door that fails
 server - - - => a server
 hear 0 request 1 GET /hub upgrade=k => to be heard
@@ -210,21 +239,40 @@ def by_life():
     return "\n".join(lines)
 
 
+def asks(method, path, query=None, upgrade=None, text=""):
+    return dict(method=method, path=path, query=query or {}, upgrade=upgrade, bearer=None, shut=False, body=text)
+
+
+def door_sessions():
+    """Each a list of lines with their events: a room, a token and its socket, and polls."""
+    join, post, close = call(1, "Join", "r"), call(2, "Post", "r", "hi"), compact({"type": 7}) + "|"
+    version, named = {"negotiateVersion": "1"}, {"id": FIRST}
+    quiet = ("0 quiet", 0, "quiet")
+    room = [("0 request 1 GET /hub upgrade=k", 0, "request", 1, asks("GET", "/hub", None, "k")), (f"0 text 1 {SHAKE}{join}", 0, "text", 1, SHAKE + join),
+            quiet, (f"0 text 1 {post}", 0, "text", 1, post), quiet, quiet, (f"0 text 1 {close}", 0, "text", 1, close)]
+    granted = {**version, "useStatefulReconnect": "true"}
+    token = [(f"1000 request 1 {RECONNECT}", 1000, "request", 1, asks("POST", "/hub/negotiate", granted)),
+             (f"30999 {socket(2, FIRST)}", 30999, "request", 2, asks("GET", "/hub", named, "k"))]
+    sent = SHAKE + compact({"type": 6}) + "|"
+    polls = [(f"0 request 1 {NEGOTIATE}", 0, "request", 1, asks("POST", "/hub/negotiate", version))]
+    polls += [(f"0 request {lane} GET /hub?id={FIRST}", 0, "request", lane, asks("GET", "/hub", named)) for lane in (2, 3, 4)]
+    polls += [(f"0 request 5 POST /hub?id={FIRST} body={sent}", 0, "request", 5, asks("POST", "/hub", named, None, sent)),
+              (f"0 request 6 DELETE /hub?id={FIRST}", 0, "request", 6, asks("DELETE", "/hub", named)),
+              (f"0 request 7 GET /hub?id={FIRST}", 0, "request", 7, asks("GET", "/hub", named))]
+    return [room, token, polls]
+
+
 def doors():
     """A door that fails at each of its calls in turn: what it was given before stands."""
-    server, given = Server([], [], []), []
-    socket_1 = dict(method="GET", path="/hub", query={}, upgrade="k", bearer=None, shut=False, body="")
-    events = [("request 1 GET /hub upgrade=k", "request", 1, socket_1), (f"text 1 {SHAKE}{call(1, 'Join', 'r')}", "text", 1, SHAKE + call(1, "Join", "r")),
-              ("quiet", "quiet"), (f"text 1 {call(2, 'Post', 'r', 'hi')}", "text", 1, call(2, "Post", "r", "hi")), ("quiet", "quiet"), ("quiet", "quiet"),
-              (f"text 1 {compact({'type': 7})}|", "text", 1, compact({"type": 7}) + "|")]
-    calls = []
-    for _line, *event in events:
-        calls += [None] + server.hear(0, *event)
     lines = []
-    for failing in range(len(calls) + 1):
-        lines += [f"note a door that fails at call {failing}", "server - - - => a server"] + [f"hear 0 {line} => to be heard" for line, *_ in events]
-        given = [word for word in calls[:failing] if word]
-        lines.append(f"serve {len(events)} {failing} => {'served' if failing == len(calls) else 'the door failed'}: {'; '.join(given) or '-'}")
+    for events in door_sessions():
+        server, calls = Server([], [], []), []
+        for _line, now, *event in events:
+            calls += [None] + server.hear(now, *event)
+        for failing in range(len(calls) + 1):
+            lines += [f"note a door that fails at call {failing}", "server - - - => a server"] + [f"hear {line} => to be heard" for line, *_ in events]
+            given = [word for word in calls[:failing] if word]
+            lines.append(f"serve {len(events)} {failing} => {'served' if failing == len(calls) else 'the door failed'}: {'; '.join(given) or '-'}")
     return "\n".join(lines)
 
 
