@@ -296,5 +296,6 @@ jobs_agree t h = record {
   left = λ j. left_is t j h;
   uses = λ c. uses_are t c h;
   due = λ j. due_is t j h;
+  passes = passed_is t h;
   next = next_is t h;
 }

@@ -10,9 +10,9 @@ use Rattle.hm_message.specs.Message.{Fits}
 use Rattle.hd_calls.specs.Numbers.{most_live, most_inputs, most_numbers}
 use Rattle.hd_calls.specs.Hubs.{Invoked, Hub}
 use Rattle.hd_calls.specs.Peers.{Move, Settings, can_frame, drawn, call_of, given, lost, live_call, uploaded, live_upload, begun, moments, turns, acts, inputs, marked, over, live_job, reply, steps}
-use Rattle.hd_calls.specs.Rules.{own_live, live_jobs, inputs_left, in_use, is_due, next_job, IsPeer}
+use Rattle.hd_calls.specs.Rules.{own_live, live_jobs, inputs_left, in_use, is_due, next_job, passed, IsPeer}
 use Rattle.hd_calls.specs.PeerWorlds.{Pair, settings, ends, AreApart, IsPeerWorld, BothOnce}
-use Rattle.hd_calls.specs.Tables.{call_happenings, drawn_in, call_in, given_in, lost_in, uploaded_in, live_call_in, live_upload_in, own_live_in, live_job_in, live_jobs_in, inputs_left_in, in_use_in, is_due_in, next_job_in, job_happenings, begun_in, moments_in, turns_in, acts_in, inputs_in, marked_in, over_in, reply_in}
+use Rattle.hd_calls.specs.Tables.{call_happenings, drawn_in, call_in, given_in, lost_in, uploaded_in, live_call_in, live_upload_in, own_live_in, live_job_in, live_jobs_in, inputs_left_in, in_use_in, is_due_in, next_job_in, job_happenings, begun_in, moments_in, turns_in, acts_in, inputs_in, marked_in, over_in, passed_in, reply_in}
 
 -- what a peer's history says of its own calls is what their own happenings say, and so is what a table of calls decides by
 pub record CallsAgree (h : List Move) : Type 0 where
@@ -40,6 +40,7 @@ pub record JobsAgree (t : Settings) (h : List Move) : Type 0 where
   pub left : (j : ℕ) → inputs_left j h ≡ inputs_left_in j (job_happenings t h)
   pub uses : (c : Invoked) → in_use t c h ≡ in_use_in c (job_happenings t h)
   pub due : (j : ℕ) → is_due t j h ≡ is_due_in j (job_happenings t h)
+  pub passes : passed h ≡ passed_in (job_happenings t h)
   pub next : next_job t h ≡ next_job_in (job_happenings t h)
 
 -- so it is of each list of moves

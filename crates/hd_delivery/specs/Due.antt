@@ -11,7 +11,7 @@ use Rattle.hd_delivery.specs.declared.vocabulary.State.{State}
 use Rattle.hd_delivery.specs.declared.vocabulary.State.TheVariants.{Ready}
 use Rattle.hd_delivery.specs.Numbers.{ping_after}
 use Rattle.hd_delivery.specs.Frames.{LinkFrame, Request, Response, Refusal, Numbered, Ack, Sequence, Ping, Close, error_of, number, most_told}
-use Rattle.hd_delivery.specs.Histories.{Shake, Step, Attached, Failed, Lent, Ticked, Closed, Config, is_this, first_of, present_link, first_link, lent_frames, sent_messages, processed_messages, acked_count, written_place, next_place, is_shaken, is_three, is_kept, is_closed, state, is_resumed, written_moment}
+use Rattle.hd_delivery.specs.Histories.{Shake, Step, Attached, Failed, Lent, Ticked, Closed, Config, is_this, first_of, present_link, first_link, lent_frames, sent_messages, processed_messages, acked_count, written_place, next_place, is_shaken, is_three, is_kept, is_closed, state, is_resumed, heard_moment, written_moment, is_silence}
 
 -- the handshake: a client asks at once, unless it is closed; a server answers once it took the request, closed or not
 abbrev pub handshake : Side → Config → List Step → Option LinkFrame
@@ -49,6 +49,11 @@ is_quiet (Attached l now ∷ h) = false
 is_quiet (Lent f ∷ h) = false
 is_quiet (Ticked now ∷ h) = nat_le (written_moment h + ping_after) now || is_quiet h
 is_quiet (_ ∷ h) = is_quiet h
+
+-- a tick at this moment changes nothing but the moment: it is no silence, it is known when the link was heard, and no Ping is due by it that
+-- isn't due without it
+abbrev pub is_unseen : Config → ℕ → List Step → Bool
+is_unseen c now h = (is_some (heard_moment h) && not (is_silence c now h)) && (is_quiet h || nat_lt now (written_moment h + ping_after))
 
 -- the state is Ready
 abbrev pub is_ready : State → Bool

@@ -1,11 +1,12 @@
 -- A history with an idle tick more tells the same.
-use Rattle.std.proofs.Common.{refl, ap, arith, ◌≡◌, ℕ, ◌+◌, ◌≤◌, Bool, true, false, List, [], ◌∷◌, Option, Some, None}
-use Rattle.std.specs.Prelude.{nat_le, is_some, max, ◌&&◌, ◌||◌, not, option_map, slice_get, length, suc, if◌then◌else◌}
+use Rattle.std.proofs.Common.{refl, ap, arith, ◌≡◌, ℕ, ◌+◌, ◌≤◌, ◌<◌, Bool, true, false, List, [], ◌∷◌, Option, Some, None}
+use Rattle.std.specs.Prelude.{nat_le, nat_lt, is_some, max, ◌&&◌, ◌||◌, not, option_map, slice_get, length, suc, if◌then◌else◌}
+use Rattle.std.proofs.lemmas.Bool.{and_parts, ltb-true, leb-true}
 use Rattle.hd_delivery.specs.declared.vocabulary.Side.{Side}
 use Rattle.hd_delivery.specs.declared.vocabulary.Side.TheVariants.{Client, Server}
 use Rattle.hd_delivery.specs.Numbers.{ping_after}
 use Rattle.hd_delivery.specs.Frames.{LinkFrame, Response, Sequence, Ping}
-use Rattle.hd_delivery.specs.Histories.{Step, Ticked, Config, first_of, is_this, present_link, first_link, fed_frames, taken_count, lent_frames, acked_count, processed_messages, is_three, is_shaken, is_kept, is_closed, state, heard_moment, written_moment, is_late}
+use Rattle.hd_delivery.specs.Histories.{Step, Ticked, Config, is_silence, first_of, is_this, present_link, first_link, fed_frames, taken_count, lent_frames, acked_count, processed_messages, is_three, is_shaken, is_kept, is_closed, state, heard_moment, written_moment, is_late}
 use Rattle.hd_delivery.specs.Due.{handshake, sequence_due, ack_due, message_due, is_ready, is_quiet, ping_due, close_due, due_after, answer, due_there, due_on, due}
 use Rattle.hd_delivery.specs.Processes.{reads_handshake, reads_frame, reads, next_number, next_frame, processes}
 use Rattle.hd_serving.specs.Laws.{IdleTicksAreUnseen}
@@ -74,9 +75,24 @@ first_stays (Some x) p e = refl
 later_max : (later now m : ℕ) → now ≤ later → max later (max now m) ≡ max later m
 later_max later now m e = omega arith
 
+-- what is no later than a moment isn't past it
+stays_quiet : (until now : ℕ) (b : Bool) → (b || nat_lt now until) ≡ true → (nat_le until now || b) ≡ b
+stays_quiet until now true e = go (nat_le until now)
+  where
+    go : (x : Bool) → (x || true) ≡ true
+    go true = refl
+    go false = refl
+stays_quiet until now false e = go (nat_le until now) refl
+  where
+    go : (x : Bool) → nat_le until now ≡ x → (x || false) ≡ false
+    go true le = let past : until ≤ now = leb-true until now le in let before : now < until = ltb-true now until e in absurd (omega (arith, past, before))
+    go false le = refl
+
 pub idle_ticks_are_unseen : IdleTicksAreUnseen
-idle_ticks_are_unseen c now h idle =
-    let heard_same : heard_moment (Ticked now ∷ h) ≡ heard_moment h = first_stays (heard_moment h) _ idle.was_heard in
+idle_ticks_are_unseen c now h unseen =
+    let parts = and_parts (is_some (heard_moment h) && not (is_silence c now h)) _ unseen in
+    let as_quiet : (nat_le (written_moment h + ping_after) now || is_quiet h) ≡ is_quiet h = stays_quiet (written_moment h + ping_after) now (is_quiet h) parts.1 in
+    let heard_same : heard_moment (Ticked now ∷ h) ≡ heard_moment h = first_stays (heard_moment h) _ (and_parts (is_some (heard_moment h)) _ parts.0).0 in
     record {
       same_link = refl;
       same_state = refl;
@@ -85,9 +101,9 @@ idle_ticks_are_unseen c now h idle =
       same_held = refl;
       same_heard = heard_same;
       same_written = refl;
-      same_quiet = idle.as_quiet;
-      same_due = due_same c now h idle.as_quiet;
-      same_next = processes_same c now h idle.as_quiet;
+      same_quiet = as_quiet;
+      same_due = due_same c now h as_quiet;
+      same_next = processes_same c now h as_quiet;
       same_silence = λ later. ap (λ o. (is_some (present_link h) && not (is_closed c h)) && is_late later o) heard_same;
       same_moment = λ later e. later_max later now _ e;
     }

@@ -9,7 +9,7 @@ use Rattle.hd_lanes.specs.declared.http.Request.{Request}
 use Rattle.hd_delivery.specs.Numbers.{most_framing, ping_after}
 use Rattle.hd_delivery.specs.Histories.{Step, Ticked, Config, codec_of, present_link, sent_messages, processed_messages, held_messages, moment, heard_moment, written_moment, is_silence, state}
 use Rattle.hd_delivery.specs.Frames.{LinkFrame}
-use Rattle.hd_delivery.specs.Due.{due, is_quiet}
+use Rattle.hd_delivery.specs.Due.{due, is_quiet, is_unseen}
 use Rattle.hd_delivery.specs.Processes.{processes}
 use Rattle.hd_delivery.specs.Worlds.{MaySend}
 use Rattle.hd_delivery.specs.Sending as sending
@@ -96,11 +96,6 @@ ConnectionsInOrder = (now : ℕ) (xs h : List Happening) → IsRound now xs h �
 
 -- ---- ticks
 
--- a tick that makes no Ping due that isn't due without it, at an end that knows when it was heard
-pub record IsIdleTick (c : Config) (now : ℕ) (h : List Step) : Type 0 where
-  pub was_heard : is_some (heard_moment h) ≡ true
-  pub as_quiet : (nat_le (written_moment h + ping_after) now || is_quiet h) ≡ is_quiet h
-
 -- two histories tell the same, but for the moment, and for that too once a tick at `now` or later has come
 pub record TellSame (c : Config) (now : ℕ) (g h : List Step) : Type 0 where
   pub same_link : present_link g ≡ present_link h
@@ -118,7 +113,7 @@ pub record TellSame (c : Config) (now : ℕ) (g h : List Step) : Type 0 where
 
 -- an idle tick is unseen
 abbrev pub IdleTicksAreUnseen : Type 0
-IdleTicksAreUnseen = (c : Config) (now : ℕ) (h : List Step) → IsIdleTick c now h → TellSame c now (Ticked now ∷ h) h
+IdleTicksAreUnseen = (c : Config) (now : ℕ) (h : List Step) → is_unseen c now h ≡ true → TellSame c now (Ticked now ∷ h) h
 
 -- ---- turns
 

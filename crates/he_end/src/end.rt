@@ -2,7 +2,7 @@
 //!
 //! It speaks of messages, moments and bytes that are handed in; it doesn't know sockets, clocks and hubs.
 
-ghost use Rattle.std.specs.Prelude.{◌≡◌, ◌≤◌, ◌<◌, ◌⊎◌, ◌↔◌, ℕ, true, false, List, [], ◌∷◌, Option, Some, None, IfOk, IfErr, OnOk, OnErr, IfSome, IsTrue, length, take, option_map, sum_by, is_some, not, ◌||◌, ◌&&◌, if◌then◌else◌};
+ghost use Rattle.std.specs.Prelude.{◌≡◌, ◌≤◌, ◌<◌, ◌⊎◌, ◌↔◌, ℕ, true, false, List, [], ◌∷◌, Option, Some, None, IfOk, IfErr, OnOk, OnErr, IfSome, IsTrue, length, take, option_map, sum_by, is_some, nat_lt, not, ◌||◌, ◌&&◌, if◌then◌else◌};
 ghost use Rattle.std.specs.Borrow.{sem};
 ghost use Rattle.hf_split.specs.Held.{taken_by_feed};
 ghost use Rattle.hm_message.specs.declared.message.Message.{Message};
@@ -12,6 +12,8 @@ ghost use Rattle.hs_shake.specs.Requests.{IsVersion};
 ghost use Rattle.hd_delivery.specs.Histories as of;
 ghost use Rattle.hd_delivery.specs.Histories.{Attached, Detached, Ticked, Silenced, present_link, was_on, first_link, codec_of, is_kept, is_closed, is_silence, state, sent_messages, processed_messages, held_messages};
 ghost use Rattle.hd_delivery.specs.Worlds.{HasRoom};
+ghost use Rattle.hd_delivery.specs.Due.{is_unseen};
+ghost use Rattle.hd_delivery.specs.Numbers.{most_of_64_bits};
 ghost use Rattle.hd_delivery.specs.Bytes.{Wire, ByteStep, Bytes, Does, in_frames, sizes_of, unread};
 ghost use Rattle.hd_delivery.specs.OneHistory.{next_reader};
 ghost use Rattle.hd_delivery.specs.Frames.{Request};
@@ -136,6 +138,7 @@ impl End {
         ensures ticks { OfEach self.old (λ wire c h. of.moment (in_frames wire c h) ≤ now → (result ≡ is_silence c now (in_frames wire c h))
             × Stands wire c self.new (Does (if result then Silenced now else Ticked now) ∷ h)) }
         ensures limits { limits_of self.new ≡ limits_of self.old }
+        ensures codec { spoken_in self.new ≡ spoken_in self.old }
     {
         unread_stays();
         self.session.tick(now)
@@ -314,6 +317,22 @@ impl End {
         ensures { OfEach self.now (λ wire c h. result ≡ is_kept c (in_frames wire c h)) }
     {
         self.session.is_kept()
+    }
+
+    /// The moment of its latest step that had one.
+    pub fn moment(&self) -> u64
+        ensures { OfEach self.now (λ wire c h. result ≡ of.moment (in_frames wire c h)) }
+    {
+        self.session.moment
+    }
+
+    /// On a link, the moment before which a tick changes nothing but the moment: it is no silence, makes no Ping due, and finds out nothing
+    /// about when something was heard. The greatest number of 64 bits if each tick is so.
+    pub fn alarm(&self) -> u64
+        ensures { OfEach self.now (λ wire c h. is_some (present_link (in_frames wire c h)) ≡ true → (now : ℕ) → now < most_of_64_bits →
+            nat_lt now result ≡ is_unseen c now (in_frames wire c h)) }
+    {
+        self.session.alarm()
     }
 
     /// What the end may hold and read.

@@ -1,13 +1,14 @@
 //! What a session remembers of the link on which it stands, and of the handshake.
 
-ghost use Rattle.std.specs.Prelude.{◌≡◌};
+ghost use Rattle.std.specs.Prelude.{◌≡◌, ◌<◌, ◌+◌, ◌&&◌, ◌||◌, ℕ, is_some, nat_lt, not};
 ghost use Rattle.hd_delivery.specs.Histories.{is_late, is_this};
+ghost use Rattle.hd_delivery.specs.Numbers.{most_of_64_bits, ping_after};
 ghost use Rattle.he_end.specs.Remembers.{begun};
 ghost use Rattle.hs_shake.specs.Responses.{IsAnswered, refusal_text};
 ghost use Rattle.he_wire.specs.Spelling.{with_separator, error_frame};
 ghost use Rattle.he_end.specs.Remembers.{answer_text};
 
-use hd_delivery::{Reason, SILENCE_AFTER};
+use hd_delivery::{PING_AFTER, Reason, SILENCE_AFTER};
 use hm_message::Field;
 use hs_shake::{ShakeError, response};
 
@@ -119,5 +120,35 @@ impl Link {
             Some(heard) => now.saturating_sub(heard) >= SILENCE_AFTER,
             None => false,
         }
+    }
+
+    /// The moment before which a tick changes nothing but the moment, or the greatest number if each tick is so. `closed`: no tick is a
+    /// silence, since the session is closed.
+    pub fn alarm(&self, closed: bool) -> u64
+        ensures { (now : ℕ) → now < most_of_64_bits → nat_lt now result ≡
+            ((is_some self.now.heard && not (not closed && is_late now self.now.heard)) && (self.now.quiet || nat_lt now (self.now.wrote + ping_after))) }
+    {
+        self.silent_from(closed).min(self.quiet_from())
+    }
+
+    /// The moment before which no tick is a silence, nor finds out when something was heard.
+    fn silent_from(&self, closed: bool) -> u64
+        ensures { (now : ℕ) → now < most_of_64_bits → nat_lt now result ≡ (is_some self.now.heard && not (not closed && is_late now self.now.heard)) }
+    {
+        match self.heard {
+            None => 0,
+            Some(_) if closed => u64::MAX,
+            Some(heard) => heard.saturating_add(SILENCE_AFTER),
+        }
+    }
+
+    /// The moment before which no tick makes a Ping due.
+    fn quiet_from(&self) -> u64
+        ensures { (now : ℕ) → now < most_of_64_bits → nat_lt now result ≡ (self.now.quiet || nat_lt now (self.now.wrote + ping_after)) }
+    {
+        if self.quiet {
+            return u64::MAX;
+        }
+        self.wrote.saturating_add(PING_AFTER)
     }
 }

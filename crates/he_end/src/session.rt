@@ -1,6 +1,6 @@
 //! One end, frame by frame: what it remembers, and what changes that from outside. It doesn't know a link's bytes.
 
-ghost use Rattle.std.specs.Prelude.{◌≡◌, ◌≤◌, ◌<◌, ◌⊎◌, ℕ, max, true, false, List, [], ◌∷◌, IfOk, IfErr, OnOk, OnErr, IsTrue, Some, None, length, if◌then◌else◌};
+ghost use Rattle.std.specs.Prelude.{◌≡◌, ◌≤◌, ◌<◌, ◌⊎◌, ℕ, max, true, false, List, [], ◌∷◌, IfOk, IfErr, OnOk, OnErr, IsTrue, Some, None, length, is_some, nat_lt, if◌then◌else◌};
 ghost use Rattle.hm_message.specs.declared.message.Message.{Message};
 ghost use Rattle.hm_message.specs.Message.{is_sequenced};
 ghost use Rattle.hm_codec.specs.Frames.{framed};
@@ -9,7 +9,8 @@ ghost use Rattle.hd_delivery.specs.Histories.{Config, Step, Attached, Detached, 
 ghost use Rattle.hq_resend.specs.Buffers.{IsPushFault, HasRoom, after_rewind};
 ghost use Rattle.hq_resend.specs.Bounds.{most_size};
 ghost use Rattle.hd_delivery.specs.Frames.{LinkFrame};
-ghost use Rattle.hd_delivery.specs.Numbers.{most_messages};
+ghost use Rattle.hd_delivery.specs.Due.{is_unseen};
+ghost use Rattle.hd_delivery.specs.Numbers.{most_messages, most_of_64_bits};
 ghost use Rattle.he_end.specs.Remembers.{Remembers, begun};
 
 use crate::link::{Agreed, Answer, Farewell, Link};
@@ -111,6 +112,18 @@ impl Session {
         }
     }
 
+    /// On a link, the moment before which a tick changes nothing but the moment.
+    pub fn alarm(&self) -> u64
+        ensures { (c : Config) (k : List Step) →
+            Remembers c self.now k → is_some (of.present_link k) ≡ true → (now : ℕ) → now < most_of_64_bits →
+            nat_lt now result ≡ is_unseen c now k }
+    {
+        match self.link {
+            Some(link) => link.alarm(self.closed),
+            None => u64::MAX,
+        }
+    }
+
     /// Whether the handshake gave version 3.
     pub fn is_three(&self) -> bool
         ensures { (c : Config) (k : List Step) →
@@ -189,6 +202,7 @@ impl Session {
         ensures silent { (c : Config) (k : List Step) →
             Remembers c self.old k → Remembers c self.new (Silenced now ∷ k) }
         ensures limits { self.new.ring.limits ≡ self.old.ring.limits }
+        ensures spoken { (self.new.side ≡ self.old.side) × (self.new.codec ≡ self.old.codec) × (self.new.agreed ≡ self.old.agreed) }
     {
         let kept = self.is_kept();
         self.moment = self.moment.max(now);
@@ -233,6 +247,7 @@ impl Session {
             (result ≡ is_silence c now k) ×
             Remembers c self.new ((if result then Silenced now else Ticked now) ∷ k) }
         ensures limits { self.new.ring.limits ≡ self.old.ring.limits }
+        ensures spoken { (self.new.side ≡ self.old.side) × (self.new.codec ≡ self.old.codec) × (self.new.agreed ≡ self.old.agreed) }
     {
         let Some(link) = self.link else {
             self.moment = self.moment.max(now);

@@ -1,4 +1,4 @@
--- The numbers of the jobs that are due: a rising list.
+-- The numbers of what is due: a rising list.
 use Rattle.std.specs.Prelude.{◌≡◌, ◌⊎◌, ◌<◌, ◌≤◌, ℕ, Bool, true, false, ◌||◌, ◌==◌, List, [], ◌∷◌, length, Option, Some, None}
 use Rattle.std.specs.Vec.{vec_capacity}
 use Rattle.hj_jobs.specs.declared.due.Due.{Due}

@@ -1,5 +1,4 @@
-//! The jobs that are due, in order of acceptance. Room for all of them is taken beforehand, so that a job can become due without more
-//! memory.
+//! What is due, in the order of numbers. Room for all of them is taken beforehand, so that a number can become due without more memory.
 
 ghost use Rattle.std.specs.Prelude.{◌≡◌, ◌≤◌, ◌&&◌, ◌||◌, ◌==◌, ℕ, [], not, length, IfOk, OnOk};
 ghost use Rattle.std.specs.Vec.{vec_capacity};
@@ -7,14 +6,15 @@ ghost use Rattle.hj_jobs.specs.Due.{HasPlace, is_in, IsFirstPast, IsRising};
 
 use std::alloc::{AllocError, Global};
 
-/// Numbers of jobs, rising.
+/// Numbers, rising: of jobs, in the order of acceptance.
 #[derive(Drop)]
 pub struct Due {
     jobs: Vec<u64>,
 }
 
 impl Due {
-    pub(crate) fn start(alloc: Global) -> Due
+    /// None is due.
+    pub fn start(alloc: Global) -> Due
         ensures { result.jobs.items ≡ [] }
     {
         Due {
@@ -22,8 +22,8 @@ impl Due {
         }
     }
 
-    /// Takes room for this many jobs in all.
-    pub(crate) fn reserve(&mut self, count: usize) -> Result<(), AllocError>
+    /// Takes room for this many in all.
+    pub fn reserve(&mut self, count: usize) -> Result<(), AllocError>
         ensures ok { OnOk result (count ≤ vec_capacity self.new.jobs) }
         ensures items { self.new.jobs.items ≡ self.old.jobs.items }
         ensures capacity { vec_capacity self.old.jobs ≤ vec_capacity self.new.jobs }
@@ -32,8 +32,8 @@ impl Due {
         self.jobs.reserve(count.saturating_sub(len))
     }
 
-    /// A job is due, if it wasn't.
-    pub(crate) fn add(&mut self, job: u64)
+    /// A number is due, if it wasn't.
+    pub fn add(&mut self, job: u64)
         ensures added { IsRising self.old.jobs.items → HasPlace self.old job → (n : ℕ) → is_in n self.new.jobs.items ≡ ((n == job) || is_in n self.old.jobs.items) }
         ensures rising { IsRising self.old.jobs.items → IsRising self.new.jobs.items }
         ensures capacity { vec_capacity self.old.jobs ≤ vec_capacity self.new.jobs }
@@ -44,8 +44,8 @@ impl Due {
         }
     }
 
-    /// A job isn't due any more, if it was.
-    pub(crate) fn remove(&mut self, job: u64)
+    /// A number isn't due any more, if it was.
+    pub fn remove(&mut self, job: u64)
         ensures removed { IsRising self.old.jobs.items → (n : ℕ) → is_in n self.new.jobs.items ≡ (is_in n self.old.jobs.items && not (n == job)) }
         ensures rising { IsRising self.old.jobs.items → IsRising self.new.jobs.items }
         ensures capacity { vec_capacity self.old.jobs ≤ vec_capacity self.new.jobs }
@@ -55,8 +55,8 @@ impl Due {
         }
     }
 
-    /// The first job past this number, found by halving.
-    pub(crate) fn next(&self, passed: u64) -> Option<u64>
+    /// The first past this number, found by halving.
+    pub fn next(&self, passed: u64) -> Option<u64>
         ensures { IsRising self.now.jobs.items → IsFirstPast passed self.now.jobs.items result }
     {
         match self.jobs.binary_search(&passed) {
@@ -65,8 +65,15 @@ impl Due {
         }
     }
 
-    /// Whether no job is due.
-    pub(crate) fn is_empty(&self) -> bool
+    /// All that are due, rising.
+    pub fn numbers(&self) -> &[u64]
+        ensures { result.now ≡ self.now.jobs.items }
+    {
+        &self.jobs
+    }
+
+    /// Whether none is due.
+    pub fn is_empty(&self) -> bool
         ensures { result ≡ (length self.now.jobs.items == 0) }
     {
         self.jobs.is_empty()

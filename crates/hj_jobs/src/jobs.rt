@@ -1,10 +1,10 @@
 //! The table of jobs: what happens to each, and whose turn it is.
 
-ghost use Rattle.std.specs.Prelude.{◌≡◌, ◌↔◌, ◌<◌, ◌≤◌, ℕ, List, ◌∷◌, [], length, true, false, IfErr, IfOk, IsErr, IsTrue, OnErr, OnOk};
+ghost use Rattle.std.specs.Prelude.{◌≡◌, ◌==◌, ◌↔◌, ◌<◌, ◌≤◌, ℕ, List, ◌∷◌, [], length, true, false, IfErr, IfOk, IsErr, IsTrue, OnErr, OnOk};
 ghost use Rattle.hm_message.specs.declared.message.Ending.{Ending as EndingMeant};
 ghost use Rattle.hd_calls.specs.Hubs.{End, error_in, Invoked, Item};
 ghost use Rattle.hd_calls.specs.Numbers.{most_inputs, most_live};
-ghost use Rattle.hd_calls.specs.Tables.{begun_in, Ended, JobHappening, live_job_in, live_jobs_in, Replied, Round, Turned};
+ghost use Rattle.hd_calls.specs.Tables.{begun_in, Ended, JobHappening, live_job_in, live_jobs_in, passed_in, Replied, Round, Turned};
 ghost use Rattle.hj_jobs.specs.Meaning.{meaning};
 ghost use Rattle.hj_jobs.specs.Stands.{Stands};
 ghost use Rattle.hj_jobs.specs.Calls.{Accepts, Answers, AtPlace, AttemptsOrNot, AwaitsAnswer, Feeds, HasAttempted, IsCallOf, IsDead, IsRefusedIn, IsUnfed, IsUnmarkable, Marks, OfEach, SomeIsDue, Stays, StepsOrNot};
@@ -270,6 +270,13 @@ impl<H: Hub> Jobs<H> {
         }
         self.live.turned(stepped.job, &stepped.act);
         self.agree(stepped.job);
+    }
+
+    /// Whether no job has had a turn since the last round began.
+    pub fn at_start(&self) -> bool
+        ensures { OfEach (meaning H.begin_of H.step_of) self.now (λ who h. result ≡ (passed_in h == 0)) }
+    {
+        self.passed == 0
     }
 
     /// Whether a round that begins now would give some job a turn.

@@ -28,6 +28,7 @@ mod laws;
 mod live;
 mod names;
 
+pub use due::Due;
 pub use errors::{AcceptError, InputError};
 pub use hub::Hub;
 pub use jobs::Jobs;

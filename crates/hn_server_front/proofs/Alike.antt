@@ -9,7 +9,7 @@ use Rattle.hd_serving.specs.Lives.{Note, made, numbers_to, is_made, is_let_go, i
 use Rattle.hn_server_front.specs.declared.entry.Entry.{Entry}
 use Rattle.hn_server_front.specs.declared.front.Front.{Front}
 use Rattle.hn_server_front.specs.Entries.{token_told}
-use Rattle.hn_server_front.specs.Stands.{IsEntryOf, IsUnborn, Stands, TokensAgree, entry_at, is_there, kept, since_of}
+use Rattle.hn_server_front.specs.Stands.{IsEntryOf, IsUnborn, Stands, TokensAgree, entry_at, held_since, is_there, kept, since_of}
 
 -- the same is read off
 pub record Alike (h g : List Note) : Type 0 where
@@ -63,6 +63,11 @@ since_alike h g a c Ending = a.ended c
 
 pub since_of_alike : (h g : List Note) → Alike h g → (c : ℕ) → since_of c h ≡ since_of c g
 since_of_alike h g a c = since_alike h g a c (standing c h) ∙ ap (λ life. since c life g) (standing_alike h g a c)
+
+held_alike : (h g : List Note) → Alike h g → (c : ℕ) → held_since c h ≡ held_since c g
+held_alike h g a c =
+    ap (λ b. if b then option_map (λ poll. poll.1) (poll_of c h) else None) (there_alike h g a c)
+    ∙ ap (λ o. if is_there c g then option_map (λ poll. poll.1) o else None) (a.poll c)
 
 entry_alike : (h g : List Note) → Alike h g → (c : ℕ) (e : Option Entry) → IsEntryOf e c h → IsEntryOf e c g
 entry_alike h g a c None r = sym (there_alike h g a c) ∙ r
@@ -118,4 +123,9 @@ stands_alike f h g a s = record {
   waiting = λ w. s.waiting w ∙ ap (λ o. is_this w.since o) (since_of_alike h g a w.conn);
   order = s.order;
   room = s.room;
+  lasts = s.lasts;
+  polling = λ w. s.polling w ∙ ap (λ o. is_this w.since o) (held_alike h g a w.conn);
+  polls_order = s.polls_order;
+  polls_room = s.polls_room;
+  polls_last = s.polls_last;
 }

@@ -1,15 +1,15 @@
 -- How many numbers up to a bound pass a test; and as many connections wait as have a moment.
-use Rattle.std.proofs.Common.{◌≡◌, ℕ, zero, suc, ◌+◌, ◌<◌, ◌≤◌, Bool, true, false, cond, ◌&&◌, ◌||◌, ◌==◌, not, inl, inr, List, [], ◌∷◌, length, filter, Option, Some, None, is_some, nat_le, nat_lt, refl, sym, ap, ◌∙◌, arith, eq-eqb, ne_eqb, if◌then◌else◌}
+use Rattle.std.proofs.Common.{◌≡◌, ℕ, zero, suc, ◌+◌, ◌<◌, ◌≤◌, Bool, true, false, cond, ◌&&◌, ◌||◌, ◌==◌, not, inl, inr, List, [], ◌∷◌, length, filter, Option, Some, None, is_some, option_map, nat_le, nat_lt, refl, sym, ap, ◌∙◌, arith, eq-eqb, ne_eqb, if◌then◌else◌}
 use Rattle.std.proofs.Common.{length-append}
 use Rattle.std.proofs.lemmas.Bool.{and_from, or_cases, and_parts, or_left, or_right, false_from_ne_true, true_from_ne_false, cases_eq, eqb-true, leb-true, ltb-true}
 use Rattle.std.proofs.lemmas.List.Elements.{filter-append}
 use Rattle.indexmap.specs.IndexMap.{index_map_len}
 use Rattle.hd_delivery.specs.Histories.{is_this}
-use Rattle.hd_serving.specs.Lives.{Note, made, numbers_to, is_made, is_let_go, since}
+use Rattle.hd_serving.specs.Lives.{Note, made, numbers_to, is_made, is_let_go, poll_of, since}
 use Rattle.hn_server_front.specs.declared.front.Front.{Front}
 use Rattle.hn_server_front.specs.declared.moments.Waiting.{Waiting}
 use Rattle.hn_server_front.specs.Moments.{IsInOrder, at, is_before, is_same, is_within}
-use Rattle.hn_server_front.specs.Stands.{Stands, IsUnborn, is_there, since_of}
+use Rattle.hn_server_front.specs.Stands.{Stands, IsUnborn, held_since, is_there, since_of}
 
 -- ---- numbers that pass a test
 
@@ -188,6 +188,45 @@ count_waiting n (w ∷ ws) s p order waits within =
         no_matter : (c : ℕ) → c ≡ w.conn → (is_some (rest c) && p c) ≡ (is_some (s c) && p c)
         no_matter c same = none_passes (is_some (rest c)) (is_some (s c)) c (ap p same ∙ e)
 
+all_pass : {A : Type 0} (xs : List A) → length (filter (λ x. true) xs) ≡ length xs
+all_pass [] = refl
+all_pass (x ∷ xs) = ap suc (all_pass xs)
+
+-- where no number waits but those that pass a test
+module _ (n : ℕ) (ws : List Waiting) (s : ℕ → Option ℕ) (p : ℕ → Bool) (order : IsInOrder ws) (waits : WaitFor ws s)
+    (passes : (c : ℕ) → is_some (s c) ≡ true → p c ≡ true) (within : (c : ℕ) → p c ≡ true → (0 < c) × (c ≤ n)) where
+  length_counted : length ws ≡ count n (λ c. is_some (s c) && true)
+  length_counted = sym (all_pass ws) ∙ count_waiting n ws s (λ c. true) order waits (λ c e. within c (passes c e))
+
+  -- as many wait as pass it, or fewer
+  pub few : length ws ≤ count n p
+  few =
+      let less = count_more n (λ c. is_some (s c) && true) p (λ c l m e. passes c (and_parts (is_some (s c)) true e).0) in
+      omega (arith, less, length_counted)
+
+  -- and fewer where one that passes doesn't wait
+  pub fewer : (c : ℕ) → p c ≡ true → s c ≡ None → length ws < count n p
+  fewer c there none =
+      let own : (p c && not (c == c)) ≡ false = ap (λ b. p c && not b) (eq-eqb c c refl) ∙ last (p c) in
+      let others : (k : ℕ) → (k ≡ c → ⊥) → p k ≡ (p k && not (k == c)) =
+      λ k e. sym (ap (λ b. p k && not b) (ne_eqb k c e) ∙ first (p k)) in
+      let as_many = count_without n c p (λ k. p k && not (k == c)) (within c there).0 (within c there).1 there own others in
+      let less = count_more n (λ k. is_some (s k) && true) (λ k. p k && not (k == c)) (λ k l m e.
+      let waits_so = (and_parts (is_some (s k)) true e).0 in
+      and_from (p k) (not (k == c)) (passes k waits_so) (elim (cases_eq k c) [
+        | inl same ↦ absurd (let z : false ≡ true = ap (λ o. is_some o) (sym none) ∙ (ap (λ n. is_some (s n)) (sym same) ∙ waits_so) in cc)
+        | inr apart ↦ ap not (ne_eqb k c apart)
+      ])) in
+      omega (arith, less, as_many, length_counted)
+    where
+      last : (b : Bool) → (b && false) ≡ false
+      last true = refl
+      last false = refl
+
+      first : (b : Bool) → (b && true) ≡ b
+      first true = refl
+      first false = refl
+
 -- ---- in the words of the notes
 
 -- nothing ends the life of a connection that isn't there
@@ -218,41 +257,32 @@ waiting_counted f h p stands =
     let within : (c : ℕ) → is_some (since_of c h) ≡ true → (0 < c) × (c ≤ made h) = λ c e. there_within c h (since_is_there f h c stands e) in
     count_waiting (made h) f.moments.waiting.items (λ c. since_of c h) p stands.order stands.waiting within
 
-all_pass : {A : Type 0} (xs : List A) → length (filter (λ x. true) xs) ≡ length xs
-all_pass [] = refl
-all_pass (x ∷ xs) = ap suc (all_pass xs)
-
-waiting_length : (f : Front) (h : List Note) → Stands f h → length f.moments.waiting.items ≡ count (made h) (λ c. is_some (since_of c h) && true)
-waiting_length f h stands = sym (all_pass f.moments.waiting.items) ∙ waiting_counted f h (λ c. true) stands
-
 pub waiting_few : (f : Front) (h : List Note) → Stands f h → length f.moments.waiting.items ≤ index_map_len f.entries
 waiting_few f h stands =
-    let there : (c : ℕ) → (is_some (since_of c h) && true) ≡ true → is_there c h ≡ true =
-    λ c e. since_is_there f h c stands (and_parts (is_some (since_of c h)) true e).0 in
-    let fewer = count_more (made h) (λ c. is_some (since_of c h) && true) (λ c. is_there c h) (λ c l m e. there c e) in
-    omega (arith, fewer, waiting_length f h stands, stands.size)
+    let less = few (made h) f.moments.waiting.items (λ c. since_of c h) (λ c. is_there c h) stands.order stands.waiting
+    (λ c e. since_is_there f h c stands e) (λ c e. there_within c h e) in
+    omega (arith, less, stands.size)
 
 -- and fewer where one that is there doesn't wait
 pub waiting_fewer : (f : Front) (h : List Note) (c : ℕ) → Stands f h → is_there c h ≡ true → since_of c h ≡ None
     → length f.moments.waiting.items < index_map_len f.entries
 waiting_fewer f h c stands there none =
-    let within = there_within c h there in
-    let own : (is_there c h && not (c == c)) ≡ false = ap (λ b. is_there c h && not b) (eq-eqb c c refl) ∙ last (is_there c h) in
-    let others : (k : ℕ) → (k ≡ c → ⊥) → is_there k h ≡ (is_there k h && not (k == c)) =
-    λ k e. sym (ap (λ b. is_there k h && not b) (ne_eqb k c e) ∙ first (is_there k h)) in
-    let as_many = count_without (made h) c (λ k. is_there k h) (λ k. is_there k h && not (k == c)) within.0 within.1 there own others in
-    let fewer = count_more (made h) (λ k. is_some (since_of k h) && true) (λ k. is_there k h && not (k == c)) (λ k l m e.
-    let waits = (and_parts (is_some (since_of k h)) true e).0 in
-    and_from (is_there k h) (not (k == c)) (since_is_there f h k stands waits) (elim (cases_eq k c) [
-      | inl same ↦ absurd (let z : false ≡ true = ap (λ o. is_some o) (sym none) ∙ (ap (λ n. is_some (since_of n h)) (sym same) ∙ waits) in cc)
-      | inr apart ↦ ap not (ne_eqb k c apart)
-    ])) in
-    omega (arith, fewer, as_many, waiting_length f h stands, stands.size)
-  where
-    last : (b : Bool) → (b && false) ≡ false
-    last true = refl
-    last false = refl
+    let less = fewer (made h) f.moments.waiting.items (λ c. since_of c h) (λ c. is_there c h) stands.order stands.waiting
+    (λ c e. since_is_there f h c stands e) (λ c e. there_within c h e) c there none in
+    omega (arith, less, stands.size)
 
-    first : (b : Bool) → (b && true) ≡ b
-    first true = refl
-    first false = refl
+-- only one that is there holds a poll
+held_is_there : (c : ℕ) (h : List Note) → is_some (held_since c h) ≡ true → is_there c h ≡ true
+held_is_there c h e = go (is_there c h) e
+  where
+    go : (b : Bool) → is_some (if b then option_map (λ poll. poll.1) (poll_of c h) else None) ≡ true → b ≡ true
+    go true e = refl
+    go false e = e
+
+-- fewer hold polls than are there, where one that is there holds none
+pub polling_fewer : (f : Front) (h : List Note) (c : ℕ) → Stands f h → is_there c h ≡ true → held_since c h ≡ None
+    → length f.polls.waiting.items < index_map_len f.entries
+polling_fewer f h c stands there none =
+    let less = fewer (made h) f.polls.waiting.items (λ c. held_since c h) (λ c. is_there c h) stands.polls_order stands.polling
+    (λ c e. held_is_there c h e) (λ c e. there_within c h e) c there none in
+    omega (arith, less, stands.size)

@@ -5,11 +5,11 @@ use Rattle.std.proofs.lemmas.Bool.{and_parts, and_from, true_from_ne_false, fals
 use Rattle.std.proofs.lemmas.List.Elements.{filter-append}
 use Rattle.hd_delivery.specs.Histories.{is_this}
 use Rattle.hd_serving.specs.declared.vocabulary.Life.TheVariants.{Unknown}
-use Rattle.hd_serving.specs.Numbers.{lives_for}
+use Rattle.hd_serving.specs.Numbers.{held_for, lives_for}
 use Rattle.hd_serving.specs.Lives.{Note, Ended, Expired, LetGo, made, numbers_to, is_made, is_let_go, ended_at, only_polls, ends_then, deadline, is_past, overdue, standing, since, is_opened, negotiated_at, socket_of, lost_at, poll_of, poll_ended}
 use Rattle.hn_server_front.specs.declared.front.Front.{Front}
 use Rattle.hn_server_front.specs.declared.moments.Waiting.{Waiting}
-use Rattle.hn_server_front.specs.Calls.{Expires, IsFirst, IsNoted}
+use Rattle.hn_server_front.specs.Calls.{Expires, IsFirst, IsNoted, is_held_long}
 use Rattle.hn_server_front.specs.Moments.{at, is_due, is_same, is_within, IsLeast}
 use Rattle.hn_server_front.specs.Stands.{IsUnborn, Stands, is_there, since_of}
 use Rattle.hn_server_front.proofs.Placed.{same_is}
@@ -41,7 +41,7 @@ within_filter p w (v ∷ vs) = elim (cases_Bool (p v)) [
 -- ---- who waits, and whose moment has come
 
 abbrev pub due_of : ℕ → Front → List Waiting
-due_of now f = filter (λ (v : Waiting). is_due now v) f.moments.waiting.items
+due_of now f = filter (λ (v : Waiting). is_due f.moments.lasts now v) f.moments.waiting.items
 
 abbrev pub is_overdue : ℕ → ℕ → List Note → Bool
 is_overdue now c h = is_past now (deadline c h)
@@ -56,10 +56,10 @@ this_is n (Some k) e = ap (λ m. Some m) (sym (eqb-true n k e))
 
 due_is_past : (f : Front) (h : List Note) → Stands f h → (now : ℕ) (w : Waiting) → is_within w (due_of now f) ≡ true → is_overdue now w.conn h ≡ true
 due_is_past f h s now w e =
-    let both = sym (within_filter (λ (v : Waiting). is_due now v) w f.moments.waiting.items) ∙ e in
-    let p = and_parts (is_due now w) (is_within w f.moments.waiting.items) both in
+    let both = sym (within_filter (λ (v : Waiting). is_due f.moments.lasts now v) w f.moments.waiting.items) ∙ e in
+    let p = and_parts (is_due f.moments.lasts now w) (is_within w f.moments.waiting.items) both in
     let q : since_of w.conn h ≡ Some w.since = this_is w.since (since_of w.conn h) (sym (s.waiting w) ∙ p.1) in
-    ap (λ o. is_after now o) q ∙ p.0
+    ap (λ o. is_after now o) q ∙ (sym (ap (λ n. is_due n now w) s.lasts) ∙ p.0)
 
 past_is_due : (f : Front) (h : List Note) → Stands f h → (now c : ℕ) → is_overdue now c h ≡ true → (since : ℕ) × (is_within (at since c) (due_of now f) ≡ true)
 past_is_due f h s now c e = go (since_of c h) refl (sym e)
@@ -68,9 +68,9 @@ past_is_due f h s now c e = go (since_of c h) refl (sym e)
     go None q e = absurd (let z : true ≡ false = e ∙ ap (λ o. is_after now o) q in cc)
     go (Some m) q e = (
       m,
-      within_filter (λ (v : Waiting). is_due now v) (at m c) f.moments.waiting.items
-          ∙ and_from (is_due now (at m c)) (is_within (at m c) f.moments.waiting.items)
-          (sym (e ∙ ap (λ o. is_after now o) q))
+      within_filter (λ (v : Waiting). is_due f.moments.lasts now v) (at m c) f.moments.waiting.items
+          ∙ and_from (is_due f.moments.lasts now (at m c)) (is_within (at m c) f.moments.waiting.items)
+          (ap (λ n. is_due n now (at m c)) s.lasts ∙ sym (e ∙ ap (λ o. is_after now o) q))
           (s.waiting (at m c) ∙ (ap (λ o. is_this m o) q ∙ eq-eqb m m refl)),
     )
 
@@ -89,6 +89,26 @@ past_is_made f h s now c e = true_from_ne_false (is_made c h) (λ m.
     let q : since_of c h ≡ None = unborn_waits c h (s.unborn c m) in
     let z : true ≡ false = sym e ∙ ap (λ o. is_after now o) q in
     cc)
+
+-- ---- who holds a poll, and for long
+
+pub held_long_are : (f : Front) (h : List Note) → Stands f h → (now since c : ℕ)
+    → is_within (at since c) (filter (λ (w : Waiting). is_due f.polls.lasts now w) f.polls.waiting.items) ≡ is_held_long now since c h
+held_long_are f h s now since c =
+    within_filter (λ (w : Waiting). is_due f.polls.lasts now w) (at since c) f.polls.waiting.items
+    ∙ (ap (λ n. is_due n now (at since c) && is_within (at since c) f.polls.waiting.items) s.polls_last
+    ∙ (ap (λ b. is_due held_for now (at since c) && b) (s.polling (at since c)) ∙ go (is_due held_for now (at since c)) (is_there c h)))
+  where
+    turned : (a b : Bool) → (a && b) ≡ (b && a)
+    turned true true = refl
+    turned true false = refl
+    turned false true = refl
+    turned false false = refl
+
+    go : (due there : Bool) → (due && is_this since (if there then option_map (λ poll. poll.1) (poll_of c h) else None))
+        ≡ (is_this since (option_map (λ poll. poll.1) (if there then poll_of c h else None)) && due)
+    go due true = turned due (is_this since (option_map (λ poll. poll.1) (poll_of c h)))
+    go due false = turned due false
 
 -- ---- the first of the numbers that pass a test
 

@@ -131,21 +131,21 @@ each f h now stands c l m = elim (cases_Bool (is_there c h)) [ inl e ↦ there e
 -- ---- those that are forgotten
 
 due_past : (f : Front) (h : List Note) (now : ℕ) → Stands f h → (w : Waiting) → is_within w f.moments.waiting.items ≡ true
-    → is_due now w ≡ is_past now (deadline w.conn h)
+    → is_due f.moments.lasts now w ≡ is_past now (deadline w.conn h)
 due_past f h now stands w within =
     let his = is_this_at w.since (since_of w.conn h) (sym (stands.waiting w) ∙ within) in
-    sym (ap (λ o. is_past now (option_map (λ moment. moment + lives_for) o)) his)
+    ap (λ n. is_due n now w) stands.lasts ∙ sym (ap (λ o. is_past now (option_map (λ moment. moment + lives_for) o)) his)
 
 pub forgotten_counted : (f : Front) (h : List Note) (now : ℕ) → Stands f h
-    → length (filter (λ w. not (is_known (life_of w.conn now h))) (filter (λ w. is_due now w) f.moments.waiting.items)) + length (live now h)
-    ≡ index_map_len f.entries
+    → length (filter (λ w. not (is_known (life_of w.conn now h))) (filter (λ w. is_due f.moments.lasts now w) f.moments.waiting.items))
+    + length (live now h) ≡ index_map_len f.entries
 forgotten_counted f h now stands =
     let ws : List Waiting = f.moments.waiting.items in
     let unknown : Waiting → Bool = λ w. not (is_known (life_of w.conn now h)) in
-    let twice = ap length (filter_twice unknown (λ w. is_due now w) ws) in
-    let due : (w : Waiting) → is_within w ws ≡ true → (is_due now w && unknown w) ≡ forgotten now w.conn h =
+    let twice = ap length (filter_twice unknown (λ w. is_due f.moments.lasts now w) ws) in
+    let due : (w : Waiting) → is_within w ws ≡ true → (is_due f.moments.lasts now w && unknown w) ≡ forgotten now w.conn h =
     λ w i. ap (λ b. b && unknown w) (due_past f h now stands w i) in
-    let members = ap length (filter_members (λ w. is_due now w && unknown w) (λ w. forgotten now w.conn h) ws due) in
+    let members = ap length (filter_members (λ w. is_due f.moments.lasts now w && unknown w) (λ w. forgotten now w.conn h) ws due) in
     let counted = waiting_counted f h (λ c. forgotten now c h) stands in
     let both = count_sum (made h) (λ c. is_some (since_of c h) && forgotten now c h) (λ c. is_known (life_of c now h)) (λ c. is_there c h)
     (each f h now stands) in

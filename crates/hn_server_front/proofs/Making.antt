@@ -17,7 +17,7 @@ use Rattle.hn_server_front.specs.declared.front.Front.{Front}
 use Rattle.hn_server_front.specs.declared.moments.Waiting.{Waiting}
 use Rattle.hn_server_front.specs.Entries.{Remembers, IsNew, held_as, moment_told, promise_told, text_told, token_told}
 use Rattle.hn_server_front.specs.Moments.{IsInOrder, at, is_within, waits_as}
-use Rattle.hn_server_front.specs.Stands.{HasRoom, IsEntered, IsRoomier, IsEntryOf, IsUnborn, Stands, TokensAgree, conn_at, entry_at, is_there, is_waiting, kept, since_of, IsTokenOf}
+use Rattle.hn_server_front.specs.Stands.{HasRoom, IsEntered, IsRoomier, IsEntryOf, IsUnborn, Stands, TokensAgree, conn_at, entry_at, held_since, is_there, is_waiting, kept, since_of, IsTokenOf}
 use Rattle.hd_serving.specs.Laws.{TokensDiffer}
 use Rattle.hm_message.specs.Same.{same_text}
 use Rattle.std.proofs.lemmas.Map.Text.{is_eq-slice_cmp}
@@ -65,6 +65,11 @@ roomier_stands old new h more s = record {
   waiting = λ w. ap (λ ws. is_within w ws) more.waiting ∙ s.waiting w;
   order = subst (λ ws. IsInOrder ws) (sym more.waiting) s.order;
   room = let same = ap length more.entries in omega (arith, same, s.room, more.capacity);
+  lasts = more.lasts ∙ s.lasts;
+  polling = λ w. ap (λ ws. is_within w ws) more.polling ∙ s.polling w;
+  polls_order = subst (λ ws. IsInOrder ws) (sym more.polling) s.polls_order;
+  polls_room = let same = ap length more.entries in omega (arith, same, s.polls_room, more.polls_capacity);
+  polls_last = more.polls_last ∙ s.polls_last;
 }
 
 -- ---- the note of a new connection
@@ -132,6 +137,28 @@ since_next n h told b u =
     let c = suc (made h) in
     rw (b.held c, b.ended c, b.socket c, b.lost c, b.poll c, b.polled c, u.held, u.ended, u.socket, u.lost, u.poll, u.polled, b.begun) (sym b.own_moment)
 
+-- no poll is held or let go by it
+held_else : (n : Note) (h : List Note) (told : Option Told) (k : ℕ) → Begins n (suc (made h)) told h → (k ≡ suc (made h) → ⊥)
+    → held_since k (n ∷ h) ≡ held_since k h
+held_else n h told k b other =
+    ap (λ x. if x then option_map (λ poll. poll.1) (poll_of k (n ∷ h)) else None) (there_else n h told k b other)
+    ∙ ap (λ o. if is_there k h then option_map (λ poll. poll.1) o else None) (b.poll k)
+
+holds_none : (k : ℕ) (h : List Note) → poll_of k h ≡ None → held_since k h ≡ None
+holds_none k h e = ap (λ o. if is_there k h then option_map (λ poll. poll.1) o else None) e ∙ go (is_there k h)
+  where
+    go : (b : Bool) → ◌≡◌ {A = Option ℕ} (if b then None else None) None
+    go true = refl
+    go false = refl
+
+held_same : (n : Note) (h : List Note) (told : Option Told) → Begins n (suc (made h)) told h → IsUnborn (suc (made h)) h → (k : ℕ)
+    → held_since k (n ∷ h) ≡ held_since k h
+held_same n h told b u k = elim (cases_eq k (suc (made h))) [
+  | inl e ↦ subst (λ c. held_since c (n ∷ h) ≡ held_since c h) (sym e)
+      (holds_none (suc (made h)) (n ∷ h) (b.poll (suc (made h)) ∙ u.poll) ∙ sym (holds_none (suc (made h)) h u.poll))
+  | inr e ↦ held_else n h told k b e
+]
+
 remembers_else : (e : Entry) (n : Note) (h : List Note) (told : Option Told) (k : ℕ) → Begins n (suc (made h)) told h → (k ≡ suc (made h) → ⊥)
     → Remembers e k h → Remembers e k (n ∷ h)
 remembers_else e n h told k b other r = record {
@@ -189,6 +216,7 @@ pub record IsMade (old mid new : Front) (h : List Note) (n : Note) (told : Optio
   pub begins : Begins n (suc (made h)) told h
   pub entries : mid.entries ≡ old.entries
   pub moments : mid.moments ≡ old.moments
+  pub polls : mid.polls ≡ old.polls
   pub room : HasRoom mid
   pub enters : IsEntered mid new (suc (made h)) told
   pub tokens : (token : List ℕ) → conn_at new token ≡ kept (conn_with token (n ∷ h)) (n ∷ h)
@@ -210,6 +238,15 @@ made_stands old mid new h n told s i = record {
       let more = e.capacity in
       let by : index_map_len new.entries ≡ suc (index_map_len mid.entries) = e.size absent in
       omega (arith, few, more, by);
+  lasts = e.lasts ∙ (ap (λ m. m.lasts) i.moments ∙ s.lasts);
+  polling = λ w. ap (λ m. is_within w m.waiting.items) polls ∙ (s.polling w ∙ ap (λ o. is_this w.since o) (sym (held_same n h told b unborn w.conn)));
+  polls_order = subst (λ m. IsInOrder m.waiting.items) (sym polls) s.polls_order;
+  polls_room =
+      let few = i.room.poll in
+      let by : index_map_len new.entries ≡ suc (index_map_len mid.entries) = e.size absent in
+      let same = ap (λ m. vec_capacity m.waiting) e.polls in
+      omega (arith, few, by, same);
+  polls_last = ap (λ m. m.lasts) polls ∙ s.polls_last;
 }
   where
     c : ℕ
@@ -223,6 +260,9 @@ made_stands old mid new h n told s i = record {
 
     unborn : IsUnborn c h
     unborn = unborn_next old h s
+
+    polls : new.polls ≡ old.polls
+    polls = e.polls ∙ i.polls
 
     away : is_there c h ≡ false
     away = and_left (is_made c h) (not (is_let_go c h)) (not_made h)
@@ -328,6 +368,7 @@ opens old mid new h now s few more room e =
       begins = begins_open h now (unborn_next mid h t);
       entries = refl;
       moments = refl;
+      polls = refl;
       room = room;
       enters = e;
       tokens = λ token. ap (λ m. tree.get (slice_cmp nat_cmp) m token) e.tokens
@@ -427,17 +468,18 @@ module _ (h : List Note) (token : List ℕ) (asked : Bool) (now : ℕ) (agree : 
   }
 
 pub tells : (old mid new : Front) (h : List Note) (token : List ℕ) (asked : Bool) (now : ℕ) (told : Told) → Stands old h → suc (made h) ≤ most_connections
-    → mid.entries ≡ old.entries → mid.moments ≡ old.moments
+    → mid.entries ≡ old.entries → mid.moments ≡ old.moments → mid.polls ≡ old.polls
     → tree.UpdatesBy (slice_cmp nat_cmp) (slice_cmp nat_cmp token) old.tokens mid.tokens (Some (suc (made h)))
     → HasRoom mid → IsEntered mid new (suc (made h)) (Some told) → told.token ≡ token → told.now ≡ now → told.reconnect ≡ asked
     → IsTokenOf token (suc (made h)) → TokensDiffer
     → Stands new (Negotiated (suc (made h)) token asked now ∷ h)
-tells old mid new h token asked now told s few entries moments updates room e spelled at_now granted own differ =
+tells old mid new h token asked now told s few entries moments polls updates room e spelled at_now granted own differ =
     made_stands old mid new h n (Some told) s (record {
       few = few;
       begins = begins_tell h token asked now told spelled at_now granted;
       entries = entries;
       moments = moments;
+      polls = polls;
       room = room;
       enters = e;
       tokens = λ text. ap (λ m. tree.get (slice_cmp nat_cmp) m text) e.tokens ∙ (changed text ∙ go text (same_text text token));
@@ -510,14 +552,15 @@ opens_next old mid new h now c is few s more room e =
 
 pub tells_next : (old roomier mid new : Front) (h : List Note) (c : ℕ) (token own : List ℕ) (asked : Bool) (now : ℕ) (told : Told) → c ≡ suc (made h)
     → c ≤ most_connections → Stands old h
-    → IsRoomier old roomier → HasRoom roomier → mid.entries ≡ roomier.entries → mid.moments ≡ roomier.moments
+    → IsRoomier old roomier → HasRoom roomier → mid.entries ≡ roomier.entries → mid.moments ≡ roomier.moments → mid.polls ≡ roomier.polls
     → tree.UpdatesBy (slice_cmp nat_cmp) (slice_cmp nat_cmp own) roomier.tokens mid.tokens (Some c) → own ≡ token
     → IsEntered mid new c (Some told) → told.token ≡ token → told.now ≡ now → told.reconnect ≡ asked → IsTokenOf token c → TokensDiffer
     → Stands new (Negotiated c token asked now ∷ h)
-tells_next old roomier mid new h c token own asked now told is few s more room entries moments updates copied e spelled at_now granted of differ =
+tells_next old roomier mid new h c token own asked now told is few s more room entries moments polls updates copied e spelled at_now granted of
+    differ =
     subst (λ k. k ≤ most_connections → tree.UpdatesBy (slice_cmp nat_cmp) (slice_cmp nat_cmp token) roomier.tokens mid.tokens (Some k)
     → IsEntered mid new k (Some told) → IsTokenOf token k → Stands new (Negotiated k token asked now ∷ h)) (sym is)
-    (λ l u x i. tells roomier mid new h token asked now told (roomier_stands old roomier h more s) l entries moments u has_room x
+    (λ l u x i. tells roomier mid new h token asked now told (roomier_stands old roomier h more s) l entries moments polls u has_room x
     spelled at_now granted i differ)
     few (subst (λ t. tree.UpdatesBy (slice_cmp nat_cmp) (slice_cmp nat_cmp t) roomier.tokens mid.tokens (Some c)) copied updates) e of
   where
@@ -526,6 +569,8 @@ tells_next old roomier mid new h c token own asked now told is few s more room e
       entry = subst (λ es. 0 < spare es) (sym entries) room.entry;
       moment = subst (λ es. suc (index_map_len es) ≤ vec_capacity mid.moments.waiting) (sym entries)
           (subst (λ m. suc (index_map_len roomier.entries) ≤ vec_capacity m.waiting) (sym moments) room.moment);
+      poll = subst (λ es. suc (index_map_len es) ≤ vec_capacity mid.polls.waiting) (sym entries)
+          (subst (λ m. suc (index_map_len roomier.entries) ≤ vec_capacity m.waiting) (sym polls) room.poll);
     }
 
 -- what a call that gave no error gives

@@ -15,7 +15,7 @@ use Rattle.indexmap.specs.IndexMap.{index_map_len}
 use Rattle.hd_delivery.specs.Histories.{is_this, first_of}
 use Rattle.hd_serving.specs.declared.vocabulary.Life.{Life}
 use Rattle.hd_serving.specs.declared.vocabulary.Life.TheVariants as lives
-use Rattle.hd_serving.specs.Numbers.{most_connections}
+use Rattle.hd_serving.specs.Numbers.{held_for, lives_for, most_connections}
 use Rattle.hd_serving.specs.Lives.{Note, LetGo, made, numbers_to, is_made, is_let_go, is_opened, negotiated_at, is_promised, socket_of, lost_at, poll_of, poll_ended, ended_at, conn_with, when, standing, since}
 use Rattle.hn_server_front.specs.declared.entry.Entry.{Entry}
 use Rattle.hn_server_front.specs.declared.entry.Noted.{Noted}
@@ -25,8 +25,8 @@ use Rattle.hn_server_front.specs.declared.moments.Moments.{Moments}
 use Rattle.hn_server_front.specs.declared.moments.Waiting.{Waiting}
 use Rattle.hn_server_front.specs.Entries.{Remembers, note_of, text_told, token_told}
 use Rattle.hn_server_front.specs.Moments.{HasPlace, IsInOrder, at, is_within, waits_as}
-use Rattle.hn_server_front.specs.Stands.{IsEntryOf, IsUnborn, Stands, conn_at, entry_at, is_there, kept, since_of}
-use Rattle.hn_server_front.proofs.Counting.{count_same, count_without, waiting_fewer}
+use Rattle.hn_server_front.specs.Stands.{IsEntryOf, IsUnborn, Stands, conn_at, entry_at, held_since, is_there, kept, since_of}
+use Rattle.hn_server_front.proofs.Counting.{WaitFor, count_same, count_without, polling_fewer, waiting_fewer}
 
 pub no_bool : {A : Type 0} → false ≡ true → A
 no_bool e = absurd (let z : false ≡ true = e in cc)
@@ -258,6 +258,12 @@ same_since c g h s =
     s.held s.ended s.socket s.lost s.poll s.polled s.opened s.told
     ∙ sym (since_is c h))
 
+abbrev held_by : Bool → Option (ℕ × ℕ) → Option ℕ
+held_by there poll = if there then option_map (λ poll. poll.1) poll else None
+
+same_held : (c : ℕ) (g h : List Note) → SameAt c g h → held_since c g ≡ held_since c h
+same_held c g h s = ap (λ (b : Bool). held_by b (poll_of c g)) (same_there c g h s) ∙ ap (λ (o : Option (ℕ × ℕ)). held_by (is_there c h) o) s.poll
+
 -- one that is let go has no life
 gone_standing : (c : ℕ) (h : List Note) → is_let_go c h ≡ true → standing c h ≡ lives.Unknown
 gone_standing c h e =
@@ -287,6 +293,12 @@ there_from_kept e c h r = ap (λ (b : Bool). b && not (is_let_go c h)) r.there �
 not_there : (c : ℕ) (h : List Note) → is_let_go c h ≡ true → is_there c h ≡ false
 not_there c h e = and_right (is_made c h) (not (is_let_go c h)) (ap (λ (b : Bool). not b) e)
 
+gone_held : (c : ℕ) (h : List Note) → is_let_go c h ≡ true → held_since c h ≡ None
+gone_held c h e = ap (λ (b : Bool). held_by b (poll_of c h)) (not_there c h e)
+
+held_there : (e : Entry) (c : ℕ) (h : List Note) → Remembers e c h → held_since c h ≡ option_map (λ poll. poll.1) (poll_of c h)
+held_there e c h r = ap (λ (b : Bool). held_by b (poll_of c h)) (there_from_kept e c h r)
+
 -- what is kept of a connection is kept of its token
 kept_same : (o : Option ℕ) (g h : List Note) → ((c : ℕ) → o ≡ Some c → is_let_go c g ≡ is_let_go c h) → kept o h ≡ kept o g
 kept_same None g h same = refl
@@ -302,23 +314,60 @@ waits_from : (k : ℕ) (o : Option ℕ) (ws : List Waiting) → ((since : ℕ) �
 waits_from k None ws p = p
 waits_from k (Some moment) ws p = p
 
-waits_in : (f : Front) (h : List Note) (k : ℕ) → Stands f h → waits_as k (since_of k h) f.moments.waiting.items
-waits_in f h k s = waits_from k (since_of k h) f.moments.waiting.items (λ m. s.waiting (at m k))
-
 -- what a change of the moments says
 pub record Changes (old new : Moments) (k : ℕ) (before after : Option ℕ) : Type 0 where
   pub changed : IsInOrder old.waiting.items → waits_as k before old.waiting.items → HasPlace old before → waits_as k after new.waiting.items
   pub others : IsInOrder old.waiting.items → waits_as k before old.waiting.items → HasPlace old before → (since c : ℕ) → (c ≡ k → ⊥)
       → is_within (at since c) new.waiting.items ≡ is_within (at since c) old.waiting.items
   pub order : IsInOrder old.waiting.items → IsInOrder new.waiting.items
+  pub lasts : new.lasts ≡ old.lasts
   pub capacity : vec_capacity old.waiting ≤ vec_capacity new.waiting
 
-has_place : (f : Front) (h : List Note) (k : ℕ) → Stands f h → is_there k h ≡ true → HasPlace f.moments (since_of k h)
-has_place f h k s t = go (since_of k h) refl
+-- numbers wait since these moments, each for so long, and there is room for as many as these
+record Lists (m : Moments) (s : ℕ → Option ℕ) (count lasts : ℕ) : Type 0 where
+  waits : WaitFor m.waiting.items s
+  order : IsInOrder m.waiting.items
+  room : count ≤ vec_capacity m.waiting
+  so_long : m.lasts ≡ lasts
+
+since_listed : (f : Front) (h : List Note) → Stands f h → Lists f.moments (λ c. since_of c h) (index_map_len f.entries) lives_for
+since_listed f h s = record { waits = s.waiting; order = s.order; room = s.room; so_long = s.lasts }
+
+held_listed : (f : Front) (h : List Note) → Stands f h → Lists f.polls (λ c. held_since c h) (index_map_len f.entries) held_for
+held_listed f h s = record { waits = s.polling; order = s.polls_order; room = s.polls_room; so_long = s.polls_last }
+
+same_lists : {m : Moments} {s t : ℕ → Option ℕ} {count lasts : ℕ} → ((c : ℕ) → t c ≡ s c) → Lists m s count lasts → Lists m t count lasts
+same_lists same l = record {
+  waits = λ w. l.waits w ∙ ap (λ (o : Option ℕ). is_this w.since o) (sym (same w.conn));
+  order = l.order;
+  room = l.room;
+  so_long = l.so_long;
+}
+
+-- where one of them waits otherwise, and there is a place for it if it didn't wait
+changed_lists : {s t : ℕ → Option ℕ} {count less lasts : ℕ} (old new : Moments) (k : ℕ) (before after : Option ℕ)
+    → ((c : ℕ) → (c ≡ k → ⊥) → t c ≡ s c) → before ≡ s k → after ≡ t k → (s k ≡ None → length old.waiting.items < count) → less ≤ count
+    → Changes old new k before after → Lists old s count lasts → Lists new t less lasts
+changed_lists {s} {t} {count} old new k before after same b a free fewer ch l = record {
+  waits = λ w. elim (cases_eq w.conn k) [
+    | inl e ↦ subst (λ (x : ℕ). is_within (at w.since x) new.waiting.items ≡ is_this w.since (t x)) (sym e)
+        (waits_is k (t k) new.waiting.items (subst (λ (o : Option ℕ). waits_as k o new.waiting.items) a (ch.changed l.order waits place)) w.since)
+    | inr e ↦ ch.others l.order waits place w.since w.conn e ∙ (l.waits w ∙ ap (λ (o : Option ℕ). is_this w.since o) (sym (same w.conn e)))
+  ];
+  order = ch.order l.order;
+  room = let room = l.room in let more = ch.capacity in omega (arith, fewer, room, more);
+  so_long = ch.lasts ∙ l.so_long;
+}
   where
-    go : (o : Option ℕ) → since_of k h ≡ o → HasPlace f.moments o
-    go None e = let l = waiting_fewer f h k s t e in let r = s.room in omega (arith, l, r)
-    go (Some moment) e = tt
+    waits : waits_as k before old.waiting.items
+    waits = subst (λ (o : Option ℕ). waits_as k o old.waiting.items) (sym b) (waits_from k (s k) old.waiting.items (λ m. l.waits (at m k)))
+
+    place : HasPlace old before
+    place = subst (λ (o : Option ℕ). HasPlace old o) (sym b) (go (s k) refl)
+      where
+        go : (o : Option ℕ) → s k ≡ o → HasPlace old o
+        go None e = let short = free e in let room = l.room in omega (arith, short, room)
+        go (Some moment) e = tt
 
 -- ---- one more note
 
@@ -330,10 +379,9 @@ module _ (f n : Front) (k : ℕ) (g h : List Note) (z : Follows k g h) (s : Stan
       → ((c : ℕ) → (c ≡ k → ⊥) → entry_at n c ≡ entry_at f c) → IsEntryOf (entry_at n k) k g
       → index_map_len n.entries ≡ length (filter (λ c. is_there c g) (numbers_to (made h)))
       → ((token : List ℕ) → conn_at n token ≡ kept (conn_with token h) g)
-      → waits_as k (since_of k g) n.moments.waiting.items
-      → ((since c : ℕ) → (c ≡ k → ⊥) → is_within (at since c) n.moments.waiting.items ≡ is_within (at since c) f.moments.waiting.items)
-      → IsInOrder n.moments.waiting.items → index_map_len n.entries ≤ vec_capacity n.moments.waiting → Stands n g
-  stands_after there made_so entries own size tokens waits others order room = record {
+      → Lists n.moments (λ c. since_of c g) (index_map_len n.entries) lives_for
+      → Lists n.polls (λ c. held_since c g) (index_map_len n.entries) held_for → Stands n g
+  stands_after there made_so entries own size tokens moments polls = record {
     made_so = made_so ∙ (s.made_so ∙ sym z.made_same);
     few = subst (λ (m : ℕ). m ≤ most_connections) (sym z.made_same) s.few;
     entries = λ c. elim (cases_eq c k) [
@@ -351,35 +399,35 @@ module _ (f n : Front) (k : ℕ) (g h : List Note) (z : Follows k g h) (s : Stan
       told = λ c token e. z.conns token ∙ s.agree.told c token (sym (z.tokens c) ∙ e);
       had = λ c token e. z.tokens c ∙ s.agree.had c token (sym (z.conns token) ∙ e);
     };
-    waiting = λ w. elim (cases_eq w.conn k) [
-      | inl e ↦ subst (λ (x : ℕ). is_within (at w.since x) n.moments.waiting.items ≡ is_this w.since (since_of x g)) (sym e)
-          (waits_is k (since_of k g) n.moments.waiting.items waits w.since)
-      | inr e ↦ others w.since w.conn e ∙ (s.waiting w ∙ ap (λ (o : Option ℕ). is_this w.since o) (sym (same_since w.conn g h (z.others w.conn e))))
-    ];
-    order = order;
-    room = room;
+    waiting = moments.waits;
+    order = moments.order;
+    room = moments.room;
+    lasts = moments.so_long;
+    polling = polls.waits;
+    polls_order = polls.order;
+    polls_room = polls.room;
+    polls_last = polls.so_long;
   }
 
   -- it is kept before and after
   pub stands_kept : (e own : Entry) → Remembers e k h → Remembers own k g → n.made ≡ f.made
       → ((c : ℕ) → entry_at n c ≡ cond (nat_eq k c) (Some own) (entry_at f c))
       → index_map_len n.entries ≡ index_map_len f.entries → n.tokens ≡ f.tokens
-      → (before after : Option ℕ) → before ≡ since_of k h → after ≡ since_of k g → Changes f.moments n.moments k before after → Stands n g
-  stands_kept e own r q made_so entries size tokens before after b a ch =
-      let order : IsInOrder f.moments.waiting.items = s.order in
-      let waits : waits_as k before f.moments.waiting.items = subst (λ (o : Option ℕ). waits_as k o f.moments.waiting.items) (sym b) (waits_in f h k s) in
-      let place : HasPlace f.moments before = subst (λ (o : Option ℕ). HasPlace f.moments o) (sym b) (has_place f h k s (there_from_kept e k h r)) in
-      let room : index_map_len f.entries ≤ vec_capacity f.moments.waiting = s.room in
-      let more = ch.capacity in
+      → (before after : Option ℕ) → before ≡ since_of k h → after ≡ since_of k g → Changes f.moments n.moments k before after
+      → (held_before held_after : Option ℕ) → held_before ≡ option_map (λ poll. poll.1) (poll_of k h)
+      → held_after ≡ option_map (λ poll. poll.1) (poll_of k g) → Changes f.polls n.polls k held_before held_after → Stands n g
+  stands_kept e own r q made_so entries size tokens before after b a ch held_before held_after hb ha held =
+      let as_many : index_map_len n.entries ≤ index_map_len f.entries = omega (arith, size) in
       stands_after r.there made_so
       (λ c ne. entries c ∙ ap (λ (t : Bool). cond t (Some own) (entry_at f c)) (ne_eqb k c (λ x. ne (sym x))))
       (subst (λ (o : Option Entry). IsEntryOf o k g) (sym (entries k ∙ ap (λ (t : Bool). cond t (Some own) (entry_at f k)) (eq-eqb k k refl))) q)
       (size ∙ (s.size ∙ count_same (made h) (λ c. is_there c h) (λ c. is_there c g) there_too))
       (λ token. ap (λ m. tree.get (slice_cmp nat_cmp) m token) tokens ∙ (s.tokens token ∙ kept_same (conn_with token h) g h (λ c _. held_too c)))
-      (subst (λ (o : Option ℕ). waits_as k o n.moments.waiting.items) a (ch.changed order waits place))
-      (ch.others order waits place)
-      (ch.order order)
-      (omega (arith, size, room, more))
+      (changed_lists f.moments n.moments k before after
+      (λ c x. same_since c g h (z.others c x)) b a (λ none. waiting_fewer f h k s (there_from_kept e k h r) none) as_many ch (since_listed f h s))
+      (changed_lists f.polls n.polls k held_before held_after
+      (λ c x. same_held c g h (z.others c x)) (hb ∙ sym (held_there e k h r)) (ha ∙ sym (held_there own k g q))
+      (λ none. polling_fewer f h k s (there_from_kept e k h r) none) as_many held (held_listed f h s))
     where
       there_too : (c : ℕ) → is_there c h ≡ is_there c g
       there_too c = elim (cases_eq c k) [
@@ -402,10 +450,8 @@ stands_gone f k g h z s none there still =
     (subst (λ (o : Option Entry). IsEntryOf o k g) (sym none) (not_there k g gone_too))
     (s.size ∙ count_same (made h) (λ c. is_there c h) (λ c. is_there c g) there_too)
     (λ token. s.tokens token ∙ kept_same (conn_with token h) g h (λ c _. held_too c))
-    (subst (λ (o : Option ℕ). waits_as k o f.moments.waiting.items) (gone_since k h gone ∙ sym (gone_since k g gone_too)) (waits_in f h k s))
-    (λ since c ne. refl)
-    s.order
-    s.room
+    (same_lists since_too (since_listed f h s))
+    (same_lists polled_too (held_listed f h s))
   where
     gone : is_let_go k h ≡ true
     gone = gone_from_there k h there (subst (λ (o : Option Entry). IsEntryOf o k h) none (s.entries k))
@@ -423,6 +469,18 @@ stands_gone f k g h z s none there still =
     held_too c = elim (cases_eq c k) [
       | inl x ↦ ap (λ (i : ℕ). is_let_go i g) x ∙ (gone_too ∙ (sym gone ∙ ap (λ (i : ℕ). is_let_go i h) (sym x)))
       | inr x ↦ (z.others c x).held
+    ]
+
+    since_too : (c : ℕ) → since_of c g ≡ since_of c h
+    since_too c = elim (cases_eq c k) [
+      | inl x ↦ subst (λ (i : ℕ). since_of i g ≡ since_of i h) (sym x) (gone_since k g gone_too ∙ sym (gone_since k h gone))
+      | inr x ↦ same_since c g h (z.others c x)
+    ]
+
+    polled_too : (c : ℕ) → held_since c g ≡ held_since c h
+    polled_too c = elim (cases_eq c k) [
+      | inl x ↦ subst (λ (i : ℕ). held_since i g ≡ held_since i h) (sym x) (gone_held k g gone_too ∙ sym (gone_held k h gone))
+      | inr x ↦ same_held c g h (z.others c x)
     ]
 
 pub still_gone : (k : ℕ) (n : Noted) (h : List Note) → is_let_go k h ≡ true → is_let_go k (note_of k n ∷ h) ≡ true
@@ -473,13 +531,13 @@ tokens_with f k h e s r is token =
 pub stands_without : (f n : Front) (k : ℕ) (h : List Note) (e : Entry) → Stands f h → Remembers e k h → n.made ≡ f.made
     → ((c : ℕ) → entry_at n c ≡ cond (nat_eq k c) None (entry_at f c)) → index_map_len n.entries + 1 ≡ index_map_len f.entries
     → ((token : List ℕ) → conn_at n token ≡ kept (conn_with token h) (LetGo k ∷ h))
-    → (before : Option ℕ) → before ≡ since_of k h → Changes f.moments n.moments k before None → Stands n (LetGo k ∷ h)
-stands_without f n k h e s r made_so entries size tokens before b ch =
-    let order : IsInOrder f.moments.waiting.items = s.order in
-    let waits : waits_as k before f.moments.waiting.items = subst (λ (o : Option ℕ). waits_as k o f.moments.waiting.items) (sym b) (waits_in f h k s) in
-    let place : HasPlace f.moments before = subst (λ (o : Option ℕ). HasPlace f.moments o) (sym b) (has_place f h k s (there_from_kept e k h r)) in
-    let room : index_map_len f.entries ≤ vec_capacity f.moments.waiting = s.room in
-    let more = ch.capacity in
+    → (before : Option ℕ) → before ≡ since_of k h → Changes f.moments n.moments k before None
+    → (held_before : Option ℕ) → held_before ≡ option_map (λ poll. poll.1) (poll_of k h) → Changes f.polls n.polls k held_before None
+    → Stands n (LetGo k ∷ h)
+stands_without f n k h e s r made_so entries size tokens before b ch held_before hb held =
+    let g : List Note = LetGo k ∷ h in
+    let others = (let_go_follows k h).others in
+    let fewer : index_map_len n.entries ≤ index_map_len f.entries = omega (arith, size) in
     let number = made_number k h r.there in
     let count = count_without (made h) k (λ c. is_there c h) (λ c. is_there c (LetGo k ∷ h)) number.0 number.1 (there_from_kept e k h r)
     (not_there k (LetGo k ∷ h) (let_go k h)) (λ c ne. sym (same_there c (LetGo k ∷ h) h ((let_go_follows k h).others c ne))) in
@@ -490,16 +548,18 @@ stands_without f n k h e s r made_so entries size tokens before b ch =
     (not_there k (LetGo k ∷ h) (let_go k h)))
     (omega (arith, size, had, count))
     tokens
-    (subst (λ (o : Option ℕ). waits_as k o n.moments.waiting.items) (sym (gone_since k (LetGo k ∷ h) (let_go k h))) (ch.changed order waits place))
-    (ch.others order waits place)
-    (ch.order order)
-    (omega (arith, size, room, more))
+    (changed_lists f.moments n.moments k before None
+    (λ c x. same_since c g h (others c x)) b (sym (gone_since k g (let_go k h)))
+    (λ none. waiting_fewer f h k s (there_from_kept e k h r) none) fewer ch (since_listed f h s))
+    (changed_lists f.polls n.polls k held_before None
+    (λ c x. same_held c g h (others c x)) (hb ∙ sym (held_there e k h r)) (sym (gone_held k g (let_go k h)))
+    (λ none. polling_fewer f h k s (there_from_kept e k h r) none) fewer held (held_listed f h s))
 
 -- the same is kept, in a map with another room
 pub stands_same : (f n : Front) (h : List Note)
     → n.made ≡ f.made → n.entries.entries ≡ f.entries.entries → n.tokens ≡ f.tokens → n.moments ≡ f.moments
-    → Stands f h → Stands n h
-stands_same f n h made_so entries tokens moments s = record {
+    → n.polls ≡ f.polls → Stands f h → Stands n h
+stands_same f n h made_so entries tokens moments polls s = record {
   made_so = made_so ∙ s.made_so;
   few = s.few;
   entries = λ c. subst (λ (es : List (ℕ × Entry)). IsEntryOf (lookup (nat_eq c) es) c h) (sym entries) (s.entries c);
@@ -511,4 +571,10 @@ stands_same f n h made_so entries tokens moments s = record {
   order = subst (λ (m : Moments). IsInOrder m.waiting.items) (sym moments) s.order;
   room = subst (λ (m : Moments). index_map_len n.entries ≤ vec_capacity m.waiting) (sym moments)
       (subst (λ (es : List (ℕ × Entry)). length es ≤ vec_capacity f.moments.waiting) (sym entries) s.room);
+  lasts = ap (λ (m : Moments). m.lasts) moments ∙ s.lasts;
+  polling = λ w. ap (λ (m : Moments). is_within w m.waiting.items) polls ∙ s.polling w;
+  polls_order = subst (λ (m : Moments). IsInOrder m.waiting.items) (sym polls) s.polls_order;
+  polls_room = subst (λ (m : Moments). index_map_len n.entries ≤ vec_capacity m.waiting) (sym polls)
+      (subst (λ (es : List (ℕ × Entry)). length es ≤ vec_capacity f.polls.waiting) (sym entries) s.polls_room);
+  polls_last = ap (λ (m : Moments). m.lasts) polls ∙ s.polls_last;
 }

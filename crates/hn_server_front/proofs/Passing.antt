@@ -2,7 +2,6 @@
 use Rattle.std.proofs.Common.{◌≡◌, ℕ, zero, suc, ◌+◌, ◌<◌, ◌≤◌, Bool, true, false, inl, inr, List, [], ◌∷◌, ◌++◌, length, get_or, take, filter, min, Option, Some, None, unwrap_or, cond, refl, sym, ap, subst, ◌∙◌, arith, le-leb, leb-true}
 use Rattle.std.proofs.lemmas.Bool.{or_cases, or_left, or_right, cases_lt, cases_eq}
 use Rattle.std.specs.List.Sorted.{IsPartitionPoint, IsPartitionedBy}
-use Rattle.hd_serving.specs.Numbers.{lives_for}
 use Rattle.hn_server_front.specs.declared.moments.Waiting.{Waiting}
 use Rattle.hn_server_front.specs.Moments.{at, is_same, is_within, is_due, IsInOrder, IsLeast}
 use Rattle.hn_server_front.proofs.Placed.{before_since, order_at_any, same_is, same_self, within-append}
@@ -22,15 +21,16 @@ filter_taken p (x ∷ xs) (suc i) q =
 
 -- ---- those that are due
 
-due_before : (now : ℕ) (a b : Waiting) → a.since ≤ b.since → is_due now b ≡ true → is_due now a ≡ true
-due_before now a b l e = let m : b.since + lives_for ≤ now = leb-true (b.since + lives_for) now e in le-leb (a.since + lives_for) now (omega (arith, l, m))
+due_before : (lasts now : ℕ) (a b : Waiting) → a.since ≤ b.since → is_due lasts now b ≡ true → is_due lasts now a ≡ true
+due_before lasts now a b l e = let m : b.since + lasts ≤ now = leb-true (b.since + lasts) now e in le-leb (a.since + lasts) now (omega (arith, l, m))
 
-pub due_first : (now : ℕ) (xs ys : List Waiting) → ys ≡ xs → IsInOrder xs → IsPartitionedBy (λ (w : Waiting). is_due now w) ys
-due_first now xs ys e r i j d l m t = elim (cases_eq i j) [
-  | inl q ↦ ap (λ k. is_due now (get_or ys k d)) q ∙ t
+pub due_first : (lasts now : ℕ) (xs ys : List Waiting) → ys ≡ xs → IsInOrder xs → IsPartitionedBy (λ (w : Waiting). is_due lasts now w) ys
+due_first lasts now xs ys e r i j d l m t = elim (cases_eq i j) [
+  | inl q ↦ ap (λ k. is_due lasts now (get_or ys k d)) q ∙ t
   | inr q ↦ (
       let o : IsInOrder ys = subst (λ zs. IsInOrder zs) (sym e) r in
-      due_before now (get_or ys i d) (get_or ys j d) (before_since (get_or ys i d) (get_or ys j d) (order_at_any ys o i j d (omega (arith, l, q)) m)) t)
+      due_before lasts now (get_or ys i d) (get_or ys j d)
+      (before_since (get_or ys i d) (get_or ys j d) (order_at_any ys o i j d (omega (arith, l, q)) m)) t)
 ]
 
 -- ---- the least number

@@ -1,7 +1,8 @@
 -- What calls make of a front, and what they answer, in the words of the notes.
-use Rattle.std.specs.Prelude.{◌≡◌, ◌≤◌, ℕ, suc, Bool, true, false, List, [], ◌∷◌, length, Option, Some, None, if◌then◌else◌}
+use Rattle.std.specs.Prelude.{◌≡◌, ◌≤◌, ℕ, suc, ◌+◌, nat_le, Bool, true, false, ◌&&◌, List, [], ◌∷◌, length, Option, Some, None, option_map, if◌then◌else◌}
+use Rattle.hd_delivery.specs.Histories.{is_this}
 use Rattle.hd_serving.specs.Lives.{Note, Negotiated, Opened, Expired, made, is_made, live, overdue, poll_of, socket_of}
-use Rattle.hd_serving.specs.Numbers.{most_live}
+use Rattle.hd_serving.specs.Numbers.{held_for, most_live}
 use Rattle.hd_serving.specs.Texts.{token_of}
 use Rattle.hn_server_front.specs.declared.bodies.Transports.{Transports}
 use Rattle.hn_server_front.specs.declared.front.Front.{Front}
@@ -46,6 +47,10 @@ Expires new h now (Some c) = ((rest : List ℕ) × (overdue now h ≡ c ∷ rest
 -- the poll that it holds, as long as it isn't let go
 abbrev pub poll_held : ℕ → List Note → Option (ℕ × ℕ)
 poll_held c h = if is_there c h then poll_of c h else None
+
+-- the poll that it holds came at this moment, and was held for as long as a poll may be, or longer
+abbrev pub is_held_long : ℕ → ℕ → ℕ → List Note → Bool
+is_held_long now since c h = is_this since (option_map (λ poll. poll.1) (poll_held c h)) && nat_le (since + held_for) now
 
 -- the lane of the socket on which it stands, as long as it isn't let go
 abbrev pub lane_of : ℕ → List Note → Option ℕ

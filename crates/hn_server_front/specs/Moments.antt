@@ -1,7 +1,6 @@
 -- The list of those that wait for their moments.
 use Rattle.std.specs.Prelude.{◌≡◌, ◌<◌, ◌≤◌, ℕ, ◌+◌, Bool, true, false, ◌&&◌, ◌||◌, ◌==◌, nat_lt, nat_le, List, [], ◌∷◌, length, Option, Some, None}
 use Rattle.std.specs.Vec.{vec_capacity}
-use Rattle.hd_serving.specs.Numbers.{lives_for}
 use Rattle.hn_server_front.specs.declared.moments.Moments.{Moments}
 use Rattle.hn_server_front.specs.declared.moments.Waiting.{Waiting}
 
@@ -26,8 +25,8 @@ IsInOrder [] = Unit {0}
 IsInOrder (w ∷ ws) = ((v : Waiting) → is_within v ws ≡ true → is_before w v ≡ true) × IsInOrder ws
 
 -- its moment has come
-abbrev pub is_due : ℕ → Waiting → Bool
-is_due now w = nat_le (w.since + lives_for) now
+abbrev pub is_due : ℕ → ℕ → Waiting → Bool
+is_due lasts now w = nat_le (w.since + lasts) now
 
 -- a connection waits since this moment and no other, or not at all
 abbrev pub waits_as : ℕ → Option ℕ → List Waiting → Type 0

@@ -1,12 +1,12 @@
 -- What a front remembers of its notes.
-use Rattle.std.specs.Prelude.{◌≡◌, ◌≤◌, ◌<◌, ℕ, suc, Bool, false, not, ◌&&◌, ◌==◌, List, filter, length, Option, Some, None, nat_eq, if◌then◌else◌}
+use Rattle.std.specs.Prelude.{◌≡◌, ◌≤◌, ◌<◌, ℕ, suc, Bool, false, not, ◌&&◌, ◌==◌, List, filter, length, Option, Some, None, nat_eq, option_map, if◌then◌else◌}
 use Rattle.std.specs.BTreeMap as tree
 use Rattle.indexmap.specs.IndexMap.{get, index_map_len, spare}
 use Rattle.std.specs.Cmp.Lexicographic.{slice_cmp}
 use Rattle.std.specs.Ordering.{nat_cmp}
 use Rattle.std.specs.Vec.{vec_capacity}
 use Rattle.hd_delivery.specs.Histories.{is_this}
-use Rattle.hd_serving.specs.Numbers.{most_connections}
+use Rattle.hd_serving.specs.Numbers.{held_for, lives_for, most_connections}
 use Rattle.hd_serving.specs.Texts.{token_of}
 use Rattle.hd_serving.specs.Lives.{Note, made, numbers_to, is_made, is_let_go, is_opened, negotiated_at, is_promised, socket_of, lost_at, poll_of, poll_ended, ended_at, conn_with, standing, since}
 use Rattle.hn_server_front.specs.declared.entry.Entry.{Entry}
@@ -45,6 +45,13 @@ since_of c h = since c (standing c h) h
 abbrev pub is_waiting : Waiting → List Note → Bool
 is_waiting w h = is_this w.since (since_of w.conn h)
 
+-- since when a connection that is there holds the poll that it holds
+abbrev pub held_since : ℕ → List Note → Option ℕ
+held_since c h = if is_there c h then option_map (λ poll. poll.1) (poll_of c h) else None
+
+abbrev pub is_holding : Waiting → List Note → Bool
+is_holding w h = is_this w.since (held_since w.conn h)
+
 -- nothing was noted of a number that no connection has
 pub record IsUnborn (c : ℕ) (h : List Note) : Type 0 where
   pub held : is_let_go c h ≡ false
@@ -82,6 +89,11 @@ pub record Stands (f : Front) (h : List Note) : Type 0 where
   pub waiting : (w : Waiting) → is_within w f.moments.waiting.items ≡ is_waiting w h
   pub order : IsInOrder f.moments.waiting.items
   pub room : index_map_len f.entries ≤ vec_capacity f.moments.waiting
+  pub lasts : f.moments.lasts ≡ lives_for
+  pub polling : (w : Waiting) → is_within w f.polls.waiting.items ≡ is_holding w h
+  pub polls_order : IsInOrder f.polls.waiting.items
+  pub polls_room : index_map_len f.entries ≤ vec_capacity f.polls.waiting
+  pub polls_last : f.polls.lasts ≡ held_for
 
 -- ---- parts of calls
 
@@ -89,6 +101,7 @@ pub record Stands (f : Front) (h : List Note) : Type 0 where
 pub record HasRoom (f : Front) : Type 0 where
   pub entry : 0 < spare f.entries
   pub moment : suc (index_map_len f.entries) ≤ vec_capacity f.moments.waiting
+  pub poll : suc (index_map_len f.entries) ≤ vec_capacity f.polls.waiting
 
 -- nothing changed but the room for more
 pub record IsRoomier (old new : Front) : Type 0 where
@@ -97,8 +110,12 @@ pub record IsRoomier (old new : Front) : Type 0 where
   pub tokens : new.tokens ≡ old.tokens
   pub waiting : new.moments.waiting.items ≡ old.moments.waiting.items
   pub capacity : vec_capacity old.moments.waiting ≤ vec_capacity new.moments.waiting
+  pub lasts : new.moments.lasts ≡ old.moments.lasts
+  pub polling : new.polls.waiting.items ≡ old.polls.waiting.items
+  pub polls_capacity : vec_capacity old.polls.waiting ≤ vec_capacity new.polls.waiting
+  pub polls_last : new.polls.lasts ≡ old.polls.lasts
 
--- one more connection is kept, which waits from the moment on at which its token was told
+-- one more connection is kept, which waits from the moment on at which its token was told, and holds no poll
 pub record IsEntered (old new : Front) (c : ℕ) (told : Option Told) : Type 0 where
   pub made_so : new.made ≡ c
   pub own : Entry
@@ -110,3 +127,5 @@ pub record IsEntered (old new : Front) (c : ℕ) (told : Option Told) : Type 0 w
       (w : Waiting) → is_within w new.moments.waiting.items ≡ (if c == w.conn then is_this w.since (moment_told told) else is_within w old.moments.waiting.items)
   pub order : IsInOrder old.moments.waiting.items → IsInOrder new.moments.waiting.items
   pub capacity : vec_capacity old.moments.waiting ≤ vec_capacity new.moments.waiting
+  pub lasts : new.moments.lasts ≡ old.moments.lasts
+  pub polls : new.polls ≡ old.polls

@@ -1,12 +1,12 @@
 //! What is kept of a connection until it is let go.
 
-ghost use Rattle.std.specs.Prelude.{◌≡◌, ℕ, List, ◌∷◌};
-ghost use Rattle.hd_serving.specs.Lives.{Note, ends_then, is_polling, is_promised, life_of, past as past_of, since as since_of, standing as standing_of};
+ghost use Rattle.std.specs.Prelude.{◌≡◌, ℕ, List, ◌∷◌, option_map};
+ghost use Rattle.hd_serving.specs.Lives.{Note, ends_then, is_polling, is_promised, life_of, past as past_of, poll_of, since as since_of, standing as standing_of};
 ghost use Rattle.hn_server_front.specs.Entries.{HasEnded, HasPolled, IsLost, IsNew, Remembers, moment_told, note_of};
 
 use crate::moments::is_past;
 use crate::token::Token;
-use hd_serving::Life;
+use hd_serving::{LIVES_FOR, Life};
 
 /// A token, the moment at which it was told, and whether its connection can be resumed.
 #[derive(Drop)]
@@ -131,6 +131,16 @@ impl Entry {
         self.poll.is_some() || self.polled.is_some()
     }
 
+    /// Since when it holds the poll that it holds.
+    pub(crate) fn held_since(&self) -> Option<u64>
+        ensures { (c : ℕ) (h : List Note) → Remembers self.now c h → result ≡ option_map (λ poll. poll.1) (poll_of c h) }
+    {
+        match self.poll {
+            Some(held) => Some(held.since),
+            None => None,
+        }
+    }
+
     /// Its life but for moments.
     pub(crate) fn standing(&self) -> Life
         ensures { (c : ℕ) (h : List Note) → Remembers self.now c h → result ≡ standing_of c h }
@@ -171,7 +181,7 @@ impl Entry {
     {
         let standing = self.standing();
         match self.since() {
-            Some(since) if is_past(since, now) => past(standing),
+            Some(since) if is_past(since, LIVES_FOR, now) => past(standing),
             _ => standing,
         }
     }

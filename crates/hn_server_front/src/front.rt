@@ -1,11 +1,12 @@
 //! The connections of a server: what is noted of them, and the lives of their tokens.
 
-ghost use Rattle.std.specs.Prelude.{◌≡◌, ◌↔◌, ◌+◌, ◌≤◌, ◌&&◌, suc, [], true, false, nat_le, Err, IfOk, IfErr, IfSome, OnOk, OnErr, length, is_some};
+ghost use Rattle.std.specs.Prelude.{◌≡◌, ◌↔◌, ℕ, ◌+◌, ◌≤◌, ◌&&◌, suc, [], true, false, nat_le, Err, IfOk, IfErr, IfSome, OnOk, OnErr, length, is_some};
 ghost use Rattle.indexmap.specs.IndexMap.{index_map_len};
 ghost use Rattle.hd_serving.specs.Numbers.{most_connections, most_live};
 ghost use Rattle.hd_serving.specs.Lives.{Answered, Ended, LaneLost, LetGo, Note, Polled, Socketed};
 ghost use Rattle.hd_serving.specs.Lives.{ended_at, ends_then, is_busy, is_made, is_polling, is_promised, known_conn, life, life_of, live, overdue};
-ghost use Rattle.hn_server_front.specs.Calls.{Expires, IsFirst, IsNoted, OfEach, Opens, Stays, Tells, lane_of, poll_held};
+ghost use Rattle.hn_server_front.specs.Calls.{Expires, IsFirst, IsNoted, OfEach, Opens, Stays, Tells, is_held_long, lane_of, poll_held};
+ghost use Rattle.hn_server_front.specs.Moments.{at, is_within};
 ghost use Rattle.hn_server_front.specs.Entries.{held_as, note_of};
 ghost use Rattle.hn_server_front.specs.Routes.{RoutesTo};
 ghost use Rattle.hn_server_front.specs.Stands.{HasRoom, IsEntered, IsRoomier, Stands, is_there};
@@ -15,11 +16,11 @@ ghost use Rattle.hn_server_front.specs.declared.errors.FrontError.TheVariants.{B
 use crate::bodies::{Transports, body};
 use crate::entry::{Entry, Held, Noted, Told, told_at};
 use crate::errors::FrontError;
-use crate::moments::Moments;
+use crate::moments::{Moments, Waiting};
 use crate::route::Route;
 use crate::token::Token;
 use hd_lanes::{Request, Vec8};
-use hd_serving::{Life, MOST_CONNECTIONS, MOST_LIVE, tokens_differ};
+use hd_serving::{HELD_FOR, LIVES_FOR, Life, MOST_CONNECTIONS, MOST_LIVE, tokens_differ};
 use indexmap::IndexMap;
 use std::alloc::{AllocError, Global};
 use std::collections::BTreeMap;
@@ -41,7 +42,10 @@ pub struct Front {
     /// Those that aren't let go.
     entries: IndexMap<u64, Entry>,
     tokens: BTreeMap<Token, u64>,
+    /// Those whose lives count towards their ends.
     moments: Moments,
+    /// Those that hold polls.
+    polls: Moments,
 }
 
 impl Front {
@@ -53,7 +57,8 @@ impl Front {
             made: 0,
             entries: IndexMap::new(alloc),
             tokens: BTreeMap::new(alloc),
-            moments: Moments::start(alloc),
+            moments: Moments::start(alloc, LIVES_FOR),
+            polls: Moments::start(alloc, HELD_FOR),
         })
     }
 
@@ -137,6 +142,13 @@ impl Front {
             Some(entry) => entry.poll,
             None => None,
         }
+    }
+
+    /// The connections whose polls have been held for 90,000 milliseconds or longer, with the moments at which these came.
+    pub fn held_long(&self, now: u64) -> &[Waiting]
+        ensures { OfEach self.now (λ h. (since c : ℕ) → is_within (at since c) result.now ≡ is_held_long now since c h) }
+    {
+        self.polls.due(now)
     }
 
     /// Whether the connection's token was told with reconnect, and it isn't let go.
@@ -340,7 +352,8 @@ impl Front {
     {
         self.entries.reserve(1)?;
         let count = self.entries.len() + 1;
-        self.moments.reserve(count)
+        self.moments.reserve(count)?;
+        self.polls.reserve(count)
     }
 
     /// Enters the connection of this number, for which there is room.
@@ -362,9 +375,12 @@ impl Front {
             return;
         };
         let before = entry.since();
+        let held_before = entry.held_since();
         entry.note(noted);
         let after = entry.since();
+        let held_after = entry.held_since();
         self.moments.change(conn, before, after);
+        self.polls.change(conn, held_before, held_after);
     }
 
     /// Nothing is kept of a connection any more.
@@ -375,6 +391,7 @@ impl Front {
             return;
         };
         self.moments.change(conn, entry.since(), None);
+        self.polls.change(conn, entry.held_since(), None);
         if let Some(told) = entry.told {
             let _ = self.tokens.remove(&told.token);
         }

@@ -33,5 +33,6 @@ mod token;
 pub use entry::Held;
 pub use errors::FrontError;
 pub use front::{Front, Made};
+pub use moments::Waiting;
 pub use route::Route;
 pub use token::Token;

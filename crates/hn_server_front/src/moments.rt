@@ -1,34 +1,35 @@
-//! The connections whose life has a moment at which it ends, in the order of these moments. Room for all of them is taken beforehand, so
-//! that a connection can wait for its moment without more memory.
+//! Connections that wait for as long as each other: until their lives end, or their polls; in the order of their moments. Room for all of them is
+//! taken beforehand, so that a connection can wait without more memory.
 
 ghost use Rattle.std.specs.Prelude.{◌≡◌, ◌≤◌, ◌<◌, ◌+◌, ◌&&◌, ◌||◌, ℕ, [], true, not, filter, length, min, nat_le, unwrap_or, OnOk};
 ghost use Rattle.std.specs.Vec.{vec_capacity};
-ghost use Rattle.hd_serving.specs.Numbers.{lives_for};
 ghost use Rattle.hn_server_front.specs.Moments.{HasPlace, IsInOrder, IsLeast, at, is_due, is_same, is_within, waits_as};
 
-use hd_serving::LIVES_FOR;
 use std::alloc::{AllocError, Global};
 
-/// A connection, and the moment, in milliseconds, from which on its life counts towards its end. They are ordered by the moments, and at
-/// one moment by the numbers.
+/// A connection, and the moment, in milliseconds, since which it waits. They are ordered by the moments, and at one moment by the numbers.
 #[derive(Clone, Copy, Debug, PartialEq, Eq, PartialOrd, Ord)]
 pub struct Waiting {
-    pub(crate) since: u64,
-    pub(crate) conn: u64,
+    pub since: u64,
+    pub conn: u64,
 }
 
-/// Those that wait for their moments, in order. They are a plain list: nearly all that is added comes last, since moments rise, and those on
-/// sockets and with held polls don't wait, unless they are ending.
+/// Those that wait for their moments, in order. They are a plain list: nearly all that is added comes last, since moments rise. Of lives, those
+/// on sockets and with held polls don't wait, unless they are ending.
 #[derive(Drop)]
 pub struct Moments {
+    /// For how many milliseconds each waits.
+    lasts: u64,
     waiting: Vec<Waiting>,
 }
 
 impl Moments {
-    pub(crate) fn start(alloc: Global) -> Moments
-        ensures { result.waiting.items ≡ [] }
+    pub(crate) fn start(alloc: Global, lasts: u64) -> Moments
+        ensures none { result.waiting.items ≡ [] }
+        ensures lasts { result.lasts ≡ lasts }
     {
         Moments {
+            lasts,
             waiting: Vec::new(alloc),
         }
     }
@@ -37,6 +38,7 @@ impl Moments {
     pub(crate) fn reserve(&mut self, count: usize) -> Result<(), AllocError>
         ensures ok { OnOk result (count ≤ vec_capacity self.new.waiting) }
         ensures items { self.new.waiting.items ≡ self.old.waiting.items }
+        ensures lasts { self.new.lasts ≡ self.old.lasts }
         ensures capacity { vec_capacity self.old.waiting ≤ vec_capacity self.new.waiting }
     {
         let len = self.waiting.len();
@@ -51,6 +53,7 @@ impl Moments {
             (since k : ℕ) → (k ≡ conn → ⊥) →
             is_within (at since k) self.new.waiting.items ≡ is_within (at since k) self.old.waiting.items }
         ensures order { IsInOrder self.old.waiting.items → IsInOrder self.new.waiting.items }
+        ensures lasts { self.new.lasts ≡ self.old.lasts }
         ensures capacity { vec_capacity self.old.waiting ≤ vec_capacity self.new.waiting }
     {
         if before == after {
@@ -70,6 +73,7 @@ impl Moments {
             (since conn : ℕ) → is_within (at since conn) self.new.waiting.items ≡
             (is_same (at since conn) one || is_within (at since conn) self.old.waiting.items) }
         ensures order { IsInOrder self.old.waiting.items → IsInOrder self.new.waiting.items }
+        ensures lasts { self.new.lasts ≡ self.old.lasts }
         ensures capacity { vec_capacity self.old.waiting ≤ vec_capacity self.new.waiting }
     {
         if let Err(place) = self.waiting.binary_search(&one) {
@@ -85,6 +89,7 @@ impl Moments {
         ensures fewer { IsInOrder self.old.waiting.items → is_within one self.old.waiting.items ≡ true →
             length self.new.waiting.items < length self.old.waiting.items }
         ensures order { IsInOrder self.old.waiting.items → IsInOrder self.new.waiting.items }
+        ensures lasts { self.new.lasts ≡ self.old.lasts }
         ensures capacity { vec_capacity self.old.waiting ≤ vec_capacity self.new.waiting }
     {
         if let Ok(place) = self.waiting.binary_search(&one) {
@@ -94,27 +99,27 @@ impl Moments {
 
     /// Those whose moment has come, found by halving.
     pub(crate) fn due(&self, now: u64) -> &[Waiting]
-        ensures { IsInOrder self.now.waiting.items → result.now ≡ filter (λ w. is_due now w) self.now.waiting.items }
+        ensures { IsInOrder self.now.waiting.items → result.now ≡ filter (λ w. is_due self.now.lasts now w) self.now.waiting.items }
     {
         let past = self
             .waiting
-            .partition_point(|waiting| is_past(waiting.since, now));
+            .partition_point(|waiting| is_past(waiting.since, self.lasts, now));
         &self.waiting[..past]
     }
 
     /// The least number of a connection whose moment has come.
     pub(crate) fn first_due(&self, now: u64) -> Option<u64>
-        ensures { IsInOrder self.now.waiting.items → IsLeast (filter (λ w. is_due now w) self.now.waiting.items) result }
+        ensures { IsInOrder self.now.waiting.items → IsLeast (filter (λ w. is_due self.now.lasts now w) self.now.waiting.items) result }
     {
         least(self.due(now))
     }
 }
 
-/// Whether what counts since one moment has ended at another.
-pub(crate) fn is_past(since: u64, now: u64) -> bool
-    ensures { result ≡ nat_le (since + lives_for) now }
+/// Whether what began at one moment, and lasts for so long, has ended at another.
+pub(crate) fn is_past(since: u64, lasts: u64, now: u64) -> bool
+    ensures { result ≡ nat_le (since + lasts) now }
 {
-    now.saturating_sub(since) >= LIVES_FOR
+    since <= now && now - since >= lasts
 }
 
 /// The least number of these.

@@ -10,6 +10,7 @@ ghost use Rattle.hd_delivery.specs.Bytes.{Wire, Bytes, Does, unread};
 ghost use Rattle.hd_delivery.specs.OneHistory.{next_reader};
 ghost use Rattle.he_wire.specs.Wires.{IsHouseWire};
 ghost use Rattle.he_end.specs.Calls.{taken_at};
+ghost use Rattle.he_end.specs.Spoken.{spoken_in};
 ghost use Rattle.hd_calls.specs.Peers.{Plain, begun, byte_steps, codec, drawn, is_shut, steps};
 ghost use Rattle.hd_calls.specs.Rules.{own_live};
 ghost use Rattle.hj_jobs.specs.Meaning.{meaning};
@@ -156,6 +157,7 @@ impl<H: Hub> Peer<H> {
         ensures ticks { OfEach (meaning H.begin_of H.step_of) self.old (λ t h. of.moment (steps t h) ≤ now → (result ≡ is_silence t.config now (steps t h))
             × Stands (meaning H.begin_of H.step_of) t self.new (Plain (Does (if result then Silenced now else Ticked now)) ∷ h)) }
         ensures others { self.new ≡ record self.old { end = self.new.end } }
+        ensures codec { spoken_in self.new.end ≡ spoken_in self.old.end }
     {
         self.end.tick(now)
     }

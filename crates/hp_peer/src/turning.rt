@@ -1,8 +1,8 @@
 //! What a peer's jobs want: their rounds and turns, and answers to the deeds that they hand up.
 
-ghost use Rattle.std.specs.Prelude.{◌≡◌, ◌↔◌, ◌∷◌, true, false, IfOk, IsErr, IsTrue, OnOk, OnErr, option_map};
+ghost use Rattle.std.specs.Prelude.{◌≡◌, ◌==◌, ◌↔◌, ◌∷◌, true, false, IfOk, IsErr, IsTrue, OnOk, OnErr, option_map};
 ghost use Rattle.hd_calls.specs.Peers.{Rounds, is_shut};
-ghost use Rattle.hd_calls.specs.Rules.{IsPeerDue, MayTurn};
+ghost use Rattle.hd_calls.specs.Rules.{IsPeerDue, MayTurn, passed};
 ghost use Rattle.hj_jobs.specs.Meaning.{meaning};
 ghost use Rattle.hp_peer.specs.Stands.{OfEach, Stands, Stays};
 ghost use Rattle.hp_peer.specs.Turning.{HasAnswered, HasTurned, IsUnanswerable, Turns, TurnsSome, turned_with};
@@ -29,6 +29,7 @@ impl<H: Hub> Peer<H> {
     pub fn begin_round(&mut self)
         ensures begins { OfEach (meaning H.begin_of H.step_of) self.old (λ t h. Stands (meaning H.begin_of H.step_of) t self.new (Rounds ∷ h)) }
         ensures turns { self.new.stalled ≡ self.old.stalled }
+        ensures end { self.new.end ≡ self.old.end }
     {
         self.jobs.begin_round();
     }
@@ -61,6 +62,14 @@ impl<H: Hub> Peer<H> {
             return false;
         }
         self.jobs.due()
+    }
+
+    /// Whether no job has had a turn since the last round began.
+    pub fn at_start(&self) -> bool
+        ensures { OfEach (meaning H.begin_of H.step_of) self.now (λ t h. result ≡ (passed h == 0)) }
+    {
+        tables_agree();
+        self.jobs.at_start()
     }
 
     /// Jobs have their turns in this round, one after the other, until one hands up a deed, which is told with the job's number. What the others

@@ -25,4 +25,6 @@ returns c =
           ∙ ap (λ o. if k == w.conn then is_this w.since o else is_within w c.args.self.now.moments.waiting.items) c.told_at-since.ensures;
       order = c.change.ensures.order;
       capacity = c.change.ensures.capacity;
+      lasts = c.change.ensures.lasts;
+      polls = refl;
     }

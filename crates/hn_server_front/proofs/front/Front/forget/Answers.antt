@@ -11,8 +11,8 @@ returns-in_default c = λ h s.
     let k = c.args.conn in
     let none = sym c.in_default.ensures.value in
     let gone = λ (there : is_made k h ≡ true). stands_gone f k (LetGo k ∷ h) h (let_go_follows k h) s none there (λ _. let_go k h) in (
-      (λ there. stands_same f _ (LetGo k ∷ h) refl c.in_default.ensures.unchanged refl refl (gone there)),
-      (λ unmade. stands_same f _ h refl c.in_default.ensures.unchanged refl refl s),
+      (λ there. stands_same f _ (LetGo k ∷ h) refl c.in_default.ensures.unchanged refl refl refl (gone there)),
+      (λ unmade. stands_same f _ h refl c.in_default.ensures.unchanged refl refl refl s),
     )
 
 pub returns-in-Some-told : goal.returns-in-Some-told
@@ -21,12 +21,15 @@ returns-in-Some-told c = λ h s.
     let k = c.args.conn in
     let e = c.in-Some.entry in
     let r : Remembers e k h = subst (λ o. IsEntryOf o k h) (sym c.in-Some.ensures.value) (s.entries k) in
-    let changed = c.change.ensures in (
+    let changed = c.change.ensures in
+    let held = c.change-2.ensures in (
       (λ there. stands_without f _ k h e s r refl c.swap_remove.ensures.updates.0 c.in-Some.ensures.len
           (λ token. (rw c.in-Some-told.told-is at (c.remove.ensures.updates.0 token))
           ∙ tokens_without f k h e s r c.in-Some-told.told.token (ap text_told c.in-Some-told.is) token)
           c.since.result (c.since.ensures k h r)
-          (record { changed = changed.changed; others = changed.others; order = changed.order; capacity = changed.capacity })),
+          (record { changed = changed.changed; others = changed.others; order = changed.order; lasts = changed.lasts; capacity = changed.capacity })
+          c.held_since.result (c.held_since.ensures k h r)
+          (record { changed = held.changed; others = held.others; order = held.order; lasts = held.lasts; capacity = held.capacity })),
       (λ unmade. no_bool (sym unmade ∙ r.there)),
     )
 
@@ -36,10 +39,13 @@ returns-in_default-told c = λ h s.
     let k = c.args.conn in
     let e = c.in-Some.entry in
     let r : Remembers e k h = subst (λ o. IsEntryOf o k h) (sym c.in-Some.ensures.value) (s.entries k) in
-    let changed = c.change.ensures in (
+    let changed = c.change.ensures in
+    let held = c.change-2.ensures in (
       (λ there. stands_without f _ k h e s r refl c.swap_remove.ensures.updates.0 c.in-Some.ensures.len
           (tokens_with f k h e s r (ap text_told c.in_default-told.is))
           c.since.result (c.since.ensures k h r)
-          (record { changed = changed.changed; others = changed.others; order = changed.order; capacity = changed.capacity })),
+          (record { changed = changed.changed; others = changed.others; order = changed.order; lasts = changed.lasts; capacity = changed.capacity })
+          c.held_since.result (c.held_since.ensures k h r)
+          (record { changed = held.changed; others = held.others; order = held.order; lasts = held.lasts; capacity = held.capacity })),
       (λ unmade. no_bool (sym unmade ∙ r.there)),
     )

@@ -20,6 +20,6 @@ returns-clause-ok c = λ h s.
       next = next;
       body = c.in_ok-body.ensures ∙ ap (λ t. body_for c.args.transports conn t c.args.asked) c.in_ok-token.ensures;
       noted = tells_next c.args.self.now c.make_room.new.self _ c.enter.new.self h conn token c.in_ok-own.own c.args.asked c.args.now _
-          next ok.1 s room.same room.room refl refl updates copied c.enter.ensures c.in_ok-token.ensures refl refl of c.tokens_differ.ensures;
+          next ok.1 s room.same room.room refl refl refl updates copied c.enter.ensures c.in_ok-token.ensures refl refl of c.tokens_differ.ensures;
       few = tells_few h conn token c.args.asked c.args.now next (c.in_ok-conn.ensures.free h s);
     }
