@@ -35,7 +35,7 @@ pub record Alike (c : ℕ) (g h : List Doing) : Type 0 where
   pub user : user_of c g ≡ user_of c h
 
 -- it is where what was noted is the same
-alike_noted : (c : ℕ) (g h : List Doing) → settings_of c (work g) ≡ settings_of c (work h) → has_gone c (work g) ≡ has_gone c (work h)
+pub alike_noted : (c : ℕ) (g h : List Doing) → settings_of c (work g) ≡ settings_of c (work h) → has_gone c (work g) ≡ has_gone c (work h)
     → moves c (work g) ≡ moves c (work h) → notes g ≡ notes h → user_of c g ≡ user_of c h → Alike c g h
 alike_noted c g h settings gone moved noted user = record {
   settings = settings;

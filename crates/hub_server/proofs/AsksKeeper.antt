@@ -15,7 +15,7 @@ use Rattle.hk_keeper.specs.declared.keeper.KeepError.{KeepError}
 use Rattle.hk_keeper.specs.declared.keeper.KeepError.TheVariants as keep
 use Rattle.hk_keeper.specs.Calls.{Gains, IsCaused, IsErrorNoted}
 use Rattle.hd_serving.specs.Machine.{Happening, Carries, Fate, IsAskedFor, OwesDeed}
-use Rattle.hd_serving.specs.Machine.{answer_to, fates_of, has_gone, is_there, moves, owed, registry, settings_of, who_of}
+use Rattle.hd_serving.specs.Machine.{answer_to, fates_of, has_gone, is_there, owed, registry, settings_of, who_of}
 use Rattle.hp_peer.specs.declared.peer.Peer.{Peer}
 use Rattle.hp_peer.specs.Stands.{OfEach}
 use Rattle.hub_server.specs.declared.machine.Machine.{Machine}
@@ -25,7 +25,8 @@ use Rattle.hub_server.specs.Outside.{GoesWith, Outside, spoken_at}
 use Rattle.hub_server.specs.Rounds.{IsCarried}
 use Rattle.hub_server.specs.Carrying.{AnswersAt}
 use Rattle.hub_server.specs.Spreads.{codecs_among}
-use Rattle.hub_server.proofs.Ends.{stood, unstood}
+use Rattle.hub_server.proofs.Ends.{unstood}
+use Rattle.hub_server.proofs.Lags.{lags}
 use Rattle.hub_server.proofs.Carry.{IsHere, here, carried_quietly, may_answer}
 
 -- ---- the connection whose job handed it up
@@ -46,7 +47,8 @@ pub who_is : {H Job : Type 0} (hub : Hub Job) (m : Machine H Job) (r : List Happ
     → is_there c r ≡ true → Some p ≡ peer_at m c → OfEach {H = H} hub p (λ t h. who ≡ t.who) → who ≡ who_of (settings_of c r)
 who_is {H} {Job} hub m r c p who s there e tells =
     let at : IsHere c r = here c r there in
-    tells at.settings (moves c r) (stood {H = H} {Job = Job} hub m r c at.settings p s (there_so c r at) e) ∙ ap who_of (sym at.begun)
+    let x = lags {H = H} {Job = Job} hub m r c at.settings p s (there_so c r at) e in
+    tells at.settings x.before x.stands ∙ ap who_of (sym at.begun)
 
 -- ---- what the keeper did
 
@@ -147,7 +149,7 @@ carried_asking {H} {Job} hub new old before now r c j d ask s owes there is_aske
   is_asked = is_asked;
   stands = carried_quietly {H = H} {Job = Job} hub new old r c j d (Some ask) s owes there is_asked none
       (told (with_lists (lists_after d c (registry r)) (affairs r)) (may_answer {H = H} {Job = Job} hub old r c j d (answer_to (Some ask)) s owes is_answer)
-      (record { at = s.at; registry = subst (λ l. StandsRegistry old.registry l) (sym same) s.registry }));
+      (record { at = s.at; index = s.index; registry = subst (λ l. StandsRegistry old.registry l) (sym same) s.registry }));
   goes = goes_asked before now r c j d (fates_of d r) ask was;
 }
 

@@ -16,22 +16,22 @@ use Rattle.hd_delivery.specs.Bytes.{Wire}
 use Rattle.hd_delivery.specs.Worlds.{Limits}
 use Rattle.he_wire.specs.Wires.{IsHouseWire}
 use Rattle.hd_calls.specs.Hubs.{Hub}
-use Rattle.hd_calls.specs.Peers.{Move, Settings, steps, waiting}
+use Rattle.hd_calls.specs.Peers.{Settings, steps, waiting}
 use Rattle.hd_serving.specs.declared.vocabulary.Said.{Said}
 use Rattle.hd_serving.specs.Numbers.{most_frame, most_held, most_held_bytes}
 use Rattle.hd_serving.specs.Lives.{socket_of, lost_at, poll_of, poll_ended, is_let_go, is_polling, made}
 use Rattle.hd_serving.specs.Machine.{Happening, Connects, has_gone, is_there, moves, settings_of}
 use Rattle.hd_serving.specs.Doings.{Doing, Works, notes, work, moment, config_of, has_peer, history, history_with, user_of}
 use Rattle.hd_serving.specs.Plans.{Setup, connecting, onto, peer_settings}
-use Rattle.hp_peer.specs.declared.peer.Peer.{Peer}
 use Rattle.hp_peer.specs.Stands.{settings}
 use Rattle.hub_server.specs.declared.machine.Machine.{Machine}
 use Rattle.hub_server.specs.declared.server.Server.{Server}
-use Rattle.hub_server.specs.Machines.{IsPeerOf, IsStranger, StandsMachine, peer_at, settings_there}
+use Rattle.hub_server.specs.Machines.{IsStranger, StandsMachine, peer_at, settings_there}
 use Rattle.hub_server.specs.Lanes.{Unsettled, conn_of, is_at, poll_lane, settled}
 use Rattle.hub_server.specs.Servers.{IsBegunBy, IsOrderly, IsSetup, Standing, caller_of}
 use Rattle.hub_server.specs.Connections.{IsKnown}
 use Rattle.hub_server.proofs.Alike.{alike_connects, caller_alike, orderly_alike}
+use Rattle.hub_server.proofs.Conns.{here_by_peer}
 use Rattle.hub_server.proofs.Ends.{apart}
 use Rattle.hub_server.proofs.HoldLanes.{turned}
 use Rattle.hub_server.proofs.HoldPolls.{no_some, not_later}
@@ -39,32 +39,10 @@ use Rattle.hub_server.proofs.LaneKept.{lane_kept, lane_wider, orderly_wider, sam
 
 -- ---- who has a peer
 
-peer_agrees : {H Job : Type 0} (hub : Hub Job) (o : Option Settings) (h : List Move) (p : Option (Peer H Job)) → IsPeerOf {H = H} hub o h p
-    → is_some p ≡ is_some o
-peer_agrees hub None h None at = refl
-peer_agrees hub (Some t) h (Some p) at = refl
-peer_agrees hub None h (Some p) at = absurd at
-peer_agrees hub (Some t) h None at = absurd at
-
-with_true : (b : Bool) → b ≡ (b && true)
-with_true true = refl
-with_true false = refl
-
-there_settings : (k : ℕ) (w : List Happening) → is_some (settings_there k w) ≡ is_there k w
-there_settings k w = go (has_gone k w) refl
-  where
-    go : (b : Bool) → has_gone k w ≡ b → is_some (settings_there k w) ≡ is_there k w
-    go true e =
-        ap (λ (o : Option Settings). is_some o) (cond-true (has_gone k w) None (settings_of k w) e)
-        ∙ sym (and_right (is_some (settings_of k w)) (not (has_gone k w)) (ap not e))
-    go false e =
-        ap (λ (o : Option Settings). is_some o) (cond-false (has_gone k w) None (settings_of k w) e)
-        ∙ with_true (is_some (settings_of k w)) ∙ ap (λ b. is_some (settings_of k w) && b) (sym (ap not e))
-
 -- the machine has its peer exactly if it has one
 pub peer_there : {H Job : Type 0} (hub : Hub Job) (m : Machine H Job) (w : List Happening) (k : ℕ) → StandsMachine {H = H} hub m w
     → is_some (peer_at m k) ≡ is_there k w
-peer_there {H} {Job} hub m w k s = peer_agrees {H = H} {Job = Job} hub (settings_there k w) (moves k w) (peer_at m k) (s.at k) ∙ there_settings k w
+peer_there {H} {Job} hub m w k s = sym (here_by_peer {H = H} {Job = Job} hub m w s k)
 
 -- the settings of one that is there
 pub settings_if : (k : ℕ) (w : List Happening) → is_there k w ≡ true → (t : Settings) × (settings_there k w ≡ Some t) × (settings_of k w ≡ Some t)

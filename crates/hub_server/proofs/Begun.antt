@@ -1,13 +1,14 @@
 -- What a new connection changes in what the machine stands for.
-use Rattle.std.proofs.Common.{◌≡◌, ◌<◌, ℕ, ◌==◌, Bool, true, false, not, ◌&&◌, ◌||◌, List, [], ◌∷◌, ◌++◌, filter, Option, Some, None}
+use Rattle.std.proofs.Common.{◌≡◌, ◌<◌, ◌≤◌, ◌+◌, ℕ, ◌==◌, Bool, true, false, not, ◌&&◌, ◌||◌, List, [], ◌∷◌, ◌++◌, filter, length, Option}
+use Rattle.std.proofs.Common.{Some, None}
 use Rattle.std.proofs.Common.{refl, sym, ap, subst, ◌∙◌, arith}
 use Rattle.std.specs.Prelude.{if◌then◌else◌}
 use Rattle.std.specs.Ordering.{nat_cmp}
-use Rattle.std.specs.BTreeMap.{BTreeMap, Updates}
+use Rattle.std.specs.BTreeMap.{BTreeMap, btree_map_len, Updates}
 use Rattle.std.proofs.lemmas.Bool.{eqb-true, eq-eqb, cond-true, cond-false, cond_both, or_parts}
 use Rattle.std.proofs.lemmas.List.Elements.{filter-append}
 use Rattle.hd_calls.specs.Hubs.{Hub}
-use Rattle.hd_calls.specs.Peers.{Settings}
+use Rattle.hd_calls.specs.Peers.{Move, Settings}
 use Rattle.hd_calls.specs.Rules.{IsPeer}
 use Rattle.hd_server.specs.Registry.{Pair, Lists, has, named, same_pair, same_text, with_pair, without}
 use Rattle.hg_groups.specs.Standing.{StandsRegistry}
@@ -15,8 +16,13 @@ use Rattle.hd_serving.specs.Machine.{Happening, Connects, Does, Rounds, Carries,
 use Rattle.hd_serving.specs.Machine.{has_gone, is_open, joined, moves, of_open, registry, settings_of, user_pairs}
 use Rattle.hp_peer.specs.declared.peer.Peer.{Peer}
 use Rattle.hp_peer.specs.Stands.{Stands}
+use Rattle.hg_groups.specs.declared.registry.Registry.{Registry}
 use Rattle.hub_server.specs.declared.machine.Machine.{Machine}
-use Rattle.hub_server.specs.Machines.{IsPeerOf, IsStranger, StandsMachine, peer_at, settings_there}
+use Rattle.hub_server.specs.declared.sleepers.Nap.{Nap}
+use Rattle.hub_server.specs.declared.sleepers.Sleepers.{Sleepers}
+use Rattle.hub_server.specs.Machines.{IsKeptAs, IsPeerOf, IsStranger, StandsMachine, nap_at, peer_at, settings_there}
+use Rattle.hub_server.specs.Sleepers.{Changes}
+use Rattle.hub_server.proofs.Awake.{AddsOne, each_kept, has_room, index_new, one_more, room_for_all}
 use Rattle.hub_server.proofs.Open.{OthersOpen, filter_goes, filter_stays, lists_agree, of_open_unpaired}
 use Rattle.hub_server.proofs.Doing.{PutsPeer, apart, open_by, peer_is}
 use Rattle.hub_server.proofs.Ends as ends
@@ -85,10 +91,18 @@ no_user c (Rounds now ∷ w) e = no_user c w e
 no_user c (Carries k j d fates asked ∷ w) e = no_user c w e
 no_user c (Goes k ∷ w) e = no_user c w e
 
+-- one that isn't there doesn't sleep
+no_nap : {H Job : Type 0} (hub : Hub Job) (clock : ℕ) (nap : Option Nap) (t : Option Settings) (h : List Move) (p : Option (Peer H Job)) → t ≡ None
+    → IsKeptAs {H = H} hub clock nap t h p → nap ≡ None
+no_nap hub clock None t h p e kept = refl
+no_nap hub clock (Some nap) None h p e kept = absurd kept
+no_nap hub clock (Some nap) (Some t) h p e kept = absurd (let z : ◌≡◌ {A = Option Settings} (Some t) None = e in cc)
+
 -- ---- what a connection leaves as it was
 
 module _ {H Job : Type 0} (hub : Hub Job) (old new : Machine H Job) (w : List Happening) (c : ℕ) (t : Settings) (user : Option (List ℕ)) (p : Peer H Job)
     (s : StandsMachine {H = H} hub old w) (fresh : settings_of c w ≡ None) (from_one : 0 < c) (puts : PutsPeer {H = H} old new c p)
+    (taken : Sleepers) (adds : AddsOne old.sleepers taken new.sleepers (btree_map_len old.peers) (btree_map_len new.peers) c)
     (stands : Stands {H = H} hub t p []) where
   abbrev after : List Happening
   after = Connects c t user ∷ w
@@ -104,18 +118,28 @@ module _ {H Job : Type 0} (hub : Hub Job) (old new : Machine H Job) (w : List Ha
   others : (k : ℕ) → (c == k) ≡ false → settings_of k after ≡ settings_of k w
   others k e = cond-false (k == c) (Some t) (settings_of k w) (apart c k e)
 
-  here : IsPeerOf {H = H} hub (settings_there c after) (moves c after) (peer_at new c)
-  here =
-      subst (λ o. IsPeerOf {H = H} hub o (moves c after) (peer_at new c))
-      (sym (cond-false (has_gone c w) None (settings_of c after) stranger.unknown ∙ own))
-      (subst (λ h. IsPeerOf {H = H} hub (Some t) h (peer_at new c)) (sym stranger.unmoved)
-      (subst (λ q. IsPeerOf {H = H} hub (Some t) [] q) (sym puts.at) stands))
+  -- it didn't sleep, since it wasn't there
+  unnapped : nap_at old c ≡ None
+  unnapped = no_nap {H = H} {Job = Job} hub old.sleepers.clock (nap_at old c) (settings_there c w) (moves c w) (peer_at old c)
+      (cond-false (has_gone c w) None (settings_of c w) stranger.unknown ∙ fresh) (s.at c)
 
-  at_each : (k : ℕ) (b : Bool) → (c == k) ≡ b → IsPeerOf {H = H} hub (settings_there k after) (moves k after) (peer_at new k)
-  at_each k true f = subst (λ n. IsPeerOf {H = H} hub (settings_there n after) (moves n after) (peer_at new n)) (eqb-true c k f) here
-  at_each k false f =
-      subst (λ o. IsPeerOf {H = H} hub o (moves k w) (peer_at new k)) (ap (λ o. if has_gone k w then None else o) (sym (others k f)))
-      (subst (λ q. IsPeerOf {H = H} hub (settings_there k w) (moves k w) q) (sym (puts.others k f)) (s.at k))
+  few : length old.sleepers.awake.jobs.items ≤ btree_map_len old.peers
+  few = has_room {H = H} {Job = Job} old s.index
+
+  changed : Changes old.sleepers new.sleepers c None true
+  changed = one_more old.sleepers taken new.sleepers (btree_map_len old.peers) (btree_map_len new.peers) c adds s.index.kept few unnapped
+
+  here : IsPeerOf {H = H} hub (settings_there c after) (moves c after) (Some p)
+  here =
+      subst (λ o. IsPeerOf {H = H} hub o (moves c after) (Some p))
+      (sym (cond-false (has_gone c w) None (settings_of c after) stranger.unknown ∙ own))
+      (subst (λ h. IsPeerOf {H = H} hub (Some t) h (Some p)) (sym stranger.unmoved) stands)
+
+  others_kept : (k : ℕ) → (c == k) ≡ false
+      → IsKeptAs {H = H} hub old.sleepers.clock (nap_at old k) (settings_there k after) (moves k w) (peer_at old k)
+  others_kept k e =
+      subst (λ o. IsKeptAs {H = H} hub old.sleepers.clock (nap_at old k) o (moves k w) (peer_at old k))
+      (ap (λ o. if has_gone k w then None else o) (sym (others k e))) (s.at k)
 
   peers_each : (k : ℕ) (o : Settings) → settings_of k after ≡ Some o → (b : Bool) → (c == k) ≡ b → IsPeer hub o (moves k after)
   peers_each k o e true f =
@@ -147,7 +171,10 @@ module _ {H Job : Type 0} (hub : Hub Job) (old new : Machine H Job) (w : List Ha
   -- the machine stands for the connection too, if its registry does
   stands_with : StandsRegistry new.registry (registry after) → StandsMachine {H = H} hub new after
   stands_with lists = record {
-    at = λ k. at_each k (c == k) refl;
+    at = each_kept {H = H} {Job = Job} hub old new c (Some p) None true changed puts.at puts.others (λ k. settings_there k after)
+        (λ k. moves k after) others_kept here;
+    index = index_new {H = H} {Job = Job} old new c p s.index changed puts
+        (room_for_all old.sleepers taken new.sleepers (btree_map_len old.peers) (btree_map_len new.peers) c adds s.index.kept few unnapped);
     registry = lists;
     peers = λ k o e. peers_each k o e (c == k) refl;
     strangers = strangers_each;
@@ -177,36 +204,45 @@ NamesIn old new c (Some u) = (l : Lists) → StandsRegistry old.registry l → S
 
 -- a new connection has its peer, and is its user's
 pub connects : {H Job : Type 0} (hub : Hub Job) (old new : Machine H Job) (w : List Happening) (c : ℕ) (t : Settings) (user : Option (List ℕ)) (p : Peer H Job)
-    → StandsMachine {H = H} hub old w → settings_of c w ≡ None → 0 < c → PutsPeer {H = H} old new c p → Stands {H = H} hub t p []
+    → StandsMachine {H = H} hub old w → settings_of c w ≡ None → 0 < c → PutsPeer {H = H} old new c p
+    → (taken : Sleepers) → AddsOne old.sleepers taken new.sleepers (btree_map_len old.peers) (btree_map_len new.peers) c → Stands {H = H} hub t p []
     → NamesIn {H = H} {Job = Job} old new c user → StandsMachine {H = H} hub new (Connects c t user ∷ w)
-connects {H} {Job} hub old new w c t None p s fresh from_one puts stands kept =
-    stands_with {H = H} {Job = Job} hub old new w c t None p s fresh from_one puts stands
+connects {H} {Job} hub old new w c t None p s fresh from_one puts taken adds stands kept =
+    stands_with {H = H} {Job = Job} hub old new w c t None p s fresh from_one puts taken adds stands
     (subst (λ l. StandsRegistry new.registry l)
     (sym (lists_agree (registry (Connects c t None ∷ w)) (registry w)
-    (groups_same {H = H} {Job = Job} hub old new w c t None p s fresh from_one puts stands)
-    (users_same {H = H} {Job = Job} hub old new w c t None p s fresh from_one puts stands)))
+    (groups_same {H = H} {Job = Job} hub old new w c t None p s fresh from_one puts taken adds stands)
+    (users_same {H = H} {Job = Job} hub old new w c t None p s fresh from_one puts taken adds stands)))
     (subst (λ r. StandsRegistry r (registry w)) (sym kept) s.registry))
-connects {H} {Job} hub old new w c t (Some u) p s fresh from_one puts stands names =
-    stands_with {H = H} {Job = Job} hub old new w c t (Some u) p s fresh from_one puts stands
+connects {H} {Job} hub old new w c t (Some u) p s fresh from_one puts taken adds stands names =
+    stands_with {H = H} {Job = Job} hub old new w c t (Some u) p s fresh from_one puts taken adds stands
     (subst (λ l. StandsRegistry new.registry l)
     (sym (lists_agree (registry (Connects c t (Some u) ∷ w)) (named (registry w) u c)
-    (groups_same {H = H} {Job = Job} hub old new w c t (Some u) p s fresh from_one puts stands)
+    (groups_same {H = H} {Job = Job} hub old new w c t (Some u) p s fresh from_one puts taken adds stands)
     (user_joins w (Connects c t (Some u) ∷ w) c u
-    (is_open_now {H = H} {Job = Job} hub old new w c t (Some u) p s fresh from_one puts stands) (no_user c w fresh)
-    (users_same {H = H} {Job = Job} hub old new w c t (Some u) p s fresh from_one puts stands))))
+    (is_open_now {H = H} {Job = Job} hub old new w c t (Some u) p s fresh from_one puts taken adds stands) (no_user c w fresh)
+    (users_same {H = H} {Job = Job} hub old new w c t (Some u) p s fresh from_one puts taken adds stands))))
     (names (registry w) s.registry))
 
--- the same of a machine that names the user first, and then puts the peer in
-pub begins : {H Job : Type 0} (hub : Hub Job) (old mid : Machine H Job) (ps : BTreeMap ℕ (Peer H Job)) (w : List Happening) (c : ℕ) (t : Settings)
-    (user : Option (List ℕ)) (p : Peer H Job) → StandsMachine {H = H} hub old w → settings_of c w ≡ None → 0 < c → mid.peers ≡ old.peers
-    → Updates nat_cmp mid.peers ps c (Some p) → Stands {H = H} hub t p [] → NamesIn {H = H} {Job = Job} old mid c user
-    → StandsMachine {H = H} hub (record { peers = ps; registry = mid.registry }) (Connects c t user ∷ w)
-begins {H} {Job} hub old mid ps w c t user p s fresh from_one kept updates stands names =
-    let new : Machine H Job = record { peers = ps; registry = mid.registry } in
+-- an insertion makes one more at most
+pub at_most_one : (b : Bool) (m n : ℕ) → n ≡ m + (if b then 0 else 1) → n ≤ m + 1
+at_most_one true m n e = omega (arith, e)
+at_most_one false m n e = omega (arith, e)
+
+-- the same of a machine that names the user first, takes room, and then puts the peer in
+pub begins : {H Job : Type 0} (hub : Hub Job) (old mid : Machine H Job) (r : Registry) (taken now : Sleepers)
+    (ps : BTreeMap ℕ (Peer H Job)) (w : List Happening) (c : ℕ) (t : Settings) (user : Option (List ℕ)) (p : Peer H Job)
+    → StandsMachine {H = H} hub old w → settings_of c w ≡ None → 0 < c → mid ≡ record old { registry = r } → Updates nat_cmp mid.peers ps c (Some p)
+    → AddsOne mid.sleepers taken now (btree_map_len mid.peers) (btree_map_len ps) c → Stands {H = H} hub t p []
+    → NamesIn {H = H} {Job = Job} old mid c user
+    → StandsMachine {H = H} hub (record { peers = ps; registry = mid.registry; sleepers = now }) (Connects c t user ∷ w)
+begins {H} {Job} hub old mid r taken now ps w c t user p s fresh from_one kept updates adds stands names =
+    let new : Machine H Job = record { peers = ps; registry = mid.registry; sleepers = now } in
     connects {H = H} {Job = Job} hub old new w c t user p s fresh from_one
-    (put old new c p (subst (λ m. Updates nat_cmp m ps c (Some p)) kept updates)) stands (renames user names)
+    (put old new c p (subst (λ m. Updates nat_cmp m.peers ps c (Some p)) kept updates)) taken
+    (subst (λ m. AddsOne m.sleepers taken now (btree_map_len m.peers) (btree_map_len ps) c) kept adds) stands (renames user names)
   where
     renames : (o : Option (List ℕ)) → NamesIn {H = H} {Job = Job} old mid c o
-        → NamesIn {H = H} {Job = Job} old (record { peers = ps; registry = mid.registry }) c o
+        → NamesIn {H = H} {Job = Job} old (record { peers = ps; registry = mid.registry; sleepers = now }) c o
     renames None e = e
     renames (Some u) e = e

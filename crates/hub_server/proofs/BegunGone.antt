@@ -1,9 +1,10 @@
 -- What the machine stands for when a connection has gone.
-use Rattle.std.proofs.Common.{◌≡◌, ℕ, ◌==◌, Bool, true, false, not, ◌&&◌, ◌||◌, List, ◌∷◌, Option, Some, None, is_some, refl, sym, ap, subst, ◌∙◌}
+use Rattle.std.proofs.Common.{◌≡◌, ◌≤◌, ℕ, ◌==◌, Bool, true, false, not, ◌&&◌, ◌||◌, List, ◌∷◌, Option, Some, None, is_some, refl, sym, ap}
+use Rattle.std.proofs.Common.{subst, ◌∙◌}
 use Rattle.std.specs.Prelude.{if◌then◌else◌}
 use Rattle.std.proofs.lemmas.Bool.{eqb-true, eq-eqb, cond-true}
 use Rattle.std.specs.Ordering.{nat_cmp}
-use Rattle.std.specs.BTreeMap.{Updates}
+use Rattle.std.specs.BTreeMap.{Updates, btree_map_len}
 use Rattle.hd_calls.specs.Hubs.{Hub}
 use Rattle.hd_calls.specs.Peers.{Settings}
 use Rattle.hd_server.specs.Registry.{Lists, gone}
@@ -11,7 +12,9 @@ use Rattle.hg_groups.specs.Standing.{StandsRegistry}
 use Rattle.hd_serving.specs.Machine.{Happening, Goes, has_gone, is_open, is_open_at, moves, registry, settings_of}
 use Rattle.hp_peer.specs.declared.peer.Peer.{Peer}
 use Rattle.hub_server.specs.declared.machine.Machine.{Machine}
-use Rattle.hub_server.specs.Machines.{IsPeerOf, IsStranger, StandsMachine, peer_at, settings_there}
+use Rattle.hub_server.specs.Machines.{IsKeptAs, IsPeerOf, IsStranger, StandsMachine, nap_at, peer_at, settings_there}
+use Rattle.hub_server.specs.Sleepers.{Changes, IsKept}
+use Rattle.hub_server.proofs.Awake.{each_kept, index_gone}
 use Rattle.hub_server.proofs.Open.{OthersOpen, registry_closed}
 use Rattle.hub_server.proofs.Doing.{apart, open_by, there_is}
 use Rattle.hub_server.proofs.Ends.{unstood}
@@ -28,9 +31,14 @@ has_peer {H} {Job} hub m w c t s there e = unstood {H = H} {Job = Job} hub m w c
 
 module _ {H Job : Type 0} (hub : Hub Job) (old new : Machine H Job) (w : List Happening) (c : ℕ) (t : Settings)
     (s : StandsMachine {H = H} hub old w) (there : settings_there c w ≡ Some t) (updates : Updates nat_cmp old.peers new.peers c None)
+    (fewer : btree_map_len new.peers ≤ btree_map_len old.peers) (changes : IsKept old.sleepers → Changes old.sleepers new.sleepers c None false)
     (leaves : (l : Lists) → StandsRegistry old.registry l → StandsRegistry new.registry (gone l c)) where
   abbrev after : List Happening
   after = Goes c ∷ w
+
+  -- neither it nor its nap is kept
+  changed : Changes old.sleepers new.sleepers c None false
+  changed = changes s.index.kept
 
   has_gone_now : has_gone c after ≡ true
   has_gone_now = ap (λ b. b || has_gone c w) (eq-eqb c c refl)
@@ -38,13 +46,14 @@ module _ {H Job : Type 0} (hub : Hub Job) (old new : Machine H Job) (w : List Ha
   others : (k : ℕ) → (c == k) ≡ false → has_gone k after ≡ has_gone k w
   others k e = ap (λ b. b || has_gone k w) (apart c k e)
 
-  at_each : (k : ℕ) (b : Bool) → (c == k) ≡ b → IsPeerOf {H = H} hub (settings_there k after) (moves k w) (peer_at new k)
-  at_each k true f = subst (λ n. IsPeerOf {H = H} hub (settings_there n after) (moves n w) (peer_at new n)) (eqb-true c k f)
-      (subst (λ o. IsPeerOf {H = H} hub o (moves c w) (peer_at new c)) (sym (cond-true (has_gone c after) None (settings_of c w) has_gone_now))
-      (subst (λ q. IsPeerOf {H = H} hub None (moves c w) q) (sym updates.1) tt))
-  at_each k false f =
-      subst (λ b. IsPeerOf {H = H} hub (if b then None else settings_of k w) (moves k w) (peer_at new k)) (sym (others k f))
-      (subst (λ q. IsPeerOf {H = H} hub (settings_there k w) (moves k w) q) (sym (updates.2 k (ends.apart c k f))) (s.at k))
+  here : IsPeerOf {H = H} hub (settings_there c after) (moves c w) None
+  here = subst (λ o. IsPeerOf {H = H} hub o (moves c w) None) (sym (cond-true (has_gone c after) None (settings_of c w) has_gone_now)) tt
+
+  others_kept : (k : ℕ) → (c == k) ≡ false
+      → IsKeptAs {H = H} hub old.sleepers.clock (nap_at old k) (settings_there k after) (moves k w) (peer_at old k)
+  others_kept k e =
+      subst (λ b. IsKeptAs {H = H} hub old.sleepers.clock (nap_at old k) (if b then None else settings_of k w) (moves k w) (peer_at old k))
+      (sym (others k e)) (s.at k)
 
   strangers_each : (k : ℕ) → settings_of k w ≡ None → (b : Bool) → (c == k) ≡ b → IsStranger k after
   strangers_each k e true f =
@@ -62,7 +71,9 @@ module _ {H Job : Type 0} (hub : Hub Job) (old new : Machine H Job) (w : List Ha
   -- it has no peer, and left everything
   pub goes : StandsMachine {H = H} hub new after
   goes = record {
-    at = λ k. at_each k (c == k) refl;
+    at = each_kept {H = H} {Job = Job} hub old new c None None false changed updates.1 (λ k e. updates.2 k (ends.apart c k e))
+        (λ k. settings_there k after) (λ k. moves k w) others_kept here;
+    index = index_gone {H = H} {Job = Job} old new c s.index changed updates fewer;
     registry = subst (λ l. StandsRegistry new.registry l) (sym (registry_closed c w after refl refl shut others_open)) (leaves (registry w) s.registry);
     peers = s.peers;
     strangers = λ k e. strangers_each k e (c == k) refl;

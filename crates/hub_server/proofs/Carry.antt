@@ -21,16 +21,18 @@ use Rattle.hd_serving.specs.Machine.{answer_to, fate_at, fate_in, fates_among, f
 use Rattle.hd_serving.specs.Lives.{numbers_to}
 use Rattle.hd_serving.specs.Machine.{has_gone, is_open, is_open_at, is_there, joined, moves, of_open, owed, registry, settings_of, user_pairs, who_of}
 use Rattle.hd_serving.specs.Machine.{with_fate}
-use Rattle.hp_peer.specs.declared.peer.Peer.{Peer}
+use Rattle.hg_groups.specs.declared.registry.Registry.{Registry}
+use Rattle.hg_groups.specs.Standing.{StandsRegistry}
 use Rattle.hub_server.specs.declared.machine.Machine.{Machine}
-use Rattle.hub_server.specs.Machines.{IsPeerOf, IsStranger, StandsMachine, peer_at, settings_there}
+use Rattle.hub_server.specs.Machines.{IsKeptAs, IsStranger, StandsMachine, nap_at, peer_at, settings_there}
 use Rattle.hub_server.specs.Affairs.{Affairs, AreSame, AreUp, StandsFor, affairs, fates_in, is_up_in, lists_after, moved, told, with_lists, without_slow}
 use Rattle.hub_server.specs.Outside.{Outside, GoesWith, asks_in, outside, spoken_at}
 use Rattle.hub_server.specs.Rounds.{AtDeed, IsCarried}
 use Rattle.hub_server.specs.Carrying.{AnswersAt}
 use Rattle.hub_server.specs.Spreads.{codecs_among, is_listed}
 use Rattle.hub_server.proofs.Open.{filter_goes, filter_stays}
-use Rattle.hub_server.proofs.Doing.{peer_is}
+use Rattle.hub_server.proofs.Doing.{index_stays}
+use Rattle.hub_server.proofs.Lags.{kept_is_peer}
 use Rattle.hub_server.proofs.Same.{same_stands}
 use Rattle.hub_server.proofs.CarryLists.{among, among_agree, eqb_swap, fate_found, fates_by, is_slow, kept, kept_with, kept_without, lists_of, lists_same}
 use Rattle.hub_server.proofs.CarryLists.{members_pass, slow_among, slow_found, slow_leave}
@@ -193,10 +195,6 @@ same_affairs r c j d asked e = record {
 
 -- ---- what peers and strangers did
 
-peer_of : {H Job : Type 0} (hub : Hub Job) (t : Settings) (h : List Move) (q : Option (Peer H Job)) → IsPeerOf {H = H} hub (Some t) h q → IsPeer hub t h
-peer_of hub t h None i = absurd i
-peer_of {H} {Job} hub t h (Some p) i = peer_is {H = H} {Job = Job} hub t p h i
-
 -- the connection is another
 apart_from : (r : List Happening) (c k : ℕ) → IsHere c r → settings_of k r ≡ None → (k == c) ≡ false
 apart_from r c k at e = false_from_ne_true (k == c) (λ f.
@@ -234,12 +232,27 @@ gone_unmoved r c j k d fates asked at f g =
 
 -- ---- the machine
 
+-- it stands for what its happenings say of each connection
+pub stands_for : {H Job : Type 0} (hub : Hub Job) (m : Machine H Job) (r : List Happening) → StandsMachine {H = H} hub m r
+    → StandsFor {H = H} hub m (affairs r)
+stands_for hub m r s = record { at = s.at; index = s.index; registry = s.registry }
+
+-- also with another registry, and what that stands for
+pub stands_listed : {H Job : Type 0} (hub : Hub Job) (m : Machine H Job) (r : List Happening) (x : Registry) (l : Lists) → StandsMachine {H = H} hub m r
+    → StandsRegistry x l → StandsFor {H = H} hub (record m { registry = x }) (with_lists l (affairs r))
+stands_listed {H} {Job} hub m r x l s lists = record {
+  at = s.at;
+  index = index_stays {H = H} {Job = Job} m (record m { registry = x }) (record { sleepers = refl; count = refl; there = λ k. refl }) s.index;
+  registry = lists;
+}
+
 -- it stands for what it did for others, and for what its peers and its registry are now
 pub stands_carried : {H Job : Type 0} (hub : Hub Job) (new old : Machine H Job) (r : List Happening) (c j : ℕ) (d : Deed) (fates : List (ℕ × Fate))
     (asked : Option Asked) → StandsMachine {H = H} hub old r → IsHere c r → AreFates r fates
     → StandsFor {H = H} hub new (affairs (Carries c j d fates asked ∷ r)) → StandsMachine {H = H} hub new (Carries c j d fates asked ∷ r)
 stands_carried {H} {Job} hub new old r c j d fates asked s at f stands = record {
   at = stands.at;
+  index = stands.index;
   registry = stands.registry;
   peers = λ k t e. each k t e (has_gone k r) refl;
   strangers = λ k e. still_strange r c j k d fates asked at e (s.strangers k e);
@@ -248,8 +261,8 @@ stands_carried {H} {Job} hub new old r c j d fates asked s at f stands = record 
   where
     each : (k : ℕ) (t : Settings) → settings_of k r ≡ Some t → (b : Bool) → has_gone k r ≡ b → IsPeer hub t (moves k (Carries c j d fates asked ∷ r))
     each k t e true g = subst (λ h. IsPeer hub t h) (sym (gone_unmoved r c j k d fates asked at f g)) (s.peers k t e)
-    each k t e false g = peer_of {H = H} {Job = Job} hub t (moves k (Carries c j d fates asked ∷ r)) (peer_at new k)
-        (subst (λ o. IsPeerOf {H = H} hub o (moves k (Carries c j d fates asked ∷ r)) (peer_at new k))
+    each k t e false g = kept_is_peer {H = H} {Job = Job} hub new.sleepers.clock (nap_at new k) t (moves k (Carries c j d fates asked ∷ r)) (peer_at new k)
+        (subst (λ o. IsKeptAs {H = H} hub new.sleepers.clock (nap_at new k) o (moves k (Carries c j d fates asked ∷ r)) (peer_at new k))
         (cond-false (has_gone k r) None (settings_of k r) g ∙ e) (stands.at k))
 
 same_back : (a b : Affairs) → AreSame a b → AreSame b a

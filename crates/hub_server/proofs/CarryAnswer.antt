@@ -1,6 +1,5 @@
 -- A job that is told what came of its deed, by the peer of its connection.
-use Rattle.std.proofs.Common.{◌≡◌, ℕ, suc, ◌==◌, Bool, true, false, List, ◌∷◌, Option, Some, None, Result, Ok, Err, OnErr, OnOk, refl, sym, subst, ◌∙◌}
-use Rattle.std.proofs.lemmas.Bool.{eqb-true, cond-false, cond-true}
+use Rattle.std.proofs.Common.{◌≡◌, ℕ, suc, List, ◌∷◌, Option, Some, None, Result, Ok, Err, OnErr, OnOk, refl, sym, subst, ◌∙◌}
 use Rattle.hd_calls.specs.declared.vocabulary.Input.{Input}
 use Rattle.hd_calls.specs.Hubs.{Hub}
 use Rattle.hd_calls.specs.Peers.{Move, Answers, Settings}
@@ -10,10 +9,12 @@ use Rattle.hp_peer.specs.declared.peer.Peer.{Peer}
 use Rattle.hp_peer.specs.Stands.{OfEach, Stands}
 use Rattle.hp_peer.specs.Turning.{HasAnswered, IsUnanswerable}
 use Rattle.hub_server.specs.declared.machine.Machine.{Machine}
+use Rattle.hub_server.specs.declared.sleepers.Nap.{Nap}
 use Rattle.hub_server.specs.Affairs.{Affairs, StandsFor, moved}
 use Rattle.hub_server.specs.Carrying.{AnswersAt}
-use Rattle.hub_server.specs.Machines.{IsPeerOf, peer_at}
-use Rattle.hub_server.proofs.Doing.{PutsPeer}
+use Rattle.hub_server.specs.Machines.{IsKeptAs, nap_at, peer_at}
+use Rattle.hub_server.proofs.Deal.{changes_here, has_peer, is_its_peer, moved_here, stands_at}
+use Rattle.hub_server.proofs.Doing.{KeepsSleepers, PutsPeer, nap_stays}
 
 -- the peer takes an answer that it may be given
 pub takes_answer : {H Job E : Type 0} (hub : Hub Job) (p q : Peer H Job) (number j : ℕ) (i : Input) (result : Result (Unit {0}) E) → number ≡ suc j
@@ -29,28 +30,34 @@ takes_answer hub p q number j i (Err e) n ok unknown t h s may = absurd (unknown
 
 -- the machine stands for the answer, if the peer of its connection does
 pub answer_stands : {H Job : Type 0} (hub : Hub Job) (old new : Machine H Job) (c j : ℕ) (i : Input) (p q : Peer H Job) (a : Affairs)
-    → StandsFor {H = H} hub old a → Some p ≡ peer_at old c → PutsPeer {H = H} old new c q → new.registry ≡ old.registry
-    → AnswersAt (a.settings c) j i (a.moves c)
+    → StandsFor {H = H} hub old a → nap_at old c ≡ None → KeepsSleepers {H = H} old new → Some p ≡ peer_at old c → PutsPeer {H = H} old new c q
+    → new.registry ≡ old.registry → AnswersAt (a.settings c) j i (a.moves c)
     → ((t : Settings) (h : List Move) → Stands {H = H} hub t p h → MayAnswer t j i h → Stands {H = H} hub t q (Answers j i ∷ h))
     → StandsFor {H = H} hub new (moved c (Answers j i) a)
-answer_stands {H} {Job} hub old new c j i p q a s was puts kept may takes = record {
-  at = λ k. each k (c == k) refl;
-  registry = subst (λ r. StandsRegistry r a.lists) (sym kept) s.registry;
-}
-  where
-    by : (o : Option Settings) → IsPeerOf {H = H} hub o (a.moves c) (Some p) → AnswersAt o j i (a.moves c)
-        → IsPeerOf {H = H} hub o (Answers j i ∷ a.moves c) (Some q)
-    by None x m = absurd x
-    by (Some t) x m = takes t (a.moves c) x m
+answer_stands {H} {Job} hub old new c j i p q a s awake keeps was puts kept may takes =
+    let m = Answers j i in
+    let x = has_peer {H = H} {Job = Job} hub old a c p s awake (sym was) in
+    let may_here = subst (λ o. AnswersAt o j i (a.moves c)) x.are may in
+    stands_at {H = H} {Job = Job} hub old new c a (moved c m a) s keeps (changes_here c m a a.lists) puts.others
+    (is_its_peer {H = H} {Job = Job} hub new c (a.settings c) x.settings ((moved c m a).moves c) q
+    (nap_stays {H = H} {Job = Job} old new c keeps.sleepers ∙ awake) x.are puts.at
+    (subst (λ h. Stands {H = H} hub x.settings q h) (sym (moved_here c m a)) (takes x.settings (a.moves c) x.stands may_here)))
+    (subst (λ r. StandsRegistry r a.lists) (sym kept) s.registry)
 
-    here : IsPeerOf {H = H} hub (a.settings c) (Answers j i ∷ a.moves c) (peer_at new c)
-    here = subst (λ x. IsPeerOf {H = H} hub (a.settings c) (Answers j i ∷ a.moves c) x) (sym puts.at)
-        (by (a.settings c) (subst (λ x. IsPeerOf {H = H} hub (a.settings c) (a.moves c) x) (sym was) (s.at c)) may)
+-- where there is no peer nothing is remembered of a connection's moves
+unremembered : {H Job : Type 0} (hub : Hub Job) (clock : ℕ) (nap : Option Nap) (o : Option Settings) (g h : List Move) (p : Option (Peer H Job)) → None ≡ p
+    → IsKeptAs {H = H} hub clock nap o g p → IsKeptAs {H = H} hub clock nap o h p
+unremembered hub clock None None g h None e x = x
+unremembered hub clock None (Some t) g h None e x = absurd x
+unremembered hub clock (Some nap) None g h None e x = absurd x
+unremembered hub clock (Some nap) (Some t) g h None e x = absurd x
+unremembered {H} {Job} hub clock nap o g h (Some p) e x = absurd (let z : ◌≡◌ {A = Option (Peer H Job)} None (Some p) = e in cc)
 
-    each : (k : ℕ) (b : Bool) → (c == k) ≡ b → IsPeerOf {H = H} hub (a.settings k) ((moved c (Answers j i) a).moves k) (peer_at new k)
-    each k true e =
-        subst (λ h. IsPeerOf {H = H} hub (a.settings k) h (peer_at new k)) (sym (cond-true (c == k) (Answers j i ∷ a.moves k) (a.moves k) e))
-        (subst (λ n. IsPeerOf {H = H} hub (a.settings n) (Answers j i ∷ a.moves n) (peer_at new n)) (eqb-true c k e) here)
-    each k false e =
-        subst (λ h. IsPeerOf {H = H} hub (a.settings k) h (peer_at new k)) (sym (cond-false (c == k) (Answers j i ∷ a.moves k) (a.moves k) e))
-        (subst (λ x. IsPeerOf {H = H} hub (a.settings k) (a.moves k) x) (sym (puts.others k e)) (s.at k))
+-- so the machine stands for any answer there
+pub answer_unheard : {H Job : Type 0} (hub : Hub Job) (m : Machine H Job) (c j : ℕ) (i : Input) (a : Affairs) → StandsFor {H = H} hub m a
+    → None ≡ peer_at m c → StandsFor {H = H} hub m (moved c (Answers j i) a)
+answer_unheard {H} {Job} hub m c j i a s none =
+    let b = moved c (Answers j i) a in
+    stands_at {H = H} {Job = Job} hub m m c a b s (record { sleepers = refl; count = refl; there = λ k. refl })
+    (changes_here c (Answers j i) a a.lists) (λ k e. refl)
+    (unremembered {H = H} {Job = Job} hub m.sleepers.clock (nap_at m c) (a.settings c) (a.moves c) (b.moves c) (peer_at m c) none (s.at c)) s.registry

@@ -1,70 +1,23 @@
--- The connections that are there are those whose numbers a machine gives, in the same order.
+-- Numbers that rise, and which connections are there by a machine.
 use Rattle.std.proofs.Common.{◌≡◌, ℕ, zero, suc, ◌<◌, ◌≤◌, Bool, true, false, not, List, [], ◌∷◌, ◌++◌, filter, Option, Some, None, is_some, refl}
 use Rattle.std.proofs.Common.{sym, ap, subst, ◌∙◌, arith, if◌then◌else◌}
 use Rattle.std.specs.Prelude.{◌==◌, ◌&&◌, ◌||◌, nat_le}
-use Rattle.std.proofs.lemmas.Bool.{eqb-true, eq-eqb, leb-true, leb-false}
+use Rattle.std.proofs.lemmas.Bool.{eqb-true, leb-true, leb-false}
 use Rattle.std.proofs.lemmas.List.{append-nil}
 use Rattle.std.proofs.lemmas.List.Elements.{filter-append}
 use Rattle.hd_calls.specs.Hubs.{Hub}
-use Rattle.hd_calls.specs.Peers.{Settings}
+use Rattle.hd_calls.specs.Peers.{Move, Settings}
 use Rattle.hd_serving.specs.Lives.{numbers_to}
-use Rattle.hd_serving.specs.Machine.{Happening, connections, greatest, has_gone, is_there, settings_of}
+use Rattle.hd_serving.specs.Machine.{Happening, greatest, has_gone, is_there, moves, settings_of}
+use Rattle.hp_peer.specs.declared.peer.Peer.{Peer}
 use Rattle.hub_server.specs.declared.machine.Machine.{Machine}
-use Rattle.hub_server.specs.Machines.{StandsMachine}
-use Rattle.hub_server.specs.Rounds.{AreNumbers, AreRising}
+use Rattle.hub_server.specs.declared.sleepers.Nap.{Nap}
+use Rattle.hub_server.specs.Machines.{IsKeptAs, StandsMachine, nap_at, peer_at, settings_there}
+use Rattle.hub_server.specs.Rounds.{AreRising}
 use Rattle.hub_server.specs.Spreads.{is_listed}
+pub use Rattle.hub_server.proofs.Listed.{first_is_listed, later_listed, listed_append, listed_filter, one_listed}
 use Rattle.hub_server.proofs.RoundNumbers.{AreLeft, all_left, fewer_left, none_between}
-use Rattle.hub_server.proofs.RoundWhole.{there_listed}
 use Rattle.hub_server.proofs.TurnFirst.{from_one, within}
-
--- ---- what is listed
-
-pub first_is_listed : (c : ℕ) (cs : List ℕ) → is_listed c (c ∷ cs) ≡ true
-first_is_listed c cs = ap (λ (b : Bool). b || is_listed c cs) (eq-eqb c c refl)
-
--- what is listed later is listed
-pub later_listed : (c k : ℕ) (cs : List ℕ) → is_listed c cs ≡ true → is_listed c (k ∷ cs) ≡ true
-later_listed c k cs e = by (c == k)
-  where
-    by : (b : Bool) → (b || is_listed c cs) ≡ true
-    by true = refl
-    by false = e
-
--- the only one that is listed is the same
-pub one_listed : (c k : ℕ) → is_listed c (k ∷ []) ≡ true → c ≡ k
-one_listed c k e = by (c == k) refl e
-  where
-    by : (b : Bool) → (c == k) ≡ b → (b || false) ≡ true → c ≡ k
-    by true f g = eqb-true c k f
-    by false f g = absurd (cc)
-
-either : (a b d : Bool) → (a || (b || d)) ≡ ((a || b) || d)
-either true b d = refl
-either false b d = refl
-
-pub listed_append : (c : ℕ) (xs ys : List ℕ) → is_listed c (xs ++ ys) ≡ (is_listed c xs || is_listed c ys)
-listed_append c [] ys = refl
-listed_append c (x ∷ xs) ys =
-    ap (λ (b : Bool). (c == x) || b) (listed_append c xs ys) ∙ either (c == x) (is_listed c xs) (is_listed c ys)
-
--- of those that pass a test the same ones are listed, as far as they pass it
-pub listed_filter : (p : ℕ → Bool) (c : ℕ) (xs : List ℕ) → is_listed c (filter p xs) ≡ (p c && is_listed c xs)
-listed_filter p c [] = none (p c)
-  where
-    none : (b : Bool) → false ≡ (b && false)
-    none true = refl
-    none false = refl
-listed_filter p c (x ∷ xs) = by (p x) refl (c == x) refl (listed_filter p c xs)
-  where
-    by : (b : Bool) → p x ≡ b → (same : Bool) → (c == x) ≡ same → is_listed c (filter p xs) ≡ (p c && is_listed c xs)
-        → is_listed c (if b then x ∷ filter p xs else filter p xs) ≡ (p c && (same || is_listed c xs))
-    by true e true f g =
-        ap (λ (b : Bool). b || is_listed c (filter p xs)) f ∙ ap (λ (b : Bool). b && true) (sym (ap p (eqb-true c x f) ∙ e))
-    by true e false f g = ap (λ (b : Bool). b || is_listed c (filter p xs)) f ∙ g
-    by false e true f g =
-        let fails : p c ≡ false = ap p (eqb-true c x f) ∙ e in
-        g ∙ ap (λ (b : Bool). b && is_listed c xs) fails ∙ ap (λ (b : Bool). b && true) (sym fails)
-    by false e false f g = g
 
 -- ---- numbers that rise
 
@@ -152,10 +105,26 @@ same_rising (x ∷ xs) (y ∷ ys) r s e =
         let l = leb-false c x f in
         sym (left.later c (omega (arith, l))) ∙ e c ∙ right.later c (omega (arith, l, is))
 
+-- of numbers that rise, none after the first is the first
+pub not_first : (c k : ℕ) (cs : List ℕ) → AreRising (c ∷ cs) → is_listed k cs ≡ true → (k == c) ≡ false
+not_first c k cs rise e = by (k == c) refl
+  where
+    left : AreLeft (c ∷ cs) (suc c) cs
+    left = fewer_left (c ∷ cs) 0 c cs (all_left (c ∷ cs) rise)
+
+    by : (b : Bool) → (k == c) ≡ b → b ≡ false
+    by true f =
+        absurd (let same = eqb-true k c f in let none : is_listed k cs ≡ false = left.none_before k (omega (arith, same)) in
+        let no : true ≡ false = sym e ∙ none in cc)
+    by false f = refl
+
+pub rising_rest : (c : ℕ) (cs : List ℕ) → AreRising (c ∷ cs) → AreRising cs
+rising_rest c cs rise = let left = fewer_left (c ∷ cs) 0 c cs (all_left (c ∷ cs) rise) in left.rise
+
 -- ---- connections
 
 -- one that is there is among the numbers
-there_within : (w : List Happening) → settings_of 0 w ≡ None → (c : ℕ)
+pub there_within : (w : List Happening) → settings_of 0 w ≡ None → (c : ℕ)
     → (is_there c w && is_listed c (numbers_to (greatest w))) ≡ is_there c w
 there_within w none c = by (settings_of c w) refl (not (has_gone c w))
   where
@@ -165,16 +134,27 @@ there_within w none c = by (settings_of c w) refl (not (has_gone c w))
     by (Some t) e false = refl
     by (Some t) e true = in_numbers (greatest w) c (from_one c t w none e) (within c t w e)
 
--- the connections that are there are those that are listed
-pub connections_listed : (w : List Happening) → settings_of 0 w ≡ None → (c : ℕ) → is_listed c (connections w) ≡ is_there c w
-connections_listed w none c =
-    listed_filter (λ k. is_there k w) c (numbers_to (greatest w)) ∙ there_within w none c
+-- ---- who is there by a machine
 
-pub connections_rise : (w : List Happening) → AreRising (connections w)
-connections_rise w = rising_to (λ k. is_there k w) (greatest w)
+there_if : (gone : Bool) (t : Option Settings) → (is_some t && not gone) ≡ is_some (if gone then None else t)
+there_if true None = refl
+there_if true (Some t) = refl
+there_if false None = refl
+there_if false (Some t) = refl
 
-pub connections_are : {H Job : Type 0} (hub : Hub Job) (m : Machine H Job) (w : List Happening) (conns : List ℕ) → StandsMachine {H = H} hub m w
-    → AreNumbers {H = H} m conns → connections w ≡ conns
-connections_are {H} hub m w conns stands numbers =
-    same_rising (connections w) conns (connections_rise w) numbers.rise
-    (λ c. connections_listed w stands.from_one c ∙ there_listed {H = H} hub m conns w numbers stands c)
+kept_here : {H Job : Type 0} (hub : Hub Job) (clock : ℕ) (nap : Option Nap) (t : Option Settings) (h : List Move) (p : Option (Peer H Job))
+    → IsKeptAs {H = H} hub clock nap t h p → is_some t ≡ is_some p
+kept_here hub clock None None h None is = refl
+kept_here hub clock None None h (Some p) is = absurd is
+kept_here hub clock None (Some t) h None is = absurd is
+kept_here hub clock None (Some t) h (Some p) is = refl
+kept_here hub clock (Some nap) None h p is = absurd is
+kept_here hub clock (Some nap) (Some t) h None is = absurd is
+kept_here hub clock (Some nap) (Some t) h (Some p) is = refl
+
+-- whoever is there has a peer, and no other
+pub here_by_peer : {H Job : Type 0} (hub : Hub Job) (m : Machine H Job) (w : List Happening) → StandsMachine {H = H} hub m w → (c : ℕ)
+    → is_there c w ≡ is_some (peer_at m c)
+here_by_peer {H} {Job} hub m w s c =
+    there_if (has_gone c w) (settings_of c w)
+    ∙ kept_here {H = H} {Job = Job} hub m.sleepers.clock (nap_at m c) (settings_there c w) (moves c w) (peer_at m c) (s.at c)

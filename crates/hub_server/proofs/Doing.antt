@@ -1,6 +1,8 @@
 -- What moves of one connection's peer change in what the machine stands for.
-use Rattle.std.proofs.Common.{◌≡◌, ℕ, ◌==◌, Bool, true, false, not, ◌&&◌, List, [], ◌∷◌, ◌++◌, Option, Some, None, refl, sym, ap, subst, ◌∙◌}
+use Rattle.std.proofs.Common.{◌≡◌, ℕ, ◌==◌, Bool, true, false, not, ◌&&◌, List, [], ◌∷◌, ◌++◌, Option, Some, None, is_some, refl, sym, ap, subst, ◌∙◌, arith}
 use Rattle.std.specs.Prelude.{if◌then◌else◌}
+use Rattle.std.specs.BTreeMap.{btree_map_len}
+use Rattle.std.specs.Vec.{vec_capacity}
 use Rattle.std.proofs.lemmas.Bool.{eqb-true, eq-eqb, cond-true, cond-false, cond_both, both_ways}
 use Rattle.hd_delivery.specs.declared.vocabulary.Got.TheVariants as gives
 use Rattle.hd_delivery.specs.Histories.{Step, Detached, Took, Failed, Silenced, Closed, Config, is_closed, is_kept}
@@ -15,7 +17,9 @@ use Rattle.hd_serving.specs.Machine.{Happening, has_gone, is_open, is_open_at, j
 use Rattle.hp_peer.specs.declared.peer.Peer.{Peer}
 use Rattle.hp_peer.specs.Stands.{Stands}
 use Rattle.hub_server.specs.declared.machine.Machine.{Machine}
-use Rattle.hub_server.specs.Machines.{IsPeerOf, IsStranger, StandsMachine, peer_at, settings_there}
+use Rattle.hub_server.specs.declared.sleepers.Nap.{Nap}
+use Rattle.hub_server.specs.Machines.{IsIndexed, IsKeptAs, IsPeerOf, IsStranger, StandsMachine, nap_at, peer_at, settings_there}
+use Rattle.hub_server.specs.Sleepers.{IsKept, is_awake_in, nap_of}
 use Rattle.hub_server.specs.Calls.{doing}
 use Rattle.hub_server.proofs.Open.{registry_agrees, registry_closed}
 
@@ -144,29 +148,71 @@ module _ (c : ℕ) (w : List Happening) (t : Settings) (ms : List Move) (there :
 
 -- ---- the machine
 
+-- the same connections have peers, and the same ones sleep
+pub record KeepsSleepers {H Job : Type 0} (old new : Machine H Job) : Type 0 where
+  pub sleepers : new.sleepers ≡ old.sleepers
+  pub count : btree_map_len new.peers ≡ btree_map_len old.peers
+  pub there : (k : ℕ) → is_some (peer_at new k) ≡ is_some (peer_at old k)
+
+-- so each has the nap that it had
+pub nap_stays : {H Job : Type 0} (old new : Machine H Job) (k : ℕ) → new.sleepers ≡ old.sleepers → nap_at new k ≡ nap_at old k
+nap_stays old new k e = ap (λ s. nap_of s k) e
+
+-- and is kept as it was
+pub kept_stays : {H Job : Type 0} (hub : Hub Job) (old new : Machine H Job) (k : ℕ) (t : Option Settings) (h : List Move) → new.sleepers ≡ old.sleepers
+    → peer_at new k ≡ peer_at old k → IsKeptAs {H = H} hub old.sleepers.clock (nap_at old k) t h (peer_at old k)
+    → IsKeptAs {H = H} hub new.sleepers.clock (nap_at new k) t h (peer_at new k)
+kept_stays {H} hub old new k t h e same kept =
+    subst (λ s. IsKeptAs {H = H} hub s.clock (nap_of s k) t h (peer_at new k)) (sym e)
+    (subst (λ q. IsKeptAs {H = H} hub old.sleepers.clock (nap_at old k) t h q) (sym same) kept)
+
+-- the peer of one that is awake is that of its moves
+pub awake_is : {H Job : Type 0} (hub : Hub Job) (clock : ℕ) (nap : Option Nap) (t : Option Settings) (h : List Move) (p : Option (Peer H Job)) → nap ≡ None
+    → IsKeptAs {H = H} hub clock nap t h p → IsPeerOf {H = H} hub t h p
+awake_is {H} hub clock nap t h p e kept = subst (λ o. IsKeptAs {H = H} hub clock o t h p) e kept
+
+pub is_awake : {H Job : Type 0} (hub : Hub Job) (clock : ℕ) (nap : Option Nap) (t : Option Settings) (h : List Move) (p : Option (Peer H Job)) → nap ≡ None
+    → IsPeerOf {H = H} hub t h p → IsKeptAs {H = H} hub clock nap t h p
+is_awake {H} hub clock nap t h p e is = subst (λ o. IsKeptAs {H = H} hub clock o t h p) (sym e) is
+
+pub index_stays : {H Job : Type 0} (old new : Machine H Job) → KeepsSleepers {H = H} old new → IsIndexed {H = H} old → IsIndexed {H = H} new
+index_stays old new keeps i = record {
+  kept = subst (λ s. IsKept s) (sym keeps.sleepers) i.kept;
+  awake = λ c.
+      ap (λ s. is_awake_in s c) keeps.sleepers ∙ i.awake c
+      ∙ ap (λ b. b && not (is_some (nap_at old c))) (sym (keeps.there c))
+      ∙ ap (λ o. is_some (peer_at new c) && not (is_some o)) (sym (nap_stays old new c keeps.sleepers));
+  room = let e = keeps.count in let f = ap (λ s. vec_capacity s.awake.jobs) keeps.sleepers in let l = i.room in omega (arith, e, f, l);
+}
+
 -- the machine has this peer at the connection, and is as it was at others
 pub record PutsPeer {H Job : Type 0} (old new : Machine H Job) (c : ℕ) (p : Peer H Job) : Type 0 where
   pub at : peer_at new c ≡ Some p
   pub others : (k : ℕ) → (c == k) ≡ false → peer_at new k ≡ peer_at old k
 
 module _ {H Job : Type 0} (hub : Hub Job) (old new : Machine H Job) (w : List Happening) (c : ℕ) (t : Settings) (p : Peer H Job) (ms : List Move)
-    (s : StandsMachine {H = H} hub old w) (there : settings_there c w ≡ Some t) (puts : PutsPeer {H = H} old new c p)
-    (stands : Stands {H = H} hub t p (ms ++ moves c w)) where
+    (s : StandsMachine {H = H} hub old w) (there : settings_there c w ≡ Some t) (awake : nap_at old c ≡ None) (keeps : KeepsSleepers {H = H} old new)
+    (puts : PutsPeer {H = H} old new c p) (stands : Stands {H = H} hub t p (ms ++ moves c w)) where
   is : (has_gone c w ≡ false) × (settings_of c w ≡ Some t)
   is = there_is c w t there
 
-  here : IsPeerOf {H = H} hub (settings_there c (doing c ms w)) (moves c (doing c ms w)) (peer_at new c)
+  here : IsKeptAs {H = H} hub new.sleepers.clock (nap_at new c) (settings_there c (doing c ms w)) (moves c (doing c ms w)) (peer_at new c)
   here =
-      subst (λ o. IsPeerOf {H = H} hub o (moves c (doing c ms w)) (peer_at new c)) (sym (there_stay c c ms w ∙ there))
+      is_awake {H = H} hub new.sleepers.clock (nap_at new c) (settings_there c (doing c ms w)) (moves c (doing c ms w)) (peer_at new c)
+      (nap_stays old new c keeps.sleepers ∙ awake)
+      (subst (λ o. IsPeerOf {H = H} hub o (moves c (doing c ms w)) (peer_at new c)) (sym (there_stay c c ms w ∙ there))
       (subst (λ h. IsPeerOf {H = H} hub (Some t) h (peer_at new c)) (sym (moves_done c ms w))
-      (subst (λ q. IsPeerOf {H = H} hub (Some t) (ms ++ moves c w) q) (sym puts.at) stands))
+      (subst (λ q. IsPeerOf {H = H} hub (Some t) (ms ++ moves c w) q) (sym puts.at) stands)))
 
-  at_each : (k : ℕ) (b : Bool) → (c == k) ≡ b → IsPeerOf {H = H} hub (settings_there k (doing c ms w)) (moves k (doing c ms w)) (peer_at new k)
-  at_each k true f = subst (λ n. IsPeerOf {H = H} hub (settings_there n (doing c ms w)) (moves n (doing c ms w)) (peer_at new n)) (eqb-true c k f) here
+  at_each : (k : ℕ) (b : Bool) → (c == k) ≡ b
+      → IsKeptAs {H = H} hub new.sleepers.clock (nap_at new k) (settings_there k (doing c ms w)) (moves k (doing c ms w)) (peer_at new k)
+  at_each k true f =
+      subst (λ n. IsKeptAs {H = H} hub new.sleepers.clock (nap_at new n) (settings_there n (doing c ms w)) (moves n (doing c ms w)) (peer_at new n))
+      (eqb-true c k f) here
   at_each k false f =
-      subst (λ o. IsPeerOf {H = H} hub o (moves k (doing c ms w)) (peer_at new k)) (sym (there_stay k c ms w))
-      (subst (λ h. IsPeerOf {H = H} hub (settings_there k w) h (peer_at new k)) (sym (moves_stay c k ms w f))
-      (subst (λ q. IsPeerOf {H = H} hub (settings_there k w) (moves k w) q) (sym (puts.others k f)) (s.at k)))
+      subst (λ o. IsKeptAs {H = H} hub new.sleepers.clock (nap_at new k) o (moves k (doing c ms w)) (peer_at new k)) (sym (there_stay k c ms w))
+      (subst (λ h. IsKeptAs {H = H} hub new.sleepers.clock (nap_at new k) (settings_there k w) h (peer_at new k)) (sym (moves_stay c k ms w f))
+      (kept_stays {H = H} hub old new k (settings_there k w) (moves k w) keeps.sleepers (puts.others k f) (s.at k)))
 
   -- its settings are what they were
   same_settings : (k : ℕ) (o : Settings) → settings_of k (doing c ms w) ≡ Some o → (c == k) ≡ true → t ≡ o
@@ -197,6 +243,7 @@ module _ {H Job : Type 0} (hub : Hub Job) (old new : Machine H Job) (w : List Ha
   stands_with : StandsRegistry new.registry (registry (doing c ms w)) → StandsMachine {H = H} hub new (doing c ms w)
   stands_with lists = record {
     at = λ k. at_each k (c == k) refl;
+    index = index_stays old new keeps s.index;
     registry = lists;
     peers = λ k o e. peers_each k o e (c == k) refl;
     strangers = λ k e. strangers_each k e (c == k) refl;
@@ -222,9 +269,9 @@ module _ {H Job : Type 0} (hub : Hub Job) (old new : Machine H Job) (w : List Ha
 
 -- the machine stands for what it stood for, and for these moves of a connection whose peer stands for them
 pub doing_stands : {H Job : Type 0} (hub : Hub Job) (old new : Machine H Job) (w : List Happening) (c : ℕ) (t : Settings) (p : Peer H Job) (ms : List Move)
-    → StandsMachine {H = H} hub old w → settings_there c w ≡ Some t → peer_at new c ≡ Some p → ((k : ℕ) → (c == k) ≡ false → peer_at new k ≡ peer_at old k)
+    → StandsMachine {H = H} hub old w → settings_there c w ≡ Some t → nap_at old c ≡ None → KeepsSleepers {H = H} old new → peer_at new c ≡ Some p → ((k : ℕ) → (c == k) ≡ false → peer_at new k ≡ peer_at old k)
     → Stands {H = H} hub t p (ms ++ moves c w) → (is_shut t (ms ++ moves c w) ≡ false → new.registry ≡ old.registry)
     → (is_shut t (ms ++ moves c w) ≡ true → (l : Lists) → StandsRegistry old.registry l → StandsRegistry new.registry (gone l c))
     → StandsMachine {H = H} hub new (doing c ms w)
-doing_stands {H} {Job} hub old new w c t p ms s there at others stands unshut shut =
-    stands_closing {H = H} {Job = Job} hub old new w c t p ms s there (record { at = at; others = others }) stands unshut shut
+doing_stands {H} {Job} hub old new w c t p ms s there awake keeps at others stands unshut shut =
+    stands_closing {H = H} {Job = Job} hub old new w c t p ms s there awake keeps (record { at = at; others = others }) stands unshut shut

@@ -1,10 +1,10 @@
 -- Calls of one connection's end: its peer changes in the machine, and one whose end is closed leaves everything.
-use Rattle.std.proofs.Common.{◌≡◌, ℕ, ◌==◌, Bool, true, false, List, ◌++◌, Some, None, is_some, refl, sym, ap, subst, ◌∙◌}
+use Rattle.std.proofs.Common.{◌≡◌, ℕ, ◌==◌, Bool, true, false, List, ◌++◌, Option, Some, None, is_some, refl, sym, ap, subst, ◌∙◌, ◌⊎◌, inl, inr}
 use Rattle.std.proofs.lemmas.Bool.{eqb-true}
 use Rattle.std.specs.Prelude.{if◌then◌else◌, nat_lt}
 use Rattle.std.proofs.Common.{Less, Equal, Greater}
 use Rattle.std.specs.Ordering.{is_eq, nat_cmp}
-use Rattle.std.specs.BTreeMap.{BTreeMap, get, is_at, WritesThrough}
+use Rattle.std.specs.BTreeMap.{BTreeMap, btree_map_len, get, is_at, WritesThrough}
 use Rattle.hd_calls.specs.Hubs.{Hub}
 use Rattle.hd_calls.specs.Peers.{Move, Settings, is_shut}
 use Rattle.hg_groups.specs.Standing.{StandsRegistry}
@@ -12,9 +12,10 @@ use Rattle.hd_serving.specs.Machine.{Happening, moves, registry}
 use Rattle.hp_peer.specs.declared.peer.Peer.{Peer}
 use Rattle.hp_peer.specs.Stands.{Stands}
 use Rattle.hub_server.specs.declared.machine.Machine.{Machine}
-use Rattle.hub_server.specs.Machines.{IsAsItWas, IsPeerOf, StandsMachine, peer_at, settings_there}
+use Rattle.hub_server.specs.declared.sleepers.Nap.{Nap}
+use Rattle.hub_server.specs.Machines.{IsAsItWas, IsKeptAs, IsPeerOf, StandsMachine, nap_at, peer_at, settings_there}
 use Rattle.hub_server.specs.Calls.{ClosesOut, doing}
-use Rattle.hub_server.proofs.Doing.{PutsPeer, stands_closing, stands_on}
+use Rattle.hub_server.proofs.Doing.{KeepsSleepers, PutsPeer, awake_is, index_stays, kept_stays, stands_closing, stands_on}
 
 -- ---- a peer that is lent
 
@@ -33,37 +34,64 @@ written old new c p q at through =
     let updates = through.3 (sym (ap is_some at)) in
     record { at = updates.1; others = λ k e. updates.2 k (apart c k e) }
 
+-- whoever has a peer had one, and sleeps if it slept
+pub keeps : {H Job : Type 0} (old new : Machine H Job) (c : ℕ) (p q : Peer H Job) → Some p ≡ peer_at old c
+    → WritesThrough nat_cmp (nat_cmp c) old.peers q new.peers → new.sleepers ≡ old.sleepers → KeepsSleepers {H = H} old new
+keeps {H} {Job} old new c p q at through same = record { sleepers = same; count = through.2; there = λ k. go k (c == k) refl }
+  where
+    puts : PutsPeer {H = H} old new c q
+    puts = written {H = H} {Job = Job} old new c p q at through
+
+    go : (k : ℕ) (b : Bool) → (c == k) ≡ b → is_some (peer_at new k) ≡ is_some (peer_at old k)
+    go k true e = subst (λ n. is_some (peer_at new n) ≡ is_some (peer_at old n)) (eqb-true c k e) (ap is_some puts.at ∙ ap is_some at)
+    go k false e = ap is_some (puts.others k e)
+
 -- ---- one that is there
 
--- its peer stands for what it did
+-- its peer stands for what it did, if it is awake
 pub stood : {H Job : Type 0} (hub : Hub Job) (m : Machine H Job) (w : List Happening) (c : ℕ) (t : Settings) (p : Peer H Job)
-    → StandsMachine {H = H} hub m w → settings_there c w ≡ Some t → Some p ≡ peer_at m c → Stands {H = H} hub t p (moves c w)
-stood {H} {Job} hub m w c t p s there at =
-    subst (λ o. IsPeerOf {H = H} hub o (moves c w) (Some p)) there (subst (λ q. IsPeerOf {H = H} hub (settings_there c w) (moves c w) q) (sym at) (s.at c))
+    → StandsMachine {H = H} hub m w → settings_there c w ≡ Some t → Some p ≡ peer_at m c → nap_at m c ≡ None → Stands {H = H} hub t p (moves c w)
+stood {H} {Job} hub m w c t p s there at awake =
+    subst (λ o. IsPeerOf {H = H} hub o (moves c w) (Some p)) there
+    (subst (λ q. IsPeerOf {H = H} hub (settings_there c w) (moves c w) q) (sym at)
+    (awake_is {H = H} hub m.sleepers.clock (nap_at m c) (settings_there c w) (moves c w) (peer_at m c) awake (s.at c)))
 
 -- it has a peer
 pub unstood : {H Job : Type 0} (hub : Hub Job) (m : Machine H Job) (w : List Happening) (c : ℕ) (t : Settings)
     → StandsMachine {H = H} hub m w → settings_there c w ≡ Some t → None ≡ peer_at m c → ⊥
 unstood {H} {Job} hub m w c t s there at =
-    subst (λ o. IsPeerOf {H = H} hub o (moves c w) None) there (subst (λ q. IsPeerOf {H = H} hub (settings_there c w) (moves c w) q) (sym at) (s.at c))
+    by (nap_at m c)
+    (subst (λ o. IsKeptAs {H = H} hub m.sleepers.clock (nap_at m c) o (moves c w) None) there
+    (subst (λ q. IsKeptAs {H = H} hub m.sleepers.clock (nap_at m c) (settings_there c w) (moves c w) q) (sym at) (s.at c)))
+  where
+    by : (nap : Option Nap) → IsKeptAs {H = H} {Job = Job} hub m.sleepers.clock nap (Some t) (moves c w) None → ⊥
+    by None kept = kept
+    by (Some nap) kept = kept
 
 -- ---- a call of its end
 
 module _ {H Job : Type 0} (hub : Hub Job) (old : Machine H Job) (w : List Happening) (c : ℕ) (t : Settings) (was p : Peer H Job) (ms : List Move)
-    (s : StandsMachine {H = H} hub old w) (there : settings_there c w ≡ Some t) (at : Some was ≡ peer_at old c)
+    (s : StandsMachine {H = H} hub old w) (there : settings_there c w ≡ Some t) (at : Some was ≡ peer_at old c) (awake : nap_at old c ≡ None)
     (ps : BTreeMap ℕ (Peer H Job)) (through : WritesThrough nat_cmp (nat_cmp c) old.peers p ps)
     (does : Stands {H = H} hub t was (moves c w) → Stands {H = H} hub t p (ms ++ moves c w)) where
   now : Stands {H = H} hub t p (ms ++ moves c w)
-  now = does (stood {H = H} {Job = Job} hub old w c t was s there at)
+  now = does (stood {H = H} {Job = Job} hub old w c t was s there at awake)
 
   -- it left everything if its end is closed now, and only then
-  pub closes_out : (mid new : Machine H Job) → mid ≡ record { peers = ps; registry = old.registry } → ClosesOut {H = H} hub mid new c
+  pub closes_out : (mid new : Machine H Job) → mid ≡ record old { peers = ps } → ClosesOut {H = H} hub mid new c
       → StandsMachine {H = H} hub new (doing c ms w)
   closes_out mid new is out =
       let wrote = subst (λ m. WritesThrough nat_cmp (nat_cmp c) old.peers p m) (sym (ap (λ m. m.peers) is)) through in
       let puts = written {H = H} {Job = Job} old mid c was p at wrote in
       let kept : mid.registry ≡ old.registry = ap (λ m. m.registry) is in
-      stands_closing {H = H} {Job = Job} hub old new w c t p ms s there
+      let same : mid.sleepers ≡ old.sleepers = ap (λ m. m.sleepers) is in
+      let mids = keeps {H = H} {Job = Job} old mid c was p at wrote same in
+      stands_closing {H = H} {Job = Job} hub old new w c t p ms s there awake
+      (record {
+        sleepers = out.sleepers ∙ same;
+        count = ap (λ m. btree_map_len m) out.peers ∙ mids.count;
+        there = λ k. ap (λ m. is_some (get nat_cmp m k)) out.peers ∙ mids.there k;
+      })
       (record {
         at = ap (λ m. get nat_cmp m c) out.peers ∙ puts.at;
         others = λ k e. ap (λ m. get nat_cmp m k) out.peers ∙ puts.others k e;
@@ -75,20 +103,21 @@ module _ {H Job : Type 0} (hub : Hub Job) (old : Machine H Job) (w : List Happen
   -- it is as closed as it was
   pub goes_on : is_shut t (ms ++ moves c w) ≡ is_shut t (moves c w) → StandsMachine {H = H} hub (record old { peers = ps }) (doing c ms w)
   goes_on same =
-      stands_on {H = H} {Job = Job} hub old (record old { peers = ps }) w c t p ms s there
+      stands_on {H = H} {Job = Job} hub old (record old { peers = ps }) w c t p ms s there awake
+      (keeps {H = H} {Job = Job} old (record old { peers = ps }) c was p at through refl)
       (written {H = H} {Job = Job} old (record old { peers = ps }) c was p at through)
       now same refl
 
 -- ---- a call that changes nothing
 
--- the peers and the registry are what they were
-pub unchanged : {H Job : Type 0} (hub : Hub Job) (old new : Machine H Job) → ((c : ℕ) → peer_at new c ≡ peer_at old c) → new.registry ≡ old.registry
-    → IsAsItWas {H = H} hub old new
-unchanged {H} hub old new peers kept = record {
-  peers = peers;
+-- the peers, the registry and the sleepers are what they were
+pub unchanged : {H Job : Type 0} (hub : Hub Job) (old new : Machine H Job) → ((c : ℕ) → peer_at new c ≡ peer_at old c) → KeepsSleepers {H = H} old new
+    → new.registry ≡ old.registry → IsAsItWas {H = H} hub old new
+unchanged {H} hub old new peers keeps kept = record {
   registry = kept;
   stands = λ w s. record {
-    at = λ c. subst (λ p. IsPeerOf {H = H} hub (settings_there c w) (moves c w) p) (sym (peers c)) (s.at c);
+    at = λ c. kept_stays {H = H} hub old new c (settings_there c w) (moves c w) keeps.sleepers (peers c) (s.at c);
+    index = index_stays old new keeps s.index;
     registry = subst (λ r. StandsRegistry r (registry w)) (sym kept) s.registry;
     peers = s.peers;
     strangers = s.strangers;
@@ -97,10 +126,11 @@ unchanged {H} hub old new peers kept = record {
 }
 
 -- the peer that was lent is what it was
-pub written_same : {H Job : Type 0} (hub : Hub Job) (old : Machine H Job) (c : ℕ) (was p : Peer H Job) (ps : BTreeMap ℕ (Peer H Job)) → Some was ≡ peer_at old c
-    → WritesThrough nat_cmp (nat_cmp c) old.peers p ps → p ≡ was → IsAsItWas {H = H} hub old (record old { peers = ps })
+pub written_same : {H Job : Type 0} (hub : Hub Job) (old : Machine H Job) (c : ℕ) (was p : Peer H Job) (ps : BTreeMap ℕ (Peer H Job))
+    → Some was ≡ peer_at old c → WritesThrough nat_cmp (nat_cmp c) old.peers p ps → p ≡ was → IsAsItWas {H = H} hub old (record old { peers = ps })
 written_same {H} {Job} hub old c was p ps at through same =
-    unchanged {H = H} {Job = Job} hub old (record old { peers = ps }) (λ k. go k (c == k) refl) refl
+    unchanged {H = H} {Job = Job} hub old (record old { peers = ps }) (λ k. go k (c == k) refl)
+    (keeps {H = H} {Job = Job} old (record old { peers = ps }) c was p at through refl) refl
   where
     puts : PutsPeer {H = H} old (record old { peers = ps }) c p
     puts = written {H = H} {Job = Job} old (record old { peers = ps }) c was p at through
@@ -109,7 +139,16 @@ written_same {H} {Job} hub old c was p ps at through same =
     go k true e = subst (λ n. get nat_cmp ps n ≡ peer_at old n) (eqb-true c k e) (puts.at ∙ ap Some same ∙ at)
     go k false e = puts.others k e
 
--- no peer was lent
-pub unlent : {H Job : Type 0} (hub : Hub Job) (old : Machine H Job) (ps : BTreeMap ℕ (Peer H Job)) → ps ≡ old.peers
-    → IsAsItWas {H = H} hub old (record old { peers = ps })
-unlent {H} {Job} hub old ps e = unchanged {H = H} {Job = Job} hub old (record old { peers = ps }) (λ c. ap (λ m. get nat_cmp m c) e) refl
+-- ---- a call that woke the connection first
+
+-- one that is there is awake now
+pub awake_now : {H Job : Type 0} (m : Machine H Job) (c : ℕ) (p : Peer H Job) → (nap_at m c ≡ None) ⊎ (peer_at m c ≡ None) → Some p ≡ peer_at m c
+    → nap_at m c ≡ None
+awake_now m c p (inl e) at = e
+awake_now {H} {Job} m c p (inr e) at = absurd (let z : ◌≡◌ {A = Option (Peer H Job)} (Some p) None = at ∙ e in cc)
+
+-- and what was as it was since then is as it was before
+pub woken_as_it_was : {H Job : Type 0} (hub : Hub Job) (old mid new : Machine H Job) → mid.registry ≡ old.registry
+    → ((w : List Happening) → StandsMachine {H = H} hub old w → StandsMachine {H = H} hub mid w) → IsAsItWas {H = H} hub mid new
+    → IsAsItWas {H = H} hub old new
+woken_as_it_was hub old mid new same wakes is = record { registry = is.registry ∙ same; stands = λ w s. is.stands w (wakes w s) }

@@ -17,10 +17,9 @@ use Rattle.hub_server.specs.Servers.{OfEach, Standing}
 use Rattle.hub_server.specs.Spreads.{is_listed}
 use Rattle.hub_server.specs.Steps.{NoneOverdue, expired_by}
 use Rattle.hub_server.proofs.Alike.{Alike, alike_refl, alike_trans}
-use Rattle.hub_server.proofs.Conns.{first_is_listed, later_listed, rising_to}
+use Rattle.hub_server.proofs.Conns.{first_is_listed, later_listed, not_first, rising_rest, rising_to}
 use Rattle.hub_server.proofs.OntoAlike.{onto_append}
 use Rattle.hub_server.proofs.ExpireNotes.{apart_expiring, expiring_same, few_overdue, life_other, notes_expiring}
-use Rattle.hub_server.proofs.TickAll.{not_first, rising_rest}
 use Rattle.hub_server.proofs.TickApart.{Apart}
 
 -- ---- by the definitions alone

@@ -1,5 +1,5 @@
 -- Calls of a connection's end that come one after another.
-use Rattle.std.proofs.Common.{◌≡◌, ℕ, List, [], ◌∷◌, ◌++◌, Option, Some, None, refl, sym, ap, ◌∙◌, subst}
+use Rattle.std.proofs.Common.{◌≡◌, ℕ, List, [], ◌∷◌, ◌++◌, Option, Some, IfSome, refl, sym, ap, ◌∙◌, subst}
 use Rattle.hd_delivery.specs.Bytes.{IsSoundWire}
 use Rattle.hd_delivery.specs.OneHistory.{IsHistory}
 use Rattle.hd_calls.specs.Hubs.{Hub}
@@ -8,11 +8,11 @@ use Rattle.hd_serving.specs.Machine.{Happening, Does, moves}
 use Rattle.he_end.specs.Stands.{limits_of}
 use Rattle.he_wire.specs.Laws.{WireIsSound}
 use Rattle.hp_peer.specs.declared.peer.Peer.{Peer}
-use Rattle.hp_peer.specs.Stands.{Stands}
 use Rattle.hub_server.specs.declared.machine.Machine.{Machine}
-use Rattle.hub_server.specs.Machines.{IsPeerOf, OfConn, StandsMachine, peer_at, settings_there}
+use Rattle.hub_server.specs.Machines.{IsKeptAs, OfConn, StandsMachine, nap_at, peer_at, settings_there}
 use Rattle.hub_server.specs.Calls.{doing}
 use Rattle.hub_server.proofs.Doing.{moves_done, there_is, there_stay}
+use Rattle.hub_server.proofs.Lags.{Lags, kept_either}
 
 pub doing_twice : (c : ℕ) (ms ns : List Move) (w : List Happening) → doing c ms (doing c ns w) ≡ doing c (ms ++ ns) w
 doing_twice c [] ns w = refl
@@ -28,16 +28,14 @@ at_done hub m c P each w t ms there stands =
 
 -- ---- one that is there
 
-peer_of : {H Job : Type 0} (hub : Hub Job) (t : Settings) (h : List Move) (o : Option (Peer H Job)) → IsPeerOf {H = H} hub (Some t) h o
-    → (p : Peer H Job) × Stands {H = H} hub t p h
-peer_of hub t h None is = absurd is
-peer_of hub t h (Some p) is = (p, is)
-
 module _ {H Job : Type 0} (hub : Hub Job) (m : Machine H Job) (w : List Happening) (c : ℕ) (t : Settings) (s : StandsMachine {H = H} hub m w)
     (there : settings_there c w ≡ Some t) where
-  pub peer_there : (p : Peer H Job) × Stands {H = H} hub t p (moves c w)
+  -- its peer, which may lag behind
+  peer_there : (p : Peer H Job) × Lags {H = H} hub t p (moves c w)
   peer_there =
-      peer_of {H = H} {Job = Job} hub t (moves c w) (peer_at m c) (subst (λ o. IsPeerOf {H = H} hub o (moves c w) (peer_at m c)) there (s.at c))
+      kept_either {H = H} {Job = Job} hub m.sleepers.clock (λ o q. IfSome o (λ t. (p : Peer H Job) × Lags {H = H} hub t p (moves c w))) (nap_at m c)
+      (Some t) (moves c w) (peer_at m c) tt (λ t q x. (q, x))
+      (subst (λ (o : Option Settings). IsKeptAs {H = H} hub m.sleepers.clock (nap_at m c) o (moves c w) (peer_at m c)) there (s.at c))
 
   pub history_there : IsHistory t.limits t.wire t.config (byte_steps t (moves c w))
   history_there = (s.peers c t (there_is c w t there).1).is_history
@@ -45,4 +43,4 @@ module _ {H Job : Type 0} (hub : Hub Job) (m : Machine H Job) (w : List Happenin
   pub sound_there : WireIsSound → IsSoundWire t.limits t.wire
   sound_there sound =
       let p = peer_there in
-      subst (λ l. IsSoundWire l t.wire) (sym p.1.limits) (sound (limits_of p.0.end) t.wire p.1.end.house)
+      subst (λ l. IsSoundWire l t.wire) (sym p.1.stands.limits) (sound (limits_of p.0.end) t.wire p.1.stands.end.house)

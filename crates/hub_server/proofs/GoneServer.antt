@@ -27,7 +27,8 @@ use Rattle.hub_server.specs.Connections.{Frees, IsKnown}
 use Rattle.hub_server.specs.Lanes.{HasLane, IsLane, Unsettled, cut_of, is_at, lane_of, poll_lane, settled}
 use Rattle.hp_peer.specs.declared.peer.Peer.{Peer}
 use Rattle.hub_server.specs.declared.machine.Machine.{Machine}
-use Rattle.hub_server.specs.Machines.{IsPeerOf, StandsMachine, peer_at, settings_there}
+use Rattle.hub_server.specs.declared.sleepers.Nap.{Nap}
+use Rattle.hub_server.specs.Machines.{IsKeptAs, StandsMachine, nap_at, peer_at, settings_there}
 use Rattle.hub_server.specs.Servers.{IsOrderly, IsSetup, Standing, caller_of}
 use Rattle.hub_server.proofs.Alike.{Alike, alike_note, alike_says, at_alike, caller_alike, orderly_alike}
 use Rattle.hub_server.proofs.LaneKept.{SameLane, lane_kept, lane_wider, orderly_wider, same_lane_note, same_lane_reply, standing_shuts}
@@ -57,11 +58,13 @@ absent_settings c w e = go (settings_of c w) (has_gone c w) e
 pub no_peer : {H Job : Type 0} (hub : Hub Job) (m : Machine H Job) (w : List Happening) (c : ℕ) → StandsMachine {H = H} hub m w
     → settings_there c w ≡ None
     → peer_at m c ≡ None
-no_peer {H} {Job} hub m w c s e = go (peer_at m c) (subst (λ o. IsPeerOf {H = H} hub o (moves c w) (peer_at m c)) e (s.at c))
+no_peer {H} {Job} hub m w c s e = go (peer_at m c) (nap_at m c)
+    (subst (λ o. IsKeptAs {H = H} hub m.sleepers.clock (nap_at m c) o (moves c w) (peer_at m c)) e (s.at c))
   where
-    go : (p : Option (Peer H Job)) → IsPeerOf {H = H} hub None (moves c w) p → p ≡ None
-    go None x = refl
-    go (Some p) x = absurd x
+    go : (p : Option (Peer H Job)) (nap : Option Nap) → IsKeptAs {H = H} hub m.sleepers.clock nap None (moves c w) p → p ≡ None
+    go None nap x = refl
+    go (Some p) None x = absurd x
+    go (Some p) (Some nap) x = absurd x
 
 or_none : (b : Bool) → (b || false) ≡ b
 or_none true = refl

@@ -1,14 +1,10 @@
--- Whether a round that begins now would give some job a turn: exactly if some peer says that a job of it is due.
-use Rattle.std.proofs.Common.{◌≡◌, ◌⊎◌, ◌↔◌, inl, inr, ℕ, zero, suc, ◌+◌, ◌-◌, ◌<◌, ◌≤◌, Bool, true, false, not, cond, List, [], ◌∷◌, length}
-use Rattle.std.proofs.Common.{Option, Some, None, is_some, IsTrue, All, refl, sym, ap, subst, ◌∙◌, true≢false, arith, if◌then◌else◌, Bor}
-use Rattle.std.specs.Prelude.{◌&&◌, find, nat_le, nat_lt}
+-- Whether a round that begins now would give some job a turn: exactly if the peer of one that is awake says that a job of it is due.
+use Rattle.std.proofs.Common.{◌≡◌, ◌⊎◌, ◌↔◌, inl, inr, ℕ, zero, suc, ◌+◌, ◌-◌, ◌<◌, ◌≤◌, Bool, true, false, not, cond, List, [], ◌∷◌, length, get_or}
+use Rattle.std.proofs.Common.{Option, Some, None, is_some, IsTrue, refl, sym, ap, subst, ◌∙◌, true≢false, arith, if◌then◌else◌}
+use Rattle.std.specs.Prelude.{◌&&◌, ◌||◌, ◌==◌, find, nat_le, nat_lt}
 use Rattle.std.specs.Option.{option_or}
-use Rattle.std.specs.Ordering.{is_eq, nat_cmp}
-use Rattle.std.specs.BTreeMap.{is_at}
-use Rattle.std.specs.Map.{lookup}
-use Rattle.std.specs.Map.Iter.{TakesFirst, deref_pair}
-use Rattle.std.proofs.lemmas.Bool.{and_from, and_parts, and_right, both_ways, cases_lt, cond-true, false_from_ne_true, le-leb, leb-false, leb-true, ltb-true}
-use Rattle.std.proofs.lemmas.Map.Iter.{rest_all, rest_more}
+use Rattle.std.proofs.lemmas.Bool.{and_from, and_left, and_parts, and_right, both_ways, cases_lt, cond-true, eq-eqb, false_from_ne_true}
+use Rattle.std.proofs.lemmas.Bool.{le-leb, leb-false, leb-true, ltb-true}
 use Rattle.hd_calls.specs.Hubs.{Hub}
 use Rattle.hd_calls.specs.Peers.{Move, Settings, begun, live_job}
 use Rattle.hd_calls.specs.Peers as peers
@@ -16,14 +12,20 @@ use Rattle.hd_calls.specs.Rules.{IsPeerDue, first_from, is_due, next_job}
 use Rattle.hd_serving.specs.Laws.{TurnsAreTested}
 use Rattle.hd_serving.specs.Lives.{numbers_to}
 use Rattle.hd_serving.specs.Machine.{Happening, Rounds, first_turn, greatest, is_there, last_turn, may_turn, moves, settings_of, turn_at, turn_with}
+use Rattle.hj_jobs.specs.Due.{is_in}
 use Rattle.hp_peer.specs.declared.peer.Peer.{Peer}
 use Rattle.hp_peer.specs.Stands.{OfEach}
 use Rattle.hub_server.specs.declared.machine.Machine.{Machine}
-use Rattle.hub_server.specs.Machines.{IsPeerOf, StandsMachine, peer_at, settings_there}
+use Rattle.hub_server.specs.declared.sleepers.Nap.{Nap}
+use Rattle.hub_server.specs.Machines.{IsPeerOf, StandsMachine, nap_at, peer_at, settings_there}
 use Rattle.hub_server.specs.Rounds.{has_turn}
+use Rattle.hub_server.specs.Spreads.{is_listed}
+use Rattle.hub_server.proofs.Doing.{awake_is}
+use Rattle.hub_server.proofs.Numbers.{in_listed, listed_at}
 use Rattle.hub_server.proofs.RoundNumbers.{none_next}
-use Rattle.hub_server.proofs.TurnFirst.{IsHere, find_both, find_last, from_one, here_of, none_gone, within}
-use Rattle.hub_server.proofs.Turns.{IsStanding, gone_of, standing_of}
+use Rattle.hub_server.proofs.TurnFirst.{IsHere, find_both, find_last, from_one, here_of, within}
+use Rattle.hub_server.proofs.Turnless.{holds_of, unawake_idle}
+use Rattle.hub_server.proofs.Turns.{IsStanding, standing_of}
 
 -- ---- jobs
 
@@ -37,15 +39,6 @@ some_from (suc u) k j p from to holds = by (p k) refl (cases_lt k j) (some_from 
     by true e order later = refl
     by false e (inl before) later = later (omega (arith, before)) (omega (arith, to)) holds
     by false e (inr after) later = let same : k ≡ j = omega (arith, from, after) in absurd (both_ways (p j) (ap p (sym same) ∙ e) holds)
-
--- the test holds of the number that is found
-holds_of : (u k j : ℕ) (p : ℕ → Bool) → first_from k u p ≡ Some j → p j ≡ true
-holds_of zero k j p e = absurd (let z : ◌≡◌ {A = Option ℕ} None (Some j) = e in cc)
-holds_of (suc u) k j p e = by (p k) refl e (holds_of u (suc k) j p)
-  where
-    by : (b : Bool) → p k ≡ b → (if b then Some k else first_from (suc k) u p) ≡ Some j → (first_from (suc k) u p ≡ Some j → p j ≡ true) → p j ≡ true
-    by true f e later = let is : Some k ≡ Some j = e in let same : k ≡ j = cc in ap p (sym same) ∙ f
-    by false f e later = later e
 
 module _ (tested : TurnsAreTested) (t : Settings) (h : List Move) where
   -- where a peer's job is due one has a turn, once a round has begun
@@ -98,7 +91,8 @@ some_to p (suc n) c from to holds = ap is_some (find_last p n) ∙ by (nat_le c 
 some_turn : (now c : ℕ) (t : Settings) (w : List Happening) → settings_of 0 w ≡ None → IsHere c t w → is_some (turn_at c (Rounds now ∷ w)) ≡ true
     → is_some (first_turn now w) ≡ true
 some_turn now c t w none here turn =
-    ap is_some (find_both (λ k. nat_le (last_turn (Rounds now ∷ w)) k && is_some (turn_at k (Rounds now ∷ w))) (λ k. is_there k w) (numbers_to (greatest w)))
+    ap is_some (find_both (λ k. nat_le (last_turn (Rounds now ∷ w)) k && is_some (turn_at k (Rounds now ∷ w))) (λ k. is_there k w)
+    (numbers_to (greatest w)))
     ∙ some_to (λ k. is_there k w && (nat_le (last_turn (Rounds now ∷ w)) k && is_some (turn_at k (Rounds now ∷ w)))) (greatest w) c
     (from_one c t w none here.begun) (within c t w here.begun) (and_from _ _ here.here (and_from _ _ (le-leb 0 c (omega arith)) turn))
 
@@ -115,82 +109,104 @@ turn_there now c t w here =
 abbrev pub SaysDue : {H Job : Type 0} → Hub Job → Peer H Job → Bool → Type 0
 SaysDue hub p b = OfEach hub p (λ t h. IsTrue b ↔ IsPeerDue t h)
 
+module _ {H Job : Type 0} (hub : Hub Job) (tested : TurnsAreTested) (m : Machine H Job) (c : ℕ) (w : List Happening) (now : ℕ)
+    (s : StandsMachine {H = H} hub m w) where
+  -- one without a peer would have no turn
+  pub due_none : None ≡ peer_at m c → false ≡ has_turn c (Rounds now ∷ w)
+  due_none e = sym (unawake_idle {H = H} {Job = Job} hub tested m w now c s (and_left (is_some (peer_at m c)) _ (ap is_some (sym e))))
+
+  -- one that is awake would have one if its peer says that a job of it is due
+  pub due_some : (p : Peer H Job) → Some p ≡ peer_at m c → (b : Bool) → SaysDue {H = H} hub p b → nap_at m c ≡ None → b ≡ has_turn c (Rounds now ∷ w)
+  due_some p at b says awake = by b says
+    where
+      x : IsStanding {H = H} hub p (settings_there c w) (moves c w)
+      x = standing_of {H = H} hub p (settings_there c w) (moves c w)
+          (subst (λ (o : Option (Peer H Job)). IsPeerOf {H = H} hub (settings_there c w) (moves c w) o) (sym at)
+          (awake_is {H = H} hub m.sleepers.clock (nap_at m c) (settings_there c w) (moves c w) (peer_at m c) awake (s.at c)))
+
+      here : IsHere c x.settings w
+      here = here_of c x.settings w x.there
+
+      turn : turn_at c (Rounds now ∷ w) ≡ turn_with (Some x.settings) (peers.Rounds ∷ moves c w)
+      turn = turn_there now c x.settings w here
+
+      by : (b : Bool) → SaysDue {H = H} hub p b → b ≡ has_turn c (Rounds now ∷ w)
+      by true says = sym (and_from _ _ (le-leb 0 c (omega arith)) (and_from _ _ here.here
+          (ap is_some turn ∙ turns_if_due tested x.settings (moves c w) ((says x.settings (moves c w) x.stands).0 refl))))
+      by false says = sym (and_right (nat_le 0 c) _ (and_right (is_there c w) _ (false_from_ne_true (is_some (turn_at c (Rounds now ∷ w))) (λ has.
+          true≢false (sym ((says x.settings (moves c w) x.stands).1 (due_if_turns tested x.settings (moves c w) (sym (ap is_some turn) ∙ has))))))))
+
+-- ---- the loop
+
+-- what has a place is in the list
+in_at : (k : ℕ) (cs : List ℕ) → k < length cs → is_in (get_or cs k 0) cs ≡ true
+in_at k [] l = absurd (omega (arith, l))
+in_at zero (c ∷ cs) l = ap (λ b. b || is_in c cs) (eq-eqb c c refl)
+in_at (suc k) (c ∷ cs) l = later (get_or cs k 0 == c) (is_in (get_or cs k 0) cs) (in_at k cs (omega (arith, l)))
+  where
+    later : (a b : Bool) → b ≡ true → (a || b) ≡ true
+    later true b e = refl
+    later false b e = e
+
 -- the connection would have no turn
 abbrev pub IsIdleAt : {H Job : Type 0} → Hub Job → Machine H Job → ℕ → Type 0
 IsIdleAt hub m c = (w : List Happening) (now : ℕ) → StandsMachine hub m w → has_turn c (Rounds now ∷ w) ≡ false
 
--- of a machine's entries those are left, and a connection that isn't among them would have no turn
-pub record IsIdleSoFar {H Job : Type 0} (hub : Hub Job) (m : Machine H Job) (left : List (ℕ × Peer H Job)) : Type 0 where
-  pub found : All (λ e. peer_at m e.0 ≡ Some e.1) left
-  pub others : (c : ℕ) → (lookup (is_at (nat_cmp c)) left ≡ peer_at m c) ⊎ IsIdleAt hub m c
+-- of the connections that are awake the first would have none
+abbrev pub AreIdleTo : {H Job : Type 0} → Hub Job → Machine H Job → List ℕ → ℕ → Type 0
+AreIdleTo hub m conns i = (k : ℕ) → k < i → IsIdleAt hub m (get_or conns k 0)
 
-module _ {H Job : Type 0} (hub : Hub Job) (tested : TurnsAreTested) (m : Machine H Job) where
-  -- what the peer of a connection stands for
-  standing_at : (c : ℕ) (p : Peer H Job) (w : List Happening) → peer_at m c ≡ Some p → StandsMachine hub m w
-      → IsStanding {H = H} hub p (settings_there c w) (moves c w)
-  standing_at c p w e s = standing_of {H = H} hub p (settings_there c w) (moves c w)
-      (subst (λ (o : Option (Peer H Job)). IsPeerOf {H = H} hub (settings_there c w) (moves c w) o) e (s.at c))
+-- what is said of one by a test of one that is awake
+abbrev pub TellsTurn : {H Job : Type 0} → Hub Job → Machine H Job → ℕ → Bool → Type 0
+TellsTurn hub m c b = (w : List Happening) (now : ℕ) → StandsMachine hub m w → nap_at m c ≡ None → b ≡ has_turn c (Rounds now ∷ w)
 
-  -- one without a peer would have none
-  idle_none : (c : ℕ) → peer_at m c ≡ None → IsIdleAt hub m c
-  idle_none c e w now s = none_gone c (Rounds now ∷ w) (gone_of H hub (settings_there c w) (moves c w)
-      (subst (λ (o : Option (Peer H Job)). IsPeerOf {H = H} hub (settings_there c w) (moves c w) o) e (s.at c)))
-
-  -- nor would one whose peer has no job that is due
-  idle_peer : (c : ℕ) (p : Peer H Job) → peer_at m c ≡ Some p → SaysDue hub p false → IsIdleAt hub m c
-  idle_peer c p e says w now s =
-      let x = standing_at c p w e s in
-      let turn = turn_there now c x.settings w (here_of c x.settings w x.there) in
-      and_right (nat_le 0 c) _ (and_right (is_there c w) _ (false_from_ne_true (is_some (turn_at c (Rounds now ∷ w))) (λ has.
-      true≢false (sym ((says x.settings (moves c w) x.stands).1 (due_if_turns tested x.settings (moves c w) (sym (ap is_some turn) ∙ has)))))))
-
-  -- at first all of the map's entries are left
-  pub idle_before : (left : List (ℕ × Peer H Job)) → left ≡ m.peers.entries → All (λ e. peer_at m e.0 ≡ Some e.1) m.peers.entries
-      → IsIdleSoFar hub m left
-  idle_before left are found = subst (λ es. IsIdleSoFar hub m es) (sym are) (record { found = found; others = λ c. inl refl })
-
-  module _ (key : Bor ℕ) (peer : Bor (Peer H Job)) (left rest : List (ℕ × Peer H Job)) (next : Option (Bor ℕ × Bor (Peer H Job))) (due : Bool)
-      (given : next ≡ Some (key, peer)) (takes : TakesFirst deref_pair left next rest) (so_far : IsIdleSoFar hub m left)
-      (says : SaysDue hub peer.now due) where
-    -- the next entry is one of those that are left
-    taken : IsIdleSoFar hub m ((key.now, peer.now) ∷ rest)
-    taken = subst (λ es. IsIdleSoFar hub m es) (rest_more deref_pair left rest next (key, peer) given takes) so_far
-
-    -- its peer has no job that is due
-    pub idle_more : due ≡ false → IsIdleSoFar hub m rest
-    idle_more is = record {
-      found = λ k d l. taken.found (suc k) d (omega (arith, l));
-      others = λ c. other c (taken.others c);
-    }
-      where
-        by : (c : ℕ) (here : Bool) → cond here (Some peer.now) (lookup (is_at (nat_cmp c)) rest) ≡ peer_at m c
-            → (lookup (is_at (nat_cmp c)) rest ≡ peer_at m c) ⊎ IsIdleAt hub m c
-        by c true f = inr (idle_peer c peer.now (sym f) (subst (λ b. SaysDue hub peer.now b) is says))
-        by c false f = inl f
-
-        other : (c : ℕ) → (lookup (is_at (nat_cmp c)) ((key.now, peer.now) ∷ rest) ≡ peer_at m c) ⊎ IsIdleAt hub m c
-            → (lookup (is_at (nat_cmp c)) rest ≡ peer_at m c) ⊎ IsIdleAt hub m c
-        other c (inl f) = by c (is_eq (nat_cmp c key.now)) f
-        other c (inr idle) = inr idle
-
-    -- its peer has one, so a round wouldn't be idle
-    pub not_idle : due ≡ true → (w : List Happening) (now : ℕ) → StandsMachine hub m w → false ≡ not (is_some (first_turn now w))
-    not_idle is w now s =
-        let c = key.now in
-        let x = standing_at c peer.now w (taken.found 0 (key.now, peer.now) (omega arith)) s in
-        let here = here_of c x.settings w x.there in
-        let of_job = (says x.settings (moves c w) x.stands).0 is in
-        sym (ap not (some_turn now c x.settings w s.from_one here
-        (ap is_some (turn_there now c x.settings w here) ∙ turns_if_due tested x.settings (moves c w) of_job)))
-
-  -- no entry is left and no peer had one, so it would
-  pub is_idle : (left rest : List (ℕ × Peer H Job)) (next : Option (Bor ℕ × Bor (Peer H Job))) → next ≡ None → TakesFirst deref_pair left next rest
-      → IsIdleSoFar hub m left → (w : List Happening) (now : ℕ) → StandsMachine hub m w → true ≡ not (is_some (first_turn now w))
-  is_idle left rest next none takes so_far w now s = sym (ap (λ o. not (is_some o)) (none_next (Rounds now ∷ w) (λ c. by c (over.others c))))
+module _ {H Job : Type 0} (hub : Hub Job) (tested : TurnsAreTested) (m : Machine H Job) (conns : List ℕ)
+    (are : conns ≡ m.sleepers.awake.jobs.items) where
+  -- each that is listed is awake
+  awake_at : (w : List Happening) (i : ℕ) → StandsMachine {H = H} hub m w → i < length conns → nap_at m (get_or conns i 0) ≡ None
+  awake_at w i s l =
+      by (nap_at m (get_or conns i 0)) refl
+      (and_parts _ _ (sym (s.index.awake (get_or conns i 0)) ∙ ap (λ cs. is_in (get_or conns i 0) cs) (sym are) ∙ in_at i conns l)).1
     where
-      over : IsIdleSoFar hub m []
-      over = subst (λ es. IsIdleSoFar hub m es) (rest_all deref_pair left rest next none takes) so_far
+      by : (o : Option Nap) → nap_at m (get_or conns i 0) ≡ o → not (is_some o) ≡ true → o ≡ None
+      by None e f = refl
+      by (Some nap) e f = absurd (true≢false (sym f))
 
-      by : (c : ℕ) → (None ≡ peer_at m c) ⊎ IsIdleAt hub m c → has_turn c (Rounds now ∷ w) ≡ false
-      by c (inl e) = idle_none c (sym e) w now s
-      by c (inr idle) = idle w now s
+  -- the next one would have none
+  pub idle_more : (i : ℕ) (due : Bool) → i < length conns → AreIdleTo {H = H} hub m conns i → TellsTurn {H = H} hub m (get_or conns i 0) due
+      → due ≡ false → AreIdleTo {H = H} hub m conns (i + 1)
+  idle_more i due l so_far tells none = λ k before. by k before (cases_lt k i)
+    where
+      by : (k : ℕ) → k < i + 1 → (k < i) ⊎ (i ≤ k) → IsIdleAt {H = H} hub m (get_or conns k 0)
+      by k before (inl less) = so_far k less
+      by k before (inr from) =
+          subst (λ n. IsIdleAt {H = H} hub m (get_or conns n 0)) (omega (arith, before, from))
+          (λ w now s. sym (tells w now s (awake_at w i s l)) ∙ none)
+
+  -- it would have one, so a round wouldn't be idle
+  pub not_idle : (i : ℕ) (due : Bool) → i < length conns → TellsTurn {H = H} hub m (get_or conns i 0) due → due ≡ true
+      → (w : List Happening) (now : ℕ) → StandsMachine {H = H} hub m w → false ≡ not (is_some (first_turn now w))
+  not_idle i due l tells is w now s = by (settings_of c w) refl (and_parts _ _ turns.0).0
+    where
+      c : ℕ
+      c = get_or conns i 0
+
+      turns : (is_there c w ≡ true) × (is_some (turn_at c (Rounds now ∷ w)) ≡ true)
+      turns = and_parts (is_there c w) _ (and_parts (nat_le 0 c) _ (sym (tells w now s (awake_at w i s l)) ∙ is)).1
+
+      by : (o : Option Settings) → settings_of c w ≡ o → is_some (settings_of c w) ≡ true → false ≡ not (is_some (first_turn now w))
+      by (Some t) e f = sym (ap not (some_turn now c t w s.from_one (record { begun = e; here = turns.0 }) turns.1))
+      by None e f = absurd (true≢false (sym f ∙ ap is_some e))
+
+  -- none of them would, and no other, so it would
+  pub is_idle : (i : ℕ) → length conns ≤ i → AreIdleTo {H = H} hub m conns i → (w : List Happening) (now : ℕ) → StandsMachine {H = H} hub m w
+      → true ≡ not (is_some (first_turn now w))
+  is_idle i all so_far w now s = sym (ap (λ o. not (is_some o)) (none_next (Rounds now ∷ w) (λ c. by c (is_listed c conns) refl)))
+    where
+      found : (c : ℕ) → (k : ℕ) × (k < length conns) × (c ≡ get_or conns k 0) → has_turn c (Rounds now ∷ w) ≡ false
+      found c at = subst (λ n. has_turn n (Rounds now ∷ w) ≡ false) (sym at.2) (so_far at.0 (omega (arith, at.1, all)) w now s)
+
+      by : (c : ℕ) (b : Bool) → is_listed c conns ≡ b → has_turn c (Rounds now ∷ w) ≡ false
+      by c true e = found c (listed_at c conns e)
+      by c false e = unawake_idle {H = H} {Job = Job} hub tested m w now c s
+          (sym (s.index.awake c) ∙ ap (λ cs. is_in c cs) (sym are) ∙ in_listed c conns ∙ e)

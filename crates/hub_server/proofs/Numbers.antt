@@ -1,15 +1,10 @@
--- Numbers that rise: one place after another, and those of a map's connections.
-use Rattle.std.proofs.Common.{◌≡◌, ℕ, zero, suc, ◌<◌, Bool, true, false, cond, ◌||◌, ◌==◌, ltb}
-use Rattle.std.proofs.Common.{List, [], ◌∷◌, ◌++◌, length, get_or, is_some, Less, Equal, Greater, refl, sym, ap, subst, ◌∙◌, true≢false, arith}
-use Rattle.std.specs.Ordering.{nat_cmp, is_eq, eq_by_cmp}
-use Rattle.std.specs.List.{list_any}
-use Rattle.std.specs.List.Sorted.{IsStrictlySortedBy}
-use Rattle.std.specs.BTreeMap as tree
-use Rattle.std.proofs.lemmas.Bool.{eqb-true, ltb-true}
-use Rattle.std.proofs.lemmas.List.{append-nil}
-use Rattle.std.proofs.lemmas.Map.Keys.{sorted_tail, below_from_sorted}
+-- Numbers that rise: one place after another, and those of the connections that are awake.
+use Rattle.std.proofs.Common.{◌≡◌, ℕ, zero, suc, ◌<◌, Bool, true, false, ◌||◌, ◌==◌, List, [], ◌∷◌, length, get_or, refl, sym, ap, subst}
+use Rattle.std.proofs.Common.{◌∙◌, true≢false, arith}
+use Rattle.std.proofs.lemmas.Bool.{eqb-true, eq-eqb, or_left}
+use Rattle.hj_jobs.specs.Due.{IsRising, is_in}
 use Rattle.hub_server.specs.declared.machine.Machine.{Machine}
-use Rattle.hub_server.specs.Machines.{peer_at}
+use Rattle.hub_server.specs.Machines.{IsIndexed}
 use Rattle.hub_server.specs.Rounds.{AreNumbers, AreRising}
 use Rattle.hub_server.specs.Spreads.{is_listed}
 
@@ -44,38 +39,23 @@ listed_at c (d ∷ cs) e = by (c == d) refl e (listed_at c cs)
     by true f g later = (zero, omega arith, eqb-true c d f)
     by false f g later = let l = later g in (suc l.0, omega (arith, l.1), l.2)
 
--- ---- the numbers of a map
+-- ---- those that are awake
 
--- the order of numbers finds a number if and only if it is the same
-is_eq_same : (q k : ℕ) → is_eq (nat_cmp q k) ≡ (q == k)
-is_eq_same q k = by (ltb q k) refl (q == k) refl
-  where
-    by : (less : Bool) → ltb q k ≡ less → (same : Bool) → (q == k) ≡ same → is_eq (cond less Less (cond same Equal Greater)) ≡ same
-    by true e true f = absurd (omega (arith, ltb-true q k e, eqb-true q k f))
-    by true e false f = refl
-    by false e true f = refl
-    by false e false f = refl
+-- what is in a list is listed
+pub in_listed : (c : ℕ) (cs : List ℕ) → is_in c cs ≡ is_listed c cs
+in_listed c [] = refl
+in_listed c (d ∷ cs) = ap (λ (b : Bool). (c == d) || b) (in_listed c cs)
 
--- so what the map has is listed
-any_listed : (q : ℕ) (ks : List ℕ) → list_any (eq_by_cmp nat_cmp q) ks ≡ is_listed q ks
-any_listed q [] = refl
-any_listed q (k ∷ ks) =
-    ap (λ (b : Bool). b || list_any (eq_by_cmp nat_cmp q) ks) (is_eq_same q k) ∙ ap (λ (b : Bool). (q == k) || b) (any_listed q ks)
+-- each is above the one before it
+rising_in : (cs : List ℕ) → IsRising cs → AreRising cs
+rising_in [] r = tt
+rising_in (c ∷ []) r = tt
+rising_in (c ∷ d ∷ cs) r = (r.0 d (or_left (d == d) (is_in d cs) (eq-eqb d d refl)), rising_in (d ∷ cs) r.1)
 
--- keys in order rise
-rising_keys : (ks : List ℕ) → IsStrictlySortedBy nat_cmp ks → AreRising ks
-rising_keys [] s = tt
-rising_keys (c ∷ []) s = tt
-rising_keys (c ∷ d ∷ ks) s = (below_from_sorted (c ∷ d ∷ ks) 0 1 0 s (omega arith) (omega arith), rising_keys (d ∷ ks) (sorted_tail nat_cmp c (d ∷ ks) s))
-
--- those of a machine's map are its connections
-pub keys_are_numbers : {H Job : Type 0} (m : Machine H Job) (conns rest shown : List ℕ) → (conns ++ rest) ≡ tree.keys m.peers → rest ≡ []
-    → shown ≡ tree.keys m.peers → tree.IsOrdered nat_cmp m.peers
-    → ((q : ℕ) → is_some (peer_at m q) ≡ list_any (eq_by_cmp nat_cmp q) shown) → AreNumbers m conns
-keys_are_numbers m conns rest shown all none are ordered has = record {
-  rise = subst AreRising (sym keys) (rising_keys (tree.keys m.peers) ordered);
-  are = λ c. has c ∙ any_listed c shown ∙ ap (is_listed c) (are ∙ sym keys);
+-- those in the machine's list are its connections that are awake
+pub awake_are_numbers : {H Job : Type 0} (m : Machine H Job) (conns : List ℕ) → IsIndexed {H = H} m → conns ≡ m.sleepers.awake.jobs.items
+    → AreNumbers {H = H} m conns
+awake_are_numbers m conns index are = record {
+  rise = subst AreRising (sym are) (rising_in m.sleepers.awake.jobs.items index.kept.rising);
+  are = λ c. sym (index.awake c) ∙ ap (λ cs. is_in c cs) (sym are) ∙ in_listed c conns;
 }
-  where
-    keys : conns ≡ tree.keys m.peers
-    keys = sym (append-nil conns) ∙ ap (λ (r : List ℕ). conns ++ r) (sym none) ∙ all

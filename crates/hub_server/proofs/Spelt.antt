@@ -1,53 +1,28 @@
 -- How often a message to many is spelled: the codecs that a machine tells of its peers are those that its happenings tell.
-use Rattle.std.proofs.Common.{◌≡◌, ℕ, ◌+◌, ◌≤◌, Bool, true, ◌||◌, List, [], ◌∷◌, map, Option, Some, None, is_some, refl, sym, ap, subst, ◌∙◌}
-use Rattle.std.specs.Prelude.{if◌then◌else◌}
+use Rattle.std.proofs.Common.{◌≡◌, ℕ, ◌+◌, ◌≤◌, Bool, true, ◌||◌, List, [], ◌∷◌, map, Option, refl, sym, ap, subst, ◌∙◌}
 use Rattle.hv_value.specs.Tree.{Tree}
 use Rattle.hm_message.specs.declared.message.Codec.{Codec}
 use Rattle.hm_message.specs.declared.message.Codec.TheVariants.{Json, Pack}
-use Rattle.hd_delivery.specs.declared.vocabulary.Side.{Side}
-use Rattle.hd_delivery.specs.Histories.{Config, Step, codec_of, is_shaken}
 use Rattle.hd_calls.specs.Hubs.{Hub}
-use Rattle.hd_calls.specs.Peers.{Move, Settings, steps}
-use Rattle.hd_serving.specs.Machine.{Happening, fates_among, moves, settings_of}
-use Rattle.he_end.specs.declared.link.Agreed.{Agreed}
-use Rattle.he_end.specs.Remembers.{Agrees}
-use Rattle.he_end.specs.Stands.{is_client}
-use Rattle.hp_peer.specs.declared.peer.Peer.{Peer}
+use Rattle.hd_calls.specs.Peers.{Settings}
+use Rattle.hd_serving.specs.Machine.{Happening, fates_among, moves}
 use Rattle.hub_server.specs.declared.machine.Machine.{Machine}
 use Rattle.hub_server.specs.Affairs.{AreUp, affairs, is_up_in}
-use Rattle.hub_server.specs.Deals.{codec_at, codec_of_peer}
-use Rattle.hub_server.specs.Machines.{IsPeerOf, StandsMachine, peer_at}
+use Rattle.hub_server.specs.Deals.{codec_at}
+use Rattle.hub_server.specs.Machines.{StandsMachine, nap_at, peer_at, settings_there}
 use Rattle.hub_server.specs.Outside.{spoken_at, spoken_to}
 use Rattle.hub_server.specs.Spreads.{codecs_among, is_in_codec, is_spoken, one_if}
 use Rattle.hub_server.proofs.Carry.{up_settings}
+use Rattle.hub_server.proofs.Deal.{kept_codec}
 
 -- ---- one connection
 
--- an end has a codec exactly if it has shaken hands or is a client's, and it is the one of its history
-end_codec : (agreed : Option Agreed) (side : Side) (codec : Codec) (c : Config) (k : List Step) → Agrees agreed c k → side ≡ c.side → codec ≡ codec_of c k
-    → (if is_some agreed || is_client side then Some codec else None) ≡ (if is_shaken k || is_client c.side then Some (codec_of c k) else None)
-end_codec None side codec c k a e f =
-    ap (λ (s : Side). if is_client s then Some codec else None) e ∙ ap (λ (x : Codec). if is_client c.side then Some x else None) f
-    ∙ ap (λ (b : Bool). if b || is_client c.side then Some (codec_of c k) else None) (sym a.0)
-end_codec (Some x) side codec c k a e f =
-    ap Some f ∙ ap (λ (b : Bool). if b || is_client c.side then Some (codec_of c k) else None) (sym a.0)
-
--- a peer is spoken to as its moves tell
-peer_codec : {H Job : Type 0} (hub : Hub Job) (o : Option Settings) (h : List Move) (p : Option (Peer H Job)) → IsPeerOf {H = H} hub o h p
-    → codec_of_peer {H = H} p ≡ spoken_to o h
-peer_codec hub None h None x = refl
-peer_codec hub None h (Some p) x = absurd x
-peer_codec hub (Some t) h None x = absurd x
-peer_codec hub (Some t) h (Some p) x =
-    let s = p.end.session in
-    let is = x.end.remembers in
-    end_codec s.agreed s.side s.codec t.config (steps t h) is.agreed is.side is.codec
-
--- so is a connection that is up
+-- one that is up is spoken to as its moves tell
 codec_so : {H Job : Type 0} (hub : Hub Job) (m : Machine H Job) (r : List Happening) (c : ℕ) → StandsMachine {H = H} hub m r
     → is_up_in (affairs r) c ≡ true → codec_at {H = H} m c ≡ spoken_at c r
-codec_so {H} {Job} hub m r c s up = peer_codec {H = H} {Job = Job} hub (settings_of c r) (moves c r) (peer_at m c)
-    (subst (λ (o : Option Settings). IsPeerOf {H = H} hub o (moves c r) (peer_at m c)) (up_settings r c up) (s.at c))
+codec_so {H} {Job} hub m r c s up =
+    kept_codec {H = H} {Job = Job} hub m.sleepers.clock (nap_at m c) (settings_there c r) (moves c r) (peer_at m c) (s.at c)
+    ∙ ap (λ (o : Option Settings). spoken_to o (moves c r)) (up_settings r c up)
 
 -- ---- all members
 

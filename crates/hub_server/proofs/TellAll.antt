@@ -1,24 +1,27 @@
 -- What is due is said connection by connection: what one says changes nothing for those after it.
-use Rattle.std.proofs.Common.{◌≡◌, ◌≤◌, ◌<◌, ℕ, ◌+◌, ◌==◌, Bool, true, false, ◌||◌, List, [], ◌∷◌, ◌++◌, length, get_or, drop}
+use Rattle.std.proofs.Common.{◌≡◌, ◌≤◌, ◌<◌, ℕ, ◌+◌, ◌==◌, Bool, true, false, ◌||◌, List, [], ◌∷◌, ◌++◌, length, get_or, drop, filter}
 use Rattle.std.proofs.Common.{refl, sym, ap, subst, ◌∙◌, arith}
-use Rattle.std.proofs.lemmas.Bool.{both_ways, eqb-true, eq-eqb, true≢false}
+use Rattle.std.proofs.lemmas.Bool.{eqb-true, eq-eqb, true≢false}
 use Rattle.std.proofs.lemmas.List.{append-nil, append_assoc, drop_all}
 use Rattle.hd_delivery.specs.Frames.{LinkFrame}
 use Rattle.hd_calls.specs.Hubs.{Hub}
 use Rattle.hd_serving.specs.declared.vocabulary.Said.{Said}
-use Rattle.hd_serving.specs.Lives.{poll_of, socket_of}
-use Rattle.hd_serving.specs.Machine.{connections}
+use Rattle.hd_serving.specs.Lives.{numbers_to, poll_of, socket_of}
+use Rattle.hd_serving.specs.Machine.{connections, greatest, is_there}
 use Rattle.hd_serving.specs.Doings.{Doing, has_peer, moment, notes, work}
 use Rattle.hd_serving.specs.Plans.{Setup, onto}
 use Rattle.hd_serving.specs.Serves.{AreAllDue, AreDue, all_telling, telling, telling_on}
+use Rattle.hub_server.specs.declared.machine.Machine.{Machine}
 use Rattle.hub_server.specs.declared.server.Server.{Server}
+use Rattle.hub_server.specs.Machines.{StandsMachine, is_awake_at}
 use Rattle.hub_server.specs.Lanes.{settled, Unsettled}
-use Rattle.hub_server.specs.Rounds.{AreRising}
+use Rattle.hub_server.specs.Rounds.{AreNumbers, AreRising}
 use Rattle.hub_server.specs.Servers.{IsRested, OfEach, Standing}
 use Rattle.hub_server.specs.Spreads.{is_listed}
 use Rattle.hub_server.specs.Steps.{IsTold}
 use Rattle.hub_server.specs.Tells.{TellsOne}
 use Rattle.hub_server.proofs.Alike.{Alike, alike_refl, alike_trans, rested_alike, there_alike}
+use Rattle.hub_server.proofs.Asleep.{IsMute, SaidByAll, awake_are, awake_there, said_by_all}
 use Rattle.hub_server.proofs.OntoAlike.{onto_append}
 use Rattle.hub_server.proofs.RoundNumbers.{left_at}
 use Rattle.hub_server.proofs.TellTells.{Unheard, all_alike, all_unheard, same_due, same_telling, telling_tells, unheard_same, unheard_then}
@@ -208,10 +211,10 @@ module _ {H Job : Type 0} (hub : Hub Job) (s : Setup) (before : List Said) (old 
 
 -- one more connection has told
 pub one_told : {H Job : Type 0} (hub : Hub Job) (s : Setup) (before : List Said) (old new : Server H Job) (conns : List ℕ) (i : ℕ) (h : List Doing)
-    → i < length conns → ((k : ℕ) → has_peer k h ≡ is_listed k conns) → ToldSome {H = H} hub s before old conns (drop i conns) h
+    → i < length conns → ((k : ℕ) → is_listed k conns ≡ true → has_peer k h ≡ true) → ToldSome {H = H} hub s before old conns (drop i conns) h
     → TellsFrom {H = H} hub old new (get_or conns i 0) → ToldSome {H = H} hub s before new conns (drop (i + 1) conns) h
 one_told {H} {Job} hub s before old new conns i h l known p tells =
-    told_more {H = H} {Job = Job} hub s before old new conns c (drop (i + 1) conns) h q (known c ∙ listed conns (q.done) q.are) tells
+    told_more {H = H} {Job = Job} hub s before old new conns c (drop (i + 1) conns) h q (known c (listed conns (q.done) q.are)) tells
   where
     c : ℕ
     c = get_or conns i 0
@@ -230,24 +233,32 @@ one_told {H} {Job} hub s before old new conns i h l known p tells =
     listed : (all ds : List ℕ) → ds ++ get_or conns i 0 ∷ drop (i + 1) conns ≡ all → is_listed (get_or conns i 0) all ≡ true
     listed all ds e = subst (λ xs. is_listed (get_or conns i 0) xs ≡ true) e (among (get_or conns i 0) ds (drop (i + 1) conns))
 
--- all have told
-pub all_told : {H Job : Type 0} (hub : Hub Job) (s : Setup) (before : List Said) (v : Server H Job) (conns : List ℕ) (i : ℕ) (h : List Doing)
-    → length conns ≤ i → connections (work h) ≡ conns → ((k : ℕ) → has_peer k h ≡ is_listed k conns)
+-- all that are awake have told, and those that sleep have nothing to tell
+pub all_told : {H Job : Type 0} (hub : Hub Job) (s : Setup) (before : List Said) (m : Machine H Job) (v : Server H Job) (conns : List ℕ) (i : ℕ)
+    (h : List Doing) → length conns ≤ i → StandsMachine {H = H} hub m (work h) → AreNumbers {H = H} m conns
+    → ((k : ℕ) → has_peer k h ≡ true → is_awake_at m k ≡ false → IsMute s k h)
     → ToldSome {H = H} hub s before v conns (drop i conns) h → IsTold {H = H} hub s before v h
-all_told {H} hub s before v conns i h l same known p = record {
-  pieces = p.pieces;
-  all_due = subst (λ cs. AreAllDue s cs p.pieces h) done_is p.due;
-  stands = subst (λ cs. Standing {H = H} hub s settled before v (onto (all_telling s (moment h) cs p.pieces h) h)) done_is p.stands;
-  rested = λ c. subst (λ cs. IsRested c (onto (all_telling s (moment h) cs p.pieces h) h)) done_is (go c (is_listed c p.done) refl);
+all_told {H} {Job} hub s before m v conns i h l stands numbers mute p = record {
+  pieces = all.whole;
+  all_due = all.due;
+  stands = subst (λ xs. Standing {H = H} hub s settled before v (onto xs h)) (sym is) p.stands;
+  rested = λ c. subst (λ xs. IsRested c (onto xs h)) (sym is) (go c (is_listed c p.done) refl);
 }
   where
     done_are : p.done ≡ conns
     done_are = sym (append-nil p.done) ∙ ap (λ (cs : List ℕ). p.done ++ cs) (sym (drop_all i conns l)) ∙ p.are
 
-    done_is : p.done ≡ connections (work h)
-    done_is = done_are ∙ sym same
+    done_is : p.done ≡ filter (λ k. is_awake_at m k) (numbers_to (greatest (work h)))
+    done_is = done_are ∙ awake_are {H = H} {Job = Job} hub m (work h) conns stands numbers
+
+    all : SaidByAll s h (connections (work h)) (filter (λ k. is_awake_at m k) (numbers_to (greatest (work h)))) p.pieces
+    all = said_by_all s h (λ k. is_there k (work h)) (λ k. is_awake_at m k) (numbers_to (greatest (work h))) p.pieces
+        (λ k. awake_there {H = H} {Job = Job} hub m (work h) k stands) mute (subst (λ cs. AreAllDue s cs p.pieces h) done_is p.due)
+
+    is : all_telling s (moment h) (connections (work h)) all.whole h ≡ all_telling s (moment h) p.done p.pieces h
+    is = all.same ∙ ap (λ cs. all_telling s (moment h) cs p.pieces h) (sym done_is)
 
     go : (c : ℕ) (b : Bool) → is_listed c p.done ≡ b → IsRested c (onto (all_telling s (moment h) p.done p.pieces h) h)
     go c true e = p.rested c e
-    go c false e = λ there. absurd (both_ways (has_peer c (onto (all_telling s (moment h) p.done p.pieces h) h))
-        (there_alike c (onto (all_telling s (moment h) p.done p.pieces h) h) h (p.others c e) ∙ known c ∙ ap (is_listed c) (sym done_are) ∙ e) there)
+    go c false e = rested_alike c (onto (all_telling s (moment h) p.done p.pieces h) h) h (p.others c e)
+        (λ there. (mute c there (numbers.are c ∙ ap (is_listed c) (sym done_are) ∙ e)).rested there)

@@ -6,6 +6,7 @@ use Rattle.std.specs.Ordering.{nat_cmp}
 use Rattle.std.specs.BTreeMap.{get}
 use Rattle.std.proofs.lemmas.Bool.{eqb-true}
 use Rattle.std.proofs.lemmas.List.{append-nil}
+use Rattle.hd_delivery.specs.Due.{due}
 use Rattle.hd_delivery.specs.Frames.{LinkFrame}
 use Rattle.hd_delivery.specs.Histories.{Lent, is_closed, is_this}
 use Rattle.hd_delivery.specs.Bytes.{Does as Step_of}
@@ -14,9 +15,10 @@ use Rattle.hd_calls.specs.Peers.{Move, Plain, Settings}
 use Rattle.hd_serving.specs.declared.vocabulary.Said.{Said}
 use Rattle.hd_serving.specs.Lives.{Note, is_let_go, poll_of, socket_of}
 use Rattle.hd_serving.specs.Machine.{Happening, Does, has_gone, settings_of}
-use Rattle.hd_serving.specs.Doings.{Doing, notes, work, moment, said, user_of, peer, config_of, config_with, has_closed, has_peer, history_with}
+use Rattle.hd_serving.specs.Doings.{Doing, notes, work, moment, said, user_of, peer, config_of, config_with, has_closed, has_peer, history}
+use Rattle.hd_serving.specs.Doings.{history_with}
 use Rattle.hd_serving.specs.Plans.{Setup, onto, step}
-use Rattle.hd_serving.specs.Serves.{lending}
+use Rattle.hd_serving.specs.Serves.{LendsAll, lending}
 use Rattle.hn_server_front.specs.Stands as front
 use Rattle.hub_server.specs.declared.machine.Machine.{Machine}
 use Rattle.hub_server.specs.declared.server.Server.{Server}
@@ -91,6 +93,20 @@ all_lent c (f ∷ fs) h =
       others = λ k e. alike_trans k (onto (lending c fs) g) g h (x.others k e) (y.others k e);
       closed = x.closed ∙ y.closed;
     }
+
+-- once all that was due is lent nothing is due
+pub lent_due : (c : ℕ) (t : Settings) (fs : List LinkFrame) (h : List Doing) → settings_of c (work h) ≡ Some t
+    → LendsAll (config_of c h) (history c h) fs → due (config_of c (onto (lending c fs) h)) (history c (onto (lending c fs) h)) ≡ None
+lent_due c t [] h told x = x
+lent_due c t (f ∷ fs) h told x =
+    lent_due c t fs (step c (Lent f) ∷ h) told
+    (subst (λ ms. LendsAll (config_of c h) (history_with (settings_of c (work h)) ms) fs) (sym (moves_own c (Plain (Step_of (Lent f))) (work h)))
+    (by (settings_of c (work h)) told x.1))
+  where
+    by : (o : Option Settings) → o ≡ Some t → LendsAll (config_of c h) (Lent f ∷ history_with o (peer c h)) fs
+        → LendsAll (config_of c h) (history_with o (Plain (Step_of (Lent f)) ∷ peer c h)) fs
+    by None e y = absurd (let no : ◌≡◌ {A = Option Settings} None (Some t) = e in cc)
+    by (Some z) e y = y
 
 -- ---- the machine's side of it
 

@@ -6,11 +6,12 @@ use Rattle.std.specs.Ordering.{nat_cmp}
 use Rattle.std.specs.BTreeMap.{get}
 use Rattle.std.proofs.lemmas.Bool.{both_ways, eqb-true, true≢false}
 use Rattle.std.proofs.lemmas.List.{append-nil}
+use Rattle.hd_delivery.specs.Due.{due, due_on}
 use Rattle.hd_delivery.specs.Frames.{LinkFrame}
 use Rattle.hd_calls.specs.Hubs.{Hub}
-use Rattle.hd_calls.specs.Peers.{is_shut}
+use Rattle.hd_calls.specs.Peers.{is_shut, steps}
 use Rattle.hd_serving.specs.declared.vocabulary.Said.{Said}
-use Rattle.hd_serving.specs.Lives.{Ended, ended_at, is_let_go, is_polling, poll_ended, poll_of, socket_of}
+use Rattle.hd_serving.specs.Lives.{Ended, ended_at, is_let_go, is_polling, lost_at, poll_ended, poll_of, socket_of}
 use Rattle.hd_serving.specs.Doings.{Doing, Notes, config_of, has_closed, has_peer, history, moment, notes}
 use Rattle.hd_serving.specs.Plans.{Setup, letting_go, onto}
 use Rattle.hd_serving.specs.Serves.{AreDueOn, LendsUpTo, all_of, ending, telling_on, telling_poll, telling_poll_some}
@@ -19,15 +20,16 @@ use Rattle.hn_server_front.specs.declared.front.Front.{Front}
 use Rattle.hn_server_front.specs.Calls as calls
 use Rattle.hn_server_front.specs.Entries.{held_as}
 use Rattle.hn_server_front.specs.Stands as stands
+use Rattle.hub_server.specs.declared.machine.Machine.{Machine}
 use Rattle.hub_server.specs.declared.server.Server.{Server}
-use Rattle.hub_server.specs.Machines.{OfConn}
+use Rattle.hub_server.specs.Machines.{OfConn, StandsMachine}
 use Rattle.hub_server.specs.Connections.{Frees, IsKnown}
 use Rattle.hub_server.specs.Lanes.{Unsettled, settled}
 use Rattle.hub_server.specs.Servers.{IsOrderly, IsRested, OfEach, Standing}
 use Rattle.hub_server.specs.Tells.{TellsOne, TellsPoll}
 use Rattle.hub_server.proofs.LaneKept.{lane_kept, same_lane_note}
 use Rattle.hub_server.proofs.OntoAlike.{onto_append}
-use Rattle.hub_server.proofs.TellSaid.{closed_is, gone_after, is_one, up_there}
+use Rattle.hub_server.proofs.TellSaid.{closed_is, gone_after, is_one, standing_rests, up_there}
 use Rattle.hub_server.proofs.TellTells.{all_polls, telling_tells}
 
 -- of what holds once all is well something else follows
@@ -40,7 +42,7 @@ on_ok (Err e) P Q f p = tt
 there_noted : (c : ℕ) (h : List Doing) → IsKnown c h → stands.is_there c (notes h) ≡ true
 there_noted c h k = ap (λ (b : Bool). b && not (is_let_go c (notes h))) k.made ∙ ap not k.held
 
-noted_known : {H Job : Type 0} (hub : Hub Job) (s : Setup) (u : Unsettled) (before : List Said) (v : Server H Job) (c : ℕ) (h : List Doing)
+pub noted_known : {H Job : Type 0} (hub : Hub Job) (s : Setup) (u : Unsettled) (before : List Said) (v : Server H Job) (c : ℕ) (h : List Doing)
     → Standing {H = H} hub s u before v h → has_peer c h ≡ true → stands.is_there c (notes h) ≡ true
 noted_known {H} {Job} hub s u before v c h x there = there_noted c h (is_one {H = H} {Job = Job} hub s u before v c h x there).known
 
@@ -257,10 +259,28 @@ module _ {H Job : Type 0} (hub : Hub Job) (s : Setup) (u : Unsettled) (before : 
         rested = rested;
       })
 
-  pub mute_open : r ≡ false → TellsOne {H = H} hub s before v c (socket_of c (notes h)) (poll_of c (notes h)) h
-  mute_open e =
+  -- it has lost its link, so nothing is due there
+  lost : is_some (lost_at c (notes h)) ≡ true
+  lost =
+      sym (ap (λ (o : Option ℕ). is_some o || is_some (lost_at c (notes h)) || is_polling c (notes h)) off
+      ∙ ap (λ (b : Bool). is_some (lost_at c (notes h)) || b) mute ∙ or_false (is_some (lost_at c (notes h))))
+      ∙ (let o : IsOrderly settled c h = x.orderly c in o.used there)
+    where
+      or_false : (b : Bool) → (b || false) ≡ b
+      or_false true = refl
+      or_false false = refl
+
+  nothing : due (config_of c h) (history c h) ≡ None
+  nothing = ap (due_on (config_of c h) (history c h)) (let o : IsOrderly settled c h = x.orderly c in o.unlinked there lost)
+
+  pub mute_open : (m : Machine H Job) → r ≡ false
+      → OfConn {H = H} hub v.machine c (λ w t k. due t.config (steps t k) ≡ None → StandsMachine {H = H} hub m w)
+      → TellsOne {H = H} hub s before (record v { machine = m }) c (socket_of c (notes h)) (poll_of c (notes h)) h
+  mute_open m e rests =
       let shut : has_closed c h ≡ false = sym (closed_is {H = H} {Job = Job} hub s settled before v c h x there r of) ∙ e in
-      told_mute v (subst (λ g. Standing {H = H} hub s settled before v g) (sym (mute_is false shut)) x)
+      told_mute (record v { machine = m })
+      (subst (λ g. Standing {H = H} hub s settled before (record v { machine = m }) g) (sym (mute_is false shut))
+      (standing_rests {H = H} {Job = Job} hub s settled before v c h x there m nothing rests))
       (subst (λ g. IsRested c g) (sym (mute_is false shut)) (λ at quiet. up_there c h at shut))
 
   pub mute_closed : (new : Server H Job) → r ≡ true → OfEach {H = H} hub v (λ t w said g. IsKnown c g

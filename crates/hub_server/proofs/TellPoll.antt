@@ -1,22 +1,23 @@
 -- What a connection says by the poll that it holds.
 use Rattle.std.proofs.Common.{◌≡◌, ◌<◌, ◌≤◌, ℕ, ◌+◌, ◌-◌, Bool, true, false, ◌||◌, List, [], ◌∷◌, ◌++◌, Option, Some}
-use Rattle.std.proofs.Common.{refl, sym, ap, subst, ◌∙◌, arith, inl}
+use Rattle.std.proofs.Common.{refl, sym, ap, subst, ◌∙◌, ◌⊎◌, None, arith, inl, inr}
 use Rattle.std.specs.Prelude.{if◌then◌else◌, ◌&&◌, nat_le, option_map}
 use Rattle.std.proofs.lemmas.Bool.{eq-eqb, le-leb, leb-true, true≢false}
 use Rattle.hd_lanes.specs.declared.http.Reply.{Reply}
+use Rattle.hd_delivery.specs.Due.{due}
 use Rattle.hd_delivery.specs.Frames.{LinkFrame}
 use Rattle.hd_delivery.specs.Histories.{is_this}
 use Rattle.hd_calls.specs.Hubs.{Hub}
-use Rattle.hd_calls.specs.Peers.{is_shut}
+use Rattle.hd_calls.specs.Peers.{is_shut, steps}
 use Rattle.hd_serving.specs.declared.vocabulary.Said.{Said}
-use Rattle.hd_serving.specs.Numbers.{held_for}
+use Rattle.hd_serving.specs.Numbers.{held_for, most_before_last}
 use Rattle.hd_serving.specs.Lives.{Answered, Note, poll_of, socket_of}
 use Rattle.hd_serving.specs.Doings.{Doing, Notes, config_of, has_closed, has_peer, history, moment, notes}
 use Rattle.hd_serving.specs.Plans.{Setup, bare_reply, frames_reply, letting_go, onto, replying}
 use Rattle.hd_serving.specs.Serves.{LendsUpTo, bytes_of, lending, telling_poll}
 use Rattle.hub_server.specs.declared.machine.Machine.{Machine}
 use Rattle.hub_server.specs.declared.server.Server.{Server}
-use Rattle.hub_server.specs.Machines.{OfConn}
+use Rattle.hub_server.specs.Machines.{OfConn, StandsMachine}
 use Rattle.hub_server.specs.Traffic.{LendsSome, is_any}
 use Rattle.hub_server.specs.Connections.{Frees, IsKnown}
 use Rattle.hub_server.specs.Lanes.{Unsettled, is_at, lane_of, poll_lane, settled}
@@ -24,7 +25,7 @@ use Rattle.hub_server.specs.Servers.{OfEach, Standing}
 use Rattle.hub_server.specs.Tells.{TellsPoll}
 use Rattle.hub_server.proofs.OntoAlike.{onto_append}
 use Rattle.hub_server.proofs.TellSaid.{Mild, SaidSome, closed_is, is_one, known_mild, letting_mild, mild_lends, mild_says, replying_mild}
-use Rattle.hub_server.proofs.TellSaid.{replying_says, said_some}
+use Rattle.hub_server.proofs.TellSaid.{replying_says, said_some, standing_rests}
 
 -- the poll is held on its lane
 lane_of_poll : (c lane since : ℕ) (n : List Note) → poll_of c n ≡ Some (lane, since) → poll_lane c n ≡ Some lane
@@ -161,10 +162,12 @@ module _ {H Job : Type 0} (hub : Hub Job) (s : Setup) (u : Unsettled) (before : 
             (replying lane q h) h)) is stood);
       }
 
-  -- or it is held still
-  pub polls_on : (r : Bool) (late : ℕ) → any ≡ false → r ≡ false → OfConn {H = H} hub m c (λ w t k. r ≡ is_shut t k)
-      → late ≡ v.moment - since → late < held_for → TellsPoll {H = H} hub s before (record v { machine = m }) c (lane, since) h
-  polls_on r late e f shut by short =
+  -- or it is held still, and the connection may rest, since nothing is due
+  pub polls_on : (r : Bool) (late : ℕ) (rested : Machine H Job) → any ≡ false → r ≡ false → OfConn {H = H} hub m c (λ w t k. r ≡ is_shut t k)
+      → late ≡ v.moment - since → late < held_for
+      → OfConn {H = H} hub m c (λ w t k. due t.config (steps t k) ≡ None → StandsMachine {H = H} hub rested w)
+      → TellsPoll {H = H} hub s before (record v { machine = rested }) c (lane, since) h
+  polls_on r late rested e f shut by short rests =
       let base : Standing {H = H} hub s settled before (record v { machine = m }) h = (bare_stands e).1 in
       let clock : v.moment ≡ moment h = x.clock in
       let told : onto (telling_poll s (moment h) c (lane, since) [] h) h ≡ h =
@@ -176,9 +179,15 @@ module _ {H Job : Type 0} (hub : Hub Job) (s : Setup) (u : Unsettled) (before : 
       record {
         frames = [];
         due = (bare_stands e).0;
-        stands = subst (λ (k : List Doing). Standing {H = H} hub s settled before (record v { machine = m }) k) (sym told) base;
+        stands = subst (λ (k : List Doing). Standing {H = H} hub s settled before (record v { machine = rested }) k) (sym told)
+            (standing_rests {H = H} {Job = Job} hub s settled before (record v { machine = m }) c h base there rested
+            (nothing (bare_stands e).0) rests);
       }
     where
+      nothing : (due (config_of c h) (history c h) ≡ None) ⊎ (most_before_last < 0) → due (config_of c h) (history c h) ≡ None
+      nothing (inl none) = none
+      nothing (inr full) = absurd (omega (arith, full))
+
       early : (b : Bool) → nat_le (since + held_for) (moment h) ≡ b → v.moment ≡ moment h → nat_le (since + held_for) (moment h) ≡ false
       early true g clock = absurd (let past : since + held_for ≤ moment h = leb-true (since + held_for) (moment h) g in omega
           (arith, by, short, past, clock))

@@ -5,6 +5,7 @@ use Rattle.std.specs.Prelude.{if◌then◌else◌}
 use Rattle.std.proofs.lemmas.Bool.{eq-eqb, true≢false}
 use Rattle.hd_lanes.specs.declared.http.Reply.{Reply}
 use Rattle.hd_delivery.specs.Frames.{LinkFrame}
+use Rattle.hd_delivery.specs.Due.{due}
 use Rattle.hd_delivery.specs.Histories.{Config, codec_of, is_closed}
 use Rattle.hd_delivery.specs.Bytes.{Wire, spelling_of}
 use Rattle.hd_calls.specs.Hubs.{Hub}
@@ -19,7 +20,7 @@ use Rattle.hd_serving.specs.Plans.{Setup, letting_go, onto, replying, shutting}
 use Rattle.hd_serving.specs.Serves.{LendsAll, LendsUpTo, bytes_of, is_text, lending, writing}
 use Rattle.hub_server.specs.declared.machine.Machine.{Machine}
 use Rattle.hub_server.specs.declared.server.Server.{Server}
-use Rattle.hub_server.specs.Machines.{OfConn, settings_there}
+use Rattle.hub_server.specs.Machines.{OfConn, StandsMachine, settings_there}
 use Rattle.hub_server.specs.Traffic.{IsServers, LendsDue, LendsSome, is_any}
 use Rattle.hub_server.specs.Connections.{IsKnown}
 use Rattle.hub_server.specs.Lanes.{Unsettled}
@@ -78,6 +79,12 @@ mild_lends c fs h =
 pub writing_says : (s : Setup) (c lane : ℕ) (pieces : List (List LinkFrame)) (h : List Doing) → AllSay (writing s c lane pieces h)
 writing_says s c lane [] h = tt
 writing_says s c lane (p ∷ ps) h = writing_says s c lane ps h
+
+-- nobody did anything by them
+pub work_says : (ds h : List Doing) → AllSay ds → work (onto ds h) ≡ work h
+work_says [] h a = refl
+work_says (Says x ∷ ds) h a = work_says ds (Says x ∷ h) a
+work_says (_ ∷ ds) h a = absurd a
 
 either_says : (b : Bool) (xs ys : List Doing) → AllSay xs → AllSay ys → AllSay (if b then xs else ys)
 either_says true xs ys a b = a
@@ -195,6 +202,26 @@ module _ {H Job : Type 0} (hub : Hub Job) (s : Setup) (u : Unsettled) (before : 
             (o.begun).config;
       })
       ∙ sym (text_by s c h o)
+
+  -- where nothing is due on its link it may rest, and nothing has changed
+  pub standing_rests : (m : Machine H Job) → due (config_of c h) (history c h) ≡ None
+      → OfConn {H = H} hub v.machine c (λ w t k. due t.config (steps t k) ≡ None → StandsMachine {H = H} hub m w)
+      → Standing {H = H} hub s u before (record v { machine = m }) h
+  standing_rests m none rests =
+      let o : IsOne s c h = is_one {H = H} {Job = Job} hub s u before v c h x there in
+      record {
+        setup = x.setup;
+        machine = rests (work h) o.t x.machine o.there
+            (subst (λ k. due k (steps o.t (moves c (work h))) ≡ None) (config_is s c h o)
+            (subst (λ k. due (config_of c h) k ≡ None) (history_is s c h o) none));
+        front = x.front;
+        callers = x.callers;
+        lanes = x.lanes;
+        begun = x.begun;
+        orderly = x.orderly;
+        clock = x.clock;
+        words = x.words;
+      }
 
 -- ---- what is due is lent
 

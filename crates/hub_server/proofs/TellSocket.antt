@@ -1,9 +1,10 @@
 -- What a connection says on its socket, in one message, and its end there.
-use Rattle.std.proofs.Common.{◌≡◌, ℕ, Bool, true, false, not, ◌||◌, List, [], ◌∷◌, ◌++◌, Option, Some}
+use Rattle.std.proofs.Common.{◌≡◌, ℕ, Bool, true, false, not, ◌||◌, List, [], ◌∷◌, ◌++◌, Option, Some, None}
 use Rattle.std.proofs.Common.{refl, sym, ap, subst, ◌∙◌, arith}
 use Rattle.std.specs.Prelude.{if◌then◌else◌, ◌&&◌}
 use Rattle.std.proofs.lemmas.Bool.{both_ways, eq-eqb, true≢false}
 use Rattle.std.proofs.lemmas.List.{append-nil}
+use Rattle.hd_delivery.specs.Due.{due}
 use Rattle.hd_delivery.specs.Frames.{LinkFrame}
 use Rattle.hd_delivery.specs.Histories.{is_this}
 use Rattle.hd_calls.specs.Hubs.{Hub}
@@ -11,12 +12,13 @@ use Rattle.hd_calls.specs.Peers.{is_shut, steps}
 use Rattle.hd_serving.specs.declared.vocabulary.Said.{Said}
 use Rattle.hd_serving.specs.declared.vocabulary.Said.TheVariants as say
 use Rattle.hd_serving.specs.Lives.{poll_of, socket_of}
-use Rattle.hd_serving.specs.Doings.{Doing, Says, config_of, has_closed, has_peer, history, notes, was_refused}
+use Rattle.hd_serving.specs.Machine.{Happening, moves, settings_of}
+use Rattle.hd_serving.specs.Doings.{Doing, Says, config_of, config_with, has_closed, has_peer, history, history_with, notes, was_refused, work}
 use Rattle.hd_serving.specs.Plans.{Setup, letting_go, onto, shutting}
 use Rattle.hd_serving.specs.Serves.{AreNonempty, LendsAll, all_of, bytes_of, is_text, lending, telling_socket, writing}
 use Rattle.hub_server.specs.declared.machine.Machine.{Machine}
 use Rattle.hub_server.specs.declared.server.Server.{Server}
-use Rattle.hub_server.specs.Machines.{OfConn}
+use Rattle.hub_server.specs.Machines.{OfConn, StandsMachine}
 use Rattle.hub_server.specs.Traffic.{IsServers, LendsDue, is_any}
 use Rattle.hub_server.specs.Connections.{Frees, IsKnown}
 use Rattle.hub_server.specs.Lanes.{Unsettled, is_at, poll_lane, settled}
@@ -24,8 +26,10 @@ use Rattle.hub_server.specs.Servers.{IsRested, OfEach, Standing}
 use Rattle.hub_server.specs.Tells.{TellsOne, Writes}
 use Rattle.hub_server.proofs.LaneKept.{standing_shuts, standing_tells}
 use Rattle.hub_server.proofs.OntoAlike.{onto_append}
+use Rattle.hub_server.proofs.TellLends.{lent_due}
 use Rattle.hub_server.proofs.TellSaid.{Mild, SaidAll, closed_is, gone_after, is_one, known_mild, letting_mild, mild_lends, mild_says, mild_then}
-use Rattle.hub_server.proofs.TellSaid.{said_all, shutting_mild, shutting_says, text_is, up_there, writing_says}
+use Rattle.hub_server.proofs.TellSaid.{said_all, shutting_mild, shutting_says, standing_rests, text_is, up_there, work_says, writing_says}
+use Rattle.hub_server.proofs.TickSteps.{begun_here}
 
 -- ---- what is written
 
@@ -135,17 +139,32 @@ module _ {H Job : Type 0} (hub : Hub Job) (s : Setup) (before : List Said) (v : 
       (mild_says c (writing s c lane w.pieces h) (onto (lending c (all_of w.pieces)) h) (writing_says s c lane w.pieces h))
       (mild_lends c (all_of w.pieces) h))
 
-  -- its end is open
-  pub tells_open : (r : Bool) → r ≡ false → OfConn {H = H} hub v.machine c (λ k t ms. r ≡ is_shut t ms)
-      → TellsOne {H = H} hub s before v c (Some lane) (poll_of c (notes h)) h
-  tells_open r e of = record {
+  -- its end is open: it may rest, since nothing is due
+  pub tells_open : (r : Bool) (m : Machine H Job) → r ≡ false → OfConn {H = H} hub v.machine c (λ k t ms. r ≡ is_shut t ms)
+      → OfConn {H = H} hub v.machine c (λ k t ms. due t.config (steps t ms) ≡ None → StandsMachine {H = H} hub m k)
+      → TellsOne {H = H} hub s before (record v { machine = m }) c (Some lane) (poll_of c (notes h)) h
+  tells_open r m e of rests = record {
     pieces = w.pieces;
     due = (w.some, w.due);
-    stands = subst (λ g. Standing {H = H} hub s settled before v g) (sym after) w.stands;
+    stands = subst (λ g. Standing {H = H} hub s settled before (record v { machine = m }) g) (sym after)
+        (standing_rests {H = H} {Job = Job} hub s settled before v c (onto (lending c (all_of w.pieces) ++ writing s c lane w.pieces h) h) w.stands
+        (mild.there ∙ there) m nothing rests);
     rested = subst (λ g. IsRested c g) (sym after)
         (λ at off. up_there c (onto (lending c (all_of w.pieces) ++ writing s c lane w.pieces h) h) at (mild.closed ∙ unclosed));
   }
     where
+      due_in : List Happening → Option LinkFrame
+      due_in x = due (config_with (settings_of c x)) (history_with (settings_of c x) (moves c x))
+
+      lent : List Doing
+      lent = onto (lending c (all_of w.pieces)) h
+
+      nothing : due_in (work (onto (lending c (all_of w.pieces) ++ writing s c lane w.pieces h) h)) ≡ None
+      nothing =
+          ap (λ (g : List Doing). due_in (work g)) (onto_append (lending c (all_of w.pieces)) (writing s c lane w.pieces h) h)
+          ∙ ap due_in (work_says (writing s c lane w.pieces h) lent (writing_says s c lane w.pieces h))
+          ∙ (let t = begun_here c h there in lent_due c t.settings (all_of w.pieces) h t.begun w.due)
+
       unclosed : has_closed c h ≡ false
       unclosed = sym mild.closed ∙ sym (closed_is {H = H} {Job = Job} hub s settled before v c
           (onto (lending c (all_of w.pieces) ++ writing s c lane w.pieces h) h) w.stands (mild.there ∙ there) r of) ∙ e

@@ -1,43 +1,32 @@
 -- All connections tick, one after the other: what one of them does changes nothing for the others.
-use Rattle.std.proofs.Common.{◌≡◌, ℕ, suc, ◌+◌, ◌<◌, ◌==◌, Bool, true, false, List, [], ◌∷◌, length, get_or, drop}
-use Rattle.std.proofs.Common.{refl, sym, ap, subst, ◌∙◌, arith}
+use Rattle.std.proofs.Common.{◌≡◌, ℕ, ◌+◌, ◌<◌, true, List, [], ◌∷◌, length, get_or, drop}
+use Rattle.std.proofs.Common.{ap, subst, ◌∙◌}
 use Rattle.std.specs.List.{flat_map}
-use Rattle.std.proofs.lemmas.Bool.{eqb-true}
 use Rattle.hd_calls.specs.Hubs.{Hub}
 use Rattle.hd_serving.specs.declared.vocabulary.Said.{Said}
+use Rattle.hd_serving.specs.Machine.{Happening}
 use Rattle.hd_serving.specs.Doings.{Doing, work, moment, has_peer}
 use Rattle.hd_serving.specs.Plans.{Setup, onto}
 use Rattle.hd_serving.specs.Serves.{ticking, ticks}
+use Rattle.hub_server.specs.declared.machine.Machine.{Machine}
 use Rattle.hub_server.specs.declared.server.Server.{Server}
+use Rattle.hub_server.specs.Machines.{StandsMachine}
 use Rattle.hub_server.specs.Lanes.{Unsettled, settled}
 use Rattle.hub_server.specs.Rounds.{AreNumbers, AreRising}
 use Rattle.hub_server.specs.Servers.{OfEach, Standing}
+use Rattle.hub_server.specs.Sleeping.{AreTimely, HasPassed, NoneRings}
 use Rattle.hub_server.specs.Spreads.{is_listed}
-use Rattle.hub_server.proofs.Alike.{Alike, alike_refl, alike_trans, there_alike}
-use Rattle.hub_server.proofs.Conns.{connections_are, first_is_listed, later_listed}
-use Rattle.hub_server.proofs.LaneKept.{SameLane, same_lane_refl, same_lane_trans}
+use Rattle.hub_server.proofs.Agree.{Agree, SameButMoves, standing_agrees}
+use Rattle.hub_server.proofs.Alike.{Alike, alike_trans, there_alike}
+use Rattle.hub_server.proofs.Asleep.{awake_there}
+use Rattle.hub_server.proofs.Conns.{first_is_listed, later_listed, not_first, rising_rest}
+use Rattle.hub_server.proofs.LaneKept.{SameLane, same_lane_trans}
 use Rattle.hub_server.proofs.OntoAlike.{onto_append}
-use Rattle.hub_server.proofs.RoundNumbers.{AreLeft, all_left, fewer_left, left_at}
-use Rattle.hub_server.proofs.RoundWhole.{there_listed}
+use Rattle.hub_server.proofs.TickAsleep.{alike_passed, all_ticked, passed_by, same_passed, standing_passed}
+use Rattle.hub_server.proofs.RoundNumbers.{left_at}
 use Rattle.hub_server.proofs.TickApart.{Apart, apart_ticking, ticking_same}
 
--- of numbers that rise, none after the first is the first
-pub not_first : (c k : ℕ) (cs : List ℕ) → AreRising (c ∷ cs) → is_listed k cs ≡ true → (k == c) ≡ false
-not_first c k cs rise e = by (k == c) refl
-  where
-    left : AreLeft (c ∷ cs) (suc c) cs
-    left = fewer_left (c ∷ cs) 0 c cs (all_left (c ∷ cs) rise)
-
-    by : (b : Bool) → (k == c) ≡ b → b ≡ false
-    by true f =
-        absurd (let same = eqb-true k c f in let none : is_listed k cs ≡ false = left.none_before k (omega (arith, same)) in
-        let no : true ≡ false = sym e ∙ none in cc)
-    by false f = refl
-
-pub rising_rest : (c : ℕ) (cs : List ℕ) → AreRising (c ∷ cs) → AreRising cs
-rising_rest c cs rise = let left = fewer_left (c ∷ cs) 0 c cs (all_left (c ∷ cs) rise) in left.rise
-
--- these are left to tick
+-- these, which are awake, are left to tick
 pub record TicksSo {H Job : Type 0} (hub : Hub Job) (s : Setup) (u : Unsettled) (before : List Said) (new : Server H Job) (left : List ℕ)
     (h : List Doing) : Type 0 where
   pub so_far : List Doing
@@ -47,25 +36,12 @@ pub record TicksSo {H Job : Type 0} (hub : Hub Job) (s : Setup) (u : Unsettled) 
   pub alike : (k : ℕ) → is_listed k left ≡ true → Alike k so_far h
   pub there : (k : ℕ) → is_listed k left ≡ true → has_peer k h ≡ true
   pub rise : AreRising left
-  pub whole : onto (flat_map (λ c. ticking (moment h) c h) left) so_far ≡ onto (ticks (moment h) h) h
+  pub whole : Agree (onto (ticks (moment h) h) h) (onto (flat_map (λ c. ticking (moment h) c h) left) so_far)
 
 module _ {H Job : Type 0} (hub : Hub Job) (old : Server H Job) (conns : List ℕ) where
   -- so it is of all doings for which the server stood
   abbrev pub TickSoFar : Server H Job → ℕ → Type 0
   TickSoFar new i = OfEach {H = H} hub old (λ s u before h. u ≡ settled → TicksSo {H = H} hub s u before new (drop i conns) h)
-
-  pub ticks_begin : AreNumbers {H = H} old.machine conns → TickSoFar old 0
-  ticks_begin numbers = λ s u before h st sound. record {
-    so_far = h;
-    stands = st;
-    same_moment = refl;
-    lanes = λ l. same_lane_refl l h;
-    alike = λ k e. alike_refl k h;
-    there = λ k e. there_listed {H = H} hub old.machine conns (work h) numbers st.machine k ∙ e;
-    rise = numbers.rise;
-    whole = ap (λ cs. onto (flat_map (λ c. ticking (moment h) c h) cs) h)
-        (sym (connections_are {H = H} hub old.machine (work h) conns st.machine numbers));
-  }
 
   -- one more ticks
   one : (mid new : Server H Job) (c : ℕ) (rest : List ℕ) → OfEach {H = H} hub mid (λ s u before h. u ≡ settled → has_peer c h ≡ true →
@@ -84,7 +60,8 @@ module _ {H Job : Type 0} (hub : Hub Job) (old : Server H Job) (conns : List ℕ
         (goes.others k (not_first c k rest x.rise e)) (x.alike k (later_listed k c rest e));
     there = λ k e. x.there k (later_listed k c rest e);
     rise = rising_rest c rest x.rise;
-    whole = sym (onto_append (ticking (moment h) c h) (flat_map (λ k. ticking (moment h) k h) rest) x.so_far) ∙ x.whole;
+    whole = subst (λ g. Agree (onto (ticks (moment h) h) h) g)
+        (onto_append (ticking (moment h) c h) (flat_map (λ k. ticking (moment h) k h) rest) x.so_far) x.whole;
   }
     where
       own : Alike c x.so_far h
@@ -106,5 +83,44 @@ module _ {H Job : Type 0} (hub : Hub Job) (old : Server H Job) (conns : List ℕ
       → OfEach {H = H} hub old (λ s u before h. u ≡ settled → Standing {H = H} hub s u before new (onto (ticks (moment h) h) h))
   ticks_over new i none so = λ s u before h st sound.
       let x = so s u before h st sound in
-      subst (λ g. Standing {H = H} hub s u before new g)
-      (ap (λ cs. onto (flat_map (λ c. ticking (moment h) c h) cs) x.so_far) (sym none) ∙ x.whole) x.stands
+      standing_agrees {H = H} {Job = Job} hub s u before new (onto (ticks (moment h) h) h) x.so_far
+      (subst (λ cs. Agree (onto (ticks (moment h) h) h) (onto (flat_map (λ c. ticking (moment h) c h) cs) x.so_far)) none x.whole) x.stands
+
+  -- those that sleep have passed the moment, and those that are awake are left to tick
+  module _ (m now_on : Machine H Job) (rings : (w : List Happening) → StandsMachine {H = H} hub old.machine w → StandsMachine {H = H} hub m w)
+      (none : (w : List Happening) → StandsMachine {H = H} hub old.machine w → NoneRings {H = H} m old.moment)
+      (known : (w : List Happening) → StandsMachine {H = H} hub m w → AreNumbers {H = H} m conns)
+      (passes : (w z : List Happening) → StandsMachine {H = H} hub m w → NoneRings {H = H} m old.moment → AreTimely old.moment w
+      → HasPassed {H = H} m old.moment w z → StandsMachine {H = H} hub now_on z) where
+    begins : (s : Setup) (u : Unsettled) (before : List Said) (h : List Doing) → Standing {H = H} hub s u before old h
+        → TicksSo {H = H} hub s u before (record old { machine = now_on }) conns h
+    begins s u before h st = record {
+      so_far = passed_by {H = H} m h;
+      stands = standing_passed {H = H} {Job = Job} hub s u before old m now_on h st rung none_now passes_now;
+      same_moment = same.clock;
+      lanes = same.lanes;
+      alike = λ k e. alike_passed {H = H} {Job = Job} hub s u before old m now_on h st rung none_now passes_now k (numbers.are k ∙ e);
+      there = λ k e. awake_there {H = H} {Job = Job} hub m (work h) k rung (numbers.are k ∙ e);
+      rise = numbers.rise;
+      whole = all_ticked {H = H} {Job = Job} hub s u before old m now_on h st rung none_now passes_now conns numbers;
+    }
+      where
+        rung : StandsMachine {H = H} hub m (work h)
+        rung = rings (work h) st.machine
+
+        none_now : NoneRings {H = H} m (moment h)
+        none_now = subst (λ n. NoneRings {H = H} m n) st.clock (none (work h) st.machine)
+
+        passes_now : (w z : List Happening) → StandsMachine {H = H} hub m w → NoneRings {H = H} m (moment h) → AreTimely (moment h) w
+            → HasPassed {H = H} m (moment h) w z → StandsMachine {H = H} hub now_on z
+        passes_now = subst (λ n. (w z : List Happening) → StandsMachine {H = H} hub m w → NoneRings {H = H} m n → AreTimely n w
+            → HasPassed {H = H} m n w z → StandsMachine {H = H} hub now_on z) st.clock passes
+
+        numbers : AreNumbers {H = H} m conns
+        numbers = known (work h) rung
+
+        same : SameButMoves (passed_by {H = H} m h) h
+        same = same_passed {H = H} {Job = Job} hub s u before old m now_on h st rung none_now passes_now
+
+    pub ticks_begin : TickSoFar (record old { machine = now_on }) 0
+    ticks_begin = λ s u before h st sound. begins s u before h st

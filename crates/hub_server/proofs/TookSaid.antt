@@ -13,18 +13,18 @@ use Rattle.hd_serving.specs.Machine.{Happening, moves}
 use Rattle.hp_peer.specs.declared.peer.Peer.{Peer}
 use Rattle.hp_peer.specs.Lending.{HasLent}
 use Rattle.hub_server.specs.declared.machine.Machine.{Machine}
-use Rattle.hub_server.specs.Machines.{StandsMachine, peer_at, settings_there}
+use Rattle.hub_server.specs.Machines.{StandsMachine, nap_at, peer_at, settings_there}
 use Rattle.hub_server.specs.Calls.{HasSaid}
 use Rattle.hub_server.proofs.Ends.{goes_on}
 
 module _ {H Job : Type 0} (hub : Hub Job) (old : Machine H Job) (w : List Happening) (c : ℕ) (t : Settings) (was p : Peer H Job)
-    (s : StandsMachine {H = H} hub old w) (there : settings_there c w ≡ Some t) (at : Some was ≡ peer_at old c)
+    (s : StandsMachine {H = H} hub old w) (there : settings_there c w ≡ Some t) (at : Some was ≡ peer_at old c) (awake : nap_at old c ≡ None)
     (ps : BTreeMap ℕ (Peer H Job)) (through : WritesThrough nat_cmp (nat_cmp c) old.peers p ps) where
   -- nothing was due
   quiet : (o : Option LinkFrame) → o ≡ due t.config (steps t (moves c w)) → (before : List ℕ)
       → None ≡ option_map (t.wire.spell (codec t (moves c w))) o → HasLent {H = H} hub t (moves c w) p o
       → HasSaid {H = H} hub (record old { peers = ps }) c w t (moves c w) false before before
-  quiet None e before none lent = (sym e, refl, goes_on {H = H} {Job = Job} hub old w c t was p [] s there at ps through (λ h. lent) refl)
+  quiet None e before none lent = (sym e, refl, goes_on {H = H} {Job = Job} hub old w c t was p [] s there at awake ps through (λ h. lent) refl)
   quiet (Some f) e before none lent = absurd (cc)
 
   -- the frame that was due was said
@@ -37,7 +37,7 @@ module _ {H Job : Type 0} (hub : Hub Job) (old : Machine H Job) (w : List Happen
         f,
         sym e,
         appended ∙ ap (λ b. before ++ b) text,
-        goes_on {H = H} {Job = Job} hub old w c t was p (Plain (Step_of (Lent f)) ∷ []) s there at ps through (λ h. lent) refl,
+        goes_on {H = H} {Job = Job} hub old w c t was p (Plain (Step_of (Lent f)) ∷ []) s there at awake ps through (λ h. lent) refl,
       )
 
   pub says_none : (before : List ℕ) → None ≡ option_map (t.wire.spell (codec t (moves c w))) (due t.config (steps t (moves c w)))

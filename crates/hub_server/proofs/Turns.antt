@@ -1,5 +1,6 @@
 -- Jobs of one connection have turns: what its peer says of them, as happenings of the round.
-use Rattle.std.proofs.Common.{◌≡◌, ◌≤◌, ◌<◌, ◌-◌, ℕ, zero, suc, Bool, true, false, List, [], ◌∷◌, ◌++◌, length, Option, Some, None, refl, sym, ap, ◌∙◌, subst, arith, if◌then◌else◌}
+use Rattle.std.proofs.Common.{◌≡◌, ◌≤◌, ◌<◌, ◌-◌, ℕ, zero, suc, Bool, true, false, List, [], ◌∷◌, ◌++◌, length}
+use Rattle.std.proofs.Common.{Option, Some, None, IfSome, refl, sym, ap, ◌∙◌, subst, arith, if◌then◌else◌}
 use Rattle.std.specs.Ordering.{nat_cmp}
 use Rattle.std.specs.BTreeMap.{BTreeMap, WritesThrough}
 use Rattle.hd_calls.specs.declared.vocabulary.Act.TheVariants as act
@@ -10,15 +11,17 @@ use Rattle.hd_calls.specs.Rules.{Follows, first_from, is_due, next_job, passed}
 use Rattle.hd_serving.specs.Laws.{TurnsAreTested}
 use Rattle.hd_serving.specs.Machine.{Happening, moves}
 use Rattle.hp_peer.specs.declared.peer.Peer.{Peer}
-use Rattle.hp_peer.specs.Stands.{Stands}
+use Rattle.hp_peer.specs.Stands.{OfEach, Stands}
 use Rattle.hp_peer.specs.Turning.{AfterTurns, AreTurns}
 use Rattle.hp_peer.specs.Turning as peer
 use Rattle.hub_server.specs.declared.machine.Machine.{Machine}
+use Rattle.hub_server.specs.declared.sleepers.Nap.{Nap}
 use Rattle.hub_server.specs.Calls.{ClosesOut, doing}
-use Rattle.hub_server.specs.Machines.{IsPeerOf, StandsMachine, peer_at, settings_there}
-use Rattle.hub_server.specs.Rounds.{HasHandedUp, HasStepped, InRound, Steps}
-use Rattle.hub_server.proofs.Doing.{moves_done}
+use Rattle.hub_server.specs.Machines.{IsKeptAs, IsPeerOf, StandsMachine, nap_at, peer_at, settings_there}
+use Rattle.hub_server.specs.Rounds.{HasHandedUp, HasStepped, InRound, IsCountOfJobs, Steps}
+use Rattle.hub_server.proofs.Doing.{awake_is, moves_done}
 use Rattle.hub_server.proofs.Ends.{closes_out}
+use Rattle.hub_server.proofs.Lags.{kept_either}
 use Rattle.hub_server.proofs.TurnDoing.{goes_doing}
 use Rattle.hub_server.proofs.TurnFirst.{here_of, none_gone}
 use Rattle.hub_server.proofs.TurnRound.{IsOn, either_none, on_deed, on_rest, on_turns, owed_by, up_to}
@@ -72,9 +75,11 @@ standing_of hub p None h s = absurd s
 standing_of hub p (Some t) h s = record { settings = t; there = refl; stands = s }
 
 -- one that has none isn't there
-pub gone_of : (H : Type 0) {Job : Type 0} (hub : Hub Job) (o : Option Settings) (h : List Move) → IsPeerOf {H = H} hub o h None → o ≡ None
-gone_of H hub None h s = refl
-gone_of H hub (Some t) h s = absurd s
+gone_of : (H : Type 0) {Job : Type 0} (hub : Hub Job) (clock : ℕ) (nap : Option Nap) (o : Option Settings) (h : List Move)
+    → IsKeptAs {H = H} hub clock nap o h None → o ≡ None
+gone_of H hub clock nap None h s = refl
+gone_of H hub clock None (Some t) h s = absurd s
+gone_of H hub clock (Some nap) (Some t) h s = absurd s
 
 module _ {H Job : Type 0} (hub : Hub Job) (tested : TurnsAreTested) (old : Machine H Job) (now c : ℕ) (w r : List Happening)
     (s : StandsMachine {H = H} hub old r) (round : InRound now w r c) where
@@ -87,14 +92,15 @@ module _ {H Job : Type 0} (hub : Hub Job) (tested : TurnsAreTested) (old : Machi
       of_round = round.of_round;
       settled = round.settled;
       last = let last = round.last in omega (arith, last);
-      none_before = up_to c r round.none_before (none_gone c r (gone_of H hub (settings_there c r) (moves c r)
-          (subst (λ o. IsPeerOf {H = H} hub (settings_there c r) (moves c r) o) (sym none) (s.at c))));
+      none_before = up_to c r round.none_before (none_gone c r
+          (gone_of H hub old.sleepers.clock (nap_at old c) (settings_there c r) (moves c r)
+          (subst (λ o. IsKeptAs {H = H} hub old.sleepers.clock (nap_at old c) (settings_there c r) (moves c r) o) (sym none) (s.at c))));
     };
     same_begun = refl;
     goes = λ o. goes_doing o c [] r;
   }
 
-  module _ (p q : Peer H Job) (ps : BTreeMap ℕ (Peer H Job)) (new : Machine H Job) (at : Some p ≡ peer_at old c)
+  module _ (p q : Peer H Job) (ps : BTreeMap ℕ (Peer H Job)) (new : Machine H Job) (at : Some p ≡ peer_at old c) (awake : nap_at old c ≡ None)
       (through : WritesThrough nat_cmp (nat_cmp c) old.peers q ps) (out : ClosesOut {H = H} hub (record old { peers = ps }) new c)
       (t : Settings) (there : settings_there c r ≡ Some t) (own : Stands {H = H} hub t p (moves c r)) where
     -- the round is at this connection before they have
@@ -112,7 +118,7 @@ module _ {H Job : Type 0} (hub : Hub Job) (tested : TurnsAreTested) (old : Machi
     -- the machine stands for what the peer does
     stands_after : (ms : List Move) → Stands {H = H} hub t q (ms ++ moves c r) → StandsMachine {H = H} hub new (doing c ms r)
     stands_after ms st =
-        closes_out {H = H} {Job = Job} hub old r c t p q ms s there at ps through (λ before. st) (record old { peers = ps }) new refl out
+        closes_out {H = H} {Job = Job} hub old r c t p q ms s there at awake ps through (λ before. st) (record old { peers = ps }) new refl out
 
     -- none handed up a deed
     stepped : AfterTurns now (moves c r) (peer.HasNoTurn {H = H} hub t q) → HasStepped {H = H} hub new now w r c
@@ -159,9 +165,21 @@ module _ {H Job : Type 0} (hub : Hub Job) (tested : TurnsAreTested) (old : Machi
 
   -- its jobs had turns
   pub steps_some : (p q : Peer H Job) (ps : BTreeMap ℕ (Peer H Job)) (new : Machine H Job) (found : Option (ℕ × Deed)) → Some p ≡ peer_at old c
-      → WritesThrough nat_cmp (nat_cmp c) old.peers q ps → ClosesOut {H = H} hub (record old { peers = ps }) new c
+      → nap_at old c ≡ None → WritesThrough nat_cmp (nat_cmp c) old.peers q ps → ClosesOut {H = H} hub (record old { peers = ps }) new c
       → ((t : Settings) (h : List Move) → Stands {H = H} hub t p h → peer.Turns {H = H} hub t h q now found) → Steps {H = H} hub new now w r c found
-  steps_some p q ps new found at through out turns =
+  steps_some p q ps new found at awake through out turns =
       let x = standing_of {H = H} hub p (settings_there c r) (moves c r)
-      (subst (λ o. IsPeerOf {H = H} hub (settings_there c r) (moves c r) o) (sym at) (s.at c)) in
-      steps p q ps new at through out x.settings x.there x.stands found (turns x.settings (moves c r) x.stands)
+      (subst (λ o. IsPeerOf {H = H} hub (settings_there c r) (moves c r) o) (sym at)
+      (awake_is {H = H} hub old.sleepers.clock (nap_at old c) (settings_there c r) (moves c r) (peer_at old c) awake (s.at c))) in
+      steps p q ps new at awake through out x.settings x.there x.stands found (turns x.settings (moves c r) x.stands)
+
+-- ---- how many jobs there are
+
+-- the peer of one that sleeps knows it too, since none was begun at it
+pub count_is : {H Job : Type 0} (hub : Hub Job) (m : Machine H Job) (c : ℕ) (p : Peer H Job) (n : ℕ) → Some p ≡ peer_at m c
+    → OfEach {H = H} hub p (λ t h. n ≡ length (begun h)) → (r : List Happening) → StandsMachine {H = H} hub m r → IsCountOfJobs c r n
+count_is {H} {Job} hub m c p n at says r s there =
+    kept_either {H = H} {Job = Job} hub m.sleepers.clock
+    (λ o q. IfSome q (λ p. OfEach {H = H} hub p (λ t h. n ≡ length (begun h)) → n ≡ length (begun (moves c r)))) (nap_at m c)
+    (settings_there c r) (moves c r) (Some p) tt (λ t q x says. says t x.before x.stands ∙ sym (ap length x.same.begins))
+    (subst (λ o. IsKeptAs {H = H} hub m.sleepers.clock (nap_at m c) (settings_there c r) (moves c r) o) (sym at) (s.at c)) says

@@ -10,7 +10,7 @@ use Rattle.hd_server.specs.Registry.{Lists, added, gone, removed}
 use Rattle.hg_groups.specs.Standing.{StandsRegistry}
 use Rattle.hd_serving.specs.Machine.{Happening, Fate, Got, TooSlow, PassedOver, fate_at, fate_in, is_open_at, moves, registry, with_fate}
 use Rattle.hub_server.specs.declared.machine.Machine.{Machine}
-use Rattle.hub_server.specs.Machines.{IsPeerOf, peer_at, settings_there}
+use Rattle.hub_server.specs.Machines.{IsIndexed, IsKeptAs, nap_at, peer_at, settings_there}
 
 pub record Affairs : Type 0 where
   pub settings : ℕ → Option Settings  -- of those that are there
@@ -23,7 +23,8 @@ affairs w = record { settings = λ c. settings_there c w; moves = λ c. moves c 
 
 -- the machine's peers and registry stand for them
 pub record StandsFor {H Job : Type 0} (hub : Hub Job) (m : Machine H Job) (a : Affairs) : Type 0 where
-  pub at : (c : ℕ) → IsPeerOf hub (a.settings c) (a.moves c) (peer_at m c)
+  pub at : (c : ℕ) → IsKeptAs hub m.sleepers.clock (nap_at m c) (a.settings c) (a.moves c) (peer_at m c)
+  pub index : IsIndexed m
   pub registry : StandsRegistry m.registry a.lists
 
 -- both say the same of each connection

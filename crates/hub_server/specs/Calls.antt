@@ -93,6 +93,7 @@ HasSaid hub new c w t h true before now =
 -- No peer changed. The connection left its groups and its user if its end is closed, and only then
 pub record ClosesOut {H Job : Type 0} (hub : Hub Job) (old new : Machine H Job) (c : ℕ) : Type 0 where
   pub peers : new.peers ≡ old.peers
+  pub sleepers : new.sleepers ≡ old.sleepers
   pub shut : (p : Peer H Job) (t : Settings) (h : List Move) → peer_at old c ≡ Some p → Stands hub t p h → is_shut t h ≡ true
       → (l : Lists) → StandsRegistry old.registry l → StandsRegistry new.registry (gone l c)
   pub unshut : (p : Peer H Job) (t : Settings) (h : List Move) → peer_at old c ≡ Some p → Stands hub t p h → is_shut t h ≡ false

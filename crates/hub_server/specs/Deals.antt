@@ -1,5 +1,6 @@
 -- What dealings with a machine's connections lead to, one by one.
 use Rattle.std.specs.Prelude.{◌≡◌, ℕ, ◌==◌, true, false, List, [], ◌∷◌, Option, Some, None, is_some, if◌then◌else◌}
+use Rattle.std.specs.BTreeMap.{btree_map_len}
 use Rattle.hm_message.specs.declared.message.Codec.{Codec}
 use Rattle.hm_message.specs.declared.message.Message.{Message}
 use Rattle.hd_delivery.specs.declared.vocabulary.Reason.TheVariants.{Slow}
@@ -76,6 +77,8 @@ ClosesSlowAt hub _ _ = ⊥
 pub record HasClosedPeer {H Job : Type 0} (hub : Hub Job) (old new : Machine H Job) (c : ℕ) : Type 0 where
   pub at : ClosesSlowAt hub (peer_at old c) (peer_at new c)
   pub others : (k : ℕ) → (c == k) ≡ false → peer_at new k ≡ peer_at old k
+  pub count : btree_map_len new.peers ≡ btree_map_len old.peers
+  pub sleepers : new.sleepers ≡ old.sleepers
   pub registry : new.registry ≡ old.registry
 
 -- one dealing leads from one state to another

@@ -1,6 +1,8 @@
 pub mod Spreads
+pub mod Sleepers
 pub mod Machines
 pub mod Affairs
+pub mod Sleeping
 pub mod Deals
 pub mod Outside
 pub mod Rounds

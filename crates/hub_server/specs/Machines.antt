@@ -1,15 +1,24 @@
 -- What a machine stands for: the happenings of which its peers and its registry remember what matters.
-use Rattle.std.specs.Prelude.{◌≡◌, ℕ, false, List, [], Option, Some, None, if◌then◌else◌}
+use Rattle.std.specs.Prelude.{◌≡◌, ◌<◌, ◌≤◌, ℕ, Bool, true, false, not, ◌&&◌, List, [], ◌++◌, Option, Some, None, is_some, if◌then◌else◌}
+use Rattle.std.specs.List.{list_all}
 use Rattle.std.specs.Ordering.{nat_cmp}
-use Rattle.std.specs.BTreeMap.{get}
+use Rattle.std.specs.BTreeMap.{btree_map_len, get}
+use Rattle.std.specs.Vec.{vec_capacity}
+use Rattle.hd_delivery.specs.Histories as of
+use Rattle.hd_delivery.specs.Histories.{Ticked, present_link}
+use Rattle.hd_delivery.specs.Due.{due, is_unseen}
+use Rattle.hd_delivery.specs.Bytes.{Does as Step_of}
 use Rattle.hd_calls.specs.Hubs.{Hub}
-use Rattle.hd_calls.specs.Peers.{Move, Settings}
+use Rattle.hd_calls.specs.Peers.{Move, Plain, Rounds, Settings, is_shut, steps}
+use Rattle.hd_calls.specs.Rules.{IsPeer, IsPeerDue, passed}
 use Rattle.hd_server.specs.Registry.{without}
 use Rattle.hg_groups.specs.Standing.{StandsRegistry}
 use Rattle.hd_serving.specs.Machine.{Happening, ArePeers, has_gone, joined, moves, registry, settings_of}
 use Rattle.hp_peer.specs.declared.peer.Peer.{Peer}
 use Rattle.hp_peer.specs.Stands.{Stands}
 use Rattle.hub_server.specs.declared.machine.Machine.{Machine}
+use Rattle.hub_server.specs.declared.sleepers.Nap.{Nap}
+use Rattle.hub_server.specs.Sleepers.{IsKept, is_awake_in, nap_of}
 
 -- the peer of a connection
 abbrev pub peer_at : {H Job : Type 0} → Machine H Job → ℕ → Option (Peer H Job)
@@ -25,6 +34,62 @@ IsPeerOf hub None h None = Unit {0}
 IsPeerOf hub (Some t) h (Some p) = Stands hub t p h
 IsPeerOf hub _ h _ = ⊥
 
+-- ---- those that sleep
+
+abbrev pub nap_at : {H Job : Type 0} → Machine H Job → ℕ → Option Nap
+nap_at m c = nap_of m.sleepers c
+
+-- it has a peer, and doesn't sleep
+abbrev pub is_awake_at : {H Job : Type 0} → Machine H Job → ℕ → Bool
+is_awake_at m c = is_some (peer_at m c) && not (is_some (nap_at m c))
+
+-- a round's beginning, or a tick on a link that changes nothing but the moment of what was before
+abbrev pub is_idle : Settings → List Move → Move → Bool
+is_idle t g Rounds = true
+is_idle t g (Plain (Step_of (Ticked now))) = is_some (present_link (steps t g)) && is_unseen t.config now (steps t g)
+is_idle t g _ = false
+
+-- an end on a link has ticked to the moment, and before its alarm, which comes later, no tick does more than pass
+abbrev pub IsAlarmOf : ℕ → Option ℕ → Settings → List Move → Type 0
+IsAlarmOf clock None t h = present_link (steps t h) ≡ None
+IsAlarmOf clock (Some moment) t h =
+    (is_some (present_link (steps t h)) ≡ true) × (of.moment (steps t h) ≡ clock) × (clock < moment)
+    × ((now : ℕ) → now < moment → is_unseen t.config now (steps t h) ≡ true)
+
+-- The connection may sleep: its end is open, no job is due or had a turn in this round, nothing is due on its link, and before the alarm
+-- time only passes
+pub record MaySleep (clock : ℕ) (nap : Nap) (t : Settings) (h : List Move) : Type 0 where
+  pub unshut : is_shut t h ≡ false
+  pub calm : passed h ≡ 0
+  pub undue : IsPeerDue t h → ⊥
+  pub unsaid : due t.config (steps t h) ≡ None
+  pub alarm : IsAlarmOf clock nap.alarm t h
+
+-- The peer of a connection that sleeps stands for what was before, since which nothing but idle moves came
+pub record Sleeps {H Job : Type 0} (hub : Hub Job) (clock : ℕ) (nap : Nap) (t : Settings) (p : Peer H Job) (h : List Move) : Type 0 where
+  pub before : List Move
+  pub since : List Move
+  pub are : h ≡ since ++ before
+  pub idle : list_all (is_idle t before) since ≡ true
+  pub stood : Stands hub t p before
+  pub calm : passed before ≡ 0
+  pub peer : IsPeer hub t h
+  pub may : MaySleep clock nap t h
+
+-- the peer of a connection that is awake stands for its moves, and that of one that sleeps lags behind
+abbrev pub IsKeptAs : {H Job : Type 0} → Hub Job → ℕ → Option Nap → Option Settings → List Move → Option (Peer H Job) → Type 0
+IsKeptAs hub clock None t h p = IsPeerOf hub t h p
+IsKeptAs hub clock (Some nap) (Some t) h (Some p) = Sleeps hub clock nap t p h
+IsKeptAs hub clock (Some nap) _ h _ = ⊥
+
+-- those that are awake are in the list of these, which has room for all, and the alarms of the others are set
+pub record IsIndexed {H Job : Type 0} (m : Machine H Job) : Type 0 where
+  pub kept : IsKept m.sleepers
+  pub awake : (c : ℕ) → is_awake_in m.sleepers c ≡ is_awake_at m c
+  pub room : btree_map_len m.peers ≤ vec_capacity m.sleepers.awake.jobs
+
+-- ---- the machine
+
 -- nothing was done by it or for it
 pub record IsStranger (c : ℕ) (w : List Happening) : Type 0 where
   pub unknown : has_gone c w ≡ false
@@ -33,7 +98,8 @@ pub record IsStranger (c : ℕ) (w : List Happening) : Type 0 where
 
 -- The machine stands for these happenings, the latest first. Connections are numbered from 1
 pub record StandsMachine {H Job : Type 0} (hub : Hub Job) (m : Machine H Job) (w : List Happening) : Type 0 where
-  pub at : (c : ℕ) → IsPeerOf hub (settings_there c w) (moves c w) (peer_at m c)
+  pub at : (c : ℕ) → IsKeptAs hub m.sleepers.clock (nap_at m c) (settings_there c w) (moves c w) (peer_at m c)
+  pub index : IsIndexed m
   pub registry : StandsRegistry m.registry (registry w)
   pub peers : ArePeers hub w
   pub strangers : (c : ℕ) → settings_of c w ≡ None → IsStranger c w
@@ -43,9 +109,7 @@ pub record StandsMachine {H Job : Type 0} (hub : Hub Job) (m : Machine H Job) (w
 abbrev pub OfConn : {H Job : Type 0} → Hub Job → Machine H Job → ℕ → (List Happening → Settings → List Move → Type 0) → Type 0
 OfConn hub m c Holds = (w : List Happening) (t : Settings) → StandsMachine hub m w → settings_there c w ≡ Some t → Holds w t (moves c w)
 
--- The machine has the peers and the registry that it had, so that it stands for what it stood for. How its map of peers lies in memory
--- isn't told
+-- The machine stands for what it stood for, and has the registry that it had
 pub record IsAsItWas {H Job : Type 0} (hub : Hub Job) (old new : Machine H Job) : Type 0 where
-  pub peers : (c : ℕ) → peer_at new c ≡ peer_at old c
   pub registry : new.registry ≡ old.registry
   pub stands : (w : List Happening) → StandsMachine hub old w → StandsMachine hub new w

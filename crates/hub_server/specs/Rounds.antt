@@ -11,7 +11,7 @@ use Rattle.hp_peer.specs.declared.peer.Peer.{Peer}
 use Rattle.hp_peer.specs.Stands.{OfEach, Stands}
 use Rattle.hub_server.specs.declared.machine.Machine.{Machine}
 use Rattle.hub_server.specs.Spreads.{is_listed}
-use Rattle.hub_server.specs.Machines.{StandsMachine, peer_at}
+use Rattle.hub_server.specs.Machines.{StandsMachine, is_awake_at}
 use Rattle.hub_server.specs.Outside.{Outside, GoesWith}
 
 -- numbers that rise
@@ -20,10 +20,10 @@ AreRising [] = Unit {0}
 AreRising (c ∷ []) = Unit {0}
 AreRising (c ∷ k ∷ cs) = (c < k) × AreRising (k ∷ cs)
 
--- these are the connections that have a peer, in order
+-- these are the connections that are awake, in order
 pub record AreNumbers {H Job : Type 0} (m : Machine H Job) (conns : List ℕ) : Type 0 where
   pub rise : AreRising conns
-  pub are : (c : ℕ) → is_some (peer_at m c) ≡ is_listed c conns
+  pub are : (c : ℕ) → is_awake_at m c ≡ is_listed c conns
 
 -- a round has begun at the peer, if there is one
 abbrev pub HasBegun : {H Job : Type 0} → Hub Job → Option (Peer H Job) → Option (Peer H Job) → Type 0

@@ -1,12 +1,14 @@
 //! Ticks, and what is said at the end of an event, connection by connection.
 
-ghost use Rattle.std.specs.Prelude.{◌≡◌, ℕ, List, OnOk, Some as Given, None as Absent, true, not};
+ghost use Rattle.std.specs.Prelude.{◌≡◌, ◌+◌, ℕ, List, OnOk, Some as Given, None as Absent, nat_le, true, not};
 ghost use Rattle.hd_serving.specs.Doings.{Doing, has_peer, moment, notes, was_refused};
 ghost use Rattle.hd_serving.specs.Lives.{is_polling, poll_of, socket_of};
 ghost use Rattle.hd_serving.specs.Plans.{frames_reply, onto, shutting};
 ghost use Rattle.hd_serving.specs.Serves.{ending, ticking, ticks};
 ghost use Rattle.hj_jobs.specs.Meaning.{meaning};
+ghost use Rattle.hd_serving.specs.Numbers.{held_for};
 ghost use Rattle.hub_server.specs.Lanes.{is_at, settled};
+ghost use Rattle.hub_server.specs.Machines.{nap_at};
 ghost use Rattle.hub_server.specs.Servers.{OfEach, Standing};
 ghost use Rattle.hub_server.specs.Steps.{IsTold};
 ghost use Rattle.hub_server.specs.Tells.{TellsOne, TellsPoll, Writes};
@@ -27,7 +29,9 @@ impl<H: Hub> Server<H> {
         ensures { OnOk result (OfEach (meaning H.begin_of H.step_of) self.old (λ s u before h. u ≡ settled →
             Standing (meaning H.begin_of H.step_of) s u before self.new (onto (ticks (moment h) h) h))) }
     {
-        let conns = self.machine.numbers(alloc)?;
+        self.machine.ring(alloc, self.moment)?;
+        let conns = self.machine.awake(alloc)?;
+        self.machine.pass(self.moment);
         for &conn in &conns {
             self.tick(conn)?;
         }
@@ -86,11 +90,23 @@ impl<H: Hub> Server<H> {
         ensures { OnOk result (OfEach (meaning H.begin_of H.step_of) self.old (λ s u before h. u ≡ settled →
             IsTold (meaning H.begin_of H.step_of) s before self.new h)) }
     {
-        let conns = self.machine.numbers(alloc)?;
+        self.wake_pollers();
+        let conns = self.machine.awake(alloc)?;
         for &conn in &conns {
             self.tell(alloc, conn)?;
         }
         Ok(())
+    }
+
+    /// Connections whose polls were held for as long as they may be wake.
+    fn wake_pollers(&mut self)
+        ensures stands { OfEach (meaning H.begin_of H.step_of) self.old (λ s u before h. Standing (meaning H.begin_of H.step_of) s u before self.new h) }
+        ensures awake { OfEach (meaning H.begin_of H.step_of) self.old (λ s u before h. (c lane since : ℕ) → poll_of c (notes h) ≡ Given (lane, since) → has_peer c h ≡ true →
+            nat_le (since + held_for) (moment h) ≡ true → nap_at self.new.machine c ≡ Absent) }
+    {
+        for waiting in self.front.held_long(self.moment) {
+            self.machine.wake(waiting.conn);
+        }
     }
 
     /// A connection says what is due, on its socket or by the poll that it holds. Of one that is closed nothing is kept once that is said.
@@ -104,8 +120,9 @@ impl<H: Hub> Server<H> {
             None => {
                 if self.machine.is_closed(conn) {
                     self.let_go(conn);
+                    return Ok(());
                 }
-                Ok(())
+                self.machine.rest(conn)
             }
         }
     }
@@ -117,7 +134,7 @@ impl<H: Hub> Server<H> {
     {
         self.write(alloc, conn, lane)?;
         if !self.machine.is_closed(conn) {
-            return Ok(());
+            return self.machine.rest(conn);
         }
         self.shut(lane)?;
         self.let_go(conn);
@@ -183,7 +200,7 @@ impl<H: Hub> Server<H> {
         if self.moment.saturating_sub(held.since) >= HELD_FOR {
             return self.answer_poll(conn, held.lane, bare(alloc, 200));
         }
-        Ok(())
+        self.machine.rest(conn)
     }
 }
 

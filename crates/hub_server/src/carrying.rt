@@ -194,6 +194,7 @@ impl<H: Hub> Machine<H> {
         ensures { (a : Affairs) (j : ℕ) → job ≡ suc j → AnswersAt (a.settings conn) j input (a.moves conn) →
             StandsFor (meaning H.begin_of H.step_of) self.old a → StandsFor (meaning H.begin_of H.step_of) self.new (moved conn (Answers j input) a) }
     {
+        self.wake(conn);
         if let Some(peer) = self.peers.get_mut(&conn) {
             let _ = peer.answer(job, input);
         }

@@ -33,6 +33,8 @@ mod requests;
 mod rounds;
 mod server;
 mod serving;
+mod sleepers;
+mod sleeping;
 mod spreading;
 mod telling;
 mod traffic;

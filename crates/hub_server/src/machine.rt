@@ -17,6 +17,7 @@ ghost use Rattle.hp_peer.specs.Stands.{settings};
 ghost use Rattle.hub_server.specs.Machines.{IsAsItWas, OfConn, peer_at, settings_there, StandsMachine};
 ghost use Rattle.hub_server.specs.Calls.{ClosesOut, HasSaid, IsUntaken, Takes};
 
+use crate::sleepers::Sleepers;
 use hd_delivery::{Reason, Side, State};
 use he_end::{AttachError, Config};
 use hg_groups::Registry;
@@ -31,10 +32,14 @@ use std::collections::BTreeMap;
 ///
 /// Each call speaks of the connection that it names, and does what its peer's call of the same name does, or `next_out` for `say`. For one
 /// that isn't there it does nothing.
+///
+/// Of those that sleep the peers lag behind: they haven't ticked, and no round has begun at them, since they fell asleep. When one is called it
+/// wakes, and what was left out is made up for.
 #[derive(Drop)]
 pub struct Machine<H: Hub> {
     pub(crate) peers: BTreeMap<u64, Peer<H>>,
     pub(crate) registry: Registry,
+    pub(crate) sleepers: Sleepers,
 }
 
 impl<H: Hub> Machine<H> {
@@ -45,10 +50,11 @@ impl<H: Hub> Machine<H> {
         Ok(Machine {
             peers: BTreeMap::new(alloc),
             registry: Registry::start(alloc)?,
+            sleepers: Sleepers::start(alloc),
         })
     }
 
-    /// The peer of a connection, to be looked at.
+    /// The peer of a connection, to be looked at. That of one that sleeps hasn't ticked since.
     pub fn peer(&self, conn: u64) -> Option<&Peer<H>>
         ensures { option_copied result ≡ peer_at self.now conn }
     {
@@ -74,7 +80,9 @@ impl<H: Hub> Machine<H> {
         if let Some(user) = user {
             self.registry.name(alloc, user, conn)?;
         }
+        self.sleepers.reserve(self.peers.len() + 1)?;
         self.peers.insert(conn, peer)?;
+        self.sleepers.add(conn);
         Ok(())
     }
 
@@ -88,6 +96,7 @@ impl<H: Hub> Machine<H> {
         }
         self.peers.remove(&conn);
         self.registry.gone(conn);
+        self.sleepers.forget(conn);
     }
 
     // ---- what the connection's end is told, and what it tells
@@ -102,6 +111,7 @@ impl<H: Hub> Machine<H> {
         ensures kept { OnErr result (IsAsItWas (meaning H.begin_of H.step_of) self.old self.new) }
         ensures absent { peer_at self.old conn ≡ None → (result ≡ Err AttachError.Closed) × (self.new ≡ self.old) }
     {
+        self.wake(conn);
         let Some(peer) = self.peers.get_mut(&conn) else {
             return Err(AttachError::Closed);
         };
@@ -116,6 +126,7 @@ impl<H: Hub> Machine<H> {
             StandsMachine (meaning H.begin_of H.step_of) self.new w) }
         ensures absent { peer_at self.old conn ≡ None → self.new ≡ self.old }
     {
+        self.wake(conn);
         if let Some(peer) = self.peers.get_mut(&conn) {
             peer.detach(now);
         }
@@ -134,6 +145,7 @@ impl<H: Hub> Machine<H> {
             (result ≡ 0) × IsAsItWas (meaning H.begin_of H.step_of) self.old self.new) }
         ensures absent { peer_at self.old conn ≡ None → (result ≡ 0) × (self.new ≡ self.old) }
     {
+        self.wake(conn);
         match self.peers.get_mut(&conn) {
             Some(peer) => peer.feed(piece),
             None => 0,
@@ -152,6 +164,7 @@ impl<H: Hub> Machine<H> {
         ensures refused { IfErr result (λ e. OfConn (meaning H.begin_of H.step_of) self.old conn (λ w t h. IsUntaken (meaning H.begin_of H.step_of) self.new conn w t h e)) }
         ensures absent { peer_at self.old conn ≡ None → (result ≡ Ok None) × (self.new ≡ self.old) }
     {
+        self.wake(conn);
         let Some(peer) = self.peers.get_mut(&conn) else {
             return Ok(None);
         };
@@ -166,6 +179,7 @@ impl<H: Hub> Machine<H> {
             × StandsMachine (meaning H.begin_of H.step_of) self.new (Does conn (Plain (Step_of (if result then Silenced now else Ticked now))) ∷ w)) }
         ensures absent { peer_at self.old conn ≡ None → (result ≡ false) × (self.new ≡ self.old) }
     {
+        self.wake(conn);
         let silent = match self.peers.get_mut(&conn) {
             Some(peer) => peer.tick(now),
             None => false,
@@ -182,6 +196,7 @@ impl<H: Hub> Machine<H> {
             StandsMachine (meaning H.begin_of H.step_of) self.new w) }
         ensures absent { peer_at self.old conn ≡ None → self.new ≡ self.old }
     {
+        self.wake(conn);
         if let Some(peer) = self.peers.get_mut(&conn) {
             peer.close(reason, false);
         }
@@ -195,6 +210,7 @@ impl<H: Hub> Machine<H> {
             HasSaid (meaning H.begin_of H.step_of) self.new conn w t h more out.old.items out.new.items)) }
         ensures absent { peer_at self.old conn ≡ None → (result ≡ Ok false) × (self.new ≡ self.old) × (out.new.items ≡ out.old.items) }
     {
+        self.wake(conn);
         let Some(peer) = self.peers.get_mut(&conn) else {
             return Ok(false);
         };

@@ -2,12 +2,12 @@
 //! before the next turn.
 
 ghost use Rattle.std.specs.Prelude.{◌≡◌, ◌==◌, ◌<◌, ℕ, false, List, ◌∷◌, Some, None, IfOk, OnOk, is_some, not};
-ghost use Rattle.std.specs.Ordering.{nat_cmp};
+ghost use Rattle.std.specs.BTreeMap.{btree_map_len};
 ghost use Rattle.hd_serving.specs.Machine.{first_turn, Happening, Rounds};
 ghost use Rattle.hj_jobs.specs.Meaning.{meaning};
-ghost use Rattle.hub_server.specs.Machines.{StandsMachine, peer_at};
+ghost use Rattle.hub_server.specs.Machines.{StandsMachine, nap_at, peer_at};
 ghost use Rattle.hub_server.specs.Outside.{outside};
-ghost use Rattle.hub_server.specs.Rounds.{AreNumbers, HasBegun, HasRound, HasTurned, InRound, IsCountOfJobs, Steps as StepsTo};
+ghost use Rattle.hub_server.specs.Rounds.{AreNumbers, HasBegun, HasRound, HasTurned, InRound, IsCountOfJobs, Steps as StepsTo, has_turn};
 
 use crate::machine::Machine;
 use hd_calls::Deed;
@@ -36,10 +36,16 @@ impl<H: Hub> Machine<H> {
             (outside (K.holds keeper.new) (K.answers keeper.new) (K.faults keeper.new) steps.new) now w) }
     {
         hd_server::answers_join();
-        let conns = self.numbers(alloc)?;
+        turns_are_tested();
+        let conns = self.awake(alloc)?;
         self.begin_rounds(&conns);
-        for &conn in &conns {
+        let mut passed = 0;
+        // The next one comes after the last, so the loop ends.
+        while let Some(conn) = self.next_awake(passed)
+            && passed < conn
+        {
             self.turns(alloc, hub, keeper, steps, conn, now)?;
+            passed = conn;
         }
         Ok(())
     }
@@ -49,26 +55,27 @@ impl<H: Hub> Machine<H> {
         ensures { (w : List Happening) (now : ℕ) → StandsMachine (meaning H.begin_of H.step_of) self.now w → result ≡ not (is_some (first_turn now w)) }
     {
         turns_are_tested();
-        for (_, peer) in self.peers.iter() {
-            if peer.due() {
+        for &conn in self.sleepers.awake.numbers() {
+            if self.is_due(conn) {
                 return false;
             }
         }
         true
     }
 
-    /// The connections that are there, in order.
-    pub(crate) fn numbers(&self, alloc: Global) -> Result<Vec<u64>, AllocError>
-        ensures { IfOk result (λ conns. AreNumbers self.now conns.items) }
+    /// Whether a round that begins now would give a job of this connection a turn.
+    fn is_due(&self, conn: u64) -> bool
+        ensures there { (w : List Happening) (now : ℕ) → StandsMachine (meaning H.begin_of H.step_of) self.now w → nap_at self.now conn ≡ None →
+            result ≡ has_turn conn (Rounds now ∷ w) }
     {
-        let mut conns = Vec::with_capacity(alloc, self.peers.len())?;
-        for &conn in self.peers.keys() {
-            conns.push(conn)?;
+        turns_are_tested();
+        match self.peers.get(&conn) {
+            Some(peer) => peer.due(),
+            None => false,
         }
-        Ok(conns)
     }
 
-    /// A round begins at each of these, which are all.
+    /// A round begins at each of these, which are all that are awake. At the others no job has a turn in it.
     fn begin_rounds(&mut self, conns: &[u64])
         ensures { (w : List Happening) (now : ℕ) → AreNumbers self.old conns.now → StandsMachine (meaning H.begin_of H.step_of) self.old w →
             StandsMachine (meaning H.begin_of H.step_of) self.new (Rounds now ∷ w) }
@@ -83,6 +90,8 @@ impl<H: Hub> Machine<H> {
         ensures begun { HasBegun (meaning H.begin_of H.step_of) (peer_at self.old conn) (peer_at self.new conn) }
         ensures others { (k : ℕ) → (conn == k) ≡ false → peer_at self.new k ≡ peer_at self.old k }
         ensures registry { self.new.registry ≡ self.old.registry }
+        ensures sleepers { self.new.sleepers ≡ self.old.sleepers }
+        ensures count { btree_map_len self.new.peers ≡ btree_map_len self.old.peers }
     {
         if let Some(peer) = self.peers.get_mut(&conn) {
             peer.begin_round();
@@ -138,6 +147,7 @@ impl<H: Hub> Machine<H> {
             StepsTo (meaning H.begin_of H.step_of) self.new now w r conn found) }
     {
         turns_are_tested();
+        self.wake(conn);
         let Some(peer) = self.peers.get_mut(&conn) else {
             return Ok(None);
         };

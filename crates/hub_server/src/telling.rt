@@ -28,6 +28,7 @@ impl<H: Hub> Members for Machine<H> {
         message: &Message,
         spelled: &Spelled,
     ) -> Result<(), SendError> {
+        self.wake(conn);
         let Some(peer) = self.peers.get_mut(&conn) else {
             return Err(SendError::Closed);
         };
@@ -36,6 +37,7 @@ impl<H: Hub> Members for Machine<H> {
     }
 
     fn slow(&mut self, conn: u64) {
+        self.wake(conn);
         self.close_slow(conn);
         self.close_out(conn);
     }

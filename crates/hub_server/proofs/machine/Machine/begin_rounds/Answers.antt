@@ -10,11 +10,11 @@ pub loop-conn-preserved : goal.loop-conn-preserved
 loop-conn-preserved g c =
     begun_at (meaning g.H.Hub.begin_of g.H.Hub.step_of) c.args.self.now c.loop-conn.self c.begin_round_at.new.self c.args.conns.now
     c.loop-conn.conn-index c.loop-conn-test.true c.loop-conn.invariant c.begin_round_at.ensures.begun c.begin_round_at.ensures.others
-    c.begin_round_at.ensures.registry
+    c.begin_round_at.ensures.registry c.begin_round_at.ensures.sleepers c.begin_round_at.ensures.count
 
 pub returns : goal.returns
 returns g c = λ w now numbers was.
     let hub = meaning g.H.Hub.begin_of g.H.Hub.step_of in
     rounds_stand hub c.args.self.now c.loop-conn.self w now was
     (begun_everywhere hub c.args.self.now c.loop-conn.self c.args.conns.now c.loop-conn.conn-index (omega (arith, c.loop-conn-test.false))
-    c.loop-conn.invariant numbers) c.loop-conn.invariant.kept
+    c.loop-conn.invariant numbers)

@@ -3,21 +3,33 @@ use Rattle.hd_delivery.specs.Bytes.{Bytes}
 use Rattle.hd_calls.specs.Peers.{Plain}
 use Rattle.hd_serving.specs.Machine.{moves}
 use Rattle.hj_jobs.specs.Meaning.{meaning}
-use Rattle.hub_server.proofs.Ends.{goes_on, stood, written_same}
+use Rattle.hub_server.proofs.Ends.{awake_now, goes_on, stood, woken_as_it_was, written_same}
 use Rattle.hub_server.proofs.machine.Machine.feed.Goals as goal
 
 pub returns-in-Some-clause-fed : goal.returns-in-Some-clause-fed
 returns-in-Some-clause-fed g c w t s there l present unshut =
-    goes_on {H = g.row.H.Denot} {Job = g.row.H-Job.Denot} (meaning g.H.Hub.begin_of g.H.Hub.step_of) c.args.self.now w
-    c.args.conn t c.in-Some.peer.now c.feed.new.self (Plain (Bytes (take c.feed.result c.args.piece.now)) ∷ []) s there c.in-Some.ensures.value _
-    (c.get_mut.follows.holds c.feed.new.self) (λ h. c.feed.ensures.fed t (moves c.args.conn w) h l present unshut) refl
+    let hub = meaning g.H.Hub.begin_of g.H.Hub.step_of in
+    let conn = c.args.conn in
+    let mid = c.wake.new.self in
+    let was = c.in-Some.peer.now in
+    let at = c.in-Some.ensures.value in
+    let awake = awake_now {H = g.row.H.Denot} {Job = g.row.H-Job.Denot} mid conn was c.wake.ensures.awake at in
+    goes_on {H = g.row.H.Denot} {Job = g.row.H-Job.Denot} hub mid w conn t was c.feed.new.self
+    (Plain (Bytes (take c.feed.result c.args.piece.now)) ∷ []) (c.wake.ensures.stands w s) there at awake _
+    (c.get_mut.follows.holds c.feed.new.self) (λ h. c.feed.ensures.fed t (moves conn w) h l present unshut) refl
 
 pub returns-in-Some-clause-none : goal.returns-in-Some-clause-none
 returns-in-Some-clause-none g c w t s there none =
     let hub = meaning g.H.Hub.begin_of g.H.Hub.step_of in
-    let same = c.feed.ensures.none t (moves c.args.conn w)
-    (stood {H = g.row.H.Denot} {Job = g.row.H-Job.Denot} hub c.args.self.now w c.args.conn t c.in-Some.peer.now s there c.in-Some.ensures.value) none in (
+    let conn = c.args.conn in
+    let mid = c.wake.new.self in
+    let was = c.in-Some.peer.now in
+    let at = c.in-Some.ensures.value in
+    let awake = awake_now {H = g.row.H.Denot} {Job = g.row.H-Job.Denot} mid conn was c.wake.ensures.awake at in
+    let stood_for = stood {H = g.row.H.Denot} {Job = g.row.H-Job.Denot} hub mid w conn t was (c.wake.ensures.stands w s) there at awake in
+    let same = c.feed.ensures.none t (moves conn w) stood_for none in (
       same.0,
-      written_same {H = g.row.H.Denot} {Job = g.row.H-Job.Denot} hub c.args.self.now c.args.conn
-          c.in-Some.peer.now c.feed.new.self _ c.in-Some.ensures.value (c.get_mut.follows.holds c.feed.new.self) same.1,
+      woken_as_it_was {H = g.row.H.Denot} {Job = g.row.H-Job.Denot} hub c.args.self.now mid _
+          c.wake.ensures.registry c.wake.ensures.stands
+          (written_same {H = g.row.H.Denot} {Job = g.row.H-Job.Denot} hub mid conn was c.feed.new.self _ at (c.get_mut.follows.holds c.feed.new.self) same.1),
     )

@@ -3,7 +3,7 @@ use Rattle.hd_calls.specs.declared.vocabulary.Deed.TheVariants as deed
 use Rattle.hj_jobs.specs.Meaning.{meaning}
 use Rattle.hd_serving.specs.Machine.{registry}
 use Rattle.hub_server.specs.Affairs.{affairs, lists_after, with_lists}
-use Rattle.hub_server.proofs.Carry.{carried_quietly, goes_alone, may_answer}
+use Rattle.hub_server.proofs.Carry.{carried_quietly, goes_alone, may_answer, stands_listed}
 use Rattle.hub_server.proofs.machine.Machine.join.Goals as goal
 
 pub returns : goal.returns
@@ -16,6 +16,7 @@ returns g c r j number owes there s holds answers faults spelled =
       is_asked = refl;
       stands = carried_quietly {H = g.row.H.Denot} hub c.answer.new.self c.args.self.now r c.args.conn j d None s owes there refl refl
           (c.answer.ensures a j number (may_answer {H = g.row.H.Denot} hub c.args.self.now r c.args.conn j d _ s owes refl)
-          (record { at = s.at; registry = c.in_ok-_is_new.ensures.added (registry r) s.registry }));
+          (stands_listed {H = g.row.H.Denot} hub c.args.self.now r _ (lists_after d c.args.conn (registry r)) s
+          (c.in_ok-_is_new.ensures.added (registry r) s.registry)));
       goes = goes_alone holds answers faults spelled spelled r c.args.conn j d _ (omega arith);
     }

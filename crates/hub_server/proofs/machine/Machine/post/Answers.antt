@@ -6,7 +6,7 @@ use Rattle.hj_jobs.specs.Meaning.{meaning}
 use Rattle.hd_server.specs.Registry.{members}
 use Rattle.hd_serving.specs.Machine.{joined, registry}
 use Rattle.hub_server.specs.Affairs.{AreUp, affairs, fates_in}
-use Rattle.hub_server.proofs.Carry.{carried_telling, fates_in_are, goes_alone, may_answer_told, members_up}
+use Rattle.hub_server.proofs.Carry.{carried_telling, fates_in_are, goes_alone, may_answer_told, members_up, stands_for}
 use Rattle.hub_server.proofs.Spelt.{spelled_so}
 use Rattle.hub_server.proofs.machine.Machine.post.Goals as goal
 
@@ -18,7 +18,7 @@ returns g c r j number owes there s holds answers faults =
     let are : c.deref.result.now ≡ to = c.deref.ensures.value ∙ c.in_ok-to.ensures.listed (registry r) s.registry in
     let fates = fates_in (affairs r) c.deref.result.now c.args.target c.args.arguments in
     let said = c.in_ok-notify.ensures.told (affairs r) d (λ codec. refl) (subst (AreUp (affairs r)) (sym are) (members_up r c.args.group.now (joined r)))
-    (record { at = s.at; registry = s.registry }) in
+    (stands_for {H = g.row.H.Denot} hub c.args.self.now r s) in
     record {
       asked = None;
       is_asked = refl;

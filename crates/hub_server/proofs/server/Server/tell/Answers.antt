@@ -35,11 +35,11 @@ returns-then-is_closed g c s u before h x calm there =
     c.is_closed.ensures.there c.let_go.new.self c.if-is_closed.true c.let_go.ensures.gone
 
 pub returns-else-is_closed : goal.returns-else-is_closed
-returns-else-is_closed g c s u before h x calm there =
+returns-else-is_closed g c = on_ok c.rest.result _ _ (λ rests s u before h x calm there.
     let hub = meaning g.H.Hub.begin_of g.H.Hub.step_of in
     mute_open {H = g.row.H.Denot} {Job = g.row.H-Job.Denot} hub s u before c.args.self.now c.args.conn h c.is_closed.result x calm there
     (socket_told {H = g.row.H.Denot} {Job = g.row.H-Job.Denot} hub s u before c.args.self.now c.args.conn h c.lane.result None x there c.lane.ensures
     c.in-None-2.is)
     (polls_told {H = g.row.H.Denot} {Job = g.row.H-Job.Denot} hub s u before c.args.self.now c.args.conn h c.polls.result false x there
     c.polls.ensures c.if-polls.false)
-    c.is_closed.ensures.there c.if-is_closed.false
+    c.is_closed.ensures.there c.rest.new.self c.if-is_closed.false rests) c.rest.ensures

@@ -1,13 +1,16 @@
+use Rattle.std.proofs.Common.{subst, sym}
 use Rattle.std.proofs.lemmas.List.{drop_all}
 use Rattle.hj_jobs.specs.Meaning.{meaning}
-use Rattle.hub_server.proofs.RoundWhole.{same_numbers}
+use Rattle.hub_server.specs.Rounds.{AreNumbers}
 use Rattle.hub_server.proofs.TickAll.{ticks_begin, ticks_on, ticks_over}
 use Rattle.hub_server.proofs.server.Server.tick_all.Goals as goal
 
 pub loop-conn-init : goal.loop-conn-init
 loop-conn-init g c =
-    ticks_begin {H = g.row.H.Denot} (meaning g.H.Hub.begin_of g.H.Hub.step_of) c.args.self.now c.deref-conn-items.result.now
-    (same_numbers c.args.self.now.machine _ c.deref-conn-items.result.now c.deref-conn-items.ensures.value c.in_ok-conns.ensures)
+    ticks_begin {H = g.row.H.Denot} {Job = g.row.H-Job.Denot} (meaning g.H.Hub.begin_of g.H.Hub.step_of) c.args.self.now
+    c.deref-conn-items.result.now c.ring.new.self c.pass.new.self c.in_ok-ring.ensures.stands c.in_ok-ring.ensures.rung
+    (λ w s. subst (λ cs. AreNumbers {H = g.row.H.Denot} c.ring.new.self cs) (sym c.deref-conn-items.ensures.value) (c.in_ok-conns.ensures w s))
+    c.pass.ensures.passed
 
 pub loop-conn-preserved : goal.loop-conn-preserved
 loop-conn-preserved g c =
