@@ -49,6 +49,20 @@ impl<M: Message> MessageLane<M> {
         })
     }
 
+    /// How many bytes more it takes.
+    pub(crate) fn room(&self) -> usize
+        ensures { result ≡ room self.now }
+    {
+        if self.spent.is_some() {
+            return 0;
+        }
+        let want = match &self.head {
+            Some(head) => head.end,
+            None => 0,
+        };
+        MOST_HEAD.max(want).saturating_sub(self.held.len())
+    }
+
     fn hold(&mut self, piece: &[u8]) -> usize
         ensures count { result ≡ min (length piece.now) (room self.old) }
         ensures held { self.new ≡ record self.old { held = self.old.held ++ take result piece.now } }
