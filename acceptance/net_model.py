@@ -1,0 +1,638 @@
+#!/usr/bin/env python3
+"""A plain model of a door over wires in memory: what `crates/ht_net` is to print of a script.
+
+    acceptance/net_model.py --check         that the committed output is what is written here of the committed script
+    acceptance/net_model.py --write         writes both: cases answered by hand, and random sessions answered by the model
+    acceptance/net_model.py --random SEED   prints the script of a random session, and `--answers SEED` what the model says of it
+
+A client's conversation is a list of items whose bytes and meaning are known beforehand: requests, what is refused, and the frames of a
+WebSocket (RFC 9110, 9112 and 6455). So the model parses nothing; it counts bytes. It shares no code with the program, whose main.rt has the
+words of a script."""
+import base64
+import hashlib
+import pathlib
+import random
+import sys
+
+CRATE = pathlib.Path(__file__).resolve().parent.parent / "crates" / "ht_net"
+PIECE = 4096
+HEAD = 16384
+UNWRITTEN = 1 << 20
+WAIT = 30000
+PHRASES = {101: "Switching Protocols", 200: "OK", 202: "Accepted", 204: "No Content", 400: "Bad Request", 401: "Unauthorized", 404: "Not Found",
+           405: "Method Not Allowed", 409: "Conflict", 411: "Length Required", 413: "Payload Too Large", 431: "Request Header Fields Too Large",
+           500: "Internal Server Error", 503: "Service Unavailable"}
+KINDS = {"none": "", "json": "Content-Type: application/json\r\n", "octets": "Content-Type: application/octet-stream\r\n"}
+KEY = "dGhlIHNhbXBsZSBub25jZQ=="
+ACCEPT = base64.b64encode(hashlib.sha1((KEY + "258EAFA5-E914-47DA-95CA-C5AB0DC85B11").encode()).digest()).decode()
+assert ACCEPT == "s3pPLMBiTxaQ9kYGzzhZRbK+xOo="
+
+
+def hexed(data):
+    return data.hex() or "-"
+
+
+def frame(opcode, payload=b"", mask=b"\x37\xfa\x21\x3d", fin=True):
+    size = len(payload)
+    short = size if size < 126 else 126 if size < 65536 else 127
+    longer = b"" if size < 126 else size.to_bytes(2, "big") if size < 65536 else size.to_bytes(8, "big")
+    head = bytes([(128 if fin else 0) + opcode, (128 if mask else 0) + short]) + longer
+    if mask is None:
+        return head + payload
+    return head + mask + bytes(b ^ mask[i % 4] for i, b in enumerate(payload))
+
+
+def reply_text(status, kind="none", body=b"", accept=None):
+    text = f"HTTP/1.1 {status} {PHRASES[status]}\r\n"
+    if accept is not None:
+        text += f"Upgrade: websocket\r\nConnection: Upgrade\r\nSec-WebSocket-Accept: {accept}\r\n"
+    elif status != 204:
+        text += f"Content-Length: {len(body)}\r\n" + (KINDS[kind] if body else "")
+    return text.encode() + b"\r\n" + body
+
+
+class Item:
+    """A part of what a client says: its bytes, what is heard once `ready` of them came, and how long it is then (0 if that isn't known)."""
+
+    def __init__(self, data, heard, ready=None, head=None, upgrade=False, replies=b"", gone=False):
+        self.data, self.heard, self.ready = data, heard, len(data) if ready is None else ready
+        self.head, self.upgrade, self.replies, self.gone = head, upgrade, replies, gone
+
+
+def request(method, path, query="", body=b"", close=False, headers=()):
+    target = path + (f"?{query}" if query else "")
+    head = f"{method} {target} HTTP/1.1\r\nHost: x\r\n" + "".join(f"{h}\r\n" for h in headers)
+    head += "Connection: close\r\n" if close else ""
+    head += f"Content-Length: {len(body)}\r\n" if body else ""
+    data = head.encode() + b"\r\n"
+    shut = "shut" if close else "kept"
+    return Item(data + body, f"{method} {path} ?{query} - - {shut} {hexed(body)}", head=len(data))
+
+
+def upgrade(path):
+    data = (f"GET {path} HTTP/1.1\r\nHost: x\r\nUpgrade: websocket\r\nConnection: Upgrade\r\nSec-WebSocket-Key: {KEY}\r\n"
+            "Sec-WebSocket-Version: 13\r\n\r\n").encode()
+    return Item(data, f"GET {path} ? - {ACCEPT} kept -", head=len(data), upgrade=True)
+
+
+def refused(status):
+    line = "POST /r HTTP/1.1\r\n"
+    data = {400: line + "Content-Length: 1\r\nContent-Length: 2\r\n\r\n", 411: line + "Transfer-Encoding: chunked\r\n\r\n",
+            413: line + "Content-Length: 1048577\r\n\r\n", 431: line + "X: " + "a" * (HEAD - len(line) - 2)}[status].encode()
+    return Item(data, status, ready=min(len(data), HEAD))
+
+
+def message(opcode, payload):
+    return Item(frame(opcode, payload), payload)
+
+
+def ping(payload):
+    return Item(frame(9, payload), None, replies=frame(10, payload, None))
+
+
+def closing(status):
+    payload = status.to_bytes(2, "big")
+    return Item(frame(8, payload), None, replies=frame(8, payload, None), gone=True)
+
+
+class Wire:
+    def __init__(self, since, reads, writes, items):
+        self.since, self.reads, self.writes, self.items = since, list(reads), list(writes), items
+        self.written, self.shut = b"", False
+
+
+class Lane:
+    def __init__(self, number, wire, now):
+        self.number, self.wire, self.since = number, wire, now
+        self.came = 0            # bytes that were read
+        self.at = 0              # the next item
+        self.begin = 0           # where it begins
+        self.known = 0           # its length, if its head was read
+        self.socket = self.busy = False
+        self.stirred = self.hungry = True
+        self.gone = None         # the status of the close frame that a WebSocket which is gone still has to write
+        self.out = b""
+        self.texts = 0           # how many of its first bytes are texts of HTTP
+        self.stage = "live"
+
+
+class Failed(Exception):
+    pass
+
+
+class Door:
+    def __init__(self, moments, wires, failing):
+        self.moments, self.wires, self.failing = list(moments), wires, set(failing)
+        self.calls = self.moment = self.heard_at = self.given = self.first = 0
+        self.lanes = []
+
+    # ---- the wires
+
+    def call(self):
+        self.calls += 1
+        if self.calls - 1 in self.failing:
+            raise Failed
+
+    def poll(self):
+        self.call()
+        if self.moments:
+            self.moment = self.moments.pop(0)
+
+    def accept(self):
+        self.call()
+        if self.given < len(self.wires) and self.wires[self.given].since <= self.moment:
+            self.lanes.append(Lane(self.given, self.wires[self.given], self.moment))
+            self.given += 1
+
+    def read(self, lane, room):
+        self.call()
+        reads = lane.wire.reads
+        if not reads:
+            return b""
+        if reads[0] == "!":
+            reads.pop(0)
+            raise Failed
+        if reads[0] == "*":
+            reads.pop(0)
+            return b""
+        piece, rest = reads[0][:room], reads[0][room:]
+        reads[:1] = [rest] if rest else []
+        return piece
+
+    def write(self, lane, data):
+        self.call()
+        count = min(lane.wire.writes.pop(0) if lane.wire.writes else 0, len(data))
+        lane.wire.written += data[:count]
+        return count
+
+    def shut_wire(self, lane):
+        self.calls += 1
+        lane.wire.shut = True
+
+    # ---- one lane
+
+    def end(self, lane):
+        self.shut_wire(lane)
+        lane.out = b""
+        lane.stage = "lost" if lane.stage == "live" else "over"
+
+    def say(self, lane):
+        """Writes what waits. The texts of HTTP and the frames after them are two pieces, with a write each."""
+        if lane.stage not in ("live", "closing"):
+            return
+        fine = True
+        try:
+            while lane.out:
+                text = lane.out if lane.texts == 0 else lane.out[:lane.texts]
+                count = self.write(lane, text)
+                lane.out = lane.out[count:]
+                lane.texts = max(0, lane.texts - count)
+                if count == 0:
+                    break
+        except Failed:
+            fine = False
+        if not fine or len(lane.out) > UNWRITTEN or (lane.stage == "closing" and not lane.out):
+            self.end(lane)
+
+    def add(self, lane, data):
+        lane.out += data
+        if not lane.socket:
+            lane.texts = len(lane.out)
+
+    def item(self, lane):
+        items = lane.wire.items
+        return items[lane.at] if lane.at < len(items) else None
+
+    def step(self, lane, item):
+        lane.at, lane.begin, lane.known = lane.at + 1, lane.begin + len(item.data), 0
+
+    def look(self, lane):
+        """What is heard of the bytes that are held."""
+        if lane.busy or not lane.stirred:
+            return None
+        item = self.item(lane)
+        held = lane.came - lane.begin
+        if item is None or held < item.ready:
+            if item and item.head and held >= item.head:
+                lane.known = len(item.data)
+            lane.stirred = False
+            return None
+        if isinstance(item.heard, int):
+            return ("refused", item.heard)
+        lane.busy = True
+        lane.asked = item
+        self.step(lane, item)
+        return ("request", item.heard)
+
+    def hear_request(self, lane):
+        news = self.look(lane)
+        if news:
+            return news
+        room = min(PIECE, max(HEAD, lane.known) - (lane.came - lane.begin))
+        if room:
+            try:
+                piece = self.read(lane, room)
+            except Failed:
+                return ("broken", None)
+            lane.came += len(piece)
+            lane.stirred = lane.stirred or bool(piece)
+        return self.look(lane)
+
+    def hear_message(self, lane):
+        if lane.hungry:
+            try:
+                lane.came += len(self.read(lane, PIECE))
+            except Failed:
+                return ("broken", None)
+        lane.hungry = False
+        if lane.gone:
+            return ("gone", None)
+        while True:
+            item = self.item(lane)
+            if item is None or lane.came - lane.begin < item.ready:
+                lane.hungry = True
+                return None
+            self.step(lane, item)
+            self.add(lane, item.replies)
+            if item.gone:
+                lane.gone = "answered"
+                return ("gone", None)
+            if item.heard is not None:
+                return ("bytes", item.heard)
+
+    def turn(self, lane):
+        if lane.stage == "lost":
+            lane.stage = "over"
+            return f"lost {lane.number}"
+        if lane.stage != "live":
+            self.say(lane)
+            return None
+        news, event = (self.hear_message if lane.socket else self.hear_request)(lane), None
+        if news is None:
+            if not lane.socket and not lane.busy and self.moment - lane.since >= WAIT:
+                self.end(lane)
+        elif news[0] == "request":
+            event = f"request {lane.number} {news[1]}"
+        elif news[0] == "bytes":
+            event = f"bytes {lane.number} {hexed(news[1])}"
+        elif news[0] == "refused":
+            self.add(lane, reply_text(news[1]))
+            lane.stage, event = "closing", f"refused {lane.number} {news[1]}"
+        elif news[0] == "broken":
+            self.end(lane)
+        else:
+            if lane.gone != "answered":
+                self.add(lane, frame(8, lane.gone.to_bytes(2, "big"), None))
+            lane.stage, event = "closing", f"lost {lane.number}"
+        if lane.stage == "lost" and news is not None and event is None:
+            lane.stage = "over"
+            return f"lost {lane.number}"
+        self.say(lane)
+        if event is None and lane.stage == "lost":
+            lane.stage, event = "over", f"lost {lane.number}"
+        return event
+
+    # ---- the door
+
+    def next(self):
+        self.lanes = [lane for lane in self.lanes if lane.stage != "over"]
+        try:
+            self.poll()
+            self.accept()
+        except Failed:
+            return "failed"
+        event = None
+        for lane in sorted(self.lanes, key=lambda lane: (lane.number < self.first, lane.number)):
+            if event is None:
+                event = self.turn(lane)
+                if event:
+                    self.first = lane.number + 1
+            else:
+                self.say(lane)
+        self.heard_at = self.moment
+        return f"at {self.moment} {event or 'quiet'}"
+
+    def find(self, number):
+        return next((lane for lane in self.lanes if lane.number == number and lane.stage == "live"), None)
+
+    def more(self, lane):
+        if len(lane.out) > UNWRITTEN:
+            self.end(lane)
+        else:
+            self.say(lane)
+
+    def reply(self, number, status, kind, body, accept):
+        lane = self.find(number)
+        if not lane or lane.socket or not lane.busy:
+            return
+        self.add(lane, reply_text(status, kind, body, accept))
+        if status == 101:
+            lane.socket = lane.hungry = True
+        else:
+            lane.busy, lane.since = False, self.heard_at
+        self.more(lane)
+
+    def send(self, number, data, text):
+        lane = self.find(number)
+        if not lane or not lane.socket or lane.gone:
+            return
+        if text:
+            try:
+                data.decode()
+            except UnicodeDecodeError:
+                lane.gone = 1000
+                return
+        self.add(lane, frame(1 if text else 2, data, None))
+        self.more(lane)
+
+    def shut(self, number):
+        lane = self.find(number)
+        if not lane:
+            return
+        if lane.socket and lane.gone != "answered":
+            self.add(lane, frame(8, (lane.gone or 1000).to_bytes(2, "big"), None))
+        lane.stage = "closing"
+        self.say(lane)
+
+
+class Script:
+    """Lines and what each is answered: by the model, or by what is written down by hand."""
+
+    def __init__(self):
+        self.lines, self.answers, self.wires, self.door = [], [], [], None
+
+    def say(self, line, answer):
+        self.lines.append(line)
+        self.answers.append(answer)
+
+    def note(self, text):
+        self.say(f"note {text}", f"note {text}")
+
+    def wire(self, since, reads, writes, items=()):
+        words = ",".join(r if isinstance(r, str) else hexed(r) for r in reads) or "-"
+        self.wires.append(Wire(since, reads, writes, list(items)))
+        self.say(f"wire {since} {words} {','.join(map(str, writes)) or '-'}", "to be given")
+
+    def start(self, moments, failing=()):
+        self.door, self.wires = Door(moments, self.wires, failing), []
+        words = ",".join(map(str, moments)) or "-", ",".join(map(str, sorted(failing))) or "-"
+        self.say(f"door {words[0]} {words[1]}", "a door")
+
+    def next(self, answer=None):
+        said = self.door.next()
+        assert answer is None or said == answer, (len(self.lines), said, answer)
+        self.say("next 100", said)
+        return said
+
+    def reply(self, lane, status, kind="none", body=b"", accept=None):
+        self.door.reply(lane, status, kind, body, accept)
+        self.say(f"reply {lane} {status} {kind} {hexed(body)} {accept or '-'}", "replied")
+
+    def send(self, lane, data, text):
+        self.door.send(lane, data, text)
+        self.say(f"send {lane} {'text' if text else 'octets'} {hexed(data)}", "sent")
+
+    def fill(self, lane, count):
+        self.door.send(lane, bytes(count), False)
+        self.say(f"fill {lane} {count}", "sent")
+
+    def shut(self, lane):
+        self.door.shut(lane)
+        self.say(f"shut {lane}", "shut")
+
+    def written(self, wire, answer=None):
+        data = self.door.wires[wire].written if wire < self.door.given else b""
+        assert answer is None or data == answer, (len(self.lines), data, answer)
+        self.say(f"written {wire}", f"written {hexed(data)}")
+
+
+NEGOTIATED = (b'{"availableTransports":[{"transferFormats":["Text","Binary"],"transport":"WebSockets"},{"transferFormats":["Text","Binary"],'
+              b'"transport":"LongPolling"}],"connectionId":"1","connectionToken":"AAAAAAAAAAAAAAAAAAAAAAAAAAAAAAAB","negotiateVersion":1,'
+              b'"useStatefulReconnect":true}')
+FREE = [1 << 20] * 50
+
+
+def talk(*items):
+    return b"".join(item.data for item in items)
+
+
+def by_hand(s):
+    s.note("a session: negotiate, and a socket that says one message and hears one")
+    asked = request("POST", "/hub/negotiate", "negotiateVersion=1&useStatefulReconnect=true")
+    items = [asked, upgrade("/hub"), message(1, b'{"protocol":"json","version":1}\x1e'), closing(1000)]
+    s.wire(0, [items[0].data[:20], items[0].data[20:], talk(*items[1:3]), "*", items[3].data, "!"], FREE, items)
+    s.start([1000])
+    s.next("at 1000 quiet")
+    s.next("at 1000 request 0 POST /hub/negotiate ?negotiateVersion=1&useStatefulReconnect=true - - kept -")
+    s.reply(0, 200, "json", NEGOTIATED)
+    negotiated = b"HTTP/1.1 200 OK\r\nContent-Length: 273\r\nContent-Type: application/json\r\n\r\n" + NEGOTIATED
+    s.written(0, negotiated)
+    s.next(f"at 1000 request 0 GET /hub ? - {ACCEPT} kept -")
+    s.next("at 1000 quiet")
+    s.reply(0, 101, accept=ACCEPT)
+    upgraded = negotiated + (b"HTTP/1.1 101 Switching Protocols\r\nUpgrade: websocket\r\nConnection: Upgrade\r\n"
+                             b"Sec-WebSocket-Accept: s3pPLMBiTxaQ9kYGzzhZRbK+xOo=\r\n\r\n")
+    s.written(0, upgraded)
+    said = s.next()
+    assert said == "at 1000 bytes 0 " + items[2].heard.hex(), said
+    s.send(0, b"{}\x1e", True)
+    s.written(0, upgraded + bytes.fromhex("81037b7d1e"))
+    s.next("at 1000 lost 0")
+    s.written(0, upgraded + bytes.fromhex("81037b7d1e" "880203e8"))
+    s.next("at 1000 quiet")
+
+    s.note("a head of forty headers and 3,000 bytes")
+    headers = ["Connection: keep-alive"] + [f"X-{i:02}: {'a' * 60}" for i in range(38)]
+    spare = 3000 - len(request("GET", "/hub", "id=1", headers=headers).data)
+    headers[-1] += "a" * spare
+    browser = request("GET", "/hub", "id=1", headers=headers)
+    assert spare >= 0 and len(browser.data) == 3000 and browser.data.count(b"\r\n") == 42
+    s.wire(0, [browser.data], FREE, [browser])
+    s.start([7])
+    s.next("at 7 request 0 GET /hub ?id=1 - - kept -")
+
+    s.note("a wire that takes the 101 and nothing after it: fifteen messages wait, and the sixteenth is too much")
+    items = [upgrade("/hub")]
+    s.wire(0, [items[0].data], [1 << 20], items)
+    s.start([1])
+    s.next(f"at 1 request 0 GET /hub ? - {ACCEPT} kept -")
+    s.reply(0, 101, accept=ACCEPT)
+    for _ in range(15):
+        s.fill(0, 65536)
+        s.next("at 1 quiet")
+    s.fill(0, 65536)
+    s.fill(0, 1)
+    s.next("at 1 lost 0")
+    s.next("at 1 quiet")
+    s.written(0, upgraded[len(negotiated):])
+
+    s.note("refusals")
+    for status in (400, 411, 413, 431):
+        item = refused(status)
+        s.wire(0, [item.data], FREE, [item])
+    s.start([5])
+    for lane, status in enumerate((400, 411, 413)):
+        s.next(f"at 5 refused {lane} {status}")
+        s.written(lane, f"HTTP/1.1 {status} {PHRASES[status]}\r\nContent-Length: 0\r\n\r\n".encode())
+    for _ in range(3):
+        s.next("at 5 quiet")
+    s.next("at 5 refused 3 431")
+
+    s.note("a lane that waits for 30,000 ms is shut, and one that owes a reply isn't")
+    items = [request("GET", "/a")]
+    s.wire(0, [items[0].data], FREE, items)
+    s.wire(0, [b"GET /b"], FREE, [request("GET", "/b")])
+    s.start([10, 10, 30009, 30010, 50000, 60010, 79999, 80000])
+    s.next("at 10 request 0 GET /a ? - - kept -")
+    s.next("at 10 quiet")
+    s.next("at 30009 quiet")
+    s.next("at 30010 lost 1")
+    s.next("at 50000 quiet")
+    s.reply(0, 204)
+    s.written(0, b"HTTP/1.1 204 No Content\r\n\r\n")
+    s.next("at 60010 quiet")
+    s.next("at 79999 quiet")
+    s.next("at 80000 lost 0")
+
+    s.note("two requests at once, the second heard after the first is replied to, and the end after both")
+    items = [request("GET", "/1"), request("POST", "/2", body=b"ab", close=True)]
+    s.wire(0, [talk(*items), "!"], FREE, items)
+    s.start([1])
+    s.next("at 1 request 0 GET /1 ? - - kept -")
+    s.reply(0, 200, "octets", b"x")
+    s.next("at 1 request 0 POST /2 ? - - shut 6162")
+    s.reply(0, 202)
+    s.shut(0)
+    s.written(0, reply_text(200, "octets", b"x") + reply_text(202))
+    s.next("at 1 quiet")
+    s.reply(0, 200)
+    s.send(0, b"a", True)
+    s.shut(0)
+    s.shut(7)
+
+    s.note("lanes are heard in turns, and a wire that is written in pieces")
+    asked = [request("GET", f"/{i}") for i in range(6)]
+    for i in range(3):
+        s.wire(0, [talk(asked[2 * i], asked[2 * i + 1])], [3, 0, 4] + FREE, asked[2 * i:2 * i + 2])
+    s.start([1])
+    for lane, path in ((0, 0), (1, 2), (2, 4)):
+        s.next(f"at 1 request {lane} GET /{path} ? - - kept -")
+    for lane in range(3):
+        s.reply(lane, 204)
+        s.written(lane, b"HTT")
+    for lane, path in ((0, 1), (1, 3), (2, 5)):
+        s.next(f"at 1 request {lane} GET /{path} ? - - kept -")
+    s.written(0, b"HTTP/1.1 204 No Content\r\n\r\n")
+
+    s.note("failing calls: of poll and accept the door's, of a wire its lane's")
+    items = [request("GET", "/f")]
+    s.wire(0, [items[0].data], FREE, items)
+    s.wire(0, [items[0].data], FREE, items)
+    s.start([1, 2, 3, 4, 5, 6, 7, 8], [0, 2, 5, 10, 15])
+    s.next("failed")
+    s.next("failed")
+    s.next("at 2 lost 0")
+    s.next("at 3 request 1 GET /f ? - - kept -")
+    s.reply(1, 200)
+    s.next("at 4 lost 1")
+    s.written(1, b"")
+    s.next("failed")
+    s.next("at 6 quiet")
+    s.note("no action")
+    s.say("next", "no action: next")
+    s.say("reply 0 200 text - -", "no action: reply 0 200 text - -")
+    s.say("door 2,1 -", "no action: door 2,1 -")
+
+
+def conversation(rng):
+    """Items of one client, and whether its upgrade is to be accepted."""
+    items = []
+    for _ in range(rng.randrange(4)):
+        body = rng.randbytes(rng.choice([0, 0, 1, 300, 5000]))
+        items.append(request(rng.choice(["GET", "POST", "DELETE"]), f"/{rng.randrange(9)}", rng.choice(["", "id=7"]), body, rng.random() < 0.2))
+    end = rng.random()
+    if end < 0.2:
+        items.append(refused(rng.choice([400, 411, 413, 431])))
+    elif end < 0.8:
+        items.append(upgrade("/hub"))
+        for _ in range(rng.randrange(6)):
+            size = rng.choice([0, 1, 125, 126, 5000])
+            items.append(message(2, rng.randbytes(size)) if rng.random() < 0.7 else ping(rng.randbytes(rng.randrange(126))))
+        if rng.random() < 0.5:
+            items.append(closing(rng.choice([1000, 1001])))
+    return items
+
+
+def pieces(rng, data):
+    reads = []
+    while data:
+        count = rng.choice([1, 7, 40, 500, 4096, 9000, len(data)])
+        reads.append(data[:count])
+        data = data[count:]
+        reads += ["*"] * (rng.random() < 0.3)
+    return reads + ["!"] * (rng.random() < 0.4)
+
+
+def at_random(s, seed, steps=60):
+    rng = random.Random(seed)
+    s.note(f"at random, from {seed}")
+    moment = 0
+    for _ in range(rng.randrange(1, 5)):
+        items = conversation(rng)
+        writes = [rng.choice([0, 1, 10, 100, 1 << 20, 1 << 20]) for _ in range(rng.randrange(60))]
+        moment += rng.randrange(3) * rng.randrange(9)
+        s.wire(moment, pieces(rng, talk(*items)), writes, items)
+    moments = sorted(rng.randrange(rng.choice([100, 100000])) for _ in range(steps))
+    s.start(moments, [rng.randrange(200) for _ in range(rng.choice([0, 0, 1, 5]))])
+    for _ in range(steps):
+        for lane in list(s.door.lanes):
+            act = rng.random()
+            if lane.busy and not lane.socket and act < 0.7:
+                if lane.asked.upgrade:
+                    s.reply(lane.number, 101, accept=ACCEPT)
+                else:
+                    status = rng.choice([200, 202, 204, 404])
+                    s.reply(lane.number, status, rng.choice(["none", "json", "octets"]), b"" if status == 204 else rng.randbytes(rng.choice([0, 2, 200])))
+            elif act < 0.3:
+                text = rng.random() < 0.3
+                s.send(lane.number, rng.randbytes(rng.choice([0, 3, 200])) if not text else rng.choice([b"hey", b"\xff"]), text)
+            elif act > 0.98:
+                s.shut(lane.number)
+            elif act > 0.96:
+                s.reply(lane.number, 500)
+        s.next()
+    for wire in range(5):
+        s.written(wire)
+
+
+def script(seeds):
+    s = Script()
+    by_hand(s)
+    for seed in seeds:
+        at_random(s, seed)
+    return s
+
+
+def text(lines):
+    return "".join(line + "\n" for line in lines)
+
+
+def main():
+    words = sys.argv[1:]
+    if words[:1] in (["--random"], ["--answers"]):
+        s = Script()
+        at_random(s, int(words[1]), 200)
+        sys.stdout.write(text(s.lines if words[0] == "--random" else s.answers))
+        return 0
+    s = script(range(4))
+    if words == ["--write"]:
+        (CRATE / "stdin").write_text(text(s.lines))
+        (CRATE / "stdout").write_text(text(s.answers))
+        return 0
+    same = (text(s.lines), text(s.answers)) == ((CRATE / "stdin").read_text(), (CRATE / "stdout").read_text())
+    print(f"net_model: the committed script and output are {'' if same else 'not '}what is written here")
+    return 0 if same else 1
+
+
+if __name__ == "__main__":
+    sys.exit(main())

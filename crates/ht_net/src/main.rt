@@ -1,0 +1,57 @@
+//! Calls a door over wires in memory as the lines of its input say, and prints what it answers: a program to test `hw_net` by. Its input
+//! and the output that is wanted are those of `acceptance/net_model.py`, a model over plain lists. It promises nothing of its own, so no
+//! edit of it must fail.
+//!
+//! A line is one action, and a line that is none is refused. A list is numbers with a comma between two, bytes are hexadecimal digits, and
+//! `-` is an empty list and no bytes. If memory is out, the program prints `no memory` and ends with status 7.
+//!
+//! ```text
+//! note TEXT                          is printed
+//! wire MOMENT READS WRITES           is given by the wires of the door that starts next: the moment from which it may be accepted, what
+//!                                    its reads give (bytes with a comma between two, in which `*` is nothing yet and `!` the end), and
+//!                                    the list of how many bytes its writes take
+//! door MOMENTS FAILING               a door over wires that poll these moments, and fail at the calls of these numbers
+//! next WAIT                          what is heard
+//! reply LANE STATUS KIND BODY ACCEPT     a reply that can be sent; KIND is `none`, `json` or `octets`
+//! send LANE KIND BYTES               KIND is `text` or `octets`
+//! fill LANE COUNT                    so many bytes 0 are sent
+//! shut LANE
+//! written WIRE                       what was written on a wire
+//! ```
+#![tactic(auto)]
+
+mod script;
+mod stop;
+mod telling;
+mod words;
+
+use script::Bench;
+use std::io::{self, BufRead, BufReader};
+use std::process::ExitCode;
+
+const OUT_OF_MEMORY: u8 = 7;
+
+const NO_INPUT: u8 = 3;
+
+/// Reads the script, and prints the answers.
+fn run(rt: &(impl Input + Print + AllocGlobal)) -> io::Result<()> {
+    let alloc = rt.alloc();
+    let mut bench = Bench::start(alloc)?;
+    for line in BufReader::new(alloc, rt.reader())?.lines(alloc) {
+        let line = line?;
+        let answer = bench.carry_out(&line)?;
+        println!(rt; "{answer}")?;
+    }
+    Ok(())
+}
+
+fn main(rt: HostRuntime) -> ExitCode {
+    let Err(error) = run(&rt) else {
+        return ExitCode::SUCCESS;
+    };
+    if error.kind() != io::ErrorKind::OutOfMemory {
+        return ExitCode::from(NO_INPUT);
+    }
+    let _ = println!(rt; "no memory");
+    ExitCode::from(OUT_OF_MEMORY)
+}

@@ -1,0 +1,227 @@
+//! The lines of a script, and the door that they speak to.
+
+ghost use Rattle.std.specs.Prelude.{◌≡◌, ◌==◌, IfOk, IsTrue};
+ghost use Rattle.std.specs.List.{list_any};
+ghost use Rattle.hd_lanes.specs.Replies.{IsReply, statuses};
+ghost use Rattle.hw_door.specs.Wires.{IsRising};
+
+use crate::stop::Stop;
+use crate::telling::told;
+use crate::words::{accept, body, bytes, count, counts, first_word, kind, number, numbers, shown};
+use hd_lanes::{Reply, Vec8};
+use hw_door::{Door, MemoryWire, MemoryWires, WireGiven};
+use hw_net::NetDoor;
+use std::alloc::{AllocError, Global};
+use std::mem;
+
+/// For how many bytes and calls the wires have room to tell them.
+const ROOM: usize = 4_000_000;
+
+const CALLS: usize = 100_000;
+
+/// A door, and the wires that the next one stands on.
+#[derive(Drop)]
+pub struct Bench {
+    alloc: Global,
+    wires: Vec<MemoryWire>,
+    door: NetDoor<MemoryWires>,
+}
+
+/// Whether the moments never fall.
+fn is_rising(moments: &[u64]) -> bool
+    ensures { IsTrue result → IsRising 0 moments.now }
+{
+    let mut rest = moments;
+    let mut last = 0;
+    loop {
+        let [first, more @ ..] = rest else {
+            return true;
+        };
+        if *first < last {
+            return false;
+        }
+        last = *first;
+        rest = more;
+    }
+}
+
+fn wire_of(alloc: Global, words: &str) -> Result<MemoryWire, Stop> {
+    let (from, rest) = first_word(words);
+    let (reads, writes) = first_word(rest);
+    Ok(MemoryWire {
+        from: number(from)?,
+        reads: reads_of(alloc, reads)?,
+        writes: counts(alloc, writes)?,
+    })
+}
+
+fn reads_of(alloc: Global, word: &str) -> Result<Vec<WireGiven>, Stop> {
+    let mut reads = Vec::new(alloc);
+    if word != "-" {
+        for part in word.split(',') {
+            reads.push(read_of(alloc, part)?)?;
+        }
+    }
+    Ok(reads)
+}
+
+fn read_of(alloc: Global, part: &str) -> Result<WireGiven, Stop> {
+    match part {
+        "*" => Ok(WireGiven::NotYet),
+        "!" => Ok(WireGiven::Ended),
+        _ => Ok(WireGiven::Bytes(Vec8::from_vec(bytes(alloc, part)?))),
+    }
+}
+
+/// Whether a reply may have this status.
+fn is_status(status: u16) -> bool
+    ensures { result ≡ list_any (λ s. s == status) statuses }
+{
+    let statuses: [u16; 14] = [
+        101, 200, 202, 204, 400, 401, 404, 405, 409, 411, 413, 431, 500, 503,
+    ];
+    statuses.iter().any(|other| *other == status)
+}
+
+/// Whether the reply can be sent.
+fn is_reply(reply: &Reply) -> bool
+    ensures { IsTrue result → IsReply reply.now }
+{
+    let is_empty = reply.body.bytes().is_empty();
+    let accepts = reply.accept.is_some();
+    match reply.status {
+        101 => accepts && is_empty,
+        204 => !accepts && is_empty,
+        status => !accepts && is_status(status),
+    }
+}
+
+/// A reply that can be sent, as the words say.
+fn reply_of(alloc: Global, words: &str) -> Result<Reply, Stop>
+    ensures { IfOk result (λ reply. IsReply reply) }
+{
+    let reply = said(alloc, words)?;
+    if is_reply(&reply) {
+        Ok(reply)
+    } else {
+        Err(Stop::Refused)
+    }
+}
+
+/// A reply as the words say, which need not be one that can be sent.
+fn said(alloc: Global, words: &str) -> Result<Reply, Stop> {
+    let (status, rest) = first_word(words);
+    let (kind_word, rest) = first_word(rest);
+    let (body_word, accept_word) = first_word(rest);
+    let status = number(status)?;
+    Ok(Reply {
+        status: u16::try_from(status).ok().ok_or(Stop::Refused)?,
+        kind: kind(kind_word)?,
+        body: body(alloc, body_word)?,
+        accept: accept(alloc, accept_word)?,
+    })
+}
+
+impl Bench {
+    /// A door over no wires.
+    pub fn start(alloc: Global) -> Result<Bench, AllocError> {
+        let none = Vec::new(alloc);
+        let wires = MemoryWires::start(alloc, Vec::new(alloc), none, Vec::new(alloc), 0, 0)?;
+        Ok(Bench {
+            alloc,
+            wires: Vec::new(alloc),
+            door: NetDoor::start(alloc, wires),
+        })
+    }
+
+    /// Carries out the action of a line, and answers what it answers.
+    pub fn carry_out(&mut self, line: &str) -> Result<String, AllocError> {
+        match self.act(line) {
+            Ok(answer) => Ok(answer),
+            Err(Stop::Failed) => String::from_str(self.alloc, "failed"),
+            Err(Stop::Refused) => format!(in self.alloc; "no action: {line}"),
+            Err(Stop::NoMemory) => Err(AllocError),
+        }
+    }
+
+    fn act(&mut self, line: &str) -> Result<String, Stop> {
+        let (word, rest) = first_word(line);
+        match word {
+            "note" => Ok(format!(in self.alloc; "note {rest}")?),
+            "wire" => self.add_wire(rest),
+            "door" => self.start_door(rest),
+            "next" => self.next(rest),
+            "reply" => self.reply(rest),
+            "send" => self.send(rest),
+            "fill" => self.fill(rest),
+            "shut" => self.shut(rest),
+            "written" => self.written(rest),
+            _ => Err(Stop::Refused),
+        }
+    }
+
+    fn told(&self, text: &str) -> Result<String, Stop> {
+        Ok(String::from_str(self.alloc, text)?)
+    }
+
+    fn add_wire(&mut self, words: &str) -> Result<String, Stop> {
+        let wire = wire_of(self.alloc, words)?;
+        self.wires.push(wire)?;
+        self.told("to be given")
+    }
+
+    fn start_door(&mut self, words: &str) -> Result<String, Stop> {
+        let (moments, failing) = first_word(words);
+        let moments = numbers(self.alloc, moments)?;
+        let failing = numbers(self.alloc, failing)?;
+        if !is_rising(&moments) {
+            return Err(Stop::Refused);
+        }
+        let given = mem::replace(&mut self.wires, Vec::new(self.alloc));
+        let wires = MemoryWires::start(self.alloc, moments, given, failing, ROOM, CALLS)?;
+        self.door = NetDoor::start(self.alloc, wires);
+        self.told("a door")
+    }
+
+    fn next(&mut self, words: &str) -> Result<String, Stop> {
+        let heard = self.door.next(number(words)?)?;
+        told(self.alloc, &heard)
+    }
+
+    fn reply(&mut self, words: &str) -> Result<String, Stop> {
+        let (lane, rest) = first_word(words);
+        let lane = number(lane)?;
+        let reply = reply_of(self.alloc, rest)?;
+        self.door.reply(lane, reply)?;
+        self.told("replied")
+    }
+
+    fn send(&mut self, words: &str) -> Result<String, Stop> {
+        let (lane, rest) = first_word(words);
+        let (kind, word) = first_word(rest);
+        let lane = number(lane)?;
+        let bytes = bytes(self.alloc, word)?;
+        self.door.send(lane, &bytes, kind == "text")?;
+        self.told("sent")
+    }
+
+    /// Sends this many bytes 0.
+    fn fill(&mut self, words: &str) -> Result<String, Stop> {
+        let (lane, word) = first_word(words);
+        let lane = number(lane)?;
+        let mut bytes = Vec::new(self.alloc);
+        bytes.resize(count(word)?, 0)?;
+        self.door.send(lane, &bytes, false)?;
+        self.told("sent")
+    }
+
+    fn shut(&mut self, words: &str) -> Result<String, Stop> {
+        self.door.shut(number(words)?)?;
+        self.told("shut")
+    }
+
+    fn written(&mut self, words: &str) -> Result<String, Stop> {
+        let bytes = shown(self.alloc, self.door.wires().written(number(words)?))?;
+        Ok(format!(in self.alloc; "written {bytes}")?)
+    }
+}

@@ -1,0 +1,166 @@
+-- After what a lane does in a call no more waits on it than may.
+use Rattle.std.proofs.Common.{◌≡◌, ◌≤◌, ◌==◌, ◌||◌, ◌++◌, ◌∷◌, [], ℕ, Bool, true, false, List, length, Option, None, Some, refl, sym, ap, ◌∙◌, subst, arith, inl, inr}
+use Rattle.hd_lanes.specs.declared.http.Reply.{Reply}
+use Rattle.hw_door.specs.declared.heard.Event.{Event}
+use Rattle.hw_door.specs.Traffic.{Answer, was_shut}
+use Rattle.hw_socket.specs.Lane as socket
+use Rattle.hw_socket.specs.Masks.{Written}
+use Rattle.hw_socket.specs.Sending as sending
+use Rattle.hw_net.specs.declared.limits.TheConstants.{MOST_UNWRITTEN}
+use Rattle.hw_net.specs.declared.talk.Talk.{Talk}
+use Rattle.hw_net.specs.declared.talk.Talk.TheVariants.{Http, Socket}
+use Rattle.hw_net.specs.declared.talk.Stage.{Stage}
+use Rattle.hw_net.specs.declared.talk.Stage.TheVariants.{Live, Lost, Closing, Over}
+use Rattle.hw_net.specs.Bounds.{has_wire, IsWithin, AreWithin, NextIsWithin, RepliesAreWithin, SendsAreWithin, ShutsAreWithin}
+use Rattle.hw_net.specs.Door.{HearsAll}
+use Rattle.hw_net.specs.Lane.{Lane, waits, frames_of, after_end, owes, is_live, after_reply, talk_after_shut}
+use Rattle.hw_net.specs.Saying.{WritesOut, Says, SaysAt, SaysMore, must_end, is_too_much}
+use Rattle.hw_net.specs.Told.{Chooses}
+use Rattle.hw_net.specs.Turn.{Turns, TurnsAt, TurnAll, Loses, LosesAt, Replies, PutsAt, Puts, Sends, Shuts, AtLane}
+
+never : true ≡ false → ⊥
+never e = absurd (cc e)
+
+ended : (s : Stage) → has_wire (after_end s) ≡ false
+ended Live = refl
+ended Lost = refl
+ended Closing = refl
+ended Over = refl
+
+second : (a b : Bool) → (a || b) ≡ false → b ≡ false
+second true b e = absurd (never e)
+second false b e = e
+
+not-more : (n : ℕ) → is_too_much n ≡ false → n ≤ MOST_UNWRITTEN
+not-more n e = grind (arith, e)
+
+little : (s : Stage) (n : ℕ) (whole : Bool) → has_wire s ≡ true → must_end s n whole ≡ false → n ≤ MOST_UNWRITTEN
+little Live n true h e = not-more n e
+little Live n false h e = absurd (never e)
+little Lost n whole h e = absurd (never (sym h))
+little Closing n true h e = not-more n (second (n == 0) (is_too_much n) e)
+little Closing n false h e = absurd (never e)
+little Over n whole h e = absurd (never (sym h))
+
+shut-within : (lane : Lane) → has_wire lane.stage ≡ false → IsWithin lane
+shut-within lane e = λ has. go (sym has ∙ e) where
+  go : true ≡ false → length (waits lane) ≤ MOST_UNWRITTEN
+  go e = absurd (never e)
+
+same-within : (before after : Lane) → after ≡ before → IsWithin before → IsWithin after
+same-within before after e k = subst (λ (l : Lane). IsWithin l) (sym e) k
+
+writes-within : (before after : Lane) (answers : List Answer) → WritesOut before after answers → IsWithin after
+writes-within before after answers w = go (must_end before.stage (length (waits after)) w.is_whole) refl where
+  go : (b : Bool) → must_end before.stage (length (waits after)) w.is_whole ≡ b → IsWithin after
+  go true e = shut-within after (ap has_wire (w.ends e).1 ∙ ended before.stage)
+  go false e = λ has. little before.stage (length (waits after)) w.is_whole (sym (ap has_wire (w.stays e).1) ∙ has) e
+
+says-within : (before after : Lane) (answers : List Answer) → Says before after answers → IsWithin after
+says-within before after answers h = go before.stage refl h where
+  go : (s : Stage) → before.stage ≡ s → SaysAt s before after answers → IsWithin after
+  go Live e h = writes-within before after answers h
+  go Lost e h = shut-within after (ap (λ (l : Lane). has_wire l.stage) h.1 ∙ ap has_wire e)
+  go Closing e h = writes-within before after answers h
+  go Over e h = shut-within after (ap (λ (l : Lane). has_wire l.stage) h.1 ∙ ap has_wire e)
+
+more-within : (before after : Lane) (answers : List Answer) → SaysMore before after answers → IsWithin after
+more-within before after answers h = go (is_too_much (length (waits before))) h where
+  go : (b : Bool) → Chooses b ((answers ≡ was_shut before.wire ∷ []) × (after ≡ record before { stage = after_end before.stage })) (WritesOut before after answers) → IsWithin after
+  go true h = shut-within after (ap (λ (l : Lane). has_wire l.stage) h.1 ∙ ended before.stage)
+  go false h = writes-within before after answers h
+
+-- ---- hearing
+
+loses-within : (told : Option Event) (before after : Lane) (heard : Option Event) → Loses told before after heard → IsWithin before → IsWithin after
+loses-within (Some event) before after heard h k = same-within before after h.1 k
+loses-within None before after heard h k = go before.stage h where
+  go : (s : Stage) → LosesAt s before after heard → IsWithin after
+  go Live h = same-within before after h.1 k
+  go Lost h = shut-within after (ap (λ (l : Lane). has_wire l.stage) h.1)
+  go Closing h = same-within before after h.1 k
+  go Over h = same-within before after h.1 k
+
+turn-within : (now : ℕ) (told : Option Event) (before after : Lane) (answers : List Answer) (heard : Option Event) → Turns now told before after answers heard → IsWithin after
+turn-within now (Some event) before after answers heard h = says-within before after answers h.1
+turn-within now None before after answers heard h = go before.stage refl h where
+  go : (s : Stage) → before.stage ≡ s → TurnsAt s now before after answers heard → IsWithin after
+  go Live e h = loses-within h.told h.said after heard h.loses (says-within h.settled h.said h.written h.says)
+  go Lost e h = shut-within after (ap (λ (l : Lane). has_wire l.stage) h.2)
+  go Closing e h = says-within before after answers h.1
+  go Over e h = shut-within after (ap (λ (l : Lane). has_wire l.stage) h.2 ∙ ap has_wire e)
+
+turns-within : (now : ℕ) (told : Option Event) (lanes after : List Lane) (answers : List Answer) (heard : Option Event) → TurnAll now told lanes after answers heard → AreWithin after
+turns-within now told [] after answers heard h = subst (λ (l : List Lane). AreWithin l) (sym h.0) tt
+turns-within now told (lane ∷ lanes) after answers heard h =
+    subst (λ (l : List Lane). AreWithin l) (sym h.5) (turn-within now told lane h.1 h.3 h.0 h.7, turns-within now h.0 lanes h.2 h.4 heard h.8)
+
+both-within : (xs ys : List Lane) → AreWithin xs → AreWithin ys → AreWithin (xs ++ ys)
+both-within [] ys h k = k
+both-within (x ∷ xs) ys h k = (h.0, both-within xs ys h.1 k)
+
+all-within : (now from : ℕ) (before after : List Lane) (answers : List Answer) (heard : Option Event) → HearsAll now from before after answers heard → AreWithin after
+all-within now from before after answers heard h =
+    subst (λ (l : List Lane). AreWithin l) (sym h.order)
+    (both-within h.last h.first (turns-within now h.told _ h.last h.answers_last heard h.turns_last) (turns-within now None _ h.first h.answers_first h.told h.turns_first))
+
+pub next-within : NextIsWithin
+next-within before after answers heard h = all-within heard.now before.from _ after.lanes h.turns h.told h.hears
+
+-- ---- saying
+
+at-within : (wire : ℕ) (Does : Lane → Lane → List Answer → Type 0) (lanes after : List Lane) (answers : List Answer) →
+    ((before next : Lane) (said : List Answer) → Does before next said → IsWithin before → IsWithin next) → AtLane wire Does lanes after answers → AreWithin lanes → AreWithin after
+at-within wire Does [] after answers each h k = subst (λ (l : List Lane). AreWithin l) (sym h.0) tt
+at-within wire Does (lane ∷ lanes) after answers each h k = go (lane.wire == wire) h (at-within wire Does lanes) where
+  go : (b : Bool) → Chooses b ((next : Lane) × (after ≡ next ∷ lanes) × Does lane next answers) ((rest : List Lane) × (after ≡ lane ∷ rest) × AtLane wire Does lanes rest answers) →
+      ((rest : List Lane) (said : List Answer) → ((before next : Lane) (said : List Answer) → Does before next said → IsWithin before → IsWithin next) →
+      AtLane wire Does lanes rest said → AreWithin lanes → AreWithin rest) → AreWithin after
+  go true h again = subst (λ (l : List Lane). AreWithin l) (sym h.1) (each lane h.0 answers h.2 k.0, k.1)
+  go false h again = subst (λ (l : List Lane). AreWithin l) (sym h.1) (k.0, again h.0 answers each h.2 k.1)
+
+reply-within : (now : ℕ) (reply : Reply) (before after : Lane) (answers : List Answer) → Replies now reply before after answers → IsWithin before → IsWithin after
+reply-within now reply before after answers h k = go (owes before) h where
+  go : (b : Bool) → Chooses b (SaysMore (after_reply now reply before) after answers) ((answers ≡ []) × (after ≡ before)) → IsWithin after
+  go true h = more-within (after_reply now reply before) after answers h
+  go false h = same-within before after h.1 k
+
+pub replies-within : RepliesAreWithin
+replies-within lane now reply before after answers h k =
+    at-within lane (Replies now reply) before.lanes after.lanes answers (reply-within now reply) h.0 k
+
+shuts-one : (before after : Lane) (answers : List Answer) → Shuts before after answers → IsWithin before → IsWithin after
+shuts-one before after answers h k = go (is_live before.stage) h where
+  go : (b : Bool) → Chooses b (WritesOut (record before { talk = talk_after_shut before.talk; stage = Closing }) after answers) ((answers ≡ []) × (after ≡ before)) → IsWithin after
+  go true h = writes-within (record before { talk = talk_after_shut before.talk; stage = Closing }) after answers h
+  go false h = same-within before after h.1 k
+
+pub shuts-within : ShutsAreWithin
+shuts-within lane before after answers h k = at-within lane Shuts before.lanes after.lanes answers shuts-one h.0 k
+
+-- a message that isn't sent leaves what waits
+unsaid : (lane next : socket.Lane) (bytes : List ℕ) (text : Bool) → sending.Says lane next bytes text false → next.out ≡ lane.out
+unsaid lane next bytes text (inl h) = ap (λ (l : socket.Lane). l.out) h.1
+unsaid lane next bytes text (inr h) = ap (λ (l : socket.Lane). l.out) h.3
+
+unput : (live : Bool) (talk : Talk) (bytes : List ℕ) (text : Bool) (before after : Lane) → before.talk ≡ talk → PutsAt live talk bytes text before after false →
+    (after.stage ≡ before.stage) × (waits after ≡ waits before)
+unput true (Socket talking) bytes text before after e h =
+    let out : h.0.out ≡ talking.lane.out = unsaid talking.lane h.0 bytes text h.1 in (
+      ap (λ (l : Lane). l.stage) h.2,
+      ap waits h.2 ∙ ap (λ (o : Written). before.out ++ o.bytes) out ∙ sym (ap (λ (t : Talk). before.out ++ frames_of t) e),
+    )
+unput true (Http asking) bytes text before after e h = (ap (λ (l : Lane). l.stage) h.1, ap waits h.1)
+unput false talk bytes text before after e h = (ap (λ (l : Lane). l.stage) h.1, ap waits h.1)
+
+send-within : (bytes : List ℕ) (text : Bool) (before after : Lane) (answers : List Answer) → Sends bytes text before after answers → IsWithin before → IsWithin after
+send-within bytes text before after answers h k = go h.0 h.1 h.2 h.3 where
+  go : (mid : Lane) (b : Bool) → Puts bytes text before mid b → Chooses b (SaysMore mid after answers) ((answers ≡ []) × (after ≡ mid)) → IsWithin after
+  go mid true p h = more-within mid after answers h
+  go mid false p h =
+      let u = unput (is_live before.stage) before.talk bytes text before mid refl p in
+      same-within mid after h.1 (λ has. subst (λ (l : List ℕ). length l ≤ MOST_UNWRITTEN) (sym u.1) (k (sym (ap has_wire u.0) ∙ has)))
+
+pub sends-within : SendsAreWithin
+sends-within lane bytes text before after answers h k =
+    at-within lane (Sends bytes text) before.lanes after.lanes answers (send-within bytes text) h.0 k

@@ -1,0 +1,9 @@
+pub mod Askings
+pub mod Bounding
+pub mod Numbering
+pub mod Places
+pub mod Sayings
+pub mod Sweeps
+pub mod Talkings
+pub mod Telling
+pub mod Writings

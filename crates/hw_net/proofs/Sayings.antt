@@ -1,0 +1,72 @@
+-- What a lane writes, and one turn of a live lane, put together from their parts.
+use Rattle.std.proofs.Common.{◌≡◌, ◌≢◌, ℕ, List, [], ◌∷◌, ◌++◌, Bool, true, false, Option, length, refl, sym, ap, subst, ◌∙◌}
+use Rattle.hw_door.specs.declared.heard.Event.{Event}
+use Rattle.hw_door.specs.Traffic.{Answer, was_shut}
+use Rattle.hw_net.specs.declared.news.News.{News}
+use Rattle.hw_net.specs.Told.{Tells}
+use Rattle.hw_net.specs.Lane.{Lane, waits, after_end}
+use Rattle.hw_net.specs.Saying.{Writes, WritesOut, Says, IsLaneStill, must_end}
+use Rattle.hw_net.specs.Turn.{Hears, Settles, Loses, TurnsLive}
+use Rattle.hw_net.proofs.Telling.{tells-more}
+use Rattle.hw_net.proofs.Writings.{HasDone, writes-both, writes-first, left-of-failed}
+
+-- what waited was written, and then the wire was shut
+pub said-ended : (a b c : Option (List Answer)) (before mid : Lane) (whole : Bool) → HasDone a b before.wire (waits before) (waits mid) whole → IsLaneStill before mid → mid.stage ≡ before.stage →
+    must_end mid.stage (length (waits mid)) whole ≡ true → Tells b c (was_shut mid.wire ∷ []) →
+    (answers : List Answer) × Tells a c answers × WritesOut before (record mid { stage = after_end mid.stage }) answers
+said-ended a b c before mid whole h still same must shut =
+    let ends : must_end before.stage (length (waits mid)) whole ≡ true = subst (λ s. must_end s (length (waits mid)) whole ≡ true) same must in
+    let told : Tells a c (h.0 ++ was_shut mid.wire ∷ []) = tells-more a b c h.0 (was_shut mid.wire ∷ []) h.1 shut in (
+      h.0 ++ was_shut before.wire ∷ [],
+      subst (λ w. Tells a c (h.0 ++ was_shut w ∷ [])) still.wire told,
+      record {
+        sent = h.0;
+        is_whole = whole;
+        writes = h.2;
+        still = record { wire = still.wire; since = still.since; talk = still.talk };
+        ends = λ m. (refl, ap after_end same);
+        stays = λ m. cc (sym ends ∙ m);
+      },
+    )
+
+-- not all of the replies was written
+pub done-first : (a b : Option (List Answer)) (wire : ℕ) (out more left : List ℕ) (whole : Bool) → HasDone a b wire out left whole → left ≢ [] → HasDone a b wire (out ++ more) (left ++ more) whole
+done-first a b wire out more left whole h some = (h.0, h.1, writes-first wire out more h.0 left whole h.2 some)
+
+pub done-failed : (a b : Option (List Answer)) (wire : ℕ) (out more left : List ℕ) (whole : Bool) → HasDone a b wire out left whole → whole ≡ false → HasDone a b wire (out ++ more) (left ++ more) false
+done-failed a b wire out more left whole h e =
+    let failed : HasDone a b wire out left false = subst (λ w. HasDone a b wire out left w) e h in
+    done-first a b wire out more left false failed (left-of-failed wire out failed.0 left failed.2)
+
+-- all of the replies was written, and then frames were
+pub done-both : (a b c : Option (List Answer)) (wire : ℕ) (out more left rest : List ℕ) (first whole : Bool) → HasDone a b wire out rest first → first ≡ true → rest ≡ [] → HasDone b c wire more left whole →
+    HasDone a c wire (out ++ more) left whole
+done-both a b c wire out more left rest first whole h e none k =
+    let all : Writes wire out h.0 rest true = subst (λ w. Writes wire out h.0 rest w) e h.2 in
+    let gone : Writes wire out h.0 [] true = subst (λ (l : List ℕ). Writes wire out h.0 l true) none all in
+    (h.0 ++ k.0, tells-more a b c h.0 k.0 h.1 k.1, writes-both wire out more h.0 k.0 left whole gone k.2)
+
+-- a live lane heard news, which were settled, and wrote what waited
+pub turned : (a b c d : Option (List Answer)) (now : ℕ) (before heard settled said after : Lane) (news : News) (told event : Option Event) →
+    ((answers : List Answer) × Tells a b answers × Hears before.wire before.talk heard.talk answers news) → heard ≡ record before { talk = heard.talk } →
+    ((answers : List Answer) × Tells b c answers × Settles now heard settled answers news told) → ((answers : List Answer) × Tells c d answers × Says settled said answers) →
+    Loses told said after event → (answers : List Answer) × Tells a d answers × TurnsLive now before after answers event
+turned a b c d now before heard settled said after news told event h e s w l = (
+  h.0 ++ (s.0 ++ w.0),
+  tells-more a b d h.0 (s.0 ++ w.0) h.1 (tells-more b c d s.0 w.0 s.1 w.1),
+  record {
+    news = news;
+    talk = heard.talk;
+    settled = settled;
+    said = said;
+    told = told;
+    read = h.0;
+    shut = s.0;
+    written = w.0;
+    all = refl;
+    hears = h.2;
+    settles = subst (λ (x : Lane). Settles now x settled s.0 news told) e s.2;
+    says = w.2;
+    loses = l;
+  },
+)

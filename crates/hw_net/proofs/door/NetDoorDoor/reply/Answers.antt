@@ -1,0 +1,14 @@
+use Rattle.std.proofs.Common.{rules}
+use Rattle.hw_net.specs.Turn.{Replies}
+use Rattle.hw_net.proofs.Places.{does-nothing, does-at}
+use Rattle.hw_net.proofs.door.NetDoorDoor.reply.Goals as goal
+
+pub returns-in_default-clause-replied : goal.returns-in_default-clause-replied
+returns-in_default-clause-replied g c =
+    does-nothing (g.W.Wires.told c.args.self.now.wires) c.args.lane c.args.self.now.from _ c.args.self.now.moment _ (Replies c.args.self.now.moment c.args.reply) c.args.self.now.lanes.items (search rules) (search rules) (search rules)
+
+pub returns-clause-replied : goal.returns-clause-replied
+returns-clause-replied g c =
+    let told = g.W.Wires.told in
+    does-at (told c.args.self.now.wires) (told c.reply.new.wires) c.args.lane c.args.self.now.from _ c.args.self.now.moment _ (Replies c.args.self.now.moment c.args.reply) c.args.self.now.lanes.items c.in-Some.place c.index_mut.result.now c.reply.new.self
+    (search rules) (search rules) c.in_ok-reply.ensures.replied (search rules) (search rules)

@@ -1,0 +1,43 @@
+-- How much may wait on the lanes of a door.
+use Rattle.std.specs.Prelude.{◌≡◌, ◌≤◌, ℕ, Bool, true, false, List, [], ◌∷◌, length, ⊤}
+use Rattle.hd_lanes.specs.declared.http.Reply.{Reply}
+use Rattle.hw_door.specs.declared.heard.Heard.{Heard}
+use Rattle.hw_door.specs.Traffic.{Answer}
+use Rattle.hw_net.specs.declared.limits.TheConstants.{MOST_UNWRITTEN}
+use Rattle.hw_net.specs.declared.talk.Stage.{Stage}
+use Rattle.hw_net.specs.declared.talk.Stage.TheVariants.{Live, Lost, Closing, Over}
+use Rattle.hw_net.specs.Door.{DoorState, HearsNext, DoesAt}
+use Rattle.hw_net.specs.Lane.{Lane, waits}
+use Rattle.hw_net.specs.Turn.{Replies, Sends, Shuts}
+
+-- the wire of a lane wasn't shut
+abbrev pub has_wire : Stage → Bool
+has_wire Live = true
+has_wire Lost = false
+has_wire Closing = true
+has_wire Over = false
+
+-- no more waits on a lane than may, unless its wire was shut
+abbrev pub IsWithin : Lane → Type 0
+IsWithin lane = has_wire lane.stage ≡ true → length (waits lane) ≤ MOST_UNWRITTEN
+
+abbrev pub AreWithin : List Lane → Type 0
+AreWithin [] = ⊤
+AreWithin (lane ∷ lanes) = IsWithin lane × AreWithin lanes
+
+-- after each `next` no more waits than may, whatever did before it
+abbrev pub NextIsWithin : Type 0
+NextIsWithin = (before after : DoorState) (answers : List Answer) (heard : Heard) → HearsNext before after answers heard → AreWithin after.lanes
+
+-- the other calls keep it so
+abbrev pub RepliesAreWithin : Type 0
+RepliesAreWithin = (lane now : ℕ) (reply : Reply) (before after : DoorState) (answers : List Answer) → DoesAt lane (Replies now reply) before after answers
+    → AreWithin before.lanes → AreWithin after.lanes
+
+abbrev pub SendsAreWithin : Type 0
+SendsAreWithin = (lane : ℕ) (bytes : List ℕ) (text : Bool) (before after : DoorState) (answers : List Answer) → DoesAt lane (Sends bytes text) before after answers
+    → AreWithin before.lanes → AreWithin after.lanes
+
+abbrev pub ShutsAreWithin : Type 0
+ShutsAreWithin = (lane : ℕ) (before after : DoorState) (answers : List Answer) → DoesAt lane Shuts before after answers
+    → AreWithin before.lanes → AreWithin after.lanes

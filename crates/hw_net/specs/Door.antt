@@ -1,0 +1,110 @@
+-- What a door does in one call.
+use Rattle.std.specs.Prelude.{◌≡◌, ◌⊎◌, ◌≤◌, ◌+◌, ◌-◌, ◌^◌, ℕ, false, true, not, nat_le, min, max, List, [], ◌∷◌, ◌++◌, filter, take, drop, length, Option, None, Some, position, unwrap_or, option_to_list}
+use Rattle.hw_door.specs.declared.heard.Heard.{Heard}
+use Rattle.hw_door.specs.declared.heard.Event.{Event}
+use Rattle.hw_door.specs.declared.heard.Event.TheVariants as event
+use Rattle.hw_door.specs.Traffic.{Answer, polled, accepted, poll_failed, accept_failed}
+use Rattle.hh_http.specs.Lane.{at_start}
+use Rattle.hw_net.specs.declared.talk.Talk.TheVariants.{Http}
+use Rattle.hw_net.specs.declared.talk.Stage.TheVariants.{Live}
+use Rattle.hw_net.specs.declared.door.NetDoor.{NetDoor}
+use Rattle.hw_net.specs.Lane.{Lane, is_over, wires_of}
+use Rattle.hw_net.specs.Turn.{TurnAll, AtLane}
+
+-- the lanes, the number from which on they come first in the next search, and the moment of what was heard last
+pub record DoorState : Type 0 where
+  pub lanes : List Lane
+  pub from : ℕ
+  pub moment : ℕ
+
+abbrev pub state_of : {W : Type 0} → NetDoor W → DoorState
+state_of door = record { lanes = door.lanes.items; from = door.from; moment = door.moment }
+
+-- the lane of a wire that was accepted at this moment
+abbrev pub new_lane : ℕ → ℕ → Lane
+new_lane now wire = record {
+  wire = wire;
+  since = now;
+  talk = Http (record { lane = at_start; busy = false; stirred = true; gave = true });
+  out = [];
+  stage = Live;
+}
+
+-- the lanes with that of the wire that was accepted, if one was
+abbrev pub with_accepted : ℕ → Option ℕ → List Lane → List Lane
+with_accepted now None lanes = lanes
+with_accepted now (Some wire) lanes = lanes ++ new_lane now wire ∷ []
+
+-- the lanes that have more to them than that they ended
+abbrev pub kept : List Lane → List Lane
+kept lanes = filter (λ (lane : Lane). not (is_over lane.stage)) lanes
+
+-- the bound below which all numbers of wires lie didn't fall, and the wire that came, if one did, is the first of its number
+abbrev pub IsNumbered : ℕ → ℕ → Option ℕ → Type 0
+IsNumbered before now None = before ≤ now
+IsNumbered before now (Some wire) = (before ≤ wire) × (wire + 1 ≤ now)
+
+-- each lane that wasn't over is still there, in its place, and at most one came after them, whose number is new
+abbrev pub KeepsLanes : ℕ → ℕ → List Lane → List Lane → Type 0
+KeepsLanes bound bound_after before after =
+    (wire : Option ℕ) × (wires_of after ≡ wires_of (kept before) ++ option_to_list wire) × IsNumbered bound bound_after wire
+
+-- how many lanes come last in the search: those before the first that has the number or a greater one
+abbrev pub place_of_first : ℕ → List Lane → ℕ
+place_of_first from lanes = unwrap_or (position (λ (lane : Lane). nat_le from lane.wire) lanes) (length lanes)
+
+-- the lane of an event
+abbrev pub lane_of : Event → ℕ
+lane_of (event.Request lane request) = lane
+lane_of (event.Refused lane status) = lane
+lane_of (event.Bytes lane bytes) = lane
+lane_of (event.Response lane status body) = lane
+lane_of (event.Upgraded lane) = lane
+lane_of (event.Lost lane) = lane
+lane_of event.Quiet = 0
+
+-- the number from which on the lanes come first after this was heard: the lane that was heard comes last
+abbrev pub next_from : ℕ → Option Event → ℕ
+next_from from None = from
+next_from from (Some heard) = min (lane_of heard + 1) (2 ^ 64 - 1)
+
+-- the lanes take their turns at this moment, and this is heard, if anything is
+pub record HearsAll (now : ℕ) (from : ℕ) (before after : List Lane) (answers : List Answer) (heard : Option Event) : Type 0 where
+  pub first : List Lane
+  pub last : List Lane
+  pub told : Option Event
+  pub answers_first : List Answer
+  pub answers_last : List Answer
+  pub all : answers ≡ answers_first ++ answers_last
+  pub order : after ≡ last ++ first
+  pub turns_first : TurnAll now None (drop (place_of_first from before) before) first answers_first told
+  pub turns_last : TurnAll now told (take (place_of_first from before) before) last answers_last heard
+
+-- One `next`: one poll, one accept, and then a turn of each lane, from the one after that which was heard last. Nothing is heard only if each
+-- lane was listened to and gave nothing.
+pub record HearsNext (before after : DoorState) (answers : List Answer) (heard : Heard) : Type 0 where
+  pub now : ℕ
+  pub wire : Option ℕ
+  pub turns : List Answer
+  pub told : Option Event
+  pub all : answers ≡ polled now ∷ accepted wire ∷ turns
+  pub moment : heard.now ≡ max now before.moment
+  pub hears : HearsAll heard.now before.from (with_accepted heard.now wire (kept before.lanes)) after.lanes turns told
+  pub event_is : heard.event ≡ unwrap_or told event.Quiet
+  pub from : after.from ≡ next_from before.from told
+  pub later : after.moment ≡ heard.now
+
+-- a call of `next` that fails: poll failed, or accept after it
+abbrev pub FailsNext : List Answer → Type 0
+FailsNext answers = (answers ≡ poll_failed ∷ []) ⊎ ((now : ℕ) × (answers ≡ polled now ∷ accept_failed ∷ []))
+
+-- a call on the lane of this number, which does this there
+abbrev pub DoesAt : ℕ → (Lane → Lane → List Answer → Type 0) → DoorState → DoorState → List Answer → Type 0
+DoesAt lane Does before after answers =
+    AtLane lane Does before.lanes after.lanes answers × (after.from ≡ before.from) × (after.moment ≡ before.moment)
+
+-- the turns of all lanes, which end with this event
+abbrev pub HearsTurns : ℕ → DoorState → DoorState → List Answer → Event → Type 0
+HearsTurns now before after answers heard =
+    (told : Option Event) × HearsAll now before.from before.lanes after.lanes answers told
+    × (heard ≡ unwrap_or told event.Quiet) × (after.from ≡ next_from before.from told) × (after.moment ≡ before.moment)

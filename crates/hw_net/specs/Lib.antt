@@ -1,0 +1,11 @@
+pub mod Limits
+pub mod Told
+pub mod News
+pub mod Asking
+pub mod Talking
+pub mod Lane
+pub mod Saying
+pub mod Turn
+pub mod Door
+pub mod Bounds
+pub mod Numbers

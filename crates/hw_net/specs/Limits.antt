@@ -1,0 +1,18 @@
+-- The bounds of a door.
+use Rattle.std.specs.Prelude.{ℕ}
+
+-- the most bytes of one read: 4 KiB
+abbrev pub piece : ℕ
+piece = 4096
+
+-- the most bytes that may wait on a lane to be written: 1 MiB
+abbrev pub most_unwritten : ℕ
+most_unwritten = 1048576
+
+-- how many milliseconds a lane may wait for a whole request
+abbrev pub most_wait : ℕ
+most_wait = 30000
+
+-- the status of an upgrade
+abbrev pub switching : ℕ
+switching = 101

@@ -1,0 +1,30 @@
+-- The numbers of the lanes of a door.
+use Rattle.std.specs.Prelude.{◌≡◌, ◌≤◌, ◌+◌, ℕ, Bool, List, [], ◌∷◌}
+use Rattle.hd_lanes.specs.declared.http.Reply.{Reply}
+use Rattle.hw_door.specs.Traffic.{Answer}
+use Rattle.hw_net.specs.Door.{DoorState, KeepsLanes, DoesAt}
+use Rattle.hw_net.specs.Lane.{Lane, wires_of}
+use Rattle.hw_net.specs.Turn.{Replies, Sends, Shuts}
+
+-- numbers that rise, from this one on and below that
+abbrev pub IsRising : ℕ → ℕ → List ℕ → Type 0
+IsRising from bound [] = from ≤ bound
+IsRising from bound (wire ∷ wires) = (from ≤ wire) × IsRising (wire + 1) bound wires
+
+-- numbers that rise below the bound do so after a call of `next` too: so no number comes twice
+abbrev pub NumbersRise : Type 0
+NumbersRise = (bound bound_after : ℕ) (before after : List Lane) → IsRising 0 bound (wires_of before) → KeepsLanes bound bound_after before after
+    → IsRising 0 bound_after (wires_of after)
+
+-- the other calls leave the numbers
+abbrev pub RepliesKeepNumbers : Type 0
+RepliesKeepNumbers = (lane now : ℕ) (reply : Reply) (before after : DoorState) (answers : List Answer) → DoesAt lane (Replies now reply) before after answers
+    → wires_of after.lanes ≡ wires_of before.lanes
+
+abbrev pub SendsKeepNumbers : Type 0
+SendsKeepNumbers = (lane : ℕ) (bytes : List ℕ) (text : Bool) (before after : DoorState) (answers : List Answer) → DoesAt lane (Sends bytes text) before after answers
+    → wires_of after.lanes ≡ wires_of before.lanes
+
+abbrev pub ShutsKeepNumbers : Type 0
+ShutsKeepNumbers = (lane : ℕ) (before after : DoorState) (answers : List Answer) → DoesAt lane Shuts before after answers
+    → wires_of after.lanes ≡ wires_of before.lanes

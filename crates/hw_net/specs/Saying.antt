@@ -1,0 +1,71 @@
+-- What a lane writes.
+use Rattle.std.specs.Prelude.{◌≡◌, ◌≢◌, ◌==◌, ◌||◌, ℕ, Bool, true, false, not, nat_lt, List, [], ◌∷◌, ◌++◌, length}
+use Rattle.hw_door.specs.Traffic.{Answer, bytes_out, write_failed, was_shut}
+use Rattle.hw_net.specs.declared.limits.TheConstants.{MOST_UNWRITTEN}
+use Rattle.hw_net.specs.declared.talk.Talk.{Talk}
+use Rattle.hw_net.specs.declared.talk.Talk.TheVariants.{Http, Socket}
+use Rattle.hw_net.specs.declared.talk.Stage.{Stage}
+use Rattle.hw_net.specs.declared.talk.Stage.TheVariants.{Live, Lost, Closing, Over}
+use Rattle.hw_net.specs.Told.{Chooses}
+use Rattle.hw_net.specs.Lane.{Lane, waits, after_end}
+
+-- writes on the wire took the front of what waits, until nothing waits, or the wire took nothing or failed: what is left then, and
+-- whether it didn't fail
+abbrev pub Writes : ℕ → List ℕ → List Answer → List ℕ → Bool → Type 0
+Writes wire waits [] left is_whole = (waits ≡ []) × (left ≡ []) × (is_whole ≡ true)
+Writes wire waits (bytes_out at [] ∷ []) left is_whole = (at ≡ wire) × (waits ≢ []) × (left ≡ waits) × (is_whole ≡ true)
+Writes wire waits (bytes_out at (b ∷ bs) ∷ answers) left is_whole =
+    (at ≡ wire) × ((rest : List ℕ) × (waits ≡ (b ∷ bs) ++ rest) × Writes wire rest answers left is_whole)
+Writes wire waits (write_failed at ∷ []) left is_whole = (at ≡ wire) × (waits ≢ []) × (left ≡ waits) × (is_whole ≡ false)
+Writes wire waits _ left is_whole = ⊥
+
+-- the same but for the frames that are to be written
+abbrev pub SpeaksAs : Talk → Talk → Type 0
+SpeaksAs (Http before) (Http after) = after ≡ before
+SpeaksAs (Socket before) (Socket after) =
+    after ≡ record before { lane = record before.lane { out = record before.lane.out { bytes = after.lane.out.bytes } } }
+SpeaksAs _ _ = ⊥
+
+-- the lane but for what waits to be written, and for its stage
+pub record IsLaneStill (before after : Lane) : Type 0 where
+  pub wire : after.wire ≡ before.wire
+  pub since : after.since ≡ before.since
+  pub talk : SpeaksAs before.talk after.talk
+
+-- more waits than may
+abbrev pub is_too_much : ℕ → Bool
+is_too_much left = nat_lt MOST_UNWRITTEN left
+
+-- the wire is shut after the writes: it failed, too much is left, or a lane that is heard no more has nothing left
+abbrev pub must_end : Stage → ℕ → Bool → Bool
+must_end Live left is_whole = not is_whole || is_too_much left
+must_end Lost left is_whole = false
+must_end Closing left is_whole = not is_whole || (left == 0) || is_too_much left
+must_end Over left is_whole = false
+
+-- what waits is written, and then the wire is shut if it must be
+pub record WritesOut (before after : Lane) (answers : List Answer) : Type 0 where
+  pub sent : List Answer
+  pub is_whole : Bool
+  pub writes : Writes before.wire (waits before) sent (waits after) is_whole
+  pub still : IsLaneStill before after
+  pub ends : must_end before.stage (length (waits after)) is_whole ≡ true
+      → (answers ≡ sent ++ was_shut before.wire ∷ []) × (after.stage ≡ after_end before.stage)
+  pub stays : must_end before.stage (length (waits after)) is_whole ≡ false → (answers ≡ sent) × (after.stage ≡ before.stage)
+
+-- a lane whose wire is still there writes what waits
+abbrev pub SaysAt : Stage → Lane → Lane → List Answer → Type 0
+SaysAt Live before after answers = WritesOut before after answers
+SaysAt Lost before after answers = (answers ≡ []) × (after ≡ before)
+SaysAt Closing before after answers = WritesOut before after answers
+SaysAt Over before after answers = (answers ≡ []) × (after ≡ before)
+
+abbrev pub Says : Lane → Lane → List Answer → Type 0
+Says before after answers = SaysAt before.stage before after answers
+
+-- after more was added to what waits: if it is too much the wire is shut and the lane is lost, and else what waits is written
+abbrev pub SaysMore : Lane → Lane → List Answer → Type 0
+SaysMore before after answers =
+    Chooses (is_too_much (length (waits before)))
+    ((answers ≡ was_shut before.wire ∷ []) × (after ≡ record before { stage = after_end before.stage }))
+    (WritesOut before after answers)

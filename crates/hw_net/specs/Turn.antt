@@ -1,0 +1,143 @@
+-- What a lane does in one call of a door.
+use Rattle.std.specs.Prelude.{◌≡◌, ◌==◌, ℕ, Bool, true, false, List, [], ◌∷◌, ◌++◌, Option, None, Some, ⊤}
+use Rattle.hd_lanes.specs.declared.http.Reply.{Reply}
+use Rattle.hh_http.specs.Asks.{request_grammar}
+use Rattle.hh_http.specs.Messages.{Refuses}
+use Rattle.hh_http.specs.Texts.{reply_text}
+use Rattle.hw_door.specs.declared.heard.Event.{Event}
+use Rattle.hw_door.specs.declared.heard.Event.TheVariants as event
+use Rattle.hw_door.specs.Traffic.{Answer, was_shut}
+use Rattle.hw_socket.specs.Lane as socket
+use Rattle.hw_socket.specs.Sending as sending
+use Rattle.hw_net.specs.declared.news.News.{News}
+use Rattle.hw_net.specs.declared.news.News.TheVariants as news
+use Rattle.hw_net.specs.declared.talk.Talk.{Talk}
+use Rattle.hw_net.specs.declared.talk.Talk.TheVariants.{Http, Socket}
+use Rattle.hw_net.specs.declared.talk.Stage.{Stage}
+use Rattle.hw_net.specs.declared.talk.Stage.TheVariants.{Live, Lost, Closing, Over}
+use Rattle.hw_net.specs.Told.{Chooses}
+use Rattle.hw_net.specs.Asking.{HearsAsking}
+use Rattle.hw_net.specs.Talking.{HearsTalking}
+use Rattle.hw_net.specs.Lane.{Lane, is_live, owes, is_overdue, refusal_of, talk_after_shut, after_reply}
+use Rattle.hw_net.specs.Saying.{WritesOut, Says, SaysMore}
+
+-- ---- hearing
+
+-- what a lane hears of its wire in one turn
+abbrev pub Hears : ℕ → Talk → Talk → List Answer → News → Type 0
+Hears wire (Http before) (Http after) answers heard = HearsAsking wire before after answers heard
+Hears wire (Socket before) (Socket after) answers heard = HearsTalking wire before after answers heard
+Hears wire _ _ answers heard = ⊥
+
+-- a refusal is one of what is held
+abbrev pub IsRightNews : Talk → News → Type 0
+IsRightNews (Http asking) (news.Refused status) = Refuses request_grammar asking.lane.held status
+IsRightNews (Socket talking) (news.Refused status) = ⊥
+IsRightNews talk _ = ⊤
+
+-- the wire is shut, and the loss of the lane is heard
+abbrev pub Falls : Lane → Lane → List Answer → Option Event → Type 0
+Falls before after answers heard =
+    (answers ≡ was_shut before.wire ∷ []) × (heard ≡ Some (event.Lost before.wire)) × (after ≡ record before { stage = Over })
+
+-- nothing is done on the wire, and this is heard
+abbrev pub Passes : Lane → Lane → List Answer → Option Event → Option Event → Type 0
+Passes becomes after answers told heard = (answers ≡ []) × (heard ≡ told) × (after ≡ becomes)
+
+-- The event that is heard of the news. A lane that has waited for too long is lost, what is no request is answered, and a WebSocket that is
+-- gone says so.
+abbrev pub Settles : ℕ → Lane → Lane → List Answer → News → Option Event → Type 0
+Settles now before after answers news.Nothing heard =
+    Chooses (is_overdue now before) (Falls before after answers heard) (Passes before after answers None heard)
+Settles now before after answers (news.Request request) heard = Passes before after answers (Some (event.Request before.wire request)) heard
+Settles now before after answers (news.Refused status) heard =
+    Passes (record before { out = before.out ++ reply_text (refusal_of status); stage = Closing }) after answers (Some (event.Refused before.wire status)) heard
+Settles now before after answers (news.Message bytes) heard = Passes before after answers (Some (event.Bytes before.wire bytes)) heard
+Settles now before after answers news.Broken heard = Falls before after answers heard
+Settles now before after answers news.Gone heard =
+    Passes (record before { talk = talk_after_shut before.talk; stage = Closing }) after answers (Some (event.Lost before.wire)) heard
+
+-- a lane whose wire was shut meanwhile is heard as lost, if nothing else is heard of it
+abbrev pub LosesAt : Stage → Lane → Lane → Option Event → Type 0
+LosesAt Lost before after heard = (heard ≡ Some (event.Lost before.wire)) × (after ≡ record before { stage = Over })
+LosesAt _ before after heard = (heard ≡ None) × (after ≡ before)
+
+abbrev pub Loses : Option Event → Lane → Lane → Option Event → Type 0
+Loses None before after heard = LosesAt before.stage before after heard
+Loses (Some told) before after heard = (heard ≡ Some told) × (after ≡ before)
+
+-- One turn of a live lane: it hears news, which become the event, and then it writes what waits.
+pub record TurnsLive (now : ℕ) (before after : Lane) (answers : List Answer) (heard : Option Event) : Type 0 where
+  pub news : News
+  pub talk : Talk
+  pub settled : Lane
+  pub said : Lane
+  pub told : Option Event
+  pub read : List Answer
+  pub shut : List Answer
+  pub written : List Answer
+  pub all : answers ≡ read ++ (shut ++ written)
+  pub hears : Hears before.wire before.talk talk read news
+  pub settles : Settles now (record before { talk = talk }) settled shut news told
+  pub says : Says settled said written
+  pub loses : Loses told said after heard
+
+abbrev pub TurnsAt : Stage → ℕ → Lane → Lane → List Answer → Option Event → Type 0
+TurnsAt Live now before after answers heard = TurnsLive now before after answers heard
+TurnsAt Lost now before after answers heard = Passes (record before { stage = Over }) after answers (Some (event.Lost before.wire)) heard
+TurnsAt Closing now before after answers heard = (heard ≡ None) × Says before after answers
+TurnsAt Over now before after answers heard = Passes before after answers None heard
+
+-- a lane's turn while nothing was heard in this call
+abbrev pub Listens : ℕ → Lane → Lane → List Answer → Option Event → Type 0
+Listens now before after answers heard = TurnsAt before.stage now before after answers heard
+
+-- a lane's turn in a call in which this was heard: once something was, it only writes
+abbrev pub Turns : ℕ → Option Event → Lane → Lane → List Answer → Option Event → Type 0
+Turns now None before after answers heard = Listens now before after answers heard
+Turns now (Some told) before after answers heard = (heard ≡ Some told) × Says before after answers
+
+-- the turns of lanes, the first first
+abbrev pub TurnAll : ℕ → Option Event → List Lane → List Lane → List Answer → Option Event → Type 0
+TurnAll now told [] after answers heard = (after ≡ []) × (answers ≡ []) × (heard ≡ told)
+TurnAll now told (lane ∷ lanes) after answers heard =
+    (mid : Option Event) × (next : Lane) × (rest : List Lane) × (first : List Answer) × (more : List Answer)
+    × (after ≡ next ∷ rest) × (answers ≡ first ++ more) × Turns now told lane next first mid × TurnAll now mid lanes rest more heard
+
+-- ---- saying
+
+-- a lane is given a reply at this moment. If none is waited for, nothing is said
+abbrev pub Replies : ℕ → Reply → Lane → Lane → List Answer → Type 0
+Replies now reply before after answers =
+    Chooses (owes before) (SaysMore (after_reply now reply before) after answers) ((answers ≡ []) × (after ≡ before))
+
+-- a message is added to what waits of a live WebSocket, unless that is gone; another lane takes none
+abbrev pub PutsAt : Bool → Talk → List ℕ → Bool → Lane → Lane → Bool → Type 0
+PutsAt true (Socket talking) bytes text before after is_put =
+    (lane : socket.Lane) × sending.Says talking.lane lane bytes text is_put × (after ≡ record before { talk = Socket (record talking { lane = lane }) })
+PutsAt true (Http asking) bytes text before after is_put = (is_put ≡ false) × (after ≡ before)
+PutsAt false talk bytes text before after is_put = (is_put ≡ false) × (after ≡ before)
+
+abbrev pub Puts : List ℕ → Bool → Lane → Lane → Bool → Type 0
+Puts bytes text before after is_put = PutsAt (is_live before.stage) before.talk bytes text before after is_put
+
+-- a lane is given a message: if that was added, what waits is written, and else nothing is said
+abbrev pub Sends : List ℕ → Bool → Lane → Lane → List Answer → Type 0
+Sends bytes text before after answers =
+    (mid : Lane) × (is_put : Bool) × Puts bytes text before mid is_put
+    × Chooses is_put (SaysMore mid after answers) ((answers ≡ []) × (after ≡ mid))
+
+-- a live lane is shut: a WebSocket says that it ends, and the lane is heard no more
+abbrev pub Shuts : Lane → Lane → List Answer → Type 0
+Shuts before after answers =
+    Chooses (is_live before.stage)
+    (WritesOut (record before { talk = talk_after_shut before.talk; stage = Closing }) after answers)
+    ((answers ≡ []) × (after ≡ before))
+
+-- the first lane of this number does this, if there is one, and the others stay as they are
+abbrev pub AtLane : ℕ → (Lane → Lane → List Answer → Type 0) → List Lane → List Lane → List Answer → Type 0
+AtLane wire Does [] after answers = (after ≡ []) × (answers ≡ [])
+AtLane wire Does (lane ∷ lanes) after answers =
+    Chooses (lane.wire == wire)
+    ((next : Lane) × (after ≡ next ∷ lanes) × Does lane next answers)
+    ((rest : List Lane) × (after ≡ lane ∷ rest) × AtLane wire Does lanes rest answers)

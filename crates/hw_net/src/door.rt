@@ -1,0 +1,273 @@
+//! The door: all lanes, and the wires that they stand on.
+
+ghost use Rattle.std.specs.Prelude.{◌≡◌, ◌≤◌, ◌∷◌, ◌==◌, [], ℕ, List, Option, None, Some, Err, IfOk, IfErr, IfSome, IfNone, OnOk, OnErr, if◌then◌else◌, max, position};
+ghost use Rattle.std.specs.List.{list_any};
+ghost use Rattle.hd_facts.specs.Counts.{Rose};
+ghost use Rattle.hd_lanes.specs.Replies.{IsReply};
+ghost use Rattle.hw_door.specs.declared.heard.Given.TheVariants as say;
+ghost use Rattle.hw_door.specs.Calls.{HasFaultCause, IsCaused, Hears, Says, IsLater};
+ghost use Rattle.hw_door.specs.Traffic.{Answer, polled, poll_failed, accepted, accept_failed};
+ghost use Rattle.hw_net.specs.Door.{HearsNext, FailsNext, IsNumbered, KeepsLanes, DoesAt, HearsTurns, state_of, kept, with_accepted, next_from};
+ghost use Rattle.hw_net.specs.Lane.{Lane, is_awake, wires_of};
+ghost use Rattle.hw_net.specs.Told.{Tells};
+ghost use Rattle.hw_net.specs.Turn.{Replies, Sends, Shuts};
+
+use crate::lane::NetLane;
+use crate::turns::turn_from;
+use hd_lanes::Reply;
+use hw_door::{Door, DoorError, Event, Heard, Wires};
+use std::alloc::{AllocError, Global};
+
+/// A door over wires.
+#[derive(Drop)]
+pub struct NetDoor<W: Wires + Drop> {
+    alloc: Global,
+    wires: W,
+    lanes: Vec<NetLane>,
+    // The lanes from this number on come first in the next search, then the others.
+    from: u64,
+    moment: u64,
+    faults: u64,
+}
+
+impl<W: Wires + Drop> NetDoor<W> {
+    /// A door at which nothing was heard. It takes no memory yet.
+    pub fn start(alloc: Global, wires: W) -> NetDoor<W>
+        ensures state { state_of result ≡ record { lanes = []; from = 0; moment = 0 } }
+        ensures wires { result.wires ≡ wires }
+        ensures faults { result.faults ≡ 0 }
+    {
+        NetDoor {
+            alloc,
+            wires,
+            lanes: Vec::new(alloc),
+            from: 0,
+            moment: 0,
+            faults: 0,
+        }
+    }
+
+    /// Lends the wires.
+    pub fn wires(&self) -> &W
+        ensures { result.now ≡ self.now.wires }
+    {
+        &self.wires
+    }
+
+    /// Fails this call.
+    fn fail(&mut self) -> DoorError
+        ensures failed { result ≡ DoorError.Failed }
+        ensures cause { IsCaused self.old.faults self.new.faults result }
+        ensures still { self.new ≡ record self.old { faults = self.new.faults } }
+    {
+        self.faults = self.faults.saturating_add(1);
+        DoorError::Failed
+    }
+
+    /// Forgets the lanes that are over.
+    fn clear(&mut self)
+        ensures kept { self.new.lanes.items ≡ kept self.old.lanes.items }
+        ensures wires { self.new.wires ≡ self.old.wires }
+        ensures from { self.new.from ≡ self.old.from }
+        ensures moment { self.new.moment ≡ self.old.moment }
+        ensures faults { self.new.faults ≡ self.old.faults }
+    {
+        self.lanes.retain(|lane| !lane.is_over());
+    }
+
+    /// How long the wires may wait: not at all if something may be heard at once.
+    fn wait_for(&self, wait: u64) -> u64
+        ensures { result ≡ (if list_any is_awake self.now.lanes.items then 0 else wait) }
+    {
+        if self.is_awake() { 0 } else { wait }
+    }
+
+    /// Whether something may be heard at once on some lane.
+    fn is_awake(&self) -> bool
+        ensures { result ≡ list_any is_awake self.now.lanes.items }
+    {
+        self.lanes.iter().any(|lane| lane.is_awake())
+    }
+
+    /// Waits for something to come, and answers the moment then.
+    fn poll(&mut self, wait: u64) -> Result<u64, DoorError>
+        ensures polled { IfOk result (λ now. (moment : ℕ) × Tells (W.told self.old.wires) (W.told self.new.wires) (polled moment ∷ []) × (now ≡ max moment self.old.moment)) }
+        ensures failed { IfErr result (λ e. (e ≡ DoorError.Failed) × Rose (W.faults self.old.wires) (W.faults self.new.wires)
+            × Tells (W.told self.old.wires) (W.told self.new.wires) (poll_failed ∷ [])) }
+        ensures unfailed { OnOk result (W.faults self.new.wires ≡ W.faults self.old.wires) }
+        ensures still { self.new ≡ record self.old { wires = self.new.wires; faults = self.new.faults } }
+        ensures cause { HasFaultCause self.old.faults self.new.faults result }
+        ensures bound { W.wires self.new.wires ≡ W.wires self.old.wires }
+    {
+        let wait = self.wait_for(wait);
+        match self.wires.poll(wait) {
+            Ok(now) => Ok(now.max(self.moment)),
+            Err(_) => Err(self.fail()),
+        }
+    }
+
+    /// Takes the connection that came, if one did.
+    fn accept(&mut self, now: u64) -> Result<(), DoorError>
+        ensures accepted { OnOk result ((wire : Option ℕ) × Tells (W.told self.old.wires) (W.told self.new.wires) (accepted wire ∷ [])
+            × (self.new.lanes.items ≡ with_accepted now wire self.old.lanes.items) × IsNumbered (W.wires self.old.wires) (W.wires self.new.wires) wire) }
+        ensures failed { result ≡ Err DoorError.Failed → Rose (W.faults self.old.wires) (W.faults self.new.wires)
+            × Tells (W.told self.old.wires) (W.told self.new.wires) (accept_failed ∷ []) }
+        ensures from { self.new.from ≡ self.old.from }
+        ensures moment { self.new.moment ≡ self.old.moment }
+        ensures cause { HasFaultCause self.old.faults self.new.faults result }
+        ensures lanes { IfErr result (λ e. self.new.lanes.items ≡ self.old.lanes.items) }
+        ensures bound { W.wires self.old.wires ≤ W.wires self.new.wires }
+    {
+        match self.wires.accept() {
+            Ok(Some(wire)) => self.add(wire, now),
+            Ok(None) => Ok(()),
+            Err(_) => Err(self.fail()),
+        }
+    }
+
+    /// Adds a lane. If memory is out, its wire is shut.
+    fn add(&mut self, wire: u64, now: u64) -> Result<(), DoorError>
+        ensures added { OnOk result ((self.new.lanes.items ≡ with_accepted now (Some wire) self.old.lanes.items)
+            × (self.new.wires ≡ self.old.wires)) }
+        ensures memory { IfErr result (λ e. e ≡ DoorError.NoMemory) }
+        ensures from { self.new.from ≡ self.old.from }
+        ensures moment { self.new.moment ≡ self.old.moment }
+        ensures faults { self.new.faults ≡ self.old.faults }
+        ensures lanes { IfErr result (λ e. self.new.lanes.items ≡ self.old.lanes.items) }
+        ensures bound { W.wires self.new.wires ≡ W.wires self.old.wires }
+    {
+        match NetLane::start(self.alloc, wire, now) {
+            Ok(lane) => match self.lanes.push(lane) {
+                Ok(()) => Ok(()),
+                Err(_) => Err(self.turn_away(wire)),
+            },
+            Err(_) => Err(self.turn_away(wire)),
+        }
+    }
+
+    fn turn_away(&mut self, wire: u64) -> DoorError
+        ensures memory { result ≡ DoorError.NoMemory }
+        ensures still { self.new ≡ record self.old { wires = self.new.wires } }
+        ensures bound { W.wires self.new.wires ≡ W.wires self.old.wires }
+    {
+        self.wires.shut(wire);
+        DoorError::NoMemory
+    }
+
+    /// A turn of each lane, from the one after the last that was heard.
+    fn hear(&mut self, now: u64) -> Result<Event, AllocError>
+        ensures hears { IfOk result (λ event. (answers : List Answer) × Tells (W.told self.old.wires) (W.told self.new.wires) answers
+            × HearsTurns now (state_of self.old) (state_of self.new) answers event) }
+        ensures moment { self.new.moment ≡ self.old.moment }
+        ensures faults { self.new.faults ≡ self.old.faults }
+        ensures lanes { wires_of self.new.lanes.items ≡ wires_of self.old.lanes.items }
+        ensures bound { W.wires self.new.wires ≡ W.wires self.old.wires }
+    {
+        match turn_from(&mut self.lanes, self.from, &mut self.wires, now)? {
+            Some(event) => {
+                self.from = next_lane(&event);
+                Ok(event)
+            }
+            None => Ok(Event::Quiet),
+        }
+    }
+
+    fn place_of(&self, lane: u64) -> Option<usize>
+        ensures { result ≡ position (λ (other : Lane). other.wire == lane) self.now.lanes.items }
+    {
+        self.lanes.iter().position(|other| other.wire() == lane)
+    }
+}
+
+/// The number after that of the lane of this event.
+fn next_lane(event: &Event) -> u64
+    ensures { result ≡ next_from 0 (Some event.now) }
+{
+    let lane = match event {
+        Event::Request { lane, .. } => *lane,
+        Event::Refused { lane, .. } => *lane,
+        Event::Bytes { lane, .. } => *lane,
+        Event::Response { lane, .. } => *lane,
+        Event::Upgraded { lane } => *lane,
+        Event::Lost { lane } => *lane,
+        Event::Quiet => 0,
+    };
+    lane.saturating_add(1)
+}
+
+impl<W: Wires + Drop> Door for NetDoor<W> {
+    ghost moment = { λ d. d.moment };
+
+    ghost faults = { λ d. d.faults };
+
+    fn next(&mut self, wait: u64) -> Result<Heard, DoorError>
+        ensures heard { Hears None None wait result }
+        ensures later { IsLater self.old.moment self.new.moment result }
+        ensures cause { HasFaultCause self.old.faults self.new.faults result }
+        ensures hears { IfOk result (λ heard. (answers : List Answer) × Tells (W.told self.old.wires) (W.told self.new.wires) answers
+            × HearsNext (state_of self.old) (state_of self.new) answers heard) }
+        ensures fails { result ≡ Err DoorError.Failed → Rose (W.faults self.old.wires) (W.faults self.new.wires)
+            × ((answers : List Answer) × Tells (W.told self.old.wires) (W.told self.new.wires) answers × FailsNext answers) }
+        ensures lanes { KeepsLanes (W.wires self.old.wires) (W.wires self.new.wires) self.old.lanes.items self.new.lanes.items }
+    {
+        self.clear();
+        let now = self.poll(wait)?;
+        self.accept(now)?;
+        let event = self.hear(now)?;
+        self.moment = now;
+        Ok(Heard { now, event })
+    }
+
+    fn reply(&mut self, lane: u64, reply: Reply) -> Result<(), DoorError>
+        requires { IsReply reply }
+        ensures given { Says None None (λ done. say.Reply lane reply) result }
+        ensures still { self.new.moment ≡ self.old.moment }
+        ensures cause { HasFaultCause self.old.faults self.new.faults result }
+        ensures replied { OnOk result ((answers : List Answer) × Tells (W.told self.old.wires) (W.told self.new.wires) answers
+            × DoesAt lane (Replies self.old.moment reply) (state_of self.old) (state_of self.new) answers) }
+        ensures memory { IfErr result (λ e. e ≡ DoorError.NoMemory) }
+        ensures bound { W.wires self.new.wires ≡ W.wires self.old.wires }
+        ensures kept { OnErr result ((state_of self.new ≡ state_of self.old) × (W.told self.new.wires ≡ W.told self.old.wires)) }
+    {
+        let Some(place) = self.place_of(lane) else {
+            return Ok(());
+        };
+        let now = self.moment;
+        self.lanes[place].reply(&mut self.wires, &reply, now)?;
+        Ok(())
+    }
+
+    fn send(&mut self, lane: u64, bytes: &[u8], text: bool) -> Result<(), DoorError>
+        ensures given { Says None None (λ done. say.Bytes lane bytes.now text) result }
+        ensures still { self.new.moment ≡ self.old.moment }
+        ensures cause { HasFaultCause self.old.faults self.new.faults result }
+        ensures sent { OnOk result ((answers : List Answer) × Tells (W.told self.old.wires) (W.told self.new.wires) answers
+            × DoesAt lane (Sends bytes.now text) (state_of self.old) (state_of self.new) answers) }
+        ensures memory { IfErr result (λ e. e ≡ DoorError.NoMemory) }
+        ensures bound { W.wires self.new.wires ≡ W.wires self.old.wires }
+        ensures kept { OnErr result ((state_of self.new ≡ state_of self.old) × (W.told self.new.wires ≡ W.told self.old.wires)) }
+    {
+        let Some(place) = self.place_of(lane) else {
+            return Ok(());
+        };
+        self.lanes[place].send(&mut self.wires, bytes, text)?;
+        Ok(())
+    }
+
+    fn shut(&mut self, lane: u64) -> Result<(), DoorError>
+        ensures given { Says None None (λ done. say.Shut lane) result }
+        ensures still { self.new.moment ≡ self.old.moment }
+        ensures cause { HasFaultCause self.old.faults self.new.faults result }
+        ensures shut { OnOk result ((answers : List Answer) × Tells (W.told self.old.wires) (W.told self.new.wires) answers
+            × DoesAt lane Shuts (state_of self.old) (state_of self.new) answers) }
+        ensures memory { IfErr result (λ e. e ≡ DoorError.NoMemory) }
+        ensures bound { W.wires self.new.wires ≡ W.wires self.old.wires }
+        ensures kept { OnErr result ((state_of self.new ≡ state_of self.old) × (W.told self.new.wires ≡ W.told self.old.wires)) }
+    {
+        let Some(place) = self.place_of(lane) else {
+            return Ok(());
+        };
+        self.lanes[place].shut(&mut self.wires)?;
+        Ok(())
+    }
+}

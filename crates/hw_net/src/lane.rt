@@ -1,0 +1,482 @@
+//! One lane of a door: what it hears in a turn, and what it says.
+
+ghost use Rattle.std.specs.Prelude.{◌≡◌, ◌++◌, ◌∷◌, [], List, length, IfOk, OnOk, OnErr};
+ghost use Rattle.hd_lanes.specs.Replies.{IsReply};
+ghost use Rattle.hh_http.specs.Texts.{reply_text};
+ghost use Rattle.hw_door.specs.Traffic.{Answer, was_shut};
+ghost use Rattle.hw_net.specs.Door.{new_lane};
+ghost use Rattle.hw_net.specs.Lane.{waits, frames_of, is_over, is_awake, is_overdue, owes, refusal_of, after_end, after_reply, talk_after_shut, talk_after_reply, new_socket, rest_of};
+ghost use Rattle.hw_net.specs.Saying.{Writes, WritesOut, Says, SaysMore, SpeaksAs, IsLaneStill, must_end};
+ghost use Rattle.hw_net.specs.Told.{Tells};
+ghost use Rattle.hw_net.specs.Turn.{Hears, Settles, IsRightNews, TurnsLive, Listens, Loses, LosesAt, Replies, Puts, Sends, Shuts};
+
+use crate::asking::Asking;
+use crate::limits::{MOST_UNWRITTEN, MOST_WAIT, PIECE, SWITCHING};
+use crate::news::News;
+use crate::refusing::refusal;
+use crate::talk::{Stage, Talk};
+use crate::talking::Talking;
+use crate::writing::{write_bytes, write_frames};
+use hd_lanes::Reply;
+use hh_http::write_reply;
+use hw_door::{Event, Wires};
+use hw_socket::{SocketLane, SocketSide};
+use std::alloc::{AllocError, Global};
+use std::marker::Model;
+
+/// Whether the wire is shut after the writes: it failed, too much is left, or a lane that is heard no more has nothing left.
+fn must_end(stage: Stage, unwritten: usize, is_whole: bool) -> bool
+    ensures { result ≡ must_end stage unwritten is_whole }
+{
+    match stage {
+        Stage::Live => !is_whole || unwritten > MOST_UNWRITTEN,
+        Stage::Lost => false,
+        Stage::Closing => !is_whole || unwritten == 0 || unwritten > MOST_UNWRITTEN,
+        Stage::Over => false,
+    }
+}
+
+/// One lane. Its number is that of its wire.
+#[derive(Drop)]
+pub struct NetLane {
+    alloc: Global,
+    wire: u64,
+    // The moment since which it waits for a whole request.
+    since: u64,
+    talk: Talk,
+    // What was replied and isn't written. What a WebSocket has to write comes after it.
+    out: Vec<u8>,
+    stage: Stage,
+}
+
+impl Model for NetLane {
+    ghost use Rattle.hw_net.specs.Lane.{Lane};
+
+    ghost Value = { Lane };
+
+    ghost view = { λ a. record { wire = a.wire; since = a.since; talk = a.talk; out = a.out.items; stage = a.stage } };
+}
+
+impl NetLane {
+    /// The lane of a wire that was accepted at this moment.
+    pub fn start(alloc: Global, wire: u64, now: u64) -> Result<NetLane, AllocError>
+        ensures { IfOk result (λ lane. lane ≡ new_lane now wire) }
+    {
+        Ok(NetLane {
+            alloc,
+            wire,
+            since: now,
+            talk: Talk::Http(Asking::start(alloc)?),
+            out: Vec::new(alloc),
+            stage: Stage::Live,
+        })
+    }
+
+    pub fn wire(&self) -> u64
+        ensures { result ≡ self.now.wire }
+    {
+        self.wire
+    }
+
+    pub fn is_over(&self) -> bool
+        ensures { result ≡ is_over self.now.stage }
+    {
+        self.stage == Stage::Over
+    }
+
+    /// Whether something may be heard at once.
+    pub fn is_awake(&self) -> bool
+        ensures { result ≡ is_awake self.now }
+    {
+        match self.stage {
+            Stage::Live => match &self.talk {
+                Talk::Http(asking) => asking.is_awake(),
+                Talk::Socket(talking) => talking.is_awake(),
+            },
+            Stage::Lost => true,
+            Stage::Closing => false,
+            Stage::Over => false,
+        }
+    }
+
+    /// How many bytes wait to be written.
+    fn unwritten(&self) -> usize
+        ensures { result ≡ length (waits self.now) }
+    {
+        match &self.talk {
+            Talk::Http(_) => self.out.len(),
+            Talk::Socket(talking) => self.out.len().saturating_add(talking.lane.out().len()),
+        }
+    }
+
+    /// One turn: the lane hears at most one event, and then writes what waits.
+    pub fn turn<W: Wires>(
+        &mut self,
+        wires: &mut W,
+        buf: &mut [u8],
+        now: u64,
+    ) -> Result<Option<Event>, AllocError>
+        requires { length buf.old ≡ PIECE }
+        ensures turned { IfOk result (λ heard. (answers : List Answer) × Tells (W.told wires.old) (W.told wires.new) answers
+            × Listens now self.old self.new answers heard) }
+        ensures wires { W.wires wires.new ≡ W.wires wires.old }
+        ensures lane { self.new.wire ≡ self.old.wire }
+    {
+        match self.stage {
+            Stage::Live => self.turn_live(wires, buf, now),
+            Stage::Lost => Ok(Some(self.tell_loss())),
+            Stage::Closing => {
+                self.say(wires);
+                Ok(None)
+            }
+            Stage::Over => Ok(None),
+        }
+    }
+
+    fn turn_live<W: Wires>(
+        &mut self,
+        wires: &mut W,
+        buf: &mut [u8],
+        now: u64,
+    ) -> Result<Option<Event>, AllocError>
+        requires buffer { length buf.old ≡ PIECE }
+        requires live { self.old.stage ≡ Stage.Live }
+        ensures turned { IfOk result (λ heard. (answers : List Answer) × Tells (W.told wires.old) (W.told wires.new) answers
+            × TurnsLive now self.old self.new answers heard) }
+        ensures wires { W.wires wires.new ≡ W.wires wires.old }
+        ensures lane { self.new.wire ≡ self.old.wire }
+    {
+        let news = self.hear(wires, buf)?;
+        let event = self.take(wires, news, now)?;
+        self.say(wires);
+        Ok(self.heard(event))
+    }
+
+    /// What is heard in the end: a lane whose wire was shut meanwhile is lost, if nothing else is heard of it.
+    fn heard(&mut self, event: Option<Event>) -> Option<Event>
+        ensures heard { Loses event self.old self.new result }
+        ensures lane { self.new.wire ≡ self.old.wire }
+    {
+        match event {
+            Some(event) => Some(event),
+            None => self.loss(),
+        }
+    }
+
+    fn loss(&mut self) -> Option<Event>
+        ensures heard { LosesAt self.old.stage self.old self.new result }
+        ensures lane { self.new.wire ≡ self.old.wire }
+    {
+        match self.stage {
+            Stage::Live => None,
+            Stage::Lost => Some(self.tell_loss()),
+            Stage::Closing => None,
+            Stage::Over => None,
+        }
+    }
+
+    fn hear<W: Wires>(&mut self, wires: &mut W, buf: &mut [u8]) -> Result<News, AllocError>
+        requires { length buf.old ≡ PIECE }
+        ensures heard { IfOk result (λ news. (answers : List Answer) × Tells (W.told wires.old) (W.told wires.new) answers
+            × Hears self.old.wire self.old.talk self.new.talk answers news) }
+        ensures still { self.new ≡ record self.old { talk = self.new.talk } }
+        ensures wires { W.wires wires.new ≡ W.wires wires.old }
+    {
+        match &mut self.talk {
+            Talk::Http(asking) => asking.hear(wires, self.wire, buf),
+            Talk::Socket(talking) => talking.hear(wires, self.wire, buf),
+        }
+    }
+
+    /// What is heard of the news.
+    fn take<W: Wires>(
+        &mut self,
+        wires: &mut W,
+        news: News,
+        now: u64,
+    ) -> Result<Option<Event>, AllocError>
+        requires live { self.old.stage ≡ Stage.Live }
+        requires right { IsRightNews self.old.talk news }
+        ensures settled { IfOk result (λ heard. (answers : List Answer) × Tells (W.told wires.old) (W.told wires.new) answers
+            × Settles now self.old self.new answers news heard) }
+        ensures wires { W.wires wires.new ≡ W.wires wires.old }
+        ensures lane { self.new.wire ≡ self.old.wire }
+    {
+        let lane = self.wire;
+        match news {
+            News::Nothing => Ok(self.expire(wires, now)),
+            News::Request(request) => Ok(Some(Event::Request { lane, request })),
+            News::Refused(status) => {
+                self.refuse(status)?;
+                Ok(Some(Event::Refused { lane, status }))
+            }
+            News::Message(bytes) => Ok(Some(Event::Bytes { lane, bytes })),
+            News::Broken => {
+                self.end(wires);
+                Ok(Some(self.tell_loss()))
+            }
+            News::Gone => {
+                self.part()?;
+                Ok(Some(Event::Lost { lane }))
+            }
+        }
+    }
+
+    /// A lane that has waited for a request for too long is lost.
+    fn expire<W: Wires>(&mut self, wires: &mut W, now: u64) -> Option<Event>
+        requires { self.old.stage ≡ Stage.Live }
+        ensures settled { (answers : List Answer) × Tells (W.told wires.old) (W.told wires.new) answers
+            × Settles now self.old self.new answers News.Nothing result }
+        ensures wires { W.wires wires.new ≡ W.wires wires.old }
+        ensures lane { self.new.wire ≡ self.old.wire }
+    {
+        if !self.is_overdue(now) {
+            return None;
+        }
+        self.end(wires);
+        Some(self.tell_loss())
+    }
+
+    fn is_overdue(&self, now: u64) -> bool
+        ensures { result ≡ is_overdue now self.now }
+    {
+        match &self.talk {
+            Talk::Http(asking) => !asking.is_busy() && now.saturating_sub(self.since) >= MOST_WAIT,
+            Talk::Socket(_) => false,
+        }
+    }
+
+    /// Replies that what came is no request. The lane is heard no more.
+    fn refuse(&mut self, status: u16) -> Result<(), AllocError>
+        requires { IsReply (refusal_of status) }
+        ensures refused { OnOk result (self.new ≡ record self.old { out = self.old.out ++ reply_text (refusal_of status); stage = Stage.Closing }) }
+        ensures lane { self.new.wire ≡ self.old.wire }
+    {
+        write_reply(&refusal(self.alloc, status), &mut self.out)?;
+        self.stage = Stage::Closing;
+        Ok(())
+    }
+
+    /// Says that the WebSocket ends. The lane is heard no more.
+    fn part(&mut self) -> Result<(), AllocError>
+        ensures err { OnErr result (self.new ≡ self.old) }
+        ensures ok { OnOk result (self.new ≡ record self.old { talk = talk_after_shut self.old.talk; stage = Stage.Closing }) }
+    {
+        if let Talk::Socket(talking) = &mut self.talk {
+            talking.lane.shut()?;
+        }
+        self.stage = Stage::Closing;
+        Ok(())
+    }
+
+    /// The loss is heard now.
+    fn tell_loss(&mut self) -> Event
+        ensures heard { result ≡ Event.Lost self.old.wire }
+        ensures over { self.new ≡ record self.old { stage = Stage.Over } }
+    {
+        self.stage = Stage::Over;
+        Event::Lost { lane: self.wire }
+    }
+
+    /// Shuts the wire, and what waits is dropped. A lane that was heard until now is lost.
+    fn end<W: Wires>(&mut self, wires: &mut W)
+        ensures shut { Tells (W.told wires.old) (W.told wires.new) (was_shut self.old.wire ∷ []) }
+        ensures ended { self.new ≡ record self.old { stage = after_end self.old.stage } }
+        ensures wires { W.wires wires.new ≡ W.wires wires.old }
+    {
+        wires.shut(self.wire);
+        self.stage = match self.stage {
+            Stage::Live => Stage::Lost,
+            Stage::Lost => Stage::Lost,
+            Stage::Closing => Stage::Over,
+            Stage::Over => Stage::Over,
+        };
+    }
+
+    /// Writes what waits, as far as the wire takes it. The lane ends if the wire fails, if too much still waits, and if the lane only
+    /// waited for this.
+    pub fn say<W: Wires>(&mut self, wires: &mut W)
+        ensures said { (answers : List Answer) × Tells (W.told wires.old) (W.told wires.new) answers × Says self.old self.new answers }
+        ensures wires { W.wires wires.new ≡ W.wires wires.old }
+        ensures lane { self.new.wire ≡ self.old.wire }
+    {
+        match self.stage {
+            Stage::Live => self.write_out(wires),
+            Stage::Lost => {}
+            Stage::Closing => self.write_out(wires),
+            Stage::Over => {}
+        }
+    }
+
+    fn write_out<W: Wires>(&mut self, wires: &mut W)
+        ensures said { (answers : List Answer) × Tells (W.told wires.old) (W.told wires.new) answers × WritesOut self.old self.new answers }
+        ensures wires { W.wires wires.new ≡ W.wires wires.old }
+        ensures lane { self.new.wire ≡ self.old.wire }
+    {
+        let is_whole = self.write(wires);
+        let unwritten = self.unwritten();
+        if must_end(self.stage, unwritten, is_whole) {
+            self.end(wires);
+        }
+    }
+
+    /// Writes what waits. The answer is false if the wire failed.
+    fn write<W: Wires>(&mut self, wires: &mut W) -> bool
+        ensures written { (answers : List Answer) × Tells (W.told wires.old) (W.told wires.new) answers
+            × Writes self.old.wire (waits self.old) answers (waits self.new) result }
+        ensures still { IsLaneStill self.old self.new }
+        ensures stage { self.new.stage ≡ self.old.stage }
+        ensures wires { W.wires wires.new ≡ W.wires wires.old }
+    {
+        if !write_bytes(wires, self.wire, &mut self.out) {
+            return false;
+        }
+        if !self.out.is_empty() {
+            return true;
+        }
+        self.write_frames(wires)
+    }
+
+    /// Writes what a WebSocket has to write. The answer is false if the wire failed.
+    fn write_frames<W: Wires>(&mut self, wires: &mut W) -> bool
+        ensures written { (answers : List Answer) × Tells (W.told wires.old) (W.told wires.new) answers
+            × Writes self.old.wire (frames_of self.old.talk) answers (frames_of self.new.talk) result }
+        ensures talk { SpeaksAs self.old.talk self.new.talk }
+        ensures still { self.new ≡ record self.old { talk = self.new.talk } }
+        ensures wires { W.wires wires.new ≡ W.wires wires.old }
+    {
+        match &mut self.talk {
+            Talk::Http(_) => true,
+            Talk::Socket(talking) => write_frames(wires, self.wire, &mut talking.lane),
+        }
+    }
+
+    /// After something more waits: if that is too much, the lane ends, and nothing of it is written.
+    fn say_more<W: Wires>(&mut self, wires: &mut W)
+        ensures said { (answers : List Answer) × Tells (W.told wires.old) (W.told wires.new) answers × SaysMore self.old self.new answers }
+        ensures wires { W.wires wires.new ≡ W.wires wires.old }
+    {
+        if self.unwritten() > MOST_UNWRITTEN {
+            self.end(wires);
+        } else {
+            self.write_out(wires);
+        }
+    }
+
+    /// Replies to the request that waits, if one does.
+    pub fn reply<W: Wires>(
+        &mut self,
+        wires: &mut W,
+        reply: &Reply,
+        now: u64,
+    ) -> Result<(), AllocError>
+        requires { IsReply reply.now }
+        ensures replied { OnOk result ((answers : List Answer) × Tells (W.told wires.old) (W.told wires.new) answers
+            × Replies now reply.now self.old self.new answers) }
+        ensures kept { OnErr result ((self.new ≡ self.old) × (W.told wires.new ≡ W.told wires.old)) }
+        ensures wires { W.wires wires.new ≡ W.wires wires.old }
+    {
+        if !self.owes() {
+            return Ok(());
+        }
+        if reply.status == SWITCHING {
+            self.upgrade(reply)?;
+        } else {
+            self.answer(reply, now)?;
+        }
+        self.say_more(wires);
+        Ok(())
+    }
+
+    /// Whether a request waits for its reply.
+    fn owes(&self) -> bool
+        ensures { result ≡ owes self.now }
+    {
+        match &self.talk {
+            Talk::Http(asking) => self.stage == Stage::Live && asking.is_busy(),
+            Talk::Socket(_) => false,
+        }
+    }
+
+    fn answer(&mut self, reply: &Reply, now: u64) -> Result<(), AllocError>
+        requires { IsReply reply.now }
+        ensures ok { OnOk result (self.new ≡ record self.old {
+          talk = talk_after_reply self.old.talk;
+          out = self.old.out ++ reply_text reply.now;
+          since = now;
+        }) }
+        ensures err { OnErr result (self.new ≡ self.old) }
+    {
+        write_reply(reply, &mut self.out)?;
+        if let Talk::Http(asking) = &mut self.talk {
+            asking.go_on();
+        }
+        self.since = now;
+        Ok(())
+    }
+
+    /// The lane is a WebSocket from the end of this reply on, whose bytes are those that came after the request.
+    fn upgrade(&mut self, reply: &Reply) -> Result<(), AllocError>
+        requires { IsReply reply.now }
+        ensures ok { OnOk result (self.new ≡ record self.old {
+          talk = new_socket (rest_of self.old.talk);
+          out = self.old.out ++ reply_text reply.now;
+        }) }
+        ensures err { OnErr result (self.new ≡ self.old) }
+    {
+        let mut lane = SocketLane::start(self.alloc, SocketSide::Server);
+        if let Talk::Http(asking) = &self.talk {
+            lane.feed(asking.rest())?;
+        }
+        write_reply(reply, &mut self.out)?;
+        self.talk = Talk::Socket(Talking::of(lane));
+        Ok(())
+    }
+
+    /// Sends a message, if the lane is a WebSocket that can.
+    pub fn send<W: Wires>(
+        &mut self,
+        wires: &mut W,
+        bytes: &[u8],
+        text: bool,
+    ) -> Result<(), AllocError>
+        ensures sent { OnOk result ((answers : List Answer) × Tells (W.told wires.old) (W.told wires.new) answers
+            × Sends bytes.now text self.old self.new answers) }
+        ensures kept { OnErr result ((self.new ≡ self.old) × (W.told wires.new ≡ W.told wires.old)) }
+        ensures wires { W.wires wires.new ≡ W.wires wires.old }
+    {
+        if self.put(bytes, text)? {
+            self.say_more(wires);
+        }
+        Ok(())
+    }
+
+    /// Adds a message to what waits, if the lane is a WebSocket that can send it. The answer is whether it was.
+    fn put(&mut self, bytes: &[u8], text: bool) -> Result<bool, AllocError>
+        ensures put { IfOk result (Puts bytes.now text self.old self.new) }
+        ensures err { OnErr result (self.new ≡ self.old) }
+    {
+        if self.stage != Stage::Live {
+            return Ok(false);
+        }
+        match &mut self.talk {
+            Talk::Http(_) => Ok(false),
+            Talk::Socket(talking) => talking.lane.send(bytes, text),
+        }
+    }
+
+    /// Ends the lane, once what waits is written.
+    pub fn shut<W: Wires>(&mut self, wires: &mut W) -> Result<(), AllocError>
+        ensures shut { OnOk result ((answers : List Answer) × Tells (W.told wires.old) (W.told wires.new) answers
+            × Shuts self.old self.new answers) }
+        ensures kept { OnErr result ((self.new ≡ self.old) × (W.told wires.new ≡ W.told wires.old)) }
+        ensures wires { W.wires wires.new ≡ W.wires wires.old }
+    {
+        if self.stage != Stage::Live {
+            return Ok(());
+        }
+        self.part()?;
+        self.write_out(wires);
+        Ok(())
+    }
+}

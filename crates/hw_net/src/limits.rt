@@ -1,0 +1,13 @@
+//! The bounds of a door.
+
+/// The most bytes that are read at once on a wire.
+pub const PIECE: usize = 4_096;
+
+/// The most bytes that may wait on a lane to be written: 1 MiB.
+pub const MOST_UNWRITTEN: usize = 1_048_576;
+
+/// How many milliseconds a lane may wait for a whole request, since it was accepted or since its last reply.
+pub const MOST_WAIT: u64 = 30_000;
+
+/// The status of the reply that makes a lane a WebSocket (RFC 9110, section 15.2.2).
+pub const SWITCHING: u16 = 101;
