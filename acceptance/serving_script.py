@@ -3,11 +3,13 @@
 
     acceptance/serving_script.py --check   that the committed lines and answers are these
     acceptance/serving_script.py --write   writes both
+    acceptance/serving_script.py --random SEED N PROGRAM   N random sessions, done by PROGRAM too and compared
 
 The sessions at its beginning are written by hand. Those behind them are random, of five connections or so each, and their answers are those of
 `serving_model.py`, a server over plain lists."""
 import pathlib
 import random
+import subprocess
 import sys
 
 from serving_model import Server, compact, token_of
@@ -385,14 +387,29 @@ def session(seed):
     return "\n".join(draw.lines)
 
 
+def parted(whole):
+    """The lines of a script, and what is wanted for them."""
+    pairs = [pair.partition(" => ") for pair in whole.split("\n")]
+    return "".join(line + "\n" for line, _arrow, _answer in pairs), [answer if arrow else line for line, arrow, answer in pairs]
+
+
+def compared(seed, count, program):
+    """Runs random sessions by a program too."""
+    lines, wanted = parted("\n".join(session(one) for one in range(seed, seed + count)))
+    got = subprocess.run([program], input=lines, capture_output=True, text=True, check=True).stdout.splitlines()
+    wrong = next((at for at, pair in enumerate(zip(got, wanted)) if pair[0] != pair[1]), min(len(got), len(wanted)))
+    if got == wanted:
+        print(f"serving_script: {count} random sessions of {len(wanted)} lines are as the model says")
+        return 0
+    print(f"serving_script: line {wrong + 1}, {lines.splitlines()[wrong]!r}: {got[wrong:wrong + 1]} where {wanted[wrong:wrong + 1]} is wanted")
+    return 1
+
+
 def main():
-    lines, answers = "", ""
     whole = rows().strip() + "\n" + by_life() + "\n" + doors() + "\n" + "\n".join(session(seed) for seed in range(SESSIONS))
-    for pair in whole.split("\n"):
-        line, arrow, answer = pair.partition(" => ")
-        assert bool(arrow) != line.startswith("note "), pair
-        lines += line + "\n"
-        answers += (answer if arrow else line) + "\n"
+    assert all((" => " in pair) != pair.startswith("note ") for pair in whole.split("\n"))
+    lines, wanted = parted(whole)
+    answers = "".join(answer + "\n" for answer in wanted)
     if sys.argv[1:] == ["--write"]:
         (CRATE / "stdin").write_text(lines)
         (CRATE / "stdout").write_text(answers)
@@ -401,6 +418,8 @@ def main():
         same = lines == (CRATE / "stdin").read_text() and answers == (CRATE / "stdout").read_text()
         print(f"serving_script: the committed lines and answers are {'' if same else 'not '}these")
         return 0 if same else 1
+    if len(sys.argv) == 5 and sys.argv[1] == "--random":
+        return compared(int(sys.argv[2]), int(sys.argv[3]), sys.argv[4])
     print(__doc__)
     return 2
 

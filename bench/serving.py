@@ -42,8 +42,8 @@ def cost(asked, idle):
 def main():
     parser = argparse.ArgumentParser(description=__doc__, formatter_class=argparse.RawDescriptionHelpFormatter)
     parser.add_argument("--idle", type=int, default=9_999)
-    parser.add_argument("--events", type=int, default=2_000)
-    parser.add_argument("--runs", type=int, default=3)
+    parser.add_argument("--events", type=int, default=200_000)
+    parser.add_argument("--runs", type=int, default=5)
     parser.add_argument("program", nargs="?", default=str(TOP / "crates" / "ht_serving" / "out" / "ht_serving"))
     asked = parser.parse_args()
     alone, beside = cost(asked, 0), cost(asked, asked.idle)
