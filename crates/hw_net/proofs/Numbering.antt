@@ -9,7 +9,8 @@ use Rattle.hw_net.specs.declared.talk.Talk.{Talk}
 use Rattle.hw_net.specs.declared.talk.Talk.TheVariants.{Http, Socket}
 use Rattle.hw_net.specs.Door.{IsNumbered, kept}
 use Rattle.hw_net.specs.Lane.{Lane, wires_of, waits, is_over, is_live, owes, after_end, after_reply, talk_after_shut, talk_after_reply, new_socket, rest_of}
-use Rattle.hw_net.specs.Numbers.{IsRising, NumbersRise, RepliesKeepNumbers, SendsKeepNumbers, ShutsKeepNumbers}
+use Rattle.hw_net.specs.Numbers.{NumbersRise, RepliesKeepNumbers, SendsKeepNumbers, ShutsKeepNumbers}
+use Rattle.hw_net.specs.Rising.{IsRising}
 use Rattle.hw_net.specs.Saying.{WritesOut, SaysMore, is_too_much}
 use Rattle.hw_net.specs.Told.{Chooses}
 use Rattle.hw_net.specs.Turn.{Replies, PutsAt, Sends, Shuts, AtLane}
@@ -20,19 +21,19 @@ lower from least bound [] le h = omega (arith, le, h)
 lower from least bound (wire ∷ wires) le h = (omega (arith, le, h.0), h.1)
 
 -- some of the lanes are kept
-kept-rise : (from bound : ℕ) (lanes : List Lane) → IsRising from bound (wires_of lanes) → IsRising from bound (wires_of (kept lanes))
+pub kept-rise : (from bound : ℕ) (lanes : List Lane) → IsRising from bound (wires_of lanes) → IsRising from bound (wires_of (kept lanes))
 kept-rise from bound [] h = h
 kept-rise from bound (lane ∷ lanes) h = go (not (is_over lane.stage)) (kept-rise (lane.wire + 1) bound lanes h.1) where
   go : (b : Bool) → IsRising (lane.wire + 1) bound (wires_of (kept lanes)) → IsRising from bound (wires_of (cond b (lane ∷ kept lanes) (kept lanes)))
   go true k = (h.0, k)
   go false k = lower (lane.wire + 1) from bound (wires_of (kept lanes)) (omega (arith, h.0)) k
 
-higher : (from bound most : ℕ) (wires : List ℕ) → bound ≤ most → IsRising from bound wires → IsRising from most wires
+pub higher : (from bound most : ℕ) (wires : List ℕ) → bound ≤ most → IsRising from bound wires → IsRising from most wires
 higher from bound most [] le h = omega (arith, le, h)
 higher from bound most (wire ∷ wires) le h = (h.0, higher (wire + 1) bound most wires le h.1)
 
 -- a new number comes after them
-come-rise : (from bound most new : ℕ) (wires : List ℕ) → bound ≤ new → new + 1 ≤ most → IsRising from bound wires → IsRising from most (wires ++ new ∷ [])
+pub come-rise : (from bound most new : ℕ) (wires : List ℕ) → bound ≤ new → new + 1 ≤ most → IsRising from bound wires → IsRising from most (wires ++ new ∷ [])
 come-rise from bound most new [] le lt h = (omega (arith, le, h), lt)
 come-rise from bound most new (wire ∷ wires) le lt h = (h.0, come-rise (wire + 1) bound most new wires le lt h.1)
 
@@ -54,20 +55,20 @@ at-wires wire Does (lane ∷ lanes) after answers each h = go (lane.wire == wire
   go true h again = ap wires_of h.1 ∙ ap (λ n. n ∷ wires_of lanes) (each lane h.0 answers h.2)
   go false h again = ap wires_of h.1 ∙ ap (λ l. lane.wire ∷ l) (again h.0 answers each h.2)
 
-more-wire : (before after : Lane) (answers : List Answer) → SaysMore before after answers → after.wire ≡ before.wire
+pub more-wire : (before after : Lane) (answers : List Answer) → SaysMore before after answers → after.wire ≡ before.wire
 more-wire before after answers h = go (is_too_much (length (waits before))) h where
   go : (b : Bool) → Chooses b ((answers ≡ was_shut before.wire ∷ []) × (after ≡ record before { stage = after_end before.stage })) (WritesOut before after answers) → after.wire ≡ before.wire
   go true h = ap (λ (l : Lane). l.wire) h.1
   go false h = h.still.wire
 
-replied-wire : (now : ℕ) (reply : Reply) (lane : Lane) → (after_reply now reply lane).wire ≡ lane.wire
+pub replied-wire : (now : ℕ) (reply : Reply) (lane : Lane) → (after_reply now reply lane).wire ≡ lane.wire
 replied-wire now reply lane = go (reply.status == SWITCHING) where
   go : (b : Bool) → (if b then record lane { talk = new_socket (rest_of lane.talk); out = lane.out ++ reply_text reply }
       else record lane { talk = talk_after_reply lane.talk; out = lane.out ++ reply_text reply; since = now }).wire ≡ lane.wire
   go true = refl
   go false = refl
 
-reply-wire : (now : ℕ) (reply : Reply) (before after : Lane) (answers : List Answer) → Replies now reply before after answers → after.wire ≡ before.wire
+pub reply-wire : (now : ℕ) (reply : Reply) (before after : Lane) (answers : List Answer) → Replies now reply before after answers → after.wire ≡ before.wire
 reply-wire now reply before after answers h = go (owes before) h where
   go : (b : Bool) → Chooses b (SaysMore (after_reply now reply before) after answers) ((answers ≡ []) × (after ≡ before)) → after.wire ≡ before.wire
   go true h = more-wire (after_reply now reply before) after answers h ∙ replied-wire now reply before
@@ -76,12 +77,12 @@ reply-wire now reply before after answers h = go (owes before) h where
 pub replies-keep : RepliesKeepNumbers
 replies-keep lane now reply before after answers h = at-wires lane (Replies now reply) before.lanes after.lanes answers (reply-wire now reply) h.0
 
-put-wire : (live : Bool) (talk : Talk) (bytes : List ℕ) (text : Bool) (before after : Lane) (is_put : Bool) → PutsAt live talk bytes text before after is_put → after.wire ≡ before.wire
+pub put-wire : (live : Bool) (talk : Talk) (bytes : List ℕ) (text : Bool) (before after : Lane) (is_put : Bool) → PutsAt live talk bytes text before after is_put → after.wire ≡ before.wire
 put-wire true (Socket talking) bytes text before after is_put h = ap (λ (l : Lane). l.wire) h.2
 put-wire true (Http asking) bytes text before after is_put h = ap (λ (l : Lane). l.wire) h.1
 put-wire false talk bytes text before after is_put h = ap (λ (l : Lane). l.wire) h.1
 
-send-wire : (bytes : List ℕ) (text : Bool) (before after : Lane) (answers : List Answer) → Sends bytes text before after answers → after.wire ≡ before.wire
+pub send-wire : (bytes : List ℕ) (text : Bool) (before after : Lane) (answers : List Answer) → Sends bytes text before after answers → after.wire ≡ before.wire
 send-wire bytes text before after answers h = go h.0 h.1 h.3 ∙ put-wire (is_live before.stage) before.talk bytes text before h.0 h.1 h.2 where
   go : (mid : Lane) (b : Bool) → Chooses b (SaysMore mid after answers) ((answers ≡ []) × (after ≡ mid)) → after.wire ≡ mid.wire
   go mid true h = more-wire mid after answers h
@@ -90,7 +91,7 @@ send-wire bytes text before after answers h = go h.0 h.1 h.3 ∙ put-wire (is_li
 pub sends-keep : SendsKeepNumbers
 sends-keep lane bytes text before after answers h = at-wires lane (Sends bytes text) before.lanes after.lanes answers (send-wire bytes text) h.0
 
-shut-wire : (before after : Lane) (answers : List Answer) → Shuts before after answers → after.wire ≡ before.wire
+pub shut-wire : (before after : Lane) (answers : List Answer) → Shuts before after answers → after.wire ≡ before.wire
 shut-wire before after answers h = go (is_live before.stage) h where
   go : (b : Bool) → Chooses b (WritesOut (record before { talk = talk_after_shut before.talk; stage = Closing }) after answers) ((answers ≡ []) × (after ≡ before)) → after.wire ≡ before.wire
   go true h = h.still.wire

@@ -4,6 +4,7 @@ use Rattle.std.specs.List.{position_or_len}
 use Rattle.hw_door.specs.Traffic.{Answer}
 use Rattle.hw_net.specs.Door.{DoesAt}
 use Rattle.hw_net.specs.Lane.{Lane}
+use Rattle.hw_net.specs.Lanes.{DoesHere}
 use Rattle.hw_net.specs.Told.{Tells, Chooses}
 use Rattle.hw_net.specs.Turn.{AtLane}
 use Rattle.hw_net.proofs.Telling.{tells-none}
@@ -55,11 +56,12 @@ does-nothing told wire from from_after moment moment_after Does lanes e f m =
     ([], tells-none told, (nowhere wire Does lanes (is-nowhere wire lanes e), f, m))
 
 -- what is done by the lane that is found
-pub does-at : (a b : Option (List Answer)) (wire from from_after moment moment_after : ℕ) (Does : Lane → Lane → List Answer → Type 0) (lanes : List Lane) (place : ℕ) (at next : Lane) →
-    position (is_of wire) lanes ≡ Some place → get_or lanes place at ≡ at → ((answers : List Answer) × Tells a b answers × Does at next answers) →
-    from_after ≡ from → moment_after ≡ moment →
+pub does-at : (a b : Option (List Answer)) (wire from from_after moment moment_after : ℕ) (Does : Lane → Lane → List Answer → Type 0) (lanes after : List Lane) (place : ℕ) →
+    position (is_of wire) lanes ≡ Some place → ((answers : List Answer) × Tells a b answers × DoesHere place Does lanes after answers) → from_after ≡ from → moment_after ≡ moment →
     (answers : List Answer) × Tells a b answers
-    × DoesAt wire Does (record { lanes = lanes; from = from; moment = moment }) (record { lanes = set lanes place next; from = from_after; moment = moment_after }) answers
-does-at a b wire from from_after moment moment_after Does lanes place at next e same h f m =
+    × DoesAt wire Does (record { lanes = lanes; from = from; moment = moment }) (record { lanes = after; from = from_after; moment = moment_after }) answers
+does-at a b wire from from_after moment moment_after Does lanes after place e h f m =
     let found = is-at wire lanes place e in
-    (h.0, h.1, (at-first wire Does lanes place at next h.0 found.0 found.1 same h.2, f, m))
+    let d = h.2 in
+    let here = at-first wire Does lanes place d.lane d.next h.0 found.0 found.1 d.at d.does in
+    (h.0, h.1, (subst (λ (l : List Lane). AtLane wire Does lanes l h.0) (sym d.order) here, f, m))

@@ -4,8 +4,14 @@ pub mod News
 pub mod Asking
 pub mod Talking
 pub mod Lane
+pub mod Tally
+pub mod Lanes
+pub mod Rising
+pub mod Parts
 pub mod Saying
 pub mod Turn
+pub mod Walks
 pub mod Door
 pub mod Bounds
 pub mod Numbers
+pub mod Sessions

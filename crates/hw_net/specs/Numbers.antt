@@ -1,15 +1,11 @@
 -- The numbers of the lanes of a door.
-use Rattle.std.specs.Prelude.{◌≡◌, ◌≤◌, ◌+◌, ℕ, Bool, List, [], ◌∷◌}
+use Rattle.std.specs.Prelude.{◌≡◌, ℕ, Bool, List}
 use Rattle.hd_lanes.specs.declared.http.Reply.{Reply}
 use Rattle.hw_door.specs.Traffic.{Answer}
 use Rattle.hw_net.specs.Door.{DoorState, KeepsLanes, DoesAt}
 use Rattle.hw_net.specs.Lane.{Lane, wires_of}
+use Rattle.hw_net.specs.Rising.{IsRising}
 use Rattle.hw_net.specs.Turn.{Replies, Sends, Shuts}
-
--- numbers that rise, from this one on and below that
-abbrev pub IsRising : ℕ → ℕ → List ℕ → Type 0
-IsRising from bound [] = from ≤ bound
-IsRising from bound (wire ∷ wires) = (from ≤ wire) × IsRising (wire + 1) bound wires
 
 -- numbers that rise below the bound do so after a call of `next` too: so no number comes twice
 abbrev pub NumbersRise : Type 0

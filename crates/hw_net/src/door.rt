@@ -1,6 +1,6 @@
 //! The door: all lanes, and the wires that they stand on.
 
-ghost use Rattle.std.specs.Prelude.{◌≡◌, ◌≤◌, ◌∷◌, ◌==◌, [], ℕ, List, Option, None, Some, Err, IfOk, IfErr, IfSome, IfNone, OnOk, OnErr, if◌then◌else◌, max, position};
+ghost use Rattle.std.specs.Prelude.{◌≡◌, ◌≤◌, ◌+◌, ◌∷◌, [], ℕ, List, Option, None, Some, Err, IfOk, IfErr, IfSome, IfNone, OnOk, OnErr, if◌then◌else◌, max};
 ghost use Rattle.std.specs.List.{list_any};
 ghost use Rattle.hd_facts.specs.Counts.{Rose};
 ghost use Rattle.hd_lanes.specs.Replies.{IsReply};
@@ -8,26 +8,48 @@ ghost use Rattle.hw_door.specs.declared.heard.Given.TheVariants as say;
 ghost use Rattle.hw_door.specs.Calls.{HasFaultCause, IsCaused, Hears, Says, IsLater};
 ghost use Rattle.hw_door.specs.Traffic.{Answer, polled, poll_failed, accepted, accept_failed};
 ghost use Rattle.hw_net.specs.Door.{HearsNext, FailsNext, IsNumbered, KeepsLanes, DoesAt, HearsTurns, state_of, kept, with_accepted, next_from};
-ghost use Rattle.hw_net.specs.Lane.{Lane, is_awake, wires_of};
+ghost use Rattle.hw_net.specs.Lane.{is_awake, wires_of};
+ghost use Rattle.hw_net.specs.Rising.{IsRising};
 ghost use Rattle.hw_net.specs.Told.{Tells};
 ghost use Rattle.hw_net.specs.Turn.{Replies, Sends, Shuts};
 
 use crate::lane::NetLane;
+use crate::lanes::Lanes;
 use crate::turns::turn_from;
 use hd_lanes::Reply;
 use hw_door::{Door, DoorError, Event, Heard, Wires};
 use std::alloc::{AllocError, Global};
+use std::marker::Model;
 
 /// A door over wires.
 #[derive(Drop)]
 pub struct NetDoor<W: Wires + Drop> {
     alloc: Global,
     wires: W,
-    lanes: Vec<NetLane>,
+    lanes: Lanes,
     // The lanes from this number on come first in the next search, then the others.
     from: u64,
     moment: u64,
     faults: u64,
+}
+
+// The numbers of the lanes rise, and the wires answer no number again, so a lane is found by its number in few steps.
+impl<W: Wires + Drop> Model for NetDoor<W> {
+    ghost use Rattle.hw_net.specs.Lane.{wires_of};
+    ghost use Rattle.hw_net.specs.Parts.{DoorParts};
+    ghost use Rattle.hw_net.specs.Rising.{IsRising};
+
+    ghost Value = { DoorParts W };
+
+    ghost view = { λ d. record {
+      wires = d.wires;
+      lanes = d.lanes;
+      from = d.from;
+      moment = d.moment;
+      faults = d.faults;
+    } };
+
+    ghost invariant = { λ d. IsRising 0 (W.wires d.wires) (wires_of d.lanes.items) };
 }
 
 impl<W: Wires + Drop> NetDoor<W> {
@@ -40,7 +62,7 @@ impl<W: Wires + Drop> NetDoor<W> {
         NetDoor {
             alloc,
             wires,
-            lanes: Vec::new(alloc),
+            lanes: Lanes::start(alloc),
             from: 0,
             moment: 0,
             faults: 0,
@@ -72,21 +94,14 @@ impl<W: Wires + Drop> NetDoor<W> {
         ensures moment { self.new.moment ≡ self.old.moment }
         ensures faults { self.new.faults ≡ self.old.faults }
     {
-        self.lanes.retain(|lane| !lane.is_over());
+        self.lanes.clear();
     }
 
     /// How long the wires may wait: not at all if something may be heard at once.
     fn wait_for(&self, wait: u64) -> u64
         ensures { result ≡ (if list_any is_awake self.now.lanes.items then 0 else wait) }
     {
-        if self.is_awake() { 0 } else { wait }
-    }
-
-    /// Whether something may be heard at once on some lane.
-    fn is_awake(&self) -> bool
-        ensures { result ≡ list_any is_awake self.now.lanes.items }
-    {
-        self.lanes.iter().any(|lane| lane.is_awake())
+        if self.lanes.has_awake() { 0 } else { wait }
     }
 
     /// Waits for something to come, and answers the moment then.
@@ -125,8 +140,10 @@ impl<W: Wires + Drop> NetDoor<W> {
         }
     }
 
-    /// Adds a lane. If memory is out, its wire is shut.
+    /// Adds a lane, whose number is higher than those of the others. If memory is out, its wire is shut.
     fn add(&mut self, wire: u64, now: u64) -> Result<(), DoorError>
+        requires later { IsRising 0 wire (wires_of self.old.lanes.items) }
+        requires bound { wire + 1 ≤ W.wires self.old.wires }
         ensures added { OnOk result ((self.new.lanes.items ≡ with_accepted now (Some wire) self.old.lanes.items)
             × (self.new.wires ≡ self.old.wires)) }
         ensures memory { IfErr result (λ e. e ≡ DoorError.NoMemory) }
@@ -137,7 +154,7 @@ impl<W: Wires + Drop> NetDoor<W> {
         ensures bound { W.wires self.new.wires ≡ W.wires self.old.wires }
     {
         match NetLane::start(self.alloc, wire, now) {
-            Ok(lane) => match self.lanes.push(lane) {
+            Ok(lane) => match self.lanes.add(lane) {
                 Ok(()) => Ok(()),
                 Err(_) => Err(self.turn_away(wire)),
             },
@@ -170,12 +187,6 @@ impl<W: Wires + Drop> NetDoor<W> {
             }
             None => Ok(Event::Quiet),
         }
-    }
-
-    fn place_of(&self, lane: u64) -> Option<usize>
-        ensures { result ≡ position (λ (other : Lane). other.wire == lane) self.now.lanes.items }
-    {
-        self.lanes.iter().position(|other| other.wire() == lane)
     }
 }
 
@@ -229,11 +240,11 @@ impl<W: Wires + Drop> Door for NetDoor<W> {
         ensures bound { W.wires self.new.wires ≡ W.wires self.old.wires }
         ensures kept { OnErr result ((state_of self.new ≡ state_of self.old) × (W.told self.new.wires ≡ W.told self.old.wires)) }
     {
-        let Some(place) = self.place_of(lane) else {
+        let Some(place) = self.lanes.place_of(lane) else {
             return Ok(());
         };
         let now = self.moment;
-        self.lanes[place].reply(&mut self.wires, &reply, now)?;
+        self.lanes.reply(place, &mut self.wires, &reply, now)?;
         Ok(())
     }
 
@@ -247,10 +258,10 @@ impl<W: Wires + Drop> Door for NetDoor<W> {
         ensures bound { W.wires self.new.wires ≡ W.wires self.old.wires }
         ensures kept { OnErr result ((state_of self.new ≡ state_of self.old) × (W.told self.new.wires ≡ W.told self.old.wires)) }
     {
-        let Some(place) = self.place_of(lane) else {
+        let Some(place) = self.lanes.place_of(lane) else {
             return Ok(());
         };
-        self.lanes[place].send(&mut self.wires, bytes, text)?;
+        self.lanes.send(place, &mut self.wires, bytes, text)?;
         Ok(())
     }
 
@@ -264,10 +275,10 @@ impl<W: Wires + Drop> Door for NetDoor<W> {
         ensures bound { W.wires self.new.wires ≡ W.wires self.old.wires }
         ensures kept { OnErr result ((state_of self.new ≡ state_of self.old) × (W.told self.new.wires ≡ W.told self.old.wires)) }
     {
-        let Some(place) = self.place_of(lane) else {
+        let Some(place) = self.lanes.place_of(lane) else {
             return Ok(());
         };
-        self.lanes[place].shut(&mut self.wires)?;
+        self.lanes.shut(place, &mut self.wires)?;
         Ok(())
     }
 }

@@ -7,6 +7,7 @@ ghost use Rattle.hw_door.specs.Traffic.{Answer, was_shut};
 ghost use Rattle.hw_net.specs.Door.{new_lane};
 ghost use Rattle.hw_net.specs.Lane.{waits, frames_of, is_over, is_awake, is_overdue, owes, refusal_of, after_end, after_reply, talk_after_shut, talk_after_reply, new_socket, rest_of};
 ghost use Rattle.hw_net.specs.Saying.{Writes, WritesOut, Says, SaysMore, SpeaksAs, IsLaneStill, must_end};
+ghost use Rattle.hw_net.specs.Tally.{is_lagging};
 ghost use Rattle.hw_net.specs.Told.{Tells};
 ghost use Rattle.hw_net.specs.Turn.{Hears, Settles, IsRightNews, TurnsLive, Listens, Loses, LosesAt, Replies, Puts, Sends, Shuts};
 
@@ -95,6 +96,18 @@ impl NetLane {
             },
             Stage::Lost => true,
             Stage::Closing => false,
+            Stage::Over => false,
+        }
+    }
+
+    /// Whether there may be something to write.
+    pub fn is_lagging(&self) -> bool
+        ensures { result ≡ is_lagging self.now }
+    {
+        match self.stage {
+            Stage::Live => self.unwritten() > 0,
+            Stage::Lost => false,
+            Stage::Closing => true,
             Stage::Over => false,
         }
     }
@@ -355,6 +368,7 @@ impl NetLane {
     fn say_more<W: Wires>(&mut self, wires: &mut W)
         ensures said { (answers : List Answer) × Tells (W.told wires.old) (W.told wires.new) answers × SaysMore self.old self.new answers }
         ensures wires { W.wires wires.new ≡ W.wires wires.old }
+        ensures lane { self.new.wire ≡ self.old.wire }
     {
         if self.unwritten() > MOST_UNWRITTEN {
             self.end(wires);
@@ -375,6 +389,7 @@ impl NetLane {
             × Replies now reply.now self.old self.new answers) }
         ensures kept { OnErr result ((self.new ≡ self.old) × (W.told wires.new ≡ W.told wires.old)) }
         ensures wires { W.wires wires.new ≡ W.wires wires.old }
+        ensures lane { self.new.wire ≡ self.old.wire }
     {
         if !self.owes() {
             return Ok(());
@@ -444,6 +459,7 @@ impl NetLane {
             × Sends bytes.now text self.old self.new answers) }
         ensures kept { OnErr result ((self.new ≡ self.old) × (W.told wires.new ≡ W.told wires.old)) }
         ensures wires { W.wires wires.new ≡ W.wires wires.old }
+        ensures lane { self.new.wire ≡ self.old.wire }
     {
         if self.put(bytes, text)? {
             self.say_more(wires);
@@ -455,6 +471,7 @@ impl NetLane {
     fn put(&mut self, bytes: &[u8], text: bool) -> Result<bool, AllocError>
         ensures put { IfOk result (Puts bytes.now text self.old self.new) }
         ensures err { OnErr result (self.new ≡ self.old) }
+        ensures lane { self.new.wire ≡ self.old.wire }
     {
         if self.stage != Stage::Live {
             return Ok(false);
@@ -471,6 +488,7 @@ impl NetLane {
             × Shuts self.old self.new answers) }
         ensures kept { OnErr result ((self.new ≡ self.old) × (W.told wires.new ≡ W.told wires.old)) }
         ensures wires { W.wires wires.new ≡ W.wires wires.old }
+        ensures lane { self.new.wire ≡ self.old.wire }
     {
         if self.stage != Stage::Live {
             return Ok(());

@@ -4,6 +4,7 @@ ghost use Rattle.std.specs.Prelude.{◌≡◌};
 ghost use Rattle.hw_net.specs.Bounds.{NextIsWithin, RepliesAreWithin, SendsAreWithin, ShutsAreWithin};
 ghost use Rattle.hw_net.specs.Limits.{piece, most_unwritten, most_wait, switching};
 ghost use Rattle.hw_net.specs.Numbers.{NumbersRise, RepliesKeepNumbers, SendsKeepNumbers, ShutsKeepNumbers};
+ghost use Rattle.hw_net.specs.Sessions.{RequestsAreAsked, RefusalsAreDeserved, RepliesAreWritten, RequestsWaitForReplies, WiresAreShutForACause, WiresAreShutOnce, LanesHaveWires, LossesHaveCauses, SocketsAreCarried};
 
 use crate::limits::{MOST_UNWRITTEN, MOST_WAIT, PIECE, SWITCHING};
 
@@ -29,4 +30,41 @@ pub fn numbers_rise()
     ensures replied { RepliesKeepNumbers }
     ensures sent { SendsKeepNumbers }
     ensures shut { ShutsKeepNumbers }
+{}
+
+/// In any session the requests heard on a lane are those of all bytes read on its wire, in whatever pieces, and what is refused
+/// there is what these leave.
+pub fn requests_are_asked()
+    ensures asked { RequestsAreAsked }
+    ensures refused { RefusalsAreDeserved }
+{}
+
+/// In any session the bytes written on a lane's wire, and then those that wait, are the texts of the replies said there, in order, and
+/// then the frames of its WebSocket, if it became one.
+pub fn replies_are_written()
+    ensures { RepliesAreWritten }
+{}
+
+/// A request is heard on a lane only once each one before it there was replied to.
+pub fn requests_wait_for_replies()
+    ensures { RequestsWaitForReplies }
+{}
+
+/// A wire is shut only if its lane is heard no more but for its loss, and only once, and then nothing is read or written on it.
+pub fn wires_are_shut_for_a_cause()
+    ensures cause { WiresAreShutForACause }
+    ensures once { WiresAreShutOnce }
+    ensures lanes { LanesHaveWires }
+{}
+
+/// A lane is heard as lost only for one of the causes: its wire ended or failed, its WebSocket is gone, it waited for a request for
+/// 30,000 ms, more than 1,048,576 bytes would wait, or memory was out when it was read.
+pub fn losses_have_causes()
+    ensures { LossesHaveCauses }
+{}
+
+/// A lane that became a WebSocket carries a fresh one, call by call. It is fed with what the requests leave of the bytes read, its payloads
+/// are the messages heard, and what it wrote stands behind the replies.
+pub fn sockets_are_carried()
+    ensures { SocketsAreCarried }
 {}

@@ -3,7 +3,9 @@
 
 mod asking;
 mod door;
+mod finding;
 mod lane;
+mod lanes;
 mod laws;
 mod limits;
 mod news;
@@ -11,9 +13,13 @@ mod reading;
 mod refusing;
 mod talk;
 mod talking;
+mod tally;
 mod turns;
 mod writing;
 
 pub use door::NetDoor;
-pub use laws::{lanes_are_bounded, limits_are_named, numbers_rise};
+pub use laws::{
+    lanes_are_bounded, limits_are_named, losses_have_causes, numbers_rise, replies_are_written,
+    requests_are_asked, requests_wait_for_replies, sockets_are_carried, wires_are_shut_for_a_cause,
+};
 pub use limits::{MOST_UNWRITTEN, MOST_WAIT};

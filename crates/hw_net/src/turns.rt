@@ -1,93 +1,120 @@
 //! One call's turns of the lanes, in their order.
 
-ghost use Rattle.std.specs.Prelude.{◌≡◌, ℕ, List, Option, length, nat_le, position, IfOk};
+ghost use Rattle.std.specs.Prelude.{◌≡◌, ◌≤◌, List, None, Some, length, IfOk, IfSome, IfNone};
 ghost use Rattle.hw_door.specs.Traffic.{Answer};
-ghost use Rattle.hw_net.specs.Door.{HearsAll, place_of_first};
-ghost use Rattle.hw_net.specs.Lane.{Lane, wires_of};
+ghost use Rattle.hw_net.specs.Door.{HearsAll};
+ghost use Rattle.hw_net.specs.Lane.{wires_of};
+ghost use Rattle.hw_net.specs.Rising.{Rise};
 ghost use Rattle.hw_net.specs.Told.{Tells};
-ghost use Rattle.hw_net.specs.Turn.{Turns, TurnAll};
+ghost use Rattle.hw_net.specs.Walks.{Walks, Speak};
 
-use crate::lane::NetLane;
+use crate::lanes::Lanes;
 use crate::limits::PIECE;
 use hw_door::{Event, Wires};
 use std::alloc::AllocError;
 
-/// A turn of one lane. Once an event was heard in this call, it only writes what waits.
-fn turn<W: Wires>(
-    lane: &mut NetLane,
+/// What was heard first, and the place after that lane.
+#[derive(Drop)]
+struct Found {
+    event: Event,
+    next: usize,
+}
+
+/// Turns of the lanes of these places, the first first, until one hears something.
+fn turn_until<W: Wires>(
+    lanes: &mut Lanes,
+    begin: usize,
+    end: usize,
     wires: &mut W,
     buf: &mut [u8],
     now: u64,
-    event: Option<Event>,
-) -> Result<Option<Event>, AllocError>
-    requires { length buf.old ≡ PIECE }
-    ensures turned { IfOk result (λ heard. (answers : List Answer) × Tells (W.told wires.old) (W.told wires.new) answers
-        × Turns now event lane.old lane.new answers heard) }
+) -> Result<Option<Found>, AllocError>
+    requires buffer { length buf.old ≡ PIECE }
+    requires order { begin ≤ end }
+    requires places { end ≤ length lanes.old.items }
+    ensures found { IfOk result (λ found. IfSome found (λ at. (begin ≤ at.next) × (at.next ≤ end)
+        × ((answers : List Answer) × Tells (W.told wires.old) (W.told wires.new) answers
+        × Walks now None begin at.next lanes.old.items lanes.new.items answers (Some at.event)))) }
+    ensures quiet { IfOk result (λ found. IfNone found ((answers : List Answer)
+        × Tells (W.told wires.old) (W.told wires.new) answers
+        × Walks now None begin end lanes.old.items lanes.new.items answers None)) }
+    ensures buffer { length buf.new ≡ PIECE }
     ensures wires { W.wires wires.new ≡ W.wires wires.old }
-    ensures lane { lane.new.wire ≡ lane.old.wire }
+    ensures lanes { wires_of lanes.new.items ≡ wires_of lanes.old.items }
 {
-    match event {
-        Some(event) => {
-            lane.say(wires);
-            Ok(Some(event))
+    for place in begin..end {
+        if let Some(event) = lanes.turn(place, wires, buf, now)? {
+            return Ok(Some(Found {
+                event,
+                next: place + 1,
+            }));
         }
-        None => lane.turn(wires, buf, now),
+    }
+    Ok(None)
+}
+
+/// The lanes of these places write what waits. None is looked at if nothing waits on any lane.
+fn say_all<W: Wires>(lanes: &mut Lanes, begin: usize, end: usize, wires: &mut W)
+    requires order { begin ≤ end }
+    requires places { end ≤ length lanes.old.items }
+    ensures said { (answers : List Answer) × Tells (W.told wires.old) (W.told wires.new) answers
+        × Speak begin end lanes.old.items lanes.new.items answers }
+    ensures wires { W.wires wires.new ≡ W.wires wires.old }
+    ensures lanes { wires_of lanes.new.items ≡ wires_of lanes.old.items }
+{
+    if !lanes.has_lagging() {
+        return;
+    }
+    for place in begin..end {
+        lanes.say(place, wires);
     }
 }
 
-/// A turn of each lane, the first first. The answer is the event that was heard in this call, if one was.
+/// Turns of the lanes of these places, the first first. Once an event was heard, the others only write what waits.
 fn turn_all<W: Wires>(
-    lanes: &mut [NetLane],
+    lanes: &mut Lanes,
+    begin: usize,
+    end: usize,
     wires: &mut W,
     buf: &mut [u8],
     now: u64,
-    event: Option<Event>,
 ) -> Result<Option<Event>, AllocError>
-    requires { length buf.old ≡ PIECE }
-    ensures turned { IfOk result (λ heard. (answers : List Answer) × Tells (W.told wires.old) (W.told wires.new) answers
-        × TurnAll now event lanes.old lanes.new answers heard) }
+    requires buffer { length buf.old ≡ PIECE }
+    requires order { begin ≤ end }
+    requires places { end ≤ length lanes.old.items }
+    ensures turned { IfOk result (λ heard. (answers : List Answer)
+        × Tells (W.told wires.old) (W.told wires.new) answers
+        × Walks now None begin end lanes.old.items lanes.new.items answers heard) }
+    ensures buffer { length buf.new ≡ PIECE }
     ensures wires { W.wires wires.new ≡ W.wires wires.old }
-    ensures lanes { wires_of lanes.new ≡ wires_of lanes.old }
+    ensures lanes { wires_of lanes.new.items ≡ wires_of lanes.old.items }
 {
-    let mut event = event;
-    for i in 0..lanes.len() {
-        event = turn(&mut lanes[i], wires, buf, now, event)?;
-    }
-    Ok(event)
-}
-
-/// Where the first lane is that has this number or a greater one.
-fn first_from(lanes: &[NetLane], from: u64) -> Option<usize>
-    ensures { result ≡ position (λ (lane : Lane). nat_le from lane.wire) lanes.now }
-{
-    lanes.iter().position(|lane| lane.wire() >= from)
-}
-
-/// How many lanes come last in the search that begins at this number.
-fn place_of_first(lanes: &[NetLane], from: u64) -> usize
-    ensures { result ≡ place_of_first from lanes.now }
-{
-    match first_from(lanes, from) {
-        Some(place) => place,
-        None => lanes.len(),
-    }
+    let Some(found) = turn_until(lanes, begin, end, wires, buf, now)? else {
+        return Ok(None);
+    };
+    say_all(lanes, found.next, end, wires);
+    Ok(Some(found.event))
 }
 
 /// A turn of each lane: first those from the first that has this number or a greater one on, then those before it.
 pub fn turn_from<W: Wires>(
-    lanes: &mut [NetLane],
+    lanes: &mut Lanes,
     from: u64,
     wires: &mut W,
     now: u64,
 ) -> Result<Option<Event>, AllocError>
+    requires { Rise (wires_of lanes.old.items) }
     ensures hears { IfOk result (λ told. (answers : List Answer) × Tells (W.told wires.old) (W.told wires.new) answers
-        × HearsAll now from lanes.old lanes.new answers told) }
+        × HearsAll now from lanes.old.items lanes.new.items answers told) }
     ensures wires { W.wires wires.new ≡ W.wires wires.old }
-    ensures lanes { wires_of lanes.new ≡ wires_of lanes.old }
+    ensures lanes { wires_of lanes.new.items ≡ wires_of lanes.old.items }
 {
-    let place = place_of_first(lanes, from);
+    let place = lanes.place_of_first(from);
+    let end = lanes.len();
     let mut buf = [0; PIECE];
-    let (last, first) = lanes.split_at_mut(place);
-    let event = turn_all(first, wires, &mut buf, now, None)?;
-    turn_all(last, wires, &mut buf, now, event)
+    let Some(event) = turn_all(lanes, place, end, wires, &mut buf, now)? else {
+        return turn_all(lanes, 0, place, wires, &mut buf, now);
+    };
+    say_all(lanes, 0, place, wires);
+    Ok(Some(event))
 }

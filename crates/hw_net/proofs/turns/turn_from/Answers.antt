@@ -1,16 +1,32 @@
-use Rattle.std.proofs.Common.{rules}
-use Rattle.hw_net.proofs.Sweeps.{hears-all, wires-joined}
+use Rattle.std.proofs.Common.{rules, ◌≡◌, List, None, Some, length, subst}
+use Rattle.hw_door.specs.Traffic.{Answer}
+use Rattle.hw_net.specs.Told.{Tells}
+use Rattle.hw_net.specs.Walks.{Walks}
+use Rattle.hw_net.proofs.Walking.{hears-both, hears-or-fails, same-length}
 use Rattle.hw_net.proofs.turns.turn_from.Goals as goal
+
+pub returns-in_default-clause-hears : goal.returns-in_default-clause-hears
+returns-in_default-clause-hears g c =
+    let told = g.W.Wires.told in
+    let all = c.args.lanes.now.items in
+    let cur = c.turn_all.new.lanes.items in
+    let none : c.in_ok-event.field-0 ≡ None = search rules in
+    let end_is : c.len-end.result ≡ length all = search rules in
+    let walked = subst (λ n. (answers : List Answer) × Tells (told c.args.wires.now) (told c.turn_all.new.wires) answers × Walks c.args.now None c.place_of_first-place.result n all cur answers None) end_is
+    (rw none at c.in_ok-event.ensures.turned) in
+    hears-or-fails (told c.args.wires.now) (told c.turn_all.new.wires) (told c.turn_all-in_default.new.wires) c.args.now c.args.from c.place_of_first-place.result all cur
+    c.turn_all-in_default.new.lanes.items c.turn_all-in_default.result c.place_of_first-place.ensures (same-length cur all c.turn_all.ensures.lanes) walked c.turn_all-in_default.ensures.turned
 
 pub returns-clause-hears : goal.returns-clause-hears
 returns-clause-hears g c =
     let told = g.W.Wires.told in
-    hears-all (told c.args.wires.now) (told c.turn_all.new.wires) (told c.turn_all-2.new.wires) c.args.now c.args.from c.place_of_first-place.result
-    c.args.lanes.now _ _ _ c.turn_all.new.lanes c.turn_all-2.new.lanes c.in_ok-event.event c.turn_all-2.result (search rules) (search rules)
-    (search rules) c.in_ok-event.ensures.turned c.turn_all-2.ensures.turned (search rules)
-
-pub returns-clause-lanes : goal.returns-clause-lanes
-returns-clause-lanes g c =
-    let cut = c.split_at_mut-last in
-    wires-joined c.args.lanes.now _ cut.result.0.now cut.result.1.now c.turn_all-2.new.lanes c.turn_all.new.lanes cut.ensures.value (search rules)
-    (search rules) (search rules)
+    let all = c.args.lanes.now.items in
+    let cur = c.turn_all.new.lanes.items in
+    let end_is : c.len-end.result ≡ length all = search rules in
+    let walked = subst (λ n. (answers : List Answer) × Tells (told c.args.wires.now) (told c.turn_all.new.wires) answers
+    × Walks c.args.now None c.place_of_first-place.result n all cur answers (Some c.in-Some.event)) end_is
+    (rw c.in-Some.is at c.in_ok-event.ensures.turned) in
+    let said = c.say_all.ensures.said in
+    hears-both (told c.args.wires.now) (told c.turn_all.new.wires) (told c.say_all.new.wires) c.args.now c.args.from c.place_of_first-place.result all cur
+    c.say_all.new.lanes.items (Some c.in-Some.event) (Some c.in-Some.event) c.place_of_first-place.ensures (same-length cur all c.turn_all.ensures.lanes) walked
+    (said.0, said.1, said.2 c.args.now c.in-Some.event)

@@ -1,7 +1,10 @@
-use Rattle.std.proofs.Common.{rules, not}
-use Rattle.std.proofs.lemmas.Fn.{filter_same}
-use Rattle.hw_net.specs.Lane.{Lane, is_over}
+use Rattle.std.proofs.Common.{List, sym, subst}
+use Rattle.hw_net.specs.Lane.{Lane, wires_of}
+use Rattle.hw_net.specs.Rising.{IsRising}
+use Rattle.hw_net.proofs.Numbering.{kept-rise}
 use Rattle.hw_net.proofs.door.NetDoor.clear.Goals as goal
 
-pub returns-clause-kept : goal.returns-clause-kept
-returns-clause-kept g c = filter_same _ (λ (lane : Lane). not (is_over lane.stage)) _ (λ x b f' k. search rules) _ _ c.retain.ensures.filtered
+pub invariant_of-self : goal.invariant_of-self
+invariant_of-self g c =
+    let bound = g.W.Wires.wires c.self.inside.wires in
+    subst (λ (l : List Lane). IsRising 0 bound (wires_of l)) (sym c.clear.ensures) (kept-rise 0 bound c.self.inside.lanes.items c.self.invariant)

@@ -9,9 +9,9 @@ pub returns-clause-hears : goal.returns-clause-hears
 returns-clause-hears g c =
     let told = g.W.Wires.told in
     let q = c.in_ok-accept.ensures.accepted in
-    hears-next (told c.args.self.now.wires) (told c.poll.new.self.wires) (told c.accept.new.self.wires) (told c.hear.new.self.wires) c.in_ok-now.now c.args.self.now.from c.args.self.now.moment
+    rw (← c.self.view_is) at (hears-next (told c.args.self.now.wires) (told c.poll.new.self.wires) (told c.accept.new.self.wires) (told c.hear.new.self.wires) c.in_ok-now.now c.args.self.now.from c.args.self.now.moment
     c.hear.new.self.from c.args.self.now.lanes.items c.poll.new.self.lanes.items c.accept.new.self.lanes.items c.hear.new.self.lanes.items c.in_ok-event.event
-    (search rules) (search rules) (q.0, q.1, q.2) (search rules)
+    (search rules) (search rules) (q.0, q.1, q.2) (search rules))
 
 pub returns-in_err-accept-clause-fails : goal.returns-in_err-accept-clause-fails
 returns-in_err-accept-clause-fails g c = λ e.
@@ -31,5 +31,5 @@ pub returns-clause-lanes : goal.returns-clause-lanes
 returns-clause-lanes g c =
     let q = c.in_ok-accept.ensures.accepted in
     let bound = g.W.Wires.wires in
-    keeps-accepted (bound c.args.self.now.wires) (bound c.poll.new.self.wires) (bound c.accept.new.self.wires) (bound c.hear.new.self.wires) c.in_ok-now.now q.0 c.args.self.now.lanes.items
-    c.accept.new.self.lanes.items c.hear.new.self.lanes.items (search rules) q.3 c.hear.ensures.bound (search rules) c.hear.ensures.lanes
+    rw (← c.self.view_is) at (keeps-accepted (bound c.args.self.now.wires) (bound c.poll.new.self.wires) (bound c.accept.new.self.wires) (bound c.hear.new.self.wires) c.in_ok-now.now q.0 c.args.self.now.lanes.items
+    c.accept.new.self.lanes.items c.hear.new.self.lanes.items (search rules) q.3 c.hear.ensures.bound (search rules) c.hear.ensures.lanes)

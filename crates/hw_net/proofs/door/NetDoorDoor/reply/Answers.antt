@@ -10,5 +10,5 @@ returns-in_default-clause-replied g c =
 pub returns-clause-replied : goal.returns-clause-replied
 returns-clause-replied g c =
     let told = g.W.Wires.told in
-    does-at (told c.args.self.now.wires) (told c.reply.new.wires) c.args.lane c.args.self.now.from _ c.args.self.now.moment _ (Replies c.args.self.now.moment c.args.reply) c.args.self.now.lanes.items c.in-Some.place c.index_mut.result.now c.reply.new.self
-    (search rules) (search rules) c.in_ok-reply.ensures.replied (search rules) (search rules)
+    does-at (told c.args.self.now.wires) (told c.reply.new.wires) c.args.lane c.args.self.now.from _ c.args.self.now.moment _ (Replies c.args.self.now.moment c.args.reply) c.args.self.now.lanes.items c.reply.new.self.items c.in-Some.place
+    (search rules) (search rules) (search rules) (search rules)

@@ -1,0 +1,85 @@
+-- What a search finds among lanes whose numbers rise.
+use Rattle.std.proofs.Common.{◌≡◌, ◌<◌, ◌≤◌, ◌+◌, ◌==◌, ◌∷◌, [], ℕ, zero, suc, Bool, true, false, List, None, Some, Result, Ok, Err, refl, sym, ap, arith, length, get_or, ltb, leb, position}
+use Rattle.std.specs.List.{position_or_len}
+use Rattle.std.specs.Result.{result_ok}
+use Rattle.std.specs.List.Sorted.{IsSearchInRange, IsBinarySearchResult, IsNonDecreasingBy, IsPartitionPoint, IsPartitionedBy}
+use Rattle.std.specs.Ordering.{nat_cmp, ordering_index}
+use Rattle.std.proofs.lemmas.Cmp.{ranked}
+use Rattle.std.proofs.lemmas.List.Sums.{position_or_len_is}
+use Rattle.std.proofs.lemmas.Bool.Decides.{nat_tests}
+use Rattle.hw_net.specs.Door.{place_of_first}
+use Rattle.hw_net.specs.Lane.{Lane, wires_of}
+use Rattle.hw_net.specs.Rising.{IsRising}
+
+-- each number is no lower than that from which on they rise
+no-lower : (from bound : ℕ) (lanes : List Lane) (j : ℕ) (d : Lane) → IsRising from bound (wires_of lanes) → j < length lanes → from ≤ (get_or lanes j d).wire
+no-lower from bound [] j d h lt = absurd (omega (arith, lt))
+no-lower from bound (lane ∷ lanes) zero d h lt = h.0
+no-lower from bound (lane ∷ lanes) (suc j) d h lt =
+    let more : lane.wire + 1 ≤ (get_or lanes j d).wire = no-lower (lane.wire + 1) bound lanes j d h.1 (omega (arith, lt)) in
+    omega (arith, more, h.0)
+
+-- a later lane has a higher number
+rises : (from bound : ℕ) (lanes : List Lane) (i j : ℕ) (d : Lane) → IsRising from bound (wires_of lanes) → i < j → j < length lanes → (get_or lanes i d).wire < (get_or lanes j d).wire
+rises from bound [] i j d h lt within = absurd (omega (arith, within))
+rises from bound (lane ∷ lanes) i zero d h lt within = absurd (omega (arith, lt))
+rises from bound (lane ∷ lanes) zero (suc j) d h lt within =
+    let more : lane.wire + 1 ≤ (get_or lanes j d).wire = no-lower (lane.wire + 1) bound lanes j d h.1 (omega (arith, within)) in
+    omega (arith, more)
+rises from bound (lane ∷ lanes) (suc i) (suc j) d h lt within = rises (lane.wire + 1) bound lanes i j d h.1 (omega (arith, lt)) (omega (arith, within))
+
+never-falls : (from bound : ℕ) (lanes : List Lane) → IsRising from bound (wires_of lanes) → IsNonDecreasingBy (λ (lane : Lane). lane.wire) lanes
+never-falls from bound lanes h i j d le within =
+    grind (arith, rises from bound lanes i j d h, λ (same : i ≡ j). ap (λ k. (get_or lanes k d).wire) same)
+
+compared-rise : (wire from bound : ℕ) (lanes : List Lane) → IsRising from bound (wires_of lanes) → IsNonDecreasingBy (λ (lane : Lane). ordering_index (nat_cmp lane.wire wire)) lanes
+compared-rise wire from bound lanes h i j d le within =
+    let no_less : (get_or lanes i d).wire ≤ (get_or lanes j d).wire = never-falls from bound lanes h i j d le within in
+    grind (arith, nat_tests)
+
+abbrev is_of : ℕ → Lane → Bool
+is_of wire lane = lane.wire == wire
+
+position-at : (p : Lane → Bool) (lanes : List Lane) (at : ℕ) → position_or_len p lanes ≡ at → at < length lanes → position p lanes ≡ Some at
+position-at p lanes at e lt = grind (arith, e, lt)
+
+position-none : (p : Lane → Bool) (lanes : List Lane) → position_or_len p lanes ≡ length lanes → position p lanes ≡ None
+position-none p lanes e = grind (arith, e)
+
+-- a search finds the lane of a number, or that there is none
+pub found : (wire bound : ℕ) (lanes : List Lane) (r : Result ℕ ℕ) → IsRising 0 bound (wires_of lanes) → IsSearchInRange r (length lanes) →
+    IsBinarySearchResult (λ (lane : Lane). nat_cmp lane.wire wire) lanes r → result_ok r ≡ position (is_of wire) lanes
+found wire bound [] (Ok at) h within s = absurd (omega (arith, within))
+found wire bound (first ∷ lanes) (Ok at) h within s =
+    let all = first ∷ lanes in
+    let here : (get_or all at first).wire ≡ wire = ranked _ wire _ (sym (s first)) in
+    let before : (k : ℕ) → k < at → is_of wire (get_or all k first) ≡ false = λ k lt. grind (arith, nat_tests, rises 0 bound all k at first h lt within, here) in
+    let passes : is_of wire (get_or all at first) ≡ true = grind (arith, nat_tests, here) in
+    sym (position-at (is_of wire) all at (position_or_len_is (is_of wire) all at first (omega (arith, within)) before (λ lt. passes)) within)
+found wire bound [] (Err at) h within s = refl
+found wire bound (first ∷ lanes) (Err at) h within s =
+    let all = first ∷ lanes in
+    let parted = s (compared-rise wire 0 bound all h) in
+    let lower : (k : ℕ) → k < at → (get_or all k first).wire < wire = λ k lt. ranked _ wire _ (sym (parted.0 k first (omega arith) lt)) in
+    let higher : (k : ℕ) → at ≤ k → k < length all → wire < (get_or all k first).wire = λ k le lt. ranked _ wire _ (sym (parted.1 k first le lt)) in
+    let none : (k : ℕ) → k < length all → is_of wire (get_or all k first) ≡ false = λ k lt. grind (arith, nat_tests, lower k, λ (le : at ≤ k). higher k le lt) in
+    sym (position-none (is_of wire) all (position_or_len_is (is_of wire) all (length all) first (omega arith) none (λ lt. absurd (omega (arith, lt)))))
+
+abbrev is_low : ℕ → Lane → Bool
+is_low from lane = ltb lane.wire from
+
+pub parted : (from bound : ℕ) (lanes : List Lane) → IsRising 0 bound (wires_of lanes) → IsPartitionedBy (is_low from) lanes
+parted from bound lanes h i j d le within low =
+    let no_less : (get_or lanes i d).wire ≤ (get_or lanes j d).wire = never-falls 0 bound lanes h i j d le within in
+    grind (arith, nat_tests, low)
+
+-- the lanes of lower numbers come first
+pub first-from : (from : ℕ) (lanes : List Lane) (at : ℕ) → at ≤ length lanes → IsPartitionPoint (λ l. is_low from l ≡ true) (λ l. is_low from l ≡ false) lanes at → at ≡ place_of_first from lanes
+first-from from [] at within s = omega (arith, within)
+first-from from (first ∷ lanes) at within s =
+    let all = first ∷ lanes in
+    let is_from = λ (lane : Lane). leb from lane.wire in
+    let before : (k : ℕ) → k < at → is_from (get_or all k first) ≡ false = λ k lt. grind (arith, nat_tests, s.0 k first (omega arith) lt) in
+    let here : at < length all → is_from (get_or all at first) ≡ true = λ lt. grind (arith, nat_tests, s.1 at first (omega arith) lt) in
+    let len : position_or_len is_from all ≡ at = position_or_len_is is_from all at first within before here in
+    grind (arith, len, within)

@@ -1,0 +1,407 @@
+-- In a session a lane is heard as lost for a cause.
+use Rattle.std.proofs.Common.{◌≡◌, ◌⊎◌, ◌==◌, ◌||◌, ◌++◌, ◌∷◌, [], ℕ, Bool, true, false, not, List, Option, None, Some, refl, sym, ap, ◌∙◌, subst, inl, inr, length, Contains}
+use Rattle.hd_lanes.specs.declared.http.Reply.{Reply}
+use Rattle.hw_door.specs.declared.heard.Event.{Event}
+use Rattle.hw_door.specs.declared.heard.Event.TheVariants as event
+use Rattle.hw_door.specs.declared.heard.Heard.{Heard}
+use Rattle.hw_door.specs.Traffic.{Answer, ended, read_failed, bytes_out, write_failed, was_shut, read_on}
+use Rattle.hw_socket.specs.Reading.{Feeds}
+use Rattle.hw_net.specs.declared.news.News.{News}
+use Rattle.hw_net.specs.declared.news.News.TheVariants as news
+use Rattle.hw_net.specs.declared.talk.Talk.{Talk}
+use Rattle.hw_net.specs.declared.talk.Talk.TheVariants.{Http, Socket}
+use Rattle.hw_net.specs.declared.talk.Stage.{Stage}
+use Rattle.hw_net.specs.declared.talk.Stage.TheVariants.{Live, Lost, Closing, Over}
+use Rattle.hw_net.specs.Bounds.{has_wire}
+use Rattle.hw_net.specs.Door.{new_lane}
+use Rattle.hw_net.specs.Lane.{Lane, waits, is_live, owes, is_overdue, after_end, after_reply, talk_after_shut}
+use Rattle.hw_net.specs.Saying.{Writes, WritesOut, Says, SaysAt, SaysMore, must_end, is_too_much}
+use Rattle.hw_net.specs.Sessions as session
+use Rattle.hw_net.specs.Sessions.{Call, Session, Does, answers_in, answers_of, broke_in, IsGone, IsSpoiled, IsLostRightly, LossesHaveCauses}
+use Rattle.hw_net.specs.Told.{Reads, Gives, Chooses}
+use Rattle.hw_net.specs.Turn.{Hears, Falls, Passes, Settles, Loses, LosesAt, TurnsLive, TurnsAt, Listens, Replies, Puts, PutsAt, Sends, Shuts}
+use Rattle.hw_net.proofs.Asked.{Silent, gives-bytes, live-reads, settles-silent, says-silent}
+use Rattle.hw_net.proofs.Closings.{or-true, replied-stage, put-stage, live-has, owes-live}
+use Rattle.hw_net.proofs.Moves.{Has, contains-of}
+use Rattle.hw_net.proofs.Numbering.{replied-wire, put-wire}
+use Rattle.hw_net.proofs.Owed.{by-number}
+use Rattle.hw_net.proofs.Owning.{is_on, settles-keeps}
+use Rattle.hw_net.proofs.Shares.{share, broke-append, broke-share, read-share, same}
+use Rattle.hw_net.proofs.Walks.{IsHeard, Heeds, Moves, moves-wire, IsNew, IsUntouched, steps-in, each-before, mover, off-and-on}
+
+-- the wire broke, or too much waits
+abbrev Cause : ℕ → List Answer → Lane → Type 0
+Cause wire answers lane = (broke_in wire answers ≡ true) ⊎ (is_too_much (length (waits lane)) ≡ true)
+
+-- a lane that becomes lost does so for a cause
+abbrev Breaks : Lane → Lane → List Answer → Type 0
+Breaks x y mine = y.stage ≡ Lost → Cause x.wire mine y ⊎ (y ≡ x)
+
+-- ---- stages
+
+abbrev is_lost : Stage → Bool
+is_lost Live = false
+is_lost Lost = true
+is_lost Closing = false
+is_lost Over = false
+
+unlost : {A : Type 0} (s t : Stage) → s ≡ t → is_lost t ≡ false → s ≡ Lost → A
+unlost s t e f g = absurd (cc (sym f ∙ sym (ap is_lost e) ∙ ap is_lost g))
+
+has-unlost : (s : Stage) → has_wire s ≡ true → is_lost s ≡ false
+has-unlost Live e = refl
+has-unlost Lost e = absurd (cc e)
+has-unlost Closing e = refl
+has-unlost Over e = refl
+
+-- ---- writing
+
+broke-here : (at wire : ℕ) → at ≡ wire → ((at == wire) || false) ≡ true
+broke-here at wire e = ap (λ n. (n == wire) || false) e ∙ ap (λ b. b || false) (same wire)
+
+writes-broke : (wire : ℕ) (waits : List ℕ) (sent : List Answer) (left : List ℕ) → Writes wire waits sent left false → broke_in wire sent ≡ true
+writes-broke wire waits [] left h = absurd (cc h.2)
+writes-broke wire waits (bytes_out at [] ∷ []) left h = absurd (cc h.3)
+writes-broke wire waits (bytes_out at (b ∷ bs) ∷ answers) left h = writes-broke wire h.1.0 answers left h.1.2
+writes-broke wire waits (write_failed at ∷ []) left h = broke-here at wire h.0
+writes-broke wire waits _ left h = absurd h
+
+writes-break : (x y : Lane) (mine : List Answer) → has_wire x.stage ≡ true → WritesOut x y mine → y.stage ≡ Lost → Cause x.wire mine y
+writes-break x y mine has w lost = go (must_end x.stage (length (waits y)) w.is_whole) refl where
+  whole : (b : Bool) → w.is_whole ≡ b → (not b || is_too_much (length (waits y))) ≡ true → broke_in x.wire mine ≡ broke_in x.wire (w.sent ++ was_shut x.wire ∷ []) → Cause x.wire mine y
+  whole true e m f = inr m
+  whole false e m f = inl (f ∙ broke-append x.wire w.sent (was_shut x.wire ∷ [])
+      ∙ ap (λ b. b || false) (writes-broke x.wire (waits x) w.sent (waits y) (subst (λ b. Writes x.wire (waits x) w.sent (waits y) b) e w.writes)))
+
+  by : (s : Stage) → y.stage ≡ after_end s → must_end s (length (waits y)) w.is_whole ≡ true → broke_in x.wire mine ≡ broke_in x.wire (w.sent ++ was_shut x.wire ∷ []) → Cause x.wire mine y
+  by Live e m f = whole w.is_whole refl m f
+  by Lost e m f = absurd (cc m)
+  by Closing e m f = unlost y.stage Over e refl lost
+  by Over e m f = absurd (cc m)
+
+  go : (b : Bool) → must_end x.stage (length (waits y)) w.is_whole ≡ b → Cause x.wire mine y
+  go true e = by x.stage (w.ends e).1 e (ap (λ l. broke_in x.wire l) (w.ends e).0)
+  go false e = unlost y.stage x.stage (w.stays e).1 (has-unlost x.stage has) lost
+
+says-break : (x y : Lane) (mine : List Answer) → Says x y mine → Breaks x y mine
+says-break x y mine h = go x.stage refl h where
+  go : (s : Stage) → x.stage ≡ s → SaysAt s x y mine → Breaks x y mine
+  go Live e h = λ lost. inl (writes-break x y mine (ap has_wire e) h lost)
+  go Lost e h = λ lost. inr h.1
+  go Closing e h = λ lost. inl (writes-break x y mine (ap has_wire e) h lost)
+  go Over e h = λ lost. inr h.1
+
+more-break : (x y : Lane) (mine : List Answer) → has_wire x.stage ≡ true → SaysMore x y mine → y.stage ≡ Lost → Cause x.wire mine y
+more-break x y mine has h = go (is_too_much (length (waits x))) refl h where
+  go : (b : Bool) → is_too_much (length (waits x)) ≡ b → Chooses b ((mine ≡ was_shut x.wire ∷ []) × (y ≡ record x { stage = after_end x.stage })) (WritesOut x y mine) → y.stage ≡ Lost → Cause x.wire mine y
+  go true e h lost = inr (ap (λ (l : Lane). is_too_much (length (waits l))) h.1 ∙ e)
+  go false e h lost = writes-break x y mine has h lost
+
+-- ---- turns
+
+-- a lane that settled has its wire, or it is over
+settled-unlost : (now : ℕ) (x after : Lane) (shut : List Answer) (what : News) (told : Option Event) → x.stage ≡ Live → Settles now x after shut what told → is_lost after.stage ≡ false
+settled-unlost now x after shut what told live s = go what s where
+  same-stage : (mid : Lane) → after ≡ mid → is_lost mid.stage ≡ false → is_lost after.stage ≡ false
+  same-stage mid e f = ap (λ (l : Lane). is_lost l.stage) e ∙ f
+
+  nothing : (b : Bool) → Chooses b (Falls x after shut told) (Passes x after shut None told) → is_lost after.stage ≡ false
+  nothing true f = same-stage _ f.2 refl
+  nothing false f = same-stage x f.2 (ap is_lost live)
+
+  go : (what : News) → Settles now x after shut what told → is_lost after.stage ≡ false
+  go news.Nothing s = nothing (is_overdue now x) s
+  go (news.Request request) s = same-stage x s.2 (ap is_lost live)
+  go (news.Refused status) s = same-stage _ s.2 refl
+  go (news.Message bytes) s = same-stage x s.2 (ap is_lost live)
+  go news.Broken s = same-stage _ s.2 refl
+  go news.Gone s = same-stage _ s.2 refl
+
+live-broke : (wire : ℕ) (answers read shut written : List Answer) → answers ≡ read ++ (shut ++ written) → (broke_in wire read || (broke_in wire shut || broke_in wire written)) ≡ broke_in wire answers
+live-broke wire answers read shut written all =
+    sym (ap (λ l. broke_in wire l) all ∙ broke-append wire read (shut ++ written) ∙ ap (λ b. broke_in wire read || b) (broke-append wire shut written))
+
+broke-written : (a b c d : Bool) → (a || (b || c)) ≡ d → c ≡ true → d ≡ true
+broke-written a b c d e f = sym e ∙ ap (λ k. a || (b || k)) f ∙ ap (λ k. a || k) (or-true b) ∙ or-true a
+
+broke-read : (a b c d : Bool) → (a || (b || c)) ≡ d → a ≡ true → d ≡ true
+broke-read a b c d e f = sym e ∙ ap (λ k. k || (b || c)) f
+
+-- a lane that writes at the end of its turn and is lost then
+said-cause : (now : ℕ) (x y : Lane) (mine : List Answer) (own : Option Event) → x.stage ≡ Live → (h : TurnsLive now x y mine own) → h.said.stage ≡ Lost → Cause x.wire mine h.said
+said-cause now x y mine own live h lost = go (says-break h.settled h.said h.written h.says lost) where
+  kept : h.settled.wire ≡ x.wire
+  kept = (settles-keeps now (record x { talk = h.talk }) h.settled h.shut h.news h.told h.settles).0.0
+
+  go : Cause h.settled.wire h.written h.said ⊎ (h.said ≡ h.settled) → Cause x.wire mine h.said
+  go (inl (inl e)) = inl (broke-written (broke_in x.wire h.read) (broke_in x.wire h.shut) (broke_in x.wire h.written) (broke_in x.wire mine)
+      (live-broke x.wire mine h.read h.shut h.written h.all) (subst (λ n. broke_in n h.written ≡ true) kept e))
+  go (inl (inr e)) = inr e
+  go (inr e) = unlost h.said.stage h.settled.stage (ap (λ (l : Lane). l.stage) e) (settled-unlost now (record x { talk = h.talk }) h.settled h.shut h.news h.told live h.settles) lost
+
+live-breaks : (now : ℕ) (x y : Lane) (mine : List Answer) (own : Option Event) → x.stage ≡ Live → TurnsLive now x y mine own → y.stage ≡ Lost → Cause x.wire mine y
+live-breaks now x y mine own live h lost = go h.told h.loses where
+  by : y ≡ h.said → Cause x.wire mine y
+  by e = subst (λ (l : Lane). Cause x.wire mine l) (sym e) (said-cause now x y mine own live h (sym (ap (λ (l : Lane). l.stage) e) ∙ lost))
+
+  at : (s : Stage) → LosesAt s h.said y own → Cause x.wire mine y
+  at Live k = by k.1
+  at Lost k = unlost y.stage Over (ap (λ (l : Lane). l.stage) k.1) refl lost
+  at Closing k = by k.1
+  at Over k = by k.1
+
+  go : (told : Option Event) → Loses told h.said y own → Cause x.wire mine y
+  go (Some here) k = by k.1
+  go None k = at h.said.stage k
+
+listens-break : (now : ℕ) (x y : Lane) (mine : List Answer) (own : Option Event) → Listens now x y mine own → Breaks x y mine
+listens-break now x y mine own h = go x.stage refl h where
+  go : (s : Stage) → x.stage ≡ s → TurnsAt s now x y mine own → Breaks x y mine
+  go Live e h = λ lost. inl (live-breaks now x y mine own e h lost)
+  go Lost e h = λ lost. unlost y.stage Over (ap (λ (l : Lane). l.stage) h.2) refl lost
+  go Closing e h = says-break x y mine h.1
+  go Over e h = λ lost. inr h.2
+
+heeds-break : (now : ℕ) (what : Event) (x y : Lane) (mine : List Answer) → Heeds now what x y mine → Breaks x y mine
+heeds-break now what x y mine (inl h) = listens-break now x y mine h.0 h.1
+heeds-break now what x y mine (inr h) = says-break x y mine h.0
+
+-- ---- saying
+
+replies-break : (now : ℕ) (reply : Reply) (x y : Lane) (mine : List Answer) → Replies now reply x y mine → Breaks x y mine
+replies-break now reply x y mine h = go (owes x) refl h where
+  go : (b : Bool) → owes x ≡ b → Chooses b (SaysMore (after_reply now reply x) y mine) ((mine ≡ []) × (y ≡ x)) → Breaks x y mine
+  go true e h = λ lost. inl (subst (λ n. Cause n mine y) (replied-wire now reply x)
+      (more-break (after_reply now reply x) y mine (ap has_wire (replied-stage now reply x) ∙ live-has x.stage (owes-live x e)) h lost))
+  go false e h = λ lost. inr h.1
+
+-- a message that isn't put leaves the stage, and what waits
+sends-break : (bytes : List ℕ) (text : Bool) (x y : Lane) (mine : List Answer) → Sends bytes text x y mine → Breaks x y mine
+sends-break bytes text x y mine h = go h.0 h.1 h.2 h.3 where
+  unput : (live : Bool) (talk : Talk) (mid : Lane) → is_live x.stage ≡ live → PutsAt live talk bytes text x mid false → y ≡ mid → Breaks x y mine
+  unput true (Socket talking) mid e p f = λ lost. unlost y.stage x.stage (ap (λ (l : Lane). l.stage) (f ∙ p.2)) (has-unlost x.stage (live-has x.stage e)) lost
+  unput true (Http asking) mid e p f = λ lost. inr (f ∙ p.1)
+  unput false talk mid e p f = λ lost. inr (f ∙ p.1)
+
+  go : (mid : Lane) (b : Bool) → Puts bytes text x mid b → Chooses b (SaysMore mid y mine) ((mine ≡ []) × (y ≡ mid)) → Breaks x y mine
+  go mid true p s = λ lost.
+      let put = put-stage (is_live x.stage) x.talk bytes text x mid true p in
+      inl (subst (λ n. Cause n mine y) (put-wire (is_live x.stage) x.talk bytes text x mid true p) (more-break mid y mine (ap has_wire put.0 ∙ live-has x.stage (put.1 refl)) s lost))
+  go mid false p s = unput (is_live x.stage) x.talk mid refl p s.1
+
+shuts-break : (x y : Lane) (mine : List Answer) → Shuts x y mine → Breaks x y mine
+shuts-break x y mine h = go (is_live x.stage) h where
+  go : (b : Bool) → Chooses b (WritesOut (record x { talk = talk_after_shut x.talk; stage = Closing }) y mine) ((mine ≡ []) × (y ≡ x)) → Breaks x y mine
+  go true h = λ lost. inl (writes-break (record x { talk = talk_after_shut x.talk; stage = Closing }) y mine refl h lost)
+  go false h = λ lost. inr h.1
+
+-- ---- sessions
+
+moves-break : (call : Call) (x y : Lane) → Moves call x y → Breaks x y (share x.wire (answers_in call))
+moves-break (session.heard what answers) x y h = heeds-break what.now what.event x y (share x.wire answers) h
+moves-break (session.replied at reply answers) x y h =
+    by-number at (Replies h.0 reply) x y (share x.wire answers) (λ b. Breaks x y (share x.wire answers)) (replies-break h.0 reply x y (share x.wire answers)) (λ e f lost. inr e) h.1
+moves-break (session.sent at bytes text answers) x y h =
+    by-number at (Sends bytes text) x y (share x.wire answers) (λ b. Breaks x y (share x.wire answers)) (sends-break bytes text x y (share x.wire answers)) (λ e f lost. inr e) h
+moves-break (session.shut at answers) x y h =
+    by-number at Shuts x y (share x.wire answers) (λ b. Breaks x y (share x.wire answers)) (shuts-break x y (share x.wire answers)) (λ e f lost. inr e) h
+
+broke-more : (wire : ℕ) (calls : List Call) (call : Call) → broke_in wire (answers_of (call ∷ calls)) ≡ (broke_in wire (answers_of calls) || broke_in wire (share wire (answers_in call)))
+broke-more wire calls call = broke-append wire (answers_of calls) (answers_in call) ∙ ap (λ b. broke_in wire (answers_of calls) || b) (broke-share wire (answers_in call))
+
+-- what broke in this call, or before it, broke
+broke-now : (wire : ℕ) (calls : List Call) (call : Call) → broke_in wire (share wire (answers_in call)) ≡ true → broke_in wire (answers_of (call ∷ calls)) ≡ true
+broke-now wire calls call e = broke-more wire calls call ∙ ap (λ b. broke_in wire (answers_of calls) || b) e ∙ or-true (broke_in wire (answers_of calls))
+
+broke-before : (wire : ℕ) (calls : List Call) (call : Call) → broke_in wire (answers_of calls) ≡ true → broke_in wire (answers_of (call ∷ calls)) ≡ true
+broke-before wire calls call e = broke-more wire calls call ∙ ap (λ b. b || broke_in wire (share wire (answers_in call))) e
+
+abbrev IsCaused : List Call → Lane → Type 0
+IsCaused calls lane = lane.stage ≡ Lost → Cause lane.wire (answers_of calls) lane
+
+step-caused : (call : Call) (calls : List Call) (x y : Lane) → IsCaused calls x → Moves call x y → IsCaused (call ∷ calls) y
+step-caused call calls x y k h lost = subst (λ n. Cause n (answers_of (call ∷ calls)) y) (sym (moves-wire call x y h)) (go (moves-break call x y h lost)) where
+  before : Cause x.wire (answers_of calls) x → y ≡ x → Cause x.wire (answers_of (call ∷ calls)) y
+  before (inl e) f = inl (broke-before x.wire calls call e)
+  before (inr e) f = inr (ap (λ (l : Lane). is_too_much (length (waits l))) f ∙ e)
+
+  go : Cause x.wire (share x.wire (answers_in call)) y ⊎ (y ≡ x) → Cause x.wire (answers_of (call ∷ calls)) y
+  go (inl (inl e)) = inl (broke-now x.wire calls call e)
+  go (inl (inr e)) = inr e
+  go (inr f) = before (k (sym (ap (λ (l : Lane). l.stage) f) ∙ lost)) f
+
+new-caused : (calls : List Call) (now wire : ℕ) → IsUntouched wire calls → IsCaused calls (new_lane now wire)
+new-caused calls now wire h lost = unlost Live Live refl refl lost
+
+-- ---- the loss that is heard
+
+-- what the lane shows that heard its loss, or what it was before
+abbrev Shows : ℕ → Lane → Lane → List Answer → Type 0
+Shows now x y mine =
+    (broke_in x.wire mine ≡ true) ⊎ (is_overdue now y ≡ true) ⊎ (is_too_much (length (waits y)) ≡ true) ⊎ IsGone (read_on x.wire mine) x.talk ⊎ IsSpoiled x.talk
+
+reads-broke : (wire room : ℕ) (answer : Answer) → Reads wire room answer None → broke_in wire (answer ∷ []) ≡ true
+reads-broke wire room (ended at) h = broke-here at wire h
+reads-broke wire room (read_failed at) h = broke-here at wire h
+reads-broke wire room _ h = absurd h
+
+gives-broke : (wire room : ℕ) (answers : List Answer) (got : Option (List ℕ)) → got ≡ None → Gives wire room answers got → broke_in wire answers ≡ true
+gives-broke wire room [] got e h = absurd (cc (sym h ∙ e))
+gives-broke wire room (answer ∷ []) got e h = reads-broke wire room answer (subst (λ (o : Option (List ℕ)). Reads wire room answer o) e h.1)
+gives-broke wire room (answer ∷ next ∷ more) got e h = absurd h
+
+-- the loss of a lane is told
+abbrev is_loss : Option Event → Bool
+is_loss (Some (event.Lost at)) = true
+is_loss _ = false
+
+-- the wire is shut, so the lane says nothing more
+over-said : (after said y : Lane) (written : List Answer) → after.stage ≡ Over → Says after said written → y ≡ said → y ≡ after
+over-said after said y written o s last = go after.stage o s where
+  go : (t : Stage) → t ≡ Over → SaysAt t after said written → y ≡ after
+  go Live f k = absurd (cc f)
+  go Lost f k = last ∙ k.1
+  go Closing f k = absurd (cc f)
+  go Over f k = last ∙ k.1
+
+-- what the lane shows, of which this was the talk before
+abbrev ShowsOf : ℕ → Talk → List Answer → Lane → ℕ → Type 0
+ShowsOf wire old mine y now =
+    (broke_in wire mine ≡ true) ⊎ ((is_overdue now y ≡ true) ⊎ ((is_too_much (length (waits y)) ≡ true) ⊎ (IsGone (read_on wire mine) old ⊎ IsSpoiled old)))
+
+-- the loss is that of the news
+news-shows : (now wire : ℕ) (x : Lane) (talk : Talk) (after y : Lane) (mine read shut : List Answer) (what : News) (told : Option Event) → is_loss told ≡ true → Hears wire x.talk talk read what →
+    Settles now (record x { talk = talk }) after shut what told → (broke_in wire read ≡ true → broke_in wire mine ≡ true) → read_on wire mine ≡ read_on wire read → (after.stage ≡ Over → y ≡ after) →
+    ShowsOf wire x.talk mine y now
+news-shows now wire x talk after y mine read shut what told loss h s broke same_read last = go x.talk talk what h s where
+  never : {A : Type 0} (o : Option Event) → told ≡ o → is_loss o ≡ false → A
+  never o e f = absurd (cc (sym f ∙ sym (ap is_loss e) ∙ loss))
+
+  nothing : (old new : Talk) (b : Bool) → is_overdue now (record x { talk = new }) ≡ b → Chooses b (Falls (record x { talk = new }) after shut told) (Passes (record x { talk = new }) after shut None told) → ShowsOf wire old mine y now
+  nothing old new true e f = inr (inl (ap (λ (l : Lane). is_overdue now l) (last (ap (λ (l : Lane). l.stage) f.2) ∙ f.2) ∙ e))
+  nothing old new false e f = never None f.1 refl
+
+  go : (old new : Talk) (what : News) → Hears wire old new read what → Settles now (record x { talk = new }) after shut what told → ShowsOf wire old mine y now
+  go old new news.Nothing h s = nothing old new (is_overdue now (record x { talk = new })) refl s
+  go old new (news.Request request) h s = never _ s.1 refl
+  go old new (news.Refused status) h s = never _ s.1 refl
+  go old new (news.Message bytes) h s = never _ s.1 refl
+  go (Http old) (Http new) news.Broken h s = inl (broke (gives-broke wire _ read h.got h.is_news.0 h.read))
+  go (Socket old) (Socket new) news.Broken h s = by h.is_news.0 where
+    by : (h.got ≡ None) ⊎ (old.spoiled ≡ true) → ShowsOf wire (Socket old) mine y now
+    by (inl e) = inl (broke (gives-broke wire _ read h.got e h.read))
+    by (inr e) = inr (inr (inr (inr e)))
+  go (Http old) (Socket new) news.Broken h s = absurd h
+  go (Socket old) (Http new) news.Broken h s = absurd h
+  go (Http old) (Http new) news.Gone h s = absurd h.is_news
+  go (Socket old) (Socket new) news.Gone h s =
+      let gets = h.is_news.0 in
+      inr (inr (inr (inl (
+        gets.1.0,
+        new.lane,
+        subst (λ (l : List ℕ). Feeds old.lane l gets.1.0) (sym (same_read ∙ gives-bytes wire _ read h.got h.read)) gets.1.1,
+        gets.1.2,
+      ))))
+  go (Http old) (Socket new) news.Gone h s = absurd h
+  go (Socket old) (Http new) news.Gone h s = absurd h
+
+live-shows : (now : ℕ) (x y : Lane) (mine : List Answer) (own : Option Event) → x.stage ≡ Live → is_loss own ≡ true → TurnsLive now x y mine own → ShowsOf x.wire x.talk mine y now
+live-shows now x y mine own live loss h = go h.told refl h.loses where
+  settled : Silent (record x { talk = h.talk }) h.settled h.shut
+  settled = settles-silent now (record x { talk = h.talk }) h.settled h.shut h.news h.told h.settles
+
+  said : Silent h.settled h.said h.written
+  said = says-silent h.settled h.said h.written h.says
+
+  never : {A : Type 0} → own ≡ None → A
+  never e = absurd (cc (sym (ap is_loss e) ∙ loss))
+
+  by : y ≡ record h.said { stage = Over } → Cause x.wire mine h.said → ShowsOf x.wire x.talk mine y now
+  by e (inl b) = inl b
+  by e (inr m) = inr (inr (inl (ap (λ (l : Lane). is_too_much (length (waits l))) e ∙ m)))
+
+  at : (s : Stage) → h.said.stage ≡ s → LosesAt s h.said y own → ShowsOf x.wire x.talk mine y now
+  at Live e k = never k.0
+  at Lost e k = by k.1 (said-cause now x y mine own live h e)
+  at Closing e k = never k.0
+  at Over e k = never k.0
+
+  go : (told : Option Event) → h.told ≡ told → Loses told h.said y own → ShowsOf x.wire x.talk mine y now
+  go (Some here) e k =
+      news-shows now x.wire x h.talk h.settled y mine h.read h.shut h.news h.told (ap is_loss (e ∙ sym k.0) ∙ loss) h.hears h.settles
+      (broke-read (broke_in x.wire h.read) (broke_in x.wire h.shut) (broke_in x.wire h.written) (broke_in x.wire mine) (live-broke x.wire mine h.read h.shut h.written h.all))
+      (live-reads x.wire mine h.read h.shut h.written h.all (settled.0 x.wire) (said.0 x.wire))
+      (λ o. over-said h.settled h.said y h.written o h.says k.1)
+  go None e k = at h.said.stage refl k
+
+-- the loss of a lane that heard it: shown in this call, or the cause of a lane whose wire was shut before
+abbrev Heard-loss : ℕ → Lane → Lane → List Answer → Type 0
+Heard-loss now x y mine = ShowsOf x.wire x.talk mine y now ⊎ ((x.stage ≡ Lost) × (waits y ≡ waits x))
+
+listens-loss : (now : ℕ) (x y : Lane) (mine : List Answer) (own : Option Event) → is_loss own ≡ true → Listens now x y mine own → Heard-loss now x y mine
+listens-loss now x y mine own loss h = go x.stage refl h where
+  never : {A : Type 0} → own ≡ None → A
+  never e = absurd (cc (sym (ap is_loss e) ∙ loss))
+
+  go : (s : Stage) → x.stage ≡ s → TurnsAt s now x y mine own → Heard-loss now x y mine
+  go Live e h = inl (live-shows now x y mine own e loss h)
+  go Lost e h = inr (e, ap waits h.2)
+  go Closing e h = never h.0
+  go Over e h = never h.1
+
+heeds-loss : (now : ℕ) (what : Event) (x y : Lane) (mine : List Answer) → what ≡ event.Lost x.wire → Heeds now what x y mine → Heard-loss now x y mine
+heeds-loss now what x y mine e (inl h) = go h.0 h.1 h.2 where
+  go : (own : Option Event) → Listens now x y mine own → IsHeard x.wire own what → Heard-loss now x y mine
+  go None l is = absurd (off-and-on (is_on x.wire what) is (ap (λ v. is_on x.wire v) e ∙ same x.wire))
+  go (Some told) l is = listens-loss now x y mine (Some told) (ap (λ v. is_loss (Some v)) (sym is ∙ e)) l
+heeds-loss now what x y mine e (inr h) = absurd (off-and-on (is_on x.wire what) h.1 (ap (λ v. is_on x.wire v) e ∙ same x.wire))
+
+-- a lane that is no WebSocket isn't gone or spoiled
+new-talk : (bound : ℕ) (x : Lane) (bytes : List ℕ) → IsNew bound x → IsGone bytes x.talk ⊎ IsSpoiled x.talk → ⊥
+new-talk bound x bytes n h = go (subst (λ (l : Lane). IsGone bytes l.talk ⊎ IsSpoiled l.talk) n.2 h) where
+  go : ⊥ ⊎ ⊥ → ⊥
+  go (inl e) = e
+  go (inr e) = e
+
+loss-cause : (now : ℕ) (what : Heard) (answers : List Answer) (calls : List Call) (x y : Lane) (before after : List Lane) (bound : ℕ) → Has after y → y.wire ≡ x.wire → Has before x ⊎ IsNew bound x → IsCaused calls x →
+    Heard-loss now x y (share x.wire answers) →
+    ((lane : Lane) × Contains after lane × (lane.wire ≡ x.wire) × IsLostRightly now (answers_of (session.heard what answers ∷ calls)) lane)
+    ⊎ ((lane : Lane) × Contains before lane × (lane.wire ≡ x.wire) × (IsGone (read_on x.wire answers) lane.talk ⊎ IsSpoiled lane.talk))
+loss-cause now what answers calls x y before after bound has wire were caused h = go h where
+  broke : broke_in x.wire (answers_of (session.heard what answers ∷ calls)) ≡ true →
+      (lane : Lane) × Contains after lane × (lane.wire ≡ x.wire) × IsLostRightly now (answers_of (session.heard what answers ∷ calls)) lane
+  broke e = (y, contains-of after y has, wire, inl (subst (λ n. broke_in n (answers_of (session.heard what answers ∷ calls)) ≡ true) (sym wire) e))
+
+  much : is_too_much (length (waits y)) ≡ true → (lane : Lane) × Contains after lane × (lane.wire ≡ x.wire) × IsLostRightly now (answers_of (session.heard what answers ∷ calls)) lane
+  much e = (y, contains-of after y has, wire, inr (inr e))
+
+  ended : IsGone (read_on x.wire (share x.wire answers)) x.talk ⊎ IsSpoiled x.talk → Has before x ⊎ IsNew bound x →
+      (lane : Lane) × Contains before lane × (lane.wire ≡ x.wire) × (IsGone (read_on x.wire answers) lane.talk ⊎ IsSpoiled lane.talk)
+  ended g (inl k) = (x, contains-of before x k, refl, subst (λ (l : List ℕ). IsGone l x.talk ⊎ IsSpoiled x.talk) (sym (read-share x.wire answers)) g)
+  ended g (inr n) = absurd (new-talk bound x (read_on x.wire (share x.wire answers)) n g)
+
+  earlier : waits y ≡ waits x → Cause x.wire (answers_of calls) x → (lane : Lane) × Contains after lane × (lane.wire ≡ x.wire) × IsLostRightly now (answers_of (session.heard what answers ∷ calls)) lane
+  earlier e (inl b) = broke (broke-before x.wire calls (session.heard what answers) b)
+  earlier e (inr m) = much (ap (λ l. is_too_much (length l)) e ∙ m)
+
+  go : Heard-loss now x y (share x.wire answers) →
+      ((lane : Lane) × Contains after lane × (lane.wire ≡ x.wire) × IsLostRightly now (answers_of (session.heard what answers ∷ calls)) lane)
+      ⊎ ((lane : Lane) × Contains before lane × (lane.wire ≡ x.wire) × (IsGone (read_on x.wire answers) lane.talk ⊎ IsSpoiled lane.talk))
+  go (inl (inl e)) = inl (broke (broke-now x.wire calls (session.heard what answers) e))
+  go (inl (inr (inl e))) = inl (y, contains-of after y has, wire, inr (inl e))
+  go (inl (inr (inr (inl e)))) = inl (much e)
+  go (inl (inr (inr (inr g)))) = inr (ended g were)
+  go (inr k) = inl (earlier k.1 (caused k.0))
+
+pub losses-have-causes : LossesHaveCauses
+losses-have-causes what answers calls bound bound_after before after h d wire e =
+    let m = mover what answers calls bound_after after (bound, before, h, d) wire (ap (λ v. is_on wire v) e ∙ same wire) in
+    let x = m.0 in
+    let y = m.1 in
+    let here : what.event ≡ event.Lost x.wire = e ∙ ap (λ n. event.Lost n) (sym m.4) in
+    let step = steps-in (session.heard what answers) calls bound_after after (bound, before, h, d) in
+    let caused = each-before IsCaused new-caused step-caused (session.heard what answers) calls bound_after after (bound, before, h, d) x m.2 in
+    subst (λ n. ((lane : Lane) × Contains after.lanes lane × (lane.wire ≡ n) × IsLostRightly what.now (answers_of (session.heard what answers ∷ calls)) lane)
+    ⊎ ((lane : Lane) × Contains before.lanes lane × (lane.wire ≡ n) × (IsGone (read_on n answers) lane.talk ⊎ IsSpoiled lane.talk))) m.4
+    (loss-cause what.now what answers calls x y before.lanes after.lanes bound m.3 (moves-wire (session.heard what answers) x y m.5) (step.were x m.2) caused
+    (heeds-loss what.now what.event x y (share x.wire answers) here m.5))

@@ -1,0 +1,190 @@
+-- A lane keeps its number, and what it does is told of its own wire and heard on it.
+use Rattle.std.proofs.Common.{◌≡◌, ◌==◌, ◌++◌, ◌∷◌, [], ℕ, Bool, true, false, List, Option, None, Some, refl, sym, ap, ◌∙◌, subst, length}
+use Rattle.hd_lanes.specs.declared.http.Reply.{Reply}
+use Rattle.hw_door.specs.declared.heard.Event.{Event}
+use Rattle.hw_door.specs.declared.heard.Event.TheVariants as event
+use Rattle.hw_door.specs.Traffic.{Answer, bytes_in, not_yet, ended, read_failed, bytes_out, write_failed, was_shut}
+use Rattle.hw_net.specs.declared.news.News.{News}
+use Rattle.hw_net.specs.declared.news.News.TheVariants as news
+use Rattle.hw_net.specs.declared.talk.Talk.{Talk}
+use Rattle.hw_net.specs.declared.talk.Talk.TheVariants.{Http, Socket}
+use Rattle.hw_net.specs.declared.talk.Stage.{Stage}
+use Rattle.hw_net.specs.declared.talk.Stage.TheVariants.{Live, Lost, Closing, Over}
+use Rattle.hw_net.specs.Lane.{Lane, waits, after_end, after_reply, owes, is_live, is_overdue, talk_after_shut}
+use Rattle.hw_net.specs.Saying.{Writes, WritesOut, Says, SaysAt, SaysMore, must_end, is_too_much}
+use Rattle.hw_net.specs.Sessions.{is_about}
+use Rattle.hw_net.specs.Told.{Reads, Gives, Chooses}
+use Rattle.hw_net.specs.Turn.{Hears, Falls, Passes, Settles, Loses, LosesAt, TurnsLive, TurnsAt, Listens, Turns, Replies, Puts, Sends, Shuts}
+use Rattle.hw_net.proofs.Numbering.{reply-wire, send-wire, shut-wire, replied-wire, put-wire}
+use Rattle.hw_net.proofs.Shares.{AreOwn, own-append, same}
+
+-- the event is heard on this lane
+abbrev pub is_on : ℕ → Event → Bool
+is_on lane (event.Request at request) = at == lane
+is_on lane (event.Refused at status) = at == lane
+is_on lane (event.Bytes at bytes) = at == lane
+is_on lane (event.Response at status body) = at == lane
+is_on lane (event.Upgraded at) = at == lane
+is_on lane (event.Lost at) = at == lane
+is_on lane event.Quiet = false
+
+-- if it is heard on any lane, it is on this one
+abbrev pub IsOn : ℕ → Option Event → Type 0
+IsOn lane None = Unit {0}
+IsOn lane (Some heard) = is_on lane heard ≡ true
+
+-- what a lane does is told of its own wire, and leaves its number
+abbrev pub Keeps : Lane → Lane → List Answer → Type 0
+Keeps before after answers = (after.wire ≡ before.wire) × AreOwn before.wire answers
+
+is-wire : (at wire : ℕ) → at ≡ wire → (at == wire) ≡ true
+is-wire at wire e = ap (λ n. n == wire) e ∙ same wire
+
+wire-of : (before after : Lane) → after ≡ before → after.wire ≡ before.wire
+wire-of before after e = ap (λ (l : Lane). l.wire) e
+
+-- ---- writing
+
+pub writes-own : (wire : ℕ) (waits : List ℕ) (sent : List Answer) (left : List ℕ) (whole : Bool) → Writes wire waits sent left whole → AreOwn wire sent
+writes-own wire waits [] left whole h = tt
+writes-own wire waits (bytes_out at [] ∷ []) left whole h = (is-wire at wire h.0, tt)
+writes-own wire waits (bytes_out at (b ∷ bs) ∷ answers) left whole h = (is-wire at wire h.0, writes-own wire h.1.0 answers left whole h.1.2)
+writes-own wire waits (write_failed at ∷ []) left whole h = (is-wire at wire h.0, tt)
+writes-own wire waits _ left whole h = absurd h
+
+own-shut : (wire : ℕ) → AreOwn wire (was_shut wire ∷ [])
+own-shut wire = (same wire, tt)
+
+to-own : (wire : ℕ) (answers all : List Answer) → all ≡ answers → AreOwn wire answers → AreOwn wire all
+to-own wire answers all e h = subst (λ (l : List Answer). AreOwn wire l) (sym e) h
+
+pub writes-out-keeps : (before after : Lane) (answers : List Answer) → WritesOut before after answers → Keeps before after answers
+writes-out-keeps before after answers w = (w.still.wire, go (must_end before.stage (length (waits after)) w.is_whole) refl) where
+  own : AreOwn before.wire w.sent
+  own = writes-own before.wire (waits before) w.sent (waits after) w.is_whole w.writes
+
+  go : (b : Bool) → must_end before.stage (length (waits after)) w.is_whole ≡ b → AreOwn before.wire answers
+  go true e = to-own before.wire (w.sent ++ was_shut before.wire ∷ []) answers (w.ends e).0 (own-append before.wire w.sent (was_shut before.wire ∷ []) own (own-shut before.wire))
+  go false e = to-own before.wire w.sent answers (w.stays e).0 own
+
+still-keeps : (before after : Lane) (answers : List Answer) → answers ≡ [] → after ≡ before → Keeps before after answers
+still-keeps before after answers e f = (wire-of before after f, to-own before.wire [] answers e tt)
+
+pub says-keeps : (before after : Lane) (answers : List Answer) → Says before after answers → Keeps before after answers
+says-keeps before after answers h = go before.stage h where
+  go : (s : Stage) → SaysAt s before after answers → Keeps before after answers
+  go Live h = writes-out-keeps before after answers h
+  go Lost h = still-keeps before after answers h.0 h.1
+  go Closing h = writes-out-keeps before after answers h
+  go Over h = still-keeps before after answers h.0 h.1
+
+more-keeps : (before after : Lane) (answers : List Answer) → SaysMore before after answers → Keeps before after answers
+more-keeps before after answers h = go (is_too_much (length (waits before))) h where
+  go : (b : Bool) → Chooses b ((answers ≡ was_shut before.wire ∷ []) × (after ≡ record before { stage = after_end before.stage })) (WritesOut before after answers) → Keeps before after answers
+  go true h = (ap (λ (l : Lane). l.wire) h.1, to-own before.wire (was_shut before.wire ∷ []) answers h.0 (own-shut before.wire))
+  go false h = writes-out-keeps before after answers h
+
+-- ---- hearing
+
+reads-about : (wire room : ℕ) (answer : Answer) (got : Option (List ℕ)) → Reads wire room answer got → is_about wire answer ≡ true
+reads-about wire room (bytes_in at bytes) (Some piece) h = is-wire at wire h.0
+reads-about wire room (not_yet at) (Some piece) h = is-wire at wire h.0
+reads-about wire room (ended at) None h = is-wire at wire h
+reads-about wire room (read_failed at) None h = is-wire at wire h
+reads-about wire room _ _ h = absurd h
+
+gives-own : (wire room : ℕ) (answers : List Answer) (got : Option (List ℕ)) → Gives wire room answers got → AreOwn wire answers
+gives-own wire room [] got h = tt
+gives-own wire room (answer ∷ []) got h = (reads-about wire room answer got h.1, tt)
+gives-own wire room (answer ∷ next ∷ more) got h = absurd h
+
+hears-own : (wire : ℕ) (before after : Talk) (answers : List Answer) (heard : News) → Hears wire before after answers heard → AreOwn wire answers
+hears-own wire (Http before) (Http after) answers heard h = gives-own wire _ answers h.got h.read
+hears-own wire (Socket before) (Socket after) answers heard h = gives-own wire _ answers h.got h.read
+hears-own wire _ _ answers heard h = absurd h
+
+-- what is settled of the news: the number, the answers, and where it is heard
+abbrev pub Settled : Lane → Lane → List Answer → Option Event → Type 0
+Settled before after answers heard = Keeps before after answers × IsOn before.wire heard
+
+on-own : (wire : ℕ) (heard : Option Event) (here : Event) → is_on wire here ≡ true → heard ≡ Some here → IsOn wire heard
+on-own wire heard here is e = subst (λ (o : Option Event). IsOn wire o) (sym e) is
+
+falls-keeps : (before after : Lane) (answers : List Answer) (heard : Option Event) → Falls before after answers heard → Settled before after answers heard
+falls-keeps before after answers heard h =
+    ((ap (λ (l : Lane). l.wire) h.2, to-own before.wire (was_shut before.wire ∷ []) answers h.0 (own-shut before.wire)), on-own before.wire heard (event.Lost before.wire) (same before.wire) h.1)
+
+passes-keeps : (before becomes after : Lane) (answers : List Answer) (told : Event) (heard : Option Event) → becomes.wire ≡ before.wire → is_on before.wire told ≡ true →
+    Passes becomes after answers (Some told) heard → Settled before after answers heard
+passes-keeps before becomes after answers told heard e is h =
+    ((ap (λ (l : Lane). l.wire) h.2 ∙ e, to-own before.wire [] answers h.0 tt), on-own before.wire heard told is h.1)
+
+pub settles-keeps : (now : ℕ) (before after : Lane) (answers : List Answer) (heard_news : News) (heard : Option Event) → Settles now before after answers heard_news heard → Settled before after answers heard
+settles-keeps now before after answers news.Nothing heard h = go (is_overdue now before) h where
+  go : (b : Bool) → Chooses b (Falls before after answers heard) (Passes before after answers None heard) → Settled before after answers heard
+  go true h = falls-keeps before after answers heard h
+  go false h = (still-keeps before after answers h.0 h.2, subst (λ (o : Option Event). IsOn before.wire o) (sym h.1) tt)
+settles-keeps now before after answers (news.Request request) heard h = passes-keeps before _ after answers (event.Request before.wire request) heard refl (same before.wire) h
+settles-keeps now before after answers (news.Refused status) heard h = passes-keeps before _ after answers (event.Refused before.wire status) heard refl (same before.wire) h
+settles-keeps now before after answers (news.Message bytes) heard h = passes-keeps before _ after answers (event.Bytes before.wire bytes) heard refl (same before.wire) h
+settles-keeps now before after answers news.Broken heard h = falls-keeps before after answers heard h
+settles-keeps now before after answers news.Gone heard h = passes-keeps before _ after answers (event.Lost before.wire) heard refl (same before.wire) h
+
+loses-keeps : (wire : ℕ) (told : Option Event) (before after : Lane) (heard : Option Event) → before.wire ≡ wire → IsOn wire told → Loses told before after heard →
+    (after.wire ≡ before.wire) × IsOn wire heard
+loses-keeps wire (Some here) before after heard e is h = (wire-of before after h.1, on-own wire heard here is h.0)
+loses-keeps wire None before after heard e is h = go before.stage h where
+  go : (s : Stage) → LosesAt s before after heard → (after.wire ≡ before.wire) × IsOn wire heard
+  go Live h = (wire-of before after h.1, subst (λ (o : Option Event). IsOn wire o) (sym h.0) tt)
+  go Lost h = (ap (λ (l : Lane). l.wire) h.1, on-own wire heard (event.Lost before.wire) (is-wire before.wire wire e) h.0)
+  go Closing h = (wire-of before after h.1, subst (λ (o : Option Event). IsOn wire o) (sym h.0) tt)
+  go Over h = (wire-of before after h.1, subst (λ (o : Option Event). IsOn wire o) (sym h.0) tt)
+
+live-keeps : (now : ℕ) (before after : Lane) (answers : List Answer) (heard : Option Event) → TurnsLive now before after answers heard → Settled before after answers heard
+live-keeps now before after answers heard h =
+    let settled = settles-keeps now (record before { talk = h.talk }) h.settled h.shut h.news h.told h.settles in
+    let said = says-keeps h.settled h.said h.written h.says in
+    let wrote : AreOwn before.wire h.written = subst (λ n. AreOwn n h.written) settled.0.0 said.1 in
+    let loses = loses-keeps before.wire h.told h.said after heard (said.0 ∙ settled.0.0) settled.1 h.loses in (
+      (
+        loses.0 ∙ said.0 ∙ settled.0.0,
+        to-own before.wire (h.read ++ (h.shut ++ h.written)) answers h.all
+            (own-append before.wire h.read (h.shut ++ h.written) (hears-own before.wire before.talk h.talk h.read h.news h.hears) (own-append before.wire h.shut h.written settled.0.1 wrote)),
+      ),
+      loses.1,
+    )
+
+pub listens-keeps : (now : ℕ) (before after : Lane) (answers : List Answer) (heard : Option Event) → Listens now before after answers heard → Keeps before after answers × IsOn before.wire heard
+listens-keeps now before after answers heard h = go before.stage h where
+  go : (s : Stage) → TurnsAt s now before after answers heard → Settled before after answers heard
+  go Live h = live-keeps now before after answers heard h
+  go Lost h = passes-keeps before (record before { stage = Over }) after answers (event.Lost before.wire) heard refl (same before.wire) h
+  go Closing h = (says-keeps before after answers h.1, subst (λ (o : Option Event). IsOn before.wire o) (sym h.0) tt)
+  go Over h = (still-keeps before after answers h.0 h.2, subst (λ (o : Option Event). IsOn before.wire o) (sym h.1) tt)
+
+pub turns-keeps : (now : ℕ) (told : Option Event) (before after : Lane) (answers : List Answer) (heard : Option Event) → Turns now told before after answers heard → Keeps before after answers
+turns-keeps now None before after answers heard h = (listens-keeps now before after answers heard h).0
+turns-keeps now (Some told) before after answers heard h = says-keeps before after answers h.1
+
+-- ---- saying
+
+more-own : (wire : ℕ) (before after : Lane) (answers : List Answer) → before.wire ≡ wire → SaysMore before after answers → AreOwn wire answers
+more-own wire before after answers e h = subst (λ n. AreOwn n answers) e (more-keeps before after answers h).1
+
+pub replies-keeps : (now : ℕ) (reply : Reply) (before after : Lane) (answers : List Answer) → Replies now reply before after answers → Keeps before after answers
+replies-keeps now reply before after answers h = (reply-wire now reply before after answers h, go (owes before) h) where
+  go : (b : Bool) → Chooses b (SaysMore (after_reply now reply before) after answers) ((answers ≡ []) × (after ≡ before)) → AreOwn before.wire answers
+  go true h = more-own before.wire (after_reply now reply before) after answers (replied-wire now reply before) h
+  go false h = to-own before.wire [] answers h.0 tt
+
+pub sends-keeps : (bytes : List ℕ) (text : Bool) (before after : Lane) (answers : List Answer) → Sends bytes text before after answers → Keeps before after answers
+sends-keeps bytes text before after answers h = (send-wire bytes text before after answers h, go h.0 h.1 h.2 h.3) where
+  go : (mid : Lane) (b : Bool) → Puts bytes text before mid b → Chooses b (SaysMore mid after answers) ((answers ≡ []) × (after ≡ mid)) → AreOwn before.wire answers
+  go mid true p h = more-own before.wire mid after answers (put-wire (is_live before.stage) before.talk bytes text before mid true p) h
+  go mid false p h = to-own before.wire [] answers h.0 tt
+
+pub shuts-keeps : (before after : Lane) (answers : List Answer) → Shuts before after answers → Keeps before after answers
+shuts-keeps before after answers h = (shut-wire before after answers h, go (is_live before.stage) h) where
+  go : (b : Bool) → Chooses b (WritesOut (record before { talk = talk_after_shut before.talk; stage = Closing }) after answers) ((answers ≡ []) × (after ≡ before)) → AreOwn before.wire answers
+  go true h = (writes-out-keeps (record before { talk = talk_after_shut before.talk; stage = Closing }) after answers h).1
+  go false h = to-own before.wire [] answers h.0 tt

@@ -1,0 +1,590 @@
+-- In a session a lane that became a WebSocket carries a fresh one, call by call.
+use Rattle.std.proofs.Common.{◌≡◌, ◌==◌, ◌&&◌, ◌++◌, ◌∷◌, [], ℕ, Bool, true, false, if◌then◌else◌, List, Option, None, Some, refl, sym, ap, ◌∙◌, subst, inl, inr, append-nil, append_assoc, length}
+use Rattle.hd_lanes.specs.declared.http.Reply.{Reply}
+use Rattle.hd_lanes.specs.declared.http.Request.{Request}
+use Rattle.hh_http.specs.Asks.{Asks}
+use Rattle.hh_http.specs.Texts.{reply_text}
+use Rattle.hw_door.specs.declared.heard.Event.{Event}
+use Rattle.hw_door.specs.declared.heard.Event.TheVariants as event
+use Rattle.hw_door.specs.Traffic.{Answer, was_shut, read_on, written_on}
+use Rattle.hw_socket.specs.Calls as socket_calls
+use Rattle.hw_socket.specs.Lane as socket
+use Rattle.hw_socket.specs.Reading.{Feeds, Takes}
+use Rattle.hw_socket.specs.Sending as sending
+use Rattle.hw_socket.specs.declared.vocabulary.SocketRead.{SocketRead}
+use Rattle.hw_socket.specs.declared.vocabulary.SocketRead.TheVariants as read
+use Rattle.hw_socket.specs.declared.vocabulary.SocketSide.TheVariants as side
+use Rattle.hw_net.specs.declared.limits.TheConstants.{SWITCHING}
+use Rattle.hw_net.specs.declared.news.News.{News}
+use Rattle.hw_net.specs.declared.news.News.TheVariants as news
+use Rattle.hw_net.specs.declared.talk.Talk.{Talk}
+use Rattle.hw_net.specs.declared.talk.Talk.TheVariants.{Http, Socket}
+use Rattle.hw_net.specs.declared.talk.Stage.{Stage}
+use Rattle.hw_net.specs.declared.talk.Stage.TheVariants.{Live, Lost, Closing, Over}
+use Rattle.hw_net.specs.declared.talking.Talking.{Talking}
+use Rattle.hw_net.specs.Asking.{AskingState, requests_of}
+use Rattle.hw_net.specs.Door.{new_lane}
+use Rattle.hw_net.specs.Lane.{Lane, waits, frames_of, is_live, is_busy, owes, is_overdue, after_end, after_reply, talk_after_shut, talk_after_reply, new_socket, rest_of}
+use Rattle.hw_net.specs.Saying.{WritesOut, SpeaksAs, Says, SaysAt, SaysMore, must_end, is_too_much}
+use Rattle.hw_net.specs.Sessions as session
+use Rattle.hw_net.specs.Sessions.{Call, Session, answers_in, answers_of, requests_on, replies_on, texts_of, message_on, messages_on, IsCarried, CarriesSocket, SocketsAreCarried}
+use Rattle.hw_net.specs.Talking.{Gets}
+use Rattle.hw_net.specs.Told.{Chooses, bytes_of}
+use Rattle.hw_net.specs.Turn.{Hears, Falls, Passes, Settles, Loses, LosesAt, TurnsLive, TurnsAt, Listens, Replies, Puts, PutsAt, Sends, Shuts}
+use Rattle.hw_net.proofs.Asked.{HeardIn, IsAsked, step-asked, new-asked, requests_by, requests-more, requests_in, settles-requests, loses-requests, heard-requests, gives-bytes, live-reads, settles-silent, says-silent, read-more, replies-silent, sends-silent, shuts-silent}
+use Rattle.hw_net.proofs.Counting.{Lives, more-live, writes-live}
+use Rattle.hw_net.proofs.Ends.{dead}
+use Rattle.hw_net.proofs.Moves.{has-of}
+use Rattle.hw_net.proofs.Numbering.{replied-wire, put-wire}
+use Rattle.hw_net.proofs.Owed.{by-number, replies_by, replies-more}
+use Rattle.hw_net.proofs.Owning.{settles-keeps}
+use Rattle.hw_net.proofs.Shares.{share, written-append, same}
+use Rattle.hw_net.proofs.Shifts.{rewritten, Shifted, takes-shift, says-shift, shut-shift, session-more, fed-more, heard-more, dropped-more}
+use Rattle.hw_net.proofs.Voices.{Voiced, HasSaid, step-said, new-said, writes-front, reply-said, refusals_of, refusals_in, settles-refusals, loses-refusals, heard-refusals, hears-unwritten, settles-unwritten, live-written, written-more}
+use Rattle.hw_net.proofs.Walks.{IsHeard, Heeds, Moves, moves-wire, IsUntouched, each-lane, unrequested, unheard, unrefused}
+
+-- ---- one call more of the WebSocket that is carried
+
+-- the lane may be heard no more, and of what it has to write some may be gone
+carries-on : (live after : Bool) (from wrote : List ℕ) (requests : List Request) (messages : List (List ℕ)) (replies : List Reply) (now next : socket.Lane) → (after ≡ true → live ≡ true) →
+    next ≡ rewritten next.out.bytes now → IsCarried live from wrote requests messages replies now → IsCarried after from wrote requests messages replies next
+carries-on live after from wrote requests messages replies now next f e c = record {
+  calls = c.calls;
+  keeps = c.keeps;
+  runs = c.runs;
+  undropped = c.undropped;
+  same = e ∙ ap (λ l. rewritten next.out.bytes l) c.same;
+  front = c.front;
+  rest = c.rest;
+  more = c.more;
+  lost = c.lost;
+  parts = c.parts;
+  whole = λ l. c.whole (f l);
+  asks = c.asks;
+  fed = c.fed;
+  heard_all = c.heard_all;
+  wrote_all = c.wrote_all;
+}
+
+carries-fed : (from wrote : List ℕ) (requests : List Request) (messages : List (List ℕ)) (replies : List Reply) (now next : socket.Lane) (piece : List ℕ) → Feeds now piece next →
+    IsCarried true from wrote requests messages replies now → IsCarried true (from ++ piece) wrote requests messages replies next
+carries-fed from wrote requests messages replies now next piece h c = record {
+  calls = c.calls ++ socket_calls.Feed piece ∷ [];
+  keeps = record c.keeps { unread = c.keeps.unread ++ piece };
+  runs = session-more (socket.fresh_lane side.Server) c.keeps (record c.keeps { unread = c.keeps.unread ++ piece }) c.calls (socket_calls.Feed piece) c.runs refl;
+  undropped = dropped-more c.calls (socket_calls.Feed piece) ∙ append-nil (socket_calls.dropped c.calls) ∙ c.undropped;
+  same = h ∙ ap (λ (l : socket.Lane). record l { unread = l.unread ++ piece }) c.same
+      ∙ ap (λ l. rewritten l (record c.keeps { unread = c.keeps.unread ++ piece })) (sym (ap (λ (l : socket.Lane). l.out.bytes) h));
+  front = c.front;
+  rest = c.rest;
+  more = c.more ++ piece;
+  lost = [];
+  parts = ap (λ l. l ++ piece) (c.parts ∙ ap (λ l. c.front ++ (c.more ++ l)) (c.whole refl) ∙ ap (λ l. c.front ++ l) (append-nil c.more)) ∙ append_assoc c.front c.more piece
+      ∙ ap (λ l. c.front ++ l) (sym (append-nil (c.more ++ piece)));
+  whole = λ l. refl;
+  asks = c.asks;
+  fed = fed-more c.calls (socket_calls.Feed piece) ∙ ap (λ l. socket_calls.fed c.calls ++ l) (append-nil piece) ∙ ap (λ l. l ++ piece) c.fed ∙ append_assoc c.rest c.more piece;
+  heard_all = heard-more c.calls (socket_calls.Feed piece) ∙ append-nil (socket_calls.heard c.calls) ∙ c.heard_all;
+  wrote_all = c.wrote_all;
+}
+
+-- what was read is lost
+carries-lost : (from wrote : List ℕ) (requests : List Request) (messages : List (List ℕ)) (replies : List Reply) (now next : socket.Lane) (piece : List ℕ) → next ≡ now →
+    IsCarried true from wrote requests messages replies now → IsCarried false (from ++ piece) wrote requests messages replies next
+carries-lost from wrote requests messages replies now next piece e c = record {
+  calls = c.calls;
+  keeps = c.keeps;
+  runs = c.runs;
+  undropped = c.undropped;
+  same = e ∙ c.same ∙ ap (λ (l : socket.Lane). rewritten l.out.bytes c.keeps) (sym e);
+  front = c.front;
+  rest = c.rest;
+  more = c.more;
+  lost = c.lost ++ piece;
+  parts = ap (λ l. l ++ piece) c.parts ∙ append_assoc c.front (c.more ++ c.lost) piece ∙ ap (λ l. c.front ++ l) (append_assoc c.more c.lost piece);
+  whole = λ l. absurd (cc l);
+  asks = c.asks;
+  fed = c.fed;
+  heard_all = c.heard_all;
+  wrote_all = c.wrote_all;
+}
+
+-- a call that feeds nothing and drops nothing
+carries-call : (live : Bool) (from written out : List ℕ) (requests : List Request) (messages more : List (List ℕ)) (replies : List Reply) (now next : socket.Lane) (call : socket_calls.Call) →
+    socket_calls.fed (call ∷ []) ≡ [] → socket_calls.dropped (call ∷ []) ≡ [] → socket_calls.heard (call ∷ []) ≡ more → (c : IsCarried live from (written ++ (out ++ now.out.bytes)) requests messages replies now) →
+    Shifted (λ to. socket_calls.Does call c.keeps to) now.out.bytes c.keeps next → IsCarried live from (written ++ (out ++ next.out.bytes)) requests (messages ++ more) replies next
+carries-call live from written out requests messages more replies now next call no_food no_drop hears c s =
+    let grown : next.out.bytes ≡ now.out.bytes ++ s.2 = ap (λ (l : socket.Lane). l.out.bytes) s.3 in
+    record {
+      calls = c.calls ++ call ∷ [];
+      keeps = s.0;
+      runs = session-more (socket.fresh_lane side.Server) c.keeps s.0 c.calls call c.runs s.1;
+      undropped = dropped-more c.calls call ∙ ap (λ l. socket_calls.dropped c.calls ++ l) no_drop ∙ append-nil (socket_calls.dropped c.calls) ∙ c.undropped;
+      same = s.3 ∙ ap (λ l. rewritten l s.0) (sym grown);
+      front = c.front;
+      rest = c.rest;
+      more = c.more;
+      lost = c.lost;
+      parts = c.parts;
+      whole = c.whole;
+      asks = c.asks;
+      fed = fed-more c.calls call ∙ ap (λ l. socket_calls.fed c.calls ++ l) no_food ∙ append-nil (socket_calls.fed c.calls) ∙ c.fed;
+      heard_all = heard-more c.calls call ∙ ap (λ l. socket_calls.heard c.calls ++ l) hears ∙ ap (λ l. l ++ more) c.heard_all;
+      wrote_all = ap (λ l. written ++ (out ++ l)) grown ∙ ap (λ l. written ++ l) (sym (append_assoc out now.out.bytes s.2)) ∙ sym (append_assoc written (out ++ now.out.bytes) s.2)
+          ∙ ap (λ l. l ++ s.2) c.wrote_all ∙ append_assoc (texts_of replies) c.keeps.out.bytes s.2 ∙ ap (λ l. texts_of replies ++ l) (sym s.4);
+    }
+
+carries-taken : (live : Bool) (from written out : List ℕ) (requests : List Request) (messages more : List (List ℕ)) (replies : List Reply) (now next : socket.Lane) (answer : SocketRead) →
+    socket_calls.heard (socket_calls.Read answer ∷ []) ≡ more → Takes now next answer → IsCarried live from (written ++ (out ++ now.out.bytes)) requests messages replies now →
+    IsCarried live from (written ++ (out ++ next.out.bytes)) requests (messages ++ more) replies next
+carries-taken live from written out requests messages more replies now next answer e h c =
+    carries-call live from written out requests messages more replies now next (socket_calls.Read answer) refl refl e c
+    (takes-shift now.out.bytes c.keeps next answer (subst (λ (l : socket.Lane). Takes l next answer) c.same h))
+
+carries-said : (live : Bool) (from written out : List ℕ) (requests : List Request) (messages : List (List ℕ)) (replies : List Reply) (now next : socket.Lane) (bytes : List ℕ) (text answer : Bool) →
+    sending.Says now next bytes text answer → IsCarried live from (written ++ (out ++ now.out.bytes)) requests messages replies now → IsCarried live from (written ++ (out ++ next.out.bytes)) requests (messages ++ []) replies next
+carries-said live from written out requests messages replies now next bytes text answer h c =
+    carries-call live from written out requests messages [] replies now next (socket_calls.Send (record { is_text = text; bytes = bytes }) answer) refl refl refl c
+    (says-shift now.out.bytes c.keeps next bytes text answer (subst (λ (l : socket.Lane). sending.Says l next bytes text answer) c.same h))
+
+carries-shut : (live : Bool) (from written out : List ℕ) (requests : List Request) (messages : List (List ℕ)) (replies : List Reply) (now : socket.Lane) →
+    IsCarried live from (written ++ (out ++ now.out.bytes)) requests messages replies now → IsCarried live from (written ++ (out ++ (sending.after_shut now).out.bytes)) requests (messages ++ []) replies (sending.after_shut now)
+carries-shut live from written out requests messages replies now c =
+    carries-call live from written out requests messages [] replies now (sending.after_shut now) socket_calls.Shut refl refl refl c
+    (subst (λ (l : socket.Lane). Shifted (λ to. to ≡ sending.after_shut c.keeps) now.out.bytes c.keeps (sending.after_shut l)) (sym c.same) (shut-shift now.out.bytes c.keeps))
+
+-- ---- lanes
+
+-- on a lane of requests no message is heard, and another carries its WebSocket
+abbrev Borne : Bool → List ℕ → List ℕ → List Request → List (List ℕ) → List Reply → Talk → Type 0
+Borne live from all requests messages replies (Http asking) = messages ≡ []
+Borne live from all requests messages replies (Socket talking) = IsCarried live from all requests messages replies talking.lane
+
+abbrev IsBorne : List ℕ → List ℕ → List Request → List (List ℕ) → List Reply → Lane → Type 0
+IsBorne from written requests messages replies lane = Borne (is_live lane.stage) from (written ++ waits lane) requests messages replies lane.talk
+
+-- nothing is added, and what waits is written
+abbrev Glides : Lane → Lane → List Answer → Type 0
+Glides x y mine = (from written : List ℕ) (requests : List Request) (messages : List (List ℕ)) (replies : List Reply) → IsBorne from written requests messages replies x →
+    IsBorne from (written ++ written_on x.wire mine) requests messages replies y
+
+borne-less : (live after : Bool) (from all : List ℕ) (requests : List Request) (messages : List (List ℕ)) (replies : List Reply) (talk : Talk) → (after ≡ true → live ≡ true) →
+    Borne live from all requests messages replies talk → Borne after from all requests messages replies talk
+borne-less live after from all requests messages replies (Http asking) f b = b
+borne-less live after from all requests messages replies (Socket talking) f b = carries-on live after from all requests messages replies talking.lane talking.lane f refl b
+
+speaks-borne : (live after : Bool) (from all : List ℕ) (requests : List Request) (messages : List (List ℕ)) (replies : List Reply) (old new : Talk) → (after ≡ true → live ≡ true) → SpeaksAs old new →
+    Borne live from all requests messages replies old → Borne after from all requests messages replies new
+speaks-borne live after from all requests messages replies (Http old) (Http new) f e b = b
+speaks-borne live after from all requests messages replies (Socket old) (Socket new) f e b = carries-on live after from all requests messages replies old.lane new.lane f (ap (λ (t : Talking). t.lane) e) b
+speaks-borne live after from all requests messages replies _ _ f e b = absurd e
+
+glides : (x y : Lane) (mine : List Answer) → written_on x.wire mine ++ waits y ≡ waits x →
+    ((from all : List ℕ) (requests : List Request) (messages : List (List ℕ)) (replies : List Reply) → Borne (is_live x.stage) from all requests messages replies x.talk → Borne (is_live y.stage) from all requests messages replies y.talk) → Glides x y mine
+glides x y mine e f from written requests messages replies b =
+    f from ((written ++ written_on x.wire mine) ++ waits y) requests messages replies
+    (subst (λ (l : List ℕ). Borne (is_live x.stage) from l requests messages replies x.talk) (sym (append_assoc written (written_on x.wire mine) (waits y) ∙ ap (λ l. written ++ l) e)) b)
+
+lives-stage : (x y : Lane) → Lives x y → is_live y.stage ≡ true → is_live x.stage ≡ true
+lives-stage x y l e = (l e).0
+
+writes-glide : (x y : Lane) (mine : List Answer) → WritesOut x y mine → Glides x y mine
+writes-glide x y mine w =
+    glides x y mine (go (must_end x.stage (length (waits y)) w.is_whole) refl)
+    (λ from all requests messages replies. speaks-borne (is_live x.stage) (is_live y.stage) from all requests messages replies x.talk y.talk (lives-stage x y (writes-live x y mine w)) w.still.talk) where
+      front : written_on x.wire w.sent ++ waits y ≡ waits x
+      front = writes-front x.wire (waits x) w.sent (waits y) w.is_whole w.writes
+
+      go : (b : Bool) → must_end x.stage (length (waits y)) w.is_whole ≡ b → written_on x.wire mine ++ waits y ≡ waits x
+      go true e = ap (λ l. written_on x.wire l ++ waits y) (w.ends e).0
+          ∙ ap (λ l. l ++ waits y) (written-append x.wire w.sent (was_shut x.wire ∷ []) ∙ append-nil (written_on x.wire w.sent)) ∙ front
+      go false e = ap (λ l. written_on x.wire l ++ waits y) (w.stays e).0 ∙ front
+
+-- the stage alone may be another
+stage-glides : (x y : Lane) (mine : List Answer) → written_on x.wire mine ≡ [] → waits y ≡ waits x → y.talk ≡ x.talk → (is_live y.stage ≡ true → is_live x.stage ≡ true) → Glides x y mine
+stage-glides x y mine e f g l =
+    glides x y mine (ap (λ k. k ++ waits y) e ∙ f)
+    (λ from all requests messages replies b. subst (λ (t : Talk). Borne (is_live y.stage) from all requests messages replies t) (sym g)
+    (borne-less (is_live x.stage) (is_live y.stage) from all requests messages replies x.talk l b))
+
+same-glides : (x y : Lane) (mine : List Answer) → mine ≡ [] → y ≡ x → Glides x y mine
+same-glides x y mine e f =
+    stage-glides x y mine (ap (λ l. written_on x.wire l) e) (ap waits f) (ap (λ (l : Lane). l.talk) f) (λ k. sym (ap (λ (l : Lane). is_live l.stage) f) ∙ k)
+
+says-glide : (x y : Lane) (mine : List Answer) → Says x y mine → Glides x y mine
+says-glide x y mine h = go x.stage h where
+  go : (s : Stage) → SaysAt s x y mine → Glides x y mine
+  go Live h = writes-glide x y mine h
+  go Lost h = same-glides x y mine h.0 h.1
+  go Closing h = writes-glide x y mine h
+  go Over h = same-glides x y mine h.0 h.1
+
+more-glide : (x y : Lane) (mine : List Answer) → SaysMore x y mine → Glides x y mine
+more-glide x y mine s = go (is_too_much (length (waits x))) s where
+  go : (b : Bool) → Chooses b ((mine ≡ was_shut x.wire ∷ []) × (y ≡ record x { stage = after_end x.stage })) (WritesOut x y mine) → Glides x y mine
+  go true h = stage-glides x y mine (ap (λ l. written_on x.wire l) h.0) (ap waits h.1) (ap (λ (l : Lane). l.talk) h.1) (lives-stage x y (more-live x y mine s))
+  go false h = writes-glide x y mine h
+
+-- ---- hearing
+
+abbrev messages_of : News → List (List ℕ)
+messages_of (news.Message bytes) = bytes ∷ []
+messages_of _ = []
+
+abbrev messages_in : ℕ → Option Event → List (List ℕ)
+messages_in wire None = []
+messages_in wire (Some told) = message_on wire told
+
+settles-messages : (now : ℕ) (before after : Lane) (answers : List Answer) (what : News) (heard : Option Event) → Settles now before after answers what heard → messages_in before.wire heard ≡ messages_of what
+settles-messages now before after answers news.Nothing heard h = go (is_overdue now before) h where
+  go : (b : Bool) → Chooses b (Falls before after answers heard) (Passes before after answers None heard) → messages_in before.wire heard ≡ []
+  go true h = ap (λ o. messages_in before.wire o) h.1
+  go false h = ap (λ o. messages_in before.wire o) h.1
+settles-messages now before after answers (news.Request request) heard h = ap (λ o. messages_in before.wire o) h.1
+settles-messages now before after answers (news.Refused status) heard h = ap (λ o. messages_in before.wire o) h.1
+settles-messages now before after answers (news.Message bytes) heard h = ap (λ o. messages_in before.wire o) h.1 ∙ ap (λ b. if b then bytes ∷ [] else []) (same before.wire)
+settles-messages now before after answers news.Broken heard h = ap (λ o. messages_in before.wire o) h.1
+settles-messages now before after answers news.Gone heard h = ap (λ o. messages_in before.wire o) h.1
+
+loses-messages : (wire : ℕ) (told : Option Event) (before after : Lane) (heard : Option Event) → Loses told before after heard → messages_in wire heard ≡ messages_in wire told
+loses-messages wire (Some here) before after heard h = ap (λ o. messages_in wire o) h.0
+loses-messages wire None before after heard h = go before.stage h where
+  go : (s : Stage) → LosesAt s before after heard → messages_in wire heard ≡ []
+  go Live h = ap (λ o. messages_in wire o) h.0
+  go Lost h = ap (λ o. messages_in wire o) h.0
+  go Closing h = ap (λ o. messages_in wire o) h.0
+  go Over h = ap (λ o. messages_in wire o) h.0
+
+heard-messages : (wire : ℕ) (own : Option Event) (what : Event) → IsHeard wire own what → message_on wire what ≡ messages_in wire own
+heard-messages wire None what h = unheard wire what h
+heard-messages wire (Some told) what h = ap (λ v. message_on wire v) h
+
+-- a lane is borne also with no more requests, messages and replies
+padded : (from written : List ℕ) (requests : List Request) (messages : List (List ℕ)) (replies : List Reply) (more_requests : List Request) (more_replies : List Reply) (lane : Lane) → more_requests ≡ [] → more_replies ≡ [] →
+    IsBorne from written requests messages replies lane → IsBorne from written (requests ++ more_requests) messages (replies ++ more_replies) lane
+padded from written requests messages replies more_requests more_replies lane e f b =
+    subst (λ (l : List Request). IsBorne from written l messages (replies ++ more_replies) lane) (sym (ap (λ l. requests ++ l) e ∙ append-nil requests))
+    (subst (λ (l : List Reply). IsBorne from written requests messages l lane) (sym (ap (λ l. replies ++ l) f ∙ append-nil replies)) b)
+
+unpadded : {A : Type 0} (xs : List A) (P : List A → Type 0) → P (xs ++ []) → P xs
+unpadded xs P p = subst P (append-nil xs) p
+
+becomes : (from written : List ℕ) (requests : List Request) (messages : List (List ℕ)) (replies : List Reply) (lane mid : Lane) → lane ≡ mid → IsBorne from written requests messages replies mid → IsBorne from written requests messages replies lane
+becomes from written requests messages replies lane mid e b = subst (λ (l : Lane). IsBorne from written requests messages replies l) (sym e) b
+
+-- the WebSocket was fed with what was read, and read once
+gets-carried : (from written out : List ℕ) (requests : List Request) (messages more : List (List ℕ)) (replies : List Reply) (old new : socket.Lane) (got : Option (List ℕ)) (answer : SocketRead) →
+    socket_calls.heard (socket_calls.Read answer ∷ []) ≡ more → Gets old got answer new → IsCarried true from (written ++ (out ++ old.out.bytes)) requests messages replies old →
+    IsCarried true (from ++ bytes_of got) (written ++ (out ++ new.out.bytes)) requests (messages ++ more) replies new
+gets-carried from written out requests messages more replies old new got answer e h c =
+    let fed = h.1.0 in
+    let food = carries-fed from (written ++ (out ++ old.out.bytes)) requests messages replies old fed (bytes_of got) h.1.1 c in
+    let bytes : fed.out.bytes ≡ old.out.bytes = ap (λ (l : socket.Lane). l.out.bytes) h.1.1 in
+    carries-taken true (from ++ bytes_of got) written out requests messages more replies fed new answer e h.1.2
+    (subst (λ (l : List ℕ). IsCarried true (from ++ bytes_of got) (written ++ (out ++ l)) requests messages replies fed) (sym bytes) food)
+
+settles-borne : (now : ℕ) (x : Lane) (talk : Talk) (after : Lane) (reads answers : List Answer) (what : News) (heard : Option Event) (from written : List ℕ) (requests : List Request) (messages : List (List ℕ)) (replies : List Reply) →
+    x.stage ≡ Live → Hears x.wire x.talk talk reads what → Settles now (record x { talk = talk }) after answers what heard → IsBorne from written requests messages replies x →
+    IsBorne (from ++ read_on x.wire reads) written (requests ++ requests_of what) (messages ++ messages_of what) (replies ++ refusals_of what) after
+settles-borne now x talk after reads answers what heard from written requests messages replies live h s b = go x.talk talk what h s was where
+  was : Borne true from (written ++ (x.out ++ frames_of x.talk)) requests messages replies x.talk
+  was = borne-less (is_live x.stage) true from (written ++ (x.out ++ frames_of x.talk)) requests messages replies x.talk (λ e. ap is_live live) b
+
+  none : (rest : List ℕ) (more : List Request) (answers : List Reply) (mid : Lane) (asking : AskingState) → after ≡ mid → mid.talk ≡ Http asking → messages ≡ [] →
+      IsBorne rest written more (messages ++ []) answers after
+  none rest more answers mid asking e f k = becomes rest written more (messages ++ []) answers after mid e
+      (subst (λ (t : Talk). Borne (is_live mid.stage) rest (written ++ waits mid) more (messages ++ []) answers t) (sym f) (append-nil messages ∙ k))
+
+  carried : (new : Talking) (mid : Lane) (what : News) → after ≡ mid → requests_of what ≡ [] → refusals_of what ≡ [] → IsBorne (from ++ read_on x.wire reads) written requests (messages ++ messages_of what) replies mid →
+      IsBorne (from ++ read_on x.wire reads) written (requests ++ requests_of what) (messages ++ messages_of what) (replies ++ refusals_of what) after
+  carried new mid what e f g k = becomes (from ++ read_on x.wire reads) written (requests ++ requests_of what) (messages ++ messages_of what) (replies ++ refusals_of what) after mid e
+      (padded (from ++ read_on x.wire reads) written requests (messages ++ messages_of what) replies (requests_of what) (refusals_of what) mid f g k)
+
+  got : (old new : Talking) (bytes : Option (List ℕ)) (answer : SocketRead) (more : List (List ℕ)) → read_on x.wire reads ≡ bytes_of bytes → socket_calls.heard (socket_calls.Read answer ∷ []) ≡ more → Gets old.lane bytes answer new.lane →
+      IsCarried true from (written ++ (x.out ++ old.lane.out.bytes)) requests messages replies old.lane → IsCarried true (from ++ read_on x.wire reads) (written ++ (x.out ++ new.lane.out.bytes)) requests (messages ++ more) replies new.lane
+  got old new bytes answer more e f g c =
+      subst (λ (l : List ℕ). IsCarried true (from ++ l) (written ++ (x.out ++ new.lane.out.bytes)) requests (messages ++ more) replies new.lane) (sym e)
+      (gets-carried from written x.out requests messages more replies old.lane new.lane bytes answer f g c)
+
+  stage : (new : Talking) (more : List (List ℕ)) (s : Stage) → IsCarried true (from ++ read_on x.wire reads) (written ++ (x.out ++ new.lane.out.bytes)) requests more replies new.lane →
+      IsBorne (from ++ read_on x.wire reads) written requests more replies (record x { talk = Socket new; stage = s })
+  stage new more s c = carries-on true (is_live s) (from ++ read_on x.wire reads) (written ++ (x.out ++ new.lane.out.bytes)) requests more replies new.lane new.lane (λ e. refl) refl c
+
+  nothing : (new : Talking) → IsCarried true (from ++ read_on x.wire reads) (written ++ (x.out ++ new.lane.out.bytes)) requests (messages ++ []) replies new.lane → (b : Bool) →
+      Chooses b (Falls (record x { talk = Socket new }) after answers heard) (Passes (record x { talk = Socket new }) after answers None heard) →
+      IsBorne (from ++ read_on x.wire reads) written (requests ++ []) (messages ++ []) (replies ++ []) after
+  nothing new c true f = carried new (record x { talk = Socket new; stage = Over }) news.Nothing f.2 refl refl (stage new (messages ++ []) Over c)
+  nothing new c false f = carried new (record x { talk = Socket new }) news.Nothing f.2 refl refl (stage new (messages ++ []) x.stage c)
+
+  go : (old new : Talk) (what : News) → Hears x.wire old new reads what → Settles now (record x { talk = new }) after answers what heard → Borne true from (written ++ (x.out ++ frames_of old)) requests messages replies old →
+      IsBorne (from ++ read_on x.wire reads) written (requests ++ requests_of what) (messages ++ messages_of what) (replies ++ refusals_of what) after
+  go (Http old) (Http new) news.Nothing h s k = idle (is_overdue now (record x { talk = Http new })) s where
+    idle : (b : Bool) → Chooses b (Falls (record x { talk = Http new }) after answers heard) (Passes (record x { talk = Http new }) after answers None heard) →
+        IsBorne (from ++ read_on x.wire reads) written (requests ++ []) (messages ++ []) (replies ++ []) after
+    idle true f = none _ _ _ _ new f.2 refl k
+    idle false f = none _ _ _ _ new f.2 refl k
+  go (Http old) (Http new) (news.Request request) h s k = none _ _ _ _ new s.2 refl k
+  go (Http old) (Http new) (news.Refused status) h s k = none _ _ _ _ new s.2 refl k
+  go (Http old) (Http new) (news.Message bytes) h s k = absurd h.is_news
+  go (Http old) (Http new) news.Broken h s k = none _ _ _ _ new s.2 refl k
+  go (Http old) (Http new) news.Gone h s k = absurd h.is_news
+  go (Socket old) (Socket new) news.Nothing h s k =
+      nothing new (got old new h.got read.NotYet [] (gives-bytes x.wire _ reads h.got h.read) refl h.is_news.0 k) (is_overdue now (record x { talk = Socket new })) s
+  go (Socket old) (Socket new) (news.Request request) h s k = absurd h.is_news
+  go (Socket old) (Socket new) (news.Refused status) h s k = absurd h.is_news
+  go (Socket old) (Socket new) (news.Message bytes) h s k =
+      carried new (record x { talk = Socket new }) (news.Message bytes) s.2 refl refl
+      (stage new (messages ++ bytes ∷ []) x.stage (got old new h.got (read.Payload bytes) (bytes ∷ []) (gives-bytes x.wire _ reads h.got h.read) refl h.is_news.0 k))
+  go (Socket old) (Socket new) news.Broken h s k =
+      carried new (record x { talk = Socket new; stage = Over }) news.Broken s.2 refl refl
+      (subst (λ (l : List ℕ). IsCarried false (from ++ read_on x.wire reads) (written ++ (x.out ++ l)) requests (messages ++ []) replies new.lane) (sym (ap (λ (l : socket.Lane). l.out.bytes) h.is_news.1))
+      (subst (λ (l : List (List ℕ)). IsCarried false (from ++ read_on x.wire reads) (written ++ (x.out ++ old.lane.out.bytes)) requests l replies new.lane) (sym (append-nil messages))
+      (carries-lost from (written ++ (x.out ++ old.lane.out.bytes)) requests messages replies old.lane new.lane (read_on x.wire reads) h.is_news.1 k)))
+  go (Socket old) (Socket new) news.Gone h s k =
+      carried new (record x { talk = talk_after_shut (Socket new); stage = Closing }) news.Gone s.2 refl refl
+      (unpadded (messages ++ []) (λ m. IsBorne (from ++ read_on x.wire reads) written requests m replies (record x { talk = talk_after_shut (Socket new); stage = Closing }))
+      (carries-on true false (from ++ read_on x.wire reads) (written ++ (x.out ++ (sending.after_shut new.lane).out.bytes)) requests ((messages ++ []) ++ []) replies (sending.after_shut new.lane) (sending.after_shut new.lane) (λ e. absurd (cc e)) refl
+      (carries-shut true (from ++ read_on x.wire reads) written x.out requests (messages ++ []) replies new.lane
+      (got old new h.got read.Gone [] (gives-bytes x.wire _ reads h.got h.read) refl h.is_news.0 k))))
+  go (Http old) (Socket new) what h s k = absurd h
+  go (Socket old) (Http new) what h s k = absurd h
+
+loses-borne : (told : Option Event) (before after : Lane) (heard : Option Event) (from written : List ℕ) (requests : List Request) (messages : List (List ℕ)) (replies : List Reply) → Loses told before after heard →
+    IsBorne from written requests messages replies before → IsBorne from written requests messages replies after
+loses-borne (Some here) before after heard from written requests messages replies h b = becomes from written requests messages replies after before h.1 b
+loses-borne None before after heard from written requests messages replies h b = go before.stage h where
+  go : (s : Stage) → LosesAt s before after heard → IsBorne from written requests messages replies after
+  go Live h = becomes from written requests messages replies after before h.1 b
+  go Lost h = becomes from written requests messages replies after (record before { stage = Over }) h.1
+      (borne-less (is_live before.stage) false from (written ++ waits before) requests messages replies before.talk (λ e. absurd (cc e)) b)
+  go Closing h = becomes from written requests messages replies after before h.1 b
+  go Over h = becomes from written requests messages replies after before h.1 b
+
+-- what a call adds on a lane
+abbrev Bears : Lane → Lane → List Answer → List Request → List (List ℕ) → List Reply → Type 0
+Bears x y mine more_requests more_messages more_replies = (from written : List ℕ) (requests : List Request) (messages : List (List ℕ)) (replies : List Reply) → IsBorne from written requests messages replies x →
+    IsBorne (from ++ read_on x.wire mine) (written ++ written_on x.wire mine) (requests ++ more_requests) (messages ++ more_messages) (replies ++ more_replies) y
+
+glides-bear : (x y : Lane) (mine : List Answer) (more_requests : List Request) (more_messages : List (List ℕ)) (more_replies : List Reply) → Glides x y mine → read_on x.wire mine ≡ [] →
+    more_requests ≡ [] → more_messages ≡ [] → more_replies ≡ [] → Bears x y mine more_requests more_messages more_replies
+glides-bear x y mine more_requests more_messages more_replies g r e f k from written requests messages replies b =
+    padded (from ++ read_on x.wire mine) (written ++ written_on x.wire mine) requests (messages ++ more_messages) replies more_requests more_replies y e k
+    (subst (λ (l : List (List ℕ)). IsBorne (from ++ read_on x.wire mine) (written ++ written_on x.wire mine) requests l replies y) (sym (ap (λ l. messages ++ l) f ∙ append-nil messages))
+    (subst (λ (l : List ℕ). IsBorne l (written ++ written_on x.wire mine) requests messages replies y) (sym (ap (λ l. from ++ l) r ∙ append-nil from)) (g from written requests messages replies b)))
+
+live-bears : (now : ℕ) (x y : Lane) (mine : List Answer) (own : Option Event) → x.stage ≡ Live → TurnsLive now x y mine own → Bears x y mine (requests_in x.wire own) (messages_in x.wire own) (refusals_in x.wire own)
+live-bears now x y mine own live h from written requests messages replies b =
+    let mid = record x { talk = h.talk } in
+    let w = x.wire in
+    let kept = settles-keeps now mid h.settled h.shut h.news h.told h.settles in
+    let silent = settles-silent now mid h.settled h.shut h.news h.told h.settles in
+    let quiet = says-silent h.settled h.said h.written h.says in
+    let reads : read_on w mine ≡ read_on w h.read = live-reads w mine h.read h.shut h.written h.all (silent.0 w) (quiet.0 w) in
+    let writes : written_on w mine ≡ written_on h.settled.wire h.written =
+    live-written w mine h.read h.shut h.written h.all (hears-unwritten w w x.talk h.talk h.read h.news h.hears) (settles-unwritten w now mid h.settled h.shut h.news h.told h.settles)
+    ∙ ap (λ n. written_on n h.written) (sym kept.0.0) in
+    let asked : requests_in w own ≡ requests_of h.news = loses-requests w h.told h.said y own h.loses ∙ settles-requests now mid h.settled h.shut h.news h.told h.settles in
+    let told : messages_in w own ≡ messages_of h.news = loses-messages w h.told h.said y own h.loses ∙ settles-messages now mid h.settled h.shut h.news h.told h.settles in
+    let refused : refusals_in w own ≡ refusals_of h.news = loses-refusals w h.told h.said y own h.loses ∙ settles-refusals now mid h.settled h.shut h.news h.told h.settles in
+    let bytes = from ++ read_on w h.read in
+    let settled = settles-borne now x h.talk h.settled h.read h.shut h.news h.told from written requests messages replies live h.hears h.settles b in
+    let said = says-glide h.settled h.said h.written h.says bytes written (requests ++ requests_of h.news) (messages ++ messages_of h.news) (replies ++ refusals_of h.news) settled in
+    let lost = loses-borne h.told h.said y own bytes (written ++ written_on h.settled.wire h.written) (requests ++ requests_of h.news) (messages ++ messages_of h.news) (replies ++ refusals_of h.news) h.loses said in
+    subst (λ (l : List ℕ). IsBorne (from ++ l) (written ++ written_on w mine) (requests ++ requests_in w own) (messages ++ messages_in w own) (replies ++ refusals_in w own) y) (sym reads)
+    (subst (λ (l : List ℕ). IsBorne bytes (written ++ l) (requests ++ requests_in w own) (messages ++ messages_in w own) (replies ++ refusals_in w own) y) (sym writes)
+    (subst (λ (l : List Request). IsBorne bytes (written ++ written_on h.settled.wire h.written) (requests ++ l) (messages ++ messages_in w own) (replies ++ refusals_in w own) y) (sym asked)
+    (subst (λ (l : List (List ℕ)). IsBorne bytes (written ++ written_on h.settled.wire h.written) (requests ++ requests_of h.news) (messages ++ l) (replies ++ refusals_in w own) y) (sym told)
+    (subst (λ (l : List Reply). IsBorne bytes (written ++ written_on h.settled.wire h.written) (requests ++ requests_of h.news) (messages ++ messages_of h.news) (replies ++ l) y) (sym refused) lost))))
+
+listens-bear : (now : ℕ) (x y : Lane) (mine : List Answer) (own : Option Event) → Listens now x y mine own → Bears x y mine (requests_in x.wire own) (messages_in x.wire own) (refusals_in x.wire own)
+listens-bear now x y mine own h = go x.stage refl h where
+  quiet : Glides x y mine → read_on x.wire mine ≡ [] → (requests_in x.wire own ≡ []) × (messages_in x.wire own ≡ []) × (refusals_in x.wire own ≡ []) → Bears x y mine (requests_in x.wire own) (messages_in x.wire own) (refusals_in x.wire own)
+  quiet g r e = glides-bear x y mine (requests_in x.wire own) (messages_in x.wire own) (refusals_in x.wire own) g r e.0 e.1 e.2
+
+  nothing : (o : Option Event) → own ≡ o → (requests_in x.wire o ≡ []) × (messages_in x.wire o ≡ []) × (refusals_in x.wire o ≡ []) → (requests_in x.wire own ≡ []) × (messages_in x.wire own ≡ []) × (refusals_in x.wire own ≡ [])
+  nothing o e f = (ap (λ o. requests_in x.wire o) e ∙ f.0, ap (λ o. messages_in x.wire o) e ∙ f.1, ap (λ o. refusals_in x.wire o) e ∙ f.2)
+
+  go : (s : Stage) → x.stage ≡ s → TurnsAt s now x y mine own → Bears x y mine (requests_in x.wire own) (messages_in x.wire own) (refusals_in x.wire own)
+  go Live e h = live-bears now x y mine own e h
+  go Lost e h = quiet (stage-glides x y mine (ap (λ l. written_on x.wire l) h.0) (ap waits h.2) (ap (λ (l : Lane). l.talk) h.2) (λ k. absurd (cc (sym (ap (λ (l : Lane). is_live l.stage) h.2) ∙ k))))
+      (ap (λ l. read_on x.wire l) h.0) (nothing (Some (event.Lost x.wire)) h.1 (refl, refl, refl))
+  go Closing e h = quiet (says-glide x y mine h.1) ((says-silent x y mine h.1).0 x.wire) (nothing None h.0 (refl, refl, refl))
+  go Over e h = quiet (same-glides x y mine h.0 h.2) (ap (λ l. read_on x.wire l) h.0) (nothing None h.1 (refl, refl, refl))
+
+heeds-bear : (now : ℕ) (what : Event) (x y : Lane) (mine : List Answer) → Heeds now what x y mine →
+    Bears x y mine (session.request_on x.wire what) (message_on x.wire what) (session.refusal_on x.wire what)
+heeds-bear now what x y mine (inl h) =
+    subst (λ (l : List Request). Bears x y mine l (message_on x.wire what) (session.refusal_on x.wire what)) (sym (heard-requests x.wire h.0 what h.2))
+    (subst (λ (l : List (List ℕ)). Bears x y mine (requests_in x.wire h.0) l (session.refusal_on x.wire what)) (sym (heard-messages x.wire h.0 what h.2))
+    (subst (λ (l : List Reply). Bears x y mine (requests_in x.wire h.0) (messages_in x.wire h.0) l) (sym (heard-refusals x.wire h.0 what h.2)) (listens-bear now x y mine h.0 h.1)))
+heeds-bear now what x y mine (inr h) =
+    glides-bear x y mine (session.request_on x.wire what) (message_on x.wire what) (session.refusal_on x.wire what) (says-glide x y mine h.0) ((says-silent x y mine h.0).0 x.wire)
+    (unrequested x.wire what h.1) (unheard x.wire what h.1) (unrefused x.wire what h.1)
+
+-- ---- saying
+
+-- a lane of requests that upgrades carries a WebSocket that was fed with what it held
+upgraded : (x : Lane) (asking : AskingState) (reply : Reply) (from written : List ℕ) (requests : List Request) (messages : List (List ℕ)) (replies : List Reply) → Asks from requests asking.lane.held →
+    written ++ (x.out ++ []) ≡ texts_of replies → messages ≡ [] →
+    IsCarried (is_live x.stage) from (written ++ ((x.out ++ reply_text reply) ++ [])) requests messages (replies ++ reply ∷ []) (record (socket.fresh_lane side.Server) { unread = asking.lane.held })
+upgraded x asking reply from written requests messages replies asks wrote none = record {
+  calls = socket_calls.Feed asking.lane.held ∷ [];
+  keeps = record (socket.fresh_lane side.Server) { unread = asking.lane.held };
+  runs = (record (socket.fresh_lane side.Server) { unread = asking.lane.held }, refl, refl);
+  undropped = refl;
+  same = refl;
+  front = from;
+  rest = asking.lane.held;
+  more = [];
+  lost = [];
+  parts = sym (append-nil from);
+  whole = λ e. refl;
+  asks = asks;
+  fed = refl;
+  heard_all = sym none;
+  wrote_all = reply-said written x.out replies reply wrote ∙ sym (append-nil (texts_of (replies ++ reply ∷ [])));
+}
+
+-- a lane that owes a reply says it
+reply-borne : (now : ℕ) (reply : Reply) (x : Lane) (from written : List ℕ) (requests : List Request) (messages : List (List ℕ)) (replies : List Reply) → owes x ≡ true →
+    HeardIn from requests x.talk → Voiced (written ++ waits x) replies x.talk → IsBorne from written requests messages replies x → IsBorne from written requests messages (replies ++ reply ∷ []) (after_reply now reply x)
+reply-borne now reply x from written requests messages replies owed asks wrote b = go x.talk refl owed asks wrote b where
+  http : (asking : AskingState) → x.talk ≡ Http asking → Asks from requests asking.lane.held → written ++ (x.out ++ []) ≡ texts_of replies → messages ≡ [] → (b : Bool) →
+      IsBorne from written requests messages (replies ++ reply ∷ []) (if b then record x { talk = new_socket (rest_of x.talk); out = x.out ++ reply_text reply }
+      else record x { talk = talk_after_reply x.talk; out = x.out ++ reply_text reply; since = now })
+  http asking e asks wrote none true =
+      subst (λ (t : Talk). IsBorne from written requests messages (replies ++ reply ∷ []) (record x { talk = new_socket (rest_of t); out = x.out ++ reply_text reply })) (sym e)
+      (upgraded x asking reply from written requests messages replies asks wrote none)
+  http asking e asks wrote none false =
+      subst (λ (t : Talk). IsBorne from written requests messages (replies ++ reply ∷ []) (record x { talk = talk_after_reply t; out = x.out ++ reply_text reply; since = now })) (sym e) none
+
+  go : (talk : Talk) → x.talk ≡ talk → (is_live x.stage && is_busy talk) ≡ true → HeardIn from requests talk → Voiced (written ++ (x.out ++ frames_of talk)) replies talk →
+      Borne (is_live x.stage) from (written ++ (x.out ++ frames_of talk)) requests messages replies talk → IsBorne from written requests messages (replies ++ reply ∷ []) (after_reply now reply x)
+  go (Http asking) e owed asks wrote b = http asking e asks wrote b (reply.status == SWITCHING)
+  go (Socket talking) e owed asks wrote b = absurd (cc (sym (dead x.stage) ∙ owed))
+
+replies-borne : (now : ℕ) (reply : Reply) (x y : Lane) (mine : List Answer) (from written : List ℕ) (requests : List Request) (messages : List (List ℕ)) (replies : List Reply) → Replies now reply x y mine →
+    HeardIn from requests x.talk → Voiced (written ++ waits x) replies x.talk → IsBorne from written requests messages replies x →
+    IsBorne from (written ++ written_on x.wire mine) requests messages (replies ++ (if owes x then reply ∷ [] else [])) y
+replies-borne now reply x y mine from written requests messages replies h asks wrote b = go (owes x) refl h where
+  go : (c : Bool) → owes x ≡ c → Chooses c (SaysMore (after_reply now reply x) y mine) ((mine ≡ []) × (y ≡ x)) → IsBorne from (written ++ written_on x.wire mine) requests messages (replies ++ (if c then reply ∷ [] else [])) y
+  go true e h =
+      subst (λ n. IsBorne from (written ++ written_on n mine) requests messages (replies ++ reply ∷ []) y) (replied-wire now reply x)
+      (more-glide (after_reply now reply x) y mine h from written requests messages (replies ++ reply ∷ []) (reply-borne now reply x from written requests messages replies e asks wrote b))
+  go false e h =
+      subst (λ (l : List Reply). IsBorne from (written ++ written_on x.wire mine) requests messages l y) (sym (append-nil replies)) (same-glides x y mine h.0 h.1 from written requests messages replies b)
+
+put-borne : (live : Bool) (talk : Talk) (bytes : List ℕ) (text : Bool) (x mid : Lane) (is_put : Bool) → x.talk ≡ talk → PutsAt live talk bytes text x mid is_put →
+    (from written : List ℕ) (requests : List Request) (messages : List (List ℕ)) (replies : List Reply) → IsBorne from written requests messages replies x → IsBorne from written requests messages replies mid
+put-borne true (Socket talking) bytes text x mid is_put e h from written requests messages replies b =
+    becomes from written requests messages replies mid (record x { talk = Socket (record talking { lane = h.0 }) }) h.2
+    (unpadded messages (λ m. IsCarried (is_live x.stage) from (written ++ (x.out ++ h.0.out.bytes)) requests m replies h.0)
+    (carries-said (is_live x.stage) from written x.out requests messages replies talking.lane h.0 bytes text is_put h.1
+    (subst (λ (t : Talk). Borne (is_live x.stage) from (written ++ (x.out ++ frames_of t)) requests messages replies t) e b)))
+put-borne true (Http asking) bytes text x mid is_put e h from written requests messages replies b = becomes from written requests messages replies mid x h.1 b
+put-borne false talk bytes text x mid is_put e h from written requests messages replies b = becomes from written requests messages replies mid x h.1 b
+
+sends-glide : (bytes : List ℕ) (text : Bool) (x y : Lane) (mine : List Answer) → Sends bytes text x y mine → Glides x y mine
+sends-glide bytes text x y mine h from written requests messages replies b = go h.0 h.1 h.2 h.3 where
+  go : (mid : Lane) (c : Bool) → Puts bytes text x mid c → Chooses c (SaysMore mid y mine) ((mine ≡ []) × (y ≡ mid)) → IsBorne from (written ++ written_on x.wire mine) requests messages replies y
+  go mid c p s =
+      let put = put-borne (is_live x.stage) x.talk bytes text x mid c refl p from written requests messages replies b in
+      subst (λ n. IsBorne from (written ++ written_on n mine) requests messages replies y) (put-wire (is_live x.stage) x.talk bytes text x mid c p) (rest c s put) where
+        rest : (c : Bool) → Chooses c (SaysMore mid y mine) ((mine ≡ []) × (y ≡ mid)) → IsBorne from written requests messages replies mid → IsBorne from (written ++ written_on mid.wire mine) requests messages replies y
+        rest true s put = more-glide mid y mine s from written requests messages replies put
+        rest false s put = same-glides mid y mine s.0 s.1 from written requests messages replies put
+
+shut-borne : (x : Lane) (talk : Talk) (from written : List ℕ) (requests : List Request) (messages : List (List ℕ)) (replies : List Reply) → Borne (is_live x.stage) from (written ++ (x.out ++ frames_of talk)) requests messages replies talk →
+    Borne false from (written ++ (x.out ++ frames_of (talk_after_shut talk))) requests messages replies (talk_after_shut talk)
+shut-borne x (Http asking) from written requests messages replies b = b
+shut-borne x (Socket talking) from written requests messages replies b =
+    carries-on (is_live x.stage) false from (written ++ (x.out ++ (sending.after_shut talking.lane).out.bytes)) requests messages replies (sending.after_shut talking.lane) (sending.after_shut talking.lane) (λ e. absurd (cc e)) refl
+    (unpadded messages (λ m. IsCarried (is_live x.stage) from (written ++ (x.out ++ (sending.after_shut talking.lane).out.bytes)) requests m replies (sending.after_shut talking.lane))
+    (carries-shut (is_live x.stage) from written x.out requests messages replies talking.lane b))
+
+shuts-glide : (x y : Lane) (mine : List Answer) → Shuts x y mine → Glides x y mine
+shuts-glide x y mine h = go (is_live x.stage) h where
+  go : (b : Bool) → Chooses b (WritesOut (record x { talk = talk_after_shut x.talk; stage = Closing }) y mine) ((mine ≡ []) × (y ≡ x)) → Glides x y mine
+  go true h = λ from written requests messages replies b.
+      writes-glide (record x { talk = talk_after_shut x.talk; stage = Closing }) y mine h from written requests messages replies (shut-borne x x.talk from written requests messages replies b)
+  go false h = same-glides x y mine h.0 h.1
+
+-- ---- sessions
+
+abbrev messages_by : ℕ → Call → List (List ℕ)
+messages_by wire (session.heard what answers) = message_on wire what.event
+messages_by wire _ = []
+
+messages-more : (wire : ℕ) (call : Call) (calls : List Call) → messages_on wire (call ∷ calls) ≡ messages_on wire calls ++ messages_by wire call
+messages-more wire (session.heard what answers) calls = refl
+messages-more wire (session.replied lane reply answers) calls = sym (append-nil (messages_on wire calls))
+messages-more wire (session.sent lane bytes text answers) calls = sym (append-nil (messages_on wire calls))
+messages-more wire (session.shut lane answers) calls = sym (append-nil (messages_on wire calls))
+
+-- what a lane heard and said before, it does after a call with what this adds
+abbrev BearsAt : Lane → Lane → List Answer → List ℕ → List ℕ → List Request → List (List ℕ) → List Reply → List Request → List (List ℕ) → List Reply → Type 0
+BearsAt x y mine from written requests messages replies more_requests more_messages more_replies =
+    IsBorne (from ++ read_on x.wire mine) (written ++ written_on x.wire mine) (requests ++ more_requests) (messages ++ more_messages) (replies ++ more_replies) y
+
+-- a reply is the only thing that needs to know more of the lane
+moves-bear : (call : Call) (x y : Lane) (from written : List ℕ) (requests : List Request) (messages : List (List ℕ)) (replies : List Reply) → Moves call x y → HeardIn from requests x.talk → Voiced (written ++ waits x) replies x.talk →
+    IsBorne from written requests messages replies x → BearsAt x y (share x.wire (answers_in call)) from written requests messages replies (requests_by x.wire call) (messages_by x.wire call) (replies_by x.wire (owes x) call)
+moves-bear (session.heard what answers) x y from written requests messages replies h asks wrote b = heeds-bear what.now what.event x y (share x.wire answers) h from written requests messages replies b
+moves-bear (session.replied at reply answers) x y from written requests messages replies h asks wrote b =
+    by-number at (Replies h.0 reply) x y mine (λ c. BearsAt x y mine from written requests messages replies [] [] (if c && owes x then reply ∷ [] else []))
+    (λ s. more (read_on x.wire mine) (replies ++ (if owes x then reply ∷ [] else [])) ((replies-silent h.0 reply x y mine s).0 x.wire) (replies-borne h.0 reply x y mine from written requests messages replies s asks wrote b))
+    (λ e f. glides-bear x y mine [] [] [] (same-glides x y mine f e) (ap (λ l. read_on x.wire l) f) refl refl refl from written requests messages replies b) h.1 where
+      mine : List Answer
+      mine = share x.wire answers
+
+      more : (bytes : List ℕ) (said : List Reply) → bytes ≡ [] → IsBorne from (written ++ written_on x.wire (share x.wire answers)) requests messages said y →
+          IsBorne (from ++ bytes) (written ++ written_on x.wire (share x.wire answers)) (requests ++ []) (messages ++ []) said y
+      more bytes said e k =
+          subst (λ (l : List ℕ). IsBorne l (written ++ written_on x.wire (share x.wire answers)) (requests ++ []) (messages ++ []) said y) (sym (ap (λ l. from ++ l) e ∙ append-nil from))
+          (subst (λ (l : List Request). IsBorne from (written ++ written_on x.wire (share x.wire answers)) l (messages ++ []) said y) (sym (append-nil requests))
+          (subst (λ (l : List (List ℕ)). IsBorne from (written ++ written_on x.wire (share x.wire answers)) requests l said y) (sym (append-nil messages)) k))
+moves-bear (session.sent at bytes text answers) x y from written requests messages replies h asks wrote b =
+    by-number at (Sends bytes text) x y (share x.wire answers) (λ c. BearsAt x y (share x.wire answers) from written requests messages replies [] [] [])
+    (λ s. glides-bear x y (share x.wire answers) [] [] [] (sends-glide bytes text x y (share x.wire answers) s) ((sends-silent bytes text x y (share x.wire answers) s).0 x.wire) refl refl refl from written requests messages replies b)
+    (λ e f. glides-bear x y (share x.wire answers) [] [] [] (same-glides x y (share x.wire answers) f e) (ap (λ l. read_on x.wire l) f) refl refl refl from written requests messages replies b) h
+moves-bear (session.shut at answers) x y from written requests messages replies h asks wrote b =
+    by-number at Shuts x y (share x.wire answers) (λ c. BearsAt x y (share x.wire answers) from written requests messages replies [] [] [])
+    (λ s. glides-bear x y (share x.wire answers) [] [] [] (shuts-glide x y (share x.wire answers) s) ((shuts-silent x y (share x.wire answers) s).0 x.wire) refl refl refl from written requests messages replies b)
+    (λ e f. glides-bear x y (share x.wire answers) [] [] [] (same-glides x y (share x.wire answers) f e) (ap (λ l. read_on x.wire l) f) refl refl refl from written requests messages replies b) h
+
+abbrev BorneAt : ℕ → List Call → Lane → Type 0
+BorneAt wire calls lane = IsBorne (read_on wire (answers_of calls)) (written_on wire (answers_of calls)) (requests_on wire calls) (messages_on wire calls) (replies_on wire calls) lane
+
+abbrev IsWhole : List Call → Lane → Type 0
+IsWhole calls lane = IsAsked calls lane × HasSaid calls lane × BorneAt lane.wire calls lane
+
+borne-here : (call : Call) (calls : List Call) (x y : Lane) → IsWhole calls x → Moves call x y → BorneAt x.wire (call ∷ calls) y
+borne-here call calls x y k h =
+    let w = x.wire in
+    let mine = share w (answers_in call) in
+    let from = read_on w (answers_of calls) in
+    let written = written_on w (answers_of calls) in
+    let moved = moves-bear call x y from written (requests_on w calls) (messages_on w calls) (replies_on w calls) h k.0 k.1.1 k.2 in
+    subst (λ (l : List ℕ). IsBorne l (written_on w (answers_of (call ∷ calls))) (requests_on w (call ∷ calls)) (messages_on w (call ∷ calls)) (replies_on w (call ∷ calls)) y) (sym (read-more w calls call))
+    (subst (λ (l : List ℕ). IsBorne (from ++ read_on w mine) l (requests_on w (call ∷ calls)) (messages_on w (call ∷ calls)) (replies_on w (call ∷ calls)) y) (sym (written-more w calls call))
+    (subst (λ (l : List Request). IsBorne (from ++ read_on w mine) (written ++ written_on w mine) l (messages_on w (call ∷ calls)) (replies_on w (call ∷ calls)) y) (sym (requests-more w call calls))
+    (subst (λ (l : List (List ℕ)). IsBorne (from ++ read_on w mine) (written ++ written_on w mine) (requests_on w calls ++ requests_by w call) l (replies_on w (call ∷ calls)) y) (sym (messages-more w call calls))
+    (subst (λ (l : List Reply). IsBorne (from ++ read_on w mine) (written ++ written_on w mine) (requests_on w calls ++ requests_by w call) (messages_on w calls ++ messages_by w call) l y) (sym (replies-more call calls x k.1.0)) moved))))
+
+step-whole : (call : Call) (calls : List Call) (x y : Lane) → IsWhole calls x → Moves call x y → IsWhole (call ∷ calls) y
+step-whole call calls x y k h = (
+  step-asked call calls x y k.0 h,
+  step-said call calls x y k.1 h,
+  subst (λ n. BorneAt n (call ∷ calls) y) (sym (moves-wire call x y h)) (borne-here call calls x y k h),
+)
+
+new-whole : (calls : List Call) (now wire : ℕ) → IsUntouched wire calls → IsWhole calls (new_lane now wire)
+new-whole calls now wire h = (new-asked calls now wire h, new-said calls now wire h, h.messages)
+
+carries-of : (calls : List Call) (lane : Lane) (talk : Talk) → Borne (is_live lane.stage) (read_on lane.wire (answers_of calls)) (written_on lane.wire (answers_of calls) ++ waits lane) (requests_on lane.wire calls) (messages_on lane.wire calls) (replies_on lane.wire calls) talk → CarriesSocket calls lane talk
+carries-of calls lane (Http asking) b = tt
+carries-of calls lane (Socket talking) b = b
+
+pub sockets-are-carried : SocketsAreCarried
+sockets-are-carried calls bound now h lane has =
+    carries-of calls lane lane.talk (each-lane IsWhole new-whole step-whole calls bound now h lane (has-of now.lanes lane has)).2

@@ -1,0 +1,145 @@
+-- The tally of lanes of which one changes, one comes, or those that are over go.
+use Rattle.std.proofs.Common.{◌≡◌, ◌<◌, ◌≤◌, ◌+◌, ◌^◌, ◌++◌, ◌∷◌, [], ℕ, zero, suc, Bool, true, false, not, cond, ◌||◌, List, refl, sym, ap, ◌∙◌, subst, arith, length, set, get_or, ltb}
+use Rattle.std.specs.Int.{from_bool}
+use Rattle.std.specs.List.{list_any}
+use Rattle.hw_net.specs.declared.talk.Stage.{Stage}
+use Rattle.hw_net.specs.declared.talk.Stage.TheVariants.{Live, Lost, Closing, Over}
+use Rattle.hw_net.specs.declared.tally.Tally.{Tally}
+use Rattle.hw_net.specs.Door.{kept}
+use Rattle.hw_net.specs.Lane.{Lane, waits, is_over, is_awake, is_awake_by}
+use Rattle.hw_net.specs.Tally.{Has, HasRoom, is_lagging, is_lagging_by, with_lane, tally_of}
+
+at-most-one : (b : Bool) → from_bool b ≤ 1
+at-most-one true = omega arith
+at-most-one false = omega arith
+
+-- a lane that stands somewhere is counted
+pub at-counted : (lanes : List Lane) (place : ℕ) (lane : Lane) → place < length lanes → get_or lanes place lane ≡ lane → Has lane (tally_of lanes)
+at-counted [] place lane lt same = absurd (omega (arith, lt))
+at-counted (first ∷ lanes) zero lane lt same =
+    subst (λ (l : Lane). Has l (with_lane first (tally_of lanes))) same
+    (record { over = omega arith; awake = omega arith; lagging = omega arith })
+at-counted (first ∷ lanes) (suc place) lane lt same =
+    let h = at-counted lanes place lane (omega (arith, lt)) same in
+    record { over = omega (arith, h.over); awake = omega (arith, h.awake); lagging = omega (arith, h.lagging) }
+
+-- no kind has more than there are lanes
+pub record IsWithin (tally : Tally) (count : ℕ) : Type 0 where
+  pub over : tally.over ≤ count
+  pub awake : tally.awake ≤ count
+  pub lagging : tally.lagging ≤ count
+
+pub all-within : (lanes : List Lane) → IsWithin (tally_of lanes) (length lanes)
+all-within [] = record { over = omega arith; awake = omega arith; lagging = omega arith }
+all-within (lane ∷ lanes) =
+    let h = all-within lanes in
+    record {
+      over = omega (arith, h.over, at-most-one (is_over lane.stage));
+      awake = omega (arith, h.awake, at-most-one (is_awake lane));
+      lagging = omega (arith, h.lagging, at-most-one (is_lagging lane));
+    }
+
+-- there is room for one lane more, as all lanes stand in memory
+pub room-for-one : (lanes : List Lane) (tally : Tally) → tally ≡ tally_of lanes → length lanes + 1 < 2 ^ 64 → HasRoom tally
+room-for-one lanes tally is lt =
+    let h = all-within lanes in
+    subst (λ (t : Tally). HasRoom t) (sym is)
+    (record { over = omega (arith, h.over, lt); awake = omega (arith, h.awake, lt); lagging = omega (arith, h.lagging, lt) })
+
+-- so there is after a lane was taken out
+pub room-again : (lanes : List Lane) (lane : Lane) (tally rest : Tally) → tally ≡ tally_of lanes → tally ≡ with_lane lane rest → length lanes + 1 < 2 ^ 64 → HasRoom rest
+room-again lanes lane tally rest is out lt =
+    let h = all-within lanes in
+    let same : tally_of lanes ≡ with_lane lane rest = sym is ∙ out in
+    record {
+      over = omega (arith, h.over, lt, ap (λ (t : Tally). t.over) same);
+      awake = omega (arith, h.awake, lt, ap (λ (t : Tally). t.awake) same);
+      lagging = omega (arith, h.lagging, lt, ap (λ (t : Tally). t.lagging) same);
+    }
+
+abbrev make : ℕ → ℕ → ℕ → Tally
+make over awake lagging = record { over = over; awake = awake; lagging = lagging }
+
+-- two tallies that have as many of each kind are one
+tally-same : (a b : Tally) → a.over ≡ b.over → a.awake ≡ b.awake → a.lagging ≡ b.lagging → a ≡ b
+tally-same a b o w l = ap (λ n. make n a.awake a.lagging) o ∙ ap (λ n. make b.over n a.lagging) w ∙ ap (λ n. make b.over b.awake n) l
+
+-- one lane is changed at its place
+swapped : (lanes : List Lane) (place : ℕ) (lane next : Lane) → place < length lanes → get_or lanes place lane ≡ lane → with_lane lane (tally_of (set lanes place next)) ≡ with_lane next (tally_of lanes)
+swapped [] place lane next lt same = absurd (omega (arith, lt))
+swapped (first ∷ lanes) zero lane next lt same =
+    subst (λ (l : Lane). with_lane l (with_lane next (tally_of lanes)) ≡ with_lane next (with_lane first (tally_of lanes))) same
+    (tally-same _ _ (omega arith) (omega arith) (omega arith))
+swapped (first ∷ lanes) (suc place) lane next lt same =
+    let h = swapped lanes place lane next (omega (arith, lt)) same in
+    tally-same _ _ (omega (arith, ap (λ (t : Tally). t.over) h)) (omega (arith, ap (λ (t : Tally). t.awake) h)) (omega (arith, ap (λ (t : Tally). t.lagging) h))
+
+-- a lane is taken out, changed and put in again
+pub put-again : (lanes : List Lane) (place : ℕ) (lane next : Lane) (tally rest after : Tally) → place < length lanes → get_or lanes place lane ≡ lane → tally ≡ tally_of lanes → tally ≡ with_lane lane rest →
+    after ≡ with_lane next rest → after ≡ tally_of (set lanes place next)
+put-again lanes place lane next tally rest after lt same is out put =
+    let h = swapped lanes place lane next lt same in
+    let e : with_lane lane rest ≡ tally_of lanes = sym out ∙ is in
+    put ∙ tally-same (with_lane next rest) (tally_of (set lanes place next))
+    (omega (arith, ap (λ (t : Tally). t.over) h, ap (λ (t : Tally). t.over) e))
+    (omega (arith, ap (λ (t : Tally). t.awake) h, ap (λ (t : Tally). t.awake) e))
+    (omega (arith, ap (λ (t : Tally). t.lagging) h, ap (λ (t : Tally). t.lagging) e))
+
+-- a lane comes after the others
+pub one-more : (lanes : List Lane) (lane : Lane) → tally_of (lanes ++ lane ∷ []) ≡ with_lane lane (tally_of lanes)
+one-more [] lane = refl
+one-more (first ∷ lanes) lane =
+    let h = one-more lanes lane in
+    tally-same _ _ (omega (arith, ap (λ (t : Tally). t.over) h)) (omega (arith, ap (λ (t : Tally). t.awake) h)) (omega (arith, ap (λ (t : Tally). t.lagging) h))
+
+-- ---- lanes that are over
+
+unover : (b : Bool) → b ≡ true → from_bool b ≤ 0 → ⊥
+unover true e h = omega (arith, h)
+unover false e h = cc e
+
+none-over : (lanes : List Lane) → (tally_of lanes).over ≤ 0 → kept lanes ≡ lanes
+none-over [] h = refl
+none-over (lane ∷ lanes) h = go (is_over lane.stage) (omega (arith, h)) (none-over lanes (omega (arith, h))) where
+  go : (b : Bool) → from_bool b ≤ 0 → kept lanes ≡ lanes → cond (not b) (lane ∷ kept lanes) (kept lanes) ≡ lane ∷ lanes
+  go true h k = absurd (unover true refl h)
+  go false h k = ap (λ (l : List Lane). lane ∷ l) k
+
+-- if none is over, none goes
+pub none-goes : (lanes : List Lane) (tally : Tally) → tally ≡ tally_of lanes → ltb 0 tally.over ≡ false → kept lanes ≡ lanes
+none-goes lanes tally is e = none-over lanes (subst (λ (t : Tally). t.over ≤ 0) is (grind (arith, e)))
+
+-- a lane that is over is of no other kind
+over-only : (lane : Lane) → is_over lane.stage ≡ true → (is_awake lane ≡ false) × (is_lagging lane ≡ false)
+over-only lane e = go lane.stage e where
+  go : (s : Stage) → is_over s ≡ true → (is_awake_by s lane.talk ≡ false) × (is_lagging_by s (length (waits lane)) ≡ false)
+  go Live e = cc e
+  go Lost e = cc e
+  go Closing e = cc e
+  go Over e = (refl, refl)
+
+-- those that are over go
+pub over-go : (lanes : List Lane) → record (tally_of lanes) { over = 0 } ≡ tally_of (kept lanes)
+over-go [] = refl
+over-go (lane ∷ lanes) = go (is_over lane.stage) refl (over-go lanes) where
+  go : (b : Bool) → is_over lane.stage ≡ b → record (tally_of lanes) { over = 0 } ≡ tally_of (kept lanes)
+      → record (tally_of (lane ∷ lanes)) { over = 0 } ≡ tally_of (cond (not b) (lane ∷ kept lanes) (kept lanes))
+  go true e k =
+      let only = over-only lane e in
+      tally-same _ _ (ap (λ (t : Tally). t.over) k)
+      (omega (arith, ap (λ (t : Tally). t.awake) k, ap from_bool only.0))
+      (omega (arith, ap (λ (t : Tally). t.lagging) k, ap from_bool only.1))
+  go false e k =
+      tally-same _ _ (omega (arith, ap (λ (t : Tally). t.over) k, ap from_bool e))
+      (omega (arith, ap (λ (t : Tally). t.awake) k))
+      (omega (arith, ap (λ (t : Tally). t.lagging) k))
+
+-- ---- lanes of which something may be heard at once
+
+-- one is awake exactly if one is counted
+pub some-awake : (lanes : List Lane) → ltb 0 (tally_of lanes).awake ≡ list_any is_awake lanes
+some-awake [] = refl
+some-awake (lane ∷ lanes) = go (is_awake lane) (some-awake lanes) where
+  go : (b : Bool) → ltb 0 (tally_of lanes).awake ≡ list_any is_awake lanes → ltb 0 ((tally_of lanes).awake + from_bool b) ≡ (b || list_any is_awake lanes)
+  go true k = grind arith
+  go false k = grind (arith, k)

@@ -1,0 +1,395 @@
+-- In a session what was written on a lane's wire, and then what waits, is what was said there.
+use Rattle.std.proofs.Common.{◌≡◌, ◌==◌, ◌&&◌, ◌++◌, ◌∷◌, [], ℕ, Bool, true, false, if◌then◌else◌, List, Option, None, Some, refl, sym, ap, ◌∙◌, subst, inl, inr, append-nil, append_assoc, length}
+use Rattle.std.proofs.lemmas.Grind.{flat_map-append}
+use Rattle.hd_lanes.specs.declared.http.Reply.{Reply}
+use Rattle.hh_http.specs.Texts.{reply_text}
+use Rattle.hw_door.specs.declared.heard.Event.{Event}
+use Rattle.hw_door.specs.Traffic.{Answer, bytes_in, not_yet, ended, read_failed, bytes_out, write_failed, was_shut, written_on}
+use Rattle.hw_socket.specs.Lane as socket
+use Rattle.hw_socket.specs.declared.vocabulary.SocketRead.{SocketRead}
+use Rattle.hw_net.specs.declared.limits.TheConstants.{SWITCHING}
+use Rattle.hw_net.specs.declared.news.News.{News}
+use Rattle.hw_net.specs.declared.news.News.TheVariants as news
+use Rattle.hw_net.specs.declared.talk.Talk.{Talk}
+use Rattle.hw_net.specs.declared.talk.Talk.TheVariants.{Http, Socket}
+use Rattle.hw_net.specs.declared.talk.Stage.{Stage}
+use Rattle.hw_net.specs.declared.talk.Stage.TheVariants.{Live, Lost, Closing, Over}
+use Rattle.hw_net.specs.declared.talking.Talking.{Talking}
+use Rattle.hw_net.specs.Door.{new_lane}
+use Rattle.hw_net.specs.Lane.{Lane, waits, frames_of, is_live, owes, is_overdue, refusal_of, after_end, after_reply, talk_after_shut, talk_after_reply, new_socket, rest_of}
+use Rattle.hw_net.specs.Saying.{Writes, WritesOut, SpeaksAs, Says, SaysAt, SaysMore, must_end, is_too_much}
+use Rattle.hw_net.specs.Sessions as session
+use Rattle.hw_net.specs.Sessions.{Call, Session, answers_in, answers_of, refusal_on, replies_on, texts_of, WroteReplies, RepliesAreWritten}
+use Rattle.hw_net.specs.Talking.{Gets}
+use Rattle.hw_net.specs.Told.{Reads, Gives, Chooses, bytes_of}
+use Rattle.hw_net.specs.Turn.{Hears, Falls, Passes, Settles, Loses, LosesAt, TurnsLive, TurnsAt, Listens, Replies, Puts, PutsAt, Sends, Shuts}
+use Rattle.hw_net.proofs.Appends.{Grows, grows-none, grows-on, takes-grows, feeds-grows, shut-grows, says-grows}
+use Rattle.hw_net.proofs.Ends.{dead}
+use Rattle.hw_net.proofs.Moves.{ActsAt, has-of}
+use Rattle.hw_net.proofs.Numbering.{replied-wire, put-wire}
+use Rattle.hw_net.proofs.Owed.{IsOwed, step-owed, new-owed, by-number, replies_by, replies-more}
+use Rattle.hw_net.proofs.Owning.{settles-keeps}
+use Rattle.hw_net.proofs.Shares.{share, written-append, written-share, same, equal}
+use Rattle.hw_net.proofs.Walks.{IsHeard, Heeds, Moves, moves-wire, IsUntouched, each-lane, unrefused}
+
+-- these bytes are the texts of the replies, and then frames
+abbrev pub Voiced : List ℕ → List Reply → Talk → Type 0
+Voiced all replies (Http asking) = all ≡ texts_of replies
+Voiced all replies (Socket talking) =
+    (first : List Reply) × (upgrade : Reply) × (frames : List ℕ)
+    × (replies ≡ first ++ upgrade ∷ []) × (upgrade.status ≡ SWITCHING) × (all ≡ texts_of replies ++ frames)
+
+-- so it is of what was written and what waits
+abbrev pub IsVoiced : List ℕ → List Reply → Lane → Type 0
+IsVoiced written replies lane = Voiced (written ++ waits lane) replies lane.talk
+
+-- ---- writing
+
+wrote : (at wire : ℕ) (bytes more : List ℕ) → at ≡ wire → (if at == wire then bytes ++ more else more) ≡ bytes ++ more
+wrote at wire bytes more e = ap (λ n. if n == wire then bytes ++ more else more) e ∙ ap (λ b. if b then bytes ++ more else more) (same wire)
+
+pub writes-front : (wire : ℕ) (waits : List ℕ) (sent : List Answer) (left : List ℕ) (whole : Bool) → Writes wire waits sent left whole → written_on wire sent ++ left ≡ waits
+writes-front wire waits [] left whole h = h.1 ∙ sym h.0
+writes-front wire waits (bytes_out at [] ∷ []) left whole h = ap (λ l. l ++ left) (wrote at wire [] [] h.0) ∙ h.2
+writes-front wire waits (bytes_out at (b ∷ bs) ∷ answers) left whole h =
+    ap (λ l. l ++ left) (wrote at wire (b ∷ bs) (written_on wire answers) h.0) ∙ append_assoc (b ∷ bs) (written_on wire answers) left
+    ∙ ap (λ l. (b ∷ bs) ++ l) (writes-front wire h.1.0 answers left whole h.1.2) ∙ sym h.1.1
+writes-front wire waits (write_failed at ∷ []) left whole h = h.2
+writes-front wire waits _ left whole h = absurd h
+
+speaks-voiced : (before after : Talk) (all : List ℕ) (replies : List Reply) → SpeaksAs before after → Voiced all replies before → Voiced all replies after
+speaks-voiced (Http before) (Http after) all replies e h = h
+speaks-voiced (Socket before) (Socket after) all replies e h = h
+speaks-voiced _ _ all replies e h = absurd e
+
+-- what was written is the front of what waited, and nothing more is said
+abbrev pub Pours : Lane → Lane → List Answer → Type 0
+Pours before after answers = (written : List ℕ) (replies : List Reply) → IsVoiced written replies before → IsVoiced (written ++ written_on before.wire answers) replies after
+
+poured : (before after : Lane) (answers : List Answer) → written_on before.wire answers ++ waits after ≡ waits before →
+    ((all : List ℕ) (replies : List Reply) → Voiced all replies before.talk → Voiced all replies after.talk) → Pours before after answers
+poured before after answers e f written replies h =
+    f ((written ++ written_on before.wire answers) ++ waits after) replies
+    (subst (λ (l : List ℕ). Voiced l replies before.talk) (sym (append_assoc written (written_on before.wire answers) (waits after) ∙ ap (λ l. written ++ l) e)) h)
+
+writes-pour : (before after : Lane) (answers : List Answer) → WritesOut before after answers → Pours before after answers
+writes-pour before after answers w =
+    poured before after answers (go (must_end before.stage (length (waits after)) w.is_whole) refl) (λ all replies. speaks-voiced before.talk after.talk all replies w.still.talk) where
+      front : written_on before.wire w.sent ++ waits after ≡ waits before
+      front = writes-front before.wire (waits before) w.sent (waits after) w.is_whole w.writes
+
+      go : (b : Bool) → must_end before.stage (length (waits after)) w.is_whole ≡ b → written_on before.wire answers ++ waits after ≡ waits before
+      go true e = ap (λ l. written_on before.wire l ++ waits after) (w.ends e).0
+          ∙ ap (λ l. l ++ waits after) (written-append before.wire w.sent (was_shut before.wire ∷ []) ∙ append-nil (written_on before.wire w.sent)) ∙ front
+      go false e = ap (λ l. written_on before.wire l ++ waits after) (w.stays e).0 ∙ front
+
+still-pours : (before after : Lane) (answers : List Answer) → written_on before.wire answers ≡ [] → waits after ≡ waits before → after.talk ≡ before.talk → Pours before after answers
+still-pours before after answers e f g =
+    poured before after answers (ap (λ l. l ++ waits after) e ∙ f) (λ all replies h. subst (λ (t : Talk). Voiced all replies t) (sym g) h)
+
+same-pours : (before after : Lane) (answers : List Answer) → answers ≡ [] → after ≡ before → Pours before after answers
+same-pours before after answers e f = still-pours before after answers (ap (λ l. written_on before.wire l) e) (ap waits f) (ap (λ (l : Lane). l.talk) f)
+
+says-pour : (before after : Lane) (answers : List Answer) → Says before after answers → Pours before after answers
+says-pour before after answers h = go before.stage h where
+  go : (s : Stage) → SaysAt s before after answers → Pours before after answers
+  go Live h = writes-pour before after answers h
+  go Lost h = same-pours before after answers h.0 h.1
+  go Closing h = writes-pour before after answers h
+  go Over h = same-pours before after answers h.0 h.1
+
+more-pour : (before after : Lane) (answers : List Answer) → SaysMore before after answers → Pours before after answers
+more-pour before after answers h = go (is_too_much (length (waits before))) h where
+  go : (b : Bool) → Chooses b ((answers ≡ was_shut before.wire ∷ []) × (after ≡ record before { stage = after_end before.stage })) (WritesOut before after answers) → Pours before after answers
+  go true h = still-pours before after answers (ap (λ l. written_on before.wire l) h.0) (ap waits h.1) (ap (λ (l : Lane). l.talk) h.1)
+  go false h = writes-pour before after answers h
+
+-- ---- frames and replies that are added
+
+-- a WebSocket's frames may grow
+frames-grow : (written out before after : List ℕ) (replies : List Reply) (old new : Talking) → Grows before after → Voiced (written ++ (out ++ before)) replies (Socket old) →
+    Voiced (written ++ (out ++ after)) replies (Socket new)
+frames-grow written out before after replies old new g h = (
+  h.0,
+  h.1,
+  h.2 ++ g.0,
+  h.3,
+  h.4,
+  ap (λ l. written ++ (out ++ l)) g.1 ∙ ap (λ l. written ++ l) (sym (append_assoc out before g.0)) ∙ sym (append_assoc written (out ++ before) g.0)
+      ∙ ap (λ l. l ++ g.0) h.5 ∙ append_assoc (texts_of replies) h.2 g.0,
+)
+
+texts-more : (replies : List Reply) (reply : Reply) → texts_of (replies ++ reply ∷ []) ≡ texts_of replies ++ reply_text reply
+texts-more replies reply = flat_map-append reply_text replies (reply ∷ []) ∙ ap (λ l. texts_of replies ++ l) (append-nil (reply_text reply))
+
+-- a reply stands behind what waits of a lane of requests
+pub reply-said : (written out : List ℕ) (replies : List Reply) (reply : Reply) → written ++ (out ++ []) ≡ texts_of replies → written ++ ((out ++ reply_text reply) ++ []) ≡ texts_of (replies ++ reply ∷ [])
+reply-said written out replies reply h =
+    ap (λ l. written ++ l) (append-nil (out ++ reply_text reply)) ∙ sym (append_assoc written out (reply_text reply))
+    ∙ ap (λ l. l ++ reply_text reply) (ap (λ l. written ++ l) (sym (append-nil out)) ∙ h) ∙ sym (texts-more replies reply)
+
+-- ---- hearing
+
+reads-unwritten : (at wire room : ℕ) (answer : Answer) (got : Option (List ℕ)) → Reads wire room answer got → written_on at (answer ∷ []) ≡ []
+reads-unwritten at wire room (bytes_in to bytes) (Some piece) h = refl
+reads-unwritten at wire room (not_yet to) (Some piece) h = refl
+reads-unwritten at wire room (ended to) None h = refl
+reads-unwritten at wire room (read_failed to) None h = refl
+reads-unwritten at wire room _ _ h = absurd h
+
+gives-unwritten : (at wire room : ℕ) (answers : List Answer) (got : Option (List ℕ)) → Gives wire room answers got → written_on at answers ≡ []
+gives-unwritten at wire room [] got h = refl
+gives-unwritten at wire room (answer ∷ []) got h = reads-unwritten at wire room answer got h.1
+gives-unwritten at wire room (answer ∷ next ∷ more) got h = absurd h
+
+pub hears-unwritten : (at wire : ℕ) (before after : Talk) (answers : List Answer) (what : News) → Hears wire before after answers what → written_on at answers ≡ []
+hears-unwritten at wire (Http before) (Http after) answers what h = gives-unwritten at wire _ answers h.got h.read
+hears-unwritten at wire (Socket before) (Socket after) answers what h = gives-unwritten at wire _ answers h.got h.read
+hears-unwritten at wire _ _ answers what h = absurd h
+
+pub settles-unwritten : (at now : ℕ) (before after : Lane) (answers : List Answer) (what : News) (heard : Option Event) → Settles now before after answers what heard → written_on at answers ≡ []
+settles-unwritten at now before after answers news.Nothing heard h = go (is_overdue now before) h where
+  go : (b : Bool) → Chooses b (Falls before after answers heard) (Passes before after answers None heard) → written_on at answers ≡ []
+  go true h = ap (λ l. written_on at l) h.0
+  go false h = ap (λ l. written_on at l) h.0
+settles-unwritten at now before after answers (news.Request request) heard h = ap (λ l. written_on at l) h.0
+settles-unwritten at now before after answers (news.Refused status) heard h = ap (λ l. written_on at l) h.0
+settles-unwritten at now before after answers (news.Message bytes) heard h = ap (λ l. written_on at l) h.0
+settles-unwritten at now before after answers news.Broken heard h = ap (λ l. written_on at l) h.0
+settles-unwritten at now before after answers news.Gone heard h = ap (λ l. written_on at l) h.0
+
+-- the door's own reply to the news
+abbrev pub refusals_of : News → List Reply
+refusals_of (news.Refused status) = refusal_of status ∷ []
+refusals_of _ = []
+
+gets-grow : (before after : socket.Lane) (got : Option (List ℕ)) (answer : SocketRead) → Gets before got answer after → Grows before.out.bytes after.out.bytes
+gets-grow before after got answer h =
+    grows-on before.out.bytes h.1.0.out.bytes after.out.bytes (grows-none before.out.bytes h.1.0.out.bytes (feeds-grows before (bytes_of got) h.1.0 h.1.1)) (takes-grows h.1.0 after answer h.1.2)
+
+-- from a lane to one whose stage alone may be another
+becomes : (written : List ℕ) (replies : List Reply) (settled mid : Lane) → settled ≡ mid → IsVoiced written replies mid → IsVoiced written replies settled
+becomes written replies settled mid e h = subst (λ (l : Lane). IsVoiced written replies l) (sym e) h
+
+settles-voiced : (now : ℕ) (x : Lane) (talk : Talk) (after : Lane) (read answers : List Answer) (what : News) (heard : Option Event) (written : List ℕ) (replies : List Reply) → Hears x.wire x.talk talk read what →
+    Settles now (record x { talk = talk }) after answers what heard → IsVoiced written replies x → IsVoiced written (replies ++ refusals_of what) after
+settles-voiced now x talk after read answers what heard written replies h s k = go x.talk talk what h s k where
+  none : (l : Lane) → IsVoiced written replies l → IsVoiced written (replies ++ []) l
+  none l v = subst (λ (r : List Reply). IsVoiced written r l) (sym (append-nil replies)) v
+
+  nothing : (talk : Talk) → IsVoiced written replies (record x { talk = talk }) → (b : Bool) → Chooses b (Falls (record x { talk = talk }) after answers heard) (Passes (record x { talk = talk }) after answers None heard) →
+      IsVoiced written replies after
+  nothing talk v true f = becomes written replies after (record x { talk = talk; stage = Over }) f.2 v
+  nothing talk v false f = becomes written replies after (record x { talk = talk }) f.2 v
+
+  grown : (old new : Talking) → Grows old.lane.out.bytes new.lane.out.bytes → Voiced (written ++ (x.out ++ old.lane.out.bytes)) replies (Socket old) → Voiced (written ++ (x.out ++ new.lane.out.bytes)) replies (Socket new)
+  grown old new g v = frames-grow written x.out old.lane.out.bytes new.lane.out.bytes replies old new g v
+
+  go : (old new : Talk) (what : News) → Hears x.wire old new read what → Settles now (record x { talk = new }) after answers what heard → Voiced (written ++ (x.out ++ frames_of old)) replies old →
+      IsVoiced written (replies ++ refusals_of what) after
+  go (Http old) (Http new) news.Nothing h s v = none after (nothing (Http new) v (is_overdue now (record x { talk = Http new })) s)
+  go (Http old) (Http new) (news.Request request) h s v = none after (becomes written replies after (record x { talk = Http new }) s.2 v)
+  go (Http old) (Http new) (news.Refused status) h s v =
+      becomes written (replies ++ refusal_of status ∷ []) after (record x { talk = Http new; out = x.out ++ reply_text (refusal_of status); stage = Closing }) s.2
+      (reply-said written x.out replies (refusal_of status) v)
+  go (Http old) (Http new) (news.Message bytes) h s v = absurd h.is_news
+  go (Http old) (Http new) news.Broken h s v = none after (becomes written replies after (record x { talk = Http new; stage = Over }) s.2 v)
+  go (Http old) (Http new) news.Gone h s v = absurd h.is_news
+  go (Socket old) (Socket new) news.Nothing h s v =
+      none after (nothing (Socket new) (grown old new (gets-grow old.lane new.lane h.got _ h.is_news.0) v) (is_overdue now (record x { talk = Socket new })) s)
+  go (Socket old) (Socket new) (news.Request request) h s v = absurd h.is_news
+  go (Socket old) (Socket new) (news.Refused status) h s v = absurd h.is_news
+  go (Socket old) (Socket new) (news.Message bytes) h s v =
+      none after (becomes written replies after (record x { talk = Socket new }) s.2 (grown old new (gets-grow old.lane new.lane h.got _ h.is_news.0) v))
+  go (Socket old) (Socket new) news.Broken h s v =
+      none after (becomes written replies after (record x { talk = Socket new; stage = Over }) s.2
+      (grown old new (grows-none old.lane.out.bytes new.lane.out.bytes (ap (λ (l : socket.Lane). l.out.bytes) h.is_news.1)) v))
+  go (Socket old) (Socket new) news.Gone h s v =
+      none after (becomes written replies after (record x { talk = talk_after_shut (Socket new); stage = Closing }) s.2
+      (frames-grow written x.out old.lane.out.bytes (frames_of (talk_after_shut (Socket new))) replies old old
+      (grows-on old.lane.out.bytes new.lane.out.bytes (frames_of (talk_after_shut (Socket new))) (gets-grow old.lane new.lane h.got _ h.is_news.0) (shut-grows new.lane)) v))
+  go (Http old) (Socket new) what h s v = absurd h
+  go (Socket old) (Http new) what h s v = absurd h
+
+loses-voiced : (told : Option Event) (before after : Lane) (heard : Option Event) (written : List ℕ) (replies : List Reply) → Loses told before after heard → IsVoiced written replies before → IsVoiced written replies after
+loses-voiced (Some here) before after heard written replies h v = becomes written replies after before h.1 v
+loses-voiced None before after heard written replies h v = go before.stage h where
+  go : (s : Stage) → LosesAt s before after heard → IsVoiced written replies after
+  go Live h = becomes written replies after before h.1 v
+  go Lost h = becomes written replies after (record before { stage = Over }) h.1 v
+  go Closing h = becomes written replies after before h.1 v
+  go Over h = becomes written replies after before h.1 v
+
+-- the door's own replies that are heard
+abbrev pub refusals_in : ℕ → Option Event → List Reply
+refusals_in wire None = []
+refusals_in wire (Some told) = refusal_on wire told
+
+pub settles-refusals : (now : ℕ) (before after : Lane) (answers : List Answer) (what : News) (heard : Option Event) → Settles now before after answers what heard → refusals_in before.wire heard ≡ refusals_of what
+settles-refusals now before after answers news.Nothing heard h = go (is_overdue now before) h where
+  go : (b : Bool) → Chooses b (Falls before after answers heard) (Passes before after answers None heard) → refusals_in before.wire heard ≡ []
+  go true h = ap (λ o. refusals_in before.wire o) h.1
+  go false h = ap (λ o. refusals_in before.wire o) h.1
+settles-refusals now before after answers (news.Request request) heard h = ap (λ o. refusals_in before.wire o) h.1
+settles-refusals now before after answers (news.Refused status) heard h =
+    ap (λ o. refusals_in before.wire o) h.1 ∙ ap (λ b. if b then refusal_of status ∷ [] else []) (same before.wire)
+settles-refusals now before after answers (news.Message bytes) heard h = ap (λ o. refusals_in before.wire o) h.1
+settles-refusals now before after answers news.Broken heard h = ap (λ o. refusals_in before.wire o) h.1
+settles-refusals now before after answers news.Gone heard h = ap (λ o. refusals_in before.wire o) h.1
+
+pub loses-refusals : (wire : ℕ) (told : Option Event) (before after : Lane) (heard : Option Event) → Loses told before after heard → refusals_in wire heard ≡ refusals_in wire told
+loses-refusals wire (Some here) before after heard h = ap (λ o. refusals_in wire o) h.0
+loses-refusals wire None before after heard h = go before.stage h where
+  go : (s : Stage) → LosesAt s before after heard → refusals_in wire heard ≡ []
+  go Live h = ap (λ o. refusals_in wire o) h.0
+  go Lost h = ap (λ o. refusals_in wire o) h.0
+  go Closing h = ap (λ o. refusals_in wire o) h.0
+  go Over h = ap (λ o. refusals_in wire o) h.0
+
+-- what a call says on a lane and writes there
+abbrev SaysIn : Lane → Lane → List Answer → List Reply → Type 0
+SaysIn x y mine more = (written : List ℕ) (replies : List Reply) → IsVoiced written replies x → IsVoiced (written ++ written_on x.wire mine) (replies ++ more) y
+
+pours-say : (x y : Lane) (mine : List Answer) (more : List Reply) → Pours x y mine → more ≡ [] → SaysIn x y mine more
+pours-say x y mine more p e written replies v =
+    subst (λ (r : List Reply). IsVoiced (written ++ written_on x.wire mine) r y) (sym (ap (λ l. replies ++ l) e ∙ append-nil replies)) (p written replies v)
+
+pub live-written : (wire : ℕ) (answers read shut written : List Answer) → answers ≡ read ++ (shut ++ written) → written_on wire read ≡ [] → written_on wire shut ≡ [] → written_on wire answers ≡ written_on wire written
+live-written wire answers read shut written all e f =
+    ap (λ l. written_on wire l) all ∙ written-append wire read (shut ++ written) ∙ ap (λ l. l ++ written_on wire (shut ++ written)) e
+    ∙ written-append wire shut written ∙ ap (λ l. l ++ written_on wire written) f
+
+live-says : (now : ℕ) (x y : Lane) (mine : List Answer) (own : Option Event) → TurnsLive now x y mine own → SaysIn x y mine (refusals_in x.wire own)
+live-says now x y mine own h written replies v =
+    let mid = record x { talk = h.talk } in
+    let w = x.wire in
+    let kept = settles-keeps now mid h.settled h.shut h.news h.told h.settles in
+    let refused : refusals_in w own ≡ refusals_of h.news = loses-refusals w h.told h.said y own h.loses ∙ settles-refusals now mid h.settled h.shut h.news h.told h.settles in
+    let wrote_is : written_on w mine ≡ written_on h.settled.wire h.written =
+    live-written w mine h.read h.shut h.written h.all (hears-unwritten w w x.talk h.talk h.read h.news h.hears) (settles-unwritten w now mid h.settled h.shut h.news h.told h.settles)
+    ∙ ap (λ n. written_on n h.written) (sym kept.0.0) in
+    let more = replies ++ refusals_of h.news in
+    let settled = settles-voiced now x h.talk h.settled h.read h.shut h.news h.told written replies h.hears h.settles v in
+    let said = says-pour h.settled h.said h.written h.says written more settled in
+    let lost = loses-voiced h.told h.said y own (written ++ written_on h.settled.wire h.written) more h.loses said in
+    subst (λ (l : List ℕ). IsVoiced (written ++ l) (replies ++ refusals_in w own) y) (sym wrote_is)
+    (subst (λ (r : List Reply). IsVoiced (written ++ written_on h.settled.wire h.written) (replies ++ r) y) (sym refused) lost)
+
+passes-pour : (x mid y : Lane) (mine : List Answer) (told heard : Option Event) → waits mid ≡ waits x → mid.talk ≡ x.talk → Passes mid y mine told heard → Pours x y mine
+passes-pour x mid y mine told heard e f h = still-pours x y mine (ap (λ l. written_on x.wire l) h.0) (ap waits h.2 ∙ e) (ap (λ (l : Lane). l.talk) h.2 ∙ f)
+
+listens-say : (now : ℕ) (x y : Lane) (mine : List Answer) (own : Option Event) → Listens now x y mine own → SaysIn x y mine (refusals_in x.wire own)
+listens-say now x y mine own h = go x.stage h where
+  go : (s : Stage) → TurnsAt s now x y mine own → SaysIn x y mine (refusals_in x.wire own)
+  go Live h = live-says now x y mine own h
+  go Lost h = pours-say x y mine (refusals_in x.wire own) (passes-pour x (record x { stage = Over }) y mine _ own refl refl h) (ap (λ o. refusals_in x.wire o) h.1)
+  go Closing h = pours-say x y mine (refusals_in x.wire own) (says-pour x y mine h.1) (ap (λ o. refusals_in x.wire o) h.0)
+  go Over h = pours-say x y mine (refusals_in x.wire own) (passes-pour x x y mine _ own refl refl h) (ap (λ o. refusals_in x.wire o) h.1)
+
+pub heard-refusals : (wire : ℕ) (own : Option Event) (what : Event) → IsHeard wire own what → refusal_on wire what ≡ refusals_in wire own
+heard-refusals wire None what h = unrefused wire what h
+heard-refusals wire (Some told) what h = ap (λ v. refusal_on wire v) h
+
+heeds-say : (now : ℕ) (what : Event) (x y : Lane) (mine : List Answer) → Heeds now what x y mine → SaysIn x y mine (refusal_on x.wire what)
+heeds-say now what x y mine (inl h) = subst (λ (l : List Reply). SaysIn x y mine l) (sym (heard-refusals x.wire h.0 what h.2)) (listens-say now x y mine h.0 h.1)
+heeds-say now what x y mine (inr h) = pours-say x y mine (refusal_on x.wire what) (says-pour x y mine h.0) (unrefused x.wire what h.1)
+
+-- ---- saying
+
+-- a lane that owes a reply says it
+reply-voiced : (now : ℕ) (reply : Reply) (x : Lane) (written : List ℕ) (replies : List Reply) → owes x ≡ true → IsVoiced written replies x → IsVoiced written (replies ++ reply ∷ []) (after_reply now reply x)
+reply-voiced now reply x written replies owed v = go x.talk refl owed v where
+  http : (asking : Rattle.hw_net.specs.Asking.AskingState) → x.talk ≡ Http asking → written ++ (x.out ++ []) ≡ texts_of replies → (b : Bool) → (reply.status == SWITCHING) ≡ b →
+      IsVoiced written (replies ++ reply ∷ []) (if b then record x { talk = new_socket (rest_of x.talk); out = x.out ++ reply_text reply }
+      else record x { talk = talk_after_reply x.talk; out = x.out ++ reply_text reply; since = now })
+  http asking e v true f = (replies, reply, [], refl, equal reply.status SWITCHING f, reply-said written x.out replies reply v ∙ sym (append-nil (texts_of (replies ++ reply ∷ []))))
+  http asking e v false f =
+      subst (λ (t : Talk). IsVoiced written (replies ++ reply ∷ []) (record x { talk = talk_after_reply t; out = x.out ++ reply_text reply; since = now })) (sym e)
+      (reply-said written x.out replies reply v)
+
+  go : (talk : Talk) → x.talk ≡ talk → (is_live x.stage && Rattle.hw_net.specs.Lane.is_busy talk) ≡ true → Voiced (written ++ (x.out ++ frames_of talk)) replies talk → IsVoiced written (replies ++ reply ∷ []) (after_reply now reply x)
+  go (Http asking) e owed v = http asking e v (reply.status == SWITCHING) refl
+  go (Socket talking) e owed v = absurd (cc (sym (dead x.stage) ∙ owed))
+
+replies-say : (now : ℕ) (reply : Reply) (x y : Lane) (mine : List Answer) → Replies now reply x y mine → SaysIn x y mine (if owes x then reply ∷ [] else [])
+replies-say now reply x y mine h = go (owes x) refl h where
+  go : (b : Bool) → owes x ≡ b → Chooses b (SaysMore (after_reply now reply x) y mine) ((mine ≡ []) × (y ≡ x)) → SaysIn x y mine (if b then reply ∷ [] else [])
+  go true e h = λ written replies v.
+      subst (λ n. IsVoiced (written ++ written_on n mine) (replies ++ reply ∷ []) y) (replied-wire now reply x)
+      (more-pour (after_reply now reply x) y mine h written (replies ++ reply ∷ []) (reply-voiced now reply x written replies e v))
+  go false e h = pours-say x y mine [] (same-pours x y mine h.0 h.1) refl
+
+put-voiced : (live : Bool) (talk : Talk) (bytes : List ℕ) (text : Bool) (x mid : Lane) (is_put : Bool) → x.talk ≡ talk → PutsAt live talk bytes text x mid is_put →
+    (written : List ℕ) (replies : List Reply) → IsVoiced written replies x → IsVoiced written replies mid
+put-voiced true (Socket talking) bytes text x mid is_put e h written replies v =
+    becomes written replies mid _ h.2 (frames-grow written x.out talking.lane.out.bytes h.0.out.bytes replies talking talking (says-grows talking.lane h.0 bytes text is_put h.1)
+    (subst (λ (t : Talk). Voiced (written ++ (x.out ++ frames_of t)) replies t) e v))
+put-voiced true (Http asking) bytes text x mid is_put e h written replies v = becomes written replies mid x h.1 v
+put-voiced false talk bytes text x mid is_put e h written replies v = becomes written replies mid x h.1 v
+
+sends-pour : (bytes : List ℕ) (text : Bool) (x y : Lane) (mine : List Answer) → Sends bytes text x y mine → Pours x y mine
+sends-pour bytes text x y mine h written replies v = go h.0 h.1 h.2 h.3 where
+  go : (mid : Lane) (b : Bool) → Puts bytes text x mid b → Chooses b (SaysMore mid y mine) ((mine ≡ []) × (y ≡ mid)) → IsVoiced (written ++ written_on x.wire mine) replies y
+  go mid b p s =
+      let put = put-voiced (is_live x.stage) x.talk bytes text x mid b refl p written replies v in
+      subst (λ n. IsVoiced (written ++ written_on n mine) replies y) (put-wire (is_live x.stage) x.talk bytes text x mid b p) (rest b s put) where
+        rest : (b : Bool) → Chooses b (SaysMore mid y mine) ((mine ≡ []) × (y ≡ mid)) → IsVoiced written replies mid → IsVoiced (written ++ written_on mid.wire mine) replies y
+        rest true s put = more-pour mid y mine s written replies put
+        rest false s put = same-pours mid y mine s.0 s.1 written replies put
+
+shut-voiced : (talk : Talk) (written out : List ℕ) (replies : List Reply) → Voiced (written ++ (out ++ frames_of talk)) replies talk → Voiced (written ++ (out ++ frames_of (talk_after_shut talk))) replies (talk_after_shut talk)
+shut-voiced (Http asking) written out replies v = v
+shut-voiced (Socket talking) written out replies v = frames-grow written out talking.lane.out.bytes (frames_of (talk_after_shut (Socket talking))) replies talking talking (shut-grows talking.lane) v
+
+shuts-pour : (x y : Lane) (mine : List Answer) → Shuts x y mine → Pours x y mine
+shuts-pour x y mine h = go (is_live x.stage) h where
+  go : (b : Bool) → Chooses b (WritesOut (record x { talk = talk_after_shut x.talk; stage = Closing }) y mine) ((mine ≡ []) × (y ≡ x)) → Pours x y mine
+  go true h = λ written replies v. writes-pour (record x { talk = talk_after_shut x.talk; stage = Closing }) y mine h written replies (shut-voiced x.talk written x.out replies v)
+  go false h = same-pours x y mine h.0 h.1
+
+-- ---- sessions
+
+by-wire : (wire : ℕ) (x y : Lane) (mine : List Answer) (reply : Reply) (now : ℕ) → ActsAt wire (Replies now reply) x y mine → SaysIn x y mine (if (wire == x.wire) && owes x then reply ∷ [] else [])
+by-wire wire x y mine reply now h =
+    by-number wire (Replies now reply) x y mine (λ b. SaysIn x y mine (if b && owes x then reply ∷ [] else []))
+    (replies-say now reply x y mine) (λ e f. pours-say x y mine [] (same-pours x y mine f e) refl) h
+
+moves-say : (call : Call) (x y : Lane) → Moves call x y → SaysIn x y (share x.wire (answers_in call)) (replies_by x.wire (owes x) call)
+moves-say (session.heard what answers) x y h = heeds-say what.now what.event x y (share x.wire answers) h
+moves-say (session.replied at reply answers) x y h = by-wire at x y (share x.wire answers) reply h.0 h.1
+moves-say (session.sent at bytes text answers) x y h =
+    by-number at (Sends bytes text) x y (share x.wire answers) (λ b. SaysIn x y (share x.wire answers) [])
+    (λ s. pours-say x y (share x.wire answers) [] (sends-pour bytes text x y (share x.wire answers) s) refl) (λ e f. pours-say x y (share x.wire answers) [] (same-pours x y (share x.wire answers) f e) refl) h
+moves-say (session.shut at answers) x y h =
+    by-number at Shuts x y (share x.wire answers) (λ b. SaysIn x y (share x.wire answers) [])
+    (λ s. pours-say x y (share x.wire answers) [] (shuts-pour x y (share x.wire answers) s) refl) (λ e f. pours-say x y (share x.wire answers) [] (same-pours x y (share x.wire answers) f e) refl) h
+
+pub written-more : (wire : ℕ) (calls : List Call) (call : Call) → written_on wire (answers_of (call ∷ calls)) ≡ written_on wire (answers_of calls) ++ written_on wire (share wire (answers_in call))
+written-more wire calls call = written-append wire (answers_of calls) (answers_in call) ∙ ap (λ l. written_on wire (answers_of calls) ++ l) (written-share wire (answers_in call))
+
+-- what was said on a lane was written or waits, and the calls tell whether a reply is owed
+abbrev pub HasSaid : List Call → Lane → Type 0
+HasSaid calls lane = IsOwed calls lane × IsVoiced (written_on lane.wire (answers_of calls)) (replies_on lane.wire calls) lane
+
+pub step-said : (call : Call) (calls : List Call) (x y : Lane) → HasSaid calls x → Moves call x y → HasSaid (call ∷ calls) y
+step-said call calls x y k h = (
+  step-owed call calls x y k.0 h,
+  subst (λ n. IsVoiced (written_on n (answers_of (call ∷ calls))) (replies_on n (call ∷ calls)) y) (sym (moves-wire call x y h))
+      (subst (λ (l : List ℕ). IsVoiced l (replies_on x.wire (call ∷ calls)) y) (sym (written-more x.wire calls call))
+      (subst (λ (r : List Reply). IsVoiced (written_on x.wire (answers_of calls) ++ written_on x.wire (share x.wire (answers_in call))) r y) (sym (replies-more call calls x k.0))
+      (moves-say call x y h (written_on x.wire (answers_of calls)) (replies_on x.wire calls) k.1))),
+)
+
+pub new-said : (calls : List Call) (now wire : ℕ) → IsUntouched wire calls → HasSaid calls (new_lane now wire)
+new-said calls now wire h = (
+  new-owed calls now wire h,
+  append-nil (written_on wire (answers_of calls)) ∙ written-share wire (answers_of calls) ∙ ap (λ l. written_on wire l) h.answers ∙ ap texts_of (sym h.replies),
+)
+
+wrote-of : (calls : List Call) (lane : Lane) (talk : Talk) → Voiced (written_on lane.wire (answers_of calls) ++ waits lane) (replies_on lane.wire calls) talk → WroteReplies calls lane talk
+wrote-of calls lane (Http asking) h = h
+wrote-of calls lane (Socket talking) h = h
+
+pub replies-are-written : RepliesAreWritten
+replies-are-written calls bound now h lane has =
+    wrote-of calls lane lane.talk (each-lane HasSaid new-said step-said calls bound now h lane (has-of now.lanes lane has)).1

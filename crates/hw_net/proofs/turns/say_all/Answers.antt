@@ -1,0 +1,33 @@
+use Rattle.std.proofs.Common.{rules, arith, [], ◌≡◌, ◌<◌, false, ltb, List, length, subst}
+use Rattle.hw_door.specs.Traffic.{Answer}
+use Rattle.hw_net.specs.Tally.{tally_of}
+use Rattle.hw_net.specs.Told.{Tells}
+use Rattle.hw_net.specs.Walks.{Speak}
+use Rattle.hw_net.proofs.Telling.{tells-none}
+use Rattle.hw_net.proofs.Walking.{silent-walk, speaks-here, same-length}
+use Rattle.hw_net.proofs.turns.say_all.Goals as goal
+
+pub returns-then-not-has_lagging-clause-said : goal.returns-then-not-has_lagging-clause-said
+returns-then-not-has_lagging-clause-said g c =
+    let none : ltb 0 (tally_of c.args.lanes.now.items).lagging ≡ false = search rules in
+    ([], tells-none (g.W.Wires.told c.args.wires.now), silent-walk c.args.begin c.args.end c.args.lanes.now.items none)
+
+pub loop-place-preserved : goal.loop-place-preserved
+loop-place-preserved g c =
+    let told = g.W.Wires.told in
+    let within : c.loop-place.place < length c.args.lanes.now.items = search rules in
+    let same = same-length c.loop-place.lanes.items c.args.lanes.now.items c.loop-place.invariant.3 in
+    let inside : c.loop-place.place < length c.loop-place.lanes.items = omega (arith, within, same) in (
+      speaks-here (told c.args.wires.now) (told c.loop-place.wires) (told c.say.new.wires) c.args.begin c.loop-place.place c.args.lanes.now.items c.loop-place.lanes.items c.say.new.self.items
+          c.loop-place.invariant.1 within inside c.loop-place.invariant.0 c.say.ensures.said,
+      search rules,
+      search rules,
+      search rules,
+    )
+
+pub returns-clause-said : goal.returns-clause-said
+returns-clause-said g c =
+    let told = g.W.Wires.told in
+    let at_end : c.loop-place.place ≡ c.args.end = search rules in
+    subst (λ n. (answers : List Answer) × Tells (told c.args.wires.now) (told c.loop-place.wires) answers
+    × Speak c.args.begin n c.args.lanes.now.items c.loop-place.lanes.items answers) at_end c.loop-place.invariant.0

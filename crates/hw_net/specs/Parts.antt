@@ -1,0 +1,12 @@
+-- The parts of a door.
+use Rattle.std.specs.Prelude.{ℕ}
+use Rattle.hw_net.specs.Lanes.{LanesState}
+
+-- the wires, the lanes that stand on them, the number from which on lanes come first in the next search, the moment of what was heard
+-- last, and how often a call failed
+pub record DoorParts (W : Type 0) : Type 0 where
+  pub wires : W
+  pub lanes : LanesState
+  pub from : ℕ
+  pub moment : ℕ
+  pub faults : ℕ

@@ -1,0 +1,293 @@
+-- Sessions of a door: its calls since it started, and what they hear, say and shut, put together.
+use Rattle.std.specs.Prelude.{◌≡◌, ◌⊎◌, ◌==◌, ◌&&◌, ◌||◌, ℕ, Bool, true, false, not, if◌then◌else◌, List, [], ◌∷◌, ◌++◌, length, flat_map, Contains, Some, ⊤}
+use Rattle.hd_lanes.specs.declared.http.Reply.{Reply}
+use Rattle.hd_lanes.specs.declared.http.Request.{Request}
+use Rattle.hh_http.specs.Asks.{Asks, request_grammar}
+use Rattle.hh_http.specs.Messages.{Refuses}
+use Rattle.hh_http.specs.Texts.{reply_text}
+use Rattle.hw_door.specs.declared.heard.Event.{Event}
+use Rattle.hw_door.specs.declared.heard.Event.TheVariants as event
+use Rattle.hw_door.specs.declared.heard.Heard.{Heard}
+use Rattle.hw_door.specs.Traffic.{Answer, accepted, bytes_in, not_yet, ended, read_failed, bytes_out, write_failed, was_shut, read_on, written_on}
+use Rattle.hw_socket.specs.Calls as socket_calls
+use Rattle.hw_socket.specs.Lane as socket
+use Rattle.hw_socket.specs.Reading.{Feeds, Takes}
+use Rattle.hw_socket.specs.declared.vocabulary.SocketRead.TheVariants as read
+use Rattle.hw_socket.specs.declared.vocabulary.SocketSide.TheVariants as side
+use Rattle.hw_net.specs.declared.limits.TheConstants.{SWITCHING}
+use Rattle.hw_net.specs.declared.talk.Stage.TheVariants.{Lost, Over}
+use Rattle.hw_net.specs.declared.talk.Talk.{Talk}
+use Rattle.hw_net.specs.declared.talk.Talk.TheVariants.{Http, Socket}
+use Rattle.hw_net.specs.Bounds.{has_wire}
+use Rattle.hw_net.specs.Door.{DoorState, HearsNext, KeepsLanes, DoesAt}
+use Rattle.hw_net.specs.Lane.{Lane, waits, is_live, refusal_of, is_overdue}
+use Rattle.hw_net.specs.Saying.{is_too_much}
+use Rattle.hw_net.specs.Turn.{Replies, Sends, Shuts}
+
+-- a call that answered Ok, with what the wires answered in it
+pub data Call : Type 0 where
+  heard : Heard → List Answer → Call
+  replied : ℕ → Reply → List Answer → Call
+  sent : ℕ → List ℕ → Bool → List Answer → Call
+  shut : ℕ → List Answer → Call
+
+-- what a call does to a door, and to the bound below which lie all numbers of wires that came
+abbrev pub Does : Call → ℕ → ℕ → DoorState → DoorState → Type 0
+Does (heard what answers) bound bound_after before after =
+    HearsNext before after answers what × KeepsLanes bound bound_after before.lanes after.lanes
+Does (replied lane reply answers) bound bound_after before after =
+    DoesAt lane (Replies before.moment reply) before after answers × (bound_after ≡ bound)
+Does (sent lane bytes text answers) bound bound_after before after =
+    DoesAt lane (Sends bytes text) before after answers × (bound_after ≡ bound)
+Does (shut lane answers) bound bound_after before after =
+    DoesAt lane Shuts before after answers × (bound_after ≡ bound)
+
+-- all calls of a door since it started, the latest first, and how they leave it
+abbrev pub Session : List Call → ℕ → DoorState → Type 0
+Session [] bound now = now ≡ record { lanes = []; from = 0; moment = 0 }
+Session (call ∷ calls) bound now =
+    (bound_before : ℕ) × (before : DoorState) × Session calls bound_before before × Does call bound_before bound before now
+
+-- ---- what the wires answered
+
+abbrev pub answers_in : Call → List Answer
+answers_in (heard what answers) = answers
+answers_in (replied lane reply answers) = answers
+answers_in (sent lane bytes text answers) = answers
+answers_in (shut lane answers) = answers
+
+-- in all calls, in order
+abbrev pub answers_of : List Call → List Answer
+answers_of [] = []
+answers_of (call ∷ calls) = answers_of calls ++ answers_in call
+
+-- the answer is about this wire
+abbrev pub is_about : ℕ → Answer → Bool
+is_about wire (bytes_in at bytes) = at == wire
+is_about wire (not_yet at) = at == wire
+is_about wire (ended at) = at == wire
+is_about wire (read_failed at) = at == wire
+is_about wire (bytes_out at bytes) = at == wire
+is_about wire (write_failed at) = at == wire
+is_about wire (was_shut at) = at == wire
+is_about wire _ = false
+
+-- some answer is
+abbrev pub are_about : ℕ → List Answer → Bool
+are_about wire [] = false
+are_about wire (answer ∷ answers) = is_about wire answer || are_about wire answers
+
+-- a wire of this number came
+abbrev pub came_in : ℕ → List Answer → Bool
+came_in wire [] = false
+came_in wire (accepted (Some at) ∷ answers) = (at == wire) || came_in wire answers
+came_in wire (answer ∷ answers) = came_in wire answers
+
+-- the wire was shut
+abbrev pub was_shut_in : ℕ → List Answer → Bool
+was_shut_in wire [] = false
+was_shut_in wire (was_shut at ∷ answers) = (at == wire) || was_shut_in wire answers
+was_shut_in wire (answer ∷ answers) = was_shut_in wire answers
+
+-- it ended, or a read or a write on it failed
+abbrev pub broke_in : ℕ → List Answer → Bool
+broke_in wire [] = false
+broke_in wire (ended at ∷ answers) = (at == wire) || broke_in wire answers
+broke_in wire (read_failed at ∷ answers) = (at == wire) || broke_in wire answers
+broke_in wire (write_failed at ∷ answers) = (at == wire) || broke_in wire answers
+broke_in wire (answer ∷ answers) = broke_in wire answers
+
+-- ---- what was heard on a lane
+
+-- the request that this is, if it is one of this lane
+abbrev pub request_on : ℕ → Event → List Request
+request_on lane (event.Request at request) = if at == lane then request ∷ [] else []
+request_on lane _ = []
+
+-- the requests that were heard on a lane, in order
+abbrev pub requests_on : ℕ → List Call → List Request
+requests_on lane [] = []
+requests_on lane (heard what answers ∷ calls) = requests_on lane calls ++ request_on lane what.event
+requests_on lane (_ ∷ calls) = requests_on lane calls
+
+-- The requests heard on a lane are those of all bytes read on its wire, and what is held is what these leave. On a lane that became a
+-- WebSocket they are those of a first part of the bytes.
+abbrev pub HeardRequests : List Call → ℕ → Talk → Type 0
+HeardRequests calls wire (Http asking) = Asks (read_on wire (answers_of calls)) (requests_on wire calls) asking.lane.held
+HeardRequests calls wire (Socket talking) =
+    (bytes : List ℕ) × (rest : List ℕ) × (more : List ℕ)
+    × (read_on wire (answers_of calls) ≡ bytes ++ more) × Asks bytes (requests_on wire calls) rest
+
+-- so it is of each lane
+abbrev pub RequestsAreAsked : Type 0
+RequestsAreAsked =
+    (calls : List Call) (bound : ℕ) (now : DoorState) → Session calls bound now
+    → (lane : Lane) → Contains now.lanes lane → HeardRequests calls lane.wire lane.talk
+
+-- what is refused on a lane is what the requests heard there leave of all bytes read on its wire
+abbrev pub RefusalsAreDeserved : Type 0
+RefusalsAreDeserved =
+    (what : Heard) (answers : List Answer) (calls : List Call) (bound : ℕ) (now : DoorState) → Session (heard what answers ∷ calls) bound now
+    → (lane status : ℕ) → what.event ≡ event.Refused lane status
+    → (rest : List ℕ) × Asks (read_on lane (answers_of (heard what answers ∷ calls))) (requests_on lane calls) rest × Refuses request_grammar rest status
+
+-- ---- what was said on a lane
+
+abbrev pub is_request_on : ℕ → Event → Bool
+is_request_on lane (event.Request at request) = at == lane
+is_request_on lane _ = false
+
+-- A reply is owed on a lane: a request was heard there, and since then no reply was given, the caller didn't shut the lane, and its wire
+-- wasn't shut, not even in the call that heard the request.
+abbrev pub is_owed_on : ℕ → List Call → Bool
+is_owed_on lane [] = false
+is_owed_on lane (heard what answers ∷ calls) = not (was_shut_in lane answers) && (is_request_on lane what.event || is_owed_on lane calls)
+is_owed_on lane (replied at reply answers ∷ calls) = not (at == lane) && is_owed_on lane calls
+is_owed_on lane (sent at bytes text answers ∷ calls) = is_owed_on lane calls
+is_owed_on lane (shut at answers ∷ calls) = not (at == lane) && is_owed_on lane calls
+
+-- the door's own reply to what is no request, if this is one of this lane
+abbrev pub refusal_on : ℕ → Event → List Reply
+refusal_on lane (event.Refused at status) = if at == lane then refusal_of status ∷ [] else []
+refusal_on lane _ = []
+
+-- the replies that were said on a lane, in order: those that were given while one was owed, and the door's own
+abbrev pub replies_on : ℕ → List Call → List Reply
+replies_on lane [] = []
+replies_on lane (heard what answers ∷ calls) = replies_on lane calls ++ refusal_on lane what.event
+replies_on lane (replied at reply answers ∷ calls) =
+    replies_on lane calls ++ (if (at == lane) && is_owed_on lane calls then reply ∷ [] else [])
+replies_on lane (_ ∷ calls) = replies_on lane calls
+
+-- the texts of replies one after the other
+abbrev pub texts_of : List Reply → List ℕ
+texts_of replies = flat_map reply_text replies
+
+-- What was written on a lane's wire, and then what waits, are the texts of the replies said there. On a lane that became a WebSocket the
+-- last reply is the upgrade, and its frames follow.
+abbrev pub WroteReplies : List Call → Lane → Talk → Type 0
+WroteReplies calls lane (Http asking) = written_on lane.wire (answers_of calls) ++ waits lane ≡ texts_of (replies_on lane.wire calls)
+WroteReplies calls lane (Socket talking) =
+    (replies : List Reply) × (upgrade : Reply) × (frames : List ℕ)
+    × (replies_on lane.wire calls ≡ replies ++ upgrade ∷ []) × (upgrade.status ≡ SWITCHING)
+    × (written_on lane.wire (answers_of calls) ++ waits lane ≡ texts_of (replies_on lane.wire calls) ++ frames)
+
+-- so it is of each lane, also after its wire was shut: what waits then is never written
+abbrev pub RepliesAreWritten : Type 0
+RepliesAreWritten =
+    (calls : List Call) (bound : ℕ) (now : DoorState) → Session calls bound now
+    → (lane : Lane) → Contains now.lanes lane → WroteReplies calls lane lane.talk
+
+-- a request is heard on a lane only after each one before it there was replied to
+abbrev pub RequestsWaitForReplies : Type 0
+RequestsWaitForReplies =
+    (what : Heard) (answers : List Answer) (calls : List Call) (bound : ℕ) (now : DoorState) → Session (heard what answers ∷ calls) bound now
+    → (lane : ℕ) (request : Request) → what.event ≡ event.Request lane request
+    → length (replies_on lane calls) ≡ length (requests_on lane calls)
+
+-- ---- how lanes end
+
+-- the loss of this lane is heard, or its refusal
+abbrev pub is_end_on : ℕ → Event → Bool
+is_end_on lane (event.Lost at) = at == lane
+is_end_on lane (event.Refused at status) = at == lane
+is_end_on lane _ = false
+
+-- the loss of the lane was heard, or its refusal, or the caller shut it once it had come
+abbrev pub is_done_on : ℕ → List Call → Bool
+is_done_on lane [] = false
+is_done_on lane (heard what answers ∷ calls) = is_end_on lane what.event || is_done_on lane calls
+is_done_on lane (shut at answers ∷ calls) = ((at == lane) && came_in lane (answers_of calls ++ answers)) || is_done_on lane calls
+is_done_on lane (_ ∷ calls) = is_done_on lane calls
+
+-- a wire that is shut in a call is that of a lane that is done, or is still to be heard as lost
+abbrev pub WiresAreShutForACause : Type 0
+WiresAreShutForACause =
+    (call : Call) (calls : List Call) (bound : ℕ) (now : DoorState) → Session (call ∷ calls) bound now
+    → (wire : ℕ) → was_shut_in wire (answers_in call) ≡ true
+    → (lane : Lane) × Contains now.lanes lane × (lane.wire ≡ wire)
+    × ((lane.stage ≡ Lost) ⊎ ((lane.stage ≡ Over) × (is_done_on wire (call ∷ calls) ≡ true)))
+
+-- once a wire was shut no answer is about it
+abbrev pub WiresAreShutOnce : Type 0
+WiresAreShutOnce =
+    (calls : List Call) (bound : ℕ) (now : DoorState) → Session calls bound now
+    → (wire : ℕ) (before after : List Answer) → answers_of calls ≡ before ++ was_shut wire ∷ after
+    → (was_shut_in wire before ≡ false) × (are_about wire after ≡ false)
+
+-- a lane of the state has its wire exactly if that wasn't shut
+abbrev pub LanesHaveWires : Type 0
+LanesHaveWires =
+    (calls : List Call) (bound : ℕ) (now : DoorState) → Session calls bound now
+    → (lane : Lane) → Contains now.lanes lane → was_shut_in lane.wire (answers_of calls) ≡ not (has_wire lane.stage)
+
+-- its WebSocket is gone once it is fed with these bytes: its other side closes it or breaks its rules, or a text to send was none
+abbrev pub IsGone : List ℕ → Talk → Type 0
+IsGone bytes (Http asking) = ⊥
+IsGone bytes (Socket talking) = (fed : socket.Lane) × (next : socket.Lane) × Feeds talking.lane bytes fed × Takes fed next read.Gone
+
+-- bytes that were read for its WebSocket are lost, as memory was out
+abbrev pub IsSpoiled : Talk → Type 0
+IsSpoiled (Http asking) = ⊥
+IsSpoiled (Socket talking) = talking.spoiled ≡ true
+
+-- why a lane is lost, by what the wires answered so far, and by how it is left: its wire broke, it waited for a request for too long,
+-- or too much waits on it
+abbrev pub IsLostRightly : ℕ → List Answer → Lane → Type 0
+IsLostRightly now answers lane =
+    (broke_in lane.wire answers ≡ true) ⊎ (is_overdue now lane ≡ true) ⊎ (is_too_much (length (waits lane)) ≡ true)
+
+-- A lane that is heard as lost is so for one of these causes, or it is a WebSocket that is gone with what was read in this call, or is
+-- spoiled.
+abbrev pub LossesHaveCauses : Type 0
+LossesHaveCauses =
+    (what : Heard) (answers : List Answer) (calls : List Call) (bound bound_after : ℕ) (before after : DoorState)
+    → Session calls bound before → Does (heard what answers) bound bound_after before after
+    → (wire : ℕ) → what.event ≡ event.Lost wire
+    → ((lane : Lane) × Contains after.lanes lane × (lane.wire ≡ wire) × IsLostRightly what.now (answers_of (heard what answers ∷ calls)) lane)
+    ⊎ ((lane : Lane) × Contains before.lanes lane × (lane.wire ≡ wire) × (IsGone (read_on wire answers) lane.talk ⊎ IsSpoiled lane.talk))
+
+-- ---- what WebSockets do
+
+-- the message that this is, if it is one of this lane
+abbrev pub message_on : ℕ → Event → List (List ℕ)
+message_on lane (event.Bytes at bytes) = if at == lane then bytes ∷ [] else []
+message_on lane _ = []
+
+-- the messages that were heard on a lane, in order
+abbrev pub messages_on : ℕ → List Call → List (List ℕ)
+messages_on lane [] = []
+messages_on lane (heard what answers ∷ calls) = messages_on lane calls ++ message_on lane what.event
+messages_on lane (_ ∷ calls) = messages_on lane calls
+
+-- What a WebSocket did, as calls of a fresh one that keeps all that it has to write. It was fed with what the requests leave of the bytes
+-- read, but for some that are lost if it isn't heard any more. Its payloads are the messages heard. And the bytes written, or that wait, are the texts
+-- of the replies, and then what it wrote.
+pub record IsCarried (live : Bool) (came wrote : List ℕ) (requests : List Request) (messages : List (List ℕ)) (replies : List Reply) (now : socket.Lane) : Type 0 where
+  pub calls : List socket_calls.Call
+  pub keeps : socket.Lane
+  pub runs : socket_calls.Session (socket.fresh_lane side.Server) calls keeps
+  pub undropped : socket_calls.dropped calls ≡ []
+  pub same : now ≡ record keeps { out = record keeps.out { bytes = now.out.bytes } }
+  pub front : List ℕ
+  pub rest : List ℕ
+  pub more : List ℕ
+  pub lost : List ℕ
+  pub parts : came ≡ front ++ (more ++ lost)
+  pub whole : live ≡ true → lost ≡ []
+  pub asks : Asks front requests rest
+  pub fed : socket_calls.fed calls ≡ rest ++ more
+  pub heard_all : socket_calls.heard calls ≡ messages
+  pub wrote_all : wrote ≡ texts_of replies ++ keeps.out.bytes
+
+abbrev pub CarriesSocket : List Call → Lane → Talk → Type 0
+CarriesSocket calls lane (Http asking) = ⊤
+CarriesSocket calls lane (Socket talking) =
+    IsCarried (is_live lane.stage) (read_on lane.wire (answers_of calls)) (written_on lane.wire (answers_of calls) ++ waits lane)
+    (requests_on lane.wire calls) (messages_on lane.wire calls) (replies_on lane.wire calls) talking.lane
+
+-- so it is of each lane that became a WebSocket
+abbrev pub SocketsAreCarried : Type 0
+SocketsAreCarried =
+    (calls : List Call) (bound : ℕ) (now : DoorState) → Session calls bound now
+    → (lane : Lane) → Contains now.lanes lane → CarriesSocket calls lane lane.talk

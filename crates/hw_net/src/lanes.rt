@@ -1,0 +1,214 @@
+//! The lanes of a door, in the order in which they came, and the tally of them. What changes a lane is a call of this file, which keeps
+//! the tally right.
+
+ghost use Rattle.std.specs.Prelude.{◌≡◌, ◌<◌, ◌==◌, ◌++◌, ◌∷◌, [], List, length, nat_lt, position, IfOk, IfErr, OnOk, OnErr};
+ghost use Rattle.std.specs.List.{list_any};
+ghost use Rattle.hd_lanes.specs.Replies.{IsReply};
+ghost use Rattle.hw_door.specs.Traffic.{Answer};
+ghost use Rattle.hw_net.specs.Door.{kept, place_of_first};
+ghost use Rattle.hw_net.specs.Lane.{Lane, is_awake, wires_of};
+ghost use Rattle.hw_net.specs.Lanes.{DoesHere};
+ghost use Rattle.hw_net.specs.Rising.{Rise};
+ghost use Rattle.hw_net.specs.Saying.{Says};
+ghost use Rattle.hw_net.specs.Tally.{tally_of};
+ghost use Rattle.hw_net.specs.Told.{Tells};
+ghost use Rattle.hw_net.specs.Turn.{Listens, Replies, Sends, Shuts};
+
+use crate::finding::{place_of, place_of_first};
+use crate::lane::NetLane;
+use crate::limits::PIECE;
+use crate::tally::Tally;
+use hd_lanes::Reply;
+use hw_door::{Event, Wires};
+use std::alloc::{AllocError, Global};
+use std::marker::Model;
+
+/// Lanes, and how many there are of each kind.
+#[derive(Drop)]
+pub struct Lanes {
+    items: Vec<NetLane>,
+    tally: Tally,
+}
+
+impl Model for Lanes {
+    ghost use Rattle.std.specs.Prelude.{◌≡◌};
+    ghost use Rattle.hw_net.specs.Lanes.{LanesState};
+    ghost use Rattle.hw_net.specs.Tally.{tally_of};
+
+    ghost Value = { LanesState };
+
+    ghost view = { λ l. record { items = l.items.items } };
+
+    ghost invariant = { λ l. l.tally ≡ tally_of l.items.items };
+}
+
+impl Lanes {
+    /// No lanes. It takes no memory yet.
+    pub fn start(alloc: Global) -> Lanes
+        ensures { result.items ≡ [] }
+    {
+        Lanes {
+            items: Vec::new(alloc),
+            tally: Tally::start(),
+        }
+    }
+
+    pub fn len(&self) -> usize
+        ensures { result ≡ length self.now.items }
+    {
+        self.items.len()
+    }
+
+    /// Whether something may be heard at once on some lane.
+    pub fn has_awake(&self) -> bool
+        ensures { result ≡ list_any is_awake self.now.items }
+    {
+        self.tally.has_awake()
+    }
+
+    /// Whether some lane may have something to write.
+    pub fn has_lagging(&self) -> bool
+        ensures { result ≡ nat_lt 0 (tally_of self.now.items).lagging }
+    {
+        self.tally.has_lagging()
+    }
+
+    /// Forgets the lanes that are over.
+    pub fn clear(&mut self)
+        ensures { self.new.items ≡ kept self.old.items }
+    {
+        if self.tally.has_over() {
+            self.items.retain(|lane| !lane.is_over());
+            self.tally.forget_over();
+        }
+    }
+
+    /// Adds a lane after all others.
+    pub fn add(&mut self, lane: NetLane) -> Result<(), AllocError>
+        ensures added { OnOk result (self.new.items ≡ self.old.items ++ lane ∷ []) }
+        ensures kept { OnErr result (self.new.items ≡ self.old.items) }
+    {
+        let place = self.items.len();
+        self.items.push(lane)?;
+        self.tally.enter(&self.items[place]);
+        Ok(())
+    }
+
+    /// Where the lane of this number is.
+    pub fn place_of(&self, wire: u64) -> Option<usize>
+        requires { Rise (wires_of self.now.items) }
+        ensures { result ≡ position (λ (lane : Lane). lane.wire == wire) self.now.items }
+    {
+        place_of(&self.items, wire)
+    }
+
+    /// How many lanes come last in the search that begins at this number.
+    pub fn place_of_first(&self, from: u64) -> usize
+        requires { Rise (wires_of self.now.items) }
+        ensures { result ≡ place_of_first from self.now.items }
+    {
+        place_of_first(&self.items, from)
+    }
+
+    /// A turn of the lane of this place.
+    pub fn turn<W: Wires>(
+        &mut self,
+        place: usize,
+        wires: &mut W,
+        buf: &mut [u8],
+        now: u64,
+    ) -> Result<Option<Event>, AllocError>
+        requires buffer { length buf.old ≡ PIECE }
+        requires place { place < length self.old.items }
+        ensures turned { IfOk result (λ heard. (answers : List Answer)
+            × Tells (W.told wires.old) (W.told wires.new) answers
+            × DoesHere place (λ before after said. Listens now before after said heard)
+            self.old.items self.new.items answers) }
+        ensures wires { W.wires wires.new ≡ W.wires wires.old }
+        ensures lanes { wires_of self.new.items ≡ wires_of self.old.items }
+    {
+        let lane = &mut self.items[place];
+        self.tally.leave(lane);
+        let heard = lane.turn(wires, buf, now);
+        self.tally.enter(lane);
+        heard
+    }
+
+    /// The lane of this place writes what waits.
+    pub fn say<W: Wires>(&mut self, place: usize, wires: &mut W)
+        requires { place < length self.old.items }
+        ensures said { (answers : List Answer) × Tells (W.told wires.old) (W.told wires.new) answers
+            × DoesHere place Says self.old.items self.new.items answers }
+        ensures wires { W.wires wires.new ≡ W.wires wires.old }
+        ensures lanes { wires_of self.new.items ≡ wires_of self.old.items }
+    {
+        let lane = &mut self.items[place];
+        self.tally.leave(lane);
+        lane.say(wires);
+        self.tally.enter(lane);
+    }
+
+    /// Replies on the lane of this place.
+    pub fn reply<W: Wires>(
+        &mut self,
+        place: usize,
+        wires: &mut W,
+        reply: &Reply,
+        now: u64,
+    ) -> Result<(), AllocError>
+        requires reply { IsReply reply.now }
+        requires place { place < length self.old.items }
+        ensures replied { OnOk result ((answers : List Answer)
+            × Tells (W.told wires.old) (W.told wires.new) answers
+            × DoesHere place (Replies now reply.now) self.old.items self.new.items answers) }
+        ensures kept { OnErr result ((self.new.items ≡ self.old.items) × (W.told wires.new ≡ W.told wires.old)) }
+        ensures wires { W.wires wires.new ≡ W.wires wires.old }
+        ensures lanes { wires_of self.new.items ≡ wires_of self.old.items }
+    {
+        let lane = &mut self.items[place];
+        self.tally.leave(lane);
+        let replied = lane.reply(wires, reply, now);
+        self.tally.enter(lane);
+        replied
+    }
+
+    /// Sends a message on the lane of this place.
+    pub fn send<W: Wires>(
+        &mut self,
+        place: usize,
+        wires: &mut W,
+        bytes: &[u8],
+        text: bool,
+    ) -> Result<(), AllocError>
+        requires { place < length self.old.items }
+        ensures sent { OnOk result ((answers : List Answer)
+            × Tells (W.told wires.old) (W.told wires.new) answers
+            × DoesHere place (Sends bytes.now text) self.old.items self.new.items answers) }
+        ensures kept { OnErr result ((self.new.items ≡ self.old.items) × (W.told wires.new ≡ W.told wires.old)) }
+        ensures wires { W.wires wires.new ≡ W.wires wires.old }
+        ensures lanes { wires_of self.new.items ≡ wires_of self.old.items }
+    {
+        let lane = &mut self.items[place];
+        self.tally.leave(lane);
+        let sent = lane.send(wires, bytes, text);
+        self.tally.enter(lane);
+        sent
+    }
+
+    /// Ends the lane of this place, once what waits is written.
+    pub fn shut<W: Wires>(&mut self, place: usize, wires: &mut W) -> Result<(), AllocError>
+        requires { place < length self.old.items }
+        ensures shut { OnOk result ((answers : List Answer)
+            × Tells (W.told wires.old) (W.told wires.new) answers
+            × DoesHere place Shuts self.old.items self.new.items answers) }
+        ensures kept { OnErr result ((self.new.items ≡ self.old.items) × (W.told wires.new ≡ W.told wires.old)) }
+        ensures wires { W.wires wires.new ≡ W.wires wires.old }
+        ensures lanes { wires_of self.new.items ≡ wires_of self.old.items }
+    {
+        let lane = &mut self.items[place];
+        self.tally.leave(lane);
+        let ended = lane.shut(wires);
+        self.tally.enter(lane);
+        ended
+    }
+}

@@ -1,0 +1,76 @@
+//! How many lanes of a door are of each kind that a call looks for. It holds no lane, so whoever changes one takes it out before, and puts it
+//! in afterwards.
+
+ghost use Rattle.std.specs.Prelude.{◌≡◌, ◌<◌, nat_lt};
+ghost use Rattle.hw_net.specs.Tally.{Has, no_lanes, with_lane, HasRoom};
+
+use crate::lane::NetLane;
+
+/// How many lanes are of each kind. A lane may be of more than one.
+#[derive(Drop)]
+pub struct Tally {
+    // Lanes that are to be forgotten.
+    over: usize,
+    // Lanes of which something may be heard at once.
+    awake: usize,
+    // Lanes that may have something to write.
+    lagging: usize,
+}
+
+impl Tally {
+    /// That of no lanes.
+    pub fn start() -> Tally
+        ensures { result ≡ no_lanes }
+    {
+        Tally {
+            over: 0,
+            awake: 0,
+            lagging: 0,
+        }
+    }
+
+    /// Counts this lane too.
+    pub fn enter(&mut self, lane: &NetLane)
+        requires { HasRoom self.old }
+        ensures { self.new ≡ with_lane lane.now self.old }
+    {
+        self.over += usize::from(lane.is_over());
+        self.awake += usize::from(lane.is_awake());
+        self.lagging += usize::from(lane.is_lagging());
+    }
+
+    /// Counts this lane no more.
+    pub fn leave(&mut self, lane: &NetLane)
+        requires { Has lane.now self.old }
+        ensures { self.old ≡ with_lane lane.now self.new }
+    {
+        self.over -= usize::from(lane.is_over());
+        self.awake -= usize::from(lane.is_awake());
+        self.lagging -= usize::from(lane.is_lagging());
+    }
+
+    /// Counts the lanes that are over no more.
+    pub fn forget_over(&mut self)
+        ensures { self.new ≡ record self.old { over = 0 } }
+    {
+        self.over = 0;
+    }
+
+    pub fn has_over(&self) -> bool
+        ensures { result ≡ nat_lt 0 self.now.over }
+    {
+        self.over > 0
+    }
+
+    pub fn has_awake(&self) -> bool
+        ensures { result ≡ nat_lt 0 self.now.awake }
+    {
+        self.awake > 0
+    }
+
+    pub fn has_lagging(&self) -> bool
+        ensures { result ≡ nat_lt 0 self.now.lagging }
+    {
+        self.lagging > 0
+    }
+}
