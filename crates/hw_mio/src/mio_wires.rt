@@ -1,0 +1,300 @@
+//! Wires over sockets.
+
+ghost use Rattle.std.specs.Prelude.{◌≡◌, ◌≤◌, IfOk, OnErr, option_copied};
+ghost use Rattle.hd_facts.specs.Counts.{Rose};
+ghost use Rattle.hw_door.specs.Traffic.{IsNewWire};
+ghost use Rattle.hw_mio.specs.Standard.{start_error, wires_bound, wires_moment, wires_faults, IsAtStart, IsStill};
+
+use crate::endings::Endings;
+use crate::incoming::Incoming;
+use crate::limits::EVENTS;
+use crate::opened::{LISTENER, Opened};
+use crate::refusal::{Refusal, refusal_of};
+use crate::table::{Shut, Table};
+use hw_door::{WireRead, Wires};
+use hw_io::Failed;
+use mio::Events;
+use mio::net::TcpStream;
+use std::alloc::{AllocError, Global};
+use std::io;
+use std::net::{IpAddr, Net, SocketAddr, ToSocketAddrs};
+use std::rt::Clock;
+use std::time::{Duration, Instant};
+
+/// Wires over the TCP sockets of the system. All memory is taken when they are made: no call takes more.
+///
+/// A wire's number is below 2^62. At most [`PLACES`](crate::PLACES) wires are up at once, and 2^48 are made in all. Past either,
+/// `accept` answers `None`, as it does if the system has no descriptor or memory for one more, and `connect` fails.
+///
+/// `poll` waits for an event of a socket. What an event told stays known until a call on that wire would wait, and `poll` doesn't tell
+/// it again: a caller that leaves bytes unread hands in a `wait` of 0. It doesn't wait in any case while a connection may be there to
+/// be accepted, nor if the poll before told of an event or since then bytes were read, a wire was shut, or `accept` failed, as the caller
+/// may have left other wires unread for that.
+///
+/// `shut` ends what is written, but not the connection: what still comes is read and dropped, until the peer ends too, for at most 2 s
+/// and 1 MiB. So the peer gets all that was written before, though it had sent bytes that were never read. The wire's number is gone
+/// at once, but its place is taken meanwhile.
+#[derive(Drop)]
+pub struct MioWires<'a, R> {
+    rt: &'a R,
+    opened: io::Result<Opened>,
+    events: Events,
+    table: Table,
+    endings: Endings,
+    incoming: Incoming,
+    // Since the last poll there was something for which the caller may have left wires unread.
+    is_stirred: bool,
+    moment: u64,
+    faults: u64,
+}
+
+/// Takes the events of all wires, and answers whether the listener may give a connection then.
+fn wake(events: &Events, table: &mut Table, incoming: Incoming) -> Incoming
+    ensures { table.new ≡ table.old }
+{
+    let mut incoming = incoming;
+    for event in events.iter() {
+        let token = event.token();
+        if token == LISTENER {
+            incoming = Incoming::Waiting;
+        } else if table.wake(token.0, event) {
+            incoming = incoming.after_close();
+        }
+    }
+    incoming
+}
+
+impl<'a, R: Net + Clock> MioWires<'a, R> {
+    /// Listens at this address and port. If that can't be, `start_error` tells why.
+    pub fn listen(
+        rt: &'a R,
+        alloc: Global,
+        address: IpAddr,
+        port: u16,
+    ) -> Result<MioWires<'a, R>, AllocError>
+        ensures { IfOk result IsAtStart }
+    {
+        let opened = Opened::listening(rt, SocketAddr::new(address, port));
+        MioWires::start(rt, alloc, opened)
+    }
+
+    /// Listens nowhere: `accept` answers `None`.
+    pub fn dialing(rt: &'a R, alloc: Global) -> Result<MioWires<'a, R>, AllocError>
+        ensures { IfOk result IsAtStart }
+    {
+        let opened = Opened::dialing(rt);
+        MioWires::start(rt, alloc, opened)
+    }
+
+    fn start(
+        rt: &'a R,
+        alloc: Global,
+        opened: io::Result<Opened>,
+    ) -> Result<MioWires<'a, R>, AllocError>
+        ensures { IfOk result IsAtStart }
+    {
+        Ok(MioWires {
+            rt,
+            opened,
+            events: Events::with_capacity(alloc, EVENTS)?,
+            table: Table::start(alloc)?,
+            endings: Endings::start(alloc)?,
+            incoming: Incoming::Quiet,
+            is_stirred: false,
+            moment: 0,
+            faults: 0,
+        })
+    }
+
+    /// Why the port can't be had, or why the system has no poll or no clock. Each `poll`, `accept` and `connect` fails then.
+    pub fn start_error(&self) -> Option<&io::Error>
+        ensures { option_copied result ≡ start_error self.now }
+    {
+        match &self.opened {
+            Ok(_) => None,
+            Err(error) => Some(error),
+        }
+    }
+
+    /// Fails this call.
+    fn fail(&mut self) -> Failed
+        ensures still { self.new ≡ record self.old { faults = self.new.faults } }
+        ensures never_falls { wires_faults self.old ≤ wires_faults self.new }
+        ensures rises { Rose (wires_faults self.old) (wires_faults self.new) }
+    {
+        self.faults = self.faults.saturating_add(1);
+        Failed
+    }
+
+    /// How many of `wait` milliseconds may be waited for an event.
+    fn wait_for(&self, wait: u64) -> u64
+        ensures { result ≤ wait }
+    {
+        if self.is_stirred {
+            return 0;
+        }
+        let wait = self.endings.wait_for(wait, self.moment);
+        if self.table.has_room() {
+            self.incoming.wait_for(wait, self.moment)
+        } else {
+            wait
+        }
+    }
+
+    /// Waits for events, and takes them.
+    fn take_events(&mut self, wait: u64) -> io::Result<()>
+        ensures still { IsStill self.old self.new }
+        ensures wires { wires_bound self.new ≡ wires_bound self.old }
+    {
+        let opened = match &mut self.opened {
+            Ok(opened) => opened,
+            Err(error) => return Err(*error),
+        };
+        opened
+            .poll
+            .poll(&mut self.events, Some(Duration::from_millis(wait)))?;
+        self.incoming = wake(&self.events, &mut self.table, self.incoming);
+        Ok(())
+    }
+
+    /// The milliseconds since the start, which never fall.
+    fn read_clock(&self) -> io::Result<u64>
+        ensures { IfOk result (λ now. wires_moment self.now ≤ now) }
+    {
+        let opened = self.opened.as_ref().map_err(|error| *error)?;
+        let elapsed = Instant::now(self.rt)?.duration_since(opened.start);
+        let millis = u64::try_from(elapsed.as_millis()).unwrap_or(u64::MAX);
+        Ok(millis.max(self.moment))
+    }
+
+    /// Closes the wires that were shut and whose moment has come.
+    fn close_due(&mut self)
+        ensures still { IsStill self.old self.new }
+        ensures wires { wires_bound self.new ≡ wires_bound self.old }
+    {
+        if self.endings.close_due(self.moment, &mut self.table) {
+            self.incoming = self.incoming.after_close();
+        }
+        self.incoming = self.incoming.at(self.moment);
+    }
+
+    /// Takes a connection that waits, if one does and there is room for it.
+    fn take_connection(&mut self) -> io::Result<Option<u64>>
+        ensures fresh { IfOk result (IsNewWire (wires_bound self.old) (wires_bound self.new)) }
+        ensures err { OnErr result (wires_bound self.new ≡ wires_bound self.old) }
+        ensures still { IsStill self.old self.new }
+    {
+        let opened = self.opened.as_ref().map_err(|error| *error)?;
+        let Some(listener) = &opened.listener else {
+            return Ok(None);
+        };
+        if self.incoming != Incoming::Waiting || !self.table.has_room() {
+            return Ok(None);
+        }
+        match listener.accept() {
+            Ok((stream, _)) => {
+                let _ = stream.set_nodelay(true);
+                Ok(self.table.add(opened.poll.registry(), stream, true))
+            }
+            Err(error) => {
+                let refusal = refusal_of(&error);
+                self.incoming = self.incoming.after_refusal(refusal, self.moment);
+                if refusal == Refusal::Broken {
+                    return Err(error);
+                }
+                Ok(None)
+            }
+        }
+    }
+
+    /// Begins a connection. It is `None` if there is no room for it, or the name has no address.
+    fn dial(&mut self, host: &str, port: u16) -> io::Result<Option<u64>>
+        ensures fresh { IfOk result (IsNewWire (wires_bound self.old) (wires_bound self.new)) }
+        ensures err { OnErr result (wires_bound self.new ≡ wires_bound self.old) }
+        ensures still { IsStill self.old self.new }
+    {
+        let opened = self.opened.as_ref().map_err(|error| *error)?;
+        if !self.table.has_room() {
+            return Ok(None);
+        }
+        let Some(address) = (host, port).to_socket_addrs(self.rt)?.next() else {
+            return Ok(None);
+        };
+        let stream = TcpStream::connect(self.rt, address)?;
+        let _ = stream.set_nodelay(true);
+        Ok(self.table.add(opened.poll.registry(), stream, false))
+    }
+}
+
+impl<'a, R: Net + Clock> Wires for MioWires<'a, R> {
+    ghost moment = { λ w. w.moment };
+
+    ghost wires = { λ w. w.table };
+
+    ghost faults = { λ w. w.faults };
+
+    fn poll(&mut self, wait: u64) -> Result<u64, Failed> {
+        self.close_due();
+        let wait = self.wait_for(wait);
+        // Events that are taken before this fails aren't told again.
+        self.is_stirred = true;
+        if self.take_events(wait).is_err() {
+            return Err(self.fail());
+        }
+        let Ok(now) = self.read_clock() else {
+            return Err(self.fail());
+        };
+        // Not every wire that was told of need be read before the next poll.
+        self.is_stirred = self.events.iter().next().is_some();
+        self.moment = now;
+        self.close_due();
+        Ok(now)
+    }
+
+    fn accept(&mut self) -> Result<Option<u64>, Failed> {
+        match self.take_connection() {
+            Ok(wire) => Ok(wire),
+            Err(_) => {
+                self.is_stirred = true;
+                Err(self.fail())
+            }
+        }
+    }
+
+    /// Looks the name up, which may wait for the system's resolver, and begins to connect to its first address.
+    fn connect(&mut self, host: &str, port: u16) -> Result<u64, Failed> {
+        match self.dial(host, port) {
+            Ok(Some(wire)) => Ok(wire),
+            Ok(None) => Err(self.fail()),
+            Err(_) => Err(self.fail()),
+        }
+    }
+
+    fn read(&mut self, wire: u64, buf: &mut [u8]) -> Result<WireRead, Failed> {
+        match self.table.read(wire, buf) {
+            Ok(WireRead::Some(count)) => {
+                self.is_stirred = true;
+                Ok(WireRead::Some(count))
+            }
+            Ok(WireRead::NotYet) => Ok(WireRead::NotYet),
+            Ok(WireRead::Ended) => Ok(WireRead::Ended),
+            Err(_) => Err(self.fail()),
+        }
+    }
+
+    fn write(&mut self, wire: u64, bytes: &[u8]) -> Result<usize, Failed> {
+        match self.table.write(wire, bytes) {
+            Ok(count) => Ok(count),
+            Err(_) => Err(self.fail()),
+        }
+    }
+
+    fn shut(&mut self, wire: u64) {
+        match self.table.shut(wire) {
+            Shut::Absent => return,
+            Shut::Closed => self.incoming = self.incoming.after_close(),
+            Shut::Ending => self.endings.add(wire, self.moment, &mut self.table),
+        }
+        self.is_stirred = true;
+    }
+}

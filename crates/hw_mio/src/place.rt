@@ -1,0 +1,198 @@
+//! What a place of the table is, and the calls on the socket there.
+
+ghost use Rattle.std.specs.Prelude.{◌≤◌, length, IfOk};
+ghost use Rattle.hw_door.specs.Traffic.{CountsWithin};
+
+use crate::limits::{MOST_DROPPED, PIECE};
+use crate::refusal::{was_interrupted, would_wait};
+use hw_door::WireRead;
+use mio::event::Event;
+use mio::net::TcpStream;
+use std::io;
+use std::io::{Read, Write};
+use std::net::Shutdown;
+
+/// A wire that is up.
+#[derive(Drop)]
+pub struct Live {
+    number: u64,
+    stream: TcpStream,
+    // A read may give something: from an event until a read that would wait.
+    is_readable: bool,
+    // A write may take something: from an event until a write that would wait.
+    is_writable: bool,
+    // The peer's end was read.
+    has_ended: bool,
+}
+
+impl Live {
+    /// A wire, of which each call may do something at once if it `is_ready`. Else an event comes before.
+    pub fn start(number: u64, stream: TcpStream, is_ready: bool) -> Live {
+        Live {
+            number,
+            stream,
+            is_readable: is_ready,
+            is_writable: is_ready,
+            has_ended: false,
+        }
+    }
+
+    /// An end or an error is both, so that the next call of either kind meets it.
+    fn wake(&mut self, event: &Event) {
+        let is_over = event.is_error() || event.is_read_closed() || event.is_write_closed();
+        if event.is_readable() || is_over {
+            self.is_readable = true;
+        }
+        if event.is_writable() || is_over {
+            self.is_writable = true;
+        }
+    }
+
+    fn read(&mut self, buf: &mut [u8]) -> io::Result<WireRead>
+        ensures { IfOk result (λ read. CountsWithin read (length buf.new)) }
+    {
+        if !self.is_readable || buf.is_empty() {
+            return Ok(WireRead::NotYet);
+        }
+        match self.stream.read(buf) {
+            Ok(0) => {
+                self.has_ended = true;
+                Ok(WireRead::Ended)
+            }
+            Ok(count) => Ok(WireRead::Some(count)),
+            Err(error) if would_wait(&error) => {
+                self.is_readable = false;
+                Ok(WireRead::NotYet)
+            }
+            Err(error) if was_interrupted(&error) => Ok(WireRead::NotYet),
+            Err(error) => Err(error),
+        }
+    }
+
+    fn write(&mut self, bytes: &[u8]) -> io::Result<usize>
+        ensures { IfOk result (λ count. count ≤ length bytes.now) }
+    {
+        if !self.is_writable {
+            return Ok(0);
+        }
+        match self.stream.write(bytes) {
+            Ok(count) => Ok(count),
+            Err(error) if would_wait(&error) => {
+                self.is_writable = false;
+                Ok(0)
+            }
+            Err(error) if was_interrupted(&error) => Ok(0),
+            Err(error) => Err(error),
+        }
+    }
+
+    /// Ends what is written. The answer is what is left to be read and dropped, if the peer may still send.
+    fn shut(self) -> Option<Ending> {
+        if self.has_ended || self.stream.shutdown(Shutdown::Write).is_err() {
+            return None;
+        }
+        let mut ending = Ending {
+            number: self.number,
+            stream: self.stream,
+            left: MOST_DROPPED,
+        };
+        if ending.drain() { None } else { Some(ending) }
+    }
+}
+
+/// A wire that was shut, and whose peer may still send. If its socket were closed before what comes is read, the system would reset the
+/// connection, and the peer might lose what was written before.
+#[derive(Drop)]
+pub struct Ending {
+    number: u64,
+    stream: TcpStream,
+    // How many bytes may still be dropped.
+    left: usize,
+}
+
+impl Ending {
+    /// Reads what has come, and drops it. The answer is whether it is over: the peer ended, the wire failed, or too much came.
+    fn drain(&mut self) -> bool {
+        let mut buf = [0; PIECE];
+        while self.left > 0 {
+            match self.stream.read(&mut buf) {
+                Ok(count) if count > 0 => self.left = self.left.saturating_sub(count),
+                Ok(_) => return true,
+                Err(error) => return !would_wait(&error) && !was_interrupted(&error),
+            }
+        }
+        true
+    }
+}
+
+/// What a place of the table is.
+#[derive(Drop)]
+pub enum Place {
+    /// No wire has it. The free places are a list, and this is the next of them.
+    Free(Option<usize>),
+    Live(Live),
+    Ending(Ending),
+}
+
+fn absent() -> io::Error {
+    io::Error::from(io::ErrorKind::NotConnected)
+}
+
+impl Place {
+    /// Takes an event of the socket here. The answer is whether the wire is over and the socket is to be closed.
+    pub fn wake(&mut self, event: &Event) -> bool {
+        match self {
+            Place::Free(_) => false,
+            Place::Live(live) => {
+                live.wake(event);
+                false
+            }
+            Place::Ending(ending) => ending.drain(),
+        }
+    }
+
+    /// Reads on the wire of this number. It fails if that isn't here.
+    pub fn read(&mut self, wire: u64, buf: &mut [u8]) -> io::Result<WireRead>
+        ensures { IfOk result (λ read. CountsWithin read (length buf.new)) }
+    {
+        match self {
+            Place::Live(live) if live.number == wire => live.read(buf),
+            _ => Err(absent()),
+        }
+    }
+
+    /// Writes on the wire of this number. It fails if that isn't here.
+    pub fn write(&mut self, wire: u64, bytes: &[u8]) -> io::Result<usize>
+        ensures { IfOk result (λ count. count ≤ length bytes.now) }
+    {
+        match self {
+            Place::Live(live) if live.number == wire => live.write(bytes),
+            _ => Err(absent()),
+        }
+    }
+
+    pub fn is_live(&self, wire: u64) -> bool {
+        match self {
+            Place::Live(live) => live.number == wire,
+            _ => false,
+        }
+    }
+
+    pub fn is_ending(&self, wire: u64) -> bool {
+        match self {
+            Place::Ending(ending) => ending.number == wire,
+            _ => false,
+        }
+    }
+
+    /// What the place is after its wire, if it is live, was shut: that wire while it ends, or free.
+    pub fn shut(self) -> Place {
+        match self {
+            Place::Live(live) => match live.shut() {
+                Some(ending) => Place::Ending(ending),
+                None => Place::Free(None),
+            },
+            other => other,
+        }
+    }
+}

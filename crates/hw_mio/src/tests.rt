@@ -1,0 +1,130 @@
+//! Wires over the loopback address, against plain sockets of std.
+
+use crate::{MioWires, PLACES};
+use hw_door::{WireRead, Wires};
+use std::io::{Read, Write};
+use std::net::{IpAddr, Ipv4Addr, Net, Shutdown, TcpStream};
+use std::rt::Clock;
+use std::test::Fail;
+
+const HERE: IpAddr = IpAddr::V4(Ipv4Addr::LOCALHOST);
+
+/// Polls until a connection is there.
+fn accept<R: Net + Clock>(wires: &mut MioWires<'_, R>) -> Option<u64> {
+    for _ in 0..1_000 {
+        let polled = wires.poll(10);
+        let accepted = wires.accept();
+        if let (Ok(_), Ok(Some(wire))) = (polled, accepted) {
+            return Some(wire);
+        }
+    }
+    None
+}
+
+/// Polls until a read gives something else than `NotYet`.
+fn read<R: Net + Clock>(
+    wires: &mut MioWires<'_, R>,
+    wire: u64,
+    buf: &mut [u8],
+) -> Option<WireRead> {
+    for _ in 0..1_000 {
+        let polled = wires.poll(10);
+        let read = wires.read(wire, buf);
+        match (polled, read) {
+            (Ok(_), Ok(WireRead::NotYet)) => {}
+            (Ok(_), Ok(read)) => return Some(read),
+            _ => return None,
+        }
+    }
+    None
+}
+
+#[test]
+fn what_is_written_is_read_by_the_peer(rt: HostRuntime) -> Result<(), Fail> {
+    let mut wires = MioWires::listen(&rt, rt.alloc(), HERE, 47_800)?;
+    assert!(rt; wires.start_error().is_none());
+    let mut peer = TcpStream::connect(&rt, (HERE, 47_800))?;
+    let wire = accept(&mut wires).ok_or("no wire")?;
+    assert_eq!(rt; wires.write(wire, b"hello")?, 5);
+    let mut buf = [0; 8];
+    assert_eq!(rt; peer.read(&mut buf)?, 5);
+    assert_eq!(rt; buf, *b"hello\0\0\0");
+    Ok(())
+}
+
+#[test]
+fn what_the_peer_wrote_is_read_and_then_its_end(rt: HostRuntime) -> Result<(), Fail> {
+    let mut wires = MioWires::listen(&rt, rt.alloc(), HERE, 47_801)?;
+    let mut peer = TcpStream::connect(&rt, (HERE, 47_801))?;
+    let wire = accept(&mut wires).ok_or("no wire")?;
+    let mut buf = [0; 8];
+    assert_eq!(rt; wires.read(wire, &mut buf)?, WireRead::NotYet);
+    peer.write_all(b"hello")?;
+    assert_eq!(rt; read(&mut wires, wire, &mut buf), Some(WireRead::Some(5)));
+    assert_eq!(rt; buf, *b"hello\0\0\0");
+    assert_eq!(rt; wires.read(wire, &mut buf)?, WireRead::NotYet);
+    peer.shutdown(Shutdown::Write)?;
+    assert_eq!(rt; read(&mut wires, wire, &mut buf), Some(WireRead::Ended));
+    Ok(())
+}
+
+#[test]
+fn a_port_that_is_taken_is_told(rt: HostRuntime) -> Result<(), Fail> {
+    let _first = MioWires::listen(&rt, rt.alloc(), HERE, 47_802)?;
+    let mut second = MioWires::listen(&rt, rt.alloc(), HERE, 47_802)?;
+    assert!(rt; second.start_error().is_some());
+    assert!(rt; second.poll(0).is_err());
+    assert!(rt; second.accept().is_err());
+    Ok(())
+}
+
+#[test]
+fn a_wire_that_is_shut_says_all_that_was_written(rt: HostRuntime) -> Result<(), Fail> {
+    let mut wires = MioWires::listen(&rt, rt.alloc(), HERE, 47_803)?;
+    let mut peer = TcpStream::connect(&rt, (HERE, 47_803))?;
+    let wire = accept(&mut wires).ok_or("no wire")?;
+    peer.write_all(&[7; 50_000])?;
+    assert_eq!(rt; wires.write(wire, b"no")?, 2);
+    wires.shut(wire);
+    assert!(rt; wires.write(wire, b"more").is_err());
+    peer.write_all(&[7; 50_000])?;
+    wires.poll(100)?;
+    let mut buf = [0; 8];
+    assert_eq!(rt; peer.read(&mut buf)?, 2);
+    assert_eq!(rt; peer.read(&mut buf)?, 0);
+    Ok(())
+}
+
+#[test]
+fn a_place_is_used_again_under_another_number(rt: HostRuntime) -> Result<(), Fail> {
+    let mut wires = MioWires::listen(&rt, rt.alloc(), HERE, 47_804)?;
+    let peer = TcpStream::connect(&rt, (HERE, 47_804))?;
+    let first = accept(&mut wires).ok_or("no wire")?;
+    peer.shutdown(Shutdown::Write)?;
+    let mut buf = [0; 8];
+    assert_eq!(rt; read(&mut wires, first, &mut buf), Some(WireRead::Ended));
+    wires.shut(first);
+    let _other = TcpStream::connect(&rt, (HERE, 47_804))?;
+    let second = accept(&mut wires).ok_or("no wire")?;
+    assert!(rt; first < second);
+    assert_eq!(rt; first % PLACES as u64, second % PLACES as u64);
+    assert!(rt; wires.read(first, &mut buf).is_err());
+    Ok(())
+}
+
+#[test]
+fn what_is_dialed_is_accepted(rt: HostRuntime) -> Result<(), Fail> {
+    let mut served = MioWires::listen(&rt, rt.alloc(), HERE, 47_805)?;
+    let mut dialed = MioWires::dialing(&rt, rt.alloc())?;
+    let near = dialed.connect("127.0.0.1", 47_805)?;
+    let far = accept(&mut served).ok_or("no wire")?;
+    dialed.poll(100)?;
+    assert_eq!(rt; dialed.accept()?, None);
+    assert_eq!(rt; dialed.write(near, b"hello")?, 5);
+    let mut buf = [0; 8];
+    assert_eq!(rt; read(&mut served, far, &mut buf), Some(WireRead::Some(5)));
+    assert_eq!(rt; served.write(far, b"hi")?, 2);
+    assert_eq!(rt; read(&mut dialed, near, &mut buf), Some(WireRead::Some(2)));
+    assert_eq!(rt; buf, *b"hillo\0\0\0");
+    Ok(())
+}
