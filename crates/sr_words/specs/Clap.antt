@@ -1,5 +1,5 @@
 -- What `clap` makes of the words after a command's name, and the commands that this crate gives it.
-use Rattle.std.specs.Prelude.{◌≡◌, ◌<◌, ◌^◌, ℕ, [], true, Some, List}
+use Rattle.std.specs.Prelude.{◌≡◌, ◌<◌, ◌^◌, ℕ, [], true, Some, None, Option, List}
 use Rattle.std.specs.Str.Parse.{IsNumeral, digits_value, without_leading_plus}
 use Rattle.clap.specs.Words.{App, Row, Rule, Text, new_app, new_rule, fault_of, first_of, matches_of}
 use Rattle.clap.specs.declared.builder.action.ArgAction.TheVariants.{Set}
@@ -14,6 +14,10 @@ bare_app name = let new = new_app name in record new {
 abbrev pub required : Text → Rule
 required id = record (new_rule id) { required = true; action = Some Set }
 
+-- an option `--NAME VALUE` that may be absent
+abbrev pub optional : Text → Rule
+optional name = record (new_rule name) { long = Some name; action = Some Set }
+
 -- no step of clap's parse of the words fails
 abbrev pub Takes : App → List Text → Type 0
 Takes app words = fault_of app words ≡ []
@@ -22,12 +26,21 @@ Takes app words = fault_of app words ≡ []
 abbrev pub Gives : App → List Text → Text → Text → Type 0
 Gives app words id value = first_of id (matches_of app words) ≡ Some value
 
--- the text is a number of 64 bits as Rust reads it: decimal digits, and a plus before them or none
-pub record IsNumber (text : Text) (n : ℕ) : Type 0 where
+-- the text is a number of at most `bits` bits as Rust reads it: decimal digits, and a plus before them or none
+pub record IsNumber (bits : ℕ) (text : Text) (n : ℕ) : Type 0 where
   pub digits : IsNumeral 10 (without_leading_plus text)
   pub value : digits_value 10 (without_leading_plus text) ≡ n
-  pub short : n < 2 ^ 64
+  pub short : n < 2 ^ bits
 
 -- these rows give the argument `id` a text that is this number
 abbrev pub SaysNumber : Text → ℕ → List Row → Type 0
-SaysNumber id n rows = (text : Text) × ((first_of id rows ≡ Some text) × IsNumber text n)
+SaysNumber id n rows = (text : Text) × ((first_of id rows ≡ Some text) × IsNumber 64 text n)
+
+-- an option's text says this value, or the option has no text and the value is the usual one
+abbrev pub SaysOr : {A : Type 0} → (Text → A → Type 0) → A → Option Text → A → Type 0
+SaysOr Says usual (Some text) value = Says text value
+SaysOr Says usual None value = value ≡ usual
+
+-- the text is the value itself
+abbrev pub IsItself : Text → Text → Type 0
+IsItself text value = value ≡ text

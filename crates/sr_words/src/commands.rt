@@ -1,9 +1,10 @@
 //! The commands of the program, as values: what the words of a command line come to.
 
+use crate::serving::Serving;
 use hm_message::Codec;
 
 /// What the words of a command line ask for.
-#[derive(Clone, Copy, Debug, PartialEq, Eq)]
+#[derive(Drop, Debug, PartialEq, Eq)]
 pub enum Command {
     /// To replay a script.
     Replay,
@@ -13,4 +14,6 @@ pub enum Command {
     Check { codec: Codec },
     /// To write each frame anew in another codec.
     Convert { from: Codec, to: Codec },
+    /// To serve the hubs.
+    Serve(Serving),
 }

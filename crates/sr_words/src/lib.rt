@@ -1,4 +1,5 @@
-//! What the words of the command line ask for: `parse` makes a `Command` of them, or says that they are none.
+//! What the words of the command line ask for: `parse` makes a `Command` of them, or says that they are none. `settings` tells
+//! of that command what has to be known before it can run.
 //!
 //! `clap` reads the words that follow a command's name. The contract says which words ask for which command in terms of
 //! `clap`'s own specification, and that they ask for one command at most. This crate doesn't know what a command does.
@@ -6,11 +7,13 @@
 
 mod commands;
 mod error;
+mod serving;
 mod words;
 
 pub use commands::Command;
 pub use error::WordsError;
-pub use words::{MOST_STEPS, parse};
+pub use serving::{DEFAULT_BASE, DEFAULT_PORT, DEFAULT_TURNS, LOOPBACK, Serving, Settings};
+pub use words::{MOST_STEPS, parse, settings};
 
 #[cfg(test)]
 mod tests;

@@ -3,12 +3,14 @@
 ghost use Rattle.std.specs.Prelude.{◌≡◌, ℕ, Err, IfOk, IfErr, Some, true, false, codes};
 ghost use Rattle.clap.specs.Words.{app_of, rule_of, first_of, found_of, is_simple_and_free, matches_of, rows_of};
 ghost use Rattle.hd_facts.specs.Unique.{IsTheOne};
-ghost use Rattle.sr_words.specs.Clap.{SaysNumber, Takes, bare_app, required};
-ghost use Rattle.sr_words.specs.Words.{Asks, AsksAfter, AsksNothingAfter, IsNoCommand, check_app, codec_name, convert_app, replay_app, soak_app, texts};
+ghost use Rattle.sr_words.specs.Clap.{SaysNumber, Takes, bare_app, optional, required};
+ghost use Rattle.sr_words.specs.Words.{AreSettings, Asks, AsksAfter, AsksNothingAfter, IsNoCommand, SaysServing, check_app, codec_name, convert_app, replay_app, serve_app, soak_app, texts};
 ghost use Rattle.hm_message.specs.declared.message.Codec.{Codec};
+ghost use Rattle.sr_words.specs.declared.serving.Serving.{Serving};
 
 use crate::commands::Command;
 use crate::error::WordsError;
+use crate::serving::{Serving, Settings, address, base, port, turns};
 use clap::{Arg, ArgAction, ArgMatches};
 use hm_message::Codec;
 use std::alloc::{AllocError, Global};
@@ -29,6 +31,14 @@ fn required<'a>(alloc: Global, id: &'a str) -> Arg<'a>
     ensures local { result.global ≡ false }
 {
     Arg::new(alloc, id).required(true).action(ArgAction::Set)
+}
+
+/// An option `--NAME VALUE` that may be absent.
+fn optional<'a>(alloc: Global, name: &'a str) -> Arg<'a>
+    ensures rule { rule_of result ≡ optional name.now }
+    ensures local { result.global ≡ false }
+{
+    Arg::new(alloc, name).long(name).action(ArgAction::Set)
 }
 
 /// What clap makes of these words.
@@ -155,12 +165,50 @@ fn convert_words(alloc: Global, words: &[String]) -> Result<Command, WordsError>
     Ok(Command::Convert { from, to })
 }
 
+/// The command `serve` with its four options.
+fn serve_command<'a>(alloc: Global) -> Result<clap::Command<'a>, AllocError>
+    ensures { IfOk result (λ command. app_of command ≡ serve_app) }
+{
+    let command = bare(alloc, "serve").arg(optional(alloc, "port"))?;
+    let command = command.arg(optional(alloc, "base"))?;
+    let command = command.arg(optional(alloc, "turns"))?;
+    command.arg(optional(alloc, "listen"))
+}
+
+/// What the options that clap found ask of a server.
+fn serving(alloc: Global, matches: &ArgMatches) -> Result<Serving, WordsError>
+    ensures said { IfOk result (SaysServing (rows_of (found_of matches.now))) }
+    ensures none { result ≡ Err WordsError.NoCommand
+        → (serving : Serving) → SaysServing (rows_of (found_of matches.now)) serving → ⊥ }
+{
+    let port = port(matches.get_str("port"))?;
+    let base = base(alloc, matches.get_str("base"))?;
+    let turns = turns(matches.get_str("turns"))?;
+    let listen = address(matches.get_str("listen"))?;
+    Ok(Serving {
+        port,
+        base,
+        turns,
+        listen,
+    })
+}
+
+/// What `serve` asks for with these words after it.
+fn serve_words(alloc: Global, words: &[String]) -> Result<Command, WordsError>
+    ensures ok { IfOk result (IsTheOne (AsksAfter (codes "serve") (texts words.now))) }
+    ensures no_command { result ≡ Err WordsError.NoCommand → AsksNothingAfter (codes "serve") (texts words.now) }
+{
+    let matches = matches_in(serve_command(alloc)?, words)?;
+    Ok(Command::Serve(serving(alloc, &matches)?))
+}
+
 /// The command that the words of a command line ask for, without the program's name among them.
 ///
 /// # Errors
 ///
 /// `NoCommand` if they ask for none: the first is no command's name, the words after it are none that the command
-/// takes, a number is none or too great, or they ask to convert from a codec to itself. `NoMemory` if memory ran out, which says nothing of the words.
+/// takes, a number is none or too great, an address is none, or they ask to convert from a codec to itself.
+/// `NoMemory` if memory ran out, which says nothing of the words.
 pub fn parse(alloc: Global, words: &[String]) -> Result<Command, WordsError>
     ensures ok { IfOk result (IsTheOne (Asks words.now)) }
     ensures no_command { result ≡ Err WordsError.NoCommand → IsNoCommand words.now }
@@ -173,6 +221,30 @@ pub fn parse(alloc: Global, words: &[String]) -> Result<Command, WordsError>
         "soak" => soak_words(alloc, rest),
         "check" => check_words(alloc, rest),
         "convert" => convert_words(alloc, rest),
+        "serve" => serve_words(alloc, rest),
         _ => Err(WordsError::NoCommand),
+    }
+}
+
+/// What has to be known of the command that the words ask for before the objects are made that it runs over.
+///
+/// # Errors
+///
+/// As [`parse`]: `NoCommand` if the words ask for no command, `NoMemory` if memory ran out, which says nothing of the words.
+pub fn settings(alloc: Global, words: &[String]) -> Result<Settings, WordsError>
+    ensures ok { IfOk result (AreSettings words.now) }
+    ensures no_command { result ≡ Err WordsError.NoCommand → IsNoCommand words.now }
+{
+    match parse(alloc, words)? {
+        Command::Serve(serving) => Ok(Settings {
+            port: Some(serving.port),
+            base: Some(serving.base),
+            listen: Some(serving.listen),
+        }),
+        _ => Ok(Settings {
+            port: None,
+            base: None,
+            listen: None,
+        }),
     }
 }

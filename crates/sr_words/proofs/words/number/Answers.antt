@@ -35,6 +35,6 @@ returns-in-Err-clause-none c = (
   λ n says.
       let same : c.in-Some.text.now ≡ says.0 =
       inside (sym (ap (option_map (λ s. s.now)) c.in-Some.is) ∙ (c.get_str.ensures ∙ (first_value-rows (found_of c.args.matches.now) c.args.id.now ∙ says.1.0))) in
-      let number : IsNumber c.in-Some.text.now n = subst (λ text. IsNumber text n) (sym same) says.1.1 in
+      let number : IsNumber 64 c.in-Some.text.now n = subst (λ text. IsNumber 64 text n) (sym same) says.1.1 in
       c.in-Err.ensures.value.0 (number.digits, subst (λ n. n < 2 ^ 64) (sym number.value) number.short),
 )

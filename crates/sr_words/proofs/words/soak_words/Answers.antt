@@ -1,7 +1,7 @@
 use Rattle.std.proofs.Common.{◌≡◌, ◌≤◌, ◌∙◌, ℕ, List, codes, ap, ap₂, refl, sym, subst, rules}
 use Rattle.clap.specs.Words.{App, Row, Text, matches_of}
 use Rattle.sr_words.specs.declared.commands.Command.{Command}
-use Rattle.sr_words.specs.declared.commands.Command.TheVariants.{Replay, Soak, Check, Convert}
+use Rattle.sr_words.specs.declared.commands.Command.TheVariants.{Replay, Soak, Check, Convert, Serve}
 use Rattle.hd_facts.specs.Unique.{IsTheOne}
 use Rattle.sr_words.specs.Clap.{SaysNumber, Takes}
 use Rattle.sr_words.specs.Words.{AsksAfter, AsksNothingAfter, most_steps, soak_app, texts}
@@ -18,6 +18,7 @@ the_one rest seed steps takes seed_is steps_are few = record { holds = (refl, ta
         (same_number (codes "steps") (matches_of soak_app rest) b steps asks.3 steps_are)
     only (Check codec) asks = absurd (apart (codes "soak") (codes "check") refl asks.0)
     only (Convert a b) asks = absurd (apart (codes "soak") (codes "convert") refl asks.0)
+    only (Serve serving) asks = absurd (apart (codes "soak") (codes "serve") refl asks.0)
 
 -- what the rows say that clap found, its rows for the words say
 said : (own : App) (words : List Text) (rows : List Row) (id : Text) (n : ℕ) → own ≡ soak_app → rows ≡ matches_of own words → SaysNumber id n rows
@@ -35,6 +36,7 @@ nothing rest none Replay asks = apart (codes "soak") (codes "replay") refl asks.
 nothing rest none (Soak seed steps) asks = none seed steps asks
 nothing rest none (Check codec) asks = apart (codes "soak") (codes "check") refl asks.0
 nothing rest none (Convert a b) asks = apart (codes "soak") (codes "convert") refl asks.0
+nothing rest none (Serve serving) asks = apart (codes "soak") (codes "serve") refl asks.0
 
 pub returns-in_err-seed-clause-no_command : goal.returns-in_err-seed-clause-no_command
 returns-in_err-seed-clause-no_command c = λ is. nothing (texts c.args.words.now) (λ seed steps asks.
