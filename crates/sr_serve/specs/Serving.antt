@@ -1,0 +1,129 @@
+-- What the command `serve` does with what is outside: its output, its door, its keeper and its lots.
+use Rattle.std.specs.Prelude.{◌≡◌, ◌⊎◌, ◌≤◌, ℕ, Bool, true, false, not, List, [], ◌∷◌, ◌++◌, length, take, codes, option_map, Option, Some, None, IfSome, Result, Ok, Err}
+use Rattle.std.specs.Fmt.{decimal}
+use Rattle.std.specs.Io.KnownBytes.{Appends}
+use Rattle.hd_facts.specs.Counts.{Rose}
+use Rattle.hd_server.specs.declared.vocabulary.Asked.{Asked}
+use Rattle.hd_server.specs.declared.vocabulary.Asked.TheVariants as ask
+use Rattle.hd_server.specs.Kept.{Content, row_count}
+use Rattle.hk_keeper.specs.declared.keeper.KeepError.{KeepError}
+use Rattle.hk_keeper.specs.declared.keeper.KeepError.TheVariants as keep
+use Rattle.hw_door.specs.declared.heard.Given.{Given}
+use Rattle.hw_door.specs.declared.heard.Heard.{Heard}
+use Rattle.hw_door.specs.Calls.{Told}
+use Rattle.hd_serving.specs.Doings.{Doing, moment}
+use Rattle.hd_serving.specs.Plans.{Setup}
+use Rattle.hd_serving.specs.Serving.{ServesOn}
+use Rattle.hub_serve.specs.Serving.{serve_hub}
+use Rattle.hub_server.specs.declared.serving.ServeFault.{ServeFault}
+use Rattle.hub_server.specs.declared.serving.ServeFault.TheVariants as fault
+use Rattle.hub_server.specs.Servers.{IsSetup}
+use Rattle.hub_server.specs.Serving.{AreTurns, TellsMore}
+use Rattle.hub_server.specs.Steps.{Around, Went}
+use Rattle.sr_serve.specs.declared.serving.ServeError.{ServeError}
+use Rattle.sr_serve.specs.declared.serving.ServeError.TheVariants as end
+use Rattle.sr_serve.specs.Sides.{AreSides}
+
+-- the one line that is written
+abbrev pub serving_line : ℕ → List ℕ
+serving_line rows = codes "serving " ++ decimal rows ++ codes "\n"
+
+-- ---- what is outside
+
+-- what the output, the door, the keeper and the lots tell of themselves
+pub record Outside : Type 0 where
+  pub holds : Option (List ℕ)
+  pub sink_faults : ℕ
+  pub told : Option Told
+  pub heard_at : ℕ
+  pub door_faults : ℕ
+  pub kept : Around
+
+abbrev pub outside : Option (List ℕ) → ℕ → Option Told → ℕ → ℕ → Around → Outside
+outside holds sink_faults told heard_at door_faults kept =
+    record { holds = holds; sink_faults = sink_faults; told = told; heard_at = heard_at; door_faults = door_faults; kept = kept }
+
+-- the keeper was asked how many rows there are, and answered this
+abbrev pub counted : ℕ → Around → Around
+counted rows a = record a { answers = option_map (λ (asks : List Asked). asks ++ ask.Rows (Some rows) ∷ []) a.answers }
+
+-- ---- what is served
+
+-- all was answered: the keeper and the lots went on as this history tells, each connection is a side that delivers
+pub record IsServed (at since : Around) (last : ℕ) (h : List Doing) : Type 0 where
+  pub went : Went at since [] h
+  pub timely : moment h ≤ last
+  pub sides : AreSides serve_hub h
+
+-- it ended in the middle of an event: so it was at some moment before, and what was asked and drawn since isn't told
+pub record IsCut (at : Around) (last : ℕ) (h : List Doing) : Type 0 where
+  pub until : Around
+  pub served : IsServed at until last h
+
+-- The line of the rows was written. A server of this base heard these, each after its wait, and gave this: all of its turns, or as many as
+-- there were until it ended
+pub record Serves (base : List ℕ) (turns : ℕ) (whole : Bool) (before now : Outside) : Type 0 where
+  pub rows : ℕ
+  pub are_rows : IfSome before.kept.holds (λ content. rows ≡ row_count content.rows)
+  pub line : Appends before.holds now.holds (serving_line rows)
+  pub heard : List Heard
+  pub waits : List ℕ
+  pub given : List Given
+  pub told : TellsMore before.told now.told heard waits given
+  pub count : AreTurns whole turns (length heard)
+  pub serves : (s : Setup) → IsSetup s base → ServesOn serve_hub s (not whole)
+      (IsServed (counted rows before.kept) now.kept now.heard_at) (IsCut (counted rows before.kept) now.heard_at) [] heard waits given
+
+-- a first part of the line of the rows was written
+pub record BreaksOff (before now : Outside) : Type 0 where
+  pub rows : ℕ
+  pub are_rows : IfSome before.kept.holds (λ content. rows ≡ row_count content.rows)
+  pub n : ℕ
+  pub part : Appends before.holds now.holds (take n (serving_line rows))
+  pub kept : now.kept ≡ counted rows before.kept
+
+-- nothing was written or heard
+pub record IsUntouched (before now : Outside) : Type 0 where
+  pub holds : now.holds ≡ before.holds
+  pub told : now.told ≡ before.told
+  pub heard_at : now.heard_at ≡ before.heard_at
+
+-- the keeper wasn't asked, or it was asked for its rows and told how many there are
+abbrev pub IsAskedAtMost : Around → Around → Type 0
+IsAskedAtMost before now =
+    (now ≡ before) ⊎ ((rows : ℕ) × IfSome before.holds (λ content. rows ≡ row_count content.rows) × (now ≡ counted rows before))
+
+-- the keeper was asked for its rows and failed, and nothing else was asked or drawn
+pub record HasFailed (before now : Around) : Type 0 where
+  pub holds : now.holds ≡ before.holds
+  pub answers : now.answers ≡ option_map (λ (asks : List Asked). asks ++ ask.Rows None ∷ []) before.answers
+  pub rose : Rose before.faults now.faults
+  pub drawn : now.drawn ≡ before.drawn
+  pub failures : now.failures ≡ before.failures
+
+-- no fault of the output, or of the door
+abbrev pub IsWhole : Outside → Outside → Type 0
+IsWhole before now = now.sink_faults ≡ before.sink_faults
+
+abbrev pub IsHeard : Outside → Outside → Type 0
+IsHeard before now = now.door_faults ≡ before.door_faults
+
+-- by how it ended. The output's and the door's counts of faults rise only in the call that the answer tells of
+abbrev pub Ends : List ℕ → ℕ → Outside → Outside → Result Unit ServeError → Type 0
+Ends base turns before now (Ok done) = Serves base turns true before now × IsWhole before now × IsHeard before now
+Ends base turns before now (Err end.Door) = Serves base turns false before now × IsWhole before now × Rose before.door_faults now.door_faults
+Ends base turns before now (Err end.Keeper) =
+    IsUntouched before now × IsWhole before now × IsHeard before now × HasFailed before.kept now.kept
+Ends base turns before now (Err end.Write) = BreaksOff before now × IsHeard before now × Rose before.sink_faults now.sink_faults
+Ends base turns before now (Err end.NoMemory) =
+    ((IsUntouched before now × IsAskedAtMost before.kept now.kept) ⊎ Serves base turns false before now) × IsWhole before now × IsHeard before now
+
+-- ---- faults below
+
+abbrev pub error_of_keeper : KeepError → ServeError
+error_of_keeper keep.Failed = end.Keeper
+error_of_keeper keep.NoMemory = end.NoMemory
+
+abbrev pub error_of_server : ServeFault → ServeError
+error_of_server fault.Door = end.Door
+error_of_server fault.NoMemory = end.NoMemory
