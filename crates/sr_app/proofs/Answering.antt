@@ -13,9 +13,9 @@ use Rattle.sr_check.specs.declared.task.Task.{Task}
 use Rattle.sr_check.specs.declared.task.Task.TheVariants as task
 use Rattle.sr_check.specs.Stream.{ReadsNoFurther}
 use Rattle.sr_words.specs.declared.commands.Command.{Command}
-use Rattle.sr_words.specs.declared.commands.Command.TheVariants.{Replay, Soak, Check, Convert}
+use Rattle.sr_words.specs.declared.commands.Command.TheVariants.{Replay, Soak, Check, Convert, Serve}
 use Rattle.sr_app.specs.declared.run.Status.{Status}
-use Rattle.sr_app.specs.declared.run.Status.TheVariants.{Done, Usage, Refused, ReadFault, WriteFault, NoMemory}
+use Rattle.sr_app.specs.declared.run.Status.TheVariants.{Done, Usage, Refused, ReadFault, WriteFault, DoorFault, KeeperFault, NoMemory}
 use Rattle.sr_script.specs.Script.{IsRefusedAt}
 use Rattle.sr_script.specs.Laws.{LongIsRefusedByItsFront}
 use Rattle.sr_soak.specs.declared.totals.Totals.{Totals}
@@ -26,7 +26,7 @@ use Rattle.sr_app.proofs.Told.{bytes_of, consumed_nothing, appended_nothing, tex
 -- ---- statuses, their codes, and how tasks stop
 
 abbrev status_with : ℕ → Status
-status_with n = cond (nat_eq n 0) Done (cond (nat_eq n 1) Usage (cond (nat_eq n 2) Refused (cond (nat_eq n 3) ReadFault (cond (nat_eq n 4) WriteFault NoMemory))))
+status_with n = cond (nat_eq n 0) Done (cond (nat_eq n 1) Usage (cond (nat_eq n 2) Refused (cond (nat_eq n 3) ReadFault (cond (nat_eq n 4) WriteFault (cond (nat_eq n 5) DoorFault (cond (nat_eq n 6) KeeperFault NoMemory))))))
 
 status_with-code_of : (s : Status) → status_with (code_of s) ≡ s
 status_with-code_of Done = refl
@@ -34,18 +34,22 @@ status_with-code_of Usage = refl
 status_with-code_of Refused = refl
 status_with-code_of ReadFault = refl
 status_with-code_of WriteFault = refl
+status_with-code_of DoorFault = refl
+status_with-code_of KeeperFault = refl
 status_with-code_of NoMemory = refl
 
 -- a code is that of one status
 pub same_status : (s t : Status) → code_of s ≡ code_of t → s ≡ t
 same_status s t e = sym (status_with-code_of s) ∙ ap status_with e ∙ status_with-code_of t
 
-pub is_code : (s : Status) → (code_of s ≡ 0) ⊎ (code_of s ≡ 1) ⊎ (code_of s ≡ 2) ⊎ (code_of s ≡ 3) ⊎ (code_of s ≡ 4) ⊎ (code_of s ≡ 7)
+pub is_code : (s : Status) → (code_of s ≡ 0) ⊎ (code_of s ≡ 1) ⊎ (code_of s ≡ 2) ⊎ (code_of s ≡ 3) ⊎ (code_of s ≡ 4) ⊎ (code_of s ≡ 5) ⊎ (code_of s ≡ 6) ⊎ (code_of s ≡ 7)
 is_code Done = search rules
 is_code Usage = search rules
 is_code Refused = search rules
 is_code ReadFault = search rules
 is_code WriteFault = search rules
+is_code DoorFault = search rules
+is_code KeeperFault = search rules
 is_code NoMemory = search rules
 
 abbrev stop_with : Status → Stop
@@ -75,6 +79,16 @@ not_usage stop.Refused is = cc
 not_usage stop.ReadFault is = cc
 not_usage stop.WriteFault is = cc
 not_usage stop.NoMemory is = cc
+
+pub not_served : (s : Stop) → (status_of s ≡ DoorFault) ⊎ (status_of s ≡ KeeperFault) → ⊥
+not_served stop.Refused (inl is) = cc
+not_served stop.Refused (inr is) = cc
+not_served stop.ReadFault (inl is) = cc
+not_served stop.ReadFault (inr is) = cc
+not_served stop.WriteFault (inl is) = cc
+not_served stop.WriteFault (inr is) = cc
+not_served stop.NoMemory (inl is) = cc
+not_served stop.NoMemory (inr is) = cc
 
 -- ---- what is answered to the bytes that were read is the answer to the whole input
 
@@ -124,7 +138,21 @@ writes_part law input left before now text answer n Refused read ended refused a
 writes_part law input left before now text answer n Usage read ended none appends = absurd none
 writes_part law input left before now text answer n ReadFault read ended none appends = absurd none
 writes_part law input left before now text answer n WriteFault read ended none appends = absurd none
+writes_part law input left before now text answer n DoorFault read ended none appends = absurd none
+writes_part law input left before now text answer n KeeperFault read ended none appends = absurd none
 writes_part law input left before now text answer n NoMemory read ended none appends = absurd none
+
+-- a status is not one with another code
+apart : (result own other : Status) → result ≡ own → (code_of own < code_of other) ⊎ (code_of other < code_of own) → result ≡ other → ⊥
+apart result own other same (inl less) is = omega (arith, less, ap code_of same, ap code_of is)
+apart result own other same (inr more) is = omega (arith, more, ap code_of same, ap code_of is)
+
+-- nor one of those that only serving has
+unserved : (result own : Status) → result ≡ own → (code_of own < 5) ⊎ (6 < code_of own) → (result ≡ DoorFault) ⊎ (result ≡ KeeperFault) → ⊥
+unserved result own same (inl less) (inl is) = apart result own DoorFault same (inl (omega (arith, less))) is
+unserved result own same (inl less) (inr is) = apart result own KeeperFault same (inl (omega (arith, less))) is
+unserved result own same (inr more) (inl is) = apart result own DoorFault same (inr (omega (arith, more))) is
+unserved result own same (inr more) (inr is) = apart result own KeeperFault same (inr (omega (arith, more))) is
 
 -- ---- how a replay ends
 
@@ -138,6 +166,7 @@ replay_unread input left held faults faults' sink rose reads = record {
   read_fault = λ is. (rose, (reads.0, [], reads.1, refl, appended_nothing held));
   write_fault = λ is. cc;
   no_memory = λ is. cc;
+  served = λ is. absurd (unserved ReadFault ReadFault refl (inl (omega arith)) is);
   reads = reads;
 }
 
@@ -151,6 +180,7 @@ replay_forgone input left held faults faults' sink sink' reads = record {
   read_fault = λ is. cc;
   write_fault = λ is. cc;
   no_memory = λ is. (_, [], text_is_told input, refl, appended_nothing held);
+  served = λ is. absurd (unserved NoMemory NoMemory refl (inr (omega arith)) is);
   reads = reads;
 }
 
@@ -159,11 +189,6 @@ pub record IsWritten (input left : Option (List ℕ)) (text : List ℕ) : Type 0
   pub read : Consumes input left text
   pub ended : length text ≤ 16777216 → IsAtEnd left
   pub reads : ReadsBounded input left
-
--- a status is not one with another code
-apart : (result own other : Status) → result ≡ own → (code_of own < code_of other) ⊎ (code_of other < code_of own) → result ≡ other → ⊥
-apart result own other same (inl less) is = omega (arith, less, ap code_of same, ap code_of is)
-apart result own other same (inr more) is = omega (arith, more, ap code_of same, ap code_of is)
 
 written_part : LongIsRefusedByItsFront → (input left before now : Option (List ℕ)) (faults faults' sink sink' : ℕ) (text answer : List ℕ) (status result : Status)
     → IsWritten input left text → AnswersWith status text answer → Rose sink sink' → (n : ℕ) → Appends before now (take n answer) → result ≡ WriteFault
@@ -175,6 +200,7 @@ written_part law input left before now faults faults' sink sink' text answer sta
   read_fault = λ is. absurd (apart result WriteFault ReadFault fault (inr (omega arith)) is);
   write_fault = λ is. (rose, writes_part law input left before now text answer n status w.read w.ended answers part);
   no_memory = λ is. absurd (apart result WriteFault NoMemory fault (inl (omega arith)) is);
+  served = λ is. absurd (unserved result WriteFault fault (inl (omega arith)) is);
   reads = w.reads;
 }
 
@@ -188,6 +214,7 @@ written_report law input left before now faults faults' sink sink' text answer r
   read_fault = λ is. absurd (apart result Done ReadFault same (inl (omega arith)) is);
   write_fault = λ is. absurd (apart result Done WriteFault same (inl (omega arith)) is);
   no_memory = λ is. absurd (apart result Done NoMemory same (inl (omega arith)) is);
+  served = λ is. absurd (unserved result Done same (inl (omega arith)) is);
   reads = w.reads;
 }
 
@@ -201,6 +228,7 @@ written_refusal law input left before now faults faults' sink sink' text answer 
   read_fault = λ is. absurd (apart result Refused ReadFault same (inl (omega arith)) is);
   write_fault = λ is. absurd (apart result Refused WriteFault same (inl (omega arith)) is);
   no_memory = λ is. absurd (apart result Refused NoMemory same (inl (omega arith)) is);
+  served = λ is. absurd (unserved result Refused same (inl (omega arith)) is);
   reads = w.reads;
 }
 
@@ -217,6 +245,8 @@ written_by law input left before now faults faults' sink sink' text answer Refus
 written_by law input left before now faults faults' sink sink' text answer Usage result w answers whole part (inl same) = absurd answers
 written_by law input left before now faults faults' sink sink' text answer ReadFault result w answers whole part (inl same) = absurd answers
 written_by law input left before now faults faults' sink sink' text answer WriteFault result w answers whole part (inl same) = absurd answers
+written_by law input left before now faults faults' sink sink' text answer DoorFault result w answers whole part (inl same) = absurd answers
+written_by law input left before now faults faults' sink sink' text answer KeeperFault result w answers whole part (inl same) = absurd answers
 written_by law input left before now faults faults' sink sink' text answer NoMemory result w answers whole part (inl same) = absurd answers
 
 pub replay_written : LongIsRefusedByItsFront → (input left before now : Option (List ℕ)) (faults faults' sink sink' : ℕ) (text : List ℕ) (result : Status)
@@ -235,6 +265,8 @@ replay_ends law input left before now faults faults' sink sink' text Done w a sa
 replay_ends law input left before now faults faults' sink sink' text Usage w a same = replay_written law input left before now faults faults' sink sink' text Usage w (a (λ is. cc))
 replay_ends law input left before now faults faults' sink sink' text Refused w a same = replay_written law input left before now faults faults' sink sink' text Refused w (a (λ is. cc))
 replay_ends law input left before now faults faults' sink sink' text ReadFault w a same = replay_written law input left before now faults faults' sink sink' text ReadFault w (a (λ is. cc))
+replay_ends law input left before now faults faults' sink sink' text DoorFault w a same = replay_written law input left before now faults faults' sink sink' text DoorFault w (a (λ is. cc))
+replay_ends law input left before now faults faults' sink sink' text KeeperFault w a same = replay_written law input left before now faults faults' sink sink' text KeeperFault w (a (λ is. cc))
 replay_ends law input left before now faults faults' sink sink' text WriteFault w a same = replay_written law input left before now faults faults' sink sink' text WriteFault w (a (λ is. cc))
 
 -- a task that reads nothing
@@ -261,6 +293,7 @@ reads_nothing waits Replay input = ([], consumed_nothing input, omega arith)
 reads_nothing waits (Soak seed steps) input = refl
 reads_nothing waits (Check codec) input = task_reads_nothing waits (task.Check codec) input
 reads_nothing waits (Convert from to) input = task_reads_nothing waits (task.Convert from to) input
+reads_nothing waits (Serve asked) input = refl
 
 -- ---- how a soak ends, whatever the input is
 
@@ -273,6 +306,7 @@ soak_done seed steps totals input before now faults sink sink' result is whole s
   read_fault = λ other. absurd (apart result Done ReadFault same (inl (omega arith)) other);
   write_fault = λ other. absurd (apart result Done WriteFault same (inl (omega arith)) other);
   no_memory = λ other. absurd (apart result Done NoMemory same (inl (omega arith)) other);
+  served = λ is. absurd (unserved result Done same (inl (omega arith)) is);
   reads = refl;
 }
 
@@ -287,6 +321,7 @@ soak_part seed steps totals input before now faults sink sink' result is rose n 
   write_fault = λ same.
       (rose, (bytes_of input, soak_line seed steps totals, text_is_told input, record { totals = totals; is_soak = is; line_is = refl }, (n, part)));
   no_memory = λ other. absurd (apart result WriteFault NoMemory same (inl (omega arith)) other);
+  served = λ is. absurd (unserved result WriteFault same (inl (omega arith)) is);
   reads = refl;
 }
 
@@ -299,5 +334,6 @@ soak_forgone seed steps input before now faults sink sink' result kept same = re
   read_fault = λ other. absurd (apart result NoMemory ReadFault same (inr (omega arith)) other);
   write_fault = λ other. absurd (apart result NoMemory WriteFault same (inr (omega arith)) other);
   no_memory = λ same. (bytes_of input, [], text_is_told input, refl, subst (λ held. Appends before held []) (sym kept) (appended_nothing before));
+  served = λ is. absurd (unserved result NoMemory same (inr (omega arith)) is);
   reads = refl;
 }

@@ -1,12 +1,12 @@
 -- What the program does with its words and its input, where the source and the sink tell their bytes.
-use Rattle.std.specs.Prelude.{◌≡◌, ◌≢◌, ◌≤◌, ◌+◌, ℕ, List, [], length, take, codes, String, Option, ◌⊎◌}
+use Rattle.std.specs.Prelude.{◌≡◌, ◌≢◌, ◌≤◌, ◌+◌, ℕ, Bool, true, false, List, [], length, take, codes, String, Option, ◌⊎◌, Result, Ok, Err}
 use Rattle.std.specs.Io.KnownBytes.{Appends, Consumes, IsAtEnd}
 use Rattle.std.specs.declared.alloc.Global.{Global}
 use Rattle.hd_facts.specs.Counts.{Rose}
 use Rattle.hd_facts.specs.Unique.{IsTheOne}
 use Rattle.hd_facts.specs.Writes.{Writes, WritesPart, WritesOfRead}
 use Rattle.sr_app.specs.declared.run.Status.{Status}
-use Rattle.sr_app.specs.declared.run.Status.TheVariants.{Done, Usage, Refused, ReadFault, WriteFault, NoMemory}
+use Rattle.sr_app.specs.declared.run.Status.TheVariants.{Done, Usage, Refused, ReadFault, WriteFault, DoorFault, KeeperFault, NoMemory}
 use Rattle.sr_script.specs.Script.{Program, Parses, IsRefusedAt, refusal_line, most_script}
 use Rattle.sr_replay.specs.Report.{IsReportOf}
 use Rattle.sr_soak.specs.declared.totals.Totals.{Totals}
@@ -17,8 +17,13 @@ use Rattle.sr_check.specs.declared.task.Stop.{Stop}
 use Rattle.sr_check.specs.declared.task.Stop.TheVariants as stop
 use Rattle.sr_check.specs.Stream.{IsDone, IsStopped, IsBegun, IsAllSoFar, IsPart, ReadsNoFurther, most_piece}
 use Rattle.sr_words.specs.declared.commands.Command.{Command}
-use Rattle.sr_words.specs.declared.commands.Command.TheVariants.{Replay, Soak, Check, Convert}
+use Rattle.sr_words.specs.declared.commands.Command.TheVariants.{Replay, Soak, Check, Convert, Serve}
+use Rattle.sr_words.specs.declared.serving.Serving.{Serving}
 use Rattle.sr_words.specs.Words.{Asks, IsNoCommand}
+use Rattle.sr_serve.specs.declared.serving.ServeError.{ServeError}
+use Rattle.sr_serve.specs.declared.serving.ServeError.TheVariants as end
+use Rattle.sr_serve.specs.Serving.{serving_line}
+use Rattle.sr_serve.specs.Serving as serve
 
 abbrev pub usage_line : List ℕ
 usage_line = codes "usage: sr replay, soak, serve, client, check or convert\n"
@@ -30,6 +35,8 @@ code_of Usage = 1
 code_of Refused = 2
 code_of ReadFault = 3
 code_of WriteFault = 4
+code_of DoorFault = 5
+code_of KeeperFault = 6
 code_of NoMemory = 7
 
 -- ---- what a command means
@@ -54,6 +61,8 @@ pub record Meaning : Type 1 where
   pub reads : Option (List ℕ) → Option (List ℕ) → Type 0
   -- what it has left once the command is done
   pub leaves : Option (List ℕ) → Type 0
+  -- it hears through a door and asks a keeper, which may fail
+  pub serves : Bool
 
 -- the text is a script, which asks for one program, and this is a report of that: the one there is, if it has no peers
 pub record IsReplayed (text report : List ℕ) : Type 0 where
@@ -95,6 +104,7 @@ replaying = record {
   read = IsNothing;
   reads = ReadsBounded;
   leaves = IsAtEnd;
+  serves = false;
 }
 
 -- A task over frames writes of each frame before it has read the next piece.
@@ -107,6 +117,7 @@ doing task = record {
   read = IsAllSoFar task;
   reads = ReadsNoFurther task;
   leaves = IsAtEnd;
+  serves = false;
 }
 
 -- a soak of this seed and so many steps, whatever the input is, and its line
@@ -129,6 +140,24 @@ soaking seed steps = record {
   read = Never;
   reads = λ before now. now ≡ before;
   leaves = λ left. Unit {0};
+  serves = false;
+}
+
+-- the line with which serving begins, whatever the input is
+abbrev pub IsServing : Answers
+IsServing text line = (rows : ℕ) × (line ≡ serving_line rows)
+
+-- Serving reads nothing. Memory may run out before its line and after it.
+abbrev pub serving : Meaning
+serving = record {
+  done = IsServing;
+  refused = Never;
+  part = IsServing;
+  begun = λ text line. IsNothing text line ⊎ IsServing text line;
+  read = Never;
+  reads = λ before now. now ≡ before;
+  leaves = λ left. Unit {0};
+  serves = true;
 }
 
 -- what each command means
@@ -137,11 +166,18 @@ meaning_of Replay = replaying
 meaning_of (Soak seed steps) = soaking seed steps
 meaning_of (Check codec) = doing (task.Check codec)
 meaning_of (Convert from to) = doing (task.Convert from to)
+meaning_of (Serve asked) = serving
 
 -- the command reads no input
 abbrev pub ReadsNothing : Command → Type 0
 ReadsNothing (Soak seed steps) = Unit {0}
+ReadsNothing (Serve asked) = Unit {0}
 ReadsNothing command = ⊥
+
+-- the command leaves door, keeper and lots alone
+abbrev pub ServesNothing : Command → Type 0
+ServesNothing (Serve asked) = ⊥
+ServesNothing command = Unit {0}
 
 -- the command writes its whole answer at once, once it is known
 abbrev pub WritesOnce : Command → Type 0
@@ -181,6 +217,7 @@ pub record Ends (m : Meaning) (status : Status) (before now : Outside) : Type 0 
   pub write_fault : status ≡ WriteFault → Rose before.sink_faults now.sink_faults
       × WritesPart m.part before.left before.holds now.holds
   pub no_memory : status ≡ NoMemory → Writes m.begun before.left before.holds now.holds
+  pub served : (status ≡ DoorFault) ⊎ (status ≡ KeeperFault) → m.serves ≡ true
   pub reads : m.reads before.left now.left
 
 -- No fault is passed over: a count of faults rises only if the status tells of that fault.
@@ -206,3 +243,19 @@ status_of stop.Refused = Refused
 status_of stop.ReadFault = ReadFault
 status_of stop.WriteFault = WriteFault
 status_of stop.NoMemory = NoMemory
+
+-- the status that goes with why serving ended
+abbrev pub status_of_error : ServeError → Status
+status_of_error end.Write = WriteFault
+status_of_error end.Door = DoorFault
+status_of_error end.Keeper = KeeperFault
+status_of_error end.NoMemory = NoMemory
+
+abbrev pub status_of_end : Result Unit ServeError → Status
+status_of_end (Ok done) = Done
+status_of_end (Err error) = status_of_error error
+
+-- what serving did that ended with this status
+abbrev pub EndsServing : Serving → Status → serve.Outside → serve.Outside → Type 0
+EndsServing asked status before now =
+    (result : Result Unit ServeError) × (status ≡ status_of_end result) × serve.Ends asked.base asked.turns before now result

@@ -1,12 +1,19 @@
-//! The program `sr`: it replays scripts over two ends, and checks and converts frames of messages.
+//! The program `sr`: it replays scripts over two ends, checks and converts frames of messages, and serves hubs.
 #![tactic(auto)]
 
 mod run;
 #[cfg(test)]
 mod tests;
 
+use crate::run::{Status, run};
+use hk_keeper::MemoryKeeper;
+use hw_door::{Door, MemoryDoor, RandLots};
 use hw_io::{StdSink, StdSource};
+use hw_mio::MioWires;
+use hw_net::NetDoor;
+use sr_words::{Settings, WordsError, settings};
 use std::alloc::AllocError;
+use std::net::SocketAddr;
 use std::process::ExitCode;
 use std::{env, io};
 
@@ -20,11 +27,64 @@ fn words(rt: &HostRuntime) -> Result<Vec<String>, AllocError> {
     }
 }
 
-fn main(rt: HostRuntime) -> ExitCode {
-    let Ok(words) = words(&rt) else {
-        return ExitCode::from(run::Status::NoMemory.code());
-    };
+/// Runs `serve` over the sockets of this address. If these can't be had, the reason is written on standard error.
+fn run_at(rt: &HostRuntime, words: &[String], address: SocketAddr) -> Result<u8, AllocError> {
+    let alloc = rt.alloc();
+    let mut door = NetDoor::start(
+        alloc,
+        MioWires::listen(rt, alloc, address.ip(), address.port())?,
+    );
+    let status = run_over(rt, words, &mut door)?;
+    if status == Status::DoorFault.code()
+        && let Some(why) = door.wires().start_error()
+    {
+        let _ = eprintln!(rt; "sr: {address}: {why}");
+    }
+    Ok(status)
+}
+
+/// Runs a command over this door, a keeper in memory that nobody has an access token for, and the lots of the system.
+fn run_over<D: Door>(rt: &HostRuntime, words: &[String], door: &mut D) -> Result<u8, AllocError> {
+    let alloc = rt.alloc();
     let mut input = StdSource::new(rt.stdin());
     let mut out = StdSink::new(rt.stdout());
-    ExitCode::from(run::run(rt.alloc(), &words, &mut input, &mut out))
+    let mut keeper = MemoryKeeper::start(alloc, Vec::new(alloc), Vec::new(alloc))?;
+    let mut lots = RandLots::new(rt);
+    Ok(run(
+        alloc,
+        words,
+        &mut input,
+        &mut out,
+        door,
+        &mut keeper,
+        &mut lots,
+    ))
+}
+
+/// Makes the door that the words ask for: sockets for `serve`, and for every other command one at which nothing is heard.
+fn run_words(rt: &HostRuntime) -> Result<u8, AllocError> {
+    let alloc = rt.alloc();
+    let words = words(rt)?;
+    match settings(alloc, &words) {
+        Ok(
+            Settings {
+                port: Some(port),
+                listen: Some(ip),
+                ..
+            },
+        ) => run_at(rt, &words, SocketAddr::new(ip, port)),
+        Err(WordsError::NoMemory) => Err(AllocError),
+        _ => run_over(
+            rt,
+            &words,
+            &mut MemoryDoor::start(Vec::new(alloc), Vec::new(alloc)),
+        ),
+    }
+}
+
+fn main(rt: HostRuntime) -> ExitCode {
+    match run_words(&rt) {
+        Ok(status) => ExitCode::from(status),
+        Err(AllocError) => ExitCode::from(Status::NoMemory.code()),
+    }
 }

@@ -6,16 +6,23 @@ ghost use Rattle.hd_facts.specs.Counts.{Rose};
 ghost use Rattle.hd_facts.specs.Writes.{Writes, WritesOfRead};
 ghost use Rattle.sr_check.specs.Stream.{IsTouchedByBytesAlone, most_piece};
 ghost use Rattle.sr_words.specs.Words.{Asks, IsNoCommand};
-ghost use Rattle.sr_app.specs.Run.{Answered, AsksFor, Ends, ReadsBounded, ReadsNothing, TellsFaults, WritesOnce, WritesPartFor, code_of, doing, meaning_of, outside_of, replaying, soaking, usage_line};
+ghost use Rattle.sr_words.specs.declared.commands.Command.TheVariants.{Serve};
+ghost use Rattle.sr_words.specs.declared.serving.Serving.{Serving};
+ghost use Rattle.hub_server.specs.Steps.{around};
+ghost use Rattle.sr_serve.specs.Serving.{outside, serving_line};
+ghost use Rattle.sr_app.specs.Run.{Answered, AsksFor, Ends, EndsServing, ReadsBounded, ReadsNothing, ServesNothing, TellsFaults, WritesOnce, WritesPartFor, code_of, doing, meaning_of, outside_of, replaying, soaking, usage_line};
 ghost use Rattle.sr_script.specs.Script.{most_script, refusal_line};
 
 use hf_split::empty_waits;
+use hk_keeper::Keeper;
+use hw_door::{Door, Lots};
 use hw_io::{Failed, Sink, Source};
 use sr_check::{Stop, Task};
 use sr_replay::{ReplayError, replay, reports_have_lines};
 use sr_script::{MOST_SCRIPT, ScriptError, long_is_refused_by_its_front, parse};
+use sr_serve::{ServeError, serve_hub};
 use sr_soak::soak;
-use sr_words::{Command, WordsError};
+use sr_words::{Command, Serving, WordsError};
 use std::alloc::{AllocError, Global};
 
 const USAGE: &[u8] = b"usage: sr replay, soak, serve, client, check or convert\n";
@@ -31,6 +38,8 @@ pub(crate) enum Status {
     Refused = 2,
     ReadFault = 3,
     WriteFault = 4,
+    DoorFault = 5,
+    KeeperFault = 6,
     NoMemory = 7,
 }
 
@@ -198,12 +207,56 @@ fn run_task<S: Source, K: Sink>(alloc: Global, task: Task, input: &mut S, out: &
     }
 }
 
+impl From<ServeError> for Status {
+    ghost use Rattle.std.specs.Prelude.{◌≡◌};
+    ghost use Rattle.sr_app.specs.Run.{status_of_error};
+
+    ghost from_gives = { λ error status. status ≡ status_of_error error };
+
+    fn from(error: ServeError) -> Status {
+        match error {
+            ServeError::Write => Status::WriteFault,
+            ServeError::Door => Status::DoorFault,
+            ServeError::Keeper => Status::KeeperFault,
+            ServeError::NoMemory => Status::NoMemory,
+        }
+    }
+}
+
+/// Serves the hub through a door.
+fn run_serve<K: Sink, D: Door, R: Keeper, L: Lots>(
+    alloc: Global,
+    serving: Serving,
+    out: &mut K,
+    door: &mut D,
+    keeper: &mut R,
+    lots: &mut L,
+) -> Status
+    ensures serves { EndsServing serving result
+        (outside (K.holds out.old) (K.faults out.old) (D.told door.old) (D.moment door.old) (D.faults door.old)
+        (around (R.holds keeper.old) (R.answers keeper.old) (R.faults keeper.old) (L.drawn lots.old) (L.faults lots.old)))
+        (outside (K.holds out.new) (K.faults out.new) (D.told door.new) (D.moment door.new) (D.faults door.new)
+        (around (R.holds keeper.new) (R.answers keeper.new) (R.faults keeper.new) (L.drawn lots.new) (L.faults lots.new))) }
+    ensures unwritten { result ≡ Status.KeeperFault → out.new ≡ out.old }
+    ensures unheard { (result ≡ Status.KeeperFault) ⊎ (result ≡ Status.WriteFault) → (door.new ≡ door.old) × (lots.new ≡ lots.old) }
+    ensures no_memory { result ≡ Status.NoMemory
+        → (out.new ≡ out.old) ⊎ ((rows : ℕ) × Appends (K.holds out.old) (K.holds out.new) (serving_line rows)) }
+{
+    match serve_hub(alloc, serving.base, serving.turns, out, door, keeper, lots) {
+        Ok(()) => Status::Done,
+        Err(error) => Status::from(error),
+    }
+}
+
 /// Carries out a command.
-fn carry_out<S: Source, K: Sink>(
+fn carry_out<S: Source, K: Sink, D: Door, R: Keeper, L: Lots>(
     alloc: Global,
     command: Command,
     input: &mut S,
     out: &mut K,
+    door: &mut D,
+    keeper: &mut R,
+    lots: &mut L,
 ) -> Status
     ensures ends { Ends (meaning_of command) result
         (outside_of (S.left input.old) (S.faults input.old) (K.holds out.old) (K.faults out.old))
@@ -214,29 +267,53 @@ fn carry_out<S: Source, K: Sink>(
     ensures touched { result ≢ Status.WriteFault → IsTouchedByBytesAlone K.holds out.old out.new }
     ensures untouched { WritesOnce command → (result ≡ Status.ReadFault) ⊎ (result ≡ Status.NoMemory) → out.new ≡ out.old }
     ensures unread { ReadsNothing command → input.new ≡ input.old }
+    ensures serves { (serving : Serving) → command ≡ Serve serving → EndsServing serving result
+        (outside (K.holds out.old) (K.faults out.old) (D.told door.old) (D.moment door.old) (D.faults door.old)
+        (around (R.holds keeper.old) (R.answers keeper.old) (R.faults keeper.old) (L.drawn lots.old) (L.faults lots.old)))
+        (outside (K.holds out.new) (K.faults out.new) (D.told door.new) (D.moment door.new) (D.faults door.new)
+        (around (R.holds keeper.new) (R.answers keeper.new) (R.faults keeper.new) (L.drawn lots.new) (L.faults lots.new))) }
+    ensures unwritten { result ≡ Status.KeeperFault → out.new ≡ out.old }
+    ensures unheard { ServesNothing command ⊎ (result ≡ Status.KeeperFault) ⊎ (result ≡ Status.WriteFault)
+        → (door.new ≡ door.old) × (lots.new ≡ lots.old) }
+    ensures unasked { ServesNothing command → keeper.new ≡ keeper.old }
+    ensures door_unfailed { result ≢ Status.DoorFault → D.faults door.new ≡ D.faults door.old }
 {
     match command {
         Command::Replay => run_replay(alloc, input, out),
         Command::Soak { seed, steps } => run_soak(alloc, seed, steps, out),
         Command::Check { codec } => run_task(alloc, Task::Check { codec }, input, out),
         Command::Convert { from, to } => run_task(alloc, Task::Convert { from, to }, input, out),
+        Command::Serve(serving) => run_serve(alloc, serving, out, door, keeper, lots),
     }
 }
 
-/// Does what the words say, over this input and this output, and answers the exit status.
+/// Does what the words say, over this input and this output, and answers the exit status. `serve` hears through the door, asks the keeper
+/// and draws the lots; the other commands leave them alone.
 ///
 /// | status | if |
 /// |---|---|
-/// | 0 | the input, if the command asks for one, is what it asks for; its whole answer was written |
+/// | 0 | the input, if the command asks for one, is what it asks for; its whole answer was written. `serve`: all of its turns were done |
 /// | 1 | the words are no command; the usage line was written |
 /// | 2 | the input is refused; what is written of the frames before, and the refusal, was written |
 /// | 3 | the input failed; nothing was written but what is written of the frames that were read |
 /// | 4 | the output failed; it took a first part of what was to be written |
-/// | 7 | out of memory; nothing was written but what is written of some frames that were read |
+/// | 5 | `serve`: the door failed; what it was given before stands |
+/// | 6 | `serve`: the keeper failed when it was asked how many rows there are; nothing was written or heard |
+/// | 7 | out of memory; nothing was written but what is written of some frames that were read, or the line with which `serve` begins |
 ///
-/// A fault of the input ends it with 3 and one of the output with 4: none is passed over.
-pub fn run<S: Source, K: Sink>(alloc: Global, words: &[String], input: &mut S, out: &mut K) -> u8
-    ensures status { (result ≡ 0) ⊎ (result ≡ 1) ⊎ (result ≡ 2) ⊎ (result ≡ 3) ⊎ (result ≡ 4) ⊎ (result ≡ 7) }
+/// A fault of the input ends it with 3 and one of the output with 4: none is passed over. One of the door ends it with 5; that nothing more
+/// is heard after it is not in a clause. A fault of the keeper at any other question, or of the lots, ends nothing, but that memory may be
+/// out then.
+pub fn run<S: Source, K: Sink, D: Door, R: Keeper, L: Lots>(
+    alloc: Global,
+    words: &[String],
+    input: &mut S,
+    out: &mut K,
+    door: &mut D,
+    keeper: &mut R,
+    lots: &mut L,
+) -> u8
+    ensures status { (result ≡ 0) ⊎ (result ≡ 1) ⊎ (result ≡ 2) ⊎ (result ≡ 3) ⊎ (result ≡ 4) ⊎ (result ≡ 5) ⊎ (result ≡ 6) ⊎ (result ≡ 7) }
 
     ensures done { result ≡ 0
         → AsksFor words.now (λ m. m.leaves (S.left input.new) × Writes m.done (S.left input.old) (K.holds out.old) (K.holds out.new)) }
@@ -252,6 +329,20 @@ pub fn run<S: Source, K: Sink>(alloc: Global, words: &[String], input: &mut S, o
     ensures no_memory { result ≡ 7 → (out.new ≡ out.old)
         ⊎ AsksFor words.now (λ m. Writes m.begun (S.left input.old) (K.holds out.old) (K.holds out.new)) }
 
+    // What `serve` did, by its status: so 5 comes only if the door's count rose, and 6 only if the keeper's did at the first question.
+    ensures serves { (serving : Serving) → Asks words.now (Serve serving) → (status : Status) × (result ≡ code_of status)
+        × EndsServing serving status
+        (outside (K.holds out.old) (K.faults out.old) (D.told door.old) (D.moment door.old) (D.faults door.old)
+        (around (R.holds keeper.old) (R.answers keeper.old) (R.faults keeper.old) (L.drawn lots.old) (L.faults lots.old)))
+        (outside (K.holds out.new) (K.faults out.new) (D.told door.new) (D.moment door.new) (D.faults door.new)
+        (around (R.holds keeper.new) (R.answers keeper.new) (R.faults keeper.new) (L.drawn lots.new) (L.faults lots.new))) }
+    ensures serve_fault { (result ≡ 5) ⊎ (result ≡ 6) → (serving : Serving) × Asks words.now (Serve serving) }
+    ensures door_unfailed { result ≢ 5 → D.faults door.new ≡ D.faults door.old }
+    ensures unwritten { result ≡ 6 → out.new ≡ out.old }
+    ensures unheard { (result ≡ 4) ⊎ (result ≡ 6) → (door.new ≡ door.old) × (lots.new ≡ lots.old) }
+    ensures unserved { IsNoCommand words.now ⊎ ((command : Command) × (Asks words.now command × ServesNothing command))
+        → (door.new ≡ door.old) × (keeper.new ≡ keeper.old) × (lots.new ≡ lots.old) }
+
     // A count of faults rises only in a call that the status tells of.
     ensures source_unfailed { result ≢ 3 → S.faults input.new ≡ S.faults input.old }
     ensures sink_unfailed { result ≢ 4 → K.faults out.new ≡ K.faults out.old }
@@ -265,7 +356,7 @@ pub fn run<S: Source, K: Sink>(alloc: Global, words: &[String], input: &mut S, o
         → (meaning_of command).reads (S.left input.old) (S.left input.new) }
 {
     match sr_words::parse(alloc, words) {
-        Ok(command) => carry_out(alloc, command, input, out).code(),
+        Ok(command) => carry_out(alloc, command, input, out, door, keeper, lots).code(),
         Err(WordsError::NoCommand) => write(out, USAGE, Status::Usage).code(),
         Err(WordsError::NoMemory) => {
             // So whatever the words ask for, no further is read than it may be.

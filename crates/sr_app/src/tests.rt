@@ -1,7 +1,11 @@
 //! What no clause says: that each status comes where memory is there, and that output isn't held back to the end.
 
 use crate::run::run;
+use hd_lanes::Vec8;
+use hk_keeper::MemoryKeeper;
+use hw_door::{Door, MemoryDoor, MemoryLots, MemoryWire, MemoryWires, WireGiven};
 use hw_io::{MemorySink, MemorySource};
+use hw_net::NetDoor;
 use std::alloc::Global;
 use std::test::Fail;
 
@@ -46,7 +50,48 @@ fn outcome(
     }
     let mut input = MemorySource::start(Vec::from_slice(alloc, bytes)?, one(alloc, source_fails)?)?;
     let mut out = MemorySink::start(alloc, 1000, one(alloc, sink_fails)?)?;
-    let status = run(alloc, &words, &mut input, &mut out);
+    let mut door = MemoryDoor::start(Vec::new(alloc), Vec::new(alloc));
+    let mut keeper = MemoryKeeper::start(alloc, Vec::new(alloc), Vec::new(alloc))?;
+    let mut lots = MemoryLots::start(Vec::new(alloc), Vec::new(alloc));
+    let status = run(
+        alloc,
+        &words,
+        &mut input,
+        &mut out,
+        &mut door,
+        &mut keeper,
+        &mut lots,
+    );
+    Ok((status, Vec::from_slice(alloc, out.bytes())?))
+}
+
+/// The status of `serve` for this many turns and what it wrote, where the call of a number fails of the sink, the door and the keeper.
+fn served<D: Door>(
+    alloc: Global,
+    turns: &str,
+    sink_fails: Option<u64>,
+    keeper_fails: Option<u64>,
+    door: &mut D,
+) -> Result<(u8, Vec<u8>), Fail> {
+    let mut words = Vec::new(alloc);
+    for word in ["serve", "--turns", turns] {
+        words.push(String::from_str(alloc, word)?)?;
+    }
+    let mut input = MemorySource::start(Vec::new(alloc), Vec::new(alloc))?;
+    let mut out = MemorySink::start(alloc, 1000, one(alloc, sink_fails)?)?;
+    let mut keeper = MemoryKeeper::start(alloc, Vec::new(alloc), one(alloc, keeper_fails)?)?;
+    let mut draws = Vec::new(alloc);
+    draws.push([0; 16])?;
+    let mut lots = MemoryLots::start(draws, Vec::new(alloc));
+    let status = run(
+        alloc,
+        &words,
+        &mut input,
+        &mut out,
+        door,
+        &mut keeper,
+        &mut lots,
+    );
     Ok((status, Vec::from_slice(alloc, out.bytes())?))
 }
 
@@ -101,6 +146,92 @@ fn faults_end_it_and_output_is_not_held_back(rt: HostRuntime) -> Result<(), Fail
             written,
             "{command:?} {source_fails:?} {sink_fails:?}"
         );
+    }
+    Ok(())
+}
+
+/// The line of a keeper without rows comes first, and then the door is heard.
+#[test]
+fn serving_has_its_statuses(rt: HostRuntime) -> Result<(), Fail> {
+    let cases: [(&str, Option<u64>, Option<u64>, Option<u64>, u8, &[u8]); 6] = [
+        ("0", None, None, None, 0, b"serving 0\n"),
+        ("0", None, None, Some(0), 0, b"serving 0\n"),
+        ("3", None, None, None, 0, b"serving 0\n"),
+        ("3", None, None, Some(2), 5, b"serving 0\n"),
+        ("3", None, Some(0), Some(0), 6, b""),
+        ("3", Some(0), None, Some(0), 4, b""),
+    ];
+    for (turns, sink_fails, keeper_fails, door_fails, status, written) in cases {
+        let mut door = MemoryDoor::start(Vec::new(rt.alloc()), one(rt.alloc(), door_fails)?);
+        let got = served(rt.alloc(), turns, sink_fails, keeper_fails, &mut door)?;
+        assert_eq!(rt;
+            got.0,
+            status,
+            "{turns} {sink_fails:?} {keeper_fails:?} {door_fails:?}"
+        );
+        assert_eq!(rt;
+            got.1.as_slice(),
+            written,
+            "{turns} {sink_fails:?} {keeper_fails:?} {door_fails:?}"
+        );
+    }
+    Ok(())
+}
+
+const NEGOTIATE: &[u8] =
+    b"POST /hub/negotiate?negotiateVersion=1&useStatefulReconnect=true HTTP/1.1\r\nHost: x\r\n\r\n";
+
+/// The token is base64 of the sixteen bytes 0 that were drawn and the connection's number. The key and what accepts it are those of
+/// RFC 6455, section 1.3.
+const UPGRADE: &[u8] =
+    b"GET /hub?id=AAAAAAAAAAAAAAAAAAAAAAAAAAAAAAAB HTTP/1.1\r\nHost: x\r\nUpgrade: websocket\r\nConnection: Upgrade\r\nSec-WebSocket-Key: dGhlIHNhbXBsZSBub25jZQ==\r\nSec-WebSocket-Version: 13\r\n\r\n";
+
+/// A text frame whose mask is 0: the handshake of HubProtocol.md.
+const HANDSHAKE: &[u8] = b"\x81\xa0\0\0\0\0{\"protocol\":\"json\",\"version\":1}\x1e";
+
+const NEGOTIATED: &[u8] =
+    b"HTTP/1.1 200 OK\r\nContent-Length: 273\r\nContent-Type: application/json\r\n\r\n{\"availableTransports\":[{\"transferFormats\":[\"Text\",\"Binary\"],\"transport\":\"WebSockets\"},{\"transferFormats\":[\"Text\",\"Binary\"],\"transport\":\"LongPolling\"}],\"connectionId\":\"1\",\"connectionToken\":\"AAAAAAAAAAAAAAAAAAAAAAAAAAAAAAAB\",\"negotiateVersion\":1,\"useStatefulReconnect\":true}";
+
+const SHAKEN: &[u8] =
+    b"HTTP/1.1 101 Switching Protocols\r\nConnection: Upgrade\r\nSec-WebSocket-Accept: s3pPLMBiTxaQ9kYGzzhZRbK+xOo=\r\nUpgrade: websocket\r\n\r\n\x81\x03{}\x1e";
+
+const UNKNOWN: &[u8] = b"HTTP/1.1 404 Not Found\r\nContent-Length: 0\r\n\r\n";
+
+/// A wire that gives these bytes, and takes all that is written.
+fn wire(alloc: Global, from: u64, pieces: &[&[u8]]) -> Result<MemoryWire, Fail> {
+    let mut reads = Vec::new(alloc);
+    let mut writes = Vec::new(alloc);
+    for piece in pieces {
+        reads.push(WireGiven::Bytes(Vec8::of(alloc, piece)?))?;
+    }
+    for _ in 0..20 {
+        writes.push(1_000)?;
+    }
+    Ok(MemoryWire {
+        from,
+        reads,
+        writes,
+    })
+}
+
+/// A token is good for 30,000 ms after its negotiate, which comes at 1,000.
+#[test]
+fn a_session_goes_over_wires(rt: HostRuntime) -> Result<(), Fail> {
+    let cases: [(u64, &[u8]); 2] = [(30_999, SHAKEN), (31_000, UNKNOWN)];
+    for (later, written) in cases {
+        let mut moments = Vec::new(rt.alloc());
+        moments.push(1_000)?;
+        moments.push(later)?;
+        let mut given = Vec::new(rt.alloc());
+        given.push(wire(rt.alloc(), 1_000, &[NEGOTIATE])?)?;
+        given.push(wire(rt.alloc(), later, &[UPGRADE, HANDSHAKE])?)?;
+        let none = Vec::new(rt.alloc());
+        let wires = MemoryWires::start(rt.alloc(), moments, given, none, 10_000, 100)?;
+        let mut door = NetDoor::start(rt.alloc(), wires);
+        let got = served(rt.alloc(), "6", None, None, &mut door)?;
+        assert_eq!(rt; got.0, 0, "{later}");
+        assert_eq!(rt; door.wires().written(0), NEGOTIATED, "{later}");
+        assert_eq!(rt; door.wires().written(1), written, "{later}");
     }
     Ok(())
 }

@@ -1,8 +1,11 @@
-use Rattle.std.proofs.Common.{◌∙◌, sym, ap, inl, inr, ⊎_elim, subst}
-use Rattle.sr_words.specs.Words.{IsNoCommand}
-use Rattle.sr_app.specs.declared.run.Status.TheVariants.{Done, Usage, ReadFault, WriteFault, NoMemory}
-use Rattle.sr_app.specs.Run.{ReadsNothing, WritesOnce, code_of}
+use Rattle.std.proofs.Common.{◌∙◌, sym, ap, inl, inr, ⊎_elim, subst, refl, Err}
+use Rattle.sr_words.specs.Words.{Asks, IsNoCommand}
+use Rattle.sr_words.specs.declared.commands.Command.TheVariants.{Serve}
+use Rattle.sr_serve.specs.declared.serving.ServeError.TheVariants as end
+use Rattle.sr_app.specs.declared.run.Status.TheVariants.{Done, Usage, ReadFault, WriteFault, DoorFault, KeeperFault, NoMemory}
+use Rattle.sr_app.specs.Run.{ReadsNothing, ServesNothing, WritesOnce, code_of}
 use Rattle.sr_app.proofs.Answering.{same_status, is_code, reads_nothing}
+use Rattle.sr_app.proofs.Served.{server_of}
 use Rattle.sr_app.proofs.run.run.Goals as goal
 
 pub returns-in-Ok-clause-status : goal.returns-in-Ok-clause-status
@@ -50,3 +53,39 @@ returns-in-Ok-clause-sink_unfailed g c = λ differ. c.carry_out.ensures.faults.s
 
 pub returns-in-Err-NoCommand-clause-sink_unfailed : goal.returns-in-Err-NoCommand-clause-sink_unfailed
 returns-in-Err-NoCommand-clause-sink_unfailed g c = λ differ. c.write.ensures.unfailed (λ is. differ (c.code-in-Err-NoCommand.ensures ∙ ap code_of is))
+
+pub returns-in-Ok-clause-serves : goal.returns-in-Ok-clause-serves
+returns-in-Ok-clause-serves g c = λ asked asks.
+    (c.carry_out.result, c.code.ensures, c.carry_out.ensures.serves asked (sym (c.in-Ok.ensures.ok.only (Serve asked) asks)))
+
+pub returns-in-Ok-clause-serve_fault : goal.returns-in-Ok-clause-serve_fault
+returns-in-Ok-clause-serve_fault g c = λ is.
+    let server = server_of c.in-Ok.command (c.carry_out.ensures.ends.served
+    (⊎_elim (λ door. inl (same_status c.carry_out.result DoorFault (sym c.code.ensures ∙ door)))
+    (λ keeper. inr (same_status c.carry_out.result KeeperFault (sym c.code.ensures ∙ keeper))) is)) in
+    (server.0, subst (Asks c.args.words.now) server.1 c.in-Ok.ensures.ok.holds)
+
+pub returns-in-Ok-clause-door_unfailed : goal.returns-in-Ok-clause-door_unfailed
+returns-in-Ok-clause-door_unfailed g c = λ differ. c.carry_out.ensures.door_unfailed (λ is. differ (c.code.ensures ∙ ap code_of is))
+
+pub returns-in-Ok-clause-unwritten : goal.returns-in-Ok-clause-unwritten
+returns-in-Ok-clause-unwritten g c = λ is. c.carry_out.ensures.unwritten (same_status c.carry_out.result KeeperFault (sym c.code.ensures ∙ is))
+
+pub returns-in-Ok-clause-unheard : goal.returns-in-Ok-clause-unheard
+returns-in-Ok-clause-unheard g c = λ is. c.carry_out.ensures.unheard
+    (⊎_elim (λ wrote. inr (inr (same_status c.carry_out.result WriteFault (sym c.code.ensures ∙ wrote))))
+    (λ asked. inr (inl (same_status c.carry_out.result KeeperFault (sym c.code.ensures ∙ asked)))) is)
+
+pub returns-in-Ok-clause-unserved : goal.returns-in-Ok-clause-unserved
+returns-in-Ok-clause-unserved g c = λ either.
+    let serves_nothing : ServesNothing c.in-Ok.command = ⊎_elim (λ none. absurd (none c.in-Ok.command c.in-Ok.ensures.ok.holds))
+    (λ other. subst ServesNothing (c.in-Ok.ensures.ok.only other.0 other.1.0) other.1.1) either in
+    let unheard = c.carry_out.ensures.unheard (inl serves_nothing) in
+    (unheard.0, c.carry_out.ensures.unasked serves_nothing, unheard.1)
+
+pub returns-in-Err-NoCommand-clause-serves : goal.returns-in-Err-NoCommand-clause-serves
+returns-in-Err-NoCommand-clause-serves g c = λ asked asks. absurd (c.parse.ensures.no_command (cc) (Serve asked) asks)
+
+pub returns-in-Err-NoMemory-clause-serves : goal.returns-in-Err-NoMemory-clause-serves
+returns-in-Err-NoMemory-clause-serves g c = λ asked asks.
+    (NoMemory, c.code-in-Err-NoMemory.ensures, (Err end.NoMemory, refl, (inl (record { holds = refl; told = refl; heard_at = refl }, inl refl), refl, refl)))
