@@ -1,0 +1,54 @@
+"""A server of the program for one test, on a free port of this machine."""
+import select
+import socket
+import subprocess
+import sys
+import tempfile
+
+HOST = "127.0.0.1"
+START = 60  # seconds until it serves
+TURNS = 50_000_000  # it ends by itself some day, should the test be killed
+
+
+def free_port():
+    with socket.socket() as found:
+        found.bind((HOST, 0))
+        return found.getsockname()[1]
+
+
+class Serving:
+    """The program while it serves. What it writes on standard error, and that it ends before it is told to, are complaints."""
+
+    def __init__(self, program):
+        self.program = program
+
+    def __enter__(self):
+        self.port = free_port()
+        self.base = f"http://{HOST}:{self.port}/hub"
+        self.errors = tempfile.TemporaryFile()
+        command = [self.program, "serve", "--port", str(self.port), "--turns", str(TURNS)]
+        self.process = subprocess.Popen(command, stdout=subprocess.PIPE, stderr=self.errors)
+        ready, _, _ = select.select([self.process.stdout], [], [], START)
+        line = self.process.stdout.readline() if ready else b""
+        if line != b"serving 0\n":
+            self.__exit__()
+            sys.exit(f"{self.program} serve: said {line!r} and not that it serves")
+        return self
+
+    def __exit__(self, *_):
+        self.process.kill()
+        self.process.wait()
+
+    def complaints(self):
+        status = self.process.poll()
+        self.errors.seek(0)
+        written = self.errors.read().decode(errors="replace").splitlines()[:20]
+        return written if status is None else [f"the server ended with {status}", *written]
+
+    def memory(self):
+        """How many KiB of memory the server holds. None if this system doesn't tell."""
+        try:
+            with open(f"/proc/{self.process.pid}/status") as lines:
+                return next((int(line.split()[1]) for line in lines if line.startswith("VmRSS:")), None)
+        except OSError:
+            return None

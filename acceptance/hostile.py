@@ -1,0 +1,97 @@
+#!/usr/bin/env python3
+"""Has bad clients talk to the program's server over real sockets, and looks how it answers each.
+
+    acceptance/hostile.py [PROGRAM] [WORD]      PROGRAM is bin/sr by default. With WORD only cases whose name has it.
+
+What has to come is by RFC 9112 and RFC 9110 (requests), RFC 6455 (WebSockets) and the limits of docs/clients.md. All cases meet one
+server, one after the other; those that wait for half a minute run beside the others. At the end it must still serve a good client, have
+written nothing on standard error, and hold at most MOST_GROWTH more memory than at its start. (A build with a sanitizer keeps what it
+freed: ASAN_OPTIONS=quarantine_size_mb=1.) The last line is 'N passed, N failed'; the status is 0 if none failed."""
+import json
+import pathlib
+import sys
+import threading
+import time
+
+HERE = pathlib.Path(__file__).resolve().parent
+sys.path.insert(0, str(HERE / "clients"))
+from hostile_http import HTTP_CASES, SLOW_HTTP_CASES  # noqa: E402
+from hostile_hubs import HUB_CASES, SLOW_HUB_CASES  # noqa: E402
+from hostile_sockets import SOCKET_CASES, SLOW_SOCKET_CASES  # noqa: E402
+from raw import Ended, Hub, Raw  # noqa: E402
+from serving import Serving  # noqa: E402
+
+CASES = HTTP_CASES + SOCKET_CASES + HUB_CASES
+SLOW_CASES = SLOW_HTTP_CASES + SLOW_SOCKET_CASES + SLOW_HUB_CASES
+MOST_GROWTH = 65_536  # KiB
+
+
+def outcome(case, port):
+    """What a case sees, in words."""
+    try:
+        return case(port)
+    except Ended as ended:
+        return f"{ended} too early"
+    except (OSError, ValueError) as wrong:
+        return repr(wrong)
+
+
+def good_client(port):
+    """What every client may count on: a token, a socket, a call; and that polls work."""
+    _, body = Raw(port).http("POST", "/hub/negotiate?negotiateVersion=1")
+    hub = Hub(port, "/hub?id=" + json.loads(body)["connectionToken"])
+    hub.shake()
+    answer = hub.call("Add", 2, 3)
+    hub.say('{"type":7}')
+    return f"{answer.get('result')}, {hub.hear()}, {hub.end()}"
+
+
+class Tally:
+    def __init__(self):
+        self.passed = self.failed = 0
+        self.lock = threading.Lock()
+
+    def tell(self, name, wanted, got):
+        right = got == wanted
+        with self.lock:
+            self.passed, self.failed = self.passed + right, self.failed + (not right)
+            print(f"{'passed' if right else 'FAILED'} {name}: {got}" + ("" if right else f", and not {wanted}"), flush=True)
+
+    def one(self, server, name, wanted, case):
+        self.tell(name, wanted, outcome(case, server.port))
+
+
+def begin_slow(tally, server, cases):
+    """The cases that wait, each in a thread, so that they wait together."""
+    threads = [threading.Thread(target=tally.one, args=(server, *case)) for case in cases]
+    for thread in threads:
+        thread.start()
+    return threads
+
+
+def all_cases(server, word):
+    tally = Tally()
+    before = server.memory()
+    began = time.monotonic()
+    slow = begin_slow(tally, server, [case for case in SLOW_CASES if word in case[0]])
+    for case in CASES:
+        if word in case[0]:
+            tally.one(server, *case)
+    for thread in slow:
+        thread.join()
+    tally.one(server, "a good client, at the end", "5, closed 1000, ended", good_client)
+    tally.tell("the server runs, and wrote nothing on standard error", [], server.complaints())
+    growth = (server.memory() or 0) - (before or 0)
+    tally.tell(f"at most {MOST_GROWTH} KiB more memory ({growth} KiB)", True, growth <= MOST_GROWTH)
+    print(f"{tally.passed} passed, {tally.failed} failed, in {time.monotonic() - began:.0f} s")
+    return 1 if tally.failed else 0
+
+
+def main():
+    program = sys.argv[1] if len(sys.argv) > 1 else str(HERE.parent / "bin" / "sr")
+    with Serving(program) as server:
+        return all_cases(server, sys.argv[2] if len(sys.argv) > 2 else "")
+
+
+if __name__ == "__main__":
+    sys.exit(main())
