@@ -193,9 +193,11 @@ const NEGOTIATED: &[u8] =
     b"HTTP/1.1 200 OK\r\nContent-Length: 273\r\nContent-Type: application/json\r\n\r\n{\"availableTransports\":[{\"transferFormats\":[\"Text\",\"Binary\"],\"transport\":\"WebSockets\"},{\"transferFormats\":[\"Text\",\"Binary\"],\"transport\":\"LongPolling\"}],\"connectionId\":\"1\",\"connectionToken\":\"AAAAAAAAAAAAAAAAAAAAAAAAAAAAAAAB\",\"negotiateVersion\":1,\"useStatefulReconnect\":true}";
 
 const SHAKEN: &[u8] =
-    b"HTTP/1.1 101 Switching Protocols\r\nConnection: Upgrade\r\nSec-WebSocket-Accept: s3pPLMBiTxaQ9kYGzzhZRbK+xOo=\r\nUpgrade: websocket\r\n\r\n\x81\x03{}\x1e";
+    b"HTTP/1.1 101 Switching Protocols\r\nUpgrade: websocket\r\nConnection: Upgrade\r\nSec-WebSocket-Accept: s3pPLMBiTxaQ9kYGzzhZRbK+xOo=\r\n\r\n\x81\x03{}\x1e";
 
-const UNKNOWN: &[u8] = b"HTTP/1.1 404 Not Found\r\nContent-Length: 0\r\n\r\n";
+/// A lane whose upgrade is refused speaks HTTP on, and the frame that comes then is no request.
+const UNKNOWN: &[u8] =
+    b"HTTP/1.1 404 Not Found\r\nContent-Length: 0\r\n\r\nHTTP/1.1 400 Bad Request\r\nContent-Length: 0\r\n\r\n";
 
 /// A wire that gives these bytes, and takes all that is written.
 fn wire(alloc: Global, from: u64, pieces: &[&[u8]]) -> Result<MemoryWire, Fail> {
