@@ -1,9 +1,9 @@
 -- A server that hears through a door: one turn after the others.
-use Rattle.std.proofs.Common.{◌≡◌, ◌⊎◌, inl, inr, ℕ, ◌+◌, ◌≤◌, Bool, true, false, not, List, [], ◌∷◌, ◌++◌, length, map, Option, Some, None, arith}
+use Rattle.std.proofs.Common.{◌≡◌, ◌⊎◌, inl, inr, ℕ, ◌+◌, ◌≤◌, Bool, true, false, not, List, [], ◌∷◌, ◌++◌, length, map, Option, Some, None, is_some, arith}
 use Rattle.std.proofs.Common.{refl, sym, ap, subst, ◌∙◌}
 use Rattle.std.proofs.Common.{Result, Ok, Err}
 use Rattle.std.specs.Prelude.{option_map}
-use Rattle.std.specs.Result.{IsErr, IsErrAnd, is_ok}
+use Rattle.std.specs.Result.{IsErr, IsErrAnd, is_ok, result_err}
 use Rattle.std.proofs.lemmas.Result.{err_from_is_err_and}
 use Rattle.std.proofs.lemmas.List.{append_assoc, append-nil, length-append}
 use Rattle.hd_calls.specs.Hubs.{Hub}
@@ -22,7 +22,7 @@ use Rattle.hd_serving.specs.Serving.{IsAnswered, IsCutShort, IsGivenWhole, Serve
 use Rattle.hub_server.specs.declared.server.Server.{Server}
 use Rattle.hub_server.specs.declared.serving.ServeFault.{ServeFault}
 use Rattle.hub_server.specs.declared.serving.ServeFault.TheVariants as fault
-use Rattle.hub_server.specs.Serving.{AreTurns, AtEnd, GivesAll, GivesMore, HasEnded, HasServed, IsCausedBy, IsGiven, TellsMore, cause_of}
+use Rattle.hub_server.specs.Serving.{AreTurns, AtEnd, GivesAll, GivesMore, HasEnded, HasServed, IfMemoryEnds, IsCausedBy, IsGiven, TellsMore, cause_of}
 use Rattle.hub_server.specs.Words.{AreReplies}
 use Rattle.hub_server.specs.Steps.{Around, HasTurn, StandsServer}
 use Rattle.hub_server.proofs.ServeMoment.{turn_moment}
@@ -216,9 +216,9 @@ serves_then {Job} hub s cut P Q R S fs vs more on h (e ∷ es) (w ∷ ws) given 
 -- ---- one turn
 
 -- nothing was heard
-pub served_nothing : {H Job : Type 0} (hub : Hub Job) (x : Server H Job) (at : Around) (a b : Option Told) (first last : ℕ) → b ≡ a → last ≡ first
-    → HasServed {H = H} hub x x at at a b first last 1 false
-served_nothing {H} hub x at a b first last same still = record {
+pub served_nothing : {H Job : Type 0} (hub : Hub Job) (x : Server H Job) (at : Around) (a b : Option Told) (first last : ℕ) (why : ServeFault) → b ≡ a → last ≡ first
+    → HasServed {H = H} hub x x at at a b first last 1 (Some why)
+served_nothing {H} hub x at a b first last why same still = record {
   heard = [];
   waits = [];
   given = [];
@@ -231,7 +231,7 @@ module _ {H Job : Type 0} (hub : Hub Job) (old new : Server H Job) (at since : A
   -- memory ran out before anything was said
   pub served_ended : b ≡ option_map (with_heard wait e) a → (first ≤ e.now) × (last ≡ e.now) → new.is_ended ≡ true
       → ((s : Setup) (h : List Doing) → StandsServer {H = H} hub s old h → wait ≡ wait_for h)
-      → HasServed {H = H} hub old new at since a b first last 1 false
+      → HasServed {H = H} hub old new at since a b first last 1 (Some fault.NoMemory)
   served_ended heard later ended waited = record {
     heard = e ∷ [];
     waits = wait ∷ [];
@@ -259,27 +259,27 @@ module _ {H Job : Type 0} (hub : Hub Job) (old new : Server H Job) (at since : A
   }
 
   -- what was heard is answered, in part at least
-  pub served_answer : (ok : Bool) (words : List Said) → b ≡ option_map (with_heard wait e) a → (first ≤ e.now) × (last ≡ e.now)
+  pub served_answer : {A : Type 0} (r : Result A ServeFault) (words : List Said) → b ≡ option_map (with_heard wait e) a → (first ≤ e.now) × (last ≡ e.now)
       → ((s : Setup) (h : List Doing) → StandsServer {H = H} hub s old h → (moment h ≤ e.now) × IsFree e.event h
       → HasTurn {H = H} hub s new at since e h words)
-      → ((s : Setup) (h : List Doing) → StandsServer {H = H} hub s old h → wait ≡ wait_for h) → GivesAll b c words ok
-      → HasServed {H = H} hub old new at since a c first last 1 ok
-  served_answer ok words heard later turned waited gives = record {
+      → ((s : Setup) (h : List Doing) → StandsServer {H = H} hub s old h → wait ≡ wait_for h) → GivesAll b c words (is_ok r)
+      → HasServed {H = H} hub old new at since a c first last 1 (result_err r)
+  served_answer {A} r words heard later turned waited gives = record {
     heard = e ∷ [];
     waits = wait ∷ [];
     given = gives.given;
     told = tells_answer a b c e wait gives.given heard gives.told;
-    count = count ok;
+    count = count r;
     serves = λ s h stands before. (
       waited s h stands,
       soon h before,
-      λ free. answered s h ok gives.given gives.all (turned s h stands (soon h before, free)),
+      λ free. answered s h r gives.given gives.all (turned s h stands (soon h before, free)),
     );
   }
     where
-      count : (ok : Bool) → AreTurns ok 1 (length (e ∷ []))
-      count true = refl
-      count false = omega arith
+      count : (r : Result A ServeFault) → AreTurns (result_err r) 1 (length (e ∷ []))
+      count (Ok x) = refl
+      count (Err why) = omega arith
 
       soon : (h : List Doing) → moment h ≤ first → moment h ≤ e.now
       soon h before = let k = later.0 in omega (arith, before, k)
@@ -294,50 +294,55 @@ module _ {H Job : Type 0} (hub : Hub Job) (old new : Server H Job) (at since : A
       answer : (s : Setup) (h : List Doing) (t : HasTurn {H = H} hub s new at since e h words) → IsAnswered hub s h e t.after (map given_as words)
       answer s h t = record { turn = t.turn; new = words; tells = t.tells; gives = refl }
 
-      answered : (s : Setup) (h : List Doing) (ok : Bool) (given : List Given) → IsGiven ok given (map given_as words)
+      answered : (s : Setup) (h : List Doing) (r : Result A ServeFault) (given : List Given) → IsGiven (is_ok r) given (map given_as words)
           → (t : HasTurn {H = H} hub s new at since e h words)
-          → Answers hub s (not ok) (AtEnd {H = H} hub s new at since last h) (HasEnded {H = H} new at last h) h e [] [] given
-      answered s h true given all t =
+          → Answers hub s (is_some (result_err r)) (AtEnd {H = H} hub s new at since last h) (IfMemoryEnds (result_err r) (HasEnded {H = H} new at last h)) h e [] [] given
+      answered s h (Ok x) given all t =
           inl (t.after, map given_as words, [], answer s h t, all ∙ sym (append-nil (map given_as words)), (refl, at_end s h t))
-      answered s h false given all t = inr (refl, refl, refl, inr (t.after, map given_as words, answer s h t, all, at_end s h t))
+      answered s h (Err why) given all t = inr (refl, refl, refl, inr (t.after, map given_as words, answer s h t, all, at_end s h t))
 
 -- ---- a turn more
 
-turns_then : (ok : Bool) (n turns : ℕ) (es fs : List Heard) → length es ≡ n → AreTurns ok 1 (length fs) → (ok ≡ true → turns ≡ n + 1) → n + 1 ≤ turns
-    → AreTurns ok turns (length (es ++ fs))
-turns_then true n turns es fs e f whole few = length-append es fs ∙ (let w = whole refl in omega (arith, e, f, w))
-turns_then false n turns es fs e f whole few = let l = length-append es fs in omega (arith, e, f, few, l)
+turns_then : (why : Option ServeFault) (n turns : ℕ) (es fs : List Heard) → length es ≡ n → AreTurns why 1 (length fs) → (is_some why ≡ false → turns ≡ n + 1) → n + 1 ≤ turns
+    → AreTurns why turns (length (es ++ fs))
+turns_then None n turns es fs e f whole few = length-append es fs ∙ (let w = whole refl in omega (arith, e, f, w))
+turns_then (Some why) n turns es fs e f whole few = let l = length-append es fs in omega (arith, e, f, few, l)
+
+ended_as : (why : Option ServeFault) (P Q : List Doing → Type 0) (h : List Doing) → (P h → Q h) → IfMemoryEnds why P h → IfMemoryEnds why Q h
+ended_as None P Q h f x = x
+ended_as (Some fault.Door) P Q h f x = x
+ended_as (Some fault.NoMemory) P Q h f x = f x
 
 pub served_then : {H Job : Type 0} (hub : Hub Job) (x y z : Server H Job) (at mid since : Around) (a b c : Option Told)
-    (first then_at last n turns : ℕ) (ok : Bool)
-    → AnswersJoin → (ok ≡ true → turns ≡ n + 1) → n + 1 ≤ turns
-    → HasServed {H = H} hub x y at mid a b first then_at n true → HasServed {H = H} hub y z mid since b c then_at last 1 ok
-    → HasServed {H = H} hub x z at since a c first last turns ok
-served_then {H} hub x y z at mid since a b c first then_at last n turns ok join whole few f g = record {
+    (first then_at last n turns : ℕ) (why : Option ServeFault)
+    → AnswersJoin → (is_some why ≡ false → turns ≡ n + 1) → n + 1 ≤ turns
+    → HasServed {H = H} hub x y at mid a b first then_at n None → HasServed {H = H} hub y z mid since b c then_at last 1 why
+    → HasServed {H = H} hub x z at since a c first last turns why
+served_then {H} hub x y z at mid since a b c first then_at last n turns why join whole few f g = record {
   heard = f.heard ++ g.heard;
   waits = f.waits ++ g.waits;
   given = f.given ++ g.given;
   told = tells_then a b c f.heard g.heard f.waits g.waits f.given g.given f.told g.told;
-  count = turns_then ok n turns f.heard g.heard f.count g.count whole few;
+  count = turns_then why n turns f.heard g.heard f.count g.count whole few;
   serves = λ s h stands before.
-      serves_then hub s (not ok) (AtEnd {H = H} hub s y at mid then_at h) (HasEnded {H = H} y at then_at h)
-      (AtEnd {H = H} hub s z at since last h) (HasEnded {H = H} z at last h) g.heard g.waits g.given
-      (λ m end. serves_as hub s (not ok) (AtEnd {H = H} hub s z mid since last m) (HasEnded {H = H} z mid last m)
-      (AtEnd {H = H} hub s z at since last h) (HasEnded {H = H} z at last h)
+      serves_then hub s (is_some why) (AtEnd {H = H} hub s y at mid then_at h) (IfMemoryEnds None (HasEnded {H = H} y at then_at h))
+      (AtEnd {H = H} hub s z at since last h) (IfMemoryEnds why (HasEnded {H = H} z at last h)) g.heard g.waits g.given
+      (λ m end. serves_as hub s (is_some why) (AtEnd {H = H} hub s z mid since last m) (IfMemoryEnds why (HasEnded {H = H} z mid last m))
+      (AtEnd {H = H} hub s z at since last h) (IfMemoryEnds why (HasEnded {H = H} z at last h))
       (λ k there. record { stands = there.stands; went = went_then join at mid since h m k end.went there.went; timely = there.timely })
-      (λ k there. record {
+      (λ k. ended_as why (HasEnded {H = H} z mid last m) (HasEnded {H = H} z at last h) k (λ there. record {
         ended = there.ended;
         until = there.until;
         went = went_then join at mid there.until h m k end.went there.went;
         timely = there.timely;
-      })
+      }))
       m g.heard g.waits g.given (g.serves s m end.stands end.timely))
       h f.heard f.waits f.given (f.serves s h stands before);
 }
 
 -- before the first turn
 pub served_none : {H Job : Type 0} (hub : Hub Job) (x : Server H Job) (at : Around) (a : Option Told) (first : ℕ)
-    → HasServed {H = H} hub x x at at a a first first 0 true
+    → HasServed {H = H} hub x x at at a a first first 0 None
 served_none {H} hub x at a first = record {
   heard = [];
   waits = [];
@@ -350,13 +355,21 @@ served_none {H} hub x at a first = record {
 -- ---- the same in other words
 
 pub served_count : {H Job : Type 0} {hub : Hub Job} {x y : Server H Job} {at since : Around} {a b : Option Told}
-    {first last : ℕ} {ok : Bool} (n turns : ℕ) → n ≡ turns
-    → HasServed {H = H} {Job = Job} hub x y at since a b first last n ok → HasServed {H = H} {Job = Job} hub x y at since a b first last turns ok
-served_count {H} {Job} {hub} {x} {y} {at} {since} {a} {b} {first} {last} {ok} n turns same f =
-    subst (λ k. HasServed {H = H} {Job = Job} hub x y at since a b first last k ok) same f
+    {first last : ℕ} {why : Option ServeFault} (n turns : ℕ) → n ≡ turns
+    → HasServed {H = H} {Job = Job} hub x y at since a b first last n why → HasServed {H = H} {Job = Job} hub x y at since a b first last turns why
+served_count {H} {Job} {hub} {x} {y} {at} {since} {a} {b} {first} {last} {why} n turns same f =
+    subst (λ k. HasServed {H = H} {Job = Job} hub x y at since a b first last k why) same f
 
-pub unok_served : {H Job A E : Type 0} {hub : Hub Job} {x y : Server H Job} {at since : Around} {a b : Option Told} {first last turns : ℕ}
-    (r : Result A E) → IsErr r → HasServed {H = H} {Job = Job} hub x y at since a b first last turns false
-    → HasServed {H = H} {Job = Job} hub x y at since a b first last turns (is_ok r)
-unok_served {H} {Job} {A} {E} {hub} {x} {y} {at} {since} {a} {b} {first} {last} {turns} r err f =
-    subst (λ ok. HasServed {H = H} {Job = Job} hub x y at since a b first last turns ok) (sym (unok r err)) f
+-- after whatever fault, and after this one
+pub err_served : {H Job A : Type 0} {hub : Hub Job} {x y : Server H Job} {at since : Around} {a b : Option Told} {first last turns : ℕ}
+    (r : Result A ServeFault) → IsErr r → ((why : ServeFault) → HasServed {H = H} {Job = Job} hub x y at since a b first last turns (Some why))
+    → HasServed {H = H} {Job = Job} hub x y at since a b first last turns (result_err r)
+err_served (Ok x) err f = absurd (let z : false ≡ true = err in cc)
+err_served (Err why) err f = f why
+
+pub same_served : {H Job A : Type 0} {hub : Hub Job} {x y : Server H Job} {at since : Around} {a b : Option Told} {first last turns : ℕ}
+    (r : Result A ServeFault) (why : ServeFault) → IsErrAnd r (λ e. e ≡ why) → HasServed {H = H} {Job = Job} hub x y at since a b first last turns (Some why)
+    → HasServed {H = H} {Job = Job} hub x y at since a b first last turns (result_err r)
+same_served {H} {Job} {A} {hub} {x} {y} {at} {since} {a} {b} {first} {last} {turns} r why err f =
+    let p = err_from_is_err_and r err in
+    subst (λ s. HasServed {H = H} {Job = Job} hub x y at since a b first last turns (result_err s)) (sym (p.1 ∙ ap Err p.2)) f

@@ -1,5 +1,5 @@
 -- A server that hears through a door: what it gave the door for all that it heard.
-use Rattle.std.specs.Prelude.{◌≡◌, ◌≤◌, ℕ, Bool, true, false, not, List, [], ◌∷◌, ◌++◌, length, map, Option, Some, None, Result, Ok, Err}
+use Rattle.std.specs.Prelude.{◌≡◌, ◌≤◌, ℕ, Bool, true, false, List, [], ◌∷◌, ◌++◌, length, map, Option, Some, None, is_some, Result, Ok, Err}
 use Rattle.hd_facts.specs.Counts.{Rose}
 use Rattle.hd_facts.specs.Prefixes.{IsPrefix}
 use Rattle.hd_calls.specs.Hubs.{Hub}
@@ -69,18 +69,24 @@ pub record HasEnded {H Job : Type 0} (new : Server H Job) (at : Around) (last : 
   pub went : Went at until h after
   pub timely : moment after ≤ last
 
--- how many events were heard
-abbrev pub AreTurns : Bool → ℕ → ℕ → Type 0
-AreTurns true turns n = n ≡ turns
-AreTurns false turns n = n ≤ turns
+-- how many events were heard: as many as turns, or no more if a fault came before
+abbrev pub AreTurns : Option ServeFault → ℕ → ℕ → Type 0
+AreTurns None turns n = n ≡ turns
+AreTurns (Some why) turns n = n ≤ turns
 
--- These were heard, and this given. For all doings for which the server stood, it was given as the server does; if not all turns were done,
--- the last event may be answered in part
-pub record HasServed {H Job : Type 0} (hub : Hub Job) (old new : Server H Job) (at since : Around) (before now : Option Told) (first last turns : ℕ) (ok : Bool) : Type 0 where
+-- this happened, which only want of memory can bring about
+abbrev pub IfMemoryEnds : Option ServeFault → (List Doing → Type 0) → List Doing → Type 0
+IfMemoryEnds (Some fault.NoMemory) Ended after = Ended after
+IfMemoryEnds (Some fault.Door) Ended after = ⊥
+IfMemoryEnds None Ended after = ⊥
+
+-- These were heard, and this given, until all turns were done, or a fault came. For all doings for which the server stood, it was given as the
+-- server does. After a fault the last event may be answered in part; and only if memory ran out may it be done in part.
+pub record HasServed {H Job : Type 0} (hub : Hub Job) (old new : Server H Job) (at since : Around) (before now : Option Told) (first last turns : ℕ) (why : Option ServeFault) : Type 0 where
   pub heard : List Heard
   pub waits : List ℕ
   pub given : List Given
   pub told : TellsMore before now heard waits given
-  pub count : AreTurns ok turns (length heard)
+  pub count : AreTurns why turns (length heard)
   pub serves : (s : Setup) (h : List Doing) → StandsServer hub s old h → moment h ≤ first
-      → ServesOn hub s (not ok) (AtEnd hub s new at since last h) (HasEnded new at last h) h heard waits given
+      → ServesOn hub s (is_some why) (AtEnd hub s new at since last h) (IfMemoryEnds why (HasEnded new at last h)) h heard waits given

@@ -1,5 +1,5 @@
 -- What a server did through its door, from nothing on.
-use Rattle.std.proofs.Common.{◌≡◌, ◌⊎◌, ◌≤◌, ℕ, Bool, true, false, not, List, [], ◌∷◌, ◌++◌, take, refl, sym, arith, inl, inr, ⊎_elim, Option, Some, IfSome, subst, option_map, Err}
+use Rattle.std.proofs.Common.{◌≡◌, ◌⊎◌, ◌≤◌, ℕ, List, [], ◌∷◌, ◌++◌, take, refl, sym, arith, inl, inr, ⊎_elim, Option, Some, None, is_some, IfSome, subst, option_map, Err}
 use Rattle.std.specs.Io.KnownBytes.{Appends}
 use Rattle.hd_facts.specs.Counts.{Rose}
 use Rattle.hd_server.specs.declared.vocabulary.Asked.{Asked}
@@ -16,7 +16,7 @@ use Rattle.hub_server.specs.declared.server.Server.{Server}
 use Rattle.hub_server.specs.Servers.{IsSetup}
 use Rattle.hub_server.specs.declared.serving.ServeFault.{ServeFault}
 use Rattle.hub_server.specs.declared.serving.ServeFault.TheVariants as fault
-use Rattle.hub_server.specs.Serving.{AtEnd, HasEnded, HasServed, IsCausedBy}
+use Rattle.hub_server.specs.Serving.{AtEnd, HasEnded, HasServed, IfMemoryEnds, IsCausedBy}
 use Rattle.hub_server.specs.Steps.{Around, StandsServer, around}
 use Rattle.sr_serve.specs.declared.serving.ServeError.{ServeError}
 use Rattle.sr_serve.specs.declared.serving.ServeError.TheVariants as end
@@ -31,21 +31,23 @@ at_end peers delivers s server at since last es h serves end = record {
   sides = are_sides peers delivers serve_hub s es h serves;
 }
 
-cut_off : ServersArePeers ServeJob → HoldsOverBytes → {H : Type 0} (s : Setup) (server : Server H ServeJob) (at : Around) (last : ℕ)
-    → Leads serve_hub s (HasEnded server at last []) (IsCut at last)
-cut_off peers delivers s server at last es h serves end = record {
+cut_off : ServersArePeers ServeJob → HoldsOverBytes → {H : Type 0} (s : Setup) (server : Server H ServeJob) (at : Around) (last : ℕ) (why : Option ServeFault)
+    → Leads serve_hub s (IfMemoryEnds why (HasEnded server at last [])) (IfMemoryEnds why (IsCut at last))
+cut_off peers delivers s server at last None es h serves end = end
+cut_off peers delivers s server at last (Some fault.Door) es h serves end = end
+cut_off peers delivers s server at last (Some fault.NoMemory) es h serves end = record {
   until = end.until;
   served = record { went = end.went; timely = end.timely; sides = are_sides peers delivers serve_hub s es h serves };
 }
 
 -- the line was written, and a server that did nothing before served
-pub serves_by : ServersArePeers ServeJob → HoldsOverBytes → {H : Type 0} (base : List ℕ) (turns rows : ℕ) (ok : Bool) (before now : Outside) (at : Around)
+pub serves_by : ServersArePeers ServeJob → HoldsOverBytes → {H : Type 0} (base : List ℕ) (turns rows : ℕ) (why : Option ServeFault) (before now : Outside) (at : Around)
     (server after : Server H ServeJob) → IfSome before.kept.holds (λ content. rows ≡ row_count content.rows)
     → Appends before.holds now.holds (serving_line rows) → at ≡ counted rows before.kept
     → ((s : Setup) → IsSetup s base → StandsServer serve_hub s server [])
-    → HasServed serve_hub server after at now.kept before.told now.told before.heard_at now.heard_at turns ok
-    → Serves base turns ok before now
-serves_by peers delivers base turns rows ok before now at server after are_rows line same stands has = record {
+    → HasServed serve_hub server after at now.kept before.told now.told before.heard_at now.heard_at turns why
+    → Serves base turns why before now
+serves_by peers delivers base turns rows why before now at server after are_rows line same stands has = record {
   rows = rows;
   are_rows = are_rows;
   line = line;
@@ -54,8 +56,8 @@ serves_by peers delivers base turns rows ok before now at server after are_rows 
   given = has.given;
   told = has.told;
   count = has.count;
-  serves = λ s setup. subst (λ a. ServesOn serve_hub s (not ok) (IsServed a now.kept now.heard_at) (IsCut a now.heard_at) [] has.heard has.waits has.given) same
-      (served_on serve_hub s (not ok) _ _ _ _ (at_end peers delivers s after at now.kept now.heard_at) (cut_off peers delivers s after at now.heard_at)
+  serves = λ s setup. subst (λ a. ServesOn serve_hub s (is_some why) (IsServed a now.kept now.heard_at) (IfMemoryEnds why (IsCut a now.heard_at)) [] has.heard has.waits has.given) same
+      (served_on serve_hub s (is_some why) _ _ _ _ (at_end peers delivers s after at now.kept now.heard_at) (cut_off peers delivers s after at now.heard_at why)
       has.heard has.waits has.given [] [] refl (has.serves s [] (stands s setup) (omega arith)));
 }
 
@@ -68,7 +70,7 @@ counted_by rows holds holds' answers answers' faults faults' drawn failures same
     rw (same_holds, same_answers, same_faults) refl
 
 -- the server ended before its turns were done
-pub serving_failed : (base : List ℕ) (turns : ℕ) (before now : Outside) (why : ServeFault) → Serves base turns false before now
+pub serving_failed : (base : List ℕ) (turns : ℕ) (before now : Outside) (why : ServeFault) → Serves base turns (Some why) before now
     → now.sink_faults ≡ before.sink_faults → IsCausedBy {T = Unit} before.door_faults now.door_faults (Err why) → Ends base turns before now (Err (error_of_server why))
 serving_failed base turns before now fault.Door serves whole cause = (serves, whole, cause.1)
 serving_failed base turns before now fault.NoMemory serves whole cause = (inr serves, whole, cause)

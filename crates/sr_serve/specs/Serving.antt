@@ -1,5 +1,5 @@
 -- What the command `serve` does with what is outside: its output, its door, its keeper and its lots.
-use Rattle.std.specs.Prelude.{◌≡◌, ◌⊎◌, ◌≤◌, ℕ, Bool, true, false, not, List, [], ◌∷◌, ◌++◌, length, take, codes, option_map, Option, Some, None, IfSome, Result, Ok, Err}
+use Rattle.std.specs.Prelude.{◌≡◌, ◌⊎◌, ◌≤◌, ℕ, List, [], ◌∷◌, ◌++◌, length, take, codes, option_map, Option, Some, None, is_some, IfSome, Result, Ok, Err}
 use Rattle.std.specs.Fmt.{decimal}
 use Rattle.std.specs.Io.KnownBytes.{Appends}
 use Rattle.hd_facts.specs.Counts.{Rose}
@@ -18,7 +18,7 @@ use Rattle.hub_serve.specs.Serving.{serve_hub}
 use Rattle.hub_server.specs.declared.serving.ServeFault.{ServeFault}
 use Rattle.hub_server.specs.declared.serving.ServeFault.TheVariants as fault
 use Rattle.hub_server.specs.Servers.{IsSetup}
-use Rattle.hub_server.specs.Serving.{AreTurns, TellsMore}
+use Rattle.hub_server.specs.Serving.{AreTurns, IfMemoryEnds, TellsMore}
 use Rattle.hub_server.specs.Steps.{Around, Went}
 use Rattle.sr_serve.specs.declared.serving.ServeError.{ServeError}
 use Rattle.sr_serve.specs.declared.serving.ServeError.TheVariants as end
@@ -55,14 +55,14 @@ pub record IsServed (at since : Around) (last : ℕ) (h : List Doing) : Type 0 w
   pub timely : moment h ≤ last
   pub sides : AreSides serve_hub h
 
--- it ended in the middle of an event: so it was at some moment before, and what was asked and drawn since isn't told
+-- memory ran out in the middle of an event: so it was at some moment before, and what was asked and drawn since isn't told
 pub record IsCut (at : Around) (last : ℕ) (h : List Doing) : Type 0 where
   pub until : Around
   pub served : IsServed at until last h
 
 -- The line of the rows was written. A server of this base heard these, each after its wait, and gave this: all of its turns, or as many as
--- there were until it ended
-pub record Serves (base : List ℕ) (turns : ℕ) (whole : Bool) (before now : Outside) : Type 0 where
+-- there were until this fault
+pub record Serves (base : List ℕ) (turns : ℕ) (why : Option ServeFault) (before now : Outside) : Type 0 where
   pub rows : ℕ
   pub are_rows : IfSome before.kept.holds (λ content. rows ≡ row_count content.rows)
   pub line : Appends before.holds now.holds (serving_line rows)
@@ -70,9 +70,9 @@ pub record Serves (base : List ℕ) (turns : ℕ) (whole : Bool) (before now : O
   pub waits : List ℕ
   pub given : List Given
   pub told : TellsMore before.told now.told heard waits given
-  pub count : AreTurns whole turns (length heard)
-  pub serves : (s : Setup) → IsSetup s base → ServesOn serve_hub s (not whole)
-      (IsServed (counted rows before.kept) now.kept now.heard_at) (IsCut (counted rows before.kept) now.heard_at) [] heard waits given
+  pub count : AreTurns why turns (length heard)
+  pub serves : (s : Setup) → IsSetup s base → ServesOn serve_hub s (is_some why)
+      (IsServed (counted rows before.kept) now.kept now.heard_at) (IfMemoryEnds why (IsCut (counted rows before.kept) now.heard_at)) [] heard waits given
 
 -- a first part of the line of the rows was written
 pub record BreaksOff (before now : Outside) : Type 0 where
@@ -110,13 +110,13 @@ IsHeard before now = now.door_faults ≡ before.door_faults
 
 -- by how it ended. The output's and the door's counts of faults rise only in the call that the answer tells of
 abbrev pub Ends : List ℕ → ℕ → Outside → Outside → Result Unit ServeError → Type 0
-Ends base turns before now (Ok done) = Serves base turns true before now × IsWhole before now × IsHeard before now
-Ends base turns before now (Err end.Door) = Serves base turns false before now × IsWhole before now × Rose before.door_faults now.door_faults
+Ends base turns before now (Ok done) = Serves base turns None before now × IsWhole before now × IsHeard before now
+Ends base turns before now (Err end.Door) = Serves base turns (Some fault.Door) before now × IsWhole before now × Rose before.door_faults now.door_faults
 Ends base turns before now (Err end.Keeper) =
     IsUntouched before now × IsWhole before now × IsHeard before now × HasFailed before.kept now.kept
 Ends base turns before now (Err end.Write) = BreaksOff before now × IsHeard before now × Rose before.sink_faults now.sink_faults
 Ends base turns before now (Err end.NoMemory) =
-    ((IsUntouched before now × IsAskedAtMost before.kept now.kept) ⊎ Serves base turns false before now) × IsWhole before now × IsHeard before now
+    ((IsUntouched before now × IsAskedAtMost before.kept now.kept) ⊎ Serves base turns (Some fault.NoMemory) before now) × IsWhole before now × IsHeard before now
 
 -- ---- faults below
 

@@ -1,8 +1,8 @@
-use Rattle.std.proofs.Common.{◌≡◌, ◌+◌, true, false, arith, refl, sym, ◌∙◌}
+use Rattle.std.proofs.Common.{◌≡◌, ◌+◌, true, false, Some, None, arith, refl, sym, ◌∙◌}
 use Rattle.std.proofs.lemmas.Bool.{eq-eqb, ne_eqb}
 use Rattle.hj_jobs.specs.Meaning.{meaning}
 use Rattle.hub_server.specs.Steps.{around}
-use Rattle.hub_server.proofs.ServeRun.{caused_same, served_count, served_none, served_then, unok, unok_served}
+use Rattle.hub_server.proofs.ServeRun.{caused_same, served_count, served_none, served_then, same_served, unok}
 use Rattle.hub_server.proofs.serving.serve.Goals as goal
 
 pub loop-turn-init : goal.loop-turn-init
@@ -18,9 +18,9 @@ loop-turn-init g c = record {
 
 pub returns-in_err-turn-clause-served : goal.returns-in_err-turn-clause-served
 returns-in_err-turn-clause-served g c =
-    unok_served c.from_residual.result c.from_residual.ensures.0
-    (served_then {H = g.row.H.Denot} {Job = g.row.H-Job.Denot} _ _ _ _ _ _ _ _ _ _ _ _ _ c.loop-turn._turn c.args.turns false c.answers_join.ensures
-    (λ e. absurd (let z : false ≡ true = e in cc)) (let test = c.loop-turn-test.true in omega (arith, test)) c.loop-turn.invariant.served
+    same_served c.from_residual.result c.in_err-turn.field-0.0 c.from_residual.ensures.1
+    (served_then {H = g.row.H.Denot} {Job = g.row.H-Job.Denot} _ _ _ _ _ _ _ _ _ _ _ _ _ c.loop-turn._turn c.args.turns (Some c.in_err-turn.field-0.0) c.answers_join.ensures
+    (λ e. absurd (let z : true ≡ false = e in cc)) (let test = c.loop-turn-test.true in omega (arith, test)) c.loop-turn.invariant.served
     c.in_err-turn.ensures.served)
 
 pub returns-in_err-turn-clause-ended : goal.returns-in_err-turn-clause-ended
@@ -39,7 +39,7 @@ returns-in_err-turn-clause-cause g c =
 pub loop-turn-preserved : goal.loop-turn-preserved
 loop-turn-preserved g c = record {
   served =
-      served_then {H = g.row.H.Denot} {Job = g.row.H-Job.Denot} _ _ _ _ _ _ _ _ _ _ _ _ _ c.loop-turn._turn (c.loop-turn._turn + 1) true
+      served_then {H = g.row.H.Denot} {Job = g.row.H-Job.Denot} _ _ _ _ _ _ _ _ _ _ _ _ _ c.loop-turn._turn (c.loop-turn._turn + 1) None
       c.answers_join.ensures (λ e. refl) (omega arith) c.loop-turn.invariant.served c.in_ok-turn.ensures.served;
   ended = λ e. absurd (let z : true ≡ false = (c.in_ok-turn.ensures.ended (c.loop-turn.invariant.ended e).1).0 in cc);
   unfailed = c.in_ok-turn.ensures.cause ∙ c.loop-turn.invariant.unfailed;

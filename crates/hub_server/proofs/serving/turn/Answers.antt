@@ -1,22 +1,22 @@
 use Rattle.std.proofs.Common.{◌≡◌, true, false, sym, subst, ◌∙◌}
-use Rattle.std.specs.Result.{is_ok}
 use Rattle.std.proofs.lemmas.Bool.{cond-false, cond-true}
 use Rattle.hd_serving.specs.Numbers.{most_wait}
 use Rattle.hd_serving.specs.Serving.{is_idle}
 use Rattle.hj_jobs.specs.Meaning.{meaning}
+use Rattle.hub_server.specs.declared.serving.ServeFault.TheVariants as fault
 use Rattle.hub_server.specs.Serving.{IsCausedBy}
 use Rattle.hub_server.specs.Steps.{around}
-use Rattle.hub_server.proofs.ServeRun.{caused_door, caused_memory, served_answer, served_ended, served_nothing, unok, unok_served}
+use Rattle.hub_server.proofs.ServeRun.{caused_door, caused_memory, err_served, same_served, served_answer, served_ended, served_nothing, unok}
 use Rattle.hub_server.proofs.serving.turn.Goals.{then-idle, else-idle}
 use Rattle.hub_server.proofs.serving.turn.Goals as goal
 
 pub returns-in_err-heard-clause-served : goal.returns-in_err-heard-clause-served
 returns-in_err-heard-clause-served g c =
-    unok_served c.from_residual.result c.from_residual.ensures.0
-    (served_nothing {H = g.row.H.Denot} {Job = g.row.H-Job.Denot} (meaning g.H.Hub.begin_of g.H.Hub.step_of) c.args.server.now
+    err_served c.from_residual.result c.from_residual.ensures.0
+    (λ why. served_nothing {H = g.row.H.Denot} {Job = g.row.H-Job.Denot} (meaning g.H.Hub.begin_of g.H.Hub.step_of) c.args.server.now
     (around (g.K.Keeper.holds c.args.keeper.now) (g.K.Keeper.answers c.args.keeper.now) (g.K.Keeper.faults c.args.keeper.now)
     (g.L.Lots.drawn c.args.lots.now) (g.L.Lots.faults c.args.lots.now))
-    (g.D.Door.told c.args.door.now) (g.D.Door.told c.next.new.self) (g.D.Door.moment c.args.door.now) (g.D.Door.moment c.next.new.self)
+    (g.D.Door.told c.args.door.now) (g.D.Door.told c.next.new.self) (g.D.Door.moment c.args.door.now) (g.D.Door.moment c.next.new.self) why
     c.in_err-heard.ensures.heard c.in_err-heard.ensures.later)
 
 pub returns-in_err-heard-clause-ended : goal.returns-in_err-heard-clause-ended
@@ -29,7 +29,7 @@ returns-in_err-heard-clause-cause g c =
 
 pub returns-in_err-words-clause-served : goal.returns-in_err-words-clause-served
 returns-in_err-words-clause-served g c =
-    unok_served c.from_residual-in_err-words.result c.from_residual-in_err-words.ensures.0
+    same_served c.from_residual-in_err-words.result fault.NoMemory c.from_residual-in_err-words.ensures.1
     (served_ended {H = g.row.H.Denot} {Job = g.row.H-Job.Denot} (meaning g.H.Hub.begin_of g.H.Hub.step_of) c.args.server.now c.step.new.self
     (around (g.K.Keeper.holds c.args.keeper.now) (g.K.Keeper.answers c.args.keeper.now) (g.K.Keeper.faults c.args.keeper.now)
     (g.L.Lots.drawn c.args.lots.now) (g.L.Lots.faults c.args.lots.now))
@@ -60,7 +60,7 @@ returns-clause-served g c =
     (around (g.K.Keeper.holds c.step.new.keeper) (g.K.Keeper.answers c.step.new.keeper) (g.K.Keeper.faults c.step.new.keeper)
     (g.L.Lots.drawn c.step.new.lots) (g.L.Lots.faults c.step.new.lots))
     (g.D.Door.told c.args.door.now) (g.D.Door.told c.next.new.self) (g.D.Door.told c.give_all.new.door) (g.D.Door.moment c.args.door.now)
-    (g.D.Door.moment c.give_all.new.door) c.if-idle.wait c.in_ok-heard.heard (is_ok c.give_all.result) c.in_ok-words.words.items
+    (g.D.Door.moment c.give_all.new.door) c.if-idle.wait c.in_ok-heard.heard c.give_all.result c.in_ok-words.words.items
     c.in_ok-heard.ensures.heard (c.in_ok-heard.ensures.later.0, c.give_all.ensures.still ∙ c.in_ok-heard.ensures.later.1)
     c.in_ok-words.ensures.turn
     (λ s h stands. elim c.if-idle.branch [
