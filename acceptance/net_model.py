@@ -18,6 +18,7 @@ CRATE = pathlib.Path(__file__).resolve().parent.parent / "crates" / "ht_net"
 PIECE = 4096
 HEAD = 16384
 UNWRITTEN = 1 << 20
+NAMED = 64
 WAIT = 30000
 PHRASES = {101: "Switching Protocols", 200: "OK", 202: "Accepted", 204: "No Content", 400: "Bad Request", 401: "Unauthorized", 404: "Not Found",
            405: "Method Not Allowed", 409: "Conflict", 411: "Length Required", 413: "Payload Too Large", 431: "Request Header Fields Too Large",
@@ -121,9 +122,9 @@ class Failed(Exception):
 
 
 class Door:
-    def __init__(self, moments, wires, failing):
-        self.moments, self.wires, self.failing = list(moments), wires, set(failing)
-        self.calls = self.moment = self.heard_at = self.given = self.first = 0
+    def __init__(self, moments, wires, failing, names=()):
+        self.moments, self.wires, self.failing, self.names = list(moments), wires, set(failing), list(names)
+        self.calls = self.moment = self.heard_at = self.given = self.first = self.named = 0
         self.lanes = []
 
     # ---- the wires
@@ -134,6 +135,7 @@ class Door:
             raise Failed
 
     def poll(self):
+        self.name = self.names.pop(0) if self.names else None
         self.call()
         if self.moments:
             self.moment = self.moments.pop(0)
@@ -302,10 +304,13 @@ class Door:
         except Failed:
             return "failed"
         event = None
-        for lane in sorted(self.lanes, key=lambda lane: (lane.number < self.first, lane.number)):
+        by_name = self.name is not None and self.named < NAMED
+        self.named = self.named + 1 if by_name else 0
+        begin = self.name if by_name else self.first
+        for lane in sorted(self.lanes, key=lambda lane: (lane.number < begin, lane.number)):
             if event is None:
                 event = self.turn(lane)
-                if event:
+                if event and not by_name:
                     self.first = lane.number + 1
             else:
                 self.say(lane)
@@ -359,7 +364,7 @@ class Script:
     """Lines and what each is answered: by the model, or by what is written down by hand."""
 
     def __init__(self):
-        self.lines, self.answers, self.wires, self.door = [], [], [], None
+        self.lines, self.answers, self.wires, self.names, self.door = [], [], [], [], None
 
     def say(self, line, answer):
         self.lines.append(line)
@@ -373,8 +378,12 @@ class Script:
         self.wires.append(Wire(since, reads, writes, list(items)))
         self.say(f"wire {since} {words} {','.join(map(str, writes)) or '-'}", "to be given")
 
+    def name(self, names):
+        self.names = list(names)
+        self.say(f"names {','.join('*' if name is None else str(name) for name in names)}", "to be named")
+
     def start(self, moments, failing=()):
-        self.door, self.wires = Door(moments, self.wires, failing), []
+        self.door, self.wires, self.names = Door(moments, self.wires, failing, self.names), [], []
         words = ",".join(map(str, moments)) or "-", ",".join(map(str, sorted(failing))) or "-"
         self.say(f"door {words[0]} {words[1]}", "a door")
 
@@ -524,6 +533,32 @@ def by_hand(s):
         s.next(f"at 1 request {lane} GET /{path} ? - - kept -")
     s.written(0, b"HTTP/1.1 204 No Content\r\n\r\n")
 
+    s.note("the lane that is named is heard first, and the order of all goes on where it was")
+    asked = [request("GET", f"/{i}") for i in range(8)]
+    for i in range(4):
+        s.wire(0, [talk(asked[2 * i], asked[2 * i + 1])], FREE, asked[2 * i:2 * i + 2])
+    s.name([None, None, None, None, 3, 7, None, 1, 1])
+    s.start([1])
+    for lane, path in ((0, 0), (1, 2), (2, 4), (3, 6)):
+        s.next(f"at 1 request {lane} GET /{path} ? - - kept -")
+    for lane in range(4):
+        s.reply(lane, 204)
+    for lane, path in ((3, 7), (0, 1), (1, 3), (2, 5)):
+        s.next(f"at 1 request {lane} GET /{path} ? - - kept -")
+    s.next("at 1 quiet")
+
+    s.note("a lane that is never named is heard all the same: the sixty-fifth search in a row begins where the order of all is")
+    asked = [request("GET", f"/{i}") for i in range(130)]
+    s.wire(0, [talk(*asked)], FREE * 4, asked)
+    s.wire(0, [asked[0].data], FREE, asked[:1])
+    s.name([0] * 200)
+    s.start([1])
+    for path in range(129):
+        s.next(f"at 1 request 0 GET /{path} ? - - kept -")
+        s.reply(0, 204)
+    s.next("at 1 request 1 GET /0 ? - - kept -")
+    s.next("at 1 request 0 GET /129 ? - - kept -")
+
     s.note("failing calls: of poll and accept the door's, of a wire its lane's")
     items = [request("GET", "/f")]
     s.wire(0, [items[0].data], FREE, items)
@@ -583,6 +618,8 @@ def at_random(s, seed, steps=60):
         moment += rng.randrange(3) * rng.randrange(9)
         s.wire(moment, pieces(rng, talk(*items)), writes, items)
     moments = sorted(rng.randrange(rng.choice([100, 100000])) for _ in range(steps))
+    if seed % 2:
+        s.name([rng.choice([None, 0, 1, 2, 3, 9]) for _ in range(steps)])
     s.start(moments, [rng.randrange(200) for _ in range(rng.choice([0, 0, 1, 5]))])
     for _ in range(steps):
         for lane in list(s.door.lanes):

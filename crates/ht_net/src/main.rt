@@ -10,6 +10,7 @@
 //! wire MOMENT READS WRITES           is given by the wires of the door that starts next: the moment from which it may be accepted, what
 //!                                    its reads give (bytes with a comma between two, in which `*` is nothing yet and `!` the end), and
 //!                                    the list of how many bytes its writes take
+//! names NAMES                        the wires of the door that starts next name these after its polls: a number each, or `*` for none
 //! door MOMENTS FAILING               a door over wires that poll these moments, and fail at the calls of these numbers
 //! next WAIT                          what is heard
 //! reply LANE STATUS KIND BODY ACCEPT     a reply that can be sent; KIND is `none`, `json` or `octets`
@@ -20,6 +21,7 @@
 //! ```
 #![tactic(auto)]
 
+mod named;
 mod script;
 mod stop;
 mod telling;

@@ -5,6 +5,7 @@ ghost use Rattle.std.specs.List.{list_any};
 ghost use Rattle.hd_lanes.specs.Replies.{IsReply, statuses};
 ghost use Rattle.hw_door.specs.Wires.{IsRising};
 
+use crate::named::NamedWires;
 use crate::stop::Stop;
 use crate::telling::told;
 use crate::words::{accept, body, bytes, count, counts, first_word, kind, number, numbers, shown};
@@ -19,12 +20,13 @@ const ROOM: usize = 4_000_000;
 
 const CALLS: usize = 100_000;
 
-/// A door, and the wires that the next one stands on.
+/// A door, and the wires that the next one stands on, with what they name.
 #[derive(Drop)]
 pub struct Bench {
     alloc: Global,
     wires: Vec<MemoryWire>,
-    door: NetDoor<MemoryWires>,
+    names: Vec<Option<u64>>,
+    door: NetDoor<NamedWires>,
 }
 
 /// Whether the moments never fall.
@@ -71,6 +73,18 @@ fn read_of(alloc: Global, part: &str) -> Result<WireGiven, Stop> {
         "!" => Ok(WireGiven::Ended),
         _ => Ok(WireGiven::Bytes(Vec8::from_vec(bytes(alloc, part)?))),
     }
+}
+
+fn names_of(alloc: Global, word: &str) -> Result<Vec<Option<u64>>, Stop> {
+    let mut names = Vec::new(alloc);
+    for part in word.split(',') {
+        names.push(if part == "*" {
+            None
+        } else {
+            Some(number(part)?)
+        })?;
+    }
+    Ok(names)
 }
 
 /// Whether a reply may have this status.
@@ -130,7 +144,8 @@ impl Bench {
         Ok(Bench {
             alloc,
             wires: Vec::new(alloc),
-            door: NetDoor::start(alloc, wires),
+            names: Vec::new(alloc),
+            door: NetDoor::start(alloc, NamedWires::start(wires, Vec::new(alloc))),
         })
     }
 
@@ -149,6 +164,7 @@ impl Bench {
         match word {
             "note" => Ok(format!(in self.alloc; "note {rest}")?),
             "wire" => self.add_wire(rest),
+            "names" => self.give_names(rest),
             "door" => self.start_door(rest),
             "next" => self.next(rest),
             "reply" => self.reply(rest),
@@ -170,6 +186,11 @@ impl Bench {
         self.told("to be given")
     }
 
+    fn give_names(&mut self, words: &str) -> Result<String, Stop> {
+        self.names = names_of(self.alloc, words)?;
+        self.told("to be named")
+    }
+
     fn start_door(&mut self, words: &str) -> Result<String, Stop> {
         let (moments, failing) = first_word(words);
         let moments = numbers(self.alloc, moments)?;
@@ -178,8 +199,9 @@ impl Bench {
             return Err(Stop::Refused);
         }
         let given = mem::replace(&mut self.wires, Vec::new(self.alloc));
+        let names = mem::replace(&mut self.names, Vec::new(self.alloc));
         let wires = MemoryWires::start(self.alloc, moments, given, failing, ROOM, CALLS)?;
-        self.door = NetDoor::start(self.alloc, wires);
+        self.door = NetDoor::start(self.alloc, NamedWires::start(wires, names));
         self.told("a door")
     }
 

@@ -29,6 +29,7 @@ mod limits;
 mod mio_wires;
 mod opened;
 mod place;
+mod ready;
 mod refusal;
 mod table;
 #[cfg(test)]

@@ -6,6 +6,9 @@ pub const PLACES: usize = 16_384;
 /// How many wires are numbered in all, so that a number is below 2^62.
 pub const MOST_WIRES: u64 = 1 << 48;
 
+/// How many polls in a row that don't wait may leave the system unasked.
+pub const MOST_UNASKED: u64 = 32;
+
 /// How many events one poll takes at most.
 pub const EVENTS: usize = 1_024;
 
@@ -23,3 +26,6 @@ pub const ENDINGS: usize = 32_768;
 
 /// After how many milliseconds a connection is asked for again for which the system had no room.
 pub const MOST_CROWDED: u64 = 1_000;
+
+/// How many polls in a row that might wait don't, while some wire is readable, after there was something.
+pub const STIRRED: u8 = 2;

@@ -7,12 +7,13 @@ ghost use Rattle.hw_mio.specs.Standard.{start_error, wires_bound, wires_moment, 
 
 use crate::endings::Endings;
 use crate::incoming::Incoming;
-use crate::limits::EVENTS;
+use crate::limits::{EVENTS, MOST_UNASKED, STIRRED};
 use crate::opened::{LISTENER, Opened};
 use crate::refusal::{Refusal, refusal_of};
 use crate::table::{Shut, Table};
 use hw_door::{WireRead, Wires};
 use hw_io::Failed;
+use hw_net::ReadyWires;
 use mio::Events;
 use mio::net::TcpStream;
 use std::alloc::{AllocError, Global};
@@ -26,10 +27,14 @@ use std::time::{Duration, Instant};
 /// A wire's number is below 2^62. At most [`PLACES`](crate::PLACES) wires are up at once, and 2^48 are made in all. Past either,
 /// `accept` answers `None`, as it does if the system has no descriptor or memory for one more, and `connect` fails.
 ///
-/// `poll` waits for an event of a socket. What an event told stays known until a call on that wire would wait, and `poll` doesn't tell
-/// it again: a caller that leaves bytes unread hands in a `wait` of 0. It doesn't wait in any case while a connection may be there to
-/// be accepted, nor if the poll before told of an event or since then bytes were read, a wire was shut, or `accept` failed, as the caller
-/// may have left other wires unread for that.
+/// `poll` waits for an event of a socket. What an event told stays known until a call on that wire would wait, or a read gives less than
+/// its buffer has room for, and `poll` doesn't tell it again: a caller that leaves bytes unread hands in a `wait` of 0. A wire of which an
+/// end or an error was told stays readable until that is read. `poll` doesn't wait while a connection may be there to be accepted, if there
+/// is room for it. Nor do two polls in a row that might, while some wire is readable, after an event was told, bytes were read, a wire was
+/// shut, or `accept` failed, as the caller may have left that wire unread for this. Of polls that don't wait only each 33rd asks the system
+/// for events.
+///
+/// The wires that are named are those of which a read may give something, or of which the last read did, in the order of their places.
 ///
 /// `shut` ends what is written, but not the connection: what still comes is read and dropped, until the peer ends too, for at most 2 s
 /// and 1 MiB. So the peer gets all that was written before, though it had sent bytes that were never read. The wire's number is gone
@@ -42,8 +47,10 @@ pub struct MioWires<'a, R> {
     table: Table,
     endings: Endings,
     incoming: Incoming,
-    // Since the last poll there was something for which the caller may have left wires unread.
-    is_stirred: bool,
+    // In how many polls the caller may still have left wires unread for something that there was.
+    stirred: u8,
+    // How many polls in a row left the system unasked.
+    unasked: u64,
     moment: u64,
     faults: u64,
 }
@@ -100,7 +107,8 @@ impl<'a, R: Net + Clock> MioWires<'a, R> {
             table: Table::start(alloc)?,
             endings: Endings::start(alloc)?,
             incoming: Incoming::Quiet,
-            is_stirred: false,
+            stirred: 0,
+            unasked: 0,
             moment: 0,
             faults: 0,
         })
@@ -130,7 +138,7 @@ impl<'a, R: Net + Clock> MioWires<'a, R> {
     fn wait_for(&self, wait: u64) -> u64
         ensures { result ≤ wait }
     {
-        if self.is_stirred {
+        if self.stirred > 0 && self.table.has_readable() {
             return 0;
         }
         let wait = self.endings.wait_for(wait, self.moment);
@@ -141,8 +149,20 @@ impl<'a, R: Net + Clock> MioWires<'a, R> {
         }
     }
 
-    /// Waits for events, and takes them.
-    fn take_events(&mut self, wait: u64) -> io::Result<()>
+    /// Whether the system is asked for events: not in a poll that doesn't wait, but for each so many.
+    fn must_ask(&mut self, wait: u64) -> bool
+        ensures { self.new ≡ record self.old { unasked = self.new.unasked } }
+    {
+        if wait == 0 && self.unasked < MOST_UNASKED {
+            self.unasked += 1;
+            return false;
+        }
+        self.unasked = 0;
+        true
+    }
+
+    /// Waits for events, and takes them. The answer is whether there were any.
+    fn take_events(&mut self, wait: u64) -> io::Result<bool>
         ensures still { IsStill self.old self.new }
         ensures wires { wires_bound self.new ≡ wires_bound self.old }
     {
@@ -154,7 +174,7 @@ impl<'a, R: Net + Clock> MioWires<'a, R> {
             .poll
             .poll(&mut self.events, Some(Duration::from_millis(wait)))?;
         self.incoming = wake(&self.events, &mut self.table, self.incoming);
-        Ok(())
+        Ok(self.events.iter().next().is_some())
     }
 
     /// The milliseconds since the start, which never fall.
@@ -235,17 +255,27 @@ impl<'a, R: Net + Clock> Wires for MioWires<'a, R> {
 
     fn poll(&mut self, wait: u64) -> Result<u64, Failed> {
         self.close_due();
+        let stirred = if wait > 0 {
+            self.stirred.saturating_sub(1)
+        } else {
+            self.stirred
+        };
         let wait = self.wait_for(wait);
-        // Events that are taken before this fails aren't told again.
-        self.is_stirred = true;
-        if self.take_events(wait).is_err() {
-            return Err(self.fail());
+        let mut is_told = false;
+        if self.must_ask(wait) {
+            // Events that are taken before this fails aren't told again.
+            self.stirred = STIRRED;
+            match self.take_events(wait) {
+                Ok(told) => is_told = told,
+                Err(_) => return Err(self.fail()),
+            }
         }
         let Ok(now) = self.read_clock() else {
             return Err(self.fail());
         };
-        // Not every wire that was told of need be read before the next poll.
-        self.is_stirred = self.events.iter().next().is_some();
+        if !is_told {
+            self.stirred = stirred;
+        }
         self.moment = now;
         self.close_due();
         Ok(now)
@@ -255,7 +285,7 @@ impl<'a, R: Net + Clock> Wires for MioWires<'a, R> {
         match self.take_connection() {
             Ok(wire) => Ok(wire),
             Err(_) => {
-                self.is_stirred = true;
+                self.stirred = STIRRED;
                 Err(self.fail())
             }
         }
@@ -273,7 +303,7 @@ impl<'a, R: Net + Clock> Wires for MioWires<'a, R> {
     fn read(&mut self, wire: u64, buf: &mut [u8]) -> Result<WireRead, Failed> {
         match self.table.read(wire, buf) {
             Ok(WireRead::Some(count)) => {
-                self.is_stirred = true;
+                self.stirred = STIRRED;
                 Ok(WireRead::Some(count))
             }
             Ok(WireRead::NotYet) => Ok(WireRead::NotYet),
@@ -295,6 +325,12 @@ impl<'a, R: Net + Clock> Wires for MioWires<'a, R> {
             Shut::Closed => self.incoming = self.incoming.after_close(),
             Shut::Ending => self.endings.add(wire, self.moment, &mut self.table),
         }
-        self.is_stirred = true;
+        self.stirred = STIRRED;
+    }
+}
+
+impl<'a, R: Net + Clock> ReadyWires for MioWires<'a, R> {
+    fn ready_after(&self, wire: u64) -> Option<u64> {
+        self.table.ready_after(wire)
     }
 }

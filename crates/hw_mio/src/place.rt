@@ -17,10 +17,12 @@ use std::net::Shutdown;
 pub struct Live {
     number: u64,
     stream: TcpStream,
-    // A read may give something: from an event until a read that would wait.
+    // A read may give something: from an event until a read that would wait, or gave less than there was room for.
     is_readable: bool,
     // A write may take something: from an event until a write that would wait.
     is_writable: bool,
+    // An event told that the wire is over, so a read may meet its end.
+    is_closing: bool,
     // The peer's end was read.
     has_ended: bool,
 }
@@ -33,6 +35,7 @@ impl Live {
             stream,
             is_readable: is_ready,
             is_writable: is_ready,
+            is_closing: false,
             has_ended: false,
         }
     }
@@ -40,6 +43,9 @@ impl Live {
     /// An end or an error is both, so that the next call of either kind meets it.
     fn wake(&mut self, event: &Event) {
         let is_over = event.is_error() || event.is_read_closed() || event.is_write_closed();
+        if is_over {
+            self.is_closing = true;
+        }
         if event.is_readable() || is_over {
             self.is_readable = true;
         }
@@ -59,7 +65,13 @@ impl Live {
                 self.has_ended = true;
                 Ok(WireRead::Ended)
             }
-            Ok(count) => Ok(WireRead::Some(count)),
+            Ok(count) => {
+                // Less than there was room for is all that came, and an event tells of more. An end makes no further event.
+                if count < buf.len() && !self.is_closing {
+                    self.is_readable = false;
+                }
+                Ok(WireRead::Some(count))
+            }
             Err(error) if would_wait(&error) => {
                 self.is_readable = false;
                 Ok(WireRead::NotYet)
@@ -168,6 +180,22 @@ impl Place {
         match self {
             Place::Live(live) if live.number == wire => live.write(bytes),
             _ => Err(absent()),
+        }
+    }
+
+    /// The number of the wire that is up here.
+    pub fn number(&self) -> Option<u64> {
+        match self {
+            Place::Live(live) => Some(live.number),
+            _ => None,
+        }
+    }
+
+    /// Whether a read of the wire here may give something.
+    pub fn is_readable(&self) -> bool {
+        match self {
+            Place::Live(live) => live.is_readable,
+            _ => false,
         }
     }
 

@@ -5,6 +5,7 @@ ghost use Rattle.hw_door.specs.Traffic.{CountsWithin, IsNewWire};
 
 use crate::limits::{MOST_WIRES, PLACES};
 use crate::place::{Live, Place};
+use crate::ready::ReadySet;
 use hw_door::WireRead;
 use mio::event::Event;
 use mio::net::TcpStream;
@@ -34,6 +35,10 @@ pub struct Table {
     free: Option<usize>,
     // How many wires were made.
     made: u64,
+    // The places of wires of which a read may give something, or of which the last read did.
+    ready: ReadySet,
+    // How many wires a read may give something of.
+    readable: usize,
 }
 
 impl Model for Table {
@@ -74,6 +79,8 @@ impl Table {
             places: free_places(alloc)?,
             free: Some(0),
             made: 0,
+            ready: ReadySet::start(alloc)?,
+            readable: 0,
         })
     }
 
@@ -101,6 +108,10 @@ impl Table {
         }
         let number = self.made * PLACES as u64 + at as u64;
         self.places[at] = Place::Live(Live::start(number, stream, is_ready));
+        if is_ready {
+            self.ready.insert(at);
+            self.readable = self.readable.saturating_add(1);
+        }
         self.free = next;
         self.made += 1;
         Some(number)
@@ -113,9 +124,13 @@ impl Table {
         if at >= PLACES {
             return false;
         }
+        let was_readable = self.places[at].is_readable();
         let is_over = self.places[at].wake(event);
         if is_over {
             self.close(at);
+        } else if !was_readable && self.places[at].is_readable() {
+            self.ready.insert(at);
+            self.readable = self.readable.saturating_add(1);
         }
         is_over
     }
@@ -124,7 +139,29 @@ impl Table {
         ensures count { IfOk result (λ read. CountsWithin read (length buf.new)) }
         ensures bound { self.new ≡ self.old }
     {
-        self.places[place_of(wire)].read(wire, buf)
+        let at = place_of(wire);
+        let place = &mut self.places[at];
+        let was_readable = place.is_readable();
+        let read = place.read(wire, buf);
+        let is_readable = place.is_readable();
+        if was_readable && !is_readable {
+            self.readable = self.readable.saturating_sub(1);
+        }
+        if !is_readable && !matches!(read, Ok(WireRead::Some(_))) {
+            self.ready.remove(at);
+        }
+        read
+    }
+
+    /// Whether a read may give something of some wire.
+    pub fn has_readable(&self) -> bool {
+        self.readable > 0
+    }
+
+    /// The wire in the first place after that of this one, in a circle, of which a read may give something or the last one did.
+    pub fn ready_after(&self, wire: u64) -> Option<u64> {
+        let at = self.ready.next_after(place_of(wire))?;
+        self.places.get(at)?.number()
     }
 
     pub fn write(&mut self, wire: u64, bytes: &[u8]) -> io::Result<usize>
@@ -142,6 +179,7 @@ impl Table {
         if !self.places[at].is_live(wire) {
             return Shut::Absent;
         }
+        self.forget_readable(at);
         let place = mem::replace(&mut self.places[at], Place::Free(None));
         self.places[at] = place.shut();
         if self.places[at].is_ending(wire) {
@@ -165,6 +203,17 @@ impl Table {
             self.close(place_of(wire));
         }
         is_ending
+    }
+
+    /// The wire in this place is read no more.
+    fn forget_readable(&mut self, at: usize)
+        requires { at < PLACES }
+        ensures { self.new ≡ self.old }
+    {
+        if self.places[at].is_readable() {
+            self.readable = self.readable.saturating_sub(1);
+        }
+        self.ready.remove(at);
     }
 
     /// Closes the socket at a place, which is free then.

@@ -2,6 +2,7 @@
 
 use crate::{MioWires, PLACES};
 use hw_door::{WireRead, Wires};
+use hw_net::ReadyWires;
 use std::io::{Read, Write};
 use std::net::{IpAddr, Ipv4Addr, Net, Shutdown, TcpStream};
 use std::rt::Clock;
@@ -126,5 +127,61 @@ fn what_is_dialed_is_accepted(rt: HostRuntime) -> Result<(), Fail> {
     assert_eq!(rt; served.write(far, b"hi")?, 2);
     assert_eq!(rt; read(&mut dialed, near, &mut buf), Some(WireRead::Some(2)));
     assert_eq!(rt; buf, *b"hillo\0\0\0");
+    Ok(())
+}
+
+/// Polls until this wire is named after that one.
+fn is_named<R: Net + Clock>(wires: &mut MioWires<'_, R>, wire: u64, after: u64) -> bool {
+    for _ in 0..1_000 {
+        let polled = wires.poll(10);
+        if polled.is_ok() && wires.ready_after(after) == Some(wire) {
+            return true;
+        }
+    }
+    false
+}
+
+#[test]
+fn wires_are_named_in_turn_until_a_read_gives_nothing(rt: HostRuntime) -> Result<(), Fail> {
+    let mut wires = MioWires::listen(&rt, rt.alloc(), HERE, 47_806)?;
+    let mut buf = [0; 8];
+    let _first_peer = TcpStream::connect(&rt, (HERE, 47_806))?;
+    let first = accept(&mut wires).ok_or("no wire")?;
+    assert_eq!(rt; wires.ready_after(first), Some(first));
+    let mut second_peer = TcpStream::connect(&rt, (HERE, 47_806))?;
+    let second = accept(&mut wires).ok_or("no wire")?;
+    let mut third_peer = TcpStream::connect(&rt, (HERE, 47_806))?;
+    let third = accept(&mut wires).ok_or("no wire")?;
+    for wire in [first, second, third] {
+        assert_eq!(rt; wires.read(wire, &mut buf)?, WireRead::NotYet);
+    }
+    assert_eq!(rt; wires.ready_after(first), None);
+    third_peer.write_all(b"hello")?;
+    assert!(rt; is_named(&mut wires, third, first));
+    second_peer.write_all(b"hello")?;
+    assert!(rt; is_named(&mut wires, second, first));
+    assert_eq!(rt; wires.ready_after(second), Some(third));
+    assert_eq!(rt; wires.ready_after(third), Some(second));
+    assert_eq!(rt; wires.read(second, &mut buf)?, WireRead::Some(5));
+    assert_eq!(rt; wires.ready_after(first), Some(second));
+    assert_eq!(rt; wires.read(second, &mut buf)?, WireRead::NotYet);
+    assert_eq!(rt; wires.ready_after(first), Some(third));
+    wires.shut(third);
+    assert_eq!(rt; wires.ready_after(first), None);
+    Ok(())
+}
+
+#[test]
+fn what_came_is_read_to_its_end_after_one_event(rt: HostRuntime) -> Result<(), Fail> {
+    let mut wires = MioWires::listen(&rt, rt.alloc(), HERE, 47_807)?;
+    let mut peer = TcpStream::connect(&rt, (HERE, 47_807))?;
+    let wire = accept(&mut wires).ok_or("no wire")?;
+    let mut buf = [0; 8];
+    assert_eq!(rt; wires.read(wire, &mut buf)?, WireRead::NotYet);
+    peer.write_all(b"hello, world")?;
+    peer.shutdown(Shutdown::Write)?;
+    assert_eq!(rt; read(&mut wires, wire, &mut buf), Some(WireRead::Some(8)));
+    assert_eq!(rt; wires.read(wire, &mut buf)?, WireRead::Some(4));
+    assert_eq!(rt; wires.read(wire, &mut buf)?, WireRead::Ended);
     Ok(())
 }

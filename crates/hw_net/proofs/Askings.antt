@@ -1,5 +1,5 @@
 -- How a look and a read come to one turn of a lane of requests.
-use Rattle.std.proofs.Common.{◌≡◌, ◌≤◌, ℕ, List, [], ◌++◌, true, false, Option, None, Some, refl, sym, subst, ◌∙◌, arith, ◌⊎◌, inl, inr, is_some, IfOk, Result, Ok, Err}
+use Rattle.std.proofs.Common.{◌≡◌, ◌≤◌, ℕ, List, [], ◌++◌, true, false, Option, None, Some, refl, sym, ap, subst, ◌∙◌, arith, ◌⊎◌, inl, inr, is_some, IfOk, Result, Ok, Err}
 use Rattle.std.proofs.lemmas.List.{append-nil}
 use Rattle.hd_lanes.specs.declared.http.Request.{Request}
 use Rattle.hh_http.specs.Asks.{Asks}
@@ -32,6 +32,7 @@ hears-found wire before after heard f adds e =
     record {
       mid = before.lane;
       held = refl;
+      busy = λ _. refl;
       got = Some [];
       read = refl;
       asks = λ bytes requests a. rw (append-nil bytes) (adds bytes requests a);
@@ -66,6 +67,7 @@ hears-later wire before mid after answers heard f adds h =
     record {
       mid = h.mid;
       held = h.held ∙ f.0;
+      busy = λ e. let same = f.4 e in h.busy (ap (λ (a : AskingState). a.busy) same ∙ e) ∙ ap (λ (a : AskingState). a.lane) same;
       got = h.got;
       read = h.read;
       asks = λ bytes requests a. h.asks bytes requests (rw (append-nil requests) at (adds bytes requests a));
@@ -78,6 +80,7 @@ hears-broken wire before after answers r =
     record {
       mid = before.lane;
       held = refl;
+      busy = λ _. refl;
       got = r.got;
       read = r.read;
       asks = λ bytes requests a. rw (append-nil requests) (r.asks bytes requests a);
@@ -100,6 +103,7 @@ hears-looked wire before mid after answers heard r f adds =
     record {
       mid = before.lane;
       held = refl;
+      busy = λ _. refl;
       got = r.got;
       read = r.read;
       asks = λ bytes requests a. adds (bytes ++ bytes_of r.got) requests (r.asks bytes requests a);

@@ -105,7 +105,7 @@ all-within now from before after answers heard h =
     (both-within h.last h.first (turns-within now h.told _ h.last h.answers_last heard h.turns_last) (turns-within now None _ h.first h.answers_first h.told h.turns_first))
 
 pub next-within : NextIsWithin
-next-within before after answers heard h = all-within heard.now before.from _ after.lanes h.turns h.told h.hears
+next-within before after answers heard h = all-within heard.now h.begin _ after.lanes h.turns h.told h.hears
 
 -- ---- saying
 

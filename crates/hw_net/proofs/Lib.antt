@@ -9,6 +9,7 @@ pub mod Tallying
 pub mod Talkings
 pub mod Telling
 pub mod Walking
+pub mod Calm
 pub mod Writings
 pub mod Shares
 pub mod Owning

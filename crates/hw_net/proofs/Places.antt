@@ -48,20 +48,20 @@ pub is-at : (wire : ℕ) (lanes : List Lane) (place : ℕ) → position (is_of w
 is-at wire lanes place e = (grind (arith, e), grind (arith, e))
 
 -- nothing is done where no lane is found
-pub does-nothing : (told : Option (List Answer)) (wire from from_after moment moment_after : ℕ) (Does : Lane → Lane → List Answer → Type 0) (lanes : List Lane) →
-    position (is_of wire) lanes ≡ None → from_after ≡ from → moment_after ≡ moment →
+pub does-nothing : (told : Option (List Answer)) (wire from from_after named named_after moment moment_after : ℕ) (Does : Lane → Lane → List Answer → Type 0) (lanes : List Lane) →
+    position (is_of wire) lanes ≡ None → from_after ≡ from → named_after ≡ named → moment_after ≡ moment →
     (answers : List Answer) × Tells told told answers
-    × DoesAt wire Does (record { lanes = lanes; from = from; moment = moment }) (record { lanes = lanes; from = from_after; moment = moment_after }) answers
-does-nothing told wire from from_after moment moment_after Does lanes e f m =
-    ([], tells-none told, (nowhere wire Does lanes (is-nowhere wire lanes e), f, m))
+    × DoesAt wire Does (record { lanes = lanes; from = from; named = named; moment = moment }) (record { lanes = lanes; from = from_after; named = named_after; moment = moment_after }) answers
+does-nothing told wire from from_after named named_after moment moment_after Does lanes e f n m =
+    ([], tells-none told, (nowhere wire Does lanes (is-nowhere wire lanes e), f, n, m))
 
 -- what is done by the lane that is found
-pub does-at : (a b : Option (List Answer)) (wire from from_after moment moment_after : ℕ) (Does : Lane → Lane → List Answer → Type 0) (lanes after : List Lane) (place : ℕ) →
-    position (is_of wire) lanes ≡ Some place → ((answers : List Answer) × Tells a b answers × DoesHere place Does lanes after answers) → from_after ≡ from → moment_after ≡ moment →
+pub does-at : (a b : Option (List Answer)) (wire from from_after named named_after moment moment_after : ℕ) (Does : Lane → Lane → List Answer → Type 0) (lanes after : List Lane) (place : ℕ) →
+    position (is_of wire) lanes ≡ Some place → ((answers : List Answer) × Tells a b answers × DoesHere place Does lanes after answers) → from_after ≡ from → named_after ≡ named → moment_after ≡ moment →
     (answers : List Answer) × Tells a b answers
-    × DoesAt wire Does (record { lanes = lanes; from = from; moment = moment }) (record { lanes = after; from = from_after; moment = moment_after }) answers
-does-at a b wire from from_after moment moment_after Does lanes after place e h f m =
+    × DoesAt wire Does (record { lanes = lanes; from = from; named = named; moment = moment }) (record { lanes = after; from = from_after; named = named_after; moment = moment_after }) answers
+does-at a b wire from from_after named named_after moment moment_after Does lanes after place e h f n m =
     let found = is-at wire lanes place e in
     let d = h.2 in
     let here = at-first wire Does lanes place d.lane d.next h.0 found.0 found.1 d.at d.does in
-    (h.0, h.1, (subst (λ (l : List Lane). AtLane wire Does lanes l h.0) (sym d.order) here, f, m))
+    (h.0, h.1, (subst (λ (l : List Lane). AtLane wire Does lanes l h.0) (sym d.order) here, f, n, m))

@@ -1,5 +1,5 @@
 -- What a lane writes, and one turn of a live lane, put together from their parts.
-use Rattle.std.proofs.Common.{◌≡◌, ◌≢◌, ℕ, List, [], ◌∷◌, ◌++◌, Bool, true, false, Option, length, refl, sym, ap, subst, ◌∙◌}
+use Rattle.std.proofs.Common.{◌≡◌, ◌≢◌, ℕ, List, [], ◌∷◌, ◌++◌, Bool, true, false, Option, length, refl, sym, ap, subst, ◌∙◌, append_assoc}
 use Rattle.hw_door.specs.declared.heard.Event.{Event}
 use Rattle.hw_door.specs.Traffic.{Answer, was_shut}
 use Rattle.hw_net.specs.declared.news.News.{News}
@@ -46,12 +46,12 @@ done-both a b c wire out more left rest first whole h e none k =
     let gone : Writes wire out h.0 [] true = subst (λ (l : List ℕ). Writes wire out h.0 l true) none all in
     (h.0 ++ k.0, tells-more a b c h.0 k.0 h.1 k.1, writes-both wire out more h.0 k.0 left whole gone k.2)
 
--- a live lane heard news, which were settled, and wrote what waited
-pub turned : (a b c d : Option (List Answer)) (now : ℕ) (before heard settled said after : Lane) (news : News) (told event : Option Event) →
-    ((answers : List Answer) × Tells a b answers × Hears before.wire before.talk heard.talk answers news) → heard ≡ record before { talk = heard.talk } →
+-- a live lane heard news after a first look at it, whose answers come before; they were settled, and it wrote what waited
+pub turned-after : (a b c d : Option (List Answer)) (now : ℕ) (before heard settled said after : Lane) (news : News) (told event : Option Event) (first : List Answer) →
+    ((answers : List Answer) × Tells a b answers × Hears before.wire before.talk heard.talk (first ++ answers) news) → heard ≡ record before { talk = heard.talk } →
     ((answers : List Answer) × Tells b c answers × Settles now heard settled answers news told) → ((answers : List Answer) × Tells c d answers × Says settled said answers) →
-    Loses told said after event → (answers : List Answer) × Tells a d answers × TurnsLive now before after answers event
-turned a b c d now before heard settled said after news told event h e s w l = (
+    Loses told said after event → (answers : List Answer) × Tells a d answers × TurnsLive now before after (first ++ answers) event
+turned-after a b c d now before heard settled said after news told event first h e s w l = (
   h.0 ++ (s.0 ++ w.0),
   tells-more a b d h.0 (s.0 ++ w.0) h.1 (tells-more b c d s.0 w.0 s.1 w.1),
   record {
@@ -60,10 +60,10 @@ turned a b c d now before heard settled said after news told event h e s w l = (
     settled = settled;
     said = said;
     told = told;
-    read = h.0;
+    read = first ++ h.0;
     shut = s.0;
     written = w.0;
-    all = refl;
+    all = sym (append_assoc first h.0 (s.0 ++ w.0));
     hears = h.2;
     settles = subst (λ (x : Lane). Settles now x settled s.0 news told) e s.2;
     says = w.2;

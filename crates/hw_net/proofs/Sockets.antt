@@ -21,14 +21,13 @@ use Rattle.hw_net.specs.declared.talk.Talk.{Talk}
 use Rattle.hw_net.specs.declared.talk.Talk.TheVariants.{Http, Socket}
 use Rattle.hw_net.specs.declared.talk.Stage.{Stage}
 use Rattle.hw_net.specs.declared.talk.Stage.TheVariants.{Live, Lost, Closing, Over}
-use Rattle.hw_net.specs.declared.talking.Talking.{Talking}
 use Rattle.hw_net.specs.Asking.{AskingState, requests_of}
 use Rattle.hw_net.specs.Door.{new_lane}
 use Rattle.hw_net.specs.Lane.{Lane, waits, frames_of, is_live, is_busy, owes, is_overdue, after_end, after_reply, talk_after_shut, talk_after_reply, new_socket, rest_of}
 use Rattle.hw_net.specs.Saying.{WritesOut, SpeaksAs, Says, SaysAt, SaysMore, must_end, is_too_much}
 use Rattle.hw_net.specs.Sessions as session
 use Rattle.hw_net.specs.Sessions.{Call, Session, answers_in, answers_of, requests_on, replies_on, texts_of, message_on, messages_on, IsCarried, CarriesSocket, SocketsAreCarried}
-use Rattle.hw_net.specs.Talking.{Gets}
+use Rattle.hw_net.specs.Talking.{Talking, Gets}
 use Rattle.hw_net.specs.Told.{Chooses, bytes_of}
 use Rattle.hw_net.specs.Turn.{Hears, Falls, Passes, Settles, Loses, LosesAt, TurnsLive, TurnsAt, Listens, Replies, Puts, PutsAt, Sends, Shuts}
 use Rattle.hw_net.proofs.Asked.{HeardIn, IsAsked, step-asked, new-asked, requests_by, requests-more, requests_in, settles-requests, loses-requests, heard-requests, gives-bytes, live-reads, settles-silent, says-silent, read-more, replies-silent, sends-silent, shuts-silent}

@@ -16,14 +16,14 @@ wires-kept cur i lane next same =
     ∙ ap (λ (l : List Lane). wires_of l) (set-get_or cur i lane)
 
 -- one poll, one accept, and the turns of the lanes
-pub hears-next : (a b c d : Option (List Answer)) (now from before after_from : ℕ) (lanes kept_lanes with_new after : List Lane) (heard : Event) →
+pub hears-next : (a b c d : Option (List Answer)) (now from before after_from named after_named : ℕ) (lanes kept_lanes with_new after : List Lane) (heard : Event) →
     ((moment : ℕ) × Tells a b (polled moment ∷ []) × (now ≡ max moment before)) → kept_lanes ≡ kept lanes →
     ((wire : Option ℕ) × Tells b c (accepted wire ∷ []) × (with_new ≡ with_accepted now wire kept_lanes)) →
     ((answers : List Answer) × Tells c d answers
-    × HearsTurns now (record { lanes = with_new; from = from; moment = before }) (record { lanes = after; from = after_from; moment = before }) answers heard) →
+    × HearsTurns now (record { lanes = with_new; from = from; named = named; moment = before }) (record { lanes = after; from = after_from; named = after_named; moment = before }) answers heard) →
     (answers : List Answer) × Tells a d answers
-    × HearsNext (record { lanes = lanes; from = from; moment = before }) (record { lanes = after; from = after_from; moment = now }) answers (record { now = now; event = heard })
-hears-next a b c d now from before after_from lanes kept_lanes with_new after heard p same q h =
+    × HearsNext (record { lanes = lanes; from = from; named = named; moment = before }) (record { lanes = after; from = after_from; named = after_named; moment = now }) answers (record { now = now; event = heard })
+hears-next a b c d now from before after_from named after_named lanes kept_lanes with_new after heard p same q h =
     let grown : with_new ≡ with_accepted now q.0 (kept lanes) = q.2 ∙ ap (λ (l : List Lane). with_accepted now q.0 l) same in (
       polled p.0 ∷ accepted q.0 ∷ h.0,
       tells-more a b d (polled p.0 ∷ []) (accepted q.0 ∷ h.0) p.1 (tells-more b c d (accepted q.0 ∷ []) h.0 q.1 h.1),
@@ -31,12 +31,14 @@ hears-next a b c d now from before after_from lanes kept_lanes with_new after he
         now = p.0;
         wire = q.0;
         turns = h.0;
+        begin = h.2.1;
         told = h.2.0;
         all = refl;
         moment = p.2;
-        hears = subst (λ (l : List Lane). HearsAll now from l after h.0 h.2.0) grown h.2.1;
-        event_is = h.2.2;
-        from = h.2.3;
+        begins = h.2.2;
+        hears = subst (λ (l : List Lane). HearsAll now h.2.1 l after h.0 h.2.0) grown h.2.3;
+        event_is = h.2.4;
+        from = h.2.5;
         later = refl;
       },
     )

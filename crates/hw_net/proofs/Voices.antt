@@ -14,13 +14,12 @@ use Rattle.hw_net.specs.declared.talk.Talk.{Talk}
 use Rattle.hw_net.specs.declared.talk.Talk.TheVariants.{Http, Socket}
 use Rattle.hw_net.specs.declared.talk.Stage.{Stage}
 use Rattle.hw_net.specs.declared.talk.Stage.TheVariants.{Live, Lost, Closing, Over}
-use Rattle.hw_net.specs.declared.talking.Talking.{Talking}
 use Rattle.hw_net.specs.Door.{new_lane}
 use Rattle.hw_net.specs.Lane.{Lane, waits, frames_of, is_live, owes, is_overdue, refusal_of, after_end, after_reply, talk_after_shut, talk_after_reply, new_socket, rest_of}
 use Rattle.hw_net.specs.Saying.{Writes, WritesOut, SpeaksAs, Says, SaysAt, SaysMore, must_end, is_too_much}
 use Rattle.hw_net.specs.Sessions as session
 use Rattle.hw_net.specs.Sessions.{Call, Session, answers_in, answers_of, refusal_on, replies_on, texts_of, WroteReplies, RepliesAreWritten}
-use Rattle.hw_net.specs.Talking.{Gets}
+use Rattle.hw_net.specs.Talking.{Talking, Gets}
 use Rattle.hw_net.specs.Told.{Reads, Gives, Chooses, bytes_of}
 use Rattle.hw_net.specs.Turn.{Hears, Falls, Passes, Settles, Loses, LosesAt, TurnsLive, TurnsAt, Listens, Replies, Puts, PutsAt, Sends, Shuts}
 use Rattle.hw_net.proofs.Appends.{Grows, grows-none, grows-on, takes-grows, feeds-grows, shut-grows, says-grows}

@@ -1,21 +1,24 @@
 -- Walks over the lanes of some places, put together from their parts.
 use Rattle.std.proofs.Common.{◌≡◌, ◌<◌, ◌≤◌, ◌+◌, ◌-◌, ◌++◌, ◌∷◌, [], ℕ, zero, suc, Bool, true, false, List, Option, None, Some, Result, Ok, Err, IfOk, refl, sym, ap, ◌∙◌, subst, append_assoc, arith, length, take, drop, set, get_or, ltb}
-use Rattle.std.proofs.lemmas.List.{append-nil, length-drop, length-map, get_or-drop, take_more, take_more_set, take_all, take-take, take-set-le, drop_more, drop-drop, drop-set-lt, drop-set-add, drop-take, take-append-drop, nil_from_length}
+use Rattle.std.proofs.lemmas.List.{append-nil, length-drop, length-map, get_or-drop, take_more, take_more_set, take_all, take-take, take-set-le, drop_more, drop-drop, drop-set-lt, drop-set-add, drop-take, take-append-drop, nil_from_length, set-get_or}
 use Rattle.std.specs.Int.{from_bool}
 use Rattle.hw_door.specs.declared.heard.Event.{Event}
 use Rattle.hw_door.specs.Traffic.{Answer}
+use Rattle.hw_net.specs.declared.glance.Glance.{Glance}
+use Rattle.hw_net.specs.declared.glance.Glance.TheVariants.{Still}
 use Rattle.hw_net.specs.declared.limits.TheConstants.{MOST_UNWRITTEN}
 use Rattle.hw_net.specs.declared.talk.Talk.{Talk}
 use Rattle.hw_net.specs.declared.talk.Talk.TheVariants.{Http, Socket}
 use Rattle.hw_net.specs.declared.talk.Stage.{Stage}
 use Rattle.hw_net.specs.declared.talk.Stage.TheVariants.{Live, Lost, Closing, Over}
 use Rattle.hw_net.specs.Door.{HearsAll, place_of_first}
+use Rattle.hw_net.specs.Glances.{Glances, GlancesAt}
 use Rattle.hw_net.specs.Lane.{Lane, waits, wires_of}
 use Rattle.hw_net.specs.Lanes.{DoesHere}
 use Rattle.hw_net.specs.Saying.{WritesOut, Says, SaysAt, SpeaksAs, must_end}
 use Rattle.hw_net.specs.Tally.{is_lagging, is_lagging_by, tally_of}
 use Rattle.hw_net.specs.Told.{Tells}
-use Rattle.hw_net.specs.Turn.{Turns, TurnAll}
+use Rattle.hw_net.specs.Turn.{Listens, Turns, TurnAll}
 use Rattle.hw_net.specs.Walks.{Walks, Speak, between}
 use Rattle.hw_net.proofs.Telling.{tells-more}
 
@@ -108,15 +111,35 @@ walk-more now told begin place all cur lane next answers more mid heard le withi
           subst (λ n. Walks now told begin n all (set cur at next) (answers ++ more) heard) next_at
           (subst (λ n. Walks now told begin (begin + (count + 1)) all (set cur n next) (answers ++ more) heard) (sym e) done)
 
--- the same of calls on wires
-pub walks-here : (a b c : Option (List Answer)) (now : ℕ) (told mid heard : Option Event) (begin place : ℕ) (all cur after : List Lane) → begin ≤ place → place < length all → place < length cur →
-    ((answers : List Answer) × Tells a b answers × Walks now told begin place all cur answers mid) →
-    ((answers : List Answer) × Tells b c answers × DoesHere place (λ lane next said. Turns now mid lane next said heard) cur after answers) →
-    (answers : List Answer) × Tells a c answers × Walks now told begin (place + 1) all after answers heard
-walks-here a b c now told mid heard begin place all cur after le within inside h k =
-    let walked = walk-more now told begin place all cur k.2.lane k.2.next h.0 k.0 mid heard le within inside k.2.at h.2 k.2.does in
-    (h.0 ++ k.0, tells-more a b c h.0 k.0 h.1 k.1, subst (λ (l : List Lane). Walks now told begin (place + 1) all l (h.0 ++ k.0) heard) (sym k.2.order) walked)
+-- the same of calls on wires, the first of which looks at the lane
+pub walks-glanced : (a b c d : Option (List Answer)) (now : ℕ) (heard : Option Event) (begin place : ℕ) (all cur after : List Lane) (buf : List ℕ) (glance : Glance) → begin ≤ place → place < length all → place < length cur →
+    ((answers : List Answer) × Tells a b answers × Walks now None begin place all cur answers None) →
+    ((answers : List Answer) × Tells b c answers × GlancesAt place cur answers buf glance) →
+    ((first : List Answer) → GlancesAt place cur first buf glance
+    → (answers : List Answer) × Tells c d answers × DoesHere place (λ lane next said. Listens now lane next (first ++ said) heard) cur after answers) →
+    (answers : List Answer) × Tells a d answers × Walks now None begin (place + 1) all after answers heard
+walks-glanced a b c d now heard begin place all cur after buf glance le within inside h look turn =
+    let k = turn look.0 look.2 in
+    let walked = walk-more now None begin place all cur k.2.lane k.2.next h.0 (look.0 ++ k.0) None heard le within inside k.2.at h.2 k.2.does in (
+      h.0 ++ (look.0 ++ k.0),
+      tells-more a b d h.0 (look.0 ++ k.0) h.1 (tells-more b c d look.0 k.0 look.1 k.1),
+      subst (λ (l : List Lane). Walks now None begin (place + 1) all l (h.0 ++ (look.0 ++ k.0)) heard) (sym k.2.order) walked,
+    )
 
+-- one that gave nothing was the lane's turn
+pub walks-still : (a b c : Option (List Answer)) (now : ℕ) (begin place : ℕ) (all cur : List Lane) (buf : List ℕ) (glance : Glance) → begin ≤ place → place < length all → place < length cur →
+    ((lane : Lane) (first : List Answer) → Glances lane first buf Still → Listens now lane lane first None) → glance ≡ Still →
+    ((answers : List Answer) × Tells a b answers × Walks now None begin place all cur answers None) →
+    ((answers : List Answer) × Tells b c answers × GlancesAt place cur answers buf glance) →
+    (answers : List Answer) × Tells a c answers × Walks now None begin (place + 1) all cur answers None
+walks-still a b c now begin place all cur buf glance le within inside listens still h look =
+    let lane = look.2.0 in
+    let turn = listens lane look.0 (subst (λ x. Glances lane look.0 buf x) still look.2.2) in
+    let walked = walk-more now None begin place all cur lane lane h.0 look.0 None None le within inside look.2.1 h.2 turn in
+    let same : set cur place lane ≡ cur = ap (λ (l : Lane). set cur place l) (sym look.2.1) ∙ set-get_or cur place lane in
+    (h.0 ++ look.0, tells-more a b c h.0 look.0 h.1 look.1, subst (λ (l : List Lane). Walks now None begin (place + 1) all l (h.0 ++ look.0) None) same walked)
+
+-- and of lanes that write what waits
 pub speaks-here : (a b c : Option (List Answer)) (begin place : ℕ) (all cur after : List Lane) → begin ≤ place → place < length all → place < length cur →
     ((answers : List Answer) × Tells a b answers × Speak begin place all cur answers) → ((answers : List Answer) × Tells b c answers × DoesHere place Says cur after answers) →
     (answers : List Answer) × Tells a c answers × Speak begin (place + 1) all after answers
@@ -223,7 +246,7 @@ spoken (Http asking) = refl
 spoken (Socket talking) = refl
 
 -- a lane on which nothing waits says nothing
-silent : (lane : Lane) → is_lagging lane ≡ false → Says lane lane []
+pub silent : (lane : Lane) → is_lagging lane ≡ false → Says lane lane []
 silent lane e = go lane.stage e refl where
   quiet : lane.stage ≡ Live → length (waits lane) ≡ 0 → WritesOut lane lane []
   quiet live none =
@@ -297,3 +320,13 @@ pub hears-or-fails : {E : Type 0} (a b c : Option (List Answer)) (now from place
     IfOk r (λ heard. (answers : List Answer) × Tells a c answers × HearsAll now from all after answers heard)
 hears-or-fails a b c now from place all cur after (Ok heard) here same h k = hears-both a b c now from place all cur after None heard here same h k
 hears-or-fails a b c now from place all cur after (Err why) here same h k = k
+
+-- a lane on which nothing waits, where it stands
+pub says-nothing : (lanes : List Lane) (place : ℕ) (lane : Lane) → get_or lanes place lane ≡ lane → is_lagging lane ≡ false → DoesHere place Says lanes lanes []
+says-nothing lanes place lane found e = record {
+  lane = lane;
+  next = lane;
+  at = found;
+  order = sym (ap (λ (l : Lane). set lanes place l) (sym found) ∙ set-get_or lanes place lane);
+  does = silent lane e;
+}

@@ -141,13 +141,13 @@ next-steps what answers bound bound_after before after d rise =
     let h = d.0 in
     let keeps = d.1 in
     let lanes = with_accepted what.now h.wire (kept before.lanes) in
-    let same : wires_of after.lanes ≡ wires_of lanes = hears-wires what.now before.from lanes after.lanes h.turns h.told h.hears in
+    let same : wires_of after.lanes ≡ wires_of lanes = hears-wires what.now h.begin lanes after.lanes h.turns h.told h.hears in
     let came : keeps.0 ≡ h.wire = same-came keeps.0 h.wire (append_cancel_left (wires_of (kept before.lanes)) (option_to_list keeps.0) (option_to_list h.wire)
     (sym keeps.1 ∙ same ∙ wires-with what.now h.wire (kept before.lanes))) in
     let risen = numbers-rise bound bound_after before.lanes after.lanes rise keeps in
     let rises = subst (λ (l : List ℕ). IsRising 0 bound_after l) same risen in
     next-with what answers bound bound_after before after h (subst (λ (o : Option ℕ). IsNumbered bound bound_after o) came keeps.2) risen rises
-    (sweeps what.now before.from lanes after.lanes h.turns h.told h.hears (rising-distinct 0 bound_after lanes rises))
+    (sweeps what.now h.begin lanes after.lanes h.turns h.told h.hears (rising-distinct 0 bound_after lanes rises))
 
 -- ---- the steps of the other calls
 

@@ -18,7 +18,7 @@ pub record AskingState : Type 0 where
   pub busy : Bool
   -- the bytes held may hold a request that wasn't looked for
   pub stirred : Bool
-  -- the last read gave bytes, or there was none
+  -- the last read filled the room that it had, or there was none
   pub gave : Bool
 
 abbrev pub asking_code : Coded AskingState
@@ -58,11 +58,11 @@ pub record ReadsInto (wire : ℕ) (before after : AskingState) (answers : List A
   pub asks : (bytes : List ℕ) (requests : List Request) → Asks bytes requests before.lane.held
       → Asks (bytes ++ bytes_of got) requests after.lane.held
 
--- a look for a request in the bytes held
+-- a look for a request in the bytes held, which leaves a lane that waits for a reply as it is
 abbrev pub Finds : AskingState → AskingState → News → Type 0
 Finds before after news.Nothing =
     (after.lane.held ≡ before.lane.held) × (after.busy ≡ before.busy) × (after.busy ≡ false → IsWaiting after.lane)
-    × ((after ≡ before) ⊎ (1 ≤ room after.lane))
+    × ((after ≡ before) ⊎ (1 ≤ room after.lane)) × (before.busy ≡ true → after ≡ before)
 Finds before after (news.Request request) = (before.busy ≡ false) × (after.busy ≡ true)
 Finds before after (news.Refused status) =
     (after.lane.held ≡ before.lane.held) × (before.busy ≡ false) × (after.busy ≡ false) × Refuses request_grammar before.lane.held status
@@ -91,6 +91,7 @@ pub record HearsAsking (wire : ℕ) (before after : AskingState) (answers : List
   -- the lane when it is read
   pub mid : Lane
   pub held : mid.held ≡ before.lane.held
+  pub busy : before.busy ≡ true → mid ≡ before.lane
   pub got : Option (List ℕ)
   pub read : Gives wire (room_of mid) answers got
   pub asks : (bytes : List ℕ) (requests : List Request) → Asks bytes requests before.lane.held

@@ -1,24 +1,27 @@
 -- What a door does in one call.
-use Rattle.std.specs.Prelude.{◌≡◌, ◌⊎◌, ◌≤◌, ◌+◌, ◌-◌, ◌^◌, ℕ, false, true, not, nat_le, min, max, List, [], ◌∷◌, ◌++◌, filter, take, drop, length, Option, None, Some, position, unwrap_or, option_to_list}
+use Rattle.std.specs.Prelude.{◌≡◌, ◌==◌, ◌⊎◌, ◌<◌, ◌≤◌, ◌+◌, ◌-◌, ◌^◌, ℕ, false, true, not, nat_le, min, max, if◌then◌else◌, List, [], ◌∷◌, ◌++◌, filter, take, drop, length, Option, None, Some, position, unwrap_or, option_to_list}
 use Rattle.hw_door.specs.declared.heard.Heard.{Heard}
 use Rattle.hw_door.specs.declared.heard.Event.{Event}
 use Rattle.hw_door.specs.declared.heard.Event.TheVariants as event
 use Rattle.hw_door.specs.Traffic.{Answer, polled, accepted, poll_failed, accept_failed}
 use Rattle.hh_http.specs.Lane.{at_start}
+use Rattle.hw_net.specs.declared.limits.TheConstants.{MOST_NAMED}
 use Rattle.hw_net.specs.declared.talk.Talk.TheVariants.{Http}
 use Rattle.hw_net.specs.declared.talk.Stage.TheVariants.{Live}
 use Rattle.hw_net.specs.declared.door.NetDoor.{NetDoor}
 use Rattle.hw_net.specs.Lane.{Lane, is_over, wires_of}
 use Rattle.hw_net.specs.Turn.{TurnAll, AtLane}
 
--- the lanes, the number from which on they come first in the next search, and the moment of what was heard last
+-- the lanes, the number from which on they come first in the next search that begins with no named one, how many searches in a row began
+-- with a named one, and the moment of what was heard last
 pub record DoorState : Type 0 where
   pub lanes : List Lane
   pub from : ℕ
+  pub named : ℕ
   pub moment : ℕ
 
 abbrev pub state_of : {W : Type 0} → NetDoor W → DoorState
-state_of door = record { lanes = door.lanes.items; from = door.from; moment = door.moment }
+state_of door = record { lanes = door.lanes.items; from = door.from; named = door.named; moment = door.moment }
 
 -- the lane of a wire that was accepted at this moment
 abbrev pub new_lane : ℕ → ℕ → Lane
@@ -63,12 +66,20 @@ lane_of (event.Upgraded lane) = lane
 lane_of (event.Lost lane) = lane
 lane_of event.Quiet = 0
 
+-- a search begins at this number: that from which on lanes come first, or any other, though only so many times in a row
+abbrev pub Begins : DoorState → ℕ → ℕ → Type 0
+Begins before begin named = ((begin ≡ before.from) × (named ≡ 0)) ⊎ ((before.named < MOST_NAMED) × (named ≡ before.named + 1))
+
 -- the number from which on the lanes come first after this was heard: the lane that was heard comes last
 abbrev pub next_from : ℕ → Option Event → ℕ
 next_from from None = from
 next_from from (Some heard) = min (lane_of heard + 1) (2 ^ 64 - 1)
 
--- the lanes take their turns at this moment, and this is heard, if anything is
+-- the same after a search: one that began with a named lane leaves it
+abbrev pub from_after : ℕ → ℕ → Option Event → ℕ
+from_after named from told = if named == 0 then next_from from told else from
+
+-- the lanes take their turns at this moment, those from this number on first, and this is heard, if anything is
 pub record HearsAll (now : ℕ) (from : ℕ) (before after : List Lane) (answers : List Answer) (heard : Option Event) : Type 0 where
   pub first : List Lane
   pub last : List Lane
@@ -80,18 +91,20 @@ pub record HearsAll (now : ℕ) (from : ℕ) (before after : List Lane) (answers
   pub turns_first : TurnAll now None (drop (place_of_first from before) before) first answers_first told
   pub turns_last : TurnAll now told (take (place_of_first from before) before) last answers_last heard
 
--- One `next`: one poll, one accept, and then a turn of each lane, from the one after that which was heard last. Nothing is heard only if each
--- lane was listened to and gave nothing.
+-- One `next`: one poll, one accept, and then a turn of each lane, from the one whose turn it is, or from any other. Nothing is heard only if
+-- each lane was listened to and gave nothing.
 pub record HearsNext (before after : DoorState) (answers : List Answer) (heard : Heard) : Type 0 where
   pub now : ℕ
   pub wire : Option ℕ
   pub turns : List Answer
+  pub begin : ℕ
   pub told : Option Event
   pub all : answers ≡ polled now ∷ accepted wire ∷ turns
   pub moment : heard.now ≡ max now before.moment
-  pub hears : HearsAll heard.now before.from (with_accepted heard.now wire (kept before.lanes)) after.lanes turns told
+  pub begins : Begins before begin after.named
+  pub hears : HearsAll heard.now begin (with_accepted heard.now wire (kept before.lanes)) after.lanes turns told
   pub event_is : heard.event ≡ unwrap_or told event.Quiet
-  pub from : after.from ≡ next_from before.from told
+  pub from : after.from ≡ from_after after.named before.from told
   pub later : after.moment ≡ heard.now
 
 -- a call of `next` that fails: poll failed, or accept after it
@@ -101,10 +114,10 @@ FailsNext answers = (answers ≡ poll_failed ∷ []) ⊎ ((now : ℕ) × (answer
 -- a call on the lane of this number, which does this there
 abbrev pub DoesAt : ℕ → (Lane → Lane → List Answer → Type 0) → DoorState → DoorState → List Answer → Type 0
 DoesAt lane Does before after answers =
-    AtLane lane Does before.lanes after.lanes answers × (after.from ≡ before.from) × (after.moment ≡ before.moment)
+    AtLane lane Does before.lanes after.lanes answers × (after.from ≡ before.from) × (after.named ≡ before.named) × (after.moment ≡ before.moment)
 
 -- the turns of all lanes, which end with this event
 abbrev pub HearsTurns : ℕ → DoorState → DoorState → List Answer → Event → Type 0
 HearsTurns now before after answers heard =
-    (told : Option Event) × HearsAll now before.from before.lanes after.lanes answers told
-    × (heard ≡ unwrap_or told event.Quiet) × (after.from ≡ next_from before.from told) × (after.moment ≡ before.moment)
+    (told : Option Event) × (begin : ℕ) × Begins before begin after.named × HearsAll now begin before.lanes after.lanes answers told
+    × (heard ≡ unwrap_or told event.Quiet) × (after.from ≡ from_after after.named before.from told) × (after.moment ≡ before.moment)

@@ -4,6 +4,7 @@ pub mod News
 pub mod Asking
 pub mod Talking
 pub mod Lane
+pub mod Glances
 pub mod Tally
 pub mod Lanes
 pub mod Rising

@@ -16,3 +16,7 @@ most_wait = 30000
 -- the status of an upgrade
 abbrev pub switching : ℕ
 switching = 101
+
+-- how many searches in a row may begin with a named lane
+abbrev pub most_named : ℕ
+most_named = 64

@@ -2,11 +2,12 @@
 use Rattle.std.specs.Prelude.{ℕ}
 use Rattle.hw_net.specs.Lanes.{LanesState}
 
--- the wires, the lanes that stand on them, the number from which on lanes come first in the next search, the moment of what was heard
--- last, and how often a call failed
+-- the wires, the lanes that stand on them, the number from which on lanes come first in the next search that begins with no named one, how
+-- many searches in a row began with a named one, the moment of what was heard last, and how often a call failed
 pub record DoorParts (W : Type 0) : Type 0 where
   pub wires : W
   pub lanes : LanesState
   pub from : ℕ
+  pub named : ℕ
   pub moment : ℕ
   pub faults : ℕ

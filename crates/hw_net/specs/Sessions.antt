@@ -44,7 +44,7 @@ Does (shut lane answers) bound bound_after before after =
 
 -- all calls of a door since it started, the latest first, and how they leave it
 abbrev pub Session : List Call → ℕ → DoorState → Type 0
-Session [] bound now = now ≡ record { lanes = []; from = 0; moment = 0 }
+Session [] bound now = now ≡ record { lanes = []; from = 0; named = 0; moment = 0 }
 Session (call ∷ calls) bound now =
     (bound_before : ℕ) × (before : DoorState) × Session calls bound_before before × Does call bound_before bound before now
 

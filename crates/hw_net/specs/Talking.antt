@@ -1,15 +1,49 @@
 -- A lane that is a WebSocket, and what it hears in one turn.
-use Rattle.std.specs.Prelude.{◌≡◌, ◌⊎◌, ℕ, Bool, true, false, if◌then◌else◌, List, Option, None, is_some}
+use Rattle.std.specs.Prelude.{◌≡◌, ◌⊎◌, ℕ, Bool, true, false, if◌then◌else◌, List, [], Option, None, Some, is_some, refl}
+use Rattle.std.specs.Coded.{Coded, code_by, coded×, coded_bool}
 use Rattle.hw_door.specs.Traffic.{Answer}
-use Rattle.hw_socket.specs.Lane.{Lane}
-use Rattle.hw_socket.specs.Reading.{Feeds, Takes}
+use Rattle.hw_socket.specs.Lane.{Lane, lane_code}
+use Rattle.hw_socket.specs.Reading.{Feeds, Takes, Steps}
 use Rattle.hw_socket.specs.declared.vocabulary.SocketRead.{SocketRead}
 use Rattle.hw_socket.specs.declared.vocabulary.SocketRead.TheVariants as read
 use Rattle.hw_net.specs.declared.limits.TheConstants.{PIECE}
 use Rattle.hw_net.specs.declared.news.News.{News}
 use Rattle.hw_net.specs.declared.news.News.TheVariants as news
-use Rattle.hw_net.specs.declared.talking.Talking.{Talking}
 use Rattle.hw_net.specs.Told.{Gives, IsAsked, bytes_of}
+
+pub record Talking : Type 0 where
+  -- the WebSocket, with the bytes that it was fed and hasn't taken
+  pub lane : Lane
+  -- all messages that came were heard, so more bytes are read
+  pub hungry : Bool
+  -- the last read filled the room that it had, or there was none
+  pub gave : Bool
+  -- bytes that were read are lost, as memory was out
+  pub spoiled : Bool
+
+abbrev pub talking_code : Coded Talking
+talking_code =
+    code_by (Lane × (Bool × (Bool × Bool))) (coded× lane_code (coded× coded_bool (coded× coded_bool coded_bool)))
+    (λ t. (t.lane, (t.hungry, (t.gave, t.spoiled))))
+    (λ p. record { lane = p.0; hungry = p.1.0; gave = p.1.1.0; spoiled = p.1.1.1 })
+    (λ _. refl)
+
+-- the bytes that it was fed and hasn't taken are no whole frame
+abbrev pub IsWaiting : Lane → Type 0
+IsWaiting lane = Steps lane lane (Some read.NotYet)
+
+-- what holds of every WebSocket here: one that rests waits for more bytes, unless it is gone
+abbrev pub IsTalking : Lane → Bool → Type 0
+IsTalking lane rests = rests ≡ true → lane.ending ≡ None → IsWaiting lane
+
+-- nothing is to be heard before more bytes come, and nothing to be written
+pub record IsCalm (talking : Talking) : Type 0 where
+  pub hungry : talking.hungry ≡ true
+  pub gave : talking.gave ≡ false
+  pub whole : talking.spoiled ≡ false
+  pub there : talking.lane.ending ≡ None
+  pub waiting : IsWaiting talking.lane
+  pub written : talking.lane.out.bytes ≡ []
 
 -- how many bytes are read at once: none while messages may be left that came before
 abbrev pub room_of : Talking → ℕ
@@ -26,6 +60,7 @@ pub record ReadsInto (wire : ℕ) (before after : Talking) (answers : List Answe
   pub asked : IsAsked (room_of before) answers
   pub whole : is_whole ≡ is_some got
   pub fed : Feeds before.lane (bytes_of got) after.lane
+  pub spoiled : after.spoiled ≡ before.spoiled
 
 -- one read of the WebSocket
 abbrev pub Finds : Talking → Talking → News → Type 0
@@ -49,3 +84,4 @@ pub record HearsTalking (wire : ℕ) (before after : Talking) (answers : List An
   pub got : Option (List ℕ)
   pub read : Gives wire (room_of before) answers got
   pub is_news : IsNews before after answers got heard
+  pub spoiled : after.spoiled ≡ before.spoiled

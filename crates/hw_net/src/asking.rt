@@ -24,7 +24,7 @@ pub struct Asking {
     busy: bool,
     // The bytes held may hold a request that wasn't looked for.
     stirred: bool,
-    // The last read gave bytes, or there was none.
+    // The last read filled the room that it had, or there was none.
     gave: bool,
 }
 
@@ -111,20 +111,20 @@ impl Asking {
         let Some(count) = read_piece(wires, wire, piece) else {
             return false;
         };
-        self.take(&piece[..count]);
+        self.take(&piece[..count], count == room);
         true
     }
 
-    /// Takes bytes that were read.
-    fn take(&mut self, piece: &[u8])
+    /// Takes bytes that were read, all that there was room for if it `is_full`.
+    fn take(&mut self, piece: &[u8], is_full: bool)
         requires { length piece.now ≤ room self.old.lane }
         ensures held { self.new.lane ≡ record self.old.lane { held = self.old.lane.held ++ piece.now } }
         ensures busy { self.new.busy ≡ self.old.busy }
         ensures asks { (bytes : List ℕ) (requests : List Request) → Asks bytes requests self.old.lane.held
             → Asks (bytes ++ piece.now) requests self.new.lane.held }
     {
-        self.gave = !piece.is_empty();
-        if self.gave {
+        self.gave = is_full;
+        if !piece.is_empty() {
             self.lane.feed(piece);
             self.stirred = true;
         }

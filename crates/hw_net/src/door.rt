@@ -7,7 +7,7 @@ ghost use Rattle.hd_lanes.specs.Replies.{IsReply};
 ghost use Rattle.hw_door.specs.declared.heard.Given.TheVariants as say;
 ghost use Rattle.hw_door.specs.Calls.{HasFaultCause, IsCaused, Hears, Says, IsLater};
 ghost use Rattle.hw_door.specs.Traffic.{Answer, polled, poll_failed, accepted, accept_failed};
-ghost use Rattle.hw_net.specs.Door.{HearsNext, FailsNext, IsNumbered, KeepsLanes, DoesAt, HearsTurns, state_of, kept, with_accepted, next_from};
+ghost use Rattle.hw_net.specs.Door.{HearsNext, HearsAll, FailsNext, IsNumbered, KeepsLanes, DoesAt, HearsTurns, Begins, state_of, kept, with_accepted, next_from, from_after};
 ghost use Rattle.hw_net.specs.Lane.{is_awake, wires_of};
 ghost use Rattle.hw_net.specs.Rising.{IsRising};
 ghost use Rattle.hw_net.specs.Told.{Tells};
@@ -15,26 +15,39 @@ ghost use Rattle.hw_net.specs.Turn.{Replies, Sends, Shuts};
 
 use crate::lane::NetLane;
 use crate::lanes::Lanes;
+use crate::limits::MOST_NAMED;
+use crate::ready::ReadyWires;
 use crate::turns::turn_from;
 use hd_lanes::Reply;
-use hw_door::{Door, DoorError, Event, Heard, Wires};
+use hw_door::{Door, DoorError, Event, Heard};
 use std::alloc::{AllocError, Global};
 use std::marker::Model;
 
 /// A door over wires.
+///
+/// Each `next` gives the lanes their turns until one hears something, from the one on whose turn it is: the first after the one that was
+/// heard last so. If the wires name one that is ready, the turns begin there, though at most [`MOST_NAMED`] times in a row, so that no lane
+/// waits for ever behind those that are named.
+///
+/// The wires wait in `poll` unless a lane may have more at once. So they have to tell of what comes on a wire after a read that gave less than
+/// there was room for.
 #[derive(Drop)]
-pub struct NetDoor<W: Wires + Drop> {
+pub struct NetDoor<W: ReadyWires + Drop> {
     alloc: Global,
     wires: W,
     lanes: Lanes,
-    // The lanes from this number on come first in the next search, then the others.
+    // The lanes from this number on come first in the next search that begins with none that was named.
     from: u64,
+    // How many searches in a row began with a lane that was named.
+    named: u64,
+    // The wire that was named last, or 0.
+    last_named: u64,
     moment: u64,
     faults: u64,
 }
 
 // The numbers of the lanes rise, and the wires answer no number again, so a lane is found by its number in few steps.
-impl<W: Wires + Drop> Model for NetDoor<W> {
+impl<W: ReadyWires + Drop> Model for NetDoor<W> {
     ghost use Rattle.hw_net.specs.Lane.{wires_of};
     ghost use Rattle.hw_net.specs.Parts.{DoorParts};
     ghost use Rattle.hw_net.specs.Rising.{IsRising};
@@ -45,6 +58,7 @@ impl<W: Wires + Drop> Model for NetDoor<W> {
       wires = d.wires;
       lanes = d.lanes;
       from = d.from;
+      named = d.named;
       moment = d.moment;
       faults = d.faults;
     } };
@@ -52,10 +66,10 @@ impl<W: Wires + Drop> Model for NetDoor<W> {
     ghost invariant = { λ d. IsRising 0 (W.wires d.wires) (wires_of d.lanes.items) };
 }
 
-impl<W: Wires + Drop> NetDoor<W> {
+impl<W: ReadyWires + Drop> NetDoor<W> {
     /// A door at which nothing was heard. It takes no memory yet.
     pub fn start(alloc: Global, wires: W) -> NetDoor<W>
-        ensures state { state_of result ≡ record { lanes = []; from = 0; moment = 0 } }
+        ensures state { state_of result ≡ record { lanes = []; from = 0; named = 0; moment = 0 } }
         ensures wires { result.wires ≡ wires }
         ensures faults { result.faults ≡ 0 }
     {
@@ -64,6 +78,8 @@ impl<W: Wires + Drop> NetDoor<W> {
             wires,
             lanes: Lanes::start(alloc),
             from: 0,
+            named: 0,
+            last_named: 0,
             moment: 0,
             faults: 0,
         }
@@ -91,6 +107,7 @@ impl<W: Wires + Drop> NetDoor<W> {
         ensures kept { self.new.lanes.items ≡ kept self.old.lanes.items }
         ensures wires { self.new.wires ≡ self.old.wires }
         ensures from { self.new.from ≡ self.old.from }
+        ensures named { self.new.named ≡ self.old.named }
         ensures moment { self.new.moment ≡ self.old.moment }
         ensures faults { self.new.faults ≡ self.old.faults }
     {
@@ -128,6 +145,7 @@ impl<W: Wires + Drop> NetDoor<W> {
         ensures failed { result ≡ Err DoorError.Failed → Rose (W.faults self.old.wires) (W.faults self.new.wires)
             × Tells (W.told self.old.wires) (W.told self.new.wires) (accept_failed ∷ []) }
         ensures from { self.new.from ≡ self.old.from }
+        ensures named { self.new.named ≡ self.old.named }
         ensures moment { self.new.moment ≡ self.old.moment }
         ensures cause { HasFaultCause self.old.faults self.new.faults result }
         ensures lanes { IfErr result (λ e. self.new.lanes.items ≡ self.old.lanes.items) }
@@ -148,6 +166,7 @@ impl<W: Wires + Drop> NetDoor<W> {
             × (self.new.wires ≡ self.old.wires)) }
         ensures memory { IfErr result (λ e. e ≡ DoorError.NoMemory) }
         ensures from { self.new.from ≡ self.old.from }
+        ensures named { self.new.named ≡ self.old.named }
         ensures moment { self.new.moment ≡ self.old.moment }
         ensures faults { self.new.faults ≡ self.old.faults }
         ensures lanes { IfErr result (λ e. self.new.lanes.items ≡ self.old.lanes.items) }
@@ -171,7 +190,32 @@ impl<W: Wires + Drop> NetDoor<W> {
         DoorError::NoMemory
     }
 
-    /// A turn of each lane, from the one after the last that was heard.
+    /// The number from which on the lanes come first now: that of a wire which is named, if one is, but for one search after so many.
+    fn begin(&mut self) -> u64
+        ensures begins { Begins (state_of self.old) result self.new.named }
+        ensures still { self.new ≡ record self.old { named = self.new.named } }
+    {
+        if self.named < MOST_NAMED
+            && let Some(wire) = self.wires.ready_after(self.last_named)
+        {
+            self.named += 1;
+            self.last_named = wire;
+            return wire;
+        }
+        self.named = 0;
+        self.from
+    }
+
+    /// What is remembered of this event: the lane that was heard comes last, if it was come upon in the order of all.
+    fn remember(&mut self, event: &Event)
+        ensures { self.new ≡ record self.old { from = from_after self.old.named self.old.from (Some event.now) } }
+    {
+        if self.named == 0 {
+            self.from = next_lane(event);
+        }
+    }
+
+    /// A turn of each lane, from the one whose turn it is, or from a named one.
     fn hear(&mut self, now: u64) -> Result<Event, AllocError>
         ensures hears { IfOk result (λ event. (answers : List Answer) × Tells (W.told self.old.wires) (W.told self.new.wires) answers
             × HearsTurns now (state_of self.old) (state_of self.new) answers event) }
@@ -180,13 +224,23 @@ impl<W: Wires + Drop> NetDoor<W> {
         ensures lanes { wires_of self.new.lanes.items ≡ wires_of self.old.lanes.items }
         ensures bound { W.wires self.new.wires ≡ W.wires self.old.wires }
     {
-        match turn_from(&mut self.lanes, self.from, &mut self.wires, now)? {
-            Some(event) => {
-                self.from = next_lane(&event);
-                Ok(event)
-            }
-            None => Ok(Event::Quiet),
-        }
+        let begin = self.begin();
+        let Some(event) = self.turn_from(begin, now)? else {
+            return Ok(Event::Quiet);
+        };
+        self.remember(&event);
+        Ok(event)
+    }
+
+    /// A turn of each lane, those from this number on first.
+    fn turn_from(&mut self, begin: u64, now: u64) -> Result<Option<Event>, AllocError>
+        ensures hears { IfOk result (λ told. (answers : List Answer) × Tells (W.told self.old.wires) (W.told self.new.wires) answers
+            × HearsAll now begin self.old.lanes.items self.new.lanes.items answers told) }
+        ensures still { self.new ≡ record self.old { wires = self.new.wires; lanes = self.new.lanes } }
+        ensures lanes { wires_of self.new.lanes.items ≡ wires_of self.old.lanes.items }
+        ensures bound { W.wires self.new.wires ≡ W.wires self.old.wires }
+    {
+        turn_from(&mut self.lanes, begin, &mut self.wires, now)
     }
 }
 
@@ -206,7 +260,7 @@ fn next_lane(event: &Event) -> u64
     lane.saturating_add(1)
 }
 
-impl<W: Wires + Drop> Door for NetDoor<W> {
+impl<W: ReadyWires + Drop> Door for NetDoor<W> {
     ghost moment = { λ d. d.moment };
 
     ghost faults = { λ d. d.faults };
@@ -219,6 +273,7 @@ impl<W: Wires + Drop> Door for NetDoor<W> {
             × HearsNext (state_of self.old) (state_of self.new) answers heard) }
         ensures fails { result ≡ Err DoorError.Failed → Rose (W.faults self.old.wires) (W.faults self.new.wires)
             × ((answers : List Answer) × Tells (W.told self.old.wires) (W.told self.new.wires) answers × FailsNext answers) }
+        ensures fallen { result ≡ Err DoorError.Failed → state_of self.new ≡ record (state_of self.old) { lanes = kept self.old.lanes.items } }
         ensures lanes { KeepsLanes (W.wires self.old.wires) (W.wires self.new.wires) self.old.lanes.items self.new.lanes.items }
     {
         self.clear();

@@ -1,10 +1,11 @@
 //! One lane of a door: what it hears in a turn, and what it says.
 
-ghost use Rattle.std.specs.Prelude.{◌≡◌, ◌++◌, ◌∷◌, [], List, length, IfOk, OnOk, OnErr};
+ghost use Rattle.std.specs.Prelude.{◌≡◌, ◌≤◌, ◌++◌, ◌∷◌, [], List, true, length, IfOk, IfSome, OnOk, OnErr};
 ghost use Rattle.hd_lanes.specs.Replies.{IsReply};
 ghost use Rattle.hh_http.specs.Texts.{reply_text};
 ghost use Rattle.hw_door.specs.Traffic.{Answer, was_shut};
 ghost use Rattle.hw_net.specs.Door.{new_lane};
+ghost use Rattle.hw_net.specs.Glances.{Glances, IsCalmLane, IsWithin};
 ghost use Rattle.hw_net.specs.Lane.{waits, frames_of, is_over, is_awake, is_overdue, owes, refusal_of, after_end, after_reply, talk_after_shut, talk_after_reply, new_socket, rest_of};
 ghost use Rattle.hw_net.specs.Saying.{Writes, WritesOut, Says, SaysMore, SpeaksAs, IsLaneStill, must_end};
 ghost use Rattle.hw_net.specs.Tally.{is_lagging};
@@ -12,12 +13,14 @@ ghost use Rattle.hw_net.specs.Told.{Tells};
 ghost use Rattle.hw_net.specs.Turn.{Hears, Settles, IsRightNews, TurnsLive, Listens, Loses, LosesAt, Replies, Puts, Sends, Shuts};
 
 use crate::asking::Asking;
+use crate::glance::Glance;
 use crate::limits::{MOST_UNWRITTEN, MOST_WAIT, PIECE, SWITCHING};
 use crate::news::News;
+use crate::reading::read_piece;
 use crate::refusing::refusal;
 use crate::talk::{Stage, Talk};
 use crate::talking::Talking;
-use crate::writing::{write_bytes, write_frames};
+use crate::writing::write_bytes;
 use hd_lanes::Reply;
 use hh_http::write_reply;
 use hw_door::{Event, Wires};
@@ -118,25 +121,56 @@ impl NetLane {
     {
         match &self.talk {
             Talk::Http(_) => self.out.len(),
-            Talk::Socket(talking) => self.out.len().saturating_add(talking.lane.out().len()),
+            Talk::Socket(talking) => self.out.len().saturating_add(talking.out().len()),
         }
     }
 
-    /// One turn: the lane hears at most one event, and then writes what waits.
+    /// Whether this is known, as it is of most WebSockets: nothing is to be heard or written before more bytes come.
+    fn is_calm(&self) -> bool
+        ensures { result ≡ true → IsCalmLane self.now }
+    {
+        match &self.talk {
+            Talk::Http(_) => false,
+            Talk::Socket(talking) => {
+                self.stage == Stage::Live && self.out.is_empty() && talking.is_calm()
+            }
+        }
+    }
+
+    /// Reads the wire, if nothing else is known to be done before more bytes come.
+    pub fn glance<W: Wires>(&self, wires: &mut W, buf: &mut [u8]) -> Glance
+        requires { length buf.old ≡ PIECE }
+        ensures glances { (answers : List Answer) × Tells (W.told wires.old) (W.told wires.new) answers
+            × Glances self.now answers buf.new result }
+        ensures count { IsWithin result }
+        ensures wires { W.wires wires.new ≡ W.wires wires.old }
+    {
+        if !self.is_calm() {
+            return Glance::Unread;
+        }
+        match read_piece(wires, self.wire, buf) {
+            Some(0) => Glance::Still,
+            read => Glance::Read(read),
+        }
+    }
+
+    /// One turn, after this glance: the lane hears at most one event, and then writes what waits.
     pub fn turn<W: Wires>(
         &mut self,
+        glance: Glance,
         wires: &mut W,
         buf: &mut [u8],
         now: u64,
     ) -> Result<Option<Event>, AllocError>
-        requires { length buf.old ≡ PIECE }
-        ensures turned { IfOk result (λ heard. (answers : List Answer) × Tells (W.told wires.old) (W.told wires.new) answers
-            × Listens now self.old self.new answers heard) }
+        requires buffer { length buf.old ≡ PIECE }
+        requires count { IsWithin glance }
+        ensures turned { IfOk result (λ heard. (first : List Answer) → Glances self.old first buf.old glance
+            → (answers : List Answer) × Tells (W.told wires.old) (W.told wires.new) answers × Listens now self.old self.new (first ++ answers) heard) }
         ensures wires { W.wires wires.new ≡ W.wires wires.old }
         ensures lane { self.new.wire ≡ self.old.wire }
     {
         match self.stage {
-            Stage::Live => self.turn_live(wires, buf, now),
+            Stage::Live => self.turn_live(glance, wires, buf, now),
             Stage::Lost => Ok(Some(self.tell_loss())),
             Stage::Closing => {
                 self.say(wires);
@@ -148,21 +182,61 @@ impl NetLane {
 
     fn turn_live<W: Wires>(
         &mut self,
+        glance: Glance,
         wires: &mut W,
         buf: &mut [u8],
         now: u64,
     ) -> Result<Option<Event>, AllocError>
         requires buffer { length buf.old ≡ PIECE }
+        requires count { IsWithin glance }
         requires live { self.old.stage ≡ Stage.Live }
-        ensures turned { IfOk result (λ heard. (answers : List Answer) × Tells (W.told wires.old) (W.told wires.new) answers
-            × TurnsLive now self.old self.new answers heard) }
+        ensures turned { IfOk result (λ heard. (first : List Answer) → Glances self.old first buf.old glance
+            → (answers : List Answer) × Tells (W.told wires.old) (W.told wires.new) answers × TurnsLive now self.old self.new (first ++ answers) heard) }
         ensures wires { W.wires wires.new ≡ W.wires wires.old }
         ensures lane { self.new.wire ≡ self.old.wire }
     {
-        let news = self.hear(wires, buf)?;
+        let news = self.hear_on(glance, wires, buf)?;
         let event = self.take(wires, news, now)?;
         self.say(wires);
         Ok(self.heard(event))
+    }
+
+    /// Hears what there is after this glance.
+    fn hear_on<W: Wires>(
+        &mut self,
+        glance: Glance,
+        wires: &mut W,
+        buf: &mut [u8],
+    ) -> Result<News, AllocError>
+        requires buffer { length buf.old ≡ PIECE }
+        requires count { IsWithin glance }
+        ensures heard { IfOk result (λ news. (first : List Answer) → Glances self.old first buf.old glance
+            → (answers : List Answer) × Tells (W.told wires.old) (W.told wires.new) answers
+            × Hears self.old.wire self.old.talk self.new.talk (first ++ answers) news) }
+        ensures right { IfOk result (IsRightNews self.new.talk) }
+        ensures still { self.new ≡ record self.old { talk = self.new.talk } }
+        ensures wires { W.wires wires.new ≡ W.wires wires.old }
+    {
+        match glance {
+            Glance::Unread => self.hear(wires, buf),
+            Glance::Still => Ok(News::Nothing),
+            Glance::Read(read) => self.hear_after(read, buf),
+        }
+    }
+
+    /// Hears what comes of this read.
+    fn hear_after(&mut self, read: Option<usize>, buf: &[u8]) -> Result<News, AllocError>
+        requires buffer { length buf.now ≡ PIECE }
+        requires count { IfSome read (λ count. count ≤ PIECE) }
+        ensures heard { IfOk result (λ news. (first : List Answer) → Glances self.old first buf.now (Glance.Read read)
+            → Hears self.old.wire self.old.talk self.new.talk first news) }
+        ensures right { IfOk result (IsRightNews self.new.talk) }
+        ensures still { self.new ≡ record self.old { talk = self.new.talk } }
+    {
+        match &mut self.talk {
+            Talk::Http(_) => Ok(News::Nothing),
+            Talk::Socket(talking) => talking.hear_after(read, buf),
+        }
     }
 
     /// What is heard in the end: a lane whose wire was shut meanwhile is lost, if nothing else is heard of it.
@@ -276,7 +350,7 @@ impl NetLane {
         ensures ok { OnOk result (self.new ≡ record self.old { talk = talk_after_shut self.old.talk; stage = Stage.Closing }) }
     {
         if let Talk::Socket(talking) = &mut self.talk {
-            talking.lane.shut()?;
+            talking.shut()?;
         }
         self.stage = Stage::Closing;
         Ok(())
@@ -360,7 +434,7 @@ impl NetLane {
     {
         match &mut self.talk {
             Talk::Http(_) => true,
-            Talk::Socket(talking) => write_frames(wires, self.wire, &mut talking.lane),
+            Talk::Socket(talking) => talking.write(wires, self.wire),
         }
     }
 
@@ -478,7 +552,7 @@ impl NetLane {
         }
         match &mut self.talk {
             Talk::Http(_) => Ok(false),
-            Talk::Socket(talking) => talking.lane.send(bytes, text),
+            Talk::Socket(talking) => talking.send(bytes, text),
         }
     }
 

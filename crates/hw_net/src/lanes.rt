@@ -6,6 +6,7 @@ ghost use Rattle.std.specs.List.{list_any};
 ghost use Rattle.hd_lanes.specs.Replies.{IsReply};
 ghost use Rattle.hw_door.specs.Traffic.{Answer};
 ghost use Rattle.hw_net.specs.Door.{kept, place_of_first};
+ghost use Rattle.hw_net.specs.Glances.{GlancesAt, IsWithin};
 ghost use Rattle.hw_net.specs.Lane.{Lane, is_awake, wires_of};
 ghost use Rattle.hw_net.specs.Lanes.{DoesHere};
 ghost use Rattle.hw_net.specs.Rising.{Rise};
@@ -15,6 +16,7 @@ ghost use Rattle.hw_net.specs.Told.{Tells};
 ghost use Rattle.hw_net.specs.Turn.{Listens, Replies, Sends, Shuts};
 
 use crate::finding::{place_of, place_of_first};
+use crate::glance::Glance;
 use crate::lane::NetLane;
 use crate::limits::PIECE;
 use crate::tally::Tally;
@@ -110,26 +112,40 @@ impl Lanes {
         place_of_first(&self.items, from)
     }
 
-    /// A turn of the lane of this place.
+    /// Reads the wire of the lane of this place, if nothing else is known to be done there before more bytes come.
+    pub fn glance<W: Wires>(&self, place: usize, wires: &mut W, buf: &mut [u8]) -> Glance
+        requires buffer { length buf.old ≡ PIECE }
+        requires place { place < length self.now.items }
+        ensures glances { (answers : List Answer) × Tells (W.told wires.old) (W.told wires.new) answers
+            × GlancesAt place self.now.items answers buf.new result }
+        ensures count { IsWithin result }
+        ensures wires { W.wires wires.new ≡ W.wires wires.old }
+    {
+        self.items[place].glance(wires, buf)
+    }
+
+    /// A turn of the lane of this place, after this glance at it.
     pub fn turn<W: Wires>(
         &mut self,
         place: usize,
+        glance: Glance,
         wires: &mut W,
         buf: &mut [u8],
         now: u64,
     ) -> Result<Option<Event>, AllocError>
         requires buffer { length buf.old ≡ PIECE }
         requires place { place < length self.old.items }
-        ensures turned { IfOk result (λ heard. (answers : List Answer)
-            × Tells (W.told wires.old) (W.told wires.new) answers
-            × DoesHere place (λ before after said. Listens now before after said heard)
+        requires count { IsWithin glance }
+        ensures turned { IfOk result (λ heard. (first : List Answer) → GlancesAt place self.old.items first buf.old glance
+            → (answers : List Answer) × Tells (W.told wires.old) (W.told wires.new) answers
+            × DoesHere place (λ before after said. Listens now before after (first ++ said) heard)
             self.old.items self.new.items answers) }
         ensures wires { W.wires wires.new ≡ W.wires wires.old }
         ensures lanes { wires_of self.new.items ≡ wires_of self.old.items }
     {
         let lane = &mut self.items[place];
         self.tally.leave(lane);
-        let heard = lane.turn(wires, buf, now);
+        let heard = lane.turn(glance, wires, buf, now);
         self.tally.enter(lane);
         heard
     }
@@ -142,6 +158,9 @@ impl Lanes {
         ensures wires { W.wires wires.new ≡ W.wires wires.old }
         ensures lanes { wires_of self.new.items ≡ wires_of self.old.items }
     {
+        if !self.items[place].is_lagging() {
+            return;
+        }
         let lane = &mut self.items[place];
         self.tally.leave(lane);
         lane.say(wires);

@@ -2,17 +2,18 @@
 
 ghost use Rattle.std.specs.Prelude.{◌≡◌};
 ghost use Rattle.hw_net.specs.Bounds.{NextIsWithin, RepliesAreWithin, SendsAreWithin, ShutsAreWithin};
-ghost use Rattle.hw_net.specs.Limits.{piece, most_unwritten, most_wait, switching};
+ghost use Rattle.hw_net.specs.Limits.{piece, most_unwritten, most_wait, most_named, switching};
 ghost use Rattle.hw_net.specs.Numbers.{NumbersRise, RepliesKeepNumbers, SendsKeepNumbers, ShutsKeepNumbers};
 ghost use Rattle.hw_net.specs.Sessions.{RequestsAreAsked, RefusalsAreDeserved, RepliesAreWritten, RequestsWaitForReplies, WiresAreShutForACause, WiresAreShutOnce, LanesHaveWires, LossesHaveCauses, SocketsAreCarried};
 
-use crate::limits::{MOST_UNWRITTEN, MOST_WAIT, PIECE, SWITCHING};
+use crate::limits::{MOST_NAMED, MOST_UNWRITTEN, MOST_WAIT, PIECE, SWITCHING};
 
 /// The constants are the numbers of the definitions.
 pub fn limits_are_named()
     ensures read { PIECE ≡ piece }
     ensures unwritten { MOST_UNWRITTEN ≡ most_unwritten }
     ensures wait { MOST_WAIT ≡ most_wait }
+    ensures named { MOST_NAMED ≡ most_named }
     ensures status { SWITCHING ≡ switching }
 {}
 

@@ -1,28 +1,49 @@
 //! A lane while it is a WebSocket. It knows nothing of when it is written.
 
-ghost use Rattle.std.specs.Prelude.{◌≡◌, ◌||◌, List, true, false, not, length, IfOk, OnOk};
+ghost use Rattle.std.specs.Prelude.{◌≡◌, ◌≤◌, ◌||◌, ◌∷◌, [], ℕ, List, true, false, not, length, take, option_map, IfOk, IfSome, OnOk, OnErr};
 ghost use Rattle.hw_door.specs.Traffic.{Answer};
 ghost use Rattle.hw_socket.specs.Reading.{Feeds};
+ghost use Rattle.hw_socket.specs.Sending as sending;
+ghost use Rattle.hw_socket.specs.Sending.{after_shut};
 ghost use Rattle.hw_net.specs.declared.limits.TheConstants.{PIECE};
-ghost use Rattle.hw_net.specs.Talking.{HearsTalking, ReadsInto, Finds};
-ghost use Rattle.hw_net.specs.Told.{Tells};
+ghost use Rattle.hw_net.specs.Saying.{Writes};
+ghost use Rattle.hw_net.specs.Talking.{HearsTalking, ReadsInto, Finds, IsCalm};
+ghost use Rattle.hw_net.specs.Told.{Tells, Reads};
+ghost use Rattle.hw_net.specs.Turn.{IsRightNews};
 
 use crate::news::News;
 use crate::reading::read_piece;
+use crate::talk::Talk;
+use crate::writing::write_frames;
 use hw_door::Wires;
 use hw_socket::{SocketLane, SocketRead};
 use std::alloc::AllocError;
+use std::marker::Model;
 
 /// The messages of one lane.
 #[derive(Drop)]
 pub struct Talking {
-    pub lane: SocketLane,
-    /// All messages that came were heard, so more bytes are read.
-    pub hungry: bool,
-    /// The last read gave bytes, or there was none.
-    pub gave: bool,
-    /// Bytes that were read are lost, as memory was out.
-    pub spoiled: bool,
+    lane: SocketLane,
+    // All messages that came were heard, so more bytes are read.
+    hungry: bool,
+    // The last read filled the room that it had, or there was none.
+    gave: bool,
+    // All messages that came were heard, and since then no byte came and none was sent.
+    rests: bool,
+    // Bytes that were read are lost, as memory was out.
+    spoiled: bool,
+}
+
+impl Model for Talking {
+    ghost use Rattle.hw_net.specs.Talking.{Talking as State, talking_code, IsTalking};
+
+    ghost Value = { State };
+
+    ghost coded = { talking_code };
+
+    ghost view = { λ t. record { lane = t.lane; hungry = t.hungry; gave = t.gave; spoiled = t.spoiled } };
+
+    ghost invariant = { λ t. IsTalking t.lane t.rests };
 }
 
 impl Talking {
@@ -34,6 +55,7 @@ impl Talking {
             lane,
             hungry: true,
             gave: true,
+            rests: false,
             spoiled: false,
         }
     }
@@ -74,17 +96,87 @@ impl Talking {
         let Some(count) = read_piece(wires, wire, buf) else {
             return Ok(false);
         };
-        self.take(&buf[..count])?;
+        self.take(buf, count)?;
         Ok(true)
     }
 
-    /// Takes bytes that were read.
-    fn take(&mut self, piece: &[u8]) -> Result<(), AllocError>
-        ensures fed { OnOk result (Feeds self.old.lane piece.now self.new.lane) }
+    /// Hears one message after a read that gave this: so many bytes, in front of the buffer, or `None` if the wire broke.
+    pub fn hear_after(&mut self, read: Option<usize>, buf: &[u8]) -> Result<News, AllocError>
+        requires buffer { length buf.now ≡ PIECE }
+        requires count { IfSome read (λ count. count ≤ PIECE) }
+        ensures heard { IfOk result (λ news. (wire : ℕ) (answer : Answer) → IsCalm self.old → Reads wire PIECE answer (option_map (λ count. take count buf.now) read)
+            → HearsTalking wire self.old self.new (answer ∷ []) news) }
+        ensures right { IfOk result (IsRightNews (Talk.Socket self.new)) }
     {
-        self.gave = !piece.is_empty();
+        let Some(count) = read else {
+            return Ok(News::Broken);
+        };
+        self.take(buf, count)?;
+        self.look()
+    }
+
+    /// Whether this is known: nothing is to be heard before more bytes come, and nothing to be written.
+    pub fn is_calm(&self) -> bool
+        ensures { result ≡ true → IsCalm self.now }
+    {
+        self.hungry
+            && self.rests
+            && !self.gave
+            && !self.spoiled
+            && self.lane.ending().is_none()
+            && self.lane.out().is_empty()
+    }
+
+    /// Adds a message to what is to be written. The answer is whether it was.
+    pub fn send(&mut self, bytes: &[u8], text: bool) -> Result<bool, AllocError>
+        ensures said { IfOk result (sending.Says self.old.lane self.new.lane bytes.now text) }
+        ensures kept { OnErr result (self.new ≡ self.old) }
+        ensures still { self.new ≡ record self.old { lane = self.new.lane } }
+    {
+        self.rests = false;
+        self.lane.send(bytes, text)
+    }
+
+    /// Says that the WebSocket ends.
+    pub fn shut(&mut self) -> Result<(), AllocError>
+        ensures shut { OnOk result (self.new ≡ record self.old { lane = after_shut self.old.lane }) }
+        ensures kept { OnErr result (self.new ≡ self.old) }
+    {
+        self.lane.shut()
+    }
+
+    /// What is to be written.
+    pub fn out(&self) -> &[u8]
+        ensures { result.now ≡ self.now.lane.out.bytes }
+    {
+        self.lane.out()
+    }
+
+    /// Writes what is to be written, as far as the wire takes it. The answer is false if the wire failed.
+    pub fn write<W: Wires>(&mut self, wires: &mut W, wire: u64) -> bool
+        ensures writes { (answers : List Answer) × Tells (W.told wires.old) (W.told wires.new) answers
+            × Writes wire self.old.lane.out.bytes answers self.new.lane.out.bytes result }
+        ensures still { self.new ≡ record self.old { lane = record self.old.lane { out = record self.old.lane.out { bytes = self.new.lane.out.bytes } } } }
+        ensures wires { W.wires wires.new ≡ W.wires wires.old }
+    {
+        write_frames(wires, wire, &mut self.lane)
+    }
+
+    /// Takes what was read: so many bytes, in front of the buffer.
+    fn take(&mut self, buf: &[u8], count: usize) -> Result<(), AllocError>
+        requires { count ≤ length buf.now }
+        ensures fed { OnOk result (Feeds self.old.lane (take count buf.now) self.new.lane) }
+        ensures whole { OnOk result (self.new.spoiled ≡ self.old.spoiled) }
+    {
+        self.gave = count == buf.len();
+        let piece = &buf[..count];
+        if piece.is_empty() {
+            return Ok(());
+        }
+        self.rests = false;
         if self.lane.feed(piece).is_err() {
             self.spoiled = true;
+            self.gave = true;
             return Err(AllocError);
         }
         Ok(())
@@ -92,13 +184,16 @@ impl Talking {
 
     /// Hears one message.
     fn look(&mut self) -> Result<News, AllocError>
-        ensures { IfOk result (Finds self.old self.new) }
+        ensures found { IfOk result (Finds self.old self.new) }
+        ensures whole { self.new.spoiled ≡ self.old.spoiled }
     {
         self.hungry = false;
+        self.rests = false;
         match self.lane.read()? {
             SocketRead::Payload(bytes) => Ok(News::Message(bytes)),
             SocketRead::NotYet => {
                 self.hungry = true;
+                self.rests = true;
                 Ok(News::Nothing)
             }
             SocketRead::Gone => Ok(News::Gone),

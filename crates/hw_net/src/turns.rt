@@ -8,6 +8,7 @@ ghost use Rattle.hw_net.specs.Rising.{Rise};
 ghost use Rattle.hw_net.specs.Told.{Tells};
 ghost use Rattle.hw_net.specs.Walks.{Walks, Speak};
 
+use crate::glance::Glance;
 use crate::lanes::Lanes;
 use crate::limits::PIECE;
 use hw_door::{Event, Wires};
@@ -43,7 +44,11 @@ fn turn_until<W: Wires>(
     ensures lanes { wires_of lanes.new.items ≡ wires_of lanes.old.items }
 {
     for place in begin..end {
-        if let Some(event) = lanes.turn(place, wires, buf, now)? {
+        let glance = lanes.glance(place, wires, buf);
+        if glance == Glance::Still {
+            continue;
+        }
+        if let Some(event) = lanes.turn(place, glance, wires, buf, now)? {
             return Ok(Some(Found {
                 event,
                 next: place + 1,

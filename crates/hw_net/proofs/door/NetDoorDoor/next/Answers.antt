@@ -10,7 +10,7 @@ returns-clause-hears g c =
     let told = g.W.Wires.told in
     let q = c.in_ok-accept.ensures.accepted in
     rw (← c.self.view_is) at (hears-next (told c.args.self.now.wires) (told c.poll.new.self.wires) (told c.accept.new.self.wires) (told c.hear.new.self.wires) c.in_ok-now.now c.args.self.now.from c.args.self.now.moment
-    c.hear.new.self.from c.args.self.now.lanes.items c.poll.new.self.lanes.items c.accept.new.self.lanes.items c.hear.new.self.lanes.items c.in_ok-event.event
+    c.hear.new.self.from c.args.self.now.named c.hear.new.self.named c.args.self.now.lanes.items c.poll.new.self.lanes.items c.accept.new.self.lanes.items c.hear.new.self.lanes.items c.in_ok-event.event
     (search rules) (search rules) (q.0, q.1, q.2) (search rules))
 
 pub returns-in_err-accept-clause-fails : goal.returns-in_err-accept-clause-fails

@@ -1,8 +1,8 @@
-use Rattle.hw_net.proofs.Sayings.{turned}
+use Rattle.hw_net.proofs.Sayings.{turned-after}
 use Rattle.hw_net.proofs.lane.NetLane.turn_live.Goals as goal
 
 pub returns-clause-turned : goal.returns-clause-turned
-returns-clause-turned g c =
+returns-clause-turned g c = λ first glances.
     let told = g.W.Wires.told in
-    turned (told c.args.wires.now) (told c.hear.new.wires) (told c.take.new.wires) (told c.say.new.wires) c.args.now c.args.self.now c.hear.new.self c.take.new.self c.say.new.self c.heard.new.self
-    c.in_ok-news.news c.in_ok-event.event c.heard.result c.in_ok-news.ensures.heard c.in_ok-news.ensures.still c.in_ok-event.ensures.settled c.say.ensures.said c.heard.ensures.heard
+    turned-after (told c.args.wires.now) (told c.hear_on.new.wires) (told c.take.new.wires) (told c.say.new.wires) c.args.now c.args.self.now c.hear_on.new.self c.take.new.self c.say.new.self c.heard.new.self
+    c.in_ok-news.news c.in_ok-event.event c.heard.result first (c.in_ok-news.ensures.heard first glances) c.in_ok-news.ensures.still c.in_ok-event.ensures.settled c.say.ensures.said c.heard.ensures.heard

@@ -1,6 +1,8 @@
-use Rattle.std.proofs.Common.{rules, ◌≡◌, ◌<◌, ◌+◌, ◌^◌, ◌∙◌, length, get_or}
+use Rattle.std.proofs.Common.{rules, ◌≡◌, ◌<◌, ◌+◌, ◌^◌, ◌∙◌, [], length, get_or}
 use Rattle.hw_net.proofs.Sweeps.{wires-kept}
 use Rattle.hw_net.proofs.Tallying.{at-counted, room-again, put-again}
+use Rattle.hw_net.proofs.Telling.{tells-none}
+use Rattle.hw_net.proofs.Walking.{says-nothing}
 use Rattle.hw_net.proofs.lanes.Lanes.say.Goals as goal
 
 pub leave-requires : goal.leave-requires
@@ -24,3 +26,9 @@ invariant_of-self g c =
 pub returns-clause-lanes : goal.returns-clause-lanes
 returns-clause-lanes g c =
     wires-kept c.self.inside.items.items c.args.place c.index_mut-lane.result.now c.say.new.self (search rules) ∙ search rules
+
+pub returns-then-not-is_lagging-clause-said : goal.returns-then-not-is_lagging-clause-said
+returns-then-not-is_lagging-clause-said g c =
+    let lanes = c.args.self.now.items in
+    let lane = c.index.result.now in
+    ([], tells-none (g.W.Wires.told c.args.wires.now), says-nothing lanes c.args.place lane (search rules) (search rules))

@@ -1,4 +1,5 @@
 use Rattle.std.proofs.Common.{rules, ◌≡◌, ◌<◌, ◌+◌, ◌^◌, ◌∙◌, length, get_or}
+use Rattle.hw_net.proofs.Calm.{turns-here}
 use Rattle.hw_net.proofs.Sweeps.{wires-kept}
 use Rattle.hw_net.proofs.Tallying.{at-counted, room-again, put-again}
 use Rattle.hw_net.proofs.lanes.Lanes.turn.Goals as goal
@@ -24,3 +25,11 @@ invariant_of-self g c =
 pub returns-clause-lanes : goal.returns-clause-lanes
 returns-clause-lanes g c =
     wires-kept c.self.inside.items.items c.args.place c.index_mut-lane.result.now c.turn-heard.new.self (search rules) ∙ search rules
+
+pub returns-clause-turned : goal.returns-clause-turned
+returns-clause-turned g c =
+    let told = g.W.Wires.told in
+    let found : get_or c.args.self.now.items c.args.place c.index_mut-lane.result.now ≡ c.index_mut-lane.result.now = search rules in
+    let within : c.args.place < length c.args.self.now.items = search rules in
+    turns-here c.turn-heard.result (told c.args.wires.now) (told c.turn-heard.new.wires) c.args.now c.args.place c.args.self.now.items _ c.index_mut-lane.result.now c.turn-heard.new.self c.args.buf.now c.args.glance
+    within found (search rules) c.turn-heard.ensures.turned

@@ -7,4 +7,4 @@ returns-clause-heard g c =
     let told = g.W.Wires.told in
     let whole : c.in_ok-read.field-0 ≡ true = search rules in
     talking-hears (told c.args.wires.now) (told c.read.new.wires) c.args.wire c.args.self.now c.read.new.self c.look.new.self c.in_ok-read.field-0 c.look.result whole
-    c.in_ok-read.ensures.read c.look.ensures
+    c.in_ok-read.ensures.read c.look.ensures.found c.look.ensures.whole

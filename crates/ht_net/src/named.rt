@@ -1,0 +1,74 @@
+//! Wires in memory that name one of them after each poll, as a script says.
+
+ghost use Rattle.std.specs.Prelude.{◌≡◌};
+ghost use Rattle.hw_door.specs.Ledger.{told_by};
+
+use hw_door::{MemoryWires, WireRead, Wires};
+use hw_io::Failed;
+use hw_net::ReadyWires;
+
+/// Wires in memory, and what they name after each poll: a number, which need be that of no wire, or nothing.
+#[derive(Drop)]
+pub struct NamedWires {
+    wires: MemoryWires,
+    names: Vec<Option<u64>>,
+    // How many polls there were.
+    polls: usize,
+}
+
+impl NamedWires {
+    /// These wires, which name this after each poll.
+    pub fn start(wires: MemoryWires, names: Vec<Option<u64>>) -> NamedWires {
+        NamedWires {
+            wires,
+            names,
+            polls: 0,
+        }
+    }
+
+    /// What was written on a wire.
+    pub fn written(&self, wire: u64) -> &[u8] {
+        self.wires.written(wire)
+    }
+}
+
+impl Wires for NamedWires {
+    ghost told = { λ w. told_by w.wires.ledger };
+
+    ghost moment = { λ w. w.wires.moment };
+
+    ghost wires = { λ w. w.wires.given };
+
+    ghost faults = { λ w. w.wires.faults };
+
+    fn poll(&mut self, wait: u64) -> Result<u64, Failed> {
+        self.polls = self.polls.saturating_add(1);
+        self.wires.poll(wait)
+    }
+
+    fn accept(&mut self) -> Result<Option<u64>, Failed> {
+        self.wires.accept()
+    }
+
+    fn connect(&mut self, host: &str, port: u16) -> Result<u64, Failed> {
+        self.wires.connect(host, port)
+    }
+
+    fn read(&mut self, wire: u64, buf: &mut [u8]) -> Result<WireRead, Failed> {
+        self.wires.read(wire, buf)
+    }
+
+    fn write(&mut self, wire: u64, bytes: &[u8]) -> Result<usize, Failed> {
+        self.wires.write(wire, bytes)
+    }
+
+    fn shut(&mut self, wire: u64) {
+        self.wires.shut(wire);
+    }
+}
+
+impl ReadyWires for NamedWires {
+    fn ready_after(&self, wire: u64) -> Option<u64> {
+        *self.names.get(self.polls.checked_sub(1)?)?
+    }
+}
