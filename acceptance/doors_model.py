@@ -1,16 +1,15 @@
 #!/usr/bin/env python3
 """A plain model of doors, dialers, wires and lots in memory: what `crates/ht_doors` is to print of a script.
 
-    acceptance/doors_model.py --check   that the committed output is what the model says of the committed script
-    acceptance/doors_model.py --write   writes both: the cases below, and what the model says of them
-    acceptance/doors_model.py           prints what the model says of a script on its standard input
+    acceptance/doors_model.py --check [BUILT] | --write      the script and what the model says of it (committed.py)
+    acceptance/doors_model.py                                prints what the model says of a script on its standard input
 
 Each form is the lists that it was made with, and the number of the next call. It shares no code with the program, whose main.rt has the
 words of a script."""
-import pathlib
 import sys
 
-CRATE = pathlib.Path(__file__).resolve().parent.parent / "crates" / "ht_doors"
+import committed
+
 
 
 class Failed(Exception):
@@ -397,18 +396,5 @@ system
 """
 
 
-def main():
-    if sys.argv[1:] == ["--write"]:
-        (CRATE / "stdin").write_text(CASES)
-        (CRATE / "stdout").write_text(answers(CASES))
-        return 0
-    if sys.argv[1:] == ["--check"]:
-        same = answers((CRATE / "stdin").read_text()) == (CRATE / "stdout").read_text()
-        print(f"doors_model: the committed output is {'' if same else 'not '}what the model says")
-        return 0 if same else 1
-    sys.stdout.write(answers(sys.stdin.read()))
-    return 0
-
-
 if __name__ == "__main__":
-    sys.exit(main())
+    sys.exit(committed.main("ht_doors", lambda: (CASES, answers(CASES)), answers))

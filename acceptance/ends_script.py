@@ -1,20 +1,18 @@
 #!/usr/bin/env python3
 """Lines for the program crates/ht_ends, each beside the line that it wants: `LINE => ANSWER`, or `note TEXT`, which is answered by itself.
 
-    acceptance/ends_script.py --write      writes the lines (stdin) and the answers (stdout) of the crate
-    acceptance/ends_script.py --check      compares these with the files that stand there
+    acceptance/ends_script.py --check [BUILT] | --write      the lines and their answers (committed.py)
 
 The answers come from HubProtocol.md and the rules of docs/protocol.md, and from no run of the program. Where the model of `replay` can
 say them too (acceptance/replay_model.py, whose ends are lists of what they did), both ways hold it to them. What two ends do over links
 that come and go is tested by scripts of `replay`; here are single ends, and what an end makes of what no end of this project says.
 crates/ht_ends/src/main.rt has the words of a line. The byte 1E, which ends a frame, is written as ␞."""
 import json
-import pathlib
 import sys
 
+import committed
 import replay_model
 
-CRATE = pathlib.Path(__file__).resolve().parent.parent / "crates" / "ht_ends"
 
 # How many bytes a frame has at most, and how many messages and framed bytes an end holds.
 AMPLE = "256 100 10000"
@@ -510,21 +508,13 @@ def model_agrees(lines, answers):
     return True, count
 
 
-def main():
+def made():
     lines, answers = script()
     agrees, count = model_agrees(lines, answers)
-    if not agrees: return 1
-    if sys.argv[1:] == ["--write"]:
-        (CRATE / "stdin").write_text(lines)
-        (CRATE / "stdout").write_text(answers)
-        return 0
-    if sys.argv[1:] == ["--check"]:
-        same = lines == (CRATE / "stdin").read_text() and answers == (CRATE / "stdout").read_text()
-        print(f"ends_script: the committed lines and answers are {'' if same else 'not '}these, and the model says {count} of them")
-        return 0 if same else 1
-    print(__doc__)
-    return 2
+    if not agrees: sys.exit(1)
+    print(f"ends_script: the model says {count} of the answers")
+    return lines, answers
 
 
 if __name__ == "__main__":
-    sys.exit(main())
+    sys.exit(committed.main("ht_ends", made))

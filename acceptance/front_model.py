@@ -1,20 +1,19 @@
 #!/usr/bin/env python3
 """A plain model of a server's front: what `crates/ht_front` is to print of a script.
 
-    acceptance/front_model.py --check   that the committed output is what the model says of the committed script
-    acceptance/front_model.py --write   writes both: the cases below, and what the model says of them
-    acceptance/front_model.py           prints what the model says of a script on its standard input
+    acceptance/front_model.py --check [BUILT] | --write      the script and what the model says of it (committed.py)
+    acceptance/front_model.py                                prints what the model says of a script on its standard input
 
 It follows docs/serving.md and shares no code with the program: it keeps the list of what was noted, goes through all of it at each
 question, and takes tokens and queries from Python's base64 and urllib."""
 import base64
 import json
-import pathlib
 import random
 import sys
 import urllib.parse
 
-CRATE = pathlib.Path(__file__).resolve().parent.parent / "crates" / "ht_front"
+import committed
+
 MOST_LIVE, LIVES_FOR, MOST = 10_000, 30_000, (1 << 64) - 1
 TRANSPORTS = [{"transferFormats": ["Text", "Binary"], "transport": "WebSockets"}, {"transferFormats": ["Text", "Binary"], "transport": "LongPolling"}]
 
@@ -389,19 +388,10 @@ def answers(lines):
     return "".join(script.answer(line) + "\n" for line in lines)
 
 
-def main():
-    if sys.argv[1:] == ["--write"]:
-        lines = list(cases())
-        (CRATE / "stdin").write_text("".join(line + "\n" for line in lines))
-        (CRATE / "stdout").write_text(answers(lines))
-    elif sys.argv[1:] == ["--check"]:
-        lines = (CRATE / "stdin").read_text().splitlines()
-        if lines != list(cases()) or answers(lines) != (CRATE / "stdout").read_text():
-            sys.exit("front: the committed script or output isn't what the model says")
-        print(f"front: {len(lines)} lines, all alike")
-    else:
-        sys.stdout.write(answers(line.rstrip("\n") for line in sys.stdin))
+def made():
+    lines = list(cases())
+    return "".join(line + "\n" for line in lines), answers(lines)
 
 
 if __name__ == "__main__":
-    main()
+    sys.exit(committed.main("ht_front", made, lambda script: answers(script.splitlines())))

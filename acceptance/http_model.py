@@ -1,21 +1,20 @@
 #!/usr/bin/env python3
 """A plain model of the lanes of HTTP: what `crates/ht_http` is to print of a script.
 
-    acceptance/http_model.py --check   that the committed output is what the model says of the committed script
-    acceptance/http_model.py --write   writes both: the cases below, and what the model says of them
-    acceptance/http_model.py           prints what the model says of a script on its standard input
+    acceptance/http_model.py --check [BUILT] | --write      the script and what the model says of it (committed.py)
+    acceptance/http_model.py                                prints what the model says of a script on its standard input
 
 It follows docs/http.md and shares no code with the program: heads are found by regular expressions, each time anew, and the phrases,
 the digests and the decoding of queries are those of Python's http, hashlib, base64 and urllib."""
 import base64
 import hashlib
 import http
-import pathlib
 import re
 import sys
 import urllib.parse
 
-CRATE = pathlib.Path(__file__).resolve().parent.parent / "crates" / "ht_http"
+import committed
+
 MOST_HEAD, MOST_BODY, MOST_HEADERS = 16_384, 1_048_576, 100
 GUID = b"258EAFA5-E914-47DA-95CA-C5AB0DC85B11"
 
@@ -452,19 +451,10 @@ def cases():
     return "".join(line + "\n" for part in (heads, lengths, upgrades, tokens, texts, responses) for line in part())
 
 
-def main():
-    if sys.argv[1:] == ["--write"]:
-        script = cases()
-        (CRATE / "stdin").write_text(script)
-        (CRATE / "stdout").write_text(answers(script))
-        return 0
-    if sys.argv[1:] == ["--check"]:
-        same = answers((CRATE / "stdin").read_text()) == (CRATE / "stdout").read_text()
-        print(f"http_model: the committed output is {'' if same else 'not '}what the model says")
-        return 0 if same else 1
-    sys.stdout.write(answers(sys.stdin.read()))
-    return 0
+def made():
+    script = cases()
+    return script, answers(script)
 
 
 if __name__ == "__main__":
-    sys.exit(main())
+    sys.exit(committed.main("ht_http", made, answers))

@@ -1,22 +1,18 @@
 #!/usr/bin/env python3
 """A plain model of hubs, groups and keepers: what `crates/ht_hubs` is to print of a script.
 
-    acceptance/hubs_model.py --check [PROGRAM]   that the committed script is that of hubs_script.py, that the committed output is what the
-                                                 model says of it, and that PROGRAM, if one is named, prints it
-    acceptance/hubs_model.py --write             writes both
-    acceptance/hubs_model.py                     prints what the model says of a script on its standard input
+    acceptance/hubs_model.py --check [BUILT] | --write      the script of hubs_script.py and what the model says of it (committed.py)
+    acceptance/hubs_model.py                                prints what the model says of a script on its standard input
 
 A job is a generator that is given inputs and yields acts, by the tables of docs/protocol.md and docs/hubs.md and the head of
 crates/hub_rooms. A registry is two lists of pairs and a keeper two lists, which each question scans. It shares no code with the program,
 whose main.rt has the words of a script."""
-import pathlib
 import re
-import subprocess
 import sys
 
+import committed
 import hubs_script
 
-CRATE = pathlib.Path(__file__).resolve().parent.parent / "crates" / "ht_hubs"
 MOST_TURNS = 1_000_000
 MOST_RECALLED = 100
 CALLER = "ann"
@@ -414,44 +410,10 @@ def answers(script):
     return "".join(bench.line(line) + "\n" for line in script.splitlines())
 
 
-def differs(wanted, got, what):
-    for place, (line, other) in enumerate(zip(wanted.splitlines(), got.splitlines()), 1):
-        if line != other:
-            print(f"hubs_model: {what}: line {place} is `{other}`, and the model says `{line}`")
-            return True
-    if wanted != got:
-        print(f"hubs_model: {what} has {len(got.splitlines())} lines, and the model {len(wanted.splitlines())}")
-    return wanted != got
-
-
-def check(program):
-    text = hubs_script.script()
-    wanted = answers(text)
-    if differs(text, (CRATE / "stdin").read_text(), "crates/ht_hubs/stdin"):
-        return 1
-    if differs(wanted, (CRATE / "stdout").read_text(), "crates/ht_hubs/stdout"):
-        return 1
-    if program:
-        run = subprocess.run([program], input=text, capture_output=True, text=True, timeout=120)
-        if differs(wanted, run.stdout, program):
-            return 1
-    print(f"hubs_model: {len(wanted.splitlines())} answers are as the model says")
-    return 0
-
-
-def main():
-    match sys.argv[1:]:
-        case []:
-            sys.stdout.write(answers(sys.stdin.read()))
-        case ["--write"]:
-            text = hubs_script.script()
-            (CRATE / "stdin").write_text(text)
-            (CRATE / "stdout").write_text(answers(text))
-        case ["--check", *program] if len(program) < 2:
-            sys.exit(check(program[0] if program else None))
-        case _:
-            sys.exit(__doc__)
+def made():
+    script = hubs_script.script()
+    return script, answers(script)
 
 
 if __name__ == "__main__":
-    main()
+    sys.exit(committed.main("ht_hubs", made, answers))

@@ -1,17 +1,16 @@
 #!/usr/bin/env python3
 """Lines for the program crates/ht_links, each beside the line that it wants, and `note TEXT`, which is answered by itself.
 
-    acceptance/links_script.py --write      writes the lines (stdin) and the answers (stdout) of the crate
-    acceptance/links_script.py --check      compares these with the files that stand there
+    acceptance/links_script.py --check [BUILT] | --write      the lines and their answers (committed.py)
 
 The answers come from HubProtocol.md and the rules of docs/protocol.md, and from no run of the program. That a resend buffer answers as the
 plain list of its frames does is a line too, which makes 2,000 calls by chance of both; that 2^62 frames exhaust a buffer isn't run.
 crates/ht_links/src/main.rt has the words of a line. The byte 1E, which ends a frame, is written as ␞."""
 import itertools
-import pathlib
 import sys
 
-CRATE = pathlib.Path(__file__).resolve().parent.parent / "crates" / "ht_links"
+import committed
+
 
 # The largest number of 64 bits.
 GREATEST = 2**64 - 1
@@ -405,19 +404,5 @@ def script():
     return "".join(lines), "".join(answers)
 
 
-def main():
-    lines, answers = script()
-    if sys.argv[1:] == ["--write"]:
-        (CRATE / "stdin").write_text(lines)
-        (CRATE / "stdout").write_text(answers)
-        return 0
-    if sys.argv[1:] == ["--check"]:
-        same = lines == (CRATE / "stdin").read_text() and answers == (CRATE / "stdout").read_text()
-        print(f"links_script: the committed lines and answers are {'' if same else 'not '}these")
-        return 0 if same else 1
-    print(__doc__)
-    return 2
-
-
 if __name__ == "__main__":
-    sys.exit(main())
+    sys.exit(committed.main("ht_links", script))

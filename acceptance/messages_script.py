@@ -1,8 +1,7 @@
 #!/usr/bin/env python3
 """Lines for the program crates/ht_messages, each beside the line that it wants: `LINE => ANSWER`, or `note TEXT`, which is answered by itself.
 
-    acceptance/messages_script.py --write      writes the lines (stdin) and the answers (stdout) of the crate
-    acceptance/messages_script.py --check      compares these with the files that stand there
+    acceptance/messages_script.py --check [BUILT] | --write      the lines and their answers (committed.py)
 
 The answers come from no run of the program. The frames in JSON are after the examples of HubProtocol.md as remembered: no copy of it was at hand.
 Those in MessagePack are as Python's msgpack 1.0.3 packs the arrays of that document, with a map's keys in byte order. What isn't a value, or is in
@@ -10,10 +9,10 @@ another spelling, is by the MessagePack specification. The message of a frame th
 frame in the form that this project writes, or the words of a refusal. crates/ht_messages/src/questions.rt has the words of a line. A line feed is
 written as ␤."""
 import itertools
-import pathlib
 import sys
 
-CRATE = pathlib.Path(__file__).resolve().parent.parent / "crates" / "ht_messages"
+import committed
+
 
 # What `write` has written before a frame.
 BEFORE = "out: "
@@ -576,34 +575,9 @@ CASES = [
 ]
 
 
-def script():
-    """The lines, and their answers."""
-    lines, answers = [], []
-    text = "".join("".join(case()) for case in CASES)
-    for pair in text.splitlines():
-        if not pair:
-            continue
-        line, arrow, answer = pair.partition(" => ")
-        assert bool(arrow) != line.startswith("note "), pair
-        lines.append(line + "\n")
-        answers.append((answer if arrow else line) + "\n")
-    return lines, answers
-
-
-def main():
-    lines, answers = script()
-    count = sum(not line.startswith("note ") for line in lines)
-    if sys.argv[1:] == ["--write"]:
-        (CRATE / "stdin").write_text("".join(lines))
-        (CRATE / "stdout").write_text("".join(answers))
-        return 0
-    if sys.argv[1:] == ["--check"]:
-        same = "".join(lines) == (CRATE / "stdin").read_text() and "".join(answers) == (CRATE / "stdout").read_text()
-        print(f"messages_script: the committed lines and answers are {'' if same else 'not '}these, {count} cases")
-        return 0 if same else 1
-    print(__doc__)
-    return 2
+def made():
+    return committed.pairs("".join("".join(case()) for case in CASES))
 
 
 if __name__ == "__main__":
-    sys.exit(main())
+    sys.exit(committed.main("ht_messages", made))

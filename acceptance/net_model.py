@@ -1,20 +1,19 @@
 #!/usr/bin/env python3
 """A plain model of a door over wires in memory: what `crates/ht_net` is to print of a script.
 
-    acceptance/net_model.py --check         that the committed output is what is written here of the committed script
-    acceptance/net_model.py --write         writes both: cases answered by hand, and random sessions answered by the model
-    acceptance/net_model.py --random SEED   prints the script of a random session, and `--answers SEED` what the model says of it
+    acceptance/net_model.py --check [BUILT] | --write      the script and its answers, by hand and by the model (committed.py)
+    acceptance/net_model.py --random SEED                  prints the script of a random session, and `--answers SEED` its answers
 
 A client's conversation is a list of items whose bytes and meaning are known beforehand: requests, what is refused, and the frames of a
 WebSocket (RFC 9110, 9112 and 6455). So the model parses nothing; it counts bytes. It shares no code with the program, whose main.rt has the
 words of a script."""
 import base64
 import hashlib
-import pathlib
 import random
 import sys
 
-CRATE = pathlib.Path(__file__).resolve().parent.parent / "crates" / "ht_net"
+import committed
+
 PIECE = 4096
 HEAD = 16384
 UNWRITTEN = 1 << 20
@@ -110,7 +109,7 @@ class Lane:
         self.begin = 0           # where it begins
         self.known = 0           # its length, if its head was read
         self.socket = self.busy = False
-        self.stirred = self.hungry = True
+        self.has_unparsed = self.wants_read = True
         self.gone = None         # the status of the close frame that a WebSocket which is gone still has to write
         self.out = b""
         self.texts = 0           # how many of its first bytes are texts of HTTP
@@ -210,14 +209,14 @@ class Door:
 
     def look(self, lane):
         """What is heard of the bytes that are held."""
-        if lane.busy or not lane.stirred:
+        if lane.busy or not lane.has_unparsed:
             return None
         item = self.item(lane)
         held = lane.came - lane.begin
         if item is None or held < item.ready:
             if item and item.head and held >= item.head:
                 lane.known = len(item.data)
-            lane.stirred = False
+            lane.has_unparsed = False
             return None
         if isinstance(item.heard, int):
             return ("refused", item.heard)
@@ -227,9 +226,9 @@ class Door:
         return ("request", item.heard)
 
     def hear_request(self, lane):
-        news = self.look(lane)
-        if news:
-            return news
+        heard = self.look(lane)
+        if heard:
+            return heard
         room = min(PIECE, max(HEAD, lane.known) - (lane.came - lane.begin))
         if room:
             try:
@@ -237,22 +236,22 @@ class Door:
             except Failed:
                 return ("broken", None)
             lane.came += len(piece)
-            lane.stirred = lane.stirred or bool(piece)
+            lane.has_unparsed = lane.has_unparsed or bool(piece)
         return self.look(lane)
 
     def hear_message(self, lane):
-        if lane.hungry:
+        if lane.wants_read:
             try:
                 lane.came += len(self.read(lane, PIECE))
             except Failed:
                 return ("broken", None)
-        lane.hungry = False
+        lane.wants_read = False
         if lane.gone:
             return ("gone", None)
         while True:
             item = self.item(lane)
             if item is None or lane.came - lane.begin < item.ready:
-                lane.hungry = True
+                lane.wants_read = True
                 return None
             self.step(lane, item)
             self.add(lane, item.replies)
@@ -269,24 +268,24 @@ class Door:
         if lane.stage != "live":
             self.say(lane)
             return None
-        news, event = (self.hear_message if lane.socket else self.hear_request)(lane), None
-        if news is None:
+        heard, event = (self.hear_message if lane.socket else self.hear_request)(lane), None
+        if heard is None:
             if not lane.socket and not lane.busy and self.moment - lane.since >= WAIT:
                 self.end(lane)
-        elif news[0] == "request":
-            event = f"request {lane.number} {news[1]}"
-        elif news[0] == "bytes":
-            event = f"bytes {lane.number} {hexed(news[1])}"
-        elif news[0] == "refused":
-            self.add(lane, reply_text(news[1]))
-            lane.stage, event = "closing", f"refused {lane.number} {news[1]}"
-        elif news[0] == "broken":
+        elif heard[0] == "request":
+            event = f"request {lane.number} {heard[1]}"
+        elif heard[0] == "bytes":
+            event = f"bytes {lane.number} {hexed(heard[1])}"
+        elif heard[0] == "refused":
+            self.add(lane, reply_text(heard[1]))
+            lane.stage, event = "closing", f"refused {lane.number} {heard[1]}"
+        elif heard[0] == "broken":
             self.end(lane)
         else:
             if lane.gone != "answered":
                 self.add(lane, frame(8, lane.gone.to_bytes(2, "big"), None))
             lane.stage, event = "closing", f"lost {lane.number}"
-        if lane.stage == "lost" and news is not None and event is None:
+        if lane.stage == "lost" and heard is not None and event is None:
             lane.stage = "over"
             return f"lost {lane.number}"
         self.say(lane)
@@ -332,7 +331,7 @@ class Door:
             return
         self.add(lane, reply_text(status, kind, body, accept))
         if status == 101:
-            lane.socket = lane.hungry = True
+            lane.socket = lane.wants_read = True
         else:
             lane.busy, lane.since = False, self.heard_at
         self.more(lane)
@@ -654,22 +653,23 @@ def text(lines):
     return "".join(line + "\n" for line in lines)
 
 
-def main():
-    words = sys.argv[1:]
-    if words[:1] in (["--random"], ["--answers"]):
-        s = Script()
-        at_random(s, int(words[1]), 200)
-        sys.stdout.write(text(s.lines if words[0] == "--random" else s.answers))
-        return 0
+def made():
     s = script(range(4))
-    if words == ["--write"]:
-        (CRATE / "stdin").write_text(text(s.lines))
-        (CRATE / "stdout").write_text(text(s.answers))
-        return 0
-    same = (text(s.lines), text(s.answers)) == ((CRATE / "stdin").read_text(), (CRATE / "stdout").read_text())
-    print(f"net_model: the committed script and output are {'' if same else 'not '}what is written here")
-    return 0 if same else 1
+    return text(s.lines), text(s.answers)
+
+
+def session(seed):
+    """A random session."""
+    s = Script()
+    at_random(s, int(seed), 200)
+    return s
+
+
+OPTIONS = {
+    "--random": lambda seed: print(text(session(seed).lines), end=""),
+    "--answers": lambda seed: print(text(session(seed).answers), end=""),
+}
 
 
 if __name__ == "__main__":
-    sys.exit(main())
+    sys.exit(committed.main("ht_net", made, options=OPTIONS))

@@ -1,26 +1,22 @@
 #!/usr/bin/env python3
-"""A model of two peers, for crates/ht_peers: two ends as replay_model.py has them, with the tables of tables_model.py.
+"""A model of two peers, for crates/ht_peers: two ends as replay_model.py has them, with the tables of calls_model.py.
 
-    acceptance/peers_model.py --check [PROGRAM]    that the committed output is what the model says of the committed scripts, and
-                                                   that PROGRAM, if one is named, prints it
-    acceptance/peers_model.py --write              writes both: cases by hand, and random ones from fixed seeds (peers_script.py)
-    acceptance/peers_model.py                      prints what the model says of scripts on its standard input
+    acceptance/peers_model.py --check [BUILT] | --write      the scripts of peers_script.py and what the model says of them (committed.py)
+    acceptance/peers_model.py                                prints what the model says of scripts on its standard input
 
 Each end, each table of own calls and each table of jobs is the list of what happened to it, and each question scans that list anew. The
 rules are those of docs/delivery.md, docs/calls.md and docs/hubs.md, and the methods those of docs/protocol.md. crates/ht_peers/src has the
 words of a script."""
 import json
-import pathlib
-import subprocess
 import sys
 
+import committed
 import peers_script
 import replay_model
+from calls_model import MOST_TIMES, MOST_UPLOADS, Jobs, OwnCalls, calculator
+from calls_model import Refused as WordRefused, kind_of, number
 from replay_model import Refused, json_text, number_of
-from tables_model import MOST_TIMES, MOST_UPLOADS, Jobs, OwnCalls, calculator, differences
-from tables_model import Refused as WordRefused, kind_of, number
 
-CRATE = pathlib.Path(__file__).resolve().parent.parent / "crates" / "ht_peers"
 TOO_LONG = {"error": "The answer is too long."}
 REQUIRED = {
     1: ["target", "arguments"],
@@ -512,32 +508,10 @@ def output_of(script):
     return "".join(answer + "\n" for place, line in enumerate(lines, 1) for answer in play.answers(place, line))
 
 
-def check(program):
-    text = (CRATE / "stdin").read_text()
-    wanted = output_of(text)
-    if differences(wanted, (CRATE / "stdout").read_text(), "crates/ht_peers/stdout"):
-        return 1
-    if program:
-        run = subprocess.run([program], input=text, capture_output=True, text=True, timeout=120)
-        if differences(wanted, run.stdout, program):
-            return 1
-    print(f"peers_model: {len(wanted.splitlines())} lines are as the model says")
-    return 0
-
-
-def main():
-    match sys.argv[1:]:
-        case []:
-            sys.stdout.write(output_of(sys.stdin.read()))
-        case ["--write"]:
-            text = peers_script.script(Play)
-            (CRATE / "stdin").write_text(text)
-            (CRATE / "stdout").write_text(output_of(text))
-        case ["--check", *program] if len(program) < 2:
-            sys.exit(check(program[0] if program else None))
-        case _:
-            sys.exit(__doc__)
+def made():
+    script = peers_script.script(Play)
+    return script, output_of(script)
 
 
 if __name__ == "__main__":
-    main()
+    sys.exit(committed.main("ht_peers", made, output_of))

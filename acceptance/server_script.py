@@ -1,460 +1,403 @@
 #!/usr/bin/env python3
 """What `crates/ht_server` is to print: each line of its script stands beside what it wants.
 
-    acceptance/server_script.py --check   that the committed lines and answers are these
-    acceptance/server_script.py --write   writes both
+    acceptance/server_script.py --check [BUILT] | --write      the lines and their answers (committed.py)
+    acceptance/server_script.py --random SEED N PROGRAM        N random sessions, done by PROGRAM too and compared
 
-The answers of rooms in memory, and those of a machine's rows, are written by hand. Those of its random sessions are a model's: plain lists, JSON
-alone, and connections that don't come back. A Notify `Post` of `r`, `1` and `hi` is in JSON the text below with its separator 1E, and in MessagePack an
-array of six behind its length: type 1, no headers, no id, the target, the arguments and no streams."""
-import json
-import pathlib
+The sessions at its beginning are written by hand. Those behind them are random, of five connections or so each, and their answers are those of
+`server_model.py`, a server over plain lists."""
 import random
+import subprocess
 import sys
 
-CRATE = pathlib.Path(__file__).resolve().parent.parent / "crates" / "ht_server"
-
-JSON = b'{"arguments":["r","1","hi"],"target":"Post","type":1}\x1e'.hex()
-PACK = "12" + "96" + "01" + "80" + "c0" + "a4506f7374" + "93" + "a172" + "a131" + "a26869" + "90"
-BARE_JSON = b'{"arguments":[],"target":"Go","type":1}\x1e'.hex()
-BARE_PACK = "09" + "96" + "01" + "80" + "c0" + "a2476f" + "90" + "90"
+import committed
+from server_model import Server, compact, token_of
 
 
-def got(codec, room, *frames): return f"{codec} room {room} bytes {''.join(frames)}"
-
-
-def script():
-    """Lines beside their answers; a note is answered by itself."""
-    post = "Post r 1 hi"
-    return f"""
-note no member
-got 1 => no member
-spread - {post} => steps 0
-spread 1 {post} => steps 0
-got 1 => no member
-note two codecs are two spellings
-room => a room
-member 1 json 5 => a member
-member 2 pack 5 => a member
-member 3 json 5 => a member
-member 4 none 5 => a member
-spread 1,2,3 {post} => steps 2
-got 1 => {got("Json", 4, JSON)}
-got 2 => {got("Pack", 4, PACK)}
-got 3 => {got("Json", 4, JSON)}
-got 4 => {got("none", 5)}
-note one that has no codec is passed over, and so is one that is no member
-spread 4,9 {post} => steps 0
-spread 4,9,2 {post} => steps 1
-got 2 => {got("Pack", 3, PACK, PACK)}
-got 4 => {got("none", 5)}
-got 9 => no member
-note a second message goes on from there
-spread 3,1 Go => steps 1
-got 1 => {got("Json", 3, JSON, BARE_JSON)}
-got 2 => {got("Pack", 3, PACK, PACK)}
-got 3 => {got("Json", 3, JSON, BARE_JSON)}
-spread 2 Go => steps 1
-got 2 => {got("Pack", 2, PACK, PACK, BARE_PACK)}
-note three of one codec are one spelling
-room => a room
-member 1 json 1 => a member
-member 2 json 2 => a member
-member 3 json 0 => a member
-spread 1,2,3 {post} => steps 1
-got 1 => {got("Json", 0, JSON)}
-got 2 => {got("Json", 1, JSON)}
-note one that had no room was closed, and those behind it get the message all the same
-got 3 => {got("none", 0)}
-spread 3,1,2 {post} => steps 1
-got 1 => {got("none", 0, JSON)}
-got 2 => {got("Json", 0, JSON, JSON)}
-got 3 => {got("none", 0)}
-spread 1,3 {post} => steps 0
-spread - {post} => steps 0
-got 2 => {got("Json", 0, JSON, JSON)}
-note nobody is sent it who isn't named
-room => a room
-got 2 => no member
-member 7 pack 18446744073709551615 => a member
-member 18446744073709551615 json 1 => a member
-spread 7 Go => steps 1
-got 7 => {got("Pack", (1 << 64) - 2, BARE_PACK)}
-got 18446744073709551615 => {got("Json", 1)}
-spread 18446744073709551615,7 {post} => steps 2
-got 7 => {got("Pack", (1 << 64) - 3, BARE_PACK, PACK)}
-got 18446744073709551615 => {got("Json", 0, JSON)}
-note words that are no action
-{refused("member 7 json 1", "member 8 xml 1", "member x json 1", "member 8 json", "member 8 json -1", "spread 7,7 Go", "spread 7,18446744073709551615,7 Go",
-         "spread 7, Go", "spread , Go", "spread", "got", "got x", "got 18446744073709551616", "send 7 Go", "")}
-got 7 => {got("Pack", (1 << 64) - 3, BARE_PACK, PACK)}
-got 8 => no member
-"""
-
-
-# ---- a machine
-
-SHAKE = '{"protocol":"json","version":1}'
-SESSIONS = 120
+SESSIONS = 150
 STEPS = 60
 
-
-def compact(message): return json.dumps(message, sort_keys=True, separators=(",", ":"))
+SHAKE = '{"protocol":"json","version":1}|'
+SHAKE_2 = '{"protocol":"json","version":2}|'
+NEGOTIATE = "POST /hub/negotiate?negotiateVersion=1"
+RECONNECT = NEGOTIATE + "&useStatefulReconnect=true"
 
 
 def call(number, target, *arguments):
-    return compact({"type": 1, "invocationId": str(number), "target": target, "arguments": list(arguments)})
+    return compact({"type": 1, "invocationId": str(number), "target": target, "arguments": list(arguments)}) + "|"
 
 
-def notify(target, *arguments): return compact({"type": 1, "target": target, "arguments": list(arguments)})
+def notify(target, *arguments): return compact({"type": 1, "target": target, "arguments": list(arguments)}) + "|"
 
 
-def ended(number, **ending): return compact({"type": 3, "invocationId": str(number), **ending})
+def ended(number, **ending): return compact({"type": 3, "invocationId": str(number), **ending}) + "|"
+
+
+def body(conn, token, reconnect):
+    transports = '[{"transferFormats":["Text","Binary"],"transport":"WebSockets"},{"transferFormats":["Text","Binary"],"transport":"LongPolling"}]'
+    end = ',"useStatefulReconnect":true}' if reconnect else "}"
+    return f'{{"availableTransports":{transports},"connectionId":"{conn}","connectionToken":"{token}","negotiateVersion":1{end}'
+
+
+FIRST = "AAAAAAAAAAAAAAAAAAAAAAAAAAAAAAAB"
+
+
+def socket(lane, token, key="k"): return f"request {lane} GET /hub?id={token} upgrade={key}"
 
 
 def rows():
-    """Two rooms, one whose keeper fails; a broadcast to a member that joined twice, one that has no room, and a user's two connections."""
-    slow = compact({"type": 7, "error": "Too slow."})
-    join, post = call(1, "Join", "r"), call(2, "Post", "r", "hi")
+    """Rooms, a store that fails, tokens and their moments, polls, broadcasts in both codecs, and a door that fails."""
+    token = f"reply 1 200 Json {body(1, FIRST, True)}"
     posted = notify("Posted", "r", "1", "hi")
-    pack_shake = '{"protocol":"messagepack","version":1}'
+    slow = "x" * 30000
+    seq = '{"sequenceId":1,"type":9}|'
     return f"""
 note a room
-machine 1024 - => a machine
-connect 1 1 1 - => a connection
-attach 1 0 => a link
-hear 1 0 {SHAKE} => fed {len(SHAKE) + 1} other
-said 1 => said {{}}|
-state 1 => ready
-hear 1 0 {join} => fed {len(join) + 1} began
-round 0 => a round
-said 1 => said 
-round 0 => a round
-said 1 => said {ended(1)}|
-hear 1 0 {post} => fed {len(post) + 1} began
-round 0 => a round
-said 1 => said 
-asked => asked 1
-round 0 => a round
-said 1 => said {posted}|
-round 0 => a round
-said 1 => said {ended(2)}|
-round 0 => a round
-said 1 => said 
-asked => asked 1
-note a keeper whose first call fails
-machine 1024 0 => a machine
-connect 1 1 1 - => a connection
-attach 1 0 => a link
-hear 1 0 {SHAKE} => fed {len(SHAKE) + 1} other
-hear 1 0 {join} => fed {len(join) + 1} began
-round 0 => a round
-round 0 => a round
-said 1 => said {{}}|{ended(1)}|
-hear 1 0 {post} => fed {len(post) + 1} began
-round 0 => a round
-said 1 => said 
-round 0 => a round
-said 1 => said {ended(2, error="The store failed.")}|
-round 0 => a round
-said 1 => said 
-asked => asked 1
-note a broadcast in both codecs
-machine 1024 - => a machine
-connect 2 1 2 - => a connection
-connect 1 1 1 - => a connection
-{shaken(1)}
-attach 2 0 => a link
-hear 2 0 {pack_shake} => fed {len(pack_shake) + 1} other
-said 2 => said {{}}|
-hear-bytes 2 0 0e 96 => no action: hear-bytes 2 0 0e 96
-hear-bytes 2 0 0d960180c0a44a6f696e91a17290 => fed 14 began
-hear 1 0 {notify("Join", "r")} => fed {len(notify("Join", "r")) + 1} began
-round 0 => a round
-hear 1 0 {notify("Post", "r", "hi")} => fed {len(notify("Post", "r", "hi")) + 1} began
-round 0 => a round
-round 0 => a round
-said 1 => said {posted}|
-said-bytes 2 => said 14960180c0a6506f7374656493a172a131a2686990
-said-bytes 2 => said 
-note a broadcast
-machine 2 - => a machine
-connect 1 1 1 - => a connection
-connect 3 1 3 - => a connection
-connect 2 1 2 - => a connection
-{shaken(1, 3, 2)}
-hear 1 0 {notify("Join", "r")} => fed {len(notify("Join", "r")) + 1} began
-hear 1 0 {notify("Join", "r")} => fed {len(notify("Join", "r")) + 1} began
-hear 3 0 {notify("Join", "r")} => fed {len(notify("Join", "r")) + 1} began
-hear 2 0 {notify("Join", "r")} => fed {len(notify("Join", "r")) + 1} began
-round 0 => a round
-round 0 => a round
-hear 2 0 {notify("Post", "r", "a")} => fed {len(notify("Post", "r", "a")) + 1} began
-round 0 => a round
-round 0 => a round
-round 0 => a round
-said 1 => said {notify("Posted", "r", "2", "a")}|
-hear 1 0 {notify("Post", "r", "hi")} => fed {len(notify("Post", "r", "hi")) + 1} began
-round 0 => a round
-round 0 => a round
-said 2 => said {notify("Posted", "r", "2", "a")}|{posted}|
-said 1 => said {posted}|
-state 3 => ready
-hear 2 0 {notify("Post", "r", "b")} => fed {len(notify("Post", "r", "b")) + 1} began
-round 0 => a round
-round 0 => a round
-state 3 => closed
-said 3 => said {notify("Posted", "r", "2", "a")}|{posted}|{slow}|
-said 3 => said 
-said 1 => said {notify("Posted", "r", "2", "b")}|
-hear 1 0 {call(7, "History", "r", 2)} => fed {len(call(7, "History", "r", 2)) + 1} began
-round 0 => a round
-round 0 => a round
-said 1 => said {ended(7, result=["hi", "b"])}|
-hear 3 0 {notify("Post", "r", "c")} => fed 0
-drop 3 => dropped
-state 3 => none
-said 3 => said 
-note a user's connections
-machine 1024 - => a machine
-connect 4 1 Ann Ann => a connection
-connect 9 1 Ann Ann => a connection
-connect 5 1 Bob Bob => a connection
-{shaken(4, 9, 5)}
-hear 5 0 {call(1, "Tell", "Ann", "hi")} => fed {len(call(1, "Tell", "Ann", "hi")) + 1} began
-round 0 => a round
-said 4 => said {notify("Told", "Bob", "hi")}|
-said 9 => said {notify("Told", "Bob", "hi")}|
-said 5 => said 
-round 0 => a round
-said 5 => said {ended(1)}|
-detach 4 1 => lost
-state 4 => closed
-hear 5 1 {call(2, "Tell", "Ann", "you")} => fed {len(call(2, "Tell", "Ann", "you")) + 1} began
-round 1 => a round
-said 9 => said {notify("Told", "Bob", "you")}|
-said 4 => said 
-attach 4 2 => refused Closed
-note a silence
-tick 9 0 => ticked
-tick 9 29999 => ticked
-tick 9 30000 => silent
-state 9 => closed
-note nobody
-tick 77 30000 => ticked
-detach 77 0 => lost
-close 77 => closed
-attach 77 0 => refused Closed
-hear 77 0 {SHAKE} => fed 0
-said 77 => said 
-state 77 => none
+server - - - => a server
+0 request 1 GET /hub upgrade=k => reply 1 101 None accept k
+0 text 1 {SHAKE} => text 1 {{}}|
+0 text 1 {call(1, "Join", "r")} => -
+idle => false
+0 quiet => text 1 {ended(1)}
+0 text 1 {call(2, "Post", "r", "hi")} => -
+0 quiet => text 1 {posted}
+0 quiet => text 1 {ended(2)}
+idle => true
+note a store that fails
+server 0 - - => a server
+0 request 1 GET /hub upgrade=k => reply 1 101 None accept k
+0 text 1 {SHAKE}{call(1, "Join", "r")} => text 1 {{}}|
+0 quiet => text 1 {ended(1)}
+0 text 1 {call(2, "Post", "r", "hi")} => -
+0 quiet => text 1 {ended(2, error="The store failed.")}
+0 quiet => -
+note a token in time
+server - - - => a server
+1000 request 1 {RECONNECT} => {token}
+30999 {socket(2, FIRST)} => reply 2 101 None accept k
+note a token too late
+server - - - => a server
+1000 request 1 {RECONNECT} => {token}
+31000 {socket(2, FIRST)} => reply 2 404 None
+note a resumption in time
+server - - - => a server
+1000 request 1 {RECONNECT} => {token}
+1000 {socket(2, FIRST)} => reply 2 101 None accept k
+1000 text 2 {SHAKE_2} => text 2 {{}}|
+2000 lost 2 => -
+31999 {socket(3, FIRST, "l")} => reply 3 101 None accept l; text 3 {seq}
+note a resumption too late
+server - - - => a server
+1000 request 1 {RECONNECT} => {token}
+1000 {socket(2, FIRST)} => reply 2 101 None accept k
+1000 text 2 {SHAKE_2} => text 2 {{}}|
+2000 lost 2 => -
+32000 {socket(3, FIRST)} => reply 3 404 None
+note what a life excludes
+server - - - => a server
+0 request 1 {RECONNECT} => {token}
+0 {socket(2, FIRST)} => reply 2 101 None accept k
+0 request 3 GET /hub?id={FIRST} => reply 3 409 None
+0 request 3 DELETE /hub?id={FIRST} => reply 3 409 None
+0 {socket(4, FIRST)} => reply 4 409 None
+0 request 5 POST /hub/negotiate?negotiateVersion=0 => reply 5 400 None; shut 5
+0 request 6 GET /hub/negotiate?negotiateVersion=1 => reply 6 405 None
+0 request 6 {NEGOTIATE} => reply 6 200 Json {body(2, token_of(1, 2), False)}
+0 request 7 GET /hub?id={token_of(1, 2)} => reply 7 200 None
+0 {socket(8, token_of(1, 2))} => reply 8 409 None
+note polls
+server - - - => a server
+0 request 1 {NEGOTIATE} => reply 1 200 Json {body(1, FIRST, False)}
+0 request 2 GET /hub?id={FIRST} => reply 2 200 None
+0 request 3 GET /hub?id={FIRST} => -
+0 request 4 GET /hub?id={FIRST} => reply 3 204 None
+0 request 5 POST /hub?id={FIRST} body={SHAKE}{compact({"type": 6})}| => reply 5 200 None; reply 4 200 Octets {{}}|
+0 request 6 DELETE /hub?id={FIRST} shut => reply 6 202 None; shut 6
+0 request 7 GET /hub?id={FIRST} => reply 7 404 None
+note a broadcast, to a member in MessagePack and to one that acknowledges nothing
+server - - - => a server
+0 request 1 GET /hub upgrade=k => reply 1 101 None accept k
+0 text 1 {SHAKE}{notify("Join", "r")}{notify("Join", "r")} => text 1 {{}}|
+0 request 2 GET /hub upgrade=k => reply 2 101 None accept k
+0 text 2 {{"protocol":"messagepack","version":1}}| => bytes 2 7b7d1e
+0 bytes 2 0d960180c0a44a6f696e91a17290 => -
+0 request 3 {RECONNECT} => reply 3 200 Json {body(3, token_of(0, 3), True)}
+0 {socket(4, token_of(0, 3))} => reply 4 101 None accept k
+0 text 4 {SHAKE_2}{notify("Join", "s")} => text 4 {{}}|{{"sequenceId":1,"type":8}}|
+0 quiet => -
+0 text 1 {notify("Post", "r", "hi")} => -
+0 quiet => text 1 {posted}; bytes 2 14960180c0a6506f7374656493a172a131a2686990
+0 text 1 {notify("Post", "s", slow)} => -
+0 quiet => text 4 {notify("Posted", "s", "1", slow)}
+0 text 1 {notify("Post", "s", slow)} => -
+0 quiet => text 4 {notify("Posted", "s", "1", slow)}
+0 text 1 {notify("Post", "s", slow)} => -
+0 quiet => text 4 {notify("Posted", "s", "1", slow)}
+0 text 1 {notify("Post", "s", slow)} => -
+0 quiet => text 4 {compact({"type": 7, "error": "Too slow."})}|; shut 4
+0 {socket(5, token_of(0, 3))} => reply 5 404 None
+0 text 1 {call(9, "History", "r", 10)} => -
+0 quiet => text 1 {ended(9, result=["hi"])}
+note who calls
+server 1 0 Ann,Bob => a server
+0 request 1 GET /hub upgrade=k bearer=Eve => reply 1 401 None
+0 request 1 GET /hub upgrade=k bearer=Ann => reply 1 500 None
+0 request 1 {NEGOTIATE} bearer=Ann => reply 1 500 None
+0 request 1 {NEGOTIATE} bearer=Ann => reply 1 200 Json {body(1, FIRST, False)}
+0 {socket(2, FIRST)} => reply 2 101 None accept k
+0 request 3 GET /hub upgrade=l bearer=Bob => reply 3 101 None accept l
+0 text 3 {SHAKE}{call(1, "Tell", "Ann", "hi")} => text 3 {{}}|
+0 quiet => text 3 {ended(1)}
+0 text 2 {SHAKE} => text 2 {{}}|
+0 text 3 {call(2, "Tell", "Ann", "you")} => text 2 {notify("Told", "Bob", "you")}
+note a Ping, a silence, and a resumption in time
+server - - - => a server
+1000 request 1 {RECONNECT} => {token}
+2000 {socket(2, FIRST)} => reply 2 101 None accept k
+2000 text 2 {SHAKE_2} => text 2 {{}}|
+16999 quiet => -
+17000 quiet => text 2 {{"type":6}}|
+31999 quiet => -
+32000 quiet => shut 2
+61999 {socket(3, FIRST)} => reply 3 101 None accept k; text 3 {seq}
+note a silence, and a resumption too late
+server - - - => a server
+1000 request 1 {RECONNECT} => {token}
+2000 {socket(2, FIRST)} => reply 2 101 None accept k
+2000 text 2 {SHAKE_2} => text 2 {{}}|
+17000 quiet => text 2 {{"type":6}}|
+32000 quiet => shut 2
+62000 {socket(3, FIRST)} => reply 3 404 None
+note a keeper that fails when it is asked who calls
+server 0 - Ann => a server
+0 request 1 GET /hub upgrade=k bearer=Ann => reply 1 500 None
+note a keeper that fails at a deed
+server 1 - Ann => a server
+0 request 1 GET /hub upgrade=k bearer=Ann => reply 1 101 None accept k
+0 text 1 {SHAKE} => text 1 {{}}|
+0 text 1 {call(1, "Join", "r")} => -
+0 quiet => text 1 {ended(1)}
+0 text 1 {call(2, "Post", "r", "hi")} => -
+0 quiet => text 1 {ended(2, error="The store failed.")}
+note a door that fails
+server - - - => a server
+hear 0 request 1 GET /hub upgrade=k => to be heard
+hear 0 text 1 {SHAKE} => to be heard
+serve 5 - => served: reply 1 101 None accept k; text 1 {{}}|
+hear 0 text 1 {call(1, "Join", "r")} => to be heard
+hear 0 quiet => to be heard
+serve 3 2 => the door failed: -
+serve 1 0 => the door failed: -
+serve 1 - => served: -
 """
 
 
-def shaken(*conns):
-    return "\n".join(f"attach {c} 0 => a link\nhear {c} 0 {SHAKE} => fed {len(SHAKE) + 1} other\nsaid {c} => said {{}}|" for c in conns)
-
-
-class Conn:
-    """A connection of JSON that doesn't come back."""
-
-    def __init__(self, who, user):
-        self.who, self.user, self.state, self.on_link = who, user, "opening", False
-        self.out, self.held, self.jobs = [], 0, []
-
-
-class Rooms:
-    """A machine over plain lists. A job is the deeds that it has left, what it answers, and its call's id, if any."""
-
-    def __init__(self, frames, failing):
-        self.frames, self.failing, self.asked = frames, failing, 0
-        self.conns, self.joined, self.kept = {}, [], []
-
-    def send(self, conn, text):
-        conn.out.append(text)
-        conn.held += 1
-
-    def close(self, c, error=None):
-        conn = self.conns[c]
-        if conn.state == "ready" and error is not None:
-            conn.out.append(compact({"type": 7, **({"error": error} if error else {})}))
-        conn.state = "closed"
-        self.joined = [(room, k) for room, k in self.joined if k != c]
-
-    def has_failed(self):
-        self.asked += 1
-        return self.asked - 1 in self.failing
-
-    def tell(self, members, text):
-        for c in members:
-            conn = self.conns[c]
-            if conn.state != "ready":
-                continue
-            if conn.held >= self.frames:
-                self.close(c, "Too slow.")
-            else:
-                self.send(conn, text)
-
-    def carry(self, c, job):
-        """The next deed of a job. What the keeper fails at ends it, at its next turn."""
-        conn, deed = self.conns[c], job["deeds"].pop(0)
-        if deed[0] == "join" and (deed[1], c) not in self.joined:
-            self.joined.append((deed[1], c))
-        elif deed[0] == "leave":
-            self.joined = [pair for pair in self.joined if pair != (deed[1], c)]
-        elif deed[0] == "log":
-            if self.has_failed():
-                job.update(deeds=[], ending={"error": "The store failed."})
-            else:
-                self.kept.append((deed[1], deed[2]))
-        elif deed[0] == "history":
-            if self.has_failed():
-                job["ending"] = {"error": "The store failed."}
-            else:
-                texts = [text for room, text in self.kept if room == deed[1]]
-                job["ending"] = {"result": texts[max(0, len(texts) - deed[2]):]}
-        elif deed[0] == "post":
-            self.tell([k for room, k in self.joined if room == deed[1]], notify("Posted", deed[1], conn.who, deed[2]))
-        elif deed[0] == "tell":
-            up = [k for k in self.order if self.conns[k].user == deed[1] and self.conns[k].state != "closed"]
-            self.tell(up, notify("Told", conn.who, deed[2]))
-
-    @property
-    def order(self): return list(self.conns)
-
-    def round(self):
-        for c in sorted(self.conns):
-            conn = self.conns[c]
-            for job in list(conn.jobs):
-                if conn.state == "closed" or conn.held >= self.frames:
-                    break
-                if job["deeds"]:
-                    self.carry(c, job)
-                    continue
-                conn.jobs.remove(job)
-                if job["id"] is not None:
-                    self.send(conn, ended(job["id"], **job["ending"]))
-
-
-DEEDS = {
-    "Join": lambda r: [("join", r)],
-    "Leave": lambda r: [("leave", r)],
-    "Post": lambda r, t: [("log", r, t), ("post", r, t)],
-    "Tell": lambda u, t: [("tell", u, t)],
-    "History": lambda r, n: [("history", r, n)],
+# what is said to a request that names a token, by the token's life: a socket, a poll, a POST, a DELETE and another method. `-` is a poll that is held
+LIVES = {
+    "unknown": ([], ["404 None", "404 None", "404 None", "404 None", "405 None"]),
+    "fresh": ([RECONNECT], ["101 None accept k", "200 None", "409 None", "202 None", "405 None"]),
+    "on a socket, not granted": ([NEGOTIATE, "socket", SHAKE_2], ["409 None", "409 None", "409 None", "409 None", "405 None"]),
+    "on a socket, before its handshake": ([RECONNECT, "socket"], ["409 None", "409 None", "409 None", "409 None", "405 None"]),
+    "on a socket, granted": ([RECONNECT, "socket", SHAKE_2], ["101 None accept k", "409 None", "409 None", "409 None", "405 None"]),
+    "lost": ([RECONNECT, "socket", SHAKE_2, "lost"], ["101 None accept k", "409 None", "409 None", "409 None", "405 None"]),
+    "polling": ([RECONNECT, "poll"], ["409 None", "-", "200 None", "202 None", "405 None"]),
+    "ending": ([RECONNECT, "poll", "close"], ["404 None", "200 Octets {}|", "404 None", "202 None", "405 None"]),
 }
 
 
-def called(draw):
-    """A target and its arguments."""
-    room, text = draw.choice("rst"), draw.choice(["hi", "there", "x"])
-    target = draw.choice(["Join", "Join", "Leave", "Post", "Post", "Post", "Tell", "History", "Away"])
-    return target, {"Join": [room], "Leave": [room], "Post": [room, text], "Tell": [draw.choice(["Ann", "Bob"]), text],
-                    "History": [room, draw.randrange(4)], "Away": []}[target]
+def begun(actions):
+    """The lines that bring the first token to a life."""
+    lines = ["server - - - => a server"]
+    for action in actions:
+        if action in (NEGOTIATE, RECONNECT):
+            lines.append(f"0 request 1 {action} => reply 1 200 Json {body(1, FIRST, action == RECONNECT)}")
+        elif action == "socket":
+            lines.append(f"0 {socket(2, FIRST)} => reply 2 101 None accept k")
+        elif action == SHAKE_2:
+            lines.append(f"0 text 2 {SHAKE_2} => text 2 {{}}|")
+        elif action == "lost":
+            lines.append("0 lost 2 => -")
+        elif action == "poll":
+            lines.append(f"0 request 2 GET /hub?id={FIRST} => reply 2 200 None")
+        else:
+            lines.append(f"0 request 3 POST /hub?id={FIRST} body={SHAKE}{compact({'type': 7})}| => reply 3 200 None")
+    return lines
 
 
-def hear(draw, model, c, lines):
-    conn = model.conns[c]
-    if conn.state == "opening" and conn.on_link:
-        lines.append(f"hear {c} 0 {SHAKE} => fed {len(SHAKE) + 1} other")
-        conn.state = "ready"
-        conn.out.append("{}")
-        return
-    target, arguments = called(draw)
-    number = draw.randrange(1000) if draw.randrange(3) else None
-    if number is not None and any(job["id"] == number for job in conn.jobs):
-        return
-    text = notify(target, *arguments) if number is None else call(number, target, *arguments)
-    if not conn.on_link or conn.state == "closed":
-        lines.append(f"hear {c} 0 {text} => fed 0")
-        return
-    lines.append(f"hear {c} 0 {text} => fed {len(text) + 1} began")
-    job = {"id": number, "deeds": [], "ending": {"error": "Unknown method."}}
-    if target in DEEDS:
-        job.update(deeds=DEEDS[target](*arguments), ending={})
-    conn.jobs.append(job)
-
-
-def said(model, c):
-    """A connection without a link says nothing, and one whose handshake is open neither."""
-    conn = model.conns[c]
-    texts = conn.out if conn.on_link else []
-    line = f"said {c} => said {''.join(text + '|' for text in texts)}"
-    if conn.on_link:
-        conn.out, conn.held = [], 0
-    return line
-
-
-def one_action(draw, model, lines):
-    c = draw.choice(list(model.conns))
-    conn = model.conns[c]
-    what = draw.randrange(20)
-    if what < 8:
-        hear(draw, model, c, lines)
-    elif what < 13:
-        lines.append("round 0 => a round")
-        model.round()
-    elif what < 17:
-        lines.append(said(model, c))
-    elif what < 18:
-        lines.append(f"state {c} => {conn.state}")
-    elif what < 19 and draw.randrange(4) == 0:
-        lines.append(f"close {c} => closed")
-        model.close(c, "" if conn.state != "closed" else None)
-    elif draw.randrange(4) == 0 and conn.on_link:
-        lines.append(f"detach {c} 0 => lost")
-        conn.on_link = False
-        model.close(c)
-
-
-def session(seed):
-    draw = random.Random(seed)
-    frames = draw.choice([1, 2, 3, 1024])
-    failing = sorted(draw.sample(range(12), draw.randrange(3)))
-    lines = [f"note session {seed}", f"machine {frames} {','.join(map(str, failing)) or '-'} => a machine"]
-    model = Rooms(frames, failing)
-    for c in draw.sample(range(1, 40), 5):
-        user = draw.choice(["Ann", "Bob", None])
-        who = user or str(c)
-        lines.append(f"connect {c} 1 {who} {user or '-'} => a connection")
-        model.conns[c] = Conn(who, user)
-        if draw.randrange(8):
-            lines.append(f"attach {c} 0 => a link")
-            model.conns[c].on_link = True
-            if draw.randrange(8):
-                hear(draw, model, c, lines)
-    for _step in range(STEPS):
-        one_action(draw, model, lines)
-    lines += [said(model, c) for c in model.conns] + [f"state {c} => {conn.state}" for c, conn in model.conns.items()]
-    lines.append(f"asked => asked {model.asked}")
+def by_life():
+    """Each row of the table that looks at a life."""
+    lines = []
+    for life, (actions, answers) in LIVES.items():
+        for method, answer in zip(["GET", "GET", "POST", "DELETE", "PUT"], answers):
+            is_socket = method == "GET" and answer is answers[0]
+            lines += [f"note {method} of a token that is {life}"] + begun(actions)
+            said = answer if answer == "-" else f"reply 9 {answer}"
+            if is_socket and "101" in answer and life not in ("fresh", "unknown"):
+                said += '; text 9 {"sequenceId":1,"type":9}|'
+                said = ("shut 2; " if "granted" in life else "") + said
+            lines.append(f"0 request 9 {method} /hub?id={FIRST}{' upgrade=k' if is_socket else ''} => {said}")
     return "\n".join(lines)
 
 
-def sessions(): return "\n".join(session(seed) for seed in range(SESSIONS))
+def asks(method, path, query=None, upgrade=None, text=""):
+    return dict(method=method, path=path, query=query or {}, upgrade=upgrade, bearer=None, shut=False, body=text)
 
 
-def refused(*lines): return "\n".join(f"{line} => no action: {line}" for line in lines)
+def door_sessions():
+    """Each a list of lines with their events: a room, a token and its socket, and polls."""
+    join, post, close = call(1, "Join", "r"), call(2, "Post", "r", "hi"), compact({"type": 7}) + "|"
+    version, named = {"negotiateVersion": "1"}, {"id": FIRST}
+    quiet = ("0 quiet", 0, "quiet")
+    room = [("0 request 1 GET /hub upgrade=k", 0, "request", 1, asks("GET", "/hub", None, "k")), (f"0 text 1 {SHAKE}{join}", 0, "text", 1, SHAKE + join),
+            quiet, (f"0 text 1 {post}", 0, "text", 1, post), quiet, quiet, (f"0 text 1 {close}", 0, "text", 1, close)]
+    granted = {**version, "useStatefulReconnect": "true"}
+    token = [(f"1000 request 1 {RECONNECT}", 1000, "request", 1, asks("POST", "/hub/negotiate", granted)),
+             (f"30999 {socket(2, FIRST)}", 30999, "request", 2, asks("GET", "/hub", named, "k"))]
+    sent = SHAKE + compact({"type": 6}) + "|"
+    polls = [(f"0 request 1 {NEGOTIATE}", 0, "request", 1, asks("POST", "/hub/negotiate", version))]
+    polls += [(f"0 request {lane} GET /hub?id={FIRST}", 0, "request", lane, asks("GET", "/hub", named)) for lane in (2, 3, 4)]
+    polls += [(f"0 request 5 POST /hub?id={FIRST} body={sent}", 0, "request", 5, asks("POST", "/hub", named, None, sent)),
+              (f"0 request 6 DELETE /hub?id={FIRST}", 0, "request", 6, asks("DELETE", "/hub", named)),
+              (f"0 request 7 GET /hub?id={FIRST}", 0, "request", 7, asks("GET", "/hub", named))]
+    return [room, token, polls]
 
 
-def main():
-    lines, answers = "", ""
-    whole = script().strip() + "\n" + rows().strip() + "\n" + sessions()
-    for pair in whole.split("\n"):
-        line, arrow, answer = pair.partition(" => ")
-        assert bool(arrow) != line.startswith("note "), pair
-        lines += line + "\n"
-        answers += (answer if arrow else line) + "\n"
-    if sys.argv[1:] == ["--write"]:
-        (CRATE / "stdin").write_text(lines)
-        (CRATE / "stdout").write_text(answers)
-        return 0
-    if sys.argv[1:] == ["--check"]:
-        same = lines == (CRATE / "stdin").read_text() and answers == (CRATE / "stdout").read_text()
-        print(f"server_script: the committed lines and answers are {'' if same else 'not '}these")
-        return 0 if same else 1
-    print(__doc__)
-    return 2
+def doors():
+    """A door that fails at each of its calls in turn: what it was given before stands."""
+    lines = []
+    for events in door_sessions():
+        server, calls = Server([], [], []), []
+        for _line, now, *event in events:
+            calls += [None] + server.hear(now, *event)
+        for failing in range(len(calls) + 1):
+            lines += [f"note a door that fails at call {failing}", "server - - - => a server"] + [f"hear {line} => to be heard" for line, *_ in events]
+            given = [word for word in calls[:failing] if word]
+            lines.append(f"serve {len(events)} {failing} => {'served' if failing == len(calls) else 'the door failed'}: {'; '.join(given) or '-'}")
+    return "\n".join(lines)
+
+
+class Draw:
+    """A random session: a model of the server, and what its clients know."""
+
+    def __init__(self, seed):
+        self.random = random.Random(seed)
+        self.fails = [sorted(self.random.sample(range(14), self.random.randrange(3))), sorted(self.random.sample(range(5), self.random.randrange(2)))]
+        self.server, self.now, self.lane, self.number = Server(*self.fails, ["Ann", "Bob"]), 0, 0, 0
+        comma = [",".join(map(str, fails)) or "-" for fails in self.fails]
+        self.lines = [f"note session {seed}", f"server {comma[0]} {comma[1]} Ann,Bob => a server"]
+
+    def hear(self, line, *event):
+        said = self.server.hear(self.now, *event)
+        self.lines.append(f"{self.now} {line} => {'; '.join(said) or '-'}")
+
+    def request(self, method, path, query=None, upgrade=None, bearer=None, shut=False, text=""):
+        self.lane += 1
+        lane, query = self.lane, query or {}
+        target = path + ("?" + "&".join(f"{k}={v}" for k, v in query.items()) if query else "")
+        words = [f"bearer={bearer}"] * bool(bearer) + [f"upgrade={upgrade}"] * bool(upgrade) + ["shut"] * shut + [f"body={text}"] * bool(text)
+        self.hear(" ".join(["request", str(lane), method, target, *words]), "request", lane,
+                  dict(method=method, path=path, query=query, upgrade=upgrade, bearer=bearer, shut=shut, body=text))
+
+    def conn(self):
+        some = [conn for conn in self.server.conns.values() if not conn.gone or self.random.randrange(8) == 0]
+        return self.random.choice(some) if some else None
+
+    def named(self, method, upgrade=None, text=""):
+        conn = self.conn()
+        token = conn.token if conn and conn.token else token_of(99, 77)
+        self.request(method, "/hub", {"id": token}, upgrade, None, self.random.randrange(5) == 0, text)
+
+    def frames(self, conn):
+        """What a client sends: its handshake first; after a resumption its Sequence; then calls, Acks, Pings, rarely a Close."""
+        end = conn.end
+        if end is None or not end.shaken:
+            return self.random.choice([SHAKE, SHAKE, SHAKE_2, SHAKE_2, SHAKE_2 + self.message(), "x|"] if self.random.randrange(9) else ["x|"])
+        if end.link and end.link["next"] is None and self.random.randrange(4):
+            return compact({"type": 9, "sequenceId": self.random.randrange(1, end.processed + 2)}) + "|" + self.message()
+        what = self.random.randrange(16)
+        if what == 0:
+            return compact({"type": 6}) + "|"
+        if what == 1 and self.random.randrange(3) == 0:
+            return compact({"type": 7}) + "|"
+        if what < 5 and end.kept:
+            return compact({"type": 8, "sequenceId": self.random.randrange(end.lent + 1)}) + "|"
+        if what == 5 and end.kept and self.random.randrange(6) == 0:
+            return compact({"type": 8, "sequenceId": end.lent + 1}) + "|" + self.message()
+        return self.message() + (self.message() if what == 6 else "")
+
+    def message(self):
+        room, text = self.random.choice("rst"), self.random.choice(["hi", "there", "x"])
+        target = self.random.choice(["Join", "Join", "Leave", "Post", "Post", "Post", "Tell", "History", "Away"])
+        arguments = {"Join": [room], "Leave": [room], "Post": [room, text], "Tell": [self.random.choice(["Ann", "Bob"]), text],
+                     "History": [room, self.random.randrange(4)], "Away": []}[target]
+        if self.random.randrange(3) == 0:
+            return notify(target, *arguments)
+        self.number += 1
+        return call(self.number, target, *arguments)
+
+    def standing(self):
+        some = [conn for conn in self.server.conns.values() if conn.socket is not None and not conn.gone]
+        return self.random.choice(some) if some else None
+
+    def step(self):
+        self.now += self.random.choice([0, 0, 0, 0, 1, 10, 500, 4000, 14000, 16000, 29999, 30000] if self.random.randrange(4) == 0 else [0, 1])
+        what = self.random.randrange(24)
+        conn = self.standing()
+        if what < 9 and conn:
+            text = self.frames(conn)
+            self.hear(f"text {conn.socket} {text}", "text", conn.socket, text)
+        elif what < 12 and len(self.server.conns) < 7:
+            bearer = self.random.choice([None, None, "Ann", "Bob", "Eve"])
+            if self.random.randrange(3) == 0:
+                self.request("GET", "/hub", None, "k", bearer, self.random.randrange(4) == 0)
+            else:
+                reconnect = {"useStatefulReconnect": self.random.choice(["true", "false"])} if self.random.randrange(3) else {}
+                self.request("POST", "/hub/negotiate", {"negotiateVersion": self.random.choice(["1", "1", "1", "2", "0", "x"]), **reconnect}, None, bearer)
+        elif what < 14:
+            self.named("GET", "k")
+        elif what < 17:
+            self.named("GET")
+        elif what < 19:
+            poller = self.conn()
+            text = self.frames(poller) if poller else SHAKE
+            token = poller.token if poller and poller.token else token_of(98, 1)
+            self.request("POST", "/hub", {"id": token}, None, None, False, text)
+        elif what < 20 and self.random.randrange(3) == 0:
+            self.named("DELETE")
+        elif what < 21:
+            lanes = [c.socket for c in self.server.conns.values() if c.socket is not None and not c.gone] + [c.poll[0] for c in self.server.conns.values() if c.poll and not c.gone]
+            if lanes:
+                lane = self.random.choice(lanes)
+                if self.random.randrange(8) == 0:
+                    self.hear(f"refused {lane} 400", "refused", lane)
+                else:
+                    self.hear(f"lost {lane}", "lost", lane)
+        elif what < 22 and self.random.randrange(6) == 0:
+            self.request(self.random.choice(["GET", "PUT"]), self.random.choice(["/hub", "/", "/hub/"]))
+        else:
+            self.hear("quiet", "quiet")
+
+
+def session(seed):
+    draw = Draw(seed)
+    for _step in range(STEPS):
+        draw.step()
+    return "\n".join(draw.lines)
+
+
+def made():
+    return committed.pairs("\n".join([rows().strip(), by_life(), doors(), *(session(seed) for seed in range(SESSIONS))]))
+
+
+def at_random(seed, count, program):
+    """Random sessions, done by a program too."""
+    lines, wanted = committed.pairs("\n".join(session(one) for one in range(int(seed), int(seed) + int(count))))
+    run = subprocess.run([program], input=lines, capture_output=True, text=True)
+    if not committed.alike("server_script", wanted, run.stdout, program) or run.returncode:
+        return 1
+    print(f"server_script: {count} random sessions of {len(wanted.splitlines())} lines are as the model says")
+    return 0
 
 
 if __name__ == "__main__":
-    sys.exit(main())
+    sys.exit(committed.main("ht_server", made, options={"--random": at_random}))

@@ -5,7 +5,7 @@
 
 A server of rooms hears so many WebSockets open, of which one then calls `Away` again and again, which is no method; so each event is read, begins
 a job, is stepped and answered. Told are the microseconds of such an event, by the median of the runs, from which the time of the same script
-without these events is taken off. PROGRAM is crates/ht_serving/out/ht_serving by default, as `rt run` builds it; what it needs to read its
+without these events is taken off. PROGRAM is crates/ht_server/out/ht_server by default, as `rt run` builds it; what it needs to read its
 script and to print is part of both."""
 import argparse
 import statistics
@@ -44,7 +44,7 @@ def main():
     parser.add_argument("--idle", type=int, default=9_999)
     parser.add_argument("--events", type=int, default=200_000)
     parser.add_argument("--runs", type=int, default=5)
-    parser.add_argument("program", nargs="?", default=str(TOP / "crates" / "ht_serving" / "out" / "ht_serving"))
+    parser.add_argument("program", nargs="?", default=str(TOP / "crates" / "ht_server" / "out" / "ht_server"))
     asked = parser.parse_args()
     alone, beside = cost(asked, 0), cost(asked, asked.idle)
     print(f"an event alone {alone * 1e6:.1f} microseconds, beside {asked.idle} idle connections {beside * 1e6:.1f}: ratio {beside / alone:.1f}")

@@ -4,7 +4,7 @@ use Rattle.hm_message.specs.declared.message.Message.{Message}
 use Rattle.hm_message.specs.Same.{same_text}
 use Rattle.hd_facts.specs.Prefixes.{IsPrefix}
 use Rattle.hd_delivery.specs.declared.vocabulary.Got.TheVariants as gives
-use Rattle.hd_delivery.specs.Histories.{Step, Detached, Took, Failed, Silenced, Closed, Config, is_closed, is_kept}
+use Rattle.hd_delivery.specs.Histories.{EndEvent, Detached, Took, Failed, Silenced, Closed, Config, is_closed, is_resumable}
 use Rattle.hd_calls.specs.Hubs.{Way, Notify, Call, Stream, Invoked, Answer, Item, End, Purpose, ToBegin, ToAnswer, purpose_of, message_in, message_of, answer_message}
 use Rattle.hd_calls.specs.PeerWorlds.{purposes, invoked}
 use Rattle.hd_calls.proofs.Lists.{both}
@@ -61,10 +61,10 @@ answer-purpose i (Item v) = refl
 answer-purpose i (End e) = refl
 
 -- an end that is closed stays so
-pub closed_stays : (c : Config) (s : Step) (h : List Step) → is_closed c h ≡ true → is_closed c (s ∷ h) ≡ true
+pub closed_stays : (c : Config) (s : EndEvent) (h : List EndEvent) → is_closed c h ≡ true → is_closed c (s ∷ h) ≡ true
 closed_stays c (Closed reason allow) h e = refl
 closed_stays c (Failed fault) h e = refl
 closed_stays c (Took (gives.Closed error allow)) h e = refl
-closed_stays c (Detached now) h e = both (λ b. b ≡ true) (is_kept c h) (is_closed c h) true (λ f. e) (λ f. refl)
-closed_stays c (Silenced now) h e = both (λ b. b ≡ true) (is_kept c h) (is_closed c h) true (λ f. e) (λ f. refl)
+closed_stays c (Detached now) h e = both (λ b. b ≡ true) (is_resumable c h) (is_closed c h) true (λ f. e) (λ f. refl)
+closed_stays c (Silenced now) h e = both (λ b. b ≡ true) (is_resumable c h) (is_closed c h) true (λ f. e) (λ f. refl)
 closed_stays c (_) h e = e

@@ -4,7 +4,7 @@ use Rattle.std.specs.Prelude.{◌+◌, ◌==◌, ◌&&◌, ◌||◌, not, nat_lt
 use Rattle.std.proofs.lemmas.Bool.{eqb-true, eq-eqb, lt-ltb, ltb-true, ltb-false}
 use Rattle.hd_delivery.specs.Sending.{TooLong}
 use Rattle.hd_calls.specs.Hubs.{Call, Invoked}
-use Rattle.hd_calls.specs.Peers.{Move, Refuses, Settings, drawn, call_of, given, lost, has_end, has_id, live_call, live_upload, stream_count, waiting, begun, over, live_job}
+use Rattle.hd_calls.specs.Peers.{PeerEvent, Refuses, Settings, drawn, call_of, given, lost, has_end, has_id, live_call, live_upload, stream_count, waiting, begun, over, live_job}
 use Rattle.hd_calls.specs.Rules.{count_below, sum_below, own_live, live_uploads, live_jobs, shares, clashes, in_use, Unsent, MayMove, Follows}
 use Rattle.hd_calls.specs.Examples.{hub, sized, short_asks, notice, noticed, one_more, FillsJobs, call_numbered, called_often, FillsCalls}
 use Rattle.hd_calls.proofs.Lists.{both}
@@ -27,11 +27,11 @@ noticed_live t k =
     (λ j l. ap (λ b. b && not (over t j (noticed k))) (lt-ltb j (length (begun (noticed k))) l) ∙ ap not (noticed_unended t j k))
     ∙ noticed_jobs k
 
-no_shares : (j : ℕ) (h : List Move) (w : ℕ) (ks : List (List ℕ)) → shares [] j h w ks ≡ false
+no_shares : (j : ℕ) (h : List PeerEvent) (w : ℕ) (ks : List (List ℕ)) → shares [] j h w ks ≡ false
 no_shares j h w [] = refl
 no_shares j h w (k ∷ ks) = no_shares j h (suc w) ks
 
-no_clash : (j : ℕ) (h : List Move) (o : Option Invoked) → clashes notice j h o ≡ false
+no_clash : (j : ℕ) (h : List PeerEvent) (o : Option Invoked) → clashes notice j h o ≡ false
 no_clash j h None = refl
 no_clash j h (Some d) = no_shares j h 0 d.streams
 
@@ -39,7 +39,7 @@ and_false : (a b : Bool) → b ≡ false → (a && b) ≡ false
 and_false true b e = e
 and_false false b e = refl
 
-notice_unused : (t : Settings) (h : List Move) → in_use t notice h ≡ false
+notice_unused : (t : Settings) (h : List PeerEvent) → in_use t notice h ≡ false
 notice_unused t h =
     ap (λ b. b || false) (any_none (length (begun h)) (λ j. live_job t j h && clashes notice j h (slice_get (begun h) j)) (λ j. and_false (live_job t j h) (clashes notice j h (slice_get (begun h) j)) (no_clash j h (slice_get (begun h) j))))
 

@@ -11,7 +11,7 @@ use Rattle.hd_delivery.specs.Bytes.{ByteStep}
 use Rattle.hd_calls.specs.declared.vocabulary.Act.{Act}
 use Rattle.hd_calls.specs.declared.vocabulary.Act.TheVariants as act
 use Rattle.hd_calls.specs.Hubs.{Way, Notify, Call, Stream, Invoked, Answer, Item, End, Purpose, Turn, Given, Cancelled, Hub, id_of, is_stream, purpose_of, message_of, answer_message, value_in, ending_in, call_for}
-use Rattle.hd_calls.specs.Peers.{Begins, Move, Plain, Calls, Uploads, Cancels, Reads, Handles, Runs, Answers, Refuses, Loses, Rounds, Settings, begun, moments, turns, acts, over, live_job, too_long, last_word, ending_answer, answer_of, ends_job, can_frame, add, answers, message_for, reason_of, shuts, byte_steps, codec, is_shut}
+use Rattle.hd_calls.specs.Peers.{Begins, PeerEvent, Plain, Calls, Uploads, Cancels, Reads, Handles, Runs, Answers, Refuses, Loses, Rounds, Settings, begun, moments, turns, acts, over, live_job, too_long, last_word, ending_answer, answer_of, ends_job, can_frame, add, answers, message_for, reason_of, shuts, byte_steps, codec, is_shut}
 use Rattle.hd_calls.specs.Rules.{job_after, act_at, goes_on, run, IsDue, Follows}
 use Rattle.hd_calls.specs.Ledgers.{IsLegal}
 use Rattle.hd_calls.specs.PeerWorlds.{purposes, said_by, endings}
@@ -24,7 +24,7 @@ abbrev pub replies : Settings → Codec → Way → Act → List Purpose
 replies t code way what = sends (sending (message_for way (answer_of t code way what)))
 
 -- what was sent for jobs with an id
-abbrev pub told : Settings → List ℕ → List Move → List Answer
+abbrev pub told : Settings → List ℕ → List PeerEvent → List Answer
 told t i [] = []
 told t i (Runs j c since turn what ∷ h) = told t i h ++ said i (replies t (codec t h) c.way what)
 told t i (_ ∷ h) = told t i h
@@ -48,7 +48,7 @@ pub call_unsaid : (i : List ℕ) (c : Invoked) → said i (sends (sending (Some 
 call_unsaid i c = ap (λ p. said i (p ∷ [])) (message-purpose c)
 
 module _ {Job : Type 0} (hub : Hub Job) (t : Settings) (i : List ℕ) (foreign : (k : ℕ) → t.name k ≡ i → ⊥) where
-  pub told_is : (h : List Move) → Follows hub t h → said i (said_by t h) ≡ told t i h
+  pub told_is : (h : List PeerEvent) → Follows hub t h → said i (said_by t h) ≡ told t i h
   told_is [] p = refl
   told_is (Plain s ∷ h) p = unsaid t i (Some s) (byte_steps t h) (ap (said i) (plain_sends h s p.1)) ∙ told_is h p.0
   told_is (Calls a n call ∷ h) p = unsaid t i (sending (Some (message_of call))) (byte_steps t h) (call_unsaid i call) ∙ told_is h p.0
@@ -123,10 +123,10 @@ answers_push t code way (x ∷ xs) a e =
     ∙ sym (add_append (answer_of t code way x) (if ends_job t code way x then [] else answers t code way xs) (add (answer_of t code way a) []))
 
 -- the jobs of a history are among these, at their places
-abbrev pub Within : List Invoked → List ℕ → List Move → Type 0
+abbrev pub Within : List Invoked → List ℕ → List PeerEvent → Type 0
 Within cs ns h = ((k : ℕ) (d : Invoked) → slice_get (begun h) k ≡ Some d → slice_get cs k ≡ Some d) × ((k n : ℕ) → slice_get (moments h) k ≡ Some n → slice_get ns k ≡ Some n)
 
-pub within_tail : (cs : List Invoked) (ns : List ℕ) (d : Move) (h : List Move) → Within cs ns (d ∷ h) → Within cs ns h
+pub within_tail : (cs : List Invoked) (ns : List ℕ) (d : PeerEvent) (h : List PeerEvent) → Within cs ns (d ∷ h) → Within cs ns h
 within_tail cs ns (Handles m (Begins c now)) h w = (λ k e f. w.0 k e (get_front (begun h) (c ∷ []) k e f), λ k n f. w.1 k n (get_front (moments h) (now ∷ []) k n f))
 within_tail cs ns (Handles m e) h w = w
 within_tail cs ns (Plain s) h w = w
@@ -140,17 +140,17 @@ within_tail cs ns (Refuses j) h w = w
 within_tail cs ns (Loses n) h w = w
 within_tail cs ns Rounds h w = w
 
-pub live_parts : (t : Settings) (j : ℕ) (h : List Move) → live_job t j h ≡ true → (nat_lt j (length (begun h)) ≡ true) × (over t j h ≡ false)
+pub live_parts : (t : Settings) (j : ℕ) (h : List PeerEvent) → live_job t j h ≡ true → (nat_lt j (length (begun h)) ≡ true) × (over t j h ≡ false)
 live_parts t j h e = let q = and_parts (nat_lt j (length (begun h))) (not (over t j h)) e in (q.0, not-true (over t j h) q.1)
 
 -- the codec in which the end spoke at each turn
-abbrev pub Speaks : Settings → Codec → List Move → Type 0
+abbrev pub Speaks : Settings → Codec → List PeerEvent → Type 0
 Speaks t code [] = Unit {0}
 Speaks t code (Runs j call since turn what ∷ h) = Speaks t code h × (codec t h ≡ code)
 Speaks t code (_ ∷ h) = Speaks t code h
 
 -- a turn is of a live job
-pub due_live : (t : Settings) (j : ℕ) (h : List Move) (turn : Turn) → IsDue t j h turn → live_job t j h ≡ true
+pub due_live : (t : Settings) (j : ℕ) (h : List PeerEvent) (turn : Turn) → IsDue t j h turn → live_job t j h ≡ true
 due_live t j h Cancelled d = d.0
 due_live t j h (Given i now) d = d.0
 
@@ -159,7 +159,7 @@ module _ {Job : Type 0} (hub : Hub Job) (t : Settings) (code : Codec) (cs : List
   same_call k e f g = let z = eqb-true j k g in let y : slice_get cs j ≡ Some e = subst (λ x. slice_get cs x ≡ Some e) (sym z) f in let x : Some e ≡ Some d = sym y ∙ at in cc
 
   -- a job is over where its acts end it
-  pub over_is : (h : List Move) → Follows hub t h → Speaks t code h → Within cs ns h → over t j h ≡ stops t code d.way (acts j h)
+  pub over_is : (h : List PeerEvent) → Follows hub t h → Speaks t code h → Within cs ns h → over t j h ≡ stops t code d.way (acts j h)
   over_is [] p s w = refl
   over_is (Runs k call since turn what ∷ h) p s w = go (over_is h p.0 s.0 w) (j == k) refl
     where
@@ -173,7 +173,7 @@ module _ {Job : Type 0} (hub : Hub Job) (t : Settings) (code : Codec) (cs : List
 
   module _ (i : List ℕ) (id : id_of d.way ≡ Some i) (one : (k : ℕ) (e : Invoked) → slice_get cs k ≡ Some e → id_of e.way ≡ Some i → k ≡ j) where
     -- what was sent for the job is what its acts give
-    pub told_answers : (h : List Move) → Follows hub t h → Speaks t code h → Within cs ns h → told t i h ≡ answers t code d.way (acts j h)
+    pub told_answers : (h : List PeerEvent) → Follows hub t h → Speaks t code h → Within cs ns h → told t i h ≡ answers t code d.way (acts j h)
     told_answers [] p s w = refl
     told_answers (Runs k call since turn what ∷ h) p s w = go (told_answers h p.0 s.0 w) (j == k) refl
       where
@@ -194,7 +194,7 @@ module _ {Job : Type 0} (hub : Hub Job) (t : Settings) (code : Codec) (cs : List
 
 -- nothing was sent for an id that no job has
 pub told_nothing : {Job : Type 0} (hub : Hub Job) (t : Settings) (cs : List Invoked) (ns : List ℕ) (i : List ℕ) → ((k : ℕ) (e : Invoked) → slice_get cs k ≡ Some e → id_of e.way ≡ Some i → ⊥)
-    → (h : List Move) → Follows hub t h → Within cs ns h → told t i h ≡ []
+    → (h : List PeerEvent) → Follows hub t h → Within cs ns h → told t i h ≡ []
 told_nothing hub t cs ns i none [] p w = refl
 told_nothing hub t cs ns i none (Runs k call since turn what ∷ h) p w =
     ap (λ xs. told t i h ++ xs) (replies_other t (codec t h) i call.way what (λ e. none k call (w.0 k call p.1.at) e)) ∙ (append_none (told t i h) ∙ told_nothing hub t cs ns i none h p.0 w)
@@ -285,7 +285,7 @@ run_push hub job (Cancelled ∷ ts) u f = absurd (let z : true ≡ false = f in 
 
 -- what a job did is the run of its turns
 pub acts_run : {Job : Type 0} (hub : Hub Job) (t : Settings) (code : Codec) (cs : List Invoked) (ns : List ℕ) (j : ℕ) (d : Invoked) (n : ℕ) → slice_get cs j ≡ Some d → slice_get ns j ≡ Some n
-    → (h : List Move) → Follows hub t h → Speaks t code h → Within cs ns h → acts j h ≡ run hub (hub.begin_of (call_for t.who d) n) (turns j h)
+    → (h : List PeerEvent) → Follows hub t h → Speaks t code h → Within cs ns h → acts j h ≡ run hub (hub.begin_of (call_for t.who d) n) (turns j h)
 acts_run hub t code cs ns j d n at on [] p s w = refl
 acts_run hub t code cs ns j d n at on (Runs k call since turn what ∷ h) p s w = go (acts_run hub t code cs ns j d n at on h p.0 s.0 w) (j == k) refl
   where

@@ -5,7 +5,7 @@ use Rattle.std.proofs.lemmas.Bool.{or_cases, and_parts, not-true, eqb-true, eq-e
 use Rattle.hm_message.specs.Same.{same_text}
 use Rattle.hd_facts.specs.Prefixes.{IsPrefix}
 use Rattle.hd_calls.specs.Hubs.{Invoked, Answer, Item, End, Purpose, ToBegin, ToAnswer, ToCancel, ToNothing, Hub, id_of, is_stream, purpose_of}
-use Rattle.hd_calls.specs.Peers.{Effect, Begins, InUse, TooMany, Brings, Feeds, Flood, Marks, Nothing, Move, Calls, Handles, Loses, Settings, drawn, call_of, given, lost, has_end, has_id, streams_items, live_call, takes}
+use Rattle.hd_calls.specs.Peers.{Effect, Begins, InUse, TooMany, Brings, Feeds, Flood, Marks, Nothing, PeerEvent, Calls, Handles, Loses, Settings, drawn, call_of, given, lost, has_end, has_id, streams_items, live_call, takes}
 use Rattle.hd_calls.specs.Rules.{IsStrange, Arrives, ActsOn, Follows}
 use Rattle.hd_calls.specs.Ledgers.{IsLegal}
 use Rattle.hd_calls.proofs.Lists.{both, not_true, append_none, prefix_trans, same_refl, same-true}
@@ -63,16 +63,16 @@ kept s a g xs e f = go (accepts s a) refl (has_end g) refl e
     go true p false q r = absurd (let z : true ≡ false = r in cc)
 
 -- the list of what was handled may hold answers for drawn numbers alone, at each moment before the last
-abbrev pub Causal : Settings → List Move → Type 0
+abbrev pub Causal : Settings → List PeerEvent → Type 0
 Causal t [] = Unit {0}
 Causal t (d ∷ h) = Causal t h × ((n : ℕ) → drawn h < n → said (t.name n) (handled h) ≡ [])
 
-pub record Heard (t : Settings) (n : ℕ) (h : List Move) (c : Invoked) : Type 0 where
+pub record Heard (t : Settings) (n : ℕ) (h : List PeerEvent) (c : Invoked) : Type 0 where
   pub whole : lost n h ≡ false → given n h ≡ heard (is_stream c.way) (said (t.name n) (handled h))
   pub front : IsPrefix (given n h) (heard (is_stream c.way) (said (t.name n) (handled h)))
 
 -- no own call takes what the message brings
-abbrev pub Ignored : Settings → List Move → Purpose → Type 0
+abbrev pub Ignored : Settings → List PeerEvent → Purpose → Type 0
 Ignored t h (ToAnswer i a) = IsStrange t h i a
 Ignored t h _ = Unit {0}
 
@@ -80,7 +80,7 @@ abbrev pub brings : Effect → Bool
 brings (Brings n a) = true
 brings _ = false
 
-strange : (t : Settings) (h : List Move) (i : List ℕ) (a : Answer) (e : Effect) → Arrives t h i a e → brings e ≡ false → IsStrange t h i a
+strange : (t : Settings) (h : List PeerEvent) (i : List ℕ) (a : Answer) (e : Effect) → Arrives t h i a e → brings e ≡ false → IsStrange t h i a
 strange t h i a (Brings n b) p f = absurd (let z : true ≡ false = f in cc)
 strange t h i a (Feeds j w b) p f = p.1
 strange t h i a Flood p f = p.0
@@ -90,46 +90,46 @@ strange t h i a (InUse c) p f = absurd p
 strange t h i a (TooMany c) p f = absurd p
 strange t h i a (Marks j) p f = absurd p
 
-pub ignored : (t : Settings) (h : List Move) (m : Purpose) (e : Effect) → ActsOn t h m e → brings e ≡ false → Ignored t h m
+pub ignored : (t : Settings) (h : List PeerEvent) (m : Purpose) (e : Effect) → ActsOn t h m e → brings e ≡ false → Ignored t h m
 ignored t h (ToAnswer i a) e p f = strange t h i a e p f
 ignored t h (ToBegin c) e p f = tt
 ignored t h (ToCancel i) e p f = tt
 ignored t h ToNothing e p f = tt
 
 -- what is brought is the message's
-pub record Brought (t : Settings) (h : List Move) (m : Purpose) (n : ℕ) (a : Answer) : Type 0 where
+pub record Brought (t : Settings) (h : List PeerEvent) (m : Purpose) (n : ℕ) (a : Answer) : Type 0 where
   pub said_is : (i : List ℕ) → said i (m ∷ []) ≡ put (same_text i (t.name n)) a []
   pub taken : takes n a h ≡ true
 
-brought_answer : (t : Settings) (h : List Move) (i : List ℕ) (a : Answer) (n : ℕ) (b : Answer) → Arrives t h i a (Brings n b) → Brought t h (ToAnswer i a) n b
+brought_answer : (t : Settings) (h : List PeerEvent) (i : List ℕ) (a : Answer) (n : ℕ) (b : Answer) → Arrives t h i a (Brings n b) → Brought t h (ToAnswer i a) n b
 brought_answer t h i a n b p = record {
   said_is = λ k. ap (λ x. put (same_text k x) a []) (sym p.1) ∙ ap (λ x. put (same_text k (t.name n)) x []) (sym p.0);
   taken = ap (λ x. takes n x h) p.0 ∙ p.2;
 }
 
-pub brought : (t : Settings) (h : List Move) (m : Purpose) (n : ℕ) (a : Answer) → ActsOn t h m (Brings n a) → Brought t h m n a
+pub brought : (t : Settings) (h : List PeerEvent) (m : Purpose) (n : ℕ) (a : Answer) → ActsOn t h m (Brings n a) → Brought t h m n a
 brought t h (ToAnswer i b) n a p = brought_answer t h i b n a p
 brought t h (ToBegin c) n a p = absurd p
 brought t h (ToCancel i) n a p = absurd p
 brought t h ToNothing n a p = absurd p
 
 -- the test of a call that is there
-takes_is : (n : ℕ) (h : List Move) (c : Invoked) (i : List ℕ) (a : Answer) → call_of n h ≡ Some c → id_of c.way ≡ Some i → takes n a h ≡ (accepts (is_stream c.way) a && (not (has_end (given n h)) && not (lost n h)))
+takes_is : (n : ℕ) (h : List PeerEvent) (c : Invoked) (i : List ℕ) (a : Answer) → call_of n h ≡ Some c → id_of c.way ≡ Some i → takes n a h ≡ (accepts (is_stream c.way) a && (not (has_end (given n h)) && not (lost n h)))
 takes_is n h c i (Item v) e f = ap (λ o. streams_items o && (has_id o && (not (has_end (given n h)) && not (lost n h)))) e ∙ ap (λ o. is_stream c.way && (is_some o && (not (has_end (given n h)) && not (lost n h)))) f
 takes_is n h c i (End v) e f = ap (λ o. has_id o && (not (has_end (given n h)) && not (lost n h))) e ∙ ap (λ o. is_some o && (not (has_end (given n h)) && not (lost n h))) f
 
 -- a call that isn't there has nothing
-pub live_there : (n : ℕ) (h : List Move) → live_call n h ≡ true → call_of n h ≡ None → ⊥
+pub live_there : (n : ℕ) (h : List PeerEvent) → live_call n h ≡ true → call_of n h ≡ None → ⊥
 live_there n h e f = let z : false ≡ true = sym (ap (λ o. has_id o && (not (has_end (given n h)) && not (lost n h))) f) ∙ e in absurd (cc)
 
-pub takes_live : (n : ℕ) (a : Answer) (h : List Move) → takes n a h ≡ true → live_call n h ≡ true
+pub takes_live : (n : ℕ) (a : Answer) (h : List PeerEvent) → takes n a h ≡ true → live_call n h ≡ true
 takes_live n (Item v) h e = (and_parts (streams_items (call_of n h)) (live_call n h) e).1
 takes_live n (End v) h e = e
 
 none_tail : (n k : ℕ) (c : Invoked) (o : Option Invoked) → (if n == k then Some c else o) ≡ None → o ≡ None
 none_tail n k c o e = both (λ x. x ≡ None → o ≡ None) (n == k) (Some c) o (λ f g. absurd (cc)) (λ f g. g) e
 
-pub nothing_given : {Job : Type 0} (hub : Hub Job) (t : Settings) (n : ℕ) (h : List Move) → Follows hub t h → call_of n h ≡ None → (given n h ≡ []) × (lost n h ≡ false)
+pub nothing_given : {Job : Type 0} (hub : Hub Job) (t : Settings) (n : ℕ) (h : List PeerEvent) → Follows hub t h → call_of n h ≡ None → (given n h ≡ []) × (lost n h ≡ false)
 nothing_given hub t n [] p e = (refl, refl)
 nothing_given hub t n (Calls a k d ∷ h) p e = nothing_given hub t n h p.0 (none_tail n k d (call_of n h) e)
 nothing_given hub t n (Handles m (Brings k a) ∷ h) p e =
@@ -150,7 +150,7 @@ nothing_given hub t n (Loses k ∷ h) p e =
     )
 nothing_given hub t n (_ ∷ h) p e = nothing_given hub t n h p.0 e
 
-pub undrawn : (n : ℕ) (h : List Move) → drawn h < n → call_of n h ≡ None
+pub undrawn : (n : ℕ) (h : List PeerEvent) → drawn h < n → call_of n h ≡ None
 undrawn n h l = go (call_of n h) refl
   where
     go : (o : Option Invoked) → call_of n h ≡ o → o ≡ None
@@ -159,7 +159,7 @@ undrawn n h l = go (call_of n h) refl
 
 module _ {Job : Type 0} (hub : Hub Job) (t : Settings) (own : (m n : ℕ) → t.name m ≡ t.name n → m ≡ n) (n : ℕ) (call : Invoked) (id : id_of call.way ≡ Some (t.name n)) where
   -- nothing was said of it
-  unmoved : (h : List Move) (m : Purpose) (gs : List Answer) (l : Bool) → said (t.name n) (m ∷ []) ≡ []
+  unmoved : (h : List PeerEvent) (m : Purpose) (gs : List Answer) (l : Bool) → said (t.name n) (m ∷ []) ≡ []
       → ((l ≡ false → gs ≡ heard (is_stream call.way) (said (t.name n) (handled h))) × IsPrefix gs (heard (is_stream call.way) (said (t.name n) (handled h))))
       → ((l ≡ false → gs ≡ heard (is_stream call.way) (said (t.name n) (handled h ++ m ∷ []))) × IsPrefix gs (heard (is_stream call.way) (said (t.name n) (handled h ++ m ∷ []))))
   unmoved h m gs l e p =
@@ -167,7 +167,7 @@ module _ {Job : Type 0} (hub : Hub Job) (t : Settings) (own : (m n : ℕ) → t.
       (λ k. p.0 k ∙ ap (heard (is_stream call.way)) (sym f), subst (λ xs. IsPrefix gs (heard (is_stream call.way) xs)) (sym f) p.1)
 
   -- an answer for it came that it doesn't take
-  passed : (h : List Move) (a : Answer) (i : List ℕ) → call_of n h ≡ Some call → IsStrange t h i a → Heard t n h call → (ys : List Answer) → ys ≡ put (same_text (t.name n) i) a []
+  passed : (h : List PeerEvent) (a : Answer) (i : List ℕ) → call_of n h ≡ Some call → IsStrange t h i a → Heard t n h call → (ys : List Answer) → ys ≡ put (same_text (t.name n) i) a []
       → ((lost n h ≡ false → given n h ≡ heard (is_stream call.way) (said (t.name n) (handled h) ++ ys)) × IsPrefix (given n h) (heard (is_stream call.way) (said (t.name n) (handled h) ++ ys)))
   passed h a i e s p ys y = go (same_text (t.name n) i) refl
     where
@@ -189,7 +189,7 @@ module _ {Job : Type 0} (hub : Hub Job) (t : Settings) (own : (m n : ℕ) → t.
             front,
           )
 
-  ignoring : (h : List Move) (m : Purpose) → call_of n h ≡ Some call → Ignored t h m → Heard t n h call
+  ignoring : (h : List PeerEvent) (m : Purpose) → call_of n h ≡ Some call → Ignored t h m → Heard t n h call
       → ((lost n h ≡ false → given n h ≡ heard (is_stream call.way) (said (t.name n) (handled h ++ m ∷ []))) × IsPrefix (given n h) (heard (is_stream call.way) (said (t.name n) (handled h ++ m ∷ []))))
   ignoring h (ToAnswer i a) e s p = rw said-append (passed h a i e s p (put (same_text (t.name n) i) a []) refl)
   ignoring h (ToBegin d) e s p = unmoved h (ToBegin d) (given n h) (lost n h) refl (p.whole, p.front)
@@ -197,7 +197,7 @@ module _ {Job : Type 0} (hub : Hub Job) (t : Settings) (own : (m n : ℕ) → t.
   ignoring h ToNothing e s p = unmoved h ToNothing (given n h) (lost n h) refl (p.whole, p.front)
 
   -- an answer is brought for it
-  taking : (h : List Move) (m : Purpose) (a : Answer) → call_of n h ≡ Some call → Brought t h m n a → Heard t n h call
+  taking : (h : List PeerEvent) (m : Purpose) (a : Answer) → call_of n h ≡ Some call → Brought t h m n a → Heard t n h call
       → given n h ++ a ∷ [] ≡ heard (is_stream call.way) (said (t.name n) (handled h ++ m ∷ []))
   taking h m a e b p =
       let q : (accepts (is_stream call.way) a && (not (has_end (given n h)) && not (lost n h))) ≡ true = sym (takes_is n h call (t.name n) a e id) ∙ b.taken in
@@ -208,7 +208,7 @@ module _ {Job : Type 0} (hub : Hub Job) (t : Settings) (own : (m n : ℕ) → t.
       ap (λ xs. xs ++ a ∷ []) w ∙ (sym (heard_push (is_stream call.way) (said (t.name n) (handled h)) a (ap has_end (sym w) ∙ not-true (has_end (given n h)) q2.0) q1.0)
       ∙ ap (heard (is_stream call.way)) (sym (said-append (t.name n) (handled h) (m ∷ []) ∙ ap (λ xs. said (t.name n) (handled h) ++ xs) one)))
 
-  pub hears : (h : List Move) → Follows hub t h → Causal t h → call_of n h ≡ Some call → Heard t n h call
+  pub hears : (h : List PeerEvent) → Follows hub t h → Causal t h → call_of n h ≡ Some call → Heard t n h call
   hears [] p k e = absurd (cc)
   hears (Calls a j d ∷ h) p k e = both (λ o. o ≡ Some call → Heard t n (Calls a j d ∷ h) call) (n == j) (Some d) (call_of n h)
       (λ g q.

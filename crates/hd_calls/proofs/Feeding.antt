@@ -4,7 +4,7 @@ use Rattle.std.specs.Prelude.{◌+◌, ◌||◌, slice_get}
 use Rattle.hm_message.specs.Same.{same_text}
 use Rattle.hd_facts.specs.Prefixes.{IsPrefix}
 use Rattle.hd_calls.specs.Hubs.{Invoked, Hub}
-use Rattle.hd_calls.specs.Peers.{Move, Settings, drawn, call_of, called, uploaded, live_upload, waiting, begun, moments, inputs, of_stream}
+use Rattle.hd_calls.specs.Peers.{PeerEvent, Settings, drawn, call_of, called, uploaded, live_upload, waiting, begun, moments, inputs, of_stream}
 use Rattle.hd_calls.specs.Rules.{is_among, names, Follows}
 use Rattle.hd_calls.specs.PeerWorlds.{said_by, read_by, waits}
 use Rattle.hd_calls.proofs.Lists.{get_within, prefix_trans, true-same}
@@ -26,7 +26,7 @@ first_name : (t : Settings) (own : (m n : ℕ) → t.name m ≡ t.name n → m �
 first_name t own k n zero l e = absurd (omega arith)
 first_name t own k n (suc u) l e = let f : t.name (suc k) ≡ t.name (suc n) = cc in let g = own (suc k) (suc n) f in omega arith
 
-module _ {JX JY : Type 0} (hx : Hub JX) (hy : Hub JY) (tx ty : Settings) (apart : IsApart tx.name ty.name) (back : IsApart ty.name tx.name) (x y : List Move) (m : Meets hx hy tx ty x y) (r : Meets hy hx ty tx y x) (open_y : OpenReads ty y) (causal : StreamCausal y) where
+module _ {JX JY : Type 0} (hx : Hub JX) (hy : Hub JY) (tx ty : Settings) (apart : IsApart tx.name ty.name) (back : IsApart ty.name tx.name) (x y : List PeerEvent) (m : Meets hx hy tx ty x y) (r : Meets hy hx ty tx y x) (open_y : OpenReads ty y) (causal : StreamCausal y) where
   pub fed_in_order : (n w : ℕ) (i : List ℕ) (c : Invoked) → call_of n x ≡ Some c → slice_get c.streams w ≡ Some i → (j : ℕ) → slice_get (begun y) j ≡ Some c → IsPrefix (of_stream w (inputs j y)) (uploaded n w x)
   fed_in_order n w i c e s j at =
       let within = get_within c.streams w i s in
@@ -57,7 +57,7 @@ module _ {JX JY : Type 0} (hx : Hub JX) (hy : Hub JY) (tx ty : Settings) (apart 
           let o = apart.own (suc n + v) (suc n + w) (sym h.0 ∙ is) in
           (z, omega arith)
 
-      upload_of : (n w : ℕ) (i : List ℕ) (c : Invoked) → call_of n x ≡ Some c → Uploading tx n x c → w < length c.streams → (k v : ℕ) (h : List Move) → Follows hx tx h → live_upload k v h ≡ true → CalledIn (called x) h → tx.name (suc (k + v)) ≡ tx.name (suc (n + w)) → (k ≡ n) × (v ≡ w)
+      upload_of : (n w : ℕ) (i : List ℕ) (c : Invoked) → call_of n x ≡ Some c → Uploading tx n x c → w < length c.streams → (k v : ℕ) (h : List PeerEvent) → Follows hx tx h → live_upload k v h ≡ true → CalledIn (called x) h → tx.name (suc (k + v)) ≡ tx.name (suc (n + w)) → (k ≡ n) × (v ≡ w)
       upload_of n w i c e u within k v h p l q z =
           let d = live_stream k v h l in
           let b = uploading hx tx k h d.0 p d.1 (let x = d.2 in omega arith) in

@@ -10,7 +10,7 @@ use Rattle.hd_calls.specs.declared.vocabulary.Input.TheVariants as input
 use Rattle.hd_calls.specs.declared.vocabulary.Act.{Act}
 use Rattle.hd_calls.specs.declared.vocabulary.Act.TheVariants as act
 use Rattle.hd_calls.specs.Hubs.{Invoked, Answer, Item, End, Turn, Given, Cancelled, Hub, upload_input, call_for}
-use Rattle.hd_calls.specs.Peers.{Begins, Brings, Feeds, Move, Handles, Runs, Answers, Refuses, Settings, turns, acts, inputs, asker_of, reply, ask_refused, last_of, asks, hands_up, over}
+use Rattle.hd_calls.specs.Peers.{Begins, Brings, Feeds, PeerEvent, Handles, Runs, Answers, Refuses, Settings, turns, acts, inputs, asker_of, reply, ask_refused, last_of, asks, hands_up, over}
 use Rattle.hd_calls.specs.Rules.{job_after, act_at, used, next_input, is_deed_answer, IsDue, Follows}
 use Rattle.hd_calls.specs.Ledgers.{Suits, IsFeed}
 use Rattle.hd_calls.proofs.Lists.{both}
@@ -35,7 +35,7 @@ asked_suits : (o : Option Act) (e : Ending) (i : Input) → asks o ≡ true → 
 asked_suits o e i f g = (λ h. (e, sym g), λ h. absurd (asks_no_deed o f h))
 
 module _ {Job : Type 0} (hub : Hub Job) (t : Settings) (j : ℕ) where
-  reply_suits : (h : List Move) (i : Input) → Follows hub t h → reply j h ≡ Some i → SuitsAct (last_of (acts j h)) i
+  reply_suits : (h : List PeerEvent) (i : Input) → Follows hub t h → reply j h ≡ Some i → SuitsAct (last_of (acts j h)) i
   reply_suits [] i p e = absurd (cc)
   reply_suits (Runs k call since turn what ∷ h) i p e = go (j == k) (λ q. reply_suits h i p.0 q) e
     where
@@ -180,7 +180,7 @@ ends_finishing (act.Ask a b ∷ x ∷ xs) e = ends_finishing (x ∷ xs) e
 ends_finishing (act.Do d ∷ x ∷ xs) e = ends_finishing (x ∷ xs) e
 
 -- what is due suits
-due_suits : (o : Option Act) (r : Option Input) (xs : List (ℕ × Answer)) (n : ℕ) (j : ℕ) (h : List Move) (i : Input) → inputs j h ≡ xs → used (turns j h) ≡ n → ((x : Input) → reply j h ≡ Some x → SuitsAct o x) → (ends o ≡ false) → next_input j h o ≡ Some i
+due_suits : (o : Option Act) (r : Option Input) (xs : List (ℕ × Answer)) (n : ℕ) (j : ℕ) (h : List PeerEvent) (i : Input) → inputs j h ≡ xs → used (turns j h) ≡ n → ((x : Input) → reply j h ≡ Some x → SuitsAct o x) → (ends o ≡ false) → next_input j h o ≡ Some i
     → (rest : List Input) × Suits o i (map upload_input (drop n xs)) rest
 due_suits None r xs n j h i a b f fin e = let z : input.Go ≡ i = cc in (map upload_input (drop n xs), (refl, sym z))
 due_suits (Some act.More) r xs n j h i a b f fin e = let z : input.Go ≡ i = cc in (map upload_input (drop n xs), (refl, sym z))
@@ -199,14 +199,14 @@ map_append [] ys = refl
 map_append (x ∷ xs) ys = ap (λ zs. upload_input x ∷ zs) (map_append xs ys)
 
 module _ {Job : Type 0} (hub : Hub Job) (t : Settings) (code : Codec) (cs : List Invoked) (ns : List ℕ) (j : ℕ) (d : Invoked) (at : slice_get cs j ≡ Some d) where
-  next_fed : (h : List Move) (turn : Turn) (what : Act) (job : Job) → Follows hub t h → finishing (acts j h) ≡ false → IsDue t j h turn → what ≡ act_at hub job turn
+  next_fed : (h : List PeerEvent) (turn : Turn) (what : Act) (job : Job) → Follows hub t h → finishing (acts j h) ≡ false → IsDue t j h turn → what ≡ act_at hub job turn
       → IsFeed (last_of (acts j h)) (map upload_input (drop (used (turns j h)) (inputs j h))) (turn ∷ []) (what ∷ [])
   next_fed h Cancelled what job p fin due is = (is, refl, refl)
   next_fed h (Given i now) what job p fin due is =
       let s = due_suits (last_of (acts j h)) None (inputs j h) (used (turns j h)) j h i refl refl (λ x q. reply_suits hub t j h x p q) (ends_finishing (acts j h) fin) due.2 in
       (s.0, s.1, tt)
 
-  pub job_fed : (h : List Move) → Follows hub t h → Speaks t code h → Within cs ns h → IsFeed None (map upload_input (inputs j h)) (turns j h) (acts j h)
+  pub job_fed : (h : List PeerEvent) → Follows hub t h → Speaks t code h → Within cs ns h → IsFeed None (map upload_input (inputs j h)) (turns j h) (acts j h)
   job_fed [] p s w = tt
   job_fed (Runs k call since turn what ∷ h) p s w = go (job_fed h p.0 s.0 w) (j == k) refl
     where

@@ -8,7 +8,7 @@ use Rattle.hm_message.specs.declared.message.Message.{Message}
 use Rattle.hm_message.specs.declared.message.Ending.{Ending}
 use Rattle.hd_calls.specs.declared.vocabulary.Act.{Act}
 use Rattle.hd_calls.specs.Hubs.{Way, Notify, Call, Stream, Invoked, Answer, Item, End, Purpose, ToBegin, ToAnswer, ToCancel, ToNothing, Turn, Hub, id_of, is_stream, purpose_of}
-use Rattle.hd_calls.specs.Peers.{Begins, Brings, Move, Plain, Calls, Uploads, Cancels, Reads, Handles, Runs, Answers, Refuses, Loses, Rounds, Settings, drawn, call_of, given, lost, has_end, has_id, streams_items, live_call, takes, uploaded, stream_count, live_upload, waiting, begun, moments, acts, over, live_job, answer_of, add, answers, byte_steps, codec, is_shut}
+use Rattle.hd_calls.specs.Peers.{Begins, Brings, PeerEvent, Plain, Calls, Uploads, Cancels, Reads, Handles, Runs, Answers, Refuses, Loses, Rounds, Settings, drawn, call_of, given, lost, has_end, has_id, streams_items, live_call, takes, uploaded, stream_count, live_upload, waiting, begun, moments, acts, over, live_job, answer_of, add, answers, byte_steps, codec, is_shut}
 use Rattle.hd_calls.specs.Rules.{ActsOn, IsDue, MadeAs, Follows}
 use Rattle.hd_calls.specs.Ledgers.{IsLegal, CallHappening, Called, Got, Uploaded, Stopped, Gone, ledger, IsLegalRest, IsLegalLedger, sent_for, KeepsJob, Keeps, After, Lives, IsGone, Ends, NoneLeft, EndsAfterClose}
 use Rattle.hd_calls.specs.PeerWorlds.{next_step}
@@ -21,18 +21,18 @@ use Rattle.hd_calls.proofs.Feeds.{job_fed}
 
 -- live calls --------------------------------------------------------------------
 
-pub record LiveParts (n : ℕ) (h : List Move) : Type 0 where
+pub record LiveParts (n : ℕ) (h : List PeerEvent) : Type 0 where
   pub id : has_id (call_of n h) ≡ true
   pub unended : has_end (given n h) ≡ false
   pub kept : lost n h ≡ false
 
-pub live_call_parts : (n : ℕ) (h : List Move) → live_call n h ≡ true → LiveParts n h
+pub live_call_parts : (n : ℕ) (h : List PeerEvent) → live_call n h ≡ true → LiveParts n h
 live_call_parts n h e =
     let a = and_parts (has_id (call_of n h)) (not (has_end (given n h)) && not (lost n h)) e in
     let b = and_parts (not (has_end (given n h))) (not (lost n h)) a.1 in
     record { id = a.0; unended = not-true (has_end (given n h)) b.0; kept = not-true (lost n h) b.1 }
 
-number_positive : {Job : Type 0} (hub : Hub Job) (t : Settings) (n : ℕ) (h : List Move) → Follows hub t h → has_id (call_of n h) ≡ true → 0 < n
+number_positive : {Job : Type 0} (hub : Hub Job) (t : Settings) (n : ℕ) (h : List PeerEvent) → Follows hub t h → has_id (call_of n h) ≡ true → 0 < n
 number_positive hub t n [] p e = absurd (let z : false ≡ true = e in cc)
 number_positive hub t n (Calls a k d ∷ h) p e = both (λ o. has_id o ≡ true → 0 < n) (n == k) (Some d) (call_of n h)
     (λ g q. let z = eqb-true n k g in let y = id_there (id_of d.way) q in let x = keyed_id t (drawn h) k d.way d y.0 p.1.made y.1 in omega (arith, x.1))
@@ -49,7 +49,7 @@ made_number t last n (Call i) c m = inr m.1.0
 made_number t last n (Stream i) c m = inr m.1.0
 
 -- a number that is drawn anew is no call's with an id
-pub fresh : {Job : Type 0} (hub : Hub Job) (t : Settings) (n k : ℕ) (d : Invoked) (h : List Move) → Follows hub t h → MadeAs t (drawn h) k d.way d → n ≡ k → has_id (call_of n h) ≡ false
+pub fresh : {Job : Type 0} (hub : Hub Job) (t : Settings) (n k : ℕ) (d : Invoked) (h : List PeerEvent) → Follows hub t h → MadeAs t (drawn h) k d.way d → n ≡ k → has_id (call_of n h) ≡ false
 fresh hub t n k d h p m e = not_true (has_id (call_of n h)) (λ f. there (call_of n h) refl f)
   where
     there : (o : Option Invoked) → call_of n h ≡ o → has_id o ≡ true → ⊥
@@ -59,7 +59,7 @@ fresh hub t n k d h p m e = not_true (has_id (call_of n h)) (λ f. there (call_o
         let z = number_positive hub t n h p (ap has_id g ∙ f) in
         ⊎_elim (λ a. omega (arith, a)) (λ a. omega (arith, a)) (made_number t (drawn h) k d.way d m)
 
-new_number : {Job : Type 0} (hub : Hub Job) (t : Settings) (n k : ℕ) (d : Invoked) (h : List Move) → MadeAs t (drawn h) k d.way d → 0 < n → n ≡ k → call_of n h ≡ None
+new_number : {Job : Type 0} (hub : Hub Job) (t : Settings) (n k : ℕ) (d : Invoked) (h : List PeerEvent) → MadeAs t (drawn h) k d.way d → 0 < n → n ≡ k → call_of n h ≡ None
 new_number hub t n k d h m l e = there (call_of n h) refl
   where
     there : (o : Option Invoked) → call_of n h ≡ o → o ≡ None
@@ -77,7 +77,7 @@ has_end_last (Item w ∷ xs) v = has_end_last xs v
 has_end_last (End w ∷ xs) v = refl
 
 -- a call without an id has no answers and isn't lost
-pub idless : {Job : Type 0} (hub : Hub Job) (t : Settings) (n : ℕ) (h : List Move) → Follows hub t h → has_id (call_of n h) ≡ false → (given n h ≡ []) × (lost n h ≡ false)
+pub idless : {Job : Type 0} (hub : Hub Job) (t : Settings) (n : ℕ) (h : List PeerEvent) → Follows hub t h → has_id (call_of n h) ≡ false → (given n h ≡ []) × (lost n h ≡ false)
 idless hub t n [] p e = (refl, refl)
 idless hub t n (Calls a k d ∷ h) p e = idless hub t n h p.0 (both (λ o. has_id o ≡ false → has_id (call_of n h) ≡ false) (n == k) (Some d) (call_of n h) (λ g q. fresh hub t n k d h p.0 p.1.made (eqb-true n k g)) (λ g q. q) e)
 idless hub t n (Handles m (Brings k a) ∷ h) p e =
@@ -140,18 +140,18 @@ finished_push (x ∷ es) e f = go (λ q. finished_push es e q) (ends_entry x) f
     go ih false q = ih q
 
 -- a call's ledger so far
-pub record Led (n : ℕ) (h : List Move) (c : Invoked) : Type 0 where
+pub record Led (n : ℕ) (h : List PeerEvent) (c : Invoked) : Type 0 where
   pub rest : List CallHappening
   pub is : ledger n h ≡ Called n c ∷ rest
   pub legal : IsLegalRest c.way rest
   pub finishes : finished rest ≡ (has_end (given n h) || lost n h)
 
-pub record Book (n : ℕ) (h : List Move) : Type 0 where
+pub record Book (n : ℕ) (h : List PeerEvent) : Type 0 where
   pub none : call_of n h ≡ None → ledger n h ≡ []
   pub some : (c : Invoked) → call_of n h ≡ Some c → Led n h c
 
 -- one more entry of a call that isn't finished
-entry : (n : ℕ) (h g : List Move) (e : CallHappening) → call_of n g ≡ call_of n h → ledger n g ≡ ledger n h ++ e ∷ [] → ((c : Invoked) → call_of n h ≡ Some c → Fits c.way e) → (call_of n h ≡ None → ⊥)
+entry : (n : ℕ) (h g : List PeerEvent) (e : CallHappening) → call_of n g ≡ call_of n h → ledger n g ≡ ledger n h ++ e ∷ [] → ((c : Invoked) → call_of n h ≡ Some c → Fits c.way e) → (call_of n h ≡ None → ⊥)
     → has_end (given n h) ≡ false → lost n h ≡ false → (has_end (given n g) || lost n g) ≡ ends_entry e → Book n h → Book n g
 entry n h g e same l fits there f k ends b = record {
   none = λ q. absurd (there (sym same ∙ q));
@@ -167,22 +167,22 @@ entry n h g e same l fits there f k ends b = record {
       };
 }
 
-unchanged : (n : ℕ) (h g : List Move) → call_of n g ≡ call_of n h → ledger n g ≡ ledger n h → given n g ≡ given n h → lost n g ≡ lost n h → Book n h → Book n g
+unchanged : (n : ℕ) (h g : List PeerEvent) → call_of n g ≡ call_of n h → ledger n g ≡ ledger n h → given n g ≡ given n h → lost n g ≡ lost n h → Book n h → Book n g
 unchanged n h g same l f k b = record {
   none = λ q. l ∙ b.none (sym same ∙ q);
   some = λ c q. let r = b.some c (sym same ∙ q) in record { rest = r.rest; is = l ∙ r.is; legal = r.legal; finishes = r.finishes ∙ (ap (λ xs. has_end xs || lost n h) (sym f) ∙ ap (λ x. has_end (given n g) || x) (sym k)) };
 }
 
-id_call : (n : ℕ) (h : List Move) → has_id (call_of n h) ≡ true → call_of n h ≡ None → ⊥
+id_call : (n : ℕ) (h : List PeerEvent) → has_id (call_of n h) ≡ true → call_of n h ≡ None → ⊥
 id_call n h e f = absurd (let z : false ≡ true = ap has_id (sym f) ∙ e in cc)
 
-streams_true : (n : ℕ) (h : List Move) (v : Value) (c : Invoked) → takes n (Item v) h ≡ true → call_of n h ≡ Some c → is_stream c.way ≡ true
+streams_true : (n : ℕ) (h : List PeerEvent) (v : Value) (c : Invoked) → takes n (Item v) h ≡ true → call_of n h ≡ Some c → is_stream c.way ≡ true
 streams_true n h v c e f = ap streams_items (sym f) ∙ (and_parts (streams_items (call_of n h)) (live_call n h) e).0
 
-id_true : (n : ℕ) (h : List Move) (c : Invoked) → live_call n h ≡ true → call_of n h ≡ Some c → is_some (id_of c.way) ≡ true
+id_true : (n : ℕ) (h : List PeerEvent) (c : Invoked) → live_call n h ≡ true → call_of n h ≡ Some c → is_some (id_of c.way) ≡ true
 id_true n h c e f = ap has_id (sym f) ∙ (live_call_parts n h e).id
 
-fits_got : (n : ℕ) (h : List Move) (k : ℕ) (a : Answer) → takes n a h ≡ true → (c : Invoked) → call_of n h ≡ Some c → Fits c.way (Got k a)
+fits_got : (n : ℕ) (h : List PeerEvent) (k : ℕ) (a : Answer) → takes n a h ≡ true → (c : Invoked) → call_of n h ≡ Some c → Fits c.way (Got k a)
 fits_got n h k (Item v) e c f = streams_true n h v c e f
 fits_got n h k (End v) e c f = id_true n h c e f
 
@@ -194,7 +194,7 @@ or_none : (a : Bool) → (a || false) ≡ a
 or_none true = refl
 or_none false = refl
 
-uploads_open : {Job : Type 0} (hub : Hub Job) (t : Settings) (n w : ℕ) (h : List Move) → Follows hub t h → live_upload n w h ≡ true → (has_end (given n h) ≡ false) × (lost n h ≡ false) × (call_of n h ≡ None → ⊥)
+uploads_open : {Job : Type 0} (hub : Hub Job) (t : Settings) (n w : ℕ) (h : List PeerEvent) → Follows hub t h → live_upload n w h ≡ true → (has_end (given n h) ≡ false) × (lost n h ≡ false) × (call_of n h ≡ None → ⊥)
 uploads_open hub t n w h p e =
     let a = and_parts (nat_lt w (stream_count (call_of n h)) && not (has_end (uploaded n w h))) (live_call n h || not (has_id (call_of n h))) e in
     let b = and_parts (nat_lt w (stream_count (call_of n h))) (not (has_end (uploaded n w h))) a.0 in
@@ -207,7 +207,7 @@ uploads_open hub t n w h p e =
     below w e = let z = ltb-true w 0 e in omega arith
 
 module _ {Job : Type 0} (hub : Hub Job) (t : Settings) (n : ℕ) (pos : 0 < n) where
-  books : (h : List Move) → Follows hub t h → Book n h
+  books : (h : List PeerEvent) → Follows hub t h → Book n h
   books [] p = record { none = λ q. refl; some = λ d q. absurd (cc) }
   books (Calls a k d ∷ h) p = go (n == k) refl (books h p.0)
     where
@@ -267,7 +267,7 @@ module _ {Job : Type 0} (hub : Hub Job) (t : Settings) (n : ℕ) (pos : 0 < n) w
   books (Rounds ∷ h) p = let b = books h p.0 in record { none = b.none; some = λ d q. let r = b.some d q in record { rest = r.rest; is = r.is; legal = r.legal; finishes = r.finishes } }
   books (Refuses j ∷ h) p = let b = books h p.0 in record { none = b.none; some = λ d q. let r = b.some d q in record { rest = r.rest; is = r.is; legal = r.legal; finishes = r.finishes } }
 
-  pub ledger_legal : (h : List Move) → Follows hub t h → IsLegalLedger (ledger n h)
+  pub ledger_legal : (h : List PeerEvent) → Follows hub t h → IsLegalLedger (ledger n h)
   ledger_legal h p = go (call_of n h) refl (books h p)
     where
       go : (o : Option Invoked) → call_of n h ≡ o → Book n h → IsLegalLedger (ledger n h)
@@ -282,7 +282,7 @@ legal_push [] (End v) l e = refl
 legal_push (Item w ∷ xs) a l e = (refl, legal_push xs a l.1 e)
 legal_push (End w ∷ xs) a l e = absurd (let z : true ≡ false = e in cc)
 
-pub upload_legal : {Job : Type 0} (hub : Hub Job) (t : Settings) (n w : ℕ) (h : List Move) → Follows hub t h → IsLegal true (uploaded n w h)
+pub upload_legal : {Job : Type 0} (hub : Hub Job) (t : Settings) (n w : ℕ) (h : List PeerEvent) → Follows hub t h → IsLegal true (uploaded n w h)
 upload_legal hub t n w [] p = tt
 upload_legal hub t n w (Uploads k v a ∷ h) p = go ((n == k) && (w == v)) refl (upload_legal hub t n w h p.0)
   where
@@ -298,7 +298,7 @@ upload_legal hub t n w (_ ∷ h) p = upload_legal hub t n w h p.0
 
 -- jobs --------------------------------------------------------------------------------
 
-sent_answers : {Job : Type 0} (hub : Hub Job) (t : Settings) (code : Codec) (cs : List Invoked) (ns : List ℕ) (j : ℕ) (d : Invoked) → slice_get cs j ≡ Some d → (h : List Move) → Follows hub t h → Speaks t code h → Within cs ns h → sent_for t j h ≡ answers t code d.way (acts j h)
+sent_answers : {Job : Type 0} (hub : Hub Job) (t : Settings) (code : Codec) (cs : List Invoked) (ns : List ℕ) (j : ℕ) (d : Invoked) → slice_get cs j ≡ Some d → (h : List PeerEvent) → Follows hub t h → Speaks t code h → Within cs ns h → sent_for t j h ≡ answers t code d.way (acts j h)
 sent_answers hub t code cs ns j d at [] p s w = refl
 sent_answers hub t code cs ns j d at (Runs k call since turn what ∷ h) p s w = go (sent_answers hub t code cs ns j d at h p.0 s.0 w) (j == k) refl
   where
@@ -320,7 +320,7 @@ none_front [] ys k e = refl
 none_front (x ∷ xs) ys zero e = absurd (cc)
 none_front (x ∷ xs) ys (suc k) e = none_front xs ys k e
 
-nothing_sent : {Job : Type 0} (hub : Hub Job) (t : Settings) (j : ℕ) (h : List Move) → Follows hub t h → slice_get (begun h) j ≡ None → sent_for t j h ≡ []
+nothing_sent : {Job : Type 0} (hub : Hub Job) (t : Settings) (j : ℕ) (h : List PeerEvent) → Follows hub t h → slice_get (begun h) j ≡ None → sent_for t j h ≡ []
 nothing_sent hub t j [] p e = refl
 nothing_sent hub t j (Runs k call since turn what ∷ h) p e =
     both (λ xs. xs ≡ []) (j == k) (sent_for t j h ++ add (answer_of t (codec t h) call.way what) []) (sent_for t j h)
@@ -330,7 +330,7 @@ nothing_sent hub t j (Handles m (Begins k now) ∷ h) p e = nothing_sent hub t j
 nothing_sent hub t j (Handles m x ∷ h) p e = nothing_sent hub t j h p.0 e
 nothing_sent hub t j (_ ∷ h) p e = nothing_sent hub t j h p.0 e
 
-pub keeps_job : {Job : Type 0} (hub : Hub Job) (t : Settings) (h : List Move) → Follows hub t h → Speaks t (codec t h) h → (j : ℕ) (d : Invoked) → slice_get (begun h) j ≡ Some d → KeepsJob hub t h j d
+pub keeps_job : {Job : Type 0} (hub : Hub Job) (t : Settings) (h : List PeerEvent) → Follows hub t h → Speaks t (codec t h) h → (j : ℕ) (d : Invoked) → slice_get (begun h) j ≡ Some d → KeepsJob hub t h j d
 keeps_job hub t h p s j d e =
     let sent = sent_answers hub t (codec t h) (begun h) (moments h) j d e h p s (λ k b g. g, λ k b g. g) in record {
       legal = subst (λ xs. IsLegal (is_stream d.way) xs) (sym sent) (answers_legal t (codec t h) d.way (acts j h));
@@ -340,11 +340,11 @@ keeps_job hub t h p s j d e =
     }
 
 -- each turn was due: the moves before it are those after which it came
-turns_were_due : {Job : Type 0} (hub : Hub Job) (t : Settings) (ds k : List Move) (j : ℕ) (c : Invoked) (since : ℕ) (turn : Turn) (what : Act) → Follows hub t (ds ++ Runs j c since turn what ∷ k) → IsDue t j k turn
+turns_were_due : {Job : Type 0} (hub : Hub Job) (t : Settings) (ds k : List PeerEvent) (j : ℕ) (c : Invoked) (since : ℕ) (turn : Turn) (what : Act) → Follows hub t (ds ++ Runs j c since turn what ∷ k) → IsDue t j k turn
 turns_were_due hub t [] k j c since turn what p = p.1.due
 turns_were_due hub t (d ∷ ds) k j c since turn what p = turns_were_due hub t ds k j c since turn what p.0
 
-pub keeps_ledgers : {Job : Type 0} (hub : Hub Job) (t : Settings) (h : List Move) → Follows hub t h → Speaks t (codec t h) h → Keeps hub t h
+pub keeps_ledgers : {Job : Type 0} (hub : Hub Job) (t : Settings) (h : List PeerEvent) → Follows hub t h → Speaks t (codec t h) h → Keeps hub t h
 keeps_ledgers hub t h p s = record {
   of_call = λ n l. ledger_legal hub t n l h p;
   of_notify = λ n e. idless hub t n h p e;
@@ -357,65 +357,65 @@ keeps_ledgers hub t h p s = record {
 -- after a close ---------------------------------------------------------------------------
 
 -- where the message that waited then still waits, the call was given nothing since
-data Track (n : ℕ) (h g : List Move) : Type 0 where
+data Track (n : ℕ) (h g : List PeerEvent) : Type 0 where
   Same : waiting g ≡ waiting h → given n g ≡ given n h → Track n h g
   Over : waiting g ≡ None → Track n h g
 
-dead_takes : (n : ℕ) (a : Answer) (g : List Move) → takes n a g ≡ true → (has_end (given n g) ≡ true) ⊎ (lost n g ≡ true) → ⊥
+dead_takes : (n : ℕ) (a : Answer) (g : List PeerEvent) → takes n a g ≡ true → (has_end (given n g) ≡ true) ⊎ (lost n g ≡ true) → ⊥
 dead_takes n a g e o = let l = live_call_parts n g (takes_live n a g e) in ⊎_elim (λ f. absurd (let z : false ≡ true = sym l.unended ∙ f in cc)) (λ f. absurd (let z : false ≡ true = sym l.kept ∙ f in cc)) o
 
-dead_live : (n : ℕ) (g : List Move) → live_call n g ≡ true → (has_end (given n g) ≡ true) ⊎ (lost n g ≡ true) → ⊥
+dead_live : (n : ℕ) (g : List PeerEvent) → live_call n g ≡ true → (has_end (given n g) ≡ true) ⊎ (lost n g ≡ true) → ⊥
 dead_live n g e o = let l = live_call_parts n g e in ⊎_elim (λ f. absurd (let z : false ≡ true = sym l.unended ∙ f in cc)) (λ f. absurd (let z : false ≡ true = sym l.kept ∙ f in cc)) o
 
-live_of : (n : ℕ) (g : List Move) → has_id (call_of n g) ≡ true → has_end (given n g) ≡ false → lost n g ≡ false → live_call n g ≡ true
+live_of : (n : ℕ) (g : List PeerEvent) → has_id (call_of n g) ≡ true → has_end (given n g) ≡ false → lost n g ≡ false → live_call n g ≡ true
 live_of n g a b c = ap (λ x. x && (not (has_end (given n g)) && not (lost n g))) a ∙ (ap (λ x. not x && not (lost n g)) b ∙ ap not c)
 
-ended_by : (t : Settings) (h : List Move) (m : Purpose) (n : ℕ) (v : Ending) → ActsOn t h m (Brings n (End v)) → m ≡ ToAnswer (t.name n) (End v)
+ended_by : (t : Settings) (h : List PeerEvent) (m : Purpose) (n : ℕ) (v : Ending) → ActsOn t h m (Brings n (End v)) → m ≡ ToAnswer (t.name n) (End v)
 ended_by t h (ToAnswer i a) n v p = ap (ToAnswer i) (sym p.0) ∙ ap (λ k. ToAnswer k (End v)) (sym p.1)
 ended_by t h (ToBegin c) n v p = absurd p
 ended_by t h (ToCancel i) n v p = absurd p
 ended_by t h ToNothing n v p = absurd p
 
-module _ {Job : Type 0} (hub : Hub Job) (t : Settings) (h : List Move) (n : ℕ) (shut : is_shut t h ≡ true) (live : live_call n h ≡ true) where
-  pub stays_closed : (ds : List Move) → is_shut t (ds ++ h) ≡ true
+module _ {Job : Type 0} (hub : Hub Job) (t : Settings) (h : List PeerEvent) (n : ℕ) (shut : is_shut t h ≡ true) (live : live_call n h ≡ true) where
+  pub stays_closed : (ds : List PeerEvent) → is_shut t (ds ++ h) ≡ true
   stays_closed [] = shut
   stays_closed (d ∷ ds) = add_closed t (next_step t (ds ++ h) d) (byte_steps t (ds ++ h)) (stays_closed ds)
 
-  track_more : (d : Move) (g : List Move) → waiting (d ∷ g) ≡ waiting g → given n (d ∷ g) ≡ given n g → Track n h g → Track n h (d ∷ g)
+  track_more : (d : PeerEvent) (g : List PeerEvent) → waiting (d ∷ g) ≡ waiting g → given n (d ∷ g) ≡ given n g → Track n h g → Track n h (d ∷ g)
   track_more d g e f (Same a b) = Same (e ∙ a) (f ∙ b)
   track_more d g e f (Over a) = Over (e ∙ a)
 
-  tracks : (ds : List Move) → Follows hub t (ds ++ h) → OpenReads t (ds ++ h) → Track n h (ds ++ h)
+  tracks : (ds : List PeerEvent) → Follows hub t (ds ++ h) → OpenReads t (ds ++ h) → Track n h (ds ++ h)
   tracks [] p o = Same refl refl
   tracks (Reads m ∷ ds) p o = absurd (let z : true ≡ false = sym (stays_closed ds) ∙ o.1 in cc)
   tracks (Handles m e ∷ ds) p o = Over refl
   tracks (d ∷ ds) p o = track_more d (ds ++ h) refl refl (tracks ds p.0 o)
 
-  keep : (d : Move) (g : List Move) → has_id (call_of n (d ∷ g)) ≡ has_id (call_of n g) → given n (d ∷ g) ≡ given n g → lost n (d ∷ g) ≡ lost n g → After t n h g → After t n h (d ∷ g)
+  keep : (d : PeerEvent) (g : List PeerEvent) → has_id (call_of n (d ∷ g)) ≡ has_id (call_of n g) → given n (d ∷ g) ≡ given n g → lost n (d ∷ g) ≡ lost n g → After t n h g → After t n h (d ∷ g)
   keep d g e f k (Lives l) = let q = live_call_parts n g l in Lives (live_of n (d ∷ g) (e ∙ q.id) (ap has_end f ∙ q.unended) (k ∙ q.kept))
   keep d g e f k (IsGone l x) = IsGone (k ∙ l) (ap has_end f ∙ x)
   keep d g e f k (Ends v m l w q x) = Ends v m (k ∙ l) w q (f ∙ x)
 
-  dead : (g : List Move) → lost n g ≡ false → (v : Ending) → given n g ≡ given n h ++ End v ∷ [] → has_end (given n g) ≡ true
+  dead : (g : List PeerEvent) → lost n g ≡ false → (v : Ending) → given n g ≡ given n h ++ End v ∷ [] → has_end (given n g) ≡ true
   dead g l v x = ap has_end x ∙ has_end_last (given n h) v
 
-  brought_after : (g : List Move) (m : Message) (a : Answer) → takes n a g ≡ true → ActsOn t g (purpose_of m) (Brings n a) → waiting g ≡ Some m → given n (Handles m (Brings n a) ∷ g) ≡ given n g ++ a ∷ [] → Track n h g → After t n h g → After t n h (Handles m (Brings n a) ∷ g)
+  brought_after : (g : List PeerEvent) (m : Message) (a : Answer) → takes n a g ≡ true → ActsOn t g (purpose_of m) (Brings n a) → waiting g ≡ Some m → given n (Handles m (Brings n a) ∷ g) ≡ given n g ++ a ∷ [] → Track n h g → After t n h g → After t n h (Handles m (Brings n a) ∷ g)
   brought_after g m a e what w f tr (IsGone l x) = absurd (dead_takes n a g e (inr l))
   brought_after g m a e what w f tr (Ends v k l q y x) = absurd (dead_takes n a g e (inl (dead g l v x)))
   brought_after g m (Item v) e what w f tr (Lives l) = let q = live_call_parts n g l in Lives (live_of n (Handles m (Brings n (Item v)) ∷ g) q.id (ap has_end f ∙ has_end_push (given n g) v q.unended) q.kept)
   brought_after g m (End v) e what w f (Over z) (Lives l) = absurd (let y : ◌≡◌ {A = Option Message} None (Some m) = sym z ∙ w in cc)
   brought_after g m (End v) e what w f (Same z y) (Lives l) = let q = live_call_parts n g l in Ends v m q.kept (sym z ∙ w) (ended_by t g (purpose_of m) n v what) (f ∙ ap (λ xs. xs ++ End v ∷ []) y)
 
-  lost_after : (g : List Move) → live_call n g ≡ true → lost n (Loses n ∷ g) ≡ true → After t n h g → After t n h (Loses n ∷ g)
+  lost_after : (g : List PeerEvent) → live_call n g ≡ true → lost n (Loses n ∷ g) ≡ true → After t n h g → After t n h (Loses n ∷ g)
   lost_after g e l (Lives x) = IsGone l (live_call_parts n g x).unended
   lost_after g e l (IsGone x y) = absurd (dead_live n g e (inr x))
   lost_after g e l (Ends v m x q u y) = absurd (dead_live n g e (inl (dead g x v y)))
 
-  after : (ds : List Move) → Follows hub t (ds ++ h) → OpenReads t (ds ++ h) → After t n h (ds ++ h)
+  after : (ds : List PeerEvent) → Follows hub t (ds ++ h) → OpenReads t (ds ++ h) → After t n h (ds ++ h)
   after [] p o = Lives live
   after (Calls a k d ∷ ds) p o = called_after (n == k) refl (after ds p.0 o)
     where
-      g : List Move
+      g : List PeerEvent
       g = ds ++ h
 
       called_after : (b : Bool) → (n == k) ≡ b → After t n h (ds ++ h) → After t n h (Calls a k d ∷ (ds ++ h))
@@ -444,12 +444,12 @@ module _ {Job : Type 0} (hub : Hub Job) (t : Settings) (h : List Move) (n : ℕ)
   after (Reads m ∷ ds) p o = keep (Reads m) (ds ++ h) refl refl refl (after ds p.0 o.0)
   after (d ∷ ds) p o = keep d (ds ++ h) refl refl refl (after ds p.0 o)
 
-by_then : (t : Settings) (n : ℕ) (h g : List Move) → After t n h g → NoneLeft g → (lost n g ≡ true) ⊎ (has_end (given n g) ≡ true)
+by_then : (t : Settings) (n : ℕ) (h g : List PeerEvent) → After t n h g → NoneLeft g → (lost n g ≡ true) ⊎ (has_end (given n g) ≡ true)
 by_then t n h g (Lives l) f = absurd (let z : false ≡ true = sym (f n) ∙ l in cc)
 by_then t n h g (IsGone l x) f = inl l
 by_then t n h g (Ends v m l w q x) f = inr (ap has_end x ∙ has_end_last (given n h) v)
 
-pub ends_after : {Job : Type 0} (hub : Hub Job) (t : Settings) (g : List Move) → Follows hub t g → OpenReads t g → EndsAfterClose t g
+pub ends_after : {Job : Type 0} (hub : Hub Job) (t : Settings) (g : List PeerEvent) → Follows hub t g → OpenReads t g → EndsAfterClose t g
 ends_after hub t g p o ds h e shut n live =
     let a : After t n h g = subst (λ x. After t n h x) e (after hub t h n shut live ds (subst (λ x. Follows hub t x) (sym e) p) (subst (λ x. OpenReads t x) (sym e) o)) in
     record { after = a; by_then = λ f. by_then t n h g a f }

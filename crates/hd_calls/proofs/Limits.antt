@@ -6,7 +6,7 @@ use Rattle.hm_message.specs.declared.message.Message.{Message}
 use Rattle.hd_calls.specs.declared.vocabulary.Input.TheVariants as input
 use Rattle.hd_calls.specs.Numbers.{most_live, most_inputs, most_numbers}
 use Rattle.hd_calls.specs.Hubs.{Way, Notify, Call, Stream, Invoked, Answer, Item, End, Purpose, ToBegin, ToAnswer, ToCancel, ToNothing, Turn, Given, Hub, id_of, purpose_of}
-use Rattle.hd_calls.specs.Peers.{Begins, Brings, Feeds, Move, Calls, Uploads, Handles, Runs, Loses, Settings, drawn, call_of, given, lost, has_end, has_id, live_call, uploaded, stream_count, live_upload, begun, turns, inputs, over, live_job, ends_job, codec}
+use Rattle.hd_calls.specs.Peers.{Begins, Brings, Feeds, PeerEvent, Calls, Uploads, Handles, Runs, Loses, Settings, drawn, call_of, given, lost, has_end, has_id, live_call, uploaded, stream_count, live_upload, begun, turns, inputs, over, live_job, ends_job, codec}
 use Rattle.hd_calls.specs.Rules.{count_below, sum_below, MadeAs, live_uploads, own_live, new_live, new_numbers, live_jobs, used, inputs_left, ActsOn, Follows}
 use Rattle.hd_calls.specs.Laws.{IsBounded}
 use Rattle.hd_calls.proofs.Lists.{both, not_true}
@@ -25,7 +25,7 @@ made_bound t last n Notify c (inr e) =
     (λ g. absurd (let z = eqb-true (length c.streams) 0 g in let l = e.0 in omega arith))
     (λ g. omega arith)
 
-drawn_bound : {Job : Type 0} (hub : Hub Job) (t : Settings) (h : List Move) → Follows hub t h → drawn h ≤ most_numbers
+drawn_bound : {Job : Type 0} (hub : Hub Job) (t : Settings) (h : List PeerEvent) → Follows hub t h → drawn h ≤ most_numbers
 drawn_bound hub t [] p = omega arith
 drawn_bound hub t (Calls a n c ∷ h) p = let l = made_bound t (drawn h) n c.way c p.1.made in let m = p.1.place.few_numbers in omega arith
 drawn_bound hub t (_ ∷ h) p = drawn_bound hub t h p.0
@@ -38,13 +38,13 @@ used_push (Given (input.Item w v) now ∷ ts) u = let l = used_push ts u in omeg
 used_push (Given (input.StreamEnd w e) now ∷ ts) u = let l = used_push ts u in omega arith
 used_push (_ ∷ ts) u = used_push ts u
 
-fed_room : (t : Settings) (h : List Move) (m : Purpose) (k w : ℕ) (a : Answer) → ActsOn t h m (Feeds k w a) → inputs_left k h < most_inputs
+fed_room : (t : Settings) (h : List PeerEvent) (m : Purpose) (k w : ℕ) (a : Answer) → ActsOn t h m (Feeds k w a) → inputs_left k h < most_inputs
 fed_room t h (ToAnswer i b) k w a p = p.3
 fed_room t h (ToBegin c) k w a p = absurd p
 fed_room t h (ToCancel i) k w a p = absurd p
 fed_room t h ToNothing k w a p = absurd p
 
-inputs_bound : {Job : Type 0} (hub : Hub Job) (t : Settings) (j : ℕ) (h : List Move) → Follows hub t h → inputs_left j h ≤ most_inputs
+inputs_bound : {Job : Type 0} (hub : Hub Job) (t : Settings) (j : ℕ) (h : List PeerEvent) → Follows hub t h → inputs_left j h ≤ most_inputs
 inputs_bound hub t j [] p = omega arith
 inputs_bound hub t j (Runs k c since turn what ∷ h) p = go (j == k) (inputs_bound hub t j h p.0)
   where
@@ -65,7 +65,7 @@ inputs_bound hub t j (_ ∷ h) p = inputs_bound hub t j h p.0
 
 -- ---- jobs
 
-begin_room : (t : Settings) (h : List Move) (m : Purpose) (c : Invoked) (now : ℕ) → ActsOn t h m (Begins c now) → live_jobs t h < most_live
+begin_room : (t : Settings) (h : List PeerEvent) (m : Purpose) (c : Invoked) (now : ℕ) → ActsOn t h m (Begins c now) → live_jobs t h < most_live
 begin_room t h (ToBegin d) c now p = p.2
 begin_room t h (ToAnswer i b) c now p = absurd p
 begin_room t h (ToCancel i) c now p = absurd p
@@ -75,7 +75,7 @@ right_false : (a b : Bool) → (a || b) ≡ false → b ≡ false
 right_false true b e = absurd (let z : true ≡ false = e in cc)
 right_false false b e = e
 
-jobs_bound : {Job : Type 0} (hub : Hub Job) (t : Settings) (h : List Move) → Follows hub t h → live_jobs t h ≤ most_live
+jobs_bound : {Job : Type 0} (hub : Hub Job) (t : Settings) (h : List PeerEvent) → Follows hub t h → live_jobs t h ≤ most_live
 jobs_bound hub t [] p = omega arith
 jobs_bound hub t (Runs k c since turn what ∷ h) p =
     let l = jobs_bound hub t h p.0 in
@@ -122,13 +122,13 @@ upload_less a u u' l l' i f k e =
     or_right false i e = e
 
 -- a move by which no call is made leaves none more live
-pub record NoneMore (h g : List Move) : Type 0 where
+pub record NoneMore (h g : List PeerEvent) : Type 0 where
   pub drawn_same : drawn g ≡ drawn h
   pub calls_same : (n : ℕ) → call_of n g ≡ call_of n h
   pub calls : (n : ℕ) → live_call n g ≡ true → live_call n h ≡ true
   pub uploads : (n w : ℕ) → live_upload n w g ≡ true → live_upload n w h ≡ true
 
-none_more : (h g : List Move) → NoneMore h g → own_live g ≤ own_live h
+none_more : (h g : List PeerEvent) → NoneMore h g → own_live g ≤ own_live h
 none_more h g r =
     let a = count_more (suc (drawn h)) (λ n. live_call n g) (λ n. live_call n h) (λ j l e. r.calls j e) in
     let b = sum_more (suc (drawn h)) (λ n. live_uploads n g) (λ n. live_uploads n h) (λ n l.
@@ -138,11 +138,11 @@ none_more h g r =
     let c : own_live g ≡ count_below (suc (drawn h)) (λ n. live_call n g) + sum_below (suc (drawn h)) (λ n. live_uploads n g) = ap (λ d. count_below (suc d) (λ n. live_call n g) + sum_below (suc d) (λ n. live_uploads n g)) r.drawn_same in
     omega arith
 
-brings_less : (m : Message) (k : ℕ) (a : Answer) (h : List Move) (n : ℕ) → live_call n (Handles m (Brings k a) ∷ h) ≡ true → live_call n h ≡ true
+brings_less : (m : Message) (k : ℕ) (a : Answer) (h : List PeerEvent) (n : ℕ) → live_call n (Handles m (Brings k a) ∷ h) ≡ true → live_call n h ≡ true
 brings_less m k a h n e = live_less (has_id (call_of n h)) (has_end (given n h)) (has_end (if n == k then given n h ++ a ∷ [] else given n h)) (lost n h) (lost n h)
     (λ f. both (λ xs. has_end xs ≡ false → has_end (given n h) ≡ false) (n == k) (given n h ++ a ∷ []) (given n h) (λ g q. has_end_front (given n h) (a ∷ []) q) (λ g q. q) f) (λ f. f) e
 
-loses_less : (k : ℕ) (h : List Move) (n : ℕ) → live_call n (Loses k ∷ h) ≡ true → live_call n h ≡ true
+loses_less : (k : ℕ) (h : List PeerEvent) (n : ℕ) → live_call n (Loses k ∷ h) ≡ true → live_call n h ≡ true
 loses_less k h n e = live_less (has_id (call_of n h)) (has_end (given n h)) (has_end (given n h)) (lost n h) ((n == k) || lost n h) (λ f. f) (λ f. right_false (n == k) (lost n h) f) e
 
 made_cases : (t : Settings) (last n : ℕ) (way : Way) (c : Invoked) → MadeAs t last n way c → ((n ≡ 0) × (c.streams ≡ []) × (id_of way ≡ None)) ⊎ (n ≡ suc last)
@@ -152,14 +152,14 @@ made_cases t last n (Call i) c m = inr m.1.0
 made_cases t last n (Stream i) c m = inr m.1.0
 
 -- where a number's call is the same so are its live uploads
-same_uploads : (a : Option ℕ) (k : ℕ) (c : Invoked) (h : List Move) (n : ℕ) → call_of n (Calls a k c ∷ h) ≡ call_of n h → live_uploads n (Calls a k c ∷ h) ≡ live_uploads n h
+same_uploads : (a : Option ℕ) (k : ℕ) (c : Invoked) (h : List PeerEvent) (n : ℕ) → call_of n (Calls a k c ∷ h) ≡ call_of n h → live_uploads n (Calls a k c ∷ h) ≡ live_uploads n h
 same_uploads a k c h n e = ap (λ o. count_below (stream_count o) (λ w. (nat_lt w (stream_count o) && not (has_end (uploaded n w h))) && ((has_id o && (not (has_end (given n h)) && not (lost n h))) || not (has_id o)))) e
 
-same_live : (a : Option ℕ) (k : ℕ) (c : Invoked) (h : List Move) (n : ℕ) → call_of n (Calls a k c ∷ h) ≡ call_of n h → live_call n (Calls a k c ∷ h) ≡ live_call n h
+same_live : (a : Option ℕ) (k : ℕ) (c : Invoked) (h : List PeerEvent) (n : ℕ) → call_of n (Calls a k c ∷ h) ≡ call_of n h → live_call n (Calls a k c ∷ h) ≡ live_call n h
 same_live a k c h n e = ap (λ o. has_id o && (not (has_end (given n h)) && not (lost n h))) e
 
 -- a notice of number 0 adds nothing
-notice_none : (a : Option ℕ) (k : ℕ) (c : Invoked) (h : List Move) → k ≡ 0 → c.streams ≡ [] → id_of c.way ≡ None → own_live (Calls a k c ∷ h) ≤ own_live h
+notice_none : (a : Option ℕ) (k : ℕ) (c : Invoked) (h : List PeerEvent) → k ≡ 0 → c.streams ≡ [] → id_of c.way ≡ None → own_live (Calls a k c ∷ h) ≤ own_live h
 notice_none a k c h z s i =
     let g = Calls a k c ∷ h in
     let u : length c.streams ≡ 0 = ap length s in
@@ -188,7 +188,7 @@ notice_none a k c h z s i =
             omega arith
 
 -- a call with a new number adds itself and its uploads at most
-call_more : (a : Option ℕ) (k : ℕ) (c : Invoked) (h : List Move) → k ≡ suc (drawn h) → own_live (Calls a k c ∷ h) ≤ own_live h + new_live c
+call_more : (a : Option ℕ) (k : ℕ) (c : Invoked) (h : List PeerEvent) → k ≡ suc (drawn h) → own_live (Calls a k c ∷ h) ≤ own_live h + new_live c
 call_more a k c h z =
     let g = Calls a k c ∷ h in
     let d : suc (drawn g) ≡ length c.streams + suc (suc (drawn h)) = omega arith in
@@ -230,7 +230,7 @@ call_more a k c h z =
         go false e false f = omega arith
         go true e false f = absurd (let y : false ≡ true = sym f ∙ (sym (ap has_id new) ∙ (and_parts (has_id (call_of (suc (drawn h)) (Calls a k c ∷ h))) (not (has_end (given (suc (drawn h)) h)) && not (lost (suc (drawn h)) h)) e).0) in cc)
 
-own_bound : {Job : Type 0} (hub : Hub Job) (t : Settings) (h : List Move) → Follows hub t h → own_live h ≤ most_live
+own_bound : {Job : Type 0} (hub : Hub Job) (t : Settings) (h : List PeerEvent) → Follows hub t h → own_live h ≤ most_live
 own_bound hub t [] p = omega arith
 own_bound hub t (Calls a k c ∷ h) p = ⊎_elim
     (λ e. let l = notice_none a k c h e.0 e.1 e.2 in let m = own_bound hub t h p.0 in omega arith)
@@ -257,5 +257,5 @@ own_bound hub t (Uploads k v a ∷ h) p =
     omega arith
 own_bound hub t (_ ∷ h) p = own_bound hub t h p.0
 
-pub bounded : {Job : Type 0} (hub : Hub Job) (t : Settings) (h : List Move) → Follows hub t h → IsBounded t h
+pub bounded : {Job : Type 0} (hub : Hub Job) (t : Settings) (h : List PeerEvent) → Follows hub t h → IsBounded t h
 bounded hub t h p = record { own = own_bound hub t h p; jobs = jobs_bound hub t h p; waiting = λ j. inputs_bound hub t j h p; numbers = drawn_bound hub t h p }

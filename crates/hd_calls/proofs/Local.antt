@@ -6,10 +6,10 @@ use Rattle.hm_message.specs.declared.message.Message.TheVariants.{CancelInvocati
 use Rattle.hd_delivery.specs.declared.vocabulary.Reason.{Reason}
 use Rattle.hd_delivery.specs.declared.vocabulary.Reason.TheVariants as reason
 use Rattle.hd_delivery.specs.declared.vocabulary.Got.TheVariants as gives
-use Rattle.hd_delivery.specs.Histories.{Step, Took, Sent, is_closed, sent_messages, processed_messages}
+use Rattle.hd_delivery.specs.Histories.{EndEvent, Took, Sent, is_closed, sent_messages, processed_messages}
 use Rattle.hd_delivery.specs.Bytes.{ByteStep, Bytes, Does, in_frames}
 use Rattle.hd_calls.specs.Hubs.{Way, Notify, Call, Stream, Invoked, Answer, Item, End, Purpose, ToBegin, ToAnswer, ToCancel, ToNothing, Hub, purpose_of, message_of, answer_message}
-use Rattle.hd_calls.specs.Peers.{Effect, Begins, InUse, TooMany, Marks, Nothing, Move, Plain, Calls, Uploads, Cancels, Reads, Handles, Runs, Answers, Refuses, Loses, Rounds, Settings, called, waiting, begun, answer_of, add, message_for, reason_of, shuts, byte_steps, steps, codec, is_shut}
+use Rattle.hd_calls.specs.Peers.{Effect, Begins, InUse, TooMany, Marks, Nothing, PeerEvent, Plain, Calls, Uploads, Cancels, Reads, Handles, Runs, Answers, Refuses, Loses, Rounds, Settings, called, waiting, begun, answer_of, add, message_for, reason_of, shuts, byte_steps, steps, codec, is_shut}
 use Rattle.hd_calls.specs.Rules.{Arrives, ActsOn, IsPlain, Follows}
 use Rattle.hd_calls.specs.PeerWorlds.{purposes, said_by, read_by, invoked, waits, refused, next_step}
 use Rattle.hd_calls.proofs.Lists.{append_none, none_of}
@@ -25,13 +25,13 @@ takes_in (Some (Does (Took (gives.Message m)))) = purpose_of m ∷ []
 takes_in _ = []
 
 -- what was handled, by what it is for
-abbrev pub handled : List Move → List Purpose
+abbrev pub handled : List PeerEvent → List Purpose
 handled [] = []
 handled (Handles m e ∷ h) = handled h ++ purpose_of m ∷ []
 handled (_ ∷ h) = handled h
 
 -- the history in frames of these steps
-abbrev pub frames_of : Settings → List ByteStep → List Step
+abbrev pub frames_of : Settings → List ByteStep → List EndEvent
 frames_of t s = in_frames t.wire t.config s
 
 pub sent_add : (t : Settings) (o : Option ByteStep) (s : List ByteStep) → purposes (sent_messages (frames_of t (add o s))) ≡ purposes (sent_messages (frames_of t s)) ++ sends o
@@ -46,12 +46,12 @@ processed_add t (Some (Bytes piece)) s = sym (append_none (purposes (processed_m
 processed_add t (Some (Does x)) s = sym (append_none (purposes (processed_messages (frames_of t s))))
 processed_add t None s = sym (append_none (purposes (processed_messages (frames_of t s))))
 
-plain_takes : (h : List Move) (s : ByteStep) → IsPlain h s → takes_in (Some s) ≡ []
+plain_takes : (h : List PeerEvent) (s : ByteStep) → IsPlain h s → takes_in (Some s) ≡ []
 plain_takes h (Does (Took (gives.Message m))) p = absurd p
 plain_takes h (Bytes piece) p = refl
 plain_takes h (Does s) p = refl
 
-pub plain_sends : (h : List Move) (s : ByteStep) → IsPlain h s → sends (Some s) ≡ []
+pub plain_sends : (h : List PeerEvent) (s : ByteStep) → IsPlain h s → sends (Some s) ≡ []
 plain_sends h (Does (Sent m)) p = absurd p
 plain_sends h (Bytes piece) p = refl
 plain_sends h (Does s) p = refl
@@ -84,7 +84,7 @@ silent t o s e = sent_add t o s ∙ (ap (λ ms. purposes (sent_messages (frames_
 
 module _ {Job : Type 0} (hub : Hub Job) (t : Settings) where
   -- what was processed was handled, but for the message that waits
-  pub processed_is : (h : List Move) → Follows hub t h → read_by t h ≡ handled h ++ waits (waiting h)
+  pub processed_is : (h : List PeerEvent) → Follows hub t h → read_by t h ≡ handled h ++ waits (waiting h)
   processed_is [] p = refl
   processed_is (Plain s ∷ h) p = quiet t (Some s) (byte_steps t h) (plain_takes h s p.1) ∙ processed_is h p.0
   processed_is (Calls a n call ∷ h) p = processed_is h p.0
@@ -118,7 +118,7 @@ uncalled t o s e =
     ap invoked (sent_add t o s) ∙ (invoked-append xs (sends o) ∙ (ap (λ cs. invoked xs ++ cs) e ∙ append_none (invoked xs)))
 
 module _ {Job : Type 0} (hub : Hub Job) (t : Settings) where
-  pub called_is : (h : List Move) → Follows hub t h → invoked (said_by t h) ≡ called h
+  pub called_is : (h : List PeerEvent) → Follows hub t h → invoked (said_by t h) ≡ called h
   called_is [] p = refl
   called_is (Plain s ∷ h) p = uncalled t (Some s) (byte_steps t h) (ap invoked (plain_sends h s p.1)) ∙ called_is h p.0
   called_is (Calls a n call ∷ h) p =
@@ -135,7 +135,7 @@ module _ {Job : Type 0} (hub : Hub Job) (t : Settings) where
   called_is (Rounds ∷ h) p = called_is h p.0
 
 -- an end reads no message once it is closed
-abbrev pub OpenReads : Settings → List Move → Type 0
+abbrev pub OpenReads : Settings → List PeerEvent → Type 0
 OpenReads t [] = Unit {0}
 OpenReads t (Reads m ∷ h) = OpenReads t h × (is_shut t h ≡ false)
 OpenReads t (_ ∷ h) = OpenReads t h
@@ -150,7 +150,7 @@ shuts_closes t false why s e = refl
 shuts_closes t true why s e = e
 
 -- a call that was refused is the last message, and the end is closed
-pub record Refusing (t : Settings) (h : List Move) : Type 0 where
+pub record Refusing (t : Settings) (h : List PeerEvent) : Type 0 where
   pub jobs : begun h ++ refused h ≡ invoked (handled h)
   pub last : 0 < length (refused h) → (is_shut t h ≡ true) × (waiting h ≡ None)
   pub few : length (refused h) ≤ 1
@@ -162,13 +162,13 @@ calls_in (InUse c) = c ∷ []
 calls_in (TooMany c) = c ∷ []
 calls_in _ = []
 
-arrives_in : (t : Settings) (h : List Move) (i : List ℕ) (a : Answer) (e : Effect) → Arrives t h i a e → calls_in e ≡ []
+arrives_in : (t : Settings) (h : List PeerEvent) (i : List ℕ) (a : Answer) (e : Effect) → Arrives t h i a e → calls_in e ≡ []
 arrives_in t h i a (Begins c now) p = absurd p
 arrives_in t h i a (InUse c) p = absurd p
 arrives_in t h i a (TooMany c) p = absurd p
 arrives_in t h i a _ p = refl
 
-pub effect_in : (t : Settings) (h : List Move) (m : Purpose) (e : Effect) → ActsOn t h m e → calls_in e ≡ invoked (m ∷ [])
+pub effect_in : (t : Settings) (h : List PeerEvent) (m : Purpose) (e : Effect) → ActsOn t h m e → calls_in e ≡ invoked (m ∷ [])
 effect_in t h (ToBegin c) (Begins d now) p = ap (λ x. x ∷ []) p.0
 effect_in t h (ToBegin c) (InUse d) p = ap (λ x. x ∷ []) p.0
 effect_in t h (ToBegin c) (TooMany d) p = ap (λ x. x ∷ []) p.0
@@ -180,11 +180,11 @@ effect_in t h (ToCancel i) _ p = absurd p
 effect_in t h ToNothing e p = absurd p
 
 module _ {Job : Type 0} (hub : Hub Job) (t : Settings) where
-  pub none_yet : (h : List Move) (m : Message) → Refusing t h → waiting h ≡ Some m → refused h ≡ []
+  pub none_yet : (h : List PeerEvent) (m : Message) → Refusing t h → waiting h ≡ Some m → refused h ≡ []
   none_yet h m r e = none_of (refused h) (λ l. let f = (r.last l).1 in absurd (let z : ◌≡◌ {A = Option Message} None (Some m) = sym f ∙ e in cc))
 
   -- where nothing is handled or read
-  still_refusing : (d : Move) (h : List Move) → begun (d ∷ h) ≡ begun h → refused (d ∷ h) ≡ refused h → handled (d ∷ h) ≡ handled h
+  still_refusing : (d : PeerEvent) (h : List PeerEvent) → begun (d ∷ h) ≡ begun h → refused (d ∷ h) ≡ refused h → handled (d ∷ h) ≡ handled h
       → waiting (d ∷ h) ≡ waiting h → Refusing t h → Refusing t (d ∷ h)
   still_refusing d h e f g w r = record {
     jobs = let k = r.jobs in let g' = ap invoked g in (ap (λ xs. xs ++ refused (d ∷ h)) e ∙ (ap (λ xs. begun h ++ xs) f ∙ (k ∙ sym g')));
@@ -193,7 +193,7 @@ module _ {Job : Type 0} (hub : Hub Job) (t : Settings) where
   }
 
   -- a message is handled that begins no job and isn't refused
-  handles : (h : List Move) (m : Message) (e : Effect) → begun (Handles m e ∷ h) ≡ begun h → refused (Handles m e ∷ h) ≡ refused h → calls_in e ≡ [] → waiting h ≡ Some m → ActsOn t h (purpose_of m) e
+  handles : (h : List PeerEvent) (m : Message) (e : Effect) → begun (Handles m e ∷ h) ≡ begun h → refused (Handles m e ∷ h) ≡ refused h → calls_in e ≡ [] → waiting h ≡ Some m → ActsOn t h (purpose_of m) e
       → Refusing t h → Refusing t (Handles m e ∷ h)
   handles h m e f g k w a r = record {
     jobs = ap (λ xs. xs ++ refused (Handles m e ∷ h)) f ∙ (ap (λ xs. begun h ++ xs) g ∙ (r.jobs ∙ (sym (append_none (invoked (handled h))) ∙ (ap (λ xs. invoked (handled h) ++ xs) (sym k ∙ effect_in t h (purpose_of m) e a) ∙ sym (invoked-append (handled h) (purpose_of m ∷ []))))));
@@ -202,7 +202,7 @@ module _ {Job : Type 0} (hub : Hub Job) (t : Settings) where
   }
 
   -- one that is refused
-  refuses : (h : List Move) (m : Message) (e : Effect) (k : Invoked) (why : Reason) → begun (Handles m e ∷ h) ≡ begun h → refused (Handles m e ∷ h) ≡ refused h ++ k ∷ [] → calls_in e ≡ k ∷ [] → reason_of e ≡ Some why
+  refuses : (h : List PeerEvent) (m : Message) (e : Effect) (k : Invoked) (why : Reason) → begun (Handles m e ∷ h) ≡ begun h → refused (Handles m e ∷ h) ≡ refused h ++ k ∷ [] → calls_in e ≡ k ∷ [] → reason_of e ≡ Some why
       → waiting h ≡ Some m → ActsOn t h (purpose_of m) e → Refusing t h → Refusing t (Handles m e ∷ h)
   refuses h m e k why f g i by w a r =
       let z = none_yet h m r w in
@@ -213,7 +213,7 @@ module _ {Job : Type 0} (hub : Hub Job) (t : Settings) where
         few = subst (λ xs. length xs ≤ 1) (sym one) (omega arith);
       }
 
-  pub refusing : (h : List Move) → Follows hub t h → OpenReads t h → Refusing t h
+  pub refusing : (h : List PeerEvent) → Follows hub t h → OpenReads t h → Refusing t h
   refusing [] p o = record { jobs = refl; last = λ l. absurd (omega arith); few = omega arith }
   refusing (Reads m ∷ h) p o =
       let r = refusing h p.0 o.0 in

@@ -5,7 +5,7 @@ use Rattle.hm_message.specs.declared.message.Message.{Message}
 use Rattle.hd_facts.specs.Prefixes.{IsPrefix}
 use Rattle.hd_calls.specs.Numbers.{most_live}
 use Rattle.hd_calls.specs.Hubs.{Invoked, Purpose, ToBegin, ToAnswer, ToCancel, ToNothing, Hub, id_of, purpose_of}
-use Rattle.hd_calls.specs.Peers.{Effect, InUse, TooMany, Move, Handles, Settings, drawn, called, waiting, begun, moments, codec}
+use Rattle.hd_calls.specs.Peers.{Effect, InUse, TooMany, PeerEvent, Handles, Settings, drawn, called, waiting, begun, moments, codec}
 use Rattle.hd_calls.specs.Rules.{is_among, live_jobs, in_use, ActsOn, MayMove, Follows}
 use Rattle.hd_calls.specs.PeerWorlds.{said_by, read_by, invoked, waits, refused, Refusals}
 use Rattle.hd_calls.proofs.Lists.{prefix_trans, prefix_none}
@@ -22,7 +22,7 @@ pub record IsApart (mine theirs : ℕ → List ℕ) : Type 0 where
   pub other : (m n : ℕ) → mine m ≡ theirs n → ⊥
 
 -- the calls of x at y: what is known of them at one moment
-pub record Meets {JX JY : Type 0} (hx : Hub JX) (hy : Hub JY) (tx ty : Settings) (x y : List Move) : Type 0 where
+pub record Meets {JX JY : Type 0} (hx : Hub JX) (hy : Hub JY) (tx ty : Settings) (x y : List PeerEvent) : Type 0 where
   pub caller : Follows hx tx x
   pub callee : Follows hy ty y
   pub caller_open : OpenReads tx x
@@ -31,7 +31,7 @@ pub record Meets {JX JY : Type 0} (hx : Hub JX) (hy : Hub JY) (tx ty : Settings)
   pub forth : IsPrefix (read_by ty y) (said_by tx x)
   pub back : IsPrefix (read_by tx x) (said_by ty y)
 
-module _ {JX JY : Type 0} (hx : Hub JX) (hy : Hub JY) (tx ty : Settings) (apart : IsApart tx.name ty.name) (x y : List Move) (m : Meets hx hy tx ty x y) where
+module _ {JX JY : Type 0} (hx : Hub JX) (hy : Hub JY) (tx ty : Settings) (apart : IsApart tx.name ty.name) (x y : List PeerEvent) (m : Meets hx hy tx ty x y) where
   -- the calls that y processed
   pub jobs_are : begun y ++ (refused y ++ invoked (waits (waiting y))) ≡ invoked (read_by ty y)
   jobs_are =
@@ -95,7 +95,7 @@ module _ {JX JY : Type 0} (hx : Hub JX) (hy : Hub JY) (tx ty : Settings) (apart 
       prefix_none (said (tx.name n) (handled x)) (subst (λ xs. IsPrefix (said (tx.name n) (handled x)) xs) none (handled_told n))
 
 -- of both directions at one moment
-module _ {JX JY : Type 0} (hx : Hub JX) (hy : Hub JY) (tx ty : Settings) (apart : IsApart tx.name ty.name) (back : IsApart ty.name tx.name) (x y : List Move) (m : Meets hx hy tx ty x y) (n : Meets hy hx ty tx y x) where
+module _ {JX JY : Type 0} (hx : Hub JX) (hy : Hub JY) (tx ty : Settings) (apart : IsApart tx.name ty.name) (back : IsApart ty.name tx.name) (x y : List PeerEvent) (m : Meets hx hy tx ty x y) (n : Meets hy hx ty tx y x) where
   -- no job of x has an id of x
   pub no_own_job : (k j : ℕ) (e : Invoked) → slice_get (begun x) j ≡ Some e → id_of e.way ≡ Some (tx.name k) → ⊥
   no_own_job k j e f g =
@@ -112,8 +112,8 @@ module _ {JX JY : Type 0} (hx : Hub JX) (hy : Hub JY) (tx ty : Settings) (apart 
       l (handled y) p.0 c i (sym (append_assoc (handled y) (ToBegin c ∷ []) p.0) ∙ (ap (λ ms. ms ++ p.0) (sym e) ∙ p.1)) s
 
 -- what holds of each in every world
-module _ {JX JY : Type 0} (hx : Hub JX) (hy : Hub JY) (tx ty : Settings) (x y : List Move) where
-  pub causal_more : IsApart tx.name ty.name → Meets hx hy tx ty x y → (d : Move) → Causal tx x → Causal tx (d ∷ x)
+module _ {JX JY : Type 0} (hx : Hub JX) (hy : Hub JY) (tx ty : Settings) (x y : List PeerEvent) where
+  pub causal_more : IsApart tx.name ty.name → Meets hx hy tx ty x y → (d : PeerEvent) → Causal tx x → Causal tx (d ∷ x)
   causal_more apart m d c = (c, causal_here hx hy tx ty apart x y m)
 
   refusal_more : IsApart tx.name ty.name → Meets hx hy tx ty x y → (n : Message) (e : Effect) → waiting y ≡ Some n → ActsOn ty y (purpose_of n) e → Refusals ty y → Refusals ty (Handles n e ∷ y)
@@ -133,6 +133,6 @@ module _ {JX JY : Type 0} (hx : Hub JX) (hy : Hub JY) (tx ty : Settings) (x y : 
       not_used ToNothing is a = absurd a
   refusal_more apart m n _ w a r = r
 
-  pub refusals_more : IsApart tx.name ty.name → Meets hx hy tx ty x y → (d : Move) → MayMove hy ty y d → Refusals ty y → Refusals ty (d ∷ y)
+  pub refusals_more : IsApart tx.name ty.name → Meets hx hy tx ty x y → (d : PeerEvent) → MayMove hy ty y d → Refusals ty y → Refusals ty (d ∷ y)
   refusals_more apart m (Handles n e) a r = refusal_more apart m n e a.0 a.1 r
   refusals_more apart m _ a r = r

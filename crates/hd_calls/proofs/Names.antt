@@ -4,7 +4,7 @@ use Rattle.std.specs.Prelude.{◌⊎◌, ◌+◌, max, slice_get, ◌==◌, ◌|
 use Rattle.std.proofs.lemmas.Bool.{or_cases, and_parts, eqb-true}
 use Rattle.hm_message.specs.Same.{same_text}
 use Rattle.hd_calls.specs.Hubs.{Way, Notify, Call, Stream, Invoked, Hub, id_of}
-use Rattle.hd_calls.specs.Peers.{Move, Calls, Settings, drawn, called, call_of, begun, live_job}
+use Rattle.hd_calls.specs.Peers.{PeerEvent, Calls, Settings, drawn, called, call_of, begun, live_job}
 use Rattle.hd_calls.specs.Rules.{names, IsNumbered, MadeAs, any_below, is_among, repeats, same_id, stream_over, shares, clashes, in_use, Follows}
 use Rattle.hd_calls.proofs.Lists.{both, not_true, get_front, same_refl, same-true}
 
@@ -25,7 +25,7 @@ rising_le : (t : Settings) (from : ℕ) (cs : List Invoked) (to : ℕ) → Risin
 rising_le t from [] to r = omega (arith, r)
 rising_le t from (c ∷ cs) to r = let h = rising_le t (max from (r.0 + length c.streams)) cs to r.2 in omega arith
 
-pub rises : {Job : Type 0} (hub : Hub Job) (t : Settings) (h : List Move) → Follows hub t h → Rising t 0 (called h) (drawn h)
+pub rises : {Job : Type 0} (hub : Hub Job) (t : Settings) (h : List PeerEvent) → Follows hub t h → Rising t 0 (called h) (drawn h)
 rises hub t [] p = refl
 rises hub t (Calls a n call ∷ h) p = rising_push t 0 (called h) (drawn h) n call (rises hub t h p.0) p.1.made
 rises hub t (_ ∷ h) p = rises hub t h p.0
@@ -112,14 +112,14 @@ module _ (t : Settings) (own : (m n : ℕ) → t.name m ≡ t.name n → m ≡ n
   same_key (Some i) None e = absurd (cc)
   same_key (Some i) (Some k) e = (i, refl, ap Some (sym (same-true i k e)))
 
-  shared : (those : List (List ℕ)) (j : ℕ) (h : List Move) (w : ℕ) (ks : List (List ℕ)) → shares those j h w ks ≡ true → (i : List ℕ) × (is_among i those ≡ true) × (is_among i ks ≡ true)
+  shared : (those : List (List ℕ)) (j : ℕ) (h : List PeerEvent) (w : ℕ) (ks : List (List ℕ)) → shares those j h w ks ≡ true → (i : List ℕ) × (is_among i those ≡ true) × (is_among i ks ≡ true)
   shared those j h w [] e = absurd (cc)
   shared those j h w (k ∷ ks) e = ⊎_elim
       (λ f. (k, (and_parts (is_among k those) (not (stream_over j w h)) f).0, ap (λ b. b || is_among k ks) (same_refl k)))
       (λ f. let s = shared those j h (suc w) ks f in (s.0, s.1, elim (same_text s.0 k) as (λ b. (b || is_among s.0 ks) ≡ true) [ true ↦ refl | false ↦ s.2 ]))
       (or_cases (is_among k those && not (stream_over j w h)) (shares those j h (suc w) ks) e)
 
-  clash_keys : (c : Invoked) (j : ℕ) (h : List Move) (d : Invoked) → clashes c j h (Some d) ≡ true → (i : List ℕ) × IsKey i c × IsKey i d
+  clash_keys : (c : Invoked) (j : ℕ) (h : List PeerEvent) (d : Invoked) → clashes c j h (Some d) ≡ true → (i : List ℕ) × IsKey i c × IsKey i d
   clash_keys c j h d e = ⊎_elim
       (λ f. let s = same_key (id_of c.way) (id_of d.way) f in (s.0, Own_id s.1, Own_id s.2))
       (λ f. let s = shared c.streams j h 0 d.streams f in (s.0, Of_stream s.1, Of_stream s.2))
@@ -129,12 +129,12 @@ module _ (t : Settings) (own : (m n : ℕ) → t.name m ≡ t.name n → m ≡ n
   some_below zero p e = absurd (cc)
   some_below (suc n) p e = ⊎_elim (λ f. (n, f)) (λ f. some_below n p f) (or_cases (p n) (any_below n p) e)
 
-  clash_of : (c : Invoked) (j : ℕ) (h : List Move) (o : Option Invoked) → clashes c j h o ≡ true → (d : Invoked) × (o ≡ Some d) × (clashes c j h (Some d) ≡ true)
+  clash_of : (c : Invoked) (j : ℕ) (h : List PeerEvent) (o : Option Invoked) → clashes c j h o ≡ true → (d : Invoked) × (o ≡ Some d) × (clashes c j h (Some d) ≡ true)
   clash_of c j h None e = absurd (cc)
   clash_of c j h (Some d) e = (d, refl, e)
 
   -- a new call is in use nowhere
-  pub unused : (ty : Settings) (y : List Move) (mid n : ℕ) (c : Invoked) → Rising t 0 (begun y) mid → MadeAs t mid n c.way c → in_use ty c y ≡ false
+  pub unused : (ty : Settings) (y : List PeerEvent) (mid n : ℕ) (c : Invoked) → Rising t 0 (begun y) mid → MadeAs t mid n c.way c → in_use ty c y ≡ false
   unused ty y mid n c r m = not_true (in_use ty c y) (λ e. ⊎_elim
       (λ f.
       let s = some_below (length (begun y)) (λ j. live_job ty j y && clashes c j y (slice_get (begun y) j)) f in
@@ -148,14 +148,14 @@ module _ (t : Settings) (own : (m n : ℕ) → t.name m ≡ t.name n → m ≡ n
 -- the call of a number ------------------------------------------------------
 
 -- a call's number was drawn
-pub number_drawn : (n : ℕ) (h : List Move) (c : Invoked) → call_of n h ≡ Some c → n ≤ drawn h
+pub number_drawn : (n : ℕ) (h : List PeerEvent) (c : Invoked) → call_of n h ≡ Some c → n ≤ drawn h
 number_drawn n [] c e = absurd (cc)
 number_drawn n (Calls a k d ∷ h) c e = both (λ o. o ≡ Some c → n ≤ max (drawn h) (k + length d.streams)) (n == k) (Some d) (call_of n h)
     (λ f g. let z = eqb-true n k f in omega arith)
     (λ f g. let z = number_drawn n h c g in omega arith) e
 number_drawn n (_ ∷ h) c e = number_drawn n h c e
 
-pub record IsCalled (t : Settings) (n : ℕ) (h : List Move) (c : Invoked) (i : List ℕ) : Type 0 where
+pub record IsCalled (t : Settings) (n : ℕ) (h : List PeerEvent) (c : Invoked) (i : List ℕ) : Type 0 where
   pub id : i ≡ t.name n
   pub place : ℕ
   pub at : slice_get (called h) place ≡ Some c
@@ -164,7 +164,7 @@ pub get_last : {A : Type 0} (xs : List A) (x : A) → slice_get (xs ++ x ∷ [])
 get_last [] x = refl
 get_last (y ∷ xs) x = get_last xs x
 
-pub is_called : {Job : Type 0} (hub : Hub Job) (t : Settings) (n : ℕ) (h : List Move) (call : Invoked) (i : List ℕ) → Follows hub t h → call_of n h ≡ Some call → id_of call.way ≡ Some i → IsCalled t n h call i
+pub is_called : {Job : Type 0} (hub : Hub Job) (t : Settings) (n : ℕ) (h : List PeerEvent) (call : Invoked) (i : List ℕ) → Follows hub t h → call_of n h ≡ Some call → id_of call.way ≡ Some i → IsCalled t n h call i
 is_called hub t n [] call i p e f = absurd (cc)
 is_called hub t n (Calls a k d ∷ h) call i p e f = both (λ o. o ≡ Some call → IsCalled t n (Calls a k d ∷ h) call i) (n == k) (Some d) (call_of n h)
     (λ g q.

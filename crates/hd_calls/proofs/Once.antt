@@ -11,7 +11,7 @@ use Rattle.hd_delivery.specs.Worlds.{Event, client_of, server_of, config, Still}
 use Rattle.hd_delivery.specs.Bytes.{IsFaithful, StillOverBytes, HoldsOverBytes, client_in_frames, in_frames}
 use Rattle.hd_delivery.specs.HistoryLaws.{FactsHold, WorldsAreHistories}
 use Rattle.hd_calls.specs.Hubs.{Invoked, Purpose, ToBegin, ToAnswer, ToCancel, ToNothing, Hub, id_of, is_stream, purpose_of}
-use Rattle.hd_calls.specs.Peers.{Move, Loses, Settings, drawn, called, call_of, given, lost, waiting, begun, moments, acts, over, live_job, answers, byte_steps, steps, codec, is_shut}
+use Rattle.hd_calls.specs.Peers.{PeerEvent, Loses, Settings, drawn, called, call_of, given, lost, waiting, begun, moments, acts, over, live_job, answers, byte_steps, steps, codec, is_shut}
 use Rattle.hd_calls.specs.Rules.{Follows}
 use Rattle.hd_calls.specs.PeerWorlds.{Pair, settings, next_step, ends, IsPeerWorld, purposes, said_by, read_by, invoked, waits, refused, Refusals, endings, IsJobOf, EachBegins, IsAnswered, CallsOnce, AllEnded, HasLastWords, BothOnce, all_sent}
 use Rattle.hd_calls.proofs.Lists.{append_none, get_front, get_within, not_true, none_of, prefix_trans, prefix_none}
@@ -44,7 +44,7 @@ few_of [] o l f = one_waits o
 few_of (c ∷ []) o l f = let e = f (omega arith) in subst (λ o. length (c ∷ invoked (waits o)) ≤ 1) (sym e) (omega arith)
 few_of (c ∷ d ∷ cs) o l f = absurd (omega arith)
 
-lost_closed : {Job : Type 0} (hub : Hub Job) (t : Settings) (n : ℕ) (h : List Move) → Follows hub t h → lost n h ≡ true → is_shut t h ≡ true
+lost_closed : {Job : Type 0} (hub : Hub Job) (t : Settings) (n : ℕ) (h : List PeerEvent) → Follows hub t h → lost n h ≡ true → is_shut t h ≡ true
 lost_closed hub t n [] p e = absurd (let z : false ≡ true = e in cc)
 lost_closed hub t n (Loses k ∷ h) p e = p.1.0
 lost_closed hub t n (d ∷ h) p e = add_closed t (next_step t h d) (byte_steps t h) (lost_closed hub t n h p.0 e)
@@ -54,7 +54,7 @@ ready_open : (a b : Bool) (o : Option ℕ) → state_of a b o ≡ Ready → a �
 ready_open true b o e = absurd (cc)
 ready_open false b o e = refl
 
-module _ {JX JY : Type 0} (hx : Hub JX) (hy : Hub JY) (tx ty : Settings) (apart : IsApart tx.name ty.name) (x y : List Move) (m : Meets hx hy tx ty x y) (causal : Causal tx x) where
+module _ {JX JY : Type 0} (hx : Hub JX) (hy : Hub JY) (tx ty : Settings) (apart : IsApart tx.name ty.name) (x y : List PeerEvent) (m : Meets hx hy tx ty x y) (causal : Causal tx x) where
   pub each_begins : Refusals ty y → EachBegins ty x y
   each_begins r =
       let q = refusing hy ty y m.callee m.callee_open in
@@ -146,7 +146,7 @@ module _ {JX JY : Type 0} (hx : Hub JX) (hy : Hub JY) (tx ty : Settings) (apart 
             go false e o f = absurd (let z = ltb-false j (length (begun y)) e in let l = get_within (begun y) j d at in omega arith)
 
 module _ {C S : Type 0} (hc : Hub C) (hs : Hub S) (p : Pair) (facts : FactsHold) (histories : WorldsAreHistories) (delivery : HoldsOverBytes) (a : IsApart (p.name Client) (p.name Server)) (b : IsApart (p.name Server) (p.name Client))
-    (w : List (Event Move)) (faithful : IsFaithful p.limits p.wire p.terms.codec p.terms.version (all_sent p w)) (q : IsPeerWorld hc hs p w) where
+    (w : List (Event PeerEvent)) (faithful : IsFaithful (p.limits Client) p.wire p.terms.codec p.terms.version (all_sent p w)) (q : IsPeerWorld hc hs p w) where
   all : (m : Message) → Contains (all_sent p w) m → Contains (all_sent p w) m
   all m e = e
 

@@ -10,7 +10,7 @@ use Rattle.hd_delivery.specs.declared.vocabulary.Reason.TheVariants as reason
 use Rattle.hd_delivery.specs.Histories.{Sent, sent_messages}
 use Rattle.hd_delivery.specs.Bytes.{ByteStep, Bytes, Does}
 use Rattle.hd_calls.specs.Hubs.{Way, Notify, Call, Stream, Invoked, Answer, Item, End, Purpose, ToBegin, ToAnswer, ToCancel, ToNothing, Hub, id_of, purpose_of, message_of, answer_message}
-use Rattle.hd_calls.specs.Peers.{Effect, Begins, InUse, TooMany, Brings, Feeds, Flood, Marks, Nothing, Move, Plain, Calls, Uploads, Cancels, Reads, Handles, Runs, Answers, Refuses, Loses, Rounds, Settings, drawn, called, call_of, has_end, has_id, live_call, uploaded, stream_count, live_upload, waiting, begun, inputs, of_stream, ends_job, over, live_job, answer_of, message_for, add, reason_of, shuts, byte_steps, codec, is_shut}
+use Rattle.hd_calls.specs.Peers.{Effect, Begins, InUse, TooMany, Brings, Feeds, Flood, Marks, Nothing, PeerEvent, Plain, Calls, Uploads, Cancels, Reads, Handles, Runs, Answers, Refuses, Loses, Rounds, Settings, drawn, called, call_of, has_end, has_id, live_call, uploaded, stream_count, live_upload, waiting, begun, inputs, of_stream, ends_job, over, live_job, answer_of, message_for, add, reason_of, shuts, byte_steps, codec, is_shut}
 use Rattle.hd_calls.specs.Rules.{names, IsNumbered, is_among, StreamAt, Arrives, ActsOn, Follows}
 use Rattle.hd_calls.specs.PeerWorlds.{purposes, said_by, waits, next_step}
 use Rattle.hd_calls.proofs.Lists.{both, not_true, append_none, get_front, get_within, prefix_trans, same_refl, same-true, true-same}
@@ -37,13 +37,13 @@ member_at t k (suc u) (suc w) l =
     elim (same_text (t.name (k + suc w)) (t.name k)) as (λ b. (b || is_among (t.name (k + suc w)) (names t (suc k) u)) ≡ true) [ true ↦ refl | false ↦ f ]
 
 -- a call with uploads
-pub record Uploading (t : Settings) (k : ℕ) (h : List Move) (d : Invoked) : Type 0 where
+pub record Uploading (t : Settings) (k : ℕ) (h : List PeerEvent) (d : Invoked) : Type 0 where
   pub place : ℕ
   pub at : slice_get (called h) place ≡ Some d
   pub streams : d.streams ≡ names t (suc k) (length d.streams)
   pub number : k + length d.streams ≤ drawn h
 
-pub uploading : {Job : Type 0} (hub : Hub Job) (t : Settings) (k : ℕ) (h : List Move) (d : Invoked) → Follows hub t h → call_of k h ≡ Some d → 0 < length d.streams → Uploading t k h d
+pub uploading : {Job : Type 0} (hub : Hub Job) (t : Settings) (k : ℕ) (h : List PeerEvent) (d : Invoked) → Follows hub t h → call_of k h ≡ Some d → 0 < length d.streams → Uploading t k h d
 uploading hub t k [] d p e l = absurd (cc)
 uploading hub t k (Calls a n b ∷ h) d p e l = both (λ o. o ≡ Some d → Uploading t k (Calls a n b ∷ h) d) (k == n) (Some b) (call_of k h)
     (λ f q.
@@ -61,7 +61,7 @@ uploading hub t k (Calls a n b ∷ h) d p e l = both (λ o. o ≡ Some d → Upl
     (λ f q. let r = uploading hub t k h d p.0 q l in record { place = r.place; at = get_front (called h) (b ∷ []) r.place d r.at; streams = r.streams; number = let x = r.number in omega arith }) e
 uploading hub t k (_ ∷ h) d p e l = let r = uploading hub t k h d p.0 e l in record { place = r.place; at = r.at; streams = r.streams; number = r.number }
 
-pub live_stream : (k v : ℕ) (h : List Move) → live_upload k v h ≡ true → (d : Invoked) × (call_of k h ≡ Some d) × (v < length d.streams)
+pub live_stream : (k v : ℕ) (h : List PeerEvent) → live_upload k v h ≡ true → (d : Invoked) × (call_of k h ≡ Some d) × (v < length d.streams)
 live_stream k v h e = go (call_of k h) refl (and_parts (nat_lt v (stream_count (call_of k h))) (not (has_end (uploaded k v h))) (and_parts (nat_lt v (stream_count (call_of k h)) && not (has_end (uploaded k v h))) (live_call k h || not (has_id (call_of k h))) e).0).0
   where
     go : (o : Option Invoked) → call_of k h ≡ o → nat_lt v (stream_count o) ≡ true → (d : Invoked) × (call_of k h ≡ Some d) × (v < length d.streams)
@@ -71,10 +71,10 @@ live_stream k v h e = go (call_of k h) refl (and_parts (nat_lt v (stream_count (
 -- what was uploaded was sent ----------------------------------------------------------
 
 -- the calls of a history are among these
-abbrev pub CalledIn : List Invoked → List Move → Type 0
+abbrev pub CalledIn : List Invoked → List PeerEvent → Type 0
 CalledIn cs h = (k : ℕ) (d : Invoked) → slice_get (called h) k ≡ Some d → slice_get cs k ≡ Some d
 
-called_tail : (cs : List Invoked) (d : Move) (h : List Move) → CalledIn cs (d ∷ h) → CalledIn cs h
+called_tail : (cs : List Invoked) (d : PeerEvent) (h : List PeerEvent) → CalledIn cs (d ∷ h) → CalledIn cs h
 called_tail cs (Calls a n c) h w = λ k e f. w k e (get_front (called h) (c ∷ []) k e f)
 called_tail cs (Handles m e) h w = w
 called_tail cs (Plain s) h w = w
@@ -89,7 +89,7 @@ called_tail cs Rounds h w = w
 
 module _ {Job : Type 0} (hub : Hub Job) (t : Settings) (i : List ℕ) (js : List Invoked) (ns : List ℕ) (foreign : (k : ℕ) (e : Invoked) → slice_get js k ≡ Some e → id_of e.way ≡ Some i → ⊥) where
   -- nothing is said of an id that isn't drawn yet
-  unsaid_yet : (n : ℕ) → i ≡ t.name n → ((m k : ℕ) → t.name m ≡ t.name k → m ≡ k) → (h : List Move) → Follows hub t h → Within js ns h → drawn h < n → said i (said_by t h) ≡ []
+  unsaid_yet : (n : ℕ) → i ≡ t.name n → ((m k : ℕ) → t.name m ≡ t.name k → m ≡ k) → (h : List PeerEvent) → Follows hub t h → Within js ns h → drawn h < n → said i (said_by t h) ≡ []
   unsaid_yet n is own [] p w l = refl
   unsaid_yet n is own (Plain s ∷ h) p w l = unsaid t i (Some s) (byte_steps t h) (ap (said i) (plain_sends h s p.1)) ∙ unsaid_yet n is own h p.0 w l
   unsaid_yet n is own (Calls a k call ∷ h) p w l = unsaid t i (sending (Some (message_of call))) (byte_steps t h) (call_unsaid i call) ∙ unsaid_yet n is own h p.0 w (omega arith)
@@ -110,8 +110,8 @@ module _ {Job : Type 0} (hub : Hub Job) (t : Settings) (i : List ℕ) (js : List
   unsaid_yet n is own (Rounds ∷ h) p w l = unsaid_yet n is own h p.0 w l
 
   -- what is said of a stream's id is what is uploaded there
-  module _ (cs : List Invoked) (n u : ℕ) (is : i ≡ t.name (suc (n + u))) (one : (k v : ℕ) (h : List Move) → Follows hub t h → live_upload k v h ≡ true → CalledIn cs h → t.name (suc (k + v)) ≡ i → (k ≡ n) × (v ≡ u)) where
-    pub said_uploads : (h : List Move) → Follows hub t h → Within js ns h → CalledIn cs h → said i (said_by t h) ≡ uploaded n u h
+  module _ (cs : List Invoked) (n u : ℕ) (is : i ≡ t.name (suc (n + u))) (one : (k v : ℕ) (h : List PeerEvent) → Follows hub t h → live_upload k v h ≡ true → CalledIn cs h → t.name (suc (k + v)) ≡ i → (k ≡ n) × (v ≡ u)) where
+    pub said_uploads : (h : List PeerEvent) → Follows hub t h → Within js ns h → CalledIn cs h → said i (said_by t h) ≡ uploaded n u h
     said_uploads [] p w q = refl
     said_uploads (Plain s ∷ h) p w q = unsaid t i (Some s) (byte_steps t h) (ap (said i) (plain_sends h s p.1)) ∙ said_uploads h p.0 w q
     said_uploads (Calls a k call ∷ h) p w q = unsaid t i (sending (Some (message_of call))) (byte_steps t h) (call_unsaid i call) ∙ said_uploads h p.0 w (called_tail cs (Calls a k call) h q)
@@ -212,7 +212,7 @@ new_streams t last n c i (inr q) m = let k = member_names t i (suc n) (length c.
 
 module _ {Job : Type 0} (hub : Hub Job) (t : Settings) (js : List Invoked) (ns : List ℕ) (own : (m n : ℕ) → t.name m ≡ t.name n → m ≡ n)
     (foreign : (n k : ℕ) (e : Invoked) → slice_get js k ≡ Some e → id_of e.way ≡ Some (t.name n) → ⊥) where
-  pub led : (h : List Move) → Follows hub t h → Within js ns h → Led_by (said_by t h)
+  pub led : (h : List PeerEvent) → Follows hub t h → Within js ns h → Led_by (said_by t h)
   led [] p w = λ pre post d i e k. absurd (never pre post d e)
     where
       never : (pre post : List Purpose) (d : Invoked) → pre ++ ToBegin d ∷ post ≡ [] → ⊥
@@ -237,16 +237,16 @@ module _ {Job : Type 0} (hub : Hub Job) (t : Settings) (js : List Invoked) (ns :
 -- what is fed to a job --------------------------------------------------------------------
 
 -- where a call waits, nothing was handled that bears its streams' ids
-abbrev pub StreamCausal : List Move → Type 0
+abbrev pub StreamCausal : List PeerEvent → Type 0
 StreamCausal [] = Unit {0}
 StreamCausal (d ∷ h) = StreamCausal h × ((c : Invoked) (i : List ℕ) → waits (waiting h) ≡ ToBegin c ∷ [] → is_among i c.streams ≡ true → said i (handled h) ≡ [])
 
-abbrev pub flooded : List Move → Bool
+abbrev pub flooded : List PeerEvent → Bool
 flooded [] = false
 flooded (Handles m Flood ∷ h) = true
 flooded (_ ∷ h) = flooded h
 
-flood_shuts : {Job : Type 0} (hub : Hub Job) (t : Settings) (h : List Move) → Follows hub t h → OpenReads t h → flooded h ≡ true → (is_shut t h ≡ true) × (waiting h ≡ None)
+flood_shuts : {Job : Type 0} (hub : Hub Job) (t : Settings) (h : List PeerEvent) → Follows hub t h → OpenReads t h → flooded h ≡ true → (is_shut t h ≡ true) × (waiting h ≡ None)
 flood_shuts hub t [] p o e = absurd (let z : false ≡ true = e in cc)
 flood_shuts hub t (Handles m Flood ∷ h) p o e = (shuts_closes t (is_shut t h) reason.Flood (byte_steps t h) refl, refl)
 flood_shuts hub t (Handles m e ∷ h) p o f = let q = flood_shuts hub t h p.0 o f in absurd (let z : ◌≡◌ {A = Option Message} None (Some m) = sym q.1 ∙ p.1.0 in cc)
@@ -261,14 +261,14 @@ of_stream_push w (x ∷ xs) v a = go (w == x.0) (of_stream_push w xs v a)
     go true e = ap (λ zs. x.1 ∷ zs) e
     go false e = e
 
-begins_at : (t : Settings) (h : List Move) (m : Purpose) (d : Invoked) (now : ℕ) → ActsOn t h m (Begins d now) → m ≡ ToBegin d
+begins_at : (t : Settings) (h : List PeerEvent) (m : Purpose) (d : Invoked) (now : ℕ) → ActsOn t h m (Begins d now) → m ≡ ToBegin d
 begins_at t h (ToBegin c) d now p = ap ToBegin (sym p.0)
 begins_at t h (ToAnswer i a) d now p = absurd p
 begins_at t h (ToCancel i) d now p = absurd p
 begins_at t h ToNothing d now p = absurd p
 
 -- of a message with an id that is no own call's: it is fed to an open stream, or there is none, or it floods
-data Fate (t : Settings) (h : List Move) (i : List ℕ) (m : Purpose) (e : Effect) : Type 0 where
+data Fate (t : Settings) (h : List PeerEvent) (i : List ℕ) (m : Purpose) (e : Effect) : Type 0 where
   Elsewhere : said i (m ∷ []) ≡ [] → ((j w : ℕ) (a : Answer) → e ≡ Feeds j w a → (k : List ℕ) × (k ≡ i → ⊥) × StreamAt t h k j w) → Fate t h i m e
   Comes : (j w : ℕ) (a : Answer) → e ≡ Feeds j w a → said i (m ∷ []) ≡ a ∷ [] → StreamAt t h i j w → Fate t h i m e
   Nowhere : (a : Answer) → said i (m ∷ []) ≡ a ∷ [] → ((j w : ℕ) (a : Answer) → e ≡ Feeds j w a → ⊥) → ((j w : ℕ) → StreamAt t h i j w → ⊥) → Fate t h i m e
@@ -277,7 +277,7 @@ data Fate (t : Settings) (h : List Move) (i : List ℕ) (m : Purpose) (e : Effec
 said_self : (i : List ℕ) (a : Answer) → said i (ToAnswer i a ∷ []) ≡ a ∷ []
 said_self i a = ap (λ b. put b a []) (same_refl i)
 
-same_fate : (t : Settings) (h : List Move) (i : List ℕ) (a : Answer) (e : Effect) → ((n : ℕ) → t.name n ≡ i → ⊥) → Arrives t h i a e → Fate t h i (ToAnswer i a) e
+same_fate : (t : Settings) (h : List PeerEvent) (i : List ℕ) (a : Answer) (e : Effect) → ((n : ℕ) → t.name n ≡ i → ⊥) → Arrives t h i a e → Fate t h i (ToAnswer i a) e
 same_fate t h i a (Brings n b) f p = absurd (f n p.1)
 same_fate t h i a (Feeds j w b) f p = Comes j w b refl (said_self i a ∙ ap (λ x. x ∷ []) (sym p.0)) p.2
 same_fate t h i a Flood f p = Floods a (said_self i a) refl
@@ -287,17 +287,17 @@ same_fate t h i a (InUse c) f p = absurd p
 same_fate t h i a (TooMany c) f p = absurd p
 same_fate t h i a (Marks j) f p = absurd p
 
-other_fate : (t : Settings) (h : List Move) (i k : List ℕ) (a : Answer) (e : Effect) → same_text i k ≡ false → Arrives t h k a e → Fate t h i (ToAnswer k a) e
+other_fate : (t : Settings) (h : List PeerEvent) (i k : List ℕ) (a : Answer) (e : Effect) → same_text i k ≡ false → Arrives t h k a e → Fate t h i (ToAnswer k a) e
 other_fate t h i k a e f p = Elsewhere (ap (λ b. put b a []) f) (λ j w b g. (k, (λ z. absurd (let y : false ≡ true = sym f ∙ true-same i k (sym z) in cc)), (subst (λ x. Arrives t h k a x) g p).2))
 
-arrival : (t : Settings) (h : List Move) (i k : List ℕ) (a : Answer) (e : Effect) → ((n : ℕ) → t.name n ≡ i → ⊥) → Arrives t h k a e → Fate t h i (ToAnswer k a) e
+arrival : (t : Settings) (h : List PeerEvent) (i k : List ℕ) (a : Answer) (e : Effect) → ((n : ℕ) → t.name n ≡ i → ⊥) → Arrives t h k a e → Fate t h i (ToAnswer k a) e
 arrival t h i k a e f p = go (same_text i k) refl
   where
     go : (b : Bool) → same_text i k ≡ b → Fate t h i (ToAnswer k a) e
     go false g = other_fate t h i k a e g p
     go true g = let z = same-true i k g in subst (λ x. Fate t h i (ToAnswer x a) e) z (same_fate t h i a e f (subst (λ x. Arrives t h x a e) (sym z) p))
 
-fate : (t : Settings) (h : List Move) (i : List ℕ) (m : Purpose) (e : Effect) → ((n : ℕ) → t.name n ≡ i → ⊥) → ActsOn t h m e → Fate t h i m e
+fate : (t : Settings) (h : List PeerEvent) (i : List ℕ) (m : Purpose) (e : Effect) → ((n : ℕ) → t.name n ≡ i → ⊥) → ActsOn t h m e → Fate t h i m e
 fate t h i (ToAnswer k a) e f p = arrival t h i k a e f p
 fate t h i (ToBegin c) (Feeds j w a) f p = absurd p
 fate t h i (ToBegin c) e f p = Elsewhere refl (λ j w a g. absurd (cc))
@@ -312,23 +312,23 @@ get_some (x ∷ xs) (suc k) l = get_some xs k (omega arith)
 
 module _ {Job : Type 0} (hub : Hub Job) (t : Settings) (cs : List Invoked) (ns : List ℕ) (j : ℕ) (d : Invoked) (at : slice_get cs j ≡ Some d) (w : ℕ) (i : List ℕ) (stream : slice_get d.streams w ≡ Some i) (named : is_among i d.streams ≡ true)
     (foreign : (n : ℕ) → t.name n ≡ i → ⊥) (one : (k : ℕ) (b : Invoked) (v : ℕ) → slice_get cs k ≡ Some b → slice_get b.streams v ≡ Some i → (k ≡ j) × (v ≡ w)) where
-  pub record FedSo (h : List Move) : Type 0 where
+  pub record FedSo (h : List PeerEvent) : Type 0 where
     pub nothing : length (begun h) ≤ j → inputs j h ≡ []
     pub whole : j < length (begun h) → over t j h ≡ false → flooded h ≡ false → of_stream w (inputs j h) ≡ heard true (said i (handled h))
     pub front : j < length (begun h) → IsPrefix (of_stream w (inputs j h)) (heard true (said i (handled h)))
 
   -- nothing of it is said or fed
-  unfed : (h g : List Move) → begun g ≡ begun h → (length (begun g) ≤ j → inputs j g ≡ []) → of_stream w (inputs j g) ≡ of_stream w (inputs j h) → said i (handled g) ≡ said i (handled h) → (over t j g ≡ false → over t j h ≡ false) → (flooded g ≡ false → flooded h ≡ false) → FedSo h → FedSo g
+  unfed : (h g : List PeerEvent) → begun g ≡ begun h → (length (begun g) ≤ j → inputs j g ≡ []) → of_stream w (inputs j g) ≡ of_stream w (inputs j h) → said i (handled g) ≡ said i (handled h) → (over t j g ≡ false → over t j h ≡ false) → (flooded g ≡ false → flooded h ≡ false) → FedSo h → FedSo g
   unfed h g b n e s o f r = record {
     nothing = n;
     whole = λ l x y. e ∙ (r.whole (subst (λ xs. j < length xs) b l) (o x) (f y) ∙ ap (heard true) (sym s));
     front = λ l. subst (λ xs. IsPrefix xs (heard true (said i (handled g)))) (sym e) (subst (λ xs. IsPrefix (of_stream w (inputs j h)) (heard true xs)) (sym s) (r.front (subst (λ xs. j < length xs) b l)));
   }
 
-  untouched : (h g : List Move) → begun g ≡ begun h → inputs j g ≡ inputs j h → said i (handled g) ≡ said i (handled h) → (over t j g ≡ false → over t j h ≡ false) → (flooded g ≡ false → flooded h ≡ false) → FedSo h → FedSo g
+  untouched : (h g : List PeerEvent) → begun g ≡ begun h → inputs j g ≡ inputs j h → said i (handled g) ≡ said i (handled h) → (over t j g ≡ false → over t j h ≡ false) → (flooded g ≡ false → flooded h ≡ false) → FedSo h → FedSo g
   untouched h g b e s o f r = unfed h g b (λ l. e ∙ r.nothing (subst (λ xs. length xs ≤ j) b l)) (ap (of_stream w) e) s o f r
 
-  fed_more : (h : List Move) (m : Message) (e : Effect) → begun (Handles m e ∷ h) ≡ begun h → ((k v : ℕ) (a : Answer) → e ≡ Feeds k v a → ⊥) → inputs j (Handles m e ∷ h) ≡ inputs j h → (flooded (Handles m e ∷ h) ≡ false → flooded h ≡ false) → (e ≡ Flood → flooded (Handles m e ∷ h) ≡ true)
+  fed_more : (h : List PeerEvent) (m : Message) (e : Effect) → begun (Handles m e ∷ h) ≡ begun h → ((k v : ℕ) (a : Answer) → e ≡ Feeds k v a → ⊥) → inputs j (Handles m e ∷ h) ≡ inputs j h → (flooded (Handles m e ∷ h) ≡ false → flooded h ≡ false) → (e ≡ Flood → flooded (Handles m e ∷ h) ≡ true)
       → Within cs ns h → Fate t h i (purpose_of m) e → FedSo h → FedSo (Handles m e ∷ h)
   fed_more h m e b none same f fl wi (Elsewhere s q) r = untouched h (Handles m e ∷ h) b same (said-append i (handled h) (purpose_of m ∷ []) ∙ (ap (λ xs. said i (handled h) ++ xs) s ∙ append_none (said i (handled h)))) (λ o. o) f r
   fed_more h m e b none same f fl wi (Comes k v a z s q) r = absurd (none k v a z)
@@ -351,14 +351,14 @@ module _ {Job : Type 0} (hub : Hub Job) (t : Settings) (cs : List Invoked) (ns :
             (prefix_trans (of_stream w (inputs j h)) (heard true (said i (handled h))) (heard true (said i (handled h) ++ a ∷ [])) (r.front (subst (λ xs. j < length xs) b l)) (heard_prefix true (said i (handled h)) (a ∷ []))));
       }
     where
-      live_at : (h : List Move) → j < length (begun h) → over t j h ≡ false → live_job t j h ≡ true
+      live_at : (h : List PeerEvent) → j < length (begun h) → over t j h ≡ false → live_job t j h ≡ true
       live_at h k x = go (nat_lt j (length (begun h))) refl
         where
           go : (b : Bool) → nat_lt j (length (begun h)) ≡ b → (b && not (over t j h)) ≡ true
           go true e = ap not x
           go false e = absurd (let z = ltb-false j (length (begun h)) e in omega arith)
 
-      over_now : (h : List Move) → j < length (begun h) → over t j h ≡ false → ((j w : ℕ) → StreamAt t h i j w → ⊥) → Within cs ns h → has_end (of_stream w (inputs j h)) ≡ true
+      over_now : (h : List PeerEvent) → j < length (begun h) → over t j h ≡ false → ((j w : ℕ) → StreamAt t h i j w → ⊥) → Within cs ns h → has_end (of_stream w (inputs j h)) ≡ true
       over_now h k x q wi =
           let b = get_some (begun h) j k in
           let z : Some b.0 ≡ Some d = sym (wi.0 j b.0 b.1) ∙ at in
@@ -370,10 +370,10 @@ module _ {Job : Type 0} (hub : Hub Job) (t : Settings) (cs : List Invoked) (ns :
           go true e here = refl
           go false e here = absurd (q j w (record { call = d; at = here; stream = stream; live = live_at h k x; unended = e }))
 
-  live_fed : (h : List Move) (k v : ℕ) (b : List ℕ) → StreamAt t h b k v → (k < length (begun h)) × (over t k h ≡ false)
+  live_fed : (h : List PeerEvent) (k v : ℕ) (b : List ℕ) → StreamAt t h b k v → (k < length (begun h)) × (over t k h ≡ false)
   live_fed h k v b q = (get_within (begun h) k q.call q.at, (live_parts t k h q.live).1)
 
-  fed_one : (h : List Move) (m : Message) (k v : ℕ) (a : Answer) → flooded h ≡ false → Within cs ns h → Fate t h i (purpose_of m) (Feeds k v a) → FedSo h → FedSo (Handles m (Feeds k v a) ∷ h)
+  fed_one : (h : List PeerEvent) (m : Message) (k v : ℕ) (a : Answer) → flooded h ≡ false → Within cs ns h → Fate t h i (purpose_of m) (Feeds k v a) → FedSo h → FedSo (Handles m (Feeds k v a) ∷ h)
   fed_one h m k v a dry wi (Nowhere b s z q) r = absurd (z k v a refl)
   fed_one h m k v a dry wi (Floods b s z) r = absurd (cc)
   fed_one h m k v a dry wi (Elsewhere s f) r = go (j == k) refl (w == v) refl
@@ -424,7 +424,7 @@ module _ {Job : Type 0} (hub : Hub Job) (t : Settings) (cs : List Invoked) (ns :
       accepted (Item v) = refl
       accepted (End v) = refl
 
-  begun_one : (h : List Move) (m : Message) (b : Invoked) (now : ℕ) → purpose_of m ≡ ToBegin b → waiting h ≡ Some m → ((c : Invoked) (i : List ℕ) → waits (waiting h) ≡ ToBegin c ∷ [] → is_among i c.streams ≡ true → said i (handled h) ≡ [])
+  begun_one : (h : List PeerEvent) (m : Message) (b : Invoked) (now : ℕ) → purpose_of m ≡ ToBegin b → waiting h ≡ Some m → ((c : Invoked) (i : List ℕ) → waits (waiting h) ≡ ToBegin c ∷ [] → is_among i c.streams ≡ true → said i (handled h) ≡ [])
       → Within cs ns (Handles m (Begins b now) ∷ h) → FedSo h → FedSo (Handles m (Begins b now) ∷ h)
   begun_one h m b now e wait quiet wi r = go (length (begun h) == j) refl
     where
@@ -461,7 +461,7 @@ module _ {Job : Type 0} (hub : Hub Job) (t : Settings) (cs : List Invoked) (ns :
                   decide true e = ltb-true j n e
                   decide false e = absurd (g (let z = ltb-false j n e in omega arith))
 
-  pub feeds : (h : List Move) → Follows hub t h → OpenReads t h → StreamCausal h → Within cs ns h → FedSo h
+  pub feeds : (h : List PeerEvent) → Follows hub t h → OpenReads t h → StreamCausal h → Within cs ns h → FedSo h
   feeds [] p o k wi = record { nothing = λ l. refl; whole = λ l x y. refl; front = λ l. ([], refl) }
   feeds (Handles m (Begins b now) ∷ h) p o k wi = begun_one h m b now (begins_at t h (purpose_of m) b now p.1.1) p.1.0 k.1 wi (feeds h p.0 o k.0 (within_tail cs ns (Handles m (Begins b now)) h wi))
   feeds (Handles m (Feeds b v a) ∷ h) p o k wi = fed_one h m b v a (not_true (flooded h) (λ e. let q = flood_shuts hub t h p.0 o e in absurd (let z : ◌≡◌ {A = Option Message} None (Some m) = sym q.1 ∙ p.1.0 in cc))) wi (fate t h i (purpose_of m) (Feeds b v a) foreign p.1.1) (feeds h p.0 o k.0 wi)

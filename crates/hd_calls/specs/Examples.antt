@@ -12,8 +12,8 @@ use Rattle.hd_delivery.specs.declared.vocabulary.Reason.TheVariants.{Done}
 use Rattle.hd_delivery.specs.declared.vocabulary.Side.{Side}
 use Rattle.hd_delivery.specs.declared.vocabulary.Side.TheVariants.{Client, Server}
 use Rattle.hd_delivery.specs.Frames.{LinkFrame, Request, Response, Numbered, Ack, Sequence}
-use Rattle.hd_delivery.specs.Histories.{Step, Attached, Detached, Took, Lent, Closed}
-use Rattle.hd_delivery.specs.Worlds.{config, Event, ByClient, ByServer, client_of, server_of}
+use Rattle.hd_delivery.specs.Histories.{EndEvent, Attached, Detached, Took, Lent, Closed}
+use Rattle.hd_delivery.specs.Worlds.{alike, config, Event, ByClient, ByServer, client_of, server_of}
 use Rattle.hd_delivery.specs.Bytes.{Reading, Reads, Wire, Bytes, Does}
 use Rattle.hd_delivery.specs.Examples.{usual, terms_in}
 use Rattle.hd_delivery.specs.ExamplesOverBytes.{first_letter, four_of, spell_four, read_four, first_of_four, later_of_four, codec_number}
@@ -24,7 +24,7 @@ use Rattle.hd_calls.specs.declared.vocabulary.Act.{Act}
 use Rattle.hd_calls.specs.declared.vocabulary.Act.TheVariants as act
 use Rattle.hd_calls.specs.Hubs.{Notify, Call, Stream, Invoked, Item, End, Given, Cancelled, Hub, message_of, answer_message}
 use Rattle.hd_calls.specs.Numbers.{most_live, most_inputs}
-use Rattle.hd_calls.specs.Peers.{Effect, Begins, TooMany, Brings, Feeds, Flood, Marks, Move, Plain, Calls, Uploads, Cancels, Reads, Handles, Runs, Answers, Loses, Rounds, Settings}
+use Rattle.hd_calls.specs.Peers.{Effect, Begins, TooMany, Brings, Feeds, Flood, Marks, PeerEvent, Plain, Calls, Uploads, Cancels, Reads, Handles, Runs, Answers, Loses, Rounds, Settings}
 use Rattle.hd_calls.specs.Rules.{inputs_left, own_live, live_jobs, TooManyLive, IsRefusedCall, MayMove, Follows}
 use Rattle.hd_calls.specs.PeerWorlds.{Pair, settings, IsPeerWorld}
 
@@ -127,52 +127,52 @@ numbered = record { spell = λ codec. spell_numbered; frame_size = λ codec m. 4
 -- how the two peers are begun, in this codec and version, with or without reconnect
 abbrev pub pair : Codec → ℕ → Bool → Pair
 pair codec version reconnect =
-    record { limits = usual; wire = numbered; terms = terms_in codec version reconnect; name = name_at; who = λ side. [] }
+    record { limits = alike usual; wire = numbered; terms = terms_in codec version reconnect; name = name_at; who = λ side. [] }
 
 -- the bytes of a message
 abbrev pub bytes_of : Message → List ℕ
 bytes_of m = four_of 3 (number_of m) 0 0
 
 -- moves of the client
-abbrev pub client : List Move → List (Event Move)
+abbrev pub client : List PeerEvent → List (Event PeerEvent)
 client moves = map ByClient moves
 
 -- moves of the server
-abbrev pub server : List Move → List (Event Move)
+abbrev pub server : List PeerEvent → List (Event PeerEvent)
 server moves = map ByServer moves
 
 -- a step of an end alone
-abbrev pub does : Step → Move
+abbrev pub does : EndEvent → PeerEvent
 does s = Plain (Does s)
 
 -- the end is fed these bytes
-abbrev pub hears_bytes : List ℕ → Move
+abbrev pub hears_bytes : List ℕ → PeerEvent
 hears_bytes bytes = Plain (Bytes bytes)
 
 -- link 0, and the handshake on it
-abbrev pub opened : Codec → ℕ → List (Event Move)
+abbrev pub opened : Codec → ℕ → List (Event PeerEvent)
 opened codec version =
     client (does (Attached 0 0) ∷ does (Lent (Request codec version)) ∷ [])
     ++ server (does (Attached 0 0) ∷ hears_bytes (1 ∷ version ∷ codec_number codec ∷ 0 ∷ []) ∷ does (Took (Shaken codec version)) ∷ does (Lent Response) ∷ [])
     ++ client (hears_bytes (2 ∷ 0 ∷ 0 ∷ 0 ∷ []) ∷ does (Took (Shaken codec version)) ∷ [])
 
 -- the end says a message
-abbrev pub says : Message → Move
+abbrev pub says : Message → PeerEvent
 says m = Plain (Does (Lent (Numbered m)))
 
 -- the end is fed these messages
-abbrev pub hears : List Message → Move
+abbrev pub hears : List Message → PeerEvent
 hears ms = Plain (Bytes (flat_map bytes_of ms))
 
 -- the three calls are made, and two of an upload
-abbrev pub calls_made : List (Event Move)
+abbrev pub calls_made : List (Event PeerEvent)
 calls_made =
     client (
     Calls None 1 streamed ∷ Calls None 2 fed ∷ Calls None 4 asking ∷ Uploads 2 0 (Item (int 9)) ∷ Uploads 2 0 (End Void) ∷
     says (message_of streamed) ∷ says (message_of fed) ∷ says (message_of asking) ∷ says (answer_message (3 ∷ []) (Item (int 9))) ∷ says (answer_message (3 ∷ []) (End Void)) ∷ [])
 
 -- the server reads them, and each job has a turn
-abbrev pub calls_read : List (Event Move)
+abbrev pub calls_read : List (Event PeerEvent)
 calls_read =
     server (
     hears (message_of streamed ∷ message_of fed ∷ message_of asking ∷ answer_message (3 ∷ []) (Item (int 9)) ∷ answer_message (3 ∷ []) (End Void) ∷ []) ∷
@@ -190,7 +190,7 @@ calls_read =
     says (answer_message (1 ∷ []) (Item (int 41))) ∷ says (message_of asked) ∷ says (answer_message (2 ∷ []) (End (Result (int 5)))) ∷ [])
 
 -- the client reads what came, answers the ask, and cancels the stream
-abbrev pub answers_read : List (Event Move)
+abbrev pub answers_read : List (Event PeerEvent)
 answers_read =
     client (
     hears (answer_message (1 ∷ []) (Item (int 41)) ∷ message_of asked ∷ answer_message (2 ∷ []) (End (Result (int 5))) ∷ []) ∷
@@ -202,7 +202,7 @@ answers_read =
     says (answer_message (115 ∷ 1 ∷ []) (End (Result (int 7)))) ∷ says (CancelInvocation [] (1 ∷ [])) ∷ [])
 
 -- the server ends both jobs, and the client reads their endings
-abbrev pub ended : List (Event Move)
+abbrev pub ended : List (Event PeerEvent)
 ended =
     server (
     hears (answer_message (115 ∷ 1 ∷ []) (End (Result (int 7))) ∷ CancelInvocation [] (1 ∷ []) ∷ []) ∷
@@ -217,13 +217,13 @@ ended =
     Reads (answer_message (4 ∷ []) (End (Result (int 7)))) ∷ Handles (answer_message (4 ∷ []) (End (Result (int 7)))) (Brings 4 (End (Result (int 7)))) ∷ [])
 
 -- all of it
-abbrev pub three_calls : Codec → List (Event Move)
+abbrev pub three_calls : Codec → List (Event PeerEvent)
 three_calls codec = opened codec 1 ++ (calls_made ++ (calls_read ++ (answers_read ++ ended)))
 
 -- ---- a call over a lost link
 
 -- the link is lost with the call on it; the next one has the call again, and the answer
-abbrev pub lost_link : List (Event Move)
+abbrev pub lost_link : List (Event PeerEvent)
 lost_link =
     opened Pack 2
     ++ (client (Calls None 1 first_call ∷ says (message_of first_call) ∷ does (Detached 1) ∷ does (Attached 1 2) ∷ does (Lent (Sequence 1 None)) ∷ says (message_of first_call) ∷ [])
@@ -240,7 +240,7 @@ lost_link =
 
 -- two calls, of which the first is answered. Its Completion waits when the client is closed, and is handled after that; the second call is
 -- handed out as gone
-abbrev pub closed_with_calls : List (Event Move)
+abbrev pub closed_with_calls : List (Event PeerEvent)
 closed_with_calls =
     opened Json 1
     ++ (client (Calls None 1 first_call ∷ Calls None 2 second_call ∷ says (message_of first_call) ∷ says (message_of second_call) ∷ [])
@@ -258,12 +258,12 @@ abbrev pub notice : Invoked
 notice = record { way = Notify; target = []; arguments = []; streams = [] }
 
 -- so many of them were handled, and no job had a turn
-abbrev pub noticed : ℕ → List Move
+abbrev pub noticed : ℕ → List PeerEvent
 noticed zero = []
 noticed (suc k) = Handles (message_of notice) (Begins notice 0) ∷ Reads (message_of notice) ∷ noticed k
 
 -- where one more waits
-abbrev pub one_more : ℕ → List Move
+abbrev pub one_more : ℕ → List PeerEvent
 one_more k = Reads (message_of notice) ∷ noticed k
 
 -- each begins a job as long as fewer than the most are live; one more then is refused, and begins none
@@ -280,7 +280,7 @@ abbrev pub call_numbered : Settings → ℕ → Invoked
 call_numbered t n = record { way = Call (t.name n); target = []; arguments = []; streams = [] }
 
 -- so many calls were made, and none has ended
-abbrev pub called_often : Settings → ℕ → List Move
+abbrev pub called_often : Settings → ℕ → List PeerEvent
 called_often t zero = []
 called_often t (suc k) = Calls None (suc k) (call_numbered t (suc k)) ∷ called_often t k
 
@@ -294,11 +294,11 @@ pub record FillsCalls (t : Settings) (k : ℕ) : Type 0 where
 -- ---- the moves of one side
 
 -- what the client has done in the end
-abbrev pub of_client : List (Event Move) → List Move
+abbrev pub of_client : List (Event PeerEvent) → List PeerEvent
 of_client events = client_of (reverse events)
 
 -- what the server has
-abbrev pub of_server : List (Event Move) → List Move
+abbrev pub of_server : List (Event PeerEvent) → List PeerEvent
 of_server events = server_of (reverse events)
 
 -- ---- what is sent for a job
@@ -320,7 +320,7 @@ sized frame = record {
 }
 
 -- its end has taken the handshake, and a job has asked for a call, the latest move first
-abbrev pub short_asks : List Move
+abbrev pub short_asks : List PeerEvent
 short_asks =
     Runs 0 asking 10 (Given input.Go 11) (act.Ask (0 ∷ []) []) ∷ Handles (message_of asking) (Begins asking 10) ∷ Reads (message_of asking) ∷
     does (Took (Shaken Json 1)) ∷ []
@@ -328,53 +328,53 @@ short_asks =
 -- ---- what may not come
 
 -- a list of moves, the oldest first, after which the client may not make this one
-abbrev pub ClientMayNot : List (Event Move) → Move → Type 0
+abbrev pub ClientMayNot : List (Event PeerEvent) → PeerEvent → Type 0
 ClientMayNot events d = MayMove hub (settings Client (pair Json 1 false)) (of_client events) d → ⊥
 
 -- so it is of the server
-abbrev pub ServerMayNot : List (Event Move) → Move → Type 0
+abbrev pub ServerMayNot : List (Event PeerEvent) → PeerEvent → Type 0
 ServerMayNot events d = MayMove hub (settings Server (pair Json 1 false)) (of_server events) d → ⊥
 
 -- the streamed call's job has begun
-abbrev pub one_begun : List (Event Move)
+abbrev pub one_begun : List (Event PeerEvent)
 one_begun = server (Reads (message_of streamed) ∷ Handles (message_of streamed) (Begins streamed 10) ∷ [])
 
 -- a job has asked for a call
-abbrev pub one_asks : List (Event Move)
+abbrev pub one_asks : List (Event PeerEvent)
 one_asks = opened Json 1 ++ server (Reads (message_of asking) ∷ Handles (message_of asking) (Begins asking 10) ∷ Runs 0 asking 10 (Given input.Go 11) (act.Ask (0 ∷ []) []) ∷ [])
 
 -- the call that it asked for was made
-abbrev pub one_asked : List (Event Move)
+abbrev pub one_asked : List (Event PeerEvent)
 one_asked = one_asks ++ server (Calls (Some 0) 1 asked ∷ [])
 
 -- an ending waits for a call that has ended
-abbrev pub one_more_ending : List (Event Move)
+abbrev pub one_more_ending : List (Event PeerEvent)
 one_more_ending = three_calls Json ++ client (Reads (answer_message (1 ∷ []) (End Void)) ∷ [])
 
 -- an item waits for a call that is no Stream
-abbrev pub one_more_item : List (Event Move)
+abbrev pub one_more_item : List (Event PeerEvent)
 one_more_item = opened Json 1 ++ (calls_made ++ client (Reads (answer_message (2 ∷ []) (Item (int 1))) ∷ []))
 
 -- the two calls are live when the client is closed
-abbrev pub closed_with_two : List (Event Move)
+abbrev pub closed_with_two : List (Event PeerEvent)
 closed_with_two = opened Json 1 ++ client (Calls None 1 first_call ∷ Calls None 2 second_call ∷ does (Closed Done false) ∷ [])
 
 -- ---- what else a message may do, whatever the other side is
 
 -- after these moves, the oldest first, the server may make this one
-abbrev pub ServerMay : List Move → Move → Type 0
+abbrev pub ServerMay : List PeerEvent → PeerEvent → Type 0
 ServerMay moves d = MayMove hub (settings Server (pair Json 1 false)) (reverse moves) d
 
 -- and not this one
-abbrev pub ServerNever : List Move → Move → Type 0
+abbrev pub ServerNever : List PeerEvent → PeerEvent → Type 0
 ServerNever moves d = ServerMay moves d → ⊥
 
 -- the message of a call is read and begins a job
-abbrev pub begins : Invoked → List Move
+abbrev pub begins : Invoked → List PeerEvent
 begins c = Reads (message_of c) ∷ Handles (message_of c) (Begins c 10) ∷ []
 
 -- the message waits
-abbrev pub reads : List Move → Message → List Move
+abbrev pub reads : List PeerEvent → Message → List PeerEvent
 reads moves m = moves ++ Reads m ∷ []
 
 -- a call with the id of the call with an upload
@@ -390,7 +390,7 @@ abbrev pub stream_twice : Invoked
 stream_twice = record { way = Call (9 ∷ []); target = 3 ∷ []; arguments = []; streams = (8 ∷ []) ∷ (8 ∷ []) ∷ [] }
 
 -- the end of the upload came
-abbrev pub upload_ended : List Move
+abbrev pub upload_ended : List PeerEvent
 upload_ended = begins fed ++ Reads (answer_message (3 ∷ []) (End Void)) ∷ Handles (answer_message (3 ∷ []) (End Void)) (Feeds 0 0 (End Void)) ∷ []
 
 -- a call whose stream has the id of the server's first call
@@ -398,11 +398,11 @@ abbrev pub stolen_stream : Invoked
 stolen_stream = record { way = Call (9 ∷ []); target = 4 ∷ []; arguments = []; streams = (115 ∷ 1 ∷ []) ∷ [] }
 
 -- the server has made that call, and the other one has begun a job
-abbrev pub with_own_call : List Move
+abbrev pub with_own_call : List PeerEvent
 with_own_call = Calls None 1 asked ∷ begins stolen_stream
 
 -- the job was cancelled
-abbrev pub cancelled_once : List Move
+abbrev pub cancelled_once : List PeerEvent
 cancelled_once = begins streamed ++ Reads (CancelInvocation [] (1 ∷ [])) ∷ Handles (CancelInvocation [] (1 ∷ [])) (Marks 0) ∷ []
 
 -- a notice whose job does a deed
@@ -410,21 +410,21 @@ abbrev pub doing : Invoked
 doing = record { way = Notify; target = 6 ∷ []; arguments = []; streams = [] }
 
 -- it has handed up the deed
-abbrev pub deed_handed_up : List Move
+abbrev pub deed_handed_up : List PeerEvent
 deed_handed_up = does (Took (Shaken Json 1)) ∷ begins doing ++ Runs 0 doing 10 (Given input.Go 11) (act.Do (Join (1 ∷ []))) ∷ []
 
 -- the deed was done
-abbrev pub deed_done : List Move
+abbrev pub deed_done : List PeerEvent
 deed_done = deed_handed_up ++ Answers 0 (input.Done (int 7)) ∷ []
 
 -- so many items of the upload came, and the job had no turn, the latest move first
-abbrev pub uploaded_often : ℕ → List Move
+abbrev pub uploaded_often : ℕ → List PeerEvent
 uploaded_often zero = reverse (begins fed)
 uploaded_often (suc k) =
     Handles (answer_message (3 ∷ []) (Item (int 1))) (Feeds 0 0 (Item (int 1))) ∷ Reads (answer_message (3 ∷ []) (Item (int 1))) ∷ uploaded_often k
 
 -- where one more waits
-abbrev pub one_item_more : ℕ → List Move
+abbrev pub one_item_more : ℕ → List PeerEvent
 one_item_more k = Reads (answer_message (3 ∷ []) (Item (int 1))) ∷ uploaded_often k
 
 -- what the server may do then
@@ -441,5 +441,5 @@ pub record FillsInputs (k : ℕ) : Type 0 where
 -- ---- what is said of them
 
 -- these events are a world of two peers
-abbrev pub IsWorked : Pair → List (Event Move) → Type 0
+abbrev pub IsWorked : Pair → List (Event PeerEvent) → Type 0
 IsWorked p events = IsPeerWorld hub hub p (reverse events)

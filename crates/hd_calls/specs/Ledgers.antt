@@ -9,7 +9,7 @@ use Rattle.hd_calls.specs.declared.vocabulary.Input.TheVariants as input
 use Rattle.hd_calls.specs.declared.vocabulary.Act.{Act}
 use Rattle.hd_calls.specs.declared.vocabulary.Act.TheVariants as act
 use Rattle.hd_calls.specs.Hubs.{Way, id_of, Invoked, Answer, Item, End, ToAnswer, Turn, Given, Cancelled, Hub, is_stream, purpose_of, upload_input, call_for}
-use Rattle.hd_calls.specs.Peers.{Brings, Move, Calls, Uploads, Cancels, Handles, Runs, Loses, Settings, call_of, has_id, given, lost, has_end, live_call, uploaded, waiting, begun, moments, turns, acts, inputs, answer_of, answers, add, codec, is_shut}
+use Rattle.hd_calls.specs.Peers.{Brings, PeerEvent, Calls, Uploads, Cancels, Handles, Runs, Loses, Settings, call_of, has_id, given, lost, has_end, live_call, uploaded, waiting, begun, moments, turns, acts, inputs, answer_of, answers, add, codec, is_shut}
 use Rattle.hd_calls.specs.Rules.{is_deed_answer, run, IsDue, IsPeer}
 
 -- ---- answers
@@ -31,7 +31,7 @@ pub data CallHappening : Type 0 where
   Gone : (number : ℕ) → CallHappening
 
 -- the ledger of a number: what happened to its call, the first first
-abbrev pub ledger : ℕ → List Move → List CallHappening
+abbrev pub ledger : ℕ → List PeerEvent → List CallHappening
 ledger n [] = []
 ledger n (Calls a k c ∷ h) = if n == k then ledger n h ++ Called k c ∷ [] else ledger n h
 ledger n (Handles m (Brings k a) ∷ h) = if n == k then ledger n h ++ Got k a ∷ [] else ledger n h
@@ -59,7 +59,7 @@ IsLegalLedger (_ ∷ xs) = ⊥
 -- ---- jobs
 
 -- what was sent for a job
-abbrev pub sent_for : Settings → ℕ → List Move → List Answer
+abbrev pub sent_for : Settings → ℕ → List PeerEvent → List Answer
 sent_for t j [] = []
 sent_for t j (Runs k c since turn what ∷ h) = if j == k then sent_for t j h ++ add (answer_of t (codec t h) c.way what) [] else sent_for t j h
 sent_for t j (_ ∷ h) = sent_for t j h
@@ -81,18 +81,18 @@ IsFeed last left (Cancelled ∷ ts) (a ∷ xs) = (a ≡ act.End ending.Void) × 
 IsFeed last left ts xs = ⊥
 
 -- what a job of this call was given, what it did, and what was sent for it
-pub record KeepsJob {Job : Type 0} (hub : Hub Job) (t : Settings) (h : List Move) (j : ℕ) (c : Invoked) : Type 0 where
+pub record KeepsJob {Job : Type 0} (hub : Hub Job) (t : Settings) (h : List PeerEvent) (j : ℕ) (c : Invoked) : Type 0 where
   pub legal : IsLegal (is_stream c.way) (sent_for t j h)
   pub answers_acts : sent_for t j h ≡ answers t (codec t h) c.way (acts j h)
   pub is_fed : IsFeed None (map upload_input (inputs j h)) (turns j h) (acts j h)
   pub acts_run : (since : ℕ) → slice_get (moments h) j ≡ Some since → acts j h ≡ run hub (hub.begin_of (call_for t.who c) since) (turns j h)
 
 -- each turn of a job was the one that was due
-abbrev pub TurnsWereDue : Settings → List Move → Type 0
-TurnsWereDue t h = (ds k : List Move) (j : ℕ) (c : Invoked) (since : ℕ) (turn : Turn) (what : Act) → ds ++ Runs j c since turn what ∷ k ≡ h → IsDue t j k turn
+abbrev pub TurnsWereDue : Settings → List PeerEvent → Type 0
+TurnsWereDue t h = (ds k : List PeerEvent) (j : ℕ) (c : Invoked) (since : ℕ) (turn : Turn) (what : Act) → ds ++ Runs j c since turn what ∷ k ≡ h → IsDue t j k turn
 
 -- a peer's ledgers are legal, and a Notify is given nothing. The number 0 is that of each Notify without uploads, so it has no ledger
-pub record Keeps {Job : Type 0} (hub : Hub Job) (t : Settings) (h : List Move) : Type 0 where
+pub record Keeps {Job : Type 0} (hub : Hub Job) (t : Settings) (h : List PeerEvent) : Type 0 where
   pub of_call : (n : ℕ) → 0 < n → IsLegalLedger (ledger n h)
   pub of_notify : (n : ℕ) → has_id (call_of n h) ≡ false → (given n h ≡ []) × (lost n h ≡ false)
   pub of_upload : (n w : ℕ) → IsLegal true (uploaded n w h)
@@ -103,25 +103,25 @@ pub record Keeps {Job : Type 0} (hub : Hub Job) (t : Settings) (h : List Move) :
 -- ---- after a close
 
 -- what became of a call that was live when its end closed, with the history then and now
-pub data After (t : Settings) (n : ℕ) (h g : List Move) : Type 0 where
+pub data After (t : Settings) (n : ℕ) (h g : List PeerEvent) : Type 0 where
   Lives : live_call n g ≡ true → After t n h g
   IsGone : lost n g ≡ true → has_end (given n g) ≡ false → After t n h g
   Ends : (e : Ending) (m : Message) → lost n g ≡ false → waiting h ≡ Some m → purpose_of m ≡ ToAnswer (t.name n) (End e)
       → given n g ≡ given n h ++ End e ∷ [] → After t n h g
 
 -- no call is left to hand out
-abbrev pub NoneLeft : List Move → Type 0
+abbrev pub NoneLeft : List PeerEvent → Type 0
 NoneLeft g = (n : ℕ) → live_call n g ≡ false
 
 -- a call that was live then has ended since, as gone or with the ending that waited, or is live still; it has ended once none is left
-pub record EndsOnce (t : Settings) (n : ℕ) (h g : List Move) : Type 0 where
+pub record EndsOnce (t : Settings) (n : ℕ) (h g : List PeerEvent) : Type 0 where
   pub after : After t n h g
   pub by_then : NoneLeft g → (lost n g ≡ true) ⊎ (has_end (given n g) ≡ true)
 
 -- so it is of each call that was live when the end was closed
-abbrev pub EndsAfterClose : Settings → List Move → Type 0
-EndsAfterClose t g = (ds h : List Move) → ds ++ h ≡ g → is_shut t h ≡ true → (n : ℕ) → live_call n h ≡ true → EndsOnce t n h g
+abbrev pub EndsAfterClose : Settings → List PeerEvent → Type 0
+EndsAfterClose t g = (ds h : List PeerEvent) → ds ++ h ≡ g → is_shut t h ≡ true → (n : ℕ) → live_call n h ≡ true → EndsOnce t n h g
 
 -- what a peer keeps, by itself
 abbrev pub PeersKeep : Type 0 → Type 0
-PeersKeep Job = (hub : Hub Job) (t : Settings) (h : List Move) → IsPeer hub t h → Keeps hub t h × EndsAfterClose t h
+PeersKeep Job = (hub : Hub Job) (t : Settings) (h : List PeerEvent) → IsPeer hub t h → Keeps hub t h × EndsAfterClose t h

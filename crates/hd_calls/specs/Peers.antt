@@ -11,7 +11,7 @@ use Rattle.hm_message.specs.Message.{content_depth}
 use Rattle.hd_delivery.specs.declared.vocabulary.Reason.{Reason}
 use Rattle.hd_delivery.specs.declared.vocabulary.Reason.TheVariants as reason
 use Rattle.hd_delivery.specs.declared.vocabulary.Got.TheVariants as gives
-use Rattle.hd_delivery.specs.Histories.{Step, Took, Sent, Closed, Config, is_this, first_of, codec_of, is_closed}
+use Rattle.hd_delivery.specs.Histories.{EndEvent, Took, Sent, Closed, Config, is_this, first_of, codec_of, is_closed}
 use Rattle.hd_delivery.specs.Worlds.{Limits}
 use Rattle.hd_delivery.specs.Bytes.{Wire, ByteStep, Does, in_frames}
 use Rattle.hd_calls.specs.declared.vocabulary.Input.{Input}
@@ -36,18 +36,18 @@ pub data Effect : Type 0 where
 
 -- one thing that a peer did. Jobs are numbered from 0 in the order in which they began; calls and their uploads have the numbers from 1 that
 -- were drawn for them, and 0 for a Notify without uploads. What is sent stands here as the other end reads it
-pub data Move : Type 0 where
-  Plain : (step : ByteStep) → Move  -- a step of the end alone
-  Calls : (asker : Option ℕ) → (number : ℕ) → (call : Invoked) → Move  -- by its user, a spelled Notify too, or by a job that asks
-  Uploads : (number which : ℕ) → (answer : Answer) → Move
-  Cancels : (number : ℕ) → Move
-  Reads : (m : Message) → Move  -- the end processed the message, which waits now
-  Handles : (m : Message) → (effect : Effect) → Move  -- the message that waits
-  Runs : (job : ℕ) → (call : Invoked) → (since : ℕ) → (turn : Turn) → (what : Act) → Move  -- a turn of the call's job, which began then
-  Answers : (job : ℕ) → (input : Input) → Move  -- the deed that a job handed up
-  Refuses : (job : ℕ) → Move  -- the call for which a job asked
-  Loses : (number : ℕ) → Move  -- a call is handed out as gone
-  Rounds : Move  -- a round of turns begins
+pub data PeerEvent : Type 0 where
+  Plain : (step : ByteStep) → PeerEvent  -- a step of the end alone
+  Calls : (asker : Option ℕ) → (number : ℕ) → (call : Invoked) → PeerEvent  -- by its user, a spelled Notify too, or by a job that asks
+  Uploads : (number which : ℕ) → (answer : Answer) → PeerEvent
+  Cancels : (number : ℕ) → PeerEvent
+  Reads : (m : Message) → PeerEvent  -- the end processed the message, which waits now
+  Handles : (m : Message) → (effect : Effect) → PeerEvent  -- the message that waits
+  Runs : (job : ℕ) → (call : Invoked) → (since : ℕ) → (turn : Turn) → (what : Act) → PeerEvent  -- a turn of the call's job, which began then
+  Answers : (job : ℕ) → (input : Input) → PeerEvent  -- the deed that a job handed up
+  Refuses : (job : ℕ) → PeerEvent  -- the call for which a job asked
+  Loses : (number : ℕ) → PeerEvent  -- a call is handed out as gone
+  Rounds : PeerEvent  -- a round of turns begins
 
 -- how a peer is begun: its end, the ids that it draws by their numbers, and the name of the other side
 pub record Settings : Type 0 where
@@ -62,31 +62,31 @@ pub record Settings : Type 0 where
 -- ---- own calls
 
 -- the greatest number drawn
-abbrev pub drawn : List Move → ℕ
+abbrev pub drawn : List PeerEvent → ℕ
 drawn [] = 0
 drawn (Calls a n c ∷ h) = max (drawn h) (n + length c.streams)
 drawn (_ ∷ h) = drawn h
 
 -- the calls that were made, in order
-abbrev pub called : List Move → List Invoked
+abbrev pub called : List PeerEvent → List Invoked
 called [] = []
 called (Calls a n c ∷ h) = called h ++ c ∷ []
 called (_ ∷ h) = called h
 
 -- the call of a number
-abbrev pub call_of : ℕ → List Move → Option Invoked
+abbrev pub call_of : ℕ → List PeerEvent → Option Invoked
 call_of n [] = None
 call_of n (Calls a k c ∷ h) = if n == k then Some c else call_of n h
 call_of n (_ ∷ h) = call_of n h
 
 -- what the caller was given for a call
-abbrev pub given : ℕ → List Move → List Answer
+abbrev pub given : ℕ → List PeerEvent → List Answer
 given n [] = []
 given n (Handles m (Brings k a) ∷ h) = if n == k then given n h ++ a ∷ [] else given n h
 given n (_ ∷ h) = given n h
 
 -- whether the call was handed out as gone
-abbrev pub lost : ℕ → List Move → Bool
+abbrev pub lost : ℕ → List PeerEvent → Bool
 lost n [] = false
 lost n (Loses k ∷ h) = (n == k) || lost n h
 lost n (_ ∷ h) = lost n h
@@ -108,16 +108,16 @@ streams_items None = false
 streams_items (Some c) = is_stream c.way
 
 -- the call has an id, and hasn't ended
-abbrev pub live_call : ℕ → List Move → Bool
+abbrev pub live_call : ℕ → List PeerEvent → Bool
 live_call n h = has_id (call_of n h) && (not (has_end (given n h)) && not (lost n h))
 
 -- the answer may be given for the call
-abbrev pub takes : ℕ → Answer → List Move → Bool
+abbrev pub takes : ℕ → Answer → List PeerEvent → Bool
 takes n (Item v) h = streams_items (call_of n h) && live_call n h
 takes n (End e) h = live_call n h
 
 -- what was uploaded for a call on its stream at this place
-abbrev pub uploaded : ℕ → ℕ → List Move → List Answer
+abbrev pub uploaded : ℕ → ℕ → List PeerEvent → List Answer
 uploaded n w [] = []
 uploaded n w (Uploads k v a ∷ h) = if (n == k) && (w == v) then uploaded n w h ++ a ∷ [] else uploaded n w h
 uploaded n w (_ ∷ h) = uploaded n w h
@@ -128,44 +128,44 @@ stream_count None = 0
 stream_count (Some c) = length c.streams
 
 -- the upload hasn't ended. One of a call with an id ends with the call
-abbrev pub live_upload : ℕ → ℕ → List Move → Bool
+abbrev pub live_upload : ℕ → ℕ → List PeerEvent → Bool
 live_upload n w h = (nat_lt w (stream_count (call_of n h)) && not (has_end (uploaded n w h))) && (live_call n h || not (has_id (call_of n h)))
 
 -- ---- jobs
 
 -- the message that was processed and isn't handled
-abbrev pub waiting : List Move → Option Message
+abbrev pub waiting : List PeerEvent → Option Message
 waiting [] = None
 waiting (Reads m ∷ h) = Some m
 waiting (Handles m e ∷ h) = None
 waiting (_ ∷ h) = waiting h
 
 -- the calls that began a job, in the order of the jobs
-abbrev pub begun : List Move → List Invoked
+abbrev pub begun : List PeerEvent → List Invoked
 begun [] = []
 begun (Handles m (Begins c now) ∷ h) = begun h ++ c ∷ []
 begun (_ ∷ h) = begun h
 
 -- when each job began
-abbrev pub moments : List Move → List ℕ
+abbrev pub moments : List PeerEvent → List ℕ
 moments [] = []
 moments (Handles m (Begins c now) ∷ h) = moments h ++ now ∷ []
 moments (_ ∷ h) = moments h
 
 -- the turns of a job
-abbrev pub turns : ℕ → List Move → List Turn
+abbrev pub turns : ℕ → List PeerEvent → List Turn
 turns j [] = []
 turns j (Runs k c since turn what ∷ h) = if j == k then turns j h ++ turn ∷ [] else turns j h
 turns j (_ ∷ h) = turns j h
 
 -- what a job did
-abbrev pub acts : ℕ → List Move → List Act
+abbrev pub acts : ℕ → List PeerEvent → List Act
 acts j [] = []
 acts j (Runs k c since turn what ∷ h) = if j == k then acts j h ++ what ∷ [] else acts j h
 acts j (_ ∷ h) = acts j h
 
 -- what came from the uploads of the job's call, each with the place of its stream
-abbrev pub inputs : ℕ → List Move → List (ℕ × Answer)
+abbrev pub inputs : ℕ → List PeerEvent → List (ℕ × Answer)
 inputs j [] = []
 inputs j (Handles m (Feeds k w a) ∷ h) = if j == k then inputs j h ++ (w, a) ∷ [] else inputs j h
 inputs j (_ ∷ h) = inputs j h
@@ -176,19 +176,19 @@ of_stream w [] = []
 of_stream w (p ∷ ps) = if w == p.0 then p.1 ∷ of_stream w ps else of_stream w ps
 
 -- whether the job was cancelled
-abbrev pub marked : ℕ → List Move → Bool
-marked j [] = false
-marked j (Handles m (Marks k) ∷ h) = (j == k) || marked j h
-marked j (_ ∷ h) = marked j h
+abbrev pub is_cancelled : ℕ → List PeerEvent → Bool
+is_cancelled j [] = false
+is_cancelled j (Handles m (Marks k) ∷ h) = (j == k) || is_cancelled j h
+is_cancelled j (_ ∷ h) = is_cancelled j h
 
 -- the job that asked for a call
-abbrev pub asker_of : ℕ → List Move → Option ℕ
+abbrev pub asker_of : ℕ → List PeerEvent → Option ℕ
 asker_of n [] = None
 asker_of n (Calls a k c ∷ h) = if n == k then a else asker_of n h
 asker_of n (_ ∷ h) = asker_of n h
 
 -- whether the call for which the job asked at its last turn was made
-abbrev pub has_asked : ℕ → List Move → Bool
+abbrev pub has_asked : ℕ → List PeerEvent → Bool
 has_asked j [] = false
 has_asked j (Calls a n c ∷ h) = is_this j a || has_asked j h
 has_asked j (Runs k c since turn what ∷ h) = if j == k then false else has_asked j h
@@ -214,7 +214,7 @@ abbrev pub ask_refused : Ending
 ask_refused = Error (codes "The ask was refused.")
 
 -- what answers the job's last ask or deed, where that came
-abbrev pub reply : ℕ → List Move → Option Input
+abbrev pub reply : ℕ → List PeerEvent → Option Input
 reply j [] = None
 reply j (Runs k c since turn what ∷ h) = if j == k then None else reply j h
 reply j (Handles m (Brings n (End e)) ∷ h) = if is_this j (asker_of n h) && asks (last_of (acts j h)) then first_of (reply j h) (Some (input.Asked e)) else reply j h
@@ -282,7 +282,7 @@ shuts false (Some why) = Some (Does (Closed why false))
 shuts _ _ = None
 
 -- the step of the end that the move makes, by the end's codec and whether it is closed
-abbrev pub step_of : Settings → Codec → Bool → Move → Option ByteStep
+abbrev pub step_of : Settings → Codec → Bool → PeerEvent → Option ByteStep
 step_of t codec shut (Plain s) = Some s
 step_of t codec shut (Calls a n c) = Some (Does (Sent (message_of c)))
 step_of t codec shut (Uploads n w a) = Some (Does (Sent (answer_message (t.name (suc (n + w))) a)))
@@ -293,32 +293,32 @@ step_of t codec shut (Runs j c since turn what) = option_map (λ m. Does (Sent m
 step_of t codec shut _ = None
 
 -- the history of the end, over bytes
-abbrev pub byte_steps : Settings → List Move → List ByteStep
+abbrev pub byte_steps : Settings → List PeerEvent → List ByteStep
 byte_steps t [] = []
 byte_steps t (d ∷ h) =
     let s = byte_steps t h in
     add (step_of t (codec_of t.config (in_frames t.wire t.config s)) (is_closed t.config (in_frames t.wire t.config s)) d) s
 
 -- the history of the end, in frames
-abbrev pub steps : Settings → List Move → List Step
+abbrev pub steps : Settings → List PeerEvent → List EndEvent
 steps t h = in_frames t.wire t.config (byte_steps t h)
 
 -- in which codec the end speaks
-abbrev pub codec : Settings → List Move → Codec
+abbrev pub codec : Settings → List PeerEvent → Codec
 codec t h = codec_of t.config (steps t h)
 
 -- whether the end is closed
-abbrev pub is_shut : Settings → List Move → Bool
+abbrev pub is_shut : Settings → List PeerEvent → Bool
 is_shut t h = is_closed t.config (steps t h)
 
 -- ---- live jobs
 
 -- the job's turns have come to its end
-abbrev pub over : Settings → ℕ → List Move → Bool
+abbrev pub over : Settings → ℕ → List PeerEvent → Bool
 over t j [] = false
 over t j (Runs k c since turn what ∷ h) = ((j == k) && ends_job t (codec t h) c.way what) || over t j h
 over t j (_ ∷ h) = over t j h
 
 -- the job began and isn't over
-abbrev pub live_job : Settings → ℕ → List Move → Bool
+abbrev pub live_job : Settings → ℕ → List PeerEvent → Bool
 live_job t j h = nat_lt j (length (begun h)) && not (over t j h)

@@ -10,12 +10,12 @@ use Rattle.hd_calls.specs.declared.vocabulary.Act.TheVariants as act
 use Rattle.hd_calls.specs.Hubs.{Way, Invoked, Answer, End, Turn, id_of, upload_input}
 use Rattle.hd_calls.specs.Rules.{any_below, count_below, sum_below, first_from, is_among, repeats, same_id, used}
 use Rattle.hd_calls.specs.Ledgers.{CallHappening, Called, Got, Uploaded, Stopped, Gone}
-use Rattle.hd_calls.specs.Peers.{Begins, Brings, Feeds, Marks, Move, Calls, Uploads, Cancels, Handles, Runs, Answers, Refuses, Loses, Rounds, Settings, of_stream, has_end, has_id, stream_count, ends_job, asker_of, asks, acts, reply, ask_refused, last_of, add, codec}
+use Rattle.hd_calls.specs.Peers.{Begins, Brings, Feeds, Marks, PeerEvent, Calls, Uploads, Cancels, Handles, Runs, Answers, Refuses, Loses, Rounds, Settings, of_stream, has_end, has_id, stream_count, ends_job, asker_of, asks, acts, reply, ask_refused, last_of, add, codec}
 
 -- ---- own calls
 
 -- what a move is to the table of own calls
-abbrev pub call_happening : Move → Option CallHappening
+abbrev pub call_happening : PeerEvent → Option CallHappening
 call_happening (Calls a n c) = Some (Called n c)
 call_happening (Handles m (Brings n a)) = Some (Got n a)
 call_happening (Uploads n w a) = Some (Uploaded n w a)
@@ -24,7 +24,7 @@ call_happening (Loses n) = Some (Gone n)
 call_happening _ = None
 
 -- the happenings of the own calls, the latest first
-abbrev pub call_happenings : List Move → List CallHappening
+abbrev pub call_happenings : List PeerEvent → List CallHappening
 call_happenings [] = []
 call_happenings (d ∷ h) = add (call_happening d) (call_happenings h)
 
@@ -86,12 +86,12 @@ cut_short t code way j (act.Item v) = if ends_job t code way (act.Item v) then S
 cut_short t code way j _ = None
 
 -- the ending of a job's call is its reply, if it asked for one and has none
-abbrev pub reply_to : List Move → Ending → Option ℕ → Option JobHappening
+abbrev pub reply_to : List PeerEvent → Ending → Option ℕ → Option JobHappening
 reply_to h e None = None
 reply_to h e (Some j) = if asks (last_of (acts j h)) && not (is_some (reply j h)) then Some (Replied j (input.Asked e)) else None
 
 -- the happenings of the jobs, the latest first
-abbrev pub job_happenings : Settings → List Move → List JobHappening
+abbrev pub job_happenings : Settings → List PeerEvent → List JobHappening
 job_happenings t [] = []
 job_happenings t (Handles m (Begins c now) ∷ h) = Accepted c now ∷ job_happenings t h
 job_happenings t (Handles m (Feeds j w a) ∷ h) = Came j w a ∷ job_happenings t h

@@ -5,21 +5,23 @@ use Rattle.std.proofs.lemmas.List.Elements.{Contains-append_left, Contains-appen
 use Rattle.hm_message.specs.declared.message.Message.{Message}
 use Rattle.hm_message.specs.declared.message.Codec.{Codec}
 use Rattle.hd_delivery.specs.declared.vocabulary.Got.TheVariants.{Shaken}
+use Rattle.hd_delivery.specs.declared.vocabulary.Side.{Side}
 use Rattle.hd_delivery.specs.declared.vocabulary.Side.TheVariants.{Client, Server}
 use Rattle.hd_delivery.specs.Frames.{LinkFrame, Numbered, Ack, Sequence, Ping, Close, Foreign, Unreadable}
-use Rattle.hd_delivery.specs.Histories.{Config, Step, Took, Sent, present_link, sent_messages, is_shaken, is_kept, is_three, is_closed, codec_of, most_lent, processed_messages, fed_frames, taken_count}
+use Rattle.hd_delivery.specs.Histories.{Config, EndEvent, Took, Sent, present_link, sent_messages, is_shaken, is_resumable, is_three, is_closed, codec_of, most_lent, processed_messages, fed_frames, taken_count}
 use Rattle.hd_delivery.specs.Processes.{reads_message, reads_frame, reads, next_frame, next_number, processes}
 use Rattle.hd_delivery.specs.Numbers.{most_messages}
 use Rattle.hd_delivery.specs.Worlds.{Limits, CanBeSent, Terms, config, Event, ByClient, ByServer, client_of, server_of}
 use Rattle.hd_delivery.specs.Bytes.{Wire, sizes_of, IsRead, IsFaithful, ByteStep, Bytes, Does, in_frames, client_in_frames, server_in_frames, AllowedOverBytes, IsWorldOverBytes, DeliveryOverBytes}
 use Rattle.hd_delivery.specs.Laws.{AreReadAsSent}
 use Rattle.hd_delivery.proofs.Local.{both}
+use Rattle.hd_delivery.proofs.OwnLimits.{one_frame, can_be_sent_too}
 use Rattle.hd_delivery.proofs.Final.{delivery_holds}
 use Rattle.hd_delivery.proofs.OverBytes.{together_over_bytes, still_in_frames}
 
 -- ---- a handshake is taken once
 
-abbrev shakes : Step → Bool
+abbrev shakes : EndEvent → Bool
 shakes (Took (Shaken codec version)) = true
 shakes s = false
 
@@ -27,7 +29,7 @@ message_shakes_not : (p : ℕ) (n : Option ℕ) (m : Message) → shakes (reads_
 message_shakes_not p None m = refl
 message_shakes_not p (Some n) m = both (λ s. shakes s ≡ false) (n == most_messages + 1) _ _ (λ e. refl) (λ e. both (λ s. shakes s ≡ false) (n == suc p) _ _ (λ f. refl) (λ f. refl))
 
-frame_shakes_not : (keeps : Bool) (h : List Step) (n : Option ℕ) (f : LinkFrame) → shakes (reads_frame keeps h n f) ≡ false
+frame_shakes_not : (keeps : Bool) (h : List EndEvent) (n : Option ℕ) (f : LinkFrame) → shakes (reads_frame keeps h n f) ≡ false
 frame_shakes_not keeps h n (Numbered m) = message_shakes_not (length (processed_messages h)) n m
 frame_shakes_not true h n (Ack upto) = both (λ s. shakes s ≡ false) (nat_le upto (most_lent h)) _ _ (λ e. refl) (λ e. refl)
 frame_shakes_not false h n (Ack upto) = refl
@@ -41,22 +43,22 @@ frame_shakes_not keeps h n (Foreign k) = refl
 frame_shakes_not keeps h n (Unreadable at why) = refl
 frame_shakes_not keeps h n f = refl
 
-abbrev may_shake : Option Step → Bool
+abbrev may_shake : Option EndEvent → Bool
 may_shake None = false
 may_shake (Some s) = shakes s
 
-shaken_once : (c : Config) (h : List Step) → is_shaken h ≡ true → may_shake (processes c h) ≡ false
+shaken_once : (c : Config) (h : List EndEvent) → is_shaken h ≡ true → may_shake (processes c h) ≡ false
 shaken_once c h e = both (λ o. may_shake o ≡ false) (is_closed c h) None (next_frame c h (present_link h)) (λ f. refl) (λ f. on (present_link h))
   where
     found : (n : Option ℕ) (o : Option LinkFrame) → may_shake (option_map (reads c h n) o) ≡ false
     found n None = refl
-    found n (Some f) = rw e (frame_shakes_not (is_kept c h) h n f)
+    found n (Some f) = rw e (frame_shakes_not (is_resumable c h) h n f)
 
     on : (o : Option ℕ) → may_shake (next_frame c h o) ≡ false
     on None = refl
     on (Some l) = found (next_number c h l) (slice_get (fed_frames l h) (taken_count l h))
 
-not_again : (c : Config) (h : List Step) (codec : Codec) (version : ℕ) → is_shaken h ≡ true → processes c h ≡ Some (Took (Shaken codec version)) → ⊥
+not_again : (c : Config) (h : List EndEvent) (codec : Codec) (version : ℕ) → is_shaken h ≡ true → processes c h ≡ Some (Took (Shaken codec version)) → ⊥
 not_again c h codec version e p = let q : may_shake (processes c h) ≡ true = ap may_shake p in let r = shaken_once c h e in absurd (cc)
 
 -- ---- one end in a world
@@ -118,20 +120,20 @@ module _ (limits : Limits) (wire : Wire) (c oc : Config) where
 none_sent : (m : Message) → Contains [] m → ⊥
 none_sent m at = let lt = at.1 in absurd (omega arith)
 
-module _ (limits : Limits) (wire : Wire) (t : Terms) where
+module _ (limits : Side → Limits) (wire : Wire) (t : Terms) where
   client_shaken : (w : List (Event ByteStep)) → IsWorldOverBytes limits wire t w → (m : Message) → Contains (sent_messages (client_in_frames wire t w)) m → is_shaken (client_in_frames wire t w) ≡ true
   client_shaken [] i m at = absurd (none_sent m at)
-  client_shaken (ByClient step ∷ w) i m at = sends_shaken limits wire (config Client t) (config Server t) step (client_of w) (server_of w) i.1 (client_shaken w i.0) m at
+  client_shaken (ByClient step ∷ w) i m at = sends_shaken (limits Client) wire (config Client t) (config Server t) step (client_of w) (server_of w) i.1 (client_shaken w i.0) m at
   client_shaken (ByServer step ∷ w) i m at = client_shaken w i.0 m at
 
   server_shaken : (w : List (Event ByteStep)) → IsWorldOverBytes limits wire t w → (m : Message) → Contains (sent_messages (server_in_frames wire t w)) m → is_shaken (server_in_frames wire t w) ≡ true
   server_shaken [] i m at = absurd (none_sent m at)
-  server_shaken (ByServer step ∷ w) i m at = sends_shaken limits wire (config Server t) (config Client t) step (server_of w) (client_of w) i.1 (server_shaken w i.0) m at
+  server_shaken (ByServer step ∷ w) i m at = sends_shaken (limits Server) wire (config Server t) (config Client t) step (server_of w) (client_of w) i.1 (server_shaken w i.0) m at
   server_shaken (ByClient step ∷ w) i m at = server_shaken w i.0 m at
 
-  with_messages : IsFaithful limits wire t.codec t.version [] → (messages : List Message)
-      → ((m : Message) → Contains messages m → CanBeSent limits (sizes_of wire) t.codec m → IsRead (wire.later t.codec) (wire.spell t.codec (Numbered m)) (Numbered m))
-      → IsFaithful limits wire t.codec t.version messages
+  with_messages : IsFaithful (limits Client) wire t.codec t.version [] → (messages : List Message)
+      → ((m : Message) → Contains messages m → CanBeSent (limits Client) (sizes_of wire) t.codec m → IsRead (wire.later t.codec) (wire.spell t.codec (Numbered m)) (Numbered m))
+      → IsFaithful (limits Client) wire t.codec t.version messages
   with_messages base messages read = record {
     request = base.request;
     response = base.response;
@@ -143,7 +145,7 @@ module _ (limits : Limits) (wire : Wire) (t : Terms) where
   }
 
   -- in a faithful world who has taken the handshake speaks the client's codec
-  module _ (w : List (Event ByteStep)) (f : IsFaithful limits wire t.codec t.version (sent_messages (client_in_frames wire t w) ++ sent_messages (server_in_frames wire t w)))
+  module _ (w : List (Event ByteStep)) (f : IsFaithful (limits Client) wire t.codec t.version (sent_messages (client_in_frames wire t w) ++ sent_messages (server_in_frames wire t w)))
       (i : IsWorldOverBytes limits wire t w) where
     abbrev by_client : List Message
     by_client = sent_messages (client_in_frames wire t w)
@@ -152,19 +154,19 @@ module _ (limits : Limits) (wire : Wire) (t : Terms) where
     by_server = sent_messages (server_in_frames wire t w)
 
     client_speaks : is_shaken (client_in_frames wire t w) ≡ true → codec_of (config Client t) (client_in_frames wire t w) ≡ t.codec
-    client_speaks = (together_over_bytes limits wire t (by_client ++ by_server) f w (λ m e. Contains-append_left by_client by_server m e) (λ m e. Contains-append_right by_client by_server m e) i).together.ends.pair.own.speaks
+    client_speaks = (together_over_bytes limits wire t (by_client ++ by_server) f (one_frame limits wire t w i) w (λ m e. Contains-append_left by_client by_server m e) (λ m e. Contains-append_right by_client by_server m e) i).together.ends.pair.own.speaks
 
     server_speaks : is_shaken (server_in_frames wire t w) ≡ true → codec_of (config Server t) (server_in_frames wire t w) ≡ t.codec
-    server_speaks = (together_over_bytes limits wire t (by_client ++ by_server) f w (λ m e. Contains-append_left by_client by_server m e) (λ m e. Contains-append_right by_client by_server m e) i).together.ends.pair.its.speaks
+    server_speaks = (together_over_bytes limits wire t (by_client ++ by_server) f (one_frame limits wire t w i) w (λ m e. Contains-append_left by_client by_server m e) (λ m e. Contains-append_right by_client by_server m e) i).together.ends.pair.its.speaks
 
-  pub faithful : IsFaithful limits wire t.codec t.version [] → (w : List (Event ByteStep)) → IsWorldOverBytes limits wire t w
-      → AreReadAsSent limits wire (config Client t) (client_in_frames wire t w) → AreReadAsSent limits wire (config Server t) (server_in_frames wire t w)
-      → IsFaithful limits wire t.codec t.version (sent_messages (client_in_frames wire t w) ++ sent_messages (server_in_frames wire t w))
+  pub faithful : IsFaithful (limits Client) wire t.codec t.version [] → (w : List (Event ByteStep)) → IsWorldOverBytes limits wire t w
+      → AreReadAsSent (limits Client) wire (config Client t) (client_in_frames wire t w) → AreReadAsSent (limits Server) wire (config Server t) (server_in_frames wire t w)
+      → IsFaithful (limits Client) wire t.codec t.version (sent_messages (client_in_frames wire t w) ++ sent_messages (server_in_frames wire t w))
   faithful base [] i c s = base
   faithful base (ByClient step ∷ w) i c s =
-      let before = read_before limits wire (config Client t) (config Server t) step (client_of w) (server_of w) i.1 (client_shaken w i.0) c in
+      let before = read_before (limits Client) wire (config Client t) (config Server t) step (client_of w) (server_of w) i.1 (client_shaken w i.0) c in
       let f = faithful base w i.0 before s in
-      let new = read_in limits wire (config Client t) (config Server t) t.codec step (client_of w) (server_of w) i.1 (client_shaken w i.0) (client_speaks w f i.0) c in
+      let new = read_in (limits Client) wire (config Client t) (config Server t) t.codec step (client_of w) (server_of w) i.1 (client_shaken w i.0) (client_speaks w f i.0) c in
       let client = sent_messages (in_frames wire (config Client t) (step ∷ client_of w)) in
       let server = sent_messages (server_in_frames wire t w) in
       with_messages base (client ++ server) (λ m at can. ⊎_elim
@@ -172,25 +174,25 @@ module _ (limits : Limits) (wire : Wire) (t : Terms) where
       (λ there. f.message m (Contains-append_right (sent_messages (client_in_frames wire t w)) server m there) can)
       (Contains-append_cases client server m at))
   faithful base (ByServer step ∷ w) i c s =
-      let before = read_before limits wire (config Server t) (config Client t) step (server_of w) (client_of w) i.1 (server_shaken w i.0) s in
+      let before = read_before (limits Server) wire (config Server t) (config Client t) step (server_of w) (client_of w) i.1 (server_shaken w i.0) s in
       let f = faithful base w i.0 c before in
-      let new = read_in limits wire (config Server t) (config Client t) t.codec step (server_of w) (client_of w) i.1 (server_shaken w i.0) (server_speaks w f i.0) s in
+      let new = read_in (limits Server) wire (config Server t) (config Client t) t.codec step (server_of w) (client_of w) i.1 (server_shaken w i.0) (server_speaks w f i.0) s in
       let client = sent_messages (client_in_frames wire t w) in
       let server = sent_messages (in_frames wire (config Server t) (step ∷ server_of w)) in
       with_messages base (client ++ server) (λ m at can. ⊎_elim
       (λ here. f.message m (Contains-append_left client (sent_messages (server_in_frames wire t w)) m here) can)
-      (λ there. new m there can)
+      (λ there. new m there (can_be_sent_too (limits Client) (limits Server) (sizes_of wire) t.codec m (one_frame limits wire t w i.0) can))
       (Contains-append_cases client server m at))
 
-  pub as_sent : (w : List (Event ByteStep)) → IsFaithful limits wire t.codec t.version []
-      → AreReadAsSent limits wire (config Client t) (client_in_frames wire t w) → AreReadAsSent limits wire (config Server t) (server_in_frames wire t w)
+  pub as_sent : (w : List (Event ByteStep)) → IsFaithful (limits Client) wire t.codec t.version []
+      → AreReadAsSent (limits Client) wire (config Client t) (client_in_frames wire t w) → AreReadAsSent (limits Server) wire (config Server t) (server_in_frames wire t w)
       → IsWorldOverBytes limits wire t w → DeliveryOverBytes wire t w
   as_sent w base c s i =
       let f = faithful base w i c s in
       let client = sent_messages (client_in_frames wire t w) in
       let server = sent_messages (server_in_frames wire t w) in
-      let all = together_over_bytes limits wire t (client ++ server) f w (λ m e. Contains-append_left client server m e) (λ m e. Contains-append_right client server m e) i in
+      let all = together_over_bytes limits wire t (client ++ server) f (one_frame limits wire t w i) w (λ m e. Contains-append_left client server m e) (λ m e. Contains-append_right client server m e) i in
       record {
         holds = delivery_holds t (client_in_frames wire t w) (server_in_frames wire t w) all.together;
-        still = still_in_frames limits wire t (client ++ server) f (client_of w) (server_of w) all;
+        still = still_in_frames limits wire t (client ++ server) f (one_frame limits wire t w i) (client_of w) (server_of w) all;
       }

@@ -7,7 +7,7 @@ use Rattle.hd_delivery.specs.declared.vocabulary.Reason.{Reason}
 use Rattle.hd_delivery.specs.declared.vocabulary.Side.{Side}
 use Rattle.hd_delivery.specs.declared.vocabulary.Side.TheVariants.{Client, Server}
 use Rattle.hd_delivery.specs.Frames.{LinkFrame, Request, Response, Refusal, Numbered, Ack, Sequence, Ping, Close, Foreign, Strange, Unreadable, error_of, one_more, count, number, received_of, told_count, most_told}
-use Rattle.hd_delivery.specs.Histories.{Step, first_link, sent_messages, processed_messages, most_lent, can_keep}
+use Rattle.hd_delivery.specs.Histories.{EndEvent, first_link, sent_messages, processed_messages, most_lent, can_keep}
 use Rattle.hd_delivery.specs.Due.{answer}
 use Rattle.hd_facts.specs.Prefixes.{IsPrefix}
 use Rattle.hd_delivery.specs.Worlds.{Terms, IsSound}
@@ -29,7 +29,7 @@ pub record Facts : Type 0 where
 abbrev pub uses : Terms → Bool
 uses terms = terms.reconnect && can_keep terms.version
 
-abbrev pub facts : Side → Terms → List Step → List Step → Facts
+abbrev pub facts : Side → Terms → List EndEvent → List EndEvent → Facts
 facts side terms x y = record { side = side; codec = terms.codec; version = terms.version; keeps = uses terms; first = first_link x; sent = sent_messages x; most = most_lent x; writer = length (processed_messages x); reader = length (processed_messages y) }
 
 abbrev pub HasNumber : Option ℕ → Type 0

@@ -5,21 +5,21 @@ use Rattle.hm_message.specs.declared.message.Message.{Message}
 use Rattle.hd_delivery.specs.declared.vocabulary.Side.{Side}
 use Rattle.hd_delivery.specs.declared.vocabulary.Side.TheVariants.{Client, Server}
 use Rattle.hd_delivery.specs.Frames.{LinkFrame, Request, Response, Numbered, Ack, Sequence, Ping, number, most_told}
-use Rattle.hd_delivery.specs.Histories.{Config, Step, Failed, Closed, Shake, is_this, first_of, present_link, first_link, lent_frames, sent_messages, processed_messages, acked_count, written_place, next_place, is_shaken, is_three, is_kept, is_closed, state}
+use Rattle.hd_delivery.specs.Histories.{Config, EndEvent, Failed, Closed, Shake, is_this, first_of, present_link, first_link, lent_frames, sent_messages, processed_messages, acked_count, written_place, next_place, is_shaken, is_three, is_resumable, is_closed, state}
 use Rattle.hd_delivery.specs.Due.{handshake, opening, next_message, sequence_due, ack_due, message_due, ping_due, close_due, due_after, answer_due, due_there, due_on, due, farewell, answer, may_write, is_ready, is_quiet, has_close}
 use Rattle.hd_delivery.proofs.Local.{both}
 
 -- where a message is due, it is the next one of this history
-abbrev IsNext : List Step → Option LinkFrame → Type 0
+abbrev IsNext : List EndEvent → Option LinkFrame → Type 0
 IsNext h None = Unit {0}
 IsNext h (Some (Numbered m)) = slice_get (sent_messages h) (max (acked_count h) (written_place h)) ≡ Some m
 IsNext h (Some _) = Unit {0}
 
-either : (h : List Step) (a b : Option LinkFrame) → IsNext h a → IsNext h b → IsNext h (first_of a b)
+either : (h : List EndEvent) (a b : Option LinkFrame) → IsNext h a → IsNext h b → IsNext h (first_of a b)
 either h None b f g = g
 either h (Some t) b f g = f
 
-last_words : (h k : List Step) → IsNext h (farewell k)
+last_words : (h k : List EndEvent) → IsNext h (farewell k)
 last_words h [] = tt
 last_words h (Closed reason allow ∷ k) = tt
 last_words h (Failed (Shake why text) ∷ k) = last_words h k
@@ -27,11 +27,11 @@ last_words h (Failed fault ∷ k) = tt
 last_words h (_ ∷ k) = last_words h k
 
 -- something that is due only if b is true
-only_if : (h : List Step) (b : Bool) (o : Option LinkFrame) → IsNext h o → IsNext h (if b then o else None)
+only_if : (h : List EndEvent) (b : Bool) (o : Option LinkFrame) → IsNext h o → IsNext h (if b then o else None)
 only_if h true o f = f
 only_if h false o f = tt
 
-module _ (c : Config) (h : List Step) where
+module _ (c : Config) (h : List EndEvent) where
   shakes : (side : Side) → IsNext h (handshake side c h)
   shakes Client = both (IsNext h) (is_closed c h) None (Some (Request c.codec c.version)) (λ e. tt) (λ e. tt)
   shakes Server = only_if h (is_shaken h) (Some Response) tt
@@ -49,7 +49,7 @@ module _ (c : Config) (h : List Step) where
   after l [] = opens l
   after l (f ∷ said) =
       either h (sequence_due h (f ∷ said)) _ (only_if h (not (is_three h) && (is_some (next_message h) && not (is_this (next_place h) (number (f ∷ said))))) (Some (Sequence (next_place h) None)) tt)
-      (either h (ack_due c h (f ∷ said)) _ (only_if h ((is_kept c h && not (is_closed c h)) && nat_lt (most_told (f ∷ said)) (length (processed_messages h))) (Some (Ack (length (processed_messages h)))) tt)
+      (either h (ack_due c h (f ∷ said)) _ (only_if h ((is_resumable c h && not (is_closed c h)) && nat_lt (most_told (f ∷ said)) (length (processed_messages h))) (Some (Ack (length (processed_messages h)))) tt)
       (either h (message_due h l) _ (only_if h (may_write h l) (option_map Numbered (next_message h)) (next (next_message h) refl))
       (either h (ping_due c h) (close_due h (f ∷ said)) (only_if h (is_ready (state c h) && is_quiet h) (Some Ping) tt)
       (only_if h (is_shaken h && not (has_close (f ∷ said))) (farewell h) (last_words h h)))))

@@ -11,7 +11,7 @@ use Rattle.hd_delivery.specs.declared.vocabulary.Side.TheVariants.{Client}
 use Rattle.hd_delivery.specs.declared.vocabulary.Reason.{Reason}
 use Rattle.hd_delivery.specs.Numbers.{most_messages}
 use Rattle.hd_delivery.specs.Frames.{LinkFrame, Numbered}
-use Rattle.hd_delivery.specs.Histories.{Config, Step, Attached, Detached, Fed, Took, Failed, Sent, Lent, Ticked, Silenced, Closed, Fault, is_this, first_of, present_link, stands_on, was_on, first_link, link_count, fed_frames, taken_count, read_frames, sent_messages, processed_messages, acked_count, written_place, most_lent, is_shaken, agreed_version, codec_of, can_keep, is_kept, is_closed}
+use Rattle.hd_delivery.specs.Histories.{Config, EndEvent, Attached, Detached, Fed, Took, Failed, Sent, Lent, Ticked, Silenced, Closed, Fault, is_this, first_of, present_link, stands_on, was_on, first_link, link_count, fed_frames, taken_count, read_frames, sent_messages, processed_messages, acked_count, written_place, most_lent, is_shaken, agreed_version, codec_of, can_keep, is_resumable, is_closed}
 use Rattle.hd_delivery.specs.Due.{farewell, answer, due}
 use Rattle.hd_delivery.specs.Processes.{next_number, next_frame, processes}
 use Rattle.hd_delivery.specs.Worlds.{Limits, Sizes, MayBegin, MaySend, MayDo}
@@ -34,11 +34,11 @@ legible_push [] t a b = (b, tt)
 legible_push (u ∷ ts) t a b = (a.0, legible_push ts t a.1 b)
 
 -- the first frame of the first link, and the codec that it gave
-abbrev pub Begun : Config → List Step → ℕ → Type 0
+abbrev pub Begun : Config → List EndEvent → ℕ → Type 0
 Begun c h l = (t : LinkFrame) × (slice_get (fed_frames l h) 0 ≡ Some t) × (codec_of c h ≡ codec_after c.codec t)
 
 -- a closed end deals with no frame
-pub processes_open : (c : Config) (h : List Step) (s : Step) → processes c h ≡ Some s → is_closed c h ≡ false
+pub processes_open : (c : Config) (h : List EndEvent) (s : EndEvent) → processes c h ≡ Some s → is_closed c h ≡ false
 processes_open c h s e = go (is_closed c h) e
   where
     go : (b : Bool) → (if b then None else next_frame c h (present_link h)) ≡ Some s → b ≡ false
@@ -46,13 +46,13 @@ processes_open c h s e = go (is_closed c h) e
     go false f = refl
 
 -- a first link is counted
-counted : (h : List Step) (l : ℕ) → first_link h ≡ Some l → 0 < link_count h
+counted : (h : List EndEvent) (l : ℕ) → first_link h ≡ Some l → 0 < link_count h
 counted [] l e = absurd (cc)
 counted (Attached k now ∷ h) l e = omega arith
 counted (_ ∷ h) l e = counted h l e
 
 -- what the handshake says of keeping, and what stands before it
-by_version : (c : Config) (h : List Step) → is_kept c h ≡ (c.reconnect && can_keep (agreed_version h))
+by_version : (c : Config) (h : List EndEvent) → is_resumable c h ≡ (c.reconnect && can_keep (agreed_version h))
 by_version c [] = never c.reconnect
   where
     never : (b : Bool) → false ≡ (b && false)
@@ -61,13 +61,13 @@ by_version c [] = never c.reconnect
 by_version c (Took (Shaken codec version) ∷ h) = refl
 by_version c (_ ∷ h) = by_version c h
 
-no_version : (h : List Step) → is_shaken h ≡ false → agreed_version h ≡ 0
+no_version : (h : List EndEvent) → is_shaken h ≡ false → agreed_version h ≡ 0
 no_version [] e = refl
 no_version (Took (Shaken codec version) ∷ h) e = absurd (cc)
 no_version (_ ∷ h) e = no_version h e
 
 -- what holds of one end
-abbrev pub Known : Config → List Step → Type 0
+abbrev pub Known : Config → List EndEvent → Type 0
 Known c h = record {
   acks : acked_count h ≤ most_lent h;
   sends : length (sent_messages h) ≤ most_messages;
@@ -75,9 +75,9 @@ Known c h = record {
   writes : written_place h ≤ most_lent h;
   few : length (processed_messages h) ≤ most_messages;
   within : (l : ℕ) → taken_count l h ≤ length (fed_frames l h);
-  one_link : is_kept c h ≡ false → link_count h ≤ 1;
-  unacked : is_kept c h ≡ false → acked_count h ≡ 0;
-  written : is_kept c h ≡ false → written_place h ≡ most_lent h;
+  one_link : is_resumable c h ≡ false → link_count h ≤ 1;
+  unacked : is_resumable c h ≡ false → acked_count h ≡ 0;
+  written : is_resumable c h ≡ false → written_place h ≡ most_lent h;
   unlinked : first_link h ≡ None → (most_lent h ≡ 0) × (link_count h ≡ 0);
   alone : (l : ℕ) → present_link h ≡ Some l → is_this l (first_link h) ≡ (link_count h == 1);
   unsent : is_shaken h ≡ false → sent_messages h ≡ [];
@@ -119,7 +119,7 @@ start c = record {
   begun = λ e. absurd (cc);
 }
 
-module _ (c : Config) (h : List Step) (i : Known c h) where
+module _ (c : Config) (h : List EndEvent) (i : Known c h) where
   attached : (l now : ℕ) → MayBegin c h l now → Known c (Attached l now ∷ h)
   attached l now a = record {
     acks = i.acks;
@@ -146,7 +146,7 @@ module _ (c : Config) (h : List Step) (i : Known c h) where
     begun = λ s k e. let p = i.taken s in i.begun s k (let f : first_of (first_link h) (Some l) ≡ first_link h = rw p.1 refl in sym f ∙ e);
   }
     where
-      none : is_kept c h ≡ false → first_link h ≡ None
+      none : is_resumable c h ≡ false → first_link h ≡ None
       none e = ⊎_elim (λ f. f) (λ f. absurd (cc)) a.granted
 
       unshaken : is_shaken h ≡ false → first_link h ≡ None
@@ -167,7 +167,7 @@ module _ (c : Config) (h : List Step) (i : Known c h) where
 
   -- an end that isn't closed by the loss of its link wasn't closed before
   still_open : (now : ℕ) → is_closed c (Detached now ∷ h) ≡ false → is_closed c h ≡ false
-  still_open now e = go (is_kept c h) e
+  still_open now e = go (is_resumable c h) e
     where
       go : (b : Bool) → (if b then is_closed c h else true) ≡ false → is_closed c h ≡ false
       go true f = f
@@ -397,10 +397,10 @@ module _ (c : Config) (h : List Step) (i : Known c h) where
           (t, subst (λ j. slice_get (fed_frames j h) 0 ≡ Some t) same (subst (λ n. slice_get (fed_frames l h) n ≡ Some t) (i.untaken g.0 opened l) next), g.1);
     }
       where
-        plain : is_kept c h ≡ false
-        plain = go (is_kept c h) refl
+        plain : is_resumable c h ≡ false
+        plain = go (is_resumable c h) refl
           where
-            go : (b : Bool) → is_kept c h ≡ b → b ≡ false
+            go : (b : Bool) → is_resumable c h ≡ b → b ≡ false
             go true e = let z = kept_shaken c h e in let s : is_shaken h ≡ false = g.0 in absurd (cc)
             go false e = refl
 
@@ -549,7 +549,7 @@ module _ (c : Config) (h : List Step) (i : Known c h) where
         }
 
 -- by each step
-step : (limits : Limits) (sizes : Sizes) (c : Config) (h : List Step) → Known c h → (s : Step) → MayDo limits sizes c h s → Known c (s ∷ h)
+step : (limits : Limits) (sizes : Sizes) (c : Config) (h : List EndEvent) → Known c h → (s : EndEvent) → MayDo limits sizes c h s → Known c (s ∷ h)
 step limits sizes c h i (Attached l now) a = attached c h i l now a
 step limits sizes c h i (Detached now) a = detached c h i now
 step limits sizes c h i (Silenced now) a = detached c h i now
@@ -565,17 +565,17 @@ step limits sizes c h i (Ticked now) a = i
 step limits sizes c h i (Closed reason allow) a = closed c h i reason allow
 
 -- each step was allowed after those before it, as far as one end says
-abbrev pub IsHistoryInFrames : Limits → Sizes → Config → List Step → Type 0
+abbrev pub IsHistoryInFrames : Limits → Sizes → Config → List EndEvent → Type 0
 IsHistoryInFrames limits sizes c [] = Unit {0}
 IsHistoryInFrames limits sizes c (s ∷ h) = IsHistoryInFrames limits sizes c h × MayDo limits sizes c h s
 
 -- what holds of each history
-pub known : (limits : Limits) (sizes : Sizes) (c : Config) (h : List Step) → IsHistoryInFrames limits sizes c h → Known c h
+pub known : (limits : Limits) (sizes : Sizes) (c : Config) (h : List EndEvent) → IsHistoryInFrames limits sizes c h → Known c h
 known limits sizes c [] a = start c
 known limits sizes c (s ∷ h) a = step limits sizes c h (known limits sizes c h a.0) s a.1
 
 -- that in the words of the law
-pub facts : (c : Config) (h : List Step) → Known c h → HistoryFacts c h
+pub facts : (c : Config) (h : List EndEvent) → Known c h → HistoryFacts c h
 facts c h i = record {
   sent_are_few = i.sends;
   acked_were_lent = i.acks;
@@ -591,7 +591,7 @@ facts c h i = record {
   kept_by_version = by_version c h;
   unshaken_has_no_version = no_version h;
   unshaken_has_its_codec = own_codec c h;
-  unshaken_is_plain = λ e. plain (is_kept c h) refl e;
+  unshaken_is_plain = λ e. plain (is_resumable c h) refl e;
   unshaken_sent_none = i.unsent;
   unshaken_processed_none = i.unheard;
   unshaken_is_on_first = λ s l e. i.first s l (here_was l h e);
@@ -603,6 +603,6 @@ facts c h i = record {
   unclosed_has_no_answer = i.answer;
 }
   where
-    plain : (b : Bool) → is_kept c h ≡ b → is_shaken h ≡ false → b ≡ false
+    plain : (b : Bool) → is_resumable c h ≡ b → is_shaken h ≡ false → b ≡ false
     plain true e s = let z = kept_shaken c h e in absurd (cc)
     plain false e s = refl

@@ -9,10 +9,10 @@ use Rattle.hd_delivery.specs.declared.vocabulary.Reason.TheVariants.{Done, Proto
 use Rattle.hd_delivery.specs.declared.vocabulary.Side.{Side}
 use Rattle.hd_delivery.specs.declared.vocabulary.Side.TheVariants.{Client, Server}
 use Rattle.hd_delivery.specs.Frames.{LinkFrame, Request, Response, Numbered, Ack, Sequence, Ping, Close, error_of}
-use Rattle.hd_delivery.specs.Worlds.{Limits, CanBeSent}
+use Rattle.hd_delivery.specs.Worlds.{Limits, alike, CanBeSent}
 use Rattle.hd_delivery.specs.Bytes.{Reading, Waits, Reads, Refuses, Stops, sizes_of, IsRead, IsFaithful, IsFirst, IsLater, IsSize, IsSoundReader, IsSoundWire, IsWorldOverBytes}
 use Rattle.hd_delivery.specs.Examples.{call, a, b, c, limits_of, usual, terms}
-use Rattle.hd_delivery.specs.ExamplesOverBytes.{flag_number, error_number, four_of, spell_four, read_four, error_numbered, first_of_four, later_of_four, four, lazy, padded, three_said, bytewise, unread_nine}
+use Rattle.hd_delivery.specs.ExamplesOverBytes.{flag_number, error_number, four_of, spell_four, read_four, error_numbered, first_of_four, later_of_four, four, lazy, padded, three_said, bytewise, unread_nine, own_limits}
 use Rattle.hd_delivery.specs.Numbers.{most_framing}
 use Rattle.hd_delivery.proofs.Local.{both}
 use Rattle.hd_delivery.proofs.Examples.{below}
@@ -151,12 +151,13 @@ four_is_sound limits = record {
   later = λ codec. reader_is_sound limits IsLater later_of_four later_is_of_four;
 }
 
-module _ (limits : Limits) (short : 4 ≤ limits.frame) (many : 3 ≤ limits.count) (wide : 12 ≤ limits.bytes) where
-  can_go : (letter : List ℕ) → CanBeSent limits (sizes_of four) Json (call letter)
-  can_go letter = record { sequenced = refl; fits = omega arith; as_read = refl; short = short }
+module _ (limits : Side → Limits) (one_frame : (limits Client).frame ≡ (limits Server).frame) (short : (side : Side) → 4 ≤ (limits side).frame)
+    (many : 3 ≤ (limits Client).count) (wide : 12 ≤ (limits Client).bytes) where
+  can_go : (letter : List ℕ) → CanBeSent (limits Client) (sizes_of four) Json (call letter)
+  can_go letter = record { sequenced = refl; fits = omega arith; as_read = refl; short = short Client }
 
   three_said_is_world : IsWorldOverBytes limits four (terms 2 true) (reverse three_said)
-  three_said_is_world = ((((((((((((((tt, record { own = record { unclosed = refl; granted = inl refl; unused = refl; in_time = omega arith }; named = below 0 [] refl }), refl), record { own = record { unclosed = refl; granted = inl refl; unused = refl; in_time = omega arith }; named = refl }), record { link = 0; at = refl; unclosed = refl; front = ([], refl); few = omega (arith, short) }), refl), refl), record { link = 0; at = refl; unclosed = refl; front = ([], refl); few = omega (arith, short) }), refl), record { unclosed = refl; shakes = refl; few = omega arith; can_be = can_go (codes "a"); room = record { of_count = omega (arith, many); of_bytes = omega (arith, wide) } }), record { unclosed = refl; shakes = refl; few = omega arith; can_be = can_go (codes "b"); room = record { of_count = omega (arith, many); of_bytes = omega (arith, wide) } }), record { unclosed = refl; shakes = refl; few = omega arith; can_be = can_go (codes "c"); room = record { of_count = omega (arith, many); of_bytes = omega (arith, wide) } }), refl), refl), refl)
+  three_said_is_world = ((((((((((((((one_frame, record { own = record { unclosed = refl; granted = inl refl; unused = refl; in_time = omega arith }; named = below 0 [] refl }), refl), record { own = record { unclosed = refl; granted = inl refl; unused = refl; in_time = omega arith }; named = refl }), record { link = 0; at = refl; unclosed = refl; front = ([], refl); few = omega (arith, short Server) }), refl), refl), record { link = 0; at = refl; unclosed = refl; front = ([], refl); few = omega (arith, short Client) }), refl), record { unclosed = refl; shakes = refl; few = omega arith; can_be = can_go (codes "a"); room = record { of_count = omega (arith, many); of_bytes = omega (arith, wide) } }), record { unclosed = refl; shakes = refl; few = omega arith; can_be = can_go (codes "b"); room = record { of_count = omega (arith, many); of_bytes = omega (arith, wide) } }), record { unclosed = refl; shakes = refl; few = omega arith; can_be = can_go (codes "c"); room = record { of_count = omega (arith, many); of_bytes = omega (arith, wide) } }), refl), refl), refl)
 
 pub lazy_is_unsound : IsSoundWire (limits_of 4 1024 100000) lazy → ⊥
 lazy_is_unsound sound = let h : 9 < 9 = (sound.later Json).unfilled (0 ∷ 0 ∷ 0 ∷ 0 ∷ 0 ∷ 0 ∷ 0 ∷ 0 ∷ 0 ∷ []) refl in omega (arith, h)
@@ -167,8 +168,15 @@ padded_is_unsound sound =
     let h : 10 ≤ 9 = (sound.framed Json a can).1 in
     omega (arith, h)
 
-pub bytewise_is_world : IsWorldOverBytes usual four (terms 2 true) (reverse bytewise)
-bytewise_is_world = (((((((((((((((three_said_is_world usual (omega arith) (omega arith) (omega arith), record { link = 0; at = refl; unclosed = refl; front = (97 ∷ 0 ∷ 0 ∷ 3 ∷ 98 ∷ 0 ∷ 0 ∷ 3 ∷ 99 ∷ 0 ∷ 0 ∷ [], refl); few = omega arith }), record { link = 0; at = refl; unclosed = refl; front = (0 ∷ 0 ∷ 3 ∷ 98 ∷ 0 ∷ 0 ∷ 3 ∷ 99 ∷ 0 ∷ 0 ∷ [], refl); few = omega arith }), record { link = 0; at = refl; unclosed = refl; front = (0 ∷ 3 ∷ 98 ∷ 0 ∷ 0 ∷ 3 ∷ 99 ∷ 0 ∷ 0 ∷ [], refl); few = omega arith }), record { link = 0; at = refl; unclosed = refl; front = (3 ∷ 98 ∷ 0 ∷ 0 ∷ 3 ∷ 99 ∷ 0 ∷ 0 ∷ [], refl); few = omega arith }), refl), record { link = 0; at = refl; unclosed = refl; front = (98 ∷ 0 ∷ 0 ∷ 3 ∷ 99 ∷ 0 ∷ 0 ∷ [], refl); few = omega arith }), record { link = 0; at = refl; unclosed = refl; front = (0 ∷ 0 ∷ 3 ∷ 99 ∷ 0 ∷ 0 ∷ [], refl); few = omega arith }), record { link = 0; at = refl; unclosed = refl; front = (0 ∷ 3 ∷ 99 ∷ 0 ∷ 0 ∷ [], refl); few = omega arith }), record { link = 0; at = refl; unclosed = refl; front = (3 ∷ 99 ∷ 0 ∷ 0 ∷ [], refl); few = omega arith }), refl), record { link = 0; at = refl; unclosed = refl; front = (99 ∷ 0 ∷ 0 ∷ [], refl); few = omega arith }), record { link = 0; at = refl; unclosed = refl; front = (0 ∷ 0 ∷ [], refl); few = omega arith }), record { link = 0; at = refl; unclosed = refl; front = (0 ∷ [], refl); few = omega arith }), record { link = 0; at = refl; unclosed = refl; front = ([], refl); few = omega arith }), refl)
+pub bytewise_is_world : IsWorldOverBytes (alike usual) four (terms 2 true) (reverse bytewise)
+bytewise_is_world = (((((((((((((((three_said_is_world (alike usual) refl (λ side. omega arith) (omega arith) (omega arith), record { link = 0; at = refl; unclosed = refl; front = (97 ∷ 0 ∷ 0 ∷ 3 ∷ 98 ∷ 0 ∷ 0 ∷ 3 ∷ 99 ∷ 0 ∷ 0 ∷ [], refl); few = omega arith }), record { link = 0; at = refl; unclosed = refl; front = (0 ∷ 0 ∷ 3 ∷ 98 ∷ 0 ∷ 0 ∷ 3 ∷ 99 ∷ 0 ∷ 0 ∷ [], refl); few = omega arith }), record { link = 0; at = refl; unclosed = refl; front = (0 ∷ 3 ∷ 98 ∷ 0 ∷ 0 ∷ 3 ∷ 99 ∷ 0 ∷ 0 ∷ [], refl); few = omega arith }), record { link = 0; at = refl; unclosed = refl; front = (3 ∷ 98 ∷ 0 ∷ 0 ∷ 3 ∷ 99 ∷ 0 ∷ 0 ∷ [], refl); few = omega arith }), refl), record { link = 0; at = refl; unclosed = refl; front = (98 ∷ 0 ∷ 0 ∷ 3 ∷ 99 ∷ 0 ∷ 0 ∷ [], refl); few = omega arith }), record { link = 0; at = refl; unclosed = refl; front = (0 ∷ 0 ∷ 3 ∷ 99 ∷ 0 ∷ 0 ∷ [], refl); few = omega arith }), record { link = 0; at = refl; unclosed = refl; front = (0 ∷ 3 ∷ 99 ∷ 0 ∷ 0 ∷ [], refl); few = omega arith }), record { link = 0; at = refl; unclosed = refl; front = (3 ∷ 99 ∷ 0 ∷ 0 ∷ [], refl); few = omega arith }), refl), record { link = 0; at = refl; unclosed = refl; front = (99 ∷ 0 ∷ 0 ∷ [], refl); few = omega arith }), record { link = 0; at = refl; unclosed = refl; front = (0 ∷ 0 ∷ [], refl); few = omega arith }), record { link = 0; at = refl; unclosed = refl; front = (0 ∷ [], refl); few = omega arith }), record { link = 0; at = refl; unclosed = refl; front = ([], refl); few = omega arith }), refl)
 
-pub unread_nine_is_world : IsWorldOverBytes (limits_of 4 1024 100000) four (terms 2 true) (reverse unread_nine)
-unread_nine_is_world = (three_said_is_world (limits_of 4 1024 100000) (omega arith) (omega arith) (omega arith), record { link = 0; at = refl; unclosed = refl; front = (99 ∷ 0 ∷ 0 ∷ [], refl); few = omega arith })
+pub unread_nine_is_world : IsWorldOverBytes (alike (limits_of 4 1024 100000)) four (terms 2 true) (reverse unread_nine)
+unread_nine_is_world = (three_said_is_world (alike (limits_of 4 1024 100000)) refl (λ side. omega arith) (omega arith) (omega arith), record { link = 0; at = refl; unclosed = refl; front = (99 ∷ 0 ∷ 0 ∷ [], refl); few = omega arith })
+
+pub own_limits_is_world : IsWorldOverBytes own_limits four (terms 2 true) (reverse three_said)
+own_limits_is_world = three_said_is_world own_limits refl short (omega arith) (omega arith)
+  where
+    short : (side : Side) → 4 ≤ (own_limits side).frame
+    short Client = omega arith
+    short Server = omega arith

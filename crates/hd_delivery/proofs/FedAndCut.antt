@@ -3,7 +3,7 @@ use Rattle.std.proofs.Common.{◌≡◌, ℕ, suc, ◌≤◌, Bool, true, false,
 use Rattle.std.specs.Prelude.{◌==◌, if◌then◌else◌}
 use Rattle.hm_message.specs.declared.message.Codec.{Codec}
 use Rattle.hd_delivery.specs.declared.vocabulary.Got.TheVariants.{Shaken}
-use Rattle.hd_delivery.specs.Histories.{Config, Step, Attached, Fed, Took, is_this, first_of, present_link, stands_on, was_on, first_link, link_count, fed_frames, codec_of}
+use Rattle.hd_delivery.specs.Histories.{Config, EndEvent, Attached, Fed, Took, is_this, first_of, present_link, stands_on, was_on, first_link, link_count, fed_frames, codec_of}
 use Rattle.hd_delivery.specs.Worlds.{Limits}
 use Rattle.hd_delivery.specs.Bytes.{Wire, IsSoundWire, Cut, cut_by, cut_all, codec_after, cut, frames, ByteStep, Bytes, Does, bare_steps, bytes_on, new_frames, in_frames}
 use Rattle.hd_delivery.specs.Laws.{IsInOrder}
@@ -17,12 +17,12 @@ frames-append [] ys = refl
 frames-append (x ∷ xs) ys = ap (λ fs. x.0 ∷ fs) (frames-append xs ys)
 
 -- where there was no link, or one, there was none but the first
-no_link : (h : List Step) → link_count h ≤ 0 → first_link h ≡ None
+no_link : (h : List EndEvent) → link_count h ≤ 0 → first_link h ≡ None
 no_link [] e = refl
 no_link (Attached k now ∷ h) e = absurd (omega arith)
 no_link (_ ∷ h) e = no_link h e
 
-one_link : (l : ℕ) (h : List Step) → link_count h ≤ 1 → is_this l (first_link h) ≡ false → was_on l h ≡ false
+one_link : (l : ℕ) (h : List EndEvent) → link_count h ≤ 1 → is_this l (first_link h) ≡ false → was_on l h ≡ false
 one_link l [] e f = refl
 one_link l (Attached k now ∷ h) e f =
     let n = no_link h (omega arith) in
@@ -45,7 +45,7 @@ module _ (limits : Limits) (wire : Wire) (c : Config) (sound : IsSoundWire limit
   cut_none false codec = refl
 
   -- where the end never was, nothing was fed and nothing is cut
-  nothing : (l : ℕ) (h : List ByteStep) (k : List Step) → was_on l (in_frames wire c h) ≡ false → fed_frames l (in_frames wire c h) ≡ frames (cut wire c k l (bytes_on l h))
+  nothing : (l : ℕ) (h : List ByteStep) (k : List EndEvent) → was_on l (in_frames wire c h) ≡ false → fed_frames l (in_frames wire c h) ≡ frames (cut wire c k l (bytes_on l h))
   nothing l h k e = nothing_fed l (in_frames wire c h) e
       ∙ sym (ap (λ bs. frames (cut wire c k l bs)) (nothing_on wire c l h e) ∙ cut_none (is_this l (first_link k)) (codec_of c k))
 

@@ -3,18 +3,18 @@ use Rattle.std.proofs.Common.{List, None}
 use Rattle.std.proofs.lemmas.Bool.{eq-eqb}
 use Rattle.hd_delivery.specs.declared.vocabulary.Side.{Side}
 use Rattle.hd_delivery.specs.declared.vocabulary.Side.TheVariants.{Client, Server}
-use Rattle.hd_delivery.specs.Histories.{Step, lent_frames}
+use Rattle.hd_delivery.specs.Histories.{EndEvent, lent_frames}
 use Rattle.hd_delivery.specs.Worlds.{Terms, Delivers, Delivery}
 use Rattle.hd_delivery.proofs.Carries.{facts, MayCarry-sound}
 use Rattle.hd_delivery.proofs.Pair.{Way}
 use Rattle.hd_delivery.proofs.World.{Together, to_server}
 use Rattle.hd_delivery.proofs.Still.{arrived}
 
-delivers : (side : Side) (terms : Terms) (x y : List Step) → Way side terms x y → Delivers x y
+delivers : (side : Side) (terms : Terms) (x y : List EndEvent) → Way side terms x y → Delivers x y
 delivers side terms x y w = record { in_order = w.in_order; sound = λ l. MayCarry-sound (facts side terms x y) l None (lent_frames l x) (w.good l) }
 
 -- delivery, from what holds in every world
-pub delivery_holds : (terms : Terms) (c s : List Step) → Together terms c s → Delivery terms c s
+pub delivery_holds : (terms : Terms) (c s : List EndEvent) → Together terms c s → Delivery terms c s
 delivery_holds terms c s t =
     let back = to_server terms c s t.ends in
     record {

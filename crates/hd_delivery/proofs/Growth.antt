@@ -2,7 +2,7 @@
 use Rattle.std.proofs.Common.{◌≡◌, ℕ, zero, suc, ◌+◌, ◌≤◌, Bool, true, false, List, [], ◌∷◌, ◌++◌, length, drop, refl, sym, ap, ◌∙◌, subst, arith, length-append}
 use Rattle.hd_facts.specs.Prefixes.{IsPrefix}
 use Rattle.hd_delivery.specs.Frames.{LinkFrame, Unreadable}
-use Rattle.hd_delivery.specs.Histories.{Config, Step, is_this, first_link, as_told, codec_of}
+use Rattle.hd_delivery.specs.Histories.{Config, EndEvent, is_this, first_link, as_told, codec_of}
 use Rattle.hd_delivery.specs.Worlds.{Limits}
 use Rattle.hd_delivery.specs.Bytes.{Reading, Waits, Reads, Refuses, Stops, Wire, IsSize, IsSoundReader, IsSoundWire, Cut, cut_by, cut_all, codec_after, cut}
 
@@ -40,7 +40,7 @@ module _ (limits : Limits) (IsKind : LinkFrame → Type 0) (reader : List ℕ �
   cut_all-grows (suc n) (suc m) at bytes more h = cut_by-grows limits IsKind reader sound (λ f. cut_all reader n) (λ f. cut_all reader m) bytes more
       (λ f at size i. cut_all-grows n m at (drop size bytes) more (omega arith)) at
 
-pub cuts_grow : (limits : Limits) (wire : Wire) (c : Config) (h : List Step) (l : ℕ) (bytes more : List ℕ) → IsSoundWire limits wire
+pub cuts_grow : (limits : Limits) (wire : Wire) (c : Config) (h : List EndEvent) (l : ℕ) (bytes more : List ℕ) → IsSoundWire limits wire
     → IsPrefix (cut wire c h l bytes) (cut wire c h l (bytes ++ more))
 cuts_grow limits wire c h l bytes more sound = go (is_this l (first_link h)) refl
   where

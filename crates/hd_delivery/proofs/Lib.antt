@@ -9,6 +9,7 @@ pub mod World
 pub mod Still
 pub mod Final
 pub mod Cuts
+pub mod OwnLimits
 pub mod OverBytes
 pub mod Growth
 pub mod FedAndCut
@@ -21,5 +22,11 @@ pub mod NextCut
 pub mod Unread
 pub mod LinkSteps
 pub mod AsSent
+pub mod TestsAndPrefixes
+pub mod TakenFrames
+pub mod Writes
+pub mod Takes
+pub mod LentBytes
+pub mod FedIsLent
 pub mod Examples
 pub mod ExamplesOverBytes

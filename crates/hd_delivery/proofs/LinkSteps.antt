@@ -2,14 +2,14 @@
 use Rattle.std.proofs.Common.{◌≡◌, ℕ, true, List, [], ◌∷◌, ◌++◌, take, Some, refl}
 use Rattle.std.specs.Prelude.{◌||◌}
 use Rattle.hd_delivery.specs.Frames.{LinkFrame, Close}
-use Rattle.hd_delivery.specs.Histories.{Step, present_link, stands_on, fed_frames, taken_count, read_frames}
+use Rattle.hd_delivery.specs.Histories.{EndEvent, present_link, stands_on, fed_frames, taken_count, read_frames}
 use Rattle.hd_delivery.specs.Due.{has_close}
 use Rattle.hd_delivery.specs.HistoryLaws.{LinkGrows, FrameCounts}
 use Rattle.hd_delivery.proofs.Lists.{take_next, take_front}
 use Rattle.hd_delivery.proofs.Local.{is_this-same, both}
 use Rattle.hd_delivery.proofs.Carries.{number-push, most_told-push}
 
-pub grows : (h : List Step) (l : ℕ) → present_link h ≡ Some l → LinkGrows h l
+pub grows : (h : List EndEvent) (l : ℕ) → present_link h ≡ Some l → LinkGrows h l
 grows h l at = record {
   lent = λ f. rw here refl;
   fed = λ piece within. both (λ ts. take (taken_count l h) ts ≡ read_frames l h) (stands_on l h) (fed_frames l h ++ piece) (fed_frames l h)

@@ -11,7 +11,7 @@ use Rattle.hd_delivery.specs.declared.vocabulary.Side.TheVariants.{Client, Serve
 use Rattle.hm_message.specs.declared.message.Message.{Message}
 use Rattle.hd_delivery.specs.Numbers.{most_messages}
 use Rattle.hd_delivery.specs.Frames.{LinkFrame, Request, Response, Numbered, Ack, Sequence, Ping, Close, Foreign, Strange, Unreadable, received_of}
-use Rattle.hd_delivery.specs.Histories.{Config, Step, Took, Failed, Gap, AckBeyond, processed_messages, most_lent, is_shaken, is_kept, is_three}
+use Rattle.hd_delivery.specs.Histories.{Config, EndEvent, Took, Failed, Gap, AckBeyond, processed_messages, most_lent, is_shaken, is_resumable, is_three}
 use Rattle.hd_delivery.specs.Processes.{reads_handshake, reads_message, reads_ack, resumes, reads_sequence, reads_frame, reads}
 use Rattle.hd_delivery.specs.Bytes.{codec_after}
 use Rattle.hd_delivery.proofs.Local.{both}
@@ -22,19 +22,19 @@ IsLegible (Unreadable at why) = ⊥
 IsLegible f = Unit {0}
 
 -- what an end knows of a frame that gave something
-abbrev pub Gave : Config → List Step → LinkFrame → Got → Type 0
+abbrev pub Gave : Config → List EndEvent → LinkFrame → Got → Type 0
 Gave c h t (Shaken codec version) = (is_shaken h ≡ false) × (codec ≡ codec_after c.codec t) × (c.side ≡ Client → codec ≡ c.codec) × (c.side ≡ Client → version ≡ c.version)
 Gave c h t (gives.Message m) = (is_shaken h ≡ true) × (length (processed_messages h) ≡ most_messages → ⊥)
-Gave c h t (Acked n) = (is_shaken h ≡ true) × (is_kept c h ≡ true) × (n ≤ most_lent h)
-Gave c h t (Resumed first n) = (is_shaken h ≡ true) × (is_kept c h ≡ true) × (n ≤ most_lent h)
+Gave c h t (Acked n) = (is_shaken h ≡ true) × (is_resumable c h ≡ true) × (n ≤ most_lent h)
+Gave c h t (Resumed first n) = (is_shaken h ≡ true) × (is_resumable c h ≡ true) × (n ≤ most_lent h)
 Gave c h t got = is_shaken h ≡ true
 
 -- the same of a step, if it took the frame
-abbrev pub Made : Config → List Step → LinkFrame → Step → Type 0
+abbrev pub Made : Config → List EndEvent → LinkFrame → EndEvent → Type 0
 Made c h t (Took got) = IsLegible t × Gave c h t got
 Made c h t s = Unit {0}
 
-module _ (c : Config) (h : List Step) where
+module _ (c : Config) (h : List EndEvent) where
   handshake : (side : Side) (t : LinkFrame) → c.side ≡ side → is_shaken h ≡ false → Made c h t (reads_handshake side c h t)
   handshake Client Response e s = (tt, (s, refl, (λ f. refl), (λ f. refl)))
   handshake Server (Request codec version) e s = (tt, (s, refl, (λ f. absurd (cc)), (λ f. absurd (cc))))
@@ -50,10 +50,10 @@ module _ (c : Config) (h : List Step) where
       (λ e. both (Made c h (Numbered m)) (n == suc (length (processed_messages h))) (Took (gives.Message m)) (Took (Skipped (Duplicate n)))
       (λ f. (tt, (s, λ p. let a = eqb-false n (most_messages + 1) e in let b = eqb-true n (suc (length (processed_messages h))) f in omega (arith, a)))) (λ f. (tt, s)))
 
-  ack : (n : ℕ) → is_shaken h ≡ true → is_kept c h ≡ true → Made c h (Ack n) (reads_ack h n)
+  ack : (n : ℕ) → is_shaken h ≡ true → is_resumable c h ≡ true → Made c h (Ack n) (reads_ack h n)
   ack n s k = both (Made c h (Ack n)) (nat_le n (most_lent h)) (Took (Acked n)) (Failed (AckBeyond n (most_lent h))) (λ e. (tt, (s, k, leb-true n (most_lent h) e))) (λ e. tt)
 
-  sequence : (first : ℕ) (received : Option ℕ) → is_shaken h ≡ true → is_kept c h ≡ true → Made c h (Sequence first received) (reads_sequence h first (received_of received))
+  sequence : (first : ℕ) (received : Option ℕ) → is_shaken h ≡ true → is_resumable c h ≡ true → Made c h (Sequence first received) (reads_sequence h first (received_of received))
   sequence first received s k =
       both (Made c h (Sequence first received)) (nat_le first (suc (length (processed_messages h)))) (resumes h first (received_of received)) (Failed (Gap first (suc (length (processed_messages h)))))
       (λ e. both (Made c h (Sequence first received)) (is_three h) (if nat_le (received_of received) (most_lent h) then Took (Resumed first (received_of received)) else Failed (AckBeyond (received_of received) (most_lent h))) (Took (Sequenced first))
@@ -62,7 +62,7 @@ module _ (c : Config) (h : List Step) where
       (λ f. (tt, s)))
       (λ e. tt)
 
-  frame : (keeps : Bool) (n : Option ℕ) (t : LinkFrame) → is_kept c h ≡ keeps → is_shaken h ≡ true → Made c h t (reads_frame keeps h n t)
+  frame : (keeps : Bool) (n : Option ℕ) (t : LinkFrame) → is_resumable c h ≡ keeps → is_shaken h ≡ true → Made c h t (reads_frame keeps h n t)
   frame keeps n (Numbered m) e s = message m n s
   frame true n (Ack upto) e s = ack upto s e
   frame false n (Ack upto) e s = (tt, s)
@@ -76,4 +76,4 @@ module _ (c : Config) (h : List Step) where
 
   -- what a frame makes
   pub makes : (n : Option ℕ) (t : LinkFrame) → Made c h t (reads c h n t)
-  makes n t = both (Made c h t) (is_shaken h) (reads_frame (is_kept c h) h n t) (reads_handshake c.side c h t) (λ e. frame (is_kept c h) n t refl e) (λ e. handshake c.side t refl e)
+  makes n t = both (Made c h t) (is_shaken h) (reads_frame (is_resumable c h) h n t) (reads_handshake c.side c h t) (λ e. frame (is_resumable c h) n t refl e) (λ e. handshake c.side t refl e)

@@ -1,8 +1,9 @@
 -- A history over bytes that one end can make is one in frames, and is in order; a world is two of them.
 use Rattle.std.proofs.Common.{◌≤◌, List, [], ◌∷◌, subst}
 use Rattle.hd_delivery.specs.declared.vocabulary.Got.TheVariants.{Shaken}
+use Rattle.hd_delivery.specs.declared.vocabulary.Side.{Side}
 use Rattle.hd_delivery.specs.declared.vocabulary.Side.TheVariants.{Client, Server}
-use Rattle.hd_delivery.specs.Histories.{Config, Step, Attached, Fed, Took}
+use Rattle.hd_delivery.specs.Histories.{Config, EndEvent, Attached, Fed, Took}
 use Rattle.hd_delivery.specs.Processes.{next_number}
 use Rattle.hd_delivery.specs.Worlds.{Limits, Terms, config, Event, ByClient, ByServer, client_of, server_of}
 use Rattle.hd_delivery.specs.Bytes.{Wire, sizes_of, ByteStep, Bytes, Does, in_frames, AllowedOverBytes, IsWorldOverBytes}
@@ -21,7 +22,7 @@ in_frames_too limits wire c (Does (Fed piece) ∷ h) i = absurd i.1
 in_frames_too limits wire c (Does s ∷ h) i = (in_frames_too limits wire c h i.0, i.1)
 
 -- a handshake is taken on the first link
-shaken_once : (limits : Limits) (wire : Wire) (c : Config) (h : List ByteStep) → IsHistory limits wire c h → (s : Step) → MayDoOverBytes limits wire c h (Does s) → IsInOrder h → IsInOrder (Does s ∷ h)
+shaken_once : (limits : Limits) (wire : Wire) (c : Config) (h : List ByteStep) → IsHistory limits wire c h → (s : EndEvent) → MayDoOverBytes limits wire c h (Does s) → IsInOrder h → IsInOrder (Does s ∷ h)
 shaken_once limits wire c h i (Fed piece) a o = a
 shaken_once limits wire c h i (Took (Shaken codec version)) a o =
     let k = in_frames wire c h in
@@ -44,12 +45,12 @@ alone limits wire c oc h other (Does (Fed piece)) a = a
 alone limits wire c oc h other (Does (Attached l now)) a = a.own
 alone limits wire c oc h other (Does s) a = a
 
-pub two_histories : (limits : Limits) (wire : Wire) (t : Terms) (w : List (Event ByteStep)) → IsWorldOverBytes limits wire t w
-    → IsHistory limits wire (config Client t) (client_of w) × IsHistory limits wire (config Server t) (server_of w)
+pub two_histories : (limits : Side → Limits) (wire : Wire) (t : Terms) (w : List (Event ByteStep)) → IsWorldOverBytes limits wire t w
+    → IsHistory (limits Client) wire (config Client t) (client_of w) × IsHistory (limits Server) wire (config Server t) (server_of w)
 two_histories limits wire t [] i = (tt, tt)
 two_histories limits wire t (ByClient s ∷ w) i =
     let p = two_histories limits wire t w i.0 in
-    ((p.0, alone limits wire (config Client t) (config Server t) (client_of w) (server_of w) s i.1), p.1)
+    ((p.0, alone (limits Client) wire (config Client t) (config Server t) (client_of w) (server_of w) s i.1), p.1)
 two_histories limits wire t (ByServer s ∷ w) i =
     let p = two_histories limits wire t w i.0 in
-    (p.0, (p.1, alone limits wire (config Server t) (config Client t) (server_of w) (client_of w) s i.1))
+    (p.0, (p.1, alone (limits Server) wire (config Server t) (config Client t) (server_of w) (client_of w) s i.1))

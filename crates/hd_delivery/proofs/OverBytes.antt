@@ -8,7 +8,7 @@ use Rattle.hd_delivery.specs.declared.vocabulary.Got.TheVariants.{Shaken}
 use Rattle.hd_delivery.specs.declared.vocabulary.Side.{Side}
 use Rattle.hd_delivery.specs.declared.vocabulary.Side.TheVariants.{Client, Server}
 use Rattle.hd_delivery.specs.Frames.{LinkFrame, Request, Response, Refusal, Numbered, Ack, Sequence, Ping, Close, Foreign, Strange, Unreadable, count}
-use Rattle.hd_delivery.specs.Histories.{Config, Step, Attached, Detached, Fed, Took, Sent, Lent, Silenced, is_this, first_of, present_link, stands_on, was_on, first_link, fed_frames, lent_frames, sent_messages, processed_messages, is_shaken, codec_of}
+use Rattle.hd_delivery.specs.Histories.{Config, EndEvent, Attached, Detached, Fed, Took, Sent, Lent, Silenced, is_this, first_of, present_link, stands_on, was_on, first_link, fed_frames, lent_frames, sent_messages, processed_messages, is_shaken, codec_of}
 use Rattle.hd_delivery.specs.Due.{handshake, due_after, due_there, due_on, due}
 use Rattle.hd_facts.specs.Prefixes.{IsPrefix}
 use Rattle.hd_delivery.specs.Worlds.{Limits, Sizes, CanBeSent, Allowed, Terms, codec_at, config, Still, Event, ByClient, ByServer, client_of, server_of}
@@ -19,7 +19,9 @@ use Rattle.hd_delivery.proofs.Carries.{Facts, facts, HasNumber, MayStand, MayCar
 use Rattle.hd_delivery.proofs.Pair.{messages, other, Pair, messages-push, same_first}
 use Rattle.hd_delivery.proofs.WhatIsSaid.{not_failed, says_due}
 use Rattle.hd_delivery.proofs.World.{Together, to_server, start, client_steps, server_steps}
-use Rattle.hd_delivery.proofs.Cuts.{drop_front, within_bytes, within_more, within_prefix, within_all, AreRead, AreReadFirst, link_cut, AreReadOn, cut_front, cut_none}
+use Rattle.hd_delivery.specs.Laws.{whole_frames}
+use Rattle.hd_delivery.proofs.OwnLimits.{can_be_sent_too}
+use Rattle.hd_delivery.proofs.Cuts.{drop_front, within_more, within_prefix, within_all, AreRead, AreReadFirst, link_cut, AreReadOn, cut_front, cut_none}
 
 pub bare_here : (wire : Wire) (c : Config) (h : List ByteStep) → present_link (bare_steps h) ≡ present_link (in_frames wire c h)
 bare_here wire c [] = refl
@@ -42,16 +44,16 @@ nothing_on wire c l (Does (Attached k now) ∷ h) e = nothing_on wire c l h (or_
 nothing_on wire c l (Does s ∷ h) e = nothing_on wire c l h e
 
 -- before the handshake an end's codec is its own
-pub own_codec : (c : Config) (h : List Step) → is_shaken h ≡ false → codec_of c h ≡ c.codec
+pub own_codec : (c : Config) (h : List EndEvent) → is_shaken h ≡ false → codec_of c h ≡ c.codec
 own_codec c [] e = refl
 own_codec c (Took (Shaken k v) ∷ h) e = absurd (cc)
 own_codec c (_ ∷ h) e = own_codec c h e
 
 -- before the handshake a server says nothing
-abbrev pub Opens : Side → List Step → Type 0
+abbrev pub Opens : Side → List EndEvent → Type 0
 Opens side x = is_shaken x ≡ false → (side ≡ Client) ⊎ ((l : ℕ) → lent_frames l x ≡ [])
 
-module _ (side : Side) (terms : Terms) (x y : List Step) (i : Pair side terms x y) where
+module _ (side : Side) (terms : Terms) (x y : List EndEvent) (i : Pair side terms x y) where
   asks_first : (s : Side) (t : LinkFrame) → is_shaken x ≡ false → handshake s (config side terms) x ≡ Some t → s ≡ Client
   asks_first Client t s e = refl
   asks_first Server t s e = absurd (let z : ◌≡◌ {A = Option LinkFrame} None (Some t) = subst (λ b. (if b then Some Response else None) ≡ Some t) s e in cc)
@@ -69,7 +71,7 @@ module _ (side : Side) (terms : Terms) (x y : List Step) (i : Pair side terms x 
       on_link None at f = absurd (cc)
       on_link (Some l) at f = on_some l at (lent_frames l x) refl (subst (λ o. due_there (config side terms) x l o ≡ Some t) (not_failed x i.own.faultless) f)
 
-  opens_step : (limits : Limits) (sizes : Sizes) → Opens side x → (s : Step) → Allowed limits sizes (config side terms) x y s → Opens side (s ∷ x)
+  opens_step : (limits : Limits) (sizes : Sizes) → Opens side x → (s : EndEvent) → Allowed limits sizes (config side terms) x y s → Opens side (s ∷ x)
   opens_step limits sizes o (Took (Shaken k v)) a e = absurd (cc)
   opens_step limits sizes o (Lent t) a e = inl (opens_due o t a e)
   opens_step limits sizes o s a e = o e
@@ -89,7 +91,8 @@ module _ (side : Side) (terms : Terms) (x y : List Step) (i : Pair side terms x 
           (o s)
 
 -- readers that are faithful to these messages
-module _ (limits : Limits) (wire : Wire) (terms : Terms) (all : List Message) (law : IsFaithful limits wire terms.codec terms.version all) where
+module _ (limits : Side → Limits) (wire : Wire) (terms : Terms) (all : List Message) (law : IsFaithful (limits Client) wire terms.codec terms.version all)
+    (one_frame : (limits Client).frame ≡ (limits Server).frame) where
   later_waits : wire.later terms.codec [] ≡ Waits
   later_waits = law.ping.waits [] (wire.spell terms.codec Ping) refl law.ping.nonempty
 
@@ -175,11 +178,11 @@ module _ (limits : Limits) (wire : Wire) (terms : Terms) (all : List Message) (l
       (h.0, h.1, read_after F l (count None t) ts w r (read_head t ts f).1 (MayStand-count F l None t g.0) g.1)
 
   -- all that an end sent is read as itself, and so is all that it lent
-  abbrev SaysRead : List Step → Type 0
+  abbrev SaysRead : List EndEvent → Type 0
   SaysRead x = AllRead (sent_messages x) × ((l : ℕ) → AllRead (messages (lent_frames l x)))
 
   -- what the other end lends on the link where an end stands is read as itself
-  read_there : (side : Side) (x y : List Step) (l : ℕ) → Pair side terms x y → SaysRead y → present_link x ≡ Some l → AreReadOn wire terms.codec side (codec_at side terms) (is_this l (first_link x)) (lent_frames l y)
+  read_there : (side : Side) (x y : List EndEvent) (l : ℕ) → Pair side terms x y → SaysRead y → present_link x ≡ Some l → AreReadOn wire terms.codec side (codec_at side terms) (is_this l (first_link x)) (lent_frames l y)
   read_there side x y l i says at = go (is_this l (first_link x)) refl (lent_frames l y) refl
     where
       few_x : length (processed_messages x) ≤ 2 ^ 62
@@ -207,10 +210,10 @@ module _ (limits : Limits) (wire : Wire) (terms : Terms) (all : List Message) (l
   module _ (side : Side) (x y : List ByteStep) (i : Pair side terms (in_frames wire (config side terms) x) (in_frames wire (config (other side) terms) y))
       (q : SaysRead (in_frames wire (config (other side) terms) y)) (c : Follows side x y) where
     -- the histories in frames
-    abbrev reader : List Step
+    abbrev reader : List EndEvent
     reader = in_frames wire (config side terms) x
 
-    abbrev writer : List Step
+    abbrev writer : List EndEvent
     writer = in_frames wire (config (other side) terms) y
 
     -- the frames of the link where an end stands are cut in the client's codec
@@ -251,7 +254,13 @@ module _ (limits : Limits) (wire : Wire) (terms : Terms) (all : List Message) (l
     fed_whole l at e =
         let fit = read_there side reader writer l i q at in
         (c l).1 ∙ (cut_front wire terms.codec later_waits side (codec_at side terms) (first_waits side) (is_this l (first_link reader)) (lent_frames l writer) (bytes_on l x) (c l).0.0 fit (c l).0.1
-        ∙ (ap (λ bs. within_bytes (wire.spell terms.codec) (lent_frames l writer) (length bs)) e ∙ within_all wire terms.codec (lent_frames l writer)))
+        ∙ (ap (λ bs. whole_frames (wire.spell terms.codec) (lent_frames l writer) (length bs)) e ∙ within_all wire terms.codec (lent_frames l writer)))
+
+    -- what was fed in frames are the frames whose bytes were all fed
+    pub fed_within : (l : ℕ) → present_link reader ≡ Some l → fed_frames l reader ≡ whole_frames (wire.spell terms.codec) (lent_frames l writer) (length (bytes_on l x))
+    fed_within l at =
+        let fit = read_there side reader writer l i q at in
+        (c l).1 ∙ cut_front wire terms.codec later_waits side (codec_at side terms) (first_waits side) (is_this l (first_link reader)) (lent_frames l writer) (bytes_on l x) (c l).0.0 fit (c l).0.1
 
     -- the reader's bytes
     fed_bytes : (l : ℕ) (piece : List ℕ) → present_link reader ≡ Some l → IsPrefix (bytes_on l x ++ piece) (spelling_of wire terms.codec (lent_frames l writer)) → Follows side (Bytes piece ∷ x) y
@@ -272,7 +281,7 @@ module _ (limits : Limits) (wire : Wire) (terms : Terms) (all : List Message) (l
         go false e = rw (same ∙ e, e) (c k)
 
     -- the reader's other steps
-    reader_does : (s : Step) → ((piece : List LinkFrame) → s ≡ Fed piece → ⊥) → Follows side (Does s ∷ x) y
+    reader_does : (s : EndEvent) → ((piece : List LinkFrame) → s ≡ Fed piece → ⊥) → Follows side (Does s ∷ x) y
     reader_does (Attached l now) not_fed k = ((c k).0, (c k).1 ∙ go (first_link reader) refl)
       where
         go : (o : Option ℕ) → first_link reader ≡ o → frames (link_cut wire terms.codec side (codec_at side terms) (is_this k (first_link reader)) (bytes_on k x)) ≡ frames (link_cut wire terms.codec side (codec_at side terms) (is_this k (first_of (first_link reader) (Some l))) (bytes_on k x))
@@ -282,7 +291,7 @@ module _ (limits : Limits) (wire : Wire) (terms : Terms) (all : List Message) (l
     reader_does s not_fed k = c k
 
     -- the writer's steps
-    writer_does : (s : Step) → Follows side x (Does s ∷ y)
+    writer_does : (s : EndEvent) → Follows side x (Does s ∷ y)
     writer_does (Lent t) k = (
       both (λ ts. IsPrefix (bytes_on k x) (spelling_of wire terms.codec ts)) (stands_on k writer) (lent_frames k writer ++ t ∷ []) (lent_frames k writer)
           (λ e. let p = (c k).0 in (p.0 ++ spelling_of wire terms.codec (t ∷ []), sym (append_assoc (bytes_on k x) p.0 (spelling_of wire terms.codec (t ∷ []))) ∙ (ap (λ bs. bs ++ spelling_of wire terms.codec (t ∷ [])) p.1 ∙ sym (spelled-append wire terms.codec (lent_frames k writer) (t ∷ [])))))
@@ -295,12 +304,17 @@ module _ (limits : Limits) (wire : Wire) (terms : Terms) (all : List Message) (l
   push_read (Numbered m) ms f g = read_push ms (m ∷ []) g (f m refl, tt)
   push_read t ms f g = subst (λ ms. AllRead ms) (sym (append_none ms)) g
 
+  -- what a side can send the client can send, as far as limits say
+  as_client : (side : Side) (codec : Codec) (m : Message) → CanBeSent (limits side) (sizes_of wire) codec m → CanBeSent (limits Client) (sizes_of wire) codec m
+  as_client Client codec m can = can
+  as_client Server codec m can = can_be_sent_too (limits Server) (limits Client) (sizes_of wire) codec m (sym one_frame) can
+
   -- the steps of an end keep that all is read as itself
-  says_step : (side : Side) (x y : List Step) → Pair side terms x y → SaysRead x → (s : Step) → ((m : Message) → Contains (sent_messages (s ∷ x)) m → Contains all m) → Allowed limits (sizes_of wire) (config side terms) x y s → SaysRead (s ∷ x)
+  says_step : (side : Side) (x y : List EndEvent) → Pair side terms x y → SaysRead x → (s : EndEvent) → ((m : Message) → Contains (sent_messages (s ∷ x)) m → Contains all m) → Allowed (limits side) (sizes_of wire) (config side terms) x y s → SaysRead (s ∷ x)
   says_step side x y i q (Sent m) within a = (
     read_push (sent_messages x) (m ∷ []) q.0 (
       law.message m (within m (Contains-append_right (sent_messages x) (m ∷ []) m (0, omega arith, refl)))
-          (subst (λ k. CanBeSent limits (sizes_of wire) k m) (i.own.speaks a.shakes) a.can_be),
+          (as_client side terms.codec m (subst (λ k. CanBeSent (limits side) (sizes_of wire) k m) (i.own.speaks a.shakes) a.can_be)),
       tt,
     ),
     q.1,
@@ -336,10 +350,10 @@ module _ (limits : Limits) (wire : Wire) (terms : Terms) (all : List Message) (l
   sent_before side (Does s) x within m e = within m e
 
   module _ (c s : List ByteStep) (t : TogetherOverBytes c s) where
-    abbrev client : List Step
+    abbrev client : List EndEvent
     client = in_frames wire (config Client terms) c
 
-    abbrev server : List Step
+    abbrev server : List EndEvent
     server = in_frames wire (config Server terms) s
 
     abbrev from_client : Pair Client terms client server
@@ -348,12 +362,12 @@ module _ (limits : Limits) (wire : Wire) (terms : Terms) (all : List Message) (l
     abbrev from_server : Pair Server terms server client
     from_server = (to_server terms client server t.together.ends).pair
 
-    client_does : (step : ByteStep) → Within Client (step ∷ c) → AllowedOverBytes limits wire (config Client terms) (config Server terms) c s step → TogetherOverBytes (step ∷ c) s
+    client_does : (step : ByteStep) → Within Client (step ∷ c) → AllowedOverBytes (limits Client) wire (config Client terms) (config Server terms) c s step → TogetherOverBytes (step ∷ c) s
     client_does (Bytes piece) within a =
         let front = subst (λ bs. IsPrefix (bytes_on a.link c ++ piece) bs) (spoken Server terms server client from_server wire t.server_opens a.link) a.front in
         let n = completes Client c s from_client t.server_says t.client_follows a.link piece a.at front in
         record {
-          together = client_steps limits (sizes_of wire) terms client server t.together (Fed (new_frames wire (config Client terms) c client (present_link client) piece)) (record { link = a.link; at = a.at; unclosed = a.unclosed; front = n.front });
+          together = client_steps (limits Client) (sizes_of wire) terms client server t.together (Fed (new_frames wire (config Client terms) c client (present_link client) piece)) (record { link = a.link; at = a.at; unclosed = a.unclosed; front = n.front });
           client_follows = fed_bytes Client c s from_client t.server_says t.client_follows a.link piece a.at front;
           server_follows = λ k. t.server_follows k;
           client_says = t.client_says;
@@ -363,21 +377,21 @@ module _ (limits : Limits) (wire : Wire) (terms : Terms) (all : List Message) (l
         }
     client_does (Does (Fed piece)) within a = absurd a
     client_does (Does step) within a = record {
-      together = client_steps limits (sizes_of wire) terms client server t.together step a;
+      together = client_steps (limits Client) (sizes_of wire) terms client server t.together step a;
       client_follows = reader_does Client c s from_client t.server_says t.client_follows step (λ piece e. absurd (cc));
       server_follows = writer_does Server s c from_server t.client_says t.server_follows step;
       client_says = says_step Client client server from_client t.client_says step within a;
       server_says = t.server_says;
-      client_opens = opens_step Client terms client server from_client limits (sizes_of wire) t.client_opens step a;
+      client_opens = opens_step Client terms client server from_client (limits Client) (sizes_of wire) t.client_opens step a;
       server_opens = t.server_opens;
     }
 
-    server_does : (step : ByteStep) → Within Server (step ∷ s) → AllowedOverBytes limits wire (config Server terms) (config Client terms) s c step → TogetherOverBytes c (step ∷ s)
+    server_does : (step : ByteStep) → Within Server (step ∷ s) → AllowedOverBytes (limits Server) wire (config Server terms) (config Client terms) s c step → TogetherOverBytes c (step ∷ s)
     server_does (Bytes piece) within a =
         let front = subst (λ bs. IsPrefix (bytes_on a.link s ++ piece) bs) (spoken Client terms client server from_client wire t.client_opens a.link) a.front in
         let n = completes Server s c from_server t.client_says t.server_follows a.link piece a.at front in
         record {
-          together = server_steps limits (sizes_of wire) terms client server t.together (Fed (new_frames wire (config Server terms) s server (present_link server) piece)) (record { link = a.link; at = a.at; unclosed = a.unclosed; front = n.front });
+          together = server_steps (limits Server) (sizes_of wire) terms client server t.together (Fed (new_frames wire (config Server terms) s server (present_link server) piece)) (record { link = a.link; at = a.at; unclosed = a.unclosed; front = n.front });
           client_follows = λ k. t.client_follows k;
           server_follows = fed_bytes Server s c from_server t.client_says t.server_follows a.link piece a.at front;
           client_says = t.client_says;
@@ -387,14 +401,20 @@ module _ (limits : Limits) (wire : Wire) (terms : Terms) (all : List Message) (l
         }
     server_does (Does (Fed piece)) within a = absurd a
     server_does (Does step) within a = record {
-      together = server_steps limits (sizes_of wire) terms client server t.together step a;
+      together = server_steps (limits Server) (sizes_of wire) terms client server t.together step a;
       client_follows = writer_does Client c s from_client t.server_says t.client_follows step;
       server_follows = reader_does Server s c from_server t.client_says t.server_follows step (λ piece e. absurd (cc));
       client_says = t.client_says;
       server_says = says_step Server server client from_server t.server_says step within a;
       client_opens = t.client_opens;
-      server_opens = opens_step Server terms server client from_server limits (sizes_of wire) t.server_opens step a;
+      server_opens = opens_step Server terms server client from_server (limits Server) (sizes_of wire) t.server_opens step a;
     }
+
+    pub client_fed_within : (l : ℕ) → present_link client ≡ Some l → fed_frames l client ≡ whole_frames (wire.spell terms.codec) (lent_frames l server) (length (bytes_on l c))
+    client_fed_within l at = fed_within Client c s from_client t.server_says t.client_follows l at
+
+    pub server_fed_within : (l : ℕ) → present_link server ≡ Some l → fed_frames l server ≡ whole_frames (wire.spell terms.codec) (lent_frames l client) (length (bytes_on l s))
+    server_fed_within l at = fed_within Server s c from_server t.client_says t.server_follows l at
 
     -- where every byte was fed, every frame was
     pub still_in_frames : StillOverBytes wire (config Client terms) (config Server terms) c s → Still (config Client terms) (config Server terms) client server

@@ -7,7 +7,7 @@ use Rattle.hd_delivery.specs.declared.vocabulary.Got.{Got}
 use Rattle.hd_delivery.specs.declared.vocabulary.Side.{Side}
 use Rattle.hd_delivery.specs.declared.vocabulary.Side.TheVariants.{Client, Server}
 use Rattle.hd_delivery.specs.Frames.{LinkFrame, Request, Response, Refusal, Numbered, Ack, Sequence, Ping, Close, Foreign, Strange, Unreadable, count, number, told_count, most_told}
-use Rattle.hd_delivery.specs.Histories.{Step, Attached, Detached, Fed, Took, Sent, Lent, first_of, present_link, stands_on, was_on, first_link, fed_frames, lent_frames, taken_count, read_frames, sent_messages, processed_messages, acked_count, written_place, most_lent, is_shaken, agreed_version, is_three, codec_of, is_kept, is_resumed}
+use Rattle.hd_delivery.specs.Histories.{EndEvent, Attached, Detached, Fed, Took, Sent, Lent, first_of, present_link, stands_on, was_on, first_link, fed_frames, lent_frames, taken_count, read_frames, sent_messages, processed_messages, acked_count, written_place, most_lent, is_shaken, agreed_version, is_three, codec_of, is_resumable, is_resumed}
 use Rattle.hd_delivery.specs.Due.{answer}
 use Rattle.hd_facts.specs.Prefixes.{IsPrefix}
 use Rattle.hd_delivery.specs.Worlds.{Terms, config, IsFaultless, SkipsNone}
@@ -35,7 +35,7 @@ Placed_more None place ack more h p = p
 Placed_more (Some n) place ack more h p = (p.0, omega (arith, p.1))
 
 -- what holds of one end
-abbrev pub Own : Side → Terms → List Step → Type 0
+abbrev pub Own : Side → Terms → List EndEvent → Type 0
 Own side terms h = record {
   one_link : is_shaken h ≡ false → (l : ℕ) → was_on l h ≡ true → first_link h ≡ Some l;
   later : (l : ℕ) → was_on l h ≡ true → (first_link h ≡ Some l) ⊎ (uses terms ≡ true);
@@ -43,7 +43,7 @@ Own side terms h = record {
   some_taken : is_shaken h ≡ true → (l : ℕ) × (first_link h ≡ Some l) × (0 < taken_count l h);
   unsent : is_shaken h ≡ false → sent_messages h ≡ [];
   unheard : is_shaken h ≡ false → (processed_messages h ≡ []) × (acked_count h ≡ 0);
-  keeping : is_shaken h ≡ true → is_kept (config side terms) h ≡ uses terms;
+  keeping : is_shaken h ≡ true → is_resumable (config side terms) h ≡ uses terms;
   version : is_shaken h ≡ true → agreed_version h ≡ terms.version;
   speaks : is_shaken h ≡ true → codec_of (config side terms) h ≡ terms.codec;
   plain : uses terms ≡ false → acked_count h ≡ 0;
@@ -60,7 +60,7 @@ Own side terms h = record {
 }
 
 -- what holds of an end that writes and one that reads
-abbrev pub Way : Side → Terms → List Step → List Step → Type 0
+abbrev pub Way : Side → Terms → List EndEvent → List EndEvent → Type 0
 Way side terms x y = record {
   good : (l : ℕ) → MayCarry (facts side terms x y) l None (lent_frames l x);
   in_order : IsPrefix (processed_messages y) (sent_messages x);
@@ -76,7 +76,7 @@ abbrev pub other : Side → Side
 other Client = Server
 other Server = Client
 
-abbrev pub Pair : Side → Terms → List Step → List Step → Type 0
+abbrev pub Pair : Side → Terms → List EndEvent → List EndEvent → Type 0
 Pair side terms x y = record {
   own : Own side terms x;
   its : Own (other side) terms y;
@@ -88,9 +88,9 @@ Pair side terms x y = record {
 }
 
 -- the frame t of the link l made this, and it keeps what has to hold
-pub record Fit (side : Side) (terms : Terms) (x y : List Step) (l : ℕ) (t : LinkFrame) (got : Got) : Type 0 where
+pub record Fit (side : Side) (terms : Terms) (x y : List EndEvent) (l : ℕ) (t : LinkFrame) (got : Got) : Type 0 where
   pub shakes : is_shaken (Took got ∷ x) ≡ true
-  pub keeping : is_kept (config side terms) (Took got ∷ x) ≡ uses terms
+  pub keeping : is_resumable (config side terms) (Took got ∷ x) ≡ uses terms
   pub version : agreed_version (Took got ∷ x) ≡ terms.version
   pub speaks : codec_of (config side terms) (Took got ∷ x) ≡ terms.codec
   pub plain : uses terms ≡ false → acked_count (Took got ∷ x) ≡ 0
@@ -108,7 +108,7 @@ pub record Fit (side : Side) (terms : Terms) (x y : List Step) (l : ℕ) (t : Li
   pub takes : (terms.version == 3) ≡ true → length (processed_messages (Took got ∷ x)) ≡ length (processed_messages x) + length (messages (t ∷ []))
   pub resumes : (terms.version == 3) ≡ true → is_resumed (Took got ∷ x) ≡ (is_seq t || is_resumed x)
 
-abbrev pub Makes : Side → Terms → List Step → List Step → ℕ → LinkFrame → Step → Type 0
+abbrev pub Makes : Side → Terms → List EndEvent → List EndEvent → ℕ → LinkFrame → EndEvent → Type 0
 Makes side terms x y l t s = (got : Got) × (s ≡ Took got) × Fit side terms x y l t got
 
 -- the first frame of a link
@@ -125,7 +125,7 @@ opening_ok F l (Foreign k) o = absurd o
 opening_ok F l (Strange why answer) o = absurd o
 opening_ok F l (Unreadable at why) o = absurd o
 
-pub most_lent-more : (t : LinkFrame) (h : List Step) → most_lent h ≤ most_lent (Lent t ∷ h)
+pub most_lent-more : (t : LinkFrame) (h : List EndEvent) → most_lent h ≤ most_lent (Lent t ∷ h)
 most_lent-more (Numbered m) h = omega arith
 most_lent-more t h = omega arith
 
@@ -139,7 +139,7 @@ not_nothing [] m e = absurd (cc)
 not_nothing (n ∷ ms) m e = absurd (cc)
 
 -- a frame that is no message changes neither the messages nor the place
-lent_untold : (t : LinkFrame) (x : List Step) (ts : List LinkFrame) → (messages ts ≡ [] → written_place x ≡ 0) → messages ts ++ messages (t ∷ []) ≡ [] → written_place (Lent t ∷ x) ≡ 0
+lent_untold : (t : LinkFrame) (x : List EndEvent) (ts : List LinkFrame) → (messages ts ≡ [] → written_place x ≡ 0) → messages ts ++ messages (t ∷ []) ≡ [] → written_place (Lent t ∷ x) ≡ 0
 lent_untold (Numbered m) x ts h e = absurd (not_nothing (messages ts) m e)
 lent_untold t x ts h e = h (sym (append_none (messages ts)) ∙ e)
 
@@ -148,7 +148,7 @@ lent_unwritten (Numbered m) ts h e = absurd (h m refl)
 lent_unwritten t ts h e = append_none (messages ts) ∙ e
 
 -- what is due may be said: it may stand on the link, and keeps the places in order
-pub record Says (side : Side) (terms : Terms) (x y : List Step) (l : ℕ) (t : LinkFrame) : Type 0 where
+pub record Says (side : Side) (terms : Terms) (x y : List EndEvent) (l : ℕ) (t : LinkFrame) : Type 0 where
   pub ok : MayStand (facts side terms (Lent t ∷ x) y) l (number (lent_frames l x)) t
   pub placed : (terms.version == 3) ≡ false → Placed (count (number (lent_frames l x)) t) (written_place (Lent t ∷ x)) (acked_count x)
   pub lent_sent : most_lent (Lent t ∷ x) ≤ length (sent_messages x)
@@ -156,7 +156,7 @@ pub record Says (side : Side) (terms : Terms) (x y : List Step) (l : ℕ) (t : L
   pub sends : (m : Message) → t ≡ Numbered m → (k : ℕ) × (slice_get (sent_messages x) k ≡ Some m)
   pub may : (terms.version == 3) ≡ true → (m : Message) → t ≡ Numbered m → ((first_link x ≡ Some l) ⊎ (is_resumed x ≡ true)) × (slice_get (sent_messages x) (max (acked_count x) (written_place x)) ≡ Some m)
 
-module _ (side : Side) (terms : Terms) (x y : List Step) (i : Pair side terms x y) where
+module _ (side : Side) (terms : Terms) (x y : List EndEvent) (i : Pair side terms x y) where
   pub detached : Pair side terms (Detached 0 ∷ x) y
   detached = record {
     own = record {
@@ -398,7 +398,7 @@ module _ (side : Side) (terms : Terms) (x y : List Step) (i : Pair side terms x 
   first_here : (l k : ℕ) → first_link x ≡ None → ((k == l) || was_on k x) ≡ true → Some l ≡ Some k
   first_here l k f w = ap Some (⊎_elim (λ e. sym (eqb-true k l e)) (λ e. let n = none_was k x f in absurd (cc)) (or_cases (k == l) (was_on k x) w))
 
-  pub was_attached : (l : ℕ) → was_on l x ≡ false → (first_link x ≡ None) ⊎ (is_kept (config side terms) x ≡ true)
+  pub was_attached : (l : ℕ) → was_on l x ≡ false → (first_link x ≡ None) ⊎ (is_resumable (config side terms) x ≡ true)
       → ((k j : ℕ) → first_of (first_link x) (Some l) ≡ Some k → first_link y ≡ Some j → k ≡ j)
       → Pair side terms (Attached l 0 ∷ x) y
   was_attached l fresh may agree = record {

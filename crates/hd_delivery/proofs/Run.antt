@@ -7,7 +7,7 @@ use Rattle.hm_message.specs.declared.message.Message.{Message}
 use Rattle.hd_delivery.specs.declared.vocabulary.Got.{Got}
 use Rattle.hd_delivery.specs.declared.vocabulary.Side.{Side}
 use Rattle.hd_delivery.specs.Frames.{LinkFrame, Request, Response, Refusal, Numbered, Ack, Sequence, Ping, Close, Foreign, Strange, Unreadable, number, received_of, told_count, most_told}
-use Rattle.hd_delivery.specs.Histories.{Step, Attached, Detached, Fed, Took, Sent, Lent, is_this, first_of, present_link, stands_on, was_on, first_link, fed_frames, lent_frames, taken_count, read_frames, sent_messages, processed_messages, acked_count, written_place, most_lent, is_shaken, is_three, is_kept, is_resumed}
+use Rattle.hd_delivery.specs.Histories.{EndEvent, Attached, Detached, Fed, Took, Sent, Lent, is_this, first_of, present_link, stands_on, was_on, first_link, fed_frames, lent_frames, taken_count, read_frames, sent_messages, processed_messages, acked_count, written_place, most_lent, is_shaken, is_three, is_resumable, is_resumed}
 use Rattle.hd_delivery.specs.Due.{answer}
 use Rattle.hd_delivery.specs.Processes.{has_frames, next_number}
 use Rattle.hd_facts.specs.Prefixes.{IsPrefix}
@@ -28,10 +28,10 @@ abbrev pub base_of : Option ℕ → ℕ → List LinkFrame → Option ℕ
 base_of o l ts = if is_this l o then Some 0 else opened ts
 
 -- after how many of the other's messages those of this link come, for an end that stands there
-abbrev pub base : ℕ → List Step → Option ℕ
+abbrev pub base : ℕ → List EndEvent → Option ℕ
 base l h = base_of (first_link h) l (lent_frames l h)
 
-abbrev pub Run : List Step → List Step → Type 0
+abbrev pub Run : List EndEvent → List EndEvent → Type 0
 Run x y = record {
   unopened : (l : ℕ) → base l y ≡ None → messages (lent_frames l x) ≡ [];
   line : (l ρ j : ℕ) (m : Message) → present_link y ≡ Some l → base l y ≡ Some ρ → slice_get (messages (lent_frames l x)) j ≡ Some m → (slice_get (sent_messages x) (ρ + j) ≡ Some m) × (ρ + j < most_lent x);
@@ -63,14 +63,14 @@ line_push : (t : LinkFrame) (ms : List Message) (j : ℕ) (m : Message) → slic
 line_push (Numbered n) ms j m e = ⊎_elim (λ h. inl h) (λ h. inr (ap Numbered h.0, h.1)) (get_push ms n j m e)
 line_push t ms j m e = inl (subst (λ l. slice_get l j ≡ Some m) (append_none ms) e)
 
-next_push : (t : LinkFrame) (x : List Step) (ρ : ℕ) (ms : List Message) → max (acked_count x) (written_place x) ≡ ρ + length ms → max (acked_count x) (written_place (Lent t ∷ x)) ≡ ρ + length (ms ++ messages (t ∷ []))
+next_push : (t : LinkFrame) (x : List EndEvent) (ρ : ℕ) (ms : List Message) → max (acked_count x) (written_place x) ≡ ρ + length ms → max (acked_count x) (written_place (Lent t ∷ x)) ≡ ρ + length (ms ++ messages (t ∷ []))
 next_push (Numbered m) x ρ ms e = omega (arith, length-append ms (m ∷ []))
 next_push t x ρ ms e = e ∙ ap (λ l. ρ + length l) (sym (append_none ms))
 
-pub base_first : (l : ℕ) (h : List Step) → first_link h ≡ Some l → base l h ≡ Some 0
+pub base_first : (l : ℕ) (h : List EndEvent) → first_link h ≡ Some l → base l h ≡ Some 0
 base_first l h e = both (λ o. o ≡ Some 0) (is_this l (first_link h)) (Some 0) (opened (lent_frames l h)) (λ f. refl) (λ f. let g = is_this-same l (first_link h) e in absurd (cc))
 
-base_later : (l : ℕ) (h : List Step) → (first_link h ≡ Some l → ⊥) → base l h ≡ opened (lent_frames l h)
+base_later : (l : ℕ) (h : List EndEvent) → (first_link h ≡ Some l → ⊥) → base l h ≡ opened (lent_frames l h)
 base_later l h e = both (λ o. o ≡ opened (lent_frames l h)) (is_this l (first_link h)) (Some 0) (opened (lent_frames l h)) (λ f. absurd (e (is_this-true l (first_link h) f))) (λ f. refl)
 
 seq_not_first : (F : Facts) (l : ℕ) (t : LinkFrame) → MayStand F l None t → is_seq t ≡ true → F.first ≡ Some l → ⊥
@@ -132,7 +132,7 @@ no_messages ts us vs e m = front (messages ts) (messages us) (sym (messages-appe
     front [] ns e = refl
     front (m ∷ ms) ns e = absurd (cc)
 
-module _ (side : Side) (terms : Terms) (x y : List Step) (i : Pair side terms x y) (b : (terms.version == 3) ≡ true) where
+module _ (side : Side) (terms : Terms) (x y : List EndEvent) (i : Pair side terms x y) (b : (terms.version == 3) ≡ true) where
   -- what an end has said on a link where it said anything
   pub base_some : (l : ℕ) → 0 < length (lent_frames l x) → (ρ : ℕ) × (base l x ≡ Some ρ)
   base_some l more = go (lent_frames l x) refl
@@ -539,7 +539,7 @@ module _ (side : Side) (terms : Terms) (x y : List Step) (i : Pair side terms x 
           let q = u.place l ρ at f in
           let num = subst (λ t. MayStand (facts (other side) terms y x) l (number (read_frames l x)) t) e (next_ok side terms x y i l t is) in
           let three : is_three x ≡ true = three_is side terms x y i s ∙ c in
-          (numbered (not (is_kept (config side terms) x)) (is_three x) (is_some (number (read_frames l x))) (is_this l (first_link x) || has_frames (lent_frames l x)) three (ap is_some num.0.1) opens, subst (λ n. slice_get (sent_messages y) n ≡ Some m) (sym q) p.0, omega (arith, p.1))
+          (numbered (not (is_resumable (config side terms) x)) (is_three x) (is_some (number (read_frames l x))) (is_this l (first_link x) || has_frames (lent_frames l x)) three (ap is_some num.0.1) opens, subst (λ n. slice_get (sent_messages y) n ≡ Some m) (sym q) p.0, omega (arith, p.1))
         where
           opens : (is_this l (first_link x) || has_frames (lent_frames l x)) ≡ true
           opens = both (λ o. o ≡ Some ρ → (is_this l (first_link x) || has_frames (lent_frames l x)) ≡ true) (is_this l (first_link x)) (Some 0) (opened (lent_frames l x))

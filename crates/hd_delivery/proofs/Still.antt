@@ -7,7 +7,7 @@ use Rattle.hd_delivery.specs.declared.vocabulary.Side.{Side}
 use Rattle.hd_delivery.specs.declared.vocabulary.Side.TheVariants.{Client, Server}
 use Rattle.hd_delivery.specs.declared.vocabulary.State.TheVariants.{Ready}
 use Rattle.hd_delivery.specs.Frames.{LinkFrame, Request, Response, Numbered, Ack, Sequence, number, most_told}
-use Rattle.hd_delivery.specs.Histories.{Config, Step, is_this, first_of, present_link, first_link, fed_frames, lent_frames, taken_count, read_frames, sent_messages, processed_messages, acked_count, written_place, most_lent, is_shaken, is_three, is_kept, is_closed, state_of, state, is_resumed, held_messages}
+use Rattle.hd_delivery.specs.Histories.{Config, EndEvent, is_this, first_of, present_link, first_link, fed_frames, lent_frames, taken_count, read_frames, sent_messages, processed_messages, acked_count, written_place, most_lent, is_shaken, is_three, is_resumable, is_closed, state_of, state, is_resumed, held_messages}
 use Rattle.hd_delivery.specs.Due.{handshake, next_message, sequence_due, ack_due, may_write, message_due, ping_due, close_due, due_after, due_there, due_on, due}
 use Rattle.hd_delivery.specs.Worlds.{Terms, config, IsFaultless}
 use Rattle.hd_delivery.proofs.Lists.{take_whole, drop_all, get_none, prefix_whole}
@@ -29,18 +29,18 @@ neither None b e = (refl, e)
 neither (Some t) b e = absurd (cc)
 
 -- what isn't due at an end that is Ready
-record Silent (c : Config) (h : List Step) (l : ℕ) : Type 0 where
+record Silent (c : Config) (h : List EndEvent) (l : ℕ) : Type 0 where
   first : LinkFrame
   more : List LinkFrame
   said : lent_frames l h ≡ first ∷ more
   no_ack : ack_due c h (lent_frames l h) ≡ None
   no_message : message_due h l ≡ None
 
-spoken : (s : Side) (c : Config) (h : List Step) → is_closed c h ≡ false → is_shaken h ≡ true → handshake s c h ≡ None → ⊥
+spoken : (s : Side) (c : Config) (h : List EndEvent) → is_closed c h ≡ false → is_shaken h ≡ true → handshake s c h ≡ None → ⊥
 spoken Client c h k s e = absurd (let e' : ◌≡◌ {A = Option LinkFrame} (Some (Request c.codec c.version)) None = rw k at e in cc)
 spoken Server c h k s e = absurd (let e' : ◌≡◌ {A = Option LinkFrame} (Some Response) None = rw s at e in cc)
 
-silent_after : (c : Config) (h : List Step) (l : ℕ) (ts : List LinkFrame) → lent_frames l h ≡ ts → is_closed c h ≡ false → is_shaken h ≡ true → due_after c h l ts ≡ None → Silent c h l
+silent_after : (c : Config) (h : List EndEvent) (l : ℕ) (ts : List LinkFrame) → lent_frames l h ≡ ts → is_closed c h ≡ false → is_shaken h ≡ true → due_after c h l ts ≡ None → Silent c h l
 silent_after c h l [] is k s e = both (λ o. o ≡ None → Silent c h l) (is_this l (first_link h)) (handshake c.side c h) (Some (Sequence (suc (acked_count h)) (if is_three h then Some (length (processed_messages h)) else None))) (λ e f. absurd (spoken c.side c h k s f)) (λ e f. absurd (cc)) e
 silent_after c h l (t ∷ ts) is k s e =
     let a = neither (sequence_due h (t ∷ ts)) (first_of (ack_due c h (t ∷ ts)) (first_of (message_due h l) (first_of (ping_due c h) (close_due h (t ∷ ts))))) e in
@@ -48,7 +48,7 @@ silent_after c h l (t ∷ ts) is k s e =
     let d = neither (message_due h l) (first_of (ping_due c h) (close_due h (t ∷ ts))) b.1 in
     record { first = t; more = ts; said = is; no_ack = ap (ack_due c h) is ∙ b.0; no_message = d.0 }
 
-silent : (c : Config) (h : List Step) (l : ℕ) → IsFaultless h → present_link h ≡ Some l → is_closed c h ≡ false → is_shaken h ≡ true → due c h ≡ None → Silent c h l
+silent : (c : Config) (h : List EndEvent) (l : ℕ) → IsFaultless h → present_link h ≡ Some l → is_closed c h ≡ false → is_shaken h ≡ true → due c h ≡ None → Silent c h l
 silent c h l f at k s e =
     silent_after c h l (lent_frames l h) refl k s (subst (λ o. due_there c h l o ≡ None) (not_failed h f) (subst (λ o. due_on c h o ≡ None) at e))
 
@@ -65,7 +65,7 @@ may_now : (a b d : Bool) → (a ≡ true → (b ≡ true) ⊎ (d ≡ true)) → 
 may_now false b d f = refl
 may_now true b d f = ⊎_elim (λ e. or_left b d e) (λ e. or_right b d e) (f refl)
 
-module _ (side : Side) (terms : Terms) (x y : List Step) (l : ℕ) (i : Inv side terms x y) (at_x : present_link x ≡ Some l) (at_y : present_link y ≡ Some l)
+module _ (side : Side) (terms : Terms) (x y : List EndEvent) (l : ℕ) (i : Inv side terms x y) (at_x : present_link x ≡ Some l) (at_y : present_link y ≡ Some l)
     (sx : is_shaken x ≡ true) (spoke_x : 0 < length (lent_frames l x)) (spoke_y : 0 < length (lent_frames l y))
     (read_y : read_frames l y ≡ lent_frames l x) (read_x : read_frames l x ≡ lent_frames l y) (no_message : message_due x l ≡ None) where
   -- where the other's opening was read, the end may write
@@ -107,7 +107,7 @@ module _ (side : Side) (terms : Terms) (x y : List Step) (l : ℕ) (i : Inv side
       go false b = by_number b
 
 -- all that x sent has arrived at y, and x holds nothing
-pub arrived : (side : Side) (terms : Terms) (x y : List Step) (l : ℕ) → Inv side terms x y → present_link x ≡ Some l → present_link y ≡ Some l
+pub arrived : (side : Side) (terms : Terms) (x y : List EndEvent) (l : ℕ) → Inv side terms x y → present_link x ≡ Some l → present_link y ≡ Some l
     → state (config side terms) x ≡ Ready → state (config (other side) terms) y ≡ Ready
     → fed_frames l y ≡ lent_frames l x → taken_count l y ≡ length (fed_frames l y) → fed_frames l x ≡ lent_frames l y → taken_count l x ≡ length (fed_frames l x)
     → due (config side terms) x ≡ None → due (config (other side) terms) y ≡ None
@@ -123,9 +123,9 @@ arrived side terms x y l i at_x at_y ready_x ready_y fed_y taken_y fed_x taken_x
     let len_y = ap length sy.said in
     let whole = all_there side terms x y l i at_x at_y rx.1 (omega arith) (omega arith) read_y read_x sx.no_message in (
       prefix_whole (processed_messages y) (sent_messages x) i.pair.to.in_order whole,
-      both (λ ms. ms ≡ []) (is_kept (config side terms) x) (drop (acked_count x) (sent_messages x)) (drop (most_lent x) (sent_messages x))
+      both (λ ms. ms ≡ []) (is_resumable (config side terms) x) (drop (acked_count x) (sent_messages x)) (drop (most_lent x) (sent_messages x))
           (λ e. let kept_y = i.pair.its.keeping ry.1 ∙ (sym (i.pair.own.keeping rx.1) ∙ e) in
-          let a = all_acked (is_kept (config (other side) terms) y) (is_closed (config (other side) terms) y) (most_told (lent_frames l y)) (length (processed_messages y)) kept_y ry.0 sy.no_ack in
+          let a = all_acked (is_resumable (config (other side) terms) y) (is_closed (config (other side) terms) y) (most_told (lent_frames l y)) (length (processed_messages y)) kept_y ry.0 sy.no_ack in
           let h : most_told (lent_frames l y) ≤ acked_count x = subst (λ ts. most_told ts ≤ acked_count x) read_x (i.pair.from.heard l) in
           drop_all (sent_messages x) (acked_count x) (omega arith))
           (λ e. drop_all (sent_messages x) (most_lent x) (omega (arith, i.pair.to.most))),

@@ -8,7 +8,7 @@ use Rattle.hd_delivery.specs.declared.vocabulary.Got.{Got}
 use Rattle.hd_delivery.specs.declared.vocabulary.Got.TheVariants.{Shaken}
 use Rattle.hd_delivery.specs.Numbers.{most_framing}
 use Rattle.hd_delivery.specs.Frames.{LinkFrame, Unreadable}
-use Rattle.hd_delivery.specs.Histories.{Config, Step, Attached, Detached, Fed, Took, Failed, Silenced, Fault, is_this, as_told, present_link, stands_on, was_on, first_link, fed_frames, taken_count, codec_of, is_shaken, is_closed}
+use Rattle.hd_delivery.specs.Histories.{Config, EndEvent, Attached, Detached, Fed, Took, Failed, Silenced, Fault, is_this, as_told, present_link, stands_on, was_on, first_link, fed_frames, taken_count, codec_of, is_shaken, is_closed}
 use Rattle.hd_delivery.specs.Processes.{next_number, processes}
 use Rattle.hd_delivery.specs.Worlds.{Limits}
 use Rattle.hd_delivery.specs.Bytes.{Reading, Waits, Reads, Refuses, Stops, Wire, sizes_of, IsSoundWire, Cut, codec_after, cut, frames, ByteStep, Bytes, Does, bare_steps, bytes_on, in_frames, read_count, unread}
@@ -45,7 +45,7 @@ drop_none (suc n) = refl
 
 module _ (limits : Limits) (wire : Wire) (c : Config) (h : List ByteStep) (l : ℕ) (t : StandsThere limits wire c h l) where
   -- the history in frames
-  abbrev k : List Step
+  abbrev k : List EndEvent
   k = in_frames wire c h
 
   -- the cuts of the link
@@ -119,7 +119,7 @@ module _ (limits : Limits) (wire : Wire) (c : Config) (h : List ByteStep) (l : �
           ∙ ap sizes (take_front (cut wire c (bare_steps h) l (bytes_on l h)) p.0 (taken_count l (bare_steps h)) w))
 
   -- a step that deals with a frame
-  moves : (s : Step) (x : Cut) → taken_count l (s ∷ bare_steps h) ≡ suc (taken_count l (bare_steps h)) → cut wire c (s ∷ bare_steps h) l (bytes_on l h) ≡ cut wire c (bare_steps h) l (bytes_on l h)
+  moves : (s : EndEvent) (x : Cut) → taken_count l (s ∷ bare_steps h) ≡ suc (taken_count l (bare_steps h)) → cut wire c (s ∷ bare_steps h) l (bytes_on l h) ≡ cut wire c (bare_steps h) l (bytes_on l h)
       → slice_get cuts (taken_count l k) ≡ Some x → MovesBy wire c l h s x.1
   moves s x one same is = record {
     drops = ap (λ n. drop n (bytes_on l h)) count ∙ sym (drop-drop x.1 (read_count wire c l h) (bytes_on l h));
@@ -137,7 +137,7 @@ module _ (limits : Limits) (wire : Wire) (c : Config) (h : List ByteStep) (l : �
           g ∙ (f ∙ (let z = count_is in omega arith))
 
   -- the cut that a step deals with
-  dealt : (s : Step) → processes c k ≡ Some s → (x : Cut) × (slice_get cuts (taken_count l k) ≡ Some x) × (x.1 ≡ size_of_reading (next_reader wire c l k (unread wire c l h)))
+  dealt : (s : EndEvent) → processes c k ≡ Some s → (x : Cut) × (slice_get cuts (taken_count l k) ≡ Some x) × (x.1 ≡ size_of_reading (next_reader wire c l k (unread wire c l h)))
   dealt s made = go (slice_get cuts (taken_count l k)) refl
     where
       opened : is_closed c k ≡ false

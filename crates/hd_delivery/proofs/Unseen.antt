@@ -7,58 +7,58 @@ use Rattle.hd_delivery.specs.declared.vocabulary.Got.TheVariants as gives
 use Rattle.hm_message.specs.declared.message.Message.TheVariants as message
 use Rattle.hm_message.specs.Message.{is_sequenced}
 use Rattle.hd_delivery.specs.Frames.{LinkFrame, Numbered, frame_of}
-use Rattle.hd_delivery.specs.Histories.{Config, Step, Attached, Detached, Fed, Took, Failed, Sent, Lent, Ticked, Silenced, Closed, Shake, is_this, present_link, stands_on, was_on, first_link, first_of, lent_frames, taken_count, sent_messages, processed_messages, acked_count, written_place, agreed_version, is_resumed, moment, written_moment, codec_of, is_shaken, is_kept, is_closed, state, held_messages, link_count, most_lent, heard_moment, is_silence}
+use Rattle.hd_delivery.specs.Histories.{Config, EndEvent, Attached, Detached, Fed, Took, Failed, Sent, Lent, Ticked, Silenced, Closed, Shake, is_this, present_link, stands_on, was_on, first_link, first_of, lent_frames, taken_count, sent_messages, processed_messages, acked_count, written_place, agreed_version, is_resumed, moment, written_moment, codec_of, is_shaken, is_resumable, is_closed, state, held_messages, link_count, most_lent, heard_moment, is_silence}
 use Rattle.hd_delivery.specs.Due.{handshake, opening, next_message, sequence_due, ack_due, message_due, ping_due, close_due, due_after, due_there, is_quiet, farewell, answer, due_on, due}
 use Rattle.hd_delivery.specs.Bytes.{Wire, ByteStep, Bytes, Does, bare_steps, in_frames}
 use Rattle.hd_delivery.specs.Laws.{IsSameButFed}
 
 -- the steps without what was fed
-abbrev pub unfed : List Step → List Step
+abbrev pub unfed : List EndEvent → List EndEvent
 unfed [] = []
 unfed (Fed piece ∷ h) = Fed [] ∷ unfed h
 unfed (s ∷ h) = s ∷ unfed h
 
-link : (h : List Step) → present_link (unfed h) ≡ present_link h
+link : (h : List EndEvent) → present_link (unfed h) ≡ present_link h
 link [] = refl
 link (Attached l now ∷ h) = refl
 link (Detached now ∷ h) = refl
 link (Silenced now ∷ h) = refl
 link (_ ∷ h) = link h
 
-first : (h : List Step) → first_link (unfed h) ≡ first_link h
+first : (h : List EndEvent) → first_link (unfed h) ≡ first_link h
 first [] = refl
 first (Attached l now ∷ h) = ap (λ o. first_of o (Some l)) (first h)
 first (_ ∷ h) = first h
 
-names : (l : ℕ) (h : List Step) → was_on l (unfed h) ≡ was_on l h
+names : (l : ℕ) (h : List EndEvent) → was_on l (unfed h) ≡ was_on l h
 names l [] = refl
 names l (Attached k now ∷ h) = rw (names l h) refl
 names l (_ ∷ h) = names l h
 
-stands : (l : ℕ) (h : List Step) → stands_on l (unfed h) ≡ stands_on l h
+stands : (l : ℕ) (h : List EndEvent) → stands_on l (unfed h) ≡ stands_on l h
 stands l h = ap (is_this l) (link h)
 
-codec : (c : Config) (h : List Step) → codec_of c (unfed h) ≡ codec_of c h
+codec : (c : Config) (h : List EndEvent) → codec_of c (unfed h) ≡ codec_of c h
 codec c [] = refl
 codec c (Took (gives.Shaken k v) ∷ h) = refl
 codec c (_ ∷ h) = codec c h
 
-shakes : (h : List Step) → is_shaken (unfed h) ≡ is_shaken h
+shakes : (h : List EndEvent) → is_shaken (unfed h) ≡ is_shaken h
 shakes [] = refl
 shakes (Took (gives.Shaken k v) ∷ h) = refl
 shakes (_ ∷ h) = shakes h
 
-version : (h : List Step) → agreed_version (unfed h) ≡ agreed_version h
+version : (h : List EndEvent) → agreed_version (unfed h) ≡ agreed_version h
 version [] = refl
 version (Took (gives.Shaken k v) ∷ h) = refl
 version (_ ∷ h) = version h
 
-keeps : (c : Config) (h : List Step) → is_kept c (unfed h) ≡ is_kept c h
+keeps : (c : Config) (h : List EndEvent) → is_resumable c (unfed h) ≡ is_resumable c h
 keeps c [] = refl
 keeps c (Took (gives.Shaken k v) ∷ h) = refl
 keeps c (_ ∷ h) = keeps c h
 
-ends : (c : Config) (h : List Step) → is_closed c (unfed h) ≡ is_closed c h
+ends : (c : Config) (h : List EndEvent) → is_closed c (unfed h) ≡ is_closed c h
 ends c [] = refl
 ends c (Closed reason allow ∷ h) = refl
 ends c (Failed fault ∷ h) = refl
@@ -67,46 +67,46 @@ ends c (Detached now ∷ h) = rw (keeps c h, ends c h) refl
 ends c (Silenced now ∷ h) = rw (keeps c h, ends c h) refl
 ends c (_ ∷ h) = ends c h
 
-takes : (l : ℕ) (h : List Step) → taken_count l (unfed h) ≡ taken_count l h
+takes : (l : ℕ) (h : List EndEvent) → taken_count l (unfed h) ≡ taken_count l h
 takes l [] = refl
 takes l (Took got ∷ h) = rw (stands l h, takes l h) refl
 takes l (Failed fault ∷ h) = rw (stands l h, takes l h) refl
 takes l (_ ∷ h) = takes l h
 
-lends : (l : ℕ) (h : List Step) → lent_frames l (unfed h) ≡ lent_frames l h
+lends : (l : ℕ) (h : List EndEvent) → lent_frames l (unfed h) ≡ lent_frames l h
 lends l [] = refl
 lends l (Lent f ∷ h) = rw (stands l h, lends l h) refl
 lends l (_ ∷ h) = lends l h
 
-sends : (h : List Step) → sent_messages (unfed h) ≡ sent_messages h
+sends : (h : List EndEvent) → sent_messages (unfed h) ≡ sent_messages h
 sends [] = refl
 sends (Sent m ∷ h) = ap (λ ms. ms ++ m ∷ []) (sends h)
 sends (_ ∷ h) = sends h
 
-gets : (h : List Step) → processed_messages (unfed h) ≡ processed_messages h
+gets : (h : List EndEvent) → processed_messages (unfed h) ≡ processed_messages h
 gets [] = refl
 gets (Took (gives.Message m) ∷ h) = ap (λ ms. ms ++ m ∷ []) (gets h)
 gets (_ ∷ h) = gets h
 
-acks : (h : List Step) → acked_count (unfed h) ≡ acked_count h
+acks : (h : List EndEvent) → acked_count (unfed h) ≡ acked_count h
 acks [] = refl
 acks (Took (gives.Acked n) ∷ h) = ap (max n) (acks h)
 acks (Took (gives.Resumed k n) ∷ h) = ap (max n) (acks h)
 acks (_ ∷ h) = acks h
 
-writes : (h : List Step) → written_place (unfed h) ≡ written_place h
+writes : (h : List EndEvent) → written_place (unfed h) ≡ written_place h
 writes [] = refl
 writes (Attached l now ∷ h) = refl
 writes (Lent (Numbered m) ∷ h) = rw (acks h, writes h) refl
 writes (_ ∷ h) = writes h
 
-resumes : (h : List Step) → is_resumed (unfed h) ≡ is_resumed h
+resumes : (h : List EndEvent) → is_resumed (unfed h) ≡ is_resumed h
 resumes [] = refl
 resumes (Attached l now ∷ h) = refl
 resumes (Took (gives.Resumed k n) ∷ h) = refl
 resumes (_ ∷ h) = resumes h
 
-moments : (h : List Step) → moment (unfed h) ≡ moment h
+moments : (h : List EndEvent) → moment (unfed h) ≡ moment h
 moments [] = refl
 moments (Attached l now ∷ h) = ap (max now) (moments h)
 moments (Detached now ∷ h) = ap (max now) (moments h)
@@ -114,50 +114,50 @@ moments (Ticked now ∷ h) = ap (max now) (moments h)
 moments (Silenced now ∷ h) = ap (max now) (moments h)
 moments (_ ∷ h) = moments h
 
-links : (h : List Step) → link_count (unfed h) ≡ link_count h
+links : (h : List EndEvent) → link_count (unfed h) ≡ link_count h
 links [] = refl
 links (Attached l now ∷ h) = ap suc (links h)
 links (_ ∷ h) = links h
 
-most : (h : List Step) → most_lent (unfed h) ≡ most_lent h
+most : (h : List EndEvent) → most_lent (unfed h) ≡ most_lent h
 most [] = refl
 most (Lent (Numbered m) ∷ h) = rw (acks h, writes h, most h) refl
 most (_ ∷ h) = most h
 
-hears : (h : List Step) → heard_moment (unfed h) ≡ heard_moment h
+hears : (h : List EndEvent) → heard_moment (unfed h) ≡ heard_moment h
 hears [] = refl
 hears (Attached l now ∷ h) = rw (moments h) refl
 hears (Fed piece ∷ h) = refl
 hears (Ticked now ∷ h) = rw (hears h, moments h) refl
 hears (_ ∷ h) = hears h
 
-wrote : (h : List Step) → written_moment (unfed h) ≡ written_moment h
+wrote : (h : List EndEvent) → written_moment (unfed h) ≡ written_moment h
 wrote [] = refl
 wrote (Attached l now ∷ h) = ap (max now) (moments h)
 wrote (Lent f ∷ h) = moments h
 wrote (_ ∷ h) = wrote h
 
-quiet : (h : List Step) → is_quiet (unfed h) ≡ is_quiet h
+quiet : (h : List EndEvent) → is_quiet (unfed h) ≡ is_quiet h
 quiet [] = refl
 quiet (Attached l now ∷ h) = refl
 quiet (Lent f ∷ h) = refl
 quiet (Ticked now ∷ h) = rw (wrote h, quiet h) refl
 quiet (_ ∷ h) = quiet h
 
-says_last : (h : List Step) → farewell (unfed h) ≡ farewell h
+says_last : (h : List EndEvent) → farewell (unfed h) ≡ farewell h
 says_last [] = refl
 says_last (Closed reason allow ∷ h) = refl
 says_last (Failed (Shake why text) ∷ h) = says_last h
 says_last (Failed fault ∷ h) = refl
 says_last (_ ∷ h) = says_last h
 
-answers : (h : List Step) → answer (unfed h) ≡ answer h
+answers : (h : List EndEvent) → answer (unfed h) ≡ answer h
 answers [] = refl
 answers (Failed (Shake why text) ∷ h) = refl
 answers (_ ∷ h) = answers h
 
 -- each thing that is due
-module _ (c : Config) (h : List Step) where
+module _ (c : Config) (h : List EndEvent) where
   is_in : state c (unfed h) ≡ state c h
   is_in = rw (ends c h, shakes h, link h) refl
 
@@ -236,7 +236,7 @@ same_steps wire c (Bytes piece ∷ h) = ap (λ k. Fed [] ∷ k) (same_steps wire
 same_steps wire c (Does (Fed piece) ∷ h) = ap (λ k. Fed [] ∷ k) (same_steps wire c h)
 same_steps wire c (Does s ∷ h) = ap (λ k. s ∷ k) (same_steps wire c h)
 
-via : (c : Config) (h k : List Step) → unfed h ≡ unfed k → IsSameButFed c h k
+via : (c : Config) (h k : List EndEvent) → unfed h ≡ unfed k → IsSameButFed c h k
 via c h k e =
     let a = without_fed c h in
     let b = without_fed c k in
@@ -246,7 +246,7 @@ via c h k e =
       names = λ l. sym (a.names l) ∙ (ap (was_on l) e ∙ b.names l);
       codec = sym a.codec ∙ (ap (codec_of c) e ∙ b.codec);
       shakes = sym a.shakes ∙ (ap is_shaken e ∙ b.shakes);
-      keeps = sym a.keeps ∙ (ap (is_kept c) e ∙ b.keeps);
+      keeps = sym a.keeps ∙ (ap (is_resumable c) e ∙ b.keeps);
       ends = sym a.ends ∙ (ap (is_closed c) e ∙ b.ends);
       stands = sym a.stands ∙ (ap (state c) e ∙ b.stands);
       takes = λ l. sym (a.takes l) ∙ (ap (taken_count l) e ∙ b.takes l);

@@ -10,7 +10,7 @@ use Rattle.hd_delivery.specs.declared.vocabulary.Side.TheVariants.{Client, Serve
 use Rattle.hd_delivery.specs.declared.vocabulary.Why.TheVariants.{Duplicate}
 use Rattle.hd_delivery.specs.declared.vocabulary.Got.TheVariants as gives
 use Rattle.hd_delivery.specs.Frames.{LinkFrame, Request, Response, Refusal, Numbered, Ack, Sequence, Ping, Close, Foreign, Strange, Unreadable, one_more, count, number, received_of, told_count}
-use Rattle.hd_delivery.specs.Histories.{Config, Step, Took, is_this, present_link, first_link, fed_frames, taken_count, read_frames, sent_messages, processed_messages, most_lent, is_shaken, is_three, is_kept, is_closed, is_resumed}
+use Rattle.hd_delivery.specs.Histories.{Config, EndEvent, Took, is_this, present_link, first_link, fed_frames, taken_count, read_frames, sent_messages, processed_messages, most_lent, is_shaken, is_three, is_resumable, is_closed, is_resumed}
 use Rattle.hd_delivery.specs.Due.{answer}
 use Rattle.hd_delivery.specs.Processes.{reads_handshake, reads_message, next_number, reads_frame, reads, next_frame, processes}
 use Rattle.hd_delivery.specs.Worlds.{Terms, config}
@@ -20,14 +20,14 @@ use Rattle.hd_delivery.proofs.Carries.{Facts, uses, facts, HasNumber, MayStand, 
 use Rattle.hd_delivery.proofs.Pair.{messages, is_seq, other, Pair, Fit, Makes, the_fed, next_ok, their_first, three_is}
 
 -- the first frame of the first link completes the handshake
-record Shakes (side : Side) (terms : Terms) (x : List Step) (t : LinkFrame) : Type 0 where
+record Shakes (side : Side) (terms : Terms) (x : List EndEvent) (t : LinkFrame) : Type 0 where
   makes : reads_handshake side (config side terms) x t ≡ Took (Shaken terms.codec terms.version)
   counts : count None t ≡ Some 1
   no_count : told_count t ≡ 0
   no_message : messages (t ∷ []) ≡ []
   no_sequence : is_seq t ≡ false
 
-handshake_ok : (side : Side) (terms : Terms) (x : List Step) (F : Facts) (l : ℕ) (t : LinkFrame) → F.side ≡ other side → F.version ≡ terms.version → F.codec ≡ terms.codec → F.first ≡ Some l → MayStand F l None t → Shakes side terms x t
+handshake_ok : (side : Side) (terms : Terms) (x : List EndEvent) (F : Facts) (l : ℕ) (t : LinkFrame) → F.side ≡ other side → F.version ≡ terms.version → F.codec ≡ terms.codec → F.first ≡ Some l → MayStand F l None t → Shakes side terms x t
 handshake_ok Client terms x F l (Request k v) s e c f o = absurd (let a : F.side ≡ Client = o.0 in cc)
 handshake_ok Client terms x F l Response s e c f o = record { makes = refl; counts = refl; no_count = refl; no_message = refl; no_sequence = refl }
 handshake_ok Server terms x F l (Request k v) s e c f o = record { makes = (let a = o.4 ∙ c in let b = o.3 ∙ e in λ i. Took (Shaken (a i) (b i))); counts = refl; no_count = refl; no_message = refl; no_sequence = refl }
@@ -43,7 +43,7 @@ handshake_ok side terms x F l (Strange why answer) s e c f o = absurd o
 handshake_ok side terms x F l (Unreadable at why) s e c f o = absurd o
 
 -- the step that the next frame makes, with the frame
-pub read_step : (c : Config) (h : List Step) (s : Step) → processes c h ≡ Some s
+pub read_step : (c : Config) (h : List EndEvent) (s : EndEvent) → processes c h ≡ Some s
     → (l : ℕ) × (t : LinkFrame) × (present_link h ≡ Some l) × (slice_get (fed_frames l h) (taken_count l h) ≡ Some t) × (reads c h (next_number c h l) t ≡ s)
 read_step c h s e = on_closed (is_closed c h) e
   where
@@ -62,7 +62,7 @@ read_step c h s e = on_closed (is_closed c h) e
     on_closed true e = absurd (cc)
     on_closed false e = on_link (present_link h) refl e
 
-module _ (side : Side) (terms : Terms) (x y : List Step) (i : Pair side terms x y) where
+module _ (side : Side) (terms : Terms) (x y : List EndEvent) (i : Pair side terms x y) where
   read_handshake : (l : ℕ) (t : LinkFrame) → present_link x ≡ Some l → slice_get (fed_frames l x) (taken_count l x) ≡ Some t → is_shaken x ≡ false → Makes side terms x y l t (reads_handshake side (config side terms) x t)
   read_handshake l t at next s =
       let first = i.own.one_link s l (here_was l x at) in
@@ -199,7 +199,7 @@ module _ (side : Side) (terms : Terms) (x y : List Step) (i : Pair side terms x 
   read_frame : (l : ℕ) (t : LinkFrame) → present_link x ≡ Some l → is_shaken x ≡ true
       → MayStand (facts (other side) terms y x) l (number (read_frames l x)) t
       → ((terms.version == 3) ≡ true → is_shaken x ≡ true → (m : Message) → t ≡ Numbered m → (next_number (config side terms) x l ≡ Some (suc (length (processed_messages x)))) × (slice_get (sent_messages y) (length (processed_messages x)) ≡ Some m) × (suc (length (processed_messages x)) ≤ most_lent y))
-      → Makes side terms x y l t (reads_frame (is_kept (config side terms) x) x (next_number (config side terms) x l) t)
+      → Makes side terms x y l t (reads_frame (is_resumable (config side terms) x) x (next_number (config side terms) x l) t)
   read_frame l (Request k v) at s o third = absurd (late_handshake l s o.2 o.1)
   read_frame l Response at s o third = absurd (late_handshake l s o.2 o.1)
   read_frame l (Numbered m) at s o third = go (terms.version == 3) refl
@@ -212,12 +212,12 @@ module _ (side : Side) (terms : Terms) (x y : List Step) (i : Pair side terms x 
           on_use : (terms.version == 3) ≡ false → (u : Bool) → uses terms ≡ u → Makes side terms x y l (Numbered m) (reads_message (length (processed_messages x)) (next_number (config side terms) x l) m)
           on_use b true u = let p = o.1 b in
               let three : is_three x ≡ false = three_is side terms x y i s ∙ b in
-              let used : is_kept (config side terms) x ≡ true = i.own.keeping s ∙ u in
+              let used : is_resumable (config side terms) x ≡ true = i.own.keeping s ∙ u in
               let n : next_number (config side terms) x l ≡ number (read_frames l x) = rw (three, used) refl in
               subst (λ n. Makes side terms x y l (Numbered m) (reads_message (length (processed_messages x)) n m)) (sym (n ∙ p.1)) (read_message l m p.0 b u at s p.1 p.2 p.3)
           on_use b false u = let p = o.1 b in
               let three : is_three x ≡ false = three_is side terms x y i s ∙ b in
-              let plain : is_kept (config side terms) x ≡ false = i.own.keeping s ∙ u in
+              let plain : is_resumable (config side terms) x ≡ false = i.own.keeping s ∙ u in
               let k : suc p.0 ≡ suc (length (processed_messages x)) = i.from.exact u l (suc p.0) at p.1 in
               let k' : p.0 ≡ length (processed_messages x) = omega arith in
               let near : is_this l (first_link x) ≡ true = is_this-same l (first_link x) (⊎_elim (λ f. f) (λ f. absurd (cc)) (i.own.later l (here_was l x at))) in
@@ -226,11 +226,11 @@ module _ (side : Side) (terms : Terms) (x y : List Step) (i : Pair side terms x 
               subst (λ n. Makes side terms x y l (Numbered m) (reads_message (length (processed_messages x)) n m)) (sym n)
               (read_third l m at s o.0 (subst (λ n. slice_get (sent_messages y) n ≡ Some m) k' p.2) (subst (λ n. suc n ≤ most_lent y) k' p.3))
   read_frame l (Ack a) at s o third =
-      let keeping : is_kept (config side terms) x ≡ true = i.own.keeping s ∙ o.1 in
+      let keeping : is_resumable (config side terms) x ≡ true = i.own.keeping s ∙ o.1 in
       let used : uses terms ≡ true = o.1 in
       let few : a ≤ length (processed_messages y) = o.2 in
       let most = i.to.most in
-      both (Makes side terms x y l (Ack a)) (is_kept (config side terms) x) _ _
+      both (Makes side terms x y l (Ack a)) (is_resumable (config side terms) x) _ _
       (λ e. both (Makes side terms x y l (Ack a)) (leb a (most_lent x)) _ _
       (λ e. (
         Acked a,
@@ -259,14 +259,14 @@ module _ (side : Side) (terms : Terms) (x y : List Step) (i : Pair side terms x 
       (λ e. let e' = leb-false a (most_lent x) e in absurd (omega arith)))
       (λ e. absurd (cc))
   read_frame l (Sequence n received) at s o third =
-      let keeping : is_kept (config side terms) x ≡ true = i.own.keeping s ∙ o.3 in
+      let keeping : is_resumable (config side terms) x ≡ true = i.own.keeping s ∙ o.3 in
       let used : uses terms ≡ true = o.3 in
       let below : o.0 ≤ length (processed_messages x) = o.2 in
       let is : n ≡ suc o.0 = o.1 in
       let few : received_of received ≤ length (processed_messages y) = o.5 in
       let most = i.to.most in
       let three = three_is side terms x y i s in
-      both (Makes side terms x y l (Sequence n received)) (is_kept (config side terms) x) _ _
+      both (Makes side terms x y l (Sequence n received)) (is_resumable (config side terms) x) _ _
       (λ e. both (Makes side terms x y l (Sequence n received)) (leb n (suc (length (processed_messages x)))) _ _
       (λ e. both (Makes side terms x y l (Sequence n received)) (is_three x) _ _
       (λ e. both (Makes side terms x y l (Sequence n received)) (leb (received_of received) (most_lent x)) _ _

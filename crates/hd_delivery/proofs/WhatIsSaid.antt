@@ -10,7 +10,7 @@ use Rattle.hd_delivery.specs.declared.vocabulary.Side.{Side}
 use Rattle.hd_delivery.specs.declared.vocabulary.Side.TheVariants.{Client, Server}
 use Rattle.hd_delivery.specs.declared.vocabulary.Why.TheVariants.{Duplicate, Unknown, BeforeSequence, NotUsed}
 use Rattle.hd_delivery.specs.Frames.{LinkFrame, Request, Response, Numbered, Ack, Sequence, Ping, Close, error_of, count, number, received_of, told_count, most_told}
-use Rattle.hd_delivery.specs.Histories.{Shake, Step, Took, Failed, Lent, Closed, is_this, first_of, present_link, first_link, lent_frames, sent_messages, processed_messages, acked_count, written_place, next_place, most_lent, is_shaken, is_three, is_kept, is_closed, state, is_resumed}
+use Rattle.hd_delivery.specs.Histories.{Shake, EndEvent, Took, Failed, Lent, Closed, is_this, first_of, present_link, first_link, lent_frames, sent_messages, processed_messages, acked_count, written_place, next_place, most_lent, is_shaken, is_three, is_resumable, is_closed, state, is_resumed}
 use Rattle.hd_delivery.specs.Due.{handshake, opening, next_message, sequence_due, ack_due, may_write, message_due, is_quiet, is_ready, ping_due, farewell, has_close, close_due, due_after, answer, due_there, due_on, due}
 use Rattle.hd_delivery.specs.Worlds.{Terms, codec_at, version_at, config, IsFaultless}
 use Rattle.hd_delivery.proofs.Lists.{get_within}
@@ -39,7 +39,7 @@ and_rest : (a b : Bool) → a ≡ false → (not a && b) ≡ false → b ≡ fal
 and_rest true b e f = absurd (cc)
 and_rest false b e f = f
 
-pub not_failed : (h : List Step) → IsFaultless h → answer h ≡ None
+pub not_failed : (h : List EndEvent) → IsFaultless h → answer h ≡ None
 not_failed [] f = refl
 not_failed (Failed e ∷ h) f = absurd f
 not_failed (Took (Skipped (Duplicate n)) ∷ h) f = not_failed h f
@@ -48,14 +48,14 @@ not_failed (Took (Skipped BeforeSequence) ∷ h) f = absurd f
 not_failed (Took (Skipped NotUsed) ∷ h) f = absurd f
 not_failed (_ ∷ h) f = not_failed h f
 
-farewell_is : (h : List Step) (t : LinkFrame) → farewell h ≡ Some t → (reason : Reason) × (allow : Bool) × (t ≡ Close (error_of reason) allow)
+farewell_is : (h : List EndEvent) (t : LinkFrame) → farewell h ≡ Some t → (reason : Reason) × (allow : Bool) × (t ≡ Close (error_of reason) allow)
 farewell_is [] t e = absurd (cc)
 farewell_is (Closed reason allow ∷ h) t e = (reason, allow, let f : Close (error_of reason) allow ≡ t = cc in sym f)
 farewell_is (Failed (Shake why text) ∷ h) t e = farewell_is h t e
 farewell_is (Failed fault ∷ h) t e = (Protocol, false, let f : Close (error_of Protocol) false ≡ t = cc in sym f)
 farewell_is (_ ∷ h) t e = farewell_is h t e
 
-module _ (side : Side) (terms : Terms) (x y : List Step) (i : Pair side terms x y) where
+module _ (side : Side) (terms : Terms) (x y : List EndEvent) (i : Pair side terms x y) where
   no_written : (l : ℕ) → present_link x ≡ Some l → lent_frames l x ≡ [] → written_place x ≡ 0
   no_written l at empty = i.own.untold l at (ap messages empty)
 
@@ -189,9 +189,9 @@ module _ (side : Side) (terms : Terms) (x y : List Step) (i : Pair side terms x 
 
       by_ack : ack_due (config side terms) x (lent_frames l x) ≡ Some t → Says side terms x y l t
       by_ack e =
-          let f = if_some ((is_kept (config side terms) x && not (is_closed (config side terms) x)) && nat_lt (most_told (lent_frames l x)) (length (processed_messages x))) (Ack (length (processed_messages x))) t e in
-          let g = and_parts (is_kept (config side terms) x && not (is_closed (config side terms) x)) (nat_lt (most_told (lent_frames l x)) (length (processed_messages x))) f.0 in
-          let k = and_parts (is_kept (config side terms) x) (not (is_closed (config side terms) x)) g.0 in
+          let f = if_some ((is_resumable (config side terms) x && not (is_closed (config side terms) x)) && nat_lt (most_told (lent_frames l x)) (length (processed_messages x))) (Ack (length (processed_messages x))) t e in
+          let g = and_parts (is_resumable (config side terms) x && not (is_closed (config side terms) x)) (nat_lt (most_told (lent_frames l x)) (length (processed_messages x))) f.0 in
+          let k = and_parts (is_resumable (config side terms) x) (not (is_closed (config side terms) x)) g.0 in
           subst (λ t. Says side terms x y l t) f.1
           (says_frame l (Ack (length (processed_messages x))) ((n, num), sym (i.own.keeping (kept_shaken (config side terms) x k.0)) ∙ k.0, omega arith) (λ b. i.own.placed b l at) refl refl (λ m e. absurd (cc)) (λ e. absurd (said_some l n num e)))
 

@@ -5,7 +5,7 @@ use Rattle.std.proofs.lemmas.Bool.{or_cases, eqb-true}
 use Rattle.hd_delivery.specs.declared.vocabulary.Side.{Side}
 use Rattle.hd_delivery.specs.declared.vocabulary.Side.TheVariants.{Client, Server}
 use Rattle.hd_delivery.specs.Frames.{LinkFrame}
-use Rattle.hd_delivery.specs.Histories.{Step, Attached, Detached, Fed, Took, Failed, Sent, Lent, Ticked, Silenced, Closed, first_of, present_link, was_on, first_link, fed_frames, taken_count, is_shaken, is_kept}
+use Rattle.hd_delivery.specs.Histories.{EndEvent, Attached, Detached, Fed, Took, Failed, Sent, Lent, Ticked, Silenced, Closed, first_of, present_link, was_on, first_link, fed_frames, taken_count, is_shaken, is_resumable}
 use Rattle.hd_delivery.specs.Processes.{next_number, reads}
 use Rattle.hd_delivery.specs.Worlds.{Limits, Sizes, MayAttach, Allowed, Terms, config, Event, ByClient, ByServer, client_of, server_of, IsWorld}
 use Rattle.hd_delivery.proofs.Local.{or_right, none_was, first_was}
@@ -15,15 +15,15 @@ use Rattle.hd_delivery.proofs.WhatIsSaid.{says_due}
 use Rattle.hd_delivery.proofs.Run.{Run, writes_detached, writes_sent, writes_fed, writes_attached, writes_read, writes_lent, reads_detached, reads_fed, reads_read, reads_attached, reads_lent, third}
 
 -- what holds of two ends in every world
-abbrev pub Inv : Side → Terms → List Step → List Step → Type 0
+abbrev pub Inv : Side → Terms → List EndEvent → List EndEvent → Type 0
 Inv side terms x y = record {
   pair : Pair side terms x y;
   runs : (terms.version == 3) ≡ true → Run x y;
   runs_back : (terms.version == 3) ≡ true → Run y x;
 }
 
-module _ (limits : Limits) (sizes : Sizes) (side : Side) (terms : Terms) (x y : List Step) (i : Inv side terms x y) where
-  pub links : (l : ℕ) → was_on l x ≡ false → (first_link x ≡ None) ⊎ (is_kept (config side terms) x ≡ true)
+module _ (limits : Limits) (sizes : Sizes) (side : Side) (terms : Terms) (x y : List EndEvent) (i : Inv side terms x y) where
+  pub links : (l : ℕ) → was_on l x ≡ false → (first_link x ≡ None) ⊎ (is_resumable (config side terms) x ≡ true)
       → ((k j : ℕ) → first_of (first_link x) (Some l) ≡ Some k → first_link y ≡ Some j → k ≡ j)
       → Inv side terms (Attached l 0 ∷ x) y
   links l fresh may agree = record {
@@ -32,7 +32,7 @@ module _ (limits : Limits) (sizes : Sizes) (side : Side) (terms : Terms) (x y : 
     runs_back = λ b. reads_attached side terms x y i.pair b l fresh (i.runs_back b);
   }
 
-  reads_one : (s : Step) → (l : ℕ) (t : LinkFrame) → present_link x ≡ Some l → slice_get (fed_frames l x) (taken_count l x) ≡ Some t → reads (config side terms) x (next_number (config side terms) x l) t ≡ s → Inv side terms (s ∷ x) y
+  reads_one : (s : EndEvent) → (l : ℕ) (t : LinkFrame) → present_link x ≡ Some l → slice_get (fed_frames l x) (taken_count l x) ≡ Some t → reads (config side terms) x (next_number (config side terms) x l) t ≡ s → Inv side terms (s ∷ x) y
   reads_one s l t at next is =
       let f = read_any side terms x y i.pair l t at next (λ b s m e. third side terms x y i.pair b (i.runs_back b) l t at next b s m e) in
       subst (λ s. Inv side terms (s ∷ x) y) (sym f.1 ∙ is) (record {
@@ -42,7 +42,7 @@ module _ (limits : Limits) (sizes : Sizes) (side : Side) (terms : Terms) (x y : 
       })
 
   -- every step but a new link keeps all
-  pub steps : (s : Step) → ((l now : ℕ) → s ≡ Attached l now → ⊥) → Allowed limits sizes (config side terms) x y s → Inv side terms (s ∷ x) y
+  pub steps : (s : EndEvent) → ((l now : ℕ) → s ≡ Attached l now → ⊥) → Allowed limits sizes (config side terms) x y s → Inv side terms (s ∷ x) y
   steps (Attached l now) new a = absurd (new l now refl)
   steps (Detached now) new a = record {
     pair = detached side terms x y i.pair;
@@ -82,20 +82,20 @@ module _ (limits : Limits) (sizes : Sizes) (side : Side) (terms : Terms) (x y : 
   steps (Closed reason allow) new a = i
 
 -- what holds of the two ends and of their links
-abbrev pub Together : Terms → List Step → List Step → Type 0
+abbrev pub Together : Terms → List EndEvent → List EndEvent → Type 0
 Together terms c s = record {
   ends : Inv Client terms c s;
   among : (l : ℕ) → was_on l s ≡ true → was_on l c ≡ true;
 }
 
-pub to_server : (terms : Terms) (x y : List Step) → Inv Client terms x y → Inv Server terms y x
+pub to_server : (terms : Terms) (x y : List EndEvent) → Inv Client terms x y → Inv Server terms y x
 to_server terms x y i = record {
   pair = record { own = i.pair.its; its = i.pair.own; to = i.pair.from; from = i.pair.to; agree = λ k l e f. sym (i.pair.agree l k f e); met = i.pair.met_back; met_back = i.pair.met };
   runs = i.runs_back;
   runs_back = i.runs;
 }
 
-to_client : (terms : Terms) (x y : List Step) → Inv Server terms y x → Inv Client terms x y
+to_client : (terms : Terms) (x y : List EndEvent) → Inv Server terms y x → Inv Client terms x y
 to_client terms x y i = record {
   pair = record { own = i.pair.its; its = i.pair.own; to = i.pair.from; from = i.pair.to; agree = λ k l e f. sym (i.pair.agree l k f e); met = i.pair.met_back; met_back = i.pair.met };
   runs = i.runs_back;
@@ -157,7 +157,7 @@ start terms = record {
       elsewhere = λ l ρ k e. absurd (none_there l e);
     }
 
-module _ (limits : Limits) (sizes : Sizes) (terms : Terms) (c s : List Step) (t : Together terms c s) where
+module _ (limits : Limits) (sizes : Sizes) (terms : Terms) (c s : List EndEvent) (t : Together terms c s) where
   -- a new link of the client's
   client_links : (l now : ℕ) → MayAttach (config Client terms) c s l now → Together terms (Attached l 0 ∷ c) s
   client_links l now a = record {
@@ -169,7 +169,7 @@ module _ (limits : Limits) (sizes : Sizes) (terms : Terms) (c s : List Step) (t 
       agree None e k j f g = let w = t.among j (first_was s j g) in let n = none_was j c e in let z : false ≡ true = sym n ∙ w in absurd (cc)
       agree (Some i) e k j f g = let f' : i ≡ k = cc in sym f' ∙ t.ends.pair.agree i j e g
 
-  pub client_steps : (step : Step) → Allowed limits sizes (config Client terms) c s step → Together terms (step ∷ c) s
+  pub client_steps : (step : EndEvent) → Allowed limits sizes (config Client terms) c s step → Together terms (step ∷ c) s
   client_steps (Attached l now) a = client_links l now a
   client_steps step a = record { ends = steps limits sizes Client terms c s t.ends step (λ l now e. absurd (cc)) a; among = t.among }
 
@@ -188,11 +188,11 @@ module _ (limits : Limits) (sizes : Sizes) (terms : Terms) (c s : List Step) (t 
           go false h = let p : first_link c ≡ Some l = t.ends.pair.own.one_link h l a.named in cc
       agree (Some i) e k j f g = let f' : i ≡ k = cc in sym f' ∙ sym (t.ends.pair.agree j i g e)
 
-  pub server_steps : (step : Step) → Allowed limits sizes (config Server terms) s c step → Together terms c (step ∷ s)
+  pub server_steps : (step : EndEvent) → Allowed limits sizes (config Server terms) s c step → Together terms c (step ∷ s)
   server_steps (Attached l now) a = server_links l now a
   server_steps step a = record { ends = to_client terms c (step ∷ s) (steps limits sizes Server terms s c (to_server terms c s t.ends) step (λ l now e. absurd (cc)) a); among = t.among }
 
-pub together : (limits : Limits) (sizes : Sizes) (terms : Terms) (w : List (Event Step)) → IsWorld limits sizes terms w → Together terms (client_of w) (server_of w)
+pub together : (limits : Side → Limits) (sizes : Sizes) (terms : Terms) (w : List (Event EndEvent)) → IsWorld limits sizes terms w → Together terms (client_of w) (server_of w)
 together limits sizes terms [] i = start terms
-together limits sizes terms (ByClient step ∷ w) i = client_steps limits sizes terms (client_of w) (server_of w) (together limits sizes terms w i.0) step i.1
-together limits sizes terms (ByServer step ∷ w) i = server_steps limits sizes terms (client_of w) (server_of w) (together limits sizes terms w i.0) step i.1
+together limits sizes terms (ByClient step ∷ w) i = client_steps (limits Client) sizes terms (client_of w) (server_of w) (together limits sizes terms w i.0) step i.1
+together limits sizes terms (ByServer step ∷ w) i = server_steps (limits Server) sizes terms (client_of w) (server_of w) (together limits sizes terms w i.0) step i.1

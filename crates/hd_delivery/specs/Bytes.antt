@@ -12,7 +12,7 @@ use Rattle.hd_delivery.specs.declared.vocabulary.Side.TheVariants.{Client, Serve
 use Rattle.hd_delivery.specs.declared.vocabulary.State.TheVariants.{Ready}
 use Rattle.hd_delivery.specs.Numbers.{most_messages, most_framing}
 use Rattle.hd_delivery.specs.Frames.{LinkFrame, Request, Response, Numbered, Ack, Sequence, Ping, Close, Refusal, Strange, Unreadable, error_of, received_of, Foreign}
-use Rattle.hd_delivery.specs.Histories.{Step, Fed, Config, is_this, present_link, stands_on, first_link, as_told, fed_frames, lent_frames, taken_count, sent_messages, codec_of, is_closed, state}
+use Rattle.hd_delivery.specs.Histories.{EndEvent, Fed, Config, is_this, present_link, stands_on, first_link, as_told, fed_frames, lent_frames, taken_count, sent_messages, codec_of, is_closed, state}
 use Rattle.hd_delivery.specs.Due.{due}
 use Rattle.hd_facts.specs.Prefixes.{IsPrefix}
 use Rattle.hd_delivery.specs.Worlds.{Limits, Sizes, CanBeSent, Allowed, Terms, config, Event, ByClient, ByServer, client_of, server_of, Still, Delivery}
@@ -123,7 +123,7 @@ codec_after own (Request codec version) = codec
 codec_after own _ = own
 
 -- the frames at the front of what was fed on a link
-abbrev pub cut : Wire → Config → List Step → ℕ → List ℕ → List Cut
+abbrev pub cut : Wire → Config → List EndEvent → ℕ → List ℕ → List Cut
 cut wire c h l bytes =
     if is_this l (first_link h)
     then cut_by (wire.first c.side bytes) 0 bytes (λ f at rest. cut_all (wire.later (codec_after c.codec f)) (length rest) at rest)
@@ -138,10 +138,10 @@ frames cuts = map (λ x. x.0) cuts
 -- a step of an end that is fed bytes
 pub data ByteStep : Type 0 where
   Bytes : (piece : List ℕ) → ByteStep  -- these were fed
-  Does : Step → ByteStep
+  Does : EndEvent → ByteStep
 
 -- the steps without the bytes
-abbrev pub bare_steps : List ByteStep → List Step
+abbrev pub bare_steps : List ByteStep → List EndEvent
 bare_steps [] = []
 bare_steps (Bytes piece ∷ h) = Fed [] ∷ bare_steps h
 bare_steps (Does s ∷ h) = s ∷ bare_steps h
@@ -153,12 +153,12 @@ bytes_on l (Bytes piece ∷ h) = if stands_on l (bare_steps h) then bytes_on l h
 bytes_on l (Does s ∷ h) = bytes_on l h
 
 -- the frames that become whole with a piece
-abbrev pub new_frames : Wire → Config → List ByteStep → List Step → Option ℕ → List ℕ → List LinkFrame
+abbrev pub new_frames : Wire → Config → List ByteStep → List EndEvent → Option ℕ → List ℕ → List LinkFrame
 new_frames wire c h steps None piece = []
 new_frames wire c h steps (Some l) piece = drop (length (fed_frames l steps)) (frames (cut wire c steps l (bytes_on l h ++ piece)))
 
 -- the history in frames
-abbrev pub in_frames : Wire → Config → List ByteStep → List Step
+abbrev pub in_frames : Wire → Config → List ByteStep → List EndEvent
 in_frames wire c [] = []
 in_frames wire c (Bytes piece ∷ h) = let steps = in_frames wire c h in Fed (new_frames wire c h steps (present_link steps) piece) ∷ steps
 in_frames wire c (Does s ∷ h) = s ∷ in_frames wire c h
@@ -206,20 +206,21 @@ AllowedOverBytes limits wire c oc h other (Bytes piece) = MayFeedBytes limits wi
 AllowedOverBytes limits wire c oc h other (Does (Fed piece)) = ⊥
 AllowedOverBytes limits wire c oc h other (Does s) = Allowed limits (sizes_of wire) c (in_frames wire c h) (in_frames wire oc other) s
 
--- each event is a step that was allowed after those before it
-abbrev pub IsWorldOverBytes : Limits → Wire → Terms → List (Event ByteStep) → Type 0
-IsWorldOverBytes limits wire t [] = Unit {0}
+-- Each event is a step that was allowed after those before it, by its side's limits. The greatest frame is the same at both sides; what
+-- else an end may hold is its own
+abbrev pub IsWorldOverBytes : (Side → Limits) → Wire → Terms → List (Event ByteStep) → Type 0
+IsWorldOverBytes limits wire t [] = (limits Client).frame ≡ (limits Server).frame
 IsWorldOverBytes limits wire t (ByClient s ∷ w) =
-    IsWorldOverBytes limits wire t w × AllowedOverBytes limits wire (config Client t) (config Server t) (client_of w) (server_of w) s
+    IsWorldOverBytes limits wire t w × AllowedOverBytes (limits Client) wire (config Client t) (config Server t) (client_of w) (server_of w) s
 IsWorldOverBytes limits wire t (ByServer s ∷ w) =
-    IsWorldOverBytes limits wire t w × AllowedOverBytes limits wire (config Server t) (config Client t) (server_of w) (client_of w) s
+    IsWorldOverBytes limits wire t w × AllowedOverBytes (limits Server) wire (config Server t) (config Client t) (server_of w) (client_of w) s
 
 -- the client's history in frames
-abbrev pub client_in_frames : Wire → Terms → List (Event ByteStep) → List Step
+abbrev pub client_in_frames : Wire → Terms → List (Event ByteStep) → List EndEvent
 client_in_frames wire t w = in_frames wire (config Client t) (client_of w)
 
 -- the server's history in frames
-abbrev pub server_in_frames : Wire → Terms → List (Event ByteStep) → List Step
+abbrev pub server_in_frames : Wire → Terms → List (Event ByteStep) → List EndEvent
 server_in_frames wire t w = in_frames wire (config Server t) (server_of w)
 
 -- as `Still`, where each end has been fed every byte that the other lent
@@ -244,6 +245,6 @@ pub record DeliveryOverBytes (wire : Wire) (t : Terms) (w : List (Event ByteStep
 
 -- it holds in every world over bytes whose readers are faithful to what is sent there
 abbrev pub HoldsOverBytes : Type 0
-HoldsOverBytes = (limits : Limits) (wire : Wire) (t : Terms) (w : List (Event ByteStep))
-    → IsFaithful limits wire t.codec t.version (sent_messages (client_in_frames wire t w) ++ sent_messages (server_in_frames wire t w))
+HoldsOverBytes = (limits : Side → Limits) (wire : Wire) (t : Terms) (w : List (Event ByteStep))
+    → IsFaithful (limits Client) wire t.codec t.version (sent_messages (client_in_frames wire t w) ++ sent_messages (server_in_frames wire t w))
     → IsWorldOverBytes limits wire t w → DeliveryOverBytes wire t w

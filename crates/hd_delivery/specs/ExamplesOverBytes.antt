@@ -11,12 +11,12 @@ use Rattle.hd_delivery.specs.declared.vocabulary.Side.TheVariants.{Client, Serve
 use Rattle.hd_delivery.specs.declared.vocabulary.State.{State}
 use Rattle.hd_delivery.specs.declared.vocabulary.Got.TheVariants as gives
 use Rattle.hd_delivery.specs.Frames.{LinkFrame, Request, Response, Numbered, Ack, Sequence, Ping, Close, Strange, error_of}
-use Rattle.hd_delivery.specs.Histories.{Unread, Config, Step, Attached, Took, Failed, Sent, Lent, Closed}
+use Rattle.hd_delivery.specs.Histories.{Unread, Config, EndEvent, Attached, Took, Failed, Sent, Lent, Closed}
 use Rattle.hd_delivery.specs.Processes.{processes}
 use Rattle.hd_delivery.specs.Worlds.{Limits, Terms, config, Event, ByClient, ByServer, client_of, server_of}
 use Rattle.hd_delivery.specs.Bytes.{Reading, Waits, Reads, Refuses, Stops, Wire, ByteStep, Bytes, Does, in_frames, read_count, unread, MayFeedBytes, IsWorldOverBytes, StillOverBytes}
 use Rattle.hd_delivery.specs.OneHistory.{MayDoOverBytes, IsHistory, next_reader}
-use Rattle.hd_delivery.specs.Examples.{call, a, b, c, usual, terms, summary}
+use Rattle.hd_delivery.specs.Examples.{call, a, b, c, limits_of, usual, terms, summary}
 
 -- ---- what is written
 
@@ -189,8 +189,18 @@ closed_over_bytes = opened_over_bytes Json ++ server (Does (Closed Done false) �
 abbrev pub summary_over_bytes : Config → List ByteStep → State × ℕ × ℕ × ℕ
 summary_over_bytes config h = summary config (in_frames four config h)
 
+-- the client's end may hold the three messages that it says, the server's end one
+abbrev pub own_limits : Side → Limits
+own_limits Client = limits_of 4 3 12
+own_limits Server = limits_of 4 1 9
+
+-- the server's end takes a longer frame than the client's
+abbrev pub two_greatest_frames : Side → Limits
+two_greatest_frames Client = limits_of 4 3 12
+two_greatest_frames Server = limits_of 5 3 12
+
 -- these events are a world over bytes, at whose end the two ends are so
-pub record IsWorkedOverBytes (limits : Limits) (t : Terms) (events : List (Event ByteStep)) (of_client of_server : State × ℕ × ℕ × ℕ) : Type 0 where
+pub record IsWorkedOverBytes (limits : Side → Limits) (t : Terms) (events : List (Event ByteStep)) (of_client of_server : State × ℕ × ℕ × ℕ) : Type 0 where
   pub is_world : IsWorldOverBytes limits four t (reverse events)
   pub at_client : summary_over_bytes (config Client t) (client_of (reverse events)) ≡ of_client
   pub at_server : summary_over_bytes (config Server t) (server_of (reverse events)) ≡ of_server
@@ -223,7 +233,7 @@ abbrev pub stopped : List ByteStep
 stopped = unreadable ++ Does (Lent Response) ∷ Does (Attached 1 0) ∷ Bytes (9 ∷ 9 ∷ 9 ∷ 9 ∷ 6 ∷ 0 ∷ 0 ∷ 0 ∷ []) ∷ []
 
 -- what the server's next frame makes after these steps
-abbrev pub NextStepOverBytes : List ByteStep → Option Step → Type 0
+abbrev pub NextStepOverBytes : List ByteStep → Option EndEvent → Type 0
 NextStepOverBytes steps step = processes (config Server (terms 2 true)) (in_frames four (config Server (terms 2 true)) (reverse steps)) ≡ step
 
 -- ---- one end alone

@@ -3,10 +3,11 @@ use Rattle.std.specs.Prelude.{◌≡◌, ℕ, ◌+◌, ◌<◌, ◌≤◌, Bool,
 use Rattle.hm_message.specs.declared.message.Message.{Message}
 use Rattle.hd_delivery.specs.declared.vocabulary.Got.{Got}
 use Rattle.hd_delivery.specs.declared.vocabulary.Reason.{Reason}
+use Rattle.hd_delivery.specs.declared.vocabulary.Side.{Side}
 use Rattle.hd_delivery.specs.declared.vocabulary.Side.TheVariants.{Client, Server}
 use Rattle.hd_delivery.specs.Numbers.{most_messages, most_framing}
 use Rattle.hd_delivery.specs.Frames.{LinkFrame, count, number, told_count, most_told}
-use Rattle.hd_delivery.specs.Histories.{Config, Step, Attached, Detached, Fed, Took, Failed, Sent, Lent, Ticked, Silenced, Closed, Fault, is_this, present_link, was_on, first_link, link_count, fed_frames, lent_frames, taken_count, read_frames, sent_messages, processed_messages, acked_count, written_place, most_lent, is_shaken, agreed_version, codec_of, can_keep, is_kept, is_closed}
+use Rattle.hd_delivery.specs.Histories.{Config, EndEvent, Attached, Detached, Fed, Took, Failed, Sent, Lent, Ticked, Silenced, Closed, Fault, is_this, present_link, was_on, first_link, link_count, fed_frames, lent_frames, taken_count, read_frames, sent_messages, processed_messages, acked_count, written_place, most_lent, is_shaken, agreed_version, codec_of, can_keep, is_resumable, is_closed}
 use Rattle.hd_delivery.specs.Due.{has_close, farewell, answer}
 use Rattle.hd_delivery.specs.Processes.{processes}
 use Rattle.hd_delivery.specs.Worlds.{Limits, Terms, config, Event, client_of, server_of}
@@ -16,8 +17,8 @@ use Rattle.hd_delivery.specs.Laws.{IsInOrder}
 
 -- in a world over bytes each end's steps are a history that it can make by itself
 abbrev pub WorldsAreHistories : Type 0
-WorldsAreHistories = (limits : Limits) (wire : Wire) (t : Terms) (w : List (Event ByteStep)) → IsWorldOverBytes limits wire t w
-    → IsHistory limits wire (config Client t) (client_of w) × IsHistory limits wire (config Server t) (server_of w)
+WorldsAreHistories = (limits : Side → Limits) (wire : Wire) (t : Terms) (w : List (Event ByteStep)) → IsWorldOverBytes limits wire t w
+    → IsHistory (limits Client) wire (config Client t) (client_of w) × IsHistory (limits Server) wire (config Server t) (server_of w)
 
 -- such a history is in order
 abbrev pub HistoriesAreInOrder : Type 0
@@ -26,7 +27,7 @@ HistoriesAreInOrder = (limits : Limits) (wire : Wire) (c : Config) (h : List Byt
 -- ---- the numbers of one end
 
 -- what is said of a history in frames, where one end made it
-pub record HistoryFacts (c : Config) (h : List Step) : Type 0 where
+pub record HistoryFacts (c : Config) (h : List EndEvent) : Type 0 where
   -- the counts
   pub sent_are_few : length (sent_messages h) ≤ most_messages
   pub acked_were_lent : acked_count h ≤ most_lent h
@@ -38,14 +39,14 @@ pub record HistoryFacts (c : Config) (h : List Step) : Type 0 where
   pub is_where_it_was : (l : ℕ) → present_link h ≡ Some l → was_on l h ≡ true
   pub first_is_only : (l : ℕ) → present_link h ≡ Some l → is_this l (first_link h) ≡ (link_count h == 1)
   -- a plain connection, and each one before the handshake is complete
-  pub plain_has_one_link : is_kept c h ≡ false → link_count h ≤ 1
-  pub plain_is_unacked : is_kept c h ≡ false → acked_count h ≡ 0
-  pub plain_is_written : is_kept c h ≡ false → written_place h ≡ most_lent h
+  pub plain_has_one_link : is_resumable c h ≡ false → link_count h ≤ 1
+  pub plain_is_unacked : is_resumable c h ≡ false → acked_count h ≡ 0
+  pub plain_is_written : is_resumable c h ≡ false → written_place h ≡ most_lent h
   -- the handshake
-  pub kept_by_version : is_kept c h ≡ (c.reconnect && can_keep (agreed_version h))
+  pub kept_by_version : is_resumable c h ≡ (c.reconnect && can_keep (agreed_version h))
   pub unshaken_has_no_version : is_shaken h ≡ false → agreed_version h ≡ 0
   pub unshaken_has_its_codec : is_shaken h ≡ false → codec_of c h ≡ c.codec
-  pub unshaken_is_plain : is_shaken h ≡ false → is_kept c h ≡ false
+  pub unshaken_is_plain : is_shaken h ≡ false → is_resumable c h ≡ false
   pub unshaken_sent_none : is_shaken h ≡ false → sent_messages h ≡ []
   pub unshaken_processed_none : is_shaken h ≡ false → processed_messages h ≡ []
   pub unshaken_is_on_first : is_shaken h ≡ false → (l : ℕ) → present_link h ≡ Some l → first_link h ≡ Some l
@@ -62,19 +63,19 @@ abbrev pub FactsHold : Type 0
 FactsHold = (limits : Limits) (wire : Wire) (c : Config) (h : List ByteStep) → IsHistory limits wire c h → HistoryFacts c (in_frames wire c h)
 
 -- on it nothing was fed, lent or dealt with
-pub record IsUntouched (l : ℕ) (h : List Step) : Type 0 where
+pub record IsUntouched (l : ℕ) (h : List EndEvent) : Type 0 where
   pub fed : fed_frames l h ≡ []
   pub lent : lent_frames l h ≡ []
   pub taken : taken_count l h ≡ 0
 
 -- so it is of each link on which the end never stood
 abbrev pub UnusedIsUntouched : Type 0
-UnusedIsUntouched = (h : List Step) (l : ℕ) → was_on l h ≡ false → IsUntouched l h
+UnusedIsUntouched = (h : List EndEvent) (l : ℕ) → was_on l h ≡ false → IsUntouched l h
 
 -- ---- the frames of a link
 
 -- what one more step makes of the frames of the link where the end stands. What is fed isn't read yet
-pub record LinkGrows (h : List Step) (l : ℕ) : Type 0 where
+pub record LinkGrows (h : List EndEvent) (l : ℕ) : Type 0 where
   pub lent : (f : LinkFrame) → lent_frames l (Lent f ∷ h) ≡ lent_frames l h ++ f ∷ []
   pub fed : (piece : List LinkFrame) → taken_count l h ≤ length (fed_frames l h) → read_frames l (Fed piece ∷ h) ≡ read_frames l h
   pub took : (got : Got) (f : LinkFrame) → slice_get (fed_frames l h) (taken_count l h) ≡ Some f → read_frames l (Took got ∷ h) ≡ read_frames l h ++ f ∷ []
@@ -82,7 +83,7 @@ pub record LinkGrows (h : List Step) (l : ℕ) : Type 0 where
 
 -- so it is wherever an end stands
 abbrev pub LinksGrow : Type 0
-LinksGrow = (h : List Step) (l : ℕ) → present_link h ≡ Some l → LinkGrows h l
+LinksGrow = (h : List EndEvent) (l : ℕ) → present_link h ≡ Some l → LinkGrows h l
 
 -- what one more frame makes of what is read off the frames of a link
 pub record FrameCounts (frames : List LinkFrame) (f : LinkFrame) : Type 0 where
@@ -109,12 +110,12 @@ NextIsRead = (limits : Limits) (wire : Wire) (c : Config) (h : List ByteStep) (l
     ≡ frame_of_reading (read_count wire c l h) (next_reader wire c l (in_frames wire c h) (unread wire c l h))
 
 -- a step that deals with a frame drops the bytes of this frame
-pub record MovesBy (wire : Wire) (c : Config) (l : ℕ) (h : List ByteStep) (s : Step) (size : ℕ) : Type 0 where
+pub record MovesBy (wire : Wire) (c : Config) (l : ℕ) (h : List ByteStep) (s : EndEvent) (size : ℕ) : Type 0 where
   pub drops : unread wire c l (Does s ∷ h) ≡ drop size (unread wire c l h)
   pub counts : read_count wire c l (Does s ∷ h) ≡ read_count wire c l h + size
 
 -- a step that doesn't
-pub record Stays (wire : Wire) (c : Config) (l : ℕ) (h : List ByteStep) (s : Step) : Type 0 where
+pub record Stays (wire : Wire) (c : Config) (l : ℕ) (h : List ByteStep) (s : EndEvent) : Type 0 where
   pub same : unread wire c l (Does s ∷ h) ≡ unread wire c l h
   pub counts : read_count wire c l (Does s ∷ h) ≡ read_count wire c l h
 

@@ -4,11 +4,16 @@ pub mod Histories
 pub mod Due
 pub mod Processes
 pub mod Worlds
+pub mod Bounds
 pub mod Bytes
 pub mod Sending
 pub mod Laws
 pub mod OneHistory
 pub mod HistoryLaws
+pub mod Following
+pub mod Sides
+pub mod Alone
+pub mod AloneLaws
 pub mod Examples
 pub mod OneEnd
 pub mod ExamplesOverBytes

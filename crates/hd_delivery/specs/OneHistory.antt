@@ -1,7 +1,7 @@
 -- The histories that one end can make by itself, whatever is on the other side of its links, and the bytes that it hasn't dealt with.
 use Rattle.std.specs.Prelude.{ℕ, ◌&&◌, ◌==◌, List, [], ◌∷◌, Option, Some, None, if◌then◌else◌}
 use Rattle.hd_delivery.specs.Frames.{LinkFrame, Unreadable}
-use Rattle.hd_delivery.specs.Histories.{Step, Fed, Config, is_this, first_link, as_told, taken_count, codec_of}
+use Rattle.hd_delivery.specs.Histories.{EndEvent, Fed, Config, is_this, first_link, as_told, taken_count, codec_of}
 use Rattle.hd_delivery.specs.Worlds.{Limits, MayDo}
 use Rattle.hd_delivery.specs.Bytes.{Reading, Waits, Reads, Refuses, Stops, Wire, sizes_of, ByteStep, Bytes, Does, in_frames, MayHearBytes}
 
@@ -21,7 +21,7 @@ IsHistory limits wire c (s ∷ h) = IsHistory limits wire c h × MayDoOverBytes 
 -- ---- what is read next
 
 -- what the reader of a link says of the bytes that aren't dealt with: on the first link, before any frame was, that of handshakes
-abbrev pub next_reader : Wire → Config → ℕ → List Step → List ℕ → Reading
+abbrev pub next_reader : Wire → Config → ℕ → List EndEvent → List ℕ → Reading
 next_reader wire c l h bytes =
     if is_this l (first_link h) && (taken_count l h == 0) then wire.first c.side bytes else wire.later (codec_of c h) bytes
 

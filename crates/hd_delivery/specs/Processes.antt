@@ -11,10 +11,10 @@ use Rattle.hd_delivery.specs.declared.vocabulary.Why.TheVariants.{Duplicate, Unk
 use Rattle.hd_delivery.specs.declared.vocabulary.Got.TheVariants as gives
 use Rattle.hd_delivery.specs.Numbers.{most_messages}
 use Rattle.hd_delivery.specs.Frames.{LinkFrame, Request, Response, Numbered, Ack, Sequence, Ping, Close, Foreign, Strange, Unreadable, number, received_of}
-use Rattle.hd_delivery.specs.Histories.{Unread, Shake, Gap, AckBeyond, Step, Took, Failed, Config, is_this, present_link, first_link, own_number, fed_frames, lent_frames, taken_count, read_frames, processed_messages, most_lent, is_shaken, is_kept, is_closed, is_three}
+use Rattle.hd_delivery.specs.Histories.{Unread, Shake, Gap, AckBeyond, EndEvent, Took, Failed, Config, is_this, present_link, first_link, own_number, fed_frames, lent_frames, taken_count, read_frames, processed_messages, most_lent, is_shaken, is_resumable, is_closed, is_three}
 
 -- the first frame of the first link; a server answers what it refuses. No reader of handshakes gives a frame of the last case
-abbrev pub reads_handshake : Side → Config → List Step → LinkFrame → Step
+abbrev pub reads_handshake : Side → Config → List EndEvent → LinkFrame → EndEvent
 reads_handshake Client c h Response = Took (Shaken c.codec c.version)
 reads_handshake Server c h (Request codec version) = Took (Shaken codec version)
 reads_handshake Client c h (Strange why text) = Failed (Shake why None)
@@ -23,7 +23,7 @@ reads_handshake side c h (Unreadable at why) = Failed (Unread (own_number h) at 
 reads_handshake side c h _ = Failed (Shake [] None)
 
 -- a sequenced message, by its number, where p are processed
-abbrev pub reads_message : ℕ → Option ℕ → Message → Step
+abbrev pub reads_message : ℕ → Option ℕ → Message → EndEvent
 reads_message p None m = Took (Skipped BeforeSequence)
 reads_message p (Some n) m =
     if n == most_messages + 1 then Failed (Gap (most_messages + 1) most_messages)
@@ -36,30 +36,30 @@ has_frames (f ∷ frames) = true
 
 -- the number of a sequenced message that comes next on the link. At version 3 and on a plain connection it is the one after those
 -- processed, on a later link once the other end's opening was read and the end's own was lent
-abbrev pub next_number : Config → List Step → ℕ → Option ℕ
+abbrev pub next_number : Config → List EndEvent → ℕ → Option ℕ
 next_number c h l =
-    if is_three h || not (is_kept c h)
+    if is_three h || not (is_resumable c h)
     then (if is_some (number (read_frames l h)) && (is_this l (first_link h) || has_frames (lent_frames l h)) then Some (suc (length (processed_messages h))) else None)
     else number (read_frames l h)
 
 -- an Ack of messages that were lent
-abbrev pub reads_ack : List Step → ℕ → Step
+abbrev pub reads_ack : List EndEvent → ℕ → EndEvent
 reads_ack h n = if nat_le n (most_lent h) then Took (Acked n) else Failed (AckBeyond n (most_lent h))
 
 -- a Sequence that leaves no gap
-abbrev pub resumes : List Step → ℕ → ℕ → Step
+abbrev pub resumes : List EndEvent → ℕ → ℕ → EndEvent
 resumes h first received =
     if is_three h
     then (if nat_le received (most_lent h) then Took (Resumed first received) else Failed (AckBeyond received (most_lent h)))
     else Took (Sequenced first)
 
 -- a Sequence, of the next number at most
-abbrev pub reads_sequence : List Step → ℕ → ℕ → Step
+abbrev pub reads_sequence : List EndEvent → ℕ → ℕ → EndEvent
 reads_sequence h first received =
     if nat_le first (suc (length (processed_messages h))) then resumes h first received else Failed (Gap first (suc (length (processed_messages h))))
 
 -- a frame after the handshake, where the connection is kept or not and a sequenced message has this number. No reader gives a handshake there
-abbrev pub reads_frame : Bool → List Step → Option ℕ → LinkFrame → Step
+abbrev pub reads_frame : Bool → List EndEvent → Option ℕ → LinkFrame → EndEvent
 reads_frame keeps h n (Numbered m) = reads_message (length (processed_messages h)) n m
 reads_frame keeps h n (Ack upto) = if keeps then reads_ack h upto else Took (Skipped NotUsed)
 reads_frame keeps h n (Sequence first received) = if keeps then reads_sequence h first (received_of received) else Took (Skipped NotUsed)
@@ -70,14 +70,14 @@ reads_frame keeps h n (Unreadable at why) = Failed (Unread (own_number h) at why
 reads_frame keeps h n _ = Failed (Unread (own_number h) 0 [])
 
 -- the step that a frame makes, where a sequenced message has this number
-abbrev pub reads : Config → List Step → Option ℕ → LinkFrame → Step
-reads c h n f = if is_shaken h then reads_frame (is_kept c h) h n f else reads_handshake c.side c h f
+abbrev pub reads : Config → List EndEvent → Option ℕ → LinkFrame → EndEvent
+reads c h n f = if is_shaken h then reads_frame (is_resumable c h) h n f else reads_handshake c.side c h f
 
 -- the step that the next frame of this link makes
-abbrev pub next_frame : Config → List Step → Option ℕ → Option Step
+abbrev pub next_frame : Config → List EndEvent → Option ℕ → Option EndEvent
 next_frame c h None = None
 next_frame c h (Some l) = option_map (reads c h (next_number c h l)) (slice_get (fed_frames l h) (taken_count l h))
 
 -- the step that the next frame of the present link makes, where there is one and the end isn't closed
-abbrev pub processes : Config → List Step → Option Step
+abbrev pub processes : Config → List EndEvent → Option EndEvent
 processes c h = if is_closed c h then None else next_frame c h (present_link h)

@@ -3,7 +3,7 @@
 use Rattle.std.specs.Prelude.{◌≡◌, ℕ, ◌<◌, ◌≤◌, true, false, List, length, sum_by}
 use Rattle.hm_message.specs.declared.message.Message.{Message}
 use Rattle.hd_delivery.specs.Numbers.{most_messages}
-use Rattle.hd_delivery.specs.Histories.{Config, Step, sent_messages, codec_of, is_shaken, is_closed, held_messages}
+use Rattle.hd_delivery.specs.Histories.{Config, EndEvent, sent_messages, codec_of, is_shaken, is_closed, held_messages}
 use Rattle.hd_delivery.specs.Worlds.{Limits, Sizes, HasRoom}
 
 pub data SendRefusal : Type 0 where
@@ -14,13 +14,13 @@ pub data SendRefusal : Type 0 where
   Exhausted : SendRefusal  -- the most messages were sent
 
 -- the end can send, and the message's frame is within the limit
-pub record IsSendable (limits : Limits) (sizes : Sizes) (c : Config) (k : List Step) (m : Message) : Type 0 where
+pub record IsSendable (limits : Limits) (sizes : Sizes) (c : Config) (k : List EndEvent) (m : Message) : Type 0 where
   pub unclosed : is_closed c k ≡ false
   pub shakes : is_shaken k ≡ true
   pub short : sizes.frame (codec_of c k) m ≤ limits.frame
 
 -- the message isn't taken for this reason
-abbrev pub IsRefusedToSend : Limits → Sizes → Config → List Step → Message → SendRefusal → Type 0
+abbrev pub IsRefusedToSend : Limits → Sizes → Config → List EndEvent → Message → SendRefusal → Type 0
 IsRefusedToSend limits sizes c k m Opening = (is_shaken k ≡ false) × (is_closed c k ≡ false)
 IsRefusedToSend limits sizes c k m Closed = is_closed c k ≡ true
 IsRefusedToSend limits sizes c k m (TooLong size) =

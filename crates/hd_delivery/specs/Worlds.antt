@@ -1,6 +1,6 @@
 -- Worlds of two ends over links that come and go, and what holds in each.
 -- This project's own rules: which messages can be sent, the limits of what an end holds, which links it may name, and 2^62 messages at
--- most. Each end has its own clock.
+-- most. Each end has its own clock, and its own limits.
 use Rattle.std.specs.Prelude.{◌≡◌, ◌⊎◌, ℕ, suc, ◌+◌, ◌<◌, ◌≤◌, max, Bool, true, false, List, [], ◌∷◌, ◌++◌, length, sum_by, Some, None}
 use Rattle.hd_facts.specs.Prefixes.{IsPrefix}
 use Rattle.hm_message.specs.declared.message.Codec.{Codec}
@@ -14,7 +14,7 @@ use Rattle.hd_delivery.specs.declared.vocabulary.State.TheVariants.{Ready}
 use Rattle.hd_delivery.specs.declared.vocabulary.Why.TheVariants.{Duplicate}
 use Rattle.hd_delivery.specs.Numbers.{most_messages}
 use Rattle.hd_delivery.specs.Frames.{LinkFrame, Ack, Sequence, received_of}
-use Rattle.hd_delivery.specs.Histories.{Step, Attached, Detached, Fed, Took, Failed, Sent, Lent, Ticked, Silenced, Closed, Config, present_link, was_on, first_link, fed_frames, lent_frames, taken_count, sent_messages, processed_messages, codec_of, is_shaken, is_kept, is_closed, moment, is_silence, state, held_messages}
+use Rattle.hd_delivery.specs.Histories.{EndEvent, Attached, Detached, Fed, Took, Failed, Sent, Lent, Ticked, Silenced, Closed, Config, present_link, was_on, first_link, fed_frames, lent_frames, taken_count, sent_messages, processed_messages, codec_of, is_shaken, is_resumable, is_closed, moment, is_silence, state, held_messages}
 use Rattle.hd_delivery.specs.Due.{due}
 use Rattle.hd_delivery.specs.Processes.{processes}
 
@@ -32,7 +32,7 @@ pub record Sizes : Type 0 where
   pub framed : Codec → Message → ℕ
 
 -- the end holds fewer messages than it may, and this many framed bytes more don't pass the limit
-pub record HasRoom (limits : Limits) (sizes : Sizes) (c : Config) (h : List Step) (size : ℕ) : Type 0 where
+pub record HasRoom (limits : Limits) (sizes : Sizes) (c : Config) (h : List EndEvent) (size : ℕ) : Type 0 where
   pub of_count : length (held_messages c h) < limits.count
   pub of_bytes : sum_by (sizes.framed (codec_of c h)) (held_messages c h) + size ≤ limits.bytes
 
@@ -49,7 +49,7 @@ pub record CanBeSent (limits : Limits) (sizes : Sizes) (codec : Codec) (m : Mess
   pub short : sizes.frame codec m ≤ limits.frame
 
 -- the end may send the message now
-pub record MaySend (limits : Limits) (sizes : Sizes) (c : Config) (h : List Step) (m : Message) : Type 0 where
+pub record MaySend (limits : Limits) (sizes : Sizes) (c : Config) (h : List EndEvent) (m : Message) : Type 0 where
   pub unclosed : is_closed c h ≡ false
   pub shakes : is_shaken h ≡ true
   pub few : length (sent_messages h) < most_messages
@@ -57,20 +57,20 @@ pub record MaySend (limits : Limits) (sizes : Sizes) (c : Config) (h : List Step
   pub room : HasRoom limits sizes c h (sizes.framed (codec_of c h) m)
 
 -- the end may begin a link: it never stood on it, and it is the first or the connection is kept
-pub record MayBegin (c : Config) (h : List Step) (l now : ℕ) : Type 0 where
+pub record MayBegin (c : Config) (h : List EndEvent) (l now : ℕ) : Type 0 where
   pub unclosed : is_closed c h ≡ false
-  pub granted : (first_link h ≡ None) ⊎ (is_kept c h ≡ true)
+  pub granted : (first_link h ≡ None) ⊎ (is_resumable c h ≡ true)
   pub unused : was_on l h ≡ false
   pub in_time : moment h ≤ now
 
 -- the end may be fed: it stands on a link and isn't closed
-pub record MayHear (c : Config) (h : List Step) : Type 0 where
+pub record MayHear (c : Config) (h : List EndEvent) : Type 0 where
   pub link : ℕ
   pub at : present_link h ≡ Some link
   pub unclosed : is_closed c h ≡ false
 
 -- the step may come next after the end's own history, as far as that says. An end's moments never fall
-abbrev pub MayDo : Limits → Sizes → Config → List Step → Step → Type 0
+abbrev pub MayDo : Limits → Sizes → Config → List EndEvent → EndEvent → Type 0
 MayDo limits sizes c h (Attached l now) = MayBegin c h l now
 MayDo limits sizes c h (Detached now) = (l : ℕ) × (present_link h ≡ Some l) × (moment h ≤ now)
 MayDo limits sizes c h (Fed piece) = MayHear c h
@@ -83,25 +83,25 @@ MayDo limits sizes c h (Silenced now) = (is_silence c now h ≡ true) × (moment
 MayDo limits sizes c h (Closed reason allow) = is_closed c h ≡ false
 
 -- how a link may be named: the client's names rise; the server takes the client's links, in any order
-abbrev pub MayName : Side → ℕ → List Step → List Step → Type 0
+abbrev pub MayName : Side → ℕ → List EndEvent → List EndEvent → Type 0
 MayName Client l own other = (k : ℕ) → was_on k own ≡ true → k < l
 MayName Server l own other = was_on l other ≡ true
 
 -- the end may take a new link
-pub record MayAttach (c : Config) (h other : List Step) (l now : ℕ) : Type 0 where
+pub record MayAttach (c : Config) (h other : List EndEvent) (l now : ℕ) : Type 0 where
   pub own : MayBegin c h l now
   pub open own use *
   pub named : MayName c.side l h other
 
 -- what is fed is the next of what the other end lent on the link
-pub record MayFeed (c : Config) (h other : List Step) (piece : List LinkFrame) : Type 0 where
+pub record MayFeed (c : Config) (h other : List EndEvent) (piece : List LinkFrame) : Type 0 where
   pub link : ℕ
   pub at : present_link h ≡ Some link
   pub unclosed : is_closed c h ≡ false
   pub front : IsPrefix (fed_frames link h ++ piece) (lent_frames link other)
 
 -- the step may come next, after the end's own history and beside the other's
-abbrev pub Allowed : Limits → Sizes → Config → List Step → List Step → Step → Type 0
+abbrev pub Allowed : Limits → Sizes → Config → List EndEvent → List EndEvent → EndEvent → Type 0
 Allowed limits sizes c h other (Attached l now) = MayAttach c h other l now
 Allowed limits sizes c h other (Fed piece) = MayFeed c h other piece
 Allowed limits sizes c h other s = MayDo limits sizes c h s
@@ -147,16 +147,22 @@ server_of [] = []
 server_of (ByClient s ∷ w) = server_of w
 server_of (ByServer s ∷ w) = s ∷ server_of w
 
--- each event is a step that was allowed after those before it
-abbrev pub IsWorld : Limits → Sizes → Terms → List (Event Step) → Type 0
+-- the same limits at both sides
+abbrev pub alike : Limits → Side → Limits
+alike limits side = limits
+
+-- each event is a step that was allowed after those before it, by its side's limits
+abbrev pub IsWorld : (Side → Limits) → Sizes → Terms → List (Event EndEvent) → Type 0
 IsWorld limits sizes t [] = Unit {0}
-IsWorld limits sizes t (ByClient s ∷ w) = IsWorld limits sizes t w × Allowed limits sizes (config Client t) (client_of w) (server_of w) s
-IsWorld limits sizes t (ByServer s ∷ w) = IsWorld limits sizes t w × Allowed limits sizes (config Server t) (server_of w) (client_of w) s
+IsWorld limits sizes t (ByClient s ∷ w) =
+    IsWorld limits sizes t w × Allowed (limits Client) sizes (config Client t) (client_of w) (server_of w) s
+IsWorld limits sizes t (ByServer s ∷ w) =
+    IsWorld limits sizes t w × Allowed (limits Server) sizes (config Server t) (server_of w) (client_of w) s
 
 -- ---- one clock
 
 -- the moment of a step, or the last one where it has none
-abbrev pub moment_of : Step → ℕ → ℕ
+abbrev pub moment_of : EndEvent → ℕ → ℕ
 moment_of (Attached l now) last = now
 moment_of (Detached now) last = now
 moment_of (Ticked now) last = now
@@ -164,13 +170,13 @@ moment_of (Silenced now) last = now
 moment_of _ last = last
 
 -- the greatest moment so far at either end
-abbrev pub latest : List (Event Step) → ℕ
+abbrev pub latest : List (Event EndEvent) → ℕ
 latest [] = 0
 latest (ByClient s ∷ w) = max (moment_of s (latest w)) (latest w)
 latest (ByServer s ∷ w) = max (moment_of s (latest w)) (latest w)
 
 -- the moments of both ends, in one order, never fall. No world has to be so
-abbrev pub IsOnOneClock : List (Event Step) → Type 0
+abbrev pub IsOnOneClock : List (Event EndEvent) → Type 0
 IsOnOneClock [] = Unit {0}
 IsOnOneClock (ByClient s ∷ w) = IsOnOneClock w × (latest w ≤ moment_of s (latest w))
 IsOnOneClock (ByServer s ∷ w) = IsOnOneClock w × (latest w ≤ moment_of s (latest w))
@@ -178,7 +184,7 @@ IsOnOneClock (ByServer s ∷ w) = IsOnOneClock w × (latest w ≤ moment_of s (l
 -- ---- stillness
 
 -- both ends stand on one link and are Ready, each has been fed all that the other lent there and has taken every frame, and nothing is due
-pub record Still (cc cs : Config) (c s : List Step) : Type 0 where
+pub record Still (cc cs : Config) (c s : List EndEvent) : Type 0 where
   pub link : ℕ
   pub client_here : present_link c ≡ Some link
   pub server_here : present_link s ≡ Some link
@@ -194,7 +200,7 @@ pub record Still (cc cs : Config) (c s : List Step) : Type 0 where
 -- ---- what holds in each
 
 -- no failed step, and only duplicates are passed over
-abbrev pub IsFaultless : List Step → Type 0
+abbrev pub IsFaultless : List EndEvent → Type 0
 IsFaultless [] = Unit {0}
 IsFaultless (Failed fault ∷ h) = ⊥
 IsFaultless (Took (Skipped (Duplicate n)) ∷ h) = IsFaultless h
@@ -202,7 +208,7 @@ IsFaultless (Took (Skipped why) ∷ h) = ⊥
 IsFaultless (_ ∷ h) = IsFaultless h
 
 -- no frame is passed over
-abbrev pub SkipsNone : List Step → Type 0
+abbrev pub SkipsNone : List EndEvent → Type 0
 SkipsNone [] = Unit {0}
 SkipsNone (Took (Skipped why) ∷ h) = ⊥
 SkipsNone (_ ∷ h) = SkipsNone h
@@ -215,12 +221,12 @@ IsSound p q (Sequence first received ∷ frames) = (first ≤ suc q) × (receive
 IsSound p q (_ ∷ frames) = IsSound p q frames
 
 -- what x sent is processed by y in order, each message once; and on each link what x tells is sound
-pub record Delivers (x y : List Step) : Type 0 where
+pub record Delivers (x y : List EndEvent) : Type 0 where
   pub in_order : IsPrefix (processed_messages y) (sent_messages x)
   pub sound : (l : ℕ) → IsSound (length (processed_messages x)) (length (processed_messages y)) (lent_frames l x)
 
 -- both ways: nothing is refused, each message is processed once and in order, and all of them where the two ends are still
-pub record Delivery (t : Terms) (c s : List Step) : Type 0 where
+pub record Delivery (t : Terms) (c s : List EndEvent) : Type 0 where
   pub to_server : Delivers c s
   pub to_client : Delivers s c
   pub client_faultless : IsFaultless c
@@ -232,4 +238,5 @@ pub record Delivery (t : Terms) (c s : List Step) : Type 0 where
 
 -- so it is in every world
 abbrev pub HoldsInEveryWorld : Type 0
-HoldsInEveryWorld = (limits : Limits) (sizes : Sizes) (t : Terms) (w : List (Event Step)) → IsWorld limits sizes t w → Delivery t (client_of w) (server_of w)
+HoldsInEveryWorld = (limits : Side → Limits) (sizes : Sizes) (t : Terms) (w : List (Event EndEvent))
+    → IsWorld limits sizes t w → Delivery t (client_of w) (server_of w)

@@ -1,10 +1,12 @@
 //! What crates above cite of the definitions. No function here does anything: its contract is the law.
 
 ghost use Rattle.std.specs.Prelude.{◌≡◌};
+ghost use Rattle.hd_delivery.specs.Bounds.{least_frame, most_bytes, most_count, most_frame};
 ghost use Rattle.hd_delivery.specs.HistoryLaws.{FactsHold, FramesCount, HistoriesAreInOrder, LinksGrow, NextIsRead, UnreadBegins, UnreadGrows, UnreadIsBounded, UnreadMoves, UnreadStays, UnusedIsUntouched, WorldsAreHistories};
-ghost use Rattle.hd_delivery.specs.Laws.{AllIsRead, HoldsAsSent, CutsGrow, FedIsCut, FedIsUnseen, SequencedIsNumbered};
+ghost use Rattle.hd_delivery.specs.Laws.{AllIsRead, HoldsAsSent, CutsGrow, FedIsCut, FedIsUnseen, FedIsWhole, SequencedIsNumbered};
 ghost use Rattle.hd_delivery.specs.Numbers.{most_framing, most_messages, ping_after, silence_after};
 
+use crate::limits::{LEAST_FRAME, MOST_BYTES, MOST_COUNT, MOST_FRAME};
 use crate::vocabulary::{MOST_FRAMING, MOST_MESSAGES, PING_AFTER, SILENCE_AFTER};
 
 /// A sequenced message is numbered on a link.
@@ -95,6 +97,10 @@ pub fn numbers_are_named()
     ensures ping { PING_AFTER ≡ ping_after }
     ensures silence { SILENCE_AFTER ≡ silence_after }
     ensures framing { MOST_FRAMING ≡ most_framing }
+    ensures least_frame { LEAST_FRAME ≡ least_frame }
+    ensures most_frame { MOST_FRAME ≡ most_frame }
+    ensures most_count { MOST_COUNT ≡ most_count }
+    ensures most_bytes { MOST_BYTES ≡ most_bytes }
 {}
 
 /// `delivery_over_bytes` where of each end's messages is known that they are read as themselves in that end's codec.
@@ -105,4 +111,9 @@ pub fn delivery_as_sent()
 /// In such a world the wire is faithful to all that both ends sent.
 pub fn all_is_read()
     ensures { AllIsRead }
+{}
+
+/// What an end was fed in frames on its link are the frames that the other end said there whose bytes were all fed.
+pub fn fed_is_whole()
+    ensures { FedIsWhole }
 {}

@@ -3,15 +3,24 @@
 //! once and in order.
 //!
 //! The definitions stand in `specs/`, over whole lists of steps, messages and frames. The words of an end (`Side`,
-//! `State`, `Reason`, `Why`, `Got`) are types of this crate, so that the code of an end and the definitions share them.
+//! `State`, `Reason`, `Why`, `Got`) and its `Limits` are types of this crate, so that the code of an end and the definitions
+//! share them.
 //!
-//! Each function but `Reason::text` does nothing: its contract is a theorem (`delivery`, `delivery_over_bytes`), a law
+//! What one end does by itself stands in `Alone`: it says the frames that are due, is fed the bytes that came on its link, and
+//! takes the frames that it was fed. `Following` is of steps of any kind: which of them follow from one another, all of them or
+//! up to a number. `Sides` names the two histories of a world by their side. An end that is let go on comes to an end
+//! ([`writes_few`], [`takes_few`]), and what each end reads on a link is what the other said there ([`fed_is_lent`],
+//! [`fed_is_whole`]).
+//!
+//! Each function but `Reason::text` and those of `Limits` does nothing: its contract is a theorem (`delivery`, `delivery_over_bytes`), a law
 //! that crates above cite, or a list of worked cases. To use a law, call it where it is needed: that costs nothing.
 //!
 //! The crate doesn't know how frames are written, nor sockets, clocks, calls or hubs.
 #![tactic(auto)]
 
+mod alone;
 mod laws;
+mod limits;
 mod one_end;
 mod vocabulary;
 mod worlds;
@@ -19,12 +28,17 @@ mod worlds;
 ghost use Rattle.hd_delivery.specs.Bytes.{HoldsOverBytes};
 ghost use Rattle.hd_delivery.specs.Worlds.{HoldsInEveryWorld};
 
-pub use laws::{
-    all_is_read, cuts_grow, delivery_as_sent, facts_hold, fed_is_cut, fed_is_unseen, frames_count,
-    histories_are_in_order, links_grow, next_is_read, numbers_are_named, sequenced_is_numbered,
-    unread_begins, unread_grows, unread_is_bounded, unread_moves, unread_stays,
-    unused_is_untouched, worlds_are_histories,
+pub use alone::{
+    fed_is_lent, frames_are_taken, lent_comes_last, lent_stays, taken_has_room, takes_few,
+    taking_drops, unused_is_empty, writes_few,
 };
+pub use laws::{
+    all_is_read, cuts_grow, delivery_as_sent, facts_hold, fed_is_cut, fed_is_unseen, fed_is_whole,
+    frames_count, histories_are_in_order, links_grow, next_is_read, numbers_are_named,
+    sequenced_is_numbered, unread_begins, unread_grows, unread_is_bounded, unread_moves,
+    unread_stays, unused_is_untouched, worlds_are_histories,
+};
+pub use limits::{LEAST_FRAME, Limits, MOST_BYTES, MOST_COUNT, MOST_FRAME};
 pub use one_end::{alone_over_bytes, closings, first_frames, moments, numbers};
 pub use vocabulary::{
     Got, MOST_FRAMING, MOST_MESSAGES, PING_AFTER, Reason, SILENCE_AFTER, Side, State, Why,

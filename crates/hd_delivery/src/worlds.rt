@@ -11,10 +11,10 @@ ghost use Rattle.hd_delivery.specs.Frames.{Ack, Ping, Response, Sequence};
 ghost use Rattle.hd_delivery.specs.declared.vocabulary.State.TheVariants.{Away, Ready};
 ghost use Rattle.hd_delivery.specs.declared.vocabulary.State.TheVariants as states;
 ghost use Rattle.hd_delivery.specs.Histories.{Closed, Detached, Failed, Fed, Gap, Sent, Silenced, Ticked, Took, Unread};
-ghost use Rattle.hd_delivery.specs.Worlds.{Delivers, IsFaultless, IsOnOneClock, IsSound, MayAttach, MaySend, SkipsNone, config};
-ghost use Rattle.hd_delivery.specs.Bytes.{IsFaithful, IsFirst, IsLater, IsSoundWire};
+ghost use Rattle.hd_delivery.specs.Worlds.{Delivers, IsFaultless, IsOnOneClock, IsSound, MayAttach, MaySend, SkipsNone, alike, config};
+ghost use Rattle.hd_delivery.specs.Bytes.{IsFaithful, IsFirst, IsLater, IsSoundWire, IsWorldOverBytes};
 ghost use Rattle.hd_delivery.specs.Examples.{ClientMayNot, IsStill, IsWorked, a, acknowledged, b, c, client_after, closed_before_response, closed_kept, closed_with_allow, far_link, filled, further_sequence, limits_of, lost_at_four, older_link_later, one_sequence, opened, packed, plain_delivered, plain_loss, plain_room, plain_silence, resume_after_ack, resume_duplicates, resumed_with_none, resumed_with_one, sent_away, server_after, server_away, silence, sizes, terms, terms_in, ticked_at_five, too_deep, two_clocks, usual, with_bytes};
-ghost use Rattle.hd_delivery.specs.ExamplesOverBytes.{IsFullFor, IsStillOverBytes, IsWorkedOverBytes, NextStepOverBytes, acknowledged_over_bytes, bytewise, closed_over_bytes, cut_by_a_loss, four, lazy, padded, stopped, unread_nine, unreadable, unreadable_later, unreadable_whole};
+ghost use Rattle.hd_delivery.specs.ExamplesOverBytes.{IsFullFor, IsStillOverBytes, IsWorkedOverBytes, NextStepOverBytes, acknowledged_over_bytes, bytewise, closed_over_bytes, cut_by_a_loss, four, lazy, own_limits, padded, stopped, three_said, two_greatest_frames, unread_nine, unreadable, unreadable_later, unreadable_whole};
 
 /// Whole worlds, and what the client and the server are in the end: the state, and how many
 /// messages were sent, processed and are held.
@@ -60,7 +60,7 @@ pub fn worked_worlds()
 
 /// Where both ends are still, so that all has arrived and nothing is held.
 pub fn still_worlds()
-    ensures kept { IsStill (terms 2 true) acknowledged }
+    ensures resumable { IsStill (terms 2 true) acknowledged }
     ensures plain { IsStill (terms 2 false) plain_delivered }
     ensures version_three { IsStill (terms 3 true) resumed_with_none }
 {}
@@ -123,6 +123,7 @@ pub fn what_is_excluded()
     ensures two_clocks { IsOnOneClock (reverse two_clocks) → ⊥ }
     ensures waiting { IsSoundWire (limits_of 4 1024 100000) lazy → ⊥ }
     ensures framing { IsSoundWire usual padded → ⊥ }
+    ensures greatest_frames { IsWorldOverBytes two_greatest_frames four (terms 2 true) [] → ⊥ }
     ensures response { IsLater Response → ⊥ }
     ensures first { IsFirst Server Ping → ⊥ }
 {}
@@ -132,14 +133,16 @@ pub fn worked_over_bytes()
     ensures json { IsFaithful usual four Json 2 (a ∷ b ∷ c ∷ []) }
     ensures pack { IsFaithful usual four Pack 2 (a ∷ b ∷ c ∷ []) }
     ensures sound { IsSoundWire usual four }
-    ensures bytewise { IsWorkedOverBytes usual (terms 2 true) bytewise
+    ensures bytewise { IsWorkedOverBytes (alike usual) (terms 2 true) bytewise
         (Ready, 3, 0, 3) (Ready, 0, 3, 0) }
-    ensures cut_by_a_loss { IsWorkedOverBytes usual (terms_in Pack 2 true) cut_by_a_loss
+    ensures cut_by_a_loss { IsWorkedOverBytes (alike usual) (terms_in Pack 2 true) cut_by_a_loss
         (Ready, 2, 0, 1) (Ready, 0, 2, 0) }
-    ensures acknowledged { IsWorkedOverBytes usual (terms 2 true) acknowledged_over_bytes
+    ensures acknowledged { IsWorkedOverBytes (alike usual) (terms 2 true) acknowledged_over_bytes
         (Ready, 1, 0, 0) (Ready, 0, 1, 0) }
     ensures still { IsStillOverBytes (terms 2 true) acknowledged_over_bytes }
-    ensures unread_nine { IsWorkedOverBytes (limits_of 4 1024 100000) (terms 2 true) unread_nine
+    ensures unread_nine { IsWorkedOverBytes (alike (limits_of 4 1024 100000)) (terms 2 true) unread_nine
+        (Ready, 3, 0, 3) (Ready, 0, 0, 0) }
+    ensures own_limits { IsWorkedOverBytes own_limits (terms 2 true) three_said
         (Ready, 3, 0, 3) (Ready, 0, 0, 0) }
     ensures no_more { IsFullFor (limits_of 4 1024 100000) (terms 2 true) unread_nine (99 ∷ []) }
     ensures no_more_closed { IsFullFor usual (terms 2 true) closed_over_bytes [] }

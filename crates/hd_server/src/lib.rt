@@ -1,20 +1,43 @@
-//! What a server of hubs means, in definitions that the crates above share. Its functions do nothing: their contracts are laws.
+//! What a server of hubs does at each event, from what it hears to what it says, in definitions that the crates above share. Its functions
+//! do nothing: their contracts are laws, and worked rows that the checker computes.
 //!
-//! - `Registry`: who is in which group and who is which user, as two lists of pairs in order of joining.
-//! - `Kept`: what a keeper keeps, what it answers, and what several answers in order lead to.
-//! - `Rooms`: the methods of the rooms hub, deed by deed.
+//! - `Lives`: what is noted of connections, and the life of a token at a moment.
+//! - `Texts`: tokens, and the body that tells one.
+//! - `Table`: what is done about a request, by its first row that applies.
+//! - `Machine`: the peers of a server, round by round, and the deeds that their jobs hand up.
+//! - `Doings`: what a server did, as one list, and what is read off it.
+//! - `Plans`, `Serves`: what a server does at one event (`IsTurn`), and at any list of events (`Serves`).
+//! - `Serving`: how long it lets its door wait, and what it gives it to say (`ServesOn`).
 //!
-//! The crate doesn't know how anything is kept, nor lanes, sockets or the bytes of a connection.
+//! Proved (`Laws`): each connection of a server does what a peer can do by itself; after an event nothing is due on a socket or a held
+//! poll; at most 10,000 connections live; each request has at most one reply, and none waits for one but held polls; a deed is told to
+//! each member once, by what its end can send; a socket that names a token is answered by its life; a moment that has come comes once;
+//! the body of a poll is bounded if its frames are; an idle tick changes nothing that is said or read then. The rows of the table and
+//! whole sessions are computed.
+//!
+//! The crate doesn't know how a request is spelled, nor how a server keeps any of this.
 #![tactic(auto)]
 
-mod keeper_laws;
-mod registry_laws;
-mod registry_worked;
-mod rooms_laws;
+mod laws;
+mod lives;
+mod sessions;
+mod table;
 mod vocabulary;
 
-pub use keeper_laws::{answers_add, answers_join};
-pub use registry_laws::{members_follow, pairs_stay_distinct};
-pub use registry_worked::{some_join, some_leave};
-pub use rooms_laws::{recalls_are_bounded, rooms_do_their_deeds, rooms_refuse};
-pub use vocabulary::{Asked, MOST_RECALLED, RoomsMethod, Row};
+pub use laws::{
+    bodies_are_bounded, broadcasts_once, connections_in_order, each_request_is_answered,
+    fates_are_refusals, few_live, idle_ticks, lives_are_settled, lots_matter_to_tokens,
+    moments_come_once, nothing_left, numbers_are_named, outcomes_suit, served_is_serves,
+    servers_are_peers, servers_have_few, servers_note_in_order, sockets_by_life, tokens_differ,
+    turns_are_tested, turns_go_further, what_is_told_grows,
+};
+pub use lives::{connections, fresh_tokens, known_tokens, polls, sockets, tokens};
+pub use sessions::{
+    a_room_is_joined, broadcasts, closings, conflicts, ends_of_polls, first_sockets, held_polls,
+    histories, idle_servers, losses, refused_lanes, rooms, silences, takeovers,
+};
+pub use table::{by_life, negotiates, without_token};
+pub use vocabulary::{
+    Caller, HELD_FOR, LIVES_FOR, Life, MOST_BEFORE_LAST, MOST_CONNECTIONS, MOST_FRAME, MOST_HELD,
+    MOST_HELD_BYTES, MOST_LIVE, MOST_POLLED, MOST_WAIT, Outcome, Said,
+};

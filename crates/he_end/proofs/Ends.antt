@@ -17,7 +17,7 @@ use Rattle.hm_codec.specs.Frames.{framing_of, framed}
 use Rattle.hd_delivery.specs.declared.vocabulary.Reason.{Reason}
 use Rattle.hd_delivery.specs.Frames.{LinkFrame, Numbered}
 use Rattle.hd_delivery.specs.Histories as of
-use Rattle.hd_delivery.specs.Histories.{Step, Attached, Detached, Fed, Lent, Ticked, Silenced, present_link, was_on, first_link, codec_of, is_shaken, is_kept, is_closed, is_silence, held_messages}
+use Rattle.hd_delivery.specs.Histories.{EndEvent, Attached, Detached, Fed, Lent, Ticked, Silenced, present_link, was_on, first_link, codec_of, is_shaken, is_resumable, is_closed, is_silence, held_messages}
 use Rattle.hd_delivery.specs.Due.{due}
 use Rattle.hd_delivery.specs.Worlds.{HasRoom, MayBegin}
 use Rattle.hd_delivery.specs.Bytes.{Wire, ByteStep, Bytes, Does, in_frames, sizes_of, unread_count}
@@ -35,7 +35,7 @@ abbrev pub with : End → Session → End
 with e s = record e { session = s }
 
 -- the splitter still holds what is unread, after a step that deals with no frame and changes neither codec nor handshake
-pub stays_unread : (wire : Wire) (c : of.Config) (held : Held) (h : List ByteStep) (l : ℕ) (s : Step) → Stays wire c l h s
+pub stays_unread : (wire : Wire) (c : of.Config) (held : Held) (h : List ByteStep) (l : ℕ) (s : EndEvent) → Stays wire c l h s
     → (if is_shaken (s ∷ in_frames wire c h) then framing_of (codec_of c (s ∷ in_frames wire c h)) else Record)
     ≡ (if is_shaken (in_frames wire c h) then framing_of (codec_of c (in_frames wire c h)) else Record)
     → HoldsUnread wire c held h l → in_frames wire c (Does s ∷ h) ≡ s ∷ in_frames wire c h → HoldsUnread wire c held (Does s ∷ h) l

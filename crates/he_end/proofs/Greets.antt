@@ -19,17 +19,17 @@ use Rattle.hd_delivery.specs.declared.vocabulary.Side.{Side}
 use Rattle.hd_delivery.specs.declared.vocabulary.Side.TheVariants.{Client, Server}
 use Rattle.hd_delivery.specs.Frames.{LinkFrame, Strange, Unreadable}
 use Rattle.hd_delivery.specs.Histories as of
-use Rattle.hd_delivery.specs.Histories.{Step, Took, Failed, Shake, present_link, sent_messages, codec_of, is_shaken, is_closed}
+use Rattle.hd_delivery.specs.Histories.{EndEvent, Took, Failed, Shake, present_link, sent_messages, codec_of, is_shaken, is_closed}
 use Rattle.hd_delivery.specs.Processes.{processes}
 use Rattle.hd_delivery.specs.Bytes.{Wire, Waits, ByteStep, Does, in_frames}
 use Rattle.hd_delivery.specs.OneHistory.{next_reader, size_of_reading}
 use Rattle.hd_delivery.specs.HistoryLaws.{FactsHold, NextIsRead, UnreadMoves}
 use Rattle.he_wire.specs.Laws.{WireIsSound}
 use Rattle.he_wire.specs.Gives.{IsOwed, answer_of, TellsFirst, TellsWireFirst}
-use Rattle.he_wire.specs.declared.reading.Greeting.{Greeting}
-use Rattle.he_wire.specs.declared.reading.Greeting.TheVariants as greeting
-use Rattle.he_wire.specs.declared.reading.GreetingFault.{GreetingFault}
-use Rattle.he_wire.specs.declared.reading.GreetingFault.TheVariants as shaking
+use Rattle.he_wire.specs.declared.reading.Handshake.{Handshake}
+use Rattle.he_wire.specs.declared.reading.Handshake.TheVariants as handshake
+use Rattle.he_wire.specs.declared.reading.HandshakeFault.{HandshakeFault}
+use Rattle.he_wire.specs.declared.reading.HandshakeFault.TheVariants as shaking
 use Rattle.he_wire.specs.Wires.{AreSaid}
 use Rattle.he_end.specs.declared.session.Session.{Session}
 use Rattle.he_end.specs.declared.end.End.{End}
@@ -51,7 +51,7 @@ abbrev pub framed_so : Framing → Held → Held
 framed_so framing held = record held { framing = framing }
 
 -- the handshake is complete, and its splitter goes on in the framing of the session's codec
-shaken_framing : (c : of.Config) (k : List Step) (s : Session) (codec : Codec) (version : ℕ) (got : Got) → got ≡ gives.Shaken codec version → Remembers c s (Took got ∷ k)
+shaken_framing : (c : of.Config) (k : List EndEvent) (s : Session) (codec : Codec) (version : ℕ) (got : Got) → got ≡ gives.Shaken codec version → Remembers c s (Took got ∷ k)
     → framing_of s.codec ≡ (if is_shaken (Took got ∷ k) then framing_of (codec_of c (Took got ∷ k)) else Record)
 shaken_framing c k s codec version got is r = rw is (ap framing_of (subst (λ g. s.codec ≡ codec_of c (Took g ∷ k)) is r.codec))
 
@@ -60,7 +60,7 @@ module _ (facts : FactsHold) (sound : WireIsSound) (next : NextIsRead) (moves : 
     (past : (item : Spelled) → BeginsWith e.splitter.framing e.splitter.most e.splitter.bytes item → passed ≡ after_pass e.splitter item)
     (held : Held) (reframed : held ≡ framed_so (framing_of s.codec) passed)
     (wire : Wire) (c : of.Config) (h : List ByteStep) (st : Stands wire c e h) where
-  abbrev k : List Step
+  abbrev k : List EndEvent
   k = in_frames wire c h
 
   abbrev l : (l : ℕ) × (present_link k ≡ Some l)
@@ -99,10 +99,10 @@ module _ (facts : FactsHold) (sound : WireIsSound) (next : NextIsRead) (moves : 
 -- ---- a first frame that is no handshake
 
 -- the session is closed for it, and at a server owes this answer
-abbrev ClosedFor : of.Config → Session → List Step → Side → List ℕ → List ℕ → Type 0
+abbrev ClosedFor : of.Config → Session → List EndEvent → Side → List ℕ → List ℕ → Type 0
 ClosedFor c s k side why text = let step = Failed (Shake why (answer_at side text)) in (processes c k ≡ Some step) × Remembers c s (step ∷ k)
 
-pub closed_for : (c : of.Config) (s : Session) (k : List Step) (e : ShakeError) (said : List ℕ) → (IsAnswered e → said ≡ refusal_text e)
+pub closed_for : (c : of.Config) (s : Session) (k : List EndEvent) (e : ShakeError) (said : List ℕ) → (IsAnswered e → said ≡ refusal_text e)
     → ((why text : List ℕ) → (c.side ≡ Server → said ≡ text) → Awaits c k (Strange why text) → ClosedFor c s k c.side why text)
     → IsOwed c.side e → Awaits c k (Strange (shake_words e) (answer_of c.side e)) → ClosedFor c s k c.side (shake_words e) (refusal_text e)
 closed_for c s k e said is made owed awaits = go c.side refl owed awaits
@@ -120,7 +120,7 @@ framing_unless true f is = absurd (cc)
 
 module _ (facts : FactsHold) (sound : WireIsSound) (next : NextIsRead) (e : End) (reading : IsReading e) (agreed : is_some e.session.agreed ≡ false)
     (wire : Wire) (c : of.Config) (h : List ByteStep) (st : Stands wire c e h) where
-  abbrev k' : List Step
+  abbrev k' : List EndEvent
   k' = in_frames wire c h
 
   abbrev l' : (l : ℕ) × (present_link k' ≡ Some l)
@@ -139,7 +139,7 @@ module _ (facts : FactsHold) (sound : WireIsSound) (next : NextIsRead) (e : End)
   reader' = first_reader wire c e h st facts sound l'.0 l'.1 live' not_shaken e.splitter.bytes
 
   -- the answer tells what this history's reader finds
-  pub told_first : (given answer : Result (Option Greeting) GreetingFault) → given ≡ answer → (e.splitter.framing ≡ Record → TellsWireFirst e.session.side e.splitter given)
+  pub told_first : (given answer : Result (Option Handshake) HandshakeFault) → given ≡ answer → (e.splitter.framing ≡ Record → TellsWireFirst e.session.side e.splitter given)
       → TellsFirst c.side e.splitter answer (wire.first c.side e.splitter.bytes)
   told_first given answer is told = subst (λ side. TellsFirst side e.splitter answer (wire.first side e.splitter.bytes)) st.remembers.side
       (subst (λ x. TellsFirst e.session.side e.splitter x (wire.first e.session.side e.splitter.bytes)) is
@@ -150,11 +150,11 @@ module _ (facts : FactsHold) (sound : WireIsSound) (next : NextIsRead) (e : End)
   first_waits w = none_waits wire c e h st facts sound l'.0 l'.1 live' next (wire.first c.side e.splitter.bytes) reader' w
 
   -- a handshake has
-  pub first_reads : (new : End) (g : Greeting) (got : Got) → Greets e new g got → TellsFirst c.side e.splitter (Ok (Some g)) (wire.first c.side e.splitter.bytes)
+  pub first_reads : (new : End) (g : Handshake) (got : Got) → Greets e new g got → TellsFirst c.side e.splitter (Ok (Some g)) (wire.first c.side e.splitter.bytes)
       → HasMade wire c h new (Ok got)
-  first_reads new (greeting.Request shake) got greets t =
+  first_reads new (handshake.Request shake) got greets t =
       greets wire c h st t.0 (t.2.0, (t.2.1.0, ap (λ side. wire.first side e.splitter.bytes) (sym t.0) ∙ t.2.1.2))
-  first_reads new greeting.Response got greets t =
+  first_reads new handshake.Response got greets t =
       greets wire c h st t.0 (t.1.0, (t.1.1.0, ap (λ side. wire.first side e.splitter.bytes) (sym t.0) ∙ t.1.1.2))
 
   -- no frame can begin

@@ -6,7 +6,7 @@ use Rattle.std.proofs.lemmas.List.Sums.{fold_push}
 use Rattle.hd_delivery.specs.declared.vocabulary.Got.{Got}
 use Rattle.hd_delivery.specs.declared.vocabulary.Got.TheVariants.{Shaken}
 use Rattle.hd_delivery.specs.Frames.{LinkFrame, count, number}
-use Rattle.hd_delivery.specs.Histories.{Config, Fault, Step, Attached, Detached, Took, Failed, Lent, Silenced, is_this, first_of, present_link, stands_on, was_on, first_link, link_count, fed_frames, lent_frames, taken_count, read_frames, is_shaken, codec_of}
+use Rattle.hd_delivery.specs.Histories.{Config, Fault, EndEvent, Attached, Detached, Took, Failed, Lent, Silenced, is_this, first_of, present_link, stands_on, was_on, first_link, link_count, fed_frames, lent_frames, taken_count, read_frames, is_shaken, codec_of}
 use Rattle.he_end.specs.declared.link.Link.{Link}
 use Rattle.he_end.specs.Remembers.{OnLink}
 
@@ -20,14 +20,14 @@ is_this-same l (Some k) e = eq-eqb l k (let e' : k ≡ l = cc in sym e')
 
 -- ---- where the end was
 
-here_was : (l : ℕ) (k : List Step) → present_link k ≡ Some l → was_on l k ≡ true
+here_was : (l : ℕ) (k : List EndEvent) → present_link k ≡ Some l → was_on l k ≡ true
 here_was l [] e = absurd (cc)
 here_was l (Attached j now ∷ k) e = or_left (l == j) (was_on l k) (eq-eqb l j (let e' : j ≡ l = cc in sym e'))
 here_was l (Detached now ∷ k) e = absurd (cc)
 here_was l (Silenced now ∷ k) e = absurd (cc)
 here_was l (_ ∷ k) e = here_was l k e
 
-off : (l : ℕ) (k : List Step) → was_on l k ≡ false → stands_on l k ≡ false
+off : (l : ℕ) (k : List EndEvent) → was_on l k ≡ false → stands_on l k ≡ false
 off l k e = go (stands_on l k) refl
   where
     go : (b : Bool) → stands_on l k ≡ b → b ≡ false
@@ -35,13 +35,13 @@ off l k e = go (stands_on l k) refl
     go false s = refl
 
 -- on a link where the end never was there is nothing
-pub nothing_lent : (l : ℕ) (k : List Step) → was_on l k ≡ false → lent_frames l k ≡ []
+pub nothing_lent : (l : ℕ) (k : List EndEvent) → was_on l k ≡ false → lent_frames l k ≡ []
 nothing_lent l [] e = refl
 nothing_lent l (Attached j now ∷ k) e = nothing_lent l k (or_parts (l == j) (was_on l k) e).1
 nothing_lent l (Lent t ∷ k) e = rw (off l k e) (nothing_lent l k e)
 nothing_lent l (_ ∷ k) e = nothing_lent l k e
 
-pub nothing_taken : (l : ℕ) (k : List Step) → was_on l k ≡ false → taken_count l k ≡ 0
+pub nothing_taken : (l : ℕ) (k : List EndEvent) → was_on l k ≡ false → taken_count l k ≡ 0
 nothing_taken l [] e = refl
 nothing_taken l (Attached j now ∷ k) e = nothing_taken l k (or_parts (l == j) (was_on l k) e).1
 nothing_taken l (Took g ∷ k) e = rw (off l k e) (nothing_taken l k e)
@@ -49,7 +49,7 @@ nothing_taken l (Failed g ∷ k) e = rw (off l k e) (nothing_taken l k e)
 nothing_taken l (_ ∷ k) e = nothing_taken l k e
 
 -- an end that stands on a link had a first one
-pub has_first : (k : List Step) (l : ℕ) → present_link k ≡ Some l → is_some (first_link k) ≡ true
+pub has_first : (k : List EndEvent) (l : ℕ) → present_link k ≡ Some l → is_some (first_link k) ≡ true
 has_first [] l e = absurd (cc)
 has_first (Attached j now ∷ k) l e = go (first_link k)
   where
@@ -60,7 +60,7 @@ has_first (Detached now ∷ k) l e = absurd (cc)
 has_first (Silenced now ∷ k) l e = absurd (cc)
 has_first (_ ∷ k) l e = has_first k l e
 
-first_was : (k : List Step) (l : ℕ) → first_link k ≡ Some l → was_on l k ≡ true
+first_was : (k : List EndEvent) (l : ℕ) → first_link k ≡ Some l → was_on l k ≡ true
 first_was [] l e = absurd (cc)
 first_was (Attached j now ∷ k) l e = go (first_link k) (first_was k l) e
   where
@@ -70,7 +70,7 @@ first_was (Attached j now ∷ k) l e = go (first_link k) (first_was k l) e
 first_was (_ ∷ k) l e = first_was k l e
 
 -- a link on which the end never stood isn't its first
-pub not_first : (l : ℕ) (k : List Step) → was_on l k ≡ false → is_this l (first_link k) ≡ false
+pub not_first : (l : ℕ) (k : List EndEvent) → was_on l k ≡ false → is_this l (first_link k) ≡ false
 not_first l k e = go (is_this l (first_link k)) refl
   where
     go : (b : Bool) → is_this l (first_link k) ≡ b → b ≡ false
@@ -78,7 +78,7 @@ not_first l k e = go (is_this l (first_link k)) refl
     go false s = refl
 
 -- with no first link there was none
-pub none_counted : (k : List Step) → first_link k ≡ None → link_count k ≡ 0
+pub none_counted : (k : List EndEvent) → first_link k ≡ None → link_count k ≡ 0
 none_counted [] e = refl
 none_counted (Attached j now ∷ k) e = absurd (go (first_link k) e)
   where
@@ -88,14 +88,14 @@ none_counted (Attached j now ∷ k) e = absurd (go (first_link k) e)
 none_counted (_ ∷ k) e = none_counted k e
 
 -- with a first one there was one
-pub some_counted : (k : List Step) → is_some (first_link k) ≡ true → 1 ≤ link_count k
+pub some_counted : (k : List EndEvent) → is_some (first_link k) ≡ true → 1 ≤ link_count k
 some_counted [] e = absurd (cc)
 some_counted (Attached j now ∷ k) e = omega arith
 some_counted (_ ∷ k) e = some_counted k e
 
 -- ---- before the handshake
 
-pub first_codec : (c : Config) (k : List Step) → is_shaken k ≡ false → codec_of c k ≡ c.codec
+pub first_codec : (c : Config) (k : List EndEvent) → is_shaken k ≡ false → codec_of c k ≡ c.codec
 first_codec c [] e = refl
 first_codec c (Took (Shaken codec version) ∷ k) e = absurd (cc)
 first_codec c (_ ∷ k) e = first_codec c k e
@@ -107,14 +107,14 @@ take_next [] k x e = absurd (cc)
 take_next (y ∷ xs) zero x e = cc
 take_next (y ∷ xs) (suc k) x e = ap (λ zs. y ∷ zs) (take_next xs k x e)
 
-pub taken_on : (got : Got) (l : ℕ) (k : List Step) → present_link k ≡ Some l → taken_count l (Took got ∷ k) ≡ suc (taken_count l k)
+pub taken_on : (got : Got) (l : ℕ) (k : List EndEvent) → present_link k ≡ Some l → taken_count l (Took got ∷ k) ≡ suc (taken_count l k)
 taken_on got l k at = rw (is_this-same l (present_link k) at) refl
 
-pub taken_too : (fault : Fault) (l : ℕ) (k : List Step) → present_link k ≡ Some l → taken_count l (Failed fault ∷ k) ≡ suc (taken_count l k)
+pub taken_too : (fault : Fault) (l : ℕ) (k : List EndEvent) → present_link k ≡ Some l → taken_count l (Failed fault ∷ k) ≡ suc (taken_count l k)
 taken_too fault l k at = rw (is_this-same l (present_link k) at) refl
 
 -- the number after one more frame
-pub counts_on : (got : Got) (l : ℕ) (k : List Step) (f : LinkFrame) → present_link k ≡ Some l → slice_get (fed_frames l k) (taken_count l k) ≡ Some f
+pub counts_on : (got : Got) (l : ℕ) (k : List EndEvent) (f : LinkFrame) → present_link k ≡ Some l → slice_get (fed_frames l k) (taken_count l k) ≡ Some f
     → number (read_frames l (Took got ∷ k)) ≡ count (number (read_frames l k)) f
 counts_on got l k f at next = ap (λ n. number (take n (fed_frames l k))) (taken_on got l k at)
     ∙ (ap number (take_next (fed_frames l k) (taken_count l k) f next) ∙ fold_push count None (read_frames l k) f)

@@ -9,7 +9,7 @@ use Rattle.hm_codec.specs.Frames.{framed}
 use Rattle.hd_delivery.specs.declared.vocabulary.Side.{Side}
 use Rattle.hd_delivery.specs.declared.vocabulary.Side.TheVariants.{Client, Server}
 use Rattle.hd_delivery.specs.Frames.{LinkFrame, Request, Response, Numbered, Ack, Sequence, Ping, count, number, most_told}
-use Rattle.hd_delivery.specs.Histories.{Step, Config, Lent, Sent, is_this, first_of, first_link, present_link, lent_frames, most_lent, next_place, is_three, is_closed, is_shaken, state, acked_count, held_messages, is_kept, sent_messages, processed_messages, codec_of}
+use Rattle.hd_delivery.specs.Histories.{EndEvent, Config, Lent, Sent, is_this, first_of, first_link, present_link, lent_frames, most_lent, next_place, is_three, is_closed, is_shaken, state, acked_count, held_messages, is_resumable, sent_messages, processed_messages, codec_of}
 use Rattle.hd_delivery.specs.Due.{handshake, opening, next_message, sequence_due, ack_due, may_write, message_due, is_quiet, is_ready, ping_due, farewell, has_close, close_due, due_after, answer, answer_due, due_there, due_on, due}
 use Rattle.hq_resend.specs.Buffers.{Buffer, IsWithin, dropped_count, next_frame, after_next, after_push, after_writing}
 use Rattle.he_end.specs.declared.session.Session.{Session}
@@ -32,28 +32,28 @@ if_none : (m : Message) (b : Bool) (o p : Option LinkFrame) → IsNone m o → I
 if_none m true o p h i = h
 if_none m false o p h i = i
 
-handshake_none : (m : Message) (side : Side) (c : Config) (k : List Step) → IsNone m (handshake side c k)
+handshake_none : (m : Message) (side : Side) (c : Config) (k : List EndEvent) → IsNone m (handshake side c k)
 handshake_none m Client c k = if_none m (is_closed c k) None (Some (Request c.codec c.version)) (λ e. absurd (cc)) (λ e. absurd (cc))
 handshake_none m Server c k = if_none m (is_shaken k) (Some Response) None (λ e. absurd (cc)) (λ e. absurd (cc))
 
-opening_none : (m : Message) (c : Config) (k : List Step) (l : ℕ) → IsNone m (opening c k l)
+opening_none : (m : Message) (c : Config) (k : List EndEvent) (l : ℕ) → IsNone m (opening c k l)
 opening_none m c k l = if_none m (is_this l (first_link k)) (handshake c.side c k) (Some (Sequence (suc (acked_count k)) (if is_three k then Some (length (processed_messages k)) else None)))
     (handshake_none m c.side c k) (λ e. absurd (cc))
 
-sequence_none : (m : Message) (k : List Step) (said : List LinkFrame) → IsNone m (sequence_due k said)
+sequence_none : (m : Message) (k : List EndEvent) (said : List LinkFrame) → IsNone m (sequence_due k said)
 sequence_none m k said = if_none m (not (is_three k) && (is_some (next_message k) && not (is_this (next_place k) (number said)))) (Some (Sequence (next_place k) None)) None (λ e. absurd (cc)) (λ e. absurd (cc))
 
-ack_none : (m : Message) (c : Config) (k : List Step) (said : List LinkFrame) → IsNone m (ack_due c k said)
-ack_none m c k said = if_none m ((is_kept c k && not (is_closed c k)) && nat_lt (most_told said) (length (processed_messages k))) (Some (Ack (length (processed_messages k)))) None (λ e. absurd (cc)) (λ e. absurd (cc))
+ack_none : (m : Message) (c : Config) (k : List EndEvent) (said : List LinkFrame) → IsNone m (ack_due c k said)
+ack_none m c k said = if_none m ((is_resumable c k && not (is_closed c k)) && nat_lt (most_told said) (length (processed_messages k))) (Some (Ack (length (processed_messages k)))) None (λ e. absurd (cc)) (λ e. absurd (cc))
 
-ping_none : (m : Message) (c : Config) (k : List Step) → IsNone m (ping_due c k)
+ping_none : (m : Message) (c : Config) (k : List EndEvent) → IsNone m (ping_due c k)
 ping_none m c k = if_none m (is_ready (state c k) && is_quiet k) (Some Ping) None (λ e. absurd (cc)) (λ e. absurd (cc))
 
 farewell_none : (m : Message) (f : Option Farewell) → IsNone m (option_map close_of f)
 farewell_none m None e = absurd (cc)
 farewell_none m (Some f) e = absurd (cc)
 
-close_none : (m : Message) (c : Config) (s : Session) (k : List Step) (said : List LinkFrame) → Remembers c s k → IsNone m (close_due k said)
+close_none : (m : Message) (c : Config) (s : Session) (k : List EndEvent) (said : List LinkFrame) → Remembers c s k → IsNone m (close_due k said)
 close_none m c s k said r = if_none m (is_shaken k && not (has_close said)) (farewell k) None (λ e. farewell_none m s.farewell (r.farewell ∙ e)) (λ e. absurd (cc))
 
 answer_none : (m : Message) (text : List ℕ) (said : List LinkFrame) → IsNone m (answer_due text said)
@@ -69,7 +69,7 @@ here m None b h e = absurd (h e)
 here m (Some f) b h e = e
 
 -- the other end counts it as its place, and it is the next one
-record IsNext (k : List Step) (m : Message) (said : List LinkFrame) : Type 0 where
+record IsNext (k : List EndEvent) (m : Message) (said : List LinkFrame) : Type 0 where
   pub next : next_message k ≡ Some m
   pub counted : is_three k ≡ false → number said ≡ Some (next_place k)
 
@@ -88,7 +88,7 @@ no_sequence false (Some x) n p m e is three = go (is_this n p) refl e
     go true this f = is_this-true n p this
     go false this f = absurd (cc)
 
-after_said : (m : Message) (c : Config) (s : Session) (k : List Step) (l : ℕ) (said : List LinkFrame) → Remembers c s k → due_after c k l said ≡ Some (Numbered m) → IsNext k m said
+after_said : (m : Message) (c : Config) (s : Session) (k : List EndEvent) (l : ℕ) (said : List LinkFrame) → Remembers c s k → due_after c k l said ≡ Some (Numbered m) → IsNext k m said
 after_said m c s k l [] r e = absurd (opening_none m c k l e)
 after_said m c s k l (f ∷ frames) r e =
     let said = f ∷ frames in
@@ -98,11 +98,11 @@ after_said m c s k l (f ∷ frames) r e =
     let next = message_next m (may_write k l) (next_message k) (here m (message_due k l) _ later two.1) in
     record { next = next; counted = no_sequence (is_three k) (next_message k) (next_place k) (number said) m one.0 next }
 
-there : (m : Message) (c : Config) (k : List Step) (l : ℕ) (o : Option (List ℕ)) → due_there c k l o ≡ Some (Numbered m) → due_after c k l (lent_frames l k) ≡ Some (Numbered m)
+there : (m : Message) (c : Config) (k : List EndEvent) (l : ℕ) (o : Option (List ℕ)) → due_there c k l o ≡ Some (Numbered m) → due_after c k l (lent_frames l k) ≡ Some (Numbered m)
 there m c k l None e = e
 there m c k l (Some text) e = absurd (answer_none m text (lent_frames l k) e)
 
-message_is_next : (m : Message) (c : Config) (s : Session) (k : List Step) (l : ℕ) → Remembers c s k → present_link k ≡ Some l → due c k ≡ Some (Numbered m) → IsNext k m (lent_frames l k)
+message_is_next : (m : Message) (c : Config) (s : Session) (k : List EndEvent) (l : ℕ) → Remembers c s k → present_link k ≡ Some l → due c k ≡ Some (Numbered m) → IsNext k m (lent_frames l k)
 message_is_next m c s k l r at e = after_said m c s k l (lent_frames l k) r (there m c k l (answer k) (sym (ap (due_on c k) at) ∙ e))
 
 -- ---- the ring
@@ -113,7 +113,7 @@ get-drop (suc n) [] j = refl
 get-drop (suc n) (x ∷ xs) j = let e : suc n + j ≡ suc (n + j) = omega arith in rw e (get-drop n xs j)
 
 -- what is lent is the message
-pub lends : (m : Message) (b : Buffer) (c : Config) (k : List Step) → HoldsOf b c k → IsWithin b → next_message k ≡ Some m → next_frame b ≡ Some (framed (codec_of c k) m)
+pub lends : (m : Message) (b : Buffer) (c : Config) (k : List EndEvent) → HoldsOf b c k → IsWithin b → next_message k ≡ Some m → next_frame b ≡ Some (framed (codec_of c k) m)
 lends m b c k h w next = go b.keeps refl
   where
     at : slice_get (sent_messages k) b.written ≡ Some m
@@ -127,19 +127,19 @@ lends m b c k h w next = go b.keeps refl
 
     go : (keeps : Bool) → b.keeps ≡ keeps → next_frame b ≡ Some (framed (codec_of c k) m)
     go true is =
-        let kept : is_kept c k ≡ true = sym h.keeps ∙ is in
+        let kept : is_resumable c k ≡ true = sym h.keeps ∙ is in
         let held : b.held ≡ map (framed (codec_of c k)) (drop (acked_count k) (sent_messages k)) = h.held ∙ ap (λ q. map (framed (codec_of c k)) (if q then drop (acked_count k) (sent_messages k) else drop (most_lent k) (sent_messages k))) kept in
         let acked = h.acked in
         let less = w.acked in
         ap (λ q. slice_get b.held (b.written - dropped_count q b.acked b.written)) is ∙ (ap (λ n. slice_get b.held (b.written - n)) acked ∙ spelled (acked_count k) (omega arith) held)
     go false is =
-        let plain : is_kept c k ≡ false = sym h.keeps ∙ is in
+        let plain : is_resumable c k ≡ false = sym h.keeps ∙ is in
         let held : b.held ≡ map (framed (codec_of c k)) (drop (most_lent k) (sent_messages k)) = h.held ∙ ap (λ q. map (framed (codec_of c k)) (if q then drop (acked_count k) (sent_messages k) else drop (most_lent k) (sent_messages k))) plain in
         let all : most_lent k ≡ b.written = sym h.furthest ∙ w.plain is in
         ap (λ q. slice_get b.held (b.written - dropped_count q b.acked b.written)) is ∙ (ap (λ n. slice_get b.held (b.written - n)) (sym all) ∙ spelled (most_lent k) (omega arith) held)
 
 -- the message was lent
-holds_lent : (m : Message) (b : Buffer) (c : Config) (k : List Step) → HoldsOf b c k → IsWithin b → next_message k ≡ Some m → HoldsOf (after_next b) c (Lent (Numbered m) ∷ k)
+holds_lent : (m : Message) (b : Buffer) (c : Config) (k : List EndEvent) → HoldsOf b c k → IsWithin b → next_message k ≡ Some m → HoldsOf (after_next b) c (Lent (Numbered m) ∷ k)
 holds_lent m b c k h w next = subst (λ q. HoldsOf (if q then after_writing b else b) c (Lent (Numbered m) ∷ k)) (sym (lt-ltb b.written b.sent less)) (record {
   keeps = h.keeps;
   sent = h.sent;
@@ -157,12 +157,12 @@ holds_lent m b c k h w next = subst (λ q. HoldsOf (if q then after_writing b el
 
     go : (keeps : Bool) → b.keeps ≡ keeps → (if b.keeps then b.held else drop 1 b.held) ≡ map (framed (codec_of c k)) (held_messages c (Lent (Numbered m) ∷ k))
     go true is =
-        let kept : is_kept c k ≡ true = sym h.keeps ∙ is in
+        let kept : is_resumable c k ≡ true = sym h.keeps ∙ is in
         ap (λ q. if q then b.held else drop 1 b.held) is ∙ (h.held
         ∙ (ap (λ q. map (framed (codec_of c k)) (if q then drop (acked_count k) (sent_messages k) else drop (most_lent k) (sent_messages k))) kept
         ∙ sym (ap (λ q. map (framed (codec_of c k)) (if q then drop (acked_count k) (sent_messages k) else drop (most_lent (Lent (Numbered m) ∷ k)) (sent_messages k))) kept)))
     go false is =
-        let plain : is_kept c k ≡ false = sym h.keeps ∙ is in
+        let plain : is_resumable c k ≡ false = sym h.keeps ∙ is in
         let held : b.held ≡ map (framed (codec_of c k)) (drop (most_lent k) (sent_messages k)) = h.held ∙ ap (λ q. map (framed (codec_of c k)) (if q then drop (acked_count k) (sent_messages k) else drop (most_lent k) (sent_messages k))) plain in
         let all : most_lent k ≡ b.written = sym h.furthest ∙ w.plain is in
         let e = h.written in
@@ -173,7 +173,7 @@ holds_lent m b c k h w next = subst (λ q. HoldsOf (if q then after_writing b el
 
 -- ---- the message that was due was said
 
-pub remembers_message : (c : Config) (s : Session) (k : List Step) (m : Message) (x : Link) (b : Buffer) (n : ℕ) → Remembers c s k → IsWithin s.ring → due c k ≡ Some (Numbered m) → s.link ≡ Some x
+pub remembers_message : (c : Config) (s : Session) (k : List EndEvent) (m : Message) (x : Link) (b : Buffer) (n : ℕ) → Remembers c s k → IsWithin s.ring → due c k ≡ Some (Numbered m) → s.link ≡ Some x
     → b ≡ after_next s.ring → n ≡ suc s.ring.written
     → Remembers c (record s { link = Some (link_after s x (Some (n + 1)) x.told x.parted); ring = b }) (Lent (Numbered m) ∷ k)
 remembers_message c s k m x b n r w due' at ring_is n_is =
@@ -197,14 +197,14 @@ remembers_message c s k m x b n r w due' at ring_is n_is =
     or_false false = refl
 
 -- its bytes were lent
-pub bytes_of : (c : Config) (s : Session) (k : List Step) (m : Message) (x : Link) → Remembers c s k → IsWithin s.ring → due c k ≡ Some (Numbered m) → s.link ≡ Some x
+pub bytes_of : (c : Config) (s : Session) (k : List EndEvent) (m : Message) (x : Link) → Remembers c s k → IsWithin s.ring → due c k ≡ Some (Numbered m) → s.link ≡ Some x
     → next_frame s.ring ≡ Some (framed (codec_of c k) m)
 bytes_of c s k m x r w due' at =
     let found = on_link c s k x r at in
     lends m s.ring c k r.ring w (message_is_next m c s k found.0 r found.1 due').next
 
 -- then one waits
-pub message_waits : (c : Config) (s : Session) (k : List Step) (m : Message) (x : Link) → Remembers c s k → due c k ≡ Some (Numbered m) → s.link ≡ Some x → s.ring.written < s.ring.sent
+pub message_waits : (c : Config) (s : Session) (k : List EndEvent) (m : Message) (x : Link) → Remembers c s k → due c k ≡ Some (Numbered m) → s.link ≡ Some x → s.ring.written < s.ring.sent
 message_waits c s k m x r due' at =
     let found = on_link c s k x r at in
     let next = message_is_next m c s k found.0 r found.1 due' in
@@ -217,14 +217,14 @@ has_message s x at less (inr past) = omega arith
 
 -- ---- a message was pushed
 
-holds_pushed : (m : Message) (b : Buffer) (c : Config) (k : List Step) (frame : List ℕ) → HoldsOf b c k → IsWithin b → frame ≡ framed (codec_of c k) m → HoldsOf (after_push b frame) c (Sent m ∷ k)
+holds_pushed : (m : Message) (b : Buffer) (c : Config) (k : List EndEvent) (frame : List ℕ) → HoldsOf b c k → IsWithin b → frame ≡ framed (codec_of c k) m → HoldsOf (after_push b frame) c (Sent m ∷ k)
 holds_pushed m b c k frame h w is = record {
   keeps = h.keeps;
   sent = let e = h.sent in let f = length-append (sent_messages k) (m ∷ []) in omega arith;
   acked = h.acked;
   written = h.written;
   furthest = h.furthest;
-  held = ap (λ f. b.held ++ f ∷ []) is ∙ (ap (λ fs. fs ++ framed (codec_of c k) m ∷ []) h.held ∙ go (is_kept c k));
+  held = ap (λ f. b.held ++ f ∷ []) is ∙ (ap (λ fs. fs ++ framed (codec_of c k) m ∷ []) h.held ∙ go (is_resumable c k));
 }
   where
     few : (n : ℕ) → n ≤ length (sent_messages k) → map (framed (codec_of c k)) (drop n (sent_messages k)) ++ framed (codec_of c k) m ∷ [] ≡ map (framed (codec_of c k)) (drop n (sent_messages k ++ m ∷ []))
@@ -241,11 +241,11 @@ holds_pushed m b c k frame h w is = record {
     go true = few (acked_count k) acked_few
     go false = few (most_lent k) lent_few
 
-agrees_pushed : (c : Config) (k : List Step) (m : Message) (a : Option Agreed) → Agrees a c k → Agrees a c (Sent m ∷ k)
+agrees_pushed : (c : Config) (k : List EndEvent) (m : Message) (a : Option Agreed) → Agrees a c k → Agrees a c (Sent m ∷ k)
 agrees_pushed c k m None h = h
 agrees_pushed c k m (Some a) h = h
 
-pub remembers_pushed : (c : Config) (s : Session) (k : List Step) (m : Message) (frame : List ℕ) (b : Buffer) → Remembers c s k → IsWithin s.ring → is_shaken k ≡ true → frame ≡ framed s.codec m
+pub remembers_pushed : (c : Config) (s : Session) (k : List EndEvent) (m : Message) (frame : List ℕ) (b : Buffer) → Remembers c s k → IsWithin s.ring → is_shaken k ≡ true → frame ≡ framed s.codec m
     → b ≡ after_push s.ring frame → Remembers c (record s { ring = b }) (Sent m ∷ k)
 remembers_pushed c s k m frame b r w shaken is ring_is = record {
   side = r.side;
@@ -282,7 +282,7 @@ remembers_pushed c s k m frame b r w shaken is ring_is = record {
 }
 
 -- the number of a message is how many were sent with it
-pub number_pushed : (c : Config) (s : Session) (k : List Step) (m : Message) → Remembers c s k → suc s.ring.sent ≡ length (sent_messages k ++ m ∷ [])
+pub number_pushed : (c : Config) (s : Session) (k : List EndEvent) (m : Message) → Remembers c s k → suc s.ring.sent ≡ length (sent_messages k ++ m ∷ [])
 number_pushed c s k m r = let e = r.ring.sent in let f = length-append (sent_messages k) (m ∷ []) in omega arith
 
 -- a frame that is written changes no limit

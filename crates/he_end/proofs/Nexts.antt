@@ -12,7 +12,7 @@ use Rattle.hd_delivery.specs.declared.vocabulary.Got.{Got}
 use Rattle.hd_delivery.specs.declared.vocabulary.Got.TheVariants as gives
 use Rattle.hd_delivery.specs.Frames.{LinkFrame, Unreadable}
 use Rattle.hd_delivery.specs.Histories as of
-use Rattle.hd_delivery.specs.Histories.{Step, Took, Failed, Fault, is_this, present_link, first_link, fed_frames, taken_count, sent_messages, codec_of, is_shaken, is_closed}
+use Rattle.hd_delivery.specs.Histories.{EndEvent, Took, Failed, Fault, is_this, present_link, first_link, fed_frames, taken_count, sent_messages, codec_of, is_shaken, is_closed}
 use Rattle.hd_delivery.specs.Processes.{processes}
 use Rattle.hd_delivery.specs.Bytes.{Wire, Reading, Waits, Reads, Refuses, Stops, ByteStep, Does, in_frames, unread, read_count}
 use Rattle.hd_delivery.specs.OneHistory.{next_reader, frame_of_reading, size_of_reading}
@@ -44,7 +44,7 @@ place_more a b = omega arith
 
 -- ---- the handshake stays
 
-pub shaken_stays : (k : List Step) (got : Got) → is_shaken k ≡ true → is_shaken (Took got ∷ k) ≡ true
+pub shaken_stays : (k : List EndEvent) (got : Got) → is_shaken k ≡ true → is_shaken (Took got ∷ k) ≡ true
 shaken_stays k (gives.Shaken codec version) e = refl
 shaken_stays k (gives.Message m) e = e
 shaken_stays k (gives.Acked n) e = e
@@ -71,11 +71,11 @@ on_none None None Holds is h = refl
 on_none None (Some l) Holds is h = absurd h
 on_none (Some x) o Holds is h = absurd (cc)
 
-agreed_some : (a : Option Agreed) (c : of.Config) (k : List Step) → is_some a ≡ true → Agrees a c k → is_shaken k ≡ true
+agreed_some : (a : Option Agreed) (c : of.Config) (k : List EndEvent) → is_some a ≡ true → Agrees a c k → is_shaken k ≡ true
 agreed_some None c k is h = absurd (cc)
 agreed_some (Some a) c k is h = h.0
 
-agreed_none : (a : Option Agreed) (c : of.Config) (k : List Step) → is_some a ≡ false → Agrees a c k → is_shaken k ≡ false
+agreed_none : (a : Option Agreed) (c : of.Config) (k : List EndEvent) → is_some a ≡ false → Agrees a c k → is_shaken k ≡ false
 agreed_none None c k is h = h.0
 agreed_none (Some a) c k is h = absurd (cc)
 
@@ -92,7 +92,7 @@ not_zero zero h = absurd (omega arith)
 not_zero (suc n) h = ne_eqb (suc n) 0 (λ e. let f : suc n ≡ 0 = e in absurd (omega arith))
 
 module _ (wire : Wire) (c : of.Config) (e : End) (h : List ByteStep) (st : Stands wire c e h) where
-  abbrev pub frames : List Step
+  abbrev pub frames : List EndEvent
   frames = in_frames wire c h
 
   pub here : is_some e.session.link ≡ true → (l : ℕ) × (present_link frames ≡ Some l)
@@ -162,7 +162,7 @@ module _ (wire : Wire) (c : of.Config) (e : End) (h : List ByteStep) (st : Stand
 
 module _ (wire : Wire) (c : of.Config) (e : End) (s : Session) (held : Held) (h : List ByteStep) (st : Stands wire c e h) (same : s.ring.limits ≡ limits_of e)
     (most : held.most ≡ e.splitter.most) where
-  abbrev steps : List Step
+  abbrev steps : List EndEvent
   steps = in_frames wire c h
 
   abbrev pub after : End
@@ -221,7 +221,7 @@ module _ (facts : FactsHold) (sound : WireIsSound) (next : NextIsRead) (moves : 
     (reading : IsReading e) (agreed : is_some e.session.agreed ≡ true)
     (past : (item : Spelled) → BeginsWith e.splitter.framing e.splitter.most e.splitter.bytes item → held ≡ after_pass e.splitter item) where
   module _ (wire : Wire) (c : of.Config) (h : List ByteStep) (st : Stands wire c e h) where
-    abbrev k : List Step
+    abbrev k : List EndEvent
     k = in_frames wire c h
 
     abbrev l : (l : ℕ) × (present_link k ≡ Some l)
@@ -284,7 +284,7 @@ told_frame codec held (reads.Message m) reading t = (t.0, (t.1.0, t.1.2))
 told_frame codec held (reads.Unknown n) reading t = (t.0, (t.1.0, t.1.2))
 
 module _ (facts : FactsHold) (sound : WireIsSound) (next : NextIsRead) (e : End) (reading : IsReading e) (wire : Wire) (c : of.Config) (h : List ByteStep) (st : Stands wire c e h) where
-  abbrev k' : List Step
+  abbrev k' : List EndEvent
   k' = in_frames wire c h
 
   abbrev l' : (l : ℕ) × (present_link k' ≡ Some l)

@@ -4,14 +4,14 @@ use Rattle.std.specs.Prelude.{option_map}
 use Rattle.hm_message.specs.declared.message.Message.{Message}
 use Rattle.hm_codec.specs.Frames.{framed}
 use Rattle.hd_delivery.specs.Frames.{LinkFrame, Request, Response, Refusal, Numbered, Ack, Sequence, Ping}
-use Rattle.hd_delivery.specs.Histories.{Config, Step, Lent, codec_of}
+use Rattle.hd_delivery.specs.Histories.{Config, EndEvent, Lent, codec_of}
 use Rattle.hd_delivery.specs.HistoryLaws.{FactsHold, UnreadStays}
 use Rattle.hd_delivery.specs.Due.{due}
 use Rattle.hd_delivery.specs.Bytes.{Wire, ByteStep, in_frames}
 use Rattle.he_wire.specs.Spelling.{spelling, with_separator, error_frame}
 use Rattle.he_end.specs.declared.end.End.{End}
-use Rattle.he_end.specs.declared.due.Due.{Due}
-use Rattle.he_end.specs.declared.due.Due.TheVariants as kind
+use Rattle.he_end.specs.declared.next_frame.NextFrame.{NextFrame}
+use Rattle.he_end.specs.declared.next_frame.NextFrame.TheVariants as kind
 use Rattle.he_end.specs.declared.session.Session.{Session}
 use Rattle.he_end.specs.declared.link.Answer.{Answer}
 use Rattle.he_end.specs.Remembers.{Remembers, answer_text, close_of}
@@ -21,12 +21,12 @@ use Rattle.he_end.proofs.Ends.{lent}
 use Rattle.he_end.specs.Calls.{HasLent, Lends, AreDue, Said}
 
 -- the frame that the session names
-pub record Named (c : Config) (k : List Step) (o : Option LinkFrame) (d : Due) : Type 0 where
+pub record Named (c : Config) (k : List EndEvent) (o : Option LinkFrame) (d : NextFrame) : Type 0 where
   pub frame : LinkFrame
   pub is : o ≡ Some frame
   pub named : IsDue c k (Some frame) (Some d)
 
-pub named : (c : Config) (k : List Step) (o : Option LinkFrame) (d : Due) → IsDue c k o (Some d) → Named c k o d
+pub named : (c : Config) (k : List EndEvent) (o : Option LinkFrame) (d : NextFrame) → IsDue c k o (Some d) → Named c k o d
 named c k o kind.Request h = record { frame = Request c.codec c.version; is = h.1; named = (h.0, refl) }
 named c k o kind.Response h = record { frame = Response; is = h; named = refl }
 named c k o kind.Refusal h = record { frame = Refusal h.0; is = h.1.1; named = (h.0, (h.1.0, refl)) }
@@ -37,12 +37,12 @@ named c k o kind.Ping h = record { frame = Ping; is = h; named = refl }
 named c k o (kind.Close farewell) h = record { frame = close_of farewell; is = h; named = refl }
 
 -- by the session's answer
-pub named_by : (c : Config) (k : List Step) (o : Option LinkFrame) (answer : Option Due) (d : Due) → IsDue c k o answer → answer ≡ Some d → Named c k o d
+pub named_by : (c : Config) (k : List EndEvent) (o : Option LinkFrame) (answer : Option NextFrame) (d : NextFrame) → IsDue c k o answer → answer ≡ Some d → Named c k o d
 named_by c k o answer d h is = named c k o d (subst (IsDue c k o) is h)
 
 module _ (wire : Wire) (c : Config) (e new : End) (h : List ByteStep) (st : Stands wire c e h) where
   -- it was lent
-  pub lent_is : (d : Due) → Named c (in_frames wire c h) (due c (in_frames wire c h)) d
+  pub lent_is : (d : NextFrame) → Named c (in_frames wire c h) (due c (in_frames wire c h)) d
       → ((f : LinkFrame) → due c (in_frames wire c h) ≡ Some f → IsDue c (in_frames wire c h) (Some f) (Some d) → HasLent wire c h new (Some f))
       → HasLent wire c h new (due c (in_frames wire c h))
   lent_is d n said = subst (HasLent wire c h new) (sym n.is) (said n.frame n.is n.named)
@@ -57,15 +57,15 @@ module _ (wire : Wire) (c : Config) (e new : End) (h : List ByteStep) (st : Stan
   codec_is = st.remembers.codec
 
 -- what stands on the slate counts for nothing
-pub on_slate : (wire : Wire) (c : Config) (e : End) (h : List ByteStep) (bytes : List ℕ) → Stands wire c e h → Stands wire c (record e { slate = bytes }) h
-on_slate wire c e h bytes st = record { house = st.house; history = st.history; remembers = st.remembers; most = st.most; reads = st.reads; said = st.said }
+pub on_control_buffer : (wire : Wire) (c : Config) (e : End) (h : List ByteStep) (bytes : List ℕ) → Stands wire c e h → Stands wire c (record e { control_buffer = bytes }) h
+on_control_buffer wire c e h bytes st = record { house = st.house; history = st.history; remembers = st.remembers; most = st.most; reads = st.reads; said = st.said }
 
 -- ---- by what the session named
 
-abbrev pub Names : End → Option Due → Type 0
-Names e answer = (c : Config) (k : List Step) → Remembers c e.session k → IsDue c k (due c k) answer
+abbrev pub Names : End → Option NextFrame → Type 0
+Names e answer = (c : Config) (k : List EndEvent) → Remembers c e.session k → IsDue c k (due c k) answer
 
-module _ (e : End) (answer : Option Due) (owes : Names e answer) (d : Due) (is : answer ≡ Some d) where
+module _ (e : End) (answer : Option NextFrame) (owes : Names e answer) (d : NextFrame) (is : answer ≡ Some d) where
   abbrev pub the_named : (wire : Wire) (c : Config) (h : List ByteStep) → Stands wire c e h → Named c (in_frames wire c h) (due c (in_frames wire c h)) d
   the_named wire c h st = named_by c (in_frames wire c h) (due c (in_frames wire c h)) answer d (owes c (in_frames wire c h) st.remembers) is
 
@@ -75,14 +75,14 @@ module _ (e : End) (answer : Option Due) (owes : Names e answer) (d : Due) (is :
 
   -- the bytes of a frame that the session's name tells
   pub spells : (bytes : List ℕ) (f : LinkFrame) → bytes ≡ spelling e.session.codec f
-      → ((c : Config) (k : List Step) (g : LinkFrame) → IsDue c k (Some g) (Some d) → g ≡ f) → AreDue e (Some bytes)
+      → ((c : Config) (k : List EndEvent) (g : LinkFrame) → IsDue c k (Some g) (Some d) → g ≡ f) → AreDue e (Some bytes)
   spells bytes f spelled only wire c h st =
       let n = the_named wire c h st in
       bytes_are wire c e e h st bytes n.frame n.is
       (spelled ∙ (ap (λ codec. spelling codec f) st.remembers.codec ∙ ap (spelling (codec_of c (in_frames wire c h))) (sym (only c (in_frames wire c h) n.frame n.named))))
 
 -- nothing was due
-pub lends_none : (e : End) (answer : Option Due) → Names e answer → answer ≡ None → Lends e e × AreDue e None
+pub lends_none : (e : End) (answer : Option NextFrame) → Names e answer → answer ≡ None → Lends e e × AreDue e None
 lends_none e answer owes is = (
   (λ wire c h st. subst (HasLent wire c h e) (sym (none wire c h st)) st),
   λ wire c h st. sym (ap (option_map (wire.spell (codec_of c (in_frames wire c h)))) (none wire c h st)),
@@ -92,7 +92,7 @@ lends_none e answer owes is = (
     none wire c h st = subst (IsDue c (in_frames wire c h) (due c (in_frames wire c h))) is (owes c (in_frames wire c h) st.remembers)
 
 -- a client's request
-pub spells_request : (e : End) (answer : Option Due) → Names e answer → answer ≡ Some kind.Request → FactsHold → (bytes : List ℕ)
+pub spells_request : (e : End) (answer : Option NextFrame) → Names e answer → answer ≡ Some kind.Request → FactsHold → (bytes : List ℕ)
     → bytes ≡ spelling e.session.codec (Request e.session.codec e.session.version) → AreDue e (Some bytes)
 spells_request e answer owes is facts bytes spelled wire c h st =
     let n = named_by c (in_frames wire c h) (due c (in_frames wire c h)) answer kind.Request (owes c (in_frames wire c h) st.remembers) is in
@@ -104,7 +104,7 @@ spells_request e answer owes is facts bytes spelled wire c h st =
     (spelled ∙ (ap (λ k. spelling k (Request e.session.codec e.session.version)) st.remembers.codec ∙ ap (spelling (codec_of c (in_frames wire c h))) request))
 
 -- the answer to a request that was refused
-pub spells_refusal : (e : End) (answer : Option Due) → Names e answer → answer ≡ Some kind.Refusal → (a : Answer) → e.session.answer ≡ Some a → (bytes : List ℕ)
+pub spells_refusal : (e : End) (answer : Option NextFrame) → Names e answer → answer ≡ Some kind.Refusal → (a : Answer) → e.session.answer ≡ Some a → (bytes : List ℕ)
     → bytes ≡ with_separator (error_frame (answer_text a)) → AreDue e (Some bytes)
 spells_refusal e answer owes is a owed bytes spelled wire c h st =
     let k = in_frames wire c h in
@@ -113,7 +113,7 @@ spells_refusal e answer owes is a owed bytes spelled wire c h st =
     bytes_are wire c e e h st bytes (Refusal n.0) n.1.1 (spelled ∙ ap (λ t. with_separator (error_frame t)) text)
 
 -- it is there
-pub refusal_is_there : (e : End) (answer : Option Due) → Names e answer → answer ≡ Some kind.Refusal → e.session.answer ≡ None
+pub refusal_is_there : (e : End) (answer : Option NextFrame) → Names e answer → answer ≡ Some kind.Refusal → e.session.answer ≡ None
     → (wire : Wire) (c : Config) (h : List ByteStep) → Stands wire c e h → ⊥
 refusal_is_there e answer owes is none wire c h st =
     let k = in_frames wire c h in
@@ -121,19 +121,19 @@ refusal_is_there e answer owes is none wire c h st =
     let q : ◌≡◌ {A = Option (List ℕ)} None (Some n.0) = sym (ap (option_map answer_text) none) ∙ (st.remembers.answer ∙ n.1.0) in absurd (cc)
 
 -- a message, which the ring lends
-module _ (e : End) (s : Session) (answer : Option Due) (owes : Names e answer) (is : answer ≡ Some kind.Message) where
+module _ (e : End) (s : Session) (answer : Option NextFrame) (owes : Names e answer) (is : answer ≡ Some kind.Message) where
   abbrev message_of : (wire : Wire) (c : Config) (h : List ByteStep) → Stands wire c e h → (m : Message) × (due c (in_frames wire c h) ≡ Some (Numbered m))
   message_of wire c h st = let n = subst (IsDue c (in_frames wire c h) (due c (in_frames wire c h))) is (owes c (in_frames wire c h) st.remembers) in (n.0, n.1.1)
 
   pub lends_message : UnreadStays → s.ring.limits ≡ limits_of e
-      → ((c : Config) (k : List Step) (m : Message) → Remembers c e.session k → due c k ≡ Some (Numbered m) → Remembers c s (Lent (Numbered m) ∷ k))
+      → ((c : Config) (k : List EndEvent) (m : Message) → Remembers c e.session k → due c k ≡ Some (Numbered m) → Remembers c s (Lent (Numbered m) ∷ k))
       → Lends e (record e { session = s })
   lends_message stays same said wire c h st =
       let m = message_of wire c h st in
       subst (HasLent wire c h (record e { session = s })) (sym m.1) (lent wire c e s h st same stays (Numbered m.0) m.1 (said c (in_frames wire c h) m.0 st.remembers m.1))
 
   pub spells_message : (bytes : Option (List ℕ))
-      → ((c : Config) (k : List Step) (m : Message) → Remembers c e.session k → due c k ≡ Some (Numbered m) → bytes ≡ Some (framed (codec_of c k) m))
+      → ((c : Config) (k : List EndEvent) (m : Message) → Remembers c e.session k → due c k ≡ Some (Numbered m) → bytes ≡ Some (framed (codec_of c k) m))
       → AreDue e bytes
   spells_message bytes framed_so wire c h st =
       let m = message_of wire c h st in

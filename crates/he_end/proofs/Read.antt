@@ -11,7 +11,7 @@ use Rattle.hd_delivery.specs.declared.vocabulary.Got.TheVariants as gives
 use Rattle.hd_delivery.specs.declared.vocabulary.Why.TheVariants.{Duplicate, Unknown, BeforeSequence, NotUsed}
 use Rattle.hd_delivery.specs.Numbers.{most_messages}
 use Rattle.hd_delivery.specs.Frames.{LinkFrame, Numbered, Ack, Sequence, Ping, Close, Foreign, count, one_more, number, received_of}
-use Rattle.hd_delivery.specs.Histories.{Config, Step, Took, Failed, AckBeyond, is_this, present_link, first_link, lent_frames, fed_frames, taken_count, read_frames, processed_messages, sent_messages, acked_count, written_place, most_lent, codec_of, is_shaken, is_three, is_kept, is_closed, is_resumed}
+use Rattle.hd_delivery.specs.Histories.{Config, EndEvent, Took, Failed, AckBeyond, is_this, present_link, first_link, lent_frames, fed_frames, taken_count, read_frames, processed_messages, sent_messages, acked_count, written_place, most_lent, codec_of, is_shaken, is_three, is_resumable, is_closed, is_resumed}
 use Rattle.hd_delivery.specs.Histories as of
 use Rattle.hd_delivery.specs.Processes.{has_frames, next_number, reads_message, reads_frame, processes}
 use Rattle.hq_resend.specs.Buffers.{Buffer, after_ack}
@@ -30,19 +30,19 @@ use Rattle.he_end.specs.Says.{Awaits, Makes, is_early, step_counted}
 use Rattle.he_end.proofs.Taken.{makes, is_alone, next_of, remembers_took, remembers_here, remembers_read, remembers_fault, holds_took, link_took}
 
 -- the step that a frame makes after the handshake
-makes_frame : (c : Config) (k : List Step) (f : LinkFrame) (a : Awaits c k f) → is_shaken k ≡ true → processes c k ≡ Some (reads_frame (is_kept c k) k (next_number c k a.link) f)
+makes_frame : (c : Config) (k : List EndEvent) (f : LinkFrame) (a : Awaits c k f) → is_shaken k ≡ true → processes c k ≡ Some (reads_frame (is_resumable c k) k (next_number c k a.link) f)
 makes_frame c k f a shaken = makes c k f a ∙ rw shaken refl
 
 -- the number that comes next where nothing is counted
-plain_next : (c : Config) (s : Session) (k : List Step) (f : LinkFrame) (x : Link) (l : ℕ) → is_shaken k ≡ true → is_kept c k ≡ false → is_closed c k ≡ false → OfLink s c k x l
+plain_next : (c : Config) (s : Session) (k : List EndEvent) (f : LinkFrame) (x : Link) (l : ℕ) → is_shaken k ≡ true → is_resumable c k ≡ false → is_closed c k ≡ false → OfLink s c k x l
     → is_some (count (number (read_frames l k)) f) ≡ true
     → next_of (is_alone c k) (count (number (read_frames l k)) f) (length (processed_messages k)) ≡ next_of (is_alone c k) (number (read_frames l k)) (length (processed_messages k))
 plain_next c s k f x l shaken plain live h some =
-    rw (or_right (is_three k) (not (is_kept c k)) (ap not plain), some, h.numbered shaken plain live) refl
+    rw (or_right (is_three k) (not (is_resumable c k)) (ap not plain), some, h.numbered shaken plain live) refl
 
 -- ---- acknowledgements
 
-pub ack_unused : (c : Config) (s : Session) (k : List Step) (upto : ℕ) → Remembers c s k → is_shaken k ≡ true → Awaits c k (Ack upto) → is_kept c k ≡ false
+pub ack_unused : (c : Config) (s : Session) (k : List EndEvent) (upto : ℕ) → Remembers c s k → is_shaken k ≡ true → Awaits c k (Ack upto) → is_resumable c k ≡ false
     → (processes c k ≡ Some (Took (Skipped NotUsed))) × Remembers c s (Took (Skipped NotUsed) ∷ k)
 ack_unused c s k upto r shaken a plain = (
   makes_frame c k (Ack upto) a shaken ∙ rw plain refl,
@@ -54,8 +54,8 @@ map-drop g zero xs = refl
 map-drop g (suc n) [] = refl
 map-drop g (suc n) (x ∷ xs) = map-drop g n xs
 
-holds_acked : (b : Buffer) (c : Config) (k : List Step) (got : Got) (n : ℕ) → HoldsOf b c k → is_kept c k ≡ true → acked_count (Took got ∷ k) ≡ max n (acked_count k)
-    → is_kept c (Took got ∷ k) ≡ is_kept c k → codec_of c (Took got ∷ k) ≡ codec_of c k → HoldsOf (after_ack b n) c (Took got ∷ k)
+holds_acked : (b : Buffer) (c : Config) (k : List EndEvent) (got : Got) (n : ℕ) → HoldsOf b c k → is_resumable c k ≡ true → acked_count (Took got ∷ k) ≡ max n (acked_count k)
+    → is_resumable c (Took got ∷ k) ≡ is_resumable c k → codec_of c (Took got ∷ k) ≡ codec_of c k → HoldsOf (after_ack b n) c (Took got ∷ k)
 holds_acked b c k got n h kept acks same codec = let a = h.acked in let w = h.written in record {
   keeps = h.keeps ∙ sym same;
   sent = h.sent;
@@ -68,7 +68,7 @@ holds_acked b c k got n h kept acks same codec = let a = h.acked in let w = h.wr
       ∙ ap (map (framed (codec_of c k))) (drop-drop (n - b.acked) (acked_count k) (sent_messages k) ∙ ap (λ i. drop i (sent_messages k)) (omega arith))));
 }
 
-pub ack_read : (c : Config) (s : Session) (k : List Step) (upto : ℕ) → Remembers c s k → is_shaken k ≡ true → Awaits c k (Ack upto) → is_kept c k ≡ true → upto ≤ s.ring.furthest
+pub ack_read : (c : Config) (s : Session) (k : List EndEvent) (upto : ℕ) → Remembers c s k → is_shaken k ≡ true → Awaits c k (Ack upto) → is_resumable c k ≡ true → upto ≤ s.ring.furthest
     → (processes c k ≡ Some (Took (Acked upto))) × Remembers c (record s { ring = after_ack s.ring upto }) (Took (Acked upto) ∷ k)
 ack_read c s k upto r shaken a kept few = let most = r.ring.furthest in (
   makes_frame c k (Ack upto) a shaken ∙ rw (kept, le-leb upto (most_lent k) (omega arith)) refl,
@@ -76,7 +76,7 @@ ack_read c s k upto r shaken a kept few = let most = r.ring.furthest in (
       (λ x l h. h.counted shaken a.live),
 )
 
-pub ack_beyond : (c : Config) (s : Session) (k : List Step) (upto : ℕ) → Remembers c s k → is_shaken k ≡ true → Awaits c k (Ack upto) → is_kept c k ≡ true → s.ring.furthest < upto
+pub ack_beyond : (c : Config) (s : Session) (k : List EndEvent) (upto : ℕ) → Remembers c s k → is_shaken k ≡ true → Awaits c k (Ack upto) → is_resumable c k ≡ true → s.ring.furthest < upto
     → (processes c k ≡ Some (Failed (AckBeyond upto s.ring.furthest))) × Remembers c (after_fault s) (Failed (AckBeyond upto s.ring.furthest) ∷ k)
 ack_beyond c s k upto r shaken a kept more = let most = r.ring.furthest in (
   makes_frame c k (Ack upto) a shaken ∙ rw (kept, most, lt-leb upto (most_lent k) (omega arith)) refl,
@@ -85,14 +85,14 @@ ack_beyond c s k upto r shaken a kept more = let most = r.ring.furthest in (
 
 -- ---- Sequences
 
-pub sequence_unused : (c : Config) (s : Session) (k : List Step) (first : ℕ) (told : Option ℕ) → Remembers c s k → is_shaken k ≡ true → Awaits c k (Sequence first told) → is_kept c k ≡ false
+pub sequence_unused : (c : Config) (s : Session) (k : List EndEvent) (first : ℕ) (told : Option ℕ) → Remembers c s k → is_shaken k ≡ true → Awaits c k (Sequence first told) → is_resumable c k ≡ false
     → (processes c k ≡ Some (Took (Skipped NotUsed))) × Remembers c s (Took (Skipped NotUsed) ∷ k)
 sequence_unused c s k first told r shaken a plain = (
   makes_frame c k (Sequence first told) a shaken ∙ rw plain refl,
   remembers_read c s k (Sequence first told) (Skipped NotUsed) r a shaken refl refl refl refl refl (λ x l h. plain_next c s k (Sequence first told) x l shaken plain a.live h refl),
 )
 
-pub sequence_gap : (c : Config) (s : Session) (k : List Step) (first : ℕ) (told : Option ℕ) → Remembers c s k → is_shaken k ≡ true → Awaits c k (Sequence first told) → is_kept c k ≡ true
+pub sequence_gap : (c : Config) (s : Session) (k : List EndEvent) (first : ℕ) (told : Option ℕ) → Remembers c s k → is_shaken k ≡ true → Awaits c k (Sequence first told) → is_resumable c k ≡ true
     → suc s.intake.processed < first
     → (processes c k ≡ Some (Failed (of.Gap first (suc s.intake.processed)))) × Remembers c (after_fault s) (Failed (of.Gap first (suc s.intake.processed)) ∷ k)
 sequence_gap c s k first told r shaken a kept more = let p = r.processed in (
@@ -100,7 +100,7 @@ sequence_gap c s k first told r shaken a kept more = let p = r.processed in (
   remembers_fault c s k (Sequence first told) (of.Gap first (suc s.intake.processed)) s.intake.next r a refl refl (λ e. refl),
 )
 
-pub sequence_read : (c : Config) (s : Session) (k : List Step) (first : ℕ) (told : Option ℕ) → Remembers c s k → is_shaken k ≡ true → Awaits c k (Sequence first told) → is_kept c k ≡ true
+pub sequence_read : (c : Config) (s : Session) (k : List EndEvent) (first : ℕ) (told : Option ℕ) → Remembers c s k → is_shaken k ≡ true → Awaits c k (Sequence first told) → is_resumable c k ≡ true
     → is_three k ≡ false → first ≤ suc s.intake.processed
     → (processes c k ≡ Some (Took (Sequenced first))) × Remembers c (record s { intake = record s.intake { next = Some first } }) (Took (Sequenced first) ∷ k)
 sequence_read c s k first told r shaken a kept three few = let p = r.processed in (
@@ -110,7 +110,7 @@ sequence_read c s k first told r shaken a kept three few = let p = r.processed i
 )
 
 -- at version 3
-pub resume_beyond : (c : Config) (s : Session) (k : List Step) (first : ℕ) (told : Option ℕ) (received : ℕ) → Remembers c s k → is_shaken k ≡ true → Awaits c k (Sequence first told) → is_kept c k ≡ true
+pub resume_beyond : (c : Config) (s : Session) (k : List EndEvent) (first : ℕ) (told : Option ℕ) (received : ℕ) → Remembers c s k → is_shaken k ≡ true → Awaits c k (Sequence first told) → is_resumable c k ≡ true
     → is_three k ≡ true → first ≤ suc s.intake.processed → received ≡ received_of told → s.ring.furthest < received
     → (processes c k ≡ Some (Failed (AckBeyond received s.ring.furthest)))
     × Remembers c (after_fault (record s { intake = record s.intake { next = Some first } })) (Failed (AckBeyond received s.ring.furthest) ∷ k)
@@ -120,7 +120,7 @@ resume_beyond c s k first told received r shaken a kept three few tells more = l
   remembers_fault c s k (Sequence first told) (AckBeyond received s.ring.furthest) (Some first) r a refl refl (λ e. absurd (cc)),
 )
 
-pub resume_read : (c : Config) (s : Session) (k : List Step) (first : ℕ) (told : Option ℕ) (received : ℕ) → Remembers c s k → is_shaken k ≡ true → Awaits c k (Sequence first told) → is_kept c k ≡ true
+pub resume_read : (c : Config) (s : Session) (k : List EndEvent) (first : ℕ) (told : Option ℕ) (received : ℕ) → Remembers c s k → is_shaken k ≡ true → Awaits c k (Sequence first told) → is_resumable c k ≡ true
     → is_three k ≡ true → first ≤ suc s.intake.processed → received ≡ received_of told → received ≤ s.ring.furthest
     → (processes c k ≡ Some (Took (Resumed first received))) × Remembers c (after_resume s received) (Took (Resumed first received) ∷ k)
 resume_read c s k first told received r shaken a kept three few tells within = let p = r.processed in let most = r.ring.furthest in (
@@ -134,8 +134,8 @@ resume_read c s k first told received r shaken a kept three few tells within = l
 )
 
 -- a Sequence at version 3 whose number leaves no message out, after it was noted
-pub resumes : (c : Config) (s t : Session) (k : List Step) (first : ℕ) (told : Option ℕ) (received : ℕ) (intake : Numbering) (result : Result Got Refused)
-    → Remembers c s k → is_shaken k ≡ true → Awaits c k (Sequence first told) → is_kept c k ≡ true → is_three k ≡ true → first ≤ suc s.intake.processed → received ≡ received_of told
+pub resumes : (c : Config) (s t : Session) (k : List EndEvent) (first : ℕ) (told : Option ℕ) (received : ℕ) (intake : Numbering) (result : Result Got Refused)
+    → Remembers c s k → is_shaken k ≡ true → Awaits c k (Sequence first told) → is_resumable c k ≡ true → is_three k ≡ true → first ≤ suc s.intake.processed → received ≡ received_of told
     → intake ≡ record s.intake { next = Some first }
     → IfOk result (λ got. (got ≡ Resumed first received) × (received ≤ s.ring.furthest) × (t ≡ after_resume (record s { intake = intake }) received))
     → IfErr result (λ e. (e ≡ refused.AckBeyond (record { got = received; most = s.ring.furthest })) × (s.ring.furthest < received) × (t ≡ after_fault (record s { intake = intake })))
@@ -145,10 +145,10 @@ resumes c s t k first told received intake (Err e) r shaken a kept three few tel
 
 -- ---- what isn't numbered
 
-pub ping_read : (c : Config) (s : Session) (k : List Step) → Remembers c s k → is_shaken k ≡ true → Awaits c k Ping → (processes c k ≡ Some (Took gives.Ping)) × Remembers c s (Took gives.Ping ∷ k)
+pub ping_read : (c : Config) (s : Session) (k : List EndEvent) → Remembers c s k → is_shaken k ≡ true → Awaits c k Ping → (processes c k ≡ Some (Took gives.Ping)) × Remembers c s (Took gives.Ping ∷ k)
 ping_read c s k r shaken a = (makes_frame c k Ping a shaken, remembers_read c s k Ping gives.Ping r a shaken refl refl refl refl refl (λ x l h. refl))
 
-pub close_read : (c : Config) (s : Session) (k : List Step) (error : Option (List ℕ)) (allow : Bool) → Remembers c s k → is_shaken k ≡ true → Awaits c k (Close error allow)
+pub close_read : (c : Config) (s : Session) (k : List EndEvent) (error : Option (List ℕ)) (allow : Bool) → Remembers c s k → is_shaken k ≡ true → Awaits c k (Close error allow)
     → (processes c k ≡ Some (Took (gives.Closed error allow))) × Remembers c (record s { closed = true }) (Took (gives.Closed error allow) ∷ k)
 close_read c s k error allow r shaken a = (
   makes_frame c k (Close error allow) a shaken,
@@ -156,7 +156,7 @@ close_read c s k error allow r shaken a = (
       (λ x l h. h.counted shaken a.live),
 )
 
-pub foreign_read : (c : Config) (s : Session) (k : List Step) (n : ℤ) → Remembers c s k → is_shaken k ≡ true → Awaits c k (Foreign n)
+pub foreign_read : (c : Config) (s : Session) (k : List EndEvent) (n : ℤ) → Remembers c s k → is_shaken k ≡ true → Awaits c k (Foreign n)
     → (processes c k ≡ Some (Took (Skipped (Unknown n)))) × Remembers c s (Took (Skipped (Unknown n)) ∷ k)
 foreign_read c s k n r shaken a = (makes_frame c k (Foreign n) a shaken, remembers_read c s k (Foreign n) (Skipped (Unknown n)) r a shaken refl refl refl refl refl (λ x l h. refl))
 
@@ -166,7 +166,7 @@ and_true : (b : Bool) → (b && true) ≡ b
 and_true true = refl
 and_true false = refl
 
-pub message_early : (c : Config) (s : Session) (k : List Step) (m : Message) → Remembers c s k → is_shaken k ≡ true → (a : Awaits c k (Numbered m)) → is_early k a.link ≡ true
+pub message_early : (c : Config) (s : Session) (k : List EndEvent) (m : Message) → Remembers c s k → is_shaken k ≡ true → (a : Awaits c k (Numbered m)) → is_early k a.link ≡ true
     → (processes c k ≡ Some (Took (Skipped BeforeSequence))) × Remembers c s (Took (Skipped BeforeSequence) ∷ k)
 message_early c s k m r shaken a early = (
   makes_frame c k (Numbered m) a shaken ∙ ap (λ n. Some (reads_message (length (processed_messages k)) n m)) none,
@@ -207,10 +207,10 @@ reads_counted p (Some n) m = go (n == suc most_messages) (n == suc p)
     go false false = refl
 
 -- the number that the session has for the next message is that of the link
-number_is : (c : Config) (s : Session) (k : List Step) (m : Message) → Remembers c s k → is_shaken k ≡ true → (a : Awaits c k (Numbered m))
+number_is : (c : Config) (s : Session) (k : List EndEvent) (m : Message) → Remembers c s k → is_shaken k ≡ true → (a : Awaits c k (Numbered m))
     → is_early k a.link ≡ false → next_number c k a.link ≡ s.intake.next
 number_is c s k m r shaken a timely = let there = the_link s.link (present_link k) a.link (OfLink s c k) r.link a.at in let h = there.1.1 in
-    cases (is_three k) (is_kept c k) refl refl h ∙ sym (h.counted shaken a.live)
+    cases (is_three k) (is_resumable c k) refl refl h ∙ sym (h.counted shaken a.live)
   where
     may : Bool
     may = is_this a.link (first_link k) || has_frames (lent_frames a.link k)
@@ -219,7 +219,7 @@ number_is c s k m r shaken a timely = let there = the_link s.link (present_link 
         ≡ next_of alone (number (read_frames a.link k)) (length (processed_messages k))
     opened alone e = rw (e, and_true (is_some (number (read_frames a.link k)))) refl
 
-    cases : (three kept : Bool) → is_three k ≡ three → is_kept c k ≡ kept → OfLink s c k (the_link s.link (present_link k) a.link (OfLink s c k) r.link a.at).0 a.link
+    cases : (three kept : Bool) → is_three k ≡ three → is_resumable c k ≡ kept → OfLink s c k (the_link s.link (present_link k) a.link (OfLink s c k) r.link a.at).0 a.link
         → next_number c k a.link ≡ next_counted c k a.link
     cases true kept e f h = opened (is_alone c k) (not-false may (subst (λ b. (b && not may) ≡ false) e timely))
     cases false true e f h = rw (e, f) refl
@@ -241,7 +241,7 @@ next_again true None n p e f = absurd (cc)
 next_again true (Some m) n p e f = absurd (f (let g : n ≡ suc p = cc in g))
 next_again false num n p e f = ap one_more e
 
-remembers_counted : (c : Config) (s : Session) (k : List Step) (m : Message) (o : Option ℕ) → Remembers c s k → is_shaken k ≡ true → Awaits c k (Numbered m) → s.intake.next ≡ o
+remembers_counted : (c : Config) (s : Session) (k : List EndEvent) (m : Message) (o : Option ℕ) → Remembers c s k → is_shaken k ≡ true → Awaits c k (Numbered m) → s.intake.next ≡ o
     → Remembers c (after_counted s (after_count s.intake o) (counted_as s.intake.processed o)) (step_counted m (refused_as (counted_as s.intake.processed o)) ∷ k)
 remembers_counted c s k m None r shaken a is =
     remembers_read c s k (Numbered m) (Skipped BeforeSequence) r a shaken refl refl refl refl refl
@@ -274,7 +274,7 @@ remembers_counted c s k m (Some n) r shaken a is = go (n == suc most_messages) (
         ∙ ap (next_of (is_alone c k) (one_more (number (read_frames l k)))) r.processed)
 
 -- a message, counted
-pub message_read : (c : Config) (s : Session) (k : List Step) (m : Message) (result : Result Counted Gap) → Remembers c s k → is_shaken k ≡ true → (a : Awaits c k (Numbered m))
+pub message_read : (c : Config) (s : Session) (k : List EndEvent) (m : Message) (result : Result Counted Gap) → Remembers c s k → is_shaken k ≡ true → (a : Awaits c k (Numbered m))
     → is_early k a.link ≡ false → result ≡ counted_as s.intake.processed s.intake.next
     → (processes c k ≡ Some (step_counted m (refused_as result))) × Remembers c (after_counted s (after_count s.intake s.intake.next) result) (step_counted m (refused_as result) ∷ k)
 message_read c s k m result r shaken a timely is = rw is (
@@ -284,7 +284,7 @@ message_read c s k m result r shaken a timely is = rw is (
 )
 
 -- what was counted so
-pub counted_so : (c : Config) (t : Session) (k : List Step) (m : Message) (q p : Result Counted Refused) → q ≡ p
+pub counted_so : (c : Config) (t : Session) (k : List EndEvent) (m : Message) (q p : Result Counted Refused) → q ≡ p
     → (processes c k ≡ Some (step_counted m q)) × Remembers c t (step_counted m q ∷ k) → (processes c k ≡ Some (step_counted m p)) × Remembers c t (step_counted m p ∷ k)
 counted_so c t k m q p e made = subst (λ x. (processes c k ≡ Some (step_counted m x)) × Remembers c t (step_counted m x ∷ k)) e made
 

@@ -4,14 +4,14 @@ use Rattle.std.specs.Prelude.{◌||◌, map, drop, if◌then◌else◌}
 use Rattle.hm_message.specs.declared.message.Message.{Message}
 use Rattle.hm_codec.specs.Frames.{framed}
 use Rattle.hd_delivery.specs.Frames.{LinkFrame, Request, Response, Refusal, Numbered, Ack, Sequence, Ping, Close, Foreign, Strange, Unreadable, count, number, told_count, most_told}
-use Rattle.hd_delivery.specs.Histories.{Step, Config, Lent, present_link, lent_frames, written_place, most_lent, is_three, acked_count, is_kept, sent_messages, codec_of}
+use Rattle.hd_delivery.specs.Histories.{EndEvent, Config, Lent, present_link, lent_frames, written_place, most_lent, is_three, acked_count, is_resumable, sent_messages, codec_of}
 use Rattle.hd_delivery.specs.Due.{has_close}
 use Rattle.hd_delivery.specs.Processes.{has_frames}
 use Rattle.he_end.specs.declared.session.Session.{Session}
 use Rattle.he_end.specs.declared.link.Agreed.{Agreed}
 use Rattle.he_end.specs.declared.link.Link.{Link}
-use Rattle.he_end.specs.declared.due.Due.{Due}
-use Rattle.he_end.specs.declared.due.Due.TheVariants as kind
+use Rattle.he_end.specs.declared.next_frame.NextFrame.{NextFrame}
+use Rattle.he_end.specs.declared.next_frame.NextFrame.TheVariants as kind
 use Rattle.he_end.specs.Remembers.{Agrees, Remembers, OfLink, OnLink, HoldsOf}
 use Rattle.he_end.specs.Says.{IsDue}
 use Rattle.std.proofs.lemmas.List.Sums.{fold_push}
@@ -43,12 +43,12 @@ some-push : (frames : List LinkFrame) (f : LinkFrame) → has_frames (frames ++ 
 some-push [] f = refl
 some-push (g ∷ frames) f = refl
 
-lent_here : (l : ℕ) (k : List Step) (f : LinkFrame) → present_link k ≡ Some l → lent_frames l (Lent f ∷ k) ≡ lent_frames l k ++ f ∷ []
+lent_here : (l : ℕ) (k : List EndEvent) (f : LinkFrame) → present_link k ≡ Some l → lent_frames l (Lent f ∷ k) ≡ lent_frames l k ++ f ∷ []
 lent_here l k f at = rw (is_this-same l (present_link k) at) refl
 
 -- ---- what is said is no message
 
-unnumbered : (c : Config) (k : List Step) (f : LinkFrame) (d : Due) → IsDue c k (Some f) (Some d) → (d ≡ kind.Message → ⊥) → (m : Message) → f ≡ Numbered m → ⊥
+unnumbered : (c : Config) (k : List EndEvent) (f : LinkFrame) (d : NextFrame) → IsDue c k (Some f) (Some d) → (d ≡ kind.Message → ⊥) → (m : Message) → f ≡ Numbered m → ⊥
 unnumbered c k f kind.Request h no_message m is = absurd (cc)
 unnumbered c k f kind.Response h no_message m is = absurd (cc)
 unnumbered c k f kind.Refusal h no_message m is = let e = h.1.1 in absurd (cc)
@@ -59,7 +59,7 @@ unnumbered c k f kind.Ping h no_message m is = absurd (cc)
 unnumbered c k f (kind.Close farewell) h no_message m is = absurd (cc)
 
 -- the places stay
-places_stay : (f : LinkFrame) (k : List Step) → ((m : Message) → f ≡ Numbered m → ⊥) → (written_place (Lent f ∷ k) ≡ written_place k) × (most_lent (Lent f ∷ k) ≡ most_lent k)
+places_stay : (f : LinkFrame) (k : List EndEvent) → ((m : Message) → f ≡ Numbered m → ⊥) → (written_place (Lent f ∷ k) ≡ written_place k) × (most_lent (Lent f ∷ k) ≡ most_lent k)
 places_stay (Request codec version) k h = (refl, refl)
 places_stay Response k h = (refl, refl)
 places_stay (Refusal text) k h = (refl, refl)
@@ -79,12 +79,12 @@ abbrev pub link_after : Session → Link → Option ℕ → ℕ → Bool → Lin
 link_after s x said told parted = record x { opened = true; said = said; told = told; parted = parted; quiet = false; wrote = s.moment }
 
 -- the handshake's outcome stays
-agrees_on : (c : Config) (k : List Step) (f : LinkFrame) (a : Option Agreed) → Agrees a c k → Agrees a c (Lent f ∷ k)
+agrees_on : (c : Config) (k : List EndEvent) (f : LinkFrame) (a : Option Agreed) → Agrees a c k → Agrees a c (Lent f ∷ k)
 agrees_on c k f None h = h
 agrees_on c k f (Some a) h = h
 
 -- the frame f was said on the link, with which the ring became b
-pub remembers_lent : (c : Config) (s : Session) (k : List Step) (f : LinkFrame) (x : Link) (b : Buffer) (said : Option ℕ) (told : ℕ) (parted : Bool) → Remembers c s k → s.link ≡ Some x
+pub remembers_lent : (c : Config) (s : Session) (k : List EndEvent) (f : LinkFrame) (x : Link) (b : Buffer) (said : Option ℕ) (told : ℕ) (parted : Bool) → Remembers c s k → s.link ≡ Some x
     → (l : ℕ) → present_link k ≡ Some l → OfLink s c k x l → HoldsOf b c (Lent f ∷ k) → b.sent ≡ s.ring.sent
     → (is_three k ≡ false → said ≡ count (number (lent_frames l k)) f) → told ≡ max x.told (told_count f) → parted ≡ (x.parted || has_close (f ∷ []))
     → Remembers c (record s { link = Some (link_after s x said told parted); ring = b }) (Lent f ∷ k)
@@ -129,18 +129,18 @@ remembers_lent c s k f x b said told parted r at l here o holds sent counts tell
     }
 
 -- the ring holds the same after what is no message
-holds_on : (b : Buffer) (c : Config) (k : List Step) (f : LinkFrame) → HoldsOf b c k → (written_place (Lent f ∷ k) ≡ written_place k) × (most_lent (Lent f ∷ k) ≡ most_lent k) → HoldsOf b c (Lent f ∷ k)
+holds_on : (b : Buffer) (c : Config) (k : List EndEvent) (f : LinkFrame) → HoldsOf b c k → (written_place (Lent f ∷ k) ≡ written_place k) × (most_lent (Lent f ∷ k) ≡ most_lent k) → HoldsOf b c (Lent f ∷ k)
 holds_on b c k f h same = record {
   keeps = h.keeps;
   sent = h.sent;
   acked = h.acked;
   written = h.written ∙ ap (max (acked_count k)) (sym same.0);
   furthest = h.furthest ∙ sym same.1;
-  held = h.held ∙ ap (λ n. map (framed (codec_of c k)) (if is_kept c k then drop (acked_count k) (sent_messages k) else drop n (sent_messages k))) (sym same.1);
+  held = h.held ∙ ap (λ n. map (framed (codec_of c k)) (if is_resumable c k then drop (acked_count k) (sent_messages k) else drop n (sent_messages k))) (sym same.1);
 }
 
 -- what was due and is no message was said
-pub remembers_said : (c : Config) (s : Session) (k : List Step) (f : LinkFrame) (d : Due) (x : Link) (said : Option ℕ) (told : ℕ) (parted : Bool) → Remembers c s k → s.link ≡ Some x
+pub remembers_said : (c : Config) (s : Session) (k : List EndEvent) (f : LinkFrame) (d : NextFrame) (x : Link) (said : Option ℕ) (told : ℕ) (parted : Bool) → Remembers c s k → s.link ≡ Some x
     → IsDue c k (Some f) (Some d) → (d ≡ kind.Message → ⊥) → said ≡ count x.said f → told ≡ max x.told (told_count f) → parted ≡ (x.parted || has_close (f ∷ []))
     → Remembers c (record s { link = Some (link_after s x said told parted) }) (Lent f ∷ k)
 remembers_said c s k f d x said told parted r at due' no_message counts tells parts =

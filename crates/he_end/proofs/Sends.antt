@@ -1,22 +1,18 @@
 -- What a message that is sent makes of an end, and why one isn't.
-use Rattle.std.proofs.Common.{⊎_elim, ◌≡◌, ◌≤◌, ◌<◌, ℕ, suc, ◌+◌, max, true, false, List, [], ◌∷◌, ◌++◌, length, length-append, refl, sym, ap, ◌∙◌, subst, arith}
+use Rattle.std.proofs.Common.{⊎_elim, ◌≡◌, ◌≤◌, ◌<◌, ℕ, suc, ◌+◌, true, false, List, [], ◌∷◌, ◌++◌, length, length-append, refl, sym, ap, ◌∙◌, subst, arith}
 use Rattle.std.proofs.lemmas.List.Elements.{Contains-push_cases}
 use Rattle.hf_split.specs.declared.framing.Framing.{Framing}
 use Rattle.hf_split.specs.declared.framing.Framing.TheVariants.{Record, Length}
 use Rattle.hf_split.specs.Cuts.{CanWrap, wrapped, separator}
 use Rattle.hf_split.specs.Laws.{WrappedBegins}
-use Rattle.hv_value.specs.Tree as tree
-use Rattle.hv_value.specs.Tree.{Tree, Trees, Pairs, trees, depth, depths, depths_of_pairs}
-use Rattle.hv_value.specs.Image.{image, images, trees_image, pairs_image}
-use Rattle.hv_value.specs.View as seen
+use Rattle.hv_value.specs.Tree.{trees}
+use Rattle.hv_value.specs.Image.{image}
 use Rattle.hm_message.specs.declared.message.Codec.{Codec}
 use Rattle.hm_message.specs.declared.message.Codec.TheVariants.{Json, Pack}
 use Rattle.hm_message.specs.declared.message.Message.{Message}
 use Rattle.hm_message.specs.declared.message.Message.TheVariants.{Invocation, StreamItem, Completion, StreamInvocation, CancelInvocation, Ping, Close, Ack, Sequence}
-use Rattle.hm_message.specs.declared.message.Ending.{Ending}
-use Rattle.hm_message.specs.declared.message.Ending.TheVariants.{Void, Result, Error}
-use Rattle.hm_message.specs.Laws.{ValuesAreTrees, ImageIsItsImage}
-use Rattle.hm_message.specs.Message.{is_sequenced, Fits, content_depth, ending_depth, message_image, ending_image}
+use Rattle.hm_message.specs.Laws.{ImageIsAsDeep, ImageIsItsImage}
+use Rattle.hm_message.specs.Message.{is_sequenced, Fits, message_image}
 use Rattle.hm_codec.specs.Frames.{Says, framing_of, frame_of, framed, said_again, IsSaid}
 use Rattle.hm_codec.specs.Laws.{FrameIsOfImage}
 use Rattle.hq_resend.specs.Buffers as ring
@@ -36,45 +32,7 @@ use Rattle.he_end.specs.Stands.{Stands, limits_of}
 use Rattle.he_end.specs.Calls.{IsSpelled}
 use Rattle.he_end.proofs.Ends.{with, house_stays, most_stays, with_limits, stays_unread, framed_size, held_count, held_size_on_wire, room_is, is_room}
 
--- ---- the image of a message is as deep as the message, and counts if that counts
-
-mutual
-  depth-image : (t : Tree) → depth (image t) ≡ depth t
-  depth-image tree.null = refl
-  depth-image (tree.boolean b) = refl
-  depth-image (tree.int z) = refl
-  depth-image (tree.text s) = refl
-  depth-image (tree.bytes s) = refl
-  depth-image (tree.list ts) = ap suc (depths-image ts)
-  depth-image (tree.map ps) = ap suc (depths-pairs_image ps)
-
-  depths-image : (ts : Trees) → depths (trees_image ts) ≡ depths ts
-  depths-image tree.no_trees = refl
-  depths-image (tree.more t ts) = λ i. max (depth-image t i) (depths-image ts i)
-
-  depths-pairs_image : (ps : Pairs) → depths_of_pairs (pairs_image ps) ≡ depths_of_pairs ps
-  depths-pairs_image tree.no_pairs = refl
-  depths-pairs_image (tree.pair k t ps) = λ i. max (depth-image t i) (depths-pairs_image ps i)
-
-depths-images : (ts : List Tree) → depths (trees (images ts)) ≡ depths (trees ts)
-depths-images [] = refl
-depths-images (t ∷ ts) = λ i. max (depth-image t i) (depths-images ts i)
-
-ending_depth-image : ValuesAreTrees → (e : Ending) → ending_depth (ending_image e) ≡ ending_depth e
-ending_depth-image law Void = refl
-ending_depth-image law (Result v) = ap depth (law.tree-value_of (image (seen.tree v))) ∙ depth-image (seen.tree v)
-ending_depth-image law (Error s) = refl
-
-content_depth-image : ValuesAreTrees → (m : Message) → content_depth (message_image m) ≡ content_depth m
-content_depth-image law (Invocation headers id target arguments streams) = ap suc (depths-images arguments)
-content_depth-image law (StreamItem headers id item) = ap depth (law.tree-value_of (image (seen.tree item))) ∙ depth-image (seen.tree item)
-content_depth-image law (Completion headers id ending) = ending_depth-image law ending
-content_depth-image law (StreamInvocation headers id target arguments streams) = ap suc (depths-images arguments)
-content_depth-image law (CancelInvocation headers id) = refl
-content_depth-image law Ping = refl
-content_depth-image law (Close error allow) = refl
-content_depth-image law (Ack upto) = refl
-content_depth-image law (Sequence first received) = refl
+-- ---- the image of a message counts if that counts
 
 is_sequenced-image : (m : Message) → is_sequenced (message_image m) ≡ is_sequenced m
 is_sequenced-image (Invocation headers id target arguments streams) = refl
@@ -88,11 +46,11 @@ is_sequenced-image (Ack upto) = refl
 is_sequenced-image (Sequence first received) = refl
 
 -- what the other end reads can be sent
-can_be : ValuesAreTrees → ImageIsItsImage → (limits : Limits) (sizes : Sizes) (codec : Codec) (m : Message) → is_sequenced m ≡ true → Fits m
+can_be : ImageIsAsDeep → ImageIsItsImage → (limits : Limits) (sizes : Sizes) (codec : Codec) (m : Message) → is_sequenced m ≡ true → Fits m
     → sizes.frame codec (said_again codec m) ≤ limits.frame → CanBeSent limits sizes codec (said_again codec m)
 can_be law own limits sizes Json m counts fits short = record {
   sequenced = is_sequenced-image m ∙ counts;
-  fits = subst (λ n. n ≤ 63) (sym (content_depth-image law m)) fits;
+  fits = subst (λ n. n ≤ 63) (sym (law m)) fits;
   as_read = own m;
   short = short;
 }
@@ -196,7 +154,7 @@ module _ (wire : Wire) (c : of.Config) (e : End) (h : List ByteStep) (st : Stand
           → IsRefusedToSend (limits_of e) (sizes_of wire) c (in_frames wire c h) read Exhausted
       exhausted r all = (sendable, room r, (let n = sym all ∙ st.remembers.ring.sent in omega arith))
 
-      pub may_be_sent : ValuesAreTrees → ImageIsItsImage → is_sequenced m ≡ true → Fits m → ring.HasRoom e.session.ring (length frame)
+      pub may_be_sent : ImageIsAsDeep → ImageIsItsImage → is_sequenced m ≡ true → Fits m → ring.HasRoom e.session.ring (length frame)
           → e.session.ring.sent < most_messages → MaySend (limits_of e) (sizes_of wire) c (in_frames wire c h) read
       may_be_sent trees own counts fits r left = record {
         unclosed = unclosed;
@@ -208,10 +166,10 @@ module _ (wire : Wire) (c : of.Config) (e : End) (h : List ByteStep) (st : Stand
 
       -- what session.push says of a message that it took, with its number
       abbrev pub Pushed : Session → ℕ → Type 0
-      Pushed s number = (c : of.Config) (k : List of.Step) (m : Message) → Remembers c e.session k → is_shaken k ≡ true → frame ≡ framed e.session.codec m
+      Pushed s number = (c : of.Config) (k : List of.EndEvent) (m : Message) → Remembers c e.session k → is_shaken k ≡ true → frame ≡ framed e.session.codec m
           → (number ≡ length (sent_messages (Sent m ∷ k))) × Remembers c s (Sent m ∷ k)
 
-      pub sends : ValuesAreTrees → ImageIsItsImage → UnreadStays → is_sequenced m ≡ true → Fits m → ring.HasRoom e.session.ring (length frame)
+      pub sends : ImageIsAsDeep → ImageIsItsImage → UnreadStays → is_sequenced m ≡ true → Fits m → ring.HasRoom e.session.ring (length frame)
           → e.session.ring.sent < most_messages → (s : Session) → s.ring.limits ≡ limits_of e → (number : ℕ) → Pushed s number
           → MaySend (limits_of e) (sizes_of wire) c (in_frames wire c h) read × (number ≡ suc (length (sent_messages (in_frames wire c h))))
           × Stands wire c (with e s) (Does (Sent read) ∷ h)

@@ -6,7 +6,7 @@ use Rattle.hm_message.specs.declared.message.Codec.{Codec}
 use Rattle.hm_message.specs.declared.message.Message.{Message}
 use Rattle.hd_delivery.specs.declared.vocabulary.Got.TheVariants.{Shaken}
 use Rattle.hd_delivery.specs.Frames.{LinkFrame, count, number}
-use Rattle.hd_delivery.specs.Histories.{Config, Step, Took, present_link, taken_count, read_frames, processed_messages, sent_messages, acked_count, most_lent, codec_of, is_shaken, is_three, is_kept, can_keep}
+use Rattle.hd_delivery.specs.Histories.{Config, EndEvent, Took, present_link, taken_count, read_frames, processed_messages, sent_messages, acked_count, most_lent, codec_of, is_shaken, is_three, is_resumable, can_keep}
 use Rattle.he_end.specs.declared.session.Session.{Session}
 use Rattle.he_end.specs.declared.link.Agreed.{Agreed}
 use Rattle.he_end.specs.declared.link.Link.{Link}
@@ -16,7 +16,7 @@ use Rattle.he_end.proofs.Links.{on_link_map, has_first, taken_on, counts_on}
 use Rattle.he_end.proofs.Taken.{awaits_at, in_fed, next_of}
 use Rattle.he_end.proofs.Attached.{not_kept}
 
-not_three : (o : Option Agreed) (c : Config) (k : List Step) → Agrees o c k → is_shaken k ≡ false → is_three k ≡ false
+not_three : (o : Option Agreed) (c : Config) (k : List EndEvent) → Agrees o c k → is_shaken k ≡ false → is_three k ≡ false
 not_three None c k h e = h.2
 not_three (Some x) c k h e = absurd (let z : true ≡ false = sym h.0 ∙ e in cc)
 
@@ -32,7 +32,7 @@ nothing_held : (g : Message → List ℕ) (kept : Bool) (n m : ℕ) (ms : List M
 nothing_held g true n m ms e = rw (e, drop_none n) refl
 nothing_held g false n m ms e = rw (e, drop_none m) refl
 
-pub remembers_shaken : (c : Config) (s : Session) (k : List Step) (f : LinkFrame) (codec : Codec) (version : ℕ) → Remembers c s k → is_shaken k ≡ false → Awaits c k f → count None f ≡ Some 1
+pub remembers_shaken : (c : Config) (s : Session) (k : List EndEvent) (f : LinkFrame) (codec : Codec) (version : ℕ) → Remembers c s k → is_shaken k ≡ false → Awaits c k f → count None f ≡ Some 1
     → Remembers c (record s { codec = codec; agreed = Some (record { kept = s.reconnect && can_keep version; three = version == 3 }); ring = record s.ring { keeps = s.reconnect && can_keep version } })
     (Took (Shaken codec version) ∷ k)
 remembers_shaken c s k f codec version r early a counts = record {
@@ -68,7 +68,7 @@ remembers_shaken c s k f codec version r early a counts = record {
     acked = h.acked;
     written = h.written;
     furthest = h.furthest;
-    held = h.held ∙ (nothing_held (framed (codec_of c k)) (is_kept c k) (acked_count k) (most_lent k) (sent_messages k) unsent
+    held = h.held ∙ (nothing_held (framed (codec_of c k)) (is_resumable c k) (acked_count k) (most_lent k) (sent_messages k) unsent
         ∙ sym (nothing_held (framed codec) (c.reconnect && can_keep version) (acked_count k) (most_lent k) (sent_messages k) unsent));
   };
   processed = r.processed;

@@ -15,11 +15,11 @@ use Rattle.hm_codec.specs.declared.why.FrameWhy.{FrameWhy}
 use Rattle.hs_shake.specs.declared.shake.ShakeError.{ShakeError}
 use Rattle.hd_delivery.specs.declared.vocabulary.Side.TheVariants.{Client, Server}
 use Rattle.hd_delivery.specs.Frames.{LinkFrame, Request, Response, Strange, Unreadable}
-use Rattle.he_wire.specs.declared.reading.Greeting.{Greeting}
-use Rattle.he_wire.specs.declared.reading.Greeting.TheVariants as greeting
+use Rattle.he_wire.specs.declared.reading.Handshake.{Handshake}
+use Rattle.he_wire.specs.declared.reading.Handshake.TheVariants as handshake
 use Rattle.he_wire.specs.Gives.{IsOwed, answer_of}
 use Rattle.hd_delivery.specs.Histories as of
-use Rattle.hd_delivery.specs.Histories.{Step, Took, Failed, Sent, Lent, Fault, Unread, Shake, Gap, AckBeyond, present_link, codec_of, is_shaken, is_closed, sent_messages}
+use Rattle.hd_delivery.specs.Histories.{EndEvent, Took, Failed, Sent, Lent, Fault, Unread, Shake, Gap, AckBeyond, present_link, codec_of, is_shaken, is_closed, sent_messages}
 use Rattle.hd_delivery.specs.Due.{due}
 use Rattle.hd_delivery.specs.Processes.{processes}
 use Rattle.hd_delivery.specs.Numbers.{most_framing}
@@ -32,7 +32,7 @@ use Rattle.he_end.specs.declared.errors.SendError.{SendError}
 use Rattle.he_end.specs.declared.errors.SendError.TheVariants as send
 use Rattle.he_end.specs.declared.end.End.{End}
 use Rattle.he_end.specs.Says.{Awaits, answer_at, IsDue, frame_read}
-use Rattle.he_end.specs.declared.due.Due.{Due}
+use Rattle.he_end.specs.declared.next_frame.NextFrame.{NextFrame}
 use Rattle.he_end.specs.Stands.{Stands, limits_of}
 
 -- of every history for which the end stood
@@ -116,7 +116,7 @@ abbrev pub AreDue : End → Option (List ℕ) → Type 0
 AreDue e bytes = OfEach e (λ wire c h. let k = in_frames wire c h in bytes ≡ option_map (wire.spell (codec_of c k)) (due c k))
 
 -- this was due, in the session's name for it, and is said now
-abbrev pub Said : End → End → Due → Type 0
+abbrev pub Said : End → End → NextFrame → Type 0
 Said old new said = OfEach old (λ wire c h. (f : LinkFrame) → due c (in_frames wire c h) ≡ Some f → IsDue c (in_frames wire c h) (Some f) (Some said)
     → Stands wire c new (Does (Lent f) ∷ h))
 
@@ -141,10 +141,10 @@ Takes old new read result = OfEach old (λ wire c h. ReadsOne old.splitter (fram
     → HasMade wire c h new result)
 
 -- this handshake was read of them, and is taken
-abbrev pub Greets : End → End → Greeting → Got → Type 0
-Greets old new (greeting.Request shake) got = OfEach old (λ wire c h. c.side ≡ Server
+abbrev pub Greets : End → End → Handshake → Got → Type 0
+Greets old new (handshake.Request shake) got = OfEach old (λ wire c h. c.side ≡ Server
     → ReadsOne old.splitter (Request shake.codec shake.version) (wire.first Server old.splitter.bytes) → HasMade wire c h new (Ok got))
-Greets old new greeting.Response got = OfEach old (λ wire c h. c.side ≡ Client
+Greets old new handshake.Response got = OfEach old (λ wire c h. c.side ≡ Client
     → ReadsOne old.splitter Response (wire.first Client old.splitter.bytes) → HasMade wire c h new (Ok got))
 
 -- the first frame comes next, and is no handshake

@@ -6,7 +6,7 @@ use Rattle.hs_shake.specs.declared.shake.ShakeError.TheVariants as refusals
 use Rattle.hs_shake.specs.Responses.{refusal_text}
 use Rattle.hd_delivery.specs.declared.vocabulary.Reason.TheVariants as reasons
 use Rattle.hd_delivery.specs.Frames.{LinkFrame, Close, error_of, number, most_told}
-use Rattle.hd_delivery.specs.Histories.{Config, Step, is_this, present_link, first_link, link_count, as_told, fed_frames, lent_frames, taken_count, read_frames, sent_messages, processed_messages, acked_count, written_place, most_lent, is_shaken, is_three, codec_of, is_kept, is_closed, is_resumed, held_messages, moment, heard_moment, written_moment}
+use Rattle.hd_delivery.specs.Histories.{Config, EndEvent, is_this, present_link, first_link, link_count, as_told, fed_frames, lent_frames, taken_count, read_frames, sent_messages, processed_messages, acked_count, written_place, most_lent, is_shaken, is_three, codec_of, is_resumable, is_closed, is_resumed, held_messages, moment, heard_moment, written_moment}
 use Rattle.hd_delivery.specs.Due.{is_quiet, farewell, answer, has_close}
 use Rattle.hd_delivery.specs.Processes.{has_frames}
 use Rattle.hq_resend.specs.Buffers.{Buffer, after_ack}
@@ -22,9 +22,9 @@ abbrev pub close_of : Farewell → LinkFrame
 close_of f = Close (error_of f.reason) f.allow
 
 -- whether the handshake is complete, the connection kept, and its version 3
-abbrev pub Agrees : Option Agreed → Config → List Step → Type 0
-Agrees None c k = (is_shaken k ≡ false) × (is_kept c k ≡ false) × (is_three k ≡ false)
-Agrees (Some a) c k = (is_shaken k ≡ true) × (a.kept ≡ is_kept c k) × (a.three ≡ is_three k)
+abbrev pub Agrees : Option Agreed → Config → List EndEvent → Type 0
+Agrees None c k = (is_shaken k ≡ false) × (is_resumable c k ≡ false) × (is_three k ≡ false)
+Agrees (Some a) c k = (is_shaken k ≡ true) × (a.kept ≡ is_resumable c k) × (a.three ≡ is_three k)
 
 -- what a refused request is answered
 abbrev pub answer_text : Answer → List ℕ
@@ -37,14 +37,14 @@ answer_text answers.UnknownVersion = refusal_text (refusals.Version (pos 0))
 
 -- the number of the next message on the link, as the receiving counter has it: at version 3 and on a plain connection, once it has one, the
 -- number after those processed
-abbrev pub next_counted : Config → List Step → ℕ → Option ℕ
+abbrev pub next_counted : Config → List EndEvent → ℕ → Option ℕ
 next_counted c k l =
-    if is_three k || not (is_kept c k)
+    if is_three k || not (is_resumable c k)
     then (if is_some (number (read_frames l k)) then Some (suc (length (processed_messages k))) else None)
     else number (read_frames l k)
 
 -- what is remembered of the link l
-pub record OfLink (s : Session) (c : Config) (k : List Step) (x : Link) (l : ℕ) : Type 0 where
+pub record OfLink (s : Session) (c : Config) (k : List EndEvent) (x : Link) (l : ℕ) : Type 0 where
   pub first : x.first ≡ is_this l (first_link k)
   pub opened : x.opened ≡ has_frames (lent_frames l k)
   pub said : is_three k ≡ false → x.said ≡ number (lent_frames l k)
@@ -57,8 +57,8 @@ pub record OfLink (s : Session) (c : Config) (k : List Step) (x : Link) (l : ℕ
   pub within : taken_count l k ≤ length (fed_frames l k)
   pub counted : is_shaken k ≡ true → is_closed c k ≡ false → s.intake.next ≡ next_counted c k l
   pub greets : is_shaken k ≡ false → is_closed c k ≡ false → taken_count l k ≡ 0
-  pub alone : is_kept c k ≡ false → is_closed c k ≡ false → x.first ≡ true
-  pub numbered : is_shaken k ≡ true → is_kept c k ≡ false → is_closed c k ≡ false → is_some (number (read_frames l k)) ≡ true
+  pub alone : is_resumable c k ≡ false → is_closed c k ≡ false → x.first ≡ true
+  pub numbered : is_shaken k ≡ true → is_resumable c k ≡ false → is_closed c k ≡ false → is_some (number (read_frames l k)) ≡ true
 
 -- the same link on both sides, of which this holds, or none
 abbrev pub OnLink : Option Link → Option ℕ → (Link → ℕ → Type 0) → Type 0
@@ -69,12 +69,12 @@ OnLink x l Holds = ⊥
 -- ---- all of it
 
 -- the session's number of its latest link, from 0
-abbrev pub latest_number : List Step → Option ℕ
+abbrev pub latest_number : List EndEvent → Option ℕ
 latest_number k = if is_some (first_link k) then Some (as_told (link_count k - 1)) else None
 
 -- what the ring holds of the messages that were sent
-pub record HoldsOf (b : Buffer) (c : Config) (k : List Step) : Type 0 where
-  pub keeps : b.keeps ≡ is_kept c k
+pub record HoldsOf (b : Buffer) (c : Config) (k : List EndEvent) : Type 0 where
+  pub keeps : b.keeps ≡ is_resumable c k
   pub sent : b.sent ≡ length (sent_messages k)
   pub acked : b.acked ≡ acked_count k
   pub written : b.written ≡ max (acked_count k) (written_place k)
@@ -82,7 +82,7 @@ pub record HoldsOf (b : Buffer) (c : Config) (k : List Step) : Type 0 where
   pub held : b.held ≡ map (framed (codec_of c k)) (held_messages c k)
 
 -- the session is what this history makes of one that was begun so
-pub record Remembers (c : Config) (s : Session) (k : List Step) : Type 0 where
+pub record Remembers (c : Config) (s : Session) (k : List EndEvent) : Type 0 where
   pub side : s.side ≡ c.side
   pub codec : s.codec ≡ codec_of c k
   pub version : s.version ≡ c.version

@@ -7,7 +7,7 @@ use Rattle.hd_delivery.specs.declared.vocabulary.Side.{Side}
 use Rattle.hd_delivery.specs.declared.vocabulary.Side.TheVariants.{Client, Server}
 use Rattle.hd_delivery.specs.Worlds.{Limits}
 use Rattle.hd_delivery.specs.Histories as of
-use Rattle.hd_delivery.specs.Histories.{Step, present_link, sent_messages, codec_of, is_shaken, is_closed}
+use Rattle.hd_delivery.specs.Histories.{EndEvent, present_link, sent_messages, codec_of, is_shaken, is_closed}
 use Rattle.hd_delivery.specs.Bytes.{Wire, ByteStep, in_frames, unread, read_count}
 use Rattle.hd_delivery.specs.OneHistory.{IsHistory}
 use Rattle.he_wire.specs.Wires.{IsHouseWire, AreSaid}

@@ -10,7 +10,7 @@ ghost use Rattle.hm_message.specs.Message.{is_sequenced, Fits};
 ghost use Rattle.hm_codec.specs.Frames.{framed, framing_of};
 ghost use Rattle.hs_shake.specs.Requests.{IsVersion};
 ghost use Rattle.hd_delivery.specs.Histories as of;
-ghost use Rattle.hd_delivery.specs.Histories.{Attached, Detached, Ticked, Silenced, present_link, was_on, first_link, codec_of, is_kept, is_closed, is_silence, state, sent_messages, processed_messages, held_messages};
+ghost use Rattle.hd_delivery.specs.Histories.{Attached, Detached, Ticked, Silenced, present_link, was_on, first_link, codec_of, is_resumable, is_closed, is_silence, state, sent_messages, processed_messages, held_messages};
 ghost use Rattle.hd_delivery.specs.Worlds.{HasRoom};
 ghost use Rattle.hd_delivery.specs.Due.{is_unseen};
 ghost use Rattle.hd_delivery.specs.Numbers.{most_of_64_bits};
@@ -29,9 +29,9 @@ ghost use Rattle.he_end.specs.Says.{HasFit};
 ghost use Rattle.hm_message.specs.Reads.{MessageIs};
 
 use crate::config::Config;
-use crate::due::Due;
 use crate::errors::{NextError, SendError};
 use crate::link::{Answer, Farewell};
+use crate::next_frame::NextFrame;
 use crate::session::{AttachError, Session};
 use crate::spelled::frame_of;
 use crate::taking::Refused;
@@ -40,12 +40,12 @@ use hd_delivery::{
     unread_stays,
 };
 use he_wire::{
-    Control, Greeting, GreetingFault, LinkFault, Slate, read_first, read_later, unframed_size,
-    wire_is_sound,
+    Control, ControlBuffer, Handshake, HandshakeFault, LinkFault, read_handshake,
+    read_wire_message, unframed_size, wire_is_sound,
 };
 use hf_split::{Framing, Splitter, one_beginning, wrapped_begins};
 use hm_codec::{FrameWhy, frame_is_of_image, framing};
-use hm_message::{Codec, Message, Read, image_is_its_image, values_are_trees};
+use hm_message::{Codec, Message, Read, image_is_its_image, message_image_is_as_deep};
 use hq_resend::{Frame, Limits, PushError};
 use hs_shake::{Shake, ShakeError, response};
 use std::alloc::{AllocError, Global};
@@ -55,7 +55,7 @@ use std::alloc::{AllocError, Global};
 pub struct End {
     session: Session,
     splitter: Splitter,
-    slate: Slate,
+    control_buffer: ControlBuffer,
 }
 
 impl End {
@@ -74,7 +74,7 @@ impl End {
         Ok(End {
             session: Session::start(alloc, side, codec, version, reconnect, limits)?,
             splitter: Splitter::start(alloc, Framing::Record, limits.frame())?,
-            slate: Slate::start(alloc)?,
+            control_buffer: ControlBuffer::start(alloc)?,
         })
     }
 
@@ -86,7 +86,7 @@ impl End {
             Stands wire c self.new (Does (Attached l now) ∷ h))) }
         ensures closed { IfErr result (λ e. e ≡ AttachError.Closed → OfEach self.old (λ wire c h. is_closed c (in_frames wire c h) ≡ true)) }
         ensures not_granted { IfErr result (λ e. e ≡ AttachError.NotGranted → OfEach self.old (λ wire c h. (is_closed c (in_frames wire c h) ≡ false)
-            × (is_kept c (in_frames wire c h) ≡ false) × (first_link (in_frames wire c h) ≡ None → ⊥))) }
+            × (is_resumable c (in_frames wire c h) ≡ false) × (first_link (in_frames wire c h) ≡ None → ⊥))) }
         ensures err { OnErr result (self.new ≡ self.old) }
         ensures limits { limits_of self.new ≡ limits_of self.old }
     {
@@ -197,7 +197,7 @@ impl End {
         if self.session.agreed.is_some() {
             self.next_frame(alloc)
         } else {
-            self.next_greeting(alloc)
+            self.next_handshake(alloc)
         }
     }
 
@@ -209,39 +209,39 @@ impl End {
         facts_hold();
         unread_stays();
         match self.session.due()? {
-            Due::Message => self.session.say_message(),
-            Due::Request => {
+            NextFrame::Message => self.session.say_message(),
+            NextFrame::Request => {
                 self.say_request();
-                Some(self.slate.bytes())
+                Some(self.control_buffer.bytes())
             }
-            Due::Response => {
-                self.say(Due::Response);
+            NextFrame::Response => {
+                self.say(NextFrame::Response);
                 Some(response(None))
             }
-            Due::Refusal => {
+            NextFrame::Refusal => {
                 let answer = self.session.answer?;
-                self.say(Due::Refusal);
+                self.say(NextFrame::Refusal);
                 Some(answer.bytes())
             }
-            Due::Sequence { first, received } => {
+            NextFrame::Sequence { first, received } => {
                 self.say_control(
-                    Due::Sequence { first, received },
+                    NextFrame::Sequence { first, received },
                     Control::Sequence { first, received },
                 );
-                Some(self.slate.bytes())
+                Some(self.control_buffer.bytes())
             }
-            Due::Ack(upto) => {
-                self.say_control(Due::Ack(upto), Control::Ack { upto });
-                Some(self.slate.bytes())
+            NextFrame::Ack(upto) => {
+                self.say_control(NextFrame::Ack(upto), Control::Ack { upto });
+                Some(self.control_buffer.bytes())
             }
-            Due::Ping => {
-                self.say_control(Due::Ping, Control::Ping);
-                Some(self.slate.bytes())
+            NextFrame::Ping => {
+                self.say_control(NextFrame::Ping, Control::Ping);
+                Some(self.control_buffer.bytes())
             }
-            Due::Close(farewell) => {
+            NextFrame::Close(farewell) => {
                 let Farewell { reason, allow } = farewell;
-                self.say_control(Due::Close(farewell), Control::Close { reason, allow });
-                Some(self.slate.bytes())
+                self.say_control(NextFrame::Close(farewell), Control::Close { reason, allow });
+                Some(self.control_buffer.bytes())
             }
         }
     }
@@ -313,10 +313,10 @@ impl End {
     }
 
     /// Whether the connection is kept when its link is lost.
-    pub fn is_kept(&self) -> bool
-        ensures { OfEach self.now (λ wire c h. result ≡ is_kept c (in_frames wire c h)) }
+    pub fn is_resumable(&self) -> bool
+        ensures { OfEach self.now (λ wire c h. result ≡ is_resumable c (in_frames wire c h)) }
     {
-        self.session.is_kept()
+        self.session.is_resumable()
     }
 
     /// The moment of its latest step that had one.
@@ -328,11 +328,11 @@ impl End {
 
     /// On a link, the moment before which a tick changes nothing but the moment: it is no silence, makes no Ping due, and finds out nothing
     /// about when something was heard. The greatest number of 64 bits if each tick is so.
-    pub fn alarm(&self) -> u64
+    pub fn deadline(&self) -> u64
         ensures { OfEach self.now (λ wire c h. is_some (present_link (in_frames wire c h)) ≡ true → (now : ℕ) → now < most_of_64_bits →
             nat_lt now result ≡ is_unseen c now (in_frames wire c h)) }
     {
-        self.session.alarm()
+        self.session.deadline()
     }
 
     /// What the end may hold and read.
@@ -376,7 +376,7 @@ impl End {
         facts_hold();
         next_is_read();
         wire_is_sound();
-        match read_later(alloc, self.session.codec, &self.splitter) {
+        match read_wire_message(alloc, self.session.codec, &self.splitter) {
             Ok(None) => Ok(None),
             Ok(Some(read)) => match self.take(read) {
                 Ok(got) => Ok(Some(got)),
@@ -415,7 +415,7 @@ impl End {
     }
 
     /// Reads the handshake.
-    fn next_greeting(&mut self, alloc: Global) -> Result<Option<Got>, NextError>
+    fn next_handshake(&mut self, alloc: Global) -> Result<Option<Got>, NextError>
         requires reading { IsReading self.old }
         requires unshaken { is_some self.old.session.agreed ≡ false }
         ensures ok { IfOk result (Gives self.old self.new) }
@@ -426,15 +426,15 @@ impl End {
         facts_hold();
         next_is_read();
         wire_is_sound();
-        match read_first(alloc, self.session.side, &self.splitter) {
+        match read_handshake(alloc, self.session.side, &self.splitter) {
             Ok(None) => Ok(None),
-            Ok(Some(greeting)) => Ok(Some(self.greet(greeting))),
-            Err(GreetingFault::NoMemory) => Err(NextError::NoMemory),
-            Err(GreetingFault::Split(fault)) => {
+            Ok(Some(handshake)) => Ok(Some(self.greet(handshake))),
+            Err(HandshakeFault::NoMemory) => Err(NextError::NoMemory),
+            Err(HandshakeFault::Split(fault)) => {
                 let at = self.splitter.place();
                 Err(self.fail(at, FrameWhy::Split(fault)))
             }
-            Err(GreetingFault::Shake(e)) => {
+            Err(HandshakeFault::Shake(e)) => {
                 self.refuse(&e);
                 Err(NextError::Shake(e))
             }
@@ -442,11 +442,11 @@ impl End {
     }
 
     /// Takes the handshake that was read of the frame with which the splitter's bytes begin.
-    fn greet(&mut self, greeting: Greeting) -> Got
+    fn greet(&mut self, handshake: Handshake) -> Got
         requires reading { IsReading self.old }
         requires unshaken { is_some self.old.session.agreed ≡ false }
         requires begins { Begins self.old.splitter }
-        ensures made { Greets self.old self.new greeting result }
+        ensures made { Greets self.old self.new handshake result }
         ensures fits { HasFit result }
         ensures limits { limits_of self.new ≡ limits_of self.old }
     {
@@ -455,9 +455,9 @@ impl End {
         unread_moves();
         wire_is_sound();
         self.splitter.pass();
-        let got = match greeting {
-            Greeting::Request(shake) => self.session.take_request(shake.codec, shake.version),
-            Greeting::Response => self.session.take_response(),
+        let got = match handshake {
+            Handshake::Request(shake) => self.session.take_request(shake.codec, shake.version),
+            Handshake::Response => self.session.take_response(),
         };
         let framing = framing(self.session.codec);
         self.splitter.reframe(framing);
@@ -483,9 +483,9 @@ impl End {
     }
 
     /// This, which is due and no message, is said.
-    fn say(&mut self, said: Due)
-        requires { said ≡ Due.Message → ⊥ }
-        ensures slate { self.new.slate ≡ self.old.slate }
+    fn say(&mut self, said: NextFrame)
+        requires { said ≡ NextFrame.Message → ⊥ }
+        ensures control_buffer { self.new.control_buffer ≡ self.old.control_buffer }
         ensures said { Said self.old self.new said }
         ensures limits { limits_of self.new ≡ limits_of self.old }
     {
@@ -494,26 +494,26 @@ impl End {
     }
 
     /// The same, with its bytes on the slate.
-    fn say_control(&mut self, said: Due, control: Control)
-        requires { said ≡ Due.Message → ⊥ }
-        ensures slate { self.new.slate ≡ spelling self.old.session.codec (frame_of_control control) }
+    fn say_control(&mut self, said: NextFrame, control: Control)
+        requires { said ≡ NextFrame.Message → ⊥ }
+        ensures control_buffer { self.new.control_buffer ≡ spelling self.old.session.codec (frame_of_control control) }
         ensures said { Said self.old self.new said }
         ensures limits { limits_of self.new ≡ limits_of self.old }
     {
-        self.slate.write(self.session.codec, control);
+        self.control_buffer.write(self.session.codec, control);
         self.say(said);
     }
 
     /// A client's request, with its bytes on the slate.
     fn say_request(&mut self)
-        ensures slate { self.new.slate ≡ spelling self.old.session.codec (Request self.old.session.codec self.old.session.version) }
-        ensures said { Said self.old self.new Due.Request }
+        ensures control_buffer { self.new.control_buffer ≡ spelling self.old.session.codec (Request self.old.session.codec self.old.session.version) }
+        ensures said { Said self.old self.new NextFrame.Request }
         ensures limits { limits_of self.new ≡ limits_of self.old }
     {
         let codec = self.session.codec;
         let version = self.session.version;
-        self.slate.write_request(Shake { codec, version });
-        self.say(Due::Request);
+        self.control_buffer.write_request(Shake { codec, version });
+        self.say(NextFrame::Request);
     }
 
     /// Whether anything can be sent: first that the end isn't closed, then that the handshake is complete.
@@ -538,7 +538,7 @@ impl End {
         ensures limits { limits_of self.new ≡ limits_of self.old }
         ensures codec { spoken_in self.new ≡ spoken_in self.old }
     {
-        values_are_trees();
+        message_image_is_as_deep();
         image_is_its_image();
         frame_is_of_image();
         unread_stays();

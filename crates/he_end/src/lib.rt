@@ -38,11 +38,11 @@
 #![tactic(auto)]
 
 mod config;
-mod due;
 mod end;
 mod errors;
 mod laws;
 mod link;
+mod next_frame;
 mod session;
 mod spelled;
 mod taking;

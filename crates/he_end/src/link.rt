@@ -124,7 +124,7 @@ impl Link {
 
     /// The moment before which a tick changes nothing but the moment, or the greatest number if each tick is so. `closed`: no tick is a
     /// silence, since the session is closed.
-    pub fn alarm(&self, closed: bool) -> u64
+    pub fn deadline(&self, closed: bool) -> u64
         ensures { (now : ℕ) → now < most_of_64_bits → nat_lt now result ≡
             ((is_some self.now.heard && not (not closed && is_late now self.now.heard)) && (self.now.quiet || nat_lt now (self.now.wrote + ping_after))) }
     {

@@ -5,9 +5,9 @@ ghost use Rattle.hm_message.specs.declared.message.Message.{Message};
 ghost use Rattle.hm_message.specs.Message.{is_sequenced};
 ghost use Rattle.hm_codec.specs.Frames.{framed};
 ghost use Rattle.hd_delivery.specs.Histories as of;
-ghost use Rattle.hd_delivery.specs.Histories.{Config, Step, Attached, Detached, Fed, Sent, Ticked, Silenced, present_link, was_on, first_link, is_shaken, is_kept, is_closed, is_silence, state};
+ghost use Rattle.hd_delivery.specs.Histories.{Config, EndEvent, Attached, Detached, Fed, Sent, Ticked, Silenced, present_link, was_on, first_link, is_shaken, is_resumable, is_closed, is_silence, state};
 ghost use Rattle.hq_resend.specs.Buffers.{IsPushFault, HasRoom, after_rewind};
-ghost use Rattle.hq_resend.specs.Bounds.{most_size};
+ghost use Rattle.hd_delivery.specs.Bounds.{most_size};
 ghost use Rattle.hd_delivery.specs.Frames.{LinkFrame};
 ghost use Rattle.hd_delivery.specs.Due.{is_unseen};
 ghost use Rattle.hd_delivery.specs.Numbers.{most_messages, most_of_64_bits};
@@ -102,9 +102,9 @@ impl Session {
     }
 
     /// Whether the connection is kept across links.
-    pub fn is_kept(&self) -> bool
-        ensures { (c : Config) (k : List Step) →
-            Remembers c self.now k → result ≡ is_kept c k }
+    pub fn is_resumable(&self) -> bool
+        ensures { (c : Config) (k : List EndEvent) →
+            Remembers c self.now k → result ≡ is_resumable c k }
     {
         match self.agreed {
             Some(agreed) => agreed.kept,
@@ -113,20 +113,20 @@ impl Session {
     }
 
     /// On a link, the moment before which a tick changes nothing but the moment.
-    pub fn alarm(&self) -> u64
-        ensures { (c : Config) (k : List Step) →
+    pub fn deadline(&self) -> u64
+        ensures { (c : Config) (k : List EndEvent) →
             Remembers c self.now k → is_some (of.present_link k) ≡ true → (now : ℕ) → now < most_of_64_bits →
             nat_lt now result ≡ is_unseen c now k }
     {
         match self.link {
-            Some(link) => link.alarm(self.closed),
+            Some(link) => link.deadline(self.closed),
             None => u64::MAX,
         }
     }
 
     /// Whether the handshake gave version 3.
     pub fn is_three(&self) -> bool
-        ensures { (c : Config) (k : List Step) →
+        ensures { (c : Config) (k : List EndEvent) →
             Remembers c self.now k → result ≡ of.is_three k }
     {
         match self.agreed {
@@ -137,7 +137,7 @@ impl Session {
 
     /// What the session can do.
     pub fn state(&self) -> State
-        ensures { (c : Config) (k : List Step) → Remembers c self.now k → result ≡ state c k }
+        ensures { (c : Config) (k : List EndEvent) → Remembers c self.now k → result ≡ state c k }
     {
         if self.closed {
             return State::Closed;
@@ -153,15 +153,15 @@ impl Session {
 
     /// Begins a link at this moment, in milliseconds. The link on which it stood is left.
     pub fn attach(&mut self, now: u64) -> Result<(), AttachError>
-        ensures ok { OnOk result ((c : Config) (k : List Step) (l : ℕ) →
+        ensures ok { OnOk result ((c : Config) (k : List EndEvent) (l : ℕ) →
             Remembers c self.old k → was_on l k ≡ false → of.moment k ≤ now →
-            (is_closed c k ≡ false) × ((first_link k ≡ None) ⊎ (is_kept c k ≡ true)) ×
+            (is_closed c k ≡ false) × ((first_link k ≡ None) ⊎ (is_resumable c k ≡ true)) ×
             Remembers c self.new (Attached l now ∷ k)) }
-        ensures closed { IfErr result (λ e. e ≡ AttachError.Closed → (c : Config) (k : List Step) →
+        ensures closed { IfErr result (λ e. e ≡ AttachError.Closed → (c : Config) (k : List EndEvent) →
             Remembers c self.old k → is_closed c k ≡ true) }
         ensures not_granted { IfErr result (λ e. e ≡ AttachError.NotGranted →
-            (c : Config) (k : List Step) → Remembers c self.old k →
-            (is_closed c k ≡ false) × (is_kept c k ≡ false) × (first_link k ≡ None → ⊥)) }
+            (c : Config) (k : List EndEvent) → Remembers c self.old k →
+            (is_closed c k ≡ false) × (is_resumable c k ≡ false) × (first_link k ≡ None → ⊥)) }
         ensures err { OnErr result (self.new ≡ self.old) }
         ensures limits { self.new.ring.limits ≡ self.old.ring.limits }
     {
@@ -171,7 +171,7 @@ impl Session {
         buffer_is_within(&self.ring);
         match self.number {
             None => self.begin(true, 0, now),
-            Some(_) if !self.is_kept() => return Err(AttachError::NotGranted),
+            Some(_) if !self.is_resumable() => return Err(AttachError::NotGranted),
             Some(last) => {
                 self.intake.expect_sequence();
                 self.begin(false, last.saturating_add(1), now);
@@ -197,14 +197,14 @@ impl Session {
 
     /// Leaves the link at this moment. A connection that isn't kept is closed by that.
     fn leave(&mut self, now: u64)
-        ensures lost { (c : Config) (k : List Step) →
+        ensures lost { (c : Config) (k : List EndEvent) →
             Remembers c self.old k → Remembers c self.new (Detached now ∷ k) }
-        ensures silent { (c : Config) (k : List Step) →
+        ensures silent { (c : Config) (k : List EndEvent) →
             Remembers c self.old k → Remembers c self.new (Silenced now ∷ k) }
         ensures limits { self.new.ring.limits ≡ self.old.ring.limits }
         ensures spoken { (self.new.side ≡ self.old.side) × (self.new.codec ≡ self.old.codec) × (self.new.agreed ≡ self.old.agreed) }
     {
-        let kept = self.is_kept();
+        let kept = self.is_resumable();
         self.moment = self.moment.max(now);
         self.link = None;
         if !kept {
@@ -214,10 +214,10 @@ impl Session {
 
     /// The link is lost at this moment. Without a link nothing changes.
     pub fn detach(&mut self, now: u64)
-        ensures left { (c : Config) (k : List Step) (l : ℕ) →
+        ensures left { (c : Config) (k : List EndEvent) (l : ℕ) →
             Remembers c self.old k → present_link k ≡ Some l → of.moment k ≤ now →
             Remembers c self.new (Detached now ∷ k) }
-        ensures none { (c : Config) (k : List Step) →
+        ensures none { (c : Config) (k : List EndEvent) →
             Remembers c self.old k → present_link k ≡ None → self.new ≡ self.old }
         ensures limits { self.new.ring.limits ≡ self.old.ring.limits }
     {
@@ -228,7 +228,7 @@ impl Session {
 
     /// Something was fed on the link.
     pub fn hear(&mut self)
-        ensures heard { (c : Config) (k : List Step) (l : ℕ) (piece : List LinkFrame) →
+        ensures heard { (c : Config) (k : List EndEvent) (l : ℕ) (piece : List LinkFrame) →
             Remembers c self.old k → present_link k ≡ Some l → Remembers c self.new (Fed piece ∷ k) }
         ensures limits { self.new.ring.limits ≡ self.old.ring.limits }
     {
@@ -243,7 +243,7 @@ impl Session {
     /// A moment came, in milliseconds. Answers whether it is a silence, which ends the link: nothing was heard on it for
     /// `SILENCE_AFTER`.
     pub fn tick(&mut self, now: u64) -> bool
-        ensures ticked { (c : Config) (k : List Step) → Remembers c self.old k → of.moment k ≤ now →
+        ensures ticked { (c : Config) (k : List EndEvent) → Remembers c self.old k → of.moment k ≤ now →
             (result ≡ is_silence c now k) ×
             Remembers c self.new ((if result then Silenced now else Ticked now) ∷ k) }
         ensures limits { self.new.ring.limits ≡ self.old.ring.limits }
@@ -270,10 +270,10 @@ impl Session {
 
     /// Closes the session for good, for this reason. One that is closed stays as it is.
     pub fn close(&mut self, reason: Reason, allow: bool)
-        ensures live { (c : Config) (k : List Step) →
+        ensures live { (c : Config) (k : List EndEvent) →
             Remembers c self.old k → is_closed c k ≡ false →
             Remembers c self.new (of.Closed reason allow ∷ k) }
-        ensures closed { (c : Config) (k : List Step) →
+        ensures closed { (c : Config) (k : List EndEvent) →
             Remembers c self.old k → is_closed c k ≡ true → self.new ≡ self.old }
         ensures limits { self.new.ring.limits ≡ self.old.ring.limits }
     {
@@ -288,7 +288,7 @@ impl Session {
     /// number. It fails, and changes nothing, if there is no room for the frame, else if no number is left.
     pub fn push(&mut self, frame: Frame) -> Result<u64, PushError>
         requires { length frame ≤ most_size self.old.ring.limits }
-        ensures ok { IfOk result (λ number. (c : Config) (k : List Step) (m : Message) →
+        ensures ok { IfOk result (λ number. (c : Config) (k : List EndEvent) (m : Message) →
             Remembers c self.old k → is_shaken k ≡ true → frame ≡ framed self.old.codec m →
             (number ≡ length (of.sent_messages (Sent m ∷ k))) × Remembers c self.new (Sent m ∷ k)) }
         ensures room { OnOk result (HasRoom self.old.ring (length frame) ×

@@ -7,7 +7,7 @@ ghost use Rattle.hm_message.specs.Message.{is_sequenced, Fits};
 ghost use Rattle.hm_message.specs.Reads.{MessageIs};
 ghost use Rattle.hs_shake.specs.Responses.{IsAnswered};
 ghost use Rattle.hd_delivery.specs.Frames.{LinkFrame, Request, Response, Numbered, Ack, Sequence, Strange, Unreadable, count, received_of, frame_of};
-ghost use Rattle.hd_delivery.specs.Histories.{Config, Step, Took, Failed, Unread, Shake, present_link, own_number, is_shaken, can_keep};
+ghost use Rattle.hd_delivery.specs.Histories.{Config, EndEvent, Took, Failed, Unread, Shake, present_link, own_number, is_shaken, can_keep};
 ghost use Rattle.hd_delivery.specs.Processes.{has_frames, processes};
 ghost use Rattle.he_end.specs.Remembers.{Remembers, answer_text, after_fault, after_resume};
 ghost use Rattle.he_end.specs.Says.{Awaits, Takes, Shakes, HasFit, answer_at, frame_read, is_early, step_counted};
@@ -30,7 +30,7 @@ pub enum Refused {
 impl Session {
     /// The session's own number of its present link, from 0, or 2^64-1 if that is more.
     pub fn own_number(&self) -> u64
-        ensures { (c : Config) (k : List Step) (l : ℕ) →
+        ensures { (c : Config) (k : List EndEvent) (l : ℕ) →
             Remembers c self.now k → present_link k ≡ Some l → result ≡ own_number k }
     {
         self.number.unwrap_or(0)
@@ -40,7 +40,7 @@ impl Session {
     /// say so.
     pub fn fail(&mut self)
         ensures after { self.new ≡ after_fault self.old }
-        ensures made { (c : Config) (k : List Step) (at : ℕ) (why : List ℕ) →
+        ensures made { (c : Config) (k : List EndEvent) (at : ℕ) (why : List ℕ) →
             Remembers c self.old k → Awaits c k (Unreadable at why) →
             (let step = Failed (Unread (own_number k) at why) in
             (processes c k ≡ Some step) × Remembers c self.new (step ∷ k)) }
@@ -55,7 +55,7 @@ impl Session {
     /// The first frame of the first link is no handshake. The session is closed; a server then owes this answer, with its
     /// framing, and nothing else.
     pub fn refuse(&mut self, answer: Answer)
-        ensures made { (c : Config) (k : List Step) (why text : List ℕ) →
+        ensures made { (c : Config) (k : List EndEvent) (why text : List ℕ) →
             Remembers c self.old k → is_shaken k ≡ false →
             (c.side ≡ Side.Server → answer_text answer ≡ text) → Awaits c k (Strange why text) →
             (let step = Failed (Shake why (answer_at c.side text)) in
@@ -91,7 +91,7 @@ impl Session {
     /// The handshake is complete.
     fn agree(&mut self, codec: Codec, version: u8) -> Got
         ensures value { result ≡ Got.Shaken codec version }
-        ensures made { (c : Config) (k : List Step) (f : LinkFrame) →
+        ensures made { (c : Config) (k : List EndEvent) (f : LinkFrame) →
             Remembers c self.old k → is_shaken k ≡ false → Awaits c k f → count None f ≡ Some 1 →
             Remembers c self.new (Took (Got.Shaken codec version) ∷ k) }
         ensures limits { self.new.ring.limits ≡ self.old.ring.limits }
@@ -116,7 +116,7 @@ impl Session {
 
     /// Sets whether messages are kept. None was sent, since the handshake wasn't complete.
     fn keep(&mut self, kept: bool)
-        ensures kept { self.old.ring.sent ≡ 0 →
+        ensures keeps { self.old.ring.sent ≡ 0 →
             self.new ≡ record self.old { ring = record self.old.ring { keeps = kept } } }
         ensures limits { self.new.ring.limits ≡ self.old.ring.limits }
         ensures codec { self.new.codec ≡ self.old.codec }
@@ -166,7 +166,7 @@ impl Session {
         ensures codec { self.new.codec ≡ self.old.codec }
         ensures fits { IfOk result HasFit }
     {
-        if !self.is_kept() {
+        if !self.is_resumable() {
             return Ok(Got::Skipped(Why::NotUsed));
         }
         match self.ring.ack(upto) {
@@ -182,7 +182,7 @@ impl Session {
         ensures codec { self.new.codec ≡ self.old.codec }
         ensures fits { IfOk result HasFit }
     {
-        if !self.is_kept() {
+        if !self.is_resumable() {
             return Ok(Got::Skipped(Why::NotUsed));
         }
         let three = self.is_three();
@@ -243,7 +243,7 @@ impl Session {
 
     /// Counts the next message, if it has a number on this link.
     fn count(&mut self) -> Result<Counted, Refused>
-        ensures made { (c : Config) (k : List Step) (m : Message) →
+        ensures made { (c : Config) (k : List EndEvent) (m : Message) →
             Remembers c self.old k → is_shaken k ≡ true → Awaits c k (Numbered m) →
             (let step = step_counted m result in
             (processes c k ≡ Some step) × Remembers c self.new (step ∷ k)) }
@@ -261,7 +261,7 @@ impl Session {
 
     /// Whether at version 3 a message comes too early: this end's own opening of a later link wasn't said.
     fn is_early(&self) -> bool
-        ensures { (c : Config) (k : List Step) (l : ℕ) →
+        ensures { (c : Config) (k : List EndEvent) (l : ℕ) →
             Remembers c self.now k → present_link k ≡ Some l → result ≡ is_early k l }
     {
         match self.link {

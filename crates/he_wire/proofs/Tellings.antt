@@ -29,15 +29,15 @@ use Rattle.hd_delivery.specs.Frames.{frame_of}
 use Rattle.hd_delivery.specs.Bytes.{Wire, Reading, Waits, Reads, Refuses, Stops}
 use Rattle.he_wire.specs.declared.reading.LinkFault.{LinkFault}
 use Rattle.he_wire.specs.declared.reading.LinkFault.TheVariants as link
-use Rattle.he_wire.specs.declared.reading.Greeting.{Greeting}
-use Rattle.he_wire.specs.declared.reading.Greeting.TheVariants as greeting
-use Rattle.he_wire.specs.declared.reading.GreetingFault.{GreetingFault}
-use Rattle.he_wire.specs.declared.reading.GreetingFault.TheVariants as shaking
+use Rattle.he_wire.specs.declared.reading.Handshake.{Handshake}
+use Rattle.he_wire.specs.declared.reading.Handshake.TheVariants as handshake
+use Rattle.he_wire.specs.declared.reading.HandshakeFault.{HandshakeFault}
+use Rattle.he_wire.specs.declared.reading.HandshakeFault.TheVariants as shaking
 use Rattle.he_wire.specs.Faults.{of_shake}
 use Rattle.he_wire.specs.Readings.{IsStopped, ReadsFirst, ReadsLater}
 use Rattle.he_wire.specs.Wires.{IsHouseWire}
 use Rattle.he_wire.specs.Laws.{ReadsOnce}
-use Rattle.he_wire.specs.Gives.{GivesLater, GivesFirst, TellsLater, TellsFirst, TellsWireLater, TellsWireFirst, IsGreeting, IsNoGreeting}
+use Rattle.he_wire.specs.Gives.{GivesLater, GivesFirst, TellsLater, TellsFirst, TellsWireLater, TellsWireFirst, IsHandshake, IsNoHandshake}
 
 abbrev Begins : Held → List ℕ → List ℕ → Type 0
 Begins held spelling frame = BeginsWith held.framing held.most held.bytes (record { spelling = spelling; frame = frame })
@@ -104,22 +104,22 @@ pub first_stopped : (side : Side) (held : Held) (fault : SplitFault) → IsFault
     → GivesFirst side held (Err (shaking.Split fault))
 first_stopped side held fault is same = (Stops (fault_words fault), (stopped_in held Record fault same is, (is, refl)))
 
-pub first_read : (side : Side) (held : Held) (spelling frame : List ℕ) (g : Greeting) → Begins held spelling frame → IsGreeting side g frame
+pub first_read : (side : Side) (held : Held) (spelling frame : List ℕ) (g : Handshake) → Begins held spelling frame → IsHandshake side g frame
     → held.framing ≡ Record → GivesFirst side held (Ok (Some g))
-first_read Server held spelling frame (greeting.Request shake) begins is same =
+first_read Server held spelling frame (handshake.Request shake) begins is same =
     let item : Spelled = record { spelling = spelling; frame = frame } in (
       Reads (frames.Request shake.codec shake.version) (length spelling),
       ((item, (begins_in held Record spelling frame same begins, refl, is)), (refl, is.1.3, (item, (begins, is, refl)))),
     )
-first_read Client held spelling frame greeting.Response begins is same =
+first_read Client held spelling frame handshake.Response begins is same =
     let item : Spelled = record { spelling = spelling; frame = frame } in (
       Reads frames.Response (length spelling),
       ((item, (begins_in held Record spelling frame same begins, refl, is)), (refl, (item, (begins, is, refl)))),
     )
-first_read Server held spelling frame greeting.Response begins is same = absurd is
-first_read Client held spelling frame (greeting.Request shake) begins is same = absurd is
+first_read Server held spelling frame handshake.Response begins is same = absurd is
+first_read Client held spelling frame (handshake.Request shake) begins is same = absurd is
 
-refused_first : (side : Side) (held : Held) (spelling frame : List ℕ) (e : ShakeError) → Begins held spelling frame → IsNoGreeting side e frame
+refused_first : (side : Side) (held : Held) (spelling frame : List ℕ) (e : ShakeError) → Begins held spelling frame → IsNoHandshake side e frame
     → held.framing ≡ Record → GivesFirst side held (Err (shaking.Shake e))
 refused_first Server held spelling frame e begins is same =
     let item : Spelled = record { spelling = spelling; frame = frame } in (
@@ -133,7 +133,7 @@ refused_first Client held spelling frame e begins is same =
     )
 
 pub first_refused : (side : Side) (held : Held) (spelling frame : List ℕ) (e : ShakeError) → Begins held spelling frame
-    → MemoryOr e (IsNoGreeting side e frame) → held.framing ≡ Record → GivesFirst side held (Err (of_shake e))
+    → MemoryOr e (IsNoHandshake side e frame) → held.framing ≡ Record → GivesFirst side held (Err (of_shake e))
 first_refused side held spelling frame shake.NotJson begins is same = refused_first side held spelling frame shake.NotJson begins is same
 first_refused side held spelling frame (shake.Missing f) begins is same = refused_first side held spelling frame (shake.Missing f) begins is same
 first_refused side held spelling frame (shake.Wrong f) begins is same = refused_first side held spelling frame (shake.Wrong f) begins is same
@@ -165,11 +165,11 @@ tells_later once codec held (Ok (Some (read.Unknown n))) gives = wire_later once
 tells_later once codec held (Err (link.Refused at reason)) gives = wire_later once codec held (TellsLater codec held (Err (link.Refused at reason))) gives
 tells_later once codec held (Err link.NoMemory) gives = λ wire house. gives
 
-tells_first : ReadsOnce → (side : Side) (held : Held) (answer : Result (Option Greeting) GreetingFault) → GivesFirst side held answer
+tells_first : ReadsOnce → (side : Side) (held : Held) (answer : Result (Option Handshake) HandshakeFault) → GivesFirst side held answer
     → TellsWireFirst side held answer
 tells_first once side held (Ok None) gives = wire_first once side held (TellsFirst side held (Ok None)) gives
-tells_first once side held (Ok (Some (greeting.Request asked))) gives = wire_first once side held (TellsFirst side held (Ok (Some (greeting.Request asked)))) gives
-tells_first once side held (Ok (Some greeting.Response)) gives = wire_first once side held (TellsFirst side held (Ok (Some greeting.Response))) gives
+tells_first once side held (Ok (Some (handshake.Request asked))) gives = wire_first once side held (TellsFirst side held (Ok (Some (handshake.Request asked)))) gives
+tells_first once side held (Ok (Some handshake.Response)) gives = wire_first once side held (TellsFirst side held (Ok (Some handshake.Response))) gives
 tells_first once side held (Err (shaking.Split fault)) gives = wire_first once side held (TellsFirst side held (Err (shaking.Split fault))) gives
 tells_first once side held (Err (shaking.Shake e)) gives = wire_first once side held (TellsFirst side held (Err (shaking.Shake e))) gives
 tells_first once side held (Err shaking.NoMemory) gives = λ wire house. gives
@@ -178,6 +178,6 @@ pub told_later : ReadsOnce → (codec : Codec) (held : Held) (answer : Result (O
     → (held.framing ≡ framing_of codec → GivesLater codec held answer) → held.framing ≡ framing_of codec → TellsWireLater codec held answer
 told_later once codec held answer reads same = tells_later once codec held answer (reads same)
 
-pub told_first : ReadsOnce → (side : Side) (held : Held) (answer : Result (Option Greeting) GreetingFault)
+pub told_first : ReadsOnce → (side : Side) (held : Held) (answer : Result (Option Handshake) HandshakeFault)
     → (held.framing ≡ Record → GivesFirst side held answer) → held.framing ≡ Record → TellsWireFirst side held answer
 told_first once side held answer reads same = tells_first once side held answer (reads same)

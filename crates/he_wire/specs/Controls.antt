@@ -3,8 +3,8 @@ use Rattle.std.specs.Prelude.{ℕ, Bool, true, false, List, [], ◌++◌, codes,
 use Rattle.hm_message.specs.declared.message.Message.{Message}
 use Rattle.hm_message.specs.declared.message.Message.TheVariants as message
 use Rattle.hd_delivery.specs.Frames.{LinkFrame, frame_of, error_of}
-use Rattle.he_wire.specs.declared.slate.Control.{Control}
-use Rattle.he_wire.specs.declared.slate.Control.TheVariants.{Ack, Sequence, Ping, Close}
+use Rattle.he_wire.specs.declared.control_buffer.Control.{Control}
+use Rattle.he_wire.specs.declared.control_buffer.Control.TheVariants.{Ack, Sequence, Ping, Close}
 
 -- no control frame has more bytes with its framing
 abbrev pub most_control : ℕ

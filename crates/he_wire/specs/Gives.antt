@@ -24,10 +24,10 @@ use Rattle.hd_delivery.specs.Frames.{LinkFrame, frame_of}
 use Rattle.hd_delivery.specs.Bytes.{Wire, Reading, Waits, Reads, Refuses, Stops}
 use Rattle.he_wire.specs.declared.reading.LinkFault.{LinkFault}
 use Rattle.he_wire.specs.declared.reading.LinkFault.TheVariants as link
-use Rattle.he_wire.specs.declared.reading.Greeting.{Greeting}
-use Rattle.he_wire.specs.declared.reading.Greeting.TheVariants as greeting
-use Rattle.he_wire.specs.declared.reading.GreetingFault.{GreetingFault}
-use Rattle.he_wire.specs.declared.reading.GreetingFault.TheVariants as shaking
+use Rattle.he_wire.specs.declared.reading.Handshake.{Handshake}
+use Rattle.he_wire.specs.declared.reading.Handshake.TheVariants as handshake
+use Rattle.he_wire.specs.declared.reading.HandshakeFault.{HandshakeFault}
+use Rattle.he_wire.specs.declared.reading.HandshakeFault.TheVariants as shaking
 use Rattle.he_wire.specs.Readings.{ReadsFirst, ReadsLater}
 use Rattle.he_wire.specs.Wires.{IsHouseWire}
 
@@ -78,34 +78,34 @@ IsOwed Client e = Unit {0}
 IsOwed Server e = IsAnswered e
 
 -- this side reads the frame as this handshake
-abbrev pub IsGreeting : Side → Greeting → List ℕ → Type 0
-IsGreeting Server (greeting.Request shake) frame = Asks frame shake.codec shake.version
-IsGreeting Client greeting.Response frame = Accepts frame
-IsGreeting side g frame = ⊥
+abbrev pub IsHandshake : Side → Handshake → List ℕ → Type 0
+IsHandshake Server (handshake.Request shake) frame = Asks frame shake.codec shake.version
+IsHandshake Client handshake.Response frame = Accepts frame
+IsHandshake side g frame = ⊥
 
 -- this side refuses the frame as a handshake for this reason
-abbrev pub IsNoGreeting : Side → ShakeError → List ℕ → Type 0
-IsNoGreeting Server e frame = requests.WhyNot frame e × IsAnswered e
-IsNoGreeting Client e frame = responses.WhyNot frame e
+abbrev pub IsNoHandshake : Side → ShakeError → List ℕ → Type 0
+IsNoHandshake Server e frame = requests.WhyNot frame e × IsAnswered e
+IsNoHandshake Client e frame = responses.WhyNot frame e
 
 -- the answer tells this reading. It is out of memory only at a whole frame, of which nothing is told then
-abbrev pub TellsFirst : Side → Held → Result (Option Greeting) GreetingFault → Reading → Type 0
+abbrev pub TellsFirst : Side → Held → Result (Option Handshake) HandshakeFault → Reading → Type 0
 TellsFirst side held (Ok None) reading = reading ≡ Waits
-TellsFirst side held (Ok (Some (greeting.Request shake))) reading =
+TellsFirst side held (Ok (Some (handshake.Request shake))) reading =
     (side ≡ Server) × IsVersion shake.version
     × IsOfFrame held (λ frame. Asks frame shake.codec shake.version) (Reads (frames.Request shake.codec shake.version)) reading
-TellsFirst side held (Ok (Some greeting.Response)) reading = (side ≡ Client) × IsOfFrame held Accepts (Reads frames.Response) reading
+TellsFirst side held (Ok (Some handshake.Response)) reading = (side ≡ Client) × IsOfFrame held Accepts (Reads frames.Response) reading
 TellsFirst side held (Err (shaking.Split fault)) reading = IsFaultOf held fault × (reading ≡ Stops (fault_words fault))
 TellsFirst side held (Err (shaking.Shake e)) reading =
-    IsOwed side e × IsOfFrame held (IsNoGreeting side e) (Reads (frames.Strange (shake_words e) (answer_of side e))) reading
+    IsOwed side e × IsOfFrame held (IsNoHandshake side e) (Reads (frames.Strange (shake_words e) (answer_of side e))) reading
 TellsFirst side held (Err shaking.NoMemory) reading = Begins held
 
 -- the answer tells what the bytes held begin with, if it isn't out of memory
-abbrev pub GivesFirst : Side → Held → Result (Option Greeting) GreetingFault → Type 0
+abbrev pub GivesFirst : Side → Held → Result (Option Handshake) HandshakeFault → Type 0
 GivesFirst side held (Err shaking.NoMemory) = Begins held
 GivesFirst side held answer = (reading : Reading) × (ReadsFirst held.most side held.bytes reading × TellsFirst side held answer reading)
 
 -- the answer tells what this project's wire reads
-abbrev pub TellsWireFirst : Side → Held → Result (Option Greeting) GreetingFault → Type 0
+abbrev pub TellsWireFirst : Side → Held → Result (Option Handshake) HandshakeFault → Type 0
 TellsWireFirst side held answer =
     (wire : Wire) → IsHouseWire held.most wire → TellsFirst side held answer (wire.first side held.bytes)

@@ -5,3 +5,4 @@ pub mod Laws
 pub mod Faults
 pub mod Gives
 pub mod Controls
+pub mod Words

@@ -6,8 +6,8 @@ ghost use Rattle.hm_codec.specs.Frames.{framed};
 ghost use Rattle.hd_delivery.specs.Frames.{error_of};
 ghost use Rattle.he_wire.specs.Controls.{message_of, allow_text, error_text};
 
+use crate::control_buffer::{Control, MOST_CONTROL};
 use crate::room::{put, put_digits};
-use crate::slate::{Control, MOST_CONTROL};
 use hd_delivery::Reason;
 
 fn put_ack(upto: u64, out: &mut Vec<u8>)

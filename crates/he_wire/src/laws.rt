@@ -3,7 +3,7 @@ ghost use Rattle.std.specs.Prelude.{◌≡◌};
 ghost use Rattle.he_wire.specs.Controls.{most_control};
 ghost use Rattle.he_wire.specs.Laws.{AnswersAreRead, AnswersAreSpelled, BytesAreRead, HasWire, ReadsOnce, WireIsFaithful, WireIsSound};
 
-use crate::slate::MOST_CONTROL;
+use crate::control_buffer::MOST_CONTROL;
 
 /// The constant is the number of the definitions.
 pub fn numbers_are_named()

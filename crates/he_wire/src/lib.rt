@@ -1,7 +1,7 @@
 //! What the bytes of a link say: this project's codecs, framing and handshake as one wire (HubProtocol.md of ASP.NET Core).
 //!
-//! An end reads with [`read_first`], once on its first link, and with [`read_later`]; both leave what they read in the
-//! splitter. What it says of itself it writes on a [`Slate`], which takes no memory after its start.
+//! An end reads with [`read_handshake`], once on its first link, and with [`read_wire_message`]; both leave what they read in the
+//! splitter. What it says of itself it writes on a [`ControlBuffer`], which takes no memory after its start.
 //!
 //! ```text
 //! match read_first(alloc, side, &splitter)? {      // once, on the first link
@@ -28,6 +28,7 @@
 //! what it spells. The crate does not know ends, nor when a frame is due.
 #![tactic(auto)]
 
+mod control_buffer;
 mod json_control;
 mod laws;
 mod pack_control;
@@ -35,12 +36,11 @@ mod reading;
 mod request;
 mod room;
 mod size;
-mod slate;
 
+pub use control_buffer::{Control, ControlBuffer, MOST_CONTROL};
 pub use laws::{
     answers_are_read, answers_are_spelled, bytes_are_read, has_wire, numbers_are_named, reads_once,
     wire_is_faithful, wire_is_sound,
 };
-pub use reading::{Greeting, GreetingFault, LinkFault, read_first, read_later};
+pub use reading::{Handshake, HandshakeFault, LinkFault, read_handshake, read_wire_message};
 pub use size::unframed_size;
-pub use slate::{Control, MOST_CONTROL, Slate};

@@ -9,8 +9,8 @@ ghost use Rattle.hv_pack.specs.Writing.{int_text, shortest, bool_text};
 ghost use Rattle.hd_delivery.specs.Frames.{error_of};
 ghost use Rattle.he_wire.specs.Controls.{message_of};
 
+use crate::control_buffer::{Control, MOST_CONTROL};
 use crate::room::put;
-use crate::slate::{Control, MOST_CONTROL};
 use hd_delivery::Reason;
 
 /// The error of a Close has at most this many bytes: a marker and a text.

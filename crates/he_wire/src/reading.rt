@@ -5,7 +5,7 @@ ghost use Rattle.hm_message.specs.Message.{Fits};
 ghost use Rattle.hm_message.specs.Reads.{MessageIs};
 ghost use Rattle.hm_codec.specs.Frames.{framing_of};
 ghost use Rattle.hs_shake.specs.Refusals.{MemoryOr};
-ghost use Rattle.he_wire.specs.Gives.{Begins, GivesLater, GivesFirst, TellsWireLater, TellsWireFirst, IsGreeting, IsNoGreeting};
+ghost use Rattle.he_wire.specs.Gives.{Begins, GivesLater, GivesFirst, TellsWireLater, TellsWireFirst, IsHandshake, IsNoHandshake};
 
 use crate::laws::reads_once;
 use hd_delivery::Side;
@@ -14,6 +14,8 @@ use hm_codec::{FrameError, FrameWhy, read_message};
 use hm_message::{Codec, Read};
 use hs_shake::{Shake, ShakeError, read_request, read_response};
 use std::alloc::Global;
+use std::error::Error;
+use std::fmt;
 
 /// Why no hub message was read. `why` has the words of a report.
 #[derive(Clone, Copy, Debug, PartialEq, Eq)]
@@ -26,7 +28,7 @@ pub enum LinkFault {
 
 /// The first frame of a first link.
 #[derive(Clone, Copy, Debug, PartialEq, Eq)]
-pub enum Greeting {
+pub enum Handshake {
     /// What a server reads: a client asks for this codec and version.
     Request(Shake),
     /// What a client reads: the server took the request.
@@ -35,7 +37,7 @@ pub enum Greeting {
 
 /// Why no handshake was read.
 #[derive(Drop, PartialEq, Eq)]
-pub enum GreetingFault {
+pub enum HandshakeFault {
     /// No frame can begin there.
     Split(SplitFault),
     /// The first frame is refused as a handshake, for this reason each time. It is never `ShakeError::NoMemory`.
@@ -44,27 +46,67 @@ pub enum GreetingFault {
     NoMemory,
 }
 
-impl From<SplitFault> for GreetingFault {
-    ghost use Rattle.std.specs.Prelude.{◌≡◌};
-    ghost use Rattle.he_wire.specs.declared.reading.GreetingFault.TheVariants.{Split};
+impl fmt::Display for LinkFault {
+    ghost use Rattle.std.specs.Prelude.{Some};
+    ghost use Rattle.he_wire.specs.Words.{link_words};
 
-    ghost from_gives = { λ e fault. fault ≡ Split e };
+    ghost output = { λ error. Some (link_words error) };
 
-    fn from(e: SplitFault) -> GreetingFault {
-        GreetingFault::Split(e)
+    fn fmt<W: fmt::Write>(&self, f: &mut fmt::Formatter<W>) -> fmt::Result {
+        match self {
+            LinkFault::Refused { at, why } => write!(f, "Refused {at} {why}"),
+            LinkFault::NoMemory => f.write_str("out of memory"),
+        }
     }
 }
 
-impl From<ShakeError> for GreetingFault {
+impl Error for LinkFault {}
+
+impl fmt::Display for HandshakeFault {
+    ghost use Rattle.std.specs.Prelude.{Some};
+    ghost use Rattle.he_wire.specs.Words.{handshake_words};
+
+    ghost output = { λ error. Some (handshake_words error) };
+
+    fn fmt<W: fmt::Write>(&self, f: &mut fmt::Formatter<W>) -> fmt::Result {
+        match self {
+            HandshakeFault::Split(fault) => write!(f, "{fault}"),
+            HandshakeFault::Shake(e) => write!(f, "{e}"),
+            HandshakeFault::NoMemory => f.write_str("out of memory"),
+        }
+    }
+}
+
+/// The words of `Display`: `Text` has no `Debug`.
+impl fmt::Debug for HandshakeFault {
+    fn fmt<W: fmt::Write>(&self, f: &mut fmt::Formatter<W>) -> fmt::Result {
+        write!(f, "{self}")
+    }
+}
+
+impl Error for HandshakeFault {}
+
+impl From<SplitFault> for HandshakeFault {
+    ghost use Rattle.std.specs.Prelude.{◌≡◌};
+    ghost use Rattle.he_wire.specs.declared.reading.HandshakeFault.TheVariants.{Split};
+
+    ghost from_gives = { λ e fault. fault ≡ Split e };
+
+    fn from(e: SplitFault) -> HandshakeFault {
+        HandshakeFault::Split(e)
+    }
+}
+
+impl From<ShakeError> for HandshakeFault {
     ghost use Rattle.std.specs.Prelude.{◌≡◌};
     ghost use Rattle.he_wire.specs.Faults.{of_shake};
 
     ghost from_gives = { λ e fault. fault ≡ of_shake e };
 
-    fn from(e: ShakeError) -> GreetingFault {
+    fn from(e: ShakeError) -> HandshakeFault {
         match e {
-            ShakeError::NoMemory => GreetingFault::NoMemory,
-            e => GreetingFault::Shake(e),
+            ShakeError::NoMemory => HandshakeFault::NoMemory,
+            e => HandshakeFault::Shake(e),
         }
     }
 }
@@ -73,7 +115,7 @@ impl From<ShakeError> for GreetingFault {
 ///
 /// The splitter cuts in the codec's framing, else nothing is said of the answer. A place is a number of bytes of the link, as
 /// [`Splitter::place`] gives it. After `NoMemory` the same call may succeed.
-pub fn read_later(
+pub fn read_wire_message(
     alloc: Global,
     codec: Codec,
     splitter: &Splitter,
@@ -100,16 +142,16 @@ pub fn read_later(
 }
 
 /// What this side makes of the first frame.
-fn read_greeting(alloc: Global, side: Side, frame: &[u8]) -> Result<Greeting, ShakeError>
-    ensures ok { IfOk result (λ greeting. IsGreeting side greeting frame.now) }
-    ensures refused { IfErr result (λ e. MemoryOr e (IsNoGreeting side e frame.now)) }
+fn read_shaken(alloc: Global, side: Side, frame: &[u8]) -> Result<Handshake, ShakeError>
+    ensures ok { IfOk result (λ handshake. IsHandshake side handshake frame.now) }
+    ensures refused { IfErr result (λ e. MemoryOr e (IsNoHandshake side e frame.now)) }
 {
     match side {
         Side::Client => {
             read_response(alloc, frame)?;
-            Ok(Greeting::Response)
+            Ok(Handshake::Response)
         }
-        Side::Server => Ok(Greeting::Request(read_request(alloc, frame)?)),
+        Side::Server => Ok(Handshake::Request(read_request(alloc, frame)?)),
     }
 }
 
@@ -117,11 +159,11 @@ fn read_greeting(alloc: Global, side: Side, frame: &[u8]) -> Result<Greeting, Sh
 /// response (HubProtocol.md, "Overview"). `None` waits for more bytes.
 ///
 /// The splitter cuts in `Framing::Record`, else nothing is said of the answer. After `NoMemory` the same call may succeed.
-pub fn read_first(
+pub fn read_handshake(
     alloc: Global,
     side: Side,
     splitter: &Splitter,
-) -> Result<Option<Greeting>, GreetingFault>
+) -> Result<Option<Handshake>, HandshakeFault>
     ensures reads { splitter.now.framing ≡ Record → GivesFirst side splitter.now result }
     ensures told { splitter.now.framing ≡ Record → TellsWireFirst side splitter.now result }
     ensures begins { IfOk result (λ next. IfSome next (λ _. Begins splitter.now)) }
@@ -130,5 +172,5 @@ pub fn read_first(
     let Some((_, frame)) = splitter.frame()? else {
         return Ok(None);
     };
-    Ok(Some(read_greeting(alloc, side, frame)?))
+    Ok(Some(read_shaken(alloc, side, frame)?))
 }

@@ -3,8 +3,8 @@ ghost use Rattle.std.specs.Prelude.{◌≡◌, ◌≤◌, [], vec_len, vec_capac
 ghost use Rattle.hs_shake.specs.Requests.{protocol_name, request_frame};
 ghost use Rattle.he_wire.specs.Spelling.{with_separator};
 
+use crate::control_buffer::MOST_CONTROL;
 use crate::room::{put, put_digits};
-use crate::slate::MOST_CONTROL;
 use hm_message::Codec;
 use hs_shake::Shake;
 

@@ -10,8 +10,8 @@ use Rattle.std.specs.Cmp.{nat_eq_equiv}
 use Rattle.std.proofs.lemmas.Map.Keys.{IsDistinct-push}
 use Rattle.std.proofs.lemmas.Map.Text.{is_eq-slice_cmp}
 use Rattle.std.proofs.lemmas.Slice.Eq.{bytes_eq-Decides}
-use Rattle.hd_server.specs.Registry.{Pair, same_text, members, without_pair, without}
-use Rattle.hd_server.specs.RegistryLaws.{is_among, others_than, MembersFollow, PairsStayDistinct}
+use Rattle.hd_rooms.specs.Registry.{Pair, same_text, members, without_pair, without}
+use Rattle.hd_rooms.specs.RegistryLaws.{is_among, others_than, MembersFollow, PairsStayDistinct}
 use Rattle.hg_groups.specs.declared.index.Index.{Index}
 use Rattle.hg_groups.specs.Maps.{ByName, ByConn, listed, holds, has_name, Agree, EachOnce, SameLists, Joined, Left, LeftAll, Entered, Exited, Forgotten}
 use Rattle.hg_groups.specs.Standing.{StandsIndex}

@@ -3,7 +3,7 @@ use Rattle.std.proofs.Common.{◌≡◌, ℕ, Bool, true, false, cond, not, ◌&
 use Rattle.std.specs.List.{IsDistinct, AllByRecursion}
 use Rattle.std.proofs.lemmas.Bool.{eqb-true, eq-eqb}
 use Rattle.std.proofs.lemmas.Map.Keys.{IsDistinct-head, IsDistinct-tail, IsDistinct-cons}
-use Rattle.hd_server.specs.RegistryLaws.{is_among, others_than}
+use Rattle.hd_rooms.specs.RegistryLaws.{is_among, others_than}
 
 -- who isn't there isn't missed
 pub others_than-absent : (conn : ℕ) (conns : List ℕ) → is_among conn conns ≡ false → others_than conn conns ≡ conns

@@ -13,8 +13,8 @@ use Rattle.indexmap.specs.IndexMap as hash
 use Rattle.std.proofs.lemmas.Bool.{eqb-true}
 use Rattle.std.proofs.lemmas.Map.Text.{is_eq-slice_cmp}
 use Rattle.std.proofs.lemmas.Slice.Eq.{bytes_eq-Decides}
-use Rattle.hd_server.specs.Registry.{same_text}
-use Rattle.hd_server.specs.RegistryLaws.{others_than}
+use Rattle.hd_rooms.specs.Registry.{same_text}
+use Rattle.hd_rooms.specs.RegistryLaws.{others_than}
 use Rattle.hg_groups.specs.Maps.{ByName, ByConn, at_name, listed, at_conn, has_name, holds, NoneIsEmpty, SameLists, Begun, Joined, Left, Entered, Exited}
 
 -- the order of texts finds a name if and only if it is the same

@@ -10,8 +10,8 @@ use Rattle.std.specs.BTreeMap as tree
 use Rattle.std.specs.BTreeSet.{BTreeSet, contains, btree_set_len}
 use Rattle.indexmap.specs.IndexMap.{IndexMap}
 use Rattle.indexmap.specs.IndexMap as hash
-use Rattle.hd_server.specs.Registry.{same_text}
-use Rattle.hd_server.specs.RegistryLaws.{is_among, others_than}
+use Rattle.hd_rooms.specs.Registry.{same_text}
+use Rattle.hd_rooms.specs.RegistryLaws.{is_among, others_than}
 
 -- From a name to its connections.
 abbrev pub ByName : Type 0

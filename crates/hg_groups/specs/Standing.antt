@@ -1,7 +1,7 @@
 -- Which lists an index and a registry stand for. An index keeps the order within a name, and not how the pairs of two names
 -- interleave, so it stands for many lists: for each that has the right members at each name.
 use Rattle.std.specs.Prelude.{◌≡◌, ℕ, List}
-use Rattle.hd_server.specs.Registry.{Pair, Lists, members, AreDistinct}
+use Rattle.hd_rooms.specs.Registry.{Pair, Lists, members, AreDistinct}
 use Rattle.hg_groups.specs.Maps.{listed}
 use Rattle.hg_groups.specs.declared.index.Index.{Index}
 use Rattle.hg_groups.specs.declared.registry.Registry.{Registry}

@@ -19,7 +19,7 @@ pub struct Index {
 impl Index {
     ghost use Rattle.std.specs.Prelude.{◌≡◌, ℕ, List, [], not, IfOk, OnOk, OnErr, nat_eq};
     ghost use Rattle.std.specs.List.{IsDistinct};
-    ghost use Rattle.hd_server.specs.Registry.{Pair, has, members, with_pair, without_pair, without};
+    ghost use Rattle.hd_rooms.specs.Registry.{Pair, has, members, with_pair, without_pair, without};
     ghost use Rattle.hg_groups.specs.Standing.{StandsIndex};
 
     /// No pairs.
@@ -46,10 +46,10 @@ impl Index {
             (λ new. (pairs : List Pair) → StandsIndex self.old pairs → new ≡ not (has (name.now, conn) pairs)) }
         ensures added { OnOk result
             ((pairs : List Pair) → StandsIndex self.old pairs → StandsIndex self.new (with_pair (name.now, conn) pairs)) }
-        ensures kept { OnErr result ((pairs : List Pair) → StandsIndex self.old pairs → StandsIndex self.new pairs) }
+        ensures unchanged { OnErr result ((pairs : List Pair) → StandsIndex self.old pairs → StandsIndex self.new pairs) }
     {
-        hd_server::members_follow();
-        hd_server::pairs_stay_distinct();
+        hd_rooms::members_follow();
+        hd_rooms::pairs_stay_distinct();
         if self.names.has(conn, name) {
             return Ok(false);
         }
@@ -67,8 +67,8 @@ impl Index {
         ensures removed { (pairs : List Pair) → StandsIndex self.old pairs
             → StandsIndex self.new (without_pair (name.now, conn) pairs) }
     {
-        hd_server::members_follow();
-        hd_server::pairs_stay_distinct();
+        hd_rooms::members_follow();
+        hd_rooms::pairs_stay_distinct();
         if !self.names.has(conn, name) {
             return false;
         }
@@ -81,8 +81,8 @@ impl Index {
     pub(crate) fn gone(&mut self, conn: u64)
         ensures { (pairs : List Pair) → StandsIndex self.old pairs → StandsIndex self.new (without conn pairs) }
     {
-        hd_server::members_follow();
-        hd_server::pairs_stay_distinct();
+        hd_rooms::members_follow();
+        hd_rooms::pairs_stay_distinct();
         let Some(names) = self.names.forget(conn) else {
             return;
         };

@@ -1,6 +1,6 @@
 //! Who is in which group, and which connections a user has.
 //!
-//! A [`Registry`] stands for two lists of distinct pairs of a name and a connection, in order of joining, which `hd_server` defines. It
+//! A [`Registry`] stands for two lists of distinct pairs of a name and a connection, in order of joining, which `hd_rooms` defines. It
 //! is indexed both ways, so that no call goes through all of it.
 //!
 //! ```text

@@ -1,7 +1,7 @@
 //! The side of an index that goes from a name to its connections, in order of joining. A name without connections isn't kept.
 ghost use Rattle.std.specs.Prelude.{◌≡◌, ◌<◌, ℕ, List, [], OnOk, OnErr, IsTrue, vec_len};
 ghost use Rattle.std.specs.Bool.{OnTrue, OnFalse};
-ghost use Rattle.hd_server.specs.RegistryLaws.{is_among, others_than};
+ghost use Rattle.hd_rooms.specs.RegistryLaws.{is_among, others_than};
 ghost use Rattle.hg_groups.specs.Maps.{NoneIsEmpty, SameLists, Begun, Joined, Left, LeftAll, listed, has_name};
 
 use hv_value::Text;
@@ -41,7 +41,7 @@ impl Members {
     /// Puts the connection last under the name.
     pub(crate) fn join(&mut self, alloc: Global, name: &Text, conn: u64) -> Result<(), AllocError>
         ensures joined { OnOk result (Joined self.old.by_name self.new.by_name name.now conn) }
-        ensures kept { OnErr result (SameLists self.old.by_name self.new.by_name) }
+        ensures unchanged { OnErr result (SameLists self.old.by_name self.new.by_name) }
     {
         if let Some(conns) = self.by_name.get_mut(name) {
             conns.push(conn)?;
@@ -54,7 +54,7 @@ impl Members {
     /// Puts the connection alone under the name.
     fn begin(&mut self, alloc: Global, name: &Text, conn: u64) -> Result<(), AllocError>
         ensures begun { OnOk result (Begun self.old.by_name self.new.by_name name.now conn) }
-        ensures kept { OnErr result (SameLists self.old.by_name self.new.by_name) }
+        ensures unchanged { OnErr result (SameLists self.old.by_name self.new.by_name) }
     {
         let name = name.copy()?;
         let mut conns = Vec::new(alloc);

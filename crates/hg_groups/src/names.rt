@@ -39,7 +39,7 @@ impl Names {
     /// Gives the connection the name, of which it takes a copy.
     pub(crate) fn enter(&mut self, alloc: Global, conn: u64, name: &Text) -> Result<(), AllocError>
         ensures entered { OnOk result (Entered self.old.by_conn self.new.by_conn conn name.now) }
-        ensures kept { OnErr result (SameNames self.old.by_conn self.new.by_conn) }
+        ensures unchanged { OnErr result (SameNames self.old.by_conn self.new.by_conn) }
     {
         let name = name.copy()?;
         if let Some(names) = self.by_conn.get_mut(&conn) {

@@ -1,7 +1,7 @@
 //! Groups and users: who joined what, in order of joining.
 ghost use Rattle.std.specs.Prelude.{◌≡◌, ℕ, not, IfOk, OnOk, OnErr, nat_eq};
 ghost use Rattle.std.specs.List.{IsDistinct};
-ghost use Rattle.hd_server.specs.Registry.{Lists, nobody, has, members, added, removed, named, gone};
+ghost use Rattle.hd_rooms.specs.Registry.{Lists, nobody, has, members, added, removed, named, gone};
 ghost use Rattle.hg_groups.specs.Standing.{StandsRegistry};
 
 use crate::index::Index;
@@ -35,7 +35,7 @@ impl Registry {
         ensures answer { IfOk result
             (λ new. (l : Lists) → StandsRegistry self.old l → new ≡ not (has (group.now, conn) l.groups)) }
         ensures added { OnOk result ((l : Lists) → StandsRegistry self.old l → StandsRegistry self.new (added l group.now conn)) }
-        ensures kept { OnErr result ((l : Lists) → StandsRegistry self.old l → StandsRegistry self.new l) }
+        ensures unchanged { OnErr result ((l : Lists) → StandsRegistry self.old l → StandsRegistry self.new l) }
     {
         self.groups.add(alloc, group, conn)
     }
@@ -51,7 +51,7 @@ impl Registry {
     /// A connection is a user's from now on. Nothing happens if it is already. Out of memory nothing has changed.
     pub fn name(&mut self, alloc: Global, user: &Text, conn: u64) -> Result<(), AllocError>
         ensures named { OnOk result ((l : Lists) → StandsRegistry self.old l → StandsRegistry self.new (named l user.now conn)) }
-        ensures kept { OnErr result ((l : Lists) → StandsRegistry self.old l → StandsRegistry self.new l) }
+        ensures unchanged { OnErr result ((l : Lists) → StandsRegistry self.old l → StandsRegistry self.new l) }
     {
         self.users.add(alloc, user, conn)?;
         Ok(())

@@ -6,7 +6,7 @@ use Rattle.httparse.specs.Spans.{AreFieldsAt, IsRequestOf, IsResponseOf, header_
 use Rattle.httparse.specs.declared.spans.HeaderSpan.{HeaderSpan}
 use Rattle.httparse.specs.declared.spans.RequestSpans.{RequestSpans}
 use Rattle.httparse.specs.declared.spans.ResponseSpans.{ResponseSpans}
-use Rattle.hd_lanes.specs.declared.http.Request.{Request}
+use Rattle.hw_lanes.specs.declared.http.Request.{Request}
 use Rattle.hh_http.specs.Asks as asks
 use Rattle.hh_http.specs.Responses as gives
 use Rattle.hh_http.specs.Messages.{Judges}

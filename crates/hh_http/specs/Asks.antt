@@ -3,7 +3,7 @@ use Rattle.std.specs.Prelude.{◌≡◌, ◌<◌, ◌≤◌, ◌⊎◌, ℕ, Lis
 use Rattle.httparse.specs.Grammar.{RequestHead, print_request, ReadsRequest, HasNoRequest, NeverHasRequest, MayBecomeRequest}
 use Rattle.httparse.specs.Spans.{RequestExceeds}
 use Rattle.http1.specs.Fields.{Header}
-use Rattle.hd_lanes.specs.declared.http.Request.{Request}
+use Rattle.hw_lanes.specs.declared.http.Request.{Request}
 use Rattle.hh_http.specs.Heads.{names_and_values, agree, lengths, body_length, is_coded, path_of, query_of, method_of, bearer_of, is_shut, Upgrades, HasBadUpgrade}
 use Rattle.hh_http.specs.Messages.{Grammar, Series, Decides}
 use Rattle.hh_http.specs.declared.error.HttpError.{HttpError}

@@ -10,9 +10,9 @@ use Rattle.http1.specs.Text.{eq_ignore_case}
 use Rattle.http1.specs.Fields.{Header, is_named, values_named, elements_named, has_option}
 use Rattle.form_urlencoded.specs.Form.{split_once}
 use Rattle.websocket.specs.Handshake.{IsValidKey, accept_key_of}
-use Rattle.hd_lanes.specs.Query.{query_value_of}
-use Rattle.hd_lanes.specs.declared.http.Method.{Method}
-use Rattle.hd_lanes.specs.declared.http.Method.TheVariants.{Get, Post, Delete, Other}
+use Rattle.hw_lanes.specs.Query.{query_value_of}
+use Rattle.hw_lanes.specs.declared.http.Method.{Method}
+use Rattle.hw_lanes.specs.declared.http.Method.TheVariants.{Get, Post, Delete, Other}
 
 -- the names and the values of a head's fields
 abbrev pub names_and_values : List Field → List Header

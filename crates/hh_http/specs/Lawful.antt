@@ -2,7 +2,7 @@
 use Rattle.std.proofs.Common.{ℕ, List, refl}
 use Rattle.httparse.specs.Grammar.{RequestHead, ResponseHead}
 use Rattle.httparse.proofs.GrammarLemmas.{ReadsRequest-append, ReadsResponse-append}
-use Rattle.hd_lanes.specs.declared.http.Request.{Request}
+use Rattle.hw_lanes.specs.declared.http.Request.{Request}
 use Rattle.hh_http.specs.Messages.{IsGrammar}
 use Rattle.hh_http.specs.Asks as asks
 use Rattle.hh_http.specs.Responses as gives

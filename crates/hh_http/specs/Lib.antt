@@ -6,3 +6,4 @@ pub mod Messages
 pub mod Responses
 pub mod Texts
 pub mod Limits
+pub mod Words

@@ -3,11 +3,11 @@ use Rattle.std.specs.Prelude.{◌==◌, ℕ, List, [], ◌∷◌, ◌++◌, leng
 use Rattle.http.specs.StatusCode.{reason_phrase}
 use Rattle.base64.specs.GeneralPurpose.{encode_of}
 use Rattle.base64.specs.Engines.{standard}
-use Rattle.hd_lanes.specs.declared.http.BodyKind.{BodyKind}
-use Rattle.hd_lanes.specs.declared.http.BodyKind.TheVariants as kind
-use Rattle.hd_lanes.specs.declared.http.Method.{Method}
-use Rattle.hd_lanes.specs.declared.http.Method.TheVariants as method
-use Rattle.hd_lanes.specs.declared.http.Reply.{Reply}
+use Rattle.hw_lanes.specs.declared.http.BodyKind.{BodyKind}
+use Rattle.hw_lanes.specs.declared.http.BodyKind.TheVariants as kind
+use Rattle.hw_lanes.specs.declared.http.Method.{Method}
+use Rattle.hw_lanes.specs.declared.http.Method.TheVariants as method
+use Rattle.hw_lanes.specs.declared.http.Reply.{Reply}
 
 -- ---- replies
 

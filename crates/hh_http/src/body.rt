@@ -1,7 +1,7 @@
 //! Whole requests and responses, taken off the front of the bytes that a lane holds.
 ghost use Rattle.std.specs.Prelude.{◌≡◌, ◌≤◌, ◌<◌, drop, slice_range, vec_len, vec_capacity, IfSome, IfNone, IfOk, OnErr};
 
-use hd_lanes::Vec8;
+use hw_lanes::Vec8;
 use std::alloc::{AllocError, Global};
 
 /// Takes the first `end` bytes off, and gives those from `start` on, or `None` if there are fewer.

@@ -1,6 +1,8 @@
 //! Why there is no request.
 
 use std::alloc::AllocError;
+use std::error::Error;
+use std::fmt;
 
 /// Why a lane gives no request.
 #[derive(Clone, Copy, Debug, PartialEq, Eq)]
@@ -21,3 +23,19 @@ impl From<AllocError> for HttpError {
         HttpError::NoMemory
     }
 }
+
+impl fmt::Display for HttpError {
+    ghost use Rattle.std.specs.Prelude.{Some};
+    ghost use Rattle.hh_http.specs.Words.{error_words};
+
+    ghost output = { λ error. Some (error_words error) };
+
+    fn fmt<W: fmt::Write>(&self, f: &mut fmt::Formatter<W>) -> fmt::Result {
+        match self {
+            HttpError::Refused(status) => write!(f, "Refused {status}"),
+            HttpError::NoMemory => f.write_str("out of memory"),
+        }
+    }
+}
+
+impl Error for HttpError {}

@@ -8,9 +8,9 @@ use crate::error::HttpError;
 use crate::fields::{first_named, lists, stated_length};
 use crate::limits::MOST_BODY;
 use crate::message::{Head, Message};
-use hd_lanes::{Method, Request, Text8, Vec8, query_value};
 use http1::text::eq_ignore_case;
 use httparse::spans::{HeaderSpan, RequestSpans, parse_request};
+use hw_lanes::{Method, Request, Text8, Vec8, query_value};
 use std::alloc::{AllocError, Global};
 use websocket::handshake::server::accept_key;
 

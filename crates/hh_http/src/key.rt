@@ -2,7 +2,7 @@
 ghost use Rattle.std.specs.Prelude.{◌≡◌, IfOk};
 ghost use Rattle.websocket.specs.Handshake.{accept_key_of};
 
-use hd_lanes::Text8;
+use hw_lanes::Text8;
 use std::alloc::{AllocError, Global};
 use websocket::handshake::derive_accept_key;
 

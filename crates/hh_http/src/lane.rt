@@ -1,13 +1,13 @@
 //! A lane of requests: the bytes of one connection come in, in any pieces, and its requests go out.
 ghost use Rattle.std.specs.Prelude.{◌≡◌, ◌++◌, ◌∷◌, [], false, None, ℕ, List, min, length, take, IfSome, IfOk};
-ghost use Rattle.hd_lanes.specs.declared.http.Request.{Request};
+ghost use Rattle.hw_lanes.specs.declared.http.Request.{Request};
 ghost use Rattle.hh_http.specs.Asks.{Asks, request_grammar};
 ghost use Rattle.hh_http.specs.Lane.{at_start, room, IsWithin};
 ghost use Rattle.hh_http.specs.Messages.{Answers, Repeats, Rests};
 
 use crate::error::HttpError;
 use crate::message_lane::MessageLane;
-use hd_lanes::Request;
+use hw_lanes::Request;
 use std::alloc::{AllocError, Global};
 use std::marker::Model;
 

@@ -6,9 +6,9 @@ ghost use Rattle.hh_http.specs.Messages.{Grammar, IsGrammar, Judges, Reads};
 
 use crate::error::HttpError;
 use crate::limits::{MOST_HEAD, MOST_HEADERS};
-use hd_lanes::Vec8;
 use httparse::spans::{EMPTY_HEADER_SPAN, HeaderSpan};
 use httparse::{Error, Status};
+use hw_lanes::Vec8;
 use std::alloc::Global;
 
 /// What a head says of its message, and where its body stands in the bytes that begin with the head.

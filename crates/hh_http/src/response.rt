@@ -7,8 +7,8 @@ use crate::error::HttpError;
 use crate::fields::{first_named, stated_length};
 use crate::head::allowed_length;
 use crate::message::{Head, Message};
-use hd_lanes::{Text8, Vec8};
 use httparse::spans::{HeaderSpan, ResponseSpans, parse_response};
+use hw_lanes::{Text8, Vec8};
 use std::alloc::{AllocError, Global};
 
 /// The status of a response that accepts a WebSocket (RFC 9110, section 15.2.2).

@@ -1,12 +1,12 @@
 //! Replies and asks as bytes. A text is made whole and then appended in one call, so that nothing is appended when out of memory.
 ghost use Rattle.std.specs.Prelude.{◌≡◌, ◌≢◌, ◌++◌, [], OnOk, OnErr, IfOk, length, string_bytes, codes};
 ghost use Rattle.http.specs.StatusCode.{IsStatusCode};
-ghost use Rattle.hd_lanes.specs.Replies.{IsReply};
+ghost use Rattle.hw_lanes.specs.Replies.{IsReply};
 ghost use Rattle.hh_http.specs.Texts.{phrase_of, status_line, type_line, body_lines, reply_lines, reply_text, method_name, no_body_line, base64_of, key_lines, request_line, host_line, ask_text};
 
 use base64::engine::general_purpose::STANDARD;
-use hd_lanes::{BodyKind, Method, Reply};
 use http::StatusCode;
+use hw_lanes::{BodyKind, Method, Reply};
 use std::alloc::{AllocError, Global};
 
 fn phrase_of_code(code: StatusCode) -> &'static str

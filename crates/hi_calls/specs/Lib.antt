@@ -4,3 +4,4 @@ pub mod Legal
 pub mod Stands
 pub mod Calls
 pub mod Laws
+pub mod Words

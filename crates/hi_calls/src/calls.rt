@@ -87,7 +87,7 @@ impl Calls {
         ensures sequenced { IfOk result (λ made. is_sequenced made.1 ≡ true) }
         ensures refused { IfErr result (λ e. OfEach self.old (λ prefix h.
             IsRefusedIn (next_call prefix h kind target arguments uploads) h e)) }
-        ensures kept { OnErr result (Stays self.old self.new) }
+        ensures unchanged { OnErr result (Stays self.old self.new) }
         ensures newest { OnErr result (self.new.newest ≡ self.old.newest) }
     {
         let number = self.number_for(kind, uploads)?;
@@ -134,7 +134,7 @@ impl Calls {
     pub fn settle(&mut self, id: &Text) -> Result<u64, UnknownId>
         ensures ok { IfOk result (λ n. OfEach self.old (λ prefix h. Settles self.new prefix h id.now n)) }
         ensures unknown { OnErr result (OfEach self.old (λ prefix h. IsUnknown prefix h id.now)) }
-        ensures kept { OnErr result (self.new ≡ self.old) }
+        ensures unchanged { OnErr result (self.new ≡ self.old) }
     {
         let Ok(number) = self.find(id) else {
             return Err(UnknownId);

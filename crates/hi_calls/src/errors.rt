@@ -1,6 +1,8 @@
-//! Why a call isn't begun, or nothing is said of one.
+//! Why a call isn't begun, or nothing is said of one. `Display` gives the name.
 
 use std::alloc::AllocError;
+use std::error::Error;
+use std::fmt;
 
 /// The first of these that holds. The table is as it was.
 #[derive(Clone, Copy, Debug, PartialEq, Eq)]
@@ -24,3 +26,21 @@ impl From<AllocError> for CallError {
         CallError::NoMemory
     }
 }
+
+impl fmt::Display for CallError {
+    ghost use Rattle.std.specs.Prelude.{Some};
+    ghost use Rattle.hi_calls.specs.Words.{call_words};
+
+    ghost output = { λ error. Some (call_words error) };
+
+    fn fmt<W: fmt::Write>(&self, f: &mut fmt::Formatter<W>) -> fmt::Result {
+        match self {
+            CallError::TooMany => f.write_str("TooMany"),
+            CallError::Spent => f.write_str("Spent"),
+            CallError::UnknownId => f.write_str("UnknownId"),
+            CallError::NoMemory => f.write_str("out of memory"),
+        }
+    }
+}
+
+impl Error for CallError {}

@@ -10,10 +10,10 @@ use Rattle.hj_jobs.specs.declared.entry.Entry.{Entry}
 use Rattle.hj_jobs.specs.declared.errors.AcceptError.{AcceptError}
 use Rattle.hj_jobs.specs.declared.errors.AcceptError.TheVariants as accept
 use Rattle.hj_jobs.specs.declared.jobs.Jobs.{Jobs}
-use Rattle.hj_jobs.specs.declared.names.Names.{Names}
+use Rattle.hj_jobs.specs.declared.ids.Ids.{Ids}
 use Rattle.hj_jobs.specs.Calls.{Accepts, IsCallOf, IsRefusedIn}
 use Rattle.hj_jobs.specs.Live.{entry_at, Gains, live_count, Retains}
-use Rattle.hj_jobs.specs.Names.{AreFree, AreSame, Claims, IsUnclaimed, Releases}
+use Rattle.hj_jobs.specs.Ids.{AreFree, AreSame, Claims, IsUnclaimed, Releases}
 use Rattle.hj_jobs.specs.Parts.{DueIs, Enters, HasRoomForOne, IsFullOr, IsRoomier}
 use Rattle.hj_jobs.specs.Stands.{past, Stands}
 use Rattle.hj_jobs.proofs.Beginning.{begins_remembered, clash_taken, clash_used, free_unused, released, stands_begun}
@@ -44,25 +44,25 @@ module _ {H Job : Type 0} (hub : Hub Job) (who : List ℕ) (old : Jobs H Job) (h
   accept_full accept.TooMany free full c is = (free_unused h old.names s.ids s.streams c (free_of c is free), subst (λ n. most_live ≤ n) s.count full)
   accept_full accept.NoMemory free full c is = tt
 
-  pub accept_released : (claimed : Names) (mid new : Jobs H Job) (n : ℕ) → AreFree old.names call.id streams → Claims old.names claimed n call.id streams
-      → IsRoomier {H = H} (record { live = old.live; names = claimed; due = old.due; accepted = old.accepted; passed = old.passed; halfway = old.halfway }) mid → Releases claimed new.names n call.id streams
-      → new.live ≡ mid.live → new.due ≡ mid.due → new.accepted ≡ mid.accepted → new.passed ≡ mid.passed → new.halfway ≡ mid.halfway → Stands {H = H} hub new who h
+  pub accept_released : (claimed : Ids) (mid new : Jobs H Job) (n : ℕ) → AreFree old.names call.id streams → Claims old.names claimed n call.id streams
+      → IsRoomier {H = H} (record { live = old.live; names = claimed; due = old.due; accepted = old.accepted; passed = old.passed; prepared = old.prepared }) mid → Releases claimed new.names n call.id streams
+      → new.live ≡ mid.live → new.due ≡ mid.due → new.accepted ≡ mid.accepted → new.passed ≡ mid.passed → new.prepared ≡ mid.prepared → Stands {H = H} hub new who h
   accept_released claimed mid new n free claims roomier releases live due accepted passed half =
       let retains = roomier.live in
-      let capacity : vec_capacity mid.due.jobs ≡ vec_capacity new.due.jobs = ap (λ d. vec_capacity d.jobs) (sym due) in
+      let capacity : vec_capacity mid.due.numbers ≡ vec_capacity new.due.numbers = ap (λ d. vec_capacity d.numbers) (sym due) in
       let more = roomier.capacity in
       retained_stands {H = H} hub who old h s new (subst (λ l. Retains old.live l) (sym live) retains)
       (released old.names claimed new.names n call.id streams free claims releases)
-      (ap (λ d. d.jobs.items) due ∙ roomier.due) (omega (arith, capacity, more)) (accepted ∙ roomier.accepted) (passed ∙ roomier.passed) (half ∙ roomier.halfway)
+      (ap (λ d. d.numbers.items) due ∙ roomier.due) (omega (arith, capacity, more)) (accepted ∙ roomier.accepted) (passed ∙ roomier.passed) (half ∙ roomier.prepared)
 
-  pub accept_known : (claimed : Names) (mid new : Jobs H Job) (n now : ℕ) (job : Job) → n ≡ old.accepted + 1 → AreFree old.names call.id streams → Claims old.names claimed n call.id streams
-      → IsRoomier {H = H} (record { live = old.live; names = claimed; due = old.due; accepted = old.accepted; passed = old.passed; halfway = old.halfway }) mid → HasRoomForOne {H = H} mid
+  pub accept_known : (claimed : Ids) (mid new : Jobs H Job) (n now : ℕ) (job : Job) → n ≡ old.accepted + 1 → AreFree old.names call.id streams → Claims old.names claimed n call.id streams
+      → IsRoomier {H = H} (record { live = old.live; names = claimed; due = old.due; accepted = old.accepted; passed = old.passed; prepared = old.prepared }) mid → HasRoomForOne {H = H} mid
       → live_count old.live < most_live → job ≡ hub.begin_of call now → Enters {H = H} mid new n call job → (c : Invoked) → IsCallOf who call c → Accepts {H = H} hub new who h c now n
   accept_known claimed mid new n now job number free claims roomier room few made enters c is =
       let counted = s.accepted in
       let next : n ≡ suc (length (begun_in h)) = omega (arith, number, counted) in
       let retains = roomier.live in
-      let absent : entry_at mid.live n ≡ None = retains.at n ∙ (ap (λ m. entry_at old.live m) next ∙ no_entry old.halfway hub who (entry_at old.live (suc (length (begun_in h)))) (past (length (begun_in h)) h) (s.entries (length (begun_in h))) (dead_past (length (begun_in h)) h (omega arith))) in
+      let absent : entry_at mid.live n ≡ None = retains.at n ∙ (ap (λ m. entry_at old.live m) next ∙ no_entry old.prepared hub who (entry_at old.live (suc (length (begun_in h)))) (past (length (begun_in h)) h) (s.entries (length (begun_in h))) (dead_past (length (begun_in h)) h (omega arith))) in
       let gains = enters.live absent in
       let gained = subst (λ m. Gains mid.live new.live m enters.entry) next gains in
       let claims_of = subst (λ m. Claims old.names new.names m (id_of c.way) c.streams) next
@@ -78,8 +78,8 @@ module _ {H Job : Type 0} (hub : Hub Job) (who : List ℕ) (old : Jobs H Job) (h
         few = few_jobs;
         next = next;
         stands = stands_begun {H = H} hub who old h s new c now enters.entry mid.due
-            (begins_remembered new.halfway hub who c now call enters.entry job is made enters.begins)
+            (begins_remembered new.prepared hub who c now call enters.entry job is made enters.begins)
             gained.here (λ m ne. gained.others m ne ∙ retains.at m) (gained.count ∙ ap (λ m. m + 1) same) few (free_of c is free) claims_of
-            roomier.due (subst (λ m. m < vec_capacity mid.due.jobs) same space) (subst (λ m. DueIs mid.due new.due m true) next enters.due)
-            (enters.accepted ∙ next) (enters.passed ∙ roomier.passed) (enters.halfway ∙ roomier.halfway);
+            roomier.due (subst (λ m. m < vec_capacity mid.due.numbers) same space) (subst (λ m. DueIs mid.due new.due m true) next enters.due)
+            (enters.accepted ∙ next) (enters.passed ∙ roomier.passed) (enters.prepared ∙ roomier.prepared);
       }

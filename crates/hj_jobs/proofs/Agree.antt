@@ -9,11 +9,11 @@ use Rattle.hd_calls.specs.Hubs.{Invoked, Answer, Item, End, id_of}
 use Rattle.hd_calls.specs.Peers.{has_end, of_stream}
 use Rattle.hd_calls.specs.Rules.{is_among, repeats, same_id}
 use Rattle.hd_calls.specs.Tables.{JobHappening, begun_in, is_due_in}
-use Rattle.hj_jobs.specs.declared.due.Due.{Due}
-use Rattle.hj_jobs.specs.declared.names.Names.{Names}
-use Rattle.hj_jobs.specs.declared.names.Stream.{Stream}
-use Rattle.hj_jobs.specs.Due.{HasPlace, is_in}
-use Rattle.hj_jobs.specs.Names.{Closes, is_of, job_at, Releases, stream_at}
+use Rattle.hv_value.specs.declared.sorted_set.SortedSet.{SortedSet}
+use Rattle.hj_jobs.specs.declared.ids.Ids.{Ids}
+use Rattle.hj_jobs.specs.declared.ids.Stream.{Stream}
+use Rattle.hv_value.specs.SortedSet.{HasPlace, is_in}
+use Rattle.hj_jobs.specs.Ids.{Closes, is_of, job_at, Releases, stream_at}
 use Rattle.hj_jobs.specs.Parts.{DueIs}
 use Rattle.hj_jobs.specs.Stands.{DueAgree, HadBy, HasId, IdsAgree, OpenBy, Past, past, StreamIn, StreamsAgree}
 use Rattle.hj_jobs.proofs.Basics.{none_some, same-true, same_refl, some_injective, true_false}
@@ -87,7 +87,7 @@ module _ (h after : List JobHappening) (k : ℕ) (t : Touches h after k) where
     all_same_call : (j : ℕ) → SameCall (past j h) (past j after)
     all_same_call = place_cases (λ j. SameCall (past j h) (past j after)) k s (λ j e. same_call (past j h) (past j after) (sym (t.elsewhere j e)))
 
-    pub ids_kept : (old new : Names) → ((i : List ℕ) → job_at new i ≡ job_at old i) → IdsAgree old h → IdsAgree new after
+    pub ids_kept : (old new : Ids) → ((i : List ℕ) → job_at new i ≡ job_at old i) → IdsAgree old h → IdsAgree new after
     ids_kept old new same a = record {
       had = λ i n e. let r = a.had i n (sym (same i) ∙ e) in (r.0, r.1, had_same (past r.0 h) (past r.0 after) i (all_same_call r.0) r.2);
       every = λ i j r. same i ∙ a.every i j (had_back (past j h) (past j after) i (all_same_call j) r);
@@ -97,7 +97,7 @@ module _ (h after : List JobHappening) (k : ℕ) (t : Touches h after k) where
     all_same : (j : ℕ) → SameNames (past j h) (past j after)
     all_same = place_cases (λ j. SameNames (past j h) (past j after)) k s (λ j e. same_past (past j h) (past j after) (sym (t.elsewhere j e)))
 
-    pub streams_kept : (old new : Names) → ((i : List ℕ) → stream_at new i ≡ stream_at old i) → StreamsAgree old h → StreamsAgree new after
+    pub streams_kept : (old new : Ids) → ((i : List ℕ) → stream_at new i ≡ stream_at old i) → StreamsAgree old h → StreamsAgree new after
     streams_kept old new same a = record {
       had = λ i s e. let r = a.had i s (sym (same i) ∙ e) in (r.0, r.1, open_same (past r.0 h) (past r.0 after) i s.which (all_same r.0) r.2);
       every = λ i j w r. same i ∙ a.every i j w (open_back (past j h) (past j after) i w (all_same j) r);
@@ -179,7 +179,7 @@ module _ (h after : List JobHappening) (k w : ℕ) (x : Ending) (t : Touches h a
         unended = end_leaves (past k h) w x u (ne_eqb u w (f refl)) ∙ r.unended;
       })
 
-  pub streams_ended : (old new : Names) (stream : List ℕ) → Closes old new stream → StreamIn h stream k w → StreamsAgree old h → StreamsAgree new after
+  pub streams_ended : (old new : Ids) (stream : List ℕ) → Closes old new stream → StreamIn h stream k w → StreamsAgree old h → StreamsAgree new after
   streams_ended old new stream closes at a = record { had = had; every = every }
     where
       had : (i : List ℕ) (s : Stream) → stream_at new i ≡ Some s → (j : ℕ) × (s.job ≡ suc j) × StreamIn after i j s.which
@@ -217,7 +217,7 @@ module _ (h after : List JobHappening) (k w : ℕ) (x : Ending) (t : Touches h a
 
 -- ---- a job isn't live any more
 
-module _ (h after : List JobHappening) (k : ℕ) (t : Touches h after k) (dead : (past k after).live ≡ false) (call : Invoked) (at : (past k h).call ≡ Some call) (live : (past k h).live ≡ true) (old new : Names) (id : Option (List ℕ)) (streams : List (List ℕ)) (is_id : id ≡ id_of call.way) (are : streams ≡ call.streams) (r : Releases old new (suc k) id streams) where
+module _ (h after : List JobHappening) (k : ℕ) (t : Touches h after k) (dead : (past k after).live ≡ false) (call : Invoked) (at : (past k h).call ≡ Some call) (live : (past k h).live ≡ true) (old new : Ids) (id : Option (List ℕ)) (streams : List (List ℕ)) (is_id : id ≡ id_of call.way) (are : streams ≡ call.streams) (r : Releases old new (suc k) id streams) where
   its_id : (i : List ℕ) (j : ℕ) → j ≡ k → HasId h i j → id ≡ Some i
   its_id i j jk x =
       let one : Some x.call ≡ Some call = sym x.at ∙ (ap (λ n. slice_get (begun_in h) n) jk ∙ at) in
@@ -280,12 +280,12 @@ module _ (h after : List JobHappening) (k : ℕ) (t : Touches h after k) (dead :
 
 -- ---- which jobs are due
 
-module _ (h after : List JobHappening) (k : ℕ) (t : Touches h after k) (old new : Due) (b : Bool) (d : DueIs old new (suc k) b) (place : b ≡ true → HasPlace old (suc k)) (is : is_due_in k after ≡ b) where
+module _ (h after : List JobHappening) (k : ℕ) (t : Touches h after k) (old new : SortedSet) (b : Bool) (d : DueIs old new (suc k) b) (place : b ≡ true → HasPlace old (suc k)) (is : is_due_in k after ≡ b) where
   pub due_changed : DueAgree old h → DueAgree new after
   due_changed a = record {
     rising = d.rising a.rising;
-    same = place_cases (λ j. is_in (suc j) new.jobs.items ≡ is_due_in j after) k
-        (d.at a.rising place (suc k) ∙ (cond-true (suc k == suc k) b (is_in (suc k) old.jobs.items) (eq-eqb (suc k) (suc k) refl) ∙ sym is))
-        (λ j e. d.at a.rising place (suc j) ∙ (cond-false (suc j == suc k) b (is_in (suc j) old.jobs.items) (suc_apart2 j k e) ∙ (a.same j ∙ (due_is j h ∙ (ap due_of (sym (t.elsewhere j e)) ∙ sym (due_is j after))))));
-    from_one = d.at a.rising place 0 ∙ (cond-false (0 == suc k) b (is_in 0 old.jobs.items) (ne_eqb 0 (suc k) (λ e. omega (arith, e))) ∙ a.from_one);
+    same = place_cases (λ j. is_in (suc j) new.numbers.items ≡ is_due_in j after) k
+        (d.at a.rising place (suc k) ∙ (cond-true (suc k == suc k) b (is_in (suc k) old.numbers.items) (eq-eqb (suc k) (suc k) refl) ∙ sym is))
+        (λ j e. d.at a.rising place (suc j) ∙ (cond-false (suc j == suc k) b (is_in (suc j) old.numbers.items) (suc_apart2 j k e) ∙ (a.same j ∙ (due_is j h ∙ (ap due_of (sym (t.elsewhere j e)) ∙ sym (due_is j after))))));
+    from_one = d.at a.rising place 0 ∙ (cond-false (0 == suc k) b (is_in 0 old.numbers.items) (ne_eqb 0 (suc k) (λ e. omega (arith, e))) ∙ a.from_one);
   }

@@ -10,16 +10,16 @@ use Rattle.hd_calls.specs.Hubs.{Hub, Invoked, call_for, id_of, kind_of}
 use Rattle.hd_calls.specs.Peers.{has_end, of_stream}
 use Rattle.hd_calls.specs.Rules.{any_below, count_below, is_among, repeats, same_id}
 use Rattle.hd_calls.specs.Tables.{Accepted, JobHappening, begun_in, clashes_in, in_use_in, inputs_in, is_due_in, live_job_in, live_jobs_in, moments_in, passed_in, shares_in}
-use Rattle.hj_jobs.specs.declared.due.Due.{Due}
+use Rattle.hv_value.specs.declared.sorted_set.SortedSet.{SortedSet}
 use Rattle.hj_jobs.specs.declared.entry.Entry.{Entry}
 use Rattle.hj_jobs.specs.declared.jobs.Jobs.{Jobs}
-use Rattle.hj_jobs.specs.declared.names.Names.{Names}
-use Rattle.hj_jobs.specs.declared.names.Stream.{Stream}
+use Rattle.hj_jobs.specs.declared.ids.Ids.{Ids}
+use Rattle.hj_jobs.specs.declared.ids.Stream.{Stream}
 use Rattle.hj_jobs.specs.Calls.{IsTaken, ItsId, ItsStream, NamedTwice}
-use Rattle.hj_jobs.specs.Due.{HasPlace, is_in, IsRising}
+use Rattle.hv_value.specs.SortedSet.{HasPlace, is_in, IsRising}
 use Rattle.hj_jobs.specs.Entries.{Begins}
 use Rattle.hj_jobs.specs.Live.{entry_at, live_count}
-use Rattle.hj_jobs.specs.Names.{AreFree, AreSame, claimed, Claims, Clash, OfJob, OfStream, Twice, is_twice, is_of, job_at, or_else, Releases, stream_at}
+use Rattle.hj_jobs.specs.Ids.{AreFree, AreSame, claimed, Claims, Clash, OfJob, OfStream, Twice, is_twice, is_of, job_at, or_else, Releases, stream_at}
 use Rattle.hj_jobs.specs.Parts.{DueIs}
 use Rattle.hj_jobs.specs.Stands.{DueAgree, HadBy, HasId, IdsAgree, IsEntryOf, IsUnborn, OpenBy, Past, past, Remembers, Stands, StreamIn, StreamsAgree}
 use Rattle.hj_jobs.proofs.Agree.{among, place_cases, same_id-true, suc_apart, suc_apart2, true-same_id}
@@ -78,7 +78,7 @@ unclaimed_apart job w (k ∷ ks) i e = go (λ (f : claimed job (suc w) ks i ≡ 
     go later false f = or_from (same_text i k) (is_among i ks) f (later (sym (cond-false (same_text i k) (Some (record { job = job; which = w })) (claimed job (suc w) ks i) f) ∙ e))
 
 -- what was claimed and released again is as it was
-pub released : (old mid new : Names) (job : ℕ) (id : Option (List ℕ)) (streams : List (List ℕ)) → AreFree old id streams → Claims old mid job id streams → Releases mid new job id streams → AreSame old new
+pub released : (old mid new : Ids) (job : ℕ) (id : Option (List ℕ)) (streams : List (List ℕ)) → AreFree old id streams → Claims old mid job id streams → Releases mid new job id streams → AreSame old new
 released old mid new job id streams free claims releases = record { ids = ids; streams = open_streams }
   where
     ids : (i : List ℕ) → job_at new i ≡ job_at old i
@@ -178,7 +178,7 @@ twice_repeats i (k ∷ ks) e = elim (or_cases (same_text i k && is_among i ks) (
   | inr f ↦ or_right (is_among k ks) (repeats ks) (twice_repeats i ks f)
 ]
 
-module _ (h : List JobHappening) (names : Names) (ids : IdsAgree names h) (streams : StreamsAgree names h) (c : Invoked) where
+module _ (h : List JobHappening) (names : Ids) (ids : IdsAgree names h) (streams : StreamsAgree names h) (c : Invoked) where
   abbrev clash_at : ℕ → Bool
   clash_at j = live_job_in j h && clashes_in c j h (slice_get (begun_in h) j)
 
@@ -237,7 +237,7 @@ module _ (h : List JobHappening) (names : Names) (ids : IdsAgree names h) (strea
 
 -- what is said of a job that begins
 abbrev pub newborn : Invoked → ℕ → Past
-newborn c now = record { call = Some c; since = Some now; live = true; over = false; turns = []; acts = []; inputs = []; marked = false; reply = None }
+newborn c now = record { call = Some c; since = Some now; live = true; over = false; turns = []; acts = []; inputs = []; is_cancelled = false; reply = None }
 
 pub begins_remembered : {Job : Type 0} (half : Bool) (hub : Hub Job) (who : List ℕ) (c : Invoked) (now : ℕ) (call : as_given.Call) (e : Entry Job) (job : Job)
     → call ≡ call_for who c → job ≡ hub.begin_of call now → Begins e call job → Remembers half hub who e (newborn c now)
@@ -257,7 +257,7 @@ begins_remembered half hub who c now call e job is made b = record {
   few_inputs = omega arith;
   reply = b.reply;
   answered = rw b.reply tt;
-  marked = b.marked;
+  is_cancelled = b.is_cancelled;
 }
 
 module _ (h : List JobHappening) (c : Invoked) (now : ℕ) (agree : length (moments_in h) ≡ length (begun_in h)) (unborn : IsUnborn (past (length (begun_in h)) h)) where
@@ -268,7 +268,7 @@ module _ (h : List JobHappening) (c : Invoked) (now : ℕ) (agree : length (mome
   here = length (begun_in h)
 
   pub newborn_here : past here after ≡ newborn c now
-  newborn_here = accepted_here h c now agree ∙ rw (unborn.over, unborn.turns, unborn.acts, unborn.inputs, unborn.marked, unborn.reply) refl
+  newborn_here = accepted_here h c now agree ∙ rw (unborn.over, unborn.turns, unborn.acts, unborn.inputs, unborn.is_cancelled, unborn.reply) refl
 
   elsewhere : (j : ℕ) → (j == here) ≡ false → past j after ≡ past j h
   elsewhere j e = accepted_elsewhere h c now agree j (λ z. true_false (sym (eq-eqb j here z) ∙ e))
@@ -282,7 +282,7 @@ module _ (h : List JobHappening) (c : Invoked) (now : ℕ) (agree : length (mome
       ∙ (ap (λ b. if b then suc (count_below here (λ j. live_job_in j after)) else count_below here (λ j. live_job_in j after)) (ap (λ (p : Past). p.live) newborn_here)
       ∙ ap suc (count_same here (λ j. live_job_in j after) (λ j. live_job_in j h) (λ j l. ap (λ (p : Past). p.live) (elsewhere j (ne_eqb j here (λ z. omega (arith, z, l)))))))
 
-  module _ (old new : Names) (free : AreFree old (id_of c.way) c.streams) (claims : Claims old new (suc here) (id_of c.way) c.streams) where
+  module _ (old new : Ids) (free : AreFree old (id_of c.way) c.streams) (claims : Claims old new (suc here) (id_of c.way) c.streams) where
     pub ids_begun : IdsAgree old h → IdsAgree new after
     ids_begun a = record { had = had; every = every }
       where
@@ -359,20 +359,20 @@ module _ (h : List JobHappening) (c : Invoked) (now : ℕ) (agree : length (mome
 
 module _ {H Job : Type 0} (hub : Hub Job) (who : List ℕ) (old : Jobs H Job) (h : List JobHappening) (s : Stands {H = H} hub old who h) where
   -- the due jobs leave room for one more, if the live ones do
-  pub place_more : (due : Due) → due.jobs.items ≡ old.due.jobs.items → live_count old.live < vec_capacity due.jobs → (n : ℕ) → HasPlace due n
+  pub place_more : (due : SortedSet) → due.numbers.items ≡ old.due.numbers.items → live_count old.live < vec_capacity due.numbers → (n : ℕ) → HasPlace due n
   place_more due items room n =
-      let many = count_due (length (begun_in h)) (λ j. is_due_in j h) old.due.jobs.items s.due.rising s.due.from_one s.due.same (λ j l. undue j h (dead_past j h l)) in
+      let many = count_due (length (begun_in h)) (λ j. is_due_in j h) old.due.numbers.items s.due.rising s.due.from_one s.due.same (λ j l. undue j h (dead_past j h l)) in
       let fewer = count_more (length (begun_in h)) (λ j. is_due_in j h) (λ j. live_job_in j h) (λ j l d. due_live j h d) in
-      let same : length due.jobs.items ≡ length old.due.jobs.items = ap length items in
+      let same : length due.numbers.items ≡ length old.due.numbers.items = ap length items in
       let all = s.count in
       inr (omega (arith, many, fewer, all, room, same))
 
-  pub stands_begun : (new : Jobs H Job) (c : Invoked) (now : ℕ) (e : Entry Job) (mid : Due) → Remembers new.halfway hub who e (newborn c now)
+  pub stands_begun : (new : Jobs H Job) (c : Invoked) (now : ℕ) (e : Entry Job) (mid : SortedSet) → Remembers new.prepared hub who e (newborn c now)
       → entry_at new.live (suc (length (begun_in h))) ≡ Some e → ((n : ℕ) → (suc (length (begun_in h)) == n) ≡ false → entry_at new.live n ≡ entry_at old.live n)
       → live_count new.live ≡ live_count old.live + 1 → live_count old.live < most_live
       → AreFree old.names (id_of c.way) c.streams → Claims old.names new.names (suc (length (begun_in h))) (id_of c.way) c.streams
-      → mid.jobs.items ≡ old.due.jobs.items → live_count old.live < vec_capacity mid.jobs → DueIs mid new.due (suc (length (begun_in h))) true
-      → new.accepted ≡ suc (length (begun_in h)) → new.passed ≡ old.passed → new.halfway ≡ old.halfway → Stands {H = H} hub new who (Accepted c now ∷ h)
+      → mid.numbers.items ≡ old.due.numbers.items → live_count old.live < vec_capacity mid.numbers → DueIs mid new.due (suc (length (begun_in h))) true
+      → new.accepted ≡ suc (length (begun_in h)) → new.passed ≡ old.passed → new.prepared ≡ old.prepared → Stands {H = H} hub new who (Accepted c now ∷ h)
   stands_begun new c now e mid keeps here others count few free claims items room due accepted passed half =
       let n = length (begun_in h) in
       let after = Accepted c now ∷ h in
@@ -382,16 +382,16 @@ module _ {H Job : Type 0} (hub : Hub Job) (who : List ℕ) (old : Jobs H Job) (h
       let lives = more_lives h c now s.moments unborn in
       let all = s.count in
       let capacity = due.capacity in
-      let kept : Remembers new.halfway hub who e (past n after) = subst (λ p. Remembers new.halfway hub who e p) (sym born) keeps in
+      let kept : Remembers new.prepared hub who e (past n after) = subst (λ p. Remembers new.prepared hub who e p) (sym born) keeps in
       let rising = subst IsRising (sym items) s.due.rising in
       let place = place_more mid items room in
       let elsewhere : (j : ℕ) → (j == n) ≡ false → past j after ≡ past j h = (λ j ne. accepted_elsewhere h c now s.moments j (λ z. true_false (sym (eq-eqb j n z) ∙ ne))) in
       record {
         accepted = accepted ∙ sym more;
         moments = accepted_moments h c now s.moments;
-        entries = place_cases (λ j. IsEntryOf new.halfway hub who (entry_at new.live (suc j)) (past j after)) n
-            (entry_of new.halfway hub who (Some e) (entry_at new.live (suc n)) (past n after) (past n after) here refl kept)
-            (λ j ne. entry_of new.halfway hub who (entry_at old.live (suc j)) (entry_at new.live (suc j)) (past j h) (past j after) (others (suc j) (suc_apart j n ne)) (elsewhere j ne) (subst (λ b. IsEntryOf b hub who (entry_at old.live (suc j)) (past j h)) (sym half) (s.entries j)));
+        entries = place_cases (λ j. IsEntryOf new.prepared hub who (entry_at new.live (suc j)) (past j after)) n
+            (entry_of new.prepared hub who (Some e) (entry_at new.live (suc n)) (past n after) (past n after) here refl kept)
+            (λ j ne. entry_of new.prepared hub who (entry_at old.live (suc j)) (entry_at new.live (suc j)) (past j h) (past j after) (others (suc j) (suc_apart j n ne)) (elsewhere j ne) (subst (λ b. IsEntryOf b hub who (entry_at old.live (suc j)) (past j h)) (sym half) (s.entries j)));
         none = others 0 (ne_eqb (suc n) 0 (λ z. omega (arith, z))) ∙ s.none;
         count = omega (arith, count, all, lives);
         few_live = omega (arith, few, all, lives);
@@ -399,14 +399,14 @@ module _ {H Job : Type 0} (hub : Hub Job) (who : List ℕ) (old : Jobs H Job) (h
         streams = streams_begun h c now s.moments unborn old.names new.names free claims s.streams;
         due = record {
           rising = due.rising rising;
-          same = place_cases (λ j. is_in (suc j) new.due.jobs.items ≡ is_due_in j after) n
+          same = place_cases (λ j. is_in (suc j) new.due.numbers.items ≡ is_due_in j after) n
               (due.at rising (λ z. place (suc n)) (suc n)
-              ∙ (cond-true (suc n == suc n) true (is_in (suc n) mid.jobs.items) (eq-eqb (suc n) (suc n) refl)
+              ∙ (cond-true (suc n == suc n) true (is_in (suc n) mid.numbers.items) (eq-eqb (suc n) (suc n) refl)
               ∙ sym (due_is n after ∙ ap due_of born)))
               (λ j ne. due.at rising (λ z. place (suc n)) (suc j)
-              ∙ (cond-false (suc j == suc n) true (is_in (suc j) mid.jobs.items) (suc_apart2 j n ne)
+              ∙ (cond-false (suc j == suc n) true (is_in (suc j) mid.numbers.items) (suc_apart2 j n ne)
               ∙ (ap (is_in (suc j)) items ∙ (s.due.same j ∙ (due_is j h ∙ (ap due_of (sym (elsewhere j ne)) ∙ sym (due_is j after)))))));
-          from_one = due.at rising (λ z. place (suc n)) 0 ∙ (cond-false (0 == suc n) true (is_in 0 mid.jobs.items) (ne_eqb 0 (suc n) (λ z. omega (arith, z))) ∙ (ap (is_in 0) items ∙ s.due.from_one));
+          from_one = due.at rising (λ z. place (suc n)) 0 ∙ (cond-false (0 == suc n) true (is_in 0 mid.numbers.items) (ne_eqb 0 (suc n) (λ z. omega (arith, z))) ∙ (ap (is_in 0) items ∙ s.due.from_one));
         };
         room = omega (arith, count, room, capacity);
         passed = passed ∙ s.passed;

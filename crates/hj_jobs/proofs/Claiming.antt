@@ -11,9 +11,9 @@ use Rattle.hm_message.specs.Same.{same_text}
 use Rattle.hd_calls.specs.Rules.{is_among, repeats, same_id}
 use Rattle.hj_jobs.specs.declared.errors.AcceptError.{AcceptError}
 use Rattle.hj_jobs.specs.declared.errors.AcceptError.TheVariants as error
-use Rattle.hj_jobs.specs.declared.names.Names.{Names}
-use Rattle.hj_jobs.specs.declared.names.Stream.{Stream}
-use Rattle.hj_jobs.specs.Names.{job_at, stream_at, AreSame, claimed, or_else, AreOpenable, Opens, OpensOne, IsUnopened, Clash, OfJob, OfStream, Twice, is_twice, IsUnclaimed, is_of, ClosesThose}
+use Rattle.hj_jobs.specs.declared.ids.Ids.{Ids}
+use Rattle.hj_jobs.specs.declared.ids.Stream.{Stream}
+use Rattle.hj_jobs.specs.Ids.{job_at, stream_at, AreSame, claimed, or_else, AreOpenable, Opens, OpensOne, IsUnopened, Clash, OfJob, OfStream, Twice, is_twice, IsUnclaimed, is_of, ClosesThose}
 
 -- ---- texts
 
@@ -105,12 +105,12 @@ among_cases true = inl refl
 among_cases false = inr refl
 
 -- a text that is open after these were opened is among them, or was open before
-open_before : (old mid : Names) (job : ℕ) (done : List (List ℕ)) (i : List ℕ) → Opens old mid job done → stream_at mid i ≡ None → (is_among i done ≡ false) × (stream_at old i ≡ None)
+open_before : (old mid : Ids) (job : ℕ) (done : List (List ℕ)) (i : List ℕ) → Opens old mid job done → stream_at mid i ≡ None → (is_among i done ≡ false) × (stream_at old i ≡ None)
 open_before old mid job done i o e =
     let n = or_else_none (claimed job 0 done i) (stream_at old i) (sym (o.open_streams i) ∙ e) in
     (false_from_ne_true (is_among i done) (λ a. let w = claimed_among job 0 done i a in let z : None ≡ Some (record { job = job; which = w.0 }) = sym n.0 ∙ w.1 in cc), n.1)
 
-pub openable_more : (old mid : Names) (job : ℕ) (done : List (List ℕ)) (x : List ℕ) → AreOpenable old done → Opens old mid job done → stream_at mid x ≡ None → AreOpenable old (done ++ x ∷ [])
+pub openable_more : (old mid : Ids) (job : ℕ) (done : List (List ℕ)) (x : List ℕ) → AreOpenable old done → Opens old mid job done → stream_at mid x ≡ None → AreOpenable old (done ++ x ∷ [])
 openable_more old mid job done x a o e =
     let b = open_before old mid job done x o e in
     record {
@@ -121,7 +121,7 @@ openable_more old mid job done x a o e =
       once = repeats_more x done ∙ or_from (repeats done) (is_among x done) a.once b.0;
     }
 
-pub opened_more : (old mid new : Names) (job : ℕ) (done : List (List ℕ)) (x : List ℕ) → Opens old mid job done → stream_at mid x ≡ None → OpensOne mid new job (length done) x → Opens old new job (done ++ x ∷ [])
+pub opened_more : (old mid new : Ids) (job : ℕ) (done : List (List ℕ)) (x : List ℕ) → Opens old mid job done → stream_at mid x ≡ None → OpensOne mid new job (length done) x → Opens old new job (done ++ x ∷ [])
 opened_more old mid new job done x o e one = record {
   ids = λ i. one.ids i ∙ o.ids i;
   open_streams = λ i. one.open_streams i ∙ (go i (same_text i x) refl ∙ ap (λ c. or_else c (stream_at old i)) (sym (claimed_more job 0 x done i)));
@@ -146,14 +146,14 @@ twice_at x (k ∷ ks) rest e = elim (or_cases (same_text x k) (is_among x ks) e)
   | inr h ↦ or_right (same_text x k && is_among x (ks ++ x ∷ rest)) (is_twice x (ks ++ x ∷ rest)) (twice_at x ks rest h)
 ]
 
-clash_at : (old mid : Names) (job : ℕ) (id : Option (List ℕ)) (done rest : List (List ℕ)) (x : List ℕ) (s : Stream) → Opens old mid job done → stream_at mid x ≡ Some s → Clash old id (done ++ x ∷ rest) x
+clash_at : (old mid : Ids) (job : ℕ) (id : Option (List ℕ)) (done rest : List (List ℕ)) (x : List ℕ) (s : Stream) → Opens old mid job done → stream_at mid x ≡ Some s → Clash old id (done ++ x ∷ rest) x
 clash_at old mid job id done rest x s o e = go (is_among x done) refl
   where
     go : (b : Bool) → is_among x done ≡ b → Clash old id (done ++ x ∷ rest) x
     go true h = Twice (twice_at x done rest h)
     go false h = OfStream s (among_at x done rest) (ap (λ c. or_else c (stream_at old x)) (sym (unclaimed job 0 done x h)) ∙ (sym (o.open_streams x) ∙ e))
 
-pub refused_at : (old mid : Names) (job : ℕ) (id : Option (List ℕ)) (done rest all : List (List ℕ)) (x : List ℕ) (e : AcceptError) → done ++ x ∷ rest ≡ all → Opens old mid job done → IsUnopened mid x e → IsUnclaimed old id all e
+pub refused_at : (old mid : Ids) (job : ℕ) (id : Option (List ℕ)) (done rest all : List (List ℕ)) (x : List ℕ) (e : AcceptError) → done ++ x ∷ rest ≡ all → Opens old mid job done → IsUnopened mid x e → IsUnclaimed old id all e
 refused_at old mid job id done rest all x (error.InUse i) a o u = subst (λ ks. Clash old id ks i) a (subst (λ k. Clash old id (done ++ x ∷ rest) k) (sym u.0) (clash_at old mid job id done rest x u.1.0 o u.1.1))
 refused_at old mid job id done rest all x error.TooMany a o u = u
 refused_at old mid job id done rest all x error.NoMemory a o u = u
@@ -161,7 +161,7 @@ refused_at old mid job id done rest all x error.NoMemory a o u = u
 -- ---- closed
 
 -- what was opened is closed again
-pub opened_and_closed : (old mid end new : Names) (job : ℕ) (done : List (List ℕ)) → AreOpenable old done → Opens old mid job done → AreSame mid end → ClosesThose end new job done → AreSame old new
+pub opened_and_closed : (old mid end new : Ids) (job : ℕ) (done : List (List ℕ)) → AreOpenable old done → Opens old mid job done → AreSame mid end → ClosesThose end new job done → AreSame old new
 opened_and_closed old mid end new job done a o s c = record {
   ids = λ i. c.ids i ∙ (s.ids i ∙ o.ids i);
   streams = λ i. c.closed_streams i ∙ (ap (λ t. if is_among i done && is_of job t then None else t) (s.streams i ∙ o.open_streams i) ∙ go i (is_among i done) refl);
@@ -175,7 +175,7 @@ opened_and_closed old mid end new job done a o s c = record {
     go i false h = ap (λ t. or_else t (stream_at old i)) (unclaimed job 0 done i h)
 
 -- one more is closed, if it is the job's
-pub closed_more : (old mid new : Names) (job : ℕ) (done : List (List ℕ)) (x : List ℕ) → ClosesThose old mid job done → ((i : List ℕ) → job_at new i ≡ job_at mid i) → ((i : List ℕ) → stream_at new i ≡ (if is_of job (stream_at mid x) && same_text i x then None else stream_at mid i)) → ClosesThose old new job (done ++ x ∷ [])
+pub closed_more : (old mid new : Ids) (job : ℕ) (done : List (List ℕ)) (x : List ℕ) → ClosesThose old mid job done → ((i : List ℕ) → job_at new i ≡ job_at mid i) → ((i : List ℕ) → stream_at new i ≡ (if is_of job (stream_at mid x) && same_text i x then None else stream_at mid i)) → ClosesThose old new job (done ++ x ∷ [])
 closed_more old mid new job done x c ids one = record {
   ids = λ i. ids i ∙ c.ids i;
   closed_streams = λ i. one i ∙ (go i (same_text i x) refl ∙ ap (λ b. if b && is_of job (stream_at old i) then None else stream_at old i) (sym (among_more i x done)));
@@ -203,7 +203,7 @@ closed_more old mid new job done x c ids one = record {
 
 -- ---- what a call on a map gives
 
-pub opened_one : (old new : Names) (job place which : ℕ) (stream copy : List ℕ) → ((i : List ℕ) → job_at new i ≡ job_at old i) → copy ≡ stream → which ≡ place → UpdatesBy (slice_cmp nat_cmp) (slice_cmp nat_cmp copy) old.streams new.streams (Some (record { job = job; which = which })) → OpensOne old new job place stream
+pub opened_one : (old new : Ids) (job place which : ℕ) (stream copy : List ℕ) → ((i : List ℕ) → job_at new i ≡ job_at old i) → copy ≡ stream → which ≡ place → UpdatesBy (slice_cmp nat_cmp) (slice_cmp nat_cmp copy) old.streams new.streams (Some (record { job = job; which = which })) → OpensOne old new job place stream
 opened_one old new job place which stream copy ids k p u = record {
   ids = ids;
   open_streams = λ i.
@@ -222,7 +222,7 @@ id_changed old new id k copy w is same u i =
 pub id_stays : (old : BTreeMap (List ℕ) ℕ) (id : Option (List ℕ)) (w : Option ℕ) → id ≡ None → (i : List ℕ) → get (slice_cmp nat_cmp) old i ≡ (if same_id (Some i) id then w else get (slice_cmp nat_cmp) old i)
 id_stays old id w is i = ap (λ o. if same_id (Some i) o then w else get (slice_cmp nat_cmp) old i) (sym is)
 
-pub clash_of_job : (names : Names) (id : Option (List ℕ)) (k copy : List ℕ) → id ≡ Some k → copy ≡ k → is_some (job_at names k) ≡ true → (streams : List (List ℕ)) → Clash names id streams copy
+pub clash_of_job : (names : Ids) (id : Option (List ℕ)) (k copy : List ℕ) → id ≡ Some k → copy ≡ k → is_some (job_at names k) ≡ true → (streams : List (List ℕ)) → Clash names id streams copy
 clash_of_job names id k copy is same e streams =
     let w = there_is (job_at names k) e in
     OfJob w.0 (is ∙ ap (λ t. Some t) (sym same)) (ap (λ t. job_at names t) same ∙ w.1)

@@ -2,7 +2,7 @@
 use Rattle.std.proofs.Common.{◌≡◌, ℕ, zero, suc, ◌<◌, ◌≤◌, Bool, true, false, ◌||◌, ◌==◌, inl, inr, List, [], ◌∷◌, length, refl, sym, ap, ◌∙◌, arith, eq-eqb, ne_eqb, if◌then◌else◌}
 use Rattle.std.proofs.lemmas.Bool.{or_left, or_right, false_from_ne_true, cases_lt, cases_eq}
 use Rattle.hd_calls.specs.Rules.{count_below}
-use Rattle.hj_jobs.specs.Due.{is_in, IsRising}
+use Rattle.hv_value.specs.SortedSet.{is_in, IsRising}
 
 -- ---- two tests
 

@@ -1,4 +1,3 @@
-pub mod Rising
 pub mod Counting
 pub mod Claiming
 pub mod Basics

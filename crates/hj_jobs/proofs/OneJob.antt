@@ -29,7 +29,7 @@ next_of p (Some (act.Do deed)) = p.reply
 next_of p _ = Some input.Go
 
 abbrev pub due_of : Past → Bool
-due_of p = p.live && (p.marked || is_some (next_of p (last_of p.acts)))
+due_of p = p.live && (p.is_cancelled || is_some (next_of p (last_of p.acts)))
 
 pub next_is : (j : ℕ) (h : List JobHappening) (a : Option Act) → next_input_in j h a ≡ next_of (past j h) a
 next_is j h None = refl
@@ -68,9 +68,9 @@ module _ {Job : Type 0} (half : Bool) (hub : Hub Job) (who : List ℕ) where
 
   pub due_entry : (e : Entry Job) (p : Past) → Remembers half hub who e p → is_due_entry e ≡ due_of p
   due_entry e p r =
-      ap (λ (b : Bool). b || is_some (given_next e)) r.marked
-      ∙ (ap (λ (o : Option Input). p.marked || is_some o) (given_is e p r)
-      ∙ sym (ap (λ (b : Bool). b && (p.marked || is_some (next_of p (last_of p.acts)))) r.live))
+      ap (λ (b : Bool). b || is_some (given_next e)) r.is_cancelled
+      ∙ (ap (λ (o : Option Input). p.is_cancelled || is_some o) (given_is e p r)
+      ∙ sym (ap (λ (b : Bool). b && (p.is_cancelled || is_some (next_of p (last_of p.acts)))) r.live))
 
 -- ---- turns
 
@@ -155,7 +155,7 @@ fed p w a = record p { inputs = p.inputs ++ (w, a) ∷ [] }
 
 -- it was marked
 abbrev pub cancelled : Past → Past
-cancelled p = record p { marked = true }
+cancelled p = record p { is_cancelled = true }
 
 -- its last act was answered
 abbrev pub answered : Past → Input → Past
@@ -184,7 +184,7 @@ module _ {Job : Type 0} (half : Bool) (hub : Hub Job) (who : List ℕ) (e f : En
     inputs = s.inputs ∙ (append_none e.inputs.items ∙ r.inputs);
     reply = s.reply ∙ r.reply;
     answered = rw (s.awaits, s.reply) r.answered;
-    marked = s.marked ∙ r.marked;
+    is_cancelled = s.is_cancelled ∙ r.is_cancelled;
   }
 
   pub feeding : (w : ℕ) (a : Answer) → IsFed (upload_input (w, a) ∷ []) e f → length p.inputs - used p.turns < most_inputs → Remembers half hub who f (fed p w a)
@@ -211,10 +211,10 @@ module _ {Job : Type 0} (half : Bool) (hub : Hub Job) (who : List ℕ) (e f : En
         few_inputs = omega arith;
         reply = s.reply ∙ r.reply;
         answered = rw (s.awaits, s.reply) r.answered;
-        marked = s.marked ∙ r.marked;
+        is_cancelled = s.is_cancelled ∙ r.is_cancelled;
       }
 
-  pub marking : f ≡ record e { marked = true } → Remembers half hub who f (cancelled p)
+  pub marking : f ≡ record e { is_cancelled = true } → Remembers half hub who f (cancelled p)
   marking s = subst (λ (g : Entry Job). Remembers half hub who g (cancelled p)) (sym s) (record {
     call = r.call;
     since = r.since;
@@ -231,7 +231,7 @@ module _ {Job : Type 0} (half : Bool) (hub : Hub Job) (who : List ℕ) (e f : En
     few_inputs = r.few_inputs;
     reply = r.reply;
     answered = r.answered;
-    marked = refl;
+    is_cancelled = refl;
   })
 
   pub answering : (i : Input) → is_answer_to e.awaits i ≡ true → f ≡ record e { reply = Some i } → Remembers half hub who f (answered p i)
@@ -251,7 +251,7 @@ module _ {Job : Type 0} (half : Bool) (hub : Hub Job) (who : List ℕ) (e f : En
     few_inputs = r.few_inputs;
     reply = refl;
     answered = fits;
-    marked = r.marked;
+    is_cancelled = r.is_cancelled;
   })
 
   -- it had its turn, at which it was given an input and did this
@@ -277,7 +277,7 @@ module _ {Job : Type 0} (half : Bool) (hub : Hub Job) (who : List ℕ) (e f : En
         few_inputs = omega arith;
         reply = t.reply;
         answered = rw t.reply tt;
-        marked = t.marked ∙ r.marked;
+        is_cancelled = t.is_cancelled ∙ r.is_cancelled;
       }
 
   -- what is kept of a job whose state alone changed
@@ -298,7 +298,7 @@ module _ {Job : Type 0} (half : Bool) (hub : Hub Job) (who : List ℕ) (e f : En
     few_inputs = r.few_inputs;
     reply = ap (λ (x : Entry Job). x.reply) s ∙ r.reply;
     answered = subst (λ (x : Entry Job). AnswersOrNot x.awaits x.reply) (sym s) r.answered;
-    marked = ap (λ (x : Entry Job). x.marked) s ∙ r.marked;
+    is_cancelled = ap (λ (x : Entry Job). x.is_cancelled) s ∙ r.is_cancelled;
   }
 
 -- what a job's state is after a turn, and what it did at it, is what its hub means

@@ -21,7 +21,7 @@ here k = eq-eqb k k refl
 
 -- the past of a job with these parts
 abbrev pub with_parts : ℕ → List JobHappening → Bool → List Turn → List Act → List (ℕ × Answer) → Bool → Option Input → Past
-with_parts j h over turns acts inputs marked reply = record {
+with_parts j h over turns acts inputs is_cancelled reply = record {
   call = slice_get (begun_in h) j;
   since = slice_get (moments_in h) j;
   live = nat_lt j (length (begun_in h)) && not over;
@@ -29,7 +29,7 @@ with_parts j h over turns acts inputs marked reply = record {
   turns = turns;
   acts = acts;
   inputs = inputs;
-  marked = marked;
+  is_cancelled = is_cancelled;
   reply = reply;
 }
 
@@ -124,7 +124,7 @@ module _ (h : List JobHappening) (c : Invoked) (now : ℕ) (agree : length (mome
     turns = turns_in j h;
     acts = acts_in j h;
     inputs = inputs_in j h;
-    marked = marked_in j h;
+    is_cancelled = marked_in j h;
     reply = reply_in j h;
   }
 

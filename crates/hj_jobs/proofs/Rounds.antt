@@ -4,9 +4,9 @@ use Rattle.std.specs.Prelude.{if◌then◌else◌, ◌==◌}
 use Rattle.std.proofs.lemmas.Bool.{false_from_ne_true, cond-false, eqb-true, eq-eqb, or_left}
 use Rattle.hd_calls.specs.Rules.{first_from}
 use Rattle.hd_calls.specs.Tables.{JobHappening, begun_in, is_due_in, next_job_in, passed_in}
-use Rattle.hj_jobs.specs.declared.due.Due.{Due}
+use Rattle.hv_value.specs.declared.sorted_set.SortedSet.{SortedSet}
 use Rattle.hj_jobs.specs.Calls.{SomeIsDue}
-use Rattle.hj_jobs.specs.Due.{is_in, IsFirstPast}
+use Rattle.hv_value.specs.SortedSet.{is_in, IsFirstPast}
 use Rattle.hj_jobs.specs.Stands.{DueAgree}
 use Rattle.hj_jobs.proofs.Basics.{true_false}
 use Rattle.hj_jobs.proofs.Table.{due_live, live_within}
@@ -37,8 +37,8 @@ pub record IsNext (h : List JobHappening) (n : ℕ) : Type 0 where
   pub due : is_due_in job h ≡ true
   pub next : next_job_in h ≡ Some job
 
-module _ (due : Due) (h : List JobHappening) (a : DueAgree due h) where
-  pub next_found : (passed n : ℕ) → passed ≡ passed_in h → IsFirstPast passed due.jobs.items (Some n) → IsNext h n
+module _ (due : SortedSet) (h : List JobHappening) (a : DueAgree due h) where
+  pub next_found : (passed n : ℕ) → passed ≡ passed_in h → IsFirstPast passed due.numbers.items (Some n) → IsNext h n
   next_found passed zero p first = true_false (sym first.0 ∙ a.from_one)
   next_found passed (suc j) p first =
       let here : is_due_in j h ≡ true = sym (a.same j) ∙ first.0 in
@@ -52,7 +52,7 @@ module _ (due : Due) (h : List JobHappening) (a : DueAgree due h) where
             (λ i l m. false_from_ne_true (is_due_in i h) (λ d. let least : suc j ≤ suc i = first.2 (suc i) (a.same i ∙ d) (omega (arith, p, l)) in omega (arith, least, m)));
       }
 
-  pub next_none : (passed : ℕ) → passed ≡ passed_in h → IsFirstPast passed due.jobs.items None → next_job_in h ≡ None
+  pub next_none : (passed : ℕ) → passed ≡ passed_in h → IsFirstPast passed due.numbers.items None → next_job_in h ≡ None
   next_none passed p first =
       first_none (length (begun_in h) - passed_in h) (passed_in h) (λ i. is_due_in i h)
       (λ i l. false_from_ne_true (is_due_in i h) (λ d. let before : suc i ≤ passed = first (suc i) (a.same i ∙ d) in omega (arith, before, p, l)))
@@ -61,13 +61,13 @@ module _ (due : Due) (h : List JobHappening) (a : DueAgree due h) where
   some_in [] e = true_false e
   some_in (n ∷ ns) e = (n, or_left (n == n) (is_in n ns) (eq-eqb n n refl))
 
-  pub some_due : (length due.jobs.items == 0) ≡ false → SomeIsDue h
-  some_due e = go (some_in due.jobs.items e)
+  pub some_due : (length due.numbers.items == 0) ≡ false → SomeIsDue h
+  some_due e = go (some_in due.numbers.items e)
     where
-      go : (n : ℕ) × (is_in n due.jobs.items ≡ true) → SomeIsDue h
+      go : (n : ℕ) × (is_in n due.numbers.items ≡ true) → SomeIsDue h
       go x = at x.0 x.1
         where
-          at : (n : ℕ) → is_in n due.jobs.items ≡ true → SomeIsDue h
+          at : (n : ℕ) → is_in n due.numbers.items ≡ true → SomeIsDue h
           at zero f = true_false (sym f ∙ a.from_one)
           at (suc j) f = (j, sym (a.same j) ∙ f)
 
@@ -75,5 +75,5 @@ module _ (due : Due) (h : List JobHappening) (a : DueAgree due h) where
   none_in [] n e f = true_false (sym f)
   none_in (k ∷ ns) n e f = let z : length (k ∷ ns) ≡ 0 = eqb-true (length (k ∷ ns)) 0 e in omega (arith, z)
 
-  pub none_due : (length due.jobs.items == 0) ≡ true → SomeIsDue h → ⊥
-  none_due e x = none_in due.jobs.items (suc x.0) e (a.same x.0 ∙ x.1)
+  pub none_due : (length due.numbers.items == 0) ≡ true → SomeIsDue h → ⊥
+  none_due e x = none_in due.numbers.items (suc x.0) e (a.same x.0 ∙ x.1)

@@ -8,15 +8,15 @@ use Rattle.hd_calls.specs.Hubs.{Hub}
 use Rattle.hd_calls.specs.Peers.{last_of}
 use Rattle.hd_calls.specs.Rules.{count_below}
 use Rattle.hd_calls.specs.Tables.{JobHappening, acts_in, begun_in, is_due_in, live_job_in, live_jobs_in, marked_in, moments_in, next_input_in, over_in, passed_in}
-use Rattle.hj_jobs.specs.declared.due.Due.{Due}
+use Rattle.hv_value.specs.declared.sorted_set.SortedSet.{SortedSet}
 use Rattle.hj_jobs.specs.declared.entry.Entry.{Entry}
 use Rattle.hj_jobs.specs.declared.jobs.Jobs.{Jobs}
 use Rattle.hj_jobs.specs.declared.live.Live.{Live}
-use Rattle.hj_jobs.specs.declared.names.Names.{Names}
-use Rattle.hj_jobs.specs.Due.{HasPlace, is_in, IsRising}
+use Rattle.hj_jobs.specs.declared.ids.Ids.{Ids}
+use Rattle.hv_value.specs.SortedSet.{HasPlace, is_in, IsRising}
 use Rattle.hj_jobs.specs.Entries.{is_due_entry}
 use Rattle.hj_jobs.specs.Live.{Alters, AltersEntry, entry_at, IsFed, live_count}
-use Rattle.hj_jobs.specs.Names.{AreSame, job_at, Releases, stream_at}
+use Rattle.hj_jobs.specs.Ids.{AreSame, job_at, Releases, stream_at}
 use Rattle.hj_jobs.specs.Parts.{DueIs}
 use Rattle.hj_jobs.specs.Stands.{DueAgree, HasRun, IdsAgree, IsEntryOf, IsUnborn, Past, past, Remembers, Stands, StreamsAgree}
 use Rattle.hj_jobs.proofs.Agree.{due_changed, ids_dropped, place_cases, streams_dropped, suc_apart}
@@ -74,7 +74,7 @@ module _ {Job : Type 0} (half : Bool) (hub : Hub Job) (who : List ℕ) where
 
 -- ---- which are due
 
-pub due_moved : (h : List JobHappening) (old new : Due) → new.jobs.items ≡ old.jobs.items → DueAgree old h → DueAgree new h
+pub due_moved : (h : List JobHappening) (old new : SortedSet) → new.numbers.items ≡ old.numbers.items → DueAgree old h → DueAgree new h
 due_moved h old new items a = record {
   rising = subst IsRising (sym items) a.rising;
   same = λ j. ap (is_in (suc j)) items ∙ a.same j;
@@ -86,15 +86,15 @@ due_moved h old new items a = record {
 module _ {H Job : Type 0} (hub : Hub Job) (who : List ℕ) (old : Jobs H Job) (h : List JobHappening) (s : Stands {H = H} hub old who h) where
   -- a live job can become due without more memory
   pub has_place : (k : ℕ) → live_job_in k h ≡ true → HasPlace old.due (suc k)
-  has_place k live = go (is_in (suc k) old.due.jobs.items) refl
+  has_place k live = go (is_in (suc k) old.due.numbers.items) refl
     where
       n : ℕ
       n = length (begun_in h)
 
-      go : (b : Bool) → is_in (suc k) old.due.jobs.items ≡ b → HasPlace old.due (suc k)
+      go : (b : Bool) → is_in (suc k) old.due.numbers.items ≡ b → HasPlace old.due (suc k)
       go true e = inl e
       go false e =
-          let many = count_due (length (begun_in h)) (λ j. is_due_in j h) old.due.jobs.items s.due.rising s.due.from_one s.due.same (λ j l. undue j h (dead_past j h l)) in
+          let many = count_due (length (begun_in h)) (λ j. is_due_in j h) old.due.numbers.items s.due.rising s.due.from_one s.due.same (λ j l. undue j h (dead_past j h l)) in
           let fewer = count_fewer (length (begun_in h)) (λ j. is_due_in j h) (λ j. live_job_in j h) (λ j l d. due_live j h d) k (live_within k h live) (sym (s.due.same k) ∙ e) live in
           let all = s.count in
           let room = s.room in
@@ -103,15 +103,15 @@ module _ {H Job : Type 0} (hub : Hub Job) (who : List ℕ) (old : Jobs H Job) (h
   module _ (new : Jobs H Job) (after : List JobHappening) (k : ℕ) (e : Entry Job) (t : Touches h after k) (was : entry_at old.live (suc k) ≡ Some e)
       (others : (n : ℕ) → (suc k == n) ≡ false → entry_at new.live n ≡ entry_at old.live n)
       (accepted : new.accepted ≡ old.accepted) (passed : new.passed ≡ passed_in after)
-      (entries : (j : ℕ) → (j == k) ≡ false → IsEntryOf new.halfway hub who (entry_at old.live (suc j)) (past j h)) where
-    kept : Remembers old.halfway hub who e (past k h)
-    kept = remembered old.halfway hub who (entry_at old.live (suc k)) (past k h) e was (s.entries k)
+      (entries : (j : ℕ) → (j == k) ≡ false → IsEntryOf new.prepared hub who (entry_at old.live (suc j)) (past j h)) where
+    kept : Remembers old.prepared hub who e (past k h)
+    kept = remembered old.prepared hub who (entry_at old.live (suc k)) (past k h) e was (s.entries k)
 
     within : k < length (begun_in h)
     within = live_within k h kept.live
 
-    other_entries : (j : ℕ) → (j == k) ≡ false → IsEntryOf new.halfway hub who (entry_at new.live (suc j)) (past j after)
-    other_entries j ne = entry_of new.halfway hub who (entry_at old.live (suc j)) (entry_at new.live (suc j)) (past j h) (past j after) (others (suc j) (suc_apart j k ne)) (t.elsewhere j ne) (entries j ne)
+    other_entries : (j : ℕ) → (j == k) ≡ false → IsEntryOf new.prepared hub who (entry_at new.live (suc j)) (past j after)
+    other_entries j ne = entry_of new.prepared hub who (entry_at old.live (suc j)) (entry_at new.live (suc j)) (past j h) (past j after) (others (suc j) (suc_apart j k ne)) (t.elsewhere j ne) (entries j ne)
 
     first_none : entry_at new.live 0 ≡ None
     first_none = others 0 (ne_eqb (suc k) 0 (λ z. omega (arith, z))) ∙ s.none
@@ -127,7 +127,7 @@ module _ {H Job : Type 0} (hub : Hub Job) (who : List ℕ) (old : Jobs H Job) (h
     other_lives j ne = ap (λ (p : Past). p.live) (t.elsewhere j ne)
 
     -- the job has changed and is live
-    pub stands_changed : (f : Entry Job) → entry_at new.live (suc k) ≡ Some f → live_count new.live ≡ live_count old.live → Remembers new.halfway hub who f (past k after)
+    pub stands_changed : (f : Entry Job) → entry_at new.live (suc k) ≡ Some f → live_count new.live ≡ live_count old.live → Remembers new.prepared hub who f (past k after)
         → DueIs old.due new.due (suc k) (is_due_entry f) → IdsAgree new.names after → StreamsAgree new.names after → Stands {H = H} hub new who after
     stands_changed f here count keeps due ids streams =
         let lives : live_jobs_in after ≡ live_jobs_in h =
@@ -138,14 +138,14 @@ module _ {H Job : Type 0} (hub : Hub Job) (who : List ℕ) (old : Jobs H Job) (h
         record {
           accepted = accepted ∙ (s.accepted ∙ ap length (sym t.begun));
           moments = ap length t.moments ∙ (s.moments ∙ ap length (sym t.begun));
-          entries = place_cases (λ j. IsEntryOf new.halfway hub who (entry_at new.live (suc j)) (past j after)) k
-              (entry_of new.halfway hub who (Some f) (entry_at new.live (suc k)) (past k after) (past k after) here refl keeps) other_entries;
+          entries = place_cases (λ j. IsEntryOf new.prepared hub who (entry_at new.live (suc j)) (past j after)) k
+              (entry_of new.prepared hub who (Some f) (entry_at new.live (suc k)) (past k after) (past k after) here refl keeps) other_entries;
           none = first_none;
           count = count ∙ (s.count ∙ sym lives);
           few_live = omega (arith, few, lives);
           ids = ids;
           streams = streams;
-          due = due_changed h after k t old.due new.due (is_due_entry f) due (λ d. has_place k kept.live) (due_is k after ∙ sym (due_entry new.halfway hub who f (past k after) keeps)) s.due;
+          due = due_changed h after k t old.due new.due (is_due_entry f) due (λ d. has_place k kept.live) (due_is k after ∙ sym (due_entry new.prepared hub who f (past k after) keeps)) s.due;
           room = omega (arith, count, room, capacity);
           passed = passed;
           unborn = unborn_after;
@@ -164,8 +164,8 @@ module _ {H Job : Type 0} (hub : Hub Job) (who : List ℕ) (old : Jobs H Job) (h
         record {
           accepted = accepted ∙ (s.accepted ∙ ap length (sym t.begun));
           moments = ap length t.moments ∙ (s.moments ∙ ap length (sym t.begun));
-          entries = place_cases (λ j. IsEntryOf new.halfway hub who (entry_at new.live (suc j)) (past j after)) k
-              (entry_of new.halfway hub who None (entry_at new.live (suc k)) (past k after) (past k after) here refl dead) other_entries;
+          entries = place_cases (λ j. IsEntryOf new.prepared hub who (entry_at new.live (suc j)) (past j after)) k
+              (entry_of new.prepared hub who None (entry_at new.live (suc k)) (past k after) (past k after) here refl dead) other_entries;
           none = first_none;
           count = omega (arith, count, counted, lives);
           few_live = omega (arith, few, lives);
@@ -178,8 +178,8 @@ module _ {H Job : Type 0} (hub : Hub Job) (who : List ℕ) (old : Jobs H Job) (h
         }
 
   -- the same is kept, in other room
-  pub stands_kept : (new : Jobs H Job) → ((j : ℕ) → IsEntryOf new.halfway hub who (entry_at new.live (suc j)) (past j h)) → entry_at new.live 0 ≡ None → live_count new.live ≡ live_count old.live
-      → AreSame old.names new.names → DueAgree new.due h → vec_capacity old.due.jobs ≤ vec_capacity new.due.jobs
+  pub stands_kept : (new : Jobs H Job) → ((j : ℕ) → IsEntryOf new.prepared hub who (entry_at new.live (suc j)) (past j h)) → entry_at new.live 0 ≡ None → live_count new.live ≡ live_count old.live
+      → AreSame old.names new.names → DueAgree new.due h → vec_capacity old.due.numbers ≤ vec_capacity new.due.numbers
       → new.accepted ≡ old.accepted → new.passed ≡ old.passed → Stands {H = H} hub new who h
   stands_kept new entries none count names due capacity accepted passed =
       let room = s.room in
@@ -199,7 +199,7 @@ module _ {H Job : Type 0} (hub : Hub Job) (who : List ℕ) (old : Jobs H Job) (h
       }
 
   -- what is kept of each job, where no turn was halfway before nor is after, or one was and is
-  pub entries_same : (new : Jobs H Job) → new.halfway ≡ old.halfway → (j : ℕ) → IsEntryOf new.halfway hub who (entry_at old.live (suc j)) (past j h)
+  pub entries_same : (new : Jobs H Job) → new.prepared ≡ old.prepared → (j : ℕ) → IsEntryOf new.prepared hub who (entry_at old.live (suc j)) (past j h)
   entries_same new half j = subst (λ b. IsEntryOf b hub who (entry_at old.live (suc j)) (past j h)) (sym half) (s.entries j)
 
 -- ---- nothing was fed
@@ -233,12 +233,12 @@ module _ {Job : Type 0} (half : Bool) (hub : Hub Job) (who : List ℕ) where
 -- ---- no jobs
 
 pub stands_start : {H Job : Type 0} (hub : Hub Job) (who : List ℕ) (jobs : Jobs H Job) → ((n : ℕ) → entry_at jobs.live n ≡ None) → live_count jobs.live ≡ 0
-    → ((i : List ℕ) → job_at jobs.names i ≡ None) → ((i : List ℕ) → stream_at jobs.names i ≡ None) → jobs.due.jobs.items ≡ []
+    → ((i : List ℕ) → job_at jobs.names i ≡ None) → ((i : List ℕ) → stream_at jobs.names i ≡ None) → jobs.due.numbers.items ≡ []
     → jobs.accepted ≡ 0 → jobs.passed ≡ 0 → Stands {H = H} hub jobs who []
 stands_start hub who jobs entries count ids streams items accepted passed = record {
   accepted = accepted;
   moments = refl;
-  entries = λ j. entry_of jobs.halfway hub who None (entry_at jobs.live (suc j)) (past j []) (past j []) (entries (suc j)) refl (dead_past j [] (omega arith));
+  entries = λ j. entry_of jobs.prepared hub who None (entry_at jobs.live (suc j)) (past j []) (past j []) (entries (suc j)) refl (dead_past j [] (omega arith));
   none = entries 0;
   count = count;
   few_live = omega arith;
@@ -257,5 +257,5 @@ stands_start hub who jobs entries count ids streams items accepted passed = reco
   };
   room = omega (arith, count);
   passed = passed;
-  unborn = λ j l. record { over = refl; turns = refl; acts = refl; inputs = refl; marked = refl; reply = refl };
+  unborn = λ j l. record { over = refl; turns = refl; acts = refl; inputs = refl; is_cancelled = refl; reply = refl };
 }

@@ -16,7 +16,7 @@ use Rattle.hd_calls.specs.Hubs.{Answer, call_for, Cancelled, End, error_in, Give
 use Rattle.hd_calls.specs.Peers.{has_end, last_of, of_stream}
 use Rattle.hd_calls.specs.Rules.{act_at, job_after, used}
 use Rattle.hd_calls.specs.Tables.{acts_in, Came, Ended, finishes, inputs_left_in, is_due_in, JobHappening, live_job_in, Marked, marked_in, next_input_in, next_job_in, passed_in, Replied, reply_in, Round, Turned, turns_in}
-use Rattle.hj_jobs.specs.declared.due.Due.{Due}
+use Rattle.hv_value.specs.declared.sorted_set.SortedSet.{SortedSet}
 use Rattle.hj_jobs.specs.declared.entry.Awaits.{Awaits}
 use Rattle.hj_jobs.specs.declared.entry.Awaits.TheVariants as awaits
 use Rattle.hj_jobs.specs.declared.entry.Entry.{Entry}
@@ -25,13 +25,13 @@ use Rattle.hj_jobs.specs.declared.errors.InputError.TheVariants as errors
 use Rattle.hj_jobs.specs.declared.jobs.Jobs.{Jobs}
 use Rattle.hj_jobs.specs.declared.live.Live.{Live}
 use Rattle.hj_jobs.specs.declared.live.Stepped.{Stepped}
-use Rattle.hj_jobs.specs.declared.names.Names.{Names}
-use Rattle.hj_jobs.specs.declared.names.Stream.{Stream}
+use Rattle.hj_jobs.specs.declared.ids.Ids.{Ids}
+use Rattle.hj_jobs.specs.declared.ids.Stream.{Stream}
 use Rattle.hj_jobs.specs.Calls.{Answers, AwaitsAnswer, Feeds, Floods, is_answer, IsDead, IsTurnIn, IsUnfed, Marks, Steps}
-use Rattle.hj_jobs.specs.Due.{is_in, IsFirstPast}
+use Rattle.hv_value.specs.SortedSet.{is_in, IsFirstPast}
 use Rattle.hj_jobs.specs.Entries.{awaited, given_next, is_answer_to, is_due_entry, is_open_for}
 use Rattle.hj_jobs.specs.Live.{Alters, AltersEntry, awaits_at, entry_at, is_due_at, is_unmarked_at, IsAnswered, IsFed, IsMarked, live_count, Loses, Retains, waits_at}
-use Rattle.hj_jobs.specs.Names.{AreSame, Closes, job_at, Releases, stream_at}
+use Rattle.hj_jobs.specs.Ids.{AreSame, Closes, job_at, Releases, stream_at}
 use Rattle.hj_jobs.specs.Parts.{Agrees, Changes, Drops, DueIs, FeedsNothing, IsFloodOr, KeepsFed}
 use Rattle.hj_jobs.specs.Stands.{DueAgree, HasId, IdsAgree, IsEntryOf, Past, past, Remembers, Stands, StreamIn, StreamsAgree}
 use Rattle.hj_jobs.proofs.Agree.{ids_kept, item_unended, place_cases, SameNames, streams_ended, streams_kept, suc_apart, suc_apart2, suc_injective}
@@ -49,14 +49,14 @@ altered_some (Some d) None e C is a = absurd a
 altered_some (Some d) (Some f) e C is a = (f, refl, subst (λ z. C z f) (some_injective d e is) a)
 
 pub agreed : {H J : Type 0} (old new : Jobs H J) (live : Live J) (n : ℕ) (C : Entry J → Entry J → Type 0) → Alters old.live live n C
-    → Agrees {H = H} (record { live = live; names = old.names; due = old.due; accepted = old.accepted; passed = old.passed; halfway = old.halfway }) new n → Changes {H = H} old new n C
+    → Agrees {H = H} (record { live = live; names = old.names; due = old.due; accepted = old.accepted; passed = old.passed; prepared = old.prepared }) new n → Changes {H = H} old new n C
 agreed old new live n C alters a = record {
   live = subst (λ l. Alters old.live l n C) (sym a.live) alters;
   due = subst (λ l. DueIs old.due new.due n (is_due_at (entry_at l n))) (sym a.live) a.due;
   names = a.names;
   accepted = a.accepted;
   passed = a.passed;
-  halfway = a.halfway;
+  prepared = a.prepared;
 }
 
 -- the names of a job are those that it had, if its call, its life and its inputs are
@@ -65,27 +65,27 @@ same_names p q call live inputs = record { call = call; live = live; ended = λ 
 
 module _ {H Job : Type 0} (hub : Hub Job) (who : List ℕ) (old : Jobs H Job) (h : List JobHappening) (s : Stands {H = H} hub old who h) where
   -- what is kept of a live job
-  pub its_entry : (k : ℕ) → live_job_in k h ≡ true → (e : Entry Job) × (entry_at old.live (suc k) ≡ Some e) × Remembers old.halfway hub who e (past k h)
+  pub its_entry : (k : ℕ) → live_job_in k h ≡ true → (e : Entry Job) × (entry_at old.live (suc k) ≡ Some e) × Remembers old.prepared hub who e (past k h)
   its_entry k live =
-      let x = live_entry old.halfway hub who (entry_at old.live (suc k)) (past k h) (s.entries k) live in
-      (x.0, x.1, remembered old.halfway hub who (entry_at old.live (suc k)) (past k h) x.0 x.1 (s.entries k))
+      let x = live_entry old.prepared hub who (entry_at old.live (suc k)) (past k h) (s.entries k) live in
+      (x.0, x.1, remembered old.prepared hub who (entry_at old.live (suc k)) (past k h) x.0 x.1 (s.entries k))
 
   waits_is : (k : ℕ) → live_job_in k h ≡ true → waits_at (entry_at old.live (suc k)) ≡ inputs_left_in k h
   waits_is k live =
       let x = its_entry k live in
-      let r : Remembers old.halfway hub who x.0 (past k h) = x.2 in
+      let r : Remembers old.prepared hub who x.0 (past k h) = x.2 in
       ap waits_at x.1 ∙ (ap length r.inputs ∙ (length-drop (used (past k h).turns) (map upload_input (past k h).inputs) ∙ ap (λ n. n - used (past k h).turns) (length-map (past k h).inputs upload_input)))
 
   -- a job changed, and neither its life nor the turn of the round
   module _ (new : Jobs H Job) (k : ℕ) (C : Entry Job → Entry Job → Type 0) (c : Changes {H = H} old new (suc k) C) (after : List JobHappening) (t : Touches h after k)
-      (e : Entry Job) (was : entry_at old.live (suc k) ≡ Some e) (passed : passed_in after ≡ passed_in h) (keeps : (f : Entry Job) → C e f → Remembers old.halfway hub who f (past k after)) where
-    changed_to : (names : Names) → IdsAgree names after → StreamsAgree names after → (jobs : Jobs H Job) → jobs.live ≡ new.live → jobs.due ≡ new.due → jobs.names ≡ names
-        → jobs.accepted ≡ new.accepted → jobs.passed ≡ new.passed → jobs.halfway ≡ new.halfway → Stands {H = H} hub jobs who after
+      (e : Entry Job) (was : entry_at old.live (suc k) ≡ Some e) (passed : passed_in after ≡ passed_in h) (keeps : (f : Entry Job) → C e f → Remembers old.prepared hub who f (past k after)) where
+    changed_to : (names : Ids) → IdsAgree names after → StreamsAgree names after → (jobs : Jobs H Job) → jobs.live ≡ new.live → jobs.due ≡ new.due → jobs.names ≡ names
+        → jobs.accepted ≡ new.accepted → jobs.passed ≡ new.passed → jobs.prepared ≡ new.prepared → Stands {H = H} hub jobs who after
     changed_to names ids streams jobs live due named accepted turn half =
         let x = altered_some (entry_at old.live (suc k)) (entry_at new.live (suc k)) e C was c.live.here in
         stands_changed {H = H} hub who old h s jobs after k e t was
-        (λ n ne. ap (λ l. entry_at l n) live ∙ c.live.others n ne) (accepted ∙ c.accepted) (turn ∙ (c.passed ∙ (s.passed ∙ sym passed))) (λ j ne. entries_same {H = H} hub who old h s jobs (half ∙ c.halfway) j)
-        x.0 (ap (λ l. entry_at l (suc k)) live ∙ x.1) (ap live_count live ∙ c.live.count) (subst (λ b. Remembers b hub who x.0 (past k after)) (sym (half ∙ c.halfway)) (keeps x.0 x.2))
+        (λ n ne. ap (λ l. entry_at l n) live ∙ c.live.others n ne) (accepted ∙ c.accepted) (turn ∙ (c.passed ∙ (s.passed ∙ sym passed))) (λ j ne. entries_same {H = H} hub who old h s jobs (half ∙ c.prepared) j)
+        x.0 (ap (λ l. entry_at l (suc k)) live ∙ x.1) (ap live_count live ∙ c.live.count) (subst (λ b. Remembers b hub who x.0 (past k after)) (sym (half ∙ c.prepared)) (keeps x.0 x.2))
         (subst (λ d. DueIs old.due d (suc k) (is_due_entry x.0)) (sym due) (subst (λ b. DueIs old.due new.due (suc k) b) (ap is_due_at x.1) c.due))
         (subst (λ ns. IdsAgree ns after) (sym named) ids) (subst (λ ns. StreamsAgree ns after) (sym named) streams)
 
@@ -98,7 +98,7 @@ module _ {H Job : Type 0} (hub : Hub Job) (who : List ℕ) (old : Jobs H Job) (h
 
   -- ---- an answer
 
-  answer_fits : (k : ℕ) (e : Entry Job) (i : Input) → Remembers old.halfway hub who e (past k h) → is_answer_to e.awaits i ≡ is_answer (last_of (acts_in k h)) i
+  answer_fits : (k : ℕ) (e : Entry Job) (i : Input) → Remembers old.prepared hub who e (past k h) → is_answer_to e.awaits i ≡ is_answer (last_of (acts_in k h)) i
   answer_fits k e i r = ap (λ a. is_answer_to a i) r.awaits ∙ by_act (last_of (acts_in k h)) i
     where
       by_act : (a : Option Act) (i : Input) → is_answer_to (awaited a) i ≡ is_answer a i
@@ -126,7 +126,7 @@ module _ {H Job : Type 0} (hub : Hub Job) (who : List ℕ) (old : Jobs H Job) (h
       go : (o : Option (Entry Job)) → entry_at old.live (suc k) ≡ o → Answers {H = H} hub new who h (suc k) i
       go None e = true_false (sym (sym (ap (λ o. awaits_at o i) e) ∙ fits))
       go (Some e) is =
-          let r : Remembers old.halfway hub who e (past k h) = remembered old.halfway hub who (entry_at old.live (suc k)) (past k h) e is (s.entries k) in
+          let r : Remembers old.prepared hub who e (past k h) = remembered old.prepared hub who (entry_at old.live (suc k)) (past k h) e is (s.entries k) in
           let parts = and_parts (not (is_some e.reply)) (is_answer_to e.awaits i) (sym (ap (λ o. awaits_at o i) is) ∙ fits) in
           let there = replied_here h k i in
           record {
@@ -134,14 +134,14 @@ module _ {H Job : Type 0} (hub : Hub Job) (who : List ℕ) (old : Jobs H Job) (h
             is = refl;
             awaits = record { live = r.live; asked = sym (answer_fits k e i r) ∙ parts.1; unanswered = sym r.reply ∙ unanswered e.reply parts.0 };
             stands = changed_plainly new k (IsAnswered i) c (Replied k i ∷ h) (replied_touches h k i) e is refl
-                (λ f x. subst (λ p. Remembers old.halfway hub who f p) (sym there) (answering old.halfway hub who e f (past k h) r i parts.1 x))
+                (λ f x. subst (λ p. Remembers old.prepared hub who f p) (sym there) (answering old.prepared hub who e f (past k h) r i parts.1 x))
                 (same_names (past k h) (past k (Replied k i ∷ h)) refl refl refl);
           }
 
   pub answer_unknown : (k : ℕ) (i : Input) → awaits_at (entry_at old.live (suc k)) i ≡ false → AwaitsAnswer h k i → ⊥
   answer_unknown k i fits a =
       let x = its_entry k a.live in
-      let r : Remembers old.halfway hub who x.0 (past k h) = x.2 in
+      let r : Remembers old.prepared hub who x.0 (past k h) = x.2 in
       let none : not (is_some x.0.reply) ≡ true = ap (λ o. not (is_some o)) (r.reply ∙ a.unanswered) in
       let fit : is_answer_to x.0.awaits i ≡ true = answer_fits k x.0 i r ∙ a.asked in
       true_false (sym (ap (λ b. b && is_answer_to x.0.awaits i) none ∙ fit) ∙ (sym (ap (λ o. awaits_at o i) x.1) ∙ fits))
@@ -157,15 +157,15 @@ module _ {H Job : Type 0} (hub : Hub Job) (who : List ℕ) (old : Jobs H Job) (h
       at : (k : ℕ) → n ≡ suc k → HasId h i k → is_unmarked_at (entry_at old.live (suc k)) ≡ true → Changes {H = H} old new (suc k) IsMarked → Marks {H = H} hub new who h i n
       at k is had unmarked c =
           let x = its_entry k had.live in
-          let r : Remembers old.halfway hub who x.0 (past k h) = x.2 in
+          let r : Remembers old.prepared hub who x.0 (past k h) = x.2 in
           let there = marked_here h k in
           record {
             job = k;
             is = is;
             has_id = had;
-            unmarked = sym r.marked ∙ not-true x.0.marked (sym (ap is_unmarked_at x.1) ∙ unmarked);
+            unmarked = sym r.is_cancelled ∙ not-true x.0.is_cancelled (sym (ap is_unmarked_at x.1) ∙ unmarked);
             stands = changed_plainly new k IsMarked c (Marked k ∷ h) (marked_touches h k) x.0 x.1 refl
-                (λ f z. subst (λ p. Remembers old.halfway hub who f p) (sym there) (marking old.halfway hub who x.0 f (past k h) r z))
+                (λ f z. subst (λ p. Remembers old.prepared hub who f p) (sym there) (marking old.prepared hub who x.0 f (past k h) r z))
                 (same_names (past k h) (past k (Marked k ∷ h)) refl refl refl);
           }
 
@@ -173,12 +173,12 @@ module _ {H Job : Type 0} (hub : Hub Job) (who : List ℕ) (old : Jobs H Job) (h
   cancel_nobody i none k had unmarked = none_some (suc k) (sym none ∙ s.ids.every i k had)
 
   pub cancel_again : (i : List ℕ) (n : ℕ) → job_at old.names i ≡ Some n → is_unmarked_at (entry_at old.live n) ≡ false → (k : ℕ) → HasId h i k → marked_in k h ≡ false → ⊥
-  cancel_again i n named marked k had unmarked =
+  cancel_again i n named is_cancelled k had unmarked =
       let is : n ≡ suc k = some_injective n (suc k) (sym named ∙ s.ids.every i k had) in
       let x = its_entry k had.live in
-      let r : Remembers old.halfway hub who x.0 (past k h) = x.2 in
-      let is_marked : x.0.marked ≡ true = not-false x.0.marked (sym (ap is_unmarked_at x.1) ∙ (ap (λ m. is_unmarked_at (entry_at old.live m)) (sym is) ∙ marked)) in
-      true_false (sym is_marked ∙ (r.marked ∙ unmarked))
+      let r : Remembers old.prepared hub who x.0 (past k h) = x.2 in
+      let is_marked : x.0.is_cancelled ≡ true = not-false x.0.is_cancelled (sym (ap is_unmarked_at x.1) ∙ (ap (λ m. is_unmarked_at (entry_at old.live m)) (sym is) ∙ is_cancelled)) in
+      true_false (sym is_marked ∙ (r.is_cancelled ∙ unmarked))
 
   -- ---- what comes on a stream
 
@@ -192,7 +192,7 @@ module _ {H Job : Type 0} (hub : Hub Job) (who : List ℕ) (old : Jobs H Job) (h
           → Feeds {H = H} hub new who h i (Item v) f.job
       at k is open_there c few =
           let x = its_entry k open_there.live in
-          let r : Remembers old.halfway hub who x.0 (past k h) = x.2 in
+          let r : Remembers old.prepared hub who x.0 (past k h) = x.2 in
           let there = came_here h k f.which (Item v) in
           let left : inputs_left_in k h < most_inputs = subst (λ m. m < most_inputs) (waits_is k open_there.live) few in
           record {
@@ -202,12 +202,12 @@ module _ {H Job : Type 0} (hub : Hub Job) (who : List ℕ) (old : Jobs H Job) (h
             at = open_there;
             few = left;
             stands = changed_plainly new k (IsFed (input.Item f.which v ∷ [])) c (Came k f.which (Item v) ∷ h) (came_touches h k f.which (Item v)) x.0 x.1 refl
-                (λ z y. subst (λ p. Remembers old.halfway hub who z p) (sym there) (feeding old.halfway hub who x.0 z (past k h) r f.which (Item v) y left))
+                (λ z y. subst (λ p. Remembers old.prepared hub who z p) (sym there) (feeding old.prepared hub who x.0 z (past k h) r f.which (Item v) y left))
                 (subst (SameNames (past k h)) (sym there) (item_unended (past k h) f.which v));
           }
 
   pub end_fed : (mid new : Jobs H Job) (i : List ℕ) (error : Option (List ℕ)) (f : Stream) → stream_at old.names i ≡ Some f → Changes {H = H} old mid f.job (IsFed (input.StreamEnd f.which error ∷ []))
-      → waits_at (entry_at old.live f.job) < most_inputs → Closes mid.names new.names i → new.live ≡ mid.live → new.due ≡ mid.due → new.accepted ≡ mid.accepted → new.passed ≡ mid.passed → new.halfway ≡ mid.halfway
+      → waits_at (entry_at old.live f.job) < most_inputs → Closes mid.names new.names i → new.live ≡ mid.live → new.due ≡ mid.due → new.accepted ≡ mid.accepted → new.passed ≡ mid.passed → new.prepared ≡ mid.prepared
       → (e : Ending) → error_in e ≡ error → Feeds {H = H} hub new who h i (End e) f.job
   end_fed mid new i error f found c few closes live due accepted turn half e is_error =
       let x = s.streams.had i f found in
@@ -218,7 +218,7 @@ module _ {H Job : Type 0} (hub : Hub Job) (who : List ℕ) (old : Jobs H Job) (h
           → Feeds {H = H} hub new who h i (End e) f.job
       at k is open_there c few =
           let x = its_entry k open_there.live in
-          let r : Remembers old.halfway hub who x.0 (past k h) = x.2 in
+          let r : Remembers old.prepared hub who x.0 (past k h) = x.2 in
           let there = came_here h k f.which (End e) in
           let left : inputs_left_in k h < most_inputs = subst (λ m. m < most_inputs) (waits_is k open_there.live) few in
           let after = Came k f.which (End e) ∷ h in
@@ -231,7 +231,7 @@ module _ {H Job : Type 0} (hub : Hub Job) (who : List ℕ) (old : Jobs H Job) (h
             at = open_there;
             few = left;
             stands = changed_to mid k (IsFed (input.StreamEnd f.which (error_in e) ∷ [])) c after t x.0 x.1 refl
-                (λ z y. subst (λ p. Remembers old.halfway hub who z p) (sym there) (feeding old.halfway hub who x.0 z (past k h) r f.which (End e) y left))
+                (λ z y. subst (λ p. Remembers old.prepared hub who z p) (sym there) (feeding old.prepared hub who x.0 z (past k h) r f.which (End e) y left))
                 new.names (ids_kept h after k t (record { call = ap (λ (p : Past). p.call) there; live = ap (λ (p : Past). p.live) there }) old.names new.names shut.ids s.ids) (streams_ended h after k f.which e t there old.names new.names i shut open_there s.streams)
                 new live due refl accepted turn half;
           }
@@ -253,8 +253,8 @@ module _ {H Job : Type 0} (hub : Hub Job) (who : List ℕ) (old : Jobs H Job) (h
   pub unfed_stands : (new : Jobs H Job) (n : ℕ) → KeepsFed {H = H} old new n → Stands {H = H} hub new who h
   unfed_stands new n (inl same) = subst (λ j. Stands {H = H} hub j who h) (sym same) s
   unfed_stands new n (inr f) =
-      let capacity : vec_capacity old.due.jobs ≡ vec_capacity new.due.jobs = ap (λ (d : Due). vec_capacity d.jobs) (sym f.due) in
-      stands_kept {H = H} hub who old h s new (altered_entries new.halfway hub who old.live new.live n h f.live (entries_same {H = H} hub who old h s new f.halfway)) (altered_first new.halfway hub who old.live new.live n f.live s.none)
+      let capacity : vec_capacity old.due.numbers ≡ vec_capacity new.due.numbers = ap (λ (d : SortedSet). vec_capacity d.numbers) (sym f.due) in
+      stands_kept {H = H} hub who old h s new (altered_entries new.prepared hub who old.live new.live n h f.live (entries_same {H = H} hub who old h s new f.prepared)) (altered_first new.prepared hub who old.live new.live n f.live s.none)
       f.live.count (record { ids = λ i. ap (λ ns. job_at ns i) f.names; streams = λ i. ap (λ ns. stream_at ns i) f.names })
       (subst (λ d. DueAgree d h) (sym f.due) s.due) (omega (arith, capacity)) f.accepted f.passed
 
@@ -263,7 +263,7 @@ module _ {H Job : Type 0} (hub : Hub Job) (who : List ℕ) (old : Jobs H Job) (h
   pub end_live : (new : Jobs H Job) (k : ℕ) → Drops {H = H} old new (suc k) → live_job_in k h ≡ true → Stands {H = H} hub new who (Ended k ∷ h)
   end_live new k d live =
       let x = its_entry k live in
-      stands_dropped {H = H} hub who old h s new (Ended k ∷ h) k x.0 (ended_touches h k) x.1 d.live.others d.accepted (d.passed ∙ s.passed) (λ j ne. entries_same {H = H} hub who old h s new d.halfway j)
+      stands_dropped {H = H} hub who old h s new (Ended k ∷ h) k x.0 (ended_touches h k) x.1 d.live.others d.accepted (d.passed ∙ s.passed) (λ j ne. entries_same {H = H} hub who old h s new d.prepared j)
       d.live.here (d.live.count x.0 x.1) (ended_ends h k) d.due x.0.id x.0.streams refl refl (d.names x.0 x.1)
 
   -- nothing changes at a number that no live job has
@@ -272,7 +272,7 @@ module _ {H Job : Type 0} (hub : Hub Job) (who : List ℕ) (old : Jobs H Job) (h
       let absent = absent_at n dead in
       let same = d.same_names absent in
       stands_kept {H = H} hub who old h s new
-      (λ j. entry_of new.halfway hub who (entry_at old.live (suc j)) (entry_at new.live (suc j)) (past j h) (past j h) (same_at (suc j) absent) refl (entries_same {H = H} hub who old h s new d.halfway j))
+      (λ j. entry_of new.prepared hub who (entry_at old.live (suc j)) (entry_at new.live (suc j)) (past j h) (past j h) (same_at (suc j) absent) refl (entries_same {H = H} hub who old h s new d.prepared j))
       (same_at 0 absent ∙ s.none) (d.live.none absent)
       (record { ids = λ i. ap (λ ns. job_at ns i) same; streams = λ i. ap (λ ns. stream_at ns i) same })
       (record {
@@ -284,7 +284,7 @@ module _ {H Job : Type 0} (hub : Hub Job) (who : List ℕ) (old : Jobs H Job) (h
     where
       absent_at : (m : ℕ) → IsDead h m → entry_at old.live m ≡ None
       absent_at zero f = s.none
-      absent_at (suc k) f = no_entry old.halfway hub who (entry_at old.live (suc k)) (past k h) (s.entries k) (f k refl)
+      absent_at (suc k) f = no_entry old.prepared hub who (entry_at old.live (suc k)) (past k h) (s.entries k) (f k refl)
 
       same_at : (m : ℕ) → entry_at old.live n ≡ None → entry_at new.live m ≡ entry_at old.live m
       same_at m absent = go (n == m) refl
@@ -293,12 +293,12 @@ module _ {H Job : Type 0} (hub : Hub Job) (who : List ℕ) (old : Jobs H Job) (h
           go true e = let is = eqb-true n m e in ap (λ k. entry_at new.live k) (sym is) ∙ (d.live.here ∙ (sym absent ∙ ap (λ k. entry_at old.live k) is))
           go false e = d.live.others m e
 
-      undue_at : {b : Bool} (m : ℕ) → (n ≡ m → b ≡ false) → is_in m old.due.jobs.items ≡ b → is_in m new.due.jobs.items ≡ b
+      undue_at : {b : Bool} (m : ℕ) → (n ≡ m → b ≡ false) → is_in m old.due.numbers.items ≡ b → is_in m new.due.numbers.items ≡ b
       undue_at {b} m none was = go (m == n) refl
         where
-          go : (x : Bool) → (m == n) ≡ x → is_in m new.due.jobs.items ≡ b
-          go true e = d.due.at s.due.rising (λ z. true_false (sym z)) m ∙ (cond-true (m == n) false (is_in m old.due.jobs.items) e ∙ sym (none (sym (eqb-true m n e))))
-          go false e = d.due.at s.due.rising (λ z. true_false (sym z)) m ∙ (cond-false (m == n) false (is_in m old.due.jobs.items) e ∙ was)
+          go : (x : Bool) → (m == n) ≡ x → is_in m new.due.numbers.items ≡ b
+          go true e = d.due.at s.due.rising (λ z. true_false (sym z)) m ∙ (cond-true (m == n) false (is_in m old.due.numbers.items) e ∙ sym (none (sym (eqb-true m n e))))
+          go false e = d.due.at s.due.rising (λ z. true_false (sym z)) m ∙ (cond-false (m == n) false (is_in m old.due.numbers.items) e ∙ was)
 
   -- ---- a turn
 
@@ -306,14 +306,14 @@ module _ {H Job : Type 0} (hub : Hub Job) (who : List ℕ) (old : Jobs H Job) (h
   pub next_turns : (n : ℕ) → IsNext h n → is_due_at (entry_at old.live n) ≡ false → ⊥
   next_turns n next idle =
       let x = its_entry next.job (due_live next.job h next.due) in
-      let r : Remembers old.halfway hub who x.0 (past next.job h) = x.2 in
-      true_false (sym next.due ∙ (due_is next.job h ∙ (sym (due_entry old.halfway hub who x.0 (past next.job h) r) ∙ (sym (ap is_due_at x.1) ∙ (ap (λ m. is_due_at (entry_at old.live m)) (sym next.is) ∙ idle)))))
+      let r : Remembers old.prepared hub who x.0 (past next.job h) = x.2 in
+      true_false (sym next.due ∙ (due_is next.job h ∙ (sym (due_entry old.prepared hub who x.0 (past next.job h) r) ∙ (sym (ap is_due_at x.1) ∙ (ap (λ m. is_due_at (entry_at old.live m)) (sym next.is) ∙ idle)))))
 
   -- the same is kept of each
-  pub retained_stands : (new : Jobs H Job) → Retains old.live new.live → AreSame old.names new.names → new.due.jobs.items ≡ old.due.jobs.items → vec_capacity old.due.jobs ≤ vec_capacity new.due.jobs
-      → new.accepted ≡ old.accepted → new.passed ≡ old.passed → new.halfway ≡ old.halfway → Stands {H = H} hub new who h
+  pub retained_stands : (new : Jobs H Job) → Retains old.live new.live → AreSame old.names new.names → new.due.numbers.items ≡ old.due.numbers.items → vec_capacity old.due.numbers ≤ vec_capacity new.due.numbers
+      → new.accepted ≡ old.accepted → new.passed ≡ old.passed → new.prepared ≡ old.prepared → Stands {H = H} hub new who h
   retained_stands new live names items capacity accepted passed half =
-      stands_kept {H = H} hub who old h s new (λ j. entry_of new.halfway hub who (entry_at old.live (suc j)) (entry_at new.live (suc j)) (past j h) (past j h) (live.at (suc j)) refl (entries_same {H = H} hub who old h s new half j))
+      stands_kept {H = H} hub who old h s new (λ j. entry_of new.prepared hub who (entry_at old.live (suc j)) (entry_at new.live (suc j)) (past j h) (past j h) (live.at (suc j)) refl (entries_same {H = H} hub who old h s new half j))
       (live.at 0 ∙ s.none) live.count names (due_moved h old.due new.due items s.due) capacity accepted passed
 
   -- nothing is fed for the reason that the table told

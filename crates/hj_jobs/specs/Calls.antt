@@ -19,7 +19,7 @@ use Rattle.hj_jobs.specs.declared.errors.InputError.{InputError}
 use Rattle.hj_jobs.specs.declared.errors.InputError.TheVariants as fed
 use Rattle.hj_jobs.specs.declared.jobs.Jobs.{Jobs}
 use Rattle.hj_jobs.specs.declared.live.Stepped.{Stepped}
-use Rattle.hj_jobs.specs.Names.{is_twice}
+use Rattle.hj_jobs.specs.Ids.{is_twice}
 use Rattle.hj_jobs.specs.Stands.{HaveRun, Stands, HasId, StreamIn}
 
 abbrev pub OfEach : {H Job : Type 0} → Hub Job → Jobs H Job → (List ℕ → List JobHappening → Type 0) → Type 0
@@ -147,18 +147,18 @@ pub record Steps {H Job : Type 0} (hub : Hub Job) (new : Jobs H Job) (who : List
   pub stands : Stands hub new who (Turned job turn s.act ∷ h)
 
 -- it had the first half of it: the table stands for what it stood for, but the jobs' states are those after the turn
-pub record HasAttempted {H Job : Type 0} (hub : Hub Job) (new : Jobs H Job) (who : List ℕ) (h : List JobHappening) (now : ℕ) (s : Stepped) : Type 0 where
+pub record HasPrepared {H Job : Type 0} (hub : Hub Job) (new : Jobs H Job) (who : List ℕ) (h : List JobHappening) (now : ℕ) (s : Stepped) : Type 0 where
   pub job : ℕ
   pub turn : Turn
   pub step : IsStepOf hub who h now s job turn
   pub stands : Stands hub new who h
-  pub halfway : new.halfway ≡ true
+  pub prepared : new.prepared ≡ true
   pub ahead : HaveRun hub who new.live (Turned job turn s.act ∷ h)
 
 -- what an attempt gave: the first half of a turn, where there is room, or none, where there is no room or no job is left in the round
-abbrev pub AttemptsOrNot : {H Job : Type 0} → Hub Job → Jobs H Job → List ℕ → List JobHappening → ℕ → Bool → Option Stepped → Type 0
-AttemptsOrNot hub new who h now room None = ((room ≡ false) ⊎ (next_job_in h ≡ None)) × Stands hub new who h
-AttemptsOrNot hub new who h now room (Some s) = (room ≡ true) × HasAttempted hub new who h now s
+abbrev pub PreparesOrNot : {H Job : Type 0} → Hub Job → Jobs H Job → List ℕ → List JobHappening → ℕ → Bool → Option Stepped → Type 0
+PreparesOrNot hub new who h now room None = ((room ≡ false) ⊎ (next_job_in h ≡ None)) × Stands hub new who h
+PreparesOrNot hub new who h now room (Some s) = (room ≡ true) × HasPrepared hub new who h now s
 
 -- what a step gave: a turn, where there is room, or none, where there is no room or no job is left in the round
 abbrev pub StepsOrNot : {H Job : Type 0} → Hub Job → Jobs H Job → List ℕ → List JobHappening → ℕ → Bool → Option Stepped → Type 0

@@ -35,7 +35,7 @@ given_next e = given_at e.awaits e.inputs.items e.reply
 
 -- whether it has a turn to come
 abbrev pub is_due_entry : {J : Type 0} → Entry J → Bool
-is_due_entry e = e.marked || is_some (given_next e)
+is_due_entry e = e.is_cancelled || is_some (given_next e)
 
 -- the inputs that are left once what was awaited is given
 abbrev pub inputs_after : Awaits → List Input → List Input
@@ -66,7 +66,7 @@ pub record Begins {J : Type 0} (e : Entry J) (call : Call) (job : J) : Type 0 wh
   pub awaits : e.awaits ≡ awaits.Turn
   pub inputs : e.inputs.items ≡ []
   pub reply : e.reply ≡ None
-  pub marked : e.marked ≡ false
+  pub is_cancelled : e.is_cancelled ≡ false
 
 -- the job was given an input, if there was one, and did what the hub means. Nothing else of what is kept changed
 abbrev pub Gives : {J : Type 0} → Hub J → Entry J → Entry J → ℕ → Option Input → Option Act → Type 0
@@ -76,12 +76,12 @@ Gives hub old new now (Some input) None = ⊥
 Gives hub old new now (Some input) (Some what) = ((new.job, what) ≡ hub.step_of old.job input now) × (new ≡ record old { job = new.job })
 
 -- so it was with what was next. The act of one that was cancelled is its end, without the hub
-abbrev pub AttemptsIf : {J : Type 0} → Bool → Hub J → Entry J → Entry J → ℕ → Option Act → Type 0
-AttemptsIf true hub old new now what = (what ≡ Some (act.End Void)) × (new ≡ old)
-AttemptsIf false hub old new now what = Gives hub old new now (given_next old) what
+abbrev pub PreparesIf : {J : Type 0} → Bool → Hub J → Entry J → Entry J → ℕ → Option Act → Type 0
+PreparesIf true hub old new now what = (what ≡ Some (act.End Void)) × (new ≡ old)
+PreparesIf false hub old new now what = Gives hub old new now (given_next old) what
 
-abbrev pub AttemptsOrNot : {J : Type 0} → Hub J → Entry J → Entry J → ℕ → Option Act → Type 0
-AttemptsOrNot hub old new now what = AttemptsIf old.marked hub old new now what
+abbrev pub PreparesOrNot : {J : Type 0} → Hub J → Entry J → Entry J → ℕ → Option Act → Type 0
+PreparesOrNot hub old new now what = PreparesIf old.is_cancelled hub old new now what
 
 -- what was given is gone, and it awaits what the act asks for
 pub record IsTurned {J : Type 0} (what : Act) (old new : Entry J) : Type 0 where
@@ -89,7 +89,7 @@ pub record IsTurned {J : Type 0} (what : Act) (old new : Entry J) : Type 0 where
   pub inputs : new.inputs.items ≡ inputs_after old.awaits old.inputs.items
   pub reply : new.reply ≡ None
   pub job : new.job ≡ old.job
-  pub marked : new.marked ≡ old.marked
+  pub is_cancelled : new.is_cancelled ≡ old.is_cancelled
   pub id : new.id ≡ old.id
   pub kind : new.kind ≡ old.kind
   pub streams : new.streams ≡ old.streams

@@ -1,6 +1,5 @@
 pub mod Meaning
-pub mod Names
-pub mod Due
+pub mod Ids
 pub mod Entries
 pub mod Live
 pub mod Stands
@@ -8,3 +7,4 @@ pub mod Parts
 pub mod Calls
 pub mod Legal
 pub mod Laws
+pub mod Words

@@ -6,7 +6,7 @@ use Rattle.hd_calls.specs.Hubs.{Hub}
 use Rattle.hj_jobs.specs.declared.entry.Entry.{Entry}
 use Rattle.hj_jobs.specs.declared.live.Live.{Live}
 use Rattle.hj_jobs.specs.declared.live.Stepped.{Stepped}
-use Rattle.hj_jobs.specs.Entries.{is_due_entry, is_open_for, AttemptsOrNot}
+use Rattle.hj_jobs.specs.Entries.{is_due_entry, is_open_for, PreparesOrNot}
 
 abbrev pub entry_at : {J : Type 0} → Live J → ℕ → Option (Entry J)
 entry_at live n = get nat_eq live.entries n
@@ -36,7 +36,7 @@ awaits_at (Some e) i = is_open_for e i
 -- whether it may be marked
 abbrev pub is_unmarked_at : {J : Type 0} → Option (Entry J) → Bool
 is_unmarked_at None = false
-is_unmarked_at (Some e) = not e.marked
+is_unmarked_at (Some e) = not e.is_cancelled
 
 -- the same is kept of each
 pub record Retains {J : Type 0} (old new : Live J) : Type 0 where
@@ -69,7 +69,7 @@ pub record Alters {J : Type 0} (old new : Live J) (n : ℕ) (Changed : Entry J �
   pub count : live_count new ≡ live_count old
 
 abbrev pub IsMarked : {J : Type 0} → Entry J → Entry J → Type 0
-IsMarked e f = f ≡ record e { marked = true }
+IsMarked e f = f ≡ record e { is_cancelled = true }
 
 abbrev pub IsAnswered : {J : Type 0} → Input → Entry J → Entry J → Type 0
 IsAnswered i e f = f ≡ record e { reply = Some i }
@@ -83,15 +83,15 @@ pub record IsFed {J : Type 0} (is : List Input) (e f : Entry J) : Type 0 where
   pub job : f.job ≡ e.job
   pub awaits : f.awaits ≡ e.awaits
   pub reply : f.reply ≡ e.reply
-  pub marked : f.marked ≡ e.marked
+  pub is_cancelled : f.is_cancelled ≡ e.is_cancelled
 
 -- the hub's part of the job's turn: of what is kept only the job itself changed. The act of a cancelled one is its end
-pub record HasAttempted {J : Type 0} (hub : Hub J) (now : ℕ) (s : Stepped) (e f : Entry J) : Type 0 where
+pub record HasPrepared {J : Type 0} (hub : Hub J) (now : ℕ) (s : Stepped) (e f : Entry J) : Type 0 where
   pub id : s.id ≡ e.id
   pub kind : s.kind ≡ e.kind
-  pub attempts : AttemptsOrNot hub e f now (Some s.act)
+  pub attempts : PreparesOrNot hub e f now (Some s.act)
 
 -- so it is of the number, if it had a turn to come
-abbrev pub AttemptsAt : {J : Type 0} → Hub J → Live J → Live J → ℕ → ℕ → Option Stepped → Type 0
-AttemptsAt hub old new n now None = (is_due_at (entry_at old n) ≡ false) × Retains old new
-AttemptsAt hub old new n now (Some s) = (s.job ≡ n) × (is_due_at (entry_at old n) ≡ true) × Alters old new n (HasAttempted hub now s)
+abbrev pub PreparesAt : {J : Type 0} → Hub J → Live J → Live J → ℕ → ℕ → Option Stepped → Type 0
+PreparesAt hub old new n now None = (is_due_at (entry_at old n) ≡ false) × Retains old new
+PreparesAt hub old new n now (Some s) = (s.job ≡ n) × (is_due_at (entry_at old n) ≡ true) × Alters old new n (HasPrepared hub now s)

@@ -4,21 +4,21 @@ use Rattle.std.specs.Vec.{vec_capacity}
 use Rattle.hd_calls.specs.declared.vocabulary.Call.{Call}
 use Rattle.hd_calls.specs.declared.vocabulary.Input.{Input}
 use Rattle.hd_calls.specs.Numbers.{most_live, most_inputs}
-use Rattle.hj_jobs.specs.declared.due.Due.{Due}
+use Rattle.hv_value.specs.declared.sorted_set.SortedSet.{SortedSet}
 use Rattle.hj_jobs.specs.declared.entry.Entry.{Entry}
 use Rattle.hj_jobs.specs.declared.errors.AcceptError.{AcceptError}
 use Rattle.hj_jobs.specs.declared.errors.AcceptError.TheVariants as accept
 use Rattle.hj_jobs.specs.declared.errors.InputError.{InputError}
 use Rattle.hj_jobs.specs.declared.errors.InputError.TheVariants as fed
 use Rattle.hj_jobs.specs.declared.jobs.Jobs.{Jobs}
-use Rattle.hj_jobs.specs.Due.{HasPlace, is_in, IsRising}
+use Rattle.hv_value.specs.SortedSet.{HasPlace, is_in, IsRising}
 use Rattle.hj_jobs.specs.Entries.{Begins}
 use Rattle.hj_jobs.specs.Live.{Alters, entry_at, Gains, HasRoom, is_due_at, IsFed, live_count, Loses, Retains}
-use Rattle.hj_jobs.specs.Names.{Releases}
+use Rattle.hj_jobs.specs.Ids.{Releases}
 
 -- one more job fits without more memory, whether it is due or not
 abbrev pub HasRoomForOne : {H Job : Type 0} → Jobs H Job → Type 0
-HasRoomForOne jobs = HasRoom jobs.live × (live_count jobs.live < vec_capacity jobs.due.jobs)
+HasRoomForOne jobs = HasRoom jobs.live × (live_count jobs.live < vec_capacity jobs.due.numbers)
 
 -- so many are live that no more may be, or memory is out
 abbrev pub IsFullOr : ℕ → AcceptError → Type 0
@@ -33,20 +33,20 @@ IsFloodOr count fed.Flood = most_inputs ≤ count
 IsFloodOr count fed.NoMemory = Unit {0}
 
 -- the job is among those that are due, or isn't, and nothing else changed among them
-pub record DueIs (old new : Due) (n : ℕ) (is_due : Bool) : Type 0 where
-  pub at : IsRising old.jobs.items → (is_due ≡ true → HasPlace old n) → (k : ℕ) → is_in k new.jobs.items ≡ (if k == n then is_due else is_in k old.jobs.items)
-  pub rising : IsRising old.jobs.items → IsRising new.jobs.items
-  pub capacity : vec_capacity old.jobs ≤ vec_capacity new.jobs
+pub record DueIs (old new : SortedSet) (n : ℕ) (is_due : Bool) : Type 0 where
+  pub at : IsRising old.numbers.items → (is_due ≡ true → HasPlace old n) → (k : ℕ) → is_in k new.numbers.items ≡ (if k == n then is_due else is_in k old.numbers.items)
+  pub rising : IsRising old.numbers.items → IsRising new.numbers.items
+  pub capacity : vec_capacity old.numbers ≤ vec_capacity new.numbers
 
 -- nothing changed but how much fits
 pub record IsRoomier {H Job : Type 0} (old new : Jobs H Job) : Type 0 where
   pub live : Retains old.live new.live
-  pub due : new.due.jobs.items ≡ old.due.jobs.items
-  pub capacity : vec_capacity old.due.jobs ≤ vec_capacity new.due.jobs
+  pub due : new.due.numbers.items ≡ old.due.numbers.items
+  pub capacity : vec_capacity old.due.numbers ≤ vec_capacity new.due.numbers
   pub names : new.names ≡ old.names
   pub accepted : new.accepted ≡ old.accepted
   pub passed : new.passed ≡ old.passed
-  pub halfway : new.halfway ≡ old.halfway
+  pub prepared : new.prepared ≡ old.prepared
 
 -- the job of the call is live and due, and is the latest, if its number is new
 pub record Enters {H Job : Type 0} (old new : Jobs H Job) (n : ℕ) (call : Call) (job : Job) : Type 0 where
@@ -57,7 +57,7 @@ pub record Enters {H Job : Type 0} (old new : Jobs H Job) (n : ℕ) (call : Call
   pub names : new.names ≡ old.names
   pub accepted : new.accepted ≡ n
   pub passed : new.passed ≡ old.passed
-  pub halfway : new.halfway ≡ old.halfway
+  pub prepared : new.prepared ≡ old.prepared
 
 -- the job is among those that are due exactly if it is due
 pub record Agrees {H Job : Type 0} (old new : Jobs H Job) (n : ℕ) : Type 0 where
@@ -66,7 +66,7 @@ pub record Agrees {H Job : Type 0} (old new : Jobs H Job) (n : ℕ) : Type 0 whe
   pub names : new.names ≡ old.names
   pub accepted : new.accepted ≡ old.accepted
   pub passed : new.passed ≡ old.passed
-  pub halfway : new.halfway ≡ old.halfway
+  pub prepared : new.prepared ≡ old.prepared
 
 -- what is kept of the job is changed in this way, and it is due or isn't accordingly
 pub record Changes {H Job : Type 0} (old new : Jobs H Job) (n : ℕ) (Changed : Entry Job → Entry Job → Type 0) : Type 0 where
@@ -75,7 +75,7 @@ pub record Changes {H Job : Type 0} (old new : Jobs H Job) (n : ℕ) (Changed : 
   pub names : new.names ≡ old.names
   pub accepted : new.accepted ≡ old.accepted
   pub passed : new.passed ≡ old.passed
-  pub halfway : new.halfway ≡ old.halfway
+  pub prepared : new.prepared ≡ old.prepared
 
 -- nothing was fed to the job
 pub record FeedsNothing {H Job : Type 0} (old new : Jobs H Job) (n : ℕ) : Type 0 where
@@ -84,7 +84,7 @@ pub record FeedsNothing {H Job : Type 0} (old new : Jobs H Job) (n : ℕ) : Type
   pub names : new.names ≡ old.names
   pub accepted : new.accepted ≡ old.accepted
   pub passed : new.passed ≡ old.passed
-  pub halfway : new.halfway ≡ old.halfway
+  pub prepared : new.prepared ≡ old.prepared
 
 abbrev pub KeepsFed : {H Job : Type 0} → Jobs H Job → Jobs H Job → ℕ → Type 0
 KeepsFed old new n = (new ≡ old) ⊎ FeedsNothing old new n
@@ -97,4 +97,4 @@ pub record Drops {H Job : Type 0} (old new : Jobs H Job) (n : ℕ) : Type 0 wher
   pub same_names : entry_at old.live n ≡ None → new.names ≡ old.names
   pub accepted : new.accepted ≡ old.accepted
   pub passed : new.passed ≡ old.passed
-  pub halfway : new.halfway ≡ old.halfway
+  pub prepared : new.prepared ≡ old.prepared

@@ -8,14 +8,14 @@ use Rattle.hd_calls.specs.Hubs.{Invoked, Answer, Turn, Hub, id_of, kind_of, call
 use Rattle.hd_calls.specs.Peers.{has_end, of_stream, last_of}
 use Rattle.hd_calls.specs.Rules.{job_after, used}
 use Rattle.hd_calls.specs.Tables.{JobHappening, begun_in, moments_in, turns_in, acts_in, inputs_in, marked_in, reply_in, over_in, passed_in, live_job_in, live_jobs_in, is_due_in}
-use Rattle.hj_jobs.specs.declared.due.Due.{Due}
+use Rattle.hv_value.specs.declared.sorted_set.SortedSet.{SortedSet}
 use Rattle.hj_jobs.specs.declared.entry.Entry.{Entry}
 use Rattle.hj_jobs.specs.declared.jobs.Jobs.{Jobs}
 use Rattle.hj_jobs.specs.declared.live.Live.{Live}
-use Rattle.hj_jobs.specs.declared.names.Names.{Names}
-use Rattle.hj_jobs.specs.declared.names.Stream.{Stream}
-use Rattle.hj_jobs.specs.Names.{job_at, stream_at}
-use Rattle.hj_jobs.specs.Due.{is_in, IsRising}
+use Rattle.hj_jobs.specs.declared.ids.Ids.{Ids}
+use Rattle.hj_jobs.specs.declared.ids.Stream.{Stream}
+use Rattle.hj_jobs.specs.Ids.{job_at, stream_at}
+use Rattle.hv_value.specs.SortedSet.{is_in, IsRising}
 use Rattle.hj_jobs.specs.Entries.{awaited, AnswersOrNot}
 use Rattle.hj_jobs.specs.Live.{entry_at, live_count}
 
@@ -30,7 +30,7 @@ pub record Past : Type 0 where
   pub turns : List Turn
   pub acts : List Act
   pub inputs : List (ℕ × Answer)
-  pub marked : Bool
+  pub is_cancelled : Bool
   pub reply : Option Input
 
 -- of the job at this place
@@ -43,7 +43,7 @@ past j h = record {
   turns = turns_in j h;
   acts = acts_in j h;
   inputs = inputs_in j h;
-  marked = marked_in j h;
+  is_cancelled = marked_in j h;
   reply = reply_in j h;
 }
 
@@ -75,7 +75,7 @@ abbrev pub HasRun : {Job : Type 0} → Hub Job → List ℕ → Job → Past →
 HasRun hub who job p = (call : Invoked) (since : ℕ) → p.call ≡ Some call → p.since ≡ Some since → job ≡ job_after hub (hub.begin_of (call_for who call) since) p.turns
 
 -- what is kept of a live job. While a turn is halfway, some job's state is ahead of the happenings
-pub record Remembers {Job : Type 0} (halfway : Bool) (hub : Hub Job) (who : List ℕ) (e : Entry Job) (p : Past) : Type 0 where
+pub record Remembers {Job : Type 0} (prepared : Bool) (hub : Hub Job) (who : List ℕ) (e : Entry Job) (p : Past) : Type 0 where
   pub call : Invoked
   pub since : ℕ
   pub live : p.live ≡ true
@@ -84,19 +84,19 @@ pub record Remembers {Job : Type 0} (halfway : Bool) (hub : Hub Job) (who : List
   pub id : e.id ≡ id_of call.way
   pub kind : e.kind ≡ kind_of call.way
   pub streams : e.streams ≡ call.streams
-  pub job : halfway ≡ false → e.job ≡ job_after hub (hub.begin_of (call_for who call) since) p.turns
+  pub job : prepared ≡ false → e.job ≡ job_after hub (hub.begin_of (call_for who call) since) p.turns
   pub awaits : e.awaits ≡ awaited (last_of p.acts)
   pub inputs : e.inputs.items ≡ drop (used p.turns) (map upload_input p.inputs)
   pub given : used p.turns ≤ length p.inputs
   pub few_inputs : length p.inputs - used p.turns ≤ most_inputs
   pub reply : e.reply ≡ p.reply
   pub answered : AnswersOrNot e.awaits e.reply
-  pub marked : e.marked ≡ p.marked
+  pub is_cancelled : e.is_cancelled ≡ p.is_cancelled
 
 -- the entry of a place: there is one exactly if its job is live
 abbrev pub IsEntryOf : {Job : Type 0} → Bool → Hub Job → List ℕ → Option (Entry Job) → Past → Type 0
-IsEntryOf halfway hub who None p = p.live ≡ false
-IsEntryOf halfway hub who (Some e) p = Remembers halfway hub who e p
+IsEntryOf prepared hub who None p = p.live ≡ false
+IsEntryOf prepared hub who (Some e) p = Remembers prepared hub who e p
 
 -- nothing has happened to a job that isn't there yet
 pub record IsUnborn (p : Past) : Type 0 where
@@ -104,39 +104,39 @@ pub record IsUnborn (p : Past) : Type 0 where
   pub turns : p.turns ≡ []
   pub acts : p.acts ≡ []
   pub inputs : p.inputs ≡ []
-  pub marked : p.marked ≡ false
+  pub is_cancelled : p.is_cancelled ≡ false
   pub reply : p.reply ≡ None
 
 -- ---- the table
 
 -- who has which id
-pub record IdsAgree (names : Names) (h : List JobHappening) : Type 0 where
+pub record IdsAgree (names : Ids) (h : List JobHappening) : Type 0 where
   pub had : (i : List ℕ) (n : ℕ) → job_at names i ≡ Some n → (j : ℕ) × (n ≡ suc j) × HasId h i j
   pub every : (i : List ℕ) (j : ℕ) → HasId h i j → job_at names i ≡ Some (suc j)
 
 -- whose the open streams are
-pub record StreamsAgree (names : Names) (h : List JobHappening) : Type 0 where
+pub record StreamsAgree (names : Ids) (h : List JobHappening) : Type 0 where
   pub had : (i : List ℕ) (s : Stream) → stream_at names i ≡ Some s → (j : ℕ) × (s.job ≡ suc j) × StreamIn h i j s.which
   pub every : (i : List ℕ) (j w : ℕ) → StreamIn h i j w → stream_at names i ≡ Some (record { job = suc j; which = w })
 
 -- which jobs are due
-pub record DueAgree (due : Due) (h : List JobHappening) : Type 0 where
-  pub rising : IsRising due.jobs.items
-  pub same : (j : ℕ) → is_in (suc j) due.jobs.items ≡ is_due_in j h
-  pub from_one : is_in 0 due.jobs.items ≡ false
+pub record DueAgree (due : SortedSet) (h : List JobHappening) : Type 0 where
+  pub rising : IsRising due.numbers.items
+  pub same : (j : ℕ) → is_in (suc j) due.numbers.items ≡ is_due_in j h
+  pub from_one : is_in 0 due.numbers.items ≡ false
 
 -- The table, whose jobs are this hub's and whose calls come from this side, stands for these happenings, the latest first.
 pub record Stands {H Job : Type 0} (hub : Hub Job) (jobs : Jobs H Job) (who : List ℕ) (h : List JobHappening) : Type 0 where
   pub accepted : jobs.accepted ≡ length (begun_in h)
   pub moments : length (moments_in h) ≡ length (begun_in h)
-  pub entries : (j : ℕ) → IsEntryOf jobs.halfway hub who (entry_at jobs.live (suc j)) (past j h)
+  pub entries : (j : ℕ) → IsEntryOf jobs.prepared hub who (entry_at jobs.live (suc j)) (past j h)
   pub none : entry_at jobs.live 0 ≡ None
   pub count : live_count jobs.live ≡ live_jobs_in h
   pub few_live : live_jobs_in h ≤ most_live
   pub ids : IdsAgree jobs.names h
   pub streams : StreamsAgree jobs.names h
   pub due : DueAgree jobs.due h
-  pub room : live_count jobs.live ≤ vec_capacity jobs.due.jobs
+  pub room : live_count jobs.live ≤ vec_capacity jobs.due.numbers
   pub passed : jobs.passed ≡ passed_in h
   pub unborn : (j : ℕ) → length (begun_in h) ≤ j → IsUnborn (past j h)
 

@@ -4,7 +4,7 @@ ghost use Rattle.std.specs.Prelude.{◌≡◌, None, Some, IfOk, OnErr, drop};
 ghost use Rattle.hd_calls.specs.declared.vocabulary.Input.TheVariants.{Go};
 ghost use Rattle.hd_calls.specs.Rules.{is_deed_answer};
 ghost use Rattle.hd_calls.specs.Tables.{finishes};
-ghost use Rattle.hj_jobs.specs.Entries.{AttemptsOrNot, awaited, Begins, first_input, Gives, inputs_after, is_answer_to, is_due_entry, is_open_for, IsTurned};
+ghost use Rattle.hj_jobs.specs.Entries.{PreparesOrNot, awaited, Begins, first_input, Gives, inputs_after, is_answer_to, is_due_entry, is_open_for, IsTurned};
 ghost use Rattle.hj_jobs.specs.Meaning.{meaning};
 
 use crate::hub::Hub;
@@ -57,7 +57,7 @@ pub struct Entry<J> {
     /// What has answered the job's last ask or deed.
     pub(crate) reply: Option<Input>,
     /// It was cancelled.
-    pub(crate) marked: bool,
+    pub(crate) is_cancelled: bool,
 }
 
 impl<J> Entry<J> {
@@ -65,7 +65,7 @@ impl<J> Entry<J> {
     pub(crate) fn is_due(&self) -> bool
         ensures { result ≡ is_due_entry self.now }
     {
-        if self.marked {
+        if self.is_cancelled {
             return true;
         }
         match self.awaits {
@@ -107,22 +107,22 @@ impl<J> Entry<J> {
             awaits: Awaits::Turn,
             inputs: VecDeque::new(alloc),
             reply: None,
-            marked: false,
+            is_cancelled: false,
         }
     }
 
     /// The hub's part of its turn, if it has one to come: what it does. The mark of a cancelled job is its end. Of what is kept only the
     /// job itself changes, until `turned` follows.
-    pub(crate) fn attempt<H: Hub<Job = J>>(
+    pub(crate) fn prepare<H: Hub<Job = J>>(
         &mut self,
         alloc: Global,
         hub: &H,
         now: u64,
     ) -> Result<Option<Act>, AllocError>
-        ensures ok { IfOk result (λ what. AttemptsOrNot (meaning H.begin_of H.step_of) self.old self.new now what) }
-        ensures kept { OnErr result (self.new ≡ self.old) }
+        ensures ok { IfOk result (λ what. PreparesOrNot (meaning H.begin_of H.step_of) self.old self.new now what) }
+        ensures unchanged { OnErr result (self.new ≡ self.old) }
     {
-        if self.marked {
+        if self.is_cancelled {
             return Ok(Some(Act::End(Ending::Void)));
         }
         match self.awaits {
@@ -141,7 +141,7 @@ impl<J> Entry<J> {
         now: u64,
     ) -> Result<Option<Act>, AllocError>
         ensures ok { IfOk result (λ what. Gives (meaning H.begin_of H.step_of) self.old self.new now (Some Go) what) }
-        ensures kept { OnErr result (self.new ≡ self.old) }
+        ensures unchanged { OnErr result (self.new ≡ self.old) }
     {
         match hub.step(alloc, &mut self.job, &Input::Go, now) {
             Ok(act) => Ok(Some(act)),
@@ -158,7 +158,7 @@ impl<J> Entry<J> {
     ) -> Result<Option<Act>, AllocError>
         ensures ok { IfOk result (λ what.
             Gives (meaning H.begin_of H.step_of) self.old self.new now (first_input self.old.inputs.items) what) }
-        ensures kept { OnErr result (self.new ≡ self.old) }
+        ensures unchanged { OnErr result (self.new ≡ self.old) }
     {
         let Some(input) = self.inputs.front() else {
             return Ok(None);
@@ -177,7 +177,7 @@ impl<J> Entry<J> {
         now: u64,
     ) -> Result<Option<Act>, AllocError>
         ensures ok { IfOk result (λ what. Gives (meaning H.begin_of H.step_of) self.old self.new now self.old.reply what) }
-        ensures kept { OnErr result (self.new ≡ self.old) }
+        ensures unchanged { OnErr result (self.new ≡ self.old) }
     {
         let Some(input) = &self.reply else {
             return Ok(None);

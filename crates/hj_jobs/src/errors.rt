@@ -2,6 +2,8 @@
 
 use hv_value::Text;
 use std::alloc::AllocError;
+use std::error::Error;
+use std::fmt;
 
 /// Why a call begins no job: the first of these that holds.
 #[derive(Drop, PartialEq, Eq)]
@@ -45,3 +47,44 @@ impl From<AllocError> for InputError {
         InputError::NoMemory
     }
 }
+
+impl fmt::Display for AcceptError {
+    ghost use Rattle.std.specs.Prelude.{Some};
+    ghost use Rattle.hj_jobs.specs.Words.{accept_words};
+
+    ghost output = { λ error. Some (accept_words error) };
+
+    fn fmt<W: fmt::Write>(&self, f: &mut fmt::Formatter<W>) -> fmt::Result {
+        match self {
+            AcceptError::InUse(id) => write!(f, "InUse {}", id.as_str()),
+            AcceptError::TooMany => f.write_str("TooMany"),
+            AcceptError::NoMemory => f.write_str("out of memory"),
+        }
+    }
+}
+
+/// The words of `Display`: `Text` has no `Debug`.
+impl fmt::Debug for AcceptError {
+    fn fmt<W: fmt::Write>(&self, f: &mut fmt::Formatter<W>) -> fmt::Result {
+        write!(f, "{self}")
+    }
+}
+
+impl Error for AcceptError {}
+
+impl fmt::Display for InputError {
+    ghost use Rattle.std.specs.Prelude.{Some};
+    ghost use Rattle.hj_jobs.specs.Words.{input_words};
+
+    ghost output = { λ error. Some (input_words error) };
+
+    fn fmt<W: fmt::Write>(&self, f: &mut fmt::Formatter<W>) -> fmt::Result {
+        match self {
+            InputError::UnknownId => f.write_str("UnknownId"),
+            InputError::Flood => f.write_str("Flood"),
+            InputError::NoMemory => f.write_str("out of memory"),
+        }
+    }
+}
+
+impl Error for InputError {}

@@ -36,5 +36,5 @@ pub trait Hub {
         now: u64,
     ) -> Result<Act, AllocError>
         ensures stepped { IfOk result (λ act. (job.new, act) ≡ step_of job.old input.now now) }
-        ensures kept { OnErr result (job.new ≡ job.old) };
+        ensures unchanged { OnErr result (job.new ≡ job.old) };
 }

@@ -7,51 +7,50 @@ ghost use Rattle.hd_calls.specs.Numbers.{most_inputs, most_live};
 ghost use Rattle.hd_calls.specs.Tables.{begun_in, Ended, JobHappening, live_job_in, live_jobs_in, passed_in, Replied, Round, Turned};
 ghost use Rattle.hj_jobs.specs.Meaning.{meaning};
 ghost use Rattle.hj_jobs.specs.Stands.{Stands};
-ghost use Rattle.hj_jobs.specs.Calls.{Accepts, Answers, AtPlace, AttemptsOrNot, AwaitsAnswer, Feeds, HasAttempted, IsCallOf, IsDead, IsRefusedIn, IsUnfed, IsUnmarkable, Marks, OfEach, SomeIsDue, Stays, StepsOrNot};
+ghost use Rattle.hj_jobs.specs.Calls.{Accepts, Answers, AtPlace, PreparesOrNot, AwaitsAnswer, Feeds, HasPrepared, IsCallOf, IsDead, IsRefusedIn, IsUnfed, IsUnmarkable, Marks, OfEach, SomeIsDue, Stays, StepsOrNot};
 ghost use Rattle.hj_jobs.specs.Laws.{AreFew};
 ghost use Rattle.hj_jobs.specs.Live.{entry_at, HasRoom, IsFed, live_count, waits_at};
 ghost use Rattle.hj_jobs.specs.Parts.{Agrees, Changes, Drops, Enters, HasRoomForOne, IsFloodOr, IsFullOr, IsRoomier, KeepsFed};
 
-use crate::due::Due;
 use crate::entry::{Entry, finishes};
 use crate::errors::{AcceptError, InputError};
 use crate::hub::Hub;
+use crate::ids::Ids;
 use crate::live::{Live, Stepped};
-use crate::names::Names;
 use hd_calls::{Call, Input, MOST_INPUTS, MOST_LIVE, UnknownId};
-use hv_value::{Text, Value};
+use hv_value::{SortedSet, Text, Value};
 use std::alloc::{AllocError, Global};
 
 /// The live jobs of a hub.
 ///
 /// What it is told: `accept`, `item`, `stream_end`, `cancel`, `answer`, `end`. What it does: `begin_round`, and `step` or its two halves,
-/// `attempt` and `finish`. `cancel`, `answer`, `end`, `begin_round` and `finish` take no memory.
+/// `prepare` and `finish`. `cancel`, `answer`, `end`, `begin_round` and `finish` take no memory.
 #[derive(Drop)]
 pub struct Jobs<H: Hub> {
     live: Live<H::Job>,
-    names: Names,
-    due: Due,
+    names: Ids,
+    due: SortedSet,
     /// How many were accepted, which is the number of the latest.
     accepted: u64,
     /// The number of the job that had the latest turn of the round, or 0.
     passed: u64,
     /// A job had the first half of its turn and not the second.
-    halfway: bool,
+    prepared: bool,
 }
 
 impl<H: Hub> Jobs<H> {
     /// No jobs.
     pub fn start(alloc: Global) -> Result<Jobs<H>, AllocError>
         ensures stands { IfOk result (λ jobs. (who : List ℕ) → Stands (meaning H.begin_of H.step_of) jobs who []) }
-        ensures fresh { IfOk result (λ jobs. jobs.halfway ≡ false) }
+        ensures fresh { IfOk result (λ jobs. jobs.prepared ≡ false) }
     {
         Ok(Jobs {
             live: Live::start(alloc),
-            names: Names::start(alloc),
-            due: Due::start(alloc),
+            names: Ids::start(alloc),
+            due: SortedSet::start(alloc),
             accepted: 0,
             passed: 0,
-            halfway: false,
+            prepared: false,
         })
     }
 
@@ -84,8 +83,8 @@ impl<H: Hub> Jobs<H> {
             (c : Invoked) → IsCallOf who call c → Accepts (meaning H.begin_of H.step_of) self.new who h c now number)) }
         ensures refused { IfErr result (λ e. OfEach (meaning H.begin_of H.step_of) self.old (λ who h.
             (c : Invoked) → IsCallOf who call c → IsRefusedIn h c e)) }
-        ensures kept { OnErr result (Stays (meaning H.begin_of H.step_of) self.old self.new) }
-        ensures fresh { self.new.halfway ≡ self.old.halfway }
+        ensures unchanged { OnErr result (Stays (meaning H.begin_of H.step_of) self.old self.new) }
+        ensures fresh { self.new.prepared ≡ self.old.prepared }
     {
         if self.accepted == u64::MAX {
             return Err(AcceptError::NoMemory);
@@ -109,8 +108,8 @@ impl<H: Hub> Jobs<H> {
         ensures ok { IfOk result (λ number. OfEach (meaning H.begin_of H.step_of) self.old (λ who h.
             Feeds (meaning H.begin_of H.step_of) self.new who h stream.now (Item value) number)) }
         ensures refused { IfErr result (λ e. OfEach (meaning H.begin_of H.step_of) self.old (λ who h. IsUnfed h stream.now e)) }
-        ensures kept { OnErr result (Stays (meaning H.begin_of H.step_of) self.old self.new) }
-        ensures fresh { self.new.halfway ≡ self.old.halfway }
+        ensures unchanged { OnErr result (Stays (meaning H.begin_of H.step_of) self.old self.new) }
+        ensures fresh { self.new.prepared ≡ self.old.prepared }
     {
         let Some(found) = self.names.stream(stream) else {
             return Err(InputError::UnknownId);
@@ -128,8 +127,8 @@ impl<H: Hub> Jobs<H> {
         ensures ok { IfOk result (λ number. OfEach (meaning H.begin_of H.step_of) self.old (λ who h.
             (e : EndingMeant) → error_in e ≡ error → Feeds (meaning H.begin_of H.step_of) self.new who h stream.now (End e) number)) }
         ensures refused { IfErr result (λ e. OfEach (meaning H.begin_of H.step_of) self.old (λ who h. IsUnfed h stream.now e)) }
-        ensures kept { OnErr result (Stays (meaning H.begin_of H.step_of) self.old self.new) }
-        ensures fresh { self.new.halfway ≡ self.old.halfway }
+        ensures unchanged { OnErr result (Stays (meaning H.begin_of H.step_of) self.old self.new) }
+        ensures fresh { self.new.prepared ≡ self.old.prepared }
     {
         let Some(found) = self.names.stream(stream) else {
             return Err(InputError::UnknownId);
@@ -149,8 +148,8 @@ impl<H: Hub> Jobs<H> {
             Answers (meaning H.begin_of H.step_of) self.new who h job input)) }
         ensures unknown { OnErr result (OfEach (meaning H.begin_of H.step_of) self.old (λ who h. AtPlace job (λ j.
             AwaitsAnswer h j input → ⊥))) }
-        ensures kept { OnErr result (self.new ≡ self.old) }
-        ensures fresh { self.new.halfway ≡ self.old.halfway }
+        ensures unchanged { OnErr result (self.new ≡ self.old) }
+        ensures fresh { self.new.prepared ≡ self.old.prepared }
     {
         if !self.live.awaits(job, &input) {
             return Err(UnknownId);
@@ -165,8 +164,8 @@ impl<H: Hub> Jobs<H> {
         ensures ok { IfOk result (λ number. OfEach (meaning H.begin_of H.step_of) self.old (λ who h.
             Marks (meaning H.begin_of H.step_of) self.new who h id.now number)) }
         ensures unknown { OnErr result (OfEach (meaning H.begin_of H.step_of) self.old (λ who h. IsUnmarkable h id.now)) }
-        ensures kept { OnErr result (self.new ≡ self.old) }
-        ensures fresh { self.new.halfway ≡ self.old.halfway }
+        ensures unchanged { OnErr result (self.new ≡ self.old) }
+        ensures fresh { self.new.prepared ≡ self.old.prepared }
     {
         let Some(job) = self.names.job(id) else {
             return Err(UnknownId);
@@ -185,7 +184,7 @@ impl<H: Hub> Jobs<H> {
             live_job_in j h ≡ true → Stands (meaning H.begin_of H.step_of) self.new who (Ended j ∷ h))) }
         ensures otherwise { OfEach (meaning H.begin_of H.step_of) self.old (λ who h.
             IsDead h job → Stands (meaning H.begin_of H.step_of) self.new who h) }
-        ensures fresh { self.new.halfway ≡ self.old.halfway }
+        ensures fresh { self.new.prepared ≡ self.old.prepared }
     {
         self.drop_job(job);
     }
@@ -195,7 +194,7 @@ impl<H: Hub> Jobs<H> {
     /// A round begins, in which each job that is due has one turn.
     pub fn begin_round(&mut self)
         ensures begins { OfEach (meaning H.begin_of H.step_of) self.old (λ who h. Stands (meaning H.begin_of H.step_of) self.new who (Round ∷ h)) }
-        ensures fresh { self.new.halfway ≡ self.old.halfway }
+        ensures fresh { self.new.prepared ≡ self.old.prepared }
     {
         self.passed = 0;
     }
@@ -211,19 +210,19 @@ impl<H: Hub> Jobs<H> {
     ) -> Result<Option<Stepped>, AllocError>
         ensures ok { IfOk result (λ stepped. OfEach (meaning H.begin_of H.step_of) self.old (λ who h.
             StepsOrNot (meaning H.begin_of H.step_of) self.new who h now room stepped)) }
-        ensures stalled { self.old.halfway ≡ true → IsErr result }
-        ensures kept { OnErr result (Stays (meaning H.begin_of H.step_of) self.old self.new) }
+        ensures stalled { self.old.prepared ≡ true → IsErr result }
+        ensures unchanged { OnErr result (Stays (meaning H.begin_of H.step_of) self.old self.new) }
     {
-        let Some(stepped) = self.attempt(alloc, hub, now, room)? else {
+        let Some(stepped) = self.prepare(alloc, hub, now, room)? else {
             return Ok(None);
         };
-        self.finish(&stepped);
+        self.commit(&stepped);
         Ok(Some(stepped))
     }
 
     /// The first half of a turn: the hub's step. Whoever has to send what a job does calls this, sends it, and then calls `finish`. If it
     /// can't be sent for lack of memory, `finish` isn't called: the turn never was, and no job has another, since its hub is ahead.
-    pub fn attempt(
+    pub fn prepare(
         &mut self,
         alloc: Global,
         hub: &H,
@@ -231,11 +230,11 @@ impl<H: Hub> Jobs<H> {
         room: bool,
     ) -> Result<Option<Stepped>, AllocError>
         ensures ok { IfOk result (λ stepped. OfEach (meaning H.begin_of H.step_of) self.old (λ who h.
-            AttemptsOrNot (meaning H.begin_of H.step_of) self.new who h now room stepped)) }
-        ensures stalled { self.old.halfway ≡ true → IsErr result }
-        ensures kept { OnErr result (Stays (meaning H.begin_of H.step_of) self.old self.new) }
+            PreparesOrNot (meaning H.begin_of H.step_of) self.new who h now room stepped)) }
+        ensures stalled { self.old.prepared ≡ true → IsErr result }
+        ensures unchanged { OnErr result (Stays (meaning H.begin_of H.step_of) self.old self.new) }
     {
-        if self.halfway {
+        if self.prepared {
             return Err(AllocError);
         }
         if !room {
@@ -244,25 +243,25 @@ impl<H: Hub> Jobs<H> {
         let Some(job) = self.due.next(self.passed) else {
             return Ok(None);
         };
-        let Some(stepped) = self.live.attempt(alloc, hub, job, now)? else {
+        let Some(stepped) = self.live.prepare(alloc, hub, job, now)? else {
             return Ok(None);
         };
-        self.halfway = true;
+        self.prepared = true;
         Ok(Some(stepped))
     }
 
-    /// The second half of the turn that `attempt` gave. It takes no memory. If no turn is halfway, nothing changes.
-    pub fn finish(&mut self, stepped: &Stepped)
+    /// The second half of the turn that `prepare` gave. It takes no memory. If no turn is halfway, nothing changes.
+    pub fn commit(&mut self, stepped: &Stepped)
         ensures turned { (who : List ℕ) (h : List JobHappening) (now : ℕ)
-            (a : HasAttempted (meaning H.begin_of H.step_of) self.old who h now stepped.now) →
+            (a : HasPrepared (meaning H.begin_of H.step_of) self.old who h now stepped.now) →
             Stands (meaning H.begin_of H.step_of) self.new who (Turned a.job a.turn stepped.now.act ∷ h) }
-        ensures whole { self.new.halfway ≡ false }
-        ensures otherwise { self.old.halfway ≡ false → self.new ≡ self.old }
+        ensures whole { self.new.prepared ≡ false }
+        ensures otherwise { self.old.prepared ≡ false → self.new ≡ self.old }
     {
-        if !self.halfway {
+        if !self.prepared {
             return;
         }
-        self.halfway = false;
+        self.prepared = false;
         self.passed = stepped.job;
         if finishes(&stepped.act) {
             self.drop_job(stepped.job);
@@ -300,7 +299,7 @@ impl<H: Hub> Jobs<H> {
         ensures room { OnOk result (HasRoomForOne self.new) }
         ensures few { OnOk result (live_count self.old.live < most_live) }
         ensures refused { IfErr result (λ e. IsFullOr (live_count self.old.live) e) }
-        ensures kept { IsRoomier self.old self.new }
+        ensures unchanged { IsRoomier self.old self.new }
     {
         if self.live.len() as u64 >= MOST_LIVE {
             return Err(AcceptError::TooMany);
@@ -325,7 +324,7 @@ impl<H: Hub> Jobs<H> {
         ensures ok { OnOk result (Changes self.old self.new job (IsFed (input ∷ []))) }
         ensures few { OnOk result (waits_at (entry_at self.old.live job) < most_inputs) }
         ensures refused { IfErr result (λ e. IsFloodOr (waits_at (entry_at self.old.live job)) e) }
-        ensures kept { OnErr result (KeepsFed self.old self.new job) }
+        ensures unchanged { OnErr result (KeepsFed self.old self.new job) }
     {
         if self.live.waiting(job) as u64 >= MOST_INPUTS {
             return Err(InputError::Flood);

@@ -19,16 +19,14 @@
 //! The crate doesn't know ends, codecs, what is sent for a job, nor any one hub.
 #![tactic(auto)]
 
-mod due;
 mod entry;
 mod errors;
 mod hub;
+mod ids;
 mod jobs;
 mod laws;
 mod live;
-mod names;
 
-pub use due::Due;
 pub use errors::{AcceptError, InputError};
 pub use hub::Hub;
 pub use jobs::Jobs;

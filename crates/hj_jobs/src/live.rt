@@ -2,7 +2,7 @@
 
 ghost use Rattle.std.specs.Prelude.{◌≡◌, ◌<◌, ℕ, ◌∷◌, [], None, IfOk, OnOk, OnErr};
 ghost use Rattle.hj_jobs.specs.Entries.{IsTurned};
-ghost use Rattle.hj_jobs.specs.Live.{Alters, AttemptsAt, awaits_at, entry_at, Gains, HasRoom, is_due_at, is_unmarked_at, IsAnswered, IsFed, IsMarked, live_count, Loses, Retains, waits_at};
+ghost use Rattle.hj_jobs.specs.Live.{Alters, PreparesAt, awaits_at, entry_at, Gains, HasRoom, is_due_at, is_unmarked_at, IsAnswered, IsFed, IsMarked, live_count, Loses, Retains, waits_at};
 ghost use Rattle.hj_jobs.specs.Meaning.{meaning};
 
 use crate::entry::Entry;
@@ -82,7 +82,7 @@ impl<J: Drop> Live<J> {
         ensures { result ≡ is_unmarked_at (entry_at self.now number) }
     {
         match self.entries.get(&number) {
-            Some(entry) => !entry.marked,
+            Some(entry) => !entry.is_cancelled,
             None => false,
         }
     }
@@ -116,7 +116,7 @@ impl<J: Drop> Live<J> {
         ensures { Alters self.old self.new number IsMarked }
     {
         if let Some(entry) = self.entries.get_mut(&number) {
-            entry.marked = true;
+            entry.is_cancelled = true;
         }
     }
 
@@ -132,7 +132,7 @@ impl<J: Drop> Live<J> {
     /// Something came from an upload of the job.
     pub(crate) fn feed(&mut self, number: u64, input: Input) -> Result<(), AllocError>
         ensures ok { OnOk result (Alters self.old self.new number (IsFed (input ∷ []))) }
-        ensures kept { OnErr result (Alters self.old self.new number (IsFed [])) }
+        ensures unchanged { OnErr result (Alters self.old self.new number (IsFed [])) }
     {
         let Some(entry) = self.entries.get_mut(&number) else {
             return Ok(());
@@ -144,22 +144,22 @@ impl<J: Drop> Live<J> {
     }
 
     /// The hub's part of the job's turn, if it has one to come. `turned` is the rest.
-    pub(crate) fn attempt<H: Hub<Job = J>>(
+    pub(crate) fn prepare<H: Hub<Job = J>>(
         &mut self,
         alloc: Global,
         hub: &H,
         number: u64,
         now: u64,
     ) -> Result<Option<Stepped>, AllocError>
-        ensures ok { IfOk result (λ stepped. AttemptsAt (meaning H.begin_of H.step_of) self.old self.new number now stepped) }
-        ensures kept { OnErr result (Retains self.old self.new) }
+        ensures ok { IfOk result (λ stepped. PreparesAt (meaning H.begin_of H.step_of) self.old self.new number now stepped) }
+        ensures unchanged { OnErr result (Retains self.old self.new) }
     {
         let Some(entry) = self.entries.get_mut(&number) else {
             return Ok(None);
         };
         let id = copy_of(&entry.id)?;
         let kind = entry.kind;
-        let Some(act) = entry.attempt(alloc, hub, now)? else {
+        let Some(act) = entry.prepare(alloc, hub, now)? else {
             return Ok(None);
         };
         Ok(Some(Stepped {

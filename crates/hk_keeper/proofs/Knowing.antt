@@ -1,10 +1,10 @@
 -- What is known of a keeper after one call, and after one more.
 use Rattle.std.proofs.Common.{◌≡◌, ℕ, Bool, true, false, List, [], ◌∷◌, ◌++◌, Option, Some, None, Result, Ok, Err, IfOk, OnOk, OnErr, IfSome, option_map, is_none, is_some, cond, refl, sym, ◌∙◌, ap, subst, append_assoc}
 use Rattle.std.proofs.lemmas.List.{append-nil}
-use Rattle.hd_server.specs.declared.vocabulary.Asked.{Asked}
-use Rattle.hd_server.specs.declared.vocabulary.Asked.TheVariants.{User, Rows, Log, History, AddUser}
-use Rattle.hd_server.specs.Kept.{Content, KeeperDid, CountsFault, IsAnswer, kept_after, has_failed, name_of, row_count, recalled, with_row, with_user}
-use Rattle.hd_server.specs.KeptLaws.{AnswersJoin}
+use Rattle.hd_rooms.specs.declared.vocabulary.Asked.{Asked}
+use Rattle.hd_rooms.specs.declared.vocabulary.Asked.TheVariants.{User, Rows, Log, History, AddUser}
+use Rattle.hd_rooms.specs.Kept.{Content, KeeperDid, CountsFault, IsAnswer, kept_after, has_failed, name_of, row_count, recalled, with_row, with_user}
+use Rattle.hd_rooms.specs.KeptLaws.{AnswersJoin}
 use Rattle.hk_keeper.specs.declared.keeper.KeepError.{KeepError}
 use Rattle.hk_keeper.specs.declared.keeper.KeepError.TheVariants.{Failed, NoMemory}
 use Rattle.hk_keeper.specs.Calls.{HasFaultCause, IsNoted, Gains}

@@ -3,8 +3,8 @@ use Rattle.std.proofs.Common.{◌≡◌, ℕ, Bool, true, false, List, [], ◌�
 use Rattle.std.specs.Prelude.{count_by}
 use Rattle.std.proofs.lemmas.List.{length-map}
 use Rattle.std.proofs.lemmas.List.Sums.{length-filter}
-use Rattle.hd_server.specs.declared.vocabulary.Row.{Row}
-use Rattle.hd_server.specs.Kept.{texts_of_room, is_of_room}
+use Rattle.hd_rooms.specs.declared.vocabulary.Row.{Row}
+use Rattle.hd_rooms.specs.Kept.{texts_of_room, is_of_room}
 
 -- one row more adds its text, if it is of the room
 pub texts_push : (room : List ℕ) (rows : List Row) (row : Row) →

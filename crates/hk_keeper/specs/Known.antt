@@ -1,7 +1,7 @@
 -- What a caller knows of any keeper after several calls, by the trait's clauses alone.
 use Rattle.std.specs.Prelude.{◌≡◌, ℕ, List, ◌++◌, Option, option_map}
-use Rattle.hd_server.specs.declared.vocabulary.Asked.{Asked}
-use Rattle.hd_server.specs.Kept.{Content, KeeperDid, CountsFaults}
+use Rattle.hd_rooms.specs.declared.vocabulary.Asked.{Asked}
+use Rattle.hd_rooms.specs.Kept.{Content, KeeperDid, CountsFaults}
 
 -- what it was asked since then leads from the content then to the content now, and accounts for each fault
 pub record IsKnown (holds_then holds_now : Option Content) (answers_then answers_now : Option (List Asked)) (faults_then faults_now : ℕ) : Type 0 where

@@ -2,7 +2,7 @@
 
 ghost use Rattle.std.specs.Prelude.{◌≡◌, IfOk};
 
-use hd_server::{Asked, Row};
+use hd_rooms::{Asked, Row};
 use hv_value::{Text, Texts};
 use std::alloc::{AllocError, Global};
 
@@ -57,12 +57,12 @@ fn copy_ask(ask: &Asked) -> Result<Asked, AllocError>
             room,
             who,
             text,
-            is_kept,
+            is_resumable,
         } => Ok(Asked::Log {
             room: room.copy()?,
             who: who.copy()?,
             text: text.copy()?,
-            is_kept: *is_kept,
+            is_resumable: *is_resumable,
         }),
         Asked::History { room, most, texts } => Ok(Asked::History {
             room: room.copy()?,

@@ -1,9 +1,9 @@
 //! What a keeper is: the one trait, and why a call of it fails.
 
 ghost use Rattle.std.specs.Prelude.{◌≡◌, ℕ, List, Option, IfOk, OnOk, OnErr, IfSome, option_map, is_none, is_some, if◌then◌else◌};
-ghost use Rattle.hd_server.specs.declared.vocabulary.Asked.{Asked as Answered};
-ghost use Rattle.hd_server.specs.declared.vocabulary.Asked.TheVariants.{User, Rows, Log, History, AddUser};
-ghost use Rattle.hd_server.specs.Kept.{Content, name_of, row_count, recalled, with_row, with_user};
+ghost use Rattle.hd_rooms.specs.declared.vocabulary.Asked.{Asked as Answered};
+ghost use Rattle.hd_rooms.specs.declared.vocabulary.Asked.TheVariants.{User, Rows, Log, History, AddUser};
+ghost use Rattle.hd_rooms.specs.Kept.{Content, name_of, row_count, recalled, with_row, with_user};
 ghost use Rattle.hk_keeper.specs.Calls.{HasFaultCause, IsNoted};
 ghost use Rattle.hk_keeper.specs.declared.keeper.KeepError.TheVariants.{NoMemory};
 
@@ -56,7 +56,7 @@ pub trait Keeper {
     fn user_of(&mut self, alloc: Global, token: &Text) -> Result<Option<Text>, KeepError>
         ensures first { IfOk result
             (λ name. IfSome (holds self.old) (λ kept. name ≡ name_of token.now kept.users)) }
-        ensures kept { holds self.new ≡ holds self.old }
+        ensures unchanged { holds self.new ≡ holds self.old }
         ensures noted { IsNoted (answers self.old) (answers self.new) (User token.now) result }
         ensures cause { HasFaultCause (faults self.old) (faults self.new) result };
 
@@ -64,7 +64,7 @@ pub trait Keeper {
     fn rows(&mut self) -> Result<u64, KeepError>
         ensures count { IfOk result
             (λ count. IfSome (holds self.old) (λ kept. count ≡ row_count kept.rows)) }
-        ensures kept { holds self.new ≡ holds self.old }
+        ensures unchanged { holds self.new ≡ holds self.old }
         ensures noted { IsNoted (answers self.old) (answers self.new) Rows result }
         ensures cause { HasFaultCause (faults self.old) (faults self.new) result };
 
@@ -81,7 +81,7 @@ pub trait Keeper {
     fn history(&mut self, alloc: Global, room: &Text, most: u32) -> Result<Texts, KeepError>
         ensures last { IfOk result
             (λ texts. IfSome (holds self.old) (λ kept. texts ≡ recalled room.now most kept.rows)) }
-        ensures kept { holds self.new ≡ holds self.old }
+        ensures unchanged { holds self.new ≡ holds self.old }
         ensures noted { IsNoted (answers self.old) (answers self.new) (History room.now most) result }
         ensures cause { HasFaultCause (faults self.old) (faults self.new) result };
 

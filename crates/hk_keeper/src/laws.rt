@@ -3,7 +3,7 @@
 ghost use Rattle.hk_keeper.specs.Known.{IsKnown};
 
 use crate::keeper::{KeepError, Keeper};
-use hd_server::answers_join;
+use hd_rooms::answers_join;
 use hv_value::{Text, Texts};
 use std::alloc::Global;
 

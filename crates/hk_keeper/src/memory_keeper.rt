@@ -1,15 +1,15 @@
 //! A keeper in memory, which tells all and fails at chosen calls.
 
 ghost use Rattle.std.specs.Prelude.{◌≡◌, ◌+◌, ◌-◌, ◌^◌, ◌<◌, ◌≤◌, ◌↔◌, ℕ, [], ◌∷◌, ◌++◌, length, drop, Contains, IsTrue, IfOk, IsOkAnd, OnOk, OnErr, IfSome, Some, option_map, is_none, is_some, if◌then◌else◌};
-ghost use Rattle.hd_server.specs.declared.vocabulary.Asked.TheVariants.{User, Rows, Log, History, AddUser};
-ghost use Rattle.hd_server.specs.Kept.{name_of, row_count, recalled, texts_of_room, with_row, with_user};
+ghost use Rattle.hd_rooms.specs.declared.vocabulary.Asked.TheVariants.{User, Rows, Log, History, AddUser};
+ghost use Rattle.hd_rooms.specs.Kept.{name_of, row_count, recalled, texts_of_room, with_row, with_user};
 ghost use Rattle.hk_keeper.specs.Calls.{HasFaultCause, IsCaused, IsErrorNoted, IsNoted};
 ghost use Rattle.hk_keeper.specs.Memory.{MemoryContent, KeeperFails, FailsIf, after_call, after_error, with_asked};
 
 use crate::copies::{copy_asks, copy_rows, copy_text, copy_users};
 use crate::keeper::{KeepError, Keeper};
 use crate::reading::{is_unknown, last_texts, name_with};
-use hd_server::{Asked, Row};
+use hd_rooms::{Asked, Row};
 use hv_value::{Text, Texts};
 use std::alloc::{AllocError, Global};
 use std::marker::Model;
@@ -100,7 +100,7 @@ impl MemoryKeeper {
 
     /// Fails this call.
     fn fail(&mut self, ask: Asked) -> KeepError
-        ensures kept { self.new.kept ≡ self.old.kept }
+        ensures unchanged { self.new.kept ≡ self.old.kept }
         ensures noted { IsErrorNoted (Some self.old.asked) (Some self.new.asked) ask result }
         ensures cause { IsCaused self.old.faults self.new.faults result }
         ensures after { self.new ≡ after_error ask result self.old }
@@ -159,7 +159,7 @@ impl Keeper for MemoryKeeper {
     fn user_of(&mut self, alloc: Global, token: &Text) -> Result<Option<Text>, KeepError>
         ensures first { IfOk result
             (λ name. IfSome (Some self.old.kept) (λ kept. name ≡ name_of token.now kept.users)) }
-        ensures kept { Some self.new.kept ≡ Some self.old.kept }
+        ensures unchanged { Some self.new.kept ≡ Some self.old.kept }
         ensures noted { IsNoted (Some self.old.asked) (Some self.new.asked) (User token.now) result }
         ensures cause { HasFaultCause self.old.faults self.new.faults result }
         ensures fails { FailsIf (KeeperFails self.old) result }
@@ -185,7 +185,7 @@ impl Keeper for MemoryKeeper {
     fn rows(&mut self) -> Result<u64, KeepError>
         ensures count { IfOk result
             (λ count. IfSome (Some self.old.kept) (λ kept. count ≡ row_count kept.rows)) }
-        ensures kept { Some self.new.kept ≡ Some self.old.kept }
+        ensures unchanged { Some self.new.kept ≡ Some self.old.kept }
         ensures noted { IsNoted (Some self.old.asked) (Some self.new.asked) Rows result }
         ensures cause { HasFaultCause self.old.faults self.new.faults result }
         ensures fails { FailsIf (KeeperFails self.old) result }
@@ -211,14 +211,14 @@ impl Keeper for MemoryKeeper {
         ensures after { self.new ≡ after_call (λ done. Log room.now who.now text.now (is_some done))
             (λ done. with_row room.now who.now text.now self.old.kept) result self.old }
     {
-        let is_kept = !self.is_to_fail();
+        let is_resumable = !self.is_to_fail();
         let ask = Asked::Log {
             room: room.copy()?,
             who: who.copy()?,
             text: text.copy()?,
-            is_kept,
+            is_resumable,
         };
-        if !is_kept {
+        if !is_resumable {
             return Err(self.fail(ask));
         }
         let row = Row {
@@ -234,7 +234,7 @@ impl Keeper for MemoryKeeper {
     fn history(&mut self, alloc: Global, room: &Text, most: u32) -> Result<Texts, KeepError>
         ensures last { IfOk result
             (λ texts. IfSome (Some self.old.kept) (λ kept. texts ≡ recalled room.now most kept.rows)) }
-        ensures kept { Some self.new.kept ≡ Some self.old.kept }
+        ensures unchanged { Some self.new.kept ≡ Some self.old.kept }
         ensures noted { IsNoted (Some self.old.asked) (Some self.new.asked) (History room.now most) result }
         ensures cause { HasFaultCause self.old.faults self.new.faults result }
         ensures fails { FailsIf (KeeperFails self.old) result }

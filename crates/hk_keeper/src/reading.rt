@@ -2,9 +2,9 @@
 
 ghost use Rattle.std.specs.Prelude.{◌≡◌, ℕ, ◌-◌, length, drop, IfOk, is_none};
 ghost use Rattle.std.specs.List.{list_any};
-ghost use Rattle.hd_server.specs.Kept.{has_token, name_of, recalled, texts_of_room};
+ghost use Rattle.hd_rooms.specs.Kept.{has_token, name_of, recalled, texts_of_room};
 
-use hd_server::Row;
+use hd_rooms::Row;
 use hv_value::{Text, Texts};
 use std::alloc::{AllocError, Global};
 

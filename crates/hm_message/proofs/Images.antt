@@ -1,15 +1,16 @@
 -- A value and its tree, and a message and its image.
-use Rattle.std.proofs.Common.{◌≡◌, List, [], ◌∷◌, ap, refl, sym, ◌∙◌}
+use Rattle.std.proofs.Common.{◌≡◌, suc, List, [], ◌∷◌, ap, refl, sym, ◌∙◌}
 use Rattle.hv_value.specs.Tree as tree
-use Rattle.hv_value.specs.Tree.{Tree, Trees, no_trees, more, Pairs, no_pairs, pair, trees, pairs}
+use Rattle.hv_value.specs.Tree.{Tree, Trees, no_trees, more, Pairs, no_pairs, pair, trees, pairs, depth}
 use Rattle.hv_value.specs.Image.{image, images}
+use Rattle.hv_value.specs.Laws as value_laws
 use Rattle.hv_value.specs.Laws.{ImageIsItsOwn}
 use Rattle.hv_value.specs.View as seen
 use Rattle.hv_value.specs.declared.value.Value.{Value}
 use Rattle.hv_value.specs.declared.value.Value.TheVariants as value
 use Rattle.hm_message.specs.Fields.{trees_in, pairs_in}
-use Rattle.hm_message.specs.Laws.{ValuesAreTrees, ImageIsItsImage}
-use Rattle.hm_message.specs.Message.{value_of, value_image, ending_image}
+use Rattle.hm_message.specs.Laws.{ValuesAreTrees, ImageIsItsImage, ImageIsAsDeep}
+use Rattle.hm_message.specs.Message.{value_of, value_image, ending_depth, ending_image}
 use Rattle.hm_message.specs.declared.message.Message.TheVariants.{Invocation, StreamItem, Completion, StreamInvocation, CancelInvocation, Ping, Close, Ack, Sequence}
 use Rattle.hm_message.specs.declared.message.Ending.{Ending}
 use Rattle.hm_message.specs.declared.message.Ending.TheVariants.{Void, Result, Error}
@@ -78,3 +79,25 @@ module _ (own : ImageIsItsOwn) where
   image_is_its_image (Close e b) = refl
   image_is_its_image (Ack n) = refl
   image_is_its_image (Sequence n r) = refl
+
+-- ---- they nest as deep as the messages
+
+module _ (deep : value_laws.ImageIsAsDeep) where
+  depth-value_image : (v : Value) → depth (seen.tree (value_image v)) ≡ depth (seen.tree v)
+  depth-value_image v = ap depth (tree-value_of (image (seen.tree v))) ∙ deep.of_one (seen.tree v)
+
+  ending_depth-image : (e : Ending) → ending_depth (ending_image e) ≡ ending_depth e
+  ending_depth-image Void = refl
+  ending_depth-image (Result v) = depth-value_image v
+  ending_depth-image (Error s) = refl
+
+  pub image_is_as_deep : ImageIsAsDeep
+  image_is_as_deep (Invocation hs id s xs ids) = ap suc (deep.of_all xs)
+  image_is_as_deep (StreamItem hs id v) = depth-value_image v
+  image_is_as_deep (Completion hs id e) = ending_depth-image e
+  image_is_as_deep (StreamInvocation hs id s xs ids) = ap suc (deep.of_all xs)
+  image_is_as_deep (CancelInvocation hs id) = refl
+  image_is_as_deep Ping = refl
+  image_is_as_deep (Close e b) = refl
+  image_is_as_deep (Ack n) = refl
+  image_is_as_deep (Sequence n r) = refl

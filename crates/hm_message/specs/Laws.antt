@@ -5,7 +5,7 @@ use Rattle.hv_value.specs.View as seen
 use Rattle.hv_value.specs.declared.value.Value.{Value}
 use Rattle.hm_message.specs.Fields.{trees_in}
 use Rattle.hm_message.specs.Kind.{number, kind_at, IsOfNoKind}
-use Rattle.hm_message.specs.Message.{value_of, message_image}
+use Rattle.hm_message.specs.Message.{value_of, content_depth, message_image}
 use Rattle.hm_message.specs.declared.kind.Kind.{Kind}
 use Rattle.hm_message.specs.declared.message.Message.{Message}
 
@@ -26,3 +26,7 @@ pub record KindsHaveNumbers : Type 0 where
 -- A message's image is its own image.
 abbrev pub ImageIsItsImage : Type 0
 ImageIsItsImage = (m : Message) → message_image (message_image m) ≡ message_image m
+
+-- A message's image nests as deep as the message.
+abbrev pub ImageIsAsDeep : Type 0
+ImageIsAsDeep = (m : Message) → content_depth (message_image m) ≡ content_depth m

@@ -31,7 +31,7 @@ impl Headers {
         ensures last { IfOk result
             (λ h. (key : List ℕ) → header_at key h ≡ header_at key (reverse pairs.items)) }
         ensures in_order { IfOk result (λ h. IsHeaders h) }
-        ensures kept { IfOk result (λ h. IsHeaders pairs.items → h ≡ pairs.items) }
+        ensures unchanged { IfOk result (λ h. IsHeaders pairs.items → h ≡ pairs.items) }
     {
         let alloc = *pairs.allocator();
         let mut map = BTreeMap::new(alloc);

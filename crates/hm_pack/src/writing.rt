@@ -24,7 +24,7 @@ fn put_headers(out: &mut Vec<u8>, headers: &Headers) -> Result<(), AllocError>
         (out.new.items ≡ out.old.items ++ shortest (headers_written headers.now)) }
     ensures fits { OnOk result (IsWritable (headers_written headers.now)) }
     ensures in_order { OnOk result (IsInOrder (headers_written headers.now)) }
-    ensures kept { IsPrefix out.old.items out.new.items }
+    ensures unchanged { IsPrefix out.old.items out.new.items }
 {
     map_has_the_keys();
     let pairs = headers.pairs();
@@ -40,7 +40,7 @@ fn put_texts(out: &mut Vec<u8>, strings: &Texts) -> Result<(), AllocError>
     ensures ok { OnOk result
         (out.new.items ≡ out.old.items ++ shortest (list (trees (texts strings.now)))) }
     ensures fits { OnOk result (IsWritable (list (trees (texts strings.now)))) }
-    ensures kept { IsPrefix out.old.items out.new.items }
+    ensures unchanged { IsPrefix out.old.items out.new.items }
 {
     let strings = strings.texts();
     put_list_head(out, strings.len())?;
@@ -54,7 +54,7 @@ fn put_items(out: &mut Vec<u8>, items: &Items) -> Result<(), AllocError>
     ensures ok { OnOk result (out.new.items ≡ out.old.items ++ shortest (list (trees items.now))) }
     ensures fits { OnOk result (IsWritable (list (trees items.now))) }
     ensures in_order { OnOk result (AllInOrder (trees items.now)) }
-    ensures kept { IsPrefix out.old.items out.new.items }
+    ensures unchanged { IsPrefix out.old.items out.new.items }
 {
     let values = items.values();
     put_list_head(out, values.len())?;
@@ -65,7 +65,7 @@ fn put_items(out: &mut Vec<u8>, items: &Items) -> Result<(), AllocError>
 fn put_optional(out: &mut Vec<u8>, s: &Option<Text>) -> Result<(), AllocError>
     ensures ok { OnOk result (out.new.items ≡ out.old.items ++ shortest (text_written s.now)) }
     ensures fits { OnOk result (IsWritable (text_written s.now)) }
-    ensures kept { IsPrefix out.old.items out.new.items }
+    ensures unchanged { IsPrefix out.old.items out.new.items }
 {
     match s {
         Some(s) => put_text(out, s),
@@ -77,7 +77,7 @@ fn put_whole(out: &mut Vec<u8>, n: u64) -> Result<(), AllocError>
     ensures ok { OnOk result (out.new.items ≡ out.old.items ++ shortest (int (pos n))) }
     ensures fits { OnOk result (IsWritable (int (pos n))) }
     ensures in_range { OnOk result (n < 2 ^ 64) }
-    ensures kept { IsPrefix out.old.items out.new.items }
+    ensures unchanged { IsPrefix out.old.items out.new.items }
 {
     put_number(out, n)
 }
@@ -95,7 +95,7 @@ fn put_call(
         (AreWritable (trees (call_written target.now arguments.now streams.now))) }
     ensures in_order { OnOk result
         (AllInOrder (trees (call_written target.now arguments.now streams.now))) }
-    ensures kept { IsPrefix out.old.items out.new.items }
+    ensures unchanged { IsPrefix out.old.items out.new.items }
 {
     put_text(out, target)?;
     put_items(out, arguments)?;
@@ -109,7 +109,7 @@ fn put_ending(out: &mut Vec<u8>, ending: &Ending) -> Result<(), AllocError>
         (out.new.items ≡ out.old.items ++ trees_text (trees (ending_written ending.now))) }
     ensures fits { OnOk result (AreWritable (trees (ending_written ending.now))) }
     ensures in_order { OnOk result (AllInOrder (trees (ending_written ending.now))) }
-    ensures kept { IsPrefix out.old.items out.new.items }
+    ensures unchanged { IsPrefix out.old.items out.new.items }
 {
     match ending {
         Ending::Error(error) => {
@@ -158,7 +158,7 @@ fn put_elements(out: &mut Vec<u8>, m: &Message) -> Result<(), AllocError>
     ensures fits { OnOk result (AreWritable (trees (written m.now))) }
     ensures in_order { OnOk result (AllInOrder (trees (written m.now))) }
     ensures in_range { OnOk result (IsInRange m.now) }
-    ensures kept { IsPrefix out.old.items out.new.items }
+    ensures unchanged { IsPrefix out.old.items out.new.items }
 {
     match m {
         Message::Invocation {
@@ -224,7 +224,7 @@ fn put_message(out: &mut Vec<u8>, m: &Message) -> Result<(), AllocError>
     ensures fits { OnOk result (IsWritable (array_of m.now)) }
     ensures in_order { OnOk result (IsInOrder (array_of m.now)) }
     ensures in_range { OnOk result (IsInRange m.now) }
-    ensures kept { IsPrefix out.old.items out.new.items }
+    ensures unchanged { IsPrefix out.old.items out.new.items }
 {
     let count = count(m);
     put_list_head(out, count)?;

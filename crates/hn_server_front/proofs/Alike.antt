@@ -1,23 +1,23 @@
 -- A front that stands for some notes stands for every other of which the same is read off.
 use Rattle.std.proofs.Common.{◌≡◌, ◌≤◌, ℕ, Bool, not, ◌&&◌, ◌||◌, List, filter, length, Option, Some, None, is_some, option_map, unwrap_or, nat_lt, nat_le, if◌then◌else◌, sym, ap, subst, ◌∙◌, refl}
 use Rattle.std.proofs.lemmas.List.Elements.{filter_agree}
-use Rattle.hd_serving.specs.declared.vocabulary.Life.{Life}
-use Rattle.hd_serving.specs.declared.vocabulary.Life.TheVariants.{Unknown, Fresh, Socket, Lost, Polling, Ending}
+use Rattle.hd_server.specs.declared.vocabulary.Life.{Life}
+use Rattle.hd_server.specs.declared.vocabulary.Life.TheVariants.{Unknown, Fresh, Socket, Lost, Polling, Ending}
 use Rattle.hd_delivery.specs.Histories.{is_this, first_of}
-use Rattle.hd_serving.specs.Numbers.{most_connections}
-use Rattle.hd_serving.specs.Lives.{Note, made, numbers_to, is_made, is_let_go, is_opened, negotiated_at, is_promised, socket_of, lost_at, poll_of, poll_ended, ended_at, conn_with, standing, since, when}
+use Rattle.hd_server.specs.Numbers.{most_connections}
+use Rattle.hd_server.specs.Lives.{ConnectionEvent, made, numbers_to, is_made, is_let_go, is_opened, negotiated_at, is_resumable_promise, socket_of, lost_at, poll_of, poll_ended, ended_at, conn_with, standing, since, when}
 use Rattle.hn_server_front.specs.declared.entry.Entry.{Entry}
 use Rattle.hn_server_front.specs.declared.front.Front.{Front}
 use Rattle.hn_server_front.specs.Entries.{token_told}
 use Rattle.hn_server_front.specs.Stands.{IsEntryOf, IsUnborn, Stands, TokensAgree, entry_at, held_since, is_there, kept, since_of}
 
 -- the same is read off
-pub record Alike (h g : List Note) : Type 0 where
+pub record Alike (h g : List ConnectionEvent) : Type 0 where
   pub made_so : made h ≡ made g
   pub held : (c : ℕ) → is_let_go c h ≡ is_let_go c g
   pub opened : (c : ℕ) → is_opened c h ≡ is_opened c g
   pub told : (c : ℕ) → negotiated_at c h ≡ negotiated_at c g
-  pub promise : (c : ℕ) → is_promised c h ≡ is_promised c g
+  pub promise : (c : ℕ) → is_resumable_promise c h ≡ is_resumable_promise c g
   pub token : (c : ℕ) → token_told c h ≡ token_told c g
   pub socket : (c : ℕ) → socket_of c h ≡ socket_of c g
   pub lost : (c : ℕ) → lost_at c h ≡ lost_at c g
@@ -26,10 +26,10 @@ pub record Alike (h g : List Note) : Type 0 where
   pub ended : (c : ℕ) → ended_at c h ≡ ended_at c g
   pub conn : (token : List ℕ) → conn_with token h ≡ conn_with token g
 
-made_alike : (h g : List Note) → Alike h g → (c : ℕ) → is_made c h ≡ is_made c g
+made_alike : (h g : List ConnectionEvent) → Alike h g → (c : ℕ) → is_made c h ≡ is_made c g
 made_alike h g a c = ap (λ n. nat_lt 0 c && nat_le c n) a.made_so
 
-there_alike : (h g : List Note) → Alike h g → (c : ℕ) → is_there c h ≡ is_there c g
+there_alike : (h g : List ConnectionEvent) → Alike h g → (c : ℕ) → is_there c h ≡ is_there c g
 there_alike h g a c = ap (λ b. b && not (is_let_go c h)) (made_alike h g a c) ∙ ap (λ b. is_made c g && not b) (a.held c)
 
 -- eight that are the same make the same
@@ -47,13 +47,13 @@ standing_by held ended socket lost poll polled opened told = unwrap_or
     (first_of (when (is_some poll || is_some polled) Polling)
     (when (opened || is_some told) Fresh)))))) Unknown
 
-pub standing_alike : (h g : List Note) → Alike h g → (c : ℕ) → standing c h ≡ standing c g
+pub standing_alike : (h g : List ConnectionEvent) → Alike h g → (c : ℕ) → standing c h ≡ standing c g
 standing_alike h g a c =
     same_of_eight standing_by (is_let_go c h) (is_let_go c g) (ended_at c h) (ended_at c g) (socket_of c h) (socket_of c g) (lost_at c h) (lost_at c g)
     (poll_of c h) (poll_of c g) (poll_ended c h) (poll_ended c g) (is_opened c h) (is_opened c g) (negotiated_at c h) (negotiated_at c g)
     (a.held c) (a.ended c) (a.socket c) (a.lost c) (a.poll c) (a.polled c) (a.opened c) (a.told c)
 
-since_alike : (h g : List Note) → Alike h g → (c : ℕ) (life : Life) → since c life h ≡ since c life g
+since_alike : (h g : List ConnectionEvent) → Alike h g → (c : ℕ) (life : Life) → since c life h ≡ since c life g
 since_alike h g a c Unknown = refl
 since_alike h g a c Fresh = a.told c
 since_alike h g a c (Socket lane) = refl
@@ -61,15 +61,15 @@ since_alike h g a c Lost = a.lost c
 since_alike h g a c Polling = a.polled c
 since_alike h g a c Ending = a.ended c
 
-pub since_of_alike : (h g : List Note) → Alike h g → (c : ℕ) → since_of c h ≡ since_of c g
+pub since_of_alike : (h g : List ConnectionEvent) → Alike h g → (c : ℕ) → since_of c h ≡ since_of c g
 since_of_alike h g a c = since_alike h g a c (standing c h) ∙ ap (λ life. since c life g) (standing_alike h g a c)
 
-held_alike : (h g : List Note) → Alike h g → (c : ℕ) → held_since c h ≡ held_since c g
+held_alike : (h g : List ConnectionEvent) → Alike h g → (c : ℕ) → held_since c h ≡ held_since c g
 held_alike h g a c =
     ap (λ b. if b then option_map (λ poll. poll.1) (poll_of c h) else None) (there_alike h g a c)
     ∙ ap (λ o. if is_there c g then option_map (λ poll. poll.1) o else None) (a.poll c)
 
-entry_alike : (h g : List Note) → Alike h g → (c : ℕ) (e : Option Entry) → IsEntryOf e c h → IsEntryOf e c g
+entry_alike : (h g : List ConnectionEvent) → Alike h g → (c : ℕ) (e : Option Entry) → IsEntryOf e c h → IsEntryOf e c g
 entry_alike h g a c None r = sym (there_alike h g a c) ∙ r
 entry_alike h g a c (Some e) r = record {
   there = sym (made_alike h g a c) ∙ r.there;
@@ -85,7 +85,7 @@ entry_alike h g a c (Some e) r = record {
   ended = r.ended ∙ a.ended c;
 }
 
-unborn_alike : (h g : List Note) → Alike h g → (c : ℕ) → IsUnborn c h → IsUnborn c g
+unborn_alike : (h g : List ConnectionEvent) → Alike h g → (c : ℕ) → IsUnborn c h → IsUnborn c g
 unborn_alike h g a c u = record {
   held = sym (a.held c) ∙ u.held;
   opened = sym (a.opened c) ∙ u.opened;
@@ -99,18 +99,18 @@ unborn_alike h g a c u = record {
   ended = sym (a.ended c) ∙ u.ended;
 }
 
-kept_alike : (h g : List Note) → Alike h g → (o : Option ℕ) → kept o h ≡ kept o g
+kept_alike : (h g : List ConnectionEvent) → Alike h g → (o : Option ℕ) → kept o h ≡ kept o g
 kept_alike h g a None = refl
 kept_alike h g a (Some c) = ap (λ b. if b then None else Some c) (a.held c)
 
-agree_alike : (h g : List Note) → Alike h g → TokensAgree h → TokensAgree g
+agree_alike : (h g : List ConnectionEvent) → Alike h g → TokensAgree h → TokensAgree g
 agree_alike h g a t = record {
   spelled = λ c token e. t.spelled c token (a.token c ∙ e);
   told = λ c token e. sym (a.conn token) ∙ t.told c token (a.token c ∙ e);
   had = λ c token e. sym (a.token c) ∙ t.had c token (a.conn token ∙ e);
 }
 
-pub stands_alike : (f : Front) (h g : List Note) → Alike h g → Stands f h → Stands f g
+pub stands_alike : (f : Front) (h g : List ConnectionEvent) → Alike h g → Stands f h → Stands f g
 stands_alike f h g a s = record {
   made_so = s.made_so ∙ a.made_so;
   few = subst (λ n. n ≤ most_connections) a.made_so s.few;

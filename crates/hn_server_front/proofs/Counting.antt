@@ -5,7 +5,7 @@ use Rattle.std.proofs.lemmas.Bool.{and_from, or_cases, and_parts, or_left, or_ri
 use Rattle.std.proofs.lemmas.List.Elements.{filter-append}
 use Rattle.indexmap.specs.IndexMap.{index_map_len}
 use Rattle.hd_delivery.specs.Histories.{is_this}
-use Rattle.hd_serving.specs.Lives.{Note, made, numbers_to, is_made, is_let_go, poll_of, since}
+use Rattle.hd_server.specs.Lives.{ConnectionEvent, made, numbers_to, is_made, is_let_go, poll_of, since}
 use Rattle.hn_server_front.specs.declared.front.Front.{Front}
 use Rattle.hn_server_front.specs.declared.moments.Waiting.{Waiting}
 use Rattle.hn_server_front.specs.Moments.{IsInOrder, at, is_before, is_same, is_within}
@@ -230,13 +230,13 @@ module _ (n : ℕ) (ws : List Waiting) (s : ℕ → Option ℕ) (p : ℕ → Boo
 -- ---- in the words of the notes
 
 -- nothing ends the life of a connection that isn't there
-since_gone : (c : ℕ) (h : List Note) → is_let_go c h ≡ true → since_of c h ≡ None
+since_gone : (c : ℕ) (h : List ConnectionEvent) → is_let_go c h ≡ true → since_of c h ≡ None
 since_gone c h e = rw e refl
 
-pub since_unborn : (c : ℕ) (h : List Note) → IsUnborn c h → since_of c h ≡ None
+pub since_unborn : (c : ℕ) (h : List ConnectionEvent) → IsUnborn c h → since_of c h ≡ None
 since_unborn c h u = rw (u.held, u.ended, u.socket, u.lost, u.poll, u.polled, u.opened, u.told) refl
 
-pub since_is_there : (f : Front) (h : List Note) (c : ℕ) → Stands f h → is_some (since_of c h) ≡ true → is_there c h ≡ true
+pub since_is_there : (f : Front) (h : List ConnectionEvent) (c : ℕ) → Stands f h → is_some (since_of c h) ≡ true → is_there c h ≡ true
 since_is_there f h c stands e = and_from (is_made c h) (not (is_let_go c h))
     (true_from_ne_false (is_made c h) (λ x. no_moment (since_unborn c h (stands.unborn c x))))
     (ap not (false_from_ne_true (is_let_go c h) (λ x. no_moment (since_gone c h x))))
@@ -244,27 +244,27 @@ since_is_there f h c stands e = and_from (is_made c h) (not (is_let_go c h))
     no_moment : since_of c h ≡ None → ⊥
     no_moment x = let z : false ≡ true = sym (ap (λ o. is_some o) x) ∙ e in cc
 
-pub there_within : (c : ℕ) (h : List Note) → is_there c h ≡ true → (0 < c) × (c ≤ made h)
+pub there_within : (c : ℕ) (h : List ConnectionEvent) → is_there c h ≡ true → (0 < c) × (c ≤ made h)
 there_within c h e =
     let made_so = (and_parts (is_made c h) (not (is_let_go c h)) e).0 in
     let parts = and_parts (nat_lt 0 c) (nat_le c (made h)) made_so in
     (ltb-true 0 c parts.0, leb-true c (made h) parts.1)
 
 -- those that wait and pass a test
-pub waiting_counted : (f : Front) (h : List Note) (p : ℕ → Bool) → Stands f h → length (filter (λ w. p w.conn) f.moments.waiting.items)
+pub waiting_counted : (f : Front) (h : List ConnectionEvent) (p : ℕ → Bool) → Stands f h → length (filter (λ w. p w.conn) f.moments.waiting.items)
     ≡ count (made h) (λ c. is_some (since_of c h) && p c)
 waiting_counted f h p stands =
     let within : (c : ℕ) → is_some (since_of c h) ≡ true → (0 < c) × (c ≤ made h) = λ c e. there_within c h (since_is_there f h c stands e) in
     count_waiting (made h) f.moments.waiting.items (λ c. since_of c h) p stands.order stands.waiting within
 
-pub waiting_few : (f : Front) (h : List Note) → Stands f h → length f.moments.waiting.items ≤ index_map_len f.entries
+pub waiting_few : (f : Front) (h : List ConnectionEvent) → Stands f h → length f.moments.waiting.items ≤ index_map_len f.entries
 waiting_few f h stands =
     let less = few (made h) f.moments.waiting.items (λ c. since_of c h) (λ c. is_there c h) stands.order stands.waiting
     (λ c e. since_is_there f h c stands e) (λ c e. there_within c h e) in
     omega (arith, less, stands.size)
 
 -- and fewer where one that is there doesn't wait
-pub waiting_fewer : (f : Front) (h : List Note) (c : ℕ) → Stands f h → is_there c h ≡ true → since_of c h ≡ None
+pub waiting_fewer : (f : Front) (h : List ConnectionEvent) (c : ℕ) → Stands f h → is_there c h ≡ true → since_of c h ≡ None
     → length f.moments.waiting.items < index_map_len f.entries
 waiting_fewer f h c stands there none =
     let less = fewer (made h) f.moments.waiting.items (λ c. since_of c h) (λ c. is_there c h) stands.order stands.waiting
@@ -272,7 +272,7 @@ waiting_fewer f h c stands there none =
     omega (arith, less, stands.size)
 
 -- only one that is there holds a poll
-held_is_there : (c : ℕ) (h : List Note) → is_some (held_since c h) ≡ true → is_there c h ≡ true
+held_is_there : (c : ℕ) (h : List ConnectionEvent) → is_some (held_since c h) ≡ true → is_there c h ≡ true
 held_is_there c h e = go (is_there c h) e
   where
     go : (b : Bool) → is_some (if b then option_map (λ poll. poll.1) (poll_of c h) else None) ≡ true → b ≡ true
@@ -280,7 +280,7 @@ held_is_there c h e = go (is_there c h) e
     go false e = e
 
 -- fewer hold polls than are there, where one that is there holds none
-pub polling_fewer : (f : Front) (h : List Note) (c : ℕ) → Stands f h → is_there c h ≡ true → held_since c h ≡ None
+pub polling_fewer : (f : Front) (h : List ConnectionEvent) (c : ℕ) → Stands f h → is_there c h ≡ true → held_since c h ≡ None
     → length f.polls.waiting.items < index_map_len f.entries
 polling_fewer f h c stands there none =
     let less = fewer (made h) f.polls.waiting.items (λ c. held_since c h) (λ c. is_there c h) stands.polls_order stands.polling

@@ -4,9 +4,9 @@ use Rattle.std.proofs.Common.{◌≡◌, ◌≤◌, ◌<◌, ◌+◌, ℕ, zero,
 use Rattle.std.proofs.lemmas.Bool.{and_parts, and_from, true_from_ne_false, false_from_ne_true, cases_lt, cases_Bool}
 use Rattle.std.proofs.lemmas.List.Elements.{filter-append}
 use Rattle.hd_delivery.specs.Histories.{is_this}
-use Rattle.hd_serving.specs.declared.vocabulary.Life.TheVariants.{Unknown}
-use Rattle.hd_serving.specs.Numbers.{held_for, lives_for}
-use Rattle.hd_serving.specs.Lives.{Note, Ended, Expired, LetGo, made, numbers_to, is_made, is_let_go, ended_at, only_polls, ends_then, deadline, is_past, overdue, standing, since, is_opened, negotiated_at, socket_of, lost_at, poll_of, poll_ended}
+use Rattle.hd_server.specs.declared.vocabulary.Life.TheVariants.{Unknown}
+use Rattle.hd_server.specs.Numbers.{held_for, lives_for}
+use Rattle.hd_server.specs.Lives.{ConnectionEvent, Ended, Expired, LetGo, made, numbers_to, is_made, is_let_go, ended_at, only_polls, ends_then, deadline, is_past, overdue, standing, since, is_opened, negotiated_at, socket_of, lost_at, poll_of, poll_ended}
 use Rattle.hn_server_front.specs.declared.front.Front.{Front}
 use Rattle.hn_server_front.specs.declared.moments.Waiting.{Waiting}
 use Rattle.hn_server_front.specs.Calls.{Expires, IsFirst, IsNoted, is_held_long}
@@ -43,7 +43,7 @@ within_filter p w (v ∷ vs) = elim (cases_Bool (p v)) [
 abbrev pub due_of : ℕ → Front → List Waiting
 due_of now f = filter (λ (v : Waiting). is_due f.moments.lasts now v) f.moments.waiting.items
 
-abbrev pub is_overdue : ℕ → ℕ → List Note → Bool
+abbrev pub is_overdue : ℕ → ℕ → List ConnectionEvent → Bool
 is_overdue now c h = is_past now (deadline c h)
 
 -- whether this moment, if it is one, has come
@@ -54,14 +54,14 @@ this_is : (n : ℕ) (o : Option ℕ) → is_this n o ≡ true → o ≡ Some n
 this_is n None e = absurd (let z : false ≡ true = e in cc)
 this_is n (Some k) e = ap (λ m. Some m) (sym (eqb-true n k e))
 
-due_is_past : (f : Front) (h : List Note) → Stands f h → (now : ℕ) (w : Waiting) → is_within w (due_of now f) ≡ true → is_overdue now w.conn h ≡ true
+due_is_past : (f : Front) (h : List ConnectionEvent) → Stands f h → (now : ℕ) (w : Waiting) → is_within w (due_of now f) ≡ true → is_overdue now w.conn h ≡ true
 due_is_past f h s now w e =
     let both = sym (within_filter (λ (v : Waiting). is_due f.moments.lasts now v) w f.moments.waiting.items) ∙ e in
     let p = and_parts (is_due f.moments.lasts now w) (is_within w f.moments.waiting.items) both in
     let q : since_of w.conn h ≡ Some w.since = this_is w.since (since_of w.conn h) (sym (s.waiting w) ∙ p.1) in
     ap (λ o. is_after now o) q ∙ (sym (ap (λ n. is_due n now w) s.lasts) ∙ p.0)
 
-past_is_due : (f : Front) (h : List Note) → Stands f h → (now c : ℕ) → is_overdue now c h ≡ true → (since : ℕ) × (is_within (at since c) (due_of now f) ≡ true)
+past_is_due : (f : Front) (h : List ConnectionEvent) → Stands f h → (now c : ℕ) → is_overdue now c h ≡ true → (since : ℕ) × (is_within (at since c) (due_of now f) ≡ true)
 past_is_due f h s now c e = go (since_of c h) refl (sym e)
   where
     go : (o : Option ℕ) → since_of c h ≡ o → true ≡ is_after now (since_of c h) → (since : ℕ) × (is_within (at since c) (due_of now f) ≡ true)
@@ -75,7 +75,7 @@ past_is_due f h s now c e = go (since_of c h) refl (sym e)
     )
 
 -- nothing ends a number that no connection has
-unborn_waits : (c : ℕ) (h : List Note) → IsUnborn c h → since_of c h ≡ None
+unborn_waits : (c : ℕ) (h : List ConnectionEvent) → IsUnborn c h → since_of c h ≡ None
 unborn_waits c h u =
     let life : standing c h ≡ Unknown =
     same_of_eight standing_by (is_let_go c h) false (ended_at c h) None (socket_of c h) None (lost_at c h) None
@@ -84,7 +84,7 @@ unborn_waits c h u =
     in
     ap (λ life. since c life h) life
 
-past_is_made : (f : Front) (h : List Note) → Stands f h → (now c : ℕ) → is_overdue now c h ≡ true → is_made c h ≡ true
+past_is_made : (f : Front) (h : List ConnectionEvent) → Stands f h → (now c : ℕ) → is_overdue now c h ≡ true → is_made c h ≡ true
 past_is_made f h s now c e = true_from_ne_false (is_made c h) (λ m.
     let q : since_of c h ≡ None = unborn_waits c h (s.unborn c m) in
     let z : true ≡ false = sym e ∙ ap (λ o. is_after now o) q in
@@ -92,7 +92,7 @@ past_is_made f h s now c e = true_from_ne_false (is_made c h) (λ m.
 
 -- ---- who holds a poll, and for long
 
-pub held_long_are : (f : Front) (h : List Note) → Stands f h → (now since c : ℕ)
+pub held_long_are : (f : Front) (h : List ConnectionEvent) → Stands f h → (now since c : ℕ)
     → is_within (at since c) (filter (λ (w : Waiting). is_due f.polls.lasts now w) f.polls.waiting.items) ≡ is_held_long now since c h
 held_long_are f h s now since c =
     within_filter (λ (w : Waiting). is_due f.polls.lasts now w) (at since c) f.polls.waiting.items
@@ -137,33 +137,33 @@ numbers_first p c (suc n) l m e f = elim (cases_lt n c) [
 
 -- ---- the least number of those that are due
 
-pub none_overdue : (f : Front) (h : List Note) → Stands f h → (now : ℕ) → IsLeast (due_of now f) None → overdue now h ≡ []
+pub none_overdue : (f : Front) (h : List ConnectionEvent) → Stands f h → (now : ℕ) → IsLeast (due_of now f) None → overdue now h ≡ []
 none_overdue f h s now e = numbers_none (λ c. is_overdue now c h) (made h) (λ c l. false_from_ne_true (is_overdue now c h) (λ p.
     let d = past_is_due f h s now c p in
     let z : true ≡ false = sym d.1 ∙ ap (λ ws. is_within (at d.0 c) ws) e in
     cc))
 
-least_is_past : (f : Front) (h : List Note) → Stands f h → (now c : ℕ) → IsLeast (due_of now f) (Some c) → is_overdue now c h ≡ true
+least_is_past : (f : Front) (h : List ConnectionEvent) → Stands f h → (now c : ℕ) → IsLeast (due_of now f) (Some c) → is_overdue now c h ≡ true
 least_is_past f h s now c l = due_is_past f h s now (at l.0.0 c) l.0.1
 
-pub least_is_made : (f : Front) (h : List Note) → Stands f h → (now c : ℕ) → IsLeast (due_of now f) (Some c) → is_made c h ≡ true
+pub least_is_made : (f : Front) (h : List ConnectionEvent) → Stands f h → (now c : ℕ) → IsLeast (due_of now f) (Some c) → is_made c h ≡ true
 least_is_made f h s now c l = past_is_made f h s now c (least_is_past f h s now c l)
 
-pub first_overdue : (f : Front) (h : List Note) → Stands f h → (now c : ℕ) → IsLeast (due_of now f) (Some c) → (rest : List ℕ) × (overdue now h ≡ c ∷ rest)
+pub first_overdue : (f : Front) (h : List ConnectionEvent) → Stands f h → (now c : ℕ) → IsLeast (due_of now f) (Some c) → (rest : List ℕ) × (overdue now h ≡ c ∷ rest)
 first_overdue f h s now c l =
     let m = and_parts (nat_lt 0 c) (nat_le c (made h)) (least_is_made f h s now c l) in
     let below : (k : ℕ) → is_overdue now k h ≡ true → c ≤ k = λ k p. let d = past_is_due f h s now k p in l.1 (at d.0 k) d.1 in
     numbers_first (λ k. is_overdue now k h) c (made h) (ltb-true 0 c m.0) (leb-true c (made h) m.1) (least_is_past f h s now c l) below
 
 -- one that is let go waits for nothing
-held_waits : (c : ℕ) (h : List Note) → is_let_go c h ≡ true → since_of c h ≡ None
+held_waits : (c : ℕ) (h : List ConnectionEvent) → is_let_go c h ≡ true → since_of c h ≡ None
 held_waits c h e =
     let life : standing c h ≡ Unknown =
     ap (λ b. standing_by b (ended_at c h) (socket_of c h) (lost_at c h) (poll_of c h) (poll_ended c h) (is_opened c h) (negotiated_at c h)) e
     in
     ap (λ life. since c life h) life
 
-pub least_is_there : (f : Front) (h : List Note) → Stands f h → (now c : ℕ) → IsLeast (due_of now f) (Some c) → is_there c h ≡ true
+pub least_is_there : (f : Front) (h : List ConnectionEvent) → Stands f h → (now c : ℕ) → IsLeast (due_of now f) (Some c) → is_there c h ≡ true
 least_is_there f h s now c l = and_from (is_made c h) (not (is_let_go c h)) (least_is_made f h s now c l)
     (true_from_ne_false (not (is_let_go c h)) (λ e. elim (cases_Bool (is_let_go c h)) [
       | inl g ↦ (let z : true ≡ false = sym (least_is_past f h s now c l) ∙ ap (λ o. is_after now o) (held_waits c h g) in cc)
@@ -173,7 +173,7 @@ least_is_there f h s now c l = and_from (is_made c h) (not (is_let_go c h)) (lea
 -- ---- what is noted of it
 
 -- one that only polls and isn't ending ends by its moment
-pub ends_alike : (c now : ℕ) (h : List Note) → ends_then c h ≡ true → Alike (Ended c now ∷ h) (Expired c now ∷ h)
+pub ends_alike : (c now : ℕ) (h : List ConnectionEvent) → ends_then c h ≡ true → Alike (Ended c now ∷ h) (Expired c now ∷ h)
 ends_alike c now h e = record {
   made_so = refl;
   held = λ k. held k (k == c) refl;
@@ -204,7 +204,7 @@ ends_alike c now h e = record {
     ended k false q = refl
 
 -- and every other is let go by it
-pub goes_alike : (c now : ℕ) (h : List Note) → ends_then c h ≡ false → Alike (LetGo c ∷ h) (Expired c now ∷ h)
+pub goes_alike : (c now : ℕ) (h : List ConnectionEvent) → ends_then c h ≡ false → Alike (LetGo c ∷ h) (Expired c now ∷ h)
 goes_alike c now h e = record {
   made_so = refl;
   held = λ k. held k (k == c) refl;
@@ -233,24 +233,24 @@ goes_alike c now h e = record {
 
 -- ---- the call
 
-pub expired_none : (f : Front) (h : List Note) → Stands f h → (now : ℕ) (r o : Option ℕ) → IsLeast (due_of now f) r → r ≡ None → o ≡ None → Expires f h now o
+pub expired_none : (f : Front) (h : List ConnectionEvent) → Stands f h → (now : ℕ) (r o : Option ℕ) → IsLeast (due_of now f) r → r ≡ None → o ≡ None → Expires f h now o
 expired_none f h s now r o l e n =
     subst (λ o. Expires f h now o) (sym n) (none_overdue f h s now (subst (λ r. IsLeast (due_of now f) r) e l), s)
 
-pub expired_ends : (f new : Front) (h : List Note) → Stands f h → (now c : ℕ) (r : Option ℕ) → IsLeast (due_of now f) r → r ≡ Some c
+pub expired_ends : (f new : Front) (h : List ConnectionEvent) → Stands f h → (now c : ℕ) (r : Option ℕ) → IsLeast (due_of now f) r → r ≡ Some c
     → (is_there c h && ends_then c h) ≡ true → IsNoted f new c (Ended c now) → Expires new h now (Some c)
 expired_ends f new h s now c r l e t n =
     let m = subst (λ r. IsLeast (due_of now f) r) e l in
     let p = and_parts (is_there c h) (ends_then c h) t in
     (first_overdue f h s now c m, stands_alike new (Ended c now ∷ h) (Expired c now ∷ h) (ends_alike c now h p.1) ((n h s).0 (least_is_made f h s now c m)))
 
-pub expired_goes : (f new : Front) (h : List Note) → Stands f h → (now c : ℕ) (r : Option ℕ) → IsLeast (due_of now f) r → r ≡ Some c
+pub expired_goes : (f new : Front) (h : List ConnectionEvent) → Stands f h → (now c : ℕ) (r : Option ℕ) → IsLeast (due_of now f) r → r ≡ Some c
     → (is_there c h && ends_then c h) ≡ false → IsNoted f new c (LetGo c) → Expires new h now (Some c)
 expired_goes f new h s now c r l e t n =
     let m = subst (λ r. IsLeast (due_of now f) r) e l in
     let p : ends_then c h ≡ false = sym (ap (λ b. b && ends_then c h) (least_is_there f h s now c m)) ∙ t in
     (first_overdue f h s now c m, stands_alike new (LetGo c ∷ h) (Expired c now ∷ h) (goes_alike c now h p) ((n h s).0 (least_is_made f h s now c m)))
 
-pub least_is_first : (f : Front) (h : List Note) → Stands f h → (now : ℕ) (r : Option ℕ) → IsLeast (due_of now f) r → IsFirst r (overdue now h)
+pub least_is_first : (f : Front) (h : List ConnectionEvent) → Stands f h → (now : ℕ) (r : Option ℕ) → IsLeast (due_of now f) r → IsFirst r (overdue now h)
 least_is_first f h s now None l = none_overdue f h s now l
 least_is_first f h s now (Some c) l = first_overdue f h s now c l

@@ -3,10 +3,10 @@ use Rattle.std.proofs.Common.{◌≡◌, ℕ, ◌+◌, ◌<◌, ◌≤◌, Bool,
 use Rattle.std.proofs.lemmas.Bool.{and_from, both_ways, and_parts, or_right, false_from_ne_true, true_from_ne_false, not-true, cases_Bool, lt-ltb, le-leb}
 use Rattle.indexmap.specs.IndexMap.{index_map_len}
 use Rattle.hd_delivery.specs.Histories.{first_of}
-use Rattle.hd_serving.specs.Numbers.{lives_for}
-use Rattle.hd_serving.specs.Lives.{Note, made, is_made, is_let_go, is_known, is_opened, negotiated_at, is_past, deadline, life_of, live, past, standing, when, ended_at, socket_of, lost_at, is_polling}
-use Rattle.hd_serving.specs.declared.vocabulary.Life.{Life}
-use Rattle.hd_serving.specs.declared.vocabulary.Life.TheVariants.{Unknown, Fresh, Socket, Lost, Polling, Ending}
+use Rattle.hd_server.specs.Numbers.{lives_for}
+use Rattle.hd_server.specs.Lives.{ConnectionEvent, made, is_made, is_let_go, is_known, is_opened, negotiated_at, is_past, deadline, life_of, live, past, standing, when, ended_at, socket_of, lost_at, is_polling}
+use Rattle.hd_server.specs.declared.vocabulary.Life.{Life}
+use Rattle.hd_server.specs.declared.vocabulary.Life.TheVariants.{Unknown, Fresh, Socket, Lost, Polling, Ending}
 use Rattle.hn_server_front.specs.declared.entry.Entry.{Entry}
 use Rattle.hn_server_front.specs.declared.front.Front.{Front}
 use Rattle.hn_server_front.specs.declared.moments.Waiting.{Waiting}
@@ -52,16 +52,16 @@ known_by false None false true begun e = refl
 known_by false None false false true e = refl
 known_by false None false false false e = e
 
-standing_known : (c : ℕ) (h : List Note) → is_let_go c h ≡ false → (is_opened c h || is_some (negotiated_at c h)) ≡ true → is_known (standing c h) ≡ true
+standing_known : (c : ℕ) (h : List ConnectionEvent) → is_let_go c h ≡ false → (is_opened c h || is_some (negotiated_at c h)) ≡ true → is_known (standing c h) ≡ true
 standing_known c h held begun =
     let has_begun : Bool = is_opened c h || is_some (negotiated_at c h) in
     ap (λ b. is_known (life_by b (is_some (ended_at c h)) (socket_of c h) (is_some (lost_at c h)) (is_polling c h) has_begun)) held
     ∙ known_by (is_some (ended_at c h)) (socket_of c h) (is_some (lost_at c h)) (is_polling c h) has_begun begun
 
-standing_gone : (c : ℕ) (h : List Note) → is_let_go c h ≡ true → standing c h ≡ Unknown
+standing_gone : (c : ℕ) (h : List ConnectionEvent) → is_let_go c h ≡ true → standing c h ≡ Unknown
 standing_gone c h e = rw e refl
 
-begun_there : (f : Front) (h : List Note) (c : ℕ) → Stands f h → is_there c h ≡ true → (is_opened c h || is_some (negotiated_at c h)) ≡ true
+begun_there : (f : Front) (h : List ConnectionEvent) (c : ℕ) → Stands f h → is_there c h ≡ true → (is_opened c h || is_some (negotiated_at c h)) ≡ true
 begun_there f h c stands there = go (entry_at f c) (stands.entries c)
   where
     go : (o : Option Entry) → IsEntryOf o c h → (is_opened c h || is_some (negotiated_at c h)) ≡ true
@@ -69,7 +69,7 @@ begun_there f h c stands there = go (entry_at f c) (stands.entries c)
     go (Some e) r = r.begun
 
 -- one that is unknown and is there is past its moment
-past_moment : (c now : ℕ) (h : List Note) → is_known (standing c h) ≡ true → is_known (life_of c now h) ≡ false → is_past now (deadline c h) ≡ true
+past_moment : (c now : ℕ) (h : List ConnectionEvent) → is_known (standing c h) ≡ true → is_known (life_of c now h) ≡ false → is_past now (deadline c h) ≡ true
 past_moment c now h known unknown = true_from_ne_false (is_past now (deadline c h)) (λ e.
     let same : is_known (life_of c now h) ≡ is_known (standing c h) = ap (λ b. is_known (cond b (past (standing c h)) (standing c h))) e in
     both_ways (is_known (standing c h)) (sym same ∙ unknown) known)
@@ -94,14 +94,14 @@ none_of_both false d true e f = absurd (let z : true ≡ false = f in cc)
 none_of_both false d false e f = refl
 
 -- one past its moment is forgotten if it is unknown
-abbrev forgotten : ℕ → ℕ → List Note → Bool
+abbrev forgotten : ℕ → ℕ → List ConnectionEvent → Bool
 forgotten now c h = is_past now (deadline c h) && not (is_known (life_of c now h))
 
-abbrev known_or_forgotten : ℕ → ℕ → List Note → ℕ
+abbrev known_or_forgotten : ℕ → ℕ → List ConnectionEvent → ℕ
 known_or_forgotten now c h = cond (is_some (since_of c h) && forgotten now c h) 1 0 + cond (is_known (life_of c now h)) 1 0
 
 -- it is known, or waits and is forgotten, exactly if it is there
-each : (f : Front) (h : List Note) (now : ℕ) → Stands f h → (c : ℕ) → 0 < c → c ≤ made h → known_or_forgotten now c h ≡ cond (is_there c h) 1 0
+each : (f : Front) (h : List ConnectionEvent) (now : ℕ) → Stands f h → (c : ℕ) → 0 < c → c ≤ made h → known_or_forgotten now c h ≡ cond (is_there c h) 1 0
 each f h now stands c l m = elim (cases_Bool (is_there c h)) [ inl e ↦ there e | inr e ↦ away e ]
   where
     there : is_there c h ≡ true → known_or_forgotten now c h ≡ cond (is_there c h) 1 0
@@ -130,13 +130,13 @@ each f h now stands c l m = elim (cases_Bool (is_there c h)) [ inl e ↦ there e
 
 -- ---- those that are forgotten
 
-due_past : (f : Front) (h : List Note) (now : ℕ) → Stands f h → (w : Waiting) → is_within w f.moments.waiting.items ≡ true
+due_past : (f : Front) (h : List ConnectionEvent) (now : ℕ) → Stands f h → (w : Waiting) → is_within w f.moments.waiting.items ≡ true
     → is_due f.moments.lasts now w ≡ is_past now (deadline w.conn h)
 due_past f h now stands w within =
     let his = is_this_at w.since (since_of w.conn h) (sym (stands.waiting w) ∙ within) in
     ap (λ n. is_due n now w) stands.lasts ∙ sym (ap (λ o. is_past now (option_map (λ moment. moment + lives_for) o)) his)
 
-pub forgotten_counted : (f : Front) (h : List Note) (now : ℕ) → Stands f h
+pub forgotten_counted : (f : Front) (h : List ConnectionEvent) (now : ℕ) → Stands f h
     → length (filter (λ w. not (is_known (life_of w.conn now h))) (filter (λ w. is_due f.moments.lasts now w) f.moments.waiting.items))
     + length (live now h) ≡ index_map_len f.entries
 forgotten_counted f h now stands =
@@ -151,5 +151,5 @@ forgotten_counted f h now stands =
     (each f h now stands) in
     omega (arith, twice, members, counted, both, stands.size)
 
-pub live_few : (f : Front) (h : List Note) (now : ℕ) → Stands f h → length (live now h) ≤ index_map_len f.entries
+pub live_few : (f : Front) (h : List ConnectionEvent) (now : ℕ) → Stands f h → length (live now h) ≤ index_map_len f.entries
 live_few f h now stands = let counted = forgotten_counted f h now stands in omega (arith, counted)

@@ -7,6 +7,7 @@ pub mod Passing
 pub mod Alike
 pub mod Expiring
 pub mod Routing
+pub mod Decided
 pub mod Versions
 pub mod Forgotten
 pub mod Making

@@ -7,10 +7,10 @@ use Rattle.std.specs.Map.{lookup}
 use Rattle.std.specs.Vec.{vec_capacity}
 use Rattle.indexmap.specs.IndexMap.{IndexMap, get, index_map_len, spare, Updates}
 use Rattle.hd_delivery.specs.Histories.{is_this}
-use Rattle.hd_serving.specs.Numbers.{lives_for, most_connections, most_live}
-use Rattle.hd_serving.specs.declared.vocabulary.Life.{Life}
-use Rattle.hd_serving.specs.declared.vocabulary.Life.TheVariants.{Unknown, Fresh, Socket, Lost, Polling, Ending}
-use Rattle.hd_serving.specs.Lives.{Note, Negotiated, Opened, made, numbers_to, is_made, is_let_go, is_opened, is_busy, is_known, is_past, negotiated_at, is_promised, socket_of, lost_at, poll_of, poll_ended, ended_at, conn_with, deadline, life_of, live, past, standing, since}
+use Rattle.hd_server.specs.Numbers.{lives_for, most_connections, most_live}
+use Rattle.hd_server.specs.declared.vocabulary.Life.{Life}
+use Rattle.hd_server.specs.declared.vocabulary.Life.TheVariants.{Unknown, Fresh, Socket, Lost, Polling, Ending}
+use Rattle.hd_server.specs.Lives.{ConnectionEvent, Negotiated, Opened, made, numbers_to, is_made, is_let_go, is_opened, is_busy, is_known, is_past, negotiated_at, is_resumable_promise, socket_of, lost_at, poll_of, poll_ended, ended_at, conn_with, deadline, life_of, live, past, standing, since}
 use Rattle.hn_server_front.specs.declared.entry.Entry.{Entry}
 use Rattle.hn_server_front.specs.declared.entry.Told.{Told}
 use Rattle.hn_server_front.specs.declared.front.Front.{Front}
@@ -18,7 +18,7 @@ use Rattle.hn_server_front.specs.declared.moments.Waiting.{Waiting}
 use Rattle.hn_server_front.specs.Entries.{Remembers, IsNew, held_as, moment_told, promise_told, text_told, token_told}
 use Rattle.hn_server_front.specs.Moments.{IsInOrder, at, is_within, waits_as}
 use Rattle.hn_server_front.specs.Stands.{HasRoom, IsEntered, IsRoomier, IsEntryOf, IsUnborn, Stands, TokensAgree, conn_at, entry_at, held_since, is_there, is_waiting, kept, since_of, IsTokenOf}
-use Rattle.hd_serving.specs.Laws.{TokensDiffer}
+use Rattle.hd_server.specs.Laws.{TokensDiffer}
 use Rattle.hm_message.specs.Same.{same_text}
 use Rattle.std.proofs.lemmas.Map.Text.{is_eq-slice_cmp}
 use Rattle.std.proofs.lemmas.Slice.Eq.{bytes_eq-Decides}
@@ -53,7 +53,7 @@ wait_entered c moment before after own others w = elim (cases_eq c w.conn) [
 
 -- ---- more room alone
 
-pub roomier_stands : (old new : Front) (h : List Note) → IsRoomier old new → Stands old h → Stands new h
+pub roomier_stands : (old new : Front) (h : List ConnectionEvent) → IsRoomier old new → Stands old h → Stands new h
 roomier_stands old new h more s = record {
   made_so = more.made_so ∙ s.made_so;
   few = s.few;
@@ -75,7 +75,7 @@ roomier_stands old new h more s = record {
 -- ---- the note of a new connection
 
 -- the note makes the next connection and says nothing of any other
-pub record Begins (n : Note) (c : ℕ) (told : Option Told) (h : List Note) : Type 0 where
+pub record Begins (n : ConnectionEvent) (c : ℕ) (told : Option Told) (h : List ConnectionEvent) : Type 0 where
   pub next : made (n ∷ h) ≡ suc (made h)
   pub held : (k : ℕ) → is_let_go k (n ∷ h) ≡ is_let_go k h
   pub socket : (k : ℕ) → socket_of k (n ∷ h) ≡ socket_of k h
@@ -86,40 +86,40 @@ pub record Begins (n : Note) (c : ℕ) (told : Option Told) (h : List Note) : Ty
   pub opened : (k : ℕ) → (k ≡ c → ⊥) → is_opened k (n ∷ h) ≡ is_opened k h
   pub told_at : (k : ℕ) → (k ≡ c → ⊥) → negotiated_at k (n ∷ h) ≡ negotiated_at k h
   pub token : (k : ℕ) → (k ≡ c → ⊥) → token_told k (n ∷ h) ≡ token_told k h
-  pub promise : (k : ℕ) → (k ≡ c → ⊥) → is_promised k (n ∷ h) ≡ is_promised k h
+  pub promise : (k : ℕ) → (k ≡ c → ⊥) → is_resumable_promise k (n ∷ h) ≡ is_resumable_promise k h
   pub begun : (is_opened c (n ∷ h) || is_some (negotiated_at c (n ∷ h))) ≡ true
   pub own_moment : moment_told told ≡ negotiated_at c (n ∷ h)
   pub own_token : text_told told ≡ token_told c (n ∷ h)
-  pub own_promise : promise_told told ≡ is_promised c (n ∷ h)
+  pub own_promise : promise_told told ≡ is_resumable_promise c (n ∷ h)
 
-not_made : (h : List Note) → is_made (suc (made h)) h ≡ false
+not_made : (h : List ConnectionEvent) → is_made (suc (made h)) h ≡ false
 not_made h = and_right (nat_lt 0 (suc (made h))) (nat_le (suc (made h)) (made h)) (lt-leb (suc (made h)) (made h) (omega arith))
 
-pub unborn_next : (f : Front) (h : List Note) → Stands f h → IsUnborn (suc (made h)) h
+pub unborn_next : (f : Front) (h : List ConnectionEvent) → Stands f h → IsUnborn (suc (made h)) h
 unborn_next f h s = s.unborn (suc (made h)) (not_made h)
 
 -- the same numbers were made besides
-made_else : (n : Note) (h : List Note) (k : ℕ) → made (n ∷ h) ≡ suc (made h) → (k ≡ suc (made h) → ⊥) → is_made k (n ∷ h) ≡ is_made k h
+made_else : (n : ConnectionEvent) (h : List ConnectionEvent) (k : ℕ) → made (n ∷ h) ≡ suc (made h) → (k ≡ suc (made h) → ⊥) → is_made k (n ∷ h) ≡ is_made k h
 made_else n h k e other = ap (λ m. nat_lt 0 k && nat_le k m) e ∙ ap (λ b. nat_lt 0 k && b) (elim (cases_lt (made h) k) [
   | inl l ↦ lt-leb k (suc (made h)) (omega (arith, l, other)) ∙ sym (lt-leb k (made h) l)
   | inr l ↦ le-leb k (suc (made h)) (omega (arith, l)) ∙ sym (le-leb k (made h) l)
 ])
 
-made_next : (n : Note) (h : List Note) → made (n ∷ h) ≡ suc (made h) → is_made (suc (made h)) (n ∷ h) ≡ true
+made_next : (n : ConnectionEvent) (h : List ConnectionEvent) → made (n ∷ h) ≡ suc (made h) → is_made (suc (made h)) (n ∷ h) ≡ true
 made_next n h e =
     let c : ℕ = suc (made h) in
     ap (λ m. nat_lt 0 c && nat_le c m) e ∙ and_from (nat_lt 0 c) (nat_le c c) (lt-ltb 0 c (omega arith)) (le-leb c c (omega arith))
 
-there_else : (n : Note) (h : List Note) (told : Option Told) (k : ℕ) → Begins n (suc (made h)) told h → (k ≡ suc (made h) → ⊥)
+there_else : (n : ConnectionEvent) (h : List ConnectionEvent) (told : Option Told) (k : ℕ) → Begins n (suc (made h)) told h → (k ≡ suc (made h) → ⊥)
     → is_there k (n ∷ h) ≡ is_there k h
 there_else n h told k b other = ap (λ x. x && not (is_let_go k (n ∷ h))) (made_else n h k b.next other) ∙ ap (λ x. is_made k h && not x) (b.held k)
 
-standing_else : (n : Note) (h : List Note) (told : Option Told) (k : ℕ) → Begins n (suc (made h)) told h → (k ≡ suc (made h) → ⊥)
+standing_else : (n : ConnectionEvent) (h : List ConnectionEvent) (told : Option Told) (k : ℕ) → Begins n (suc (made h)) told h → (k ≡ suc (made h) → ⊥)
     → standing k (n ∷ h) ≡ standing k h
 standing_else n h told k b other =
     rw (b.held k, b.ended k, b.socket k, b.lost k, b.poll k, b.polled k, b.opened k other, b.told_at k other) refl
 
-since_else : (n : Note) (h : List Note) (told : Option Told) (k : ℕ) → Begins n (suc (made h)) told h → (k ≡ suc (made h) → ⊥)
+since_else : (n : ConnectionEvent) (h : List ConnectionEvent) (told : Option Told) (k : ℕ) → Begins n (suc (made h)) told h → (k ≡ suc (made h) → ⊥)
     → since_of k (n ∷ h) ≡ since_of k h
 since_else n h told k b other = ap (λ l. since k l (n ∷ h)) (standing_else n h told k b other) ∙ by_life (standing k h)
   where
@@ -131,27 +131,27 @@ since_else n h told k b other = ap (λ l. since k l (n ∷ h)) (standing_else n 
     by_life Polling = b.polled k
     by_life Ending = b.ended k
 
-since_next : (n : Note) (h : List Note) (told : Option Told) → Begins n (suc (made h)) told h → IsUnborn (suc (made h)) h
+since_next : (n : ConnectionEvent) (h : List ConnectionEvent) (told : Option Told) → Begins n (suc (made h)) told h → IsUnborn (suc (made h)) h
     → since_of (suc (made h)) (n ∷ h) ≡ moment_told told
 since_next n h told b u =
     let c = suc (made h) in
     rw (b.held c, b.ended c, b.socket c, b.lost c, b.poll c, b.polled c, u.held, u.ended, u.socket, u.lost, u.poll, u.polled, b.begun) (sym b.own_moment)
 
 -- no poll is held or let go by it
-held_else : (n : Note) (h : List Note) (told : Option Told) (k : ℕ) → Begins n (suc (made h)) told h → (k ≡ suc (made h) → ⊥)
+held_else : (n : ConnectionEvent) (h : List ConnectionEvent) (told : Option Told) (k : ℕ) → Begins n (suc (made h)) told h → (k ≡ suc (made h) → ⊥)
     → held_since k (n ∷ h) ≡ held_since k h
 held_else n h told k b other =
     ap (λ x. if x then option_map (λ poll. poll.1) (poll_of k (n ∷ h)) else None) (there_else n h told k b other)
     ∙ ap (λ o. if is_there k h then option_map (λ poll. poll.1) o else None) (b.poll k)
 
-holds_none : (k : ℕ) (h : List Note) → poll_of k h ≡ None → held_since k h ≡ None
+holds_none : (k : ℕ) (h : List ConnectionEvent) → poll_of k h ≡ None → held_since k h ≡ None
 holds_none k h e = ap (λ o. if is_there k h then option_map (λ poll. poll.1) o else None) e ∙ go (is_there k h)
   where
     go : (b : Bool) → ◌≡◌ {A = Option ℕ} (if b then None else None) None
     go true = refl
     go false = refl
 
-held_same : (n : Note) (h : List Note) (told : Option Told) → Begins n (suc (made h)) told h → IsUnborn (suc (made h)) h → (k : ℕ)
+held_same : (n : ConnectionEvent) (h : List ConnectionEvent) (told : Option Told) → Begins n (suc (made h)) told h → IsUnborn (suc (made h)) h → (k : ℕ)
     → held_since k (n ∷ h) ≡ held_since k h
 held_same n h told b u k = elim (cases_eq k (suc (made h))) [
   | inl e ↦ subst (λ c. held_since c (n ∷ h) ≡ held_since c h) (sym e)
@@ -159,7 +159,7 @@ held_same n h told b u k = elim (cases_eq k (suc (made h))) [
   | inr e ↦ held_else n h told k b e
 ]
 
-remembers_else : (e : Entry) (n : Note) (h : List Note) (told : Option Told) (k : ℕ) → Begins n (suc (made h)) told h → (k ≡ suc (made h) → ⊥)
+remembers_else : (e : Entry) (n : ConnectionEvent) (h : List ConnectionEvent) (told : Option Told) (k : ℕ) → Begins n (suc (made h)) told h → (k ≡ suc (made h) → ⊥)
     → Remembers e k h → Remembers e k (n ∷ h)
 remembers_else e n h told k b other r = record {
   there = made_else n h k b.next other ∙ r.there;
@@ -175,7 +175,7 @@ remembers_else e n h told k b other r = record {
   ended = r.ended ∙ sym (b.ended k);
 }
 
-remembers_next : (e : Entry) (n : Note) (h : List Note) (told : Option Told) → Begins n (suc (made h)) told h → IsUnborn (suc (made h)) h → IsNew e told
+remembers_next : (e : Entry) (n : ConnectionEvent) (h : List ConnectionEvent) (told : Option Told) → Begins n (suc (made h)) told h → IsUnborn (suc (made h)) h → IsNew e told
     → Remembers e (suc (made h)) (n ∷ h)
 remembers_next e n h told b u new =
     let c : ℕ = suc (made h) in
@@ -193,7 +193,7 @@ remembers_next e n h told b u new =
       ended = new.ended ∙ sym (b.ended c ∙ u.ended);
     }
 
-unborn_else : (n : Note) (h : List Note) (told : Option Told) (k : ℕ) → Begins n (suc (made h)) told h → (k ≡ suc (made h) → ⊥) → IsUnborn k h
+unborn_else : (n : ConnectionEvent) (h : List ConnectionEvent) (told : Option Told) (k : ℕ) → Begins n (suc (made h)) told h → (k ≡ suc (made h) → ⊥) → IsUnborn k h
     → IsUnborn k (n ∷ h)
 unborn_else n h told k b other u = record {
   held = b.held k ∙ u.held;
@@ -211,7 +211,7 @@ unborn_else n h told k b other u = record {
 -- ---- the front with one more connection
 
 -- what a front with other tokens is entered into
-pub record IsMade (old mid new : Front) (h : List Note) (n : Note) (told : Option Told) : Type 0 where
+pub record IsMade (old mid new : Front) (h : List ConnectionEvent) (n : ConnectionEvent) (told : Option Told) : Type 0 where
   pub few : suc (made h) ≤ most_connections
   pub begins : Begins n (suc (made h)) told h
   pub entries : mid.entries ≡ old.entries
@@ -222,7 +222,7 @@ pub record IsMade (old mid new : Front) (h : List Note) (n : Note) (told : Optio
   pub tokens : (token : List ℕ) → conn_at new token ≡ kept (conn_with token (n ∷ h)) (n ∷ h)
   pub agree : TokensAgree (n ∷ h)
 
-pub made_stands : (old mid new : Front) (h : List Note) (n : Note) (told : Option Told) → Stands old h → IsMade old mid new h n told → Stands new (n ∷ h)
+pub made_stands : (old mid new : Front) (h : List ConnectionEvent) (n : ConnectionEvent) (told : Option Told) → Stands old h → IsMade old mid new h n told → Stands new (n ∷ h)
 made_stands old mid new h n told s i = record {
   made_so = e.made_so ∙ sym b.next;
   few = let next = b.next in omega (arith, next, i.few);
@@ -334,11 +334,11 @@ made_stands old mid new h n told s i = record {
 
 -- ---- opened without a token
 
-kept_same : (n : Note) (h : List Note) → ((k : ℕ) → is_let_go k (n ∷ h) ≡ is_let_go k h) → (o : Option ℕ) → kept o (n ∷ h) ≡ kept o h
+kept_same : (n : ConnectionEvent) (h : List ConnectionEvent) → ((k : ℕ) → is_let_go k (n ∷ h) ≡ is_let_go k h) → (o : Option ℕ) → kept o (n ∷ h) ≡ kept o h
 kept_same n h same None = refl
 kept_same n h same (Some c) = ap (λ b. if b then None else Some c) (same c)
 
-begins_open : (h : List Note) (now : ℕ) → IsUnborn (suc (made h)) h → Begins (Opened (suc (made h)) now) (suc (made h)) None h
+begins_open : (h : List ConnectionEvent) (now : ℕ) → IsUnborn (suc (made h)) h → Begins (Opened (suc (made h)) now) (suc (made h)) None h
 begins_open h now u =
     let c : ℕ = suc (made h) in
     record {
@@ -359,7 +359,7 @@ begins_open h now u =
       own_promise = sym u.promise;
     }
 
-pub opens : (old mid new : Front) (h : List Note) (now : ℕ) → Stands old h → suc (made h) ≤ most_connections → IsRoomier old mid → HasRoom mid
+pub opens : (old mid new : Front) (h : List ConnectionEvent) (now : ℕ) → Stands old h → suc (made h) ≤ most_connections → IsRoomier old mid → HasRoom mid
     → IsEntered mid new (suc (made h)) None → Stands new (Opened (suc (made h)) now ∷ h)
 opens old mid new h now s few more room e =
     let t = roomier_stands old mid h more s in
@@ -384,7 +384,7 @@ text_is i k e = (bytes_eq-Decides i k).0 e
 text_same : (i k : List ℕ) → i ≡ k → same_text i k ≡ true
 text_same i k e = (bytes_eq-Decides i k).1 e
 
-begins_tell : (h : List Note) (token : List ℕ) (asked : Bool) (now : ℕ) (told : Told) → told.token ≡ token → told.now ≡ now → told.reconnect ≡ asked
+begins_tell : (h : List ConnectionEvent) (token : List ℕ) (asked : Bool) (now : ℕ) (told : Told) → told.token ≡ token → told.now ≡ now → told.reconnect ≡ asked
     → Begins (Negotiated (suc (made h)) token asked now) (suc (made h)) (Some told) h
 begins_tell h token asked now told spelled at_now granted =
     let c : ℕ = suc (made h) in
@@ -400,11 +400,11 @@ begins_tell h token asked now told spelled at_now granted =
       opened = λ k e. refl;
       told_at = λ k e. ap (λ x. if x then Some now else negotiated_at k h) (ne_eqb k c e);
       token = λ k e. ap (λ x. if x then Some token else token_told k h) (ne_eqb k c e);
-      promise = λ k e. ap (λ x. if x then asked else is_promised k h) (ne_eqb k c e);
+      promise = λ k e. ap (λ x. if x then asked else is_resumable_promise k h) (ne_eqb k c e);
       begun = or_right (is_opened c h) (is_some (negotiated_at c (Negotiated c token asked now ∷ h))) (ap (λ o. is_some o) own);
       own_moment = ap (λ n. Some n) at_now ∙ sym own;
       own_token = ap (λ t. Some t) spelled ∙ sym (ap (λ x. if x then Some token else token_told c h) (eq-eqb c c refl));
-      own_promise = granted ∙ sym (ap (λ x. if x then asked else is_promised c h) (eq-eqb c c refl));
+      own_promise = granted ∙ sym (ap (λ x. if x then asked else is_resumable_promise c h) (eq-eqb c c refl));
     }
 
 text_given : (s t : List ℕ) → Some s ≡ Some t → s ≡ t
@@ -414,7 +414,7 @@ number_given : (m n : ℕ) → ◌≡◌ {A = Option ℕ} (Some m) (Some n) → 
 number_given m n e = ap (λ o. unwrap_or o m) e
 
 -- the tokens of the others are other texts
-module _ (h : List Note) (token : List ℕ) (asked : Bool) (now : ℕ) (agree : TokensAgree h) (few : suc (made h) ≤ most_connections)
+module _ (h : List ConnectionEvent) (token : List ℕ) (asked : Bool) (now : ℕ) (agree : TokensAgree h) (few : suc (made h) ≤ most_connections)
     (unborn : (k : ℕ) → is_made k h ≡ false → IsUnborn k h) (own : IsTokenOf token (suc (made h))) (differ : TokensDiffer) where
   told_made : (k : ℕ) (other : List ℕ) → token_told k h ≡ Some other → k ≤ made h
   told_made k other e =
@@ -467,7 +467,7 @@ module _ (h : List Note) (token : List ℕ) (asked : Bool) (now : ℕ) (agree : 
     ];
   }
 
-pub tells : (old mid new : Front) (h : List Note) (token : List ℕ) (asked : Bool) (now : ℕ) (told : Told) → Stands old h → suc (made h) ≤ most_connections
+pub tells : (old mid new : Front) (h : List ConnectionEvent) (token : List ℕ) (asked : Bool) (now : ℕ) (told : Told) → Stands old h → suc (made h) ≤ most_connections
     → mid.entries ≡ old.entries → mid.moments ≡ old.moments → mid.polls ≡ old.polls
     → tree.UpdatesBy (slice_cmp nat_cmp) (slice_cmp nat_cmp token) old.tokens mid.tokens (Some (suc (made h)))
     → HasRoom mid → IsEntered mid new (suc (made h)) (Some told) → told.token ≡ token → told.now ≡ now → told.reconnect ≡ asked
@@ -486,7 +486,7 @@ tells old mid new h token asked now told s few entries moments polls updates roo
       agree = agree_more h token asked now s.agree few s.unborn own differ;
     })
   where
-    n : Note
+    n : ConnectionEvent
     n = Negotiated (suc (made h)) token asked now
 
     changed : (text : List ℕ) → tree.get (slice_cmp nat_cmp) mid.tokens text ≡ (if same_text text token then Some (suc (made h)) else conn_at old text)
@@ -498,7 +498,7 @@ tells old mid new h token asked now told s few entries moments polls updates roo
 
 -- ---- no more live then than may
 
-life_else : (n : Note) (h : List Note) (told : Option Told) (now k : ℕ) → Begins n (suc (made h)) told h → (k ≡ suc (made h) → ⊥)
+life_else : (n : ConnectionEvent) (h : List ConnectionEvent) (told : Option Told) (now k : ℕ) → Begins n (suc (made h)) told h → (k ≡ suc (made h) → ⊥)
     → life_of k now (n ∷ h) ≡ life_of k now h
 life_else n h told now k b other =
     ap (λ o. cond (is_past now (option_map (λ moment. moment + lives_for) o)) (past (standing k (n ∷ h))) (standing k (n ∷ h))) (since_else n h told k b other)
@@ -508,7 +508,7 @@ at_most_one : (b : Bool) → cond b 1 0 ≤ 1
 at_most_one true = omega arith
 at_most_one false = omega arith
 
-live_more : (n : Note) (h : List Note) (told : Option Told) (now : ℕ) → Begins n (suc (made h)) told h → length (live now (n ∷ h)) ≤ suc (length (live now h))
+live_more : (n : ConnectionEvent) (h : List ConnectionEvent) (told : Option Told) (now : ℕ) → Begins n (suc (made h)) told h → length (live now (n ∷ h)) ≤ suc (length (live now h))
 live_more n h told now b =
     let known : ℕ → Bool = λ k. is_known (life_of k now (n ∷ h)) in
     let counted = ap (λ m. count m known) b.next in
@@ -523,20 +523,20 @@ room_left most count b e = elim (cases_lt count most) [
   | inr l ↦ absurd (let z : false ≡ true = sym e ∙ or_left (nat_le most count) b (le-leb most count l) in cc)
 ]
 
-live_few_more : (n : Note) (h : List Note) (told : Option Told) (now : ℕ) → Begins n (suc (made h)) told h → is_busy now h ≡ false
+live_few_more : (n : ConnectionEvent) (h : List ConnectionEvent) (told : Option Told) (now : ℕ) → Begins n (suc (made h)) told h → is_busy now h ≡ false
     → length (live now (n ∷ h)) ≤ most_live
 live_few_more n h told now b free =
     let room = room_left most_live (length (live now h)) (nat_le most_connections (made h)) free in
     let more = live_more n h told now b in
     omega (arith, room, more)
 
-pub opens_few : (f : Front) (h : List Note) (now c : ℕ) → c ≡ suc (made h) → Stands f h → is_busy now h ≡ false
+pub opens_few : (f : Front) (h : List ConnectionEvent) (now c : ℕ) → c ≡ suc (made h) → Stands f h → is_busy now h ≡ false
     → length (live now (Opened c now ∷ h)) ≤ most_live
 opens_few f h now c is s free =
     subst (λ k. length (live now (Opened k now ∷ h)) ≤ most_live) (sym is)
     (live_few_more (Opened (suc (made h)) now) h None now (begins_open h now (unborn_next f h s)) free)
 
-pub tells_few : (h : List Note) (c : ℕ) (token : List ℕ) (asked : Bool) (now : ℕ) → c ≡ suc (made h) → is_busy now h ≡ false
+pub tells_few : (h : List ConnectionEvent) (c : ℕ) (token : List ℕ) (asked : Bool) (now : ℕ) → c ≡ suc (made h) → is_busy now h ≡ false
     → length (live now (Negotiated c token asked now ∷ h)) ≤ most_live
 tells_few h c token asked now is free =
     let told : Told = record { token = token; now = now; reconnect = asked } in
@@ -545,12 +545,12 @@ tells_few h c token asked now is free =
 
 -- ---- the same of a number that is the next
 
-pub opens_next : (old mid new : Front) (h : List Note) (now c : ℕ) → c ≡ suc (made h) → c ≤ most_connections → Stands old h → IsRoomier old mid
+pub opens_next : (old mid new : Front) (h : List ConnectionEvent) (now c : ℕ) → c ≡ suc (made h) → c ≤ most_connections → Stands old h → IsRoomier old mid
     → HasRoom mid → IsEntered mid new c None → Stands new (Opened c now ∷ h)
 opens_next old mid new h now c is few s more room e =
     subst (λ k. k ≤ most_connections → IsEntered mid new k None → Stands new (Opened k now ∷ h)) (sym is) (λ l x. opens old mid new h now s l more room x) few e
 
-pub tells_next : (old roomier mid new : Front) (h : List Note) (c : ℕ) (token own : List ℕ) (asked : Bool) (now : ℕ) (told : Told) → c ≡ suc (made h)
+pub tells_next : (old roomier mid new : Front) (h : List ConnectionEvent) (c : ℕ) (token own : List ℕ) (asked : Bool) (now : ℕ) (told : Told) → c ≡ suc (made h)
     → c ≤ most_connections → Stands old h
     → IsRoomier old roomier → HasRoom roomier → mid.entries ≡ roomier.entries → mid.moments ≡ roomier.moments → mid.polls ≡ roomier.polls
     → tree.UpdatesBy (slice_cmp nat_cmp) (slice_cmp nat_cmp own) roomier.tokens mid.tokens (Some c) → own ≡ token

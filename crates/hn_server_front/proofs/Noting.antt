@@ -13,13 +13,13 @@ use Rattle.std.proofs.lemmas.Slice.Eq.{bytes_eq-Decides}
 use Rattle.std.proofs.lemmas.Bool.{and_parts, and_right, cases_eq, ltb-true, leb-true, or_left}
 use Rattle.indexmap.specs.IndexMap.{index_map_len}
 use Rattle.hd_delivery.specs.Histories.{is_this, first_of}
-use Rattle.hd_serving.specs.declared.vocabulary.Life.{Life}
-use Rattle.hd_serving.specs.declared.vocabulary.Life.TheVariants as lives
-use Rattle.hd_serving.specs.Numbers.{held_for, lives_for, most_connections}
-use Rattle.hd_serving.specs.Lives.{Note, LetGo, made, numbers_to, is_made, is_let_go, is_opened, negotiated_at, is_promised, socket_of, lost_at, poll_of, poll_ended, ended_at, conn_with, when, standing, since}
+use Rattle.hd_server.specs.declared.vocabulary.Life.{Life}
+use Rattle.hd_server.specs.declared.vocabulary.Life.TheVariants as lives
+use Rattle.hd_server.specs.Numbers.{held_for, lives_for, most_connections}
+use Rattle.hd_server.specs.Lives.{ConnectionEvent, LetGo, made, numbers_to, is_made, is_let_go, is_opened, negotiated_at, is_resumable_promise, socket_of, lost_at, poll_of, poll_ended, ended_at, conn_with, when, standing, since}
 use Rattle.hn_server_front.specs.declared.entry.Entry.{Entry}
-use Rattle.hn_server_front.specs.declared.entry.Noted.{Noted}
-use Rattle.hn_server_front.specs.declared.entry.Noted.TheVariants as noted
+use Rattle.hn_server_front.specs.declared.entry.EntryEvent.{EntryEvent}
+use Rattle.hn_server_front.specs.declared.entry.EntryEvent.TheVariants as noted
 use Rattle.hn_server_front.specs.declared.front.Front.{Front}
 use Rattle.hn_server_front.specs.declared.moments.Moments.{Moments}
 use Rattle.hn_server_front.specs.declared.moments.Waiting.{Waiting}
@@ -34,12 +34,12 @@ no_bool e = absurd (let z : false ≡ true = e in cc)
 -- ---- what is read off a number
 
 -- it is the same of both lists
-pub record SameAt (c : ℕ) (g h : List Note) : Type 0 where
+pub record SameAt (c : ℕ) (g h : List ConnectionEvent) : Type 0 where
   pub there : is_made c g ≡ is_made c h
   pub held : is_let_go c g ≡ is_let_go c h
   pub opened : is_opened c g ≡ is_opened c h
   pub told : negotiated_at c g ≡ negotiated_at c h
-  pub promise : is_promised c g ≡ is_promised c h
+  pub promise : is_resumable_promise c g ≡ is_resumable_promise c h
   pub token : token_told c g ≡ token_told c h
   pub socket : socket_of c g ≡ socket_of c h
   pub lost : lost_at c g ≡ lost_at c h
@@ -48,7 +48,7 @@ pub record SameAt (c : ℕ) (g h : List Note) : Type 0 where
   pub ended : ended_at c g ≡ ended_at c h
 
 -- one more note about this number, which makes no connection
-pub record Follows (k : ℕ) (g h : List Note) : Type 0 where
+pub record Follows (k : ℕ) (g h : List ConnectionEvent) : Type 0 where
   pub made_same : made g ≡ made h
   pub conns : (token : List ℕ) → conn_with token g ≡ conn_with token h
   pub tokens : (c : ℕ) → token_told c g ≡ token_told c h
@@ -60,7 +60,7 @@ elsewhere {A} c k x y ne = ap (λ (b : Bool). if b then x else y) (ne_eqb c k ne
 elsewhere_and : {A : Type 0} (c k : ℕ) (t : Bool) (x y : A) → (c ≡ k → ⊥) → (if (c == k) && t then x else y) ≡ y
 elsewhere_and {A} c k t x y ne = ap (λ (b : Bool). if b && t then x else y) (ne_eqb c k ne)
 
-others_noted : (c k : ℕ) (n : Noted) (h : List Note) → (c ≡ k → ⊥) → SameAt c (note_of k n ∷ h) h
+others_noted : (c k : ℕ) (n : EntryEvent) (h : List ConnectionEvent) → (c ≡ k → ⊥) → SameAt c (note_of k n ∷ h) h
 others_noted c k (noted.Socket lane now) h ne = record {
   there = refl;
   held = refl;
@@ -127,7 +127,7 @@ others_noted c k (noted.End now) h ne = record {
   ended = elsewhere_and c k (not (is_some (ended_at c h))) (Some now) (ended_at c h) ne;
 }
 
-pub noted_follows : (k : ℕ) (n : Noted) (h : List Note) → Follows k (note_of k n ∷ h) h
+pub noted_follows : (k : ℕ) (n : EntryEvent) (h : List ConnectionEvent) → Follows k (note_of k n ∷ h) h
 noted_follows k n h = record {
   made_same = count n;
   conns = λ token. conns n token;
@@ -135,28 +135,28 @@ noted_follows k n h = record {
   others = λ c ne. others_noted c k n h ne;
 }
   where
-    count : (n : Noted) → made (note_of k n ∷ h) ≡ made h
+    count : (n : EntryEvent) → made (note_of k n ∷ h) ≡ made h
     count (noted.Socket lane now) = refl
     count (noted.Poll lane now) = refl
     count (noted.Answer lane now) = refl
     count (noted.Loss lane now) = refl
     count (noted.End now) = refl
 
-    conns : (n : Noted) (token : List ℕ) → conn_with token (note_of k n ∷ h) ≡ conn_with token h
+    conns : (n : EntryEvent) (token : List ℕ) → conn_with token (note_of k n ∷ h) ≡ conn_with token h
     conns (noted.Socket lane now) token = refl
     conns (noted.Poll lane now) token = refl
     conns (noted.Answer lane now) token = refl
     conns (noted.Loss lane now) token = refl
     conns (noted.End now) token = refl
 
-    tokens : (n : Noted) (c : ℕ) → token_told c (note_of k n ∷ h) ≡ token_told c h
+    tokens : (n : EntryEvent) (c : ℕ) → token_told c (note_of k n ∷ h) ≡ token_told c h
     tokens (noted.Socket lane now) c = refl
     tokens (noted.Poll lane now) c = refl
     tokens (noted.Answer lane now) c = refl
     tokens (noted.Loss lane now) c = refl
     tokens (noted.End now) c = refl
 
-pub let_go_follows : (k : ℕ) (h : List Note) → Follows k (LetGo k ∷ h) h
+pub let_go_follows : (k : ℕ) (h : List ConnectionEvent) → Follows k (LetGo k ∷ h) h
 let_go_follows k h = record {
   made_same = refl;
   conns = λ token. refl;
@@ -178,10 +178,10 @@ let_go_follows k h = record {
 
 -- ---- what follows from what is read off
 
-same_there : (c : ℕ) (g h : List Note) → SameAt c g h → is_there c g ≡ is_there c h
+same_there : (c : ℕ) (g h : List ConnectionEvent) → SameAt c g h → is_there c g ≡ is_there c h
 same_there c g h s = ap (λ (b : Bool). b && not (is_let_go c g)) s.there ∙ ap (λ (b : Bool). is_made c h && not b) s.held
 
-same_entry : (o : Option Entry) (c : ℕ) (g h : List Note) → SameAt c g h → IsEntryOf o c h → IsEntryOf o c g
+same_entry : (o : Option Entry) (c : ℕ) (g h : List ConnectionEvent) → SameAt c g h → IsEntryOf o c h → IsEntryOf o c g
 same_entry None c g h s e = same_there c g h s ∙ e
 same_entry (Some e) c g h s r = record {
   there = s.there ∙ r.there;
@@ -197,7 +197,7 @@ same_entry (Some e) c g h s r = record {
   ended = r.ended ∙ sym s.ended;
 }
 
-same_unborn : (c : ℕ) (g h : List Note) → SameAt c g h → IsUnborn c h → IsUnborn c g
+same_unborn : (c : ℕ) (g h : List ConnectionEvent) → SameAt c g h → IsUnborn c h → IsUnborn c g
 same_unborn c g h s u = record {
   held = s.held ∙ u.held;
   opened = s.opened ∙ u.opened;
@@ -232,7 +232,7 @@ since_at lives.Ending told lost polled ended = ended
 abbrev read_since : Bool → Option ℕ → Option ℕ → Option ℕ → Option (ℕ × ℕ) → Option ℕ → Bool → Option ℕ → Option ℕ
 read_since held ended socket lost poll polled opened told = since_at (standing_at held ended socket lost poll polled opened told) told lost polled ended
 
-since_is : (c : ℕ) (h : List Note)
+since_is : (c : ℕ) (h : List ConnectionEvent)
     → since_of c h ≡
     read_since (is_let_go c h) (ended_at c h) (socket_of c h) (lost_at c h) (poll_of c h) (poll_ended c h) (is_opened c h) (negotiated_at c h)
 since_is c h = by (standing c h)
@@ -250,7 +250,7 @@ same_eight : (f : Bool → Option ℕ → Option ℕ → Option ℕ → Option (
     → a ≡ a' → b ≡ b' → c ≡ c' → d ≡ d' → e ≡ e' → i ≡ i' → j ≡ j' → k ≡ k' → f a b c d e i j k ≡ f a' b' c' d' e' i' j' k'
 same_eight f a a' b b' c c' d d' e e' i i' j j' k k' p q r s t u v w = cc
 
-same_since : (c : ℕ) (g h : List Note) → SameAt c g h → since_of c g ≡ since_of c h
+same_since : (c : ℕ) (g h : List ConnectionEvent) → SameAt c g h → since_of c g ≡ since_of c h
 same_since c g h s =
     since_is c g
     ∙ (same_eight read_since (is_let_go c g) (is_let_go c h) (ended_at c g) (ended_at c h) (socket_of c g) (socket_of c h) (lost_at c g) (lost_at c h)
@@ -261,20 +261,20 @@ same_since c g h s =
 abbrev held_by : Bool → Option (ℕ × ℕ) → Option ℕ
 held_by there poll = if there then option_map (λ poll. poll.1) poll else None
 
-same_held : (c : ℕ) (g h : List Note) → SameAt c g h → held_since c g ≡ held_since c h
+same_held : (c : ℕ) (g h : List ConnectionEvent) → SameAt c g h → held_since c g ≡ held_since c h
 same_held c g h s = ap (λ (b : Bool). held_by b (poll_of c g)) (same_there c g h s) ∙ ap (λ (o : Option (ℕ × ℕ)). held_by (is_there c h) o) s.poll
 
 -- one that is let go has no life
-gone_standing : (c : ℕ) (h : List Note) → is_let_go c h ≡ true → standing c h ≡ lives.Unknown
+gone_standing : (c : ℕ) (h : List ConnectionEvent) → is_let_go c h ≡ true → standing c h ≡ lives.Unknown
 gone_standing c h e =
     ap (λ (b : Bool). standing_at b (ended_at c h) (socket_of c h) (lost_at c h) (poll_of c h) (poll_ended c h) (is_opened c h) (negotiated_at c h)) e
 
-gone_since : (c : ℕ) (h : List Note) → is_let_go c h ≡ true → since_of c h ≡ None
+gone_since : (c : ℕ) (h : List ConnectionEvent) → is_let_go c h ≡ true → since_of c h ≡ None
 gone_since c h e = ap (λ (l : Life). since c l h) (gone_standing c h e)
 
 -- ---- one that was made, and is kept or let go
 
-made_number : (c : ℕ) (h : List Note) → is_made c h ≡ true → (0 < c) × (c ≤ made h)
+made_number : (c : ℕ) (h : List ConnectionEvent) → is_made c h ≡ true → (0 < c) × (c ≤ made h)
 made_number c h e =
     let p = and_parts (nat_lt 0 c) (nat_le c (made h)) e in
     (ltb-true 0 c p.0, leb-true c (made h) p.1)
@@ -284,23 +284,23 @@ is_gone true true e g = refl
 is_gone true false e g = no_bool (sym g)
 is_gone false b e g = no_bool e
 
-gone_from_there : (c : ℕ) (h : List Note) → is_made c h ≡ true → is_there c h ≡ false → is_let_go c h ≡ true
+gone_from_there : (c : ℕ) (h : List ConnectionEvent) → is_made c h ≡ true → is_there c h ≡ false → is_let_go c h ≡ true
 gone_from_there c h e g = is_gone (is_made c h) (is_let_go c h) e g
 
-there_from_kept : (e : Entry) (c : ℕ) (h : List Note) → Remembers e c h → is_there c h ≡ true
+there_from_kept : (e : Entry) (c : ℕ) (h : List ConnectionEvent) → Remembers e c h → is_there c h ≡ true
 there_from_kept e c h r = ap (λ (b : Bool). b && not (is_let_go c h)) r.there ∙ ap (λ (b : Bool). not b) r.held
 
-not_there : (c : ℕ) (h : List Note) → is_let_go c h ≡ true → is_there c h ≡ false
+not_there : (c : ℕ) (h : List ConnectionEvent) → is_let_go c h ≡ true → is_there c h ≡ false
 not_there c h e = and_right (is_made c h) (not (is_let_go c h)) (ap (λ (b : Bool). not b) e)
 
-gone_held : (c : ℕ) (h : List Note) → is_let_go c h ≡ true → held_since c h ≡ None
+gone_held : (c : ℕ) (h : List ConnectionEvent) → is_let_go c h ≡ true → held_since c h ≡ None
 gone_held c h e = ap (λ (b : Bool). held_by b (poll_of c h)) (not_there c h e)
 
-held_there : (e : Entry) (c : ℕ) (h : List Note) → Remembers e c h → held_since c h ≡ option_map (λ poll. poll.1) (poll_of c h)
+held_there : (e : Entry) (c : ℕ) (h : List ConnectionEvent) → Remembers e c h → held_since c h ≡ option_map (λ poll. poll.1) (poll_of c h)
 held_there e c h r = ap (λ (b : Bool). held_by b (poll_of c h)) (there_from_kept e c h r)
 
 -- what is kept of a connection is kept of its token
-kept_same : (o : Option ℕ) (g h : List Note) → ((c : ℕ) → o ≡ Some c → is_let_go c g ≡ is_let_go c h) → kept o h ≡ kept o g
+kept_same : (o : Option ℕ) (g h : List ConnectionEvent) → ((c : ℕ) → o ≡ Some c → is_let_go c g ≡ is_let_go c h) → kept o h ≡ kept o g
 kept_same None g h same = refl
 kept_same (Some c) g h same = ap (λ (b : Bool). if b then None else Some c) (sym (same c refl))
 
@@ -330,10 +330,10 @@ record Lists (m : Moments) (s : ℕ → Option ℕ) (count lasts : ℕ) : Type 0
   room : count ≤ vec_capacity m.waiting
   so_long : m.lasts ≡ lasts
 
-since_listed : (f : Front) (h : List Note) → Stands f h → Lists f.moments (λ c. since_of c h) (index_map_len f.entries) lives_for
+since_listed : (f : Front) (h : List ConnectionEvent) → Stands f h → Lists f.moments (λ c. since_of c h) (index_map_len f.entries) lives_for
 since_listed f h s = record { waits = s.waiting; order = s.order; room = s.room; so_long = s.lasts }
 
-held_listed : (f : Front) (h : List Note) → Stands f h → Lists f.polls (λ c. held_since c h) (index_map_len f.entries) held_for
+held_listed : (f : Front) (h : List ConnectionEvent) → Stands f h → Lists f.polls (λ c. held_since c h) (index_map_len f.entries) held_for
 held_listed f h s = record { waits = s.polling; order = s.polls_order; room = s.polls_room; so_long = s.polls_last }
 
 same_lists : {m : Moments} {s t : ℕ → Option ℕ} {count lasts : ℕ} → ((c : ℕ) → t c ≡ s c) → Lists m s count lasts → Lists m t count lasts
@@ -371,7 +371,7 @@ changed_lists {s} {t} {count} old new k before after same b a free fewer ch l = 
 
 -- ---- one more note
 
-module _ (f n : Front) (k : ℕ) (g h : List Note) (z : Follows k g h) (s : Stands f h) where
+module _ (f n : Front) (k : ℕ) (g h : List ConnectionEvent) (z : Follows k g h) (s : Stands f h) where
   same_made : (c : ℕ) → is_made c g ≡ is_made c h
   same_made c = ap (λ (m : ℕ). nat_lt 0 c && nat_le c m) z.made_same
 
@@ -443,7 +443,7 @@ module _ (f n : Front) (k : ℕ) (g h : List Note) (z : Follows k g h) (s : Stan
       ]
 
 -- nothing changes where it was let go before
-pub stands_gone : (f : Front) (k : ℕ) (g h : List Note) → Follows k g h → Stands f h → entry_at f k ≡ None → is_made k h ≡ true
+pub stands_gone : (f : Front) (k : ℕ) (g h : List ConnectionEvent) → Follows k g h → Stands f h → entry_at f k ≡ None → is_made k h ≡ true
     → (is_let_go k h ≡ true → is_let_go k g ≡ true) → Stands f g
 stands_gone f k g h z s none there still =
     stands_after f f k g h z s there refl (λ c ne. refl)
@@ -483,7 +483,7 @@ stands_gone f k g h z s none there still =
       | inr x ↦ same_held c g h (z.others c x)
     ]
 
-pub still_gone : (k : ℕ) (n : Noted) (h : List Note) → is_let_go k h ≡ true → is_let_go k (note_of k n ∷ h) ≡ true
+pub still_gone : (k : ℕ) (n : EntryEvent) (h : List ConnectionEvent) → is_let_go k h ≡ true → is_let_go k (note_of k n ∷ h) ≡ true
 still_gone k (noted.Socket lane now) h e = e
 still_gone k (noted.Poll lane now) h e = e
 still_gone k (noted.Answer lane now) h e = e
@@ -492,11 +492,11 @@ still_gone k (noted.End now) h e = e
 
 -- ---- nothing is kept of it any more
 
-pub let_go : (k : ℕ) (h : List Note) → is_let_go k (LetGo k ∷ h) ≡ true
+pub let_go : (k : ℕ) (h : List ConnectionEvent) → is_let_go k (LetGo k ∷ h) ≡ true
 let_go k h = or_left (k == k) (is_let_go k h) (eq-eqb k k refl)
 
 -- the map of tokens loses its connection's token, if it had one
-pub tokens_without : (f : Front) (k : ℕ) (h : List Note) (e : Entry) → Stands f h → Remembers e k h
+pub tokens_without : (f : Front) (k : ℕ) (h : List ConnectionEvent) (e : Entry) → Stands f h → Remembers e k h
     → (own : List ℕ) → text_told e.told ≡ Some own → (token : List ℕ)
     → cond (is_at (slice_cmp nat_cmp own) token) None (conn_at f token) ≡ kept (conn_with token h) (LetGo k ∷ h)
 tokens_without f k h e s r own is token = go (is_at (slice_cmp nat_cmp own) token) refl
@@ -518,7 +518,7 @@ tokens_without f k h e s r own is token = go (is_at (slice_cmp nat_cmp own) toke
             let same : own ≡ token = same_Some own token (sym told ∙ had) in
             no_bool (sym x ∙ (is_eq-slice_cmp own token ∙ (bytes_eq-Decides own token).1 same))
 
-pub tokens_with : (f : Front) (k : ℕ) (h : List Note) (e : Entry) → Stands f h → Remembers e k h
+pub tokens_with : (f : Front) (k : ℕ) (h : List ConnectionEvent) (e : Entry) → Stands f h → Remembers e k h
     → text_told e.told ≡ None → (token : List ℕ) → conn_at f token ≡ kept (conn_with token h) (LetGo k ∷ h)
 tokens_with f k h e s r is token =
     s.tokens token ∙ kept_same (conn_with token h) (LetGo k ∷ h) h (λ c at. ((let_go_follows k h).others c (λ q. apart c at q)).held)
@@ -528,14 +528,14 @@ tokens_with f k h e s r is token =
         let had : token_told k h ≡ Some token = ap (λ (i : ℕ). token_told i h) (sym q) ∙ s.agree.had c token at in
         none-some token (sym is ∙ (r.token ∙ had))
 
-pub stands_without : (f n : Front) (k : ℕ) (h : List Note) (e : Entry) → Stands f h → Remembers e k h → n.made ≡ f.made
+pub stands_without : (f n : Front) (k : ℕ) (h : List ConnectionEvent) (e : Entry) → Stands f h → Remembers e k h → n.made ≡ f.made
     → ((c : ℕ) → entry_at n c ≡ cond (nat_eq k c) None (entry_at f c)) → index_map_len n.entries + 1 ≡ index_map_len f.entries
     → ((token : List ℕ) → conn_at n token ≡ kept (conn_with token h) (LetGo k ∷ h))
     → (before : Option ℕ) → before ≡ since_of k h → Changes f.moments n.moments k before None
     → (held_before : Option ℕ) → held_before ≡ option_map (λ poll. poll.1) (poll_of k h) → Changes f.polls n.polls k held_before None
     → Stands n (LetGo k ∷ h)
 stands_without f n k h e s r made_so entries size tokens before b ch held_before hb held =
-    let g : List Note = LetGo k ∷ h in
+    let g : List ConnectionEvent = LetGo k ∷ h in
     let others = (let_go_follows k h).others in
     let fewer : index_map_len n.entries ≤ index_map_len f.entries = omega (arith, size) in
     let number = made_number k h r.there in
@@ -556,7 +556,7 @@ stands_without f n k h e s r made_so entries size tokens before b ch held_before
     (λ none. polling_fewer f h k s (there_from_kept e k h r) none) fewer held (held_listed f h s))
 
 -- the same is kept, in a map with another room
-pub stands_same : (f n : Front) (h : List Note)
+pub stands_same : (f n : Front) (h : List ConnectionEvent)
     → n.made ≡ f.made → n.entries.entries ≡ f.entries.entries → n.tokens ≡ f.tokens → n.moments ≡ f.moments
     → n.polls ≡ f.polls → Stands f h → Stands n h
 stands_same f n h made_so entries tokens moments polls s = record {

@@ -2,7 +2,7 @@
 use Rattle.std.proofs.Common.{◌≡◌, ℕ, Bool, List, [], ◌++◌, codes}
 use Rattle.std.specs.Fmt.{decimal}
 use Rattle.std.proofs.lemmas.List.{append-nil, append_assoc}
-use Rattle.hd_serving.specs.Texts.{reconnect_text}
+use Rattle.hd_server.specs.Texts.{reconnect_text}
 use Rattle.hn_server_front.specs.Bodies.{body_for}
 use Rattle.hn_server_front.specs.declared.bodies.Transports.{Transports}
 use Rattle.hn_server_front.specs.declared.bodies.Transports.TheVariants.{All, Sockets}

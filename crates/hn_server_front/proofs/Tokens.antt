@@ -8,7 +8,7 @@ use Rattle.base64.specs.GeneralPurpose.{IsBytes, encode_of}
 use Rattle.base64.specs.Rfc4648.{encode_symbols}
 use Rattle.base64.specs.Tables.{all_below}
 use Rattle.base64.proofs.Tables.{all_below_at}
-use Rattle.hd_serving.specs.Texts.{letter, letters}
+use Rattle.hd_server.specs.Texts.{letter, letters}
 
 abbrev table : List ℕ
 table = url_safe_no_pad.encode_table

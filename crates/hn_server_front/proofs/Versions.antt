@@ -8,7 +8,7 @@ use Rattle.std.proofs.lemmas.Bool.{and_parts, leb-true, lt-ltb, false_from_ne_tr
 use Rattle.std.proofs.lemmas.Str.{IsUtf8-from_ascii}
 use Rattle.std.proofs.lemmas.Str.Ascii.{IsAscii-nil, IsAscii-cons}
 use Rattle.std.proofs.lemmas.Str.Parse.{IsNumeralModel, numerals_by_fold, parse_digits}
-use Rattle.hd_serving.specs.Table.{is_digit, is_version, number_in}
+use Rattle.hd_server.specs.Table.{is_digit, is_version, number_in}
 
 -- ---- digits are a text
 

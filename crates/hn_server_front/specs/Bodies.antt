@@ -1,6 +1,6 @@
 -- The body that tells a token, by the transports that it offers.
 use Rattle.std.specs.Prelude.{ℕ, Bool, List}
-use Rattle.hd_serving.specs.Texts.{negotiate_body, sockets_body}
+use Rattle.hd_server.specs.Texts.{negotiate_body, sockets_body}
 use Rattle.hn_server_front.specs.declared.bodies.Transports.{Transports}
 use Rattle.hn_server_front.specs.declared.bodies.Transports.TheVariants.{All, Sockets}
 

@@ -1,9 +1,9 @@
 -- What calls make of a front, and what they answer, in the words of the notes.
 use Rattle.std.specs.Prelude.{◌≡◌, ◌≤◌, ℕ, suc, ◌+◌, nat_le, Bool, true, false, ◌&&◌, List, [], ◌∷◌, length, Option, Some, None, option_map, if◌then◌else◌}
 use Rattle.hd_delivery.specs.Histories.{is_this}
-use Rattle.hd_serving.specs.Lives.{Note, Negotiated, Opened, Expired, made, is_made, live, overdue, poll_of, socket_of}
-use Rattle.hd_serving.specs.Numbers.{held_for, most_live}
-use Rattle.hd_serving.specs.Texts.{token_of}
+use Rattle.hd_server.specs.Lives.{ConnectionEvent, Negotiated, Opened, Expired, made, is_made, live, overdue, poll_of, socket_of}
+use Rattle.hd_server.specs.Numbers.{held_for, most_live}
+use Rattle.hd_server.specs.Texts.{token_of}
 use Rattle.hn_server_front.specs.declared.bodies.Transports.{Transports}
 use Rattle.hn_server_front.specs.declared.front.Front.{Front}
 use Rattle.hn_server_front.specs.declared.front.Made.{Made}
@@ -11,25 +11,25 @@ use Rattle.hn_server_front.specs.Bodies.{body_for}
 use Rattle.hn_server_front.specs.Stands.{Stands, is_there}
 
 -- so it is of all notes for which the front stands
-abbrev pub OfEach : Front → (List Note → Type 0) → Type 0
-OfEach f P = (h : List Note) → Stands f h → P h
+abbrev pub OfEach : Front → (List ConnectionEvent → Type 0) → Type 0
+OfEach f P = (h : List ConnectionEvent) → Stands f h → P h
 
 abbrev pub Stays : Front → Front → Type 0
 Stays old new = OfEach old (λ h. Stands new h)
 
 -- of a connection that was made this is noted. Of every other number nothing is
-abbrev pub IsNoted : Front → Front → ℕ → Note → Type 0
+abbrev pub IsNoted : Front → Front → ℕ → ConnectionEvent → Type 0
 IsNoted old new c note = OfEach old (λ h. (is_made c h ≡ true → Stands new (note ∷ h)) × (is_made c h ≡ false → Stands new h))
 
 -- the next connection is made with a token of what was drawn, and the body tells it. No more live then than may
-pub record Tells (transports : Transports) (new : Front) (h : List Note) (asked : Bool) (drawn : List ℕ) (now : ℕ) (made_now : Made) : Type 0 where
+pub record Tells (transports : Transports) (new : Front) (h : List ConnectionEvent) (asked : Bool) (drawn : List ℕ) (now : ℕ) (made_now : Made) : Type 0 where
   pub next : made_now.conn ≡ suc (made h)
   pub body : made_now.body ≡ body_for transports made_now.conn (token_of drawn made_now.conn) asked
   pub noted : Stands new (Negotiated made_now.conn (token_of drawn made_now.conn) asked now ∷ h)
   pub few : length (live now (Negotiated made_now.conn (token_of drawn made_now.conn) asked now ∷ h)) ≤ most_live
 
 -- the next connection is made without a token. No more live then than may
-pub record Opens (new : Front) (h : List Note) (now c : ℕ) : Type 0 where
+pub record Opens (new : Front) (h : List ConnectionEvent) (now c : ℕ) : Type 0 where
   pub next : c ≡ suc (made h)
   pub noted : Stands new (Opened c now ∷ h)
   pub few : length (live now (Opened c now ∷ h)) ≤ most_live
@@ -40,18 +40,18 @@ IsFirst None cs = cs ≡ []
 IsFirst (Some c) cs = (rest : List ℕ) × (cs ≡ c ∷ rest)
 
 -- the first of these is handed out, if there is one
-abbrev pub Expires : Front → List Note → ℕ → Option ℕ → Type 0
+abbrev pub Expires : Front → List ConnectionEvent → ℕ → Option ℕ → Type 0
 Expires new h now None = (overdue now h ≡ []) × Stands new h
 Expires new h now (Some c) = ((rest : List ℕ) × (overdue now h ≡ c ∷ rest)) × Stands new (Expired c now ∷ h)
 
 -- the poll that it holds, as long as it isn't let go
-abbrev pub poll_held : ℕ → List Note → Option (ℕ × ℕ)
+abbrev pub poll_held : ℕ → List ConnectionEvent → Option (ℕ × ℕ)
 poll_held c h = if is_there c h then poll_of c h else None
 
 -- the poll that it holds came at this moment, and was held for as long as a poll may be, or longer
-abbrev pub is_held_long : ℕ → ℕ → ℕ → List Note → Bool
+abbrev pub is_held_long : ℕ → ℕ → ℕ → List ConnectionEvent → Bool
 is_held_long now since c h = is_this since (option_map (λ poll. poll.1) (poll_held c h)) && nat_le (since + held_for) now
 
 -- the lane of the socket on which it stands, as long as it isn't let go
-abbrev pub lane_of : ℕ → List Note → Option ℕ
+abbrev pub lane_of : ℕ → List ConnectionEvent → Option ℕ
 lane_of c h = if is_there c h then socket_of c h else None

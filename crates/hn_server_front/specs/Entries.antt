@@ -1,15 +1,15 @@
 -- What an entry remembers of a connection's notes.
 use Rattle.std.specs.Prelude.{◌≡◌, ℕ, Bool, true, false, ◌||◌, ◌==◌, List, [], ◌∷◌, Option, Some, None, is_some, option_map, if◌then◌else◌}
 use Rattle.hd_delivery.specs.Histories.{is_this}
-use Rattle.hd_serving.specs.Lives.{Note, Negotiated, Socketed, Polled, Answered, LaneLost, Ended, negotiated_at, is_promised, is_opened, socket_of, lost_at, poll_of, poll_ended, ended_at, is_let_go, is_made}
+use Rattle.hd_server.specs.Lives.{ConnectionEvent, Negotiated, Socketed, Polled, Answered, LaneLost, Ended, negotiated_at, is_resumable_promise, is_opened, socket_of, lost_at, poll_of, poll_ended, ended_at, is_let_go, is_made}
 use Rattle.hn_server_front.specs.declared.entry.Entry.{Entry}
 use Rattle.hn_server_front.specs.declared.entry.Held.{Held}
 use Rattle.hn_server_front.specs.declared.entry.Told.{Told}
-use Rattle.hn_server_front.specs.declared.entry.Noted.{Noted}
-use Rattle.hn_server_front.specs.declared.entry.Noted.TheVariants as noted
+use Rattle.hn_server_front.specs.declared.entry.EntryEvent.{EntryEvent}
+use Rattle.hn_server_front.specs.declared.entry.EntryEvent.TheVariants as noted
 
 -- the note of what is noted of a connection
-abbrev pub note_of : ℕ → Noted → Note
+abbrev pub note_of : ℕ → EntryEvent → ConnectionEvent
 note_of c (noted.Socket lane now) = Socketed c lane now
 note_of c (noted.Poll lane now) = Polled c lane now
 note_of c (noted.Answer lane now) = Answered c lane now
@@ -17,7 +17,7 @@ note_of c (noted.Loss lane now) = LaneLost c lane now
 note_of c (noted.End now) = Ended c now
 
 -- the token of a connection
-abbrev pub token_told : ℕ → List Note → Option (List ℕ)
+abbrev pub token_told : ℕ → List ConnectionEvent → Option (List ℕ)
 token_told c [] = None
 token_told c (Negotiated k token reconnect now ∷ h) = if c == k then Some token else token_told c h
 token_told c (_ ∷ h) = token_told c h
@@ -37,13 +37,13 @@ abbrev pub held_as : Option Held → Option (ℕ × ℕ)
 held_as held = option_map (λ p. (p.lane, p.since)) held
 
 -- the entry is that of a connection that was made and isn't let go
-pub record Remembers (e : Entry) (c : ℕ) (h : List Note) : Type 0 where
+pub record Remembers (e : Entry) (c : ℕ) (h : List ConnectionEvent) : Type 0 where
   pub there : is_made c h ≡ true
   pub held : is_let_go c h ≡ false
   pub begun : (is_opened c h || is_some (negotiated_at c h)) ≡ true
   pub told : moment_told e.told ≡ negotiated_at c h
   pub token : text_told e.told ≡ token_told c h
-  pub promise : promise_told e.told ≡ is_promised c h
+  pub promise : promise_told e.told ≡ is_resumable_promise c h
   pub socket : e.socket ≡ socket_of c h
   pub lost : e.lost ≡ lost_at c h
   pub poll : held_as e.poll ≡ poll_of c h

@@ -4,3 +4,4 @@ pub mod Moments
 pub mod Entries
 pub mod Stands
 pub mod Calls
+pub mod Words

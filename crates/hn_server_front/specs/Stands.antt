@@ -6,9 +6,9 @@ use Rattle.std.specs.Cmp.Lexicographic.{slice_cmp}
 use Rattle.std.specs.Ordering.{nat_cmp}
 use Rattle.std.specs.Vec.{vec_capacity}
 use Rattle.hd_delivery.specs.Histories.{is_this}
-use Rattle.hd_serving.specs.Numbers.{held_for, lives_for, most_connections}
-use Rattle.hd_serving.specs.Texts.{token_of}
-use Rattle.hd_serving.specs.Lives.{Note, made, numbers_to, is_made, is_let_go, is_opened, negotiated_at, is_promised, socket_of, lost_at, poll_of, poll_ended, ended_at, conn_with, standing, since}
+use Rattle.hd_server.specs.Numbers.{held_for, lives_for, most_connections}
+use Rattle.hd_server.specs.Texts.{token_of}
+use Rattle.hd_server.specs.Lives.{ConnectionEvent, made, numbers_to, is_made, is_let_go, is_opened, negotiated_at, is_resumable_promise, socket_of, lost_at, poll_of, poll_ended, ended_at, conn_with, standing, since}
 use Rattle.hn_server_front.specs.declared.entry.Entry.{Entry}
 use Rattle.hn_server_front.specs.declared.entry.Told.{Told}
 use Rattle.hn_server_front.specs.declared.front.Front.{Front}
@@ -17,7 +17,7 @@ use Rattle.hn_server_front.specs.Entries.{Remembers, IsNew, token_told, moment_t
 use Rattle.hn_server_front.specs.Moments.{IsInOrder, is_within, waits_as}
 
 -- the connection was made and isn't let go
-abbrev pub is_there : ℕ → List Note → Bool
+abbrev pub is_there : ℕ → List ConnectionEvent → Bool
 is_there c h = is_made c h && not (is_let_go c h)
 
 -- what is kept of a connection
@@ -25,7 +25,7 @@ abbrev pub entry_at : Front → ℕ → Option Entry
 entry_at f c = get nat_eq f.entries c
 
 -- the entry of a connection: there is one exactly if it is there
-abbrev pub IsEntryOf : Option Entry → ℕ → List Note → Type 0
+abbrev pub IsEntryOf : Option Entry → ℕ → List ConnectionEvent → Type 0
 IsEntryOf None c h = is_there c h ≡ false
 IsEntryOf (Some e) c h = Remembers e c h
 
@@ -34,30 +34,30 @@ abbrev pub conn_at : Front → List ℕ → Option ℕ
 conn_at f token = tree.get (slice_cmp nat_cmp) f.tokens token
 
 -- unless it is let go
-abbrev pub kept : Option ℕ → List Note → Option ℕ
+abbrev pub kept : Option ℕ → List ConnectionEvent → Option ℕ
 kept None h = None
 kept (Some c) h = if is_let_go c h then None else Some c
 
 -- from when on the life of a connection counts towards its end
-abbrev pub since_of : ℕ → List Note → Option ℕ
+abbrev pub since_of : ℕ → List ConnectionEvent → Option ℕ
 since_of c h = since c (standing c h) h
 
-abbrev pub is_waiting : Waiting → List Note → Bool
+abbrev pub is_waiting : Waiting → List ConnectionEvent → Bool
 is_waiting w h = is_this w.since (since_of w.conn h)
 
 -- since when a connection that is there holds the poll that it holds
-abbrev pub held_since : ℕ → List Note → Option ℕ
+abbrev pub held_since : ℕ → List ConnectionEvent → Option ℕ
 held_since c h = if is_there c h then option_map (λ poll. poll.1) (poll_of c h) else None
 
-abbrev pub is_holding : Waiting → List Note → Bool
+abbrev pub is_holding : Waiting → List ConnectionEvent → Bool
 is_holding w h = is_this w.since (held_since w.conn h)
 
 -- nothing was noted of a number that no connection has
-pub record IsUnborn (c : ℕ) (h : List Note) : Type 0 where
+pub record IsUnborn (c : ℕ) (h : List ConnectionEvent) : Type 0 where
   pub held : is_let_go c h ≡ false
   pub opened : is_opened c h ≡ false
   pub told : negotiated_at c h ≡ None
-  pub promise : is_promised c h ≡ false
+  pub promise : is_resumable_promise c h ≡ false
   pub token : token_told c h ≡ None
   pub socket : socket_of c h ≡ None
   pub lost : lost_at c h ≡ None
@@ -72,13 +72,13 @@ pub record IsTokenOf (token : List ℕ) (c : ℕ) : Type 0 where
   pub spelled : token ≡ token_of drawn c
 
 -- which tokens connections have
-pub record TokensAgree (h : List Note) : Type 0 where
+pub record TokensAgree (h : List ConnectionEvent) : Type 0 where
   pub spelled : (c : ℕ) (token : List ℕ) → token_told c h ≡ Some token → IsTokenOf token c
   pub told : (c : ℕ) (token : List ℕ) → token_told c h ≡ Some token → conn_with token h ≡ Some c
   pub had : (c : ℕ) (token : List ℕ) → conn_with token h ≡ Some c → token_told c h ≡ Some token
 
 -- The front stands for these notes, the latest first.
-pub record Stands (f : Front) (h : List Note) : Type 0 where
+pub record Stands (f : Front) (h : List ConnectionEvent) : Type 0 where
   pub made_so : f.made ≡ made h
   pub few : made h ≤ most_connections
   pub entries : (c : ℕ) → IsEntryOf (entry_at f c) c h

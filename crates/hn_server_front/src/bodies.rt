@@ -3,7 +3,7 @@ ghost use Rattle.std.specs.Prelude.{◌≡◌, IfOk};
 ghost use Rattle.hn_server_front.specs.Bodies.{body_for};
 
 use crate::token::Token;
-use hd_lanes::Vec8;
+use hw_lanes::Vec8;
 use std::alloc::{AllocError, Global};
 
 /// Over what a connection may go.

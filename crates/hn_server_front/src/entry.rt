@@ -1,12 +1,12 @@
 //! What is kept of a connection until it is let go.
 
 ghost use Rattle.std.specs.Prelude.{◌≡◌, ℕ, List, ◌∷◌, option_map};
-ghost use Rattle.hd_serving.specs.Lives.{Note, ends_then, is_polling, is_promised, life_of, past as past_of, poll_of, since as since_of, standing as standing_of};
+ghost use Rattle.hd_server.specs.Lives.{ConnectionEvent, ends_then, is_polling, is_resumable_promise, life_of, past as past_of, poll_of, since as since_of, standing as standing_of};
 ghost use Rattle.hn_server_front.specs.Entries.{HasEnded, HasPolled, IsLost, IsNew, Remembers, moment_told, note_of};
 
 use crate::moments::is_past;
 use crate::token::Token;
-use hd_serving::{LIVES_FOR, Life};
+use hd_server::{LIVES_FOR, Life};
 
 /// A token, the moment at which it was told, and whether its connection can be resumed.
 #[derive(Drop)]
@@ -25,7 +25,7 @@ pub struct Held {
 
 /// What may be noted of a connection, with its moment.
 #[derive(Clone, Copy, Debug, PartialEq, Eq)]
-pub enum Noted {
+pub enum EntryEvent {
     /// It stands on this lane, which is a WebSocket.
     Socket { lane: u64, now: u64 },
     /// A poll came on this lane.
@@ -70,25 +70,25 @@ impl Entry {
     }
 
     /// Something is noted of it.
-    pub(crate) fn note(&mut self, noted: Noted)
-        ensures noted { (c : ℕ) (h : List Note) → Remembers self.old c h → Remembers self.new c (note_of c noted ∷ h) }
+    pub(crate) fn note(&mut self, noted: EntryEvent)
+        ensures noted { (c : ℕ) (h : List ConnectionEvent) → Remembers self.old c h → Remembers self.new c (note_of c noted ∷ h) }
         ensures told { self.new.told ≡ self.old.told }
     {
         match noted {
-            Noted::Socket { lane, now: _ } => {
+            EntryEvent::Socket { lane, now: _ } => {
                 self.socket = Some(lane);
                 self.lost = None;
             }
-            Noted::Poll { lane, now } => {
+            EntryEvent::Poll { lane, now } => {
                 self.poll = Some(Held { lane, since: now });
                 self.polled = None;
             }
-            Noted::Answer { lane, now } => self.end_poll(lane, now),
-            Noted::Loss { lane, now } => {
+            EntryEvent::Answer { lane, now } => self.end_poll(lane, now),
+            EntryEvent::Loss { lane, now } => {
                 self.lose(lane, now);
                 self.end_poll(lane, now);
             }
-            Noted::End { now } => self.end(now),
+            EntryEvent::End { now } => self.end(now),
         }
     }
 
@@ -126,14 +126,14 @@ impl Entry {
 
     /// Whether it polls.
     pub(crate) fn polls(&self) -> bool
-        ensures { (c : ℕ) (h : List Note) → Remembers self.now c h → result ≡ is_polling c h }
+        ensures { (c : ℕ) (h : List ConnectionEvent) → Remembers self.now c h → result ≡ is_polling c h }
     {
         self.poll.is_some() || self.polled.is_some()
     }
 
     /// Since when it holds the poll that it holds.
     pub(crate) fn held_since(&self) -> Option<u64>
-        ensures { (c : ℕ) (h : List Note) → Remembers self.now c h → result ≡ option_map (λ poll. poll.1) (poll_of c h) }
+        ensures { (c : ℕ) (h : List ConnectionEvent) → Remembers self.now c h → result ≡ option_map (λ poll. poll.1) (poll_of c h) }
     {
         match self.poll {
             Some(held) => Some(held.since),
@@ -143,7 +143,7 @@ impl Entry {
 
     /// Its life but for moments.
     pub(crate) fn standing(&self) -> Life
-        ensures { (c : ℕ) (h : List Note) → Remembers self.now c h → result ≡ standing_of c h }
+        ensures { (c : ℕ) (h : List ConnectionEvent) → Remembers self.now c h → result ≡ standing_of c h }
     {
         if self.ended.is_some() {
             return Life::Ending;
@@ -163,7 +163,7 @@ impl Entry {
 
     /// From when on its life counts towards its end, if it does.
     pub(crate) fn since(&self) -> Option<u64>
-        ensures { (c : ℕ) (h : List Note) → Remembers self.now c h → result ≡ since_of c (standing_of c h) h }
+        ensures { (c : ℕ) (h : List ConnectionEvent) → Remembers self.now c h → result ≡ since_of c (standing_of c h) h }
     {
         match self.standing() {
             Life::Fresh => told_at(&self.told),
@@ -177,7 +177,7 @@ impl Entry {
 
     /// Its life at a moment.
     pub(crate) fn life(&self, now: u64) -> Life
-        ensures { (c : ℕ) (h : List Note) → Remembers self.now c h → result ≡ life_of c now h }
+        ensures { (c : ℕ) (h : List ConnectionEvent) → Remembers self.now c h → result ≡ life_of c now h }
     {
         let standing = self.standing();
         match self.since() {
@@ -188,14 +188,14 @@ impl Entry {
 
     /// Whether its token begins to end when its moment comes. Else it is let go then.
     pub(crate) fn ends_then(&self) -> bool
-        ensures { (c : ℕ) (h : List Note) → Remembers self.now c h → result ≡ ends_then c h }
+        ensures { (c : ℕ) (h : List ConnectionEvent) → Remembers self.now c h → result ≡ ends_then c h }
     {
         self.standing() == Life::Polling
     }
 
     /// Whether its connection can be resumed, by its token.
-    pub(crate) fn is_promised(&self) -> bool
-        ensures { (c : ℕ) (h : List Note) → Remembers self.now c h → result ≡ is_promised c h }
+    pub(crate) fn is_resumable_promise(&self) -> bool
+        ensures { (c : ℕ) (h : List ConnectionEvent) → Remembers self.now c h → result ≡ is_resumable_promise c h }
     {
         match &self.told {
             Some(told) => told.reconnect,

@@ -2,9 +2,9 @@
 
 ghost use Rattle.std.specs.Prelude.{◌≡◌, ◌↔◌, ℕ, ◌+◌, ◌≤◌, ◌&&◌, suc, [], true, false, nat_le, Err, IfOk, IfErr, IfSome, OnOk, OnErr, length, is_some};
 ghost use Rattle.indexmap.specs.IndexMap.{index_map_len};
-ghost use Rattle.hd_serving.specs.Numbers.{most_connections, most_live};
-ghost use Rattle.hd_serving.specs.Lives.{Answered, Ended, LaneLost, LetGo, Note, Polled, Socketed};
-ghost use Rattle.hd_serving.specs.Lives.{ended_at, ends_then, is_busy, is_made, is_polling, is_promised, known_conn, life, life_of, live, overdue};
+ghost use Rattle.hd_server.specs.Numbers.{most_connections, most_live};
+ghost use Rattle.hd_server.specs.Lives.{Answered, Ended, LaneLost, LetGo, ConnectionEvent, Polled, Socketed};
+ghost use Rattle.hd_server.specs.Lives.{ended_at, ends_then, is_busy, is_made, is_polling, is_resumable_promise, known_conn, life, life_of, live, overdue};
 ghost use Rattle.hn_server_front.specs.Calls.{Expires, IsFirst, IsNoted, OfEach, Opens, Stays, Tells, is_held_long, lane_of, poll_held};
 ghost use Rattle.hn_server_front.specs.Moments.{at, is_within};
 ghost use Rattle.hn_server_front.specs.Entries.{held_as, note_of};
@@ -14,13 +14,13 @@ ghost use Rattle.hn_server_front.specs.declared.bodies.Transports.TheVariants.{A
 ghost use Rattle.hn_server_front.specs.declared.errors.FrontError.TheVariants.{Busy};
 
 use crate::bodies::{Transports, body};
-use crate::entry::{Entry, Held, Noted, Told, told_at};
+use crate::entry::{Entry, EntryEvent, Held, Told, told_at};
 use crate::errors::FrontError;
 use crate::moments::{Moments, Waiting};
 use crate::route::Route;
-use crate::token::Token;
-use hd_lanes::{Request, Vec8};
-use hd_serving::{HELD_FOR, LIVES_FOR, Life, MOST_CONNECTIONS, MOST_LIVE, tokens_differ};
+use crate::token::{Token, token_for};
+use hd_server::{HELD_FOR, LIVES_FOR, Life, MOST_CONNECTIONS, MOST_LIVE, tokens_differ};
+use hw_lanes::{Request, Vec8};
 use indexmap::IndexMap;
 use std::alloc::{AllocError, Global};
 use std::collections::BTreeMap;
@@ -152,11 +152,11 @@ impl Front {
     }
 
     /// Whether the connection's token was told with reconnect, and it isn't let go.
-    pub fn is_promised(&self, conn: u64) -> bool
-        ensures { OfEach self.now (λ h. result ≡ (is_there conn h && is_promised conn h)) }
+    pub fn is_resumable_promise(&self, conn: u64) -> bool
+        ensures { OfEach self.now (λ h. result ≡ (is_there conn h && is_resumable_promise conn h)) }
     {
         match self.entries.get(&conn) {
-            Some(entry) => entry.is_promised(),
+            Some(entry) => entry.is_resumable_promise(),
             None => false,
         }
     }
@@ -178,7 +178,7 @@ impl Front {
     ) -> Result<Made, FrontError>
         ensures ok { IfOk result (λ made_now. OfEach self.old (λ h. Tells All self.new h asked drawn now made_now)) }
         ensures busy { OfEach self.old (λ h. (is_busy now h ≡ true) ↔ (result ≡ Err Busy)) }
-        ensures kept { OnErr result (Stays self.old self.new) }
+        ensures unchanged { OnErr result (Stays self.old self.new) }
     {
         self.tell(alloc, Transports::All, asked, drawn, now)
     }
@@ -193,7 +193,7 @@ impl Front {
     ) -> Result<Made, FrontError>
         ensures ok { IfOk result (λ made_now. OfEach self.old (λ h. Tells Sockets self.new h asked drawn now made_now)) }
         ensures busy { OfEach self.old (λ h. (is_busy now h ≡ true) ↔ (result ≡ Err Busy)) }
-        ensures kept { OnErr result (Stays self.old self.new) }
+        ensures unchanged { OnErr result (Stays self.old self.new) }
     {
         self.tell(alloc, Transports::Sockets, asked, drawn, now)
     }
@@ -202,7 +202,7 @@ impl Front {
     pub fn open(&mut self, now: u64) -> Result<u64, FrontError>
         ensures ok { IfOk result (λ conn. OfEach self.old (λ h. Opens self.new h now conn)) }
         ensures busy { OfEach self.old (λ h. (is_busy now h ≡ true) ↔ (result ≡ Err Busy)) }
-        ensures kept { OnErr result (Stays self.old self.new) }
+        ensures unchanged { OnErr result (Stays self.old self.new) }
     {
         let conn = self.next(now)?;
         self.make_room()?;
@@ -216,35 +216,35 @@ impl Front {
     pub fn socket(&mut self, conn: u64, lane: u64, now: u64)
         ensures { IsNoted self.old self.new conn (Socketed conn lane now) }
     {
-        self.note(conn, Noted::Socket { lane, now });
+        self.note(conn, EntryEvent::Socket { lane, now });
     }
 
     /// A poll came on this lane.
     pub fn poll(&mut self, conn: u64, lane: u64, now: u64)
         ensures { IsNoted self.old self.new conn (Polled conn lane now) }
     {
-        self.note(conn, Noted::Poll { lane, now });
+        self.note(conn, EntryEvent::Poll { lane, now });
     }
 
     /// The poll on this lane ended.
     pub fn answered(&mut self, conn: u64, lane: u64, now: u64)
         ensures { IsNoted self.old self.new conn (Answered conn lane now) }
     {
-        self.note(conn, Noted::Answer { lane, now });
+        self.note(conn, EntryEvent::Answer { lane, now });
     }
 
     /// The lane was lost.
     pub fn lost(&mut self, conn: u64, lane: u64, now: u64)
         ensures { IsNoted self.old self.new conn (LaneLost conn lane now) }
     {
-        self.note(conn, Noted::Loss { lane, now });
+        self.note(conn, EntryEvent::Loss { lane, now });
     }
 
     /// Its token is ending from now on.
     pub fn ending(&mut self, conn: u64, now: u64)
         ensures { IsNoted self.old self.new conn (Ended conn now) }
     {
-        self.note(conn, Noted::End { now });
+        self.note(conn, EntryEvent::End { now });
     }
 
     /// It is let go.
@@ -268,7 +268,7 @@ impl Front {
     {
         let conn = self.moments.first_due(now)?;
         if self.ends_then(conn) {
-            self.note(conn, Noted::End { now });
+            self.note(conn, EntryEvent::End { now });
         } else {
             self.forget(conn);
         }
@@ -322,12 +322,12 @@ impl Front {
     ) -> Result<Made, FrontError>
         ensures ok { IfOk result (λ made_now. OfEach self.old (λ h. Tells transports self.new h asked drawn now made_now)) }
         ensures busy { OfEach self.old (λ h. (is_busy now h ≡ true) ↔ (result ≡ Err Busy)) }
-        ensures kept { OnErr result (Stays self.old self.new) }
+        ensures unchanged { OnErr result (Stays self.old self.new) }
     {
         // A law: so the token is no other connection's.
         tokens_differ();
         let conn = self.next(now)?;
-        let token = Token::of(alloc, drawn, conn)?;
+        let token = token_for(alloc, drawn, conn)?;
         let body = body(alloc, transports, conn, &token, asked)?;
         let own = token.copy()?;
         self.make_room()?;
@@ -368,7 +368,7 @@ impl Front {
     }
 
     /// Something is noted of a connection.
-    fn note(&mut self, conn: u64, noted: Noted)
+    fn note(&mut self, conn: u64, noted: EntryEvent)
         ensures { IsNoted self.old self.new conn (note_of conn noted) }
     {
         let Some(entry) = self.entries.get_mut(&conn) else {

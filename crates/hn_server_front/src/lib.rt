@@ -3,23 +3,25 @@
 //!
 //! ```text
 //! while let Some(conn) = front.expired(now) { .. }        // those whose moment has come, the least number first
-//! match front.route(alloc, base, &request)? {             // what is asked, before any token is looked at
-//!     Route::Negotiate { asked } => front.negotiate(alloc, asked, drawn, now)?,   // a connection with a token, and the body that tells it
-//!     Route::Open => front.open(now)?,                    // a connection without one
-//!     Route::Socket { token } => match front.life(&token, now) { .. },
+//! let route = front.route(alloc, base, &request)?;         // where it leads, before any token is looked at
+//! let conn = front.named(&route, now);                    // the connection that it names
+//! match front.outcome(&route, &caller, resumable, now) {  // the table of requests: its first row that applies
+//!     Outcome::NewToken { reconnect } => front.negotiate(alloc, reconnect, drawn, now)?,  // a connection with a token, and the body that tells it
+//!     Outcome::PlainSocket => front.open(now)?,           // a connection without one
+//!     Outcome::Refusal(status) => ..
 //!     ..
 //! }
 //! front.socket(conn, lane, now);                          // what becomes of a connection is noted
 //! ```
 //!
-//! A front stands for the list of its notes, as `hd_serving` has it: each call that makes or changes a connection adds its note. Proved:
-//! each answer but want of memory is what the definitions say of that list, whatever the order of calls and moments. At most 10,000
-//! connections live when one is made.
+//! A front stands for the list of its notes, as `hd_server` has it: each call that makes or changes a connection adds its note. Proved:
+//! each answer but want of memory is what the definitions say of that list, whatever the order of calls and moments; what is done about a
+//! request is the table's. At most 10,000 connections live when one is made.
 //!
 //! The calls that note something take no memory: `negotiate` and `open` make room for all of a connection's notes. No call goes through
 //! connections but those whose moment has come.
 //!
-//! The crate doesn't know peers, lanes, nor what is said.
+//! The crate doesn't know peers, so whether an end may be resumed is handed in; nor lanes, nor what is said.
 #![tactic(auto)]
 
 mod bodies;
@@ -27,6 +29,7 @@ mod entry;
 mod errors;
 mod front;
 mod moments;
+mod outcome;
 mod route;
 mod token;
 

@@ -1,10 +1,10 @@
 //! What a request asks for, before any token, user or draw is looked at.
 ghost use Rattle.std.specs.Prelude.{◌≡◌, true, IfOk, Some as Given};
-ghost use Rattle.hd_serving.specs.Table.{asks_reconnect, has_version, is_base, is_negotiate, is_version};
-ghost use Rattle.hn_server_front.specs.Routes.{RoutesTo};
+ghost use Rattle.hd_server.specs.Table.{asks_reconnect, has_version, is_base, is_negotiate, is_version};
+ghost use Rattle.hn_server_front.specs.Routes.{RoutesTo, is_entry_at};
 
 use crate::token::Token;
-use hd_lanes::{Method, Request, query_value};
+use hw_lanes::{Method, Request, query_value};
 use std::alloc::{AllocError, Global};
 
 /// The path of a negotiate, past the base.
@@ -40,6 +40,17 @@ impl Route {
         }
         Ok(Route::Refuse(404))
     }
+
+    /// Whether the request would make a connection, so that it matters who asks.
+    pub fn is_entry(&self) -> bool
+        ensures { result ≡ is_entry_at self.now }
+    {
+        match self {
+            Route::Negotiate { asked: _ } => true,
+            Route::Open => true,
+            _ => false,
+        }
+    }
 }
 
 /// Where a negotiate leads.
@@ -68,10 +79,9 @@ fn at_base(alloc: Global, base: &[u8], request: &Request) -> Result<Route, Alloc
     if request.method == Method::Other {
         return Ok(Route::Refuse(405));
     }
-    let Some(id) = id else {
+    let Some(token) = id else {
         return Ok(Route::Refuse(400));
     };
-    let token = Token::named(id);
     if request.upgrade.is_some() {
         return Ok(Route::Socket { token });
     }

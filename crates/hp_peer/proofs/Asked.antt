@@ -6,7 +6,7 @@ use Rattle.hv_value.specs.Tree.{Tree}
 use Rattle.hv_value.specs.declared.value.Value.{Value}
 use Rattle.hm_message.specs.declared.message.Message.{Message}
 use Rattle.hm_message.specs.declared.message.Message.TheVariants.{CancelInvocation}
-use Rattle.hm_message.specs.Laws.{ValuesAreTrees}
+use Rattle.hm_message.specs.Laws.{ImageIsAsDeep}
 use Rattle.hm_message.specs.Message.{Fits}
 use Rattle.hm_codec.specs.Frames.{said_again}
 use Rattle.hd_delivery.specs.Bytes.{Does, sizes_of}
@@ -25,7 +25,7 @@ use Rattle.hd_calls.specs.Numbers.{most_live, most_uploads, most_numbers}
 use Rattle.hd_calls.specs.Hubs.{Hub, Invoked, Answer, Item, End as Ends, arguments_in, value_in, message_of, answer_message}
 use Rattle.hd_calls.specs.Ids.{prefix_of}
 use Rattle.hd_calls.specs.Laws.{TablesAgree}
-use Rattle.hd_calls.specs.Peers.{Move, Calls, Uploads, Cancels, Settings, asker_of, byte_steps, call_of, codec, drawn, given, has_end, has_id, live_call, live_upload, lost, steps, waiting}
+use Rattle.hd_calls.specs.Peers.{PeerEvent, Calls, Uploads, Cancels, Settings, asker_of, byte_steps, call_of, codec, drawn, given, has_end, has_id, live_call, live_upload, lost, steps, waiting}
 use Rattle.hd_calls.specs.Rules.{CallRefusal, Unknown, TooDeep, Unsent, HasPlace, IsRefusedCall, IsRefusedUpload, IsRefusedCancel, MadeAs, MayCall, MayMove, asking, is_upload, new_live, new_numbers}
 use Rattle.hd_calls.specs.Tables.{call_happenings, drawn_in, job_happenings, live_call_in, live_upload_in}
 use Rattle.hi_calls.specs.declared.calls.Calls as table
@@ -54,7 +54,7 @@ none_both true = refl
 none_both false = refl
 
 -- at the number of the call or at another one
-asker_with : (here : Bool) (c : Invoked) (k : ℕ) (h : List Move) → (here ≡ true → has_id (call_of k h) ≡ false)
+asker_with : (here : Bool) (c : Invoked) (k : ℕ) (h : List PeerEvent) → (here ≡ true → has_id (call_of k h) ≡ false)
     → ◌≡◌ {A = Option ℕ} (if has_id (if here then Some c else call_of k h) && (not (has_end (given k h)) && not (lost k h))
     then option_map suc (if here then None else asker_of k h) else None) (live_asker k h)
 asker_with true c k h dead = none_both (has_id (Some c) && (not (has_end (given k h)) && not (lost k h)))
@@ -62,7 +62,7 @@ asker_with true c k h dead = none_both (has_id (Some c) && (not (has_end (given 
 asker_with false c k h dead = refl
 
 -- nobody asked for a call that the user makes
-asker_new : (n : ℕ) (c : Invoked) (h : List Move) → has_id (call_of n h) ≡ false → (k : ℕ) → live_asker k (Calls None n c ∷ h) ≡ live_asker k h
+asker_new : (n : ℕ) (c : Invoked) (h : List PeerEvent) → has_id (call_of n h) ≡ false → (k : ℕ) → live_asker k (Calls None n c ∷ h) ≡ live_asker k h
 asker_new n c h dead k = asker_with (k == n) c k h (λ e. subst (λ x. has_id (call_of x h) ≡ false) (sym (eqb-true k n e)) dead)
 
 zero_or_next : (last : ℕ) (b : Bool) → let n : ℕ = if b then 0 else suc last in (n ≡ 0) ⊎ (n ≡ suc last)
@@ -112,15 +112,15 @@ unmade Why live unknown refused.Spent why = absurd why
 abbrev pub with_parts : {H Job : Type 0} → Peer H Job → End → table.Calls → Peer H Job
 with_parts p e c = record p { end = e; calls = c }
 
-module _ {H Job : Type 0} (hub : Hub Job) (t : Settings) (old : Peer H Job) (h : List Move) (s : Stands hub t old h) where
+module _ {H Job : Type 0} (hub : Hub Job) (t : Settings) (old : Peer H Job) (h : List PeerEvent) (s : Stands hub t old h) where
   -- ---- a move that is said
 
   -- its end and its table of calls stand for a move that concerns nothing else
-  moved : (e : End) (c : table.Calls) (d : Move) → limits_of e ≡ limits_of old.end → end_stands.Stands t.wire t.config e (byte_steps t (d ∷ h))
+  moved : (e : End) (c : table.Calls) (d : PeerEvent) → limits_of e ≡ limits_of old.end → end_stands.Stands t.wire t.config e (byte_steps t (d ∷ h))
       → of_calls.Stands c (prefix_of t.config.side) (call_happenings (d ∷ h)) → job_happenings t (d ∷ h) ≡ job_happenings t h
       → waiting (d ∷ h) ≡ waiting h → ((n : ℕ) → live_asker n (d ∷ h) ≡ live_asker n h) → MayMove hub t h d → asking (d ∷ h) ≡ None
       → Stands hub t (with_parts old e c) (d ∷ h)
-  moved e c d limits end calls jobs waits askers may asks = record {
+  moved e c d limits end calls jobs waits jobs_by_call may asks = record {
     names = s.names;
     limits = s.limits ∙ sym limits;
     end = end;
@@ -129,7 +129,7 @@ module _ {H Job : Type 0} (hub : Hub Job) (t : Settings) (old : Peer H Job) (h :
     who = s.who;
     waits = s.waits ∙ sym waits;
     counted = subst IsCounted (sym waits) s.counted;
-    askers = λ n. s.askers n ∙ sym (askers n);
+    jobs_by_call = λ n. s.jobs_by_call n ∙ sym (jobs_by_call n);
     follows = (s.follows, may);
     prompt = (s.prompt, inl s.settled);
     settled = asks;
@@ -147,7 +147,7 @@ module _ {H Job : Type 0} (hub : Hub Job) (t : Settings) (old : Peer H Job) (h :
     who = s.who;
     waits = s.waits;
     counted = s.counted;
-    askers = s.askers;
+    jobs_by_call = s.jobs_by_call;
     follows = s.follows;
     prompt = s.prompt;
     settled = s.settled;
@@ -257,7 +257,7 @@ module _ {H Job : Type 0} (hub : Hub Job) (t : Settings) (old : Peer H Job) (h :
           uploads n w (Item v) m made (upload_item t h v) (item_again (codec t h) (t.name (suc (n + w))) v) refl new new.end old.calls is limits said.number said.sends
           (takes (value_in (codec t h) v))
 
-      pub item_is_unuploaded : ValuesAreTrees → (e : AskError) → IsUnsaid old.end m e → HasCause (IsRefusedUpload t h n w (upload_item t h v)) e
+      pub item_is_unuploaded : ImageIsAsDeep → (e : AskError) → IsUnsaid old.end m e → HasCause (IsRefusedUpload t h n w (upload_item t h v)) e
       item_is_unuploaded law e why =
           let id = t.name (suc (n + w)) in
           let read = upload_read n w (Item v) m made (upload_item t h v) (item_again (codec t h) id v) in
@@ -362,7 +362,7 @@ module _ {H Job : Type 0} (hub : Hub Job) (t : Settings) (old : Peer H Job) (h :
               (begun.stands heard refl refl) refl refl (asker_new n heard h dead) may_call refl);
         }
 
-        pub uncalled : ValuesAreTrees → (e : AskError) → IsUnsaid old.end m e → IsUncalled t h k target arguments uploads e
+        pub uncalled : ImageIsAsDeep → (e : AskError) → IsUnsaid old.end m e → IsUncalled t h k target arguments uploads e
         uncalled law e why = unsaid (IsRefusedCall t h heard) m (message_of heard) call_read
             (fits_again law (codec t h) m (message_of heard) call_read) (fits_before law (codec t h) m (message_of heard) call_read)
             (λ deep. (has_place begins.place, deep)) (λ x unsent. (has_place begins.place, unsent)) e why

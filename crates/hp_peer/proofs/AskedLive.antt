@@ -7,7 +7,7 @@ use Rattle.hm_message.specs.declared.message.Codec.{Codec}
 use Rattle.hd_calls.specs.declared.vocabulary.Act.{Act}
 use Rattle.hd_calls.specs.declared.vocabulary.Act.TheVariants as act
 use Rattle.hd_calls.specs.Hubs.{Way, Notify, Call, Stream, Hub, Invoked, Turn, Given, Cancelled}
-use Rattle.hd_calls.specs.Peers.{Begins, Move, Handles, Runs, Settings, acts, asks, begun, codec, ends_job, last_of, live_job, over}
+use Rattle.hd_calls.specs.Peers.{Begins, PeerEvent, Handles, Runs, Settings, acts, asks, begun, codec, ends_job, last_of, live_job, over}
 use Rattle.hd_calls.specs.Rules.{Follows, IsDue}
 
 last_is : {A : Type 0} (xs : List A) (x : A) → last_of (xs ++ x ∷ []) ≡ Some x
@@ -35,11 +35,11 @@ ask_goes_on t code way (act.Item v) e = absurd (cc)
 ask_goes_on t code way (act.End x) e = absurd (cc)
 ask_goes_on t code way (act.Do d) e = absurd (cc)
 
-due_live : (t : Settings) (j : ℕ) (h : List Move) (turn : Turn) → IsDue t j h turn → live_job t j h ≡ true
+due_live : (t : Settings) (j : ℕ) (h : List PeerEvent) (turn : Turn) → IsDue t j h turn → live_job t j h ≡ true
 due_live t j h (Given i now) d = d.0
 due_live t j h Cancelled d = d.0
 
-run_live : (t : Settings) (j k : ℕ) (c : Invoked) (turn : Turn) (what : Act) (h : List Move) → IsDue t k h turn
+run_live : (t : Settings) (j k : ℕ) (c : Invoked) (turn : Turn) (what : Act) (h : List PeerEvent) → IsDue t k h turn
     → (asks (last_of (acts j h)) ≡ true → live_job t j h ≡ true) → (b : Bool) → (j == k) ≡ b
     → asks (last_of (if b then acts j h ++ what ∷ [] else acts j h)) ≡ true
     → (nat_lt j (length (begun h)) && not ((b && ends_job t (codec t h) c.way what) || over t j h)) ≡ true
@@ -49,7 +49,7 @@ run_live t j k c turn what h due before true p e =
     (subst (λ n. live_job t n h ≡ true) (sym (eqb-true j k p)) (due_live t k h turn due))
 run_live t j k c turn what h due before false p e = before e
 
-pub asks_live : {Job : Type 0} (hub : Hub Job) (t : Settings) (j : ℕ) (h : List Move) → Follows hub t h → asks (last_of (acts j h)) ≡ true → live_job t j h ≡ true
+pub asks_live : {Job : Type 0} (hub : Hub Job) (t : Settings) (j : ℕ) (h : List PeerEvent) → Follows hub t h → asks (last_of (acts j h)) ≡ true → live_job t j h ≡ true
 asks_live hub t j [] f e = absurd (cc)
 asks_live hub t j (Handles m (Begins c now) ∷ h) f e = more_begun j (begun h) c (over t j h) (asks_live hub t j h f.0 e)
 asks_live hub t j (Handles m x ∷ h) f e = asks_live hub t j h f.0 e

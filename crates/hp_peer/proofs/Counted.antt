@@ -9,7 +9,7 @@ use Rattle.hd_delivery.specs.declared.vocabulary.Why.TheVariants.{Duplicate, Not
 use Rattle.hd_delivery.specs.declared.vocabulary.Side.{Side}
 use Rattle.hd_delivery.specs.declared.vocabulary.Side.TheVariants.{Client, Server}
 use Rattle.hd_delivery.specs.Frames.{LinkFrame, Request, Response, Refusal, Numbered, Ack, Sequence, Ping, Close, Foreign, Strange, Unreadable, received_of}
-use Rattle.hd_delivery.specs.Histories.{Step, Fed, Took, Failed, Gap, AckBeyond, Config, present_link, first_link, is_this, stands_on, fed_frames, taken_count, codec_of, is_closed, is_kept, is_shaken, processed_messages, most_lent, is_three}
+use Rattle.hd_delivery.specs.Histories.{EndEvent, Fed, Took, Failed, Gap, AckBeyond, Config, present_link, first_link, is_this, stands_on, fed_frames, taken_count, codec_of, is_closed, is_resumable, is_shaken, processed_messages, most_lent, is_three}
 use Rattle.hd_delivery.specs.Processes.{processes, next_frame, next_number, reads, reads_ack, reads_frame, reads_handshake, reads_message, reads_sequence, resumes}
 use Rattle.hd_delivery.specs.Numbers.{most_messages}
 use Rattle.hd_delivery.specs.Worlds.{Limits}
@@ -96,13 +96,13 @@ module _ (limits : Limits) (wire : Wire) (sound : IsSoundWire limits wire) (c : 
   later : (codec : Codec) (bytes : List ℕ) (f : LinkFrame) (size : ℕ) → wire.later codec bytes ≡ Reads f size → IsCountedFrame f
   later codec bytes f size e = later_counted f ((sound.later codec).reads bytes f size e).0
 
-  cut_counted : (k : List Step) (l : ℕ) (bytes : List ℕ) → AreCounted (frames (cut wire c k l bytes))
+  cut_counted : (k : List EndEvent) (l : ℕ) (bytes : List ℕ) → AreCounted (frames (cut wire c k l bytes))
   cut_counted k l bytes = either (λ cuts. AreCounted (frames cuts)) (is_this l (first_link k)) _ _
       (by_counted (wire.first c.side bytes) 0 bytes _ (λ f size e. first_counted c.side f ((sound.first c.side).reads bytes f size e).0)
       (λ f at rest. all_counted (wire.later (codec_after c.codec f)) (later (codec_after c.codec f)) (length rest) at rest))
       (all_counted (wire.later (codec_of c k)) (later (codec_of c k)) (length bytes) 0 bytes)
 
-  new_counted : (h : List ByteStep) (k : List Step) (o : Option ℕ) (piece : List ℕ) → AreCounted (new_frames wire c h k o piece)
+  new_counted : (h : List ByteStep) (k : List EndEvent) (o : Option ℕ) (piece : List ℕ) → AreCounted (new_frames wire c h k o piece)
   new_counted h k None piece = tt
   new_counted h k (Some l) piece = rest_counted (length (fed_frames l k)) _ (cut_counted k l (bytes_on l h ++ piece))
 
@@ -117,18 +117,18 @@ module _ (limits : Limits) (wire : Wire) (sound : IsSoundWire limits wire) (c : 
 -- ---- what is processed
 
 -- the step hands out no message that isn't counted
-abbrev IsCountedStep : Step → Type 0
+abbrev IsCountedStep : EndEvent → Type 0
 IsCountedStep (Took (gives.Message m)) = is_sequenced m ≡ true
 IsCountedStep _ = Unit {0}
 
-abbrev IsCountedNext : Option Step → Type 0
+abbrev IsCountedNext : Option EndEvent → Type 0
 IsCountedNext None = Unit {0}
 IsCountedNext (Some s) = IsCountedStep s
 
-one_of : (b : Bool) (x y : Step) → IsCountedStep x → IsCountedStep y → IsCountedStep (if b then x else y)
+one_of : (b : Bool) (x y : EndEvent) → IsCountedStep x → IsCountedStep y → IsCountedStep (if b then x else y)
 one_of = either IsCountedStep
 
-handshake_counted : (side : Side) (c : Config) (k : List Step) (f : LinkFrame) → IsCountedStep (reads_handshake side c k f)
+handshake_counted : (side : Side) (c : Config) (k : List EndEvent) (f : LinkFrame) → IsCountedStep (reads_handshake side c k f)
 handshake_counted Client c k f = client f
   where
     client : (f : LinkFrame) → IsCountedStep (reads_handshake Client c k f)
@@ -150,20 +150,20 @@ message_counted p (Some n) m e =
     one_of (n == most_messages + 1) (Failed (Gap (most_messages + 1) most_messages)) (if n == suc p then Took (gives.Message m) else Took (gives.Skipped (Duplicate n)))
     tt (one_of (n == suc p) (Took (gives.Message m)) (Took (gives.Skipped (Duplicate n))) e tt)
 
-ack_counted : (k : List Step) (n : ℕ) → IsCountedStep (reads_ack k n)
+ack_counted : (k : List EndEvent) (n : ℕ) → IsCountedStep (reads_ack k n)
 ack_counted k n = one_of (nat_le n (most_lent k)) (Took (gives.Acked n)) (Failed (AckBeyond n (most_lent k))) tt tt
 
-resumes_counted : (k : List Step) (first received : ℕ) → IsCountedStep (resumes k first received)
+resumes_counted : (k : List EndEvent) (first received : ℕ) → IsCountedStep (resumes k first received)
 resumes_counted k first received =
     one_of (is_three k) (if nat_le received (most_lent k) then Took (gives.Resumed first received) else Failed (AckBeyond received (most_lent k))) (Took (gives.Sequenced first))
     (one_of (nat_le received (most_lent k)) (Took (gives.Resumed first received)) (Failed (AckBeyond received (most_lent k))) tt tt) tt
 
-sequence_counted : (k : List Step) (first received : ℕ) → IsCountedStep (reads_sequence k first received)
+sequence_counted : (k : List EndEvent) (first received : ℕ) → IsCountedStep (reads_sequence k first received)
 sequence_counted k first received =
     one_of (nat_le first (suc (length (processed_messages k)))) (resumes k first received) (Failed (Gap first (suc (length (processed_messages k)))))
     (resumes_counted k first received) tt
 
-frame_counted : (keeps : Bool) (k : List Step) (n : Option ℕ) (f : LinkFrame) → IsCountedFrame f → IsCountedStep (reads_frame keeps k n f)
+frame_counted : (keeps : Bool) (k : List EndEvent) (n : Option ℕ) (f : LinkFrame) → IsCountedFrame f → IsCountedStep (reads_frame keeps k n f)
 frame_counted keeps k n (Numbered m) e = message_counted (length (processed_messages k)) n m e
 frame_counted keeps k n (Ack upto) e = one_of keeps (reads_ack k upto) (Took (gives.Skipped NotUsed)) (ack_counted k upto) tt
 frame_counted keeps k n (Sequence first received) e =
@@ -174,9 +174,9 @@ frame_counted keeps k n (Foreign x) e = tt
 frame_counted keeps k n (Unreadable at why) e = tt
 frame_counted keeps k n _ e = tt
 
-module _ (c : Config) (k : List Step) (counted : (l : ℕ) → AreCounted (fed_frames l k)) where
+module _ (c : Config) (k : List EndEvent) (counted : (l : ℕ) → AreCounted (fed_frames l k)) where
   read_counted : (n : Option ℕ) (f : LinkFrame) → IsCountedFrame f → IsCountedStep (reads c k n f)
-  read_counted n f e = one_of (is_shaken k) (reads_frame (is_kept c k) k n f) (reads_handshake c.side c k f) (frame_counted (is_kept c k) k n f e) (handshake_counted c.side c k f)
+  read_counted n f e = one_of (is_shaken k) (reads_frame (is_resumable c k) k n f) (reads_handshake c.side c k f) (frame_counted (is_resumable c k) k n f e) (handshake_counted c.side c k f)
 
   next_counted : (o : Option ℕ) → IsCountedNext (next_frame c k o)
   next_counted None = tt

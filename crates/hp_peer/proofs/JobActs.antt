@@ -17,16 +17,16 @@ use Rattle.hd_calls.specs.declared.vocabulary.Act.TheVariants as act
 use Rattle.hd_calls.specs.Hubs.{Hub, Way, Notify, Call, Stream, Turn, Given, Cancelled, Answer, Item, End, answer_message, id_of, value_in, ending_in}
 use Rattle.hd_calls.specs.Laws.{JobsAgree}
 use Rattle.hd_calls.specs.Peers as peers
-use Rattle.hd_calls.specs.Peers.{Move, Runs, Settings, answer_of, byte_steps, can_frame, codec, ending_answer, last_word, message_for}
+use Rattle.hd_calls.specs.Peers.{PeerEvent, Runs, Settings, answer_of, byte_steps, can_frame, codec, ending_answer, last_word, message_for}
 use Rattle.hd_calls.specs.Rules.{asking}
 use Rattle.hd_calls.specs.Tables.{JobHappening, Ended, Turned, begun_in, cut_short, job_happenings, live_job_in, over_in}
 use Rattle.hj_jobs.specs.declared.jobs.Jobs.{Jobs}
 use Rattle.hj_jobs.specs.declared.live.Stepped.{Stepped}
-use Rattle.hj_jobs.specs.Calls.{HasAttempted, IsTurnIn}
+use Rattle.hj_jobs.specs.Calls.{HasPrepared, IsTurnIn}
 use Rattle.hj_jobs.specs.Calls as of_jobs_calls
 use Rattle.hj_jobs.specs.Stands as of_jobs
 use Rattle.hp_peer.specs.declared.peer.Peer.{Peer}
-use Rattle.hp_peer.specs.Turning.{IsAnswered, IsCarriedOut, IsHalfway, IsOfAsk, stream_id}
+use Rattle.hp_peer.specs.Turning.{IsAnswered, IsCarriedOut, IsPrepared, IsOfAsk, stream_id}
 use Rattle.hp_peer.proofs.JobTurns.{carried, carried_quietly, finished, some_same, stream_way, unanswered, unstreamed}
 
 -- ---- what an act says, by whether it can be framed
@@ -97,9 +97,9 @@ live_past_item k j now turn v d = still_live (j == j) (over_in j k) (nat_lt j (l
 
 -- ---- a turn is had, with what is said for it
 
-module _ {H Job : Type 0} (hub : Hub Job) (t : Settings) (h : List Move) (agree : JobsAgree t h) (p : Peer H Job) (now : ℕ) (s : Stepped) (half : IsHalfway {H = H} hub t p h now s) where
-  abbrev a : HasAttempted {H = H} hub p.jobs t.who (job_happenings t h) now s
-  a = half.attempted
+module _ {H Job : Type 0} (hub : Hub Job) (t : Settings) (h : List PeerEvent) (agree : JobsAgree t h) (p : Peer H Job) (now : ℕ) (s : Stepped) (half : IsPrepared {H = H} hub t p h now s) where
+  abbrev a : HasPrepared {H = H} hub p.jobs t.who (job_happenings t h) now s
+  a = half.was_prepared
 
   abbrev way : Way
   way = a.step.call.way
@@ -107,7 +107,7 @@ module _ {H Job : Type 0} (hub : Hub Job) (t : Settings) (h : List Move) (agree 
   -- the second half of the turn makes this table of that
   abbrev Finishes : Jobs H Job → Jobs H Job → Type 0
   Finishes old new =
-      (who : List ℕ) (k : List JobHappening) (now : ℕ) (x : HasAttempted {H = H} hub old who k now s) → of_jobs.Stands {H = H} hub new who (Turned x.job x.turn s.act ∷ k)
+      (who : List ℕ) (k : List JobHappening) (now : ℕ) (x : HasPrepared {H = H} hub old who k now s) → of_jobs.Stands {H = H} hub new who (Turned x.job x.turn s.act ∷ k)
 
   pub unstreamed_item : (v : Value) → s.act ≡ act.Item v → stream_id s.kind s.id ≡ None → (jobs : Jobs H Job) → Finishes p.jobs jobs
       → IsCarriedOut {H = H} hub t h (record p { jobs = jobs }) now s
@@ -134,7 +134,7 @@ module _ {H Job : Type 0} (hub : Hub Job) (t : Settings) (h : List Move) (agree 
         → asking (Runs a.job a.step.call a.step.since a.turn what ∷ h) ≡ None → IsOfAsk a.job what None → IsCarriedOut {H = H} hub t h (record q { jobs = left }) now s
     said what is o cut left says cuts end stands settled no_ask =
         carried {H = H} hub t h agree p now s half what is (record q { jobs = left }) o cut says cuts limits end stands
-        (ap (λ (x : Peer H Job). x.calls) others) (ap (λ (x : Peer H Job). x.who) others) (ap (λ (x : Peer H Job). x.waiting) others) (ap (λ (x : Peer H Job). x.askers) others)
+        (ap (λ (x : Peer H Job). x.calls) others) (ap (λ (x : Peer H Job). x.who) others) (ap (λ (x : Peer H Job). x.waiting) others) (ap (λ (x : Peer H Job). x.jobs_by_call) others)
         settled no_ask
 
     module _ (v : Value) (is : s.act ≡ act.Item v) (i : List ℕ) (streams : stream_id s.kind s.id ≡ Some i) (m : Message) (message : m ≡ StreamItem [] i v) where

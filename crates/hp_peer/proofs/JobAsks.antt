@@ -21,7 +21,7 @@ use Rattle.hd_calls.specs.declared.vocabulary.Input.TheVariants as input
 use Rattle.hd_calls.specs.Hubs.{Hub, Way, Notify, Call, Stream, Invoked, Turn, Given, Cancelled, message_of}
 use Rattle.hd_calls.specs.Laws.{CallsAgree, JobsAgree}
 use Rattle.hd_calls.specs.Peers as peers
-use Rattle.hd_calls.specs.Peers.{Move, Calls, Refuses, Runs, Settings, acts, ask_refused, asker_of, begun, byte_steps, call_of, codec, drawn, ends_job, given, has_end, has_id, last_of, live_call, live_job, lost, over, reply, steps}
+use Rattle.hd_calls.specs.Peers.{PeerEvent, Calls, Refuses, Runs, Settings, acts, ask_refused, asker_of, begun, byte_steps, call_of, codec, drawn, ends_job, given, has_end, has_id, last_of, live_call, live_job, lost, over, reply, steps}
 use Rattle.hd_calls.specs.Rules.{CallRefusal, TooManyLive, Spent, Unknown, TooDeep, Unsent, IsAsked, IsRefusedCall, IsUnsent, MayRun, ask_of, is_due, passed}
 use Rattle.hd_calls.specs.Tables.{JobHappening, Turned, Replied, acts_in, call_happenings, drawn_in, job_happenings, live_job_in}
 use Rattle.hi_calls.specs.declared.errors.CallError.TheVariants as table
@@ -30,7 +30,7 @@ use Rattle.hi_calls.specs.Stands as of_calls
 use Rattle.hj_jobs.specs.declared.jobs.Jobs.{Jobs}
 use Rattle.hj_jobs.specs.declared.live.Stepped.{Stepped}
 use Rattle.hj_jobs.specs.Calls as of_table
-use Rattle.hj_jobs.specs.Calls.{AwaitsAnswer, HasAttempted, IsTurnIn, is_answer}
+use Rattle.hj_jobs.specs.Calls.{AwaitsAnswer, HasPrepared, IsTurnIn, is_answer}
 use Rattle.hj_jobs.specs.Stands as of_jobs
 use Rattle.hp_peer.specs.declared.errors.AskError.{AskError}
 use Rattle.hp_peer.specs.declared.errors.AskError.TheVariants as ask
@@ -38,7 +38,7 @@ use Rattle.hp_peer.specs.declared.peer.Peer.{Peer}
 use Rattle.hp_peer.specs.Asking.{is_refusal}
 use Rattle.hp_peer.specs.Calling.{HasCalled, IsUncalled, heard_call}
 use Rattle.hp_peer.specs.Stands.{Stands, live_asker}
-use Rattle.hp_peer.specs.Turning.{IsCarriedOut, IsHalfway, IsOfAsk}
+use Rattle.hp_peer.specs.Turning.{IsCarriedOut, IsPrepared, IsOfAsk}
 use Rattle.hp_peer.proofs.JobTurns.{IsQuiet, at_is, finished, first_past, may_run}
 
 suc_injective : (m n : ℕ) → suc m ≡ suc n → m ≡ n
@@ -67,16 +67,16 @@ live_in : (h : List JobHappening) (k now : ℕ) (turn : Turn) → IsTurnIn h k n
 live_in h k now Cancelled d = d.0
 live_in h k now (Given i m) d = d.0
 
-module _ {H Job : Type 0} (hub : Hub Job) (ids : IdsAreOfASide) (t : Settings) (h : List Move) (calls_agree : CallsAgree h) (agree : JobsAgree t h) (p : Peer H Job) (now : ℕ) (s : Stepped)
-    (half : IsHalfway {H = H} hub t p h now s) (target : List ℕ) (arguments : List Tree) (is : s.act ≡ act.Ask target arguments) where
+module _ {H Job : Type 0} (hub : Hub Job) (ids : IdsAreOfASide) (t : Settings) (h : List PeerEvent) (calls_agree : CallsAgree h) (agree : JobsAgree t h) (p : Peer H Job) (now : ℕ) (s : Stepped)
+    (half : IsPrepared {H = H} hub t p h now s) (target : List ℕ) (arguments : List Tree) (is : s.act ≡ act.Ask target arguments) where
   abbrev j : ℕ
-  j = half.attempted.job
+  j = half.was_prepared.job
 
   abbrev way : Way
-  way = half.attempted.step.call.way
+  way = half.was_prepared.step.call.way
 
-  abbrev k : List Move
-  k = Runs j half.attempted.step.call half.attempted.step.since half.attempted.turn (act.Ask target arguments) ∷ h
+  abbrev k : List PeerEvent
+  k = Runs j half.was_prepared.step.call half.was_prepared.step.since half.was_prepared.turn (act.Ask target arguments) ∷ h
 
   abbrev c : Invoked
   c = heard_call t h kind.Call target arguments 0
@@ -85,8 +85,8 @@ module _ {H Job : Type 0} (hub : Hub Job) (ids : IdsAreOfASide) (t : Settings) (
   same_steps : byte_steps t k ≡ byte_steps t h
   same_steps = ap (λ o. peers.add (option_map (λ m. Does (Sent m)) o) (byte_steps t h)) (ask_quiet t (codec t h) way j target arguments).silent
 
-  same_jobs : job_happenings t k ≡ Turned j half.attempted.turn (act.Ask target arguments) ∷ job_happenings t h
-  same_jobs = ap (λ o. peers.add o (Turned j half.attempted.turn (act.Ask target arguments) ∷ job_happenings t h)) (ask_quiet t (codec t h) way j target arguments).whole
+  same_jobs : job_happenings t k ≡ Turned j half.was_prepared.turn (act.Ask target arguments) ∷ job_happenings t h
+  same_jobs = ap (λ o. peers.add o (Turned j half.was_prepared.turn (act.Ask target arguments) ∷ job_happenings t h)) (ask_quiet t (codec t h) way j target arguments).whole
 
   same_codec : codec t k ≡ codec t h
   same_codec = ap (λ bs. codec_of t.config (in_frames t.wire t.config bs)) same_steps
@@ -94,11 +94,11 @@ module _ {H Job : Type 0} (hub : Hub Job) (ids : IdsAreOfASide) (t : Settings) (
   asked_call : c ≡ ask_of t k target arguments
   asked_call = rw (same_codec, half.stands.names (suc (drawn h)), ids t.config.side (suc (drawn h))) refl
 
-  runs : MayRun hub t h j half.attempted.step.call half.attempted.step.since half.attempted.turn (act.Ask target arguments)
-  runs = subst (λ w. MayRun hub t h j half.attempted.step.call half.attempted.step.since half.attempted.turn w) is (may_run hub t h agree now s j half.attempted.turn half.attempted.step half.may)
+  runs : MayRun hub t h j half.was_prepared.step.call half.was_prepared.step.since half.was_prepared.turn (act.Ask target arguments)
+  runs = subst (λ w. MayRun hub t h j half.was_prepared.step.call half.was_prepared.step.since half.was_prepared.turn w) is (may_run hub t h agree now s j half.was_prepared.turn half.was_prepared.step half.may)
 
   was_live : live_job t j h ≡ true
-  was_live = agree.live j ∙ live_in (job_happenings t h) j now half.attempted.turn half.attempted.step.due
+  was_live = agree.live j ∙ live_in (job_happenings t h) j now half.was_prepared.turn half.was_prepared.step.due
 
   is_asked : IsAsked t j c k
   is_asked = record {
@@ -112,51 +112,51 @@ module _ {H Job : Type 0} (hub : Hub Job) (ids : IdsAreOfASide) (t : Settings) (
   }
 
   turned : (mid jobs : Jobs H Job) → mid ≡ p.jobs
-      → ((who : List ℕ) (i : List JobHappening) (now : ℕ) (x : HasAttempted {H = H} hub mid who i now s) → of_jobs.Stands {H = H} hub jobs who (Turned x.job x.turn s.act ∷ i))
-      → of_jobs.Stands {H = H} hub jobs t.who (Turned j half.attempted.turn (act.Ask target arguments) ∷ job_happenings t h)
+      → ((who : List ℕ) (i : List JobHappening) (now : ℕ) (x : HasPrepared {H = H} hub mid who i now s) → of_jobs.Stands {H = H} hub jobs who (Turned x.job x.turn s.act ∷ i))
+      → of_jobs.Stands {H = H} hub jobs t.who (Turned j half.was_prepared.turn (act.Ask target arguments) ∷ job_happenings t h)
   turned mid jobs same clause =
-      subst (λ w. of_jobs.Stands {H = H} hub jobs t.who (Turned j half.attempted.turn w ∷ job_happenings t h)) is (finished {H = H} hub t h agree p now s half mid jobs same clause)
+      subst (λ w. of_jobs.Stands {H = H} hub jobs t.who (Turned j half.was_prepared.turn w ∷ job_happenings t h)) is (finished {H = H} hub t h agree p now s half mid jobs same clause)
 
-  carried_ask : (q : Peer H Job) (d : Move) → IsOfAsk j (act.Ask target arguments) (Some d) → Stands {H = H} hub t q (d ∷ k) → IsCarriedOut {H = H} hub t h q now s
+  carried_ask : (q : Peer H Job) (d : PeerEvent) → IsOfAsk j (act.Ask target arguments) (Some d) → Stands {H = H} hub t q (d ∷ k) → IsCarriedOut {H = H} hub t h q now s
   carried_ask q d of stands = record {
     job = j;
-    call = half.attempted.step.call;
-    since = half.attempted.step.since;
-    turn = half.attempted.turn;
-    number_is = half.attempted.step.is;
-    at = at_is hub t h agree j now half.attempted.turn half.attempted.step.due;
-    next = first_past (length (begun h) - passed h) (passed h) j (λ i. is_due t i h) (agree.next ∙ half.attempted.step.next);
+    call = half.was_prepared.step.call;
+    since = half.was_prepared.step.since;
+    turn = half.was_prepared.turn;
+    number_is = half.was_prepared.step.is;
+    at = at_is hub t h agree j now half.was_prepared.turn half.was_prepared.step.due;
+    next = first_past (length (begun h) - passed h) (passed h) j (λ i. is_due t i h) (agree.next ∙ half.was_prepared.step.next);
     asked = Some d;
     is_of_ask = subst (λ w. IsOfAsk j w (Some d)) (sym is) of;
-    stands = subst (λ w. Stands {H = H} hub t q (d ∷ Runs j half.attempted.step.call half.attempted.step.since half.attempted.turn w ∷ h)) (sym is) stands;
+    stands = subst (λ w. Stands {H = H} hub t q (d ∷ Runs j half.was_prepared.step.call half.was_prepared.step.since half.was_prepared.turn w ∷ h)) (sym is) stands;
   }
 
   -- ---- the call is made
 
   module _ (q : Peer H Job) (n : ℕ) (made : HasCalled {H = H} hub t h q kind.Call target arguments 0 n) (after : Peer H Job) (jobs : Jobs H Job)
-      (noted : (m : ℕ) → get nat_eq after.askers m ≡ (if n == m then Some s.job else get nat_eq q.askers m))
-      (turned : of_jobs.Stands {H = H} hub jobs t.who (Turned j half.attempted.turn (act.Ask target arguments) ∷ job_happenings t h)) where
+      (noted : (m : ℕ) → get nat_eq after.jobs_by_call m ≡ (if n == m then Some s.job else get nat_eq q.jobs_by_call m))
+      (turned : of_jobs.Stands {H = H} hub jobs t.who (Turned j half.was_prepared.turn (act.Ask target arguments) ∷ job_happenings t h)) where
     fresh : of_calls.IsFresh n (call_happenings h)
     fresh = half.stands.calls.fresh n (let e : drawn h ≡ drawn_in (call_happenings h) = calls_agree.draws in let f : n ≡ suc (drawn h) = made.number_is in omega (arith, e, f))
 
     is_live : live_call n (Calls None n c ∷ h) ≡ true
     is_live = rw (eq-eqb n n refl, calls_agree.gives n, fresh.ungiven, calls_agree.loses n, fresh.unlost) refl
 
-    asker_is : (m : ℕ) → get nat_eq after.askers m ≡ live_asker m (Calls (Some j) n c ∷ k)
+    asker_is : (m : ℕ) → get nat_eq after.jobs_by_call m ≡ live_asker m (Calls (Some j) n c ∷ k)
     asker_is m = go (m == n) refl
       where
-        go : (b : Bool) → (m == n) ≡ b → get nat_eq after.askers m ≡ live_asker m (Calls (Some j) n c ∷ k)
+        go : (b : Bool) → (m == n) ≡ b → get nat_eq after.jobs_by_call m ≡ live_asker m (Calls (Some j) n c ∷ k)
         go true e =
             let same : m ≡ n = eqb-true m n e in
-            subst (λ x. get nat_eq after.askers x ≡ live_asker x (Calls (Some j) n c ∷ k)) (sym same)
-            (noted n ∙ (rw (eq-eqb n n refl, calls_agree.gives n, fresh.ungiven, calls_agree.loses n, fresh.unlost) (ap Some half.attempted.step.is)))
+            subst (λ x. get nat_eq after.jobs_by_call x ≡ live_asker x (Calls (Some j) n c ∷ k)) (sym same)
+            (noted n ∙ (rw (eq-eqb n n refl, calls_agree.gives n, fresh.ungiven, calls_agree.loses n, fresh.unlost) (ap Some half.was_prepared.step.is)))
         go false e =
             let apart : (n == m) ≡ false = ne_eqb n m (λ z. let w : (m == n) ≡ true = eq-eqb m n (sym z) in absurd (cc)) in
-            let old = made.stands.askers m in
+            let old = made.stands.jobs_by_call m in
             noted m ∙ (rw apart (old ∙ (rw e refl)))
 
-    made_ask : IsCarriedOut {H = H} hub t h (record q { askers = after.askers; jobs = jobs }) now s
-    made_ask = carried_ask (record q { askers = after.askers; jobs = jobs }) (Calls (Some j) n c) refl (record {
+    made_ask : IsCarriedOut {H = H} hub t h (record q { jobs_by_call = after.jobs_by_call; jobs = jobs }) now s
+    made_ask = carried_ask (record q { jobs_by_call = after.jobs_by_call; jobs = jobs }) (Calls (Some j) n c) refl (record {
       names = half.stands.names;
       limits = made.stands.limits;
       end = subst (λ bs. of_end.Stands t.wire t.config q.end (Does (Sent (message_of c)) ∷ bs)) (sym same_steps) made.stands.end;
@@ -165,7 +165,7 @@ module _ {H Job : Type 0} (hub : Hub Job) (ids : IdsAreOfASide) (t : Settings) (
       who = made.stands.who;
       waits = made.stands.waits;
       counted = made.stands.counted;
-      askers = asker_is;
+      jobs_by_call = asker_is;
       follows = (
         (half.stands.follows, runs),
         record {
@@ -180,9 +180,9 @@ module _ {H Job : Type 0} (hub : Hub Job) (ids : IdsAreOfASide) (t : Settings) (
     })
 
   -- the job that asked is noted, and its turn is finished
-  pub made_with : (q m : Peer H Job) (n : ℕ) (jobs : Jobs H Job) → HasCalled {H = H} hub t h q kind.Call target arguments 0 n → q.jobs ≡ p.jobs → m ≡ record q { askers = m.askers }
-      → ((k : ℕ) → get nat_eq m.askers k ≡ (if n == k then Some s.job else get nat_eq q.askers k))
-      → ((who : List ℕ) (i : List JobHappening) (now : ℕ) (x : HasAttempted {H = H} hub m.jobs who i now s) → of_jobs.Stands {H = H} hub jobs who (Turned x.job x.turn s.act ∷ i))
+  pub made_with : (q m : Peer H Job) (n : ℕ) (jobs : Jobs H Job) → HasCalled {H = H} hub t h q kind.Call target arguments 0 n → q.jobs ≡ p.jobs → m ≡ record q { jobs_by_call = m.jobs_by_call }
+      → ((k : ℕ) → get nat_eq m.jobs_by_call k ≡ (if n == k then Some s.job else get nat_eq q.jobs_by_call k))
+      → ((who : List ℕ) (i : List JobHappening) (now : ℕ) (x : HasPrepared {H = H} hub m.jobs who i now s) → of_jobs.Stands {H = H} hub jobs who (Turned x.job x.turn s.act ∷ i))
       → IsCarriedOut {H = H} hub t h (record m { jobs = jobs }) now s
   made_with q m n jobs made kept others noted clause =
       subst (λ (x : Peer H Job). IsCarriedOut {H = H} hub t h (record x { jobs = jobs }) now s) (sym others)
@@ -190,30 +190,30 @@ module _ {H Job : Type 0} (hub : Hub Job) (ids : IdsAreOfASide) (t : Settings) (
 
   -- ---- it is refused
 
-  last_act : last_of (acts_in j (Turned j half.attempted.turn (act.Ask target arguments) ∷ job_happenings t h)) ≡ Some (act.Ask target arguments)
+  last_act : last_of (acts_in j (Turned j half.was_prepared.turn (act.Ask target arguments) ∷ job_happenings t h)) ≡ Some (act.Ask target arguments)
   last_act = rw (eq-eqb j j refl) (last_pushed (acts_in j (job_happenings t h)) (act.Ask target arguments))
 
   -- the job waits for an answer
-  awaits : (e : Ending) → AwaitsAnswer (Turned j half.attempted.turn (act.Ask target arguments) ∷ job_happenings t h) j (input.Asked e)
+  awaits : (e : Ending) → AwaitsAnswer (Turned j half.was_prepared.turn (act.Ask target arguments) ∷ job_happenings t h) j (input.Asked e)
   awaits e = record {
-    live = rw (eq-eqb j j refl) (live_in (job_happenings t h) j now half.attempted.turn half.attempted.step.due);
+    live = rw (eq-eqb j j refl) (live_in (job_happenings t h) j now half.was_prepared.turn half.was_prepared.step.due);
     asked = ap (λ o. is_answer o (input.Asked e)) last_act;
     unanswered = rw (eq-eqb j j refl) refl;
   }
 
   -- and so is told, whatever else the table could answer
-  told : {T E : Type 0} (mid jobs : Jobs H Job) → of_jobs.Stands {H = H} hub mid t.who (Turned j half.attempted.turn (act.Ask target arguments) ∷ job_happenings t h)
+  told : {T E : Type 0} (mid jobs : Jobs H Job) → of_jobs.Stands {H = H} hub mid t.who (Turned j half.was_prepared.turn (act.Ask target arguments) ∷ job_happenings t h)
       → (e : Ending) → e ≡ ask_refused → (r : Result T E)
       → OnOk r (of_table.OfEach {H = H} hub mid (λ who i. of_table.Answers {H = H} hub jobs who i s.job (input.Asked e)))
       → OnErr r (of_table.OfEach {H = H} hub mid (λ who i. of_table.AtPlace s.job (λ n. AwaitsAnswer i n (input.Asked e) → ⊥)))
-      → of_jobs.Stands {H = H} hub jobs t.who (Replied j (input.Asked ask_refused) ∷ Turned j half.attempted.turn (act.Ask target arguments) ∷ job_happenings t h)
+      → of_jobs.Stands {H = H} hub jobs t.who (Replied j (input.Asked ask_refused) ∷ Turned j half.was_prepared.turn (act.Ask target arguments) ∷ job_happenings t h)
   told mid jobs turned e same (Ok x) ok unknown =
-      let a = ok t.who (Turned j half.attempted.turn (act.Ask target arguments) ∷ job_happenings t h) turned in
-      let place : a.job ≡ j = suc_injective a.job j (sym a.is ∙ half.attempted.step.is) in
-      subst (λ n. of_jobs.Stands {H = H} hub jobs t.who (Replied n (input.Asked ask_refused) ∷ Turned j half.attempted.turn (act.Ask target arguments) ∷ job_happenings t h)) place
-      (subst (λ x. of_jobs.Stands {H = H} hub jobs t.who (Replied a.job (input.Asked x) ∷ Turned j half.attempted.turn (act.Ask target arguments) ∷ job_happenings t h)) same a.stands)
+      let a = ok t.who (Turned j half.was_prepared.turn (act.Ask target arguments) ∷ job_happenings t h) turned in
+      let place : a.job ≡ j = suc_injective a.job j (sym a.is ∙ half.was_prepared.step.is) in
+      subst (λ n. of_jobs.Stands {H = H} hub jobs t.who (Replied n (input.Asked ask_refused) ∷ Turned j half.was_prepared.turn (act.Ask target arguments) ∷ job_happenings t h)) place
+      (subst (λ x. of_jobs.Stands {H = H} hub jobs t.who (Replied a.job (input.Asked x) ∷ Turned j half.was_prepared.turn (act.Ask target arguments) ∷ job_happenings t h)) same a.stands)
   told mid jobs turned e same (Err x) ok unknown =
-      absurd (unknown t.who (Turned j half.attempted.turn (act.Ask target arguments) ∷ job_happenings t h) turned j half.attempted.step.is (awaits e))
+      absurd (unknown t.who (Turned j half.was_prepared.turn (act.Ask target arguments) ∷ job_happenings t h) turned j half.was_prepared.step.is (awaits e))
 
   unsent : (m : Message) (why : CallRefusal) → IsUnsent t h m why → IsUnsent t k m why
   unsent m TooManyLive x = x
@@ -244,7 +244,7 @@ module _ {H Job : Type 0} (hub : Hub Job) (ids : IdsAreOfASide) (t : Settings) (
   why_not (ask.Send send.NoMemory) some x = absurd x
 
   refused_ask : (q : Peer H Job) (stays : Stands {H = H} hub t q h) (e : AskError) → is_refusal e ≡ true → IsUncalled t h kind.Call target arguments 0 e → (jobs : Jobs H Job)
-      → of_jobs.Stands {H = H} hub jobs t.who (Replied j (input.Asked ask_refused) ∷ Turned j half.attempted.turn (act.Ask target arguments) ∷ job_happenings t h)
+      → of_jobs.Stands {H = H} hub jobs t.who (Replied j (input.Asked ask_refused) ∷ Turned j half.was_prepared.turn (act.Ask target arguments) ∷ job_happenings t h)
       → IsCarriedOut {H = H} hub t h (record q { jobs = jobs }) now s
   refused_ask q stays e some x jobs told =
       let why = why_not e some x in
@@ -257,7 +257,7 @@ module _ {H Job : Type 0} (hub : Hub Job) (ids : IdsAreOfASide) (t : Settings) (
         who = stays.who;
         waits = stays.waits;
         counted = stays.counted;
-        askers = stays.askers;
+        jobs_by_call = stays.jobs_by_call;
         follows = ((half.stands.follows, runs), record { call = c; asked = is_asked; why = why.0; refused = still_refused why.0 why.1 });
         prompt = ((half.stands.prompt, inl half.stands.settled), inr refl);
         settled = refl;
@@ -266,7 +266,7 @@ module _ {H Job : Type 0} (hub : Hub Job) (ids : IdsAreOfASide) (t : Settings) (
   -- the turn is finished, and the job is told
   pub refused_with : {T E : Type 0} (q : Peer H Job) (mid jobs : Jobs H Job) → Stands {H = H} hub t q h
       → (e : AskError) → is_refusal e ≡ true → IsUncalled t h kind.Call target arguments 0 e → q.jobs ≡ p.jobs
-      → ((who : List ℕ) (i : List JobHappening) (now : ℕ) (x : HasAttempted {H = H} hub q.jobs who i now s) → of_jobs.Stands {H = H} hub mid who (Turned x.job x.turn s.act ∷ i))
+      → ((who : List ℕ) (i : List JobHappening) (now : ℕ) (x : HasPrepared {H = H} hub q.jobs who i now s) → of_jobs.Stands {H = H} hub mid who (Turned x.job x.turn s.act ∷ i))
       → (answer : Ending) → answer ≡ ask_refused → (r : Result T E)
       → OnOk r (of_table.OfEach {H = H} hub mid (λ who i. of_table.Answers {H = H} hub jobs who i s.job (input.Asked answer)))
       → OnErr r (of_table.OfEach {H = H} hub mid (λ who i. of_table.AtPlace s.job (λ n. AwaitsAnswer i n (input.Asked answer) → ⊥)))

@@ -5,15 +5,15 @@ use Rattle.hd_calls.specs.declared.vocabulary.Act.TheVariants as act
 use Rattle.hd_calls.specs.declared.vocabulary.Deed.{Deed}
 use Rattle.hd_calls.specs.Hubs.{Hub, Invoked, Turn}
 use Rattle.hd_calls.specs.Laws.{JobsAgree}
-use Rattle.hd_calls.specs.Peers.{Move, Calls, Runs, Refuses, Settings, add, begun}
+use Rattle.hd_calls.specs.Peers.{PeerEvent, Calls, Runs, Refuses, Settings, add, begun}
 use Rattle.hd_calls.specs.Rules.{MayTurn, first_from, is_due, next_job, passed}
 use Rattle.hd_calls.specs.Tables.{begun_in, job_happenings, next_job_in}
-use Rattle.hj_jobs.specs.Calls.{AttemptsOrNot}
+use Rattle.hj_jobs.specs.Calls.{PreparesOrNot}
 use Rattle.hj_jobs.specs.declared.jobs.Jobs.{Jobs}
 use Rattle.hj_jobs.specs.declared.live.Stepped.{Stepped}
 use Rattle.hp_peer.specs.declared.peer.Peer.{Peer}
 use Rattle.hp_peer.specs.Stands.{Stands}
-use Rattle.hp_peer.specs.Turning.{AfterTurns, AreTurns, GoesOn, HasHandedUp, HasNoTurn, HasTurned, IsAt, IsCarriedOut, IsHalfway, IsOfAsk, Turns, TurnsSome, turned_with}
+use Rattle.hp_peer.specs.Turning.{AfterTurns, AreTurns, GoesOn, HasHandedUp, HasNoTurn, HasTurned, IsAt, IsCarriedOut, IsPrepared, IsOfAsk, Turns, TurnsSome, turned_with}
 use Rattle.hp_peer.proofs.JobMoves.{other_jobs, same_moves}
 
 -- ---- the first half of a turn
@@ -23,8 +23,8 @@ pub on_err_anyway : {T E : Type 0} (r : Result T E) (P : Type 0) → P → OnErr
 on_err_anyway (Ok x) P p = tt
 on_err_anyway (Err e) P p = p
 
-module _ {H Job : Type 0} (hub : Hub Job) (t : Settings) (h : List Move) (p : Peer H Job) (s : Stands {H = H} hub t p h) (now : ℕ) (jobs : Jobs H Job) (room : Bool) where
-  pub no_turn : JobsAgree t h → (IsTrue room ↔ MayTurn t h) → AttemptsOrNot {H = H} hub jobs t.who (job_happenings t h) now room None
+module _ {H Job : Type 0} (hub : Hub Job) (t : Settings) (h : List PeerEvent) (p : Peer H Job) (s : Stands {H = H} hub t p h) (now : ℕ) (jobs : Jobs H Job) (room : Bool) where
+  pub no_turn : JobsAgree t h → (IsTrue room ↔ MayTurn t h) → PreparesOrNot {H = H} hub jobs t.who (job_happenings t h) now room None
       → HasNoTurn {H = H} hub t (record p { jobs = jobs }) h
   no_turn agree may (why, stands) = record {
     stands = other_jobs {H = H} hub t h p s jobs stands;
@@ -34,20 +34,20 @@ module _ {H Job : Type 0} (hub : Hub Job) (t : Settings) (h : List Move) (p : Pe
     rests (inl none) = inl (λ m. let given = may.1 m in absurd (cc))
     rests (inr none) = inr (agree.next ∙ none)
 
-  module _ (stepped : Stepped) (x : AttemptsOrNot {H = H} hub jobs t.who (job_happenings t h) now room (Some stepped)) where
+  module _ (stepped : Stepped) (x : PreparesOrNot {H = H} hub jobs t.who (job_happenings t h) now room (Some stepped)) where
     pub attempted_stands : Stands {H = H} hub t (record p { jobs = jobs }) h
     attempted_stands = other_jobs {H = H} hub t h p s jobs x.1.stands
 
-    pub halfway : (IsTrue room ↔ MayTurn t h) → IsHalfway {H = H} hub t (record p { jobs = jobs }) h now stepped
-    halfway may = record { stands = attempted_stands; may = may.0 x.0; attempted = x.1 }
+    pub prepared : (IsTrue room ↔ MayTurn t h) → IsPrepared {H = H} hub t (record p { jobs = jobs }) h now stepped
+    prepared may = record { stands = attempted_stands; may = may.0 x.0; was_prepared = x.1 }
 
 -- ---- one turn
 
-module _ {H Job : Type 0} (hub : Hub Job) (t : Settings) (h : List Move) (q : Peer H Job) (now : ℕ) where
-  goes : (ds : List Move) (job : ℕ) → AreTurns now ds → passed (ds ++ h) ≡ suc job → passed h ≤ job → Stands {H = H} hub t q (ds ++ h) → GoesOn {H = H} hub t h q now
+module _ {H Job : Type 0} (hub : Hub Job) (t : Settings) (h : List PeerEvent) (q : Peer H Job) (now : ℕ) where
+  goes : (ds : List PeerEvent) (job : ℕ) → AreTurns now ds → passed (ds ++ h) ≡ suc job → passed h ≤ job → Stands {H = H} hub t q (ds ++ h) → GoesOn {H = H} hub t h q now
   goes ds job are at past stands = record { turns = ds; are_turns = are; further = omega (arith, at, past); stands = stands }
 
-  turns_to : (what : Act) (number job : ℕ) (call : Invoked) (since : ℕ) (turn : Turn) (asked : Option Move) → IsOfAsk job what asked → IsAt now turn → passed h ≤ job → number ≡ suc job
+  turns_to : (what : Act) (number job : ℕ) (call : Invoked) (since : ℕ) (turn : Turn) (asked : Option PeerEvent) → IsOfAsk job what asked → IsAt now turn → passed h ≤ job → number ≡ suc job
       → Stands {H = H} hub t q (add asked (Runs job call since turn what ∷ h)) → HasTurned {H = H} hub t h q now (turned_with number what)
   turns_to (act.Do deed) number job call since turn None of at past is stands =
       record { job = job; call = call; since = since; turn = turn; number_is = is; at = at; stands = stands }
@@ -72,28 +72,28 @@ module _ {H Job : Type 0} (hub : Hub Job) (t : Settings) (h : List Move) (q : Pe
 
 -- ---- one turn after others
 
-more_turns : (now : ℕ) (ds es : List Move) → AreTurns now ds → AreTurns now es → AreTurns now (ds ++ es)
+more_turns : (now : ℕ) (ds es : List PeerEvent) → AreTurns now ds → AreTurns now es → AreTurns now (ds ++ es)
 more_turns now [] es x y = y
 more_turns now (Runs j c since turn what ∷ ds) es x y = (x.0, x.1, more_turns now ds es x.2 y)
 more_turns now (Calls (Some j) n c ∷ ds) es x y = more_turns now ds es x y
 more_turns now (Refuses j ∷ ds) es x y = more_turns now ds es x y
 more_turns now (_ ∷ ds) es x y = absurd x
 
-pub after_none : (now : ℕ) (h : List Move) (P : List Move → Type 0) → P h → AfterTurns now h P
+pub after_none : (now : ℕ) (h : List PeerEvent) (P : List PeerEvent → Type 0) → P h → AfterTurns now h P
 after_none now h P x = record { turns = []; are_turns = tt; holds = x }
 
-pub after_more : (now : ℕ) (h : List Move) (P Q : List Move → Type 0) (x : AfterTurns now h P) (es : List Move) → AreTurns now es → Q (es ++ (x.turns ++ h)) → AfterTurns now h Q
+pub after_more : (now : ℕ) (h : List PeerEvent) (P Q : List PeerEvent → Type 0) (x : AfterTurns now h P) (es : List PeerEvent) → AreTurns now es → Q (es ++ (x.turns ++ h)) → AfterTurns now h Q
 after_more now h P Q x es are holds = record {
   turns = es ++ x.turns;
   are_turns = more_turns now es x.turns are x.are_turns;
   holds = subst Q (sym (append_assoc es x.turns h)) holds;
 }
 
-pub after_same : (now : ℕ) (h : List Move) (P Q : List Move → Type 0) (x : AfterTurns now h P) → Q (x.turns ++ h) → AfterTurns now h Q
+pub after_same : (now : ℕ) (h : List PeerEvent) (P Q : List PeerEvent → Type 0) (x : AfterTurns now h P) → Q (x.turns ++ h) → AfterTurns now h Q
 after_same now h P Q x holds = record { turns = x.turns; are_turns = x.are_turns; holds = holds }
 
 -- a turn begins no job
-same_begun : (now : ℕ) (ds h : List Move) → AreTurns now ds → begun (ds ++ h) ≡ begun h
+same_begun : (now : ℕ) (ds h : List PeerEvent) → AreTurns now ds → begun (ds ++ h) ≡ begun h
 same_begun now [] h x = refl
 same_begun now (Runs j c since turn what ∷ ds) h x = same_begun now ds h x.2
 same_begun now (Calls (Some j) n c ∷ ds) h x = same_begun now ds h x
@@ -107,18 +107,18 @@ none_from (suc u) k p e = absurd (omega (arith, e))
 -- ---- all turns
 
 -- after so many turns the peer stands for them, and the round is as far on at least
-abbrev pub HasHad : {H Job : Type 0} → Hub Job → Settings → List Move → Peer H Job → ℕ → ℕ → Type 0
+abbrev pub HasHad : {H Job : Type 0} → Hub Job → Settings → List PeerEvent → Peer H Job → ℕ → ℕ → Type 0
 HasHad hub t h q now count = AfterTurns now h (λ k. Stands hub t q k × (count ≤ passed k))
 
-pub had_none : {H Job : Type 0} (hub : Hub Job) (t : Settings) (h : List Move) (now : ℕ) (p : Peer H Job) → Stands {H = H} hub t p h → HasHad {H = H} hub t h p now 0
+pub had_none : {H Job : Type 0} (hub : Hub Job) (t : Settings) (h : List PeerEvent) (now : ℕ) (p : Peer H Job) → Stands {H = H} hub t p h → HasHad {H = H} hub t h p now 0
 had_none {H = H} hub t h now p s = after_none now h (λ k. Stands {H = H} hub t p k × (0 ≤ passed k)) (s, omega arith)
 
-module _ {H Job : Type 0} (hub : Hub Job) (t : Settings) (h : List Move) (now count : ℕ) (p : Peer H Job) (x : HasHad {H = H} hub t h p now count) where
+module _ {H Job : Type 0} (hub : Hub Job) (t : Settings) (h : List PeerEvent) (now count : ℕ) (p : Peer H Job) (x : HasHad {H = H} hub t h p now count) where
   pub had_more : (q : Peer H Job) → GoesOn {H = H} hub t (x.turns ++ h) q now → HasHad {H = H} hub t h q now (count + 1)
   had_more q g = after_more now h (λ k. Stands {H = H} hub t p k × (count ≤ passed k)) (λ k. Stands {H = H} hub t q k × (count + 1 ≤ passed k)) x g.turns g.are_turns
       (g.stands, (let further = g.further in let past = x.holds.1 in omega (arith, further, past)))
 
-  had_all : (Q : List Move → Type 0) → Q (x.turns ++ h) → AfterTurns now h Q
+  had_all : (Q : List PeerEvent → Type 0) → Q (x.turns ++ h) → AfterTurns now h Q
   had_all Q holds = after_same now h (λ k. Stands {H = H} hub t p k × (count ≤ passed k)) Q x holds
 
   pub had_rest : (q : Peer H Job) → HasNoTurn {H = H} hub t q (x.turns ++ h) → Turns {H = H} hub t h q now None

@@ -13,7 +13,7 @@ use Rattle.hd_calls.specs.declared.vocabulary.Input.TheVariants as input
 use Rattle.hd_calls.specs.Hubs.{Hub}
 use Rattle.hd_calls.specs.Ids.{prefix_of}
 use Rattle.hd_calls.specs.Laws.{JobsAgree}
-use Rattle.hd_calls.specs.Peers.{Move, Answers, Rounds, Settings, acts, byte_steps, hands_up, last_of, waiting}
+use Rattle.hd_calls.specs.Peers.{PeerEvent, Answers, Rounds, Settings, acts, byte_steps, hands_up, last_of, waiting}
 use Rattle.hd_calls.specs.Rules.{IsPeerDue, MayAnswer, MayMove, MayTurn, asking, is_deed_answer}
 use Rattle.hd_calls.specs.Tables.{Round, call_happenings, job_happenings}
 use Rattle.hi_calls.specs.Stands as of_calls
@@ -39,14 +39,14 @@ open_is false s l n = refl
 
 -- ---- one more move
 
-module _ {H Job : Type 0} (hub : Hub Job) (t : Settings) (h : List Move) (p : Peer H Job) (s : Stands {H = H} hub t p h) where
-  pub moved : (d : Move) (q : Peer H Job) → MayMove hub t h d → limits_of q.end ≡ limits_of p.end
+module _ {H Job : Type 0} (hub : Hub Job) (t : Settings) (h : List PeerEvent) (p : Peer H Job) (s : Stands {H = H} hub t p h) where
+  pub moved : (d : PeerEvent) (q : Peer H Job) → MayMove hub t h d → limits_of q.end ≡ limits_of p.end
       → of_end.Stands t.wire t.config q.end (byte_steps t (d ∷ h))
       → of_calls.Stands q.calls (prefix_of t.config.side) (call_happenings (d ∷ h))
       → of_jobs.Stands {H = H} hub q.jobs t.who (job_happenings t (d ∷ h))
       → q.who ≡ p.who → q.waiting ≡ waiting (d ∷ h) → IsCounted (waiting (d ∷ h))
-      → ((n : ℕ) → get nat_eq q.askers n ≡ live_asker n (d ∷ h)) → asking (d ∷ h) ≡ None → Stands {H = H} hub t q (d ∷ h)
-  moved d q may limits end calls jobs who waits counted askers settled = record {
+      → ((n : ℕ) → get nat_eq q.jobs_by_call n ≡ live_asker n (d ∷ h)) → asking (d ∷ h) ≡ None → Stands {H = H} hub t q (d ∷ h)
+  moved d q may limits end calls jobs who waits counted jobs_by_call settled = record {
     names = s.names;
     limits = s.limits ∙ sym limits;
     end = end;
@@ -55,7 +55,7 @@ module _ {H Job : Type 0} (hub : Hub Job) (t : Settings) (h : List Move) (p : Pe
     who = who ∙ s.who;
     waits = waits;
     counted = counted;
-    askers = askers;
+    jobs_by_call = jobs_by_call;
     follows = (s.follows, may);
     prompt = (s.prompt, inl s.settled);
     settled = settled;
@@ -63,8 +63,8 @@ module _ {H Job : Type 0} (hub : Hub Job) (t : Settings) (h : List Move) (p : Pe
 
   -- the same moves, if the end and whether memory was out are all that may differ
   pub same_moves : (q : Peer H Job) → limits_of q.end ≡ limits_of p.end → of_end.Stands t.wire t.config q.end (byte_steps t h)
-      → q.calls ≡ p.calls → q.jobs ≡ p.jobs → q.who ≡ p.who → q.waiting ≡ p.waiting → ((n : ℕ) → get nat_eq q.askers n ≡ get nat_eq p.askers n) → Stands {H = H} hub t q h
-  same_moves q limits end calls jobs who waits askers = record {
+      → q.calls ≡ p.calls → q.jobs ≡ p.jobs → q.who ≡ p.who → q.waiting ≡ p.waiting → ((n : ℕ) → get nat_eq q.jobs_by_call n ≡ get nat_eq p.jobs_by_call n) → Stands {H = H} hub t q h
+  same_moves q limits end calls jobs who waits jobs_by_call = record {
     names = s.names;
     limits = s.limits ∙ sym limits;
     end = end;
@@ -73,7 +73,7 @@ module _ {H Job : Type 0} (hub : Hub Job) (t : Settings) (h : List Move) (p : Pe
     who = who ∙ s.who;
     waits = waits ∙ s.waits;
     counted = s.counted;
-    askers = λ n. askers n ∙ s.askers n;
+    jobs_by_call = λ n. jobs_by_call n ∙ s.jobs_by_call n;
     follows = s.follows;
     prompt = s.prompt;
     settled = s.settled;
@@ -90,14 +90,14 @@ module _ {H Job : Type 0} (hub : Hub Job) (t : Settings) (h : List Move) (p : Pe
     who = s.who;
     waits = s.waits;
     counted = s.counted;
-    askers = s.askers;
+    jobs_by_call = s.jobs_by_call;
     follows = s.follows;
     prompt = s.prompt;
     settled = s.settled;
   }
 
   pub round_begins : (jobs : Jobs H Job) → of_jobs.Stands {H = H} hub jobs t.who (Round ∷ job_happenings t h) → Stands {H = H} hub t (record p { jobs = jobs }) (Rounds ∷ h)
-  round_begins jobs stands = moved Rounds (record p { jobs = jobs }) tt refl s.end s.calls stands refl s.waits s.counted s.askers refl
+  round_begins jobs stands = moved Rounds (record p { jobs = jobs }) tt refl s.end s.calls stands refl s.waits s.counted s.jobs_by_call refl
 
 -- ---- a deed is answered
 
@@ -124,7 +124,7 @@ is_answered (Some (act.End x)) i e d = absurd (cc)
 is_answered (Some (act.Ask u v)) i e d = absurd (cc)
 is_answered (Some (act.Do x)) i e d = d
 
-module _ {H Job : Type 0} (hub : Hub Job) (t : Settings) (h : List Move) (agree : JobsAgree t h) where
+module _ {H Job : Type 0} (hub : Hub Job) (t : Settings) (h : List PeerEvent) (agree : JobsAgree t h) where
   pub answered : (p : Peer H Job) (s : Stands {H = H} hub t p h) (jobs : Jobs H Job) (n : ℕ) (i : Input) → is_deed_answer i ≡ true
       → of_jobs_calls.Answers {H = H} hub jobs t.who (job_happenings t h) n i → HasAnswered {H = H} hub t h (record p { jobs = jobs }) n i
   answered p s jobs n i deed a = record {
@@ -137,14 +137,14 @@ module _ {H Job : Type 0} (hub : Hub Job) (t : Settings) (h : List Move) (agree 
           unanswered = agree.answers a.job ∙ a.awaits.unanswered;
           answers = deed;
         })
-        refl s.end s.calls a.stands refl s.waits s.counted s.askers refl;
+        refl s.end s.calls a.stands refl s.waits s.counted s.jobs_by_call refl;
   }
 
   pub answered_with : (p : Peer H Job) (s : Stands {H = H} hub t p h) (jobs : Jobs H Job) (n : ℕ) (i given : Input) → given ≡ i → is_deed_answer i ≡ true
       → of_jobs_calls.Answers {H = H} hub jobs t.who (job_happenings t h) n i → HasAnswered {H = H} hub t h (record p { jobs = jobs }) n given
   answered_with p s jobs n i given same deed a = subst (λ x. HasAnswered {H = H} hub t h (record p { jobs = jobs }) n x) (sym same) (answered p s jobs n i deed a)
 
-module _ (t : Settings) (h : List Move) (agree : JobsAgree t h) where
+module _ (t : Settings) (h : List PeerEvent) (agree : JobsAgree t h) where
   pub awaits : (j : ℕ) (i : Input) → MayAnswer t j i h → AwaitsAnswer (job_happenings t h) j i
   awaits j i may = record {
     live = sym (agree.live j) ∙ may.live;

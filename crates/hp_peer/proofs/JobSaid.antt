@@ -1,19 +1,12 @@
 -- What is said for a job: it is sent, or it can't be framed.
-use Rattle.std.proofs.Common.{◌≡◌, ◌≤◌, ℕ, suc, max, Bool, true, false, List, [], ◌∷◌, Some, None, refl, sym, ap, ◌∙◌, subst}
+use Rattle.std.proofs.Common.{◌≡◌, ◌≤◌, ℕ, Bool, true, false, List, [], ◌∷◌, Some, None, refl, sym, ap, ◌∙◌, subst}
 use Rattle.std.specs.HashMap.{get}
 use Rattle.std.specs.Prelude.{nat_eq, option_map, if◌then◌else◌}
-use Rattle.hv_value.specs.Tree as tree
-use Rattle.hv_value.specs.Tree.{Tree, Trees, Pairs, trees, depth, depths, depths_of_pairs}
-use Rattle.hv_value.specs.Image.{image, images, trees_image, pairs_image}
-use Rattle.hv_value.specs.View as seen
 use Rattle.hm_message.specs.declared.message.Codec.{Codec}
 use Rattle.hm_message.specs.declared.message.Codec.TheVariants.{Json, Pack}
 use Rattle.hm_message.specs.declared.message.Message.{Message}
-use Rattle.hm_message.specs.declared.message.Message.TheVariants.{Invocation, StreamItem, Completion, StreamInvocation, CancelInvocation, Ping, Close, Ack, Sequence}
-use Rattle.hm_message.specs.declared.message.Ending.{Ending}
-use Rattle.hm_message.specs.declared.message.Ending.TheVariants.{Void, Result, Error}
-use Rattle.hm_message.specs.Laws.{ValuesAreTrees}
-use Rattle.hm_message.specs.Message.{Fits, content_depth, ending_depth, message_image, ending_image}
+use Rattle.hm_message.specs.declared.message.Message.TheVariants.{Completion}
+use Rattle.hm_message.specs.Laws.{ImageIsAsDeep}
 use Rattle.hm_codec.specs.Frames.{said_again}
 use Rattle.hd_delivery.specs.Histories.{Sent}
 use Rattle.hd_delivery.specs.Worlds.{Limits}
@@ -21,57 +14,14 @@ use Rattle.hd_delivery.specs.Bytes.{ByteStep, Does}
 use Rattle.he_end.specs.Stands as of_end
 use Rattle.hd_calls.specs.Hubs.{Hub, End, answer_message}
 use Rattle.hd_calls.specs.Laws.{FramesAreTested}
-use Rattle.hd_calls.specs.Peers.{Move, Settings, add, byte_steps, can_frame, codec, too_long}
+use Rattle.hd_calls.specs.Peers.{PeerEvent, Settings, add, byte_steps, can_frame, codec, too_long}
 use Rattle.hp_peer.specs.declared.errors.AskError.TheVariants as ask
 use Rattle.hp_peer.specs.declared.peer.Peer.{Peer}
 use Rattle.hp_peer.specs.Parts.{EndStays, HasSaid, IsUnsaid}
 use Rattle.hp_peer.specs.Stands.{OfEach, Stands}
 use Rattle.hp_peer.specs.Turning.{IsAnswered, IsSaid, word_step}
+use Rattle.hp_peer.proofs.Images.{fits_before}
 use Rattle.hp_peer.proofs.JobMoves.{same_moves}
-
--- ---- the image of a message is as deep as the message
-
-mutual
-  depth-image : (t : Tree) → depth (image t) ≡ depth t
-  depth-image tree.null = refl
-  depth-image (tree.boolean b) = refl
-  depth-image (tree.int z) = refl
-  depth-image (tree.text s) = refl
-  depth-image (tree.bytes s) = refl
-  depth-image (tree.list ts) = ap suc (depths-image ts)
-  depth-image (tree.map ps) = ap suc (depths-pairs_image ps)
-
-  depths-image : (ts : Trees) → depths (trees_image ts) ≡ depths ts
-  depths-image tree.no_trees = refl
-  depths-image (tree.more t ts) = λ i. max (depth-image t i) (depths-image ts i)
-
-  depths-pairs_image : (ps : Pairs) → depths_of_pairs (pairs_image ps) ≡ depths_of_pairs ps
-  depths-pairs_image tree.no_pairs = refl
-  depths-pairs_image (tree.pair k t ps) = λ i. max (depth-image t i) (depths-pairs_image ps i)
-
-depths-images : (ts : List Tree) → depths (trees (images ts)) ≡ depths (trees ts)
-depths-images [] = refl
-depths-images (t ∷ ts) = λ i. max (depth-image t i) (depths-images ts i)
-
-ending_depth-image : ValuesAreTrees → (e : Ending) → ending_depth (ending_image e) ≡ ending_depth e
-ending_depth-image law Void = refl
-ending_depth-image law (Result v) = ap depth (law.tree-value_of (image (seen.tree v))) ∙ depth-image (seen.tree v)
-ending_depth-image law (Error s) = refl
-
-content_depth-image : ValuesAreTrees → (m : Message) → content_depth (message_image m) ≡ content_depth m
-content_depth-image law (Invocation headers id target arguments streams) = ap suc (depths-images arguments)
-content_depth-image law (StreamItem headers id item) = ap depth (law.tree-value_of (image (seen.tree item))) ∙ depth-image (seen.tree item)
-content_depth-image law (Completion headers id ending) = ending_depth-image law ending
-content_depth-image law (StreamInvocation headers id target arguments streams) = ap suc (depths-images arguments)
-content_depth-image law (CancelInvocation headers id) = refl
-content_depth-image law Ping = refl
-content_depth-image law (Close error allow) = refl
-content_depth-image law (Ack upto) = refl
-content_depth-image law (Sequence first received) = refl
-
-pub fits_again : ValuesAreTrees → (code : Codec) (m : Message) → Fits (said_again code m) → Fits m
-fits_again law Json m fits = subst (λ n. n ≤ 63) (content_depth-image law m) fits
-fits_again law Pack m fits = fits
 
 -- ---- a message that is said, if it can be framed
 
@@ -79,7 +29,7 @@ not_true : (b : Bool) → (b ≡ true → ⊥) → b ≡ false
 not_true true f = absurd (f refl)
 not_true false f = refl
 
-module _ {H Job : Type 0} (hub : Hub Job) (tested : FramesAreTested) (t : Settings) (h : List Move) (p : Peer H Job) (s : Stands {H = H} hub t p h) (q : Peer H Job) (m : Message) where
+module _ {H Job : Type 0} (hub : Hub Job) (tested : FramesAreTested) (t : Settings) (h : List PeerEvent) (p : Peer H Job) (s : Stands {H = H} hub t p h) (q : Peer H Job) (m : Message) where
   abbrev read : Message
   read = said_again (codec t h) m
 
@@ -93,9 +43,9 @@ module _ {H Job : Type 0} (hub : Hub Job) (tested : FramesAreTested) (t : Settin
         y.2,
       )
 
-  pub is_too_deep : ValuesAreTrees → IsUnsaid p.end m ask.TooDeep → EndStays p.end q.end → IsSaid {H = H} {Job = Job} t h q m false
+  pub is_too_deep : ImageIsAsDeep → IsUnsaid p.end m ask.TooDeep → EndStays p.end q.end → IsSaid {H = H} {Job = Job} t h q m false
   is_too_deep law deep stays = (
-    not_true (can_frame t (codec t h) read) (λ e. let can = (tested t (codec t h) read).0 e in deep (fits_again law (codec t h) m can.fits)),
+    not_true (can_frame t (codec t h) read) (λ e. let can = (tested t (codec t h) read).0 e in deep (fits_before law (codec t h) m read refl can.fits)),
     stays t.wire t.config (byte_steps t h) s.end,
   )
 
@@ -105,7 +55,7 @@ word_again : (code : Codec) (i : List ℕ) → said_again code (Completion [] i 
 word_again Json i = refl
 word_again Pack i = refl
 
-module _ {H Job : Type 0} (t : Settings) (h : List Move) (q : Peer H Job) (i : List ℕ) where
+module _ {H Job : Type 0} (t : Settings) (h : List PeerEvent) (q : Peer H Job) (i : List ℕ) where
   by_test : (b : Bool) (k : List ByteStep) → (b ≡ true → of_end.Stands t.wire t.config q.end (Does (Sent (Completion [] i too_long)) ∷ k)) → (b ≡ false → of_end.Stands t.wire t.config q.end k)
       → of_end.Stands t.wire t.config q.end (add (option_map (λ m. Does (Sent m)) (option_map (answer_message i) (if b then Some (End too_long) else None))) k)
   by_test true k said unsaid = said refl
@@ -125,12 +75,12 @@ module _ {H Job : Type 0} (t : Settings) (h : List Move) (q : Peer H Job) (i : L
 
 -- ---- an answer, or the last word
 
-module _ {H Job : Type 0} (hub : Hub Job) (t : Settings) (h : List Move) (p : Peer H Job) (s : Stands {H = H} hub t p h) (q : Peer H Job) (is : q ≡ record p { end = q.end }) (limits : of_end.limits_of q.end ≡ of_end.limits_of p.end) where
+module _ {H Job : Type 0} (hub : Hub Job) (t : Settings) (h : List PeerEvent) (p : Peer H Job) (s : Stands {H = H} hub t p h) (q : Peer H Job) (is : q ≡ record p { end = q.end }) (limits : of_end.limits_of q.end ≡ of_end.limits_of p.end) where
   -- the peer stands for the same moves if its end does
   still : of_end.Stands t.wire t.config q.end (byte_steps t h) → Stands {H = H} hub t q h
   still end =
       same_moves {H = H} hub t h p s q limits end (ap (λ (x : Peer H Job). x.calls) is) (ap (λ (x : Peer H Job). x.jobs) is) (ap (λ (x : Peer H Job). x.who) is)
-      (ap (λ (x : Peer H Job). x.waiting) is) (λ n. ap (λ (x : Peer H Job). get nat_eq x.askers n) is)
+      (ap (λ (x : Peer H Job). x.waiting) is) (λ n. ap (λ (x : Peer H Job). get nat_eq x.jobs_by_call n) is)
 
   pub worded : (r : Peer H Job) (m : Message) → IsSaid {H = H} {Job = Job} t h q m false → (i : List ℕ) (word : Message) → word ≡ Completion [] i too_long → (said : Bool)
       → OfEach {H = H} hub q (λ t h. IsSaid {H = H} {Job = Job} t h r word said) → IsAnswered {H = H} {Job = Job} t h r i m false

@@ -17,18 +17,18 @@ use Rattle.hd_calls.specs.declared.vocabulary.Deed.{Deed}
 use Rattle.hd_calls.specs.Hubs.{Hub, Way, Notify, Call, Stream, Turn, Given, Cancelled, call_for, id_of, kind_of}
 use Rattle.hd_calls.specs.Ids.{prefix_of}
 use Rattle.hd_calls.specs.Laws.{JobsAgree}
-use Rattle.hd_calls.specs.Peers.{Move, Runs, Settings, acts, answer_of, begun, byte_steps, codec, last_of, message_for}
+use Rattle.hd_calls.specs.Peers.{PeerEvent, Runs, Settings, acts, answer_of, begun, byte_steps, codec, last_of, message_for}
 use Rattle.hd_calls.specs.Peers as peers
 use Rattle.hd_calls.specs.Rules.{IsDue, MayRun, MayTurn, act_at, asking, first_from, is_due, job_after, next_input, passed}
 use Rattle.hd_calls.specs.Tables.{JobHappening, Turned, call_happenings, cut_short, job_happenings, next_input_in}
 use Rattle.hi_calls.specs.Stands as of_calls
 use Rattle.hj_jobs.specs.declared.jobs.Jobs.{Jobs}
 use Rattle.hj_jobs.specs.declared.live.Stepped.{Stepped}
-use Rattle.hj_jobs.specs.Calls.{HasAttempted, IsStepOf, IsTurnIn}
+use Rattle.hj_jobs.specs.Calls.{HasPrepared, IsStepOf, IsTurnIn}
 use Rattle.hj_jobs.specs.Stands as of_jobs
 use Rattle.hp_peer.specs.declared.peer.Peer.{Peer}
 use Rattle.hp_peer.specs.Stands.{Stands}
-use Rattle.hp_peer.specs.Turning.{IsAt, IsCarriedOut, IsHalfway, IsOfAsk, stream_id}
+use Rattle.hp_peer.specs.Turning.{IsAt, IsCarriedOut, IsPrepared, IsOfAsk, stream_id}
 use Rattle.hp_peer.proofs.JobMoves.{moved}
 
 -- ---- what is given to the caller
@@ -83,7 +83,7 @@ first_past (suc u) k j p e = go (p k) (first_past u (suc k) j p) e
     go true later e = let z : k ≡ j = some_same k j e in omega (arith, z)
     go false later e = let z : suc k ≤ j = later e in omega (arith, z)
 
-module _ {Job : Type 0} (hub : Hub Job) (t : Settings) (h : List Move) (agree : JobsAgree t h) where
+module _ {Job : Type 0} (hub : Hub Job) (t : Settings) (h : List PeerEvent) (agree : JobsAgree t h) where
   next_agrees : (j : ℕ) (a : Option Act) → next_input j h a ≡ next_input_in j (job_happenings t h) a
   next_agrees j None = refl
   next_agrees j (Some act.More) = refl
@@ -114,20 +114,20 @@ module _ {Job : Type 0} (hub : Hub Job) (t : Settings) (h : List Move) (agree : 
 
 -- ---- the turn is had
 
-module _ {H Job : Type 0} (hub : Hub Job) (t : Settings) (h : List Move) (agree : JobsAgree t h) (p : Peer H Job) (now : ℕ) (s : Stepped) (half : IsHalfway {H = H} hub t p h now s) where
-  abbrev pub a : HasAttempted {H = H} hub p.jobs t.who (job_happenings t h) now s
-  a = half.attempted
+module _ {H Job : Type 0} (hub : Hub Job) (t : Settings) (h : List PeerEvent) (agree : JobsAgree t h) (p : Peer H Job) (now : ℕ) (s : Stepped) (half : IsPrepared {H = H} hub t p h now s) where
+  abbrev pub a : HasPrepared {H = H} hub p.jobs t.who (job_happenings t h) now s
+  a = half.was_prepared
 
   -- the table of jobs is that of the first half, until it is finished
   pub finished : (mid jobs : Jobs H Job) → mid ≡ p.jobs
-      → ((who : List ℕ) (k : List JobHappening) (now : ℕ) (x : HasAttempted {H = H} hub mid who k now s) → of_jobs.Stands {H = H} hub jobs who (Turned x.job x.turn s.act ∷ k))
+      → ((who : List ℕ) (k : List JobHappening) (now : ℕ) (x : HasPrepared {H = H} hub mid who k now s) → of_jobs.Stands {H = H} hub jobs who (Turned x.job x.turn s.act ∷ k))
       → of_jobs.Stands {H = H} hub jobs t.who (Turned a.job a.turn s.act ∷ job_happenings t h)
   finished mid jobs same clause =
-      subst (λ (m : Jobs H Job). (who : List ℕ) (k : List JobHappening) (now : ℕ) (x : HasAttempted {H = H} hub m who k now s) → of_jobs.Stands {H = H} hub jobs who (Turned x.job x.turn s.act ∷ k))
+      subst (λ (m : Jobs H Job). (who : List ℕ) (k : List JobHappening) (now : ℕ) (x : HasPrepared {H = H} hub m who k now s) → of_jobs.Stands {H = H} hub jobs who (Turned x.job x.turn s.act ∷ k))
       same clause t.who (job_happenings t h) now a
 
   module _ (what : Act) (is : s.act ≡ what) (q : Peer H Job) where
-    abbrev move : Move
+    abbrev move : PeerEvent
     move = Runs a.job a.step.call a.step.since a.turn what
 
     pub carried : (o : Option Message) (cut : Option JobHappening)
@@ -136,9 +136,9 @@ module _ {H Job : Type 0} (hub : Hub Job) (t : Settings) (h : List Move) (agree 
         → limits_of q.end ≡ limits_of p.end
         → of_end.Stands t.wire t.config q.end (peers.add (option_map (λ m. Does (Sent m)) o) (byte_steps t h))
         → of_jobs.Stands {H = H} hub q.jobs t.who (peers.add cut (Turned a.job a.turn what ∷ job_happenings t h))
-        → q.calls ≡ p.calls → q.who ≡ p.who → q.waiting ≡ p.waiting → q.askers ≡ p.askers
+        → q.calls ≡ p.calls → q.who ≡ p.who → q.waiting ≡ p.waiting → q.jobs_by_call ≡ p.jobs_by_call
         → asking (move ∷ h) ≡ None → IsOfAsk a.job what None → IsCarriedOut {H = H} hub t h q now s
-    carried o cut says cuts limits end jobs calls who waits askers settled no_ask = record {
+    carried o cut says cuts limits end jobs calls who waits jobs_by_call settled no_ask = record {
       job = a.job;
       call = a.step.call;
       since = a.step.since;
@@ -156,13 +156,13 @@ module _ {H Job : Type 0} (hub : Hub Job) (t : Settings) (h : List Move) (agree 
           (subst (λ x. of_calls.Stands x (prefix_of t.config.side) (call_happenings h)) (sym calls) half.stands.calls)
           (subst (λ x. of_jobs.Stands {H = H} hub q.jobs t.who (peers.add x (Turned a.job a.turn what ∷ job_happenings t h))) (sym cuts) jobs)
           who (waits ∙ half.stands.waits) half.stands.counted
-          (λ n. ap (λ x. get nat_eq x n) askers ∙ half.stands.askers n)
+          (λ n. ap (λ x. get nat_eq x n) jobs_by_call ∙ half.stands.jobs_by_call n)
           settled);
     }
 
   -- of an act that is quiet and asks for nothing nothing is left to do
   pub carried_quietly : (what : Act) (is : s.act ≡ what) (jobs : Jobs H Job) → IsQuiet t (codec t h) a.step.call.way a.job what
-      → ((who : List ℕ) (k : List JobHappening) (now : ℕ) (x : HasAttempted {H = H} hub p.jobs who k now s) → of_jobs.Stands {H = H} hub jobs who (Turned x.job x.turn s.act ∷ k))
+      → ((who : List ℕ) (k : List JobHappening) (now : ℕ) (x : HasPrepared {H = H} hub p.jobs who k now s) → of_jobs.Stands {H = H} hub jobs who (Turned x.job x.turn s.act ∷ k))
       → asking (move what is (record p { jobs = jobs }) ∷ h) ≡ None → IsOfAsk a.job what None → IsCarriedOut {H = H} hub t h (record p { jobs = jobs }) now s
   carried_quietly what is jobs quiet clause settled no_ask =
       carried what is (record p { jobs = jobs }) None None quiet.silent quiet.whole refl half.stands.end

@@ -6,7 +6,7 @@ use Rattle.std.proofs.lemmas.Bool.{eqb-true, eq-eqb, ne_eqb, false≢true}
 use Rattle.hd_calls.specs.Hubs.{Hub}
 use Rattle.hd_calls.specs.Ids.{prefix_of}
 use Rattle.hd_calls.specs.Laws.{CallsAgree}
-use Rattle.hd_calls.specs.Peers.{Move, Loses, Settings, asker_of, given, call_of, has_end, has_id, is_shut, live_call, lost}
+use Rattle.hd_calls.specs.Peers.{PeerEvent, Loses, Settings, asker_of, given, call_of, has_end, has_id, is_shut, live_call, lost}
 use Rattle.hd_calls.specs.Rules.{any_below}
 use Rattle.hd_calls.specs.Tables.{call_happenings}
 use Rattle.hi_calls.specs.declared.calls.Calls.{Calls}
@@ -52,17 +52,17 @@ over_asker true true false was asker = refl
 over_asker true false ended was asker = refl
 over_asker false answered ended was asker = refl
 
-pub forgets : (n k : ℕ) (h : List Move) → (if n == k then None else live_asker k h) ≡ live_asker k (Loses n ∷ h)
+pub forgets : (n k : ℕ) (h : List PeerEvent) → (if n == k then None else live_asker k h) ≡ live_asker k (Loses n ∷ h)
 forgets n k h =
     ap (λ gone. if gone then None else live_asker k h) (flipped n k)
     ∙ over_asker (k == n) (has_id (call_of k h)) (not (has_end (given k h))) (lost k h) (option_map suc (asker_of k h))
 
 -- ---- the peer
 
-module _ {H Job : Type 0} (hub : Hub Job) (t : Settings) (peer : Peer H Job) (h : List Move) (s : Stands hub t peer h) (agree : CallsAgree h) where
-  pub loses : (n : ℕ) (new : Peer H Job) → new ≡ record peer { calls = new.calls; askers = new.askers } → is_shut t h ≡ true
+module _ {H Job : Type 0} (hub : Hub Job) (t : Settings) (peer : Peer H Job) (h : List PeerEvent) (s : Stands hub t peer h) (agree : CallsAgree h) where
+  pub loses : (n : ℕ) (new : Peer H Job) → new ≡ record peer { calls = new.calls; jobs_by_call = new.jobs_by_call } → is_shut t h ≡ true
       → of_calls.Loses new.calls (prefix_of t.config.side) (call_happenings h) (Some n)
-      → ((k : ℕ) → get nat_eq new.askers k ≡ (if n == k then None else get nat_eq peer.askers k))
+      → ((k : ℕ) → get nat_eq new.jobs_by_call k ≡ (if n == k then None else get nat_eq peer.jobs_by_call k))
       → Loss hub t h new (Some n)
   loses n new is over lost_one left = (
     over,
@@ -77,7 +77,7 @@ module _ {H Job : Type 0} (hub : Hub Job) (t : Settings) (peer : Peer H Job) (h 
       who = rw is s.who;
       waits = rw is s.waits;
       counted = s.counted;
-      askers = λ k. left k ∙ (ap (λ o. if n == k then None else o) (s.askers k) ∙ forgets n k h);
+      jobs_by_call = λ k. left k ∙ (ap (λ o. if n == k then None else o) (s.jobs_by_call k) ∙ forgets n k h);
       follows = (s.follows, (over, live, none_below n (λ k. live_call k h) none));
       prompt = (s.prompt, inl s.settled);
       settled = refl;
@@ -103,7 +103,7 @@ module _ {H Job : Type 0} (hub : Hub Job) (t : Settings) (peer : Peer H Job) (h 
       who = s.who;
       waits = s.waits;
       counted = s.counted;
-      askers = s.askers;
+      jobs_by_call = s.jobs_by_call;
       follows = s.follows;
       prompt = s.prompt;
       settled = s.settled;

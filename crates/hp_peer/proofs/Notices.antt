@@ -20,7 +20,7 @@ use Rattle.hd_calls.specs.Hubs.{Hub, Invoked, Notify, arguments_in, message_of}
 use Rattle.hd_calls.specs.Ids.{prefix_of}
 use Rattle.hd_calls.specs.Laws.{CallsAgree}
 use Rattle.hd_calls.specs.Numbers.{most_live, most_numbers}
-use Rattle.hd_calls.specs.Peers.{Move, Calls, Settings, byte_steps, call_of, codec, drawn, has_id, steps}
+use Rattle.hd_calls.specs.Peers.{PeerEvent, Calls, Settings, byte_steps, call_of, codec, drawn, has_id, steps}
 use Rattle.hd_calls.specs.Rules.{MayCall, own_live}
 use Rattle.hd_calls.specs.Tables.{call_happenings}
 use Rattle.hi_calls.specs.Laws.{NoticesPass}
@@ -45,15 +45,15 @@ read_so : (code : Codec) (target : List ℕ) (arguments : List Tree) → said_ag
 read_so Json target arguments = refl
 read_so Pack target arguments = refl
 
-heard_is : (t : Settings) (h : List Move) (m : Message) (c : Invoked) → IsNotice m c → heard t h c ≡ notice c.target (arguments_in (codec t h) c.arguments)
+heard_is : (t : Settings) (h : List PeerEvent) (m : Message) (c : Invoked) → IsNotice m c → heard t h c ≡ notice c.target (arguments_in (codec t h) c.arguments)
 heard_is t h m c n = ap (heard t h) (is_notice m c n)
 
-pub said_is : (t : Settings) (h : List Move) (m : Message) (c : Invoked) → IsNotice m c → said_again (codec t h) m ≡ message_of (heard t h c)
+pub said_is : (t : Settings) (h : List PeerEvent) (m : Message) (c : Invoked) → IsNotice m c → said_again (codec t h) m ≡ message_of (heard t h c)
 said_is t h m c n = ap (said_again (codec t h)) (message_is m c n) ∙ (read_so (codec t h) c.target c.arguments ∙ sym (ap message_of (heard_is t h m c n)))
 
 -- ---- the peer
 
-module _ {H Job : Type 0} (hub : Hub Job) (t : Settings) (peer : Peer H Job) (h : List Move) (s : Stands hub t peer h) (agree : CallsAgree h) where
+module _ {H Job : Type 0} (hub : Hub Job) (t : Settings) (peer : Peer H Job) (h : List PeerEvent) (s : Stands hub t peer h) (agree : CallsAgree h) where
   zero_dead : has_id (call_of 0 h) ≡ false
   zero_dead = ap has_id (agree.call 0) ∙ s.calls.bare.0
 
@@ -71,9 +71,9 @@ module _ {H Job : Type 0} (hub : Hub Job) (t : Settings) (peer : Peer H Job) (h 
     asked = tt;
   }
 
-  askers : (target : List ℕ) (arguments : List Tree) (k : ℕ) → live_asker k h ≡ live_asker k (Calls None 0 (notice target arguments) ∷ h)
-  askers target arguments zero = rw zero_dead refl
-  askers target arguments (suc k) = rw (eqb-suc-zero k) refl
+  jobs_by_call : (target : List ℕ) (arguments : List Tree) (k : ℕ) → live_asker k h ≡ live_asker k (Calls None 0 (notice target arguments) ∷ h)
+  jobs_by_call target arguments zero = rw zero_dead refl
+  jobs_by_call target arguments (suc k) = rw (eqb-suc-zero k) refl
 
   module _ (passes : NoticesPass) (m : Message) (c : Invoked) (n : IsNotice m c) (e : End) where
     made : (target : List ℕ) (arguments : List Tree) → limits_of e ≡ limits_of peer.end
@@ -88,7 +88,7 @@ module _ {H Job : Type 0} (hub : Hub Job) (t : Settings) (peer : Peer H Job) (h 
       who = s.who;
       waits = s.waits;
       counted = s.counted;
-      askers = λ k. s.askers k ∙ askers target arguments k;
+      jobs_by_call = λ k. s.jobs_by_call k ∙ jobs_by_call target arguments k;
       follows = (s.follows, may target arguments);
       prompt = (s.prompt, inl s.settled);
       settled = refl;

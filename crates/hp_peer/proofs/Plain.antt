@@ -11,7 +11,7 @@ use Rattle.he_end.specs.Stands as end_stands
 use Rattle.he_end.specs.Stands.{begun, limits_of}
 use Rattle.hd_calls.specs.Hubs.{Hub}
 use Rattle.hd_calls.specs.Ids.{prefix_of}
-use Rattle.hd_calls.specs.Peers.{Move, Plain, Rounds, Settings, byte_steps}
+use Rattle.hd_calls.specs.Peers.{PeerEvent, Plain, Rounds, Settings, byte_steps}
 use Rattle.hd_calls.specs.Rules.{IsPlain}
 use Rattle.hd_calls.specs.Tables.{Round, job_happenings}
 use Rattle.hi_calls.specs.Stands as of_calls
@@ -22,9 +22,9 @@ use Rattle.hp_peer.specs.Stands.{Stands, settings}
 
 module _ {H Job : Type 0} (hub : Hub Job) (side : Side) (config : Config) (wire : Wire) (who : List ℕ) (peer : Peer H Job) where
   pub starts : limits_of peer.end ≡ config.limits → end_stands.Stands wire (begun side config) peer.end [] → of_calls.Stands peer.calls (prefix_of side) []
-      → of_jobs.Stands hub peer.jobs who [] → peer.who ≡ who → peer.waiting ≡ None → ((n : ℕ) → get nat_eq peer.askers n ≡ None)
+      → of_jobs.Stands hub peer.jobs who [] → peer.who ≡ who → peer.waiting ≡ None → ((n : ℕ) → get nat_eq peer.jobs_by_call n ≡ None)
       → Stands hub (settings side config wire who) peer []
-  starts limits end calls jobs name waits askers = record {
+  starts limits end calls jobs name waits jobs_by_call = record {
     names = λ n. refl;
     limits = sym limits;
     end = end;
@@ -33,13 +33,13 @@ module _ {H Job : Type 0} (hub : Hub Job) (side : Side) (config : Config) (wire 
     who = name;
     waits = waits;
     counted = tt;
-    askers = askers;
+    jobs_by_call = jobs_by_call;
     follows = tt;
     prompt = tt;
     settled = refl;
   }
 
-module _ {H Job : Type 0} (hub : Hub Job) (t : Settings) (peer : Peer H Job) (h : List Move) (s : Stands hub t peer h) (jobs : Jobs H Job) where
+module _ {H Job : Type 0} (hub : Hub Job) (t : Settings) (peer : Peer H Job) (h : List PeerEvent) (s : Stands hub t peer h) (jobs : Jobs H Job) where
   pub rounds : of_jobs.Stands hub jobs t.who (Round ∷ job_happenings t h) → Stands hub t (record peer { jobs = jobs }) (Rounds ∷ h)
   rounds stands = record {
     names = s.names;
@@ -50,13 +50,13 @@ module _ {H Job : Type 0} (hub : Hub Job) (t : Settings) (peer : Peer H Job) (h 
     who = s.who;
     waits = s.waits;
     counted = s.counted;
-    askers = s.askers;
+    jobs_by_call = s.jobs_by_call;
     follows = (s.follows, tt);
     prompt = (s.prompt, inl s.settled);
     settled = refl;
   }
 
-module _ {H Job : Type 0} (hub : Hub Job) (t : Settings) (peer : Peer H Job) (h : List Move) (s : Stands hub t peer h) (e : End)
+module _ {H Job : Type 0} (hub : Hub Job) (t : Settings) (peer : Peer H Job) (h : List PeerEvent) (s : Stands hub t peer h) (e : End)
     (same : limits_of e ≡ limits_of peer.end) where
   -- it stands for what the peer stood for
   pub stays : end_stands.Stands t.wire t.config e (byte_steps t h) → Stands hub t (record peer { end = e }) h
@@ -69,7 +69,7 @@ module _ {H Job : Type 0} (hub : Hub Job) (t : Settings) (peer : Peer H Job) (h 
     who = s.who;
     waits = s.waits;
     counted = s.counted;
-    askers = s.askers;
+    jobs_by_call = s.jobs_by_call;
     follows = s.follows;
     prompt = s.prompt;
     settled = s.settled;
@@ -86,7 +86,7 @@ module _ {H Job : Type 0} (hub : Hub Job) (t : Settings) (peer : Peer H Job) (h 
     who = s.who;
     waits = s.waits;
     counted = s.counted;
-    askers = s.askers;
+    jobs_by_call = s.jobs_by_call;
     follows = (s.follows, may);
     prompt = (s.prompt, inl s.settled);
     settled = refl;

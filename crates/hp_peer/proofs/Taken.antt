@@ -27,7 +27,7 @@ use Rattle.hd_calls.specs.declared.vocabulary.Input.TheVariants as input
 use Rattle.hd_calls.specs.Numbers.{most_inputs, most_live}
 use Rattle.hd_calls.specs.Hubs.{Hub, Invoked, Answer, Item, End as Ends, ToBegin, ToAnswer, call_for, id_of, purpose_of}
 use Rattle.hd_calls.specs.Ids.{prefix_of, IdsAreDrawn}
-use Rattle.hd_calls.specs.Peers.{Effect, Begins, InUse, TooMany, Brings, Feeds, Flood, Marks, Nothing, Move, Handles, Plain, Reads, Settings, acts, add, asker_of, asks, byte_steps, call_of, given, has_end, has_id, is_shut, last_of, lost, of_stream, reason_of, reply, shuts, streams_items}
+use Rattle.hd_calls.specs.Peers.{Effect, Begins, InUse, TooMany, Brings, Feeds, Flood, Marks, Nothing, PeerEvent, Handles, Plain, Reads, Settings, acts, add, asker_of, asks, byte_steps, call_of, given, has_end, has_id, is_shut, last_of, lost, of_stream, reason_of, reply, shuts, streams_items}
 use Rattle.hd_calls.specs.Rules.{ActsOn, Follows, IsCancellable, IsPlain, IsStrange, StreamAt}
 use Rattle.hd_calls.specs.Tables.{call_happenings, job_happenings, live_call_in, marked_in, Replied, reply_to}
 use Rattle.hd_calls.specs.Ledgers.{CallHappening, Got}
@@ -93,24 +93,24 @@ has_end_end (Item w ∷ xs) e = has_end_end xs e
 has_end_end (Ends x ∷ xs) e = refl
 
 -- the job that asked for a call, while that is live, by what is given for the call
-abbrev asker_with : ℕ → List Move → Bool → Option ℕ
+abbrev asker_with : ℕ → List PeerEvent → Bool → Option ℕ
 asker_with n h ended = if has_id (call_of n h) && (not ended && not (lost n h)) then option_map suc (asker_of n h) else None
 
-ended_asker : (n : ℕ) (h : List Move) → None ≡ asker_with n h true
+ended_asker : (n : ℕ) (h : List PeerEvent) → None ≡ asker_with n h true
 ended_asker n h = go (has_id (call_of n h))
   where
     go : (b : Bool) → None ≡ (if b && false then option_map suc (asker_of n h) else None)
     go true = refl
     go false = refl
 
-asker_after_item : (n k : ℕ) (m : Message) (v : Value) (h : List Move) → live_asker k h ≡ live_asker k (Handles m (Brings n (Item v)) ∷ h)
+asker_after_item : (n k : ℕ) (m : Message) (v : Value) (h : List PeerEvent) → live_asker k h ≡ live_asker k (Handles m (Brings n (Item v)) ∷ h)
 asker_after_item n k m v h = go (k == n)
   where
     go : (b : Bool) → live_asker k h ≡ asker_with k h (has_end (if b then given k h ++ Item v ∷ [] else given k h))
     go true = ap (asker_with k h) (sym (has_end_item (given k h) v))
     go false = refl
 
-asker_after_end : (n k : ℕ) (m : Message) (e : Ending) (h : List Move) → (if k == n then None else live_asker k h) ≡ live_asker k (Handles m (Brings n (Ends e)) ∷ h)
+asker_after_end : (n k : ℕ) (m : Message) (e : Ending) (h : List PeerEvent) → (if k == n then None else live_asker k h) ≡ live_asker k (Handles m (Brings n (Ends e)) ∷ h)
 asker_after_end n k m e h = go (k == n)
   where
     go : (b : Bool) → (if b then None else live_asker k h) ≡ asker_with k h (has_end (if b then given k h ++ Ends e ∷ [] else given k h))
@@ -119,7 +119,7 @@ asker_after_end n k m e h = go (k == n)
 
 -- ---- the table of jobs
 
-module _ (t : Settings) (h : List Move) (a : JobsAgree t h) where
+module _ (t : Settings) (h : List PeerEvent) (a : JobsAgree t h) where
   pub cancellable : (i : List ℕ) (j : ℕ) → HasId (job_happenings t h) i j → marked_in j (job_happenings t h) ≡ false → IsCancellable t h i j
   cancellable i j f e = record {
     call = f.call;
@@ -152,11 +152,11 @@ module _ (t : Settings) (h : List Move) (a : JobsAgree t h) where
 
 -- ---- a message that waits
 
-module _ {H Job : Type 0} (hub : Hub Job) (t : Settings) (old : Peer H Job) (m : Message) (h : List Move) (s : Stands hub t (holding old m) h) where
+module _ {H Job : Type 0} (hub : Hub Job) (t : Settings) (old : Peer H Job) (m : Message) (h : List PeerEvent) (s : Stands hub t (holding old m) h) where
   -- memory was out: the message waits still
   pub still : (new : Peer H Job) → new.end ≡ old.end → new.calls ≡ old.calls → of_jobs.Stands hub new.jobs t.who (job_happenings t h)
-      → new.who ≡ old.who → new.waiting ≡ Some m → new.askers ≡ old.askers → Stands hub t new h
-  still new end calls jobs who waits askers = record {
+      → new.who ≡ old.who → new.waiting ≡ Some m → new.jobs_by_call ≡ old.jobs_by_call → Stands hub t new h
+  still new end calls jobs who waits jobs_by_call = record {
     names = s.names;
     limits = s.limits ∙ ap limits_of (sym end);
     end = subst (λ e. of_end.Stands t.wire t.config e (byte_steps t h)) (sym end) s.end;
@@ -165,7 +165,7 @@ module _ {H Job : Type 0} (hub : Hub Job) (t : Settings) (old : Peer H Job) (m :
     who = who ∙ s.who;
     waits = waits ∙ s.waits;
     counted = s.counted;
-    askers = λ n. ap (λ x. get nat_eq x n) askers ∙ s.askers n;
+    jobs_by_call = λ n. ap (λ x. get nat_eq x n) jobs_by_call ∙ s.jobs_by_call n;
     follows = s.follows;
     prompt = s.prompt;
     settled = s.settled;
@@ -175,9 +175,9 @@ module _ {H Job : Type 0} (hub : Hub Job) (t : Settings) (old : Peer H Job) (m :
   pub handled : (new : Peer H Job) (e : Effect) → of_end.Stands t.wire t.config new.end (byte_steps t (Handles m e ∷ h)) → limits_of new.end ≡ limits_of old.end
       → of_calls.Stands new.calls (prefix_of t.config.side) (call_happenings (Handles m e ∷ h))
       → of_jobs.Stands hub new.jobs t.who (job_happenings t (Handles m e ∷ h))
-      → new.who ≡ old.who → new.waiting ≡ None → ((n : ℕ) → get nat_eq new.askers n ≡ live_asker n (Handles m e ∷ h))
+      → new.who ≡ old.who → new.waiting ≡ None → ((n : ℕ) → get nat_eq new.jobs_by_call n ≡ live_asker n (Handles m e ∷ h))
       → ActsOn t h (purpose_of m) e → Stands hub t new (Handles m e ∷ h)
-  handled new e end limits calls jobs who waits askers acts = record {
+  handled new e end limits calls jobs who waits jobs_by_call acts = record {
     names = s.names;
     limits = s.limits ∙ sym limits;
     end = end;
@@ -186,7 +186,7 @@ module _ {H Job : Type 0} (hub : Hub Job) (t : Settings) (old : Peer H Job) (m :
     who = who ∙ s.who;
     waits = waits;
     counted = tt;
-    askers = askers;
+    jobs_by_call = jobs_by_call;
     follows = (s.follows, (sym s.waits, acts));
     prompt = (s.prompt, inl s.settled);
     settled = refl;
@@ -211,14 +211,14 @@ module _ {H Job : Type 0} (hub : Hub Job) (t : Settings) (old : Peer H Job) (m :
 
 -- ---- cancellations
 
-module _ {H Job : Type 0} (hub : Hub Job) (t : Settings) (old : Peer H Job) (headers : List Header) (id : List ℕ) (h : List Move)
+module _ {H Job : Type 0} (hub : Hub Job) (t : Settings) (old : Peer H Job) (headers : List Header) (id : List ℕ) (h : List PeerEvent)
     (s : Stands hub t (holding old (CancelInvocation headers id)) h) (a : JobsAgree t h) (none : old.waiting ≡ None) (now : ℕ) (number : ℕ) (jobs : Jobs H Job) where
   pub marks : of_table.Marks hub jobs t.who (job_happenings t h) id number
       → HasHandled hub t (record old { jobs = jobs }) now (did.Cancelled id) (CancelInvocation headers id) h
   marks f = record {
     effect = Marks f.job;
     told_as = refl;
-    stands = handled hub t old _ h s (record old { jobs = jobs }) (Marks f.job) (end_stays hub t old _ h s old.end (Marks f.job) refl refl) refl s.calls f.stands refl none s.askers
+    stands = handled hub t old _ h s (record old { jobs = jobs }) (Marks f.job) (end_stays hub t old _ h s old.end (Marks f.job) refl refl) refl s.calls f.stands refl none s.jobs_by_call
         (cancellable t h a id f.job f.has_id f.unmarked);
   }
 
@@ -228,19 +228,19 @@ module _ {H Job : Type 0} (hub : Hub Job) (t : Settings) (old : Peer H Job) (hea
     effect = Nothing;
     told_as = refl;
     stands = handled hub t old _ h s (record old { jobs = jobs }) Nothing (end_stays hub t old _ h s old.end Nothing refl refl) refl s.calls
-        (subst (λ j. of_jobs.Stands hub j t.who (job_happenings t h)) (sym same) s.jobs) refl none s.askers
+        (subst (λ j. of_jobs.Stands hub j t.who (job_happenings t h)) (sym same) s.jobs) refl none s.jobs_by_call
         (λ j g. f j (had t h a id j g) (sym (a.marks j) ∙ g.unmarked));
   }
 
 -- ---- what comes on a stream of a job
 
-module _ {H Job : Type 0} (hub : Hub Job) (t : Settings) (old : Peer H Job) (m : Message) (id : List ℕ) (x : Answer) (is : purpose_of m ≡ ToAnswer id x) (h : List Move)
+module _ {H Job : Type 0} (hub : Hub Job) (t : Settings) (old : Peer H Job) (m : Message) (id : List ℕ) (x : Answer) (is : purpose_of m ≡ ToAnswer id x) (h : List PeerEvent)
     (s : Stands hub t (holding old m) h) (a : JobsAgree t h) (none : old.waiting ≡ None) (strange : IsStrange t h id x) (now : ℕ) (number : ℕ) (jobs : Jobs H Job) where
   pub fed : of_table.Feeds hub jobs t.who (job_happenings t h) id x number → HasHandled hub t (record old { jobs = jobs }) now (did.Fed id) m h
   fed f = record {
     effect = Feeds f.job f.which x;
     told_as = subst (λ p. IsFor p id) (sym is) refl;
-    stands = handled hub t old m h s (record old { jobs = jobs }) (Feeds f.job f.which x) (end_stays hub t old m h s old.end (Feeds f.job f.which x) refl refl) refl s.calls f.stands refl none s.askers
+    stands = handled hub t old m h s (record old { jobs = jobs }) (Feeds f.job f.which x) (end_stays hub t old m h s old.end (Feeds f.job f.which x) refl refl) refl s.calls f.stands refl none s.jobs_by_call
         (subst (λ p. ActsOn t h p (Feeds f.job f.which x)) (sym is)
         (refl, strange, stream_at t h a id f.job f.which f.at, subst (λ n. n < most_inputs) (sym (a.left f.job)) f.few));
   }
@@ -250,7 +250,7 @@ module _ {H Job : Type 0} (hub : Hub Job) (t : Settings) (old : Peer H Job) (m :
   fed_none f stays = record {
     effect = Nothing;
     told_as = subst (λ p. IsFor p id) (sym is) refl;
-    stands = handled hub t old m h s (record old { jobs = jobs }) Nothing (end_stays hub t old m h s old.end Nothing refl refl) refl s.calls stays refl none s.askers
+    stands = handled hub t old m h s (record old { jobs = jobs }) Nothing (end_stays hub t old m h s old.end Nothing refl refl) refl s.calls stays refl none s.jobs_by_call
         (subst (λ p. ActsOn t h p Nothing) (sym is) (strange, λ j w g. f j w (stream_in t h a id j w g)));
   }
 
@@ -258,28 +258,28 @@ module _ {H Job : Type 0} (hub : Hub Job) (t : Settings) (old : Peer H Job) (m :
       → (is_shut t h ≡ false → of_end.Stands t.wire t.config end (Does (Closed reason.Flood false) ∷ byte_steps t h)) → (is_shut t h ≡ true → end ≡ old.end) → limits_of end ≡ limits_of old.end
       → Stands hub t (record old { jobs = jobs; end = end }) (Handles m Flood ∷ h)
   flooded f stays end live closed limits =
-      handled hub t old m h s (record old { jobs = jobs; end = end }) Flood (end_closes hub t old m h s end Flood reason.Flood refl live closed) limits s.calls stays refl none s.askers
+      handled hub t old m h s (record old { jobs = jobs; end = end }) Flood (end_closes hub t old m h s end Flood reason.Flood refl live closed) limits s.calls stays refl none s.jobs_by_call
       (subst (λ p. ActsOn t h p Flood) (sym is) (strange, (f.job, f.which, stream_at t h a id f.job f.which f.at, subst (λ n. most_inputs ≤ n) (sym (a.left f.job)) f.full)))
 
 -- ---- items of own calls
 
-module _ {H Job : Type 0} (hub : Hub Job) (t : Settings) (old : Peer H Job) (headers : List Header) (id : List ℕ) (v : Value) (h : List Move)
+module _ {H Job : Type 0} (hub : Hub Job) (t : Settings) (old : Peer H Job) (headers : List Header) (id : List ℕ) (v : Value) (h : List PeerEvent)
     (s : Stands hub t (holding old (StreamItem headers id v)) h) (a : CallsAgree h) (none : old.waiting ≡ None) (side : IdsAreOfASide) (now n : ℕ) where
   pub item_came : of_own.Itemizes old.calls (prefix_of t.config.side) (call_happenings h) id n → HasHandled hub t old now (did.Item n v) (StreamItem headers id v) h
   item_came f = record {
     effect = Brings n (Item v);
     told_as = (refl, refl);
     stands = handled hub t old _ h s old (Brings n (Item v)) (end_stays hub t old _ h s old.end (Brings n (Item v)) refl refl) refl (f.stands v) s.jobs refl none
-        (λ k. s.askers k ∙ asker_after_item n k (StreamItem headers id v) v h)
+        (λ k. s.jobs_by_call k ∙ asker_after_item n k (StreamItem headers id v) v h)
         (refl, s.names n ∙ (side t.config.side n ∙ f.is), both_true _ _ (ap streams_items (a.call n) ∙ f.streams) (a.live n ∙ f.live));
   }
 
-pub item_strange : {H Job : Type 0} (hub : Hub Job) (t : Settings) (peer : Peer H Job) (id : List ℕ) (v : Value) (h : List Move) → Stands hub t peer h → CallsAgree h → IdsAreOfASide
+pub item_strange : {H Job : Type 0} (hub : Hub Job) (t : Settings) (peer : Peer H Job) (id : List ℕ) (v : Value) (h : List PeerEvent) → Stands hub t peer h → CallsAgree h → IdsAreOfASide
     → of_own.IsNoStream (prefix_of t.config.side) (call_happenings h) id → IsStrange t h id (Item v)
 item_strange hub t peer id v h s a side f n e =
     not_both _ _ (λ l. ap streams_items (a.call n) ∙ f n (sym (side t.config.side n) ∙ (sym (s.names n) ∙ e)) (sym (a.live n) ∙ l))
 
-pub end_strange : {H Job : Type 0} (hub : Hub Job) (t : Settings) (peer : Peer H Job) (id : List ℕ) (e : Ending) (h : List Move) → Stands hub t peer h → CallsAgree h → IdsAreOfASide
+pub end_strange : {H Job : Type 0} (hub : Hub Job) (t : Settings) (peer : Peer H Job) (id : List ℕ) (e : Ending) (h : List PeerEvent) → Stands hub t peer h → CallsAgree h → IdsAreOfASide
     → of_own.IsUnknown (prefix_of t.config.side) (call_happenings h) id → IsStrange t h id (Ends e)
 end_strange hub t peer id e h s a side f n is = a.live n ∙ f n (sym (side t.config.side n) ∙ (sym (s.names n) ∙ is))
 
@@ -296,7 +296,7 @@ same_value law v w e = sym (law.value_of-tree v) ∙ (ap value_of e ∙ law.valu
 
 -- ---- calls
 
-module _ {H Job : Type 0} (hub : Hub Job) (t : Settings) (old : Peer H Job) (m : Message) (c : Invoked) (is : purpose_of m ≡ ToBegin c) (h : List Move)
+module _ {H Job : Type 0} (hub : Hub Job) (t : Settings) (old : Peer H Job) (m : Message) (c : Invoked) (is : purpose_of m ≡ ToBegin c) (h : List PeerEvent)
     (s : Stands hub t (holding old m) h) (a : JobsAgree t h) (none : old.waiting ≡ None) (jobs : Jobs H Job) where
   -- what the hub is given is the other side's call
   pub call_is : (call : as_given.Call) → Some call ≡ call_to_begin old.who (purpose_of m) → call ≡ call_for t.who c
@@ -308,7 +308,7 @@ module _ {H Job : Type 0} (hub : Hub Job) (t : Settings) (old : Peer H Job) (m :
     effect = Begins c now;
     told_as = subst (IsToldAs h now m (Begins c now)) (sym e)
         (record { moment = refl; next = f.next ∙ ap (λ cs. suc (length cs)) (sym a.begins); id_is = refl; target_is = refl }, refl);
-    stands = handled hub t old m h s (record old { jobs = jobs }) (Begins c now) (end_stays hub t old m h s old.end (Begins c now) refl refl) refl s.calls f.stands refl none s.askers
+    stands = handled hub t old m h s (record old { jobs = jobs }) (Begins c now) (end_stays hub t old m h s old.end (Begins c now) refl refl) refl s.calls f.stands refl none s.jobs_by_call
         (subst (λ p. ActsOn t h p (Begins c now)) (sym is) (refl, a.uses c ∙ f.unused, subst (λ n. n < most_live) (sym a.count) f.few));
   }
 
@@ -319,7 +319,7 @@ module _ {H Job : Type 0} (hub : Hub Job) (t : Settings) (old : Peer H Job) (m :
     clashed id f live closed = record {
       call = c;
       taken = f.1;
-      stands = handled hub t old m h s (record old { jobs = jobs; end = end }) (InUse c) (end_closes hub t old m h s end (InUse c) reason.InUse refl live closed) limits s.calls stays refl none s.askers
+      stands = handled hub t old m h s (record old { jobs = jobs; end = end }) (InUse c) (end_closes hub t old m h s end (InUse c) reason.InUse refl live closed) limits s.calls stays refl none s.jobs_by_call
           (subst (λ p. ActsOn t h p (InUse c)) (sym is) (refl, a.uses c ∙ f.0));
     }
 
@@ -328,18 +328,18 @@ module _ {H Job : Type 0} (hub : Hub Job) (t : Settings) (old : Peer H Job) (m :
         → IsOneTooMany hub t (record old { jobs = jobs; end = end }) m h
     one_too_many f live closed = record {
       call = c;
-      stands = handled hub t old m h s (record old { jobs = jobs; end = end }) (TooMany c) (end_closes hub t old m h s end (TooMany c) reason.TooMany refl live closed) limits s.calls stays refl none s.askers
+      stands = handled hub t old m h s (record old { jobs = jobs; end = end }) (TooMany c) (end_closes hub t old m h s end (TooMany c) reason.TooMany refl live closed) limits s.calls stays refl none s.jobs_by_call
           (subst (λ p. ActsOn t h p (TooMany c)) (sym is) (refl, a.uses c ∙ f.0, subst (λ n. most_live ≤ n) (sym a.count) f.1));
     }
 
 -- ---- endings of own calls
 
-module _ {H Job : Type 0} (hub : Hub Job) (t : Settings) (old : Peer H Job) (headers : List Header) (id : List ℕ) (e : Ending) (h : List Move)
+module _ {H Job : Type 0} (hub : Hub Job) (t : Settings) (old : Peer H Job) (headers : List Header) (id : List ℕ) (e : Ending) (h : List PeerEvent)
     (s : Stands hub t (holding old (Completion headers id e)) h) (a : CallsAgree h) (b : JobsAgree t h) (none : old.waiting ≡ None) (side : IdsAreOfASide) (drawn : IdsAreDrawn) (now n : ℕ)
     (f : of_own.IsLiveAs (prefix_of t.config.side) (call_happenings h) id n) (new : Peer H Job)
     (same_end : new.end ≡ old.end) (same_who : new.who ≡ old.who) (idle : new.waiting ≡ None)
     (settled : (k : ℕ) × of_own.Settles new.calls (prefix_of t.config.side) (call_happenings h) id k)
-    (removed : (k : ℕ) → get nat_eq new.askers k ≡ (if n == k then None else get nat_eq old.askers k)) where
+    (removed : (k : ℕ) → get nat_eq new.jobs_by_call k ≡ (if n == k then None else get nat_eq old.jobs_by_call k)) where
   same_number : settled.0 ≡ n
   same_number = drawn.apart.own t.config.side settled.0 n (side t.config.side settled.0 ∙ (settled.1.is ∙ (sym f.is ∙ sym (side t.config.side n))))
 
@@ -351,21 +351,21 @@ module _ {H Job : Type 0} (hub : Hub Job) (t : Settings) (old : Peer H Job) (hea
     told_as = (refl, refl);
     stands = handled hub t old _ h s new (Brings n (Ends e)) (end_stays hub t old _ h s new.end (Brings n (Ends e)) refl same_end) (ap limits_of same_end)
         (subst (λ k. of_calls.Stands new.calls (prefix_of t.config.side) (Got k (Ends e) ∷ call_happenings h)) same_number (settled.1.stands e)) stands same_who idle
-        (λ k. removed k ∙ (ap (λ x. if x then None else get nat_eq old.askers k) (eq_flip n k) ∙ (ap (λ o. if k == n then None else o) (s.askers k) ∙ asker_after_end n k (Completion headers id e) e h)))
+        (λ k. removed k ∙ (ap (λ x. if x then None else get nat_eq old.jobs_by_call k) (eq_flip n k) ∙ (ap (λ o. if k == n then None else o) (s.jobs_by_call k) ∙ asker_after_end n k (Completion headers id e) e h)))
         (refl, s.names n ∙ (side t.config.side n ∙ f.is), a.live n ∙ f.live);
   }
 
-  asked_for : get nat_eq old.askers n ≡ option_map suc (asker_of n h)
-  asked_for = s.askers n ∙ ap (λ b. if b then option_map suc (asker_of n h) else None) (a.live n ∙ f.live)
+  asked_for : get nat_eq old.jobs_by_call n ≡ option_map suc (asker_of n h)
+  asked_for = s.jobs_by_call n ∙ ap (λ b. if b then option_map suc (asker_of n h) else None) (a.live n ∙ f.live)
 
-  pub ended_unasked : get nat_eq old.askers n ≡ None → new.jobs ≡ old.jobs → HasHandled hub t new now (did.Ended n e) (Completion headers id e) h
+  pub ended_unasked : get nat_eq old.jobs_by_call n ≡ None → new.jobs ≡ old.jobs → HasHandled hub t new now (did.Ended n e) (Completion headers id e) h
   ended_unasked p same = ended (go (asker_of n h) (sym asked_for ∙ p))
     where
       go : (o : Option ℕ) → option_map suc o ≡ None → of_jobs.Stands hub new.jobs t.who (add (reply_to h e o) (job_happenings t h))
       go None q = subst (λ j. of_jobs.Stands hub j t.who (job_happenings t h)) (sym same) s.jobs
       go (Some j) q = absurd (none_some _ (sym q))
 
-  pub ended_asked : (job : ℕ) → get nat_eq old.askers n ≡ Some job
+  pub ended_asked : (job : ℕ) → get nat_eq old.jobs_by_call n ≡ Some job
       → ((k : ℕ) → job ≡ suc k → of_jobs.Stands hub new.jobs t.who (add (reply_to h e (Some k)) (job_happenings t h)))
       → HasHandled hub t new now (did.Ended n e) (Completion headers id e) h
   ended_asked job p stands = ended (go (asker_of n h) (sym asked_for ∙ p))
@@ -389,7 +389,7 @@ is_none : {A : Type 0} (o : Option A) → not (is_some o) ≡ true → o ≡ Non
 is_none None e = refl
 is_none (Some x) e = absurd (cc)
 
-module _ {H Job : Type 0} (hub : Hub Job) (t : Settings) (h : List Move) (b : JobsAgree t h) (f : Follows hub t h) (e : Ending) (k : ℕ) (jobs : Jobs H Job) where
+module _ {H Job : Type 0} (hub : Hub Job) (t : Settings) (h : List PeerEvent) (b : JobsAgree t h) (f : Follows hub t h) (e : Ending) (k : ℕ) (jobs : Jobs H Job) where
   pub replied : of_table.Answers hub jobs t.who (job_happenings t h) (suc k) (input.Asked e) → of_jobs.Stands hub jobs t.who (add (reply_to h e (Some k)) (job_happenings t h))
   replied r =
       let same : k ≡ r.job = suc_injective k r.job r.is in
@@ -414,7 +414,7 @@ module _ {H Job : Type 0} (hub : Hub Job) (t : Settings) (h : List Move) (b : Jo
           }))
 
 -- the job of this number is given a copy of the ending, if it waits for it
-pub answered : {H Job T E : Type 0} (hub : Hub Job) (t : Settings) (h : List Move) (b : JobsAgree t h) (f : Follows hub t h) (e copy : Ending) (same : copy ≡ e) (old new : Jobs H Job) (job : ℕ)
+pub answered : {H Job T E : Type 0} (hub : Hub Job) (t : Settings) (h : List PeerEvent) (b : JobsAgree t h) (f : Follows hub t h) (e copy : Ending) (same : copy ≡ e) (old new : Jobs H Job) (job : ℕ)
     (r : Result T E) → of_jobs.Stands hub old t.who (job_happenings t h)
     → OnOk r (of_table.OfEach hub old (λ who h. of_table.Answers hub new who h job (input.Asked copy)))
     → OnErr r (of_table.OfEach hub old (λ who h. of_table.AtPlace job (λ j. of_table.AwaitsAnswer h j (input.Asked copy) → ⊥))) → OnErr r (new ≡ old)
@@ -428,7 +428,7 @@ answered hub t h b f e copy same old new job (Err x) s ok unknown kept k is =
 
 -- ---- what is read
 
-module _ {H Job : Type 0} (hub : Hub Job) (t : Settings) (old : Peer H Job) (h : List Move) (s : Stands hub t old h) (none : old.waiting ≡ None) (end : End) (limits : limits_of end ≡ limits_of old.end) where
+module _ {H Job : Type 0} (hub : Hub Job) (t : Settings) (old : Peer H Job) (h : List PeerEvent) (s : Stands hub t old h) (none : old.waiting ≡ None) (end : End) (limits : limits_of end ≡ limits_of old.end) where
   -- a message, which waits now
   pub reads_message : (m : Message) → is_sequenced m ≡ true → of_end.Stands t.wire t.config end (Does (Took (gives.Message m)) ∷ byte_steps t h)
       → Stands hub t (record old { end = end; waiting = Some m }) (Reads m ∷ h)
@@ -441,7 +441,7 @@ module _ {H Job : Type 0} (hub : Hub Job) (t : Settings) (old : Peer H Job) (h :
     who = s.who;
     waits = refl;
     counted = counted;
-    askers = s.askers;
+    jobs_by_call = s.jobs_by_call;
     follows = (s.follows, sym s.waits ∙ none);
     prompt = (s.prompt, inl s.settled);
     settled = refl;
@@ -458,7 +458,7 @@ module _ {H Job : Type 0} (hub : Hub Job) (t : Settings) (old : Peer H Job) (h :
     who = s.who;
     waits = s.waits;
     counted = s.counted;
-    askers = s.askers;
+    jobs_by_call = s.jobs_by_call;
     follows = (s.follows, plain);
     prompt = (s.prompt, inl s.settled);
     settled = refl;
@@ -474,7 +474,7 @@ module _ {H Job : Type 0} (hub : Hub Job) (t : Settings) (old : Peer H Job) (h :
     who = s.who;
     waits = s.waits;
     counted = s.counted;
-    askers = s.askers;
+    jobs_by_call = s.jobs_by_call;
     follows = s.follows;
     prompt = s.prompt;
     settled = s.settled;

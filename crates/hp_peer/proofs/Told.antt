@@ -19,7 +19,7 @@ use Rattle.he_end.specs.Calls.{fault_of, FailsBy}
 use Rattle.he_end.specs.Stands as ends
 use Rattle.he_end.specs.Stands.{limits_of}
 use Rattle.hd_calls.specs.Hubs.{Hub, Invoked, Item, End as Ends, ToBegin, purpose_of}
-use Rattle.hd_calls.specs.Peers.{Effect, Begins, InUse, TooMany, Brings, Feeds, Flood, Marks, Nothing, Move, Reads, Settings, byte_steps, waiting}
+use Rattle.hd_calls.specs.Peers.{Effect, Begins, InUse, TooMany, Brings, Feeds, Flood, Marks, Nothing, PeerEvent, Reads, Settings, byte_steps, waiting}
 use Rattle.hd_calls.specs.Rules.{IsPlain}
 use Rattle.hp_peer.specs.declared.did.Did.{Did}
 use Rattle.hp_peer.specs.declared.did.Did.TheVariants as did
@@ -48,12 +48,12 @@ begins (message.Ack upto) e f g k = absurd (both_ways false refl e)
 begins (message.Sequence first received) e f g k = absurd (both_ways false refl e)
 
 -- the message that waits is counted
-pub waits_counted : {H Job : Type 0} (hub : Hub Job) (t : Settings) (old : Peer H Job) (m : Message) (h : List Move) → Stands hub t (holding old m) h → is_sequenced m ≡ true
+pub waits_counted : {H Job : Type 0} (hub : Hub Job) (t : Settings) (old : Peer H Job) (m : Message) (h : List PeerEvent) → Stands hub t (holding old m) h → is_sequenced m ≡ true
 waits_counted hub t old m h s = subst IsCounted (sym s.waits) s.counted
 
 -- ---- what is told
 
-never_other : (h : List Move) (now : ℕ) (m : Message) (e : Effect) (got : Got) → IsToldAs h now m e (did.Other got) → ⊥
+never_other : (h : List PeerEvent) (now : ℕ) (m : Message) (e : Effect) (got : Got) → IsToldAs h now m e (did.Other got) → ⊥
 never_other h now m (Begins c since) got f = f
 never_other h now m (InUse c) got f = f
 never_other h now m (TooMany c) got f = f
@@ -64,7 +64,7 @@ never_other h now m Flood got f = f
 never_other h now m (Marks j) got f = f
 never_other h now m Nothing got f = f
 
-module _ {H Job : Type 0} (hub : Hub Job) (t : Settings) (h : List Move) (new : Peer H Job) where
+module _ {H Job : Type 0} (hub : Hub Job) (t : Settings) (h : List PeerEvent) (new : Peer H Job) where
   no_other : (now : ℕ) (got : Got) (o : Option Message) → OfNext t h o (HasHandled hub t new now (did.Other got)) → ⊥
   no_other now got None f = never_other _ now f.0 f.2.effect got f.2.told_as
   no_other now got (Some m) f = never_other h now m f.effect got f.told_as
@@ -107,11 +107,11 @@ module _ {H Job : Type 0} (hub : Hub Job) (t : Settings) (h : List Move) (new : 
 -- ---- what is read
 
 -- the peer whose message was taken out to be handled
-pub taken_out : {H Job : Type 0} (hub : Hub Job) (t : Settings) (old : Peer H Job) (m : Message) (h : List Move) → Stands hub t old h → old.waiting ≡ Some m
+pub taken_out : {H Job : Type 0} (hub : Hub Job) (t : Settings) (old : Peer H Job) (m : Message) (h : List PeerEvent) → Stands hub t old h → old.waiting ≡ Some m
     → Stands hub t (holding (record old { waiting = None }) m) h
 taken_out hub t old m h s e = subst (λ w. Stands hub t (record old { waiting = w }) h) e s
 
-module _ {H Job : Type 0} (hub : Hub Job) (t : Settings) (old : Peer H Job) (h : List Move) (s : Stands hub t old h) (none : old.waiting ≡ None) (end : End) (limits : limits_of end ≡ limits_of old.end) where
+module _ {H Job : Type 0} (hub : Hub Job) (t : Settings) (old : Peer H Job) (h : List PeerEvent) (s : Stands hub t old h) (none : old.waiting ≡ None) (end : End) (limits : limits_of end ≡ limits_of old.end) where
   idle : waiting h ≡ None
   idle = sym s.waits ∙ none
 
@@ -149,6 +149,6 @@ module _ {H Job : Type 0} (hub : Hub Job) (t : Settings) (old : Peer H Job) (h :
     read_unhandled new e f = read_untaken hub t h new m idle gave.0 e (f t (Reads m ∷ h) waits_now)
 
 -- the peer at which no message waits
-pub emptied : {H Job : Type 0} (hub : Hub Job) (t : Settings) (old : Peer H Job) (w : Option Message) (h : List Move) → Stands hub t old h → old.waiting ≡ w
+pub emptied : {H Job : Type 0} (hub : Hub Job) (t : Settings) (old : Peer H Job) (w : Option Message) (h : List PeerEvent) → Stands hub t old h → old.waiting ≡ w
     → Stands hub t (record old { waiting = w }) h
 emptied hub t old w h s e = subst (λ x. Stands hub t (record old { waiting = x }) h) e s

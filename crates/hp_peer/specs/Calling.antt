@@ -12,7 +12,7 @@ use Rattle.he_end.specs.declared.errors.SendError.TheVariants as send
 use Rattle.hd_calls.specs.declared.vocabulary.CallKind.{CallKind}
 use Rattle.hd_calls.specs.Hubs.{Hub, Invoked, Notify, Answer, Item, End, arguments_in, value_in, message_of}
 use Rattle.hd_calls.specs.Ids.{prefix_of}
-use Rattle.hd_calls.specs.Peers.{Move, Calls, Loses, Settings, drawn, live_call, codec, is_shut, steps}
+use Rattle.hd_calls.specs.Peers.{PeerEvent, Calls, Loses, Settings, drawn, live_call, codec, is_shut, steps}
 use Rattle.hd_calls.specs.Rules.{CallRefusal, TooManyLive, Spent, Unknown, TooDeep, Unsent, IsRefusedCall, IsRefusedUpload, IsRefusedCancel}
 use Rattle.hi_calls.specs.declared.errors.CallError.{CallError}
 use Rattle.hi_calls.specs.declared.errors.CallError.TheVariants as table
@@ -51,20 +51,20 @@ HasCause Why ask.NoMemory = Unit {0}
 -- ---- calls
 
 -- the next call of this side, as its end sends it
-abbrev pub next_call : Settings → List Move → CallKind → List ℕ → List Tree → ℕ → Invoked
+abbrev pub next_call : Settings → List PeerEvent → CallKind → List ℕ → List Tree → ℕ → Invoked
 next_call t h kind target arguments uploads = call_after (prefix_of t.config.side) (drawn h) kind target arguments uploads
 
 -- as the other end reads it
-abbrev pub heard_call : Settings → List Move → CallKind → List ℕ → List Tree → ℕ → Invoked
+abbrev pub heard_call : Settings → List PeerEvent → CallKind → List ℕ → List Tree → ℕ → Invoked
 heard_call t h kind target arguments uploads = next_call t h kind target (arguments_in (codec t h) arguments) uploads
 
 -- the user's call was made, with this number
-pub record HasCalled {H Job : Type 0} (hub : Hub Job) (t : Settings) (h : List Move) (new : Peer H Job) (kind : CallKind) (target : List ℕ) (arguments : List Tree) (uploads number : ℕ) : Type 0 where
+pub record HasCalled {H Job : Type 0} (hub : Hub Job) (t : Settings) (h : List PeerEvent) (new : Peer H Job) (kind : CallKind) (target : List ℕ) (arguments : List Tree) (uploads number : ℕ) : Type 0 where
   pub number_is : number ≡ number_after kind uploads (drawn h)
   pub stands : Stands hub t new (Calls None number (heard_call t h kind target arguments uploads) ∷ h)
 
 -- it wasn't made, for this reason
-abbrev pub IsUncalled : Settings → List Move → CallKind → List ℕ → List Tree → ℕ → AskError → Type 0
+abbrev pub IsUncalled : Settings → List PeerEvent → CallKind → List ℕ → List Tree → ℕ → AskError → Type 0
 IsUncalled t h kind target arguments uploads e = HasCause (IsRefusedCall t h (heard_call t h kind target arguments uploads)) e
 
 -- ---- uploads
@@ -73,15 +73,15 @@ IsUncalled t h kind target arguments uploads e = HasCause (IsRefusedCall t h (he
 abbrev pub upload_end : Option (List ℕ) → Answer
 upload_end error = End (upload_ending error)
 
-abbrev pub upload_item : Settings → List Move → Value → Answer
+abbrev pub upload_item : Settings → List PeerEvent → Value → Answer
 upload_item t h value = Item (value_in (codec t h) value)
 
 -- nothing was uploaded, for this reason
-abbrev pub IsUnuploaded : Settings → List Move → ℕ → ℕ → Answer → AskError → Type 0
+abbrev pub IsUnuploaded : Settings → List PeerEvent → ℕ → ℕ → Answer → AskError → Type 0
 IsUnuploaded t h n w a e = HasCause (IsRefusedUpload t h n w a) e
 
 -- the call wasn't cancelled, for this reason
-abbrev pub IsUncancelled : Settings → List Move → ℕ → AskError → Type 0
+abbrev pub IsUncancelled : Settings → List PeerEvent → ℕ → AskError → Type 0
 IsUncancelled t h n e = HasCause (IsRefusedCancel t h n) e
 
 -- ---- what is spelled for many ends
@@ -93,16 +93,16 @@ pub record IsNotice (m : Message) (c : Invoked) : Type 0 where
   pub is : m ≡ message_of c
 
 -- the call of a message whose arguments the other end reads so
-abbrev pub heard : Settings → List Move → Invoked → Invoked
+abbrev pub heard : Settings → List PeerEvent → Invoked → Invoked
 heard t h c = record c { arguments = arguments_in (codec t h) c.arguments }
 
 -- the notice was sent, with this number of a message
-pub record HasNotified {H Job : Type 0} (hub : Hub Job) (t : Settings) (h : List Move) (new : Peer H Job) (c : Invoked) (number : ℕ) : Type 0 where
+pub record HasNotified {H Job : Type 0} (hub : Hub Job) (t : Settings) (h : List PeerEvent) (new : Peer H Job) (c : Invoked) (number : ℕ) : Type 0 where
   pub number_is : number ≡ suc (length (sent_messages (steps t h)))
   pub stands : Stands hub t new (Calls None 0 (heard t h c) ∷ h)
 
 -- it wasn't, for this reason
-abbrev pub IsUnnotified : Settings → List Move → Invoked → SendError → Type 0
+abbrev pub IsUnnotified : Settings → List PeerEvent → Invoked → SendError → Type 0
 IsUnnotified t h c send.Opening = IsRefusedToSend t.limits (sizes_of t.wire) t.config (steps t h) (message_of (heard t h c)) sending.Opening
 IsUnnotified t h c send.Closed = IsRefusedToSend t.limits (sizes_of t.wire) t.config (steps t h) (message_of (heard t h c)) sending.Closed
 IsUnnotified t h c (send.TooLong size) = IsRefusedToSend t.limits (sizes_of t.wire) t.config (steps t h) (message_of (heard t h c)) (sending.TooLong size)
@@ -113,6 +113,6 @@ IsUnnotified t h c send.NoMemory = Unit {0}
 -- ---- what is lost
 
 -- the least live call of a closed end is handed out as gone. There is none, or the end isn't closed
-abbrev pub Loss : {H Job : Type 0} → Hub Job → Settings → List Move → Peer H Job → Option ℕ → Type 0
+abbrev pub Loss : {H Job : Type 0} → Hub Job → Settings → List PeerEvent → Peer H Job → Option ℕ → Type 0
 Loss hub t h new None = ((is_shut t h ≡ false) ⊎ ((n : ℕ) → live_call n h ≡ false)) × Stands hub t new h
 Loss hub t h new (Some n) = (is_shut t h ≡ true) × (live_call n h ≡ true) × ((k : ℕ) → k < n → live_call k h ≡ false) × Stands hub t new (Loses n ∷ h)

@@ -5,7 +5,7 @@ use Rattle.hd_delivery.specs.declared.vocabulary.Side.TheVariants.{Client, Serve
 use Rattle.hd_delivery.specs.Worlds.{Event, client_of, server_of}
 use Rattle.hd_delivery.specs.Bytes.{IsWorldOverBytes, DeliveryOverBytes}
 use Rattle.hd_calls.specs.Hubs.{Hub}
-use Rattle.hd_calls.specs.Peers.{Move, Settings}
+use Rattle.hd_calls.specs.Peers.{PeerEvent, Settings}
 use Rattle.hd_calls.specs.Rules.{IsPeer}
 use Rattle.hd_calls.specs.Ledgers.{Keeps, EndsAfterClose}
 use Rattle.hd_calls.specs.Laws.{IsBounded}
@@ -15,19 +15,19 @@ use Rattle.hp_peer.specs.Stands.{Stands}
 
 -- Whatever the peer stands for is what a peer can do by itself, and so has all that is proved of that: at most one ending for each call and each
 -- job, nothing after it, each live call of a closed end ended once, and no bound passed.
-pub record IsSound {Job : Type 0} (hub : Hub Job) (t : Settings) (h : List Move) : Type 0 where
+pub record IsSound {Job : Type 0} (hub : Hub Job) (t : Settings) (h : List PeerEvent) : Type 0 where
   pub peer : IsPeer hub t h
   pub keeps : Keeps hub t h
   pub closes : EndsAfterClose t h
   pub bounded : IsBounded t h
 
 abbrev pub KeepsItsCalls : {H Job : Type 0} → Hub Job → Peer H Job → Type 0
-KeepsItsCalls hub peer = (t : Settings) (h : List Move) → Stands hub t peer h → IsSound hub t h
+KeepsItsCalls hub peer = (t : Settings) (h : List PeerEvent) → Stands hub t peer h → IsSound hub t h
 
 -- ---- two peers
 
 -- a world of two ends, for the moves of whose client and server these two peers stand
-pub record IsWorldOf {C S ClientJob ServerJob : Type 0} (hc : Hub ClientJob) (hs : Hub ServerJob) (client : Peer C ClientJob) (server : Peer S ServerJob) (p : Pair) (w : List (Event Move)) : Type 0 where
+pub record IsWorldOf {C S ClientJob ServerJob : Type 0} (hc : Hub ClientJob) (hs : Hub ServerJob) (client : Peer C ClientJob) (server : Peer S ServerJob) (p : Pair) (w : List (Event PeerEvent)) : Type 0 where
   pub version : IsVersion p.terms.version
   pub world : IsWorldOverBytes p.limits p.wire p.terms (ends p w)
   pub client_stands : Stands hc (settings Client p) client (client_of w)
@@ -36,5 +36,5 @@ pub record IsWorldOf {C S ClientJob ServerJob : Type 0} (hc : Hub ClientJob) (hs
 -- In every such world what each end has processed is a first part of what the other sent, each call that was processed begins one job, and its
 -- caller is given what that job answers.
 abbrev pub CallOnce : {C S ClientJob ServerJob : Type 0} → Hub ClientJob → Hub ServerJob → Peer C ClientJob → Peer S ServerJob → Type 0
-CallOnce hc hs client server = (p : Pair) (w : List (Event Move)) → IsWorldOf hc hs client server p w
+CallOnce hc hs client server = (p : Pair) (w : List (Event PeerEvent)) → IsWorldOf hc hs client server p w
     → DeliveryOverBytes p.wire p.terms (ends p w) × BothOnce hc hs p w

@@ -7,7 +7,7 @@ use Rattle.hd_delivery.specs.Histories.{Lent}
 use Rattle.hd_delivery.specs.Due.{due}
 use Rattle.hd_delivery.specs.Bytes.{Does}
 use Rattle.hd_calls.specs.Hubs.{Hub}
-use Rattle.hd_calls.specs.Peers.{Move, Plain, Settings, steps}
+use Rattle.hd_calls.specs.Peers.{PeerEvent, Plain, Settings, steps}
 use Rattle.hp_peer.specs.declared.peer.Peer.{Peer}
 use Rattle.hp_peer.specs.contracts.peer.Peer.{the_row}
 use Rattle.hp_peer.specs.Stands.{Stands, OfEach}
@@ -17,7 +17,7 @@ abbrev pub EndsAs : (H Job : RattleType) → MutBor (Peer H.Denot Job.Denot) →
 EndsAs H Job peer P = follows_so (the_row H Job) (the_row H Job) peer.ghost_name none (λ _ _. ⊤) P
 
 -- what was due was lent
-abbrev pub HasLent : {H Job : Type 0} → Hub Job → Settings → List Move → Peer H Job → Option LinkFrame → Type 0
+abbrev pub HasLent : {H Job : Type 0} → Hub Job → Settings → List PeerEvent → Peer H Job → Option LinkFrame → Type 0
 HasLent hub t h new None = Stands hub t new h
 HasLent hub t h new (Some f) = Stands hub t new (Plain (Does (Lent f)) ∷ h)
 

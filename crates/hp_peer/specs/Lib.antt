@@ -6,3 +6,4 @@ pub mod Calling
 pub mod Taking
 pub mod Turning
 pub mod Laws
+pub mod Words

@@ -2,7 +2,7 @@
 use Rattle.std.specs.Prelude.{◌≡◌, ◌⊎◌, ℕ, suc, List, ◌∷◌, length, Option, Some, None}
 use Rattle.hm_message.specs.declared.message.Message.{Message}
 use Rattle.hd_delivery.specs.declared.vocabulary.Got.TheVariants as gives
-use Rattle.hd_delivery.specs.Histories.{Step, Took, Failed, Fault}
+use Rattle.hd_delivery.specs.Histories.{EndEvent, Took, Failed, Fault}
 use Rattle.hd_delivery.specs.Processes.{processes}
 use Rattle.hd_delivery.specs.Bytes.{Does}
 use Rattle.he_end.specs.declared.errors.NextError.{NextError}
@@ -10,7 +10,7 @@ use Rattle.he_end.specs.declared.errors.NextError.TheVariants as next
 use Rattle.he_end.specs.Calls.{fault_of}
 use Rattle.hd_calls.specs.declared.vocabulary.Call as as_given
 use Rattle.hd_calls.specs.Hubs.{Hub, Invoked, Answer, Item, End, Purpose, ToBegin, ToAnswer, ToCancel, ToNothing, call_for, id_of, purpose_of}
-use Rattle.hd_calls.specs.Peers.{Effect, Begins, InUse, TooMany, Brings, Feeds, Flood, Marks, Nothing, Move, Plain, Reads, Handles, Settings, begun, waiting, steps}
+use Rattle.hd_calls.specs.Peers.{Effect, Begins, InUse, TooMany, Brings, Feeds, Flood, Marks, Nothing, PeerEvent, Plain, Reads, Handles, Settings, begun, waiting, steps}
 use Rattle.hd_calls.specs.Rules.{IsStrange}
 use Rattle.hd_calls.specs.Tables.{job_happenings}
 use Rattle.hj_jobs.specs.Calls.{IsTaken}
@@ -31,14 +31,14 @@ IsFor (ToCancel i) id = id ≡ i
 IsFor ToNothing id = ⊥
 
 -- a job has begun at this moment, which is told with its number
-pub record IsBegun (h : List Move) (c : Invoked) (since now job : ℕ) (id : Option (List ℕ)) (target : List ℕ) : Type 0 where
+pub record IsBegun (h : List PeerEvent) (c : Invoked) (since now job : ℕ) (id : Option (List ℕ)) (target : List ℕ) : Type 0 where
   pub moment : since ≡ now
   pub next : job ≡ suc (length (begun h))
   pub id_is : id ≡ id_of c.way
   pub target_is : target ≡ c.target
 
 -- what a message did that was handled after these moves, at a moment, is told so
-abbrev pub IsToldAs : List Move → ℕ → Message → Effect → Did → Type 0
+abbrev pub IsToldAs : List PeerEvent → ℕ → Message → Effect → Did → Type 0
 IsToldAs h now m (Begins c since) (did.Began job id target arguments) = IsBegun h c since now job id target × (arguments ≡ c.arguments)
 IsToldAs h now m (Brings n (Item v)) (did.Item call value) = (call ≡ n) × (value ≡ v)
 IsToldAs h now m (Brings n (End e)) (did.Ended call ending) = (call ≡ n) × (ending ≡ e)
@@ -50,26 +50,26 @@ IsToldAs h now m e d = ⊥
 -- ---- what was handled
 
 -- the next frame makes this step of the end
-abbrev pub IsNext : Settings → List Move → Step → Type 0
+abbrev pub IsNext : Settings → List PeerEvent → EndEvent → Type 0
 IsNext t h s = processes t.config (steps t h) ≡ Some s
 
 -- of the message that waits or, if none does, of the next frame's: what came, with the moves up to its being read
-abbrev pub OfNext : Settings → List Move → Option Message → (Message → List Move → Type 0) → Type 0
+abbrev pub OfNext : Settings → List PeerEvent → Option Message → (Message → List PeerEvent → Type 0) → Type 0
 OfNext t h (Some m) Holds = Holds m h
 OfNext t h None Holds = (m : Message) × IsNext t h (Took (gives.Message m)) × Holds m (Reads m ∷ h)
 
 -- the message was handled, and this is told of it
-pub record HasHandled {H Job : Type 0} (hub : Hub Job) (t : Settings) (new : Peer H Job) (now : ℕ) (told : Did) (m : Message) (h : List Move) : Type 0 where
+pub record HasHandled {H Job : Type 0} (hub : Hub Job) (t : Settings) (new : Peer H Job) (now : ℕ) (told : Did) (m : Message) (h : List PeerEvent) : Type 0 where
   pub effect : Effect
   pub told_as : IsToldAs h now m effect told
   pub stands : Stands hub t new (Handles m effect ∷ h)
 
 -- no message waits, and the end took this
-abbrev pub HasRead : {H Job : Type 0} → Hub Job → Settings → List Move → Peer H Job → Step → Type 0
+abbrev pub HasRead : {H Job : Type 0} → Hub Job → Settings → List PeerEvent → Peer H Job → EndEvent → Type 0
 HasRead hub t h new s = (waiting h ≡ None) × IsNext t h s × Stands hub t new (Plain (Does s) ∷ h)
 
 -- what was taken
-abbrev pub Takes : {H Job : Type 0} → Hub Job → Settings → List Move → Peer H Job → ℕ → Option Did → Type 0
+abbrev pub Takes : {H Job : Type 0} → Hub Job → Settings → List PeerEvent → Peer H Job → ℕ → Option Did → Type 0
 Takes hub t h new now None = (waiting h ≡ None) × (processes t.config (steps t h) ≡ None) × Stands hub t new h
 Takes hub t h new now (Some (did.Other got)) = HasRead hub t h new (Took got)
 Takes hub t h new now (Some told) = OfNext t h (waiting h) (HasHandled hub t new now told)
@@ -77,18 +77,18 @@ Takes hub t h new now (Some told) = OfNext t h (waiting h) (HasHandled hub t new
 -- ---- what was refused
 
 -- the call began no job, since this id of it is in use
-pub record HasClashed {H Job : Type 0} (hub : Hub Job) (t : Settings) (new : Peer H Job) (id : List ℕ) (m : Message) (h : List Move) : Type 0 where
+pub record HasClashed {H Job : Type 0} (hub : Hub Job) (t : Settings) (new : Peer H Job) (id : List ℕ) (m : Message) (h : List PeerEvent) : Type 0 where
   pub call : Invoked
   pub taken : IsTaken (job_happenings t h) call id
   pub stands : Stands hub t new (Handles m (InUse call) ∷ h)
 
 -- the call began no job, since too many are live
-pub record IsOneTooMany {H Job : Type 0} (hub : Hub Job) (t : Settings) (new : Peer H Job) (m : Message) (h : List Move) : Type 0 where
+pub record IsOneTooMany {H Job : Type 0} (hub : Hub Job) (t : Settings) (new : Peer H Job) (m : Message) (h : List PeerEvent) : Type 0 where
   pub call : Invoked
   pub stands : Stands hub t new (Handles m (TooMany call) ∷ h)
 
 -- the message wasn't handled for this reason: the end is closed, or memory is out, and the message waits
-abbrev pub IsUnhandled : {H Job : Type 0} → Hub Job → Settings → Peer H Job → PeerError → Message → List Move → Type 0
+abbrev pub IsUnhandled : {H Job : Type 0} → Hub Job → Settings → Peer H Job → PeerError → Message → List PeerEvent → Type 0
 IsUnhandled hub t new (error.Next e) m h = ⊥
 IsUnhandled hub t new (error.InUse id) m h = HasClashed hub t new id m h
 IsUnhandled hub t new error.TooMany m h = IsOneTooMany hub t new m h
@@ -96,7 +96,7 @@ IsUnhandled hub t new error.Flood m h = Stands hub t new (Handles m Flood ∷ h)
 IsUnhandled hub t new error.NoMemory m h = Stands hub t new h
 
 -- nothing was taken, for this reason. Out of memory nothing has changed, or a message was read that waits now
-abbrev pub IsUntaken : {H Job : Type 0} → Hub Job → Settings → List Move → Peer H Job → PeerError → Type 0
+abbrev pub IsUntaken : {H Job : Type 0} → Hub Job → Settings → List PeerEvent → Peer H Job → PeerError → Type 0
 IsUntaken hub t h new (error.Next e) = (fault : Fault) × (fault_of t.config e ≡ Some fault) × HasRead hub t h new (Failed fault)
 IsUntaken hub t h new error.NoMemory = Stands hub t new h ⊎ OfNext t h (waiting h) (λ m k. Stands hub t new k)
 IsUntaken hub t h new e = OfNext t h (waiting h) (IsUnhandled hub t new e)

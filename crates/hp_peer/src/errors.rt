@@ -7,6 +7,8 @@ use he_end::{NextError, SendError};
 use hi_calls::CallError;
 use hv_value::Text;
 use std::alloc::AllocError;
+use std::error::Error;
+use std::fmt;
 
 /// Why nothing is said: the first of these that holds. The peer is as it was.
 #[derive(Clone, Copy, Debug, PartialEq, Eq)]
@@ -95,3 +97,47 @@ pub enum PeerError {
     /// The peer is as it was, or a message was read that waits: the next `take` handles it.
     NoMemory,
 }
+
+impl fmt::Display for AskError {
+    ghost use Rattle.std.specs.Prelude.{Some};
+    ghost use Rattle.hp_peer.specs.Words.{ask_words};
+
+    ghost output = { λ error. Some (ask_words error) };
+
+    fn fmt<W: fmt::Write>(&self, f: &mut fmt::Formatter<W>) -> fmt::Result {
+        match self {
+            AskError::Calls(e) => write!(f, "{e}"),
+            AskError::TooDeep => f.write_str("TooDeep"),
+            AskError::Send(e) => write!(f, "{e}"),
+            AskError::NoMemory => f.write_str("out of memory"),
+        }
+    }
+}
+
+impl Error for AskError {}
+
+impl fmt::Display for PeerError {
+    ghost use Rattle.std.specs.Prelude.{Some};
+    ghost use Rattle.hp_peer.specs.Words.{peer_words};
+
+    ghost output = { λ error. Some (peer_words error) };
+
+    fn fmt<W: fmt::Write>(&self, f: &mut fmt::Formatter<W>) -> fmt::Result {
+        match self {
+            PeerError::Next(e) => write!(f, "{e}"),
+            PeerError::InUse(id) => write!(f, "in-use {}", id.as_str()),
+            PeerError::TooMany => f.write_str("too-many"),
+            PeerError::Flood => f.write_str("flood"),
+            PeerError::NoMemory => f.write_str("out of memory"),
+        }
+    }
+}
+
+/// The words of `Display`: `Text` has no `Debug`.
+impl fmt::Debug for PeerError {
+    fn fmt<W: fmt::Write>(&self, f: &mut fmt::Formatter<W>) -> fmt::Result {
+        write!(f, "{self}")
+    }
+}
+
+impl Error for PeerError {}

@@ -28,4 +28,5 @@ pub fn peers_call_once<C: Hub, S: Hub>(client: &Peer<C>, server: &Peer<S>)
     wire_is_faithful();
     // Limits are in range, so handshakes and control frames have room in a frame.
     let _ = client.end.limits().frame();
+    let _ = server.end.limits().frame();
 }

@@ -24,14 +24,14 @@
 //! The crate doesn't know sockets, clocks, servers, nor what any one hub's methods do.
 #![tactic(auto)]
 
-mod acting;
-mod calling;
 mod did;
 mod errors;
+mod incoming;
+mod job_effects;
+mod job_turns;
 mod laws;
+mod own_calls;
 mod peer;
-mod taking;
-mod turning;
 
 pub use did::Did;
 pub use errors::{AskError, PeerError};

@@ -4,7 +4,7 @@ ghost use Rattle.std.specs.Prelude.{◌≡◌, ◌≤◌, ◌⊎◌, ℕ, true, 
 ghost use Rattle.std.specs.Borrow.{sem};
 ghost use Rattle.hs_shake.specs.Requests.{IsVersion};
 ghost use Rattle.hd_delivery.specs.Histories as of;
-ghost use Rattle.hd_delivery.specs.Histories.{Attached, Detached, Ticked, Silenced, present_link, was_on, first_link, is_kept, is_silence};
+ghost use Rattle.hd_delivery.specs.Histories.{Attached, Detached, Ticked, Silenced, present_link, was_on, first_link, is_resumable, is_silence};
 ghost use Rattle.hd_delivery.specs.Due.{due};
 ghost use Rattle.hd_delivery.specs.Bytes.{Wire, Bytes, Does, unread};
 ghost use Rattle.hd_delivery.specs.OneHistory.{next_reader};
@@ -38,7 +38,7 @@ pub struct Peer<H: Hub> {
     /// A message that the end handed out and that isn't handled yet, since memory was out.
     pub(crate) waiting: Option<Message>,
     /// The jobs that asked for live own calls, by the numbers of these.
-    pub(crate) askers: IndexMap<u64, u64>,
+    pub(crate) jobs_by_call: IndexMap<u64, u64>,
     /// Memory was out at a turn: no job has another.
     pub(crate) stalled: bool,
 }
@@ -54,7 +54,7 @@ impl<H: Hub> Peer<H> {
         requires { IsVersion config.version }
         ensures stands { IfOk result (λ peer. (wire : Wire) → IsHouseWire config.limits.frame wire →
             Stands (meaning H.begin_of H.step_of) (settings side config wire who) peer []) }
-        ensures fresh { IfOk result (λ peer. (peer.stalled ≡ false) × (peer.jobs.halfway ≡ false)) }
+        ensures fresh { IfOk result (λ peer. (peer.stalled ≡ false) × (peer.jobs.prepared ≡ false)) }
     {
         ids_are_of_a_side();
         let prefix = match side {
@@ -67,7 +67,7 @@ impl<H: Hub> Peer<H> {
             jobs: Jobs::start(alloc)?,
             who,
             waiting: None,
-            askers: IndexMap::new(alloc),
+            jobs_by_call: IndexMap::new(alloc),
             stalled: false,
         })
     }
@@ -118,8 +118,8 @@ impl<H: Hub> Peer<H> {
             Stands (meaning H.begin_of H.step_of) t self.new (Plain (Does (Attached l now)) ∷ h))) }
         ensures closed { IfErr result (λ e. e ≡ AttachError.Closed → OfEach (meaning H.begin_of H.step_of) self.old (λ t h. is_shut t h ≡ true)) }
         ensures not_granted { IfErr result (λ e. e ≡ AttachError.NotGranted → OfEach (meaning H.begin_of H.step_of) self.old (λ t h.
-            (is_shut t h ≡ false) × (is_kept t.config (steps t h) ≡ false) × (first_link (steps t h) ≡ None → ⊥))) }
-        ensures kept { OnErr result (self.new ≡ self.old) }
+            (is_shut t h ≡ false) × (is_resumable t.config (steps t h) ≡ false) × (first_link (steps t h) ≡ None → ⊥))) }
+        ensures unchanged { OnErr result (self.new ≡ self.old) }
         ensures others { self.new ≡ record self.old { end = self.new.end } }
     {
         self.end.attach(now)

@@ -6,7 +6,7 @@ use Rattle.std.proofs.lemmas.List.Elements.{All-drop, All-push}
 use Rattle.std.proofs.lemmas.List.Sums.{sum_by_push}
 use Rattle.circular_buffer.specs.Buffer as rings
 use Rattle.hd_delivery.specs.Numbers.{most_messages}
-use Rattle.hq_resend.specs.Bounds.{most_size}
+use Rattle.hd_delivery.specs.Bounds.{most_size}
 use Rattle.hq_resend.specs.Buffers.{IsWithin, dropped_count, after_ack}
 use Rattle.hq_resend.specs.Rings.{IsRing, buffer_of, dropped_of}
 use Rattle.hq_resend.specs.declared.resend.Resend.TheInside.{Inside}

@@ -4,12 +4,12 @@ use Rattle.std.proofs.Common.{arith, ◌∙◌, ap, ap₂, sym, subst, refl}
 use Rattle.std.proofs.lemmas.List.{drop-drop, drop_all}
 use Rattle.std.proofs.lemmas.Bool.{lt-ltb}
 use Rattle.hq_resend.specs.Buffers.{Buffer, IsWithin, dropped_count, after_ack, after_writing, after_next}
-use Rattle.hq_resend.specs.Happenings.{Happening, Pushed, Acked, Wrote, Rewound, Stands, pushed_frames, acked_count, written_place, furthest_place}
+use Rattle.hq_resend.specs.ResendEvents.{ResendEvent, Pushed, Acked, Wrote, Rewound, Stands, pushed_frames, acked_count, written_place, furthest_place}
 use Rattle.hq_resend.specs.Rings.{IsRing, buffer_of}
 use Rattle.hq_resend.specs.declared.resend.Resend.TheInside.{Inside}
 
 -- where nothing was ever written and no Ack came, no link carries anything, whether frames are kept or not
-nothing-written : (h : List Happening) (keeps other : Bool) → furthest_place keeps h ≡ 0 → acked_count h ≡ 0 → (written_place other h ≡ 0) × (furthest_place other h ≡ 0)
+nothing-written : (h : List ResendEvent) (keeps other : Bool) → furthest_place keeps h ≡ 0 → acked_count h ≡ 0 → (written_place other h ≡ 0) × (furthest_place other h ≡ 0)
 nothing-written [] keeps other f a = (refl, refl)
 nothing-written (Pushed frame ∷ h) keeps other f a = nothing-written h keeps other f a
 nothing-written (Acked upto ∷ h) keeps other f a =
@@ -29,7 +29,7 @@ nothing-written (Rewound ∷ h) keeps other f a =
 none-of-none : (n m : ℕ) (xs ys : List (List ℕ)) → length xs ≡ 0 → length ys ≡ 0 → drop n xs ≡ drop m ys
 none-of-none n m xs ys x y = drop_all n xs (omega arith) ∙ sym (drop_all m ys (omega arith))
 
-pub keep-Stands : (r : Inside) (keeps : Bool) (h : List Happening) → IsRing r → r.sent ≡ 0 → Stands h (buffer_of r) → Stands h (buffer_of (record r { keeps = keeps }))
+pub keep-Stands : (r : Inside) (keeps : Bool) (h : List ResendEvent) → IsRing r → r.sent ≡ 0 → Stands h (buffer_of r) → Stands h (buffer_of (record r { keeps = keeps }))
 keep-Stands r keeps h ring none stands =
     let unwritten = nothing-written h r.keeps keeps (omega (arith, ring.furthest, stands.furthest)) (omega (arith, ring.furthest, ring.written, ring.acked, stands.acked)) in
     record {
@@ -46,7 +46,7 @@ ack-held : (keeps : Bool) (a w upto : ℕ) (frames : List (List ℕ)) → a ≤ 
 ack-held true a w upto frames le plain = drop-drop (upto - a) a frames ∙ ap (λ n. drop n frames) (omega arith)
 ack-held false a w upto frames le plain = let within : upto ≤ w = plain refl in ap (λ n. drop n frames) (omega arith)
 
-pub ack-Stands : (h : List Happening) (b : Buffer) (upto : ℕ) → IsWithin b → upto ≤ b.furthest → Stands h b → Stands (Acked upto ∷ h) (after_ack b upto)
+pub ack-Stands : (h : List ResendEvent) (b : Buffer) (upto : ℕ) → IsWithin b → upto ≤ b.furthest → Stands h b → Stands (Acked upto ∷ h) (after_ack b upto)
 ack-Stands h b upto within told stands = record {
   sent = stands.sent;
   acked = ap (λ n. max n upto) stands.acked;
@@ -64,7 +64,7 @@ write-held : (keeps : Bool) (a w : ℕ) (frames : List (List ℕ)) →
 write-held true a w frames = refl
 write-held false a w frames = let next : w + 1 ≡ suc w = omega arith in drop-drop 1 w frames ∙ ap (λ (n : ℕ). drop n frames) next
 
-writing-Stands : (h : List Happening) (b : Buffer) → Stands h b → Stands (Wrote ∷ h) (after_writing b)
+writing-Stands : (h : List ResendEvent) (b : Buffer) → Stands h b → Stands (Wrote ∷ h) (after_writing b)
 writing-Stands h b stands = record {
   sent = stands.sent;
   acked = stands.acked;
@@ -80,7 +80,7 @@ writing-Stands h b stands = record {
 pub next-is-writing : (b : Buffer) → b.written < b.sent → after_next b ≡ after_writing b
 next-is-writing b less = ap (λ (t : Bool). if t then after_writing b else b) (lt-ltb b.written b.sent less)
 
-pub next-Stands : (h : List Happening) (b : Buffer) → b.written < b.sent → Stands h b → Stands (Wrote ∷ h) (after_next b)
+pub next-Stands : (h : List ResendEvent) (b : Buffer) → b.written < b.sent → Stands h b → Stands (Wrote ∷ h) (after_next b)
 next-Stands h b less stands = subst (Stands (Wrote ∷ h)) (sym (next-is-writing b less)) (writing-Stands h b stands)
 
 -- the buffer that is seen after a frame was written

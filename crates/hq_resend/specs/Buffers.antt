@@ -2,7 +2,7 @@
 use Rattle.std.specs.Prelude.{◌≡◌, ℕ, suc, ◌+◌, ◌-◌, ◌<◌, ◌≤◌, max, Bool, false, List, [], ◌∷◌, ◌++◌, length, drop, sum_by, slice_get, All, Option, nat_lt, if◌then◌else◌}
 use Rattle.hd_delivery.specs.Worlds.{Limits}
 use Rattle.hd_delivery.specs.Numbers.{most_messages}
-use Rattle.hq_resend.specs.Bounds.{AreLimits, most_size}
+use Rattle.hd_delivery.specs.Bounds.{AreLimits, most_size}
 use Rattle.hq_resend.specs.declared.refusals.PushError.{PushError}
 use Rattle.hq_resend.specs.declared.refusals.PushError.TheVariants.{Full, Exhausted}
 

@@ -1,6 +1,5 @@
-pub mod Bounds
 pub mod Buffers
-pub mod Happenings
+pub mod ResendEvents
 pub mod Laws
 pub mod Lending
 pub mod Numbering

@@ -1,7 +1,7 @@
 -- What the fields of a resend buffer keep.
 use Rattle.std.specs.Prelude.{◌≡◌, ℕ, ◌+◌, ◌-◌, ◌≤◌, true, false, List, length, drop, sum_by, All}
 use Rattle.hd_delivery.specs.Numbers.{most_messages}
-use Rattle.hq_resend.specs.Bounds.{AreLimits, most_size}
+use Rattle.hd_delivery.specs.Bounds.{AreLimits, most_size}
 use Rattle.hq_resend.specs.Buffers.{Buffer, dropped_count}
 use Rattle.hq_resend.specs.declared.resend.Resend.TheInside.{Inside}
 

@@ -26,14 +26,13 @@
 mod frame;
 mod intake;
 mod laws;
-mod limits;
 mod refusals;
 mod resend;
 mod ring;
 
 pub use frame::Frame;
+pub use hd_delivery::{LEAST_FRAME, Limits, MOST_BYTES, MOST_COUNT, MOST_FRAME};
 pub use intake::{Counted, Intake};
-pub use laws::{buffer_is_within, intake_is_numbering, next_is_in_order, numbers_are_named};
-pub use limits::{LEAST_FRAME, Limits, MOST_BYTES, MOST_COUNT, MOST_FRAME};
+pub use laws::{buffer_is_within, intake_is_numbering, next_is_in_order};
 pub use refusals::{Beyond, Gap, PushError};
 pub use resend::Resend;

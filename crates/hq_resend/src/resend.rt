@@ -6,17 +6,16 @@
 ghost use Rattle.std.specs.Prelude.{◌≡◌, ◌↔◌, ◌+◌, ◌<◌, ◌≤◌, suc, max, ℕ, List, [], ◌∷◌, length, Some, option_map, slice_get, IsTrue, IsNone, IfSome, IfOk, IfErr, OnOk, OnErr, OnSome};
 ghost use Rattle.std.specs.Borrow.{sem};
 ghost use Rattle.hd_delivery.specs.Numbers.{most_messages};
-ghost use Rattle.hq_resend.specs.Bounds.{most_size};
+ghost use Rattle.hd_delivery.specs.Bounds.{most_size};
 ghost use Rattle.hq_resend.specs.Buffers.{IsWithin, HasRoom, IsPushFault, held_bytes, at_start, after_push, after_ack, next_frame, after_writing, after_next, after_rewind};
-ghost use Rattle.hq_resend.specs.Happenings.{Happening, Pushed, Acked, Wrote, Rewound, Stands};
+ghost use Rattle.hq_resend.specs.ResendEvents.{ResendEvent, Pushed, Acked, Wrote, Rewound, Stands};
 ghost use Rattle.hq_resend.specs.Lending.{EndsAs};
 
 use crate::frame::Frame;
-use crate::limits::Limits;
 use crate::refusals::{Beyond, PushError};
 use crate::ring::{bytes_after_writing, drop_counted, drop_first, dropped};
 use circular_buffer::HeapCircularBuffer;
-use hd_delivery::MOST_MESSAGES;
+use hd_delivery::{Limits, MOST_MESSAGES};
 use std::alloc::{AllocError, Global};
 use std::marker::Model;
 
@@ -75,7 +74,7 @@ impl Resend {
     pub fn keep(&mut self, keeps: bool)
         requires { self.old.sent ≡ 0 }
         ensures set { self.new ≡ record self.old { keeps = keeps } }
-        ensures stands { (h : List Happening) → Stands h self.old → Stands h self.new }
+        ensures stands { (h : List ResendEvent) → Stands h self.old → Stands h self.new }
     {
         self.keeps = keeps;
     }
@@ -88,7 +87,7 @@ impl Resend {
             (self.old.sent < most_messages) × (self.new ≡ after_push self.old frame)) }
         ensures err { IfErr result (λ refused. IsPushFault self.old (length frame) refused.0 ×
             (refused.1 ≡ frame) × (self.new ≡ self.old)) }
-        ensures stands { OnOk result ((h : List Happening) →
+        ensures stands { OnOk result ((h : List ResendEvent) →
             Stands h self.old → Stands (Pushed frame ∷ h) self.new) }
     {
         let gone = dropped(self.keeps, self.acked, self.written);
@@ -114,7 +113,7 @@ impl Resend {
         ensures ok { OnOk result ((upto ≤ self.old.furthest) × (self.new ≡ after_ack self.old upto)) }
         ensures err { IfErr result (λ beyond. (self.old.furthest < upto) ×
             (beyond ≡ record { got = upto; most = self.old.furthest }) × (self.new ≡ self.old)) }
-        ensures stands { OnOk result ((h : List Happening) →
+        ensures stands { OnOk result ((h : List ResendEvent) →
             Stands h self.old → Stands (Acked upto ∷ h) self.new) }
     {
         if upto > self.furthest {
@@ -143,7 +142,7 @@ impl Resend {
         ensures none { IsNone result ↔ (self.old.written ≡ self.old.sent) }
         ensures number { IfSome result (λ next. next.0 ≡ suc self.old.written) }
         ensures frame { option_map (λ next. next.1.now) result ≡ next_frame self.old }
-        ensures stands { OnSome result ((h : List Happening) →
+        ensures stands { OnSome result ((h : List ResendEvent) →
             Stands h self.old → Stands (Wrote ∷ h) (after_next self.old)) }
     {
         if self.written >= self.sent {
@@ -176,7 +175,7 @@ impl Resend {
     /// A new link begins, which is to carry all frames that are kept.
     pub fn rewind(&mut self)
         ensures rewound { self.new ≡ after_rewind self.old }
-        ensures stands { (h : List Happening) → Stands h self.old → Stands (Rewound ∷ h) self.new }
+        ensures stands { (h : List ResendEvent) → Stands h self.old → Stands (Rewound ∷ h) self.new }
     {
         self.written = dropped(self.keeps, self.acked, self.written);
     }

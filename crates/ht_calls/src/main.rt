@@ -1,5 +1,5 @@
 //! Carries out a script on a table of own calls and a table of jobs, and prints what they answer: a program to test `hi_calls` and `hj_jobs`
-//! by. Its input and the output that is wanted are written by `acceptance/tables_model.py`, a model that keeps the list of what happened and
+//! by. Its input and the output that is wanted are written by `acceptance/calls_model.py`, a model that keeps the list of what happened and
 //! scans it at each question. It promises nothing of its own, so no edit of it must fail.
 //!
 //! A line is one action, or `repeat N` and an action that is done for each number from 1 to N, which stands in it for `#`. The first word of

@@ -193,11 +193,11 @@ fn step(alloc: Global, jobs: &mut Jobs<CalcHub>, room: bool) -> Result<String, S
 
 /// A step in its two halves.
 fn halves(alloc: Global, jobs: &mut Jobs<CalcHub>) -> Result<String, Stop> {
-    let Some(stepped) = jobs.attempt(alloc, &CalcHub, NOW, true)? else {
+    let Some(stepped) = jobs.prepare(alloc, &CalcHub, NOW, true)? else {
         return Ok(String::from_str(alloc, "no turn")?);
     };
     let answer = told(alloc, &stepped)?;
-    jobs.finish(&stepped);
+    jobs.commit(&stepped);
     Ok(answer)
 }
 

@@ -1,13 +1,13 @@
 //! What doors and dialers in memory are asked, and what they answer.
 
 ghost use Rattle.std.specs.Prelude.{◌≢◌, IfOk, IfSome, IsTrue};
-ghost use Rattle.hd_lanes.specs.Replies.{IsReply};
+ghost use Rattle.hw_lanes.specs.Replies.{IsReply};
 ghost use Rattle.hw_door.specs.Memory.{NeverFalls};
 
 use crate::stop::Stop;
 use crate::words::{first_word, number, numbers, shown};
-use hd_lanes::{BodyKind, Method, Reply, Text8, Vec8};
 use hw_door::{Dialer, Door, Event, Given, Heard, MemoryDialer, MemoryDoor, Upgrade};
+use hw_lanes::{BodyKind, Method, Reply, Text8, Vec8};
 use std::alloc::{AllocError, Global};
 
 /// How long a call of `next` may wait, which no form in memory does.

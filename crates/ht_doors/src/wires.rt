@@ -5,8 +5,8 @@ ghost use Rattle.hw_door.specs.Wires.{IsRising};
 
 use crate::stop::Stop;
 use crate::words::{count, first_word, number, numbers, shown};
-use hd_lanes::Vec8;
 use hw_door::{MemoryWire, MemoryWires, WireGiven, WireRead, Wires};
+use hw_lanes::Vec8;
 use std::alloc::Global;
 
 /// How long `poll` may wait, which no form in memory does.

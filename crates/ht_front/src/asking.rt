@@ -2,9 +2,9 @@
 
 use crate::stop::Stop;
 use crate::words::{drawn, first_word, method, number, shown, token, yes_or_no};
-use hd_lanes::{Request, Text8, Vec8};
-use hd_serving::Life;
+use hd_server::Life;
 use hn_server_front::{Front, FrontError, Held, Made, Route};
+use hw_lanes::{Request, Text8, Vec8};
 use std::alloc::Global;
 
 /// The base of the server's paths.

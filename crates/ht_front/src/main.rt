@@ -14,7 +14,7 @@
 //! open NOW                               a connection without a token
 //! many COUNT NOW                         so many of them, or as many as can be made
 //! busy NOW
-//! life TOKEN NOW                         and `conn TOKEN NOW`; by a number `at CONN NOW`, `held CONN` and `promised CONN`
+//! life TOKEN NOW                         and `conn TOKEN NOW`; by a number `at CONN NOW`, `held CONN` and `resumable CONN`
 //! socket CONN LANE NOW                   is noted; so are `poll CONN LANE NOW`, `answered CONN LANE NOW`, `lost CONN LANE NOW`,
 //!                                        `ending CONN NOW` and `closed CONN`
 //! expired NOW                            all that are handed out

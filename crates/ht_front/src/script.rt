@@ -64,7 +64,7 @@ impl Bench {
             "conn" => asking::conn(self.alloc, &self.front, words),
             "at" => asking::life_at(self.alloc, &self.front, words),
             "held" => asking::held(self.alloc, &self.front, words),
-            "promised" => self.yes_or_no(self.front.is_promised(number(words)?)),
+            "promised" => self.yes_or_no(self.front.is_resumable_promise(number(words)?)),
             "busy" => self.yes_or_no(self.front.busy(number(words)?)),
             _ => {
                 noting::note(&mut self.front, word, words)?;

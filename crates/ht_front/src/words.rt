@@ -1,8 +1,8 @@
 //! The words of a script. A word that is none of what is wanted is refused.
 
 use crate::stop::Stop;
-use hd_lanes::{Method, Text8};
 use hn_server_front::Token;
+use hw_lanes::Method;
 use std::alloc::Global;
 
 /// The word before the first space, and what follows that.
@@ -41,7 +41,7 @@ pub fn method(word: &str) -> Result<Method, Stop> {
 }
 
 pub fn token(alloc: Global, word: &str) -> Result<Token, Stop> {
-    Ok(Token::named(Text8::of(alloc, word.as_bytes())?))
+    Ok(Token::of(alloc, word.as_bytes())?)
 }
 
 /// The bytes as text, if they are one.

@@ -1,7 +1,7 @@
 -- Statuses of replies that may have a body.
 use Rattle.std.specs.Prelude.{◌≢◌, ◌==◌, ℕ, IsTrue}
 use Rattle.std.specs.List.{list_any}
-use Rattle.hd_lanes.specs.Replies.{statuses}
+use Rattle.hw_lanes.specs.Replies.{statuses}
 
 -- a status of a reply, other than 101 and 204
 abbrev pub IsPlain : ℕ → Type 0

@@ -1,8 +1,8 @@
 //! Lines that say what a lane answered.
 
 use crate::bytes::{shown, shown_front};
-use hd_lanes::{Method, Request, Text8};
 use hh_http::{HttpError, Response};
+use hw_lanes::{Method, Request, Text8};
 use std::alloc::{AllocError, Global};
 
 fn text_or_dash(alloc: Global, text: &Option<Text8>) -> Result<String, AllocError> {

@@ -3,8 +3,8 @@
 use crate::bytes::spelled;
 use crate::report::{line, requested, responded};
 use crate::writing::{ask, reply};
-use hd_lanes::query_value;
 use hh_http::{HttpLane, ResponseLane, accept_key};
+use hw_lanes::query_value;
 use std::alloc::{AllocError, Global};
 
 /// Two lanes.

@@ -2,8 +2,8 @@
 ghost use Rattle.std.specs.Prelude.{◌≢◌, IfSome};
 ghost use Rattle.ht_http.specs.Plain.{IsPlain};
 
-use hd_lanes::{BodyKind, Method, Reply, Text8, Vec8};
 use hh_http::{write_ask, write_reply};
+use hw_lanes::{BodyKind, Method, Reply, Text8, Vec8};
 use std::alloc::{AllocError, Global};
 
 /// The status that the word names, if such a reply may have a body.

@@ -14,8 +14,8 @@ use crate::stop::Stop;
 use crate::words::{bytes, codec, first_word, shown, side, told};
 use hd_delivery::Side;
 use he_wire::{
-    Greeting, GreetingFault, LinkFault, answers_are_read, answers_are_spelled, bytes_are_read,
-    has_wire, numbers_are_named, read_first, read_later, reads_once, wire_is_faithful,
+    Handshake, HandshakeFault, LinkFault, answers_are_read, answers_are_spelled, bytes_are_read,
+    has_wire, numbers_are_named, read_handshake, read_wire_message, reads_once, wire_is_faithful,
     wire_is_sound,
 };
 use hf_split::{Framing, Splitter};
@@ -89,7 +89,7 @@ fn pass(alloc: Global, link: &mut Link) -> Result<String, Stop> {
 
 /// What is read of a link after its handshake.
 fn later(alloc: Global, link: &Link) -> Result<String, Stop> {
-    match read_later(alloc, link.codec, &link.splitter) {
+    match read_wire_message(alloc, link.codec, &link.splitter) {
         Ok(None) => told(alloc, "waits"),
         Ok(Some(Read::Message(message))) => {
             let mut out = Vec::new(alloc);
@@ -108,30 +108,30 @@ fn first(alloc: Global, words: &str) -> Result<String, Stop> {
     let side = side(side_word)?;
     let bytes = bytes(alloc, rest)?;
     let splitter = fed(alloc, Framing::Record, &bytes)?;
-    match read_first(alloc, side, &splitter) {
+    match read_handshake(alloc, side, &splitter) {
         Ok(None) => told(alloc, "waits"),
-        Ok(Some(greeting)) => Ok(greeting_words(alloc, greeting)?),
-        Err(GreetingFault::Split(fault)) => Ok(format!(in alloc; "{fault}")?),
-        Err(GreetingFault::Shake(fault)) => Ok(format!(in alloc; "{fault}")?),
-        Err(GreetingFault::NoMemory) => Err(Stop::NoMemory),
+        Ok(Some(handshake)) => Ok(greeting_words(alloc, handshake)?),
+        Err(HandshakeFault::Split(fault)) => Ok(format!(in alloc; "{fault}")?),
+        Err(HandshakeFault::Shake(fault)) => Ok(format!(in alloc; "{fault}")?),
+        Err(HandshakeFault::NoMemory) => Err(Stop::NoMemory),
     }
 }
 
-fn greeting_words(alloc: Global, greeting: Greeting) -> Result<String, AllocError> {
-    match greeting {
-        Greeting::Request(
+fn greeting_words(alloc: Global, handshake: Handshake) -> Result<String, AllocError> {
+    match handshake {
+        Handshake::Request(
             Shake {
                 codec: Codec::Json,
                 version,
             },
         ) => format!(in alloc; "json {version}"),
-        Greeting::Request(
+        Handshake::Request(
             Shake {
                 codec: Codec::Pack,
                 version,
             },
         ) => format!(in alloc; "messagepack {version}"),
-        Greeting::Response => format!(in alloc; "response"),
+        Handshake::Response => format!(in alloc; "response"),
     }
 }
 

@@ -4,7 +4,7 @@ use crate::links::{self, Link};
 use crate::stop::Stop;
 use crate::words::first_word;
 use crate::{buffers, intakes, shakes, slates};
-use he_wire::Slate;
+use he_wire::ControlBuffer;
 use hq_resend::{Intake, Resend};
 use std::alloc::{AllocError, Global};
 
@@ -13,7 +13,7 @@ use std::alloc::{AllocError, Global};
 pub struct Play {
     buffer: Option<Resend>,
     intake: Intake,
-    slate: Slate,
+    control_buffer: ControlBuffer,
     link: Option<Link>,
 }
 
@@ -23,7 +23,7 @@ impl Play {
         Ok(Play {
             buffer: None,
             intake: Intake::start(),
-            slate: Slate::start(alloc)?,
+            control_buffer: ControlBuffer::start(alloc)?,
             link: None,
         })
     }
@@ -44,7 +44,7 @@ impl Play {
             "shake" => shakes::answer(alloc, rest),
             "buffer" => buffers::answer(alloc, &mut self.buffer, rest),
             "intake" => intakes::answer(alloc, &mut self.intake, rest),
-            "slate" => slates::answer(alloc, &mut self.slate, rest),
+            "slate" => slates::answer(alloc, &mut self.control_buffer, rest),
             "link" => links::answer(alloc, &mut self.link, rest),
             _ => Err(Stop::Refused),
         }

@@ -14,23 +14,27 @@
 
 use crate::stop::Stop;
 use crate::words::{bytes, codec, first_word, number, reason, shake, shown, switch, told};
-use he_wire::{Control, MOST_CONTROL, Slate, unframed_size};
+use he_wire::{Control, ControlBuffer, MOST_CONTROL, unframed_size};
 use hf_split::{Framing, GREATEST_LIMIT, wrap};
 use hm_message::Codec;
 use std::alloc::{AllocError, Global};
 
 /// Carries out an action, and answers what comes of it.
-pub fn answer(alloc: Global, slate: &mut Slate, words: &str) -> Result<String, Stop> {
+pub fn answer(
+    alloc: Global,
+    control_buffer: &mut ControlBuffer,
+    words: &str,
+) -> Result<String, Stop> {
     let (verb, rest) = first_word(words);
     match verb {
         "start" => {
-            *slate = Slate::start(alloc)?;
-            Ok(text_on(alloc, slate)?)
+            *control_buffer = ControlBuffer::start(alloc)?;
+            Ok(text_on(alloc, control_buffer)?)
         }
-        "write" => write(alloc, slate, rest),
+        "write" => write(alloc, control_buffer, rest),
         "ask" => {
-            slate.write_request(shake(rest)?);
-            Ok(text_on(alloc, slate)?)
+            control_buffer.write_request(shake(rest)?);
+            Ok(text_on(alloc, control_buffer)?)
         }
         "most" => Ok(format!(in alloc; "{MOST_CONTROL}")?),
         "wrap" => wrapped(alloc, &bytes(alloc, rest)?),
@@ -39,21 +43,21 @@ pub fn answer(alloc: Global, slate: &mut Slate, words: &str) -> Result<String, S
 }
 
 /// What stands on the slate.
-fn text_on(alloc: Global, slate: &Slate) -> Result<String, AllocError> {
-    if slate.bytes().is_empty() {
+fn text_on(alloc: Global, control_buffer: &ControlBuffer) -> Result<String, AllocError> {
+    if control_buffer.bytes().is_empty() {
         return String::from_str(alloc, "nothing");
     }
-    shown(alloc, slate.bytes())
+    shown(alloc, control_buffer.bytes())
 }
 
-fn write(alloc: Global, slate: &mut Slate, words: &str) -> Result<String, Stop> {
+fn write(alloc: Global, control_buffer: &mut ControlBuffer, words: &str) -> Result<String, Stop> {
     let (codec_word, rest) = first_word(words);
     let codec = codec(codec_word)?;
-    slate.write(codec, control(rest)?);
-    let size = unframed_size(codec, slate.bytes());
+    control_buffer.write(codec, control(rest)?);
+    let size = unframed_size(codec, control_buffer.bytes());
     let written = match codec {
-        Codec::Json => text_on(alloc, slate)?,
-        Codec::Pack => hex::encode(alloc, slate.bytes())?,
+        Codec::Json => text_on(alloc, control_buffer)?,
+        Codec::Pack => hex::encode(alloc, control_buffer.bytes())?,
     };
     Ok(format!(in alloc; "{size} {written}")?)
 }

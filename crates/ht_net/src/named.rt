@@ -5,7 +5,6 @@ ghost use Rattle.hw_door.specs.Ledger.{told_by};
 
 use hw_door::{MemoryWires, WireRead, Wires};
 use hw_io::Failed;
-use hw_net::ReadyWires;
 
 /// Wires in memory, and what they name after each poll: a number, which need be that of no wire, or nothing.
 #[derive(Drop)]
@@ -65,9 +64,7 @@ impl Wires for NamedWires {
     fn shut(&mut self, wire: u64) {
         self.wires.shut(wire);
     }
-}
 
-impl ReadyWires for NamedWires {
     fn ready_after(&self, wire: u64) -> Option<u64> {
         *self.names.get(self.polls.checked_sub(1)?)?
     }

@@ -2,15 +2,15 @@
 
 ghost use Rattle.std.specs.Prelude.{◌≡◌, ◌==◌, IfOk, IsTrue};
 ghost use Rattle.std.specs.List.{list_any};
-ghost use Rattle.hd_lanes.specs.Replies.{IsReply, statuses};
+ghost use Rattle.hw_lanes.specs.Replies.{IsReply, statuses};
 ghost use Rattle.hw_door.specs.Wires.{IsRising};
 
 use crate::named::NamedWires;
 use crate::stop::Stop;
 use crate::telling::told;
 use crate::words::{accept, body, bytes, count, counts, first_word, kind, number, numbers, shown};
-use hd_lanes::{Reply, Vec8};
 use hw_door::{Door, MemoryWire, MemoryWires, WireGiven};
+use hw_lanes::{Reply, Vec8};
 use hw_net::NetDoor;
 use std::alloc::{AllocError, Global};
 use std::mem;

@@ -2,8 +2,8 @@
 
 use crate::stop::Stop;
 use crate::words::shown;
-use hd_lanes::{Method, Request, Text8};
 use hw_door::{Event, Heard};
+use hw_lanes::{Method, Request, Text8};
 use std::alloc::Global;
 use std::str;
 

@@ -1,7 +1,7 @@
 //! The words of a script. A word that is none of what is wanted is refused.
 
 use crate::stop::Stop;
-use hd_lanes::{BodyKind, Text8, Vec8};
+use hw_lanes::{BodyKind, Text8, Vec8};
 use std::alloc::Global;
 
 /// The word before the first space, and what follows that.

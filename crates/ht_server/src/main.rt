@@ -1,26 +1,28 @@
-//! Sends messages to connections in memory as the lines of its input say, and prints what comes of it: a program to test `hub_server` by.
-//! Its input and the output that is wanted are those of `acceptance/server_script.py`, where each line stands beside what it wants.
-//! It implements the trait outside of its crate, with all that the trait asks, and promises nothing else.
+//! Has a server of rooms hear the events of its input, and prints what it says: a program to test `hub_server` by. Its input and the output
+//! that is wanted are those of `acceptance/server_script.py`, where each line stands beside what it wants.
 //!
 //! A line is one action, and a line that is none is refused. If memory is out, the program prints `no memory` and ends with status 7.
 //!
 //! ```text
-//! note TEXT                          is printed
-//! room                               a room without members
-//! member CONN CODEC ROOM             a connection, new in it, that has room for so many messages; CODEC is `json`, `pack` or `none`
-//! spread CONNS TARGET TEXTS          these connections are sent a Notify of this target, with these texts as its arguments: as many
-//!                                    spellings as that takes at most. CONNS have a comma between two, and are none if they are `-`
-//! got CONN                           its codec, how many more messages it has room for, and the digits of all bytes that it got
+//! note TEXT                        is printed
+//! server KEEPER LOTS USERS         a server at `/hub`, whose keeper and lots fail at these of their calls; the n-th draw is sixteen times
+//!                                  the byte n. Numbers have a comma between two, and are none if they are `-`; so it is of users, whose
+//!                                  names are their access tokens
+//! NOW request LANE METHOD TARGET WORDS    a request; its words are `bearer=TOKEN`, `upgrade=KEY`, `shut` and `body=TEXT`
+//! NOW text LANE TEXT               a message; each `|` of its text stands for a separator
+//! NOW bytes LANE DIGITS            a message of these bytes
+//! NOW lost LANE                    the lane was lost
+//! NOW refused LANE STATUS          the door refused a request there
+//! NOW quiet                        nothing
+//! idle                             whether no job is due
+//! hear EVENT                       the event is kept for the next `serve`
+//! serve TURNS FAILING              the server serves so many turns through a door that hears these, and fails at these of its calls
 //! ```
-//!
-//! The lines of a machine are in `rooms`.
 #![tactic(auto)]
 
-mod notices;
-mod room;
-mod rooms;
+mod events;
 mod script;
-mod sending;
+mod show;
 mod stop;
 mod words;
 

@@ -1,28 +1,38 @@
-//! The lines of a script, and the room of which they speak.
+//! The lines of a script, and the server of which they speak.
 
-use crate::notices::notice;
-use crate::room::Room;
-use crate::rooms::Rooms;
-use crate::sending::send;
+use crate::events::{heard_of, never_falls};
+use crate::show::{all_given, all_said};
 use crate::stop::Stop;
-use crate::words::{codec, conns, first_word, number};
+use crate::words::{first_word, number, numbers};
+use hk_keeper::MemoryKeeper;
+use hub_rooms::RoomsHub;
+use hub_server::{ServeFault, Server, serve};
+use hv_value::Text;
+use hw_door::{Heard, MemoryDoor, MemoryLots};
 use std::alloc::{AllocError, Global};
+use std::mem;
 
-/// A room, and a machine.
+/// A server of rooms, with its keeper and its lots.
 #[derive(Drop)]
 pub struct Bench {
     alloc: Global,
-    room: Room,
-    rooms: Rooms,
+    server: Server<RoomsHub>,
+    hub: RoomsHub,
+    keeper: MemoryKeeper,
+    lots: MemoryLots,
+    heard: Vec<Heard>,
 }
 
 impl Bench {
-    /// A room without members, and a machine without connections.
+    /// A server without users, whose keeper and lots never fail.
     pub fn start(alloc: Global) -> Result<Bench, AllocError> {
         Ok(Bench {
             alloc,
-            room: Room::start(alloc),
-            rooms: Rooms::start(alloc, 1, Vec::new(alloc))?,
+            server: Server::start(alloc, Text::of(alloc, "/hub")?)?,
+            hub: RoomsHub,
+            keeper: MemoryKeeper::start(alloc, Vec::new(alloc), Vec::new(alloc))?,
+            lots: MemoryLots::start(Vec::new(alloc), Vec::new(alloc)),
+            heard: Vec::new(alloc),
         })
     }
 
@@ -39,39 +49,86 @@ impl Bench {
         let (word, rest) = first_word(line);
         match word {
             "note" => Ok(format!(in self.alloc; "note {rest}")?),
-            "room" => self.start_anew(),
-            "member" => self.enter(rest),
-            "spread" => self.spread(rest),
-            "got" => self.got(rest),
-            verb => self.rooms.act(verb, rest),
+            "server" => self.start_anew(rest),
+            "idle" => Ok(format!(in self.alloc; "{}", self.server.idle())?),
+            "hear" => self.hear(rest),
+            "serve" => self.serve(rest),
+            _ => self.step(line),
         }
     }
 
-    fn start_anew(&mut self) -> Result<String, Stop> {
-        self.room = Room::start(self.alloc);
-        Ok(String::from_str(self.alloc, "a room")?)
+    fn start_anew(&mut self, words: &str) -> Result<String, Stop> {
+        let alloc = self.alloc;
+        let (keeper, rest) = first_word(words);
+        let (lots, users) = first_word(rest);
+        self.server = Server::start(alloc, Text::of(alloc, "/hub")?)?;
+        self.keeper = MemoryKeeper::start(alloc, users_of(alloc, users)?, numbers(alloc, keeper)?)?;
+        self.lots = MemoryLots::start(draws(alloc)?, numbers(alloc, lots)?);
+        Ok(String::from_str(alloc, "a server")?)
     }
 
-    fn enter(&mut self, words: &str) -> Result<String, Stop> {
-        let (conn, rest) = first_word(words);
-        let (name, room) = first_word(rest);
-        let conn = number(conn)?;
-        let codec = codec(name)?;
-        self.room.enter(self.alloc, conn, codec, number(room)?)?;
-        Ok(String::from_str(self.alloc, "a member")?)
+    /// The server hears an event, and says something.
+    fn step(&mut self, words: &str) -> Result<String, Stop> {
+        let heard = heard_of(self.alloc, words)?;
+        let said = self.server.step(
+            self.alloc,
+            heard,
+            &self.hub,
+            &mut self.keeper,
+            &mut self.lots,
+        )?;
+        Ok(all_said(self.alloc, &said)?)
     }
 
-    fn spread(&mut self, words: &str) -> Result<String, Stop> {
-        let (list, rest) = first_word(words);
-        let (target, texts) = first_word(rest);
-        let to = conns(self.alloc, list)?;
-        let message = notice(self.alloc, target, texts)?;
-        let most = send(self.alloc, &mut self.room, &to, &message)?;
-        Ok(format!(in self.alloc; "steps {most}")?)
+    fn hear(&mut self, words: &str) -> Result<String, Stop> {
+        let heard = heard_of(self.alloc, words)?;
+        self.heard.push(heard)?;
+        Ok(String::from_str(self.alloc, "to be heard")?)
     }
 
-    fn got(&self, words: &str) -> Result<String, Stop> {
-        let conn = number(words)?;
-        Ok(self.room.told(self.alloc, conn)?)
+    fn serve(&mut self, words: &str) -> Result<String, Stop> {
+        let alloc = self.alloc;
+        let (turns, failing) = first_word(words);
+        let heard = mem::replace(&mut self.heard, Vec::new(alloc));
+        if !never_falls(&heard) {
+            return Err(Stop::Refused);
+        }
+        let mut door = MemoryDoor::start(heard, numbers(alloc, failing)?);
+        let served = serve(
+            alloc,
+            &mut self.server,
+            &self.hub,
+            &mut door,
+            &mut self.keeper,
+            &mut self.lots,
+            number(turns)?,
+        );
+        let given = all_given(alloc, door.given())?;
+        match served {
+            Ok(()) => Ok(format!(in alloc; "served: {given}")?),
+            Err(ServeFault::Door) => Ok(format!(in alloc; "the door failed: {given}")?),
+            Err(ServeFault::NoMemory) => Err(Stop::NoMemory),
+        }
     }
+}
+
+/// Users whose access tokens are their names, with a comma between two, or none for `-`.
+fn users_of(alloc: Global, words: &str) -> Result<Vec<(Text, Text)>, Stop> {
+    let mut users = Vec::new(alloc);
+    if words == "-" {
+        return Ok(users);
+    }
+    for name in words.split(',') {
+        users.push((Text::of(alloc, name)?, Text::of(alloc, name)?))?;
+    }
+    Ok(users)
+}
+
+/// A hundred draws, the n-th of which is sixteen times the byte n.
+fn draws(alloc: Global) -> Result<Vec<[u8; 16]>, Stop> {
+    let mut draws = Vec::new(alloc);
+    for n in 0..100 {
+        draws.push([n; 16])?;
+    }
+    Ok(draws)
 }

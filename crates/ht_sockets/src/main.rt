@@ -1,6 +1,6 @@
 //! Does with a WebSocket lane what the lines of its input say, and says what the lane answers: the tests of `hw_socket`.
 //!
-//! `acceptance/sockets.py` writes the lines, and what is to be answered, from RFC 6455 and Python's hashlib.
+//! `acceptance/sockets_script.py` writes the lines, and what is to be answered, from RFC 6455 and Python's hashlib.
 #![tactic(auto)]
 
 use hw_socket::{Ending, SocketLane, SocketRead, SocketSide};

@@ -1,11 +1,8 @@
 //! Tests of `hv_json`.
 use crate::make::list;
-use hv_json::{
-    Hard, JsonError, put_items, put_value, quick, read_members_in, read_value, read_value_in,
-    write_value,
-};
+use hv_json::{JsonError, put_items, put_value, read_value, read_value_in, write_value};
 use hv_value::{Blob, Value};
-use json::{Reader, Scratch, Writer};
+use json::{Scratch, Writer};
 use std::test::Fail;
 
 /// Reads the text and writes what was read.
@@ -183,19 +180,10 @@ fn one_scratch(rt: HostRuntime) -> Result<(), Fail> {
     Ok(())
 }
 
-/// Values read from a reader that is lent, and written by a writer that is lent.
+/// A value and no items, written by a writer that is lent.
 #[test]
-fn lent(rt: HostRuntime) -> Result<(), Fail> {
-    let text = "[1,{\"b\":[],\"a\":\"\"}] ";
-    let mut scratch = Scratch::new(rt.alloc());
-    let mut reader = Reader::new(text, &mut scratch)?;
-    let doubt = quick(rt.alloc(), &mut reader, 2).err();
-    assert_eq!(rt; doubt, Some(Hard::Other));
-    let mut scratch = Scratch::new(rt.alloc());
-    let mut reader = Reader::new(text, &mut scratch)?;
-    let value = quick(rt.alloc(), &mut reader, 3).ok().ok_or("a value")?;
-    assert!(rt; reader.next().is_none());
-
+fn lent_writer(rt: HostRuntime) -> Result<(), Fail> {
+    let value = read_value(rt.alloc(), b"[1,{\"b\":[],\"a\":\"\"}] ")?;
     let mut writer = Writer::new(Vec::new(rt.alloc()));
     writer.begin_array()?;
     put_value(rt.alloc(), &mut writer, &value)?;
@@ -207,49 +195,5 @@ fn lent(rt: HostRuntime) -> Result<(), Fail> {
         out.as_slice(),
         b"[[1,{\"a\":\"\",\"b\":[]}],[]]".as_slice()
     );
-    Ok(())
-}
-
-/// The members of an object as they stand, of which the last of a name counts. What isn't an object without faults is
-/// left to another call.
-#[test]
-fn members(rt: HostRuntime) -> Result<(), Fail> {
-    let mut scratch = Scratch::new(rt.alloc());
-    let text = b" {\"b\":1,\"\\u0061\":[\"\\n\",{}],\"b\":2} ";
-    let found = read_members_in(rt.alloc(), &mut scratch, text)
-        .ok()
-        .ok_or("members")?;
-    let mut names = Vec::new(rt.alloc());
-    for (name, _) in &found {
-        names.extend_from_slice(name.as_str().as_bytes())?;
-    }
-    assert_eq!(rt; names.as_slice(), b"bab".as_slice());
-    let value = Value::map_from(found).ok().ok_or("a map")?;
-    let mut out = Vec::new(rt.alloc());
-    write_value(rt.alloc(), &value, &mut out)?;
-    assert_eq!(rt; out.as_slice(), b"{\"a\":[\"\\n\",{}],\"b\":2}".as_slice());
-
-    let doubted: [&[u8]; 8] = [
-        b"",
-        b"[]",
-        b"1",
-        b"{\"a\":1.5}",
-        b"{\"a\":1",
-        b"{} {}",
-        b"{\"a\":-0}",
-        b"{\"\xff\":1}",
-    ];
-    for text in doubted {
-        let doubt = read_members_in(rt.alloc(), &mut scratch, text).err();
-        assert_eq!(rt; doubt, Some(Hard::Other));
-    }
-    for (levels, is_read) in [(63, true), (64, false)] {
-        let mut text = Vec::new(rt.alloc());
-        text.extend_from_slice(b"{\"a\":")?;
-        text.extend_from_slice(&nested(&rt, levels, "")?)?;
-        text.push(b'}')?;
-        let found = read_members_in(rt.alloc(), &mut scratch, &text);
-        assert_eq!(rt; found.is_ok(), is_read);
-    }
     Ok(())
 }

@@ -71,7 +71,7 @@ impl CalcJob {
     /// Its turn. Out of memory it is as before.
     pub(crate) fn turn(&mut self, alloc: Global, input: &Input) -> Result<Act, AllocError>
         ensures stepped { IfOk result (λ act. (self.new, act) ≡ turn_of self.old input.now) }
-        ensures kept { OnErr result (self.new ≡ self.old) }
+        ensures unchanged { OnErr result (self.new ≡ self.old) }
     {
         self.state.turn(alloc, input)
     }
@@ -80,7 +80,7 @@ impl CalcJob {
 impl State {
     fn turn(&mut self, alloc: Global, input: &Input) -> Result<Act, AllocError>
         ensures stepped { IfOk result (λ act. (plan self.new, act) ≡ turn_of (plan self.old) input.now) }
-        ensures kept { OnErr result (self.new ≡ self.old) }
+        ensures unchanged { OnErr result (self.new ≡ self.old) }
     {
         match self {
             State::Acts(left) => left.turn(input),
@@ -97,7 +97,7 @@ impl Remaining {
     /// The next act. It takes memory only if nothing is left.
     fn turn(&mut self, input: &Input) -> Result<Act, AllocError>
         ensures stepped { IfOk result (λ act. (ActsMeant (acts_left self.new), act) ≡ turn_of (ActsMeant (acts_left self.old)) input.now) }
-        ensures kept { OnErr result (self.new ≡ self.old) }
+        ensures unchanged { OnErr result (self.new ≡ self.old) }
     {
         match mem::replace(self, Remaining::Nothing) {
             Remaining::Nothing => Ok(Act::End(ending_asked(input)?)),

@@ -5,6 +5,8 @@ ghost use Rattle.hub_calc.specs.Refusals.{refusal_text};
 ghost use Rattle.hub_calc.specs.Refusals.{wrong_kind as wrong_kind_of};
 
 use hd_calls::CallKind;
+use std::error::Error;
+use std::fmt;
 
 /// Why a call of a method is refused. They are tested in this order.
 #[derive(Clone, Copy, Debug, PartialEq, Eq)]
@@ -32,6 +34,19 @@ impl Refusal {
         }
     }
 }
+
+impl fmt::Display for Refusal {
+    ghost use Rattle.std.specs.Prelude.{Some};
+    ghost use Rattle.hub_calc.specs.Refusals.{refusal_text};
+
+    ghost output = { λ refusal. Some (refusal_text refusal) };
+
+    fn fmt<W: fmt::Write>(&self, f: &mut fmt::Formatter<W>) -> fmt::Result {
+        f.write_str(self.text())
+    }
+}
+
+impl Error for Refusal {}
 
 /// What is wrong with the kind of a call. `is_stream` says whether its method gives items.
 pub fn wrong_kind(is_stream: bool, kind: CallKind) -> Option<Refusal>

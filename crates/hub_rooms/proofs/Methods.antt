@@ -4,8 +4,8 @@ use Rattle.std.specs.declared.collections.VecDeque.{VecDeque}
 use Rattle.hv_value.specs.Tree.{Tree, text}
 use Rattle.hd_calls.specs.declared.vocabulary.Deed.{Deed}
 use Rattle.hd_calls.specs.declared.vocabulary.Deed.TheVariants as deed
-use Rattle.hd_server.specs.declared.vocabulary.RoomsMethod.TheVariants.{Post}
-use Rattle.hd_server.specs.Rooms.{deeds_of}
+use Rattle.hd_rooms.specs.declared.vocabulary.RoomsMethod.TheVariants.{Post}
+use Rattle.hd_rooms.specs.Rooms.{deeds_of}
 use Rattle.hub_rooms.specs.Arguments.{two_texts}
 use Rattle.hub_rooms.specs.Jobs.{listed}
 

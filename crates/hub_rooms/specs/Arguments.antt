@@ -1,7 +1,7 @@
 -- The arguments of a call as a method reads them: None if they are of another number or kind.
 use Rattle.std.specs.Prelude.{ℕ, pos, nat_le, List, [], ◌∷◌, Option, Some, None, if◌then◌else◌}
 use Rattle.hv_value.specs.Tree.{Tree, text, int}
-use Rattle.hd_server.specs.Rooms.{most_recalled}
+use Rattle.hd_rooms.specs.Rooms.{most_recalled}
 
 -- one text
 abbrev pub one_text : List Tree → Option (List ℕ)

@@ -4,9 +4,9 @@ use Rattle.std.proofs.Common.{inl, inr}
 use Rattle.std.specs.Coded.{Coded, code_by, coded×, coded⊎, coded_list, coded_ℕ}
 use Rattle.hd_calls.specs.declared.vocabulary.Deed.{Deed}
 use Rattle.hd_calls.specs.contracts.vocabulary.Deed as deed
-use Rattle.hd_server.specs.declared.vocabulary.RoomsMethod.{RoomsMethod}
-use Rattle.hd_server.specs.contracts.vocabulary.RoomsMethod as method
-use Rattle.hd_server.specs.Rooms.{Job, Refused, Doing}
+use Rattle.hd_rooms.specs.declared.vocabulary.RoomsMethod.{RoomsMethod}
+use Rattle.hd_rooms.specs.contracts.vocabulary.RoomsMethod as method
+use Rattle.hd_rooms.specs.Rooms.{Job, Refused, Doing}
 
 abbrev Parts : Type 0
 Parts = List ℕ ⊎ (RoomsMethod × List Deed)

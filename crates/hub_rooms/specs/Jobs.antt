@@ -2,7 +2,7 @@
 use Rattle.std.specs.Prelude.{List, Option, Some, None}
 use Rattle.std.specs.declared.collections.VecDeque.{VecDeque}
 use Rattle.hd_calls.specs.declared.vocabulary.Deed.{Deed}
-use Rattle.hd_server.specs.Rooms as rooms
+use Rattle.hd_rooms.specs.Rooms as rooms
 use Rattle.hub_rooms.specs.declared.job.Left.{Left}
 use Rattle.hub_rooms.specs.declared.job.Left.TheVariants.{Refused, Doing}
 

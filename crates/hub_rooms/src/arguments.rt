@@ -5,7 +5,7 @@ ghost use Rattle.hv_value.specs.Tree.{text, depth_of_all};
 ghost use Rattle.hv_value.specs.View.{tree, trees_of};
 ghost use Rattle.hub_rooms.specs.Arguments.{one_text, two_texts, most_in, text_and_most};
 
-use hd_server::MOST_RECALLED;
+use hd_rooms::MOST_RECALLED;
 use hm_message::{number_in, text_in};
 use hv_value::{Items, Text, Value};
 use std::alloc::{AllocError, Global};

@@ -2,13 +2,13 @@
 
 ghost use Rattle.std.specs.Prelude.{◌≡◌, ◌∷◌, [], ℕ, List, IfOk};
 ghost use Rattle.hv_value.specs.View.{trees_of};
-ghost use Rattle.hd_server.specs.Rooms.{deeds_of, method_of};
-ghost use Rattle.hd_server.specs.declared.vocabulary.RoomsMethod.TheVariants.{Join, Leave, Post, Tell, History};
+ghost use Rattle.hd_rooms.specs.Rooms.{deeds_of, method_of};
+ghost use Rattle.hd_rooms.specs.declared.vocabulary.RoomsMethod.TheVariants.{Join, Leave, Post, Tell, History};
 ghost use Rattle.hub_rooms.specs.Jobs.{listed};
 
 use crate::arguments::{text_and_most_of, text_of, texts_of, three_items, two_items};
 use hd_calls::Deed;
-use hd_server::RoomsMethod;
+use hd_rooms::RoomsMethod;
 use hv_value::{Text, Value};
 use std::alloc::{AllocError, Global};
 use std::collections::VecDeque;

@@ -1,12 +1,12 @@
 //! The rooms hub. It has no state of its own: what it needs, it asks of the server by deeds.
 
 ghost use Rattle.std.specs.Prelude.{◌≡◌, is_some, IfOk, OnErr};
-ghost use Rattle.hd_server.specs.Rooms.{rooms, job_with, method_of};
+ghost use Rattle.hd_rooms.specs.Rooms.{rooms, job_with, method_of};
 
 use crate::deeds::{deeds_for, method_named};
 use crate::job::RoomsJob;
 use hd_calls::{Act, Call, CallKind, Input};
-use hd_server::RoomsMethod;
+use hd_rooms::RoomsMethod;
 use hj_jobs::Hub;
 use hv_value::Text;
 use std::alloc::{AllocError, Global};
@@ -62,7 +62,7 @@ impl Hub for RoomsHub {
         now: u64,
     ) -> Result<Act, AllocError>
         ensures stepped { IfOk result (λ act. (job.new, act) ≡ rooms.step_of job.old input.now now) }
-        ensures kept { OnErr result (job.new ≡ job.old) }
+        ensures unchanged { OnErr result (job.new ≡ job.old) }
     {
         job.turn(alloc, input)
     }

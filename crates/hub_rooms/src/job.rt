@@ -1,12 +1,12 @@
 //! What is left of a call: deeds to be done one after the other, and an ending. No turn takes memory for a deed.
 
 ghost use Rattle.std.specs.Prelude.{◌≡◌, IfOk, OnErr};
-ghost use Rattle.hd_server.specs.Rooms.{step_of, job_of_deeds};
-ghost use Rattle.hd_server.specs.Rooms as rooms;
+ghost use Rattle.hd_rooms.specs.Rooms.{step_of, job_of_deeds};
+ghost use Rattle.hd_rooms.specs.Rooms as rooms;
 ghost use Rattle.hub_rooms.specs.Jobs.{listed};
 
 use hd_calls::{Act, Deed, Input};
-use hd_server::RoomsMethod;
+use hd_rooms::RoomsMethod;
 use hm_message::{Ending, values_are_trees};
 use hv_value::{Text, Value};
 use std::alloc::{AllocError, Global};
@@ -31,7 +31,7 @@ enum Left {
 }
 
 impl Model for RoomsJob {
-    ghost use Rattle.hd_server.specs.Rooms.{Job};
+    ghost use Rattle.hd_rooms.specs.Rooms.{Job};
     ghost use Rattle.hub_rooms.specs.Codes.{job_code};
 
     ghost Value = { Job };
@@ -92,7 +92,7 @@ impl RoomsJob {
     /// Gives it a turn. Out of memory it is as before.
     pub(crate) fn turn(&mut self, alloc: Global, input: &Input) -> Result<Act, AllocError>
         ensures stepped { IfOk result (λ act. (self.new, act) ≡ step_of self.old input.now) }
-        ensures kept { OnErr result (self.new ≡ self.old) }
+        ensures unchanged { OnErr result (self.new ≡ self.old) }
     {
         match &mut self.left {
             Left::Refused(error) => Ok(Act::End(Ending::Error(error.copy()?))),
@@ -110,7 +110,7 @@ fn next_act(
 ) -> Result<Act, AllocError>
     ensures stepped { IfOk result
         (λ act. (rooms.Doing method deeds.new.items, act) ≡ step_of (rooms.Doing method deeds.old.items) input.now) }
-    ensures kept { OnErr result (deeds.new.items ≡ deeds.old.items) }
+    ensures unchanged { OnErr result (deeds.new.items ≡ deeds.old.items) }
 {
     if let Input::Failed = input {
         let error = Text::of(alloc, "The store failed.")?;

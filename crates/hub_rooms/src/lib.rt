@@ -10,7 +10,7 @@
 //! Each deed is one turn of the call's job, and the ending one more. What can't be done ends with an error: `Unknown method.`,
 //! `Not a stream.` for a Stream of any of them, `Wrong arguments.`, and `The store failed.` if a deed couldn't be done.
 //!
-//! Proved: a job is what `Rooms` of `hd_server` says of its call, and each of its acts is the one that it says.
+//! Proved: a job is what `Rooms` of `hd_rooms` says of its call, and each of its acts is the one that it says.
 //!
 //! The crate doesn't know what a connection is, nor how anything is kept or said: it hands up deeds.
 #![tactic(auto)]

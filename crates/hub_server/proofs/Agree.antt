@@ -7,22 +7,22 @@ use Rattle.std.specs.BTreeMap.{get}
 use Rattle.std.proofs.lemmas.Bool.{both_ways, eq-eqb, eqb-true}
 use Rattle.hd_delivery.specs.Histories.{is_this, is_silence, present_link}
 use Rattle.hd_calls.specs.Hubs.{Hub}
-use Rattle.hd_calls.specs.Peers.{Move, Settings}
+use Rattle.hd_calls.specs.Peers.{PeerEvent, Settings}
 use Rattle.hd_calls.specs.Rules.{IsPeer}
-use Rattle.hd_server.specs.Registry.{Lists, Pair, without}
+use Rattle.hd_rooms.specs.Registry.{Lists, Pair, without}
 use Rattle.hg_groups.specs.Standing.{StandsRegistry}
-use Rattle.hd_serving.specs.declared.vocabulary.Said.{Said}
-use Rattle.hd_serving.specs.declared.vocabulary.Said.TheVariants as say
-use Rattle.hd_serving.specs.Lives.{LaneLost, LetGo, Note, is_let_go, socket_of}
-use Rattle.hd_serving.specs.Machine.{Does, Goes, has_gone, is_open, is_open_at, joined, moves, of_open, registry, settings_of, user_pairs}
-use Rattle.hd_serving.specs.Doings.{Doing, Notes, Works, Says, notes, work, moment, said, user_of, config_of, has_peer, history, is_granted}
-use Rattle.hd_serving.specs.Doings.{was_refused}
-use Rattle.hd_serving.specs.Plans.{Setup, letting_go, losing, onto, shutting}
-use Rattle.hd_serving.specs.Serves.{silenced, ticking}
+use Rattle.hd_server.specs.declared.vocabulary.Said.{Said}
+use Rattle.hd_server.specs.declared.vocabulary.Said.TheVariants as say
+use Rattle.hd_server.specs.Lives.{LaneLost, LetGo, ConnectionEvent, is_let_go, socket_of}
+use Rattle.hd_server.specs.Machine.{Does, Goes, has_gone, is_open, is_open_at, joined, moves, of_open, registry, settings_of, user_pairs}
+use Rattle.hd_server.specs.Doings.{ServerEvent, Notes, Works, Says, notes, work, moment, said, user_of, config_of, has_peer, history, is_granted}
+use Rattle.hd_server.specs.Doings.{was_refused}
+use Rattle.hd_server.specs.Plans.{Setup, letting_go, losing, onto, shutting}
+use Rattle.hd_server.specs.Serves.{silenced, ticking}
 use Rattle.hn_server_front.specs.Stands as front
 use Rattle.hub_server.specs.declared.machine.Machine.{Machine}
 use Rattle.hub_server.specs.declared.server.Server.{Server}
-use Rattle.hub_server.specs.Machines.{IsKeptAs, IsStranger, StandsMachine, nap_at, peer_at, settings_there}
+use Rattle.hub_server.specs.Machines.{IsKeptAs, IsStranger, StandsMachine, idle_peer_at, peer_at, settings_there}
 use Rattle.hub_server.specs.Lanes.{Unsettled, is_at, poll_lane}
 use Rattle.hub_server.specs.Servers.{IsOrderly, Standing, caller_of}
 use Rattle.hub_server.proofs.Alike.{Alike, alike_noted, orderly_alike}
@@ -30,7 +30,7 @@ use Rattle.hub_server.proofs.LaneKept.{SameLane, lane_kept, same_lane_refl, same
 use Rattle.hub_server.proofs.Open.{of_open_agrees}
 
 -- all but what peers did is the same
-pub record SameButMoves (g h : List Doing) : Type 0 where
+pub record SameButMoves (g h : List ServerEvent) : Type 0 where
   pub settings : (c : ℕ) → settings_of c (work g) ≡ settings_of c (work h)
   pub gone : (c : ℕ) → has_gone c (work g) ≡ has_gone c (work h)
   pub joins : joined (work g) ≡ joined (work h)
@@ -41,7 +41,7 @@ pub record SameButMoves (g h : List Doing) : Type 0 where
   pub user : (c : ℕ) → user_of c g ≡ user_of c h
   pub lanes : (lane : ℕ) → SameLane lane g h
 
-pub same_but_moves_refl : (h : List Doing) → SameButMoves h h
+pub same_but_moves_refl : (h : List ServerEvent) → SameButMoves h h
 same_but_moves_refl h = record {
   settings = λ c. refl;
   gone = λ c. refl;
@@ -54,7 +54,7 @@ same_but_moves_refl h = record {
   lanes = λ l. same_lane_refl l h;
 }
 
-pub same_but_moves_trans : (f g h : List Doing) → SameButMoves f g → SameButMoves g h → SameButMoves f h
+pub same_but_moves_trans : (f g h : List ServerEvent) → SameButMoves f g → SameButMoves g h → SameButMoves f h
 same_but_moves_trans f g h x y = record {
   settings = λ c. x.settings c ∙ y.settings c;
   gone = λ c. x.gone c ∙ y.gone c;
@@ -68,37 +68,37 @@ same_but_moves_trans f g h x y = record {
 }
 
 -- and what peers did too
-pub record Agree (g h : List Doing) : Type 0 where
+pub record Agree (g h : List ServerEvent) : Type 0 where
   pub rest : SameButMoves g h
   pub moved : (c : ℕ) → moves c (work g) ≡ moves c (work h)
 
-pub agree_refl : (h : List Doing) → Agree h h
+pub agree_refl : (h : List ServerEvent) → Agree h h
 agree_refl h = record { rest = same_but_moves_refl h; moved = λ c. refl }
 
-pub agree_trans : (f g h : List Doing) → Agree f g → Agree g h → Agree f h
+pub agree_trans : (f g h : List ServerEvent) → Agree f g → Agree g h → Agree f h
 agree_trans f g h x y = record { rest = same_but_moves_trans f g h x.rest y.rest; moved = λ c. x.moved c ∙ y.moved c }
 
 -- of each connection the same is read
-pub same_alike : (c : ℕ) (g h : List Doing) → SameButMoves g h → moves c (work g) ≡ moves c (work h) → Alike c g h
+pub same_alike : (c : ℕ) (g h : List ServerEvent) → SameButMoves g h → moves c (work g) ≡ moves c (work h) → Alike c g h
 same_alike c g h x moved = alike_noted c g h (x.settings c) (x.gone c) moved x.noted (x.user c)
 
 -- ---- what a server stands for
 
-there_same : (c : ℕ) (g h : List Doing) → SameButMoves g h → settings_there c (work g) ≡ settings_there c (work h)
+there_same : (c : ℕ) (g h : List ServerEvent) → SameButMoves g h → settings_there c (work g) ≡ settings_there c (work h)
 there_same c g h x =
     ap (λ b. if b then None else settings_of c (work g)) (x.gone c)
     ∙ ap (λ (o : Option Settings). if has_gone c (work h) then None else o) (x.settings c)
 
-open_same : (g h : List Doing) → Agree g h → (c : ℕ) → is_open c (work g) ≡ is_open c (work h)
+open_same : (g h : List ServerEvent) → Agree g h → (c : ℕ) → is_open c (work g) ≡ is_open c (work h)
 open_same g h x c = let r : SameButMoves g h = x.rest in
     ap (λ b. not b && is_open_at (settings_of c (work g)) (moves c (work g))) (r.gone c)
     ∙ ap (λ (o : Option Settings). not (has_gone c (work h)) && is_open_at o (moves c (work g))) (r.settings c)
-    ∙ ap (λ (ms : List Move). not (has_gone c (work h)) && is_open_at (settings_of c (work h)) ms) (x.moved c)
+    ∙ ap (λ (ms : List PeerEvent). not (has_gone c (work h)) && is_open_at (settings_of c (work h)) ms) (x.moved c)
 
 abbrev lists_of : List Pair → List Pair → Lists
 lists_of groups users = record { groups = groups; users = users }
 
-registry_same : (g h : List Doing) → Agree g h → registry (work g) ≡ registry (work h)
+registry_same : (g h : List ServerEvent) → Agree g h → registry (work g) ≡ registry (work h)
 registry_same g h x = let r : SameButMoves g h = x.rest in
     ap (λ (ps : List Pair). lists_of (of_open (work g) ps) (of_open (work g) (user_pairs (work g)))) r.joins
     ∙ ap (λ (ps : List Pair). lists_of (of_open (work g) (joined (work h))) (of_open (work g) ps)) r.users
@@ -107,12 +107,12 @@ registry_same g h x = let r : SameButMoves g h = x.rest in
     ∙ ap (λ (ps : List Pair). lists_of (of_open (work h) (joined (work h))) ps)
     (of_open_agrees (work h) (work g) (user_pairs (work h)) (open_same g h x))
 
-pub machine_agrees : {H Job : Type 0} (hub : Hub Job) (m : Machine H Job) (g h : List Doing) → Agree g h → StandsMachine {H = H} hub m (work h)
+pub machine_agrees : {H Job : Type 0} (hub : Hub Job) (m : Machine H Job) (g h : List ServerEvent) → Agree g h → StandsMachine {H = H} hub m (work h)
     → StandsMachine {H = H} hub m (work g)
 machine_agrees {H} hub m g h x s = let r : SameButMoves g h = x.rest in record {
   at = λ c.
-      subst (λ o. IsKeptAs {H = H} hub m.sleepers.clock (nap_at m c) o (moves c (work g)) (peer_at m c)) (sym (there_same c g h r))
-      (subst (λ ms. IsKeptAs {H = H} hub m.sleepers.clock (nap_at m c) (settings_there c (work h)) ms (peer_at m c)) (sym (x.moved c)) (s.at c));
+      subst (λ o. IsKeptAs {H = H} hub m.idle_set.clock (idle_peer_at m c) o (moves c (work g)) (peer_at m c)) (sym (there_same c g h r))
+      (subst (λ ms. IsKeptAs {H = H} hub m.idle_set.clock (idle_peer_at m c) (settings_there c (work h)) ms (peer_at m c)) (sym (x.moved c)) (s.at c));
   index = s.index;
   registry = subst (λ l. StandsRegistry m.registry l) (sym (registry_same g h x)) s.registry;
   peers = λ c t e. subst (λ ms. IsPeer hub t ms) (sym (x.moved c)) (s.peers c t (sym (r.settings c) ∙ e));
@@ -124,25 +124,25 @@ machine_agrees {H} hub m g h x s = let r : SameButMoves g h = x.rest in record {
   from_one = r.settings 0 ∙ s.from_one;
 }
 
-caller_same : (c : ℕ) (g h : List Doing) → SameButMoves g h → caller_of c g ≡ caller_of c h
+caller_same : (c : ℕ) (g h : List ServerEvent) → SameButMoves g h → caller_of c g ≡ caller_of c h
 caller_same c g h r =
     ap (λ (o : Option Settings). if is_some o || is_let_go c (notes g) then None else user_of c g) (r.settings c)
-    ∙ ap (λ (n : List Note). if is_some (settings_of c (work h)) || is_let_go c n then None else user_of c g) r.noted
+    ∙ ap (λ (n : List ConnectionEvent). if is_some (settings_of c (work h)) || is_let_go c n then None else user_of c g) r.noted
     ∙ ap (λ (user : Option (List ℕ)). if is_some (settings_of c (work h)) || is_let_go c (notes h) then None else user) (r.user c)
 
-pub has_peer_same : (c : ℕ) (g h : List Doing) → SameButMoves g h → has_peer c g ≡ has_peer c h
+pub has_peer_same : (c : ℕ) (g h : List ServerEvent) → SameButMoves g h → has_peer c g ≡ has_peer c h
 has_peer_same c g h r =
     ap (λ (o : Option Settings). is_some o && not (has_gone c (work g))) (r.settings c)
     ∙ ap (λ (b : Bool). is_some (settings_of c (work h)) && not b) (r.gone c)
 
-at_same : (lane c : ℕ) (g h : List Doing) → SameButMoves g h → is_at lane c g ≡ is_at lane c h
+at_same : (lane c : ℕ) (g h : List ServerEvent) → SameButMoves g h → is_at lane c g ≡ is_at lane c h
 at_same lane c g h r =
     ap (λ (b : Bool). b && (is_this lane (socket_of c (notes g)) || is_this lane (poll_lane c (notes g)))) (has_peer_same c g h r)
-    ∙ ap (λ (n : List Note). has_peer c h && (is_this lane (socket_of c n) || is_this lane (poll_lane c n))) r.noted
+    ∙ ap (λ (n : List ConnectionEvent). has_peer c h && (is_this lane (socket_of c n) || is_this lane (poll_lane c n))) r.noted
 
 -- a server whose machine stands for what its peers did, each of them in order, stands for it all
 pub standing_same : {H Job : Type 0} (hub : Hub Job) (s : Setup) (u : Unsettled) (before : List Said) (v : Server H Job) (m : Machine H Job)
-    (g h : List Doing) → SameButMoves g h → StandsMachine {H = H} hub m (work g) → ((c : ℕ) → IsOrderly u c g) → Standing {H = H} hub s u before v h
+    (g h : List ServerEvent) → SameButMoves g h → StandsMachine {H = H} hub m (work g) → ((c : ℕ) → IsOrderly u c g) → Standing {H = H} hub s u before v h
     → Standing {H = H} hub s u before (record v { machine = m }) g
 standing_same {H} hub s u before v m g h r machine orderly x = record {
   setup = x.setup;
@@ -150,14 +150,14 @@ standing_same {H} hub s u before v m g h r machine orderly x = record {
   front = subst (λ n. front.Stands v.front n) (sym r.noted) x.front;
   callers = λ c. x.callers c ∙ sym (caller_same c g h r);
   lanes = λ lane. lane_kept u (get nat_cmp v.lanes lane) lane g h (r.lanes lane) (λ c. at_same lane c g h r)
-      (λ c. ap (λ (n : List Note). is_this lane (socket_of c n)) r.noted) (x.lanes lane);
+      (λ c. ap (λ (n : List ConnectionEvent). is_this lane (socket_of c n)) r.noted) (x.lanes lane);
   begun = λ c t e. x.begun c t (sym (r.settings c) ∙ e);
   orderly = orderly;
   clock = x.clock ∙ sym r.clock;
   words = r.words ∙ x.words;
 }
 
-pub standing_agrees : {H Job : Type 0} (hub : Hub Job) (s : Setup) (u : Unsettled) (before : List Said) (v : Server H Job) (g h : List Doing)
+pub standing_agrees : {H Job : Type 0} (hub : Hub Job) (s : Setup) (u : Unsettled) (before : List Said) (v : Server H Job) (g h : List ServerEvent)
     → Agree g h → Standing {H = H} hub s u before v h → Standing {H = H} hub s u before v g
 standing_agrees {H} {Job} hub s u before v g h x st = let r : SameButMoves g h = x.rest in
     standing_same {H = H} {Job = Job} hub s u before v v.machine g h r (machine_agrees {H = H} {Job = Job} hub v.machine g h x st.machine)
@@ -169,7 +169,7 @@ standing_agrees {H} {Job} hub s u before v g h x st = let r : SameButMoves g h =
 -- ---- doings by which an end ticks
 
 -- this is one, and if it is a move of a peer it is this connection's
-abbrev pub IsPart : ℕ → Doing → Type 0
+abbrev pub IsPart : ℕ → ServerEvent → Type 0
 IsPart c (Works (Does k m)) = k ≡ c
 IsPart c (Works (Goes k)) = Unit {0}
 IsPart c (Notes (LaneLost k lane now)) = Unit {0}
@@ -177,32 +177,32 @@ IsPart c (Notes (LetGo k)) = Unit {0}
 IsPart c (Says (say.Shut lane)) = Unit {0}
 IsPart c _ = ⊥
 
-abbrev pub AreParts : ℕ → List Doing → Type 0
+abbrev pub AreParts : ℕ → List ServerEvent → Type 0
 AreParts c [] = Unit {0}
 AreParts c (d ∷ ds) = IsPart c d × AreParts c ds
 
 -- of any connections
-abbrev pub AreAnyParts : List Doing → Type 0
+abbrev pub AreAnyParts : List ServerEvent → Type 0
 AreAnyParts [] = Unit {0}
 AreAnyParts (d ∷ ds) = ((c : ℕ) × IsPart c d) × AreAnyParts ds
 
-pub any_parts : (c : ℕ) (ds : List Doing) → AreParts c ds → AreAnyParts ds
+pub any_parts : (c : ℕ) (ds : List ServerEvent) → AreParts c ds → AreAnyParts ds
 any_parts c [] p = tt
 any_parts c (d ∷ ds) p = ((c, p.0), any_parts c ds p.1)
 
-pub any_join : (xs ys : List Doing) → AreAnyParts xs → AreAnyParts ys → AreAnyParts (xs ++ ys)
+pub any_join : (xs ys : List ServerEvent) → AreAnyParts xs → AreAnyParts ys → AreAnyParts (xs ++ ys)
 any_join [] ys a b = b
 any_join (x ∷ xs) ys a b = (a.0, any_join xs ys a.1 b)
 
-parts_join : (c : ℕ) (xs ys : List Doing) → AreParts c xs → AreParts c ys → AreParts c (xs ++ ys)
+parts_join : (c : ℕ) (xs ys : List ServerEvent) → AreParts c xs → AreParts c ys → AreParts c (xs ++ ys)
 parts_join c [] ys a b = b
 parts_join c (x ∷ xs) ys a b = (a.0, parts_join c xs ys a.1 b)
 
-parts_either : (c : ℕ) (b : Bool) (xs ys : List Doing) → AreParts c xs → AreParts c ys → AreParts c (if b then xs else ys)
+parts_either : (c : ℕ) (b : Bool) (xs ys : List ServerEvent) → AreParts c xs → AreParts c ys → AreParts c (if b then xs else ys)
 parts_either c true xs ys x y = x
 parts_either c false xs ys x y = y
 
-pub ticking_parts : (now c : ℕ) (h : List Doing) → AreParts c (ticking now c h)
+pub ticking_parts : (now c : ℕ) (h : List ServerEvent) → AreParts c (ticking now c h)
 ticking_parts now c h =
     parts_either c (is_some (present_link (history c h))) _ []
     (parts_either c (is_silence (config_of c h) now (history c h)) _ _ (silent (socket_of c (notes h))) (refl, tt)) tt
@@ -223,7 +223,7 @@ ticking_parts now c h =
     )
 
 -- what agreed before it agrees after it
-agree_on : (c : ℕ) (d : Doing) (g h : List Doing) → IsPart c d → Agree g h → Agree (d ∷ g) (d ∷ h)
+agree_on : (c : ℕ) (d : ServerEvent) (g h : List ServerEvent) → IsPart c d → Agree g h → Agree (d ∷ g) (d ∷ h)
 agree_on c (Works (Does k m)) g h p x = let r : SameButMoves g h = x.rest in record {
   rest = record {
     settings = r.settings;
@@ -236,7 +236,7 @@ agree_on c (Works (Does k m)) g h p x = let r : SameButMoves g h = x.rest in rec
     user = r.user;
     lanes = λ l. let y : SameLane l g h = r.lanes l in record { shut = y.shut; refused = y.refused; taken = y.taken };
   };
-  moved = λ j. ap (λ (ms : List Move). if j == k then m ∷ ms else ms) (x.moved j);
+  moved = λ j. ap (λ (ms : List PeerEvent). if j == k then m ∷ ms else ms) (x.moved j);
 }
 agree_on c (Works (Goes k)) g h p x = let r : SameButMoves g h = x.rest in record {
   rest = record {
@@ -258,7 +258,7 @@ agree_on c (Notes (LaneLost k lane now)) g h p x = let r : SameButMoves g h = x.
     gone = r.gone;
     joins = r.joins;
     users = r.users;
-    noted = ap (λ (n : List Note). LaneLost k lane now ∷ n) r.noted;
+    noted = ap (λ (n : List ConnectionEvent). LaneLost k lane now ∷ n) r.noted;
     clock = r.clock;
     words = r.words;
     user = r.user;
@@ -272,7 +272,7 @@ agree_on c (Notes (LetGo k)) g h p x = let r : SameButMoves g h = x.rest in reco
     gone = r.gone;
     joins = r.joins;
     users = r.users;
-    noted = ap (λ (n : List Note). LetGo k ∷ n) r.noted;
+    noted = ap (λ (n : List ConnectionEvent). LetGo k ∷ n) r.noted;
     clock = r.clock;
     words = r.words;
     user = r.user;
@@ -296,20 +296,20 @@ agree_on c (Says (say.Shut lane)) g h p x = let r : SameButMoves g h = x.rest in
 }
 agree_on c d g h p x = absurd p
 
-pub agree_onto : (ds g h : List Doing) → AreAnyParts ds → Agree g h → Agree (onto ds g) (onto ds h)
+pub agree_onto : (ds g h : List ServerEvent) → AreAnyParts ds → Agree g h → Agree (onto ds g) (onto ds h)
 agree_onto [] g h p x = x
 agree_onto (d ∷ ds) g h p x = agree_onto ds (d ∷ g) (d ∷ h) p.1 (agree_on p.0.0 d g h p.0.1 x)
 
 -- ---- moves of two connections, in either order
 
-swap_moves : (a b : Bool) (x y : Move) (ms : List Move) → (a ≡ true → b ≡ true → ⊥)
+swap_moves : (a b : Bool) (x y : PeerEvent) (ms : List PeerEvent) → (a ≡ true → b ≡ true → ⊥)
     → (if a then x ∷ (if b then y ∷ ms else ms) else (if b then y ∷ ms else ms))
     ≡ (if b then y ∷ (if a then x ∷ ms else ms) else (if a then x ∷ ms else ms))
 swap_moves true true x y ms apart = absurd (apart refl refl)
 swap_moves true false x y ms apart = refl
 swap_moves false b x y ms apart = refl
 
-agree_swap : (c k : ℕ) (d : Doing) (m : Move) (h : List Doing) → (c == k) ≡ false → IsPart c d
+agree_swap : (c k : ℕ) (d : ServerEvent) (m : PeerEvent) (h : List ServerEvent) → (c == k) ≡ false → IsPart c d
     → Agree (Works (Does k m) ∷ d ∷ h) (d ∷ Works (Does k m) ∷ h)
 agree_swap c k (Works (Does j x)) m h e p = record {
   rest = record {
@@ -385,7 +385,7 @@ agree_swap c k (Says (say.Shut lane)) m h e p = record {
 agree_swap c k d m h e p = absurd p
 
 -- a move of another connection comes before these, or after them
-pub agree_past : (c k : ℕ) (m : Move) (ds h : List Doing) → (c == k) ≡ false → AreParts c ds
+pub agree_past : (c k : ℕ) (m : PeerEvent) (ds h : List ServerEvent) → (c == k) ≡ false → AreParts c ds
     → Agree (Works (Does k m) ∷ onto ds h) (onto ds (Works (Does k m) ∷ h))
 agree_past c k m [] h e p = agree_refl (Works (Does k m) ∷ h)
 agree_past c k m (d ∷ ds) h e p =

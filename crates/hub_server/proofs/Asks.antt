@@ -1,10 +1,10 @@
 -- What happenings asked of the keeper, and how many messages were spelled for them: first for some, then for others.
 use Rattle.std.proofs.Common.{◌≡◌, ℕ, ◌+◌, List, [], ◌++◌, Option, Some, None, option_map, refl, sym, ap, ◌∙◌, arith}
 use Rattle.std.proofs.lemmas.List.{append-nil, append_assoc}
-use Rattle.hd_server.specs.declared.vocabulary.Asked.{Asked}
-use Rattle.hd_server.specs.Kept.{Content, KeeperDid}
-use Rattle.hd_server.specs.KeptLaws.{AnswersJoin}
-use Rattle.hd_serving.specs.Machine.{Happening}
+use Rattle.hd_rooms.specs.declared.vocabulary.Asked.{Asked}
+use Rattle.hd_rooms.specs.Kept.{Content, KeeperDid}
+use Rattle.hd_rooms.specs.KeptLaws.{AnswersJoin}
+use Rattle.hd_server.specs.Machine.{MachineEvent}
 use Rattle.hub_server.specs.Outside.{Outside, Goes, GoesWith, asks_in, spellings}
 
 -- what was told before, with more and then with others
@@ -32,7 +32,7 @@ goes_on a b c some others m n law first then_goes = record {
   spelled = let one = first.spelled in let two = then_goes.spelled in omega (arith, one, two);
 }
 
-pub goes_join : (a b c : Outside) (w r s : List Happening) → AnswersJoin → GoesWith a b w r → GoesWith b c r s → GoesWith a c w s
+pub goes_join : (a b c : Outside) (w r s : List MachineEvent) → AnswersJoin → GoesWith a b w r → GoesWith b c r s → GoesWith a c w s
 goes_join a b c w r s law first then_goes = record {
   asks = first.asks ++ then_goes.asks;
   are = then_goes.are ∙ ap (λ asks. asks ++ then_goes.asks) first.are ∙ append_assoc (asks_in w) first.asks then_goes.asks;
@@ -42,7 +42,7 @@ goes_join a b c w r s law first then_goes = record {
 }
 
 -- where nothing was asked and nothing spelled, it is as it was
-pub goes_same : (o : Outside) (w r : List Happening) → asks_in r ≡ asks_in w → spellings r ≡ spellings w → GoesWith o o w r
+pub goes_same : (o : Outside) (w r : List MachineEvent) → asks_in r ≡ asks_in w → spellings r ≡ spellings w → GoesWith o o w r
 goes_same o w r e f = record {
   asks = [];
   are = e ∙ sym (append-nil (asks_in w));

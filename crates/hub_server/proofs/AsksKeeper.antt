@@ -7,20 +7,20 @@ use Rattle.hd_calls.specs.declared.vocabulary.Input.{Input}
 use Rattle.hd_calls.specs.Hubs.{Hub}
 use Rattle.hd_calls.specs.Peers.{Answers}
 use Rattle.hd_calls.specs.Rules.{is_deed_answer}
-use Rattle.hd_server.specs.declared.vocabulary.Asked.{Asked}
-use Rattle.hd_server.specs.declared.vocabulary.Asked.TheVariants as keeper
-use Rattle.hd_server.specs.Kept.{Content, KeeperDid, CountsFault, IsAnswer, kept_after, has_failed, recalled, with_row}
+use Rattle.hd_rooms.specs.declared.vocabulary.Asked.{Asked}
+use Rattle.hd_rooms.specs.declared.vocabulary.Asked.TheVariants as keeper
+use Rattle.hd_rooms.specs.Kept.{Content, KeeperDid, CountsFault, IsAnswer, kept_after, has_failed, recalled, with_row}
 use Rattle.hg_groups.specs.Standing.{StandsRegistry}
 use Rattle.hk_keeper.specs.declared.keeper.KeepError.{KeepError}
 use Rattle.hk_keeper.specs.declared.keeper.KeepError.TheVariants as keep
 use Rattle.hk_keeper.specs.Calls.{Gains, IsCaused, IsErrorNoted}
-use Rattle.hd_serving.specs.Machine.{Happening, Carries, Fate, IsAskedFor, OwesDeed}
-use Rattle.hd_serving.specs.Machine.{answer_to, fates_of, has_gone, is_there, owed, registry, settings_of, who_of}
+use Rattle.hd_server.specs.Machine.{MachineEvent, Carries, DeliveryOutcome, IsAskedFor, OwesDeed}
+use Rattle.hd_server.specs.Machine.{answer_to, fates_of, has_gone, is_there, owed, registry, settings_of, who_of}
 use Rattle.hp_peer.specs.declared.peer.Peer.{Peer}
 use Rattle.hp_peer.specs.Stands.{OfEach}
 use Rattle.hub_server.specs.declared.machine.Machine.{Machine}
 use Rattle.hub_server.specs.Machines.{StandsMachine, peer_at, settings_there}
-use Rattle.hub_server.specs.Affairs.{Affairs, StandsFor, affairs, lists_after, moved, with_lists}
+use Rattle.hub_server.specs.MachineView.{MachineView, StandsFor, machine_view, lists_after, moved, with_lists}
 use Rattle.hub_server.specs.Outside.{GoesWith, Outside, spoken_at}
 use Rattle.hub_server.specs.Rounds.{IsCarried}
 use Rattle.hub_server.specs.Carrying.{AnswersAt}
@@ -32,18 +32,18 @@ use Rattle.hub_server.proofs.Carry.{IsHere, here, carried_quietly, may_answer}
 -- ---- the connection whose job handed it up
 
 -- one that has not gone is there as it was begun
-there_so : (c : ℕ) (r : List Happening) (at : IsHere c r) → settings_there c r ≡ Some at.settings
+there_so : (c : ℕ) (r : List MachineEvent) (at : IsHere c r) → settings_there c r ≡ Some at.settings
 there_so c r at = cond-false (has_gone c r) None (settings_of c r) at.stays ∙ at.begun
 
 -- it has a peer
-pub has_its_peer : {H Job : Type 0} (hub : Hub Job) (m : Machine H Job) (r : List Happening) (c : ℕ) → StandsMachine {H = H} hub m r → is_there c r ≡ true
+pub has_its_peer : {H Job : Type 0} (hub : Hub Job) (m : Machine H Job) (r : List MachineEvent) (c : ℕ) → StandsMachine {H = H} hub m r → is_there c r ≡ true
     → None ≡ peer_at m c → ⊥
 has_its_peer {H} {Job} hub m r c s there e =
     let at : IsHere c r = here c r there in
     unstood {H = H} {Job = Job} hub m r c at.settings s (there_so c r at) e
 
 -- the name that its peer tells is the one in which the keeper is asked
-pub who_is : {H Job : Type 0} (hub : Hub Job) (m : Machine H Job) (r : List Happening) (c : ℕ) (p : Peer H Job) (who : List ℕ) → StandsMachine {H = H} hub m r
+pub who_is : {H Job : Type 0} (hub : Hub Job) (m : Machine H Job) (r : List MachineEvent) (c : ℕ) (p : Peer H Job) (who : List ℕ) → StandsMachine {H = H} hub m r
     → is_there c r ≡ true → Some p ≡ peer_at m c → OfEach {H = H} hub p (λ t h. who ≡ t.who) → who ≡ who_of (settings_of c r)
 who_is {H} {Job} hub m r c p who s there e tells =
     let at : IsHere c r = here c r there in
@@ -118,7 +118,7 @@ did_one h k ask right e = subst (λ (o : Option Content). KeeperDid h (ask ∷ [
     go (Some kept) p = (p, refl)
 
 -- the ask was the deed's
-goes_asked : (before now : Outside) (r : List Happening) (c j : ℕ) (d : Deed) (fates : List (ℕ × Fate)) (ask : Asked) → WasAsked before now ask
+goes_asked : (before now : Outside) (r : List MachineEvent) (c j : ℕ) (d : Deed) (fates : List (ℕ × DeliveryOutcome)) (ask : Asked) → WasAsked before now ask
     → GoesWith before now r (Carries c j d fates (Some ask) ∷ r)
 goes_asked before now r c j d fates ask was = record {
   asks = ask ∷ [];
@@ -137,10 +137,10 @@ goes_asked before now r c j d fates ask was = record {
 
 -- the job is told this, if that may be, and nothing else changes
 abbrev pub IsTold : {H Job : Type 0} → Hub Job → Machine H Job → Machine H Job → ℕ → ℕ → Input → Type 0
-IsTold hub old new c j i = (a : Affairs) → AnswersAt (a.settings c) j i (a.moves c) → StandsFor hub old a → StandsFor hub new (moved c (Answers j i) a)
+IsTold hub old new c j i = (a : MachineView) → AnswersAt (a.settings c) j i (a.moves c) → StandsFor hub old a → StandsFor hub new (moved c (Answers j i) a)
 
 -- no member is told, no list changes, and the job is told what the keeper answered
-carried_asking : {H Job : Type 0} (hub : Hub Job) (new old : Machine H Job) (before now : Outside) (r : List Happening) (c j : ℕ) (d : Deed) (ask : Asked)
+carried_asking : {H Job : Type 0} (hub : Hub Job) (new old : Machine H Job) (before now : Outside) (r : List MachineEvent) (c j : ℕ) (d : Deed) (ask : Asked)
     → StandsMachine {H = H} hub old r → owed r ≡ OwesDeed c j d → is_there c r ≡ true → IsAskedFor d (who_of (settings_of c r)) (Some ask)
     → fates_of d r ≡ [] → lists_after d c (registry r) ≡ registry r → is_deed_answer (answer_to (Some ask)) ≡ true → WasAsked before now ask
     → IsTold {H = H} hub old new c j (answer_to (Some ask)) → IsCarried {H = H} hub new before now r c j d
@@ -148,26 +148,26 @@ carried_asking {H} {Job} hub new old before now r c j d ask s owes there is_aske
   asked = Some ask;
   is_asked = is_asked;
   stands = carried_quietly {H = H} {Job = Job} hub new old r c j d (Some ask) s owes there is_asked none
-      (told (with_lists (lists_after d c (registry r)) (affairs r)) (may_answer {H = H} {Job = Job} hub old r c j d (answer_to (Some ask)) s owes is_answer)
+      (told (with_lists (lists_after d c (registry r)) (machine_view r)) (may_answer {H = H} {Job = Job} hub old r c j d (answer_to (Some ask)) s owes is_answer)
       (record { at = s.at; index = s.index; registry = subst (λ l. StandsRegistry old.registry l) (sym same) s.registry }));
   goes = goes_asked before now r c j d (fates_of d r) ask was;
 }
 
 -- a line is logged, or the keeper fails in that
-pub log_carried : {H Job : Type 0} (hub : Hub Job) (new old : Machine H Job) (before now : Outside) (r : List Happening) (c j : ℕ) (room who words : List ℕ)
-    (is_kept : Bool) → StandsMachine {H = H} hub old r → owed r ≡ OwesDeed c j (Log room words) → is_there c r ≡ true → who ≡ who_of (settings_of c r)
-    → WasAsked before now (keeper.Log room who words is_kept) → IsTold {H = H} hub old new c j (answer_to (Some (keeper.Log room who words is_kept)))
+pub log_carried : {H Job : Type 0} (hub : Hub Job) (new old : Machine H Job) (before now : Outside) (r : List MachineEvent) (c j : ℕ) (room who words : List ℕ)
+    (is_resumable : Bool) → StandsMachine {H = H} hub old r → owed r ≡ OwesDeed c j (Log room words) → is_there c r ≡ true → who ≡ who_of (settings_of c r)
+    → WasAsked before now (keeper.Log room who words is_resumable) → IsTold {H = H} hub old new c j (answer_to (Some (keeper.Log room who words is_resumable)))
     → IsCarried {H = H} hub new before now r c j (Log room words)
-log_carried {H} {Job} hub new old before now r c j room who words is_kept s owes there named was told =
-    carried_asking {H = H} {Job = Job} hub new old before now r c j (Log room words) (keeper.Log room who words is_kept) s owes there
-    (is_kept, ap (λ w. Some (keeper.Log room w words is_kept)) named) refl refl (answers is_kept) was told
+log_carried {H} {Job} hub new old before now r c j room who words is_resumable s owes there named was told =
+    carried_asking {H = H} {Job = Job} hub new old before now r c j (Log room words) (keeper.Log room who words is_resumable) s owes there
+    (is_resumable, ap (λ w. Some (keeper.Log room w words is_resumable)) named) refl refl (answers is_resumable) was told
   where
     answers : (b : Bool) → is_deed_answer (answer_to (Some (keeper.Log room who words b))) ≡ true
     answers true = refl
     answers false = refl
 
 -- rows are given, or the keeper fails in that
-pub history_carried : {H Job : Type 0} (hub : Hub Job) (new old : Machine H Job) (before now : Outside) (r : List Happening) (c j : ℕ) (room : List ℕ)
+pub history_carried : {H Job : Type 0} (hub : Hub Job) (new old : Machine H Job) (before now : Outside) (r : List MachineEvent) (c j : ℕ) (room : List ℕ)
     (most : ℕ) (texts : Option (List (List ℕ))) → StandsMachine {H = H} hub old r → owed r ≡ OwesDeed c j (History room most) → is_there c r ≡ true
     → WasAsked before now (keeper.History room most texts) → IsTold {H = H} hub old new c j (answer_to (Some (keeper.History room most texts)))
     → IsCarried {H = H} hub new before now r c j (History room most)

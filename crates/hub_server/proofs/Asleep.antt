@@ -8,17 +8,17 @@ use Rattle.hd_delivery.specs.Frames.{LinkFrame}
 use Rattle.hd_delivery.specs.Histories as of
 use Rattle.hd_calls.specs.Hubs.{Hub}
 use Rattle.hd_calls.specs.Peers.{Settings, is_shut, steps}
-use Rattle.hd_serving.specs.Numbers.{held_for}
-use Rattle.hd_serving.specs.Lives.{ended_at, is_polling, numbers_to, poll_of, socket_of}
-use Rattle.hd_serving.specs.Machine.{Happening, greatest, is_there, moves}
-use Rattle.hd_serving.specs.Doings.{Doing, Notes, config_of, has_closed, has_peer, history, moment, notes, work}
-use Rattle.hd_serving.specs.Lives.{Answered, Ended}
-use Rattle.hd_serving.specs.Plans.{Setup, bare_reply, letting_go, replying, shutting}
-use Rattle.hd_serving.specs.Serves.{AreAllDue, AreDueOn, all_telling, ending, telling, telling_on, telling_poll_some}
+use Rattle.hd_server.specs.Numbers.{held_for}
+use Rattle.hd_server.specs.Lives.{ended_at, is_polling, numbers_to, poll_of, socket_of}
+use Rattle.hd_server.specs.Machine.{MachineEvent, greatest, is_there, moves}
+use Rattle.hd_server.specs.Doings.{ServerEvent, Notes, config_of, has_closed, has_peer, history, moment, notes, work}
+use Rattle.hd_server.specs.Lives.{Answered, Ended}
+use Rattle.hd_server.specs.Plans.{Setup, bare_reply, letting_go, replying, shutting}
+use Rattle.hd_server.specs.Serves.{AreAllDue, AreDueOn, all_telling, ending, telling, telling_on, telling_poll_some}
 use Rattle.hp_peer.specs.declared.peer.Peer.{Peer}
 use Rattle.hub_server.specs.declared.machine.Machine.{Machine}
-use Rattle.hub_server.specs.declared.sleepers.Nap.{Nap}
-use Rattle.hub_server.specs.Machines.{IsKeptAs, MaySleep, Sleeps, StandsMachine, is_awake_at, nap_at, peer_at, settings_there}
+use Rattle.hub_server.specs.declared.idle_set.IdlePeer.{IdlePeer}
+use Rattle.hub_server.specs.Machines.{IsKeptAs, MaySleep, Sleeps, StandsMachine, is_awake_at, idle_peer_at, peer_at, settings_there}
 use Rattle.hub_server.specs.Rounds.{AreNumbers}
 use Rattle.hub_server.specs.Servers.{IsRested}
 use Rattle.hub_server.specs.Spreads.{is_listed}
@@ -28,30 +28,30 @@ use Rattle.hub_server.proofs.TickSteps.{IsBegun, begun_here}
 
 -- ---- one that sleeps
 
-pub record IsAsleep {H Job : Type 0} (m : Machine H Job) (c : ℕ) (w : List Happening) : Type 0 where
-  pub nap : Nap
+pub record IsAsleep {H Job : Type 0} (m : Machine H Job) (c : ℕ) (w : List MachineEvent) : Type 0 where
+  pub idle_peer : IdlePeer
   pub settings : Settings
-  pub naps : nap_at m c ≡ Some nap
+  pub idle_peers : idle_peer_at m c ≡ Some idle_peer
   pub there : settings_there c w ≡ Some settings
-  pub may : MaySleep m.sleepers.clock nap settings (moves c w)
+  pub may : MaySleep m.idle_set.clock idle_peer settings (moves c w)
 
-pub asleep : {H Job : Type 0} (hub : Hub Job) (m : Machine H Job) (w : List Happening) (c : ℕ) → StandsMachine {H = H} hub m w
-    → is_some (nap_at m c) ≡ true → IsAsleep {H = H} m c w
-asleep {H} {Job} hub m w c s e = by (nap_at m c) refl (settings_there c w) refl (peer_at m c) e (s.at c)
+pub asleep : {H Job : Type 0} (hub : Hub Job) (m : Machine H Job) (w : List MachineEvent) (c : ℕ) → StandsMachine {H = H} hub m w
+    → is_some (idle_peer_at m c) ≡ true → IsAsleep {H = H} m c w
+asleep {H} {Job} hub m w c s e = by (idle_peer_at m c) refl (settings_there c w) refl (peer_at m c) e (s.at c)
   where
-    by : (o : Option Nap) → nap_at m c ≡ o → (t : Option Settings) → settings_there c w ≡ t → (p : Option (Peer H Job)) → is_some o ≡ true
-        → IsKeptAs {H = H} hub m.sleepers.clock o t (moves c w) p → IsAsleep {H = H} m c w
+    by : (o : Option IdlePeer) → idle_peer_at m c ≡ o → (t : Option Settings) → settings_there c w ≡ t → (p : Option (Peer H Job)) → is_some o ≡ true
+        → IsKeptAs {H = H} hub m.idle_set.clock o t (moves c w) p → IsAsleep {H = H} m c w
     by None f t g p e is = absurd (true≢false (sym e))
-    by (Some nap) f None g p e is = absurd is
-    by (Some nap) f (Some t) g None e is = absurd is
-    by (Some nap) f (Some t) g (Some p) e is = let z : Sleeps {H = H} hub m.sleepers.clock nap t p (moves c w) = is in
-        record { nap = nap; settings = t; naps = f; there = g; may = z.may }
+    by (Some idle_peer) f None g p e is = absurd is
+    by (Some idle_peer) f (Some t) g None e is = absurd is
+    by (Some idle_peer) f (Some t) g (Some p) e is = let z : Sleeps {H = H} hub m.idle_set.clock idle_peer t p (moves c w) = is in
+        record { idle_peer = idle_peer; settings = t; idle_peers = f; there = g; may = z.may }
 
 -- whoever is there and isn't awake sleeps
-pub not_awake : {H Job : Type 0} (hub : Hub Job) (m : Machine H Job) (w : List Happening) (c : ℕ) → StandsMachine {H = H} hub m w
-    → is_there c w ≡ true → is_awake_at m c ≡ false → is_some (nap_at m c) ≡ true
+pub not_awake : {H Job : Type 0} (hub : Hub Job) (m : Machine H Job) (w : List MachineEvent) (c : ℕ) → StandsMachine {H = H} hub m w
+    → is_there c w ≡ true → is_awake_at m c ≡ false → is_some (idle_peer_at m c) ≡ true
 not_awake {H} {Job} hub m w c s there e =
-    by (is_some (peer_at m c)) (is_some (nap_at m c)) (sym (here_by_peer {H = H} {Job = Job} hub m w s c) ∙ there) e
+    by (is_some (peer_at m c)) (is_some (idle_peer_at m c)) (sym (here_by_peer {H = H} {Job = Job} hub m w s c) ∙ there) e
   where
     by : (a b : Bool) → a ≡ true → (a && not b) ≡ false → b ≡ true
     by true true f g = refl
@@ -59,16 +59,16 @@ not_awake {H} {Job} hub m w c s there e =
     by false b f g = absurd (true≢false (sym f))
 
 -- and whoever is awake is there
-pub awake_there : {H Job : Type 0} (hub : Hub Job) (m : Machine H Job) (w : List Happening) (c : ℕ) → StandsMachine {H = H} hub m w
+pub awake_there : {H Job : Type 0} (hub : Hub Job) (m : Machine H Job) (w : List MachineEvent) (c : ℕ) → StandsMachine {H = H} hub m w
     → is_awake_at m c ≡ true → is_there c w ≡ true
-awake_there {H} {Job} hub m w c s e = here_by_peer {H = H} {Job = Job} hub m w s c ∙ by (is_some (peer_at m c)) (not (is_some (nap_at m c))) e
+awake_there {H} {Job} hub m w c s e = here_by_peer {H = H} {Job = Job} hub m w s c ∙ by (is_some (peer_at m c)) (not (is_some (idle_peer_at m c))) e
   where
     by : (a b : Bool) → (a && b) ≡ true → a ≡ true
     by true b f = refl
     by false b f = f
 
 -- those that are numbered are the awake ones of all numbers
-pub awake_are : {H Job : Type 0} (hub : Hub Job) (m : Machine H Job) (w : List Happening) (conns : List ℕ) → StandsMachine {H = H} hub m w
+pub awake_are : {H Job : Type 0} (hub : Hub Job) (m : Machine H Job) (w : List MachineEvent) (conns : List ℕ) → StandsMachine {H = H} hub m w
     → AreNumbers {H = H} m conns → conns ≡ filter (λ k. is_awake_at m k) (numbers_to (greatest w))
 awake_are {H} {Job} hub m w conns s numbers =
     same_rising conns (filter (λ k. is_awake_at m k) (numbers_to (greatest w))) numbers.rise (rising_to (λ k. is_awake_at m k) (greatest w))
@@ -85,7 +85,7 @@ awake_are {H} {Job} hub m w conns s numbers =
 -- ---- it says nothing
 
 -- nothing is due on the connection, and nothing is said
-pub record IsMute (s : Setup) (c : ℕ) (h : List Doing) : Type 0 where
+pub record IsMute (s : Setup) (c : ℕ) (h : List ServerEvent) : Type 0 where
   pub due : AreDueOn s c (socket_of c (notes h)) (poll_of c (notes h)) [] h
   pub silent : telling s (moment h) c [] h ≡ []
   pub rested : IsRested c h
@@ -94,7 +94,7 @@ neither : {A : Type 0} (b : Bool) (xs : List A) → b ≡ false → (if b then x
 neither b xs e = ap (λ d. if d then xs else []) e
 
 -- one that sleeps is mute, unless its poll was held for as long as it may be
-pub mute_asleep : {H Job : Type 0} (s : Setup) (m : Machine H Job) (c : ℕ) (h : List Doing) → IsAsleep {H = H} m c (work h) → has_peer c h ≡ true
+pub mute_asleep : {H Job : Type 0} (s : Setup) (m : Machine H Job) (c : ℕ) (h : List ServerEvent) → IsAsleep {H = H} m c (work h) → has_peer c h ≡ true
     → ((lane since : ℕ) → poll_of c (notes h) ≡ Some (lane, since) → nat_le (since + held_for) (moment h) ≡ false) → IsMute s c h
 mute_asleep s m c h z there held = record {
   due = due_by (socket_of c (notes h)) (poll_of c (notes h));
@@ -133,7 +133,7 @@ mute_asleep s m c h z there held = record {
     unending : ending (moment h) c h ≡ []
     unending = ap (λ (b : Bool). if b && not (is_some (ended_at c (notes h))) then Notes (Ended c (moment h)) ∷ [] else []) closed
 
-    either : (b : Bool) (xs ys : List Doing) → xs ≡ [] → ys ≡ [] → (if b then xs else ys) ≡ []
+    either : (b : Bool) (xs ys : List ServerEvent) → xs ≡ [] → ys ≡ [] → (if b then xs else ys) ≡ []
     either true xs ys e f = e
     either false xs ys e f = f
 
@@ -142,26 +142,26 @@ mute_asleep s m c h z there held = record {
     silent_by None =
         either (is_polling c (notes h)) (ending (moment h) c h ++ telling_poll_some s (moment h) c (poll_of c (notes h)) [] h)
         (if has_closed c h then letting_go c h else [])
-        (ap (λ (xs : List Doing). xs ++ telling_poll_some s (moment h) c (poll_of c (notes h)) [] h) unending
+        (ap (λ (xs : List ServerEvent). xs ++ telling_poll_some s (moment h) c (poll_of c (notes h)) [] h) unending
         ∙ poll_by (poll_of c (notes h)) refl)
         (neither (has_closed c h) (letting_go c h) closed)
 
 -- of one that would be awake if its poll was held for as long as it may be
-pub not_held : {H Job : Type 0} (m : Machine H Job) (c : ℕ) (h : List Doing) → IsAsleep {H = H} m c (work h) → (since : ℕ)
-    → (nat_le (since + held_for) (moment h) ≡ true → nap_at m c ≡ None) → nat_le (since + held_for) (moment h) ≡ false
+pub not_held : {H Job : Type 0} (m : Machine H Job) (c : ℕ) (h : List ServerEvent) → IsAsleep {H = H} m c (work h) → (since : ℕ)
+    → (nat_le (since + held_for) (moment h) ≡ true → idle_peer_at m c ≡ None) → nat_le (since + held_for) (moment h) ≡ false
 not_held m c h z since awake =
     false_from_ne_true (nat_le (since + held_for) (moment h))
-    (λ late. let no : ◌≡◌ {A = Option Nap} None (Some z.nap) = sym (awake late) ∙ z.naps in cc)
+    (λ late. let no : ◌≡◌ {A = Option IdlePeer} None (Some z.idle_peer) = sym (awake late) ∙ z.idle_peers in cc)
 
 -- ---- all that is said
 
 -- the same is said where those that are mute say it too
-pub record SaidByAll (s : Setup) (h : List Doing) (all some : List ℕ) (pieces : List (List (List LinkFrame))) : Type 0 where
+pub record SaidByAll (s : Setup) (h : List ServerEvent) (all some : List ℕ) (pieces : List (List (List LinkFrame))) : Type 0 where
   pub whole : List (List (List LinkFrame))
   pub due : AreAllDue s all whole h
   pub same : all_telling s (moment h) all whole h ≡ all_telling s (moment h) some pieces h
 
-pub said_by_all : (s : Setup) (h : List Doing) (q p : ℕ → Bool) (cs : List ℕ) (pieces : List (List (List LinkFrame)))
+pub said_by_all : (s : Setup) (h : List ServerEvent) (q p : ℕ → Bool) (cs : List ℕ) (pieces : List (List (List LinkFrame)))
     → ((k : ℕ) → p k ≡ true → q k ≡ true) → ((k : ℕ) → q k ≡ true → p k ≡ false → IsMute s k h) → AreAllDue s (filter p cs) pieces h
     → SaidByAll s h (filter q cs) (filter p cs) pieces
 said_by_all s h q p [] [] among mute x = record { whole = []; due = tt; same = refl }
@@ -177,12 +177,12 @@ said_by_all s h q p (c ∷ cs) pieces among mute x =
     by true e true f (one ∷ more) y rest = let r = rest more y.1 in record {
       whole = one ∷ r.whole;
       due = (y.0, r.due);
-      same = ap (λ (xs : List Doing). telling s (moment h) c one h ++ xs) r.same;
+      same = ap (λ (xs : List ServerEvent). telling s (moment h) c one h ++ xs) r.same;
     }
     by true e false f pieces y rest = let r = rest pieces y in let silence : IsMute s c h = mute c e f in record {
       whole = [] ∷ r.whole;
       due = (silence.due, r.due);
-      same = ap (λ (xs : List Doing). xs ++ all_telling s (moment h) (filter q cs) r.whole h) silence.silent ∙ r.same;
+      same = ap (λ (xs : List ServerEvent). xs ++ all_telling s (moment h) (filter q cs) r.whole h) silence.silent ∙ r.same;
     }
     by false e true f pieces y rest = absurd (both_ways (q c) e (among c f))
     by false e false f pieces y rest = let r = rest pieces y in record { whole = r.whole; due = r.due; same = r.same }

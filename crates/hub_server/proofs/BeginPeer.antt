@@ -10,19 +10,19 @@ use Rattle.std.proofs.lemmas.Bool.{cond-false, eq-eqb, eqb-true, ltb-true, or_fr
 use Rattle.hm_message.specs.declared.message.Codec.TheVariants.{Json}
 use Rattle.hd_delivery.specs.declared.vocabulary.Side.TheVariants as side
 use Rattle.hd_delivery.specs.Histories as of
-use Rattle.hd_delivery.specs.Histories.{Step, is_this, was_on}
+use Rattle.hd_delivery.specs.Histories.{EndEvent, is_this, was_on}
 use Rattle.hd_delivery.specs.Processes.{processes}
 use Rattle.hd_delivery.specs.Bytes.{Wire}
 use Rattle.hd_delivery.specs.Worlds.{Limits}
 use Rattle.he_wire.specs.Wires.{IsHouseWire}
 use Rattle.hd_calls.specs.Hubs.{Hub}
 use Rattle.hd_calls.specs.Peers.{Settings, steps, waiting}
-use Rattle.hd_serving.specs.declared.vocabulary.Said.{Said}
-use Rattle.hd_serving.specs.Numbers.{most_frame, most_held, most_held_bytes}
-use Rattle.hd_serving.specs.Lives.{socket_of, lost_at, poll_of, poll_ended, is_let_go, is_polling, made}
-use Rattle.hd_serving.specs.Machine.{Happening, Connects, has_gone, is_there, moves, settings_of}
-use Rattle.hd_serving.specs.Doings.{Doing, Works, notes, work, moment, config_of, has_peer, history, history_with, user_of}
-use Rattle.hd_serving.specs.Plans.{Setup, connecting, onto, peer_settings}
+use Rattle.hd_server.specs.declared.vocabulary.Said.{Said}
+use Rattle.hd_server.specs.Numbers.{most_frame, most_held, most_held_bytes}
+use Rattle.hd_server.specs.Lives.{socket_of, lost_at, poll_of, poll_ended, is_let_go, is_polling, made}
+use Rattle.hd_server.specs.Machine.{MachineEvent, Connects, has_gone, is_there, moves, settings_of}
+use Rattle.hd_server.specs.Doings.{ServerEvent, Works, notes, work, moment, config_of, has_peer, history, history_with, user_of}
+use Rattle.hd_server.specs.Plans.{Setup, connecting, onto, peer_settings}
 use Rattle.hp_peer.specs.Stands.{settings}
 use Rattle.hub_server.specs.declared.machine.Machine.{Machine}
 use Rattle.hub_server.specs.declared.server.Server.{Server}
@@ -40,12 +40,12 @@ use Rattle.hub_server.proofs.LaneKept.{lane_kept, lane_wider, orderly_wider, sam
 -- ---- who has a peer
 
 -- the machine has its peer exactly if it has one
-pub peer_there : {H Job : Type 0} (hub : Hub Job) (m : Machine H Job) (w : List Happening) (k : ℕ) → StandsMachine {H = H} hub m w
+pub peer_there : {H Job : Type 0} (hub : Hub Job) (m : Machine H Job) (w : List MachineEvent) (k : ℕ) → StandsMachine {H = H} hub m w
     → is_some (peer_at m k) ≡ is_there k w
 peer_there {H} {Job} hub m w k s = sym (here_by_peer {H = H} {Job = Job} hub m w s k)
 
 -- the settings of one that is there
-pub settings_if : (k : ℕ) (w : List Happening) → is_there k w ≡ true → (t : Settings) × (settings_there k w ≡ Some t) × (settings_of k w ≡ Some t)
+pub settings_if : (k : ℕ) (w : List MachineEvent) → is_there k w ≡ true → (t : Settings) × (settings_there k w ≡ Some t) × (settings_of k w ≡ Some t)
 settings_if k w e = go (settings_of k w) refl
   where
     parts : (is_some (settings_of k w) ≡ true) × (not (has_gone k w) ≡ true)
@@ -60,7 +60,7 @@ settings_if k w e = go (settings_of k w) refl
     go (Some t) f = (t, cond-false (has_gone k w) None (settings_of k w) (here (has_gone k w) parts.1) ∙ f, f)
 
 -- one that is known and has no peer never had one
-pub fresh : (u : Unsettled) (k : ℕ) (h : List Doing) → IsKnown k h → IsOrderly u k h → has_peer k h ≡ false → settings_of k (work h) ≡ None
+pub fresh : (u : Unsettled) (k : ℕ) (h : List ServerEvent) → IsKnown k h → IsOrderly u k h → has_peer k h ≡ false → settings_of k (work h) ≡ None
 fresh u k h known o e = go (settings_of k (work h)) refl
   where
     go : (x : Option Settings) → settings_of k (work h) ≡ x → settings_of k (work h) ≡ None
@@ -76,13 +76,13 @@ unused_parts None (Some x) p e f = absurd (both_ways true f refl)
 unused_parts None None (Some x) e f = absurd (both_ways true f refl)
 unused_parts None None None (Some x) f = absurd (both_ways true f refl)
 
-pub record IsBare (k : ℕ) (h : List Doing) : Type 0 where
+pub record IsBare (k : ℕ) (h : List ServerEvent) : Type 0 where
   pub socket : socket_of k (notes h) ≡ None
   pub lost : lost_at k (notes h) ≡ None
   pub poll : poll_of k (notes h) ≡ None
   pub polled : poll_ended k (notes h) ≡ None
 
-pub bare : (u : Unsettled) (k : ℕ) (h : List Doing) → IsOrderly u k h → settings_of k (work h) ≡ None → IsBare k h
+pub bare : (u : Unsettled) (k : ℕ) (h : List ServerEvent) → IsOrderly u k h → settings_of k (work h) ≡ None → IsBare k h
 bare u k h o e =
     let parts = unused_parts (socket_of k (notes h)) (lost_at k (notes h)) (poll_of k (notes h)) (poll_ended k (notes h))
     (o.unused (ap (λ (x : Option Settings). is_some x) e)) in
@@ -90,38 +90,38 @@ bare u k h o e =
 
 -- ---- what connecting comes to
 
-pub connecting_there : (s : Setup) (k : ℕ) (promised : Bool) (h : List Doing) → is_some (settings_of k (work h)) ≡ true
-    → onto (connecting s k promised h) h ≡ h
-connecting_there s k promised h e = ap (λ xs. onto xs h) (cond-true (is_some (settings_of k (work h))) []
-    (Works (Connects k (peer_settings s k (user_of k h) promised) (user_of k h)) ∷ []) e)
+pub connecting_there : (s : Setup) (k : ℕ) (resumable : Bool) (h : List ServerEvent) → is_some (settings_of k (work h)) ≡ true
+    → onto (connecting s k resumable h) h ≡ h
+connecting_there s k resumable h e = ap (λ xs. onto xs h) (cond-true (is_some (settings_of k (work h))) []
+    (Works (Connects k (peer_settings s k (user_of k h) resumable) (user_of k h)) ∷ []) e)
 
-pub connecting_fresh : (s : Setup) (k : ℕ) (promised : Bool) (h : List Doing) → settings_of k (work h) ≡ None
-    → onto (connecting s k promised h) h ≡ Works (Connects k (peer_settings s k (user_of k h) promised) (user_of k h)) ∷ h
-connecting_fresh s k promised h e = ap (λ xs. onto xs h) (cond-false (is_some (settings_of k (work h))) []
-    (Works (Connects k (peer_settings s k (user_of k h) promised) (user_of k h)) ∷ []) (ap (λ (x : Option Settings). is_some x) e))
+pub connecting_fresh : (s : Setup) (k : ℕ) (resumable : Bool) (h : List ServerEvent) → settings_of k (work h) ≡ None
+    → onto (connecting s k resumable h) h ≡ Works (Connects k (peer_settings s k (user_of k h) resumable) (user_of k h)) ∷ h
+connecting_fresh s k resumable h e = ap (λ xs. onto xs h) (cond-false (is_some (settings_of k (work h))) []
+    (Works (Connects k (peer_settings s k (user_of k h) resumable) (user_of k h)) ∷ []) (ap (λ (x : Option Settings). is_some x) e))
 
 -- it had one
 pub connected_already : {H Job : Type 0} (hub : Hub Job) (s : Setup) (u : Unsettled) (before : List Said) (old : Server H Job) (k : ℕ)
-    (promised : Bool) (h : List Doing)
+    (resumable : Bool) (h : List ServerEvent)
     → Standing {H = H} hub s u before old h → u ≡ settled → is_some (peer_at old.machine k) ≡ true
-    → Standing {H = H} hub s (conn_of k) before old (onto (connecting s k promised h) h)
-connected_already {H} {Job} hub s u before old k promised h st is there =
+    → Standing {H = H} hub s (conn_of k) before old (onto (connecting s k resumable h) h)
+connected_already {H} {Job} hub s u before old k resumable h st is there =
     let begun : is_some (settings_of k (work h)) ≡ true =
     (and_parts (is_some (settings_of k (work h))) (not (has_gone k (work h)))
     (sym (peer_there {H = H} {Job = Job} hub old.machine (work h) k st.machine) ∙ there)).0 in
-    subst (λ g. Standing {H = H} hub s (conn_of k) before old g) (sym (connecting_there s k promised h begun))
+    subst (λ g. Standing {H = H} hub s (conn_of k) before old g) (sym (connecting_there s k resumable h begun))
     (standing_wider {H = H} {Job = Job} hub s settled (conn_of k) before old h (λ l e. e) (λ c e. absurd (both_ways false refl e)) (λ l e. e)
     (subst (λ w. Standing {H = H} hub s w before old h) is st))
 
-module _ {H Job : Type 0} (hub : Hub Job) (s : Setup) (before : List Said) (old : Server H Job) (k : ℕ) (promised : Bool) (h : List Doing)
+module _ {H Job : Type 0} (hub : Hub Job) (s : Setup) (before : List Said) (old : Server H Job) (k : ℕ) (resumable : Bool) (h : List ServerEvent)
     (st : Standing {H = H} hub s settled before old h) (known : IsKnown k h) (new : settings_of k (work h) ≡ None) where
   abbrev user : Option (List ℕ)
   user = user_of k h
 
   abbrev t : Settings
-  t = peer_settings s k user promised
+  t = peer_settings s k user resumable
 
-  abbrev g : List Doing
+  abbrev g : List ServerEvent
   g = Works (Connects k t user) ∷ h
 
   own : settings_of k (work g) ≡ Some t
@@ -155,7 +155,7 @@ module _ {H Job : Type 0} (hub : Hub Job) (s : Setup) (before : List Said) (old 
     unlinked = λ e f. absurd (both_ways (is_some (lost_at k (notes h))) (ap (λ (x : Option ℕ). is_some x) none.lost) f);
     kept = λ e f. absurd (both_ways (is_some (lost_at k (notes h))) (ap (λ (x : Option ℕ). is_some x) none.lost) f);
     links = λ l e. absurd (both_ways (was_on l (history k g)) (ap (was_on l) blank) e);
-    timely = subst (λ (x : List Step). of.moment x ≤ moment h) (sym blank) (let z : 0 ≤ moment h = omega (arith) in z);
+    timely = subst (λ (x : List EndEvent). of.moment x ≤ moment h) (sym blank) (let z : 0 ≤ moment h = omega (arith) in z);
     handled = ap waiting stranger.unmoved;
     taken = ap (processes (config_of k g)) blank;
   }
@@ -212,41 +212,41 @@ module _ {H Job : Type 0} (hub : Hub Job) (s : Setup) (before : List Said) (old 
   }
 
 -- by whom it is called
-called_by : (u : Unsettled) (k : ℕ) (h : List Doing) → IsKnown k h → settings_of k (work h) ≡ None → caller_of k h ≡ user_of k h
+called_by : (u : Unsettled) (k : ℕ) (h : List ServerEvent) → IsKnown k h → settings_of k (work h) ≡ None → caller_of k h ≡ user_of k h
 called_by u k h known new = cond-false (is_some (settings_of k (work h)) || is_let_go k (notes h)) None (user_of k h)
     (or_from (is_some (settings_of k (work h))) (is_let_go k (notes h)) (ap (λ (x : Option Settings). is_some x) new) known.held)
 
 -- its settings
-as_begun : (s : Setup) (base : List ℕ) (k : ℕ) (promised : Bool) (limits : Limits) (who : List ℕ) (name : Option (List ℕ)) → IsSetup s base
+as_begun : (s : Setup) (base : List ℕ) (k : ℕ) (resumable : Bool) (limits : Limits) (who : List ℕ) (name : Option (List ℕ)) → IsSetup s base
     → limits ≡ record { frame = most_frame; count = most_held; bytes = most_held_bytes } → who ≡ unwrap_or name (decimal k)
-    → settings side.Server (record { codec = Json; version = 1; reconnect = promised; limits = limits }) s.wire who ≡ peer_settings s k name promised
-as_begun s base k promised limits who name setup few called =
-    ap (λ x. settings side.Server (record { codec = Json; version = 1; reconnect = promised; limits = x }) s.wire who)
+    → settings side.Server (record { codec = Json; version = 1; reconnect = resumable; limits = limits }) s.wire who ≡ peer_settings s k name resumable
+as_begun s base k resumable limits who name setup few called =
+    ap (λ x. settings side.Server (record { codec = Json; version = 1; reconnect = resumable; limits = x }) s.wire who)
     (few ∙ sym (ap (λ (x : Setup). x.limits) setup.usual))
-    ∙ ap (λ x. settings side.Server (record { codec = Json; version = 1; reconnect = promised; limits = s.limits }) s.wire x) called
+    ∙ ap (λ x. settings side.Server (record { codec = Json; version = 1; reconnect = resumable; limits = s.limits }) s.wire x) called
 
 -- it gets one now
-pub connected : {H Job : Type 0} (hub : Hub Job) (s : Setup) (u : Unsettled) (before : List Said) (old : Server H Job) (k : ℕ) (promised : Bool)
-    (h : List Doing)
+pub connected : {H Job : Type 0} (hub : Hub Job) (s : Setup) (u : Unsettled) (before : List Said) (old : Server H Job) (k : ℕ) (resumable : Bool)
+    (h : List ServerEvent)
     → Standing {H = H} hub s u before old h → u ≡ settled → IsKnown k h → is_some (peer_at old.machine k) ≡ false
     → (callers : BTreeMap ℕ (List ℕ)) → Updates nat_cmp old.callers callers k None
     → (limits : Limits) → limits ≡ record { frame = most_frame; count = most_held; bytes = most_held_bytes }
     → (user : Option (List ℕ)) → user ≡ get nat_cmp old.callers k → (who : List ℕ) → who ≡ unwrap_or user (decimal k)
-    → (machine : Machine H Job) → ((w : List Happening) (wire : Wire) → IsHouseWire limits.frame wire → 0 < k → settings_of k w ≡ None
+    → (machine : Machine H Job) → ((w : List MachineEvent) (wire : Wire) → IsHouseWire limits.frame wire → 0 < k → settings_of k w ≡ None
     → StandsMachine {H = H} hub old.machine w
     → StandsMachine {H = H} hub machine (Connects k
-    (settings side.Server (record { codec = Json; version = 1; reconnect = promised; limits = limits }) wire who) user ∷ w))
-    → Standing {H = H} hub s (conn_of k) before (record old { callers = callers; machine = machine }) (onto (connecting s k promised h) h)
-connected {H} {Job} hub s u before old k promised h st is known none callers updates limits few user found who named machine stands =
+    (settings side.Server (record { codec = Json; version = 1; reconnect = resumable; limits = limits }) wire who) user ∷ w))
+    → Standing {H = H} hub s (conn_of k) before (record old { callers = callers; machine = machine }) (onto (connecting s k resumable h) h)
+connected {H} {Job} hub s u before old k resumable h st is known none callers updates limits few user found who named machine stands =
     let begin = subst (λ w. Standing {H = H} hub s w before old h) is st in
     let new = fresh u k h known (st.orderly k) (sym (peer_there {H = H} {Job = Job} hub old.machine (work h) k st.machine) ∙ none) in
     let same : user ≡ user_of k h = found ∙ st.callers k ∙ called_by u k h known new in
     let house : IsHouseWire limits.frame s.wire = subst (λ (x : Limits). IsHouseWire x.frame s.wire) (sym few) st.setup.wire in
     let positive : 0 < k = ltb-true 0 k (and_parts (nat_lt 0 k) (nat_le k (made (notes h))) known.made).0 in
-    let begun : StandsMachine {H = H} hub machine (Connects k (peer_settings s k (user_of k h) promised) (user_of k h) ∷ work h) =
-    subst (λ o. StandsMachine {H = H} hub machine (Connects k (peer_settings s k o promised) o ∷ work h)) same
-    (subst (λ x. StandsMachine {H = H} hub machine (Connects k x user ∷ work h)) (as_begun s old.base k promised limits who user st.setup few named)
+    let begun : StandsMachine {H = H} hub machine (Connects k (peer_settings s k (user_of k h) resumable) (user_of k h) ∷ work h) =
+    subst (λ o. StandsMachine {H = H} hub machine (Connects k (peer_settings s k o resumable) o ∷ work h)) same
+    (subst (λ x. StandsMachine {H = H} hub machine (Connects k x user ∷ work h)) (as_begun s old.base k resumable limits who user st.setup few named)
     (stands (work h) s.wire house positive new st.machine)) in
     subst (λ x. Standing {H = H} hub s (conn_of k) before (record old { callers = callers; machine = machine }) x)
-    (sym (connecting_fresh s k promised h new))
-    (with_peer {H = H} {Job = Job} hub s before old k promised h begin known new machine begun callers updates)
+    (sym (connecting_fresh s k resumable h new))
+    (with_peer {H = H} {Job = Job} hub s before old k resumable h begin known new machine begun callers updates)

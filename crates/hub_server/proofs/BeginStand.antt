@@ -10,12 +10,12 @@ use Rattle.hd_delivery.specs.Histories.{Attached, is_this, link_count}
 use Rattle.hd_delivery.specs.Bytes.{Does as Step_of}
 use Rattle.hd_calls.specs.Hubs.{Hub}
 use Rattle.hd_calls.specs.Peers.{Plain}
-use Rattle.hd_serving.specs.declared.vocabulary.Said.{Said}
-use Rattle.hd_serving.specs.declared.vocabulary.Said.TheVariants as say
-use Rattle.hd_serving.specs.Lives.{Note, Socketed, socket_of, lost_at, poll_of, poll_ended, is_let_go, is_made, is_polling}
-use Rattle.hd_serving.specs.Machine.{Does, settings_of}
-use Rattle.hd_serving.specs.Doings.{Doing, Notes, Says, notes, work, moment, awaits_reply, has_peer, history, is_upgraded, wants_shut}
-use Rattle.hd_serving.specs.Plans.{Occasion, Setup, attaching, connecting, onto, replying, shutting, socket_reply, standing_on, step}
+use Rattle.hd_server.specs.declared.vocabulary.Said.{Said}
+use Rattle.hd_server.specs.declared.vocabulary.Said.TheVariants as say
+use Rattle.hd_server.specs.Lives.{ConnectionEvent, Socketed, socket_of, lost_at, poll_of, poll_ended, is_let_go, is_made, is_polling}
+use Rattle.hd_server.specs.Machine.{Does, settings_of}
+use Rattle.hd_server.specs.Doings.{ServerEvent, Notes, Says, notes, work, moment, awaits_reply, has_peer, history, is_upgraded, wants_shut}
+use Rattle.hd_server.specs.Plans.{PendingRequest, Setup, attaching, connecting, onto, replying, shutting, socket_reply, standing_on, step}
 use Rattle.hn_server_front.specs.Calls.{IsNoted}
 use Rattle.hn_server_front.specs.Calls as calls
 use Rattle.hn_server_front.specs.declared.front.Front.{Front}
@@ -35,39 +35,39 @@ use Rattle.hub_server.proofs.OntoAlike.{onto_append}
 
 -- ---- the list of what is done
 
-socket_replying : (lane : ℕ) (accept : Option (List ℕ)) (h : List Doing)
+socket_replying : (lane : ℕ) (accept : Option (List ℕ)) (h : List ServerEvent)
     → replying lane (socket_reply accept) h ≡ Says (say.Reply lane (socket_reply accept)) ∷ []
 socket_replying lane accept h = ap (λ xs. Says (say.Reply lane (socket_reply accept)) ∷ xs)
     (cond-false ((101 == 400) || (wants_shut lane h && not (101 == 101))) (shutting lane h) []
     (or_from (101 == 400) (wants_shut lane h && not (101 == 101)) refl (and_right (wants_shut lane h) (not (101 == 101)) refl)))
 
 -- what stands on a connection that has its peer
-abbrev pub stood_on : ℕ → ℕ → ℕ → ℕ → Option (List ℕ) → List Doing → List Doing
+abbrev pub stood_on : ℕ → ℕ → ℕ → ℕ → Option (List ℕ) → List ServerEvent → List ServerEvent
 stood_on k n at now accept g = Says (say.Reply at (socket_reply accept)) ∷ Notes (Socketed k at now) ∷ step k (Attached n now) ∷ g
 
-pub standing_list : (s : Setup) (o : Occasion) (k : ℕ) (promised : Bool) (h : List Doing) (n at now : ℕ) (accept : List ℕ)
+pub standing_list : (s : Setup) (o : PendingRequest) (k : ℕ) (resumable : Bool) (h : List ServerEvent) (n at now : ℕ) (accept : List ℕ)
     → link_count (history k h) ≡ n
     → o.now ≡ now → o.lane ≡ at → o.request.upgrade ≡ Some accept
-    → onto (standing_on s o k promised h) h ≡ stood_on k n at now (Some accept) (onto (connecting s k promised h) h)
-standing_list s o k promised h n at now accept count when where_at upgrade =
-    onto_append (connecting s k promised h ++ attaching k o.now h)
+    → onto (standing_on s o k resumable h) h ≡ stood_on k n at now (Some accept) (onto (connecting s k resumable h) h)
+standing_list s o k resumable h n at now accept count when where_at upgrade =
+    onto_append (connecting s k resumable h ++ attaching k o.now h)
     (Notes (Socketed k o.lane o.now) ∷ replying o.lane (socket_reply o.request.upgrade) h) h
     ∙ ap (onto (Notes (Socketed k o.lane o.now) ∷ replying o.lane (socket_reply o.request.upgrade) h))
-    (onto_append (connecting s k promised h) (attaching k o.now h) h)
-    ∙ ap (λ xs. onto xs (Notes (Socketed k o.lane o.now) ∷ step k (Attached (link_count (history k h)) o.now) ∷ onto (connecting s k promised h) h))
+    (onto_append (connecting s k resumable h) (attaching k o.now h) h)
+    ∙ ap (λ xs. onto xs (Notes (Socketed k o.lane o.now) ∷ step k (Attached (link_count (history k h)) o.now) ∷ onto (connecting s k resumable h) h))
     (socket_replying o.lane o.request.upgrade h)
-    ∙ ap (λ x. stood_on k x o.lane o.now o.request.upgrade (onto (connecting s k promised h) h)) count
-    ∙ ap (λ x. stood_on k n o.lane x o.request.upgrade (onto (connecting s k promised h) h)) when
-    ∙ ap (λ x. stood_on k n x now o.request.upgrade (onto (connecting s k promised h) h)) where_at
-    ∙ ap (λ x. stood_on k n at now x (onto (connecting s k promised h) h)) upgrade
+    ∙ ap (λ x. stood_on k x o.lane o.now o.request.upgrade (onto (connecting s k resumable h) h)) count
+    ∙ ap (λ x. stood_on k n o.lane x o.request.upgrade (onto (connecting s k resumable h) h)) when
+    ∙ ap (λ x. stood_on k n x now o.request.upgrade (onto (connecting s k resumable h) h)) where_at
+    ∙ ap (λ x. stood_on k n at now x (onto (connecting s k resumable h) h)) upgrade
 
 -- ---- the lane on which it stood
 
-lane_is : (o : Option ℕ) (k : ℕ) (n : List Note) → o ≡ calls.lane_of k n → is_made k n ≡ true → is_let_go k n ≡ false → o ≡ socket_of k n
+lane_is : (o : Option ℕ) (k : ℕ) (n : List ConnectionEvent) → o ≡ calls.lane_of k n → is_made k n ≡ true → is_let_go k n ≡ false → o ≡ socket_of k n
 lane_is o k n e made held =
     e ∙ cond-true (is_made k n && not (is_let_go k n)) (socket_of k n) None (and_from (is_made k n) (not (is_let_go k n)) made (ap not held))
 
-pub cuts_socket : {H Job : Type 0} (k : ℕ) (n : List Note) (o : Option ℕ) (l : ℕ) (old mid : Server H Job) (lanes : BTreeMap ℕ Lane)
+pub cuts_socket : {H Job : Type 0} (k : ℕ) (n : List ConnectionEvent) (o : Option ℕ) (l : ℕ) (old mid : Server H Job) (lanes : BTreeMap ℕ Lane)
     → o ≡ calls.lane_of k n
     → is_made k n ≡ true → is_let_go k n ≡ false → o ≡ Some l → Updates nat_cmp old.lanes lanes l None → mid ≡ record old { lanes = lanes }
     → CutsLane {H = H} {Job = Job} (socket_of k n) old mid
@@ -75,7 +75,7 @@ cuts_socket {H} {Job} k n o l old mid lanes e made held is updates same =
     subst (λ x. CutsLane {H = H} {Job = Job} x old mid) (sym is ∙ lane_is o k n e made held)
     (cut_some {H = H} {Job = Job} l old mid lanes updates same)
 
-pub cuts_unsocketed : {H Job : Type 0} (k : ℕ) (n : List Note) (o : Option ℕ) (old mid : Server H Job) → o ≡ calls.lane_of k n
+pub cuts_unsocketed : {H Job : Type 0} (k : ℕ) (n : List ConnectionEvent) (o : Option ℕ) (old mid : Server H Job) → o ≡ calls.lane_of k n
     → is_made k n ≡ true → is_let_go k n ≡ false → o ≡ None → mid ≡ old → CutsLane {H = H} {Job = Job} (socket_of k n) old mid
 cuts_unsocketed {H} {Job} k n o old mid e made held is same =
     subst (λ x. CutsLane {H = H} {Job = Job} x old mid) (sym is ∙ lane_is o k n e made held) (cut_none {H = H} {Job = Job} old mid same)
@@ -95,7 +95,7 @@ without_other true = refl
 without_other false = refl
 
 -- with a peer and without polls, a connection is where its socket is
-at_socket : (l k : ℕ) (h : List Doing) → has_peer k h ≡ true → is_polling k (notes h) ≡ false → is_at l k h ≡ is_this l (socket_of k (notes h))
+at_socket : (l k : ℕ) (h : List ServerEvent) → has_peer k h ≡ true → is_polling k (notes h) ≡ false → is_at l k h ≡ is_this l (socket_of k (notes h))
 at_socket l k h there unpolled =
     let none : poll_of k (notes h) ≡ None = none_of (poll_of k (notes h))
     (or_parts (is_some (poll_of k (notes h))) (is_some (poll_ended k (notes h))) unpolled).0 in
@@ -104,18 +104,18 @@ at_socket l k h there unpolled =
     ∙ without_other (is_this l (socket_of k (notes h)))
 
 module _ {H Job : Type 0} (hub : Hub Job) (s : Setup) (before : List Said) (v : Server H Job) (k at : ℕ) (is_last : Bool) (accept : List ℕ)
-    (h : List Doing)
+    (h : List ServerEvent)
     (st : Standing {H = H} hub s (conn_of k) before v h) (ready : IsReady k at is_last h) where
   abbrev n : ℕ
   n = link_count (history k h)
 
-  abbrev g1 : List Doing
+  abbrev g1 : List ServerEvent
   g1 = step k (Attached n (moment h)) ∷ h
 
-  abbrev g2 : List Doing
+  abbrev g2 : List ServerEvent
   g2 = Notes (Socketed k at (moment h)) ∷ g1
 
-  abbrev g : List Doing
+  abbrev g : List ServerEvent
   g = stood_on k n at (moment h) (Some accept) h
 
   others : (c : ℕ) → (c == k) ≡ false → Alike c g h

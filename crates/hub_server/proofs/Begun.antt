@@ -8,20 +8,20 @@ use Rattle.std.specs.BTreeMap.{BTreeMap, btree_map_len, Updates}
 use Rattle.std.proofs.lemmas.Bool.{eqb-true, eq-eqb, cond-true, cond-false, cond_both, or_parts}
 use Rattle.std.proofs.lemmas.List.Elements.{filter-append}
 use Rattle.hd_calls.specs.Hubs.{Hub}
-use Rattle.hd_calls.specs.Peers.{Move, Settings}
+use Rattle.hd_calls.specs.Peers.{PeerEvent, Settings}
 use Rattle.hd_calls.specs.Rules.{IsPeer}
-use Rattle.hd_server.specs.Registry.{Pair, Lists, has, named, same_pair, same_text, with_pair, without}
+use Rattle.hd_rooms.specs.Registry.{Pair, Lists, has, named, same_pair, same_text, with_pair, without}
 use Rattle.hg_groups.specs.Standing.{StandsRegistry}
-use Rattle.hd_serving.specs.Machine.{Happening, Connects, Does, Rounds, Carries, Goes}
-use Rattle.hd_serving.specs.Machine.{has_gone, is_open, joined, moves, of_open, registry, settings_of, user_pairs}
+use Rattle.hd_server.specs.Machine.{MachineEvent, Connects, Does, Rounds, Carries, Goes}
+use Rattle.hd_server.specs.Machine.{has_gone, is_open, joined, moves, of_open, registry, settings_of, user_pairs}
 use Rattle.hp_peer.specs.declared.peer.Peer.{Peer}
 use Rattle.hp_peer.specs.Stands.{Stands}
 use Rattle.hg_groups.specs.declared.registry.Registry.{Registry}
 use Rattle.hub_server.specs.declared.machine.Machine.{Machine}
-use Rattle.hub_server.specs.declared.sleepers.Nap.{Nap}
-use Rattle.hub_server.specs.declared.sleepers.Sleepers.{Sleepers}
-use Rattle.hub_server.specs.Machines.{IsKeptAs, IsPeerOf, IsStranger, StandsMachine, nap_at, peer_at, settings_there}
-use Rattle.hub_server.specs.Sleepers.{Changes}
+use Rattle.hub_server.specs.declared.idle_set.IdlePeer.{IdlePeer}
+use Rattle.hub_server.specs.declared.idle_set.IdleSet.{IdleSet}
+use Rattle.hub_server.specs.Machines.{IsKeptAs, IsPeerOf, IsStranger, StandsMachine, idle_peer_at, peer_at, settings_there}
+use Rattle.hub_server.specs.IdleSet.{Changes}
 use Rattle.hub_server.proofs.Awake.{AddsOne, each_kept, has_room, index_new, one_more, room_for_all}
 use Rattle.hub_server.proofs.Open.{OthersOpen, filter_goes, filter_stays, lists_agree, of_open_unpaired}
 use Rattle.hub_server.proofs.Doing.{PutsPeer, apart, open_by, peer_is}
@@ -80,7 +80,7 @@ unconnected c k t o e = go (c == k) refl
     go false f = (f, sym (cond-false (c == k) (Some t) o f) ∙ e)
 
 -- it is no user's
-pub no_user : (c : ℕ) (w : List Happening) → settings_of c w ≡ None → without c (user_pairs w) ≡ user_pairs w
+pub no_user : (c : ℕ) (w : List MachineEvent) → settings_of c w ≡ None → without c (user_pairs w) ≡ user_pairs w
 no_user c [] e = refl
 no_user c (Connects k t None ∷ w) e = no_user c w (unconnected c k t (settings_of c w) e).1
 no_user c (Connects k t (Some u) ∷ w) e =
@@ -92,19 +92,19 @@ no_user c (Carries k j d fates asked ∷ w) e = no_user c w e
 no_user c (Goes k ∷ w) e = no_user c w e
 
 -- one that isn't there doesn't sleep
-no_nap : {H Job : Type 0} (hub : Hub Job) (clock : ℕ) (nap : Option Nap) (t : Option Settings) (h : List Move) (p : Option (Peer H Job)) → t ≡ None
-    → IsKeptAs {H = H} hub clock nap t h p → nap ≡ None
-no_nap hub clock None t h p e kept = refl
-no_nap hub clock (Some nap) None h p e kept = absurd kept
-no_nap hub clock (Some nap) (Some t) h p e kept = absurd (let z : ◌≡◌ {A = Option Settings} (Some t) None = e in cc)
+no_idle_peer : {H Job : Type 0} (hub : Hub Job) (clock : ℕ) (idle_peer : Option IdlePeer) (t : Option Settings) (h : List PeerEvent) (p : Option (Peer H Job)) → t ≡ None
+    → IsKeptAs {H = H} hub clock idle_peer t h p → idle_peer ≡ None
+no_idle_peer hub clock None t h p e kept = refl
+no_idle_peer hub clock (Some idle_peer) None h p e kept = absurd kept
+no_idle_peer hub clock (Some idle_peer) (Some t) h p e kept = absurd (let z : ◌≡◌ {A = Option Settings} (Some t) None = e in cc)
 
 -- ---- what a connection leaves as it was
 
-module _ {H Job : Type 0} (hub : Hub Job) (old new : Machine H Job) (w : List Happening) (c : ℕ) (t : Settings) (user : Option (List ℕ)) (p : Peer H Job)
+module _ {H Job : Type 0} (hub : Hub Job) (old new : Machine H Job) (w : List MachineEvent) (c : ℕ) (t : Settings) (user : Option (List ℕ)) (p : Peer H Job)
     (s : StandsMachine {H = H} hub old w) (fresh : settings_of c w ≡ None) (from_one : 0 < c) (puts : PutsPeer {H = H} old new c p)
-    (taken : Sleepers) (adds : AddsOne old.sleepers taken new.sleepers (btree_map_len old.peers) (btree_map_len new.peers) c)
+    (taken : IdleSet) (adds : AddsOne old.idle_set taken new.idle_set (btree_map_len old.peers) (btree_map_len new.peers) c)
     (stands : Stands {H = H} hub t p []) where
-  abbrev after : List Happening
+  abbrev after : List MachineEvent
   after = Connects c t user ∷ w
 
   stranger : IsStranger c w
@@ -119,15 +119,15 @@ module _ {H Job : Type 0} (hub : Hub Job) (old new : Machine H Job) (w : List Ha
   others k e = cond-false (k == c) (Some t) (settings_of k w) (apart c k e)
 
   -- it didn't sleep, since it wasn't there
-  unnapped : nap_at old c ≡ None
-  unnapped = no_nap {H = H} {Job = Job} hub old.sleepers.clock (nap_at old c) (settings_there c w) (moves c w) (peer_at old c)
+  unnapped : idle_peer_at old c ≡ None
+  unnapped = no_idle_peer {H = H} {Job = Job} hub old.idle_set.clock (idle_peer_at old c) (settings_there c w) (moves c w) (peer_at old c)
       (cond-false (has_gone c w) None (settings_of c w) stranger.unknown ∙ fresh) (s.at c)
 
-  few : length old.sleepers.awake.jobs.items ≤ btree_map_len old.peers
+  few : length old.idle_set.awake.numbers.items ≤ btree_map_len old.peers
   few = has_room {H = H} {Job = Job} old s.index
 
-  changed : Changes old.sleepers new.sleepers c None true
-  changed = one_more old.sleepers taken new.sleepers (btree_map_len old.peers) (btree_map_len new.peers) c adds s.index.kept few unnapped
+  changed : Changes old.idle_set new.idle_set c None true
+  changed = one_more old.idle_set taken new.idle_set (btree_map_len old.peers) (btree_map_len new.peers) c adds s.index.kept few unnapped
 
   here : IsPeerOf {H = H} hub (settings_there c after) (moves c after) (Some p)
   here =
@@ -136,9 +136,9 @@ module _ {H Job : Type 0} (hub : Hub Job) (old new : Machine H Job) (w : List Ha
       (subst (λ h. IsPeerOf {H = H} hub (Some t) h (Some p)) (sym stranger.unmoved) stands)
 
   others_kept : (k : ℕ) → (c == k) ≡ false
-      → IsKeptAs {H = H} hub old.sleepers.clock (nap_at old k) (settings_there k after) (moves k w) (peer_at old k)
+      → IsKeptAs {H = H} hub old.idle_set.clock (idle_peer_at old k) (settings_there k after) (moves k w) (peer_at old k)
   others_kept k e =
-      subst (λ o. IsKeptAs {H = H} hub old.sleepers.clock (nap_at old k) o (moves k w) (peer_at old k))
+      subst (λ o. IsKeptAs {H = H} hub old.idle_set.clock (idle_peer_at old k) o (moves k w) (peer_at old k))
       (ap (λ o. if has_gone k w then None else o) (sym (others k e))) (s.at k)
 
   peers_each : (k : ℕ) (o : Settings) → settings_of k after ≡ Some o → (b : Bool) → (c == k) ≡ b → IsPeer hub o (moves k after)
@@ -174,7 +174,7 @@ module _ {H Job : Type 0} (hub : Hub Job) (old new : Machine H Job) (w : List Ha
     at = each_kept {H = H} {Job = Job} hub old new c (Some p) None true changed puts.at puts.others (λ k. settings_there k after)
         (λ k. moves k after) others_kept here;
     index = index_new {H = H} {Job = Job} old new c p s.index changed puts
-        (room_for_all old.sleepers taken new.sleepers (btree_map_len old.peers) (btree_map_len new.peers) c adds s.index.kept few unnapped);
+        (room_for_all old.idle_set taken new.idle_set (btree_map_len old.peers) (btree_map_len new.peers) c adds s.index.kept few unnapped);
     registry = lists;
     peers = λ k o e. peers_each k o e (c == k) refl;
     strangers = strangers_each;
@@ -186,7 +186,7 @@ module _ {H Job : Type 0} (hub : Hub Job) (old new : Machine H Job) (w : List Ha
       go false e = e
 
 -- a user's pair goes last
-pub user_joins : (w after : List Happening) (c : ℕ) (u : List ℕ) → is_open c after ≡ true → without c (user_pairs w) ≡ user_pairs w
+pub user_joins : (w after : List MachineEvent) (c : ℕ) (u : List ℕ) → is_open c after ≡ true → without c (user_pairs w) ≡ user_pairs w
     → of_open after (user_pairs w) ≡ of_open w (user_pairs w) → of_open after (with_pair (u, c) (user_pairs w)) ≡ with_pair (u, c) (of_open w (user_pairs w))
 user_joins w after c u up none same =
     let new : has (u, c) (user_pairs w) ≡ false = ap (has (u, c)) (sym none) ∙ without_has u c (user_pairs w) in
@@ -203,9 +203,9 @@ NamesIn old new c None = new.registry ≡ old.registry
 NamesIn old new c (Some u) = (l : Lists) → StandsRegistry old.registry l → StandsRegistry new.registry (named l u c)
 
 -- a new connection has its peer, and is its user's
-pub connects : {H Job : Type 0} (hub : Hub Job) (old new : Machine H Job) (w : List Happening) (c : ℕ) (t : Settings) (user : Option (List ℕ)) (p : Peer H Job)
+pub connects : {H Job : Type 0} (hub : Hub Job) (old new : Machine H Job) (w : List MachineEvent) (c : ℕ) (t : Settings) (user : Option (List ℕ)) (p : Peer H Job)
     → StandsMachine {H = H} hub old w → settings_of c w ≡ None → 0 < c → PutsPeer {H = H} old new c p
-    → (taken : Sleepers) → AddsOne old.sleepers taken new.sleepers (btree_map_len old.peers) (btree_map_len new.peers) c → Stands {H = H} hub t p []
+    → (taken : IdleSet) → AddsOne old.idle_set taken new.idle_set (btree_map_len old.peers) (btree_map_len new.peers) c → Stands {H = H} hub t p []
     → NamesIn {H = H} {Job = Job} old new c user → StandsMachine {H = H} hub new (Connects c t user ∷ w)
 connects {H} {Job} hub old new w c t None p s fresh from_one puts taken adds stands kept =
     stands_with {H = H} {Job = Job} hub old new w c t None p s fresh from_one puts taken adds stands
@@ -230,19 +230,19 @@ at_most_one true m n e = omega (arith, e)
 at_most_one false m n e = omega (arith, e)
 
 -- the same of a machine that names the user first, takes room, and then puts the peer in
-pub begins : {H Job : Type 0} (hub : Hub Job) (old mid : Machine H Job) (r : Registry) (taken now : Sleepers)
-    (ps : BTreeMap ℕ (Peer H Job)) (w : List Happening) (c : ℕ) (t : Settings) (user : Option (List ℕ)) (p : Peer H Job)
+pub begins : {H Job : Type 0} (hub : Hub Job) (old mid : Machine H Job) (r : Registry) (taken now : IdleSet)
+    (ps : BTreeMap ℕ (Peer H Job)) (w : List MachineEvent) (c : ℕ) (t : Settings) (user : Option (List ℕ)) (p : Peer H Job)
     → StandsMachine {H = H} hub old w → settings_of c w ≡ None → 0 < c → mid ≡ record old { registry = r } → Updates nat_cmp mid.peers ps c (Some p)
-    → AddsOne mid.sleepers taken now (btree_map_len mid.peers) (btree_map_len ps) c → Stands {H = H} hub t p []
+    → AddsOne mid.idle_set taken now (btree_map_len mid.peers) (btree_map_len ps) c → Stands {H = H} hub t p []
     → NamesIn {H = H} {Job = Job} old mid c user
-    → StandsMachine {H = H} hub (record { peers = ps; registry = mid.registry; sleepers = now }) (Connects c t user ∷ w)
+    → StandsMachine {H = H} hub (record { peers = ps; registry = mid.registry; idle_set = now }) (Connects c t user ∷ w)
 begins {H} {Job} hub old mid r taken now ps w c t user p s fresh from_one kept updates adds stands names =
-    let new : Machine H Job = record { peers = ps; registry = mid.registry; sleepers = now } in
+    let new : Machine H Job = record { peers = ps; registry = mid.registry; idle_set = now } in
     connects {H = H} {Job = Job} hub old new w c t user p s fresh from_one
     (put old new c p (subst (λ m. Updates nat_cmp m.peers ps c (Some p)) kept updates)) taken
-    (subst (λ m. AddsOne m.sleepers taken now (btree_map_len m.peers) (btree_map_len ps) c) kept adds) stands (renames user names)
+    (subst (λ m. AddsOne m.idle_set taken now (btree_map_len m.peers) (btree_map_len ps) c) kept adds) stands (renames user names)
   where
     renames : (o : Option (List ℕ)) → NamesIn {H = H} {Job = Job} old mid c o
-        → NamesIn {H = H} {Job = Job} old (record { peers = ps; registry = mid.registry; sleepers = now }) c o
+        → NamesIn {H = H} {Job = Job} old (record { peers = ps; registry = mid.registry; idle_set = now }) c o
     renames None e = e
     renames (Some u) e = e

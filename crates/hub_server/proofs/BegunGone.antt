@@ -7,13 +7,13 @@ use Rattle.std.specs.Ordering.{nat_cmp}
 use Rattle.std.specs.BTreeMap.{Updates, btree_map_len}
 use Rattle.hd_calls.specs.Hubs.{Hub}
 use Rattle.hd_calls.specs.Peers.{Settings}
-use Rattle.hd_server.specs.Registry.{Lists, gone}
+use Rattle.hd_rooms.specs.Registry.{Lists, gone}
 use Rattle.hg_groups.specs.Standing.{StandsRegistry}
-use Rattle.hd_serving.specs.Machine.{Happening, Goes, has_gone, is_open, is_open_at, moves, registry, settings_of}
+use Rattle.hd_server.specs.Machine.{MachineEvent, Goes, has_gone, is_open, is_open_at, moves, registry, settings_of}
 use Rattle.hp_peer.specs.declared.peer.Peer.{Peer}
 use Rattle.hub_server.specs.declared.machine.Machine.{Machine}
-use Rattle.hub_server.specs.Machines.{IsKeptAs, IsPeerOf, IsStranger, StandsMachine, nap_at, peer_at, settings_there}
-use Rattle.hub_server.specs.Sleepers.{Changes, IsKept}
+use Rattle.hub_server.specs.Machines.{IsKeptAs, IsPeerOf, IsStranger, StandsMachine, idle_peer_at, peer_at, settings_there}
+use Rattle.hub_server.specs.IdleSet.{Changes, IsKept}
 use Rattle.hub_server.proofs.Awake.{each_kept, index_gone}
 use Rattle.hub_server.proofs.Open.{OthersOpen, registry_closed}
 use Rattle.hub_server.proofs.Doing.{apart, open_by, there_is}
@@ -21,7 +21,7 @@ use Rattle.hub_server.proofs.Ends.{unstood}
 use Rattle.hub_server.proofs.Ends as ends
 
 -- one that is there has a peer
-pub has_peer : {H Job : Type 0} (hub : Hub Job) (m : Machine H Job) (w : List Happening) (c : ℕ) (t : Settings)
+pub has_peer : {H Job : Type 0} (hub : Hub Job) (m : Machine H Job) (w : List MachineEvent) (c : ℕ) (t : Settings)
     → StandsMachine {H = H} hub m w → settings_there c w ≡ Some t → false ≡ is_some (peer_at m c) → ⊥
 has_peer {H} {Job} hub m w c t s there e = unstood {H = H} {Job = Job} hub m w c t s there (go (peer_at m c) e)
   where
@@ -29,15 +29,15 @@ has_peer {H} {Job} hub m w c t s there e = unstood {H = H} {Job = Job} hub m w c
     go None e = refl
     go (Some p) e = absurd (cc)
 
-module _ {H Job : Type 0} (hub : Hub Job) (old new : Machine H Job) (w : List Happening) (c : ℕ) (t : Settings)
+module _ {H Job : Type 0} (hub : Hub Job) (old new : Machine H Job) (w : List MachineEvent) (c : ℕ) (t : Settings)
     (s : StandsMachine {H = H} hub old w) (there : settings_there c w ≡ Some t) (updates : Updates nat_cmp old.peers new.peers c None)
-    (fewer : btree_map_len new.peers ≤ btree_map_len old.peers) (changes : IsKept old.sleepers → Changes old.sleepers new.sleepers c None false)
+    (fewer : btree_map_len new.peers ≤ btree_map_len old.peers) (changes : IsKept old.idle_set → Changes old.idle_set new.idle_set c None false)
     (leaves : (l : Lists) → StandsRegistry old.registry l → StandsRegistry new.registry (gone l c)) where
-  abbrev after : List Happening
+  abbrev after : List MachineEvent
   after = Goes c ∷ w
 
   -- neither it nor its nap is kept
-  changed : Changes old.sleepers new.sleepers c None false
+  changed : Changes old.idle_set new.idle_set c None false
   changed = changes s.index.kept
 
   has_gone_now : has_gone c after ≡ true
@@ -50,9 +50,9 @@ module _ {H Job : Type 0} (hub : Hub Job) (old new : Machine H Job) (w : List Ha
   here = subst (λ o. IsPeerOf {H = H} hub o (moves c w) None) (sym (cond-true (has_gone c after) None (settings_of c w) has_gone_now)) tt
 
   others_kept : (k : ℕ) → (c == k) ≡ false
-      → IsKeptAs {H = H} hub old.sleepers.clock (nap_at old k) (settings_there k after) (moves k w) (peer_at old k)
+      → IsKeptAs {H = H} hub old.idle_set.clock (idle_peer_at old k) (settings_there k after) (moves k w) (peer_at old k)
   others_kept k e =
-      subst (λ b. IsKeptAs {H = H} hub old.sleepers.clock (nap_at old k) (if b then None else settings_of k w) (moves k w) (peer_at old k))
+      subst (λ b. IsKeptAs {H = H} hub old.idle_set.clock (idle_peer_at old k) (if b then None else settings_of k w) (moves k w) (peer_at old k))
       (sym (others k e)) (s.at k)
 
   strangers_each : (k : ℕ) → settings_of k w ≡ None → (b : Bool) → (c == k) ≡ b → IsStranger k after

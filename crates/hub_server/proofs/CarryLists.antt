@@ -4,10 +4,10 @@ use Rattle.std.proofs.Common.{Option, Some, None, refl, sym, ap, ◌∙◌}
 use Rattle.std.specs.Prelude.{if◌then◌else◌}
 use Rattle.std.proofs.lemmas.Bool.{eqb-true, eq-eqb, ne_eqb, cond-true, cond-false, both_ways, and_right, or_left, or_cases, false_from_ne_true}
 use Rattle.std.proofs.lemmas.List.Elements.{filter_agree, filter-append}
-use Rattle.hd_server.specs.Registry.{Pair, Lists, gone, has, members, same_pair, same_text, with_pair, without, without_pair}
-use Rattle.hd_serving.specs.Machine.{Fate, Got, TooSlow, PassedOver, fate_in}
+use Rattle.hd_rooms.specs.Registry.{Pair, Lists, gone, has, members, same_pair, same_text, with_pair, without, without_pair}
+use Rattle.hd_server.specs.Machine.{DeliveryOutcome, Got, TooSlow, PassedOver, outcome_in}
 use Rattle.hub_server.specs.Spreads.{is_listed}
-use Rattle.hub_server.specs.Affairs.{without_slow}
+use Rattle.hub_server.specs.MachineView.{without_slow}
 use Rattle.hub_server.proofs.Open.{filter_after, filter_goes, filter_stays}
 
 -- ---- tests
@@ -98,12 +98,12 @@ gone_among f c l =
 
 -- ---- those that are too slow
 
-abbrev pub is_slow : Option Fate → Bool
+abbrev pub is_slow : Option DeliveryOutcome → Bool
 is_slow (Some TooSlow) = true
 is_slow _ = false
 
 -- one of these fates closed it
-abbrev pub slow_among : ℕ → List (ℕ × Fate) → Bool
+abbrev pub slow_among : ℕ → List (ℕ × DeliveryOutcome) → Bool
 slow_among k [] = false
 slow_among k (f ∷ fs) = ((f.0 == k) && is_slow (Some f.1)) || slow_among k fs
 
@@ -116,7 +116,7 @@ not_first : (a b s : Bool) → (a && not s) ≡ (a && not ((b && false) || s))
 not_first a true s = refl
 not_first a false s = refl
 
-pub slow_leave : (fates : List (ℕ × Fate)) (f : ℕ → Bool) (l : Lists)
+pub slow_leave : (fates : List (ℕ × DeliveryOutcome)) (f : ℕ → Bool) (l : Lists)
     → without_slow fates (among f l) ≡ among (λ k. f k && not (slow_among k fates)) l
 slow_leave [] f l = among_agree f (λ k. f k && true) l (λ k. sym (and_true (f k) true refl))
 slow_leave ((c, TooSlow) ∷ fs) f l =
@@ -132,18 +132,18 @@ slow_leave ((c, PassedOver) ∷ fs) f l =
 
 -- ---- fates that depend on the connection alone
 
-abbrev pub fates_by : (ℕ → Fate) → List ℕ → List (ℕ × Fate)
+abbrev pub fates_by : (ℕ → DeliveryOutcome) → List ℕ → List (ℕ × DeliveryOutcome)
 fates_by fate cs = map (λ c. (c, fate c)) cs
 
-pub fate_found : (fate : ℕ → Fate) (cs : List ℕ) (k : ℕ) → fate_in k (fates_by fate cs) ≡ (if is_listed k cs then Some (fate k) else None)
+pub fate_found : (fate : ℕ → DeliveryOutcome) (cs : List ℕ) (k : ℕ) → outcome_in k (fates_by fate cs) ≡ (if is_listed k cs then Some (fate k) else None)
 fate_found fate [] k = refl
 fate_found fate (c ∷ cs) k = go (k == c) refl (fate_found fate cs k)
   where
-    go : (b : Bool) → (k == c) ≡ b → fate_in k (fates_by fate cs) ≡ (if is_listed k cs then Some (fate k) else None)
-        → fate_in k (fates_by fate (c ∷ cs)) ≡ (if is_listed k (c ∷ cs) then Some (fate k) else None)
-    go true e ih = cond-true (k == c) (Some (fate c)) (fate_in k (fates_by fate cs)) e ∙ ap (λ n. Some (fate n)) (sym (eqb-true k c e))
+    go : (b : Bool) → (k == c) ≡ b → outcome_in k (fates_by fate cs) ≡ (if is_listed k cs then Some (fate k) else None)
+        → outcome_in k (fates_by fate (c ∷ cs)) ≡ (if is_listed k (c ∷ cs) then Some (fate k) else None)
+    go true e ih = cond-true (k == c) (Some (fate c)) (outcome_in k (fates_by fate cs)) e ∙ ap (λ n. Some (fate n)) (sym (eqb-true k c e))
         ∙ sym (cond-true (is_listed k (c ∷ cs)) (Some (fate k)) None (or_left (k == c) (is_listed k cs) e))
-    go false e ih = cond-false (k == c) (Some (fate c)) (fate_in k (fates_by fate cs)) e ∙ ih
+    go false e ih = cond-false (k == c) (Some (fate c)) (outcome_in k (fates_by fate cs)) e ∙ ih
         ∙ ap (λ b. if (b || is_listed k cs) then Some (fate k) else None) (sym e)
 
 or_again : (v l : Bool) → (v || (l && v)) ≡ v
@@ -151,7 +151,7 @@ or_again true l = refl
 or_again false true = refl
 or_again false false = refl
 
-slow_is : (fate : ℕ → Fate) (cs : List ℕ) (k : ℕ) → slow_among k (fates_by fate cs) ≡ (is_listed k cs && is_slow (Some (fate k)))
+slow_is : (fate : ℕ → DeliveryOutcome) (cs : List ℕ) (k : ℕ) → slow_among k (fates_by fate cs) ≡ (is_listed k cs && is_slow (Some (fate k)))
 slow_is fate [] k = refl
 slow_is fate (c ∷ cs) k = go (k == c) refl (slow_is fate cs k)
   where
@@ -164,7 +164,7 @@ slow_is fate (c ∷ cs) k = go (k == c) refl (slow_is fate cs k)
     go false e ih = ap (λ b. (b && is_slow (Some (fate c))) || slow_among k (fates_by fate cs)) (eqb_swap c k ∙ e) ∙ ih
         ∙ ap (λ b. (b || is_listed k cs) && is_slow (Some (fate k))) (sym e)
 
-pub slow_found : (fate : ℕ → Fate) (cs : List ℕ) (k : ℕ) → slow_among k (fates_by fate cs) ≡ is_slow (fate_in k (fates_by fate cs))
+pub slow_found : (fate : ℕ → DeliveryOutcome) (cs : List ℕ) (k : ℕ) → slow_among k (fates_by fate cs) ≡ is_slow (outcome_in k (fates_by fate cs))
 slow_found fate cs k = slow_is fate cs k ∙ go (is_listed k cs) ∙ ap is_slow (sym (fate_found fate cs k))
   where
     go : (b : Bool) → (b && is_slow (Some (fate k))) ≡ is_slow (if b then Some (fate k) else None)

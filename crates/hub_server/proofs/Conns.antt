@@ -6,13 +6,13 @@ use Rattle.std.proofs.lemmas.Bool.{eqb-true, leb-true, leb-false}
 use Rattle.std.proofs.lemmas.List.{append-nil}
 use Rattle.std.proofs.lemmas.List.Elements.{filter-append}
 use Rattle.hd_calls.specs.Hubs.{Hub}
-use Rattle.hd_calls.specs.Peers.{Move, Settings}
-use Rattle.hd_serving.specs.Lives.{numbers_to}
-use Rattle.hd_serving.specs.Machine.{Happening, greatest, has_gone, is_there, moves, settings_of}
+use Rattle.hd_calls.specs.Peers.{PeerEvent, Settings}
+use Rattle.hd_server.specs.Lives.{numbers_to}
+use Rattle.hd_server.specs.Machine.{MachineEvent, greatest, has_gone, is_there, moves, settings_of}
 use Rattle.hp_peer.specs.declared.peer.Peer.{Peer}
 use Rattle.hub_server.specs.declared.machine.Machine.{Machine}
-use Rattle.hub_server.specs.declared.sleepers.Nap.{Nap}
-use Rattle.hub_server.specs.Machines.{IsKeptAs, StandsMachine, nap_at, peer_at, settings_there}
+use Rattle.hub_server.specs.declared.idle_set.IdlePeer.{IdlePeer}
+use Rattle.hub_server.specs.Machines.{IsKeptAs, StandsMachine, idle_peer_at, peer_at, settings_there}
 use Rattle.hub_server.specs.Rounds.{AreRising}
 use Rattle.hub_server.specs.Spreads.{is_listed}
 pub use Rattle.hub_server.proofs.Listed.{first_is_listed, later_listed, listed_append, listed_filter, one_listed}
@@ -124,7 +124,7 @@ rising_rest c cs rise = let left = fewer_left (c ∷ cs) 0 c cs (all_left (c ∷
 -- ---- connections
 
 -- one that is there is among the numbers
-pub there_within : (w : List Happening) → settings_of 0 w ≡ None → (c : ℕ)
+pub there_within : (w : List MachineEvent) → settings_of 0 w ≡ None → (c : ℕ)
     → (is_there c w && is_listed c (numbers_to (greatest w))) ≡ is_there c w
 there_within w none c = by (settings_of c w) refl (not (has_gone c w))
   where
@@ -142,19 +142,19 @@ there_if true (Some t) = refl
 there_if false None = refl
 there_if false (Some t) = refl
 
-kept_here : {H Job : Type 0} (hub : Hub Job) (clock : ℕ) (nap : Option Nap) (t : Option Settings) (h : List Move) (p : Option (Peer H Job))
-    → IsKeptAs {H = H} hub clock nap t h p → is_some t ≡ is_some p
+kept_here : {H Job : Type 0} (hub : Hub Job) (clock : ℕ) (idle_peer : Option IdlePeer) (t : Option Settings) (h : List PeerEvent) (p : Option (Peer H Job))
+    → IsKeptAs {H = H} hub clock idle_peer t h p → is_some t ≡ is_some p
 kept_here hub clock None None h None is = refl
 kept_here hub clock None None h (Some p) is = absurd is
 kept_here hub clock None (Some t) h None is = absurd is
 kept_here hub clock None (Some t) h (Some p) is = refl
-kept_here hub clock (Some nap) None h p is = absurd is
-kept_here hub clock (Some nap) (Some t) h None is = absurd is
-kept_here hub clock (Some nap) (Some t) h (Some p) is = refl
+kept_here hub clock (Some idle_peer) None h p is = absurd is
+kept_here hub clock (Some idle_peer) (Some t) h None is = absurd is
+kept_here hub clock (Some idle_peer) (Some t) h (Some p) is = refl
 
 -- whoever is there has a peer, and no other
-pub here_by_peer : {H Job : Type 0} (hub : Hub Job) (m : Machine H Job) (w : List Happening) → StandsMachine {H = H} hub m w → (c : ℕ)
+pub here_by_peer : {H Job : Type 0} (hub : Hub Job) (m : Machine H Job) (w : List MachineEvent) → StandsMachine {H = H} hub m w → (c : ℕ)
     → is_there c w ≡ is_some (peer_at m c)
 here_by_peer {H} {Job} hub m w s c =
     there_if (has_gone c w) (settings_of c w)
-    ∙ kept_here {H = H} {Job = Job} hub m.sleepers.clock (nap_at m c) (settings_there c w) (moves c w) (peer_at m c) (s.at c)
+    ∙ kept_here {H = H} {Job = Job} hub m.idle_set.clock (idle_peer_at m c) (settings_there c w) (moves c w) (peer_at m c) (s.at c)

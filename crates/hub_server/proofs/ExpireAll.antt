@@ -3,12 +3,12 @@ use Rattle.std.proofs.Common.{◌≡◌, ◌≤◌, ℕ, ◌+◌, Bool, true, fa
 use Rattle.std.proofs.Common.{refl, sym, ap, subst, ◌∙◌, arith}
 use Rattle.std.specs.List.{flat_map}
 use Rattle.hd_calls.specs.Hubs.{Hub}
-use Rattle.hd_serving.specs.declared.vocabulary.Said.{Said}
-use Rattle.hd_serving.specs.Laws.{MomentsComeOnce}
-use Rattle.hd_serving.specs.Numbers.{most_connections}
-use Rattle.hd_serving.specs.Lives.{deadline, is_past, made, overdue, standing}
-use Rattle.hd_serving.specs.Doings.{Doing, moment, notes}
-use Rattle.hd_serving.specs.Plans.{Setup, expiring, onto}
+use Rattle.hd_server.specs.declared.vocabulary.Said.{Said}
+use Rattle.hd_server.specs.Laws.{MomentsComeOnce}
+use Rattle.hd_server.specs.Numbers.{most_connections}
+use Rattle.hd_server.specs.Lives.{deadline, is_past, made, overdue, standing}
+use Rattle.hd_server.specs.Doings.{ServerEvent, moment, notes}
+use Rattle.hd_server.specs.Plans.{Setup, expiring, onto}
 use Rattle.hub_server.specs.declared.server.Server.{Server}
 use Rattle.hub_server.specs.Events.{Expires, ExpiresFirst}
 use Rattle.hub_server.specs.Lanes.{Unsettled}
@@ -25,16 +25,16 @@ use Rattle.hub_server.proofs.TickApart.{Apart}
 -- ---- by the definitions alone
 
 -- what is done about a connection, as all was at first
-abbrev done : List Doing → ℕ → List Doing
+abbrev done : List ServerEvent → ℕ → List ServerEvent
 done h c = expiring (moment h) (standing c (notes h)) c h
 
-same_moment_all : (h : List Doing) (cs : List ℕ) (g : List Doing) → moment (onto (flat_map (done h) cs) g) ≡ moment g
+same_moment_all : (h : List ServerEvent) (cs : List ℕ) (g : List ServerEvent) → moment (onto (flat_map (done h) cs) g) ≡ moment g
 same_moment_all h [] g = refl
 same_moment_all h (c ∷ cs) g =
     let a = apart_expiring (moment h) (standing c (notes h)) c h g in
     ap moment (onto_append (done h c) (flat_map (done h) cs) g) ∙ same_moment_all h cs (onto (done h c) g) ∙ a.same_moment
 
-none_left : MomentsComeOnce → (h : List Doing) (cs : List ℕ) (g : List Doing) → overdue (moment h) (notes g) ≡ cs
+none_left : MomentsComeOnce → (h : List ServerEvent) (cs : List ℕ) (g : List ServerEvent) → overdue (moment h) (notes g) ≡ cs
     → overdue (moment h) (notes (onto (flat_map (done h) cs) g)) ≡ []
 none_left once h [] g e = e
 none_left once h (c ∷ cs) g e =
@@ -43,7 +43,7 @@ none_left once h (c ∷ cs) g e =
     (ap (overdue (moment h)) (notes_expiring (moment h) (standing c (notes h)) c h g) ∙ once c cs (moment h) (notes g) e)
 
 -- none is overdue any more
-pub none_overdue : MomentsComeOnce → (h : List Doing) → NoneOverdue (expired_by h)
+pub none_overdue : MomentsComeOnce → (h : List ServerEvent) → NoneOverdue (expired_by h)
 none_overdue once h =
     ap (λ m. overdue m (notes (expired_by h))) (same_moment_all h (overdue (moment h) (notes h)) h)
     ∙ none_left once h (overdue (moment h) (notes h)) h refl
@@ -52,8 +52,8 @@ none_overdue once h =
 
 -- these are left
 pub record ExpiresSo {H Job : Type 0} (hub : Hub Job) (s : Setup) (u : Unsettled) (before : List Said) (new : Server H Job) (i : ℕ) (left : List ℕ)
-    (h : List Doing) : Type 0 where
-  pub so_far : List Doing
+    (h : List ServerEvent) : Type 0 where
+  pub so_far : List ServerEvent
   pub stands : Standing hub s u before new so_far
   pub same_moment : moment so_far ≡ moment h
   pub are_left : overdue (moment h) (notes so_far) ≡ left
@@ -84,7 +84,7 @@ module _ {H Job : Type 0} (hub : Hub Job) (old : Server H Job) where
   )
 
   -- one more comes to its moment
-  one : MomentsComeOnce → (mid new : Server H Job) (i : ℕ) (s : Setup) (u : Unsettled) (before : List Said) (h : List Doing) (c : ℕ) (rest : List ℕ)
+  one : MomentsComeOnce → (mid new : Server H Job) (i : ℕ) (s : Setup) (u : Unsettled) (before : List Said) (h : List ServerEvent) (c : ℕ) (rest : List ℕ)
       (x : ExpiresSo {H = H} hub s u before mid i (c ∷ rest) h)
       → Standing {H = H} hub s u before new (onto (expiring (moment x.so_far) (standing c (notes x.so_far)) c x.so_far) x.so_far)
       → ExpiresSo {H = H} hub s u before new (i + 1) rest h
@@ -114,7 +114,7 @@ module _ {H Job : Type 0} (hub : Hub Job) (old : Server H Job) where
       → ExpireSoFar mid i → ExpireSoFar new (i + 1)
   expires_on once mid new i more is next so = λ s u before h st free. on s u before h free (so s u before h st free)
     where
-      on : (s : Setup) (u : Unsettled) (before : List Said) (h : List Doing) → u.conn ≡ None
+      on : (s : Setup) (u : Unsettled) (before : List Said) (h : List ServerEvent) → u.conn ≡ None
           → (left : List ℕ) × ExpiresSo {H = H} hub s u before mid i left h
           → (left : List ℕ) × ExpiresSo {H = H} hub s u before new (i + 1) left h
       on s u before h free (left, x) =
@@ -123,7 +123,7 @@ module _ {H Job : Type 0} (hub : Hub Job) (old : Server H Job) where
           let same : left ≡ first.conn ∷ first.rest = sym x.are_left ∙ ap (λ m. overdue m (notes x.so_far)) (sym x.same_moment) ∙ first.first in
           (first.rest, step_on s u before h left x first same)
         where
-          step_on : (s : Setup) (u : Unsettled) (before : List Said) (h : List Doing) (left : List ℕ)
+          step_on : (s : Setup) (u : Unsettled) (before : List Said) (h : List ServerEvent) (left : List ℕ)
               (x : ExpiresSo {H = H} hub s u before mid i left h)
               (first : ExpiresFirst {H = H} hub s u before new x.so_far) → left ≡ first.conn ∷ first.rest
               → ExpiresSo {H = H} hub s u before new (i + 1) first.rest h
@@ -146,7 +146,7 @@ module _ {H Job : Type 0} (hub : Hub Job) (old : Server H Job) where
       → ExpireSoFar mid i → OfEach {H = H} hub old (λ s u before h. u.conn ≡ None → Standing {H = H} hub s u before new (expired_by h))
   expires_over mid new i more is next so = λ s u before h st free. over s u before h free (so s u before h st free)
     where
-      over : (s : Setup) (u : Unsettled) (before : List Said) (h : List Doing) → u.conn ≡ None
+      over : (s : Setup) (u : Unsettled) (before : List Said) (h : List ServerEvent) → u.conn ≡ None
           → (left : List ℕ) × ExpiresSo {H = H} hub s u before mid i left h
           → Standing {H = H} hub s u before new (expired_by h)
       over s u before h free (left, x) =
@@ -160,7 +160,7 @@ module _ {H Job : Type 0} (hub : Hub Job) (old : Server H Job) where
       → OfEach {H = H} hub old (λ s u before h. u.conn ≡ None → Standing {H = H} hub s u before new (expired_by h))
   expires_all new i far so = λ s u before h st free. never s u before h st (so s u before h st free)
     where
-      never : (s : Setup) (u : Unsettled) (before : List Said) (h : List Doing) → Standing {H = H} hub s u before old h
+      never : (s : Setup) (u : Unsettled) (before : List Said) (h : List ServerEvent) → Standing {H = H} hub s u before old h
           → (left : List ℕ) × ExpiresSo {H = H} hub s u before new i left h → Standing {H = H} hub s u before new (expired_by h)
       never s u before h st (left, x) =
           let made_few : made (notes h) ≤ most_connections = (let f = st.front in f.few) in

@@ -6,14 +6,14 @@ use Rattle.std.specs.Prelude.{if◌then◌else◌, option_map, unwrap_or}
 use Rattle.std.proofs.lemmas.Bool.{and_from, and_parts, and_right, le-leb, lt-ltb}
 use Rattle.hd_delivery.specs.Histories.{first_of}
 use Rattle.hd_delivery.specs.declared.vocabulary.Reason.TheVariants as reason
-use Rattle.hd_serving.specs.declared.vocabulary.Life.{Life}
-use Rattle.hd_serving.specs.declared.vocabulary.Life.TheVariants.{Unknown, Fresh, Socket, Lost, Polling, Ending}
-use Rattle.hd_serving.specs.Numbers.{lives_for}
-use Rattle.hd_serving.specs.Lives.{Note, Expired, deadline, ended_at, ends_then, is_let_go, is_made, is_opened, is_past, is_polling, life_of, lost_at}
-use Rattle.hd_serving.specs.Lives.{made, negotiated_at, numbers_to, only_polls, overdue, past, since, socket_of, standing, when}
-use Rattle.hd_serving.specs.Machine.{Goes}
-use Rattle.hd_serving.specs.Doings.{Doing, Notes, Works, has_peer, is_up, notes}
-use Rattle.hd_serving.specs.Plans.{closing, dropping, expiring, onto, step}
+use Rattle.hd_server.specs.declared.vocabulary.Life.{Life}
+use Rattle.hd_server.specs.declared.vocabulary.Life.TheVariants.{Unknown, Fresh, Socket, Lost, Polling, Ending}
+use Rattle.hd_server.specs.Numbers.{lives_for}
+use Rattle.hd_server.specs.Lives.{ConnectionEvent, Expired, deadline, ended_at, ends_then, is_let_go, is_made, is_opened, is_past, is_polling, life_of, lost_at}
+use Rattle.hd_server.specs.Lives.{made, negotiated_at, numbers_to, only_polls, overdue, past, since, socket_of, standing, when}
+use Rattle.hd_server.specs.Machine.{Goes}
+use Rattle.hd_server.specs.Doings.{ServerEvent, Notes, Works, has_peer, is_up, notes}
+use Rattle.hd_server.specs.Plans.{closing, dropping, expiring, onto, step}
 use Rattle.hd_delivery.specs.Histories.{Closed}
 use Rattle.hub_server.specs.Spreads.{is_listed}
 use Rattle.hub_server.proofs.Alike.{Alike, there_alike, up_alike}
@@ -28,7 +28,7 @@ life_by gone ended socket lost polls begun = unwrap_or
     (first_of (when gone Unknown) (first_of (when ended Ending) (first_of (option_map Socket socket)
     (first_of (when lost Lost) (first_of (when polls Polling) (when begun Fresh)))))) Unknown
 
-pub standing_by : (c : ℕ) (n : List Note) → standing c n
+pub standing_by : (c : ℕ) (n : List ConnectionEvent) → standing c n
     ≡ life_by (is_let_go c n) (is_some (ended_at c n)) (socket_of c n) (is_some (lost_at c n)) (is_polling c n)
     (is_opened c n || is_some (negotiated_at c n))
 standing_by c n = refl
@@ -56,7 +56,7 @@ pub record GoesThen (gone ended : Bool) (socket : Option ℕ) (lost polls : Bool
   pub held : gone ≡ false
   pub ends : ((polls && not (is_some socket || lost)) && not ended) ≡ false
 
-module _ (c now : ℕ) (n : List Note) where
+module _ (c now : ℕ) (n : List ConnectionEvent) where
   abbrev has_come : Life → Bool
   has_come life = is_past now (option_map (λ moment. moment + lives_for) (since c life n))
 
@@ -90,11 +90,11 @@ positive (suc n) k e =
     by true f g before = before f
     by false f g before = let l = one_listed k (suc n) g in omega (arith, l)
 
-pub record IsOverdue (c now : ℕ) (n : List Note) : Type 0 where
+pub record IsOverdue (c now : ℕ) (n : List ConnectionEvent) : Type 0 where
   pub is_made_so : is_made c n ≡ true
   pub come : is_past now (deadline c n) ≡ true
 
-pub first_overdue : (c now : ℕ) (rest : List ℕ) (n : List Note) → overdue now n ≡ c ∷ rest → IsOverdue c now n
+pub first_overdue : (c now : ℕ) (rest : List ℕ) (n : List ConnectionEvent) → overdue now n ≡ c ∷ rest → IsOverdue c now n
 first_overdue c now rest n e =
     let parts = and_parts (is_past now (deadline c n)) (is_listed c (numbers_to (made n)))
     (sym (listed_filter (λ k. is_past now (deadline k n)) c (numbers_to (made n))) ∙ ap (is_listed c) e ∙ first_is_listed c rest) in
@@ -103,7 +103,7 @@ first_overdue c now rest n e =
       come = parts.0;
     }
 
-pub life_then : (c now : ℕ) (n : List Note) → is_past now (deadline c n) ≡ true → life_of c now n ≡ past (standing c n)
+pub life_then : (c now : ℕ) (n : List ConnectionEvent) → is_past now (deadline c n) ≡ true → life_of c now n ≡ past (standing c n)
 life_then c now n e = ap (λ (b : Bool). if b then past (standing c n) else standing c n) e
 
 -- ---- how many there are
@@ -124,7 +124,7 @@ filter_length p (x ∷ xs) = by (p x) (filter_length p xs)
     by true e = omega (arith, e)
     by false e = omega (arith, e)
 
-pub few_overdue : (now : ℕ) (n : List Note) → length (overdue now n) ≤ made n
+pub few_overdue : (now : ℕ) (n : List ConnectionEvent) → length (overdue now n) ≤ made n
 few_overdue now n =
     let less = filter_length (λ c. is_past now (deadline c n)) (numbers_to (made n)) in
     let all = numbers_length (made n) in
@@ -133,7 +133,7 @@ few_overdue now n =
 -- ---- what is done then
 
 -- it is noted, after what isn't
-pub notes_expiring : (now : ℕ) (life : Life) (c : ℕ) (of g : List Doing) → notes (onto (expiring now life c of) g) ≡ Expired c now ∷ notes g
+pub notes_expiring : (now : ℕ) (life : Life) (c : ℕ) (of g : List ServerEvent) → notes (onto (expiring now life c of) g) ≡ Expired c now ∷ notes g
 notes_expiring now life c of g = by life
   where
     closed : (b : Bool)
@@ -153,7 +153,7 @@ notes_expiring now life c of g = by life
     by Polling = closed (is_up c of)
     by Ending = dropped (has_peer c of)
 
-pub apart_expiring : (now : ℕ) (life : Life) (c : ℕ) (of g : List Doing) → Apart c (onto (expiring now life c of) g) g
+pub apart_expiring : (now : ℕ) (life : Life) (c : ℕ) (of g : List ServerEvent) → Apart c (onto (expiring now life c of) g) g
 apart_expiring now life c of g = by life
   where
     dropped : Apart c (onto (dropping c of ++ Notes (Expired c now) ∷ []) g) g
@@ -171,7 +171,7 @@ apart_expiring now life c of g = by life
     by Ending = dropped
 
 -- the same after what left the connection as it was
-pub expiring_same : (now : ℕ) (life : Life) (c : ℕ) (g h : List Doing) → Alike c g h → expiring now life c g ≡ expiring now life c h
+pub expiring_same : (now : ℕ) (life : Life) (c : ℕ) (g h : List ServerEvent) → Alike c g h → expiring now life c g ≡ expiring now life c h
 expiring_same now life c g h a = by life
   where
     dropped : (dropping c g ++ Notes (Expired c now) ∷ []) ≡ (dropping c h ++ Notes (Expired c now) ∷ [])
@@ -186,7 +186,7 @@ expiring_same now life c g h a = by life
     by Ending = dropped
 
 -- the life of another is the same
-pub life_other : (now c k : ℕ) (life : Life) (of g : List Doing) → (k == c) ≡ false
+pub life_other : (now c k : ℕ) (life : Life) (of g : List ServerEvent) → (k == c) ≡ false
     → standing k (notes (onto (expiring now life c of) g)) ≡ standing k (notes g)
 life_other now c k life of g e =
     ap (λ n. standing k n) (notes_expiring now life c of g)

@@ -10,15 +10,15 @@ use Rattle.hd_delivery.specs.declared.vocabulary.Reason.TheVariants as reason
 use Rattle.hd_delivery.specs.Histories.{Closed, is_this}
 use Rattle.hd_delivery.specs.Bytes.{Does as Step_of}
 use Rattle.hd_calls.specs.Hubs.{Hub}
-use Rattle.hd_calls.specs.Peers.{Move, Plain, Settings, is_shut}
-use Rattle.hd_serving.specs.declared.vocabulary.Said.{Said}
-use Rattle.hd_serving.specs.declared.vocabulary.Life.{Life}
-use Rattle.hd_serving.specs.declared.vocabulary.Life.TheVariants.{Unknown, Fresh, Socket, Lost, Polling, Ending}
-use Rattle.hd_serving.specs.Lives.{Expired, ended_at, ends_then, is_let_go, is_opened, is_polling, life_of, lost_at, negotiated_at, only_polls}
-use Rattle.hd_serving.specs.Lives.{overdue, past, socket_of, standing}
-use Rattle.hd_serving.specs.Machine.{Does, Goes, has_gone, is_open_at, moves, settings_of}
-use Rattle.hd_serving.specs.Doings.{Doing, Notes, Works, has_peer, is_up, moment, notes, user_of, work}
-use Rattle.hd_serving.specs.Plans.{Setup, closing, dropping, expiring, onto, step}
+use Rattle.hd_calls.specs.Peers.{PeerEvent, Plain, Settings, is_shut}
+use Rattle.hd_server.specs.declared.vocabulary.Said.{Said}
+use Rattle.hd_server.specs.declared.vocabulary.Life.{Life}
+use Rattle.hd_server.specs.declared.vocabulary.Life.TheVariants.{Unknown, Fresh, Socket, Lost, Polling, Ending}
+use Rattle.hd_server.specs.Lives.{Expired, ended_at, ends_then, is_let_go, is_opened, is_polling, life_of, lost_at, negotiated_at, only_polls}
+use Rattle.hd_server.specs.Lives.{overdue, past, socket_of, standing}
+use Rattle.hd_server.specs.Machine.{Does, Goes, has_gone, is_open_at, moves, settings_of}
+use Rattle.hd_server.specs.Doings.{ServerEvent, Notes, Works, has_peer, is_up, moment, notes, user_of, work}
+use Rattle.hd_server.specs.Plans.{Setup, closing, dropping, expiring, onto, step}
 use Rattle.hn_server_front.specs.declared.front.Front.{Front}
 use Rattle.hn_server_front.specs.Calls as calls
 use Rattle.hn_server_front.specs.Stands as front
@@ -43,14 +43,14 @@ use Rattle.hub_server.proofs.TickSteps.{begun_here, chosen, passed_by, standing_
 -- ---- one that is closed
 
 -- how a connection that isn't there was begun, its end isn't open
-shut_there : (gone : Bool) (o : Option Settings) (ms : List Move) → (if gone then None else o) ≡ None → (not gone && is_open_at o ms) ≡ false
+shut_there : (gone : Bool) (o : Option Settings) (ms : List PeerEvent) → (if gone then None else o) ≡ None → (not gone && is_open_at o ms) ≡ false
 shut_there true o ms e = refl
 shut_there false None ms e = refl
 shut_there false (Some t) ms e = absurd (let no : ◌≡◌ {A = Option Settings} (Some t) None = e in cc)
 
 -- another machine stands for the same
 with_machine : {H Job : Type 0} (hub : Hub Job) (s : Setup) (u : Unsettled) (before : List Said) (v : Server H Job) (m : Machine H Job)
-    (h : List Doing)
+    (h : List ServerEvent)
     → Standing {H = H} hub s u before v h → StandsMachine {H = H} hub m (work h) → Standing {H = H} hub s u before (record v { machine = m }) h
 with_machine {H} hub s u before v m h st machine = record {
   setup = st.setup;
@@ -65,7 +65,7 @@ with_machine {H} hub s u before v m h st machine = record {
 }
 
 pub standing_closes : {H Job : Type 0} (hub : Hub Job) (s : Setup) (u : Unsettled) (before : List Said) (v : Server H Job) (m : Machine H Job)
-    (c : ℕ) (why : Reason) (h : List Doing)
+    (c : ℕ) (why : Reason) (h : List ServerEvent)
     → Standing {H = H} hub s u before v h
     → OfConn {H = H} hub v.machine c (λ w t ms. is_shut t ms ≡ false → StandsMachine {H = H} hub m (Does c (Plain (Step_of (Closed why false))) ∷ w))
     → OfConn {H = H} hub v.machine c (λ w t ms. is_shut t ms ≡ true → StandsMachine {H = H} hub m w)
@@ -98,7 +98,7 @@ standing_closes {H} {Job} hub s u before v m c why h st live closed absent = by 
 
 -- ---- one that only polls
 
-module _ {H Job : Type 0} (hub : Hub Job) (s : Setup) (u : Unsettled) (before : List Said) (v : Server H Job) (c : ℕ) (h : List Doing)
+module _ {H Job : Type 0} (hub : Hub Job) (s : Setup) (u : Unsettled) (before : List Said) (v : Server H Job) (c : ℕ) (h : List ServerEvent)
     (st : Standing {H = H} hub s u before v h) (polls : standing c (notes h) ≡ Polling) where
   only : OnlyPolls (is_let_go c (notes h)) (is_some (ended_at c (notes h))) (socket_of c (notes h)) (is_some (lost_at c (notes h)))
       (is_polling c (notes h))
@@ -109,7 +109,7 @@ module _ {H Job : Type 0} (hub : Hub Job) (s : Setup) (u : Unsettled) (before : 
   abbrev now : ℕ
   now = moment h
 
-  abbrev after : List Doing
+  abbrev after : List ServerEvent
   after = Notes (Expired c now) ∷ h
 
   ends : ends_then c (notes h) ≡ true
@@ -166,27 +166,27 @@ module _ {H Job : Type 0} (hub : Hub Job) (s : Setup) (u : Unsettled) (before : 
 
 -- ---- one of which nothing is kept
 
-module _ (c now : ℕ) (h : List Doing) (ends : ends_then c (notes h) ≡ false) where
-  let_go_then : (g : List Doing) → notes g ≡ notes h → is_let_go c (notes (Notes (Expired c now) ∷ g)) ≡ true
+module _ (c now : ℕ) (h : List ServerEvent) (ends : ends_then c (notes h) ≡ false) where
+  let_go_then : (g : List ServerEvent) → notes g ≡ notes h → is_let_go c (notes (Notes (Expired c now) ∷ g)) ≡ true
   let_go_then g same =
       or_left ((c == c) && not (ends_then c (notes g))) (is_let_go c (notes g))
       (and_from (c == c) (not (ends_then c (notes g))) (eq-eqb c c refl) (ap not (ap (λ n. ends_then c n) same ∙ ends)))
 
-  ended_same : (g : List Doing) → notes g ≡ notes h → ended_at c (notes (Notes (Expired c now) ∷ g)) ≡ ended_at c (notes h)
+  ended_same : (g : List ServerEvent) → notes g ≡ notes h → ended_at c (notes (Notes (Expired c now) ∷ g)) ≡ ended_at c (notes h)
   ended_same g same =
       ap (λ n. ended_at c (Expired c now ∷ n)) same
       ∙ passed_by {A = Option ℕ} ((c == c) && (only_polls c (notes h) && not (is_some (ended_at c (notes h))))) (Some now) (ended_at c (notes h))
       (and_right (c == c) (ends_then c (notes h)) ends)
 
-  none_calls : (g : List Doing) → is_let_go c (notes g) ≡ true → caller_of c g ≡ None
+  none_calls : (g : List ServerEvent) → is_let_go c (notes g) ≡ true → caller_of c g ≡ None
   none_calls g e =
       chosen {A = Option (List ℕ)} (is_some (settings_of c (work g)) || is_let_go c (notes g)) None (user_of c g)
       (or_right (is_some (settings_of c (work g))) (is_let_go c (notes g)) e)
 
-  abbrev dropped : List Doing
+  abbrev dropped : List ServerEvent
   dropped = Notes (Expired c now) ∷ Works (Goes c) ∷ h
 
-  abbrev noted : List Doing
+  abbrev noted : List ServerEvent
   noted = Notes (Expired c now) ∷ h
 
   gone_then : has_peer c dropped ≡ false
@@ -252,7 +252,7 @@ module _ (c now : ℕ) (h : List Doing) (ends : ends_then c (notes h) ≡ false)
 
 -- it left its lanes, has no peer, and isn't known
 pub standing_goes : {H Job : Type 0} (hub : Hub Job) (s : Setup) (u : Unsettled) (before : List Said) (v mid : Server H Job) (c : ℕ)
-    (h g : List Doing)
+    (h g : List ServerEvent)
     → Standing {H = H} hub s u before v h → Freed c g h → IsKnown c h → HasLeft {H = H} c v mid h → (m : Machine H Job)
     → StandsMachine {H = H} hub m (work g)
     → (f : Front) → front.Stands f (notes g) → (callers : BTreeMap ℕ (List ℕ)) → Updates nat_cmp mid.callers callers c None
@@ -284,7 +284,7 @@ standing_goes {H} hub s u before v mid c h g st freed known left m machine f sta
 
 -- ---- the first that is overdue
 
-module _ {H Job : Type 0} (hub : Hub Job) (s : Setup) (u : Unsettled) (before : List Said) (v : Server H Job) (h : List Doing)
+module _ {H Job : Type 0} (hub : Hub Job) (s : Setup) (u : Unsettled) (before : List Said) (v : Server H Job) (h : List ServerEvent)
     (st : Standing {H = H} hub s u before v h) (c : ℕ) (rest : List ℕ) (first : overdue v.moment (notes h) ≡ c ∷ rest) where
   is_first : overdue (moment h) (notes h) ≡ c ∷ rest
   is_first = ap (λ n. overdue n (notes h)) (sym st.clock) ∙ first

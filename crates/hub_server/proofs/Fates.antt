@@ -11,7 +11,7 @@ use Rattle.hm_message.specs.declared.message.Codec.TheVariants.{Json, Pack}
 use Rattle.hm_message.specs.declared.message.Message.{Message}
 use Rattle.hm_message.specs.declared.message.Message.TheVariants.{Invocation}
 use Rattle.hm_message.specs.Message.{Fits, content_depth}
-use Rattle.hd_delivery.specs.Histories.{Step, Config, is_shaken}
+use Rattle.hd_delivery.specs.Histories.{EndEvent, Config, is_shaken}
 use Rattle.hd_delivery.specs.Worlds.{Limits, Sizes, HasRoom, MaySend}
 use Rattle.hd_delivery.specs.Sending as sending
 use Rattle.hd_delivery.specs.Sending.{SendRefusal, IsRefusedToSend}
@@ -20,16 +20,16 @@ use Rattle.he_end.specs.declared.errors.SendError.{SendError}
 use Rattle.he_end.specs.declared.errors.SendError.TheVariants as send
 use Rattle.hd_calls.specs.Numbers.{most_depth}
 use Rattle.hd_calls.specs.Hubs.{Invoked, Way, Notify, message_of, message_in}
-use Rattle.hd_calls.specs.Peers.{Move, Settings, codec, is_shut, steps}
+use Rattle.hd_calls.specs.Peers.{PeerEvent, Settings, codec, is_shut, steps}
 use Rattle.hp_peer.specs.Calling.{IsNotice, heard}
-use Rattle.hd_serving.specs.Machine.{Fate, Got, TooSlow, PassedOver, notice, fate_of}
-use Rattle.hd_serving.specs.Laws.{IsRightFate, FatesAreRefusals}
-use Rattle.hub_server.specs.Deals.{IsSent, IsUnsent}
+use Rattle.hd_server.specs.Machine.{DeliveryOutcome, Got, TooSlow, PassedOver, notice, fate_of}
+use Rattle.hd_server.specs.Laws.{IsRightFate, FatesAreRefusals}
+use Rattle.hub_server.specs.Delivers.{IsSent, IsUnsent}
 
 -- ---- a message has one fate
 
 -- a message that may be sent isn't refused
-never_both : (limits : Limits) (sizes : Sizes) (c : Config) (k : List Step) (m : Message) (why : SendRefusal)
+never_both : (limits : Limits) (sizes : Sizes) (c : Config) (k : List EndEvent) (m : Message) (why : SendRefusal)
     → MaySend limits sizes c k m → IsRefusedToSend limits sizes c k m why → ⊥
 never_both limits sizes c k m sending.Opening may r = true≢false (sym may.shakes ∙ r.0)
 never_both limits sizes c k m sending.Closed may r = true≢false (sym r ∙ may.unclosed)
@@ -38,11 +38,11 @@ never_both limits sizes c k m (sending.Full held bytes size) may r = r.4 (subst 
 never_both limits sizes c k m sending.Exhausted may r = omega (arith, may.few, r.2)
 
 -- the end of a peer that was begun so refuses it
-abbrev pub Refuses : Settings → List Move → Message → SendRefusal → Type 0
+abbrev pub Refuses : Settings → List PeerEvent → Message → SendRefusal → Type 0
 Refuses t h m why = IsRefusedToSend t.limits (sizes_of t.wire) t.config (steps t h) m why
 
 -- the fate of a message that is refused so
-abbrev pub fate_for : SendRefusal → Fate
+abbrev pub fate_for : SendRefusal → DeliveryOutcome
 fate_for sending.Opening = PassedOver
 fate_for sending.Closed = PassedOver
 fate_for (sending.TooLong size) = PassedOver
@@ -50,7 +50,7 @@ fate_for (sending.Full held bytes size) = TooSlow
 fate_for sending.Exhausted = PassedOver
 
 -- what is refused for want of room is refused for nothing else
-full_alone : (t : Settings) (h : List Move) (m : Message) (held bytes size : ℕ) (why : SendRefusal)
+full_alone : (t : Settings) (h : List PeerEvent) (m : Message) (held bytes size : ℕ) (why : SendRefusal)
     → Refuses t h m (sending.Full held bytes size) → Refuses t h m why → fate_for why ≡ TooSlow
 full_alone t h m held bytes size sending.Opening full r = absurd (true≢false (sym full.0.shakes ∙ r.0))
 full_alone t h m held bytes size sending.Closed full r = absurd (true≢false (sym r ∙ full.0.unclosed))
@@ -60,12 +60,12 @@ full_alone t h m held bytes size sending.Exhausted full r =
     absurd (full.4 (subst (λ s. HasRoom t.limits (sizes_of t.wire) t.config (steps t h) s) (sym full.3) r.1))
 
 -- so a refusal whose fate is to be passed over isn't one for want of room
-never_full : (t : Settings) (h : List Move) (m : Message) (held bytes size : ℕ) (why : SendRefusal)
+never_full : (t : Settings) (h : List PeerEvent) (m : Message) (held bytes size : ℕ) (why : SendRefusal)
     → Refuses t h m (sending.Full held bytes size) → Refuses t h m why → fate_for why ≡ PassedOver → ⊥
 never_full t h m held bytes size why full r e = let same : PassedOver ≡ TooSlow = sym e ∙ full_alone t h m held bytes size why full r in cc
 
 -- a message that may be sent is got
-got : (t : Settings) (h : List Move) (m : Message) (f : Fate) → Fits m → IsRightFate t h m f
+got : (t : Settings) (h : List PeerEvent) (m : Message) (f : DeliveryOutcome) → Fits m → IsRightFate t h m f
     → MaySend t.limits (sizes_of t.wire) t.config (steps t h) m → f ≡ Got
 got t h m Got fits right may = refl
 got t h m TooSlow fits right may = absurd (never_both _ _ _ _ _ (sending.Full right.0 right.1 right.2) may right.3)
@@ -75,7 +75,7 @@ got t h m PassedOver fits (inr (inr (inl r))) may = absurd (never_both _ _ _ _ _
 got t h m PassedOver fits (inr (inr (inr r))) may = absurd (never_both _ _ _ _ _ sending.Exhausted may r)
 
 -- one that is passed over, and is refused, has the fate of its refusal
-passed_or_full : (t : Settings) (h : List Move) (m : Message) (why : SendRefusal) → Fits m → IsRightFate t h m PassedOver → Refuses t h m why
+passed_or_full : (t : Settings) (h : List PeerEvent) (m : Message) (why : SendRefusal) → Fits m → IsRightFate t h m PassedOver → Refuses t h m why
     → PassedOver ≡ fate_for why
 passed_or_full t h m sending.Opening fits right r = refl
 passed_or_full t h m sending.Closed fits right r = refl
@@ -87,7 +87,7 @@ passed_or_full t h m (sending.Full held bytes size) fits (inr (inr (inr o))) r =
 passed_or_full t h m sending.Exhausted fits right r = refl
 
 -- and so has any that is refused
-as_refused : (t : Settings) (h : List Move) (m : Message) (why : SendRefusal) (f : Fate) → Fits m → IsRightFate t h m f → Refuses t h m why
+as_refused : (t : Settings) (h : List PeerEvent) (m : Message) (why : SendRefusal) (f : DeliveryOutcome) → Fits m → IsRightFate t h m f → Refuses t h m why
     → f ≡ fate_for why
 as_refused t h m why Got fits right r = absurd (never_both _ _ _ _ _ why right r)
 as_refused t h m why TooSlow fits right r = sym (full_alone t h m right.0 right.1 right.2 why right.3 r)
@@ -160,14 +160,14 @@ is_call target arguments call n = by call.way call.target call.arguments call.st
 -- ---- the fate by what was answered
 
 -- by the answer of an end to which it was sent, None if it wasn't
-abbrev pub fate_by : Option (Option SendError) → Fate
+abbrev pub fate_by : Option (Option SendError) → DeliveryOutcome
 fate_by None = PassedOver
 fate_by (Some None) = Got
 fate_by (Some (Some (send.Full held bytes size))) = TooSlow
 fate_by (Some (Some why)) = PassedOver
 
 -- a notice as the other end reads it
-abbrev pub read_as : Settings → List Move → List ℕ → List Tree → Message
+abbrev pub read_as : Settings → List PeerEvent → List ℕ → List Tree → Message
 read_as t h target arguments = message_of (notice (codec t h) target arguments)
 
 -- a test between equals decides nothing
@@ -176,11 +176,11 @@ same_either true x = refl
 same_either false x = refl
 
 -- before the handshake it is passed over
-unshaken : (t : Settings) (h : List Move) (m : Message) → is_shaken (steps t h) ≡ false → fate_of t h m ≡ PassedOver
+unshaken : (t : Settings) (h : List PeerEvent) (m : Message) → is_shaken (steps t h) ≡ false → fate_of t h m ≡ PassedOver
 unshaken t h m e = rw e (same_either (not (nat_le (content_depth m) most_depth)) PassedOver)
 
 -- what doesn't fit is passed over
-pub unfit : (t : Settings) (h : List Move) (target : List ℕ) (arguments : List Tree) → (Fits (said target arguments) → ⊥)
+pub unfit : (t : Settings) (h : List PeerEvent) (target : List ℕ) (arguments : List Tree) → (Fits (said target arguments) → ⊥)
     → fate_of t h (read_as t h target arguments) ≡ PassedOver
 unfit t h target arguments deep = by (nat_le (content_depth (read_as t h target arguments)) most_depth) refl where
   by : (b : Bool) → nat_le (content_depth (read_as t h target arguments)) most_depth ≡ b → fate_of t h (read_as t h target arguments) ≡ PassedOver
@@ -188,9 +188,9 @@ unfit t h target arguments deep = by (nat_le (content_depth (read_as t h target 
   by false e = rw e refl
 
 -- at an open end, where what is said fits
-module _ (law : FatesAreRefusals) (t : Settings) (h : List Move) (target : List ℕ) (arguments : List Tree)
+module _ (law : FatesAreRefusals) (t : Settings) (h : List PeerEvent) (target : List ℕ) (arguments : List Tree)
     (fits : Fits (said target arguments)) (up : is_shut t h ≡ false) where
-  abbrev here : Fate
+  abbrev here : DeliveryOutcome
   here = fate_of t h (read_as t h target arguments)
 
   right_here : IsRightFate t h (read_as t h target arguments) here
@@ -200,7 +200,7 @@ module _ (law : FatesAreRefusals) (t : Settings) (h : List Move) (target : List 
   fits_here = read_fits (codec t h) target arguments fits
 
   -- what was sent is got
-  pub sent_got : (after : List Move) → IsSent t (said target arguments) h after → here ≡ Got
+  pub sent_got : (after : List PeerEvent) → IsSent t (said target arguments) h after → here ≡ Got
   sent_got after s = got t h _ here fits_here right_here
       (subst (λ call. MaySend t.limits (sizes_of t.wire) t.config (steps t h) (message_of (heard t h call))) (is_call target arguments s.call s.notice) s.may)
 
@@ -215,6 +215,6 @@ module _ (law : FatesAreRefusals) (t : Settings) (h : List Move) (target : List 
   unsent_by send.NoMemory u n = absurd (n refl)
 
 -- so is a notice before the handshake
-pub unasked_passed : (t : Settings) (h : List Move) (target : List ℕ) (arguments : List Tree) → is_shaken (steps t h) ≡ false
+pub unasked_passed : (t : Settings) (h : List PeerEvent) (target : List ℕ) (arguments : List Tree) → is_shaken (steps t h) ≡ false
     → fate_of t h (read_as t h target arguments) ≡ PassedOver
 unasked_passed t h target arguments e = unshaken t h (read_as t h target arguments) e

@@ -7,13 +7,13 @@ use Rattle.hd_delivery.specs.Numbers.{most_framing}
 use Rattle.hd_delivery.specs.Histories.{present_link}
 use Rattle.hd_delivery.specs.Bytes.{Bytes, unread}
 use Rattle.hd_delivery.specs.OneHistory.{next_reader}
-use Rattle.hd_runs.specs.Laws.{TakenHasRoom, HasRoomFor}
+use Rattle.hd_delivery.specs.AloneLaws.{TakenHasRoom, HasRoomFor}
 use Rattle.he_end.specs.Calls.{taken_at}
 use Rattle.he_wire.specs.Laws.{WireIsSound}
 use Rattle.hd_calls.specs.Hubs.{Hub}
-use Rattle.hd_calls.specs.Peers.{Move, Plain, Settings, byte_steps, is_shut, steps}
-use Rattle.hd_serving.specs.Machine.{Happening, Does, moves}
-use Rattle.hd_serving.specs.Serves.{Feeds, TakesAll, can_feed, next_piece, unread_on}
+use Rattle.hd_calls.specs.Peers.{PeerEvent, Plain, Settings, byte_steps, is_shut, steps}
+use Rattle.hd_server.specs.Machine.{MachineEvent, Does, moves}
+use Rattle.hd_server.specs.Serves.{Feeds, TakesAll, can_feed, next_piece, unread_on}
 use Rattle.hub_server.specs.declared.machine.Machine.{Machine}
 use Rattle.hub_server.specs.Machines.{StandsMachine, settings_there}
 use Rattle.hub_server.specs.Calls.{doing}
@@ -24,13 +24,13 @@ use Rattle.hub_server.proofs.FeedAt.{doing_twice, history_there, sound_there}
 -- ---- one piece
 
 -- of a piece of this length so many bytes are taken there
-abbrev taken_on : Settings → List Move → ℕ → ℕ → ℕ
+abbrev taken_on : Settings → List PeerEvent → ℕ → ℕ → ℕ
 taken_on t h l piece =
     let held = unread t.wire t.config l (byte_steps t h) in
     taken_at t.limits (next_reader t.wire t.config l (steps t h) held) (length held) piece
 
 -- an end that can be fed stands on a link, and is open
-pub fed_there : (t : Settings) (h : List Move) → can_feed t h ≡ true → (l : ℕ) × (present_link (steps t h) ≡ Some l) × (is_shut t h ≡ false)
+pub fed_there : (t : Settings) (h : List PeerEvent) → can_feed t h ≡ true → (l : ℕ) × (present_link (steps t h) ≡ Some l) × (is_shut t h ≡ false)
 fed_there t h e = by (present_link (steps t h)) refl (is_shut t h) refl e
   where
     by : (o : Option ℕ) → present_link (steps t h) ≡ o → (b : Bool) → is_shut t h ≡ b → (is_some o && not b) ≡ true
@@ -39,9 +39,9 @@ fed_there t h e = by (present_link (steps t h)) refl (is_shut t h) refl e
     by (Some l) at true shut e = absurd (cc)
     by None at b shut e = absurd (cc)
 
-module _ (room : TakenHasRoom) (sound : WireIsSound) {H Job : Type 0} (hub : Hub Job) (m : Machine H Job) (w : List Happening) (c : ℕ) (t : Settings)
+module _ (room : TakenHasRoom) (sound : WireIsSound) {H Job : Type 0} (hub : Hub Job) (m : Machine H Job) (w : List MachineEvent) (c : ℕ) (t : Settings)
     (s : StandsMachine {H = H} hub m w) (there : settings_there c w ≡ Some t) (clear : IsClear t (moves c w)) (bytes : List ℕ) (n : ℕ) where
-  abbrev h : List Move
+  abbrev h : List PeerEvent
   h = moves c w
 
   abbrev piece : List ℕ
@@ -79,7 +79,7 @@ module _ (room : TakenHasRoom) (sound : WireIsSound) {H Job : Type 0} (hub : Hub
         → TakesWhole {H = H} hub new c (Does c (Plain (Bytes piece)) ∷ w) t (Plain (Bytes piece) ∷ h) now
         → FeedsPiece {H = H} hub new c w t h now n bytes
     piece_taken new now can whole =
-        let fed : Move = Plain (Bytes piece) in
+        let fed : PeerEvent = Plain (Bytes piece) in
         let same : (whole.moves ++ fed ∷ []) ++ h ≡ whole.moves ++ fed ∷ h = append_assoc whole.moves (fed ∷ []) h in
         let takes = subst (λ y. TakesAll t now (fed ∷ h) y) (sym same) whole.takes in
         record {
@@ -90,13 +90,13 @@ module _ (room : TakenHasRoom) (sound : WireIsSound) {H Job : Type 0} (hub : Hub
         }
 
 -- nothing can be fed
-pub none_fed : {H Job : Type 0} (hub : Hub Job) (m : Machine H Job) (w : List Happening) (c : ℕ) (t : Settings) (now : ℕ) (bytes : List ℕ)
+pub none_fed : {H Job : Type 0} (hub : Hub Job) (m : Machine H Job) (w : List MachineEvent) (c : ℕ) (t : Settings) (now : ℕ) (bytes : List ℕ)
     → StandsMachine {H = H} hub m w → IsClear t (moves c w) → can_feed t (moves c w) ≡ false → FeedsPiece {H = H} hub m c w t (moves c w) now 0 bytes
 none_fed hub m w c t now bytes s clear can = record { moves = []; how = inl (can, refl, refl); clear = clear; stands = s }
 
 -- what is told of one more
-pub piece_at : {H Job : Type 0} (hub : Hub Job) (new : Machine H Job) (c : ℕ) (w : List Happening) (t : Settings) (now n : ℕ) (bytes : List ℕ)
-    (ms : List Move)
+pub piece_at : {H Job : Type 0} (hub : Hub Job) (new : Machine H Job) (c : ℕ) (w : List MachineEvent) (t : Settings) (now n : ℕ) (bytes : List ℕ)
+    (ms : List PeerEvent)
     → IsClear t (ms ++ moves c w)
     → (IsClear t (moves c (doing c ms w)) → FeedsPiece {H = H} hub new c (doing c ms w) t (moves c (doing c ms w)) now n bytes)
     → FeedsPiece {H = H} hub new c (doing c ms w) t (ms ++ moves c w) now n bytes
@@ -107,10 +107,10 @@ piece_at {H} hub new c w t now n bytes ms clear fed =
 -- ---- piece by piece
 
 -- so many of the bytes were fed, and whatever is fed then comes after that
-pub record HasFed {H Job : Type 0} (hub : Hub Job) (new : Machine H Job) (c : ℕ) (w : List Happening) (t : Settings) (h : List Move) (now : ℕ)
+pub record HasFed {H Job : Type 0} (hub : Hub Job) (new : Machine H Job) (c : ℕ) (w : List MachineEvent) (t : Settings) (h : List PeerEvent) (now : ℕ)
     (bytes : List ℕ) (at : ℕ) : Type 0 where
-  pub moves : List Move
-  pub onward : (after : List Move) (ps : List (List ℕ)) → Feeds t now true (drop at bytes) ps (moves ++ h) after
+  pub moves : List PeerEvent
+  pub onward : (after : List PeerEvent) (ps : List (List ℕ)) → Feeds t now true (drop at bytes) ps (moves ++ h) after
       → (qs : List (List ℕ)) × Feeds t now false bytes qs h after
   pub clear : IsClear t (moves ++ h)
   pub stands : StandsMachine {H = H} hub new (doing c moves w)
@@ -118,14 +118,14 @@ pub record HasFed {H Job : Type 0} (hub : Hub Job) (new : Machine H Job) (c : �
 take_length : (n : ℕ) (bytes : List ℕ) → n ≤ length bytes → length (take n bytes) ≡ n
 take_length n bytes few = omega (arith, few, length-take n bytes)
 
-module _ {H Job : Type 0} (hub : Hub Job) (c : ℕ) (w : List Happening) (t : Settings) (h : List Move) (now : ℕ) (bytes : List ℕ) where
+module _ {H Job : Type 0} (hub : Hub Job) (c : ℕ) (w : List MachineEvent) (t : Settings) (h : List PeerEvent) (now : ℕ) (bytes : List ℕ) where
   -- the first piece
   pub fed_first : (new : Machine H Job) (n : ℕ) → n ≤ length bytes → FeedsPiece {H = H} hub new c w t h now n bytes
       → HasFed {H = H} hub new c w t h now bytes n
   fed_first new n few fed = record { moves = fed.moves; onward = onward fed.how; clear = fed.clear; stands = fed.stands }
     where
       onward : ((can_feed t h ≡ false) × (n ≡ 0) × (fed.moves ≡ [])) ⊎ IsPiece t h now bytes (take n bytes) (fed.moves ++ h)
-          → (after : List Move) (ps : List (List ℕ)) → Feeds t now true (drop n bytes) ps (fed.moves ++ h) after
+          → (after : List PeerEvent) (ps : List (List ℕ)) → Feeds t now true (drop n bytes) ps (fed.moves ++ h) after
           → (qs : List (List ℕ)) × Feeds t now false bytes qs h after
       onward (inl (can, none, unmoved)) after [] feeds = ([], (inl can, feeds.1 ∙ ap (λ ms. ms ++ h) unmoved))
       onward (inl (can, none, unmoved)) after (p ∷ ps) feeds =
@@ -146,7 +146,7 @@ module _ {H Job : Type 0} (hub : Hub Job) (c : ℕ) (w : List Happening) (t : Se
 
   module _ (old new : Machine H Job) (at n : ℕ) (has : HasFed {H = H} hub old c w t h now bytes at) (rest : List ℕ) (is : rest ≡ drop at bytes)
       (fed : FeedsPiece {H = H} hub new c (doing c has.moves w) t (has.moves ++ h) now n rest) where
-    abbrev x : List Move
+    abbrev x : List PeerEvent
     x = has.moves ++ h
 
     -- a further one
@@ -165,7 +165,7 @@ module _ {H Job : Type 0} (hub : Hub Job) (c : ℕ) (w : List Happening) (t : Se
         further = ap (λ k. drop k rest) (take_length n rest few) ∙ ap (drop n) is ∙ drop-drop n at bytes
 
         onward : ((can_feed t x ≡ false) × (n ≡ 0) × (fed.moves ≡ [])) ⊎ IsPiece t x now rest (take n rest) (fed.moves ++ x)
-            → (after : List Move) (ps : List (List ℕ)) → Feeds t now true (drop (at + n) bytes) ps (fed.moves ++ x) after
+            → (after : List PeerEvent) (ps : List (List ℕ)) → Feeds t now true (drop (at + n) bytes) ps (fed.moves ++ x) after
             → (qs : List (List ℕ)) × Feeds t now false bytes qs h after
         onward (inl (can, none, unmoved)) after ps feeds = absurd (omega (arith, some, none))
         onward (inr one) after ps feeds =

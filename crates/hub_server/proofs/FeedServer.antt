@@ -8,17 +8,17 @@ use Rattle.std.specs.List.{list_all}
 use Rattle.std.proofs.lemmas.Bool.{eqb-true}
 use Rattle.hd_delivery.specs.declared.vocabulary.Reason.{Reason}
 use Rattle.hd_delivery.specs.Histories as of
-use Rattle.hd_delivery.specs.Histories.{Step, Took, Failed, is_kept, is_this, link_count, present_link, was_on}
+use Rattle.hd_delivery.specs.Histories.{EndEvent, Took, Failed, is_resumable, is_this, link_count, present_link, was_on}
 use Rattle.hd_delivery.specs.Processes.{processes}
 use Rattle.hd_delivery.specs.Bytes.{Wire, ByteStep, Bytes, Does as Step_of, in_frames}
 use Rattle.hd_calls.specs.Hubs.{Hub}
-use Rattle.hd_calls.specs.Peers.{Move, Plain, Reads, Handles, Settings, add, byte_steps, is_shut, reason_of, shuts, steps, waiting}
-use Rattle.hd_serving.specs.declared.vocabulary.Said.{Said}
-use Rattle.hd_serving.specs.Lives.{ended_at, is_let_go, is_made, is_polling, lost_at, socket_of}
-use Rattle.hd_serving.specs.Machine.{Does, has_gone, moves, settings_of}
-use Rattle.hd_serving.specs.Doings.{Doing, notes, work, moment, said, peer, history, history_with, config_of, config_with, has_peer, user_of}
-use Rattle.hd_serving.specs.Plans.{Setup}
-use Rattle.hd_serving.specs.Serves.{Feeds, is_taking, moving}
+use Rattle.hd_calls.specs.Peers.{PeerEvent, Plain, Reads, Handles, Settings, add, byte_steps, is_shut, reason_of, shuts, steps, waiting}
+use Rattle.hd_server.specs.declared.vocabulary.Said.{Said}
+use Rattle.hd_server.specs.Lives.{ended_at, is_let_go, is_made, is_polling, lost_at, socket_of}
+use Rattle.hd_server.specs.Machine.{Does, has_gone, moves, settings_of}
+use Rattle.hd_server.specs.Doings.{ServerEvent, notes, work, moment, said, peer, history, history_with, config_of, config_with, has_peer, user_of}
+use Rattle.hd_server.specs.Plans.{Setup}
+use Rattle.hd_server.specs.Serves.{Feeds, is_taking, moving}
 use Rattle.hn_server_front.specs.Stands as front
 use Rattle.hub_server.specs.declared.machine.Machine.{Machine}
 use Rattle.hub_server.specs.declared.server.Server.{Server}
@@ -34,16 +34,16 @@ use Rattle.hub_server.proofs.LaneKept.{SameLane, lane_kept, same_lane_refl, same
 
 -- ---- what is fed leaves the end where it stands
 
-pub record IsStill (g h : List Step) : Type 0 where
+pub record IsStill (g h : List EndEvent) : Type 0 where
   pub present : present_link g ≡ present_link h
   pub was : (l : ℕ) → was_on l g ≡ was_on l h
   pub count : link_count g ≡ link_count h
   pub timely : of.moment g ≡ of.moment h
 
-still_refl : (h : List Step) → IsStill h h
+still_refl : (h : List EndEvent) → IsStill h h
 still_refl h = record { present = refl; was = λ l. refl; count = refl; timely = refl }
 
-still_then : (f g h : List Step) → IsStill f g → IsStill g h → IsStill f h
+still_then : (f g h : List EndEvent) → IsStill f g → IsStill g h → IsStill f h
 still_then f g h a b =
     record { present = a.present ∙ b.present; was = λ l. a.was l ∙ b.was l; count = a.count ∙ b.count; timely = a.timely ∙ b.timely }
 
@@ -54,7 +54,7 @@ still_shut wire c true (Some why) y = still_refl (in_frames wire c y)
 still_shut wire c false None y = still_refl (in_frames wire c y)
 still_shut wire c false (Some why) y = record { present = refl; was = λ l. refl; count = refl; timely = refl }
 
-still_move : (t : Settings) (now : ℕ) (m : Move) (h : List Move) → is_taking now m ≡ true → IsStill (steps t (m ∷ h)) (steps t h)
+still_move : (t : Settings) (now : ℕ) (m : PeerEvent) (h : List PeerEvent) → is_taking now m ≡ true → IsStill (steps t (m ∷ h)) (steps t h)
 still_move t now (Plain (Step_of (Took got))) h e = record { present = refl; was = λ l. refl; count = refl; timely = refl }
 still_move t now (Plain (Step_of (Failed fault))) h e = record { present = refl; was = λ l. refl; count = refl; timely = refl }
 still_move t now (Reads m) h e = record { present = refl; was = λ l. refl; count = refl; timely = refl }
@@ -65,23 +65,23 @@ both : (a b : Bool) → (a && b) ≡ true → (a ≡ true) × (b ≡ true)
 both true b e = (refl, e)
 both false b e = absurd (true≢false (sym e))
 
-still_taken : (t : Settings) (now : ℕ) (ms h : List Move) → list_all (is_taking now) ms ≡ true → IsStill (steps t (ms ++ h)) (steps t h)
+still_taken : (t : Settings) (now : ℕ) (ms h : List PeerEvent) → list_all (is_taking now) ms ≡ true → IsStill (steps t (ms ++ h)) (steps t h)
 still_taken t now [] h e = still_refl (steps t h)
 still_taken t now (m ∷ ms) h e =
     let is = both (is_taking now m) (list_all (is_taking now) ms) e in
     still_then (steps t (m ∷ (ms ++ h))) (steps t (ms ++ h)) (steps t h) (still_move t now m (ms ++ h) is.0) (still_taken t now ms h is.1)
 
-still_feeds : (t : Settings) (now : ℕ) (fed : Bool) (bytes : List ℕ) (ps : List (List ℕ)) (h after : List Move) → Feeds t now fed bytes ps h after
+still_feeds : (t : Settings) (now : ℕ) (fed : Bool) (bytes : List ℕ) (ps : List (List ℕ)) (h after : List PeerEvent) → Feeds t now fed bytes ps h after
     → IsStill (steps t after) (steps t h)
 still_feeds t now fed bytes [] h after feeds = subst (λ y. IsStill (steps t y) (steps t h)) (sym feeds.1) (still_refl (steps t h))
 still_feeds t now fed bytes (p ∷ ps) h after (can, some, next, (mid, takes, more)) =
-    let first : Move = Plain (Bytes p) in
+    let first : PeerEvent = Plain (Bytes p) in
     let taken = subst (λ y. IsStill (steps t y) (steps t (first ∷ h))) (sym takes.are) (still_taken t now takes.taken (first ∷ h) takes.each) in
     still_then (steps t after) (steps t mid) (steps t h) (still_feeds t now true _ ps mid after more)
     (still_then (steps t mid) (steps t (first ∷ h)) (steps t h) taken (record { present = refl; was = λ l. refl; count = refl; timely = refl }))
 
 -- without a link nothing is fed
-unfed : (t : Settings) (now : ℕ) (fed : Bool) (bytes : List ℕ) (ps : List (List ℕ)) (h after : List Move) → present_link (steps t h) ≡ None
+unfed : (t : Settings) (now : ℕ) (fed : Bool) (bytes : List ℕ) (ps : List (List ℕ)) (h after : List PeerEvent) → present_link (steps t h) ≡ None
     → Feeds t now fed bytes ps h after → after ≡ h
 unfed t now fed bytes [] h after off feeds = feeds.1
 unfed t now fed bytes (p ∷ ps) h after off feeds =
@@ -89,50 +89,50 @@ unfed t now fed bytes (p ∷ ps) h after off feeds =
 
 -- ---- what moves leave of a server
 
-module _ (c : ℕ) (h : List Doing) where
-  work_moving : (ms : List Move) → work (moving c ms h) ≡ doing c ms (work h)
+module _ (c : ℕ) (h : List ServerEvent) where
+  work_moving : (ms : List PeerEvent) → work (moving c ms h) ≡ doing c ms (work h)
   work_moving [] = refl
   work_moving (m ∷ ms) = ap (λ w. Does c m ∷ w) (work_moving ms)
 
-  notes_moving : (ms : List Move) → notes (moving c ms h) ≡ notes h
+  notes_moving : (ms : List PeerEvent) → notes (moving c ms h) ≡ notes h
   notes_moving [] = refl
   notes_moving (m ∷ ms) = notes_moving ms
 
-  said_moving : (ms : List Move) → said (moving c ms h) ≡ said h
+  said_moving : (ms : List PeerEvent) → said (moving c ms h) ≡ said h
   said_moving [] = refl
   said_moving (m ∷ ms) = said_moving ms
 
-  moment_moving : (ms : List Move) → moment (moving c ms h) ≡ moment h
+  moment_moving : (ms : List PeerEvent) → moment (moving c ms h) ≡ moment h
   moment_moving [] = refl
   moment_moving (m ∷ ms) = moment_moving ms
 
-  settings_moving : (k : ℕ) (ms : List Move) → settings_of k (work (moving c ms h)) ≡ settings_of k (work h)
+  settings_moving : (k : ℕ) (ms : List PeerEvent) → settings_of k (work (moving c ms h)) ≡ settings_of k (work h)
   settings_moving k [] = refl
   settings_moving k (m ∷ ms) = settings_moving k ms
 
-  gone_moving : (k : ℕ) (ms : List Move) → has_gone k (work (moving c ms h)) ≡ has_gone k (work h)
+  gone_moving : (k : ℕ) (ms : List PeerEvent) → has_gone k (work (moving c ms h)) ≡ has_gone k (work h)
   gone_moving k [] = refl
   gone_moving k (m ∷ ms) = gone_moving k ms
 
-  lane_moving : (lane : ℕ) (ms : List Move) → SameLane lane (moving c ms h) h
+  lane_moving : (lane : ℕ) (ms : List PeerEvent) → SameLane lane (moving c ms h) h
   lane_moving lane [] = same_lane_refl lane h
   lane_moving lane (m ∷ ms) =
       same_lane_trans lane (moving c (m ∷ ms) h) (moving c ms h) h (same_lane_works lane (Does c m) (moving c ms h)) (lane_moving lane ms)
 
-  others_moving : (k : ℕ) → (k == c) ≡ false → (ms : List Move) → Alike k (moving c ms h) h
+  others_moving : (k : ℕ) → (k == c) ≡ false → (ms : List PeerEvent) → Alike k (moving c ms h) h
   others_moving k e [] = alike_refl k h
   others_moving k e (m ∷ ms) = alike_trans k (moving c (m ∷ ms) h) (moving c ms h) h (alike_does k c m (moving c ms h) e) (others_moving k e ms)
 
-  there_moving : (k : ℕ) (ms : List Move) → has_peer k (moving c ms h) ≡ has_peer k h
+  there_moving : (k : ℕ) (ms : List PeerEvent) → has_peer k (moving c ms h) ≡ has_peer k h
   there_moving k ms =
       ap (λ o. is_some o && not (has_gone k (work (moving c ms h)))) (settings_moving k ms)
       ∙ ap (λ b. is_some (settings_of k (work h)) && not b) (gone_moving k ms)
 
-  user_moving : (k : ℕ) (ms : List Move) → user_of k (moving c ms h) ≡ user_of k h
+  user_moving : (k : ℕ) (ms : List PeerEvent) → user_of k (moving c ms h) ≡ user_of k h
   user_moving k [] = refl
   user_moving k (m ∷ ms) = user_moving k ms
 
-  caller_moving : (k : ℕ) (ms : List Move) → caller_of k (moving c ms h) ≡ caller_of k h
+  caller_moving : (k : ℕ) (ms : List PeerEvent) → caller_of k (moving c ms h) ≡ caller_of k h
   caller_moving k ms =
       ap (λ o. if is_some o || is_let_go k (notes (moving c ms h)) then None else user_of k (moving c ms h)) (settings_moving k ms)
       ∙ ap (λ n. if is_some (settings_of k (work h)) || is_let_go k n then None else user_of k (moving c ms h)) (notes_moving ms)
@@ -140,10 +140,10 @@ module _ (c : ℕ) (h : List Doing) where
 
 -- ---- the connection that is fed
 
-module _ (u : Unsettled) (c : ℕ) (h : List Doing) (t : Settings) (begun : settings_of c (work h) ≡ Some t) (x : IsOrderly u c h)
-    (now : ℕ) (bytes : List ℕ) (ps : List (List ℕ)) (ms : List Move) (feeds : Feeds t now false bytes ps (peer c h) (ms ++ peer c h))
+module _ (u : Unsettled) (c : ℕ) (h : List ServerEvent) (t : Settings) (begun : settings_of c (work h) ≡ Some t) (x : IsOrderly u c h)
+    (now : ℕ) (bytes : List ℕ) (ps : List (List ℕ)) (ms : List PeerEvent) (feeds : Feeds t now false bytes ps (peer c h) (ms ++ peer c h))
     (clear : IsClear t (ms ++ peer c h)) where
-  abbrev g : List Doing
+  abbrev g : List ServerEvent
   g = moving c ms h
 
   peer_is : peer c g ≡ ms ++ peer c h
@@ -195,7 +195,7 @@ module _ (u : Unsettled) (c : ℕ) (h : List Doing) (t : Settings) (begun : sett
     kept = λ e f.
         let lost = subst (λ n. is_some (lost_at c n) ≡ true) noted f in
         let off = x.unlinked (sym there ∙ e) lost in
-        ap (λ o. is_kept (config_with o) (history c g)) same ∙ ap (is_kept (config_of c h)) (same_history off) ∙ x.kept (sym there ∙ e) lost;
+        ap (λ o. is_resumable (config_with o) (history c g)) same ∙ ap (is_resumable (config_of c h)) (same_history off) ∙ x.kept (sym there ∙ e) lost;
     links = λ l e. subst (λ n. l < n) (sym still.count) (x.links l (sym (still.was l) ∙ e));
     timely = subst (λ n. n ≤ moment g) (sym still.timely) (subst (λ n. of.moment (history c h) ≤ n) (sym (moment_moving c h ms)) x.timely);
     handled = ap waiting peer_is ∙ clear.handled;
@@ -203,7 +203,7 @@ module _ (u : Unsettled) (c : ℕ) (h : List Doing) (t : Settings) (begun : sett
   }
 
 -- before it is fed every whole frame is taken
-clear_at : (u : Unsettled) (c : ℕ) (h : List Doing) (t : Settings) → settings_of c (work h) ≡ Some t → IsOrderly u c h → IsClear t (peer c h)
+clear_at : (u : Unsettled) (c : ℕ) (h : List ServerEvent) (t : Settings) → settings_of c (work h) ≡ Some t → IsOrderly u c h → IsClear t (peer c h)
 clear_at u c h t begun x = record {
   handled = x.handled;
   taken = sym (ap (λ o. processes (config_with o) (history_with o (peer c h))) begun) ∙ x.taken;
@@ -215,7 +215,7 @@ same_moment : {n m : ℕ} → n ≡ m → m ≤ n
 same_moment e = omega (arith, e)
 
 -- it has a peer
-there_of : (c : ℕ) (h : List Doing) → has_peer c h ≡ true → (t : Settings) × (settings_of c (work h) ≡ Some t) × (settings_there c (work h) ≡ Some t)
+there_of : (c : ℕ) (h : List ServerEvent) → has_peer c h ≡ true → (t : Settings) × (settings_of c (work h) ≡ Some t) × (settings_there c (work h) ≡ Some t)
 there_of c h e = by (settings_of c (work h)) refl (has_gone c (work h)) refl e
   where
     by : (o : Option Settings) → settings_of c (work h) ≡ o → (b : Bool) → has_gone c (work h) ≡ b → (is_some o && not b) ≡ true
@@ -224,7 +224,7 @@ there_of c h e = by (settings_of c (work h)) refl (has_gone c (work h)) refl e
     by (Some t) f true k e = absurd (true≢false (sym e))
     by None f b k e = absurd (true≢false (sym e))
 
-module _ {H Job : Type 0} (hub : Hub Job) (s : Setup) (u : Unsettled) (before : List Said) (v : Server H Job) (h : List Doing)
+module _ {H Job : Type 0} (hub : Hub Job) (s : Setup) (u : Unsettled) (before : List Said) (v : Server H Job) (h : List ServerEvent)
     (x : Standing {H = H} hub s u before v h) (c : ℕ) (bytes : List ℕ) (m : Machine H Job) where
   fed_with : (t : Settings) → settings_of c (work h) ≡ Some t → FeedsBytes {H = H} hub m c (work h) t (peer c h) (moment h) false bytes
       → IsFedTo {H = H} hub s u before (record v { machine = m }) c bytes h

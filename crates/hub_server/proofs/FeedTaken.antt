@@ -7,20 +7,20 @@ use Rattle.hm_message.specs.declared.message.Message.{Message}
 use Rattle.hd_delivery.specs.declared.vocabulary.Reason.{Reason}
 use Rattle.hd_delivery.specs.declared.vocabulary.Got.TheVariants as gives
 use Rattle.hd_delivery.specs.Histories as of
-use Rattle.hd_delivery.specs.Histories.{Step, Took, Failed, present_link}
+use Rattle.hd_delivery.specs.Histories.{EndEvent, Took, Failed, present_link}
 use Rattle.hd_delivery.specs.Processes.{next_frame}
 use Rattle.hd_delivery.specs.Bytes.{Wire, ByteStep, Does as Step_of, IsSoundWire, in_frames}
 use Rattle.hd_delivery.specs.OneHistory.{IsHistory}
-use Rattle.hd_runs.specs.Following.{Follow}
-use Rattle.hd_runs.specs.Alone.{taking}
-use Rattle.hd_runs.specs.Laws.{TakesFew}
-use Rattle.hq_resend.specs.Bounds.{most_frame}
+use Rattle.hd_delivery.specs.Following.{Follow}
+use Rattle.hd_delivery.specs.Alone.{taking}
+use Rattle.hd_delivery.specs.AloneLaws.{TakesFew}
+use Rattle.hd_delivery.specs.Bounds.{most_frame}
 use Rattle.hd_calls.specs.Hubs.{Hub}
-use Rattle.hd_calls.specs.Peers.{Effect, Begins, InUse, TooMany, Brings, Feeds, Flood, Marks, Nothing, Move, Plain, Reads, Handles, Settings, add}
+use Rattle.hd_calls.specs.Peers.{Effect, Begins, InUse, TooMany, Brings, Feeds, Flood, Marks, Nothing, PeerEvent, Plain, Reads, Handles, Settings, add}
 use Rattle.hd_calls.specs.Peers.{byte_steps, is_shut, reason_of, shuts, steps, waiting}
-use Rattle.hd_serving.specs.Machine.{Happening, moves}
-use Rattle.hd_serving.specs.Machine as machine
-use Rattle.hd_serving.specs.Serves.{is_taking}
+use Rattle.hd_server.specs.Machine.{MachineEvent, moves}
+use Rattle.hd_server.specs.Machine as machine
+use Rattle.hd_server.specs.Serves.{is_taking}
 use Rattle.hp_peer.specs.declared.did.Did.{Did}
 use Rattle.hp_peer.specs.declared.did.Did.TheVariants as did
 use Rattle.hp_peer.specs.declared.errors.PeerError.{PeerError}
@@ -44,7 +44,7 @@ shut_or_same wire c false None y = inl refl
 shut_or_same wire c false (Some why) y = inr refl
 
 -- a job that is told to have begun began at this moment
-told_taking : (h : List Move) (now : ℕ) (m : Message) (e : Effect) (told : Did) → IsToldAs h now m e told → is_taking now (Handles m e) ≡ true
+told_taking : (h : List PeerEvent) (now : ℕ) (m : Message) (e : Effect) (told : Did) → IsToldAs h now m e told → is_taking now (Handles m e) ≡ true
 told_taking h now m (Begins call since) (did.Began job id target arguments) is = eq-eqb since now is.0.moment
 told_taking h now m (Begins call since) _ is = absurd is
 told_taking h now m (InUse call) told is = refl
@@ -56,25 +56,25 @@ told_taking h now m (Marks j) told is = refl
 told_taking h now m Nothing told is = refl
 
 -- the end made these steps, or is closed
-abbrev ComesTo : Settings → List Move → List ByteStep → Type 0
+abbrev ComesTo : Settings → List PeerEvent → List ByteStep → Type 0
 ComesTo t x bs = (byte_steps t x ≡ bs) ⊎ (is_shut t x ≡ true)
 
 -- the message that waited was handled, or the next frame made its step
-abbrev IsOne : Settings → List Move → List Move → Type 0
+abbrev IsOne : Settings → List PeerEvent → List PeerEvent → Type 0
 IsOne t x ms = ((waiting x ≡ None → ⊥) × ComesTo t (ms ++ x) (byte_steps t x))
-    ⊎ ((s : Step) × IsNext t x s × ComesTo t (ms ++ x) (Step_of s ∷ byte_steps t x))
+    ⊎ ((s : EndEvent) × IsNext t x s × ComesTo t (ms ++ x) (Step_of s ∷ byte_steps t x))
 
-pub record HasTakenOne {H Job : Type 0} (hub : Hub Job) (new : Machine H Job) (c : ℕ) (w : List Happening) (t : Settings) (x : List Move)
+pub record HasTakenOne {H Job : Type 0} (hub : Hub Job) (new : Machine H Job) (c : ℕ) (w : List MachineEvent) (t : Settings) (x : List PeerEvent)
     (now : ℕ) : Type 0 where
-  pub moves : List Move
+  pub moves : List PeerEvent
   pub each : list_all (is_taking now) moves ≡ true
   pub rests : waiting (moves ++ x) ≡ None
   pub one : IsOne t x moves
   pub stands : StandsMachine {H = H} hub new (doing c moves w)
 
-module _ {H Job : Type 0} (hub : Hub Job) (new : Machine H Job) (c : ℕ) (w : List Happening) (t : Settings) (x : List Move) (now : ℕ) where
+module _ {H Job : Type 0} (hub : Hub Job) (new : Machine H Job) (c : ℕ) (w : List MachineEvent) (t : Settings) (x : List PeerEvent) (now : ℕ) where
   -- no message
-  read : (s : Step) → is_taking now (Plain (Step_of s)) ≡ true → HasRead {H = H} hub new c w t x s → HasTakenOne {H = H} hub new c w t x now
+  read : (s : EndEvent) → is_taking now (Plain (Step_of s)) ≡ true → HasRead {H = H} hub new c w t x s → HasTakenOne {H = H} hub new c w t x now
   read s takes has = record {
     moves = Plain (Step_of s) ∷ [];
     each = ap (λ b. b && true) takes;
@@ -108,8 +108,8 @@ module _ {H Job : Type 0} (hub : Hub Job) (new : Machine H Job) (c : ℕ) (w : L
     stands = stands;
   }
 
-  by_next : (Holds : Message → List Move → Type 0) (effect : (m : Message) (read : List Move) → Holds m read → Effect)
-      → ((m : Message) (read : List Move) (has : Holds m read) → (is_taking now (Handles m (effect m read has)) ≡ true)
+  by_next : (Holds : Message → List PeerEvent → Type 0) (effect : (m : Message) (read : List PeerEvent) → Holds m read → Effect)
+      → ((m : Message) (read : List PeerEvent) (has : Holds m read) → (is_taking now (Handles m (effect m read has)) ≡ true)
       × StandsMachine {H = H} hub new (machine.Does c (Handles m (effect m read has)) ∷ doing c read w))
       → (o : Option Message) → waiting x ≡ o → OfNextHere t x o Holds → HasTakenOne {H = H} hub new c w t x now
   by_next Holds effect each (Some m) e has = handled m (effect m [] has) e (each m [] has).0 (each m [] has).1
@@ -147,9 +147,9 @@ module _ {H Job : Type 0} (hub : Hub Job) (new : Machine H Job) (c : ℕ) (w : L
 
 -- ---- so many are taken
 
-pub record HasTaken {H Job : Type 0} (hub : Hub Job) (new : Machine H Job) (c : ℕ) (w : List Happening) (t : Settings) (h : List Move)
+pub record HasTaken {H Job : Type 0} (hub : Hub Job) (new : Machine H Job) (c : ℕ) (w : List MachineEvent) (t : Settings) (h : List PeerEvent)
     (now n : ℕ) : Type 0 where
-  pub moves : List Move
+  pub moves : List PeerEvent
   pub each : list_all (is_taking now) moves ≡ true
   pub rests : 0 < n → waiting (moves ++ h) ≡ None
   pub taken : List ByteStep
@@ -158,7 +158,7 @@ pub record HasTaken {H Job : Type 0} (hub : Hub Job) (new : Machine H Job) (c : 
   pub are : ComesTo t (moves ++ h) (taken ++ byte_steps t h)
   pub stands : StandsMachine {H = H} hub new (doing c moves w)
 
-all_append : (p : Move → Bool) (xs ys : List Move) → list_all p xs ≡ true → list_all p ys ≡ true → list_all p (xs ++ ys) ≡ true
+all_append : (p : PeerEvent → Bool) (xs ys : List PeerEvent) → list_all p xs ≡ true → list_all p ys ≡ true → list_all p (xs ++ ys) ≡ true
 all_append p [] ys a b = b
 all_append p (x ∷ xs) ys a b = both (p x) (list_all p xs) (list_all p (xs ++ ys)) a (λ f. all_append p xs ys f b)
   where
@@ -167,11 +167,11 @@ all_append p (x ∷ xs) ys a b = both (p x) (list_all p xs) (list_all p (xs ++ y
     both false e f a more = absurd (true≢false (sym a))
 
 -- an end that takes a frame isn't closed
-live_of : (b : Bool) (o : Option Step) (s : Step) → (if b then None else o) ≡ Some s → b ≡ false
+live_of : (b : Bool) (o : Option EndEvent) (s : EndEvent) → (if b then None else o) ≡ Some s → b ≡ false
 live_of true o s e = absurd (cc)
 live_of false o s e = refl
 
-module _ {H Job : Type 0} (hub : Hub Job) (c : ℕ) (w : List Happening) (t : Settings) (h : List Move) (now : ℕ) where
+module _ {H Job : Type 0} (hub : Hub Job) (c : ℕ) (w : List MachineEvent) (t : Settings) (h : List PeerEvent) (now : ℕ) where
   pub taken_none : (m : Machine H Job) → StandsMachine {H = H} hub m w → HasTaken {H = H} hub m c w t h now 0
   taken_none m stands = record {
     moves = [];
@@ -185,7 +185,7 @@ module _ {H Job : Type 0} (hub : Hub Job) (c : ℕ) (w : List Happening) (t : Se
   }
 
   module _ (old new : Machine H Job) (n : ℕ) (has : HasTaken {H = H} hub old c w t h now n) where
-    abbrev x : List Move
+    abbrev x : List PeerEvent
     x = has.moves ++ h
 
     more : (one : HasTakenOne {H = H} hub new c (doing c has.moves w) t x now) (taken : List ByteStep)
@@ -210,19 +210,19 @@ module _ {H Job : Type 0} (hub : Hub Job) (c : ℕ) (w : List Happening) (t : Se
         go zero e = e
         go (suc k) e = absurd (waits (has.rests (omega (arith, e))))
 
-    same_end : (ms : List Move) → ComesTo t x (has.taken ++ byte_steps t h) → ComesTo t (ms ++ x) (byte_steps t x)
+    same_end : (ms : List PeerEvent) → ComesTo t x (has.taken ++ byte_steps t h) → ComesTo t (ms ++ x) (byte_steps t x)
         → ComesTo t (ms ++ x) (has.taken ++ byte_steps t h)
     same_end ms are (inr shut) = inr shut
     same_end ms (inl e) (inl f) = inl (f ∙ e)
     same_end ms (inr shut) (inl f) = inr (shut_stays t ms x shut)
 
-    live_end : (s : Step) → IsNext t x s → ComesTo t x (has.taken ++ byte_steps t h) → byte_steps t x ≡ has.taken ++ byte_steps t h
+    live_end : (s : EndEvent) → IsNext t x s → ComesTo t x (has.taken ++ byte_steps t h) → byte_steps t x ≡ has.taken ++ byte_steps t h
     live_end s next (inl e) = e
     live_end s next (inr shut) =
         absurd (let live = live_of (is_shut t x) (next_frame t.config (steps t x) (present_link (steps t x))) s next in
         let z : true ≡ false = sym shut ∙ live in cc)
 
-    next_end : (ms : List Move) (s : Step) → byte_steps t x ≡ has.taken ++ byte_steps t h → ComesTo t (ms ++ x) (Step_of s ∷ byte_steps t x)
+    next_end : (ms : List PeerEvent) (s : EndEvent) → byte_steps t x ≡ has.taken ++ byte_steps t h → ComesTo t (ms ++ x) (Step_of s ∷ byte_steps t x)
         → ComesTo t (ms ++ x) (Step_of s ∷ has.taken ++ byte_steps t h)
     next_end ms s same (inl e) = inl (e ∙ ap (λ y. Step_of s ∷ y) same)
     next_end ms s same (inr shut) = inr shut
@@ -251,7 +251,7 @@ module _ {H Job : Type 0} (hub : Hub Job) (c : ℕ) (w : List Happening) (t : Se
     }
 
 -- what is told of one more
-pub takes_at : {H Job : Type 0} (hub : Hub Job) (new : Machine H Job) (c : ℕ) (w : List Happening) (t : Settings) (now : ℕ) (ms : List Move)
+pub takes_at : {H Job : Type 0} (hub : Hub Job) (new : Machine H Job) (c : ℕ) (w : List MachineEvent) (t : Settings) (now : ℕ) (ms : List PeerEvent)
     (more so : Bool) → more ≡ so
     → TakesOne {H = H} hub new c (doing c ms w) t (moves c (doing c ms w)) now more
     → TakesOne {H = H} hub new c (doing c ms w) t (ms ++ moves c w) now so
@@ -260,13 +260,13 @@ takes_at {H} hub new c w t now ms more so is takes =
     (subst (λ b. TakesOne {H = H} hub new c (doing c ms w) t (moves c (doing c ms w)) now b) is takes)
 
 -- what is refused is taken
-pub refused_one : {H Job : Type 0} (hub : Hub Job) (new : Machine H Job) (c : ℕ) (w : List Happening) (t : Settings) (h : List Move) (now : ℕ)
+pub refused_one : {H Job : Type 0} (hub : Hub Job) (new : Machine H Job) (c : ℕ) (w : List MachineEvent) (t : Settings) (h : List PeerEvent) (now : ℕ)
     (e f : PeerError) → e ≡ f
     → (f ≡ error.NoMemory → ⊥) → IsUntaken {H = H} hub new c w t h e → TakesOne {H = H} hub new c w t h now true
 refused_one {H} hub new c w t h now e f is some has = inr (f, some, subst (λ x. IsUntaken {H = H} hub new c w t h x) is has)
 
 -- what is taken is less than 64 bits count
-pub taken_end : {H Job : Type 0} (hub : Hub Job) (m : Machine H Job) (c : ℕ) (w : List Happening) (t : Settings) (h : List Move) (now n : ℕ)
+pub taken_end : {H Job : Type 0} (hub : Hub Job) (m : Machine H Job) (c : ℕ) (w : List MachineEvent) (t : Settings) (h : List PeerEvent) (now n : ℕ)
     → TakesFew → IsSoundWire t.limits t.wire → IsHistory t.limits t.wire t.config (byte_steps t h) → t.limits.frame ≤ most_frame
     → HasTaken {H = H} hub m c w t h now n → 2 ^ 64 - 1 ≤ n → TakesWhole {H = H} hub m c w t h now
 taken_end hub m c w t h now n few sound history most has over =

@@ -4,9 +4,9 @@ use Rattle.std.specs.Prelude.{if◌then◌else◌, option_map}
 use Rattle.std.proofs.lemmas.Bool.{and_from, and_right, both_ways, cond-false, cond-true, eq-eqb, eqb-true, false_from_ne_true, or_cases, or_left}
 use Rattle.std.proofs.lemmas.Bool.{or_right}
 use Rattle.hd_delivery.specs.Histories.{is_this}
-use Rattle.hd_serving.specs.Lives.{LetGo, is_let_go, is_polling, lost_at, poll_ended, poll_of, socket_of}
-use Rattle.hd_serving.specs.Machine.{Goes, has_gone, settings_of}
-use Rattle.hd_serving.specs.Doings.{Doing, Notes, Works, has_peer, moment, notes, said, user_of, work}
+use Rattle.hd_server.specs.Lives.{LetGo, is_let_go, is_polling, lost_at, poll_ended, poll_of, socket_of}
+use Rattle.hd_server.specs.Machine.{Goes, has_gone, settings_of}
+use Rattle.hd_server.specs.Doings.{ServerEvent, Notes, Works, has_peer, moment, notes, said, user_of, work}
 use Rattle.hub_server.specs.declared.lane.Lane.{Lane}
 use Rattle.hub_server.specs.Connections.{IsKnown}
 use Rattle.hub_server.specs.Lanes.{IsLane, Unsettled, is_at, poll_lane}
@@ -44,10 +44,10 @@ last_of_three false false d e = e
 -- ---- who is on a lane
 
 -- on this lane it would be, if it had a peer
-abbrev pub is_on : ℕ → ℕ → List Doing → Bool
+abbrev pub is_on : ℕ → ℕ → List ServerEvent → Bool
 is_on l c h = is_this l (socket_of c (notes h)) || is_this l (poll_lane c (notes h))
 
-on_used : (l c : ℕ) (h : List Doing) → is_on l c h ≡ true
+on_used : (l c : ℕ) (h : List ServerEvent) → is_on l c h ≡ true
     → (is_some (socket_of c (notes h)) || is_some (lost_at c (notes h)) || is_polling c (notes h)) ≡ true
 on_used l c h e = elim (or_cases (is_this l (socket_of c (notes h))) _ e) [
   | inl f ↦ first_of_three (is_some (socket_of c (notes h))) (is_some (lost_at c (notes h))) (is_polling c (notes h))
@@ -57,7 +57,7 @@ on_used l c h e = elim (or_cases (is_this l (socket_of c (notes h))) _ e) [
 ]
 
 -- one that is known has a peer as soon as it is on a lane
-pub used_there : (u : Unsettled) (c : ℕ) (h : List Doing) → IsKnown c h → IsOrderly u c h
+pub used_there : (u : Unsettled) (c : ℕ) (h : List ServerEvent) → IsKnown c h → IsOrderly u c h
     → (is_some (socket_of c (notes h)) || is_some (lost_at c (notes h)) || is_polling c (notes h)) ≡ true → has_peer c h ≡ true
 used_there u c h known o e = go (has_peer c h) refl (is_some (settings_of c (work h))) refl
   where
@@ -66,7 +66,7 @@ used_there u c h known o e = go (has_peer c h) refl (is_some (settings_of c (wor
     go false p true q = absurd (both_ways (is_let_go c (notes h)) known.held (o.gone q p))
     go false p false q = absurd (both_ways _ (o.unused q) e)
 
-pub at_is_on : (u : Unsettled) (l c : ℕ) (h : List Doing) → IsKnown c h → IsOrderly u c h → is_at l c h ≡ is_on l c h
+pub at_is_on : (u : Unsettled) (l c : ℕ) (h : List ServerEvent) → IsKnown c h → IsOrderly u c h → is_at l c h ≡ is_on l c h
 at_is_on u l c h known o = go (is_on l c h) refl
   where
     go : (b : Bool) → is_on l c h ≡ b → is_at l c h ≡ is_on l c h
@@ -74,13 +74,13 @@ at_is_on u l c h known o = go (is_on l c h) refl
     go false e = and_right (has_peer c h) (is_on l c h) e ∙ sym e
 
 -- a connection is alone on its lane
-pub alone : (u : Unsettled) (c l : ℕ) (h : List Doing) (o : Option Lane) → IsLane u o l h → is_at l c h ≡ true → (k : ℕ) → (k == c) ≡ false
+pub alone : (u : Unsettled) (c l : ℕ) (h : List ServerEvent) (o : Option Lane) → IsLane u o l h → is_at l c h ≡ true → (k : ℕ) → (k == c) ≡ false
     → is_at l k h ≡ false
 alone u c l h None nobody at k e = absurd (both_ways (is_at l c h) (nobody c) at)
 alone u c l h (Some x) has at k e = false_from_ne_true (is_at l k h) (λ f. both_ways (k == c) e (eq-eqb k c (has.only k f ∙ sym (has.only c at))))
 
 -- a connection left the lane on which it was, and no other is on another lane than before
-pub lane_left : (u v : Unsettled) (c l : ℕ) (g h : List Doing) (o p : Option Lane) → SameLane l g h
+pub lane_left : (u v : Unsettled) (c l : ℕ) (g h : List ServerEvent) (o p : Option Lane) → SameLane l g h
     → ((k : ℕ) → (k == c) ≡ false → is_at l k g ≡ is_at l k h) → is_at l c g ≡ false
     → (is_at l c h ≡ false → (k : ℕ) → is_this l (socket_of k (notes g)) ≡ is_this l (socket_of k (notes h)))
     → (is_at l c h ≡ false → is_this l u.lane ≡ true → is_this l v.lane ≡ true)
@@ -103,7 +103,7 @@ lane_left u v c l g h o p same others off sockets wider lane is = go (is_at l c 
 -- ---- what is settled
 
 -- no end that isn't on the lane stands there without its link
-pub orderly_off : (u v : Unsettled) (c lane : ℕ) (h : List Doing) → (is_this c u.conn ≡ true → is_this c v.conn ≡ true)
+pub orderly_off : (u v : Unsettled) (c lane : ℕ) (h : List ServerEvent) → (is_this c u.conn ≡ true → is_this c v.conn ≡ true)
     → ((l : ℕ) → is_this l u.cut ≡ true → l ≡ lane) → is_at lane c h ≡ false → IsOrderly u c h → IsOrderly v c h
 orderly_off u v c lane h conn cut off o = record {
   made = o.made;
@@ -133,7 +133,7 @@ orderly_off u v c lane h conn cut off o = record {
 -- ---- one that is let go
 
 -- nothing is kept of the connection: it has no peer, and all others are as they were
-pub record Freed (c : ℕ) (g h : List Doing) : Type 0 where
+pub record Freed (c : ℕ) (g h : List ServerEvent) : Type 0 where
   pub others : (k : ℕ) → (k == c) ≡ false → Alike k g h
   pub lanes : (l : ℕ) → SameLane l g h
   pub sockets : (k : ℕ) → socket_of k (notes g) ≡ socket_of k (notes h)
@@ -144,16 +144,16 @@ pub record Freed (c : ℕ) (g h : List Doing) : Type 0 where
   pub same_moment : moment g ≡ moment h
   pub same_words : said g ≡ said h
 
-let_go_now : (c : ℕ) (h : List Doing) → is_let_go c (notes (Notes (LetGo c) ∷ h)) ≡ true
+let_go_now : (c : ℕ) (h : List ServerEvent) → is_let_go c (notes (Notes (LetGo c) ∷ h)) ≡ true
 let_go_now c h = or_left (c == c) (is_let_go c (notes h)) (eq-eqb c c refl)
 
-none_calls : (c : ℕ) (h : List Doing) → is_let_go c (notes h) ≡ true → caller_of c h ≡ None
+none_calls : (c : ℕ) (h : List ServerEvent) → is_let_go c (notes h) ≡ true → caller_of c h ≡ None
 none_calls c h e = cond-true _ None (user_of c h) (or_right (is_some (settings_of c (work h))) (is_let_go c (notes h)) e)
 
-gone_now : (c : ℕ) (h : List Doing) → has_peer c (Notes (LetGo c) ∷ Works (Goes c) ∷ h) ≡ false
+gone_now : (c : ℕ) (h : List ServerEvent) → has_peer c (Notes (LetGo c) ∷ Works (Goes c) ∷ h) ≡ false
 gone_now c h = and_right (is_some (settings_of c (work h))) _ (ap (λ b. not (b || has_gone c (work h))) (eq-eqb c c refl))
 
-pub freed_there : (c : ℕ) (h : List Doing) → Freed c (Notes (LetGo c) ∷ Works (Goes c) ∷ h) h
+pub freed_there : (c : ℕ) (h : List ServerEvent) → Freed c (Notes (LetGo c) ∷ Works (Goes c) ∷ h) h
 freed_there c h = record {
   others = λ k e. alike_trans k (Notes (LetGo c) ∷ Works (Goes c) ∷ h) (Works (Goes c) ∷ h) h
       (alike_note (LetGo c) k (Works (Goes c) ∷ h) e tt) (alike_goes k c h e);
@@ -183,7 +183,7 @@ freed_there c h = record {
   same_words = refl;
 }
 
-pub freed_absent : (c : ℕ) (h : List Doing) → has_peer c h ≡ false → Freed c (Notes (LetGo c) ∷ h) h
+pub freed_absent : (c : ℕ) (h : List ServerEvent) → has_peer c h ≡ false → Freed c (Notes (LetGo c) ∷ h) h
 freed_absent c h none = record {
   others = λ k e. alike_note (LetGo c) k h e tt;
   lanes = λ l. same_lane_note l (LetGo c) h;

@@ -8,18 +8,18 @@ use Rattle.std.specs.BTreeMap.{get}
 use Rattle.std.proofs.lemmas.Bool.{and_from, and_left, and_parts, and_right, both_ways, cond-false, cond-true, eq-eqb, eqb-true, false_from_ne_true}
 use Rattle.std.proofs.lemmas.Bool.{or_from, or_left, or_right}
 use Rattle.std.proofs.lemmas.List.{append_assoc}
-use Rattle.hd_lanes.specs.declared.http.Reply.{Reply}
+use Rattle.hw_lanes.specs.declared.http.Reply.{Reply}
 use Rattle.hd_delivery.specs.declared.vocabulary.Reason.{Reason}
-use Rattle.hd_delivery.specs.Histories.{Closed, is_kept, is_this, present_link}
+use Rattle.hd_delivery.specs.Histories.{Closed, is_resumable, is_this, present_link}
 use Rattle.hd_calls.specs.Hubs.{Hub}
 use Rattle.hd_calls.specs.Peers.{Settings}
-use Rattle.hd_serving.specs.declared.vocabulary.Said.{Said}
-use Rattle.hd_serving.specs.declared.vocabulary.Said.TheVariants as say
-use Rattle.hd_serving.specs.Lives.{Answered, LaneLost, LetGo, Note, is_made, is_polling, lost_at, poll_ended, poll_of, socket_of}
-use Rattle.hd_serving.specs.Machine.{Goes, Happening, has_gone, is_there, moves, settings_of}
-use Rattle.hd_serving.specs.Doings.{Doing, Notes, Says, Works, config_of, has_peer, history, is_granted, is_up, moment, notes, said, wants_shut}
-use Rattle.hd_serving.specs.Doings.{was_refused, work}
-use Rattle.hd_serving.specs.Plans.{Setup, closing, letting_go, onto, replying, shutting, step}
+use Rattle.hd_server.specs.declared.vocabulary.Said.{Said}
+use Rattle.hd_server.specs.declared.vocabulary.Said.TheVariants as say
+use Rattle.hd_server.specs.Lives.{Answered, LaneLost, LetGo, ConnectionEvent, is_made, is_polling, lost_at, poll_ended, poll_of, socket_of}
+use Rattle.hd_server.specs.Machine.{Goes, MachineEvent, has_gone, is_there, moves, settings_of}
+use Rattle.hd_server.specs.Doings.{ServerEvent, Notes, Says, Works, config_of, has_peer, history, is_granted, is_up, moment, notes, said, wants_shut}
+use Rattle.hd_server.specs.Doings.{was_refused, work}
+use Rattle.hd_server.specs.Plans.{Setup, closing, letting_go, onto, replying, shutting, step}
 use Rattle.hn_server_front.specs.Stands as front
 use Rattle.hub_server.specs.declared.lane.Lane.{Lane}
 use Rattle.hub_server.specs.declared.server.Server.{Server}
@@ -27,8 +27,8 @@ use Rattle.hub_server.specs.Connections.{Frees, IsKnown}
 use Rattle.hub_server.specs.Lanes.{HasLane, IsLane, Unsettled, cut_of, is_at, lane_of, poll_lane, settled}
 use Rattle.hp_peer.specs.declared.peer.Peer.{Peer}
 use Rattle.hub_server.specs.declared.machine.Machine.{Machine}
-use Rattle.hub_server.specs.declared.sleepers.Nap.{Nap}
-use Rattle.hub_server.specs.Machines.{IsKeptAs, StandsMachine, nap_at, peer_at, settings_there}
+use Rattle.hub_server.specs.declared.idle_set.IdlePeer.{IdlePeer}
+use Rattle.hub_server.specs.Machines.{IsKeptAs, StandsMachine, idle_peer_at, peer_at, settings_there}
 use Rattle.hub_server.specs.Servers.{IsOrderly, IsSetup, Standing, caller_of}
 use Rattle.hub_server.proofs.Alike.{Alike, alike_note, alike_says, at_alike, caller_alike, orderly_alike}
 use Rattle.hub_server.proofs.LaneKept.{SameLane, lane_kept, lane_wider, orderly_wider, same_lane_note, same_lane_reply, standing_shuts}
@@ -37,7 +37,7 @@ use Rattle.hub_server.proofs.Gone.{orderly_off, unequal}
 
 -- ---- who has a peer
 
-pub there_settings : (c : ℕ) (w : List Happening) → is_there c w ≡ true → (t : Settings) × (settings_there c w ≡ Some t)
+pub there_settings : (c : ℕ) (w : List MachineEvent) → is_there c w ≡ true → (t : Settings) × (settings_there c w ≡ Some t)
 there_settings c w e = go (settings_of c w) (has_gone c w) e
   where
     go : (o : Option Settings) (b : Bool) → (is_some o && not b) ≡ true → (t : Settings) × ((if b then None else o) ≡ Some t)
@@ -45,7 +45,7 @@ there_settings c w e = go (settings_of c w) (has_gone c w) e
     go (Some t) true e = absurd (let z : false ≡ true = e in cc)
     go None b e = absurd (let z : false ≡ true = e in cc)
 
-pub absent_settings : (c : ℕ) (w : List Happening) → is_there c w ≡ false → settings_there c w ≡ None
+pub absent_settings : (c : ℕ) (w : List MachineEvent) → is_there c w ≡ false → settings_there c w ≡ None
 absent_settings c w e = go (settings_of c w) (has_gone c w) e
   where
     go : (o : Option Settings) (b : Bool) → (is_some o && not b) ≡ false → (if b then None else o) ≡ None
@@ -55,16 +55,16 @@ absent_settings c w e = go (settings_of c w) (has_gone c w) e
     go None false e = refl
 
 -- one that isn't there has no peer
-pub no_peer : {H Job : Type 0} (hub : Hub Job) (m : Machine H Job) (w : List Happening) (c : ℕ) → StandsMachine {H = H} hub m w
+pub no_peer : {H Job : Type 0} (hub : Hub Job) (m : Machine H Job) (w : List MachineEvent) (c : ℕ) → StandsMachine {H = H} hub m w
     → settings_there c w ≡ None
     → peer_at m c ≡ None
-no_peer {H} {Job} hub m w c s e = go (peer_at m c) (nap_at m c)
-    (subst (λ o. IsKeptAs {H = H} hub m.sleepers.clock (nap_at m c) o (moves c w) (peer_at m c)) e (s.at c))
+no_peer {H} {Job} hub m w c s e = go (peer_at m c) (idle_peer_at m c)
+    (subst (λ o. IsKeptAs {H = H} hub m.idle_set.clock (idle_peer_at m c) o (moves c w) (peer_at m c)) e (s.at c))
   where
-    go : (p : Option (Peer H Job)) (nap : Option Nap) → IsKeptAs {H = H} hub m.sleepers.clock nap None (moves c w) p → p ≡ None
-    go None nap x = refl
+    go : (p : Option (Peer H Job)) (idle_peer : Option IdlePeer) → IsKeptAs {H = H} hub m.idle_set.clock idle_peer None (moves c w) p → p ≡ None
+    go None idle_peer x = refl
     go (Some p) None x = absurd x
-    go (Some p) (Some nap) x = absurd x
+    go (Some p) (Some idle_peer) x = absurd x
 
 or_none : (b : Bool) → (b || false) ≡ b
 or_none true = refl
@@ -72,7 +72,7 @@ or_none false = refl
 
 -- ---- a connection has left its lanes
 
-module _ {H Job : Type 0} (hub : Hub Job) (s : Setup) (u v : Unsettled) (before : List Said) (old new : Server H Job) (c : ℕ) (g h : List Doing)
+module _ {H Job : Type 0} (hub : Hub Job) (s : Setup) (u v : Unsettled) (before : List Said) (old new : Server H Job) (c : ℕ) (g h : List ServerEvent)
     (stands : Standing {H = H} hub s u before old h) (base : new.base ≡ old.base) (clock : new.moment ≡ old.moment)
     (words : new.words ≡ old.words) where
   pub left_standing : StandsMachine {H = H} hub new.machine (work g) → front.Stands new.front (notes g)
@@ -116,12 +116,12 @@ joins_none : (u : Unsettled) (lane k : ℕ) → (u ≡ lane_of (Some lane)) ⊎ 
 joins_none u lane k (inl e) f = subst (λ x. is_this k x.conn ≡ true) e f
 joins_none u lane k (inr e) f = subst (λ x. is_this k x.conn ≡ true) e f
 
-module _ {H Job : Type 0} (hub : Hub Job) (s : Setup) (u : Unsettled) (before : List Said) (old new : Server H Job) (c : ℕ) (h : List Doing)
+module _ {H Job : Type 0} (hub : Hub Job) (s : Setup) (u : Unsettled) (before : List Said) (old new : Server H Job) (c : ℕ) (h : List ServerEvent)
     (stands : Standing {H = H} hub s u before old h) (known : IsKnown c h)
     (base : new.base ≡ old.base) (clock : new.moment ≡ old.moment) (words : new.words ≡ old.words)
     (lanes : (l : ℕ) → get nat_cmp new.lanes l ≡ (if is_on l c h then None else get nat_cmp old.lanes l))
     (uncalled : get nat_cmp new.callers c ≡ None) (called : (k : ℕ) → (c == k) ≡ false → get nat_cmp new.callers k ≡ get nat_cmp old.callers k) where
-  freed_standing : (v : Unsettled) (g : List Doing) → Freed c g h → StandsMachine {H = H} hub new.machine (work g) → front.Stands new.front (notes g)
+  freed_standing : (v : Unsettled) (g : List ServerEvent) → Freed c g h → StandsMachine {H = H} hub new.machine (work g) → front.Stands new.front (notes g)
       → ((l : ℕ) → is_at l c h ≡ false → is_this l u.lane ≡ true → is_this l v.lane ≡ true) → ((k : ℕ) → (k == c) ≡ false → IsOrderly v k h)
       → Standing {H = H} hub s v before new g
   freed_standing v g f machine fronts wider rest =
@@ -134,7 +134,7 @@ module _ {H Job : Type 0} (hub : Hub Job) (s : Setup) (u : Unsettled) (before : 
       callers k true e = subst (λ n. get nat_cmp new.callers n ≡ caller_of n g) (sym (eqb-true k c e)) (uncalled ∙ sym f.uncalled)
       callers k false e = called k (unequal k c e) ∙ stands.callers k ∙ sym (caller_alike k g h (f.others k e))
 
-  frees : (g : List Doing) → Freed c g h → StandsMachine {H = H} hub new.machine (work g) → front.Stands new.front (notes g)
+  frees : (g : List ServerEvent) → Freed c g h → StandsMachine {H = H} hub new.machine (work g) → front.Stands new.front (notes g)
       → Frees {H = H} hub s u before new c h g
   frees g f machine fronts = record {
     stands = freed_standing u g f machine fronts (λ l e x. x) (λ k e. stands.orderly k);
@@ -156,10 +156,10 @@ module _ {H Job : Type 0} (hub : Hub Job) (s : Setup) (u : Unsettled) (before : 
 
 -- ---- one that lost its lane
 
-module _ (c lane now : ℕ) (h : List Doing) (o : IsOrderly (cut_of lane) c h) (there : has_peer c h ≡ true)
+module _ (c lane now : ℕ) (h : List ServerEvent) (o : IsOrderly (cut_of lane) c h) (there : has_peer c h ≡ true)
     (present : present_link (history c h) ≡ None)
     (socket : socket_of c (notes h) ≡ Some lane) (granted : is_granted c h ≡ true) where
-  abbrev lost : List Doing
+  abbrev lost : List ServerEvent
   lost = Notes (LaneLost c lane now) ∷ h
 
   unpolled : is_polling c (notes h) ≡ false
@@ -210,7 +210,7 @@ module _ (c lane now : ℕ) (h : List Doing) (o : IsOrderly (cut_of lane) c h) (
         (ap is_some lost_now);
     linked = λ e l f. absurd (let z : ◌≡◌ {A = Option ℕ} None (Some l) = sym off_socket ∙ f in cc);
     unlinked = λ e f. present;
-    kept = λ e f. (and_parts (is_up c h) (is_kept (config_of c h) (history c h)) granted).1;
+    kept = λ e f. (and_parts (is_up c h) (is_resumable (config_of c h) (history c h)) granted).1;
     links = o.links;
     timely = o.timely;
     handled = o.handled;
@@ -241,7 +241,7 @@ removed : (u : Unsettled) (l lane : ℕ) (b : Bool) (old new : Option Lane) → 
 removed u l lane true old new e own others = own (sym e)
 removed u l lane false old new e own others = others (sym e)
 
-module _ {H Job : Type 0} (hub : Hub Job) (s : Setup) (before : List Said) (old new : Server H Job) (c lane : ℕ) (h : List Doing)
+module _ {H Job : Type 0} (hub : Hub Job) (s : Setup) (before : List Said) (old new : Server H Job) (c lane : ℕ) (h : List ServerEvent)
     (base : new.base ≡ old.base) (clock : new.moment ≡ old.moment) (words : new.words ≡ old.words) (machine : new.machine ≡ old.machine)
     (callers : new.callers ≡ old.callers) (own : get nat_cmp new.lanes lane ≡ None)
     (others : (l : ℕ) → (lane == l) ≡ false → get nat_cmp new.lanes l ≡ get nat_cmp old.lanes l) (there : has_peer c h ≡ true) where
@@ -256,7 +256,7 @@ module _ {H Job : Type 0} (hub : Hub Job) (s : Setup) (before : List Said) (old 
   loses stands present socket granted fronts =
       let now = moment h in
       let o = stands.orderly c in
-      let g : List Doing = Notes (LaneLost c lane now) ∷ h in
+      let g : List ServerEvent = Notes (LaneLost c lane now) ∷ h in
       let at = lost_at_lane c lane now h o there present socket granted in
       left_standing {H = H} {Job = Job} hub s (cut_of lane) settled before old new c g h stands base clock words
       (subst (λ m. StandsMachine {H = H} hub m (work h)) (sym machine) stands.machine) fronts
@@ -271,9 +271,9 @@ module _ {H Job : Type 0} (hub : Hub Job) (s : Setup) (before : List Said) (old 
 
 -- ---- one whose poll ended
 
-module _ (c lane now : ℕ) (h : List Doing) (o : IsOrderly (lane_of (Some lane)) c h) (there : has_peer c h ≡ true)
+module _ (c lane now : ℕ) (h : List ServerEvent) (o : IsOrderly (lane_of (Some lane)) c h) (there : has_peer c h ≡ true)
     (poll : poll_lane c (notes h) ≡ Some lane) where
-  abbrev answered : List Doing
+  abbrev answered : List ServerEvent
   answered = Notes (Answered c lane now) ∷ h
 
   polls : is_polling c (notes h) ≡ true
@@ -332,7 +332,7 @@ module _ (c lane now : ℕ) (h : List Doing) (o : IsOrderly (lane_of (Some lane)
       (or_from (is_this l (socket_of c (notes answered))) (is_this l (poll_lane c (notes answered)))
       (on_no_socket l) (ap (λ x. is_this l (option_map (λ p. p.0) x)) none_now))
 
-module _ {H Job : Type 0} (hub : Hub Job) (s : Setup) (before : List Said) (old new : Server H Job) (c lane : ℕ) (h : List Doing)
+module _ {H Job : Type 0} (hub : Hub Job) (s : Setup) (before : List Said) (old new : Server H Job) (c lane : ℕ) (h : List ServerEvent)
     (base : new.base ≡ old.base) (clock : new.moment ≡ old.moment) (words : new.words ≡ old.words) (machine : new.machine ≡ old.machine)
     (callers : new.callers ≡ old.callers) (own : get nat_cmp new.lanes lane ≡ None)
     (others : (l : ℕ) → (lane == l) ≡ false → get nat_cmp new.lanes l ≡ get nat_cmp old.lanes l) (there : has_peer c h ≡ true) where
@@ -340,7 +340,7 @@ module _ {H Job : Type 0} (hub : Hub Job) (s : Setup) (before : List Said) (old 
       → front.Stands new.front (Answered c lane now ∷ notes h) → Standing {H = H} hub s settled before new (Notes (Answered c lane now) ∷ h)
   answers now stands poll fronts =
       let o = stands.orderly c in
-      let g : List Doing = Notes (Answered c lane now) ∷ h in
+      let g : List ServerEvent = Notes (Answered c lane now) ∷ h in
       let at = answered_at_lane c lane now h o there poll in
       left_standing {H = H} {Job = Job} hub s (lane_of (Some lane)) settled before old new c g h stands base clock words
       (subst (λ m. StandsMachine {H = H} hub m (work h)) (sym machine) stands.machine) fronts
@@ -356,7 +356,7 @@ module _ {H Job : Type 0} (hub : Hub Job) (s : Setup) (before : List Said) (old 
 -- ---- a reply to one that is on its lane
 
 -- a reply is said, after which the lane may be shut
-pub replying_both : (P : List Doing → Type 0) (lane : ℕ) (reply : Reply) (h : List Doing) → P (Says (say.Reply lane reply) ∷ h)
+pub replying_both : (P : List ServerEvent → Type 0) (lane : ℕ) (reply : Reply) (h : List ServerEvent) → P (Says (say.Reply lane reply) ∷ h)
     → P (Says (say.Shut lane) ∷ Says (say.Reply lane reply) ∷ h) → P (onto (replying lane reply h) h)
 replying_both P lane reply h x y = go ((reply.status == 400) || (wants_shut lane h && not (reply.status == 101))) (was_refused lane h)
   where
@@ -365,13 +365,13 @@ replying_both P lane reply h x y = go ((reply.status == 400) || (wants_shut lane
     go true false = y
     go false d = x
 
-pub replying_shut : (lane : ℕ) (reply : Reply) (h : List Doing) → ((reply.status == 400) || (wants_shut lane h && not (reply.status == 101))) ≡ true
+pub replying_shut : (lane : ℕ) (reply : Reply) (h : List ServerEvent) → ((reply.status == 400) || (wants_shut lane h && not (reply.status == 101))) ≡ true
     → was_refused lane h ≡ false → onto (replying lane reply h) h ≡ Says (say.Shut lane) ∷ Says (say.Reply lane reply) ∷ h
 replying_shut lane reply h e f =
     ap (λ b. onto (if b then shutting lane h else []) (Says (say.Reply lane reply) ∷ h)) e
     ∙ ap (λ b. onto (if b then [] else Says (say.Shut lane) ∷ []) (Says (say.Reply lane reply) ∷ h)) f
 
-pub replying_open : (lane : ℕ) (reply : Reply) (h : List Doing)
+pub replying_open : (lane : ℕ) (reply : Reply) (h : List ServerEvent)
     → (((reply.status == 400) || (wants_shut lane h && not (reply.status == 101))) && not (was_refused lane h)) ≡ false
     → onto (replying lane reply h) h ≡ Says (say.Reply lane reply) ∷ h
 replying_open lane reply h e = go ((reply.status == 400) || (wants_shut lane h && not (reply.status == 101))) (was_refused lane h) e
@@ -382,7 +382,7 @@ replying_open lane reply h e = go ((reply.status == 400) || (wants_shut lane h &
     go true false e = absurd (let z : true ≡ false = e in cc)
     go false d e = refl
 
-reply_lane : (lane : ℕ) (reply : Reply) (h : List Doing) (l : ℕ) (x : Option Lane) → IsLane settled x l h
+reply_lane : (lane : ℕ) (reply : Reply) (h : List ServerEvent) (l : ℕ) (x : Option Lane) → IsLane settled x l h
     → IsLane (lane_of (Some lane)) x l (Says (say.Reply lane reply) ∷ h)
 reply_lane lane reply h l x is = go (l == lane) refl x is
   where
@@ -400,7 +400,7 @@ reply_lane lane reply h l x is = go (l == lane) refl x is
         (lane_kept settled x l (Says (say.Reply lane reply) ∷ h) h (same_lane_reply l lane reply h e) (λ k. refl) (λ k. refl) is)
 
 -- a reply is said on a lane on which its connection still is
-pub standing_held : {H Job : Type 0} (hub : Hub Job) (s : Setup) (before : List Said) (v : Server H Job) (lane : ℕ) (reply : Reply) (h : List Doing)
+pub standing_held : {H Job : Type 0} (hub : Hub Job) (s : Setup) (before : List Said) (v : Server H Job) (lane : ℕ) (reply : Reply) (h : List ServerEvent)
     → Standing {H = H} hub s settled before v h
     → Standing {H = H} hub s (lane_of (Some lane)) before (record v { words = v.words ++ say.Reply lane reply ∷ [] })
     (Says (say.Reply lane reply) ∷ h)
@@ -418,7 +418,7 @@ standing_held {H} hub s before v lane reply h stands = record {
 }
 
 -- this is kept of a lane on which a connection is
-pub held_lane : (u : Unsettled) (o : Option Lane) (l c : ℕ) (h : List Doing) → IsLane u o l h → is_at l c h ≡ true
+pub held_lane : (u : Unsettled) (o : Option Lane) (l c : ℕ) (h : List ServerEvent) → IsLane u o l h → is_at l c h ≡ true
     → (x : Lane) × (o ≡ Some x) × HasLane u x l h
 held_lane u None l c h nobody at = absurd (both_ways (is_at l c h) (nobody c) at)
 held_lane u (Some x) l c h has at = (x, refl, has)
@@ -426,7 +426,7 @@ held_lane u (Some x) l c h has at = (x, refl, has)
 -- ---- one that is closed
 
 -- what is kept of it is read after it is closed as before
-pub closing_then : (c : ℕ) (why : Reason) (h : List Doing)
+pub closing_then : (c : ℕ) (why : Reason) (h : List ServerEvent)
     → onto (letting_go c (onto (closing c why h) h)) (onto (closing c why h) h) ≡ onto (closing c why h ++ letting_go c h) h
 closing_then c why h = go (is_up c h)
   where
@@ -436,7 +436,7 @@ closing_then c why h = go (is_up c h)
     go true = refl
     go false = refl
 
-pub known_closed : (c : ℕ) (why : Reason) (h : List Doing) → IsKnown c h → IsKnown c (onto (closing c why h) h)
+pub known_closed : (c : ℕ) (why : Reason) (h : List ServerEvent) → IsKnown c h → IsKnown c (onto (closing c why h) h)
 known_closed c why h known = go (is_up c h)
   where
     go : (b : Bool) → IsKnown c (onto (if b then step c (Closed why false) ∷ [] else []) h)
@@ -452,11 +452,11 @@ on_ok (Err e) f p = p
 
 -- the poll that is held ends with this reply
 pub answers_reply : {H Job : Type 0} (hub : Hub Job) (s : Setup) (before : List Said) (old new : Server H Job) (c lane : ℕ) (reply : Reply)
-    (h : List Doing)
+    (h : List ServerEvent)
     → new.base ≡ old.base → new.moment ≡ old.moment → new.words ≡ old.words → new.machine ≡ old.machine → new.callers ≡ old.callers
     → get nat_cmp new.lanes lane ≡ None → ((l : ℕ) → (lane == l) ≡ false → get nat_cmp new.lanes l ≡ get nat_cmp old.lanes l)
     → has_peer c h ≡ true → poll_lane c (notes h) ≡ Some lane
-    → ((n : List Note) → front.Stands old.front n → is_made c n ≡ true → front.Stands new.front (Answered c lane old.moment ∷ n))
+    → ((n : List ConnectionEvent) → front.Stands old.front n → is_made c n ≡ true → front.Stands new.front (Answered c lane old.moment ∷ n))
     → Standing {H = H} hub s (lane_of (Some lane)) before old (onto (replying lane reply h) h)
     → Standing {H = H} hub s settled before new (Notes (Answered c lane (moment h)) ∷ onto (replying lane reply h) h)
 answers_reply {H} {Job} hub s before old new c lane reply h base clock words machine callers own others there poll noted =
@@ -475,13 +475,13 @@ answers_reply {H} {Job} hub s before old new c lane reply h base clock words mac
 
 -- ---- what is kept of a lane
 
-pub some_flags : (u : Unsettled) (x : Lane) (o : Option Lane) (l : ℕ) (h : List Doing) → Some x ≡ o → IsLane u o l h
+pub some_flags : (u : Unsettled) (x : Lane) (o : Option Lane) (l : ℕ) (h : List ServerEvent) → Some x ≡ o → IsLane u o l h
     → ◌≡◌ {A = Bool × Bool} (x.is_last, x.is_refused) (wants_shut l h, was_refused l h)
 some_flags u x o l h e lane =
     let has : HasLane u x l h = subst (λ p. IsLane u p l h) (sym e) lane in
     ap (λ (b : Bool). (b, x.is_refused)) has.last ∙ ap (λ (b : Bool). (wants_shut l h, b)) has.refused
 
-pub none_kept : (u : Unsettled) (o : Option Lane) (l c : ℕ) (h : List Doing) → None ≡ o → IsLane u o l h → is_at l c h ≡ true → ⊥
+pub none_kept : (u : Unsettled) (o : Option Lane) (l c : ℕ) (h : List ServerEvent) → None ≡ o → IsLane u o l h → is_at l c h ≡ true → ⊥
 none_kept u o l c h e lane at = both_ways (is_at l c h) (subst (λ p. IsLane u p l h) (sym e) lane c) at
 
 pub test_first : (a b : Bool) → a ≡ true → a ≡ (a || b)
@@ -499,7 +499,7 @@ test_none false true d e f = absurd (let z : true ≡ false = f in cc)
 test_none true b d e f = absurd (let z : true ≡ false = e in cc)
 
 module _ {H Job : Type 0} (hub : Hub Job) (s : Setup) (before : List Said) (v m : Server H Job) (p : List Said) (lane : ℕ) (reply : Reply)
-    (h : List Doing)
+    (h : List ServerEvent)
     (stands : Standing {H = H} hub s settled before v h) (same : m ≡ v) (replied : p ≡ m.words ++ say.Reply lane reply ∷ []) where
   held_words : p ≡ v.words ++ say.Reply lane reply ∷ []
   held_words = replied ∙ ap (λ x. x.words ++ say.Reply lane reply ∷ []) same

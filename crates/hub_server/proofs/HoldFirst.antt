@@ -5,19 +5,19 @@ use Rattle.std.specs.Prelude.{if◌then◌else◌, option_map}
 use Rattle.std.specs.Ordering.{nat_cmp}
 use Rattle.std.specs.BTreeMap.{get}
 use Rattle.std.proofs.lemmas.Bool.{and_from, both_ways, cond-true, eq-eqb, eqb-true, or_right}
-use Rattle.hd_lanes.specs.declared.http.Reply.{Reply}
+use Rattle.hw_lanes.specs.declared.http.Reply.{Reply}
 use Rattle.hd_delivery.specs.Histories.{Attached, is_this, link_count}
 use Rattle.hd_delivery.specs.Bytes.{Does as Step_of}
 use Rattle.hd_calls.specs.Hubs.{Hub}
 use Rattle.hd_calls.specs.Peers.{Plain}
-use Rattle.hd_serving.specs.declared.vocabulary.Said.{Said}
-use Rattle.hd_serving.specs.declared.vocabulary.Said.TheVariants as say
-use Rattle.hd_serving.specs.Lives.{Polled, Answered, socket_of, lost_at, poll_of, poll_ended, is_made, is_polling}
-use Rattle.hd_serving.specs.Table.{FirstPoll}
-use Rattle.hd_serving.specs.Machine.{Does}
-use Rattle.hd_serving.specs.Doings.{Doing, Notes, Says, notes, work, moment, has_peer, history, wants_shut, was_refused}
-use Rattle.hd_serving.specs.Plans.{Occasion, Setup, attaching, bare_reply, connecting, onto, replying, request_plan, shutting, step}
-use Rattle.hd_serving.specs.Serves.{FeedsOne}
+use Rattle.hd_server.specs.declared.vocabulary.Said.{Said}
+use Rattle.hd_server.specs.declared.vocabulary.Said.TheVariants as say
+use Rattle.hd_server.specs.Lives.{Polled, Answered, socket_of, lost_at, poll_of, poll_ended, is_made, is_polling}
+use Rattle.hd_server.specs.declared.vocabulary.Outcome.TheVariants.{FirstPoll}
+use Rattle.hd_server.specs.Machine.{Does}
+use Rattle.hd_server.specs.Doings.{ServerEvent, Notes, Says, notes, work, moment, has_peer, history, wants_shut, was_refused}
+use Rattle.hd_server.specs.Plans.{PendingRequest, Setup, attaching, bare_reply, connecting, onto, replying, request_plan, shutting, step}
+use Rattle.hd_server.specs.Serves.{FeedsOne}
 use Rattle.hn_server_front.specs.Calls.{IsNoted}
 use Rattle.hn_server_front.specs.declared.front.Front.{Front}
 use Rattle.hn_server_front.specs.Stands as front
@@ -39,30 +39,30 @@ use Rattle.hub_server.proofs.OntoAlike.{onto_append}
 -- ---- a new connection, once it has its peer
 
 -- nothing was noted of it but that it was made
-pub bare_begun : (s : Setup) (k : ℕ) (promised : Bool) (h : List Doing) → IsKnown k h → IsOrderly settled k h → has_peer k h ≡ false
-    → IsBare k (onto (connecting s k promised h) h)
-bare_begun s k promised h known o unpeered = connecting_cases (IsBare k) settled s k promised h known o
+pub bare_begun : (s : Setup) (k : ℕ) (resumable : Bool) (h : List ServerEvent) → IsKnown k h → IsOrderly settled k h → has_peer k h ≡ false
+    → IsBare k (onto (connecting s k resumable h) h)
+bare_begun s k resumable h known o unpeered = connecting_cases (IsBare k) settled s k resumable h known o
     (λ e. absurd (both_ways (has_peer k h) unpeered e))
     (λ new. let x = bare settled k h o new in record { socket = x.socket; lost = x.lost; poll = x.poll; polled = x.polled })
 
 -- its lanes are what they were
-pub record KeepsLanes (g h : List Doing) : Type 0 where
+pub record KeepsLanes (g h : List ServerEvent) : Type 0 where
   pub shut : (l : ℕ) → wants_shut l g ≡ wants_shut l h
   pub refused : (l : ℕ) → was_refused l g ≡ was_refused l h
 
-pub begun_keeps : (s : Setup) (k : ℕ) (promised : Bool) (h : List Doing) → IsKnown k h → IsOrderly settled k h
-    → KeepsLanes (onto (connecting s k promised h) h) h
-begun_keeps s k promised h known o = connecting_cases (λ g. KeepsLanes g h) settled s k promised h known o
+pub begun_keeps : (s : Setup) (k : ℕ) (resumable : Bool) (h : List ServerEvent) → IsKnown k h → IsOrderly settled k h
+    → KeepsLanes (onto (connecting s k resumable h) h) h
+begun_keeps s k resumable h known o = connecting_cases (λ g. KeepsLanes g h) settled s k resumable h known o
     (λ e. record { shut = λ l. refl; refused = λ l. refl })
     (λ e. record { shut = λ l. refl; refused = λ l. refl })
 
 -- a link begins
-module _ {H Job : Type 0} (hub : Hub Job) (s : Setup) (before : List Said) (v : Server H Job) (k : ℕ) (h : List Doing)
+module _ {H Job : Type 0} (hub : Hub Job) (s : Setup) (before : List Said) (v : Server H Job) (k : ℕ) (h : List ServerEvent)
     (st : Standing {H = H} hub s (conn_of k) before v h) (there : has_peer k h ≡ true) (none : IsBare k h) where
   abbrev n : ℕ
   n = link_count (history k h)
 
-  abbrev g : List Doing
+  abbrev g : List ServerEvent
   g = step k (Attached n (moment h)) ∷ h
 
   stays : IsOrderly (conn_of k) k h
@@ -111,13 +111,13 @@ module _ {H Job : Type 0} (hub : Hub Job) (s : Setup) (before : List Said) (v : 
 
 -- ---- a poll that is answered at once
 
-module _ {H Job : Type 0} (hub : Hub Job) (s : Setup) (before : List Said) (v : Server H Job) (k at : ℕ) (is_last : Bool) (h : List Doing)
+module _ {H Job : Type 0} (hub : Hub Job) (s : Setup) (before : List Said) (v : Server H Job) (k at : ℕ) (is_last : Bool) (h : List ServerEvent)
     (st : Standing {H = H} hub s (conn_of k) before v h) (there : has_peer k h ≡ true) (made : is_made k (notes h) ≡ true) (none : IsBare k h)
     (come : HasCome at is_last h) where
-  abbrev g1 : List Doing
+  abbrev g1 : List ServerEvent
   g1 = Notes (Polled k at (moment h)) ∷ h
 
-  abbrev g2 : List Doing
+  abbrev g2 : List ServerEvent
   g2 = Notes (Answered k at (moment h)) ∷ g1
 
   others : (c : ℕ) → (c == k) ≡ false → Alike c g2 h
@@ -138,7 +138,7 @@ module _ {H Job : Type 0} (hub : Hub Job) (s : Setup) (before : List Said) (v : 
   polling = or_right (is_some (poll_of k (notes g2))) (is_some (poll_ended k (notes g2))) (ap (λ (o : Option ℕ). is_some o)
       (cond-true ((k == k) && is_this at (poll_lane k (notes g1))) (Some (moment h)) (poll_ended k (notes g1)) ends))
 
-  nowhere : (l : ℕ) (x : List Doing) → has_peer k x ≡ true → socket_of k (notes x) ≡ None → poll_of k (notes x) ≡ None → is_at l k x ≡ false
+  nowhere : (l : ℕ) (x : List ServerEvent) → has_peer k x ≡ true → socket_of k (notes x) ≡ None → poll_of k (notes x) ≡ None → is_at l k x ≡ false
   nowhere l x e f p = at_poll l k x e f ∙ ap (λ (o : Option (ℕ × ℕ)). is_this l (option_map (λ (q : ℕ × ℕ). q.0) o)) p
 
   at_same : (l c : ℕ) (b : Bool) → (c == k) ≡ b → is_at l c g2 ≡ is_at l c h
@@ -182,17 +182,17 @@ module _ {H Job : Type 0} (hub : Hub Job) (s : Setup) (before : List Said) (v : 
 -- ---- what is done
 
 -- what is replied depends on the lane alone
-pub replying_same : (l : ℕ) (reply : Reply) (g h : List Doing) → wants_shut l g ≡ wants_shut l h → was_refused l g ≡ was_refused l h
+pub replying_same : (l : ℕ) (reply : Reply) (g h : List ServerEvent) → wants_shut l g ≡ wants_shut l h → was_refused l g ≡ was_refused l h
     → replying l reply g ≡ replying l reply h
 replying_same l reply g h shut refused =
     ap (λ b. Says (say.Reply l reply) ∷ (if (reply.status == 400) || (b && not (reply.status == 101)) then shutting l g else [])) shut
     ∙ ap (λ b. Says (say.Reply l reply) ∷ (if (reply.status == 400) || (wants_shut l h && not (reply.status == 101)) then
     (if b then [] else Says (say.Shut l) ∷ []) else [])) refused
 
-abbrev pub at_once : ℕ → ℕ → ℕ → List Doing → List Doing
+abbrev pub at_once : ℕ → ℕ → ℕ → List ServerEvent → List ServerEvent
 at_once k at now fed = Notes (Answered k at now) ∷ Notes (Polled k at now) ∷ fed
 
-pub follows_first : (s : Setup) (o : Occasion) (k at : ℕ) (h h1 fed : List Doing) → h1 ≡ onto (connecting s k false h) h → KeepsLanes h1 h
+pub follows_first : (s : Setup) (o : PendingRequest) (k at : ℕ) (h h1 fed : List ServerEvent) → h1 ≡ onto (connecting s k false h) h → KeepsLanes h1 h
     → moment h1 ≡ moment h
     → link_count (history k h1) ≡ link_count (history k h) → o.now ≡ moment h → o.lane ≡ at
     → IsMoved fed (step k (Attached (link_count (history k h1)) (moment h1)) ∷ h1)

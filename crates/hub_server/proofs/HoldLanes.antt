@@ -4,8 +4,8 @@ use Rattle.std.specs.Ordering.{nat_cmp}
 use Rattle.std.specs.BTreeMap.{BTreeMap, get, Updates}
 use Rattle.std.proofs.lemmas.Bool.{both_ways, eq-eqb, eqb-true, false_from_ne_true}
 use Rattle.hd_delivery.specs.Histories.{is_this}
-use Rattle.hd_serving.specs.Lives.{socket_of}
-use Rattle.hd_serving.specs.Doings.{Doing, notes, wants_shut, was_refused}
+use Rattle.hd_server.specs.Lives.{socket_of}
+use Rattle.hd_server.specs.Doings.{ServerEvent, notes, wants_shut, was_refused}
 use Rattle.hub_server.specs.declared.lane.Lane.{Lane}
 use Rattle.hub_server.specs.Lanes.{HasLane, IsLane, IsNobodys, is_at, is_taken, settled}
 use Rattle.hub_server.proofs.Alike.{Alike, at_alike}
@@ -13,7 +13,7 @@ use Rattle.hub_server.proofs.Ends.{apart}
 use Rattle.hub_server.proofs.LaneKept.{SameLane, lane_kept}
 
 -- the connection k was on the older lane alone, and is on this one alone now
-pub record Goes_over (k at : ℕ) (older : Option ℕ) (g h : List Doing) : Type 0 where
+pub record Goes_over (k at : ℕ) (older : Option ℕ) (g h : List ServerEvent) : Type 0 where
   pub same : (l : ℕ) → (l == at) ≡ false → SameLane l g h
   pub others : (c : ℕ) → (c == k) ≡ false → Alike c g h
   pub was : (l : ℕ) → is_this l older ≡ true → is_at l k h ≡ true
@@ -24,7 +24,7 @@ pub record Goes_over (k at : ℕ) (older : Option ℕ) (g h : List Doing) : Type
   pub socketed : (l : ℕ) → (l == at) ≡ false → is_this l (socket_of k (notes g)) ≡ false
 
 -- this is kept of the lane
-pub record IsOf (k at : ℕ) (x : Lane) (g : List Doing) : Type 0 where
+pub record IsOf (k at : ℕ) (x : Lane) (g : List ServerEvent) : Type 0 where
   pub conn : x.conn ≡ k
   pub polls : x.polls ≡ not (is_this at (socket_of k (notes g)))
   pub last : x.is_last ≡ wants_shut at g
@@ -49,7 +49,7 @@ cuts l lanes mid updates = record {
 pub cuts_none : (lanes : BTreeMap ℕ Lane) → HasCut None lanes lanes
 cuts_none lanes = record { gone = λ k e. absurd (both_ways false refl e); stays = λ k e. refl }
 
-module _ (k at : ℕ) (older : Option ℕ) (g h : List Doing) (m : Goes_over k at older g h) (nobody : IsNobodys at h) (x : Lane) (of : IsOf k at x g)
+module _ (k at : ℕ) (older : Option ℕ) (g h : List ServerEvent) (m : Goes_over k at older g h) (nobody : IsNobodys at h) (x : Lane) (of : IsOf k at x g)
     (lanes mid new : BTreeMap ℕ Lane) (were : (l : ℕ) → IsLane settled (get nat_cmp lanes l) l h) (cut : HasCut older lanes mid)
     (enters : Updates nat_cmp mid new at (Some x)) where
   own : HasLane settled x at g

@@ -4,13 +4,13 @@ use Rattle.std.proofs.Common.{refl, sym, ap, subst, ◌∙◌}
 use Rattle.std.specs.Prelude.{if◌then◌else◌, option_map}
 use Rattle.std.proofs.lemmas.Bool.{and_from, both_ways, cond-true, cond-false, eq-eqb, eqb-true, false_from_ne_true}
 use Rattle.hd_delivery.specs.Histories.{is_this}
-use Rattle.hd_calls.specs.Peers.{Move}
-use Rattle.hd_serving.specs.declared.vocabulary.Said.TheVariants as say
-use Rattle.hd_serving.specs.Lives.{Note, Answered, socket_of, lost_at, poll_of, is_let_go, is_made}
-use Rattle.hd_serving.specs.Machine.{has_gone, settings_of}
-use Rattle.hd_serving.specs.Doings.{Doing, Notes, Says, notes, work, moment, awaits_reply, has_peer, wants_shut, was_refused}
-use Rattle.hd_serving.specs.Plans.{bare_reply, ending_held, ending_poll, onto, replying}
-use Rattle.hd_serving.specs.Serves.{FeedsOne, moving}
+use Rattle.hd_calls.specs.Peers.{PeerEvent}
+use Rattle.hd_server.specs.declared.vocabulary.Said.TheVariants as say
+use Rattle.hd_server.specs.Lives.{ConnectionEvent, Answered, socket_of, lost_at, poll_of, is_let_go, is_made}
+use Rattle.hd_server.specs.Machine.{has_gone, settings_of}
+use Rattle.hd_server.specs.Doings.{ServerEvent, Notes, Says, notes, work, moment, awaits_reply, has_peer, wants_shut, was_refused}
+use Rattle.hd_server.specs.Plans.{bare_reply, ending_held, ending_poll, onto, replying}
+use Rattle.hd_server.specs.Serves.{FeedsOne, moving}
 use Rattle.hub_server.specs.Lanes.{is_at, poll_lane}
 use Rattle.hub_server.specs.Steps.{HasCome}
 use Rattle.hub_server.specs.Connections.{CanHold}
@@ -20,7 +20,7 @@ use Rattle.hub_server.proofs.OntoAlike.{onto_append}
 
 -- ---- moves
 
-pub record IsMoved (g h : List Doing) : Type 0 where
+pub record IsMoved (g h : List ServerEvent) : Type 0 where
   pub notes : notes g ≡ notes h
   pub moment : moment g ≡ moment h
   pub shut : (l : ℕ) → wants_shut l g ≡ wants_shut l h
@@ -29,7 +29,7 @@ pub record IsMoved (g h : List Doing) : Type 0 where
   pub settings : (c : ℕ) → settings_of c (work g) ≡ settings_of c (work h)
   pub gone : (c : ℕ) → has_gone c (work g) ≡ has_gone c (work h)
 
-moved_by : (k : ℕ) (ms : List Move) (h : List Doing) → IsMoved (moving k ms h) h
+moved_by : (k : ℕ) (ms : List PeerEvent) (h : List ServerEvent) → IsMoved (moving k ms h) h
 moved_by k [] h =
     record { notes = refl; moment = refl; shut = λ l. refl; refused = λ l. refl; waits = λ l. refl; settings = λ c. refl; gone = λ c. refl }
 moved_by k (m ∷ ms) h =
@@ -45,19 +45,19 @@ moved_by k (m ∷ ms) h =
     }
 
 -- what is fed changes nothing else
-pub fed_moved : (now k : ℕ) (bytes : List ℕ) (h after : List Doing) → FeedsOne now k bytes h after → IsMoved after h
+pub fed_moved : (now k : ℕ) (bytes : List ℕ) (h after : List ServerEvent) → FeedsOne now k bytes h after → IsMoved after h
 fed_moved now k bytes h after x = subst (λ g. IsMoved g h) (sym x.are) (moved_by k x.moves h)
 
-pub there_moved : (g h : List Doing) → IsMoved g h → (c : ℕ) → has_peer c g ≡ has_peer c h
+pub there_moved : (g h : List ServerEvent) → IsMoved g h → (c : ℕ) → has_peer c g ≡ has_peer c h
 there_moved g h x c =
     ap (λ o. is_some o && not (has_gone c (work g))) (x.settings c) ∙ ap (λ b. is_some (settings_of c (work h)) && not b) (x.gone c)
 
-pub at_moved : (g h : List Doing) → IsMoved g h → (l c : ℕ) → is_at l c g ≡ is_at l c h
+pub at_moved : (g h : List ServerEvent) → IsMoved g h → (l c : ℕ) → is_at l c g ≡ is_at l c h
 at_moved g h x l c =
     ap (λ b. b && (is_this l (socket_of c (notes g)) || is_this l (poll_lane c (notes g)))) (there_moved g h x c)
-    ∙ ap (λ (n : List Note). has_peer c h && (is_this l (socket_of c n) || is_this l (poll_lane c n))) x.notes
+    ∙ ap (λ (n : List ConnectionEvent). has_peer c h && (is_this l (socket_of c n) || is_this l (poll_lane c n))) x.notes
 
-pub come_moved : (at : ℕ) (is_last : Bool) (g h : List Doing) → IsMoved g h → HasCome at is_last h → HasCome at is_last g
+pub come_moved : (at : ℕ) (is_last : Bool) (g h : List ServerEvent) → IsMoved g h → HasCome at is_last h → HasCome at is_last g
 come_moved at is_last g h x come = record {
   waits = x.waits at ∙ come.waits;
   last = come.last ∙ sym (x.shut at);
@@ -65,7 +65,7 @@ come_moved at is_last g h x come = record {
   nobody = λ c. at_moved g h x at c ∙ come.nobody c;
 }
 
-pub hold_moved : (k : ℕ) (g h : List Doing) → IsMoved g h → CanHold k h → CanHold k g
+pub hold_moved : (k : ℕ) (g h : List ServerEvent) → IsMoved g h → CanHold k h → CanHold k g
 hold_moved k g h x can = record {
   known = record { made = ap (is_made k) x.notes ∙ can.known.made; held = ap (is_let_go k) x.notes ∙ can.known.held };
   there = there_moved g h x k ∙ can.there;
@@ -75,12 +75,12 @@ hold_moved k g h x can = record {
 
 -- ---- a reply to a poll that was held
 
-pick : (Q : List Doing → Type 0) (b d : Bool) (xs : List Doing) → Q [] → Q xs → Q (if b then (if d then [] else xs) else [])
+pick : (Q : List ServerEvent → Type 0) (b d : Bool) (xs : List ServerEvent) → Q [] → Q xs → Q (if b then (if d then [] else xs) else [])
 pick Q true true xs n x = n
 pick Q true false xs n x = x
 pick Q false d xs n x = n
 
-pub ended_cases : (P : List Doing → Type 0) (k now : ℕ) (h : List Doing) → (poll_of k (notes h) ≡ None → P h)
+pub ended_cases : (P : List ServerEvent → Type 0) (k now : ℕ) (h : List ServerEvent) → (poll_of k (notes h) ≡ None → P h)
     → ((p : ℕ × ℕ) → poll_of k (notes h) ≡ Some p → P (Notes (Answered k p.0 now) ∷ Says (say.Reply p.0 (bare_reply 204)) ∷ h))
     → ((p : ℕ × ℕ) → poll_of k (notes h) ≡ Some p → P (Notes (Answered k p.0 now) ∷ Says (say.Shut p.0) ∷ Says (say.Reply p.0 (bare_reply 204)) ∷ h))
     → P (onto (ending_held k now h) h)
@@ -94,15 +94,15 @@ ended_cases P k now h none one two = go (poll_of k (notes h)) refl
         ((204 == 400) || (wants_shut p.0 h && not (204 == 101))) (was_refused p.0 h) (Says (say.Shut p.0) ∷ []) (one p e) (two p e))
 
 -- a request has come as it had, and the connection may hold it
-pub record IsStill (k at : ℕ) (is_last : Bool) (h g : List Doing) : Type 0 where
+pub record IsStill (k at : ℕ) (is_last : Bool) (h g : List ServerEvent) : Type 0 where
   pub come : HasCome at is_last g
   pub can : CanHold k g
   pub moment : moment g ≡ moment h
 
-module _ (k at : ℕ) (is_last : Bool) (now : ℕ) (h mid : List Doing) (p : ℕ × ℕ) (can : CanHold k h) (come : HasCome at is_last h)
+module _ (k at : ℕ) (is_last : Bool) (now : ℕ) (h mid : List ServerEvent) (p : ℕ × ℕ) (can : CanHold k h) (come : HasCome at is_last h)
     (held : poll_of k (notes h) ≡ Some p) (same : (c : ℕ) → Alike c mid h) (waits : awaits_reply at mid ≡ awaits_reply at h)
     (shut : wants_shut at mid ≡ wants_shut at h) (refused : was_refused at mid ≡ was_refused at h) (moments : moment mid ≡ moment h) where
-  abbrev g : List Doing
+  abbrev g : List ServerEvent
   g = Notes (Answered k p.0 now) ∷ mid
 
   there : has_peer k mid ≡ true
@@ -143,13 +143,13 @@ module _ (k at : ℕ) (is_last : Bool) (now : ℕ) (h mid : List Doing) (p : ℕ
   }
 
 -- the lane of the poll is another
-elsewhere : (k at : ℕ) (is_last : Bool) (h : List Doing) (p : ℕ × ℕ) → CanHold k h → HasCome at is_last h → poll_of k (notes h) ≡ Some p
+elsewhere : (k at : ℕ) (is_last : Bool) (h : List ServerEvent) (p : ℕ × ℕ) → CanHold k h → HasCome at is_last h → poll_of k (notes h) ≡ Some p
     → (at == p.0) ≡ false
 elsewhere k at is_last h p can come held = false_from_ne_true (at == p.0) (λ e.
     both_ways (is_at at k h) (come.nobody k) (at_poll at k h can.there can.unsocketed
     ∙ ap (λ (o : Option (ℕ × ℕ)). is_this at (option_map (λ (q : ℕ × ℕ). q.0) o)) held ∙ e))
 
-pub ended_still : (k at : ℕ) (is_last : Bool) (now : ℕ) (h : List Doing) → CanHold k h → HasCome at is_last h
+pub ended_still : (k at : ℕ) (is_last : Bool) (now : ℕ) (h : List ServerEvent) → CanHold k h → HasCome at is_last h
     → IsStill k at is_last h (onto (ending_held k now h) h)
 ended_still k at is_last now h can come = ended_cases (IsStill k at is_last h) k now h
     (λ e. record { come = come; can = can; moment = refl })

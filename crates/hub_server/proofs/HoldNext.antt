@@ -1,13 +1,13 @@
 -- A further poll of a connection that polls.
 use Rattle.std.proofs.Common.{◌≡◌, ℕ, List, [], ◌∷◌, None, sym, ap, subst, ◌∙◌}
-use Rattle.hd_serving.specs.Lives.{Polled}
-use Rattle.hd_serving.specs.Table.{NextPoll}
-use Rattle.hd_serving.specs.Doings.{Doing, Notes, moment}
-use Rattle.hd_serving.specs.Plans.{Occasion, Setup, ending_held, onto, request_plan}
-use Rattle.hd_serving.specs.Serves.{FeedsOne}
+use Rattle.hd_server.specs.Lives.{Polled}
+use Rattle.hd_server.specs.declared.vocabulary.Outcome.TheVariants.{NextPoll}
+use Rattle.hd_server.specs.Doings.{ServerEvent, Notes, moment}
+use Rattle.hd_server.specs.Plans.{PendingRequest, Setup, ending_held, onto, request_plan}
+use Rattle.hd_server.specs.Serves.{FeedsOne}
 use Rattle.hub_server.specs.Steps.{Follows}
 
-pub follows_next : (s : Setup) (o : Occasion) (k at : ℕ) (h fed : List Doing) → o.now ≡ moment h → o.lane ≡ at
+pub follows_next : (s : Setup) (o : PendingRequest) (k at : ℕ) (h fed : List ServerEvent) → o.now ≡ moment h → o.lane ≡ at
     → moment (onto (ending_held k (moment h) h) h) ≡ moment h → moment fed ≡ moment (onto (ending_held k (moment h) h) h)
     → FeedsOne (moment (onto (ending_held k (moment h) h) h)) k [] (onto (ending_held k (moment h) h) h) fed
     → Follows (request_plan s o None k h NextPoll) h (Notes (Polled k at (moment fed)) ∷ fed)

@@ -10,11 +10,11 @@ use Rattle.hd_delivery.specs.Histories.{is_this, link_count, was_on}
 use Rattle.hd_delivery.specs.Processes.{processes}
 use Rattle.hd_calls.specs.Hubs.{Hub}
 use Rattle.hd_calls.specs.Peers.{waiting}
-use Rattle.hd_serving.specs.declared.vocabulary.Said.{Said}
-use Rattle.hd_serving.specs.Lives.{Note, Polled, socket_of, lost_at, poll_of, is_let_go, is_made, is_polling}
-use Rattle.hd_serving.specs.Machine.{is_there, moves, settings_of}
-use Rattle.hd_serving.specs.Doings.{Doing, Notes, notes, work, moment, awaits_reply, config_with, has_peer, history, history_with, is_upgraded}
-use Rattle.hd_serving.specs.Plans.{Setup}
+use Rattle.hd_server.specs.declared.vocabulary.Said.{Said}
+use Rattle.hd_server.specs.Lives.{ConnectionEvent, Polled, socket_of, lost_at, poll_of, is_let_go, is_made, is_polling}
+use Rattle.hd_server.specs.Machine.{is_there, moves, settings_of}
+use Rattle.hd_server.specs.Doings.{ServerEvent, Notes, notes, work, moment, awaits_reply, config_with, has_peer, history, history_with, is_upgraded}
+use Rattle.hd_server.specs.Plans.{Setup}
 use Rattle.hn_server_front.specs.Calls.{IsNoted, poll_held}
 use Rattle.hn_server_front.specs.Entries.{held_as}
 use Rattle.hn_server_front.specs.declared.entry.Held.{Held}
@@ -44,7 +44,7 @@ pub no_some : (o : Option ℕ) (n : ℕ) → o ≡ None → o ≡ Some n → ⊥
 no_some o n e f = both_ways (is_some o) (ap (λ (p : Option ℕ). is_some p) e) (ap (λ (p : Option ℕ). is_some p) f)
 
 -- a connection that polls, and stands on no socket, is in order whatever wasn't settled
-module _ (u v : Unsettled) (k : ℕ) (g h : List Doing) (same : work g ≡ work h) (moments : moment g ≡ moment h)
+module _ (u v : Unsettled) (k : ℕ) (g h : List ServerEvent) (same : work g ≡ work h) (moments : moment g ≡ moment h)
     (made : is_made k (notes g) ≡ is_made k (notes h))
     (let_go : is_let_go k (notes g) ≡ is_let_go k (notes h)) (socket : socket_of k (notes g) ≡ None) (lost : lost_at k (notes g) ≡ None)
     (polling : is_polling k (notes g) ≡ true) (begun : is_some (settings_of k (work h)) ≡ true) (o : IsOrderly u k h) where
@@ -75,7 +75,7 @@ module _ (u v : Unsettled) (k : ℕ) (g h : List Doing) (same : work g ≡ work 
   }
 
 -- it has a peer, so it was begun
-pub begun_of : (k : ℕ) (h : List Doing) → has_peer k h ≡ true → is_some (settings_of k (work h)) ≡ true
+pub begun_of : (k : ℕ) (h : List ServerEvent) → has_peer k h ≡ true → is_some (settings_of k (work h)) ≡ true
 begun_of k h e = go (is_some (settings_of k (work h))) refl
   where
     go : (b : Bool) → is_some (settings_of k (work h)) ≡ b → is_some (settings_of k (work h)) ≡ true
@@ -83,18 +83,18 @@ begun_of k h e = go (is_some (settings_of k (work h))) refl
     go false f = absurd (both_ways (has_peer k h) (and_left (is_some (settings_of k (work h))) _ f) e)
 
 -- a poll that came is the one that is held
-pub polled_now : (k at now : ℕ) (h : List Doing) → poll_of k (notes (Notes (Polled k at now) ∷ h)) ≡ Some (at, now)
+pub polled_now : (k at now : ℕ) (h : List ServerEvent) → poll_of k (notes (Notes (Polled k at now) ∷ h)) ≡ Some (at, now)
 polled_now k at now h = cond-true (k == k) (Some (at, now)) (poll_of k (notes h)) (eq-eqb k k refl)
 
 -- ---- where it is
 
 -- with a peer and without a socket, a connection is where its poll is
-pub at_poll : (l k : ℕ) (h : List Doing) → has_peer k h ≡ true → socket_of k (notes h) ≡ None → is_at l k h ≡ is_this l (poll_lane k (notes h))
+pub at_poll : (l k : ℕ) (h : List ServerEvent) → has_peer k h ≡ true → socket_of k (notes h) ≡ None → is_at l k h ≡ is_this l (poll_lane k (notes h))
 at_poll l k h there socket =
     ap (λ b. b && (is_this l (socket_of k (notes h)) || is_this l (poll_lane k (notes h)))) there
     ∙ ap (λ (o : Option ℕ). is_this l o || is_this l (poll_lane k (notes h))) socket
 
-pub polls_over : (k at now : ℕ) (h : List Doing) → has_peer k h ≡ true → socket_of k (notes h) ≡ None
+pub polls_over : (k at now : ℕ) (h : List ServerEvent) → has_peer k h ≡ true → socket_of k (notes h) ≡ None
     → Goes_over k at (poll_lane k (notes h)) (Notes (Polled k at now) ∷ h) h
 polls_over k at now h there socket =
     let now_at : poll_lane k (notes (Notes (Polled k at now) ∷ h)) ≡ Some at = ap (λ (o : Option (ℕ × ℕ)). option_map (λ (p : ℕ × ℕ). p.0) o)
@@ -147,7 +147,7 @@ cut_none {H} {Job} old mid same = subst (λ m. CutsLane {H = H} {Job = Job} None
 })
 
 pub polled_stands : {H Job : Type 0} (hub : Hub Job) (s : Setup) (u : Unsettled) (before : List Said) (old mid : Server H Job) (k at : ℕ)
-    (is_last : Bool) (h : List Doing)
+    (is_last : Bool) (h : List ServerEvent)
     → Standing {H = H} hub s u before old h → u ≡ settled → HasCome at is_last h → CanHold k h
     → CutsLane {H = H} {Job = Job} (poll_lane k (notes h)) old mid → (f : Front) → IsNoted mid.front f k (Polled k at mid.moment)
     → (lanes : BTreeMap ℕ Lane) → Updates nat_cmp mid.lanes lanes at (Some (record { conn = k; polls = true; is_last = is_last; is_refused = false }))
@@ -175,7 +175,7 @@ polled_stands {H} {Job} hub s u before old mid k at is_last h st is come can cut
       words = st.words ∙ ap (λ w. before ++ w) (sym cut.words);
     })
   where
-    g : List Doing
+    g : List ServerEvent
     g = Notes (Polled k at (moment h)) ∷ h
 
     each : (c : ℕ) (b : Bool) → (c == k) ≡ b → IsOrderly settled c g
@@ -188,7 +188,7 @@ polled_stands {H} {Job} hub s u before old mid k at is_last h st is come can cut
 
 -- ---- the lane of the poll that it held
 
-held_lane : (r : Option Held) (k : ℕ) (n : List Note) → held_as r ≡ poll_held k n → is_made k n ≡ true → is_let_go k n ≡ false
+held_lane : (r : Option Held) (k : ℕ) (n : List ConnectionEvent) → held_as r ≡ poll_held k n → is_made k n ≡ true → is_let_go k n ≡ false
     → option_map (λ (p : Held). p.lane) r ≡ poll_lane k n
 held_lane r k n e made held =
     lane_in r
@@ -200,7 +200,7 @@ held_lane r k n e made held =
     lane_in (Some p) = refl
 
 -- there was one
-pub cuts_held : {H Job : Type 0} (k : ℕ) (n : List Note) (r : Option Held) (p : Held) (old mid : Server H Job) (lanes : BTreeMap ℕ Lane)
+pub cuts_held : {H Job : Type 0} (k : ℕ) (n : List ConnectionEvent) (r : Option Held) (p : Held) (old mid : Server H Job) (lanes : BTreeMap ℕ Lane)
     → held_as r ≡ poll_held k n
     → is_made k n ≡ true → is_let_go k n ≡ false → r ≡ Some p → Updates nat_cmp old.lanes lanes p.lane None → mid ≡ record old { lanes = lanes }
     → CutsLane {H = H} {Job = Job} (poll_lane k n) old mid
@@ -209,7 +209,7 @@ cuts_held {H} {Job} k n r p old mid lanes e made held is updates same =
     subst (λ o. CutsLane {H = H} {Job = Job} o old mid) (sym there) (cut_some {H = H} {Job = Job} p.lane old mid lanes updates same)
 
 -- there was none
-pub cuts_unheld : {H Job : Type 0} (k : ℕ) (n : List Note) (r : Option Held) (old mid : Server H Job) → held_as r ≡ poll_held k n
+pub cuts_unheld : {H Job : Type 0} (k : ℕ) (n : List ConnectionEvent) (r : Option Held) (old mid : Server H Job) → held_as r ≡ poll_held k n
     → is_made k n ≡ true → is_let_go k n ≡ false → r ≡ None → mid ≡ old → CutsLane {H = H} {Job = Job} (poll_lane k n) old mid
 cuts_unheld {H} {Job} k n r old mid e made held is same =
     let there : poll_lane k n ≡ None = sym (held_lane r k n e made held) ∙ ap (λ (o : Option Held). option_map (λ (q : Held). q.lane) o) is in

@@ -6,25 +6,25 @@ use Rattle.std.specs.Option.{option_or}
 use Rattle.std.proofs.lemmas.Bool.{and_from, and_left, and_parts, and_right, both_ways, cases_lt, cond-true, eq-eqb, false_from_ne_true}
 use Rattle.std.proofs.lemmas.Bool.{le-leb, leb-false, leb-true, ltb-true}
 use Rattle.hd_calls.specs.Hubs.{Hub}
-use Rattle.hd_calls.specs.Peers.{Move, Settings, begun, live_job}
+use Rattle.hd_calls.specs.Peers.{PeerEvent, Settings, begun, live_job}
 use Rattle.hd_calls.specs.Peers as peers
 use Rattle.hd_calls.specs.Rules.{IsPeerDue, first_from, is_due, next_job}
-use Rattle.hd_serving.specs.Laws.{TurnsAreTested}
-use Rattle.hd_serving.specs.Lives.{numbers_to}
-use Rattle.hd_serving.specs.Machine.{Happening, Rounds, first_turn, greatest, is_there, last_turn, may_turn, moves, settings_of, turn_at, turn_with}
-use Rattle.hj_jobs.specs.Due.{is_in}
+use Rattle.hd_server.specs.Laws.{TurnsAreTested}
+use Rattle.hd_server.specs.Lives.{numbers_to}
+use Rattle.hd_server.specs.Machine.{MachineEvent, Rounds, first_turn, greatest, is_there, last_turn, may_turn, moves, settings_of, turn_at, turn_with}
+use Rattle.hv_value.specs.SortedSet.{is_in}
 use Rattle.hp_peer.specs.declared.peer.Peer.{Peer}
 use Rattle.hp_peer.specs.Stands.{OfEach}
 use Rattle.hub_server.specs.declared.machine.Machine.{Machine}
-use Rattle.hub_server.specs.declared.sleepers.Nap.{Nap}
-use Rattle.hub_server.specs.Machines.{IsPeerOf, StandsMachine, nap_at, peer_at, settings_there}
+use Rattle.hub_server.specs.declared.idle_set.IdlePeer.{IdlePeer}
+use Rattle.hub_server.specs.Machines.{IsPeerOf, StandsMachine, idle_peer_at, peer_at, settings_there}
 use Rattle.hub_server.specs.Rounds.{has_turn}
 use Rattle.hub_server.specs.Spreads.{is_listed}
 use Rattle.hub_server.proofs.Doing.{awake_is}
 use Rattle.hub_server.proofs.Numbers.{in_listed, listed_at}
 use Rattle.hub_server.proofs.RoundNumbers.{none_next}
 use Rattle.hub_server.proofs.TurnFirst.{IsHere, find_both, find_last, from_one, here_of, within}
-use Rattle.hub_server.proofs.Turnless.{holds_of, unawake_idle}
+use Rattle.hub_server.proofs.AsleepHasNoTurn.{holds_of, unawake_idle}
 use Rattle.hub_server.proofs.Turns.{IsStanding, standing_of}
 
 -- ---- jobs
@@ -40,7 +40,7 @@ some_from (suc u) k j p from to holds = by (p k) refl (cases_lt k j) (some_from 
     by false e (inl before) later = later (omega (arith, before)) (omega (arith, to)) holds
     by false e (inr after) later = let same : k ≡ j = omega (arith, from, after) in absurd (both_ways (p j) (ap p (sym same) ∙ e) holds)
 
-module _ (tested : TurnsAreTested) (t : Settings) (h : List Move) where
+module _ (tested : TurnsAreTested) (t : Settings) (h : List PeerEvent) where
   -- where a peer's job is due one has a turn, once a round has begun
   turns_if_due : IsPeerDue t h → is_some (turn_with (Some t) (peers.Rounds ∷ h)) ≡ true
   turns_if_due due =
@@ -88,7 +88,7 @@ some_to p (suc n) c from to holds = ap is_some (find_last p n) ∙ by (nat_le c 
         some_second (find p (numbers_to n)) last (ap (λ b. is_some (cond b (Some (suc n)) None)) (ap p (sym is) ∙ holds))
 
 -- where a connection that is there has a turn in a round that begins now some connection has the first
-some_turn : (now c : ℕ) (t : Settings) (w : List Happening) → settings_of 0 w ≡ None → IsHere c t w → is_some (turn_at c (Rounds now ∷ w)) ≡ true
+some_turn : (now c : ℕ) (t : Settings) (w : List MachineEvent) → settings_of 0 w ≡ None → IsHere c t w → is_some (turn_at c (Rounds now ∷ w)) ≡ true
     → is_some (first_turn now w) ≡ true
 some_turn now c t w none here turn =
     ap is_some (find_both (λ k. nat_le (last_turn (Rounds now ∷ w)) k && is_some (turn_at k (Rounds now ∷ w))) (λ k. is_there k w)
@@ -97,7 +97,7 @@ some_turn now c t w none here turn =
     (from_one c t w none here.begun) (within c t w here.begun) (and_from _ _ here.here (and_from _ _ (le-leb 0 c (omega arith)) turn))
 
 -- the turn of a connection that is there, in a round that begins now
-turn_there : (now c : ℕ) (t : Settings) (w : List Happening) → IsHere c t w
+turn_there : (now c : ℕ) (t : Settings) (w : List MachineEvent) → IsHere c t w
     → turn_at c (Rounds now ∷ w) ≡ turn_with (Some t) (peers.Rounds ∷ moves c w)
 turn_there now c t w here =
     ap (λ o. turn_with o (moves c (Rounds now ∷ w))) here.begun
@@ -109,20 +109,20 @@ turn_there now c t w here =
 abbrev pub SaysDue : {H Job : Type 0} → Hub Job → Peer H Job → Bool → Type 0
 SaysDue hub p b = OfEach hub p (λ t h. IsTrue b ↔ IsPeerDue t h)
 
-module _ {H Job : Type 0} (hub : Hub Job) (tested : TurnsAreTested) (m : Machine H Job) (c : ℕ) (w : List Happening) (now : ℕ)
+module _ {H Job : Type 0} (hub : Hub Job) (tested : TurnsAreTested) (m : Machine H Job) (c : ℕ) (w : List MachineEvent) (now : ℕ)
     (s : StandsMachine {H = H} hub m w) where
   -- one without a peer would have no turn
   pub due_none : None ≡ peer_at m c → false ≡ has_turn c (Rounds now ∷ w)
   due_none e = sym (unawake_idle {H = H} {Job = Job} hub tested m w now c s (and_left (is_some (peer_at m c)) _ (ap is_some (sym e))))
 
   -- one that is awake would have one if its peer says that a job of it is due
-  pub due_some : (p : Peer H Job) → Some p ≡ peer_at m c → (b : Bool) → SaysDue {H = H} hub p b → nap_at m c ≡ None → b ≡ has_turn c (Rounds now ∷ w)
+  pub due_some : (p : Peer H Job) → Some p ≡ peer_at m c → (b : Bool) → SaysDue {H = H} hub p b → idle_peer_at m c ≡ None → b ≡ has_turn c (Rounds now ∷ w)
   due_some p at b says awake = by b says
     where
       x : IsStanding {H = H} hub p (settings_there c w) (moves c w)
       x = standing_of {H = H} hub p (settings_there c w) (moves c w)
           (subst (λ (o : Option (Peer H Job)). IsPeerOf {H = H} hub (settings_there c w) (moves c w) o) (sym at)
-          (awake_is {H = H} hub m.sleepers.clock (nap_at m c) (settings_there c w) (moves c w) (peer_at m c) awake (s.at c)))
+          (awake_is {H = H} hub m.idle_set.clock (idle_peer_at m c) (settings_there c w) (moves c w) (peer_at m c) awake (s.at c)))
 
       here : IsHere c x.settings w
       here = here_of c x.settings w x.there
@@ -150,7 +150,7 @@ in_at (suc k) (c ∷ cs) l = later (get_or cs k 0 == c) (is_in (get_or cs k 0) c
 
 -- the connection would have no turn
 abbrev pub IsIdleAt : {H Job : Type 0} → Hub Job → Machine H Job → ℕ → Type 0
-IsIdleAt hub m c = (w : List Happening) (now : ℕ) → StandsMachine hub m w → has_turn c (Rounds now ∷ w) ≡ false
+IsIdleAt hub m c = (w : List MachineEvent) (now : ℕ) → StandsMachine hub m w → has_turn c (Rounds now ∷ w) ≡ false
 
 -- of the connections that are awake the first would have none
 abbrev pub AreIdleTo : {H Job : Type 0} → Hub Job → Machine H Job → List ℕ → ℕ → Type 0
@@ -158,19 +158,19 @@ AreIdleTo hub m conns i = (k : ℕ) → k < i → IsIdleAt hub m (get_or conns k
 
 -- what is said of one by a test of one that is awake
 abbrev pub TellsTurn : {H Job : Type 0} → Hub Job → Machine H Job → ℕ → Bool → Type 0
-TellsTurn hub m c b = (w : List Happening) (now : ℕ) → StandsMachine hub m w → nap_at m c ≡ None → b ≡ has_turn c (Rounds now ∷ w)
+TellsTurn hub m c b = (w : List MachineEvent) (now : ℕ) → StandsMachine hub m w → idle_peer_at m c ≡ None → b ≡ has_turn c (Rounds now ∷ w)
 
 module _ {H Job : Type 0} (hub : Hub Job) (tested : TurnsAreTested) (m : Machine H Job) (conns : List ℕ)
-    (are : conns ≡ m.sleepers.awake.jobs.items) where
+    (are : conns ≡ m.idle_set.awake.numbers.items) where
   -- each that is listed is awake
-  awake_at : (w : List Happening) (i : ℕ) → StandsMachine {H = H} hub m w → i < length conns → nap_at m (get_or conns i 0) ≡ None
+  awake_at : (w : List MachineEvent) (i : ℕ) → StandsMachine {H = H} hub m w → i < length conns → idle_peer_at m (get_or conns i 0) ≡ None
   awake_at w i s l =
-      by (nap_at m (get_or conns i 0)) refl
+      by (idle_peer_at m (get_or conns i 0)) refl
       (and_parts _ _ (sym (s.index.awake (get_or conns i 0)) ∙ ap (λ cs. is_in (get_or conns i 0) cs) (sym are) ∙ in_at i conns l)).1
     where
-      by : (o : Option Nap) → nap_at m (get_or conns i 0) ≡ o → not (is_some o) ≡ true → o ≡ None
+      by : (o : Option IdlePeer) → idle_peer_at m (get_or conns i 0) ≡ o → not (is_some o) ≡ true → o ≡ None
       by None e f = refl
-      by (Some nap) e f = absurd (true≢false (sym f))
+      by (Some idle_peer) e f = absurd (true≢false (sym f))
 
   -- the next one would have none
   pub idle_more : (i : ℕ) (due : Bool) → i < length conns → AreIdleTo {H = H} hub m conns i → TellsTurn {H = H} hub m (get_or conns i 0) due
@@ -185,7 +185,7 @@ module _ {H Job : Type 0} (hub : Hub Job) (tested : TurnsAreTested) (m : Machine
 
   -- it would have one, so a round wouldn't be idle
   pub not_idle : (i : ℕ) (due : Bool) → i < length conns → TellsTurn {H = H} hub m (get_or conns i 0) due → due ≡ true
-      → (w : List Happening) (now : ℕ) → StandsMachine {H = H} hub m w → false ≡ not (is_some (first_turn now w))
+      → (w : List MachineEvent) (now : ℕ) → StandsMachine {H = H} hub m w → false ≡ not (is_some (first_turn now w))
   not_idle i due l tells is w now s = by (settings_of c w) refl (and_parts _ _ turns.0).0
     where
       c : ℕ
@@ -199,7 +199,7 @@ module _ {H Job : Type 0} (hub : Hub Job) (tested : TurnsAreTested) (m : Machine
       by None e f = absurd (true≢false (sym f ∙ ap is_some e))
 
   -- none of them would, and no other, so it would
-  pub is_idle : (i : ℕ) → length conns ≤ i → AreIdleTo {H = H} hub m conns i → (w : List Happening) (now : ℕ) → StandsMachine {H = H} hub m w
+  pub is_idle : (i : ℕ) → length conns ≤ i → AreIdleTo {H = H} hub m conns i → (w : List MachineEvent) (now : ℕ) → StandsMachine {H = H} hub m w
       → true ≡ not (is_some (first_turn now w))
   is_idle i all so_far w now s = sym (ap (λ o. not (is_some o)) (none_next (Rounds now ∷ w) (λ c. by c (is_listed c conns) refl)))
     where

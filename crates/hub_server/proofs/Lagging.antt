@@ -4,18 +4,18 @@ use Rattle.std.proofs.Common.{refl, sym, ap, subst, ◌∙◌, true≢false, ari
 use Rattle.std.specs.List.{list_all}
 use Rattle.std.proofs.lemmas.Bool.{and_parts}
 use Rattle.hd_delivery.specs.Histories as of
-use Rattle.hd_delivery.specs.Histories.{Step, Ticked, Config, heard_moment, present_link}
+use Rattle.hd_delivery.specs.Histories.{EndEvent, Ticked, Config, heard_moment, present_link}
 use Rattle.hd_delivery.specs.Due.{is_quiet, is_unseen}
 use Rattle.hd_delivery.specs.Bytes.{Wire, ByteStep, in_frames}
 use Rattle.hd_delivery.specs.Bytes.{Does as Step_of}
 use Rattle.hd_delivery.specs.OneHistory.{IsHistory}
 use Rattle.hd_calls.specs.Hubs.{Hub}
 use Rattle.hd_calls.specs.Laws.{TablesAgree}
-use Rattle.hd_calls.specs.Peers.{Move, Plain, Settings, byte_steps, steps}
+use Rattle.hd_calls.specs.Peers.{PeerEvent, Plain, Settings, byte_steps, steps}
 use Rattle.hd_calls.specs.Peers as peers
 use Rattle.hd_calls.specs.Rules.{IsPeer, asking, passed}
 use Rattle.hd_calls.specs.Tables.{JobHappening, Round, job_happenings, passed_in}
-use Rattle.hd_serving.specs.Laws.{IdleTicksAreUnseen}
+use Rattle.hd_server.specs.Laws.{IdleTicksAreUnseen}
 use Rattle.hq_resend.specs.Buffers.{Buffer}
 use Rattle.he_end.specs.declared.end.End.{End}
 use Rattle.he_end.specs.declared.session.Session.{Session}
@@ -28,10 +28,10 @@ use Rattle.hj_jobs.specs.declared.jobs.Jobs.{Jobs}
 use Rattle.hj_jobs.specs.Stands as of_jobs
 use Rattle.hp_peer.specs.declared.peer.Peer.{Peer}
 use Rattle.hp_peer.specs.Stands.{Stands}
-use Rattle.hub_server.specs.declared.sleepers.Nap.{Nap}
-use Rattle.hub_server.specs.Machines.{IsAlarmOf, Sleeps, is_idle}
-use Rattle.hub_server.specs.Sleepers.{alarm_in}
-use Rattle.hub_server.proofs.Idling.{alarm_is, idle_alike, slept_alike, slept_same}
+use Rattle.hub_server.specs.declared.idle_set.IdlePeer.{IdlePeer}
+use Rattle.hub_server.specs.Machines.{IsDeadlineOf, Sleeps, is_idle}
+use Rattle.hub_server.specs.IdleSet.{deadline_in}
+use Rattle.hub_server.proofs.Idling.{deadline_is, idle_alike, slept_alike, slept_same}
 
 -- ---- one unseen tick more or less
 
@@ -51,7 +51,7 @@ on_link (Some x) (Some l) f e = f x l e
 on_link None (Some l) f e = e
 on_link (Some x) None f e = e
 
-module _ (c : Config) (now : ℕ) (k : List Step) (heard : heard_moment (Ticked now ∷ k) ≡ heard_moment k)
+module _ (c : Config) (now : ℕ) (k : List EndEvent) (heard : heard_moment (Ticked now ∷ k) ≡ heard_moment k)
     (quiet : is_quiet (Ticked now ∷ k) ≡ is_quiet k) where
   agrees_more : (o : Option Agreed) → Agrees o c k → Agrees o c (Ticked now ∷ k)
   agrees_more None a = a
@@ -176,15 +176,15 @@ module _ (law : IdleTicksAreUnseen) (wire : Wire) (c : Config) (now : ℕ) (h : 
 -- ---- the same of a peer
 
 -- the history of its end, by its end's limits
-own_history : {H Job : Type 0} (hub : Hub Job) (t : Settings) (p : Peer H Job) (h : List Move) → t.limits ≡ limits_of p.end → IsPeer hub t h
+own_history : {H Job : Type 0} (hub : Hub Job) (t : Settings) (p : Peer H Job) (h : List PeerEvent) → t.limits ≡ limits_of p.end → IsPeer hub t h
     → IsHistory (limits_of p.end) t.wire t.config (byte_steps t h)
 own_history hub t p h e is = subst (λ l. IsHistory l t.wire t.config (byte_steps t h)) e is.is_history
 
 -- a peer stands for moves, but for the moment
-abbrev LagsBehind : {H Job : Type 0} → Hub Job → Settings → Peer H Job → List Move → Type 0
+abbrev LagsBehind : {H Job : Type 0} → Hub Job → Settings → Peer H Job → List PeerEvent → Type 0
 LagsBehind {H} hub t p h = Stands {H = H} hub t (at_moment {H = H} (of.moment (steps t h)) p) h
 
-tick_more : {H Job : Type 0} (law : IdleTicksAreUnseen) (hub : Hub Job) (t : Settings) (p : Peer H Job) (now : ℕ) (h : List Move)
+tick_more : {H Job : Type 0} (law : IdleTicksAreUnseen) (hub : Hub Job) (t : Settings) (p : Peer H Job) (now : ℕ) (h : List PeerEvent)
     → is_unseen t.config now (steps t h) ≡ true → IsPeer hub t (Plain (Step_of (Ticked now)) ∷ h) → LagsBehind {H = H} hub t p h
     → LagsBehind {H = H} hub t p (Plain (Step_of (Ticked now)) ∷ h)
 tick_more {H} {Job} law hub t p now h unseen may s = record {
@@ -197,13 +197,13 @@ tick_more {H} {Job} law hub t p now h unseen may s = record {
   who = s.who;
   waits = s.waits;
   counted = s.counted;
-  askers = s.askers;
+  jobs_by_call = s.jobs_by_call;
   follows = may.follows;
   prompt = may.prompt;
   settled = refl;
 }
 
-tick_less : {H Job : Type 0} (law : IdleTicksAreUnseen) (hub : Hub Job) (t : Settings) (p : Peer H Job) (now : ℕ) (h : List Move)
+tick_less : {H Job : Type 0} (law : IdleTicksAreUnseen) (hub : Hub Job) (t : Settings) (p : Peer H Job) (now : ℕ) (h : List PeerEvent)
     → is_unseen t.config now (steps t h) ≡ true → asking h ≡ None → Stands {H = H} hub t p (Plain (Step_of (Ticked now)) ∷ h)
     → LagsBehind {H = H} hub t p h
 tick_less {H} {Job} law hub t p now h unseen calm s = record {
@@ -215,7 +215,7 @@ tick_less {H} {Job} law hub t p now h unseen calm s = record {
   who = s.who;
   waits = s.waits;
   counted = s.counted;
-  askers = s.askers;
+  jobs_by_call = s.jobs_by_call;
   follows = s.follows.0;
   prompt = s.prompt.0;
   settled = calm;
@@ -240,7 +240,7 @@ round_jobs hub jobs who h calm s = record {
   unborn = s.unborn;
 }
 
-round_more : {H Job : Type 0} (tables : TablesAgree) (hub : Hub Job) (t : Settings) (p : Peer H Job) (h : List Move) → passed h ≡ 0
+round_more : {H Job : Type 0} (tables : TablesAgree) (hub : Hub Job) (t : Settings) (p : Peer H Job) (h : List PeerEvent) → passed h ≡ 0
     → IsPeer hub t (peers.Rounds ∷ h) → LagsBehind {H = H} hub t p h → LagsBehind {H = H} hub t p (peers.Rounds ∷ h)
 round_more {H} {Job} tables hub t p h calm may s = record {
   names = s.names;
@@ -251,7 +251,7 @@ round_more {H} {Job} tables hub t p h calm may s = record {
   who = s.who;
   waits = s.waits;
   counted = s.counted;
-  askers = s.askers;
+  jobs_by_call = s.jobs_by_call;
   follows = may.follows;
   prompt = may.prompt;
   settled = refl;
@@ -260,23 +260,23 @@ round_more {H} {Job} tables hub t p h calm may s = record {
 -- ---- idle moves one after the other
 
 -- no job had a turn in the round
-idle_calm : (t : Settings) (g h : List Move) (x : Move) → is_idle t g x ≡ true → passed h ≡ 0 → passed (x ∷ h) ≡ 0
+idle_calm : (t : Settings) (g h : List PeerEvent) (x : PeerEvent) → is_idle t g x ≡ true → passed h ≡ 0 → passed (x ∷ h) ≡ 0
 idle_calm t g h peers.Rounds e f = refl
 idle_calm t g h (Plain (Step_of (Ticked now))) e f = f
 idle_calm t g h _ e f = absurd (true≢false (sym e))
 
-calm : (t : Settings) (g xs : List Move) → list_all (is_idle t g) xs ≡ true → passed g ≡ 0 → passed (xs ++ g) ≡ 0
+calm : (t : Settings) (g xs : List PeerEvent) → list_all (is_idle t g) xs ≡ true → passed g ≡ 0 → passed (xs ++ g) ≡ 0
 calm t g [] e f = f
 calm t g (x ∷ xs) e f =
     let parts = and_parts (is_idle t g x) (list_all (is_idle t g) xs) e in idle_calm t g (xs ++ g) x parts.0 (calm t g xs parts.1 f)
 
 -- moments don't fall
-idle_later : (t : Settings) (g h : List Move) (x : Move) → is_idle t g x ≡ true → of.moment (steps t h) ≤ of.moment (steps t (x ∷ h))
+idle_later : (t : Settings) (g h : List PeerEvent) (x : PeerEvent) → is_idle t g x ≡ true → of.moment (steps t h) ≤ of.moment (steps t (x ∷ h))
 idle_later t g h peers.Rounds e = omega arith
 idle_later t g h (Plain (Step_of (Ticked now))) e = omega arith
 idle_later t g h _ e = absurd (true≢false (sym e))
 
-later : (t : Settings) (g xs : List Move) → list_all (is_idle t g) xs ≡ true → of.moment (steps t g) ≤ of.moment (steps t (xs ++ g))
+later : (t : Settings) (g xs : List PeerEvent) → list_all (is_idle t g) xs ≡ true → of.moment (steps t g) ≤ of.moment (steps t (xs ++ g))
 later t g [] e = omega arith
 later t g (x ∷ xs) e =
     let parts = and_parts (is_idle t g x) (list_all (is_idle t g) xs) e in
@@ -285,24 +285,24 @@ later t g (x ∷ xs) e =
     omega (arith, one, rest)
 
 -- on no link none has a moment
-idle_still : (t : Settings) (g h : List Move) (x : Move) → is_idle t g x ≡ true → present_link (steps t g) ≡ None
+idle_still : (t : Settings) (g h : List PeerEvent) (x : PeerEvent) → is_idle t g x ≡ true → present_link (steps t g) ≡ None
     → of.moment (steps t (x ∷ h)) ≡ of.moment (steps t h)
 idle_still t g h peers.Rounds e none = refl
 idle_still t g h (Plain (Step_of (Ticked now))) e none =
     absurd (true≢false (sym (and_parts (is_some (present_link (steps t g))) (is_unseen t.config now (steps t g)) e).0 ∙ ap is_some none))
 idle_still t g h _ e none = absurd (true≢false (sym e))
 
-still : (t : Settings) (g xs : List Move) → list_all (is_idle t g) xs ≡ true → present_link (steps t g) ≡ None
+still : (t : Settings) (g xs : List PeerEvent) → list_all (is_idle t g) xs ≡ true → present_link (steps t g) ≡ None
     → of.moment (steps t (xs ++ g)) ≡ of.moment (steps t g)
 still t g [] e none = refl
 still t g (x ∷ xs) e none =
     let parts = and_parts (is_idle t g x) (list_all (is_idle t g) xs) e in
     idle_still t g (xs ++ g) x parts.0 none ∙ still t g xs parts.1 none
 
-module _ {H Job : Type 0} (law : IdleTicksAreUnseen) (tables : TablesAgree) (hub : Hub Job) (t : Settings) (p : Peer H Job) (g : List Move)
+module _ {H Job : Type 0} (law : IdleTicksAreUnseen) (tables : TablesAgree) (hub : Hub Job) (t : Settings) (p : Peer H Job) (g : List PeerEvent)
     (quiet : passed g ≡ 0) (stands : LagsBehind {H = H} hub t p g) where
   -- one move more
-  more : (h : List Move) (x : Move) → is_idle t g x ≡ true → passed h ≡ 0
+  more : (h : List PeerEvent) (x : PeerEvent) → is_idle t g x ≡ true → passed h ≡ 0
       → ((now : ℕ) → is_unseen t.config now (steps t h) ≡ is_unseen t.config now (steps t g)) → IsPeer hub t (x ∷ h)
       → (IsPeer hub t h → LagsBehind {H = H} hub t p h) → LagsBehind {H = H} hub t p (x ∷ h)
   more h peers.Rounds e f same may s =
@@ -315,7 +315,7 @@ module _ {H Job : Type 0} (law : IdleTicksAreUnseen) (tables : TablesAgree) (hub
   more h _ e f same may s = absurd (true≢false (sym e))
 
   -- all of them
-  all_more : (xs : List Move) → list_all (is_idle t g) xs ≡ true → IsPeer hub t (xs ++ g) → LagsBehind {H = H} hub t p (xs ++ g)
+  all_more : (xs : List PeerEvent) → list_all (is_idle t g) xs ≡ true → IsPeer hub t (xs ++ g) → LagsBehind {H = H} hub t p (xs ++ g)
   all_more [] e may = stands
   all_more (x ∷ xs) e may =
       let parts = and_parts (is_idle t g x) (list_all (is_idle t g) xs) e in
@@ -324,30 +324,30 @@ module _ {H Job : Type 0} (law : IdleTicksAreUnseen) (tables : TablesAgree) (hub
 -- ---- one that sleeps
 
 -- a peer that stands for moves but for the moment, and has that too
-in_time : {H Job : Type 0} (hub : Hub Job) (t : Settings) (p : Peer H Job) (h : List Move) → p.end.session.moment ≡ of.moment (steps t h)
+in_time : {H Job : Type 0} (hub : Hub Job) (t : Settings) (p : Peer H Job) (h : List PeerEvent) → p.end.session.moment ≡ of.moment (steps t h)
     → LagsBehind {H = H} hub t p h → Stands {H = H} hub t p h
 in_time {H} {Job} hub t p h e s = subst (λ n. Stands {H = H} hub t (at_moment {H = H} {Job = Job} n p) h) (sym e) s
 
-module _ {H Job : Type 0} (law : IdleTicksAreUnseen) (tables : TablesAgree) (hub : Hub Job) (clock : ℕ) (nap : Nap) (t : Settings) (p : Peer H Job)
-    (h : List Move) (s : Sleeps {H = H} hub clock nap t p h) where
+module _ {H Job : Type 0} (law : IdleTicksAreUnseen) (tables : TablesAgree) (hub : Hub Job) (clock : ℕ) (idle_peer : IdlePeer) (t : Settings) (p : Peer H Job)
+    (h : List PeerEvent) (s : Sleeps {H = H} hub clock idle_peer t p h) where
   peer_then : IsPeer hub t (s.since ++ s.before)
   peer_then = subst (λ ms. IsPeer hub t ms) s.are s.peer
 
   -- the tick that makes up for those that were left out is no silence, and comes in time
-  pub makes_up : (moment : ℕ) → alarm_in (Some nap) ≡ Some moment
+  pub makes_up : (moment : ℕ) → deadline_in (Some idle_peer) ≡ Some moment
       → (is_unseen t.config clock (steps t s.before) ≡ true) × (of.moment (steps t s.before) ≤ clock) × (of.moment (steps t h) ≡ clock)
   makes_up moment set =
-      let was = alarm_is clock moment nap t h set s.may.alarm in
+      let was = deadline_is clock moment idle_peer t h set s.may.deadline in
       let past = later t s.before s.since s.idle in
       let same : of.moment (steps t h) ≡ of.moment (steps t (s.since ++ s.before)) = ap (λ ms. of.moment (steps t ms)) s.are in
       let at = was.1 in (
-        sym ((slept_alike {H = H} {Job = Job} law hub clock nap t p h s).unseen clock) ∙ was.3 clock was.2,
+        sym ((slept_alike {H = H} {Job = Job} law hub clock idle_peer t p h s).unseen clock) ∙ was.3 clock was.2,
         omega (arith, past, same, at),
         at,
       )
 
   -- once it has ticked so it stands for all that was done
-  pub catches_up : (q : Peer H Job) (moment : ℕ) → alarm_in (Some nap) ≡ Some moment
+  pub catches_up : (q : Peer H Job) (moment : ℕ) → deadline_in (Some idle_peer) ≡ Some moment
       → Stands {H = H} hub t q (Plain (Step_of (Ticked clock)) ∷ s.before) → Stands {H = H} hub t q h
   catches_up q moment set ticked =
       let up = makes_up moment set in
@@ -360,10 +360,10 @@ module _ {H Job : Type 0} (law : IdleTicksAreUnseen) (tables : TablesAgree) (hub
       (subst (λ ms. LagsBehind {H = H} hub t q ms) (sym s.are) all)
 
   -- on no link it stands for all anyway
-  pub stays_away : alarm_in (Some nap) ≡ None → Stands {H = H} hub t p h
+  pub stays_away : deadline_in (Some idle_peer) ≡ None → Stands {H = H} hub t p h
   stays_away none =
-      let was : present_link (steps t h) ≡ None = subst (λ o. IsAlarmOf clock o t h) none s.may.alarm in
-      let gone : present_link (steps t s.before) ≡ None = sym (slept_same {H = H} {Job = Job} hub clock nap t p h s).present ∙ was in
+      let was : present_link (steps t h) ≡ None = subst (λ o. IsDeadlineOf clock o t h) none s.may.deadline in
+      let gone : present_link (steps t s.before) ≡ None = sym (slept_same {H = H} {Job = Job} hub clock idle_peer t p h s).present ∙ was in
       let at : p.end.session.moment ≡ of.moment (steps t s.before) = s.stood.end.remembers.moment in
       let then = subst (λ n. Stands {H = H} hub t (at_moment {H = H} {Job = Job} n p) s.before) at s.stood in
       let all = all_more {H = H} {Job = Job} law tables hub t p s.before s.calm then s.since s.idle peer_then in

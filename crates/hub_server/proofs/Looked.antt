@@ -6,7 +6,7 @@ use Rattle.hd_delivery.specs.Histories.{is_shaken, present_link, state, state_of
 use Rattle.he_end.specs.declared.end.End.{End}
 use Rattle.he_end.specs.Stands as of_end
 use Rattle.hd_calls.specs.Hubs.{Hub}
-use Rattle.hd_calls.specs.Peers.{Move, Settings, byte_steps, is_shut, steps}
+use Rattle.hd_calls.specs.Peers.{PeerEvent, Settings, byte_steps, is_shut, steps}
 use Rattle.hp_peer.specs.declared.peer.Peer.{Peer}
 use Rattle.hub_server.proofs.Lags.{Lags}
 
@@ -23,7 +23,7 @@ is_closed_by eq tells false false l = tells.opening
 is_closed_by eq tells false true None = tells.away
 is_closed_by eq tells false true (Some l) = tells.ready
 
-module _ {H Job : Type 0} (hub : Hub Job) (t : Settings) (p : Peer H Job) (h : List Move) (l : Lags {H = H} hub t p h) where
+module _ {H Job : Type 0} (hub : Hub Job) (t : Settings) (p : Peer H Job) (h : List PeerEvent) (l : Lags {H = H} hub t p h) where
   -- the end stands for what its peer stands for
   pub end_looked : (e : End) → e ≡ p.end → of_end.Stands t.wire t.config e (byte_steps t l.before)
   end_looked e is = subst (λ x. of_end.Stands t.wire t.config x (byte_steps t l.before)) (sym is) l.stands.end

@@ -2,7 +2,7 @@
 use Rattle.std.proofs.Common.{◌≡◌, ℕ, zero, suc, ◌<◌, Bool, true, false, ◌||◌, ◌==◌, List, [], ◌∷◌, length, get_or, refl, sym, ap, subst}
 use Rattle.std.proofs.Common.{◌∙◌, true≢false, arith}
 use Rattle.std.proofs.lemmas.Bool.{eqb-true, eq-eqb, or_left}
-use Rattle.hj_jobs.specs.Due.{IsRising, is_in}
+use Rattle.hv_value.specs.SortedSet.{IsRising, is_in}
 use Rattle.hub_server.specs.declared.machine.Machine.{Machine}
 use Rattle.hub_server.specs.Machines.{IsIndexed}
 use Rattle.hub_server.specs.Rounds.{AreNumbers, AreRising}
@@ -53,9 +53,9 @@ rising_in (c ∷ []) r = tt
 rising_in (c ∷ d ∷ cs) r = (r.0 d (or_left (d == d) (is_in d cs) (eq-eqb d d refl)), rising_in (d ∷ cs) r.1)
 
 -- those in the machine's list are its connections that are awake
-pub awake_are_numbers : {H Job : Type 0} (m : Machine H Job) (conns : List ℕ) → IsIndexed {H = H} m → conns ≡ m.sleepers.awake.jobs.items
+pub awake_are_numbers : {H Job : Type 0} (m : Machine H Job) (conns : List ℕ) → IsIndexed {H = H} m → conns ≡ m.idle_set.awake.numbers.items
     → AreNumbers {H = H} m conns
 awake_are_numbers m conns index are = record {
-  rise = subst AreRising (sym are) (rising_in m.sleepers.awake.jobs.items index.kept.rising);
+  rise = subst AreRising (sym are) (rising_in m.idle_set.awake.numbers.items index.kept.rising);
   are = λ c. sym (index.awake c) ∙ ap (λ cs. is_in c cs) (sym are) ∙ in_listed c conns;
 }

@@ -1,6 +1,6 @@
 -- Doings put onto others, part by part.
 use Rattle.std.proofs.Common.{◌≡◌, List, [], ◌∷◌, ◌++◌, refl}
-use Rattle.hd_serving.specs.Plans.{onto}
+use Rattle.hd_server.specs.Plans.{onto}
 
 pub onto_append : {A : Type 0} (xs ys h : List A) → onto (xs ++ ys) h ≡ onto ys (onto xs h)
 onto_append [] ys h = refl

@@ -2,8 +2,8 @@
 use Rattle.std.proofs.Common.{◌≡◌, ℕ, ◌==◌, Bool, true, false, not, List, [], ◌∷◌, filter, refl, sym, ap, ◌∙◌}
 use Rattle.std.proofs.lemmas.Bool.{eqb-true, cond-true, cond-false, not-true, not-false}
 use Rattle.std.proofs.lemmas.List.Elements.{filter_agree}
-use Rattle.hd_server.specs.Registry.{Pair, Lists, gone, without}
-use Rattle.hd_serving.specs.Machine.{Happening, is_open, joined, of_open, registry, user_pairs}
+use Rattle.hd_rooms.specs.Registry.{Pair, Lists, gone, without}
+use Rattle.hd_server.specs.Machine.{MachineEvent, is_open, joined, of_open, registry, user_pairs}
 
 -- ---- filters
 
@@ -45,14 +45,14 @@ filter_among {A} p q r within (x ∷ xs) = go (r x) (p x) refl refl (filter_amon
 -- ---- pairs of open connections
 
 -- all but this connection are open if they were
-abbrev pub OthersOpen : ℕ → List Happening → List Happening → Type 0
+abbrev pub OthersOpen : ℕ → List MachineEvent → List MachineEvent → Type 0
 OthersOpen c old new = (k : ℕ) → (c == k) ≡ false → is_open k new ≡ is_open k old
 
-pub of_open_agrees : (old new : List Happening) (pairs : List Pair) → ((k : ℕ) → is_open k new ≡ is_open k old) → of_open new pairs ≡ of_open old pairs
+pub of_open_agrees : (old new : List MachineEvent) (pairs : List Pair) → ((k : ℕ) → is_open k new ≡ is_open k old) → of_open new pairs ≡ of_open old pairs
 of_open_agrees old new pairs same = filter_agree (λ (p : Pair). is_open p.1 new) (λ p. is_open p.1 old) (λ p. same p.1) pairs
 
 -- one that has closed or gone is without pairs
-pub of_open_closed : (c : ℕ) (old new : List Happening) (pairs : List Pair) → is_open c new ≡ false → OthersOpen c old new
+pub of_open_closed : (c : ℕ) (old new : List MachineEvent) (pairs : List Pair) → is_open c new ≡ false → OthersOpen c old new
     → of_open new pairs ≡ without c (of_open old pairs)
 of_open_closed c old new pairs shut others =
     filter_after (λ (p : Pair). is_open p.1 old) (λ p. is_open p.1 new) (λ p. not (c == p.1))
@@ -60,7 +60,7 @@ of_open_closed c old new pairs shut others =
     (λ p e. others p.1 (not-true (c == p.1) e)) pairs
 
 -- whether one without pairs is open doesn't matter
-pub of_open_unpaired : (c : ℕ) (old new : List Happening) (pairs : List Pair) → without c pairs ≡ pairs → OthersOpen c old new
+pub of_open_unpaired : (c : ℕ) (old new : List MachineEvent) (pairs : List Pair) → without c pairs ≡ pairs → OthersOpen c old new
     → of_open new pairs ≡ of_open old pairs
 of_open_unpaired c old new pairs none others =
     ap (of_open new) (sym none)
@@ -74,14 +74,14 @@ lists_agree a b e f = ap (λ (g : List Pair). let l : Lists = record { groups = 
     ∙ ap (λ (u : List Pair). let l : Lists = record { groups = b.groups; users = u } in l) f
 
 -- nobody joined or left, and nobody's end was closed
-pub registry_agrees : (old new : List Happening) → joined new ≡ joined old → user_pairs new ≡ user_pairs old → ((k : ℕ) → is_open k new ≡ is_open k old)
+pub registry_agrees : (old new : List MachineEvent) → joined new ≡ joined old → user_pairs new ≡ user_pairs old → ((k : ℕ) → is_open k new ≡ is_open k old)
     → registry new ≡ registry old
 registry_agrees old new groups users same = lists_agree (registry new) (registry old)
     (ap (of_open new) groups ∙ of_open_agrees old new (joined old) same)
     (ap (of_open new) users ∙ of_open_agrees old new (user_pairs old) same)
 
 -- nobody joined or left, and this connection closed
-pub registry_closed : (c : ℕ) (old new : List Happening) → joined new ≡ joined old → user_pairs new ≡ user_pairs old
+pub registry_closed : (c : ℕ) (old new : List MachineEvent) → joined new ≡ joined old → user_pairs new ≡ user_pairs old
     → is_open c new ≡ false → OthersOpen c old new → registry new ≡ gone (registry old) c
 registry_closed c old new groups users shut others = lists_agree (registry new) (gone (registry old) c)
     (ap (of_open new) groups ∙ of_open_closed c old new (joined old) shut others)

@@ -4,8 +4,8 @@ use Rattle.std.proofs.Common.{Option, Some, None, refl, sym, ap, ◌∙◌, arit
 use Rattle.std.specs.Prelude.{◌&&◌, ◌||◌, find, filter, nat_le, is_some, if◌then◌else◌}
 use Rattle.std.proofs.lemmas.Bool.{eq-eqb, ne_eqb, leb-true, leb-false}
 use Rattle.std.proofs.Math.Seq.{drop-cons}
-use Rattle.hd_serving.specs.Machine.{Happening, greatest, is_there, last_turn, next_turn, turn_at}
-use Rattle.hd_serving.specs.Lives.{numbers_to}
+use Rattle.hd_server.specs.Machine.{MachineEvent, greatest, is_there, last_turn, next_turn, turn_at}
+use Rattle.hd_server.specs.Lives.{numbers_to}
 use Rattle.hub_server.specs.Rounds.{AreRising, has_turn}
 use Rattle.hub_server.specs.Spreads.{is_listed}
 
@@ -84,5 +84,5 @@ module _ (early late there : ℕ → Bool) where
   none_found (c ∷ cs) f = skipped c (filter there cs) (there c) refl (f c) (none_found cs f)
 
 -- where no connection has a turn none is next
-pub none_next : (r : List Happening) → ((c : ℕ) → has_turn c r ≡ false) → next_turn r ≡ None
+pub none_next : (r : List MachineEvent) → ((c : ℕ) → has_turn c r ≡ false) → next_turn r ≡ None
 none_next r f = none_found (λ c. nat_le (last_turn r) c) (λ c. is_some (turn_at c r)) (λ c. is_there c r) (numbers_to (greatest r)) f

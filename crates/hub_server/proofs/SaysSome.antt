@@ -6,19 +6,19 @@ use Rattle.std.proofs.lemmas.List.{append-nil, map-append, reverse-append}
 use Rattle.std.specs.List.{flat_map}
 use Rattle.std.proofs.lemmas.List.Concat.{flat_map-append}
 use Rattle.hd_delivery.specs.Frames.{LinkFrame}
-use Rattle.hd_delivery.specs.Histories.{Config, Step, Lent, codec_of, is_kept, sent_messages, acked_count, most_lent, held_messages}
+use Rattle.hd_delivery.specs.Histories.{Config, EndEvent, Lent, codec_of, is_resumable, sent_messages, acked_count, most_lent, held_messages}
 use Rattle.hd_delivery.specs.HistoryLaws.{FactsHold}
 use Rattle.hd_delivery.specs.Due.{due}
 use Rattle.hd_delivery.specs.Bytes.{Wire, ByteStep, Does as Step_of, spelling_of}
 use Rattle.hd_delivery.specs.OneHistory.{IsHistory}
-use Rattle.hd_runs.specs.Following.{Follow}
-use Rattle.hd_runs.specs.Alone.{writing}
-use Rattle.hd_runs.specs.Laws.{WritesFew}
+use Rattle.hd_delivery.specs.Following.{Follow}
+use Rattle.hd_delivery.specs.Alone.{writing}
+use Rattle.hd_delivery.specs.AloneLaws.{WritesFew}
 use Rattle.hd_calls.specs.Hubs.{Hub}
-use Rattle.hd_calls.specs.Peers.{Move, Plain, Settings, byte_steps, codec, steps}
-use Rattle.hd_serving.specs.Numbers.{most_before_last}
-use Rattle.hd_serving.specs.Machine.{Happening, moves}
-use Rattle.hd_serving.specs.Serves.{LendsAll, LendsUpTo}
+use Rattle.hd_calls.specs.Peers.{PeerEvent, Plain, Settings, byte_steps, codec, steps}
+use Rattle.hd_server.specs.Numbers.{most_before_last}
+use Rattle.hd_server.specs.Machine.{MachineEvent, moves}
+use Rattle.hd_server.specs.Serves.{LendsAll, LendsUpTo}
 use Rattle.hub_server.specs.declared.machine.Machine.{Machine}
 use Rattle.hub_server.specs.Machines.{StandsMachine}
 use Rattle.hub_server.specs.Calls.{HasSaid, doing}
@@ -28,49 +28,49 @@ use Rattle.hub_server.proofs.Doing.{moves_done}
 -- ---- frames that are lent
 
 -- the history after these were lent
-abbrev pub lent_after : List LinkFrame → List Step → List Step
+abbrev pub lent_after : List LinkFrame → List EndEvent → List EndEvent
 lent_after [] s = s
 lent_after (f ∷ fs) s = lent_after fs (Lent f ∷ s)
 
 -- each was due
-abbrev pub AreDue : Config → List Step → List LinkFrame → Type 0
+abbrev pub AreDue : Config → List EndEvent → List LinkFrame → Type 0
 AreDue c s [] = Unit {0}
 AreDue c s (f ∷ fs) = (due c s ≡ Some f) × AreDue c (Lent f ∷ s) fs
 
 -- how many bytes a body has after these
-abbrev pub sized : Wire → Config → List Step → ℕ → List LinkFrame → ℕ
+abbrev pub sized : Wire → Config → List EndEvent → ℕ → List LinkFrame → ℕ
 sized wire c s size [] = size
 sized wire c s size (f ∷ fs) = sized wire c (Lent f ∷ s) (size + length (wire.spell (codec_of c s) f)) fs
 
 -- and it had room for each
-abbrev pub HadRoom : Wire → Config → List Step → ℕ → List LinkFrame → Type 0
+abbrev pub HadRoom : Wire → Config → List EndEvent → ℕ → List LinkFrame → Type 0
 HadRoom wire c s size [] = Unit {0}
 HadRoom wire c s size (f ∷ fs) = (size ≤ most_before_last) × HadRoom wire c (Lent f ∷ s) (size + length (wire.spell (codec_of c s) f)) fs
 
-due_more : (c : Config) (s : List Step) (fs : List LinkFrame) (f : LinkFrame) → AreDue c s fs → due c (lent_after fs s) ≡ Some f
+due_more : (c : Config) (s : List EndEvent) (fs : List LinkFrame) (f : LinkFrame) → AreDue c s fs → due c (lent_after fs s) ≡ Some f
     → AreDue c s (fs ++ f ∷ [])
 due_more c s [] f are next = (next, tt)
 due_more c s (g ∷ fs) f are next = (are.0, due_more c (Lent g ∷ s) fs f are.1 next)
 
-due_all : (c : Config) (s : List Step) (fs : List LinkFrame) → AreDue c s fs → due c (lent_after fs s) ≡ None → LendsAll c s fs
+due_all : (c : Config) (s : List EndEvent) (fs : List LinkFrame) → AreDue c s fs → due c (lent_after fs s) ≡ None → LendsAll c s fs
 due_all c s [] are none = none
 due_all c s (g ∷ fs) are none = (are.0, due_all c (Lent g ∷ s) fs are.1 none)
 
-after_more : (s : List Step) (fs : List LinkFrame) (f : LinkFrame) → lent_after (fs ++ f ∷ []) s ≡ Lent f ∷ lent_after fs s
+after_more : (s : List EndEvent) (fs : List LinkFrame) (f : LinkFrame) → lent_after (fs ++ f ∷ []) s ≡ Lent f ∷ lent_after fs s
 after_more s [] f = refl
 after_more s (g ∷ fs) f = after_more (Lent g ∷ s) fs f
 
-room_more : (wire : Wire) (c : Config) (s : List Step) (size : ℕ) (fs : List LinkFrame) (f : LinkFrame) → HadRoom wire c s size fs
+room_more : (wire : Wire) (c : Config) (s : List EndEvent) (size : ℕ) (fs : List LinkFrame) (f : LinkFrame) → HadRoom wire c s size fs
     → sized wire c s size fs ≤ most_before_last → HadRoom wire c s size (fs ++ f ∷ [])
 room_more wire c s size [] f had room = (room, tt)
 room_more wire c s size (g ∷ fs) f had room = (had.0, room_more wire c (Lent g ∷ s) (size + length (wire.spell (codec_of c s) g)) fs f had.1 room)
 
-size_more : (wire : Wire) (c : Config) (s : List Step) (size : ℕ) (fs : List LinkFrame) (f : LinkFrame)
+size_more : (wire : Wire) (c : Config) (s : List EndEvent) (size : ℕ) (fs : List LinkFrame) (f : LinkFrame)
     → sized wire c s size (fs ++ f ∷ []) ≡ sized wire c s size fs + length (wire.spell (codec_of c (lent_after fs s)) f)
 size_more wire c s size [] f = refl
 size_more wire c s size (g ∷ fs) f = size_more wire c (Lent g ∷ s) (size + length (wire.spell (codec_of c s) g)) fs f
 
-up_to : (wire : Wire) (c : Config) (s : List Step) (size : ℕ) (fs : List LinkFrame) → AreDue c s fs → HadRoom wire c s size fs
+up_to : (wire : Wire) (c : Config) (s : List EndEvent) (size : ℕ) (fs : List LinkFrame) → AreDue c s fs → HadRoom wire c s size fs
     → (due c (lent_after fs s) ≡ None) ⊎ (most_before_last < sized wire c s size fs) → LendsUpTo wire c s size fs
 up_to wire c s size [] are had over = over
 up_to wire c s size (g ∷ fs) are had over =
@@ -89,7 +89,7 @@ spelled_more : (spell : LinkFrame → List ℕ) (fs : List LinkFrame) (f : LinkF
 spelled_more spell fs f = flat_map-append spell fs (f ∷ []) ∙ ap (λ x. flat_map spell fs ++ x) (append-nil (spell f))
 
 -- what is told of one more
-pub said_at : {H Job : Type 0} (hub : Hub Job) (new : Machine H Job) (c : ℕ) (w : List Happening) (t : Settings) (ms : List Move)
+pub said_at : {H Job : Type 0} (hub : Hub Job) (new : Machine H Job) (c : ℕ) (w : List MachineEvent) (t : Settings) (ms : List PeerEvent)
     (before now : List ℕ) (more so : Bool) → more ≡ so
     → HasSaid {H = H} hub new c (doing c ms w) t (moves c (doing c ms w)) more before now
     → HasSaid {H = H} hub new c (doing c ms w) t (ms ++ moves c w) so before now
@@ -99,7 +99,7 @@ said_at {H} hub new c w t ms before now more so is said =
 
 -- ---- so many were said
 
-pub record HasLent {H Job : Type 0} (hub : Hub Job) (new : Machine H Job) (c : ℕ) (w : List Happening) (t : Settings) (h : List Move) (any : Bool)
+pub record HasLent {H Job : Type 0} (hub : Hub Job) (new : Machine H Job) (c : ℕ) (w : List MachineEvent) (t : Settings) (h : List PeerEvent) (any : Bool)
     (before now : List ℕ) (n : ℕ) : Type 0 where
   pub frames : List LinkFrame
   pub due : AreDue t.config (steps t h) frames
@@ -113,7 +113,7 @@ pub record HasLent {H Job : Type 0} (hub : Hub Job) (new : Machine H Job) (c : �
   pub are : byte_steps t (lends frames ++ h) ≡ lent ++ byte_steps t h
   pub many : length lent ≡ n
 
-module _ {H Job : Type 0} (hub : Hub Job) (c : ℕ) (w : List Happening) (t : Settings) (h : List Move) (before : List ℕ) where
+module _ {H Job : Type 0} (hub : Hub Job) (c : ℕ) (w : List MachineEvent) (t : Settings) (h : List PeerEvent) (before : List ℕ) where
   pub lent_none : (m : Machine H Job) → StandsMachine {H = H} hub m w → HasLent {H = H} hub m c w t h false before before 0
   lent_none m stands = record {
     frames = [];
@@ -130,7 +130,7 @@ module _ {H Job : Type 0} (hub : Hub Job) (c : ℕ) (w : List Happening) (t : Se
   }
 
   module _ (old new : Machine H Job) (any : Bool) (mid now : List ℕ) (n : ℕ) (has : HasLent {H = H} hub old c w t h any before mid n) where
-    abbrev x : List Move
+    abbrev x : List PeerEvent
     x = lends has.frames ++ h
 
     next_due : (o : Option LinkFrame) → due t.config (steps t x) ≡ o → due t.config (lent_after has.frames (steps t h)) ≡ o
@@ -141,7 +141,7 @@ module _ {H Job : Type 0} (hub : Hub Job) (c : ℕ) (w : List Happening) (t : Se
     lent_more said =
         let f = said.0 in
         let all = has.frames ++ f ∷ [] in
-        let step : Move = Plain (Step_of (Lent f)) in
+        let step : PeerEvent = Plain (Step_of (Lent f)) in
         let ls = lends_more has.frames f in
         let spell = t.wire.spell (codec t h) in
         record {
@@ -174,13 +174,13 @@ module _ {H Job : Type 0} (hub : Hub Job) (c : ℕ) (w : List Happening) (t : Se
 
 -- ---- up to the size of a body
 
-pub record HasLentUpTo {H Job : Type 0} (hub : Hub Job) (new : Machine H Job) (c : ℕ) (w : List Happening) (t : Settings) (h : List Move) (any : Bool)
+pub record HasLentUpTo {H Job : Type 0} (hub : Hub Job) (new : Machine H Job) (c : ℕ) (w : List MachineEvent) (t : Settings) (h : List PeerEvent) (any : Bool)
     (now : List ℕ) (n : ℕ) : Type 0 where
   pub has : HasLent {H = H} hub new c w t h any [] now n
   pub room : HadRoom t.wire t.config (steps t h) 0 has.frames
   pub size : length now ≡ sized t.wire t.config (steps t h) 0 has.frames
 
-module _ {H Job : Type 0} (hub : Hub Job) (c : ℕ) (w : List Happening) (t : Settings) (h : List Move) where
+module _ {H Job : Type 0} (hub : Hub Job) (c : ℕ) (w : List MachineEvent) (t : Settings) (h : List PeerEvent) where
   pub some_none : (m : Machine H Job) (body : List ℕ) → body ≡ [] → StandsMachine {H = H} hub m w → HasLentUpTo {H = H} hub m c w t h false body 0
   unfolding lent_none
   some_none m body empty stands =
@@ -239,7 +239,7 @@ shorter true n m xs = omega (arith, length-drop n xs)
 shorter false n m xs = omega (arith, length-drop m xs)
 
 -- what is due is less than 64 bits count
-lent_few : {H Job : Type 0} (hub : Hub Job) (m : Machine H Job) (c : ℕ) (w : List Happening) (t : Settings) (h : List Move) (any : Bool)
+lent_few : {H Job : Type 0} (hub : Hub Job) (m : Machine H Job) (c : ℕ) (w : List MachineEvent) (t : Settings) (h : List PeerEvent) (any : Bool)
     (before now : List ℕ) (n : ℕ)
     → WritesFew → FactsHold → IsHistory t.limits t.wire t.config (byte_steps t h) → HasLent {H = H} hub m c w t h any before now n → n < 2 ^ 64 - 1
 lent_few hub m c w t h any before now n few facts history has =
@@ -247,18 +247,18 @@ lent_few hub m c w t h any before now n few facts history has =
     let all = few t.limits t.wire t.config (byte_steps t h) has.lent history has.follow in
     let sent = (facts t.limits t.wire t.config (byte_steps t h) history).sent_are_few in
     let held : length (held_messages t.config k) ≤ length (sent_messages k) =
-    shorter (is_kept t.config k) (acked_count k) (most_lent k) (sent_messages k) in
+    shorter (is_resumable t.config k) (acked_count k) (most_lent k) (sent_messages k) in
     let many = has.many in
     omega (arith, all, sent, held, many)
 
-pub lent_end : {H Job : Type 0} (hub : Hub Job) (m : Machine H Job) (c : ℕ) (w : List Happening) (t : Settings) (h : List Move) (any : Bool)
+pub lent_end : {H Job : Type 0} (hub : Hub Job) (m : Machine H Job) (c : ℕ) (w : List MachineEvent) (t : Settings) (h : List PeerEvent) (any : Bool)
     (before now : List ℕ) (n : ℕ)
     → WritesFew → FactsHold → IsHistory t.limits t.wire t.config (byte_steps t h) → HasLent {H = H} hub m c w t h any before now n → 2 ^ 64 - 1 ≤ n
     → LendsDue {H = H} hub m c w t h any before now
 lent_end {H} {Job} hub m c w t h any before now n few facts history has over =
     absurd (let less = lent_few {H = H} {Job = Job} hub m c w t h any before now n few facts history has in omega (arith, less, over))
 
-pub some_end : {H Job : Type 0} (hub : Hub Job) (m : Machine H Job) (c : ℕ) (w : List Happening) (t : Settings) (h : List Move) (any : Bool)
+pub some_end : {H Job : Type 0} (hub : Hub Job) (m : Machine H Job) (c : ℕ) (w : List MachineEvent) (t : Settings) (h : List PeerEvent) (any : Bool)
     (now : List ℕ) (n : ℕ)
     → WritesFew → FactsHold → IsHistory t.limits t.wire t.config (byte_steps t h) → HasLentUpTo {H = H} hub m c w t h any now n → 2 ^ 64 - 1 ≤ n
     → LendsSome {H = H} hub m c w t h any now

@@ -7,18 +7,18 @@ use Rattle.std.specs.Result.{IsErr, IsErrAnd, is_ok, result_err}
 use Rattle.std.proofs.lemmas.Result.{err_from_is_err_and}
 use Rattle.std.proofs.lemmas.List.{append_assoc, append-nil, length-append}
 use Rattle.hd_calls.specs.Hubs.{Hub}
-use Rattle.hd_server.specs.KeptLaws.{AnswersJoin}
+use Rattle.hd_rooms.specs.KeptLaws.{AnswersJoin}
 use Rattle.hw_door.specs.declared.heard.Given.{Given}
 use Rattle.hw_door.specs.declared.heard.Heard.{Heard}
 use Rattle.hw_door.specs.declared.error.DoorError.{DoorError}
 use Rattle.hw_door.specs.declared.error.DoorError.TheVariants as door
 use Rattle.hw_door.specs.Calls.{IsCaused, Told, with_heard}
-use Rattle.hd_serving.specs.declared.vocabulary.Said.{Said}
-use Rattle.hd_serving.specs.declared.vocabulary.Said.TheVariants as say
-use Rattle.hd_serving.specs.Doings.{Doing, moment}
-use Rattle.hd_serving.specs.Plans.{Setup}
-use Rattle.hd_serving.specs.Serves.{IsFree}
-use Rattle.hd_serving.specs.Serving.{IsAnswered, IsCutShort, IsGivenWhole, ServesOn, given_as, wait_for}
+use Rattle.hd_server.specs.declared.vocabulary.Said.{Said}
+use Rattle.hd_server.specs.declared.vocabulary.Said.TheVariants as say
+use Rattle.hd_server.specs.Doings.{ServerEvent, moment}
+use Rattle.hd_server.specs.Plans.{Setup}
+use Rattle.hd_server.specs.Serves.{IsFree}
+use Rattle.hd_server.specs.Serving.{IsAnswered, IsCutShort, IsGivenWhole, ServesOn, given_as, wait_for}
 use Rattle.hub_server.specs.declared.server.Server.{Server}
 use Rattle.hub_server.specs.declared.serving.ServeFault.{ServeFault}
 use Rattle.hub_server.specs.declared.serving.ServeFault.TheVariants as fault
@@ -169,15 +169,15 @@ tells_then (Some a) (Some b) (Some c) es fs ws vs gs ks x y = (
 -- ---- what is served
 
 -- an event is answered whole or, the last one, in part
-abbrev Answers : {Job : Type 0} → Hub Job → Setup → Bool → (List Doing → Type 0) → (List Doing → Type 0)
-    → List Doing → Heard → List Heard → List ℕ → List Given → Type 0
+abbrev Answers : {Job : Type 0} → Hub Job → Setup → Bool → (List ServerEvent → Type 0) → (List ServerEvent → Type 0)
+    → List ServerEvent → Heard → List Heard → List ℕ → List Given → Type 0
 Answers hub s cut A B h e es ws given =
     IsGivenWhole hub s h e given (λ after rest. ServesOn hub s cut A B after es ws rest)
     ⊎ ((cut ≡ true) × (es ≡ []) × (ws ≡ []) × IsCutShort hub s A B h e given)
 
 -- what holds at the end may be said in other words
-serves_as : {Job : Type 0} (hub : Hub Job) (s : Setup) (cut : Bool) (P Q R S : List Doing → Type 0) → ((x : List Doing) → P x → R x)
-    → ((x : List Doing) → Q x → S x) → (h : List Doing) (es : List Heard) (ws : List ℕ) (given : List Given)
+serves_as : {Job : Type 0} (hub : Hub Job) (s : Setup) (cut : Bool) (P Q R S : List ServerEvent → Type 0) → ((x : List ServerEvent) → P x → R x)
+    → ((x : List ServerEvent) → Q x → S x) → (h : List ServerEvent) (es : List Heard) (ws : List ℕ) (given : List Given)
     → ServesOn hub s cut P Q h es ws given → ServesOn hub s cut R S h es ws given
 serves_as hub s cut P Q R S p q h [] [] given x = (x.0, p h x.1)
 serves_as hub s cut P Q R S p q h [] (w ∷ ws) given x = absurd x
@@ -189,15 +189,15 @@ serves_as {Job} hub s cut P Q R S p q h (e ∷ es) (w ∷ ws) given x =
     cuts (inl y) = inl (y.0, q h y.1)
     cuts (inr y) = inr (y.0, y.1, y.2, y.3, p y.0 y.4)
 
-    go : ((after : List Doing) (rest : List Given) → ServesOn hub s cut P Q after es ws rest → ServesOn hub s cut R S after es ws rest)
+    go : ((after : List ServerEvent) (rest : List Given) → ServesOn hub s cut P Q after es ws rest → ServesOn hub s cut R S after es ws rest)
         → Answers hub s cut P Q h e es ws given → Answers hub s cut R S h e es ws given
     go next (inl y) = inl (y.0, y.1, y.2, y.3, y.4, next y.0 y.2 y.5)
     go next (inr y) = inr (y.0, y.1, y.2, cuts y.3)
 
 -- what is served on from the end is served after all that was served before
-serves_then : {Job : Type 0} (hub : Hub Job) (s : Setup) (cut : Bool) (P Q R S : List Doing → Type 0) (fs : List Heard) (vs : List ℕ)
+serves_then : {Job : Type 0} (hub : Hub Job) (s : Setup) (cut : Bool) (P Q R S : List ServerEvent → Type 0) (fs : List Heard) (vs : List ℕ)
     (more : List Given)
-    → ((x : List Doing) → P x → ServesOn hub s cut R S x fs vs more) → (h : List Doing) (es : List Heard) (ws : List ℕ) (given : List Given)
+    → ((x : List ServerEvent) → P x → ServesOn hub s cut R S x fs vs more) → (h : List ServerEvent) (es : List Heard) (ws : List ℕ) (given : List Given)
     → ServesOn hub s false P Q h es ws given → ServesOn hub s cut R S h (es ++ fs) (ws ++ vs) (given ++ more)
 serves_then hub s cut P Q R S fs vs more on h [] [] given x =
     subst (λ l. ServesOn hub s cut R S h fs vs (l ++ more)) (sym x.0) (on h x.1)
@@ -206,7 +206,7 @@ serves_then hub s cut P Q R S fs vs more on h (e ∷ es) [] given x = absurd x
 serves_then {Job} hub s cut P Q R S fs vs more on h (e ∷ es) (w ∷ ws) given x =
     (x.0, x.1, λ free. inl (go (λ after rest. serves_then hub s cut P Q R S fs vs more on after es ws rest) (x.2 free)))
   where
-    go : ((after : List Doing) (rest : List Given) → ServesOn hub s false P Q after es ws rest → ServesOn hub s cut R S after (es ++ fs) (ws ++ vs)
+    go : ((after : List ServerEvent) (rest : List Given) → ServesOn hub s false P Q after es ws rest → ServesOn hub s cut R S after (es ++ fs) (ws ++ vs)
         (rest ++ more))
         → Answers hub s false P Q h e es ws given
         → IsGivenWhole hub s h e (given ++ more) (λ after rest. ServesOn hub s cut R S after (es ++ fs) (ws ++ vs) rest)
@@ -230,7 +230,7 @@ served_nothing {H} hub x at a b first last why same still = record {
 module _ {H Job : Type 0} (hub : Hub Job) (old new : Server H Job) (at since : Around) (a b c : Option Told) (first last wait : ℕ) (e : Heard) where
   -- memory ran out before anything was said
   pub served_ended : b ≡ option_map (with_heard wait e) a → (first ≤ e.now) × (last ≡ e.now) → new.is_ended ≡ true
-      → ((s : Setup) (h : List Doing) → StandsServer {H = H} hub s old h → wait ≡ wait_for h)
+      → ((s : Setup) (h : List ServerEvent) → StandsServer {H = H} hub s old h → wait ≡ wait_for h)
       → HasServed {H = H} hub old new at since a b first last 1 (Some fault.NoMemory)
   served_ended heard later ended waited = record {
     heard = e ∷ [];
@@ -260,9 +260,9 @@ module _ {H Job : Type 0} (hub : Hub Job) (old new : Server H Job) (at since : A
 
   -- what was heard is answered, in part at least
   pub served_answer : {A : Type 0} (r : Result A ServeFault) (words : List Said) → b ≡ option_map (with_heard wait e) a → (first ≤ e.now) × (last ≡ e.now)
-      → ((s : Setup) (h : List Doing) → StandsServer {H = H} hub s old h → (moment h ≤ e.now) × IsFree e.event h
+      → ((s : Setup) (h : List ServerEvent) → StandsServer {H = H} hub s old h → (moment h ≤ e.now) × IsFree e.event h
       → HasTurn {H = H} hub s new at since e h words)
-      → ((s : Setup) (h : List Doing) → StandsServer {H = H} hub s old h → wait ≡ wait_for h) → GivesAll b c words (is_ok r)
+      → ((s : Setup) (h : List ServerEvent) → StandsServer {H = H} hub s old h → wait ≡ wait_for h) → GivesAll b c words (is_ok r)
       → HasServed {H = H} hub old new at since a c first last 1 (result_err r)
   served_answer {A} r words heard later turned waited gives = record {
     heard = e ∷ [];
@@ -281,20 +281,20 @@ module _ {H Job : Type 0} (hub : Hub Job) (old new : Server H Job) (at since : A
       count (Ok x) = refl
       count (Err why) = omega arith
 
-      soon : (h : List Doing) → moment h ≤ first → moment h ≤ e.now
+      soon : (h : List ServerEvent) → moment h ≤ first → moment h ≤ e.now
       soon h before = let k = later.0 in omega (arith, before, k)
 
-      at_end : (s : Setup) (h : List Doing) (t : HasTurn {H = H} hub s new at since e h words) → AtEnd {H = H} hub s new at since last h t.after
+      at_end : (s : Setup) (h : List ServerEvent) (t : HasTurn {H = H} hub s new at since e h words) → AtEnd {H = H} hub s new at since last h t.after
       at_end s h t = record {
         stands = t.stands;
         went = t.went;
         timely = let k = later.1 in let m = turn_moment hub s e.now e.event h t.after t.turn in omega (arith, k, m);
       }
 
-      answer : (s : Setup) (h : List Doing) (t : HasTurn {H = H} hub s new at since e h words) → IsAnswered hub s h e t.after (map given_as words)
+      answer : (s : Setup) (h : List ServerEvent) (t : HasTurn {H = H} hub s new at since e h words) → IsAnswered hub s h e t.after (map given_as words)
       answer s h t = record { turn = t.turn; new = words; tells = t.tells; gives = refl }
 
-      answered : (s : Setup) (h : List Doing) (r : Result A ServeFault) (given : List Given) → IsGiven (is_ok r) given (map given_as words)
+      answered : (s : Setup) (h : List ServerEvent) (r : Result A ServeFault) (given : List Given) → IsGiven (is_ok r) given (map given_as words)
           → (t : HasTurn {H = H} hub s new at since e h words)
           → Answers hub s (is_some (result_err r)) (AtEnd {H = H} hub s new at since last h) (IfMemoryEnds (result_err r) (HasEnded {H = H} new at last h)) h e [] [] given
       answered s h (Ok x) given all t =
@@ -308,7 +308,7 @@ turns_then : (why : Option ServeFault) (n turns : ℕ) (es fs : List Heard) → 
 turns_then None n turns es fs e f whole few = length-append es fs ∙ (let w = whole refl in omega (arith, e, f, w))
 turns_then (Some why) n turns es fs e f whole few = let l = length-append es fs in omega (arith, e, f, few, l)
 
-ended_as : (why : Option ServeFault) (P Q : List Doing → Type 0) (h : List Doing) → (P h → Q h) → IfMemoryEnds why P h → IfMemoryEnds why Q h
+ended_as : (why : Option ServeFault) (P Q : List ServerEvent → Type 0) (h : List ServerEvent) → (P h → Q h) → IfMemoryEnds why P h → IfMemoryEnds why Q h
 ended_as None P Q h f x = x
 ended_as (Some fault.Door) P Q h f x = x
 ended_as (Some fault.NoMemory) P Q h f x = f x

@@ -8,14 +8,14 @@ use Rattle.hd_delivery.specs.declared.vocabulary.Reason.TheVariants as reason
 use Rattle.hd_delivery.specs.Histories.{Closed, is_this, first_of}
 use Rattle.hd_delivery.specs.Bytes.{Does as Step_of}
 use Rattle.hd_calls.specs.Peers.{Plain}
-use Rattle.hd_serving.specs.declared.vocabulary.Life.{Life}
-use Rattle.hd_serving.specs.declared.vocabulary.Life.TheVariants.{Unknown, Fresh, Socket, Lost, Polling, Ending}
-use Rattle.hd_serving.specs.Lives.{Note, Negotiated, Opened, Socketed, Polled, Answered, LaneLost, Ended, Expired, LetGo}
-use Rattle.hd_serving.specs.Lives.{is_let_go, is_opened, is_polling, ended_at, lost_at, negotiated_at, overdue, socket_of, standing, when}
-use Rattle.hd_serving.specs.Machine.{Connects, Does, Goes, Rounds, Carries, has_gone, settings_of}
-use Rattle.hd_serving.specs.Doings.{Doing, Hears, Learns, Draws, Notes, Works, Says}
-use Rattle.hd_serving.specs.Doings.{notes, work, awaits_reply, has_peer, is_up, name_now, wants_shut, was_refused}
-use Rattle.hd_serving.specs.Plans.{onto, closing, dropping, expiring, expiries}
+use Rattle.hd_server.specs.declared.vocabulary.Life.{Life}
+use Rattle.hd_server.specs.declared.vocabulary.Life.TheVariants.{Unknown, Fresh, Socket, Lost, Polling, Ending}
+use Rattle.hd_server.specs.Lives.{ConnectionEvent, Negotiated, Opened, Socketed, Polled, Answered, LaneLost, Ended, Expired, LetGo}
+use Rattle.hd_server.specs.Lives.{is_let_go, is_opened, is_polling, ended_at, lost_at, negotiated_at, overdue, socket_of, standing, when}
+use Rattle.hd_server.specs.Machine.{Connects, Does, Goes, Rounds, Carries, has_gone, settings_of}
+use Rattle.hd_server.specs.Doings.{ServerEvent, Hears, Learns, Draws, Notes, Works, Says}
+use Rattle.hd_server.specs.Doings.{notes, work, awaits_reply, has_peer, is_up, name_now, wants_shut, was_refused}
+use Rattle.hd_server.specs.Plans.{onto, closing, dropping, expiring, expiries}
 use Rattle.hub_server.specs.Lanes.{IsNobodys, is_at, poll_lane}
 use Rattle.hub_server.specs.Servers.{IsRested}
 use Rattle.hub_server.proofs.Alike.{Alike, alike_does, alike_goes, alike_note, alike_trans, there_alike, up_alike}
@@ -23,35 +23,35 @@ use Rattle.hub_server.proofs.OntoAlike.{onto_append}
 
 -- ---- moments, what an end does, and peers that are dropped
 
-abbrev IsWaning : Doing → Type 0
+abbrev IsWaning : ServerEvent → Type 0
 IsWaning (Notes (Expired c now)) = Unit {0}
 IsWaning (Works (Does c m)) = Unit {0}
 IsWaning (Works (Goes c)) = Unit {0}
 IsWaning _ = ⊥
 
-abbrev AreWaning : List Doing → Type 0
+abbrev AreWaning : List ServerEvent → Type 0
 AreWaning [] = Unit {0}
 AreWaning (d ∷ ds) = IsWaning d × AreWaning ds
 
-join : (xs ys : List Doing) → AreWaning xs → AreWaning ys → AreWaning (xs ++ ys)
+join : (xs ys : List ServerEvent) → AreWaning xs → AreWaning ys → AreWaning (xs ++ ys)
 join [] ys a b = b
 join (x ∷ xs) ys a b = (a.0, join xs ys a.1 b)
 
-either : (b : Bool) (xs ys : List Doing) → AreWaning xs → AreWaning ys → AreWaning (if b then xs else ys)
+either : (b : Bool) (xs ys : List ServerEvent) → AreWaning xs → AreWaning ys → AreWaning (if b then xs else ys)
 either true xs ys a b = a
 either false xs ys a b = b
 
-each : (f : ℕ → List Doing) (cs : List ℕ) → ((c : ℕ) → AreWaning (f c)) → AreWaning (flat_map f cs)
+each : (f : ℕ → List ServerEvent) (cs : List ℕ) → ((c : ℕ) → AreWaning (f c)) → AreWaning (flat_map f cs)
 each f [] a = tt
 each f (c ∷ cs) a = join (f c) (flat_map f cs) (a c) (each f cs a)
 
-expires : (now : ℕ) (life : Life) (c : ℕ) (h : List Doing) → AreWaning (expiring now life c h)
+expires : (now : ℕ) (life : Life) (c : ℕ) (h : List ServerEvent) → AreWaning (expiring now life c h)
 expires now Polling c h = join (closing c _ h) _ (either (is_up c h) _ [] (tt, tt) tt) (tt, tt)
 expires now life c h = join (dropping c h) _ (either (has_peer c h) _ [] (tt, tt) tt) (tt, tt)
 
 -- ---- what they leave
 
-pub record Wanes (g h : List Doing) : Type 0 where
+pub record Wanes (g h : List ServerEvent) : Type 0 where
   pub waits : (lane : ℕ) → awaits_reply lane g ≡ awaits_reply lane h
   pub shut : (lane : ℕ) → wants_shut lane g ≡ wants_shut lane h
   pub refused : (lane : ℕ) → was_refused lane g ≡ was_refused lane h
@@ -60,7 +60,7 @@ pub record Wanes (g h : List Doing) : Type 0 where
   pub there : (c : ℕ) → has_peer c g ≡ true → has_peer c h ≡ true
   pub at : (lane c : ℕ) → is_at lane c g ≡ true → is_at lane c h ≡ true
 
-wanes_refl : (h : List Doing) → Wanes h h
+wanes_refl : (h : List ServerEvent) → Wanes h h
 wanes_refl h = record {
   waits = λ lane. refl;
   shut = λ lane. refl;
@@ -71,7 +71,7 @@ wanes_refl h = record {
   at = λ lane c e. e;
 }
 
-wanes_trans : (f g h : List Doing) → Wanes f g → Wanes g h → Wanes f h
+wanes_trans : (f g h : List ServerEvent) → Wanes f g → Wanes g h → Wanes f h
 wanes_trans f g h x y = record {
   waits = λ lane. x.waits lane ∙ y.waits lane;
   shut = λ lane. x.shut lane ∙ y.shut lane;
@@ -92,7 +92,7 @@ was_at true true g x e = absurd (both_ways false refl e)
 was_at true false g x e = e
 was_at false d g x e = e
 
-one_wanes : (d : Doing) (h : List Doing) → IsWaning d → Wanes (d ∷ h) h
+one_wanes : (d : ServerEvent) (h : List ServerEvent) → IsWaning d → Wanes (d ∷ h) h
 one_wanes (Hears now event) h a = absurd a
 one_wanes (Learns ask) h a = absurd a
 one_wanes (Draws drawn) h a = absurd a
@@ -137,15 +137,15 @@ one_wanes (Works (Goes k)) h a = record {
       (is_this lane (socket_of c (notes h)) || is_this lane (poll_lane c (notes h)));
 }
 
-onto_wanes : (ds h : List Doing) → AreWaning ds → Wanes (onto ds h) h
+onto_wanes : (ds h : List ServerEvent) → AreWaning ds → Wanes (onto ds h) h
 onto_wanes [] h a = wanes_refl h
 onto_wanes (d ∷ ds) h a = wanes_trans (onto ds (d ∷ h)) (d ∷ h) h (onto_wanes ds (d ∷ h) a.1) (one_wanes d h a.0)
 
-pub expiries_wane : (now : ℕ) (h g : List Doing) → Wanes (onto (expiries now h) g) g
+pub expiries_wane : (now : ℕ) (h g : List ServerEvent) → Wanes (onto (expiries now h) g) g
 expiries_wane now h g = onto_wanes (expiries now h) g (each (λ c. expiring now (standing c (notes h)) c h) (overdue now (notes h))
     (λ c. expires now (standing c (notes h)) c h))
 
-pub nobody_wanes : (lane : ℕ) (g h : List Doing) → Wanes g h → IsNobodys lane h → IsNobodys lane g
+pub nobody_wanes : (lane : ℕ) (g h : List ServerEvent) → Wanes g h → IsNobodys lane h → IsNobodys lane g
 nobody_wanes lane g h x nobody c = false_from_ne_true (is_at lane c g) (λ e. both_ways (is_at lane c h) (nobody c) (x.at lane c e))
 
 -- ---- who rests
@@ -167,21 +167,21 @@ pick false false None false true fresh e = refl
 pick false false None false false true e = absurd (both_ways false refl (ap polls e))
 pick false false None false false false e = absurd (both_ways false refl (ap polls e))
 
-polls_then : (c : ℕ) (n : List Note) → standing c n ≡ Polling → is_polling c n ≡ true
+polls_then : (c : ℕ) (n : List ConnectionEvent) → standing c n ≡ Polling → is_polling c n ≡ true
 polls_then c n e = pick (is_let_go c n) (is_some (ended_at c n)) (socket_of c n) (is_some (lost_at c n)) (is_polling c n)
     (is_opened c n || is_some (negotiated_at c n)) e
 
 -- one or two doings that don't concern a connection
-unconcerned : (b : Bool) (x n : Doing) (c : ℕ) (g : List Doing) → ((f : List Doing) → Alike c (x ∷ f) f) → ((f : List Doing) → Alike c (n ∷ f) f)
+unconcerned : (b : Bool) (x n : ServerEvent) (c : ℕ) (g : List ServerEvent) → ((f : List ServerEvent) → Alike c (x ∷ f) f) → ((f : List ServerEvent) → Alike c (n ∷ f) f)
     → Alike c (onto ((if b then x ∷ [] else []) ++ n ∷ []) g) g
 unconcerned true x n c g a d = alike_trans c (n ∷ x ∷ g) (x ∷ g) g (d (x ∷ g)) (a g)
 unconcerned false x n c g a d = d g
 
-others_drop : (c k now : ℕ) (h g : List Doing) → (c == k) ≡ false → Alike c (onto (dropping k h ++ Notes (Expired k now) ∷ []) g) g
+others_drop : (c k now : ℕ) (h g : List ServerEvent) → (c == k) ≡ false → Alike c (onto (dropping k h ++ Notes (Expired k now) ∷ []) g) g
 others_drop c k now h g e =
     unconcerned (has_peer k h) (Works (Goes k)) (Notes (Expired k now)) c g (λ f. alike_goes c k f e) (λ f. alike_note (Expired k now) c f e tt)
 
-others_expire : (now : ℕ) (life : Life) (c k : ℕ) (h g : List Doing) → (c == k) ≡ false → Alike c (onto (expiring now life k h) g) g
+others_expire : (now : ℕ) (life : Life) (c k : ℕ) (h g : List ServerEvent) → (c == k) ≡ false → Alike c (onto (expiring now life k h) g) g
 others_expire now Polling c k h g e =
     unconcerned (is_up k h) (Works (Does k (Plain (Step_of (Closed reason.Expired false))))) (Notes (Expired k now)) c g
     (λ f. alike_does c k (Plain (Step_of (Closed reason.Expired false))) f e) (λ f. alike_note (Expired k now) c f e tt)
@@ -192,7 +192,7 @@ others_expire now Lost c k h g e = others_drop c k now h g e
 others_expire now Ending c k h g e = others_drop c k now h g e
 
 -- the connection rests, as far as it didn't poll before
-record Restful (c : ℕ) (g h : List Doing) : Type 0 where
+record Restful (c : ℕ) (g h : List ServerEvent) : Type 0 where
   wanes : Wanes g h
   rests : has_peer c g ≡ true → is_polling c (notes h) ≡ false → is_up c g ≡ true
 
@@ -201,7 +201,7 @@ went true true g e = refl
 went true false g e = absurd (both_ways false refl e)
 went false d g e = refl
 
-drops : (c k now : ℕ) (h g : List Doing) → (c == k) ≡ true → Wanes g h
+drops : (c k now : ℕ) (h g : List ServerEvent) → (c == k) ≡ true → Wanes g h
     → has_peer c (onto (dropping k h ++ Notes (Expired k now) ∷ []) g) ≡ true → ⊥
 drops c k now h g same w = go (has_peer k h) refl
   where
@@ -209,7 +209,7 @@ drops c k now h g same w = go (has_peer k h) refl
     go true e there = both_ways (has_peer c (Works (Goes k) ∷ g)) (went (is_some (settings_of c (work g))) (c == k) (has_gone c (work g)) same) there
     go false e there = both_ways (has_peer k h) e (ap (λ n. has_peer n h) (sym (eqb-true c k same)) ∙ w.there c there)
 
-own : (now : ℕ) (life : Life) (c k : ℕ) (h g : List Doing) → standing k (notes h) ≡ life → (c == k) ≡ true → Wanes g h
+own : (now : ℕ) (life : Life) (c k : ℕ) (h g : List ServerEvent) → standing k (notes h) ≡ life → (c == k) ≡ true → Wanes g h
     → has_peer c (onto (expiring now life k h) g) ≡ true → is_polling c (notes h) ≡ false → ⊥
 own now Polling c k h g e same w there unpolled =
     both_ways (is_polling c (notes h)) unpolled (ap (λ n. is_polling n (notes h)) (eqb-true c k same) ∙ polls_then k (notes h) e)
@@ -219,13 +219,13 @@ own now (Socket lane) c k h g e same w there unpolled = drops c k now h g same w
 own now Lost c k h g e same w there unpolled = drops c k now h g same w there
 own now Ending c k h g e same w there unpolled = drops c k now h g same w there
 
-one_rests : (now c k : ℕ) (h g : List Doing) → Restful c g h → Restful c (onto (expiring now (standing k (notes h)) k h) g) h
+one_rests : (now c k : ℕ) (h g : List ServerEvent) → Restful c g h → Restful c (onto (expiring now (standing k (notes h)) k h) g) h
 one_rests now c k h g x = record {
   wanes = wanes_trans after g h (onto_wanes (expiring now (standing k (notes h)) k h) g (expires now (standing k (notes h)) k h)) x.wanes;
   rests = go (c == k) refl;
 }
   where
-    after : List Doing
+    after : List ServerEvent
     after = onto (expiring now (standing k (notes h)) k h) g
 
     go : (b : Bool) → (c == k) ≡ b → has_peer c after ≡ true → is_polling c (notes h) ≡ false → is_up c after ≡ true
@@ -234,7 +234,7 @@ one_rests now c k h g x = record {
         let same = others_expire now (standing k (notes h)) c k h g e in
         up_alike c after g same ∙ x.rests (sym (there_alike c after g same) ∙ there) unpolled
 
-all_rest : (now c : ℕ) (ks : List ℕ) (h g : List Doing) → Restful c g h
+all_rest : (now c : ℕ) (ks : List ℕ) (h g : List ServerEvent) → Restful c g h
     → Restful c (onto (flat_map (λ k. expiring now (standing k (notes h)) k h) ks) g) h
 all_rest now c [] h g x = x
 all_rest now c (k ∷ ks) h g x =
@@ -242,7 +242,7 @@ all_rest now c (k ∷ ks) h g x =
     (flat_map (λ n. expiring now (standing n (notes h)) n h) ks) g))
     (all_rest now c ks h (onto (expiring now (standing k (notes h)) k h) g) (one_rests now c k h g x))
 
-pub expiries_rest : (now c : ℕ) (h : List Doing) → IsRested c h → IsRested c (onto (expiries now h) h)
+pub expiries_rest : (now c : ℕ) (h : List ServerEvent) → IsRested c h → IsRested c (onto (expiries now h) h)
 expiries_rest now c h x there unpolled =
     let all = all_rest now c (overdue now (notes h)) h h (record { wanes = wanes_refl h; rests = x }) in
     all.rests there (sym (all.wanes.polls c) ∙ unpolled)

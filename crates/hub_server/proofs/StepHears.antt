@@ -5,14 +5,14 @@ use Rattle.std.specs.Prelude.{if◌then◌else◌}
 use Rattle.std.specs.Ordering.{nat_cmp}
 use Rattle.std.specs.BTreeMap.{BTreeMap, UpdatesBy, WritesThrough, get}
 use Rattle.std.proofs.lemmas.Bool.{both_ways, eq-eqb, eqb-true, false_from_ne_true}
-use Rattle.hd_lanes.specs.declared.http.Request.{Request}
+use Rattle.hw_lanes.specs.declared.http.Request.{Request}
 use Rattle.hd_calls.specs.Hubs.{Hub}
 use Rattle.hw_door.specs.declared.heard.Event.{Event}
 use Rattle.hw_door.specs.declared.heard.Event.TheVariants as event
-use Rattle.hd_serving.specs.declared.vocabulary.Said.{Said}
-use Rattle.hd_serving.specs.Doings.{Doing, Hears, moment, awaits_reply, is_upgraded, wants_shut, was_refused}
-use Rattle.hd_serving.specs.Plans.{Setup}
-use Rattle.hd_serving.specs.Serves.{IsFree}
+use Rattle.hd_server.specs.declared.vocabulary.Said.{Said}
+use Rattle.hd_server.specs.Doings.{ServerEvent, Hears, moment, awaits_reply, is_upgraded, wants_shut, was_refused}
+use Rattle.hd_server.specs.Plans.{Setup}
+use Rattle.hd_server.specs.Serves.{IsFree}
 use Rattle.hub_server.specs.declared.lane.Lane.{Lane}
 use Rattle.hub_server.specs.declared.server.Server.{Server}
 use Rattle.hub_server.specs.Lanes.{IsLane, IsNobodys, is_taken, lane_of, settled}
@@ -28,10 +28,10 @@ heard_lane (event.Refused lane status) k (Some x) = Some (record x { is_refused 
 heard_lane _ k o = o
 
 -- a lane that could be on no request's way has nobody
-free_is : (k lane : ℕ) (x : Lane) (h : List Doing) → k ≡ lane → is_upgraded lane h ≡ false → awaits_reply lane h ≡ false → is_taken k h ≡ false
+free_is : (k lane : ℕ) (x : Lane) (h : List ServerEvent) → k ≡ lane → is_upgraded lane h ≡ false → awaits_reply lane h ≡ false → is_taken k h ≡ false
 free_is k lane x h e a b = ap (λ n. is_taken n h) e ∙ ap (λ z. z || awaits_reply lane h) a ∙ b
 
-pub heard_is : (e : Event) (now k : ℕ) (o : Option Lane) (h : List Doing) → IsFree e h → IsLane settled o k h
+pub heard_is : (e : Event) (now k : ℕ) (o : Option Lane) (h : List ServerEvent) → IsFree e h → IsLane settled o k h
     → IsLane (lane_of (lost_in e)) (heard_lane e k o) k (Hears now e ∷ h)
 heard_is (event.Request lane r) now k None h free l = λ c. l c
 heard_is (event.Refused lane status) now k None h free l = λ c. l c
@@ -106,7 +106,7 @@ heard_is event.Quiet now k (Some x) h free l = record {
 }
 
 pub hears_on : {H Job : Type 0} (hub : Hub Job) (s : Setup) (before : List Said) (v : Server H Job) (now : ℕ) (e : Event) (lanes : BTreeMap ℕ Lane)
-    (h : List Doing)
+    (h : List ServerEvent)
     → ((k : ℕ) → get nat_cmp lanes k ≡ heard_lane e k (get nat_cmp v.lanes k)) → moment h ≤ now → IsFree e h
     → Standing {H = H} hub s settled before v h
     → Standing {H = H} hub s (lane_of (lost_in e)) before (record v { moment = now; lanes = lanes }) (Hears now e ∷ h)
@@ -124,7 +124,7 @@ hears_on {H} hub s before v now e lanes h are later free x = record {
   words = x.words;
 }
 
-pub nobody_comes : (now lane : ℕ) (r : Request) (o : Option Lane) (h : List Doing) → IsFree (event.Request lane r) h → IsLane settled o lane h
+pub nobody_comes : (now lane : ℕ) (r : Request) (o : Option Lane) (h : List ServerEvent) → IsFree (event.Request lane r) h → IsLane settled o lane h
     → IsNobodys lane (Hears now (event.Request lane r) ∷ h)
 nobody_comes now lane r None h free l = λ c. l c
 nobody_comes now lane r (Some x) h free l = absurd (both_ways (is_taken lane h) (free_is lane lane x h refl free.0 free.1) l.taken)

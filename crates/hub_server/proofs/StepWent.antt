@@ -7,17 +7,17 @@ use Rattle.std.specs.BTreeMap.{get}
 use Rattle.std.proofs.lemmas.Bool.{eq-eqb}
 use Rattle.std.proofs.lemmas.List.{append_assoc, append-nil}
 use Rattle.hd_calls.specs.Hubs.{Hub}
-use Rattle.hd_server.specs.declared.vocabulary.Asked.{Asked}
-use Rattle.hd_server.specs.KeptLaws.{AnswersJoin}
+use Rattle.hd_rooms.specs.declared.vocabulary.Asked.{Asked}
+use Rattle.hd_rooms.specs.KeptLaws.{AnswersJoin}
 use Rattle.hw_door.specs.declared.heard.Event.{Event}
 use Rattle.hw_door.specs.declared.heard.Event.TheVariants as event
 use Rattle.hw_door.specs.declared.heard.Heard.{Heard}
-use Rattle.hd_serving.specs.declared.vocabulary.Said.{Said}
-use Rattle.hd_serving.specs.Table.{asks_keeper}
-use Rattle.hd_serving.specs.Machine.{Happening, Rounds, IsRound, connections}
-use Rattle.hd_serving.specs.Doings.{Doing, Hears, Draws, Works, work, moment, asked, awaits_reply, said, wants_shut, was_refused}
-use Rattle.hd_serving.specs.Plans.{Setup, asks_lots, learning, onto, plan, questions}
-use Rattle.hd_serving.specs.Serves.{IsFed, IsFree, all_telling, ticks}
+use Rattle.hd_server.specs.declared.vocabulary.Said.{Said}
+use Rattle.hd_server.specs.Table.{asks_keeper}
+use Rattle.hd_server.specs.Machine.{MachineEvent, Rounds, IsRound, connections}
+use Rattle.hd_server.specs.Doings.{ServerEvent, Hears, Draws, Works, work, moment, asked, awaits_reply, said, wants_shut, was_refused}
+use Rattle.hd_server.specs.Plans.{Setup, asks_lots, learning, onto, plan, questions}
+use Rattle.hd_server.specs.Serves.{IsFed, IsFree, all_telling, ticks}
 use Rattle.hub_server.specs.declared.server.Server.{Server}
 use Rattle.hub_server.specs.Lanes.{lane_of, settled}
 use Rattle.hub_server.specs.Servers.{IsRested, Standing}
@@ -30,13 +30,13 @@ use Rattle.hub_server.proofs.Alike.{alike_hears, rested_alike}
 
 -- ---- before the event is handled
 
-pub rested_still : (now : ℕ) (e : Event) (h : List Doing) → ((c : ℕ) → IsRested c h) → (c : ℕ) → IsRested c (expired_by (Hears now e ∷ h))
+pub rested_still : (now : ℕ) (e : Event) (h : List ServerEvent) → ((c : ℕ) → IsRested c h) → (c : ℕ) → IsRested c (expired_by (Hears now e ∷ h))
 rested_still now e h rested c = expiries_rest now c (Hears now e ∷ h) (rested_alike c (Hears now e ∷ h) h (alike_hears now e c h) (rested c))
 
-pub can_handle : {H Job : Type 0} (hub : Hub Job) (s : Setup) (before : List Said) (v : Server H Job) (now : ℕ) (e : Event) (h : List Doing)
+pub can_handle : {H Job : Type 0} (hub : Hub Job) (s : Setup) (before : List Said) (v : Server H Job) (now : ℕ) (e : Event) (h : List ServerEvent)
     → Standing {H = H} hub s settled before v h → IsFree e h → CanHandle e (expired_by (Hears now e ∷ h))
 can_handle {H} hub s before v now (event.Request lane r) h stands free =
-    let heard : List Doing = Hears now (event.Request lane r) ∷ h in
+    let heard : List ServerEvent = Hears now (event.Request lane r) ∷ h in
     let wanes = expiries_wane now heard heard in
     let same : (lane == lane) ≡ true = eq-eqb lane lane refl in (
       record {
@@ -56,14 +56,14 @@ can_handle {H} hub s before v now event.Quiet h stands free = tt
 
 -- ---- moments
 
-asking_at : (token : Option (List ℕ)) (name : Option (Option (List ℕ))) (b : Bool) (drawn : Option (List ℕ)) (h : List Doing)
+asking_at : (token : Option (List ℕ)) (name : Option (Option (List ℕ))) (b : Bool) (drawn : Option (List ℕ)) (h : List ServerEvent)
     → moment (onto (learning token name ++ (if b then Draws drawn ∷ [] else [])) h) ≡ moment h
 asking_at None name true drawn h = refl
 asking_at None name false drawn h = refl
 asking_at (Some token) name true drawn h = refl
 asking_at (Some token) name false drawn h = refl
 
-questions_at : (s : Setup) (now : ℕ) (e : Event) (name : Option (Option (List ℕ))) (drawn : Option (List ℕ)) (h : List Doing)
+questions_at : (s : Setup) (now : ℕ) (e : Event) (name : Option (Option (List ℕ))) (drawn : Option (List ℕ)) (h : List ServerEvent)
     → moment (onto (questions s now e name drawn h) h) ≡ moment h
 questions_at s now (event.Request lane r) name drawn h = asking_at (asks_keeper s.base r) name (asks_lots s now r name h) drawn h
 questions_at s now (event.Refused lane status) name drawn h = refl
@@ -74,20 +74,20 @@ questions_at s now (event.Lost lane) name drawn h = refl
 questions_at s now event.Quiet name drawn h = refl
 
 -- an event is handled at its moment
-record HandledAt (s : Setup) (now : ℕ) (e : Event) (name : Option (Option (List ℕ))) (drawn : Option (List ℕ)) (h after : List Doing) : Type 0 where
-  asks : List Doing
+record HandledAt (s : Setup) (now : ℕ) (e : Event) (name : Option (Option (List ℕ))) (drawn : Option (List ℕ)) (h after : List ServerEvent) : Type 0 where
+  asks : List ServerEvent
   are : asks ≡ onto (questions s now e name drawn h) h
-  fed : List Doing
+  fed : List ServerEvent
   feeds : IsFed now (plan s now e name drawn asks).food (onto (plan s now e name drawn asks).first asks) fed
   is : after ≡ onto (plan s now e name drawn asks).last fed
   at : moment after ≡ now
 
-handled_at : (s : Setup) (now : ℕ) (e : Event) (h after : List Doing) (x : IsHandled s e h after) → moment h ≡ now
+handled_at : (s : Setup) (now : ℕ) (e : Event) (h after : List ServerEvent) (x : IsHandled s e h after) → moment h ≡ now
     → HandledAt s now e x.name x.drawn h after
 handled_at s now e h after x at =
     let follows = subst (λ n. Follows (plan s n e x.name x.drawn (onto (questions s n e x.name x.drawn h) h))
     (onto (questions s n e x.name x.drawn h) h) after) at x.follows in
-    let asks : List Doing = onto (questions s now e x.name x.drawn h) h in
+    let asks : List ServerEvent = onto (questions s now e x.name x.drawn h) h in
     let p = plan s now e x.name x.drawn asks in
     let asks_at : moment asks ≡ now = questions_at s now e x.name x.drawn h ∙ at in
     let feeds = subst (λ n. IsFed n p.food (onto p.first asks) follows.fed) asks_at follows.feeds in
@@ -109,33 +109,33 @@ goes_on : (o p q : Option (List Asked)) (xs ys : List Asked) → p ≡ option_ma
 goes_on None p q xs ys e f = f ∙ ap (option_map (λ (known : List Asked). known ++ ys)) e
 goes_on (Some known) p q xs ys e f = f ∙ ap (option_map (λ (known : List Asked). known ++ ys)) e ∙ ap Some (append_assoc known xs ys)
 
-abbrev pub ticked : List Doing → List Doing
+abbrev pub ticked : List ServerEvent → List ServerEvent
 ticked h = onto (ticks (moment h) h) h
 
-abbrev pub rounded : List Happening → List Doing → List Doing
+abbrev pub rounded : List MachineEvent → List ServerEvent → List ServerEvent
 rounded round h = map Works round ++ Works (Rounds (moment h)) ∷ h
 
 pub turns_to : {H Job : Type 0} (hub : Hub Job) (s : Setup) (before : List Said) (v w x : Server H Job) (at mid since : Around) (now : ℕ) (e : Event)
-    (h : List Doing)
+    (h : List ServerEvent)
     (handled : Handles {H = H} hub s before v at mid e (expired_by (Hears now e ∷ h)))
     (turned : IsRounded {H = H} hub s settled before w mid.holds mid.answers mid.faults since.holds since.answers since.faults (ticked handled.after))
     → IsTold {H = H} hub s before x (rounded turned.on.round (ticked handled.after))
     → since.drawn ≡ mid.drawn → since.failures ≡ mid.failures → AnswersJoin
     → TurnsTo {H = H} hub s before x at since (record { now = now; event = e }) h
 turns_to {H} hub s before v w x at mid since now e h handled turned told drawn failures join =
-    let heard : List Doing = Hears now e ∷ h in
-    let expired : List Doing = expired_by heard in
+    let heard : List ServerEvent = Hears now e ∷ h in
+    let expired : List ServerEvent = expired_by heard in
     let waned = expiries_quiet now heard heard in
-    let a : List Doing = handled.after in
+    let a : List ServerEvent = handled.after in
     let by = handled_at s now e expired a handled.is_handled waned.at in
-    let t : List Doing = ticked a in
+    let t : List ServerEvent = ticked a in
     let tick = ticks_quiet (moment a) a a in
     let at_t : moment t ≡ now = tick.at ∙ by.at in
     let round = turned.on.round in
-    let r : List Doing = rounded round t in
+    let r : List ServerEvent = rounded round t in
     let at_r : moment r ≡ now = round_at round (Works (Rounds (moment t)) ∷ t) ∙ at_t in
     let tells = tells_quiet s (moment r) (connections (work r)) told.pieces r r in
-    let after : List Doing = onto (all_telling s (moment r) (connections (work r)) told.pieces r) r in
+    let after : List ServerEvent = onto (all_telling s (moment r) (connections (work r)) told.pieces r) r in
     record {
       after = after;
       turn = record {
@@ -187,8 +187,8 @@ turns_to {H} hub s before v w x at mid since now e h handled turned told drawn f
 
 module _ {H Job : Type 0} (hub : Hub Job) (s : Setup) (before : List Said) (v1 v2 v3 v4 v5 x : Server H Job) (at mid since : Around) (now : ℕ)
     (e : Event)
-    (h : List Doing) (drawn : since.drawn ≡ mid.drawn) (failures : since.failures ≡ mid.failures) (join : AnswersJoin)
-    (tell : (g : List Doing) → Standing {H = H} hub s settled before v5 g → IsTold {H = H} hub s before x g) where
+    (h : List ServerEvent) (drawn : since.drawn ≡ mid.drawn) (failures : since.failures ≡ mid.failures) (join : AnswersJoin)
+    (tell : (g : List ServerEvent) → Standing {H = H} hub s settled before v5 g → IsTold {H = H} hub s before x g) where
   from_rounded : (handled : Handles {H = H} hub s before v3 at mid e (expired_by (Hears now e ∷ h)))
       → IsRounded {H = H} hub s settled before v5 mid.holds mid.answers mid.faults since.holds since.answers since.faults (ticked handled.after)
       → TurnsTo {H = H} hub s before x at since (record { now = now; event = e }) h
@@ -196,21 +196,21 @@ module _ {H Job : Type 0} (hub : Hub Job) (s : Setup) (before : List Said) (v1 v
       turns_to {H = H} hub s before v3 v5 x at mid since now e h handled turned
       (tell (rounded turned.on.round (ticked handled.after)) turned.on.stands) drawn failures join
 
-  from_handled : ((g : List Doing) → Standing {H = H} hub s settled before v3 g → Standing {H = H} hub s settled before v4 (ticked g))
-      → ((g : List Doing) → Standing {H = H} hub s settled before v4 g
+  from_handled : ((g : List ServerEvent) → Standing {H = H} hub s settled before v3 g → Standing {H = H} hub s settled before v4 (ticked g))
+      → ((g : List ServerEvent) → Standing {H = H} hub s settled before v4 g
       → IsRounded {H = H} hub s settled before v5 mid.holds mid.answers mid.faults since.holds since.answers since.faults g)
       → Handles {H = H} hub s before v3 at mid e (expired_by (Hears now e ∷ h))
       → TurnsTo {H = H} hub s before x at since (record { now = now; event = e }) h
   from_handled tick turn handled = from_rounded handled (turn (ticked handled.after) (tick handled.after handled.stands))
 
-  pub turns_through : ((g : List Doing) → Standing {H = H} hub s settled before v3 g → Standing {H = H} hub s settled before v4 (ticked g))
-      → ((g : List Doing) → Standing {H = H} hub s settled before v4 g
+  pub turns_through : ((g : List ServerEvent) → Standing {H = H} hub s settled before v3 g → Standing {H = H} hub s settled before v4 (ticked g))
+      → ((g : List ServerEvent) → Standing {H = H} hub s settled before v4 g
       → IsRounded {H = H} hub s settled before v5 mid.holds mid.answers mid.faults since.holds since.answers since.faults g)
-      → ((g : List Doing) → Standing {H = H} hub s (lane_of (lost_in e)) before v2 g → ((c : ℕ) → IsRested c g) → CanHandle e g → NoneOverdue g
+      → ((g : List ServerEvent) → Standing {H = H} hub s (lane_of (lost_in e)) before v2 g → ((c : ℕ) → IsRested c g) → CanHandle e g → NoneOverdue g
       → Handles {H = H} hub s before v3 at mid e g)
-      → ((g : List Doing) → Standing {H = H} hub s (lane_of (lost_in e)) before v1 g → Standing {H = H} hub s (lane_of (lost_in e)) before v2
+      → ((g : List ServerEvent) → Standing {H = H} hub s (lane_of (lost_in e)) before v1 g → Standing {H = H} hub s (lane_of (lost_in e)) before v2
       (expired_by g))
-      → ((g : List Doing) → Standing {H = H} hub s (lane_of (lost_in e)) before v1 g → NoneOverdue (expired_by g))
+      → ((g : List ServerEvent) → Standing {H = H} hub s (lane_of (lost_in e)) before v1 g → NoneOverdue (expired_by g))
       → Standing {H = H} hub s (lane_of (lost_in e)) before v1 (Hears now e ∷ h) → ((c : ℕ) → IsRested c h)
       → CanHandle e (expired_by (Hears now e ∷ h))
       → TurnsTo {H = H} hub s before x at since (record { now = now; event = e }) h
@@ -220,7 +220,7 @@ module _ {H Job : Type 0} (hub : Hub Job) (s : Setup) (before : List Said) (v1 v
 
 -- ---- between events
 
-pub has_turn : {H Job : Type 0} (hub : Hub Job) (s : Setup) (w x : Server H Job) (at since : Around) (e : Heard) (h : List Doing) (words : List Said)
+pub has_turn : {H Job : Type 0} (hub : Hub Job) (s : Setup) (w x : Server H Job) (at since : Around) (e : Heard) (h : List ServerEvent) (words : List Said)
     → TurnsTo {H = H} hub s (said h) w at since e h → words ≡ w.words → x ≡ record w { is_ended = false; words = [] }
     → HasTurn {H = H} hub s x at since e h words
 has_turn {H} hub s w x at since e h words turned same is =

@@ -1,7 +1,7 @@
 -- One word more is said.
 use Rattle.std.proofs.Common.{List, [], ◌∷◌, ◌++◌}
-use Rattle.hd_serving.specs.declared.vocabulary.Said.{Said}
-use Rattle.hd_serving.specs.declared.vocabulary.Said.TheVariants as say
+use Rattle.hd_server.specs.declared.vocabulary.Said.{Said}
+use Rattle.hd_server.specs.declared.vocabulary.Said.TheVariants as say
 use Rattle.hub_server.specs.Words.{AreReplies}
 
 pub replies_append : (words more : List Said) → AreReplies words → AreReplies more → AreReplies (words ++ more)

@@ -5,12 +5,12 @@ use Rattle.std.proofs.lemmas.Bool.{eqb-true, eq-eqb, true≢false}
 use Rattle.std.proofs.lemmas.List.{append-nil, append_assoc, drop_all}
 use Rattle.hd_delivery.specs.Frames.{LinkFrame}
 use Rattle.hd_calls.specs.Hubs.{Hub}
-use Rattle.hd_serving.specs.declared.vocabulary.Said.{Said}
-use Rattle.hd_serving.specs.Lives.{numbers_to, poll_of, socket_of}
-use Rattle.hd_serving.specs.Machine.{connections, greatest, is_there}
-use Rattle.hd_serving.specs.Doings.{Doing, has_peer, moment, notes, work}
-use Rattle.hd_serving.specs.Plans.{Setup, onto}
-use Rattle.hd_serving.specs.Serves.{AreAllDue, AreDue, all_telling, telling, telling_on}
+use Rattle.hd_server.specs.declared.vocabulary.Said.{Said}
+use Rattle.hd_server.specs.Lives.{numbers_to, poll_of, socket_of}
+use Rattle.hd_server.specs.Machine.{connections, greatest, is_there}
+use Rattle.hd_server.specs.Doings.{ServerEvent, has_peer, moment, notes, work}
+use Rattle.hd_server.specs.Plans.{Setup, onto}
+use Rattle.hd_server.specs.Serves.{AreAllDue, AreDue, all_telling, telling, telling_on}
 use Rattle.hub_server.specs.declared.machine.Machine.{Machine}
 use Rattle.hub_server.specs.declared.server.Server.{Server}
 use Rattle.hub_server.specs.Machines.{StandsMachine, is_awake_at}
@@ -24,7 +24,7 @@ use Rattle.hub_server.proofs.Alike.{Alike, alike_refl, alike_trans, rested_alike
 use Rattle.hub_server.proofs.Asleep.{IsMute, SaidByAll, awake_are, awake_there, said_by_all}
 use Rattle.hub_server.proofs.OntoAlike.{onto_append}
 use Rattle.hub_server.proofs.RoundNumbers.{left_at}
-use Rattle.hub_server.proofs.TellTells.{Unheard, all_alike, all_unheard, same_due, same_telling, telling_tells, unheard_same, unheard_then}
+use Rattle.hub_server.proofs.FlushOthersUnchanged.{Unheard, all_alike, all_unheard, same_due, same_telling, telling_tells, unheard_same, unheard_then}
 
 -- ---- lists of connections
 
@@ -56,17 +56,17 @@ listed_last k c (d ∷ cs) = ap (λ (b : Bool). (k == d) || b) (listed_last k c 
 
 -- ---- what was said by one more
 
-told_last : (s : Setup) (now c : ℕ) (p : List (List LinkFrame)) (h : List Doing) (cs : List ℕ) (all : List (List (List LinkFrame)))
+told_last : (s : Setup) (now c : ℕ) (p : List (List LinkFrame)) (h : List ServerEvent) (cs : List ℕ) (all : List (List (List LinkFrame)))
     → AreAllDue s cs all h
     → all_telling s now (cs ++ c ∷ []) (all ++ p ∷ []) h ≡ all_telling s now cs all h ++ telling s now c p h
 told_last s now c p h [] [] x = append-nil (telling s now c p h)
 told_last s now c p h [] (q ∷ all) x = absurd x
 told_last s now c p h (k ∷ cs) [] x = absurd x
 told_last s now c p h (k ∷ cs) (q ∷ all) x =
-    ap (λ (xs : List Doing). telling s now k q h ++ xs) (told_last s now c p h cs all x.1)
+    ap (λ (xs : List ServerEvent). telling s now k q h ++ xs) (told_last s now c p h cs all x.1)
     ∙ sym (append_assoc (telling s now k q h) (all_telling s now cs all h) (telling s now c p h))
 
-due_last : (s : Setup) (c : ℕ) (p : List (List LinkFrame)) (h : List Doing) (cs : List ℕ) (all : List (List (List LinkFrame))) → AreAllDue s cs all h
+due_last : (s : Setup) (c : ℕ) (p : List (List LinkFrame)) (h : List ServerEvent) (cs : List ℕ) (all : List (List (List LinkFrame))) → AreAllDue s cs all h
     → AreDue s c p h
     → AreAllDue s (cs ++ c ∷ []) (all ++ p ∷ []) h
 due_last s c p h [] [] x y = (y, tt)
@@ -75,12 +75,12 @@ due_last s c p h (k ∷ cs) [] x y = absurd x
 due_last s c p h (k ∷ cs) (q ∷ all) x y = (x.0, due_last s c p h cs all x.1 y)
 
 -- nothing is heard meanwhile
-all_unheard_then : (s : Setup) (now : ℕ) (cs : List ℕ) (all : List (List (List LinkFrame))) (h g : List Doing)
+all_unheard_then : (s : Setup) (now : ℕ) (cs : List ℕ) (all : List (List (List LinkFrame))) (h g : List ServerEvent)
     → Unheard (onto (all_telling s now cs all h) g) g
 all_unheard_then s now [] all h g = unheard_same g
 all_unheard_then s now (k ∷ cs) [] h g = unheard_same g
 all_unheard_then s now (k ∷ cs) (p ∷ all) h g =
-    let mine : List Doing = telling s now k p h in
+    let mine : List ServerEvent = telling s now k p h in
     subst (λ f. Unheard f g) (sym (onto_append mine (all_telling s now cs all h) g))
     (unheard_then (onto (all_telling s now cs all h) (onto mine g)) (onto mine g) g
     (all_unheard_then s now cs all h (onto mine g)) (all_unheard k mine g (telling_tells s now k (socket_of k (notes h)) p h)))
@@ -89,7 +89,7 @@ all_unheard_then s now (k ∷ cs) (p ∷ all) h g =
 
 -- of these connections all have told but those that are left
 pub record ToldSome {H Job : Type 0} (hub : Hub Job) (s : Setup) (before : List Said) (v : Server H Job) (conns left : List ℕ)
-    (h : List Doing) : Type 0 where
+    (h : List ServerEvent) : Type 0 where
   pub done : List ℕ
   pub pieces : List (List (List LinkFrame))
   pub are : done ++ left ≡ conns
@@ -100,7 +100,7 @@ pub record ToldSome {H Job : Type 0} (hub : Hub Job) (s : Setup) (before : List 
   pub rested : (k : ℕ) → is_listed k done ≡ true → IsRested k (onto (all_telling s (moment h) done pieces h) h)
   pub others : (k : ℕ) → is_listed k done ≡ false → Alike k (onto (all_telling s (moment h) done pieces h) h) h
 
-pub none_told : {H Job : Type 0} (hub : Hub Job) (s : Setup) (u : Unsettled) (before : List Said) (v : Server H Job) (conns : List ℕ) (h : List Doing)
+pub none_told : {H Job : Type 0} (hub : Hub Job) (s : Setup) (u : Unsettled) (before : List Said) (v : Server H Job) (conns : List ℕ) (h : List ServerEvent)
     → AreRising conns → u ≡ settled → Standing {H = H} hub s u before v h → ToldSome {H = H} hub s before v conns conns h
 none_told {H} hub s u before v conns h rise is stands = record {
   done = [];
@@ -120,7 +120,7 @@ TellsFrom {H} hub old new c = OfEach {H = H} hub old (λ s u before h. u ≡ set
     TellsOne {H = H} hub s before new c (socket_of c (notes h)) (poll_of c (notes h)) h)
 
 module _ {H Job : Type 0} (hub : Hub Job) (s : Setup) (before : List Said) (old new : Server H Job) (conns : List ℕ) (c : ℕ) (cs : List ℕ)
-    (h : List Doing)
+    (h : List ServerEvent)
     (p : ToldSome {H = H} hub s before old conns (c ∷ cs) h) (there : has_peer c h ≡ true) (tells : TellsFrom {H = H} hub old new c) where
   unlisted : is_listed c p.done ≡ false
   unlisted = go (is_listed c p.done) refl
@@ -153,7 +153,7 @@ module _ {H Job : Type 0} (hub : Hub Job) (s : Setup) (before : List Said) (old 
   after : onto (all_telling s (moment h) (p.done ++ c ∷ []) (p.pieces ++ told.pieces ∷ []) h) h
       ≡ onto (telling s (moment h) c told.pieces h) (onto (all_telling s (moment h) p.done p.pieces h) h)
   after =
-      ap (λ (xs : List Doing). onto xs h) (told_last s (moment h) c told.pieces h p.done p.pieces p.due)
+      ap (λ (xs : List ServerEvent). onto xs h) (told_last s (moment h) c told.pieces h p.done p.pieces p.due)
       ∙ onto_append (all_telling s (moment h) p.done p.pieces h) (telling s (moment h) c told.pieces h) h
 
   -- for each other connection nothing has changed
@@ -210,7 +210,7 @@ module _ {H Job : Type 0} (hub : Hub Job) (s : Setup) (before : List Said) (old 
   }
 
 -- one more connection has told
-pub one_told : {H Job : Type 0} (hub : Hub Job) (s : Setup) (before : List Said) (old new : Server H Job) (conns : List ℕ) (i : ℕ) (h : List Doing)
+pub one_told : {H Job : Type 0} (hub : Hub Job) (s : Setup) (before : List Said) (old new : Server H Job) (conns : List ℕ) (i : ℕ) (h : List ServerEvent)
     → i < length conns → ((k : ℕ) → is_listed k conns ≡ true → has_peer k h ≡ true) → ToldSome {H = H} hub s before old conns (drop i conns) h
     → TellsFrom {H = H} hub old new (get_or conns i 0) → ToldSome {H = H} hub s before new conns (drop (i + 1) conns) h
 one_told {H} {Job} hub s before old new conns i h l known p tells =
@@ -235,7 +235,7 @@ one_told {H} {Job} hub s before old new conns i h l known p tells =
 
 -- all that are awake have told, and those that sleep have nothing to tell
 pub all_told : {H Job : Type 0} (hub : Hub Job) (s : Setup) (before : List Said) (m : Machine H Job) (v : Server H Job) (conns : List ℕ) (i : ℕ)
-    (h : List Doing) → length conns ≤ i → StandsMachine {H = H} hub m (work h) → AreNumbers {H = H} m conns
+    (h : List ServerEvent) → length conns ≤ i → StandsMachine {H = H} hub m (work h) → AreNumbers {H = H} m conns
     → ((k : ℕ) → has_peer k h ≡ true → is_awake_at m k ≡ false → IsMute s k h)
     → ToldSome {H = H} hub s before v conns (drop i conns) h → IsTold {H = H} hub s before v h
 all_told {H} {Job} hub s before m v conns i h l stands numbers mute p = record {

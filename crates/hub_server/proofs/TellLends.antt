@@ -11,14 +11,14 @@ use Rattle.hd_delivery.specs.Frames.{LinkFrame}
 use Rattle.hd_delivery.specs.Histories.{Lent, is_closed, is_this}
 use Rattle.hd_delivery.specs.Bytes.{Does as Step_of}
 use Rattle.hd_calls.specs.Hubs.{Hub}
-use Rattle.hd_calls.specs.Peers.{Move, Plain, Settings}
-use Rattle.hd_serving.specs.declared.vocabulary.Said.{Said}
-use Rattle.hd_serving.specs.Lives.{Note, is_let_go, poll_of, socket_of}
-use Rattle.hd_serving.specs.Machine.{Happening, Does, has_gone, settings_of}
-use Rattle.hd_serving.specs.Doings.{Doing, notes, work, moment, said, user_of, peer, config_of, config_with, has_closed, has_peer, history}
-use Rattle.hd_serving.specs.Doings.{history_with}
-use Rattle.hd_serving.specs.Plans.{Setup, onto, step}
-use Rattle.hd_serving.specs.Serves.{LendsAll, lending}
+use Rattle.hd_calls.specs.Peers.{PeerEvent, Plain, Settings}
+use Rattle.hd_server.specs.declared.vocabulary.Said.{Said}
+use Rattle.hd_server.specs.Lives.{ConnectionEvent, is_let_go, poll_of, socket_of}
+use Rattle.hd_server.specs.Machine.{MachineEvent, Does, has_gone, settings_of}
+use Rattle.hd_server.specs.Doings.{ServerEvent, notes, work, moment, said, user_of, peer, config_of, config_with, has_closed, has_peer, history}
+use Rattle.hd_server.specs.Doings.{history_with}
+use Rattle.hd_server.specs.Plans.{Setup, onto, step}
+use Rattle.hd_server.specs.Serves.{LendsAll, lending}
 use Rattle.hn_server_front.specs.Stands as front
 use Rattle.hub_server.specs.declared.machine.Machine.{Machine}
 use Rattle.hub_server.specs.declared.server.Server.{Server}
@@ -32,7 +32,7 @@ use Rattle.hub_server.proofs.LaneKept.{SameLane, same_lane_refl, same_lane_trans
 use Rattle.hub_server.proofs.Calm.{moves_own, onto_reverse, orderly_lends}
 
 -- nothing came but what the end of a connection lent
-pub record HasLent (c : ℕ) (g h : List Doing) : Type 0 where
+pub record HasLent (c : ℕ) (g h : List ServerEvent) : Type 0 where
   pub noted : notes g ≡ notes h
   pub words : said g ≡ said h
   pub clock : moment g ≡ moment h
@@ -43,17 +43,17 @@ pub record HasLent (c : ℕ) (g h : List Doing) : Type 0 where
   pub others : (k : ℕ) → (k == c) ≡ false → Alike k g h
   pub closed : has_closed c g ≡ has_closed c h
 
-closed_with : (f : LinkFrame) (o : Option Settings) (ms : List Move)
+closed_with : (f : LinkFrame) (o : Option Settings) (ms : List PeerEvent)
     → is_closed (config_with o) (history_with o (Plain (Step_of (Lent f)) ∷ ms)) ≡ is_closed (config_with o) (history_with o ms)
 closed_with f None ms = refl
 closed_with f (Some t) ms = refl
 
-lent_closed : (c : ℕ) (f : LinkFrame) (h : List Doing) → has_closed c (step c (Lent f) ∷ h) ≡ has_closed c h
+lent_closed : (c : ℕ) (f : LinkFrame) (h : List ServerEvent) → has_closed c (step c (Lent f) ∷ h) ≡ has_closed c h
 lent_closed c f h =
-    ap (λ (ms : List Move). is_closed (config_of c h) (history_with (settings_of c (work h)) ms)) (moves_own c (Plain (Step_of (Lent f))) (work h))
+    ap (λ (ms : List PeerEvent). is_closed (config_of c h) (history_with (settings_of c (work h)) ms)) (moves_own c (Plain (Step_of (Lent f))) (work h))
     ∙ closed_with f (settings_of c (work h)) (peer c h)
 
-one_lent : (c : ℕ) (f : LinkFrame) (h : List Doing) → HasLent c (step c (Lent f) ∷ h) h
+one_lent : (c : ℕ) (f : LinkFrame) (h : List ServerEvent) → HasLent c (step c (Lent f) ∷ h) h
 one_lent c f h = record {
   noted = refl;
   words = refl;
@@ -66,7 +66,7 @@ one_lent c f h = record {
   closed = lent_closed c f h;
 }
 
-pub all_lent : (c : ℕ) (fs : List LinkFrame) (h : List Doing) → HasLent c (onto (lending c fs) h) h
+pub all_lent : (c : ℕ) (fs : List LinkFrame) (h : List ServerEvent) → HasLent c (onto (lending c fs) h) h
 all_lent c [] h = record {
   noted = refl;
   words = refl;
@@ -79,7 +79,7 @@ all_lent c [] h = record {
   closed = refl;
 }
 all_lent c (f ∷ fs) h =
-    let g : List Doing = step c (Lent f) ∷ h in
+    let g : List ServerEvent = step c (Lent f) ∷ h in
     let x : HasLent c (onto (lending c fs) g) g = all_lent c fs g in
     let y : HasLent c g h = one_lent c f h in
     record {
@@ -95,7 +95,7 @@ all_lent c (f ∷ fs) h =
     }
 
 -- once all that was due is lent nothing is due
-pub lent_due : (c : ℕ) (t : Settings) (fs : List LinkFrame) (h : List Doing) → settings_of c (work h) ≡ Some t
+pub lent_due : (c : ℕ) (t : Settings) (fs : List LinkFrame) (h : List ServerEvent) → settings_of c (work h) ≡ Some t
     → LendsAll (config_of c h) (history c h) fs → due (config_of c (onto (lending c fs) h)) (history c (onto (lending c fs) h)) ≡ None
 lent_due c t [] h told x = x
 lent_due c t (f ∷ fs) h told x =
@@ -110,43 +110,43 @@ lent_due c t (f ∷ fs) h told x =
 
 -- ---- the machine's side of it
 
-gathered : (c : ℕ) (fs : List LinkFrame) (ms : List Move) (w : List Happening) (h : List Doing) → work h ≡ doing c ms w
+gathered : (c : ℕ) (fs : List LinkFrame) (ms : List PeerEvent) (w : List MachineEvent) (h : List ServerEvent) → work h ≡ doing c ms w
     → work (onto (lending c fs) h) ≡ doing c (onto (map (λ f. Plain (Step_of (Lent f))) fs) ms) w
 gathered c [] ms w h e = e
 gathered c (f ∷ fs) ms w h e =
-    gathered c fs (Plain (Step_of (Lent f)) ∷ ms) w (step c (Lent f) ∷ h) (ap (λ (x : List Happening). Does c (Plain (Step_of (Lent f))) ∷ x) e)
+    gathered c fs (Plain (Step_of (Lent f)) ∷ ms) w (step c (Lent f) ∷ h) (ap (λ (x : List MachineEvent). Does c (Plain (Step_of (Lent f))) ∷ x) e)
 
-pub work_lent : (c : ℕ) (fs : List LinkFrame) (h : List Doing) → work (onto (lending c fs) h) ≡ doing c (lends fs) (work h)
+pub work_lent : (c : ℕ) (fs : List LinkFrame) (h : List ServerEvent) → work (onto (lending c fs) h) ≡ doing c (lends fs) (work h)
 work_lent c fs h =
     gathered c fs [] (work h) h refl
-    ∙ ap (λ (ms : List Move). doing c ms (work h))
+    ∙ ap (λ (ms : List PeerEvent). doing c ms (work h))
     (onto_reverse (map (λ f. Plain (Step_of (Lent f))) fs) [] ∙ append-nil (lends fs))
 
 -- ---- the server's
 
-caller_lent : (c k : ℕ) (g h : List Doing) → HasLent c g h → caller_of k g ≡ caller_of k h
+caller_lent : (c k : ℕ) (g h : List ServerEvent) → HasLent c g h → caller_of k g ≡ caller_of k h
 caller_lent c k g h x =
     ap (λ (o : Option Settings). if is_some o || is_let_go k (notes g) then None else user_of k g) (x.settings k)
-    ∙ ap (λ (n : List Note). if is_some (settings_of k (work h)) || is_let_go k n then None else user_of k g) x.noted
+    ∙ ap (λ (n : List ConnectionEvent). if is_some (settings_of k (work h)) || is_let_go k n then None else user_of k g) x.noted
     ∙ ap (λ (user : Option (List ℕ)). if is_some (settings_of k (work h)) || is_let_go k (notes h) then None else user) (x.user k)
 
-pub there_lent : (c k : ℕ) (g h : List Doing) → HasLent c g h → has_peer k g ≡ has_peer k h
+pub there_lent : (c k : ℕ) (g h : List ServerEvent) → HasLent c g h → has_peer k g ≡ has_peer k h
 there_lent c k g h x =
     ap (λ (o : Option Settings). is_some o && not (has_gone k (work g))) (x.settings k)
     ∙ ap (λ (b : Bool). is_some (settings_of k (work h)) && not b) (x.gone k)
 
-pub at_lent : (c lane k : ℕ) (g h : List Doing) → HasLent c g h → is_at lane k g ≡ is_at lane k h
+pub at_lent : (c lane k : ℕ) (g h : List ServerEvent) → HasLent c g h → is_at lane k g ≡ is_at lane k h
 at_lent c lane k g h x =
     ap (λ (b : Bool). b && (is_this lane (socket_of k (notes g)) || is_this lane (option_map (λ (poll : ℕ × ℕ). poll.0) (poll_of k (notes g)))))
     (there_lent c k g h x)
-    ∙ ap (λ (n : List Note). has_peer k h && (is_this lane (socket_of k n) || is_this lane
+    ∙ ap (λ (n : List ConnectionEvent). has_peer k h && (is_this lane (socket_of k n) || is_this lane
     (option_map (λ (poll : ℕ × ℕ). poll.0) (poll_of k n)))) x.noted
 
-orderly_lent_all : (u : Unsettled) (c k : ℕ) (fs : List LinkFrame) (h : List Doing) → ((l : ℕ) → IsOrderly u l h)
+orderly_lent_all : (u : Unsettled) (c k : ℕ) (fs : List LinkFrame) (h : List ServerEvent) → ((l : ℕ) → IsOrderly u l h)
     → IsOrderly u k (onto (lending c fs) h)
 orderly_lent_all u c k fs h o = go (k == c) refl
   where
-    g : List Doing
+    g : List ServerEvent
     g = onto (lending c fs) h
 
     later : moment h ≤ moment g
@@ -158,11 +158,11 @@ orderly_lent_all u c k fs h o = go (k == c) refl
 
 -- a server that stood for what there was stands for what was lent too, if its machine does
 pub standing_lends : {H Job : Type 0} (hub : Hub Job) (s : Setup) (u : Unsettled) (before : List Said) (v : Server H Job) (m : Machine H Job) (c : ℕ)
-    (fs : List LinkFrame) (h : List Doing)
+    (fs : List LinkFrame) (h : List ServerEvent)
     → StandsMachine {H = H} hub m (doing c (lends fs) (work h)) → Standing {H = H} hub s u before v h
     → Standing {H = H} hub s u before (record v { machine = m }) (onto (lending c fs) h)
 standing_lends {H} hub s u before v m c fs h stands x =
-    let g : List Doing = onto (lending c fs) h in
+    let g : List ServerEvent = onto (lending c fs) h in
     let l : HasLent c g h = all_lent c fs h in
     record {
       setup = x.setup;
@@ -170,7 +170,7 @@ standing_lends {H} hub s u before v m c fs h stands x =
       front = subst (λ n. front.Stands v.front n) (sym l.noted) x.front;
       callers = λ k. x.callers k ∙ sym (caller_lent c k g h l);
       lanes = λ lane. lane_kept u (get nat_cmp v.lanes lane) lane g h (l.lane lane) (λ k. at_lent c lane k g h l)
-          (λ k. ap (λ (n : List Note). is_this lane (socket_of k n)) l.noted) (x.lanes lane);
+          (λ k. ap (λ (n : List ConnectionEvent). is_this lane (socket_of k n)) l.noted) (x.lanes lane);
       begun = λ k t e. x.begun k t (sym (l.settings k) ∙ e);
       orderly = λ k. orderly_lent_all u c k fs h x.orderly;
       clock = x.clock ∙ sym l.clock;

@@ -10,11 +10,11 @@ use Rattle.hd_delivery.specs.Due.{due, due_on}
 use Rattle.hd_delivery.specs.Frames.{LinkFrame}
 use Rattle.hd_calls.specs.Hubs.{Hub}
 use Rattle.hd_calls.specs.Peers.{is_shut, steps}
-use Rattle.hd_serving.specs.declared.vocabulary.Said.{Said}
-use Rattle.hd_serving.specs.Lives.{Ended, ended_at, is_let_go, is_polling, lost_at, poll_ended, poll_of, socket_of}
-use Rattle.hd_serving.specs.Doings.{Doing, Notes, config_of, has_closed, has_peer, history, moment, notes}
-use Rattle.hd_serving.specs.Plans.{Setup, letting_go, onto}
-use Rattle.hd_serving.specs.Serves.{AreDueOn, LendsUpTo, all_of, ending, telling_on, telling_poll, telling_poll_some}
+use Rattle.hd_server.specs.declared.vocabulary.Said.{Said}
+use Rattle.hd_server.specs.Lives.{Ended, ended_at, is_let_go, is_polling, lost_at, poll_ended, poll_of, socket_of}
+use Rattle.hd_server.specs.Doings.{ServerEvent, Notes, config_of, has_closed, has_peer, history, moment, notes}
+use Rattle.hd_server.specs.Plans.{Setup, letting_go, onto}
+use Rattle.hd_server.specs.Serves.{AreDueOn, LendsUpTo, all_of, ending, telling_on, telling_poll, telling_poll_some}
 use Rattle.hn_server_front.specs.declared.entry.Held.{Held}
 use Rattle.hn_server_front.specs.declared.front.Front.{Front}
 use Rattle.hn_server_front.specs.Calls as calls
@@ -30,7 +30,7 @@ use Rattle.hub_server.specs.Tells.{TellsOne, TellsPoll}
 use Rattle.hub_server.proofs.LaneKept.{lane_kept, same_lane_note}
 use Rattle.hub_server.proofs.OntoAlike.{onto_append}
 use Rattle.hub_server.proofs.TellSaid.{closed_is, gone_after, is_one, standing_rests, up_there}
-use Rattle.hub_server.proofs.TellTells.{all_polls, telling_tells}
+use Rattle.hub_server.proofs.FlushOthersUnchanged.{all_polls, telling_tells}
 
 -- of what holds once all is well something else follows
 pub on_ok : {A E : Type 0} (r : Result A E) (P Q : Type 0) → (P → Q) → OnOk r P → OnOk r Q
@@ -39,14 +39,14 @@ on_ok (Err e) P Q f p = tt
 
 -- ---- of a connection that is there a front tells what was noted
 
-there_noted : (c : ℕ) (h : List Doing) → IsKnown c h → stands.is_there c (notes h) ≡ true
+there_noted : (c : ℕ) (h : List ServerEvent) → IsKnown c h → stands.is_there c (notes h) ≡ true
 there_noted c h k = ap (λ (b : Bool). b && not (is_let_go c (notes h))) k.made ∙ ap not k.held
 
-pub noted_known : {H Job : Type 0} (hub : Hub Job) (s : Setup) (u : Unsettled) (before : List Said) (v : Server H Job) (c : ℕ) (h : List Doing)
+pub noted_known : {H Job : Type 0} (hub : Hub Job) (s : Setup) (u : Unsettled) (before : List Said) (v : Server H Job) (c : ℕ) (h : List ServerEvent)
     → Standing {H = H} hub s u before v h → has_peer c h ≡ true → stands.is_there c (notes h) ≡ true
 noted_known {H} {Job} hub s u before v c h x there = there_noted c h (is_one {H = H} {Job = Job} hub s u before v c h x there).known
 
-pub socket_told : {H Job : Type 0} (hub : Hub Job) (s : Setup) (u : Unsettled) (before : List Said) (v : Server H Job) (c : ℕ) (h : List Doing)
+pub socket_told : {H Job : Type 0} (hub : Hub Job) (s : Setup) (u : Unsettled) (before : List Said) (v : Server H Job) (c : ℕ) (h : List ServerEvent)
     (o r : Option ℕ)
     → Standing {H = H} hub s u before v h → has_peer c h ≡ true → calls.OfEach v.front (λ n. o ≡ calls.lane_of c n) → o ≡ r
     → socket_of c (notes h) ≡ r
@@ -54,14 +54,14 @@ socket_told {H} {Job} hub s u before v c h o r x there told is =
     sym (told (notes h) x.front ∙ ap (λ (b : Bool). if b then socket_of c (notes h) else None)
     (noted_known {H = H} {Job = Job} hub s u before v c h x there)) ∙ is
 
-pub polls_told : {H Job : Type 0} (hub : Hub Job) (s : Setup) (u : Unsettled) (before : List Said) (v : Server H Job) (c : ℕ) (h : List Doing)
+pub polls_told : {H Job : Type 0} (hub : Hub Job) (s : Setup) (u : Unsettled) (before : List Said) (v : Server H Job) (c : ℕ) (h : List ServerEvent)
     (a b : Bool)
     → Standing {H = H} hub s u before v h → has_peer c h ≡ true → calls.OfEach v.front (λ n. a ≡ (stands.is_there c n && is_polling c n)) → a ≡ b
     → is_polling c (notes h) ≡ b
 polls_told {H} {Job} hub s u before v c h a b x there told is =
     sym (told (notes h) x.front ∙ ap (λ (z : Bool). z && is_polling c (notes h)) (noted_known {H = H} {Job = Job} hub s u before v c h x there)) ∙ is
 
-ended_told : {H Job : Type 0} (hub : Hub Job) (s : Setup) (u : Unsettled) (before : List Said) (v : Server H Job) (c : ℕ) (h : List Doing)
+ended_told : {H Job : Type 0} (hub : Hub Job) (s : Setup) (u : Unsettled) (before : List Said) (v : Server H Job) (c : ℕ) (h : List ServerEvent)
     (a b : Bool)
     → Standing {H = H} hub s u before v h → has_peer c h ≡ true → calls.OfEach v.front (λ n. a ≡ (stands.is_there c n && is_some (ended_at c n)))
     → a ≡ b
@@ -70,7 +70,7 @@ ended_told {H} {Job} hub s u before v c h a b x there told is =
     sym (told (notes h) x.front ∙ ap (λ (z : Bool). z && is_some (ended_at c (notes h)))
     (noted_known {H = H} {Job = Job} hub s u before v c h x there)) ∙ is
 
-poll_told : {H Job : Type 0} (hub : Hub Job) (s : Setup) (u : Unsettled) (before : List Said) (v : Server H Job) (c : ℕ) (h : List Doing)
+poll_told : {H Job : Type 0} (hub : Hub Job) (s : Setup) (u : Unsettled) (before : List Said) (v : Server H Job) (c : ℕ) (h : List ServerEvent)
     (o r : Option Held)
     → Standing {H = H} hub s u before v h → has_peer c h ≡ true → calls.OfEach v.front (λ n. held_as o ≡ calls.poll_held c n) → o ≡ r
     → poll_of c (notes h) ≡ held_as r
@@ -83,7 +83,7 @@ poll_told {H} {Job} hub s u before v c h o r x there told is =
 
 -- a server that stood stands with its ending noted too
 standing_ends : {H Job : Type 0} (hub : Hub Job) (s : Setup) (u : Unsettled) (before : List Said) (v : Server H Job) (f : Front) (c : ℕ)
-    (h : List Doing)
+    (h : List ServerEvent)
     → Standing {H = H} hub s u before v h → stands.Stands f (Ended c (moment h) ∷ notes h) → is_polling c (notes h) ≡ true
     → Standing {H = H} hub s u before (record v { front = f }) (Notes (Ended c (moment h)) ∷ h)
 standing_ends {H} hub s u before v f c h x noted polls = record {
@@ -119,7 +119,7 @@ standing_ends {H} hub s u before v f c h x noted polls = record {
     go k true e ended f = subst (λ n. is_polling n (notes h) ≡ true) (sym (eqb-true k c e)) polls
     go k false e ended f = ended f
 
-module _ {H Job : Type 0} (hub : Hub Job) (s : Setup) (u : Unsettled) (before : List Said) (v : Server H Job) (c : ℕ) (h : List Doing)
+module _ {H Job : Type 0} (hub : Hub Job) (s : Setup) (u : Unsettled) (before : List Said) (v : Server H Job) (c : ℕ) (h : List ServerEvent)
     (x : Standing {H = H} hub s u before v h) (there : has_peer c h ≡ true) (r : Bool)
     (of : OfConn {H = H} hub v.machine c (λ w t k. r ≡ is_shut t k)) where
   closed_so : has_closed c h ≡ r
@@ -154,11 +154,11 @@ module _ {H Job : Type 0} (hub : Hub Job) (s : Setup) (u : Unsettled) (before : 
 
 -- ---- one that polls has told
 
-module _ {H Job : Type 0} (hub : Hub Job) (s : Setup) (before : List Said) (v : Server H Job) (c : ℕ) (h : List Doing)
+module _ {H Job : Type 0} (hub : Hub Job) (s : Setup) (before : List Said) (v : Server H Job) (c : ℕ) (h : List ServerEvent)
     (x : Standing {H = H} hub s settled before v (onto (ending (moment h) c h) h)) (there : has_peer c h ≡ true)
     (polls : is_polling c (notes h) ≡ true) where
   -- what its ending leaves
-  record Left (g : List Doing) : Type 0 where
+  record Left (g : List ServerEvent) : Type 0 where
     noted : poll_of c (notes g) ≡ poll_of c (notes h)
     stays : has_peer c g ≡ has_peer c h
     due : (fs : List LinkFrame) → LendsUpTo s.wire (config_of c g) (history c g) 0 fs → LendsUpTo s.wire (config_of c h) (history c h) 0 fs
@@ -198,7 +198,7 @@ module _ {H Job : Type 0} (hub : Hub Job) (s : Setup) (before : List Said) (v : 
       record {
         pieces = [];
         due = subst (λ (p : Option (ℕ × ℕ)). AreDueOn s c None p [] h) (sym none) refl;
-        stands = subst (λ (g : List Doing). Standing {H = H} hub s settled before v g) (sym (told_is None [] none)) x;
+        stands = subst (λ (g : List ServerEvent). Standing {H = H} hub s settled before v g) (sym (told_is None [] none)) x;
         rested = rested_polling [];
       }
 
@@ -208,7 +208,7 @@ module _ {H Job : Type 0} (hub : Hub Job) (s : Setup) (before : List Said) (v : 
       → TellsPoll {H = H} hub t said new c (held.lane, held.since) g)
       → TellsOne {H = H} hub s before new c None (poll_of c (notes h)) h
   tells_held o held new told is tells =
-      let g : List Doing = onto (ending (moment h) c h) h in
+      let g : List ServerEvent = onto (ending (moment h) c h) h in
       let holds : poll_of c (notes g) ≡ Some (held.lane, held.since) =
       poll_told {H = H} {Job = Job} hub s settled before v c g o (Some held) x (left.stays ∙ there) told is in
       let some : poll_of c (notes h) ≡ Some (held.lane, held.since) = sym left.noted ∙ holds in
@@ -218,17 +218,17 @@ module _ {H Job : Type 0} (hub : Hub Job) (s : Setup) (before : List Said) (v : 
         pieces = one.frames ∷ [];
         due = subst (λ (p : Option (ℕ × ℕ)). AreDueOn s c None p (one.frames ∷ []) h) (sym some)
             (subst (λ (fs : List LinkFrame). LendsUpTo s.wire (config_of c h) (history c h) 0 fs) (sym all) (left.due one.frames one.due));
-        stands = subst (λ (k : List Doing). Standing {H = H} hub s settled before new k)
+        stands = subst (λ (k : List ServerEvent). Standing {H = H} hub s settled before new k)
             (sym (told_is (Some (held.lane, held.since)) (one.frames ∷ []) some
             ∙ ap (λ (fs : List LinkFrame). onto (telling_poll s (moment h) c (held.lane, held.since) fs h) g) all))
-            (subst (λ (xs : List Doing). Standing {H = H} hub s settled before new (onto xs g))
+            (subst (λ (xs : List ServerEvent). Standing {H = H} hub s settled before new (onto xs g))
             (left.same (held.lane, held.since) one.frames) one.stands);
         rested = rested_polling (one.frames ∷ []);
       }
 
 -- ---- one that neither stands on a socket nor polls
 
-module _ {H Job : Type 0} (hub : Hub Job) (s : Setup) (u : Unsettled) (before : List Said) (v : Server H Job) (c : ℕ) (h : List Doing) (r : Bool)
+module _ {H Job : Type 0} (hub : Hub Job) (s : Setup) (u : Unsettled) (before : List Said) (v : Server H Job) (c : ℕ) (h : List ServerEvent) (r : Bool)
     (y : Standing {H = H} hub s u before v h) (calm : u ≡ settled) (there : has_peer c h ≡ true) (off : socket_of c (notes h) ≡ None)
     (mute : is_polling c (notes h) ≡ false)
     (of : OfConn {H = H} hub v.machine c (λ w t k. r ≡ is_shut t k)) where

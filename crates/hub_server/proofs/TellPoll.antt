@@ -3,18 +3,18 @@ use Rattle.std.proofs.Common.{◌≡◌, ◌<◌, ◌≤◌, ℕ, ◌+◌, ◌-�
 use Rattle.std.proofs.Common.{refl, sym, ap, subst, ◌∙◌, ◌⊎◌, None, arith, inl, inr}
 use Rattle.std.specs.Prelude.{if◌then◌else◌, ◌&&◌, nat_le, option_map}
 use Rattle.std.proofs.lemmas.Bool.{eq-eqb, le-leb, leb-true, true≢false}
-use Rattle.hd_lanes.specs.declared.http.Reply.{Reply}
+use Rattle.hw_lanes.specs.declared.http.Reply.{Reply}
 use Rattle.hd_delivery.specs.Due.{due}
 use Rattle.hd_delivery.specs.Frames.{LinkFrame}
 use Rattle.hd_delivery.specs.Histories.{is_this}
 use Rattle.hd_calls.specs.Hubs.{Hub}
 use Rattle.hd_calls.specs.Peers.{is_shut, steps}
-use Rattle.hd_serving.specs.declared.vocabulary.Said.{Said}
-use Rattle.hd_serving.specs.Numbers.{held_for, most_before_last}
-use Rattle.hd_serving.specs.Lives.{Answered, Note, poll_of, socket_of}
-use Rattle.hd_serving.specs.Doings.{Doing, Notes, config_of, has_closed, has_peer, history, moment, notes}
-use Rattle.hd_serving.specs.Plans.{Setup, bare_reply, frames_reply, letting_go, onto, replying}
-use Rattle.hd_serving.specs.Serves.{LendsUpTo, bytes_of, lending, telling_poll}
+use Rattle.hd_server.specs.declared.vocabulary.Said.{Said}
+use Rattle.hd_server.specs.Numbers.{held_for, most_before_last}
+use Rattle.hd_server.specs.Lives.{Answered, ConnectionEvent, poll_of, socket_of}
+use Rattle.hd_server.specs.Doings.{ServerEvent, Notes, config_of, has_closed, has_peer, history, moment, notes}
+use Rattle.hd_server.specs.Plans.{Setup, bare_reply, frames_reply, letting_go, onto, replying}
+use Rattle.hd_server.specs.Serves.{LendsUpTo, bytes_of, lending, telling_poll}
 use Rattle.hub_server.specs.declared.machine.Machine.{Machine}
 use Rattle.hub_server.specs.declared.server.Server.{Server}
 use Rattle.hub_server.specs.Machines.{OfConn, StandsMachine}
@@ -28,14 +28,14 @@ use Rattle.hub_server.proofs.TellSaid.{Mild, SaidSome, closed_is, is_one, known_
 use Rattle.hub_server.proofs.TellSaid.{replying_says, said_some, standing_rests}
 
 -- the poll is held on its lane
-lane_of_poll : (c lane since : ℕ) (n : List Note) → poll_of c n ≡ Some (lane, since) → poll_lane c n ≡ Some lane
+lane_of_poll : (c lane since : ℕ) (n : List ConnectionEvent) → poll_of c n ≡ Some (lane, since) → poll_lane c n ≡ Some lane
 lane_of_poll c lane since n e = ap (λ (o : Option (ℕ × ℕ)). option_map (λ (poll : ℕ × ℕ). poll.0) o) e
 
 or_true : (b : Bool) → (b || true) ≡ true
 or_true true = refl
 or_true false = refl
 
-at_poll : (lane c : ℕ) (h : List Doing) → has_peer c h ≡ true → poll_lane c (notes h) ≡ Some lane → is_at lane c h ≡ true
+at_poll : (lane c : ℕ) (h : List ServerEvent) → has_peer c h ≡ true → poll_lane c (notes h) ≡ Some lane → is_at lane c h ≡ true
 at_poll lane c h there on =
     ap (λ (b : Bool). b && (is_this lane (socket_of c (notes h)) || is_this lane (poll_lane c (notes h)))) there
     ∙ ap (λ (o : Option ℕ). is_this lane (socket_of c (notes h)) || is_this lane o) on
@@ -48,7 +48,7 @@ Answers {H} hub old new c lane reply = OfEach {H = H} hub old (λ s u before h. 
     Standing {H = H} hub s u before new (Notes (Answered c lane (moment h)) ∷ onto (replying lane reply h) h))
 
 module _ {H Job : Type 0} (hub : Hub Job) (s : Setup) (u : Unsettled) (before : List Said) (v : Server H Job) (m : Machine H Job) (c lane since : ℕ)
-    (any : Bool) (old out : List ℕ) (h : List Doing)
+    (any : Bool) (old out : List ℕ) (h : List ServerEvent)
     (none : old ≡ []) (y : Standing {H = H} hub s u before v h) (calm : u ≡ settled) (there : has_peer c h ≡ true)
     (held : poll_of c (notes h) ≡ Some (lane, since))
     (of : OfConn {H = H} hub v.machine c (λ w t k. old ≡ [] → LendsSome {H = H} hub m c w t k any out)) where
@@ -69,7 +69,7 @@ module _ {H Job : Type 0} (hub : Hub Job) (s : Setup) (u : Unsettled) (before : 
           → TellsPoll {H = H} hub s before new c (lane, since) h
       go [] due f r stands = absurd (true≢false (sym f))
       go (f ∷ fs) due e r stands =
-          let mid : List Doing = onto (lending c (f ∷ fs)) h in
+          let mid : List ServerEvent = onto (lending c (f ∷ fs)) h in
           let mild : Mild c mid h = mild_lends c (f ∷ fs) h in
           let stood : Standing {H = H} hub s settled before new (Notes (Answered c lane (moment mid)) ∷ onto (replying lane reply mid) mid) =
           answers s settled before mid stands refl (mild.there ∙ there) (lane_of_poll c lane since (notes mid)
@@ -77,15 +77,15 @@ module _ {H Job : Type 0} (hub : Hub Job) (s : Setup) (u : Unsettled) (before : 
           let told : onto (telling_poll s (moment h) c (lane, since) (f ∷ fs) h) h ≡ Notes (Answered c lane (moment h)) ∷ onto
           (replying lane (frames_reply (bytes_of s c (f ∷ fs) h)) h) mid =
           onto_append (lending c (f ∷ fs) ++ replying lane (frames_reply (bytes_of s c (f ∷ fs) h)) h) (Notes (Answered c lane (moment h)) ∷ []) h
-          ∙ ap (λ (g : List Doing). Notes (Answered c lane (moment h)) ∷ g) (onto_append (lending c (f ∷ fs))
+          ∙ ap (λ (g : List ServerEvent). Notes (Answered c lane (moment h)) ∷ g) (onto_append (lending c (f ∷ fs))
           (replying lane (frames_reply (bytes_of s c (f ∷ fs) h)) h) h) in
           record {
             frames = f ∷ fs;
             due = due;
-            stands = subst (λ (g : List Doing). Standing {H = H} hub s settled before new g) (sym told)
+            stands = subst (λ (g : List ServerEvent). Standing {H = H} hub s settled before new g) (sym told)
                 (subst (λ (r : Reply). Standing {H = H} hub s settled before new (Notes (Answered c lane (moment h)) ∷ onto
                 (replying lane r h) mid)) r
-                (subst (λ (xs : List Doing). Standing {H = H} hub s settled before new (Notes (Answered c lane (moment h)) ∷ onto xs mid))
+                (subst (λ (xs : List ServerEvent). Standing {H = H} hub s settled before new (Notes (Answered c lane (moment h)) ∷ onto xs mid))
                 (replying_mild c lane reply mid h mild)
                 (subst (λ (n : ℕ). Standing {H = H} hub s settled before new (Notes (Answered c lane n) ∷ onto
                 (replying lane reply mid) mid)) mild.clock stood)));
@@ -114,7 +114,7 @@ module _ {H Job : Type 0} (hub : Hub Job) (s : Setup) (u : Unsettled) (before : 
   polls_closed r mid new reply e f shut is replies frees =
       let base : Standing {H = H} hub s settled before (record v { machine = m }) h = (bare_stands e).1 in
       let on : is_at lane c h ≡ true = at_poll lane c h there (lane_of_poll c lane since (notes h) held) in
-      let g : List Doing = onto (replying lane reply h) h in
+      let g : List ServerEvent = onto (replying lane reply h) h in
       let mild : Mild c g h = mild_says c (replying lane reply h) h (replying_says lane reply h) in
       let after : Standing {H = H} hub s (lane_of (Some lane)) before mid g = replies s settled before h base refl c on in
       let known : IsKnown c g = known_mild c g h mild (is_one {H = H} {Job = Job} hub s settled before
@@ -129,11 +129,11 @@ module _ {H Job : Type 0} (hub : Hub Job) (s : Setup) (u : Unsettled) (before : 
       (sym (closed_so r e shut) ∙ f)
       ∙ onto_append (replying lane (bare_reply 204) h) (letting_go c h) h
       ∙ ap (λ (q : Reply). onto (letting_go c h) (onto (replying lane q h) h)) (sym is)
-      ∙ ap (λ (xs : List Doing). onto xs g) (sym (letting_mild c g h mild)) in
+      ∙ ap (λ (xs : List ServerEvent). onto xs g) (sym (letting_mild c g h mild)) in
       record {
         frames = [];
         due = (bare_stands e).0;
-        stands = subst (λ (k : List Doing). Standing {H = H} hub s settled before new k) (sym told) (freed.freed lane (inl refl) still);
+        stands = subst (λ (k : List ServerEvent). Standing {H = H} hub s settled before new k) (sym told) (freed.freed lane (inl refl) still);
       }
 
   -- or it was held as long as it may be
@@ -157,7 +157,7 @@ module _ {H Job : Type 0} (hub : Hub Job) (s : Setup) (u : Unsettled) (before : 
       record {
         frames = [];
         due = (bare_stands e).0;
-        stands = subst (λ (k : List Doing). Standing {H = H} hub s settled before new k) (sym told)
+        stands = subst (λ (k : List ServerEvent). Standing {H = H} hub s settled before new k) (sym told)
             (subst (λ (q : Reply). Standing {H = H} hub s settled before new (Notes (Answered c lane (moment h)) ∷ onto
             (replying lane q h) h)) is stood);
       }
@@ -179,7 +179,7 @@ module _ {H Job : Type 0} (hub : Hub Job) (s : Setup) (u : Unsettled) (before : 
       record {
         frames = [];
         due = (bare_stands e).0;
-        stands = subst (λ (k : List Doing). Standing {H = H} hub s settled before (record v { machine = rested }) k) (sym told)
+        stands = subst (λ (k : List ServerEvent). Standing {H = H} hub s settled before (record v { machine = rested }) k) (sym told)
             (standing_rests {H = H} {Job = Job} hub s settled before (record v { machine = m }) c h base there rested
             (nothing (bare_stands e).0) rests);
       }

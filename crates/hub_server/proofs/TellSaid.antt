@@ -3,21 +3,21 @@ use Rattle.std.proofs.Common.{◌≡◌, ℕ, ◌==◌, Bool, true, false, not, 
 use Rattle.std.proofs.Common.{refl, sym, ap, subst, ◌∙◌}
 use Rattle.std.specs.Prelude.{if◌then◌else◌}
 use Rattle.std.proofs.lemmas.Bool.{eq-eqb, true≢false}
-use Rattle.hd_lanes.specs.declared.http.Reply.{Reply}
+use Rattle.hw_lanes.specs.declared.http.Reply.{Reply}
 use Rattle.hd_delivery.specs.Frames.{LinkFrame}
 use Rattle.hd_delivery.specs.Due.{due}
 use Rattle.hd_delivery.specs.Histories.{Config, codec_of, is_closed}
 use Rattle.hd_delivery.specs.Bytes.{Wire, spelling_of}
 use Rattle.hd_calls.specs.Hubs.{Hub}
-use Rattle.hd_calls.specs.Peers.{Move, Settings, codec, is_shut, steps}
-use Rattle.hd_serving.specs.declared.vocabulary.Said.{Said}
-use Rattle.hd_serving.specs.declared.vocabulary.Said.TheVariants as say
-use Rattle.hd_serving.specs.Lives.{LetGo, is_let_go, is_made}
-use Rattle.hd_serving.specs.Machine.{Goes, has_gone, is_open_at, moves, settings_of}
-use Rattle.hd_serving.specs.Doings.{Doing, Notes, Works, Says, config_of, config_with, has_closed, has_peer, history, history_with, is_up, moment}
-use Rattle.hd_serving.specs.Doings.{notes, peer, wants_shut, was_refused, work}
-use Rattle.hd_serving.specs.Plans.{Setup, letting_go, onto, replying, shutting}
-use Rattle.hd_serving.specs.Serves.{LendsAll, LendsUpTo, bytes_of, is_text, lending, writing}
+use Rattle.hd_calls.specs.Peers.{PeerEvent, Settings, codec, is_shut, steps}
+use Rattle.hd_server.specs.declared.vocabulary.Said.{Said}
+use Rattle.hd_server.specs.declared.vocabulary.Said.TheVariants as say
+use Rattle.hd_server.specs.Lives.{LetGo, is_let_go, is_made}
+use Rattle.hd_server.specs.Machine.{Goes, has_gone, is_open_at, moves, settings_of}
+use Rattle.hd_server.specs.Doings.{ServerEvent, Notes, Works, Says, config_of, config_with, has_closed, has_peer, history, history_with, is_up, moment}
+use Rattle.hd_server.specs.Doings.{notes, peer, wants_shut, was_refused, work}
+use Rattle.hd_server.specs.Plans.{Setup, letting_go, onto, replying, shutting}
+use Rattle.hd_server.specs.Serves.{LendsAll, LendsUpTo, bytes_of, is_text, lending, writing}
 use Rattle.hub_server.specs.declared.machine.Machine.{Machine}
 use Rattle.hub_server.specs.declared.server.Server.{Server}
 use Rattle.hub_server.specs.Machines.{OfConn, StandsMachine, settings_there}
@@ -29,13 +29,13 @@ use Rattle.hub_server.proofs.TellLends.{HasLent, all_lent, standing_lends, there
 
 -- ---- only words
 
-abbrev pub AllSay : List Doing → Type 0
+abbrev pub AllSay : List ServerEvent → Type 0
 AllSay [] = Unit {0}
 AllSay (Says x ∷ ds) = AllSay ds
 AllSay (_ ∷ ds) = ⊥
 
 -- of the connection this stays
-pub record Mild (c : ℕ) (g h : List Doing) : Type 0 where
+pub record Mild (c : ℕ) (g h : List ServerEvent) : Type 0 where
   pub noted : notes g ≡ notes h
   pub there : has_peer c g ≡ has_peer c h
   pub closed : has_closed c g ≡ has_closed c h
@@ -43,13 +43,13 @@ pub record Mild (c : ℕ) (g h : List Doing) : Type 0 where
   pub refused : (lane : ℕ) → was_refused lane g ≡ was_refused lane h
   pub shut : (lane : ℕ) → wants_shut lane g ≡ wants_shut lane h
 
-mild_same : (c : ℕ) (h : List Doing) → Mild c h h
+mild_same : (c : ℕ) (h : List ServerEvent) → Mild c h h
 mild_same c h = record { noted = refl; there = refl; closed = refl; clock = refl; refused = λ lane. refl; shut = λ lane. refl }
 
-mild_one : (c : ℕ) (x : Said) (h : List Doing) → Mild c (Says x ∷ h) h
+mild_one : (c : ℕ) (x : Said) (h : List ServerEvent) → Mild c (Says x ∷ h) h
 mild_one c x h = record { noted = refl; there = refl; closed = refl; clock = refl; refused = λ lane. refl; shut = λ lane. refl }
 
-pub mild_then : (c : ℕ) (f g h : List Doing) → Mild c f g → Mild c g h → Mild c f h
+pub mild_then : (c : ℕ) (f g h : List ServerEvent) → Mild c f g → Mild c g h → Mild c f h
 mild_then c f g h x y = record {
   noted = x.noted ∙ y.noted;
   there = x.there ∙ y.there;
@@ -59,12 +59,12 @@ mild_then c f g h x y = record {
   shut = λ lane. x.shut lane ∙ y.shut lane;
 }
 
-pub mild_says : (c : ℕ) (ds h : List Doing) → AllSay ds → Mild c (onto ds h) h
+pub mild_says : (c : ℕ) (ds h : List ServerEvent) → AllSay ds → Mild c (onto ds h) h
 mild_says c [] h a = mild_same c h
 mild_says c (Says x ∷ ds) h a = mild_then c (onto ds (Says x ∷ h)) (Says x ∷ h) h (mild_says c ds (Says x ∷ h) a) (mild_one c x h)
 mild_says c (_ ∷ ds) h a = absurd a
 
-pub mild_lends : (c : ℕ) (fs : List LinkFrame) (h : List Doing) → Mild c (onto (lending c fs) h) h
+pub mild_lends : (c : ℕ) (fs : List LinkFrame) (h : List ServerEvent) → Mild c (onto (lending c fs) h) h
 mild_lends c fs h =
     let x : HasLent c (onto (lending c fs) h) h = all_lent c fs h in
     record {
@@ -76,60 +76,60 @@ mild_lends c fs h =
       shut = λ lane. (x.lane lane).shut;
     }
 
-pub writing_says : (s : Setup) (c lane : ℕ) (pieces : List (List LinkFrame)) (h : List Doing) → AllSay (writing s c lane pieces h)
+pub writing_says : (s : Setup) (c lane : ℕ) (pieces : List (List LinkFrame)) (h : List ServerEvent) → AllSay (writing s c lane pieces h)
 writing_says s c lane [] h = tt
 writing_says s c lane (p ∷ ps) h = writing_says s c lane ps h
 
 -- nobody did anything by them
-pub work_says : (ds h : List Doing) → AllSay ds → work (onto ds h) ≡ work h
+pub work_says : (ds h : List ServerEvent) → AllSay ds → work (onto ds h) ≡ work h
 work_says [] h a = refl
 work_says (Says x ∷ ds) h a = work_says ds (Says x ∷ h) a
 work_says (_ ∷ ds) h a = absurd a
 
-either_says : (b : Bool) (xs ys : List Doing) → AllSay xs → AllSay ys → AllSay (if b then xs else ys)
+either_says : (b : Bool) (xs ys : List ServerEvent) → AllSay xs → AllSay ys → AllSay (if b then xs else ys)
 either_says true xs ys a b = a
 either_says false xs ys a b = b
 
-pub shutting_says : (lane : ℕ) (h : List Doing) → AllSay (shutting lane h)
+pub shutting_says : (lane : ℕ) (h : List ServerEvent) → AllSay (shutting lane h)
 shutting_says lane h = either_says (was_refused lane h) [] (Says (say.Shut lane) ∷ []) tt tt
 
-pub replying_says : (lane : ℕ) (reply : Reply) (h : List Doing) → AllSay (replying lane reply h)
+pub replying_says : (lane : ℕ) (reply : Reply) (h : List ServerEvent) → AllSay (replying lane reply h)
 replying_says lane reply h = either_says ((reply.status == 400) || (wants_shut lane h && not (reply.status == 101))) (shutting lane h) []
     (shutting_says lane h) tt
 
 -- ---- what follows of it
 
-pub known_mild : (c : ℕ) (g h : List Doing) → Mild c g h → IsKnown c h → IsKnown c g
+pub known_mild : (c : ℕ) (g h : List ServerEvent) → Mild c g h → IsKnown c h → IsKnown c g
 known_mild c g h x k = record {
   made = subst (λ n. is_made c n ≡ true) (sym x.noted) k.made;
   held = subst (λ n. is_let_go c n ≡ false) (sym x.noted) k.held;
 }
 
-pub letting_mild : (c : ℕ) (g h : List Doing) → Mild c g h → letting_go c g ≡ letting_go c h
+pub letting_mild : (c : ℕ) (g h : List ServerEvent) → Mild c g h → letting_go c g ≡ letting_go c h
 letting_mild c g h x = ap (λ (b : Bool). (if b then Works (Goes c) ∷ [] else []) ++ Notes (LetGo c) ∷ []) x.there
 
-pub shutting_mild : (c lane : ℕ) (g h : List Doing) → Mild c g h → shutting lane g ≡ shutting lane h
+pub shutting_mild : (c lane : ℕ) (g h : List ServerEvent) → Mild c g h → shutting lane g ≡ shutting lane h
 shutting_mild c lane g h x = ap (λ (b : Bool). if b then [] else Says (say.Shut lane) ∷ []) (x.refused lane)
 
-pub replying_mild : (c lane : ℕ) (reply : Reply) (g h : List Doing) → Mild c g h → replying lane reply g ≡ replying lane reply h
+pub replying_mild : (c lane : ℕ) (reply : Reply) (g h : List ServerEvent) → Mild c g h → replying lane reply g ≡ replying lane reply h
 replying_mild c lane reply g h x =
     ap (λ (b : Bool). Says (say.Reply lane reply) ∷ (if (reply.status == 400) || (b && not (reply.status == 101)) then shutting lane g else []))
     (x.shut lane)
-    ∙ ap (λ (xs : List Doing). Says (say.Reply lane reply) ∷ (if (reply.status == 400) ||
+    ∙ ap (λ (xs : List ServerEvent). Says (say.Reply lane reply) ∷ (if (reply.status == 400) ||
     (wants_shut lane h && not (reply.status == 101)) then xs else [])) (shutting_mild c lane g h x)
 
 -- a connection that is there and isn't closed is open
-pub up_there : (c : ℕ) (g : List Doing) → has_peer c g ≡ true → has_closed c g ≡ false → is_up c g ≡ true
+pub up_there : (c : ℕ) (g : List ServerEvent) → has_peer c g ≡ true → has_closed c g ≡ false → is_up c g ≡ true
 up_there c g = go (settings_of c (work g)) (has_gone c (work g)) (peer c g)
   where
-    go : (o : Option Settings) (gone : Bool) (ms : List Move) → (is_some o && not gone) ≡ true → is_closed (config_with o) (history_with o ms) ≡ false
+    go : (o : Option Settings) (gone : Bool) (ms : List PeerEvent) → (is_some o && not gone) ≡ true → is_closed (config_with o) (history_with o ms) ≡ false
         → (not gone && is_open_at o ms) ≡ true
     go None gone ms e f = absurd (true≢false (sym e))
     go (Some t) true ms e f = absurd (true≢false (sym e))
     go (Some t) false ms e f = ap not f
 
 -- one of which nothing is kept is there no more
-pub gone_after : (c : ℕ) (g h : List Doing) → has_peer c h ≡ true → has_peer c (onto (letting_go c h) g) ≡ false
+pub gone_after : (c : ℕ) (g h : List ServerEvent) → has_peer c h ≡ true → has_peer c (onto (letting_go c h) g) ≡ false
 gone_after c g h there =
     subst (λ (b : Bool). has_peer c (onto ((if b then Works (Goes c) ∷ [] else []) ++ Notes (LetGo c) ∷ []) g) ≡ false) (sym there)
     (subst (λ (b : Bool). (is_some (settings_of c (work g)) && not (b || has_gone c (work g))) ≡ false) (sym (eq-eqb c c refl))
@@ -141,7 +141,7 @@ gone_after c g h there =
 
 -- ---- how the peer of a connection is
 
-pub record IsOne (s : Setup) (c : ℕ) (h : List Doing) : Type 0 where
+pub record IsOne (s : Setup) (c : ℕ) (h : List ServerEvent) : Type 0 where
   pub t : Settings
   pub told : settings_of c (work h) ≡ Some t
   pub there : settings_there c (work h) ≡ Some t
@@ -153,7 +153,7 @@ some_true None b e = absurd (true≢false (sym e))
 some_true (Some x) true e = absurd (true≢false (sym e))
 some_true (Some x) false e = (x, refl, refl)
 
-pub is_one : {H Job : Type 0} (hub : Hub Job) (s : Setup) (u : Unsettled) (before : List Said) (v : Server H Job) (c : ℕ) (h : List Doing)
+pub is_one : {H Job : Type 0} (hub : Hub Job) (s : Setup) (u : Unsettled) (before : List Said) (v : Server H Job) (c : ℕ) (h : List ServerEvent)
     → Standing {H = H} hub s u before v h → has_peer c h ≡ true → IsOne s c h
 is_one {H} hub s u before v c h x there =
     let e = some_true (settings_of c (work h)) (has_gone c (work h)) there in
@@ -166,26 +166,26 @@ is_one {H} hub s u before v c h x there =
       known = record { made = o.made (ap is_some e.1); held = o.there there };
     }
 
-pub config_is : (s : Setup) (c : ℕ) (h : List Doing) (o : IsOne s c h) → config_of c h ≡ (o.t).config
+pub config_is : (s : Setup) (c : ℕ) (h : List ServerEvent) (o : IsOne s c h) → config_of c h ≡ (o.t).config
 config_is s c h o = ap config_with o.told
 
-pub history_is : (s : Setup) (c : ℕ) (h : List Doing) (o : IsOne s c h) → history c h ≡ steps o.t (moves c (work h))
+pub history_is : (s : Setup) (c : ℕ) (h : List ServerEvent) (o : IsOne s c h) → history c h ≡ steps o.t (moves c (work h))
 history_is s c h o = ap (λ (x : Option Settings). history_with x (peer c h)) o.told
 
-closed_by : (s : Setup) (c : ℕ) (h : List Doing) (o : IsOne s c h) → has_closed c h ≡ is_shut o.t (moves c (work h))
+closed_by : (s : Setup) (c : ℕ) (h : List ServerEvent) (o : IsOne s c h) → has_closed c h ≡ is_shut o.t (moves c (work h))
 closed_by s c h o = ap (λ (x : Option Settings). is_closed (config_with x) (history_with x (peer c h))) o.told
 
-text_by : (s : Setup) (c : ℕ) (h : List Doing) (o : IsOne s c h) → is_text (config_of c h) (history c h) ≡ is_text (o.t).config
+text_by : (s : Setup) (c : ℕ) (h : List ServerEvent) (o : IsOne s c h) → is_text (config_of c h) (history c h) ≡ is_text (o.t).config
     (steps o.t (moves c (work h)))
 text_by s c h o = ap (λ (x : Option Settings). is_text (config_with x) (history_with x (peer c h))) o.told
 
-bytes_by : (s : Setup) (c : ℕ) (h : List Doing) (fs : List LinkFrame) (o : IsOne s c h)
+bytes_by : (s : Setup) (c : ℕ) (h : List ServerEvent) (fs : List LinkFrame) (o : IsOne s c h)
     → spelling_of (o.t).wire (codec o.t (moves c (work h))) fs ≡ bytes_of s c fs h
 bytes_by s c h fs o =
     ap (λ (w : Wire). spelling_of w (codec o.t (moves c (work h))) fs) (o.begun).wire
     ∙ sym (ap (λ (x : Option Settings). spelling_of s.wire (codec_of (config_with x) (history_with x (peer c h))) fs) o.told)
 
-module _ {H Job : Type 0} (hub : Hub Job) (s : Setup) (u : Unsettled) (before : List Said) (v : Server H Job) (c : ℕ) (h : List Doing)
+module _ {H Job : Type 0} (hub : Hub Job) (s : Setup) (u : Unsettled) (before : List Said) (v : Server H Job) (c : ℕ) (h : List ServerEvent)
     (x : Standing {H = H} hub s u before v h) (there : has_peer c h ≡ true) where
   pub closed_is : (r : Bool) → OfConn {H = H} hub v.machine c (λ w t k. r ≡ is_shut t k) → r ≡ has_closed c h
   closed_is r of =
@@ -226,7 +226,7 @@ module _ {H Job : Type 0} (hub : Hub Job) (s : Setup) (u : Unsettled) (before : 
 -- ---- what is due is lent
 
 pub record SaidAll {H Job : Type 0} (hub : Hub Job) (s : Setup) (u : Unsettled) (before : List Said) (v : Server H Job) (c : ℕ) (any : Bool)
-    (out : List ℕ) (h : List Doing) : Type 0 where
+    (out : List ℕ) (h : List ServerEvent) : Type 0 where
   pub frames : List LinkFrame
   pub due : LendsAll (config_of c h) (history c h) frames
   pub some : any ≡ is_any frames
@@ -234,7 +234,7 @@ pub record SaidAll {H Job : Type 0} (hub : Hub Job) (s : Setup) (u : Unsettled) 
   pub stands : Standing hub s u before v (onto (lending c frames) h)
 
 pub said_all : {H Job : Type 0} (hub : Hub Job) (s : Setup) (u : Unsettled) (before : List Said) (v : Server H Job) (m : Machine H Job) (c : ℕ)
-    (any : Bool) (old out : List ℕ) (h : List Doing)
+    (any : Bool) (old out : List ℕ) (h : List ServerEvent)
     → old ≡ [] → Standing {H = H} hub s u before v h → has_peer c h ≡ true → OfConn {H = H} hub v.machine c
     (λ w t k. LendsDue {H = H} hub m c w t k any old out)
     → SaidAll {H = H} hub s u before (record v { machine = m }) c any out h
@@ -251,7 +251,7 @@ said_all {H} {Job} hub s u before v m c any old out h none x there of =
     }
 
 pub record SaidSome {H Job : Type 0} (hub : Hub Job) (s : Setup) (u : Unsettled) (before : List Said) (v : Server H Job) (c : ℕ) (any : Bool)
-    (out : List ℕ) (h : List Doing) : Type 0 where
+    (out : List ℕ) (h : List ServerEvent) : Type 0 where
   pub frames : List LinkFrame
   pub due : LendsUpTo s.wire (config_of c h) (history c h) 0 frames
   pub some : any ≡ is_any frames
@@ -259,7 +259,7 @@ pub record SaidSome {H Job : Type 0} (hub : Hub Job) (s : Setup) (u : Unsettled)
   pub stands : Standing hub s u before v (onto (lending c frames) h)
 
 pub said_some : {H Job : Type 0} (hub : Hub Job) (s : Setup) (u : Unsettled) (before : List Said) (v : Server H Job) (m : Machine H Job) (c : ℕ)
-    (any : Bool) (old out : List ℕ) (h : List Doing)
+    (any : Bool) (old out : List ℕ) (h : List ServerEvent)
     → old ≡ [] → Standing {H = H} hub s u before v h → has_peer c h ≡ true
     → OfConn {H = H} hub v.machine c (λ w t k. old ≡ [] → LendsSome {H = H} hub m c w t k any out)
     → SaidSome {H = H} hub s u before (record v { machine = m }) c any out h

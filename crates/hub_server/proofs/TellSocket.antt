@@ -9,13 +9,13 @@ use Rattle.hd_delivery.specs.Frames.{LinkFrame}
 use Rattle.hd_delivery.specs.Histories.{is_this}
 use Rattle.hd_calls.specs.Hubs.{Hub}
 use Rattle.hd_calls.specs.Peers.{is_shut, steps}
-use Rattle.hd_serving.specs.declared.vocabulary.Said.{Said}
-use Rattle.hd_serving.specs.declared.vocabulary.Said.TheVariants as say
-use Rattle.hd_serving.specs.Lives.{poll_of, socket_of}
-use Rattle.hd_serving.specs.Machine.{Happening, moves, settings_of}
-use Rattle.hd_serving.specs.Doings.{Doing, Says, config_of, config_with, has_closed, has_peer, history, history_with, notes, was_refused, work}
-use Rattle.hd_serving.specs.Plans.{Setup, letting_go, onto, shutting}
-use Rattle.hd_serving.specs.Serves.{AreNonempty, LendsAll, all_of, bytes_of, is_text, lending, telling_socket, writing}
+use Rattle.hd_server.specs.declared.vocabulary.Said.{Said}
+use Rattle.hd_server.specs.declared.vocabulary.Said.TheVariants as say
+use Rattle.hd_server.specs.Lives.{poll_of, socket_of}
+use Rattle.hd_server.specs.Machine.{MachineEvent, moves, settings_of}
+use Rattle.hd_server.specs.Doings.{ServerEvent, Says, config_of, config_with, has_closed, has_peer, history, history_with, notes, was_refused, work}
+use Rattle.hd_server.specs.Plans.{Setup, letting_go, onto, shutting}
+use Rattle.hd_server.specs.Serves.{AreNonempty, LendsAll, all_of, bytes_of, is_text, lending, telling_socket, writing}
 use Rattle.hub_server.specs.declared.machine.Machine.{Machine}
 use Rattle.hub_server.specs.declared.server.Server.{Server}
 use Rattle.hub_server.specs.Machines.{OfConn, StandsMachine}
@@ -47,7 +47,7 @@ in_one_some [] = tt
 in_one_some (f ∷ fs) = (omega arith, tt)
 
 module _ {H Job : Type 0} (hub : Hub Job) (s : Setup) (u : Unsettled) (before : List Said) (v : Server H Job) (m : Machine H Job) (c lane : ℕ)
-    (any text : Bool) (old out : List ℕ) (h : List Doing)
+    (any text : Bool) (old out : List ℕ) (h : List ServerEvent)
     (none : old ≡ []) (x : Standing {H = H} hub s u before v h) (there : has_peer c h ≡ true)
     (of : OfConn {H = H} hub v.machine c (λ w t k. LendsDue {H = H} hub m c w t k any old out)) where
   said : SaidAll {H = H} hub s u before (record v { machine = m }) c any out h
@@ -86,7 +86,7 @@ module _ {H Job : Type 0} (hub : Hub Job) (s : Setup) (u : Unsettled) (before : 
       go (f ∷ fs) e b stands =
           subst (λ (ws : List Said). Standing {H = H} hub s u before (record v { machine = m; words = ws })
           (onto (writing s c lane ((f ∷ fs) ∷ []) h) (onto (lending c (f ∷ fs)) h))) (sym are)
-          (subst (λ (d : Doing). Standing {H = H} hub s u before (record v { machine = m; words = v.words ++ say.Bytes lane bytes text ∷ [] })
+          (subst (λ (d : ServerEvent). Standing {H = H} hub s u before (record v { machine = m; words = v.words ++ say.Bytes lane bytes text ∷ [] })
           (d ∷ onto (lending c (f ∷ fs)) h))
           (ap (λ (bs : List ℕ). Says (say.Bytes lane bs text)) b
           ∙ ap (λ (z : Bool). Says (say.Bytes lane (bytes_of s c (f ∷ fs) h) z)) (text_is {H = H}
@@ -95,7 +95,7 @@ module _ {H Job : Type 0} (hub : Hub Job) (s : Setup) (u : Unsettled) (before : 
 
 -- ---- a lane is shut
 
-pub shuts_none : {H Job : Type 0} (hub : Hub Job) (s : Setup) (u : Unsettled) (before : List Said) (v : Server H Job) (lane : ℕ) (h : List Doing)
+pub shuts_none : {H Job : Type 0} (hub : Hub Job) (s : Setup) (u : Unsettled) (before : List Said) (v : Server H Job) (lane : ℕ) (h : List ServerEvent)
     (r : Bool)
     → r ≡ false → r ≡ not (was_refused lane h) → Standing {H = H} hub s u before v h → Standing {H = H} hub s u before v (onto (shutting lane h) h)
 shuts_none {H} hub s u before v lane h r e f x = go (was_refused lane h) (sym f ∙ e)
@@ -105,7 +105,7 @@ shuts_none {H} hub s u before v lane h r e f x = go (was_refused lane h) (sym f 
     go false g = absurd (true≢false g)
 
 pub shuts_one : {H Job : Type 0} (hub : Hub Job) (s : Setup) (u : Unsettled) (before : List Said) (v : Server H Job) (words : List Said) (lane : ℕ)
-    (h : List Doing) (r : Bool)
+    (h : List ServerEvent) (r : Bool)
     → r ≡ true → r ≡ not (was_refused lane h) → words ≡ v.words ++ say.Shut lane ∷ [] → Standing {H = H} hub s u before v h
     → Standing {H = H} hub s u before (record v { words = words }) (onto (shutting lane h) h)
 shuts_one {H} {Job} hub s u before v words lane h r e f are x = go (was_refused lane h) (sym f ∙ e)
@@ -120,18 +120,18 @@ shuts_one {H} {Job} hub s u before v words lane h r e f are x = go (was_refused 
 -- ---- the connection has told
 
 pub settled_writes : {H Job : Type 0} (hub : Hub Job) (s : Setup) (u : Unsettled) (before : List Said) (v : Server H Job) (c lane : ℕ)
-    (h : List Doing) → u ≡ settled
+    (h : List ServerEvent) → u ≡ settled
     → Writes {H = H} hub s u before v c lane h → Writes {H = H} hub s settled before v c lane h
 settled_writes {H} hub s u before v c lane h calm w = subst (λ z. Writes {H = H} hub s z before v c lane h) calm w
 
 -- one that stands on a socket is there on its lane
-pub at_socket : (lane c : ℕ) (h : List Doing) → has_peer c h ≡ true → socket_of c (notes h) ≡ Some lane → is_at lane c h ≡ true
+pub at_socket : (lane c : ℕ) (h : List ServerEvent) → has_peer c h ≡ true → socket_of c (notes h) ≡ Some lane → is_at lane c h ≡ true
 at_socket lane c h there on =
     ap (λ (b : Bool). b && (is_this lane (socket_of c (notes h)) || is_this lane (poll_lane c (notes h)))) there
     ∙ ap (λ (o : Option ℕ). is_this lane o || is_this lane (poll_lane c (notes h))) on
     ∙ ap (λ (b : Bool). b || is_this lane (poll_lane c (notes h))) (eq-eqb lane lane refl)
 
-module _ {H Job : Type 0} (hub : Hub Job) (s : Setup) (before : List Said) (v : Server H Job) (c lane : ℕ) (h : List Doing)
+module _ {H Job : Type 0} (hub : Hub Job) (s : Setup) (before : List Said) (v : Server H Job) (c lane : ℕ) (h : List ServerEvent)
     (w : Writes {H = H} hub s settled before v c lane h) (there : has_peer c h ≡ true) (on : socket_of c (notes h) ≡ Some lane) where
   mild : Mild c (onto (lending c (all_of w.pieces) ++ writing s c lane w.pieces h) h) h
   mild = subst (λ g. Mild c g h) (sym (onto_append (lending c (all_of w.pieces)) (writing s c lane w.pieces h) h))
@@ -153,15 +153,15 @@ module _ {H Job : Type 0} (hub : Hub Job) (s : Setup) (before : List Said) (v : 
         (λ at off. up_there c (onto (lending c (all_of w.pieces) ++ writing s c lane w.pieces h) h) at (mild.closed ∙ unclosed));
   }
     where
-      due_in : List Happening → Option LinkFrame
+      due_in : List MachineEvent → Option LinkFrame
       due_in x = due (config_with (settings_of c x)) (history_with (settings_of c x) (moves c x))
 
-      lent : List Doing
+      lent : List ServerEvent
       lent = onto (lending c (all_of w.pieces)) h
 
       nothing : due_in (work (onto (lending c (all_of w.pieces) ++ writing s c lane w.pieces h) h)) ≡ None
       nothing =
-          ap (λ (g : List Doing). due_in (work g)) (onto_append (lending c (all_of w.pieces)) (writing s c lane w.pieces h) h)
+          ap (λ (g : List ServerEvent). due_in (work g)) (onto_append (lending c (all_of w.pieces)) (writing s c lane w.pieces h) h)
           ∙ ap due_in (work_says (writing s c lane w.pieces h) lent (writing_says s c lane w.pieces h))
           ∙ (let t = begun_here c h there in lent_due c t.settings (all_of w.pieces) h t.begun w.due)
 
@@ -173,7 +173,7 @@ module _ {H Job : Type 0} (hub : Hub Job) (s : Setup) (before : List Said) (v : 
       after =
           ap (λ (b : Bool). onto (lending c (all_of w.pieces) ++ writing s c lane w.pieces h ++
           (if b then shutting lane h ++ letting_go c h else [])) h) unclosed
-          ∙ ap (λ (xs : List Doing). onto xs h) (append-nil (lending c (all_of w.pieces) ++ writing s c lane w.pieces h))
+          ∙ ap (λ (xs : List ServerEvent). onto xs h) (append-nil (lending c (all_of w.pieces) ++ writing s c lane w.pieces h))
 
   -- it is closed: its lane was shut, and nothing is kept of it
   pub tells_closed : (r : Bool) (mid new : Server H Job) → r ≡ true → OfConn {H = H} hub v.machine c (λ k t ms. r ≡ is_shut t ms)
@@ -189,7 +189,7 @@ module _ {H Job : Type 0} (hub : Hub Job) (s : Setup) (before : List Said) (v : 
         (gone_after c (onto (shutting lane base) base) (onto (shutting lane base) base) (both.there ∙ there)) at));
   }
     where
-      base : List Doing
+      base : List ServerEvent
       base = onto (lending c (all_of w.pieces) ++ writing s c lane w.pieces h) h
 
       shut : Mild c (onto (shutting lane base) base) base
@@ -214,5 +214,5 @@ module _ {H Job : Type 0} (hub : Hub Job) (s : Setup) (before : List Said) (v : 
           (if b then shutting lane h ++ letting_go c h else [])) h) closed
           ∙ onto_append (lending c (all_of w.pieces) ++ writing s c lane w.pieces h) (shutting lane h ++ letting_go c h) h
           ∙ onto_append (shutting lane h) (letting_go c h) base
-          ∙ ap (λ (xs : List Doing). onto (letting_go c h) (onto xs base)) (sym (shutting_mild c lane base h mild))
-          ∙ ap (λ (xs : List Doing). onto xs (onto (shutting lane base) base)) (sym (letting_mild c (onto (shutting lane base) base) h both))
+          ∙ ap (λ (xs : List ServerEvent). onto (letting_go c h) (onto xs base)) (sym (shutting_mild c lane base h mild))
+          ∙ ap (λ (xs : List ServerEvent). onto xs (onto (shutting lane base) base)) (sym (letting_mild c (onto (shutting lane base) base) h both))

@@ -3,11 +3,11 @@ use Rattle.std.proofs.Common.{◌≡◌, ℕ, ◌+◌, ◌<◌, true, List, [], 
 use Rattle.std.proofs.Common.{ap, subst, ◌∙◌}
 use Rattle.std.specs.List.{flat_map}
 use Rattle.hd_calls.specs.Hubs.{Hub}
-use Rattle.hd_serving.specs.declared.vocabulary.Said.{Said}
-use Rattle.hd_serving.specs.Machine.{Happening}
-use Rattle.hd_serving.specs.Doings.{Doing, work, moment, has_peer}
-use Rattle.hd_serving.specs.Plans.{Setup, onto}
-use Rattle.hd_serving.specs.Serves.{ticking, ticks}
+use Rattle.hd_server.specs.declared.vocabulary.Said.{Said}
+use Rattle.hd_server.specs.Machine.{MachineEvent}
+use Rattle.hd_server.specs.Doings.{ServerEvent, work, moment, has_peer}
+use Rattle.hd_server.specs.Plans.{Setup, onto}
+use Rattle.hd_server.specs.Serves.{ticking, ticks}
 use Rattle.hub_server.specs.declared.machine.Machine.{Machine}
 use Rattle.hub_server.specs.declared.server.Server.{Server}
 use Rattle.hub_server.specs.Machines.{StandsMachine}
@@ -28,8 +28,8 @@ use Rattle.hub_server.proofs.TickApart.{Apart, apart_ticking, ticking_same}
 
 -- these, which are awake, are left to tick
 pub record TicksSo {H Job : Type 0} (hub : Hub Job) (s : Setup) (u : Unsettled) (before : List Said) (new : Server H Job) (left : List ℕ)
-    (h : List Doing) : Type 0 where
-  pub so_far : List Doing
+    (h : List ServerEvent) : Type 0 where
+  pub so_far : List ServerEvent
   pub stands : Standing hub s u before new so_far
   pub same_moment : moment so_far ≡ moment h
   pub lanes : (lane : ℕ) → SameLane lane so_far h
@@ -46,7 +46,7 @@ module _ {H Job : Type 0} (hub : Hub Job) (old : Server H Job) (conns : List ℕ
   -- one more ticks
   one : (mid new : Server H Job) (c : ℕ) (rest : List ℕ) → OfEach {H = H} hub mid (λ s u before h. u ≡ settled → has_peer c h ≡ true →
       Standing {H = H} hub s u before new (onto (ticking (moment h) c h) h))
-      → (s : Setup) (u : Unsettled) (before : List Said) (h : List Doing) → u ≡ settled
+      → (s : Setup) (u : Unsettled) (before : List Said) (h : List ServerEvent) → u ≡ settled
       → TicksSo {H = H} hub s u before mid (c ∷ rest) h → TicksSo {H = H} hub s u before new rest h
   one mid new c rest ticks_one s u before h sound x = record {
     so_far = onto (ticking (moment h) c h) x.so_far;
@@ -87,12 +87,12 @@ module _ {H Job : Type 0} (hub : Hub Job) (old : Server H Job) (conns : List ℕ
       (subst (λ cs. Agree (onto (ticks (moment h) h) h) (onto (flat_map (λ c. ticking (moment h) c h) cs) x.so_far)) none x.whole) x.stands
 
   -- those that sleep have passed the moment, and those that are awake are left to tick
-  module _ (m now_on : Machine H Job) (rings : (w : List Happening) → StandsMachine {H = H} hub old.machine w → StandsMachine {H = H} hub m w)
-      (none : (w : List Happening) → StandsMachine {H = H} hub old.machine w → NoneRings {H = H} m old.moment)
-      (known : (w : List Happening) → StandsMachine {H = H} hub m w → AreNumbers {H = H} m conns)
-      (passes : (w z : List Happening) → StandsMachine {H = H} hub m w → NoneRings {H = H} m old.moment → AreTimely old.moment w
+  module _ (m now_on : Machine H Job) (rings : (w : List MachineEvent) → StandsMachine {H = H} hub old.machine w → StandsMachine {H = H} hub m w)
+      (none : (w : List MachineEvent) → StandsMachine {H = H} hub old.machine w → NoneRings {H = H} m old.moment)
+      (known : (w : List MachineEvent) → StandsMachine {H = H} hub m w → AreNumbers {H = H} m conns)
+      (passes : (w z : List MachineEvent) → StandsMachine {H = H} hub m w → NoneRings {H = H} m old.moment → AreTimely old.moment w
       → HasPassed {H = H} m old.moment w z → StandsMachine {H = H} hub now_on z) where
-    begins : (s : Setup) (u : Unsettled) (before : List Said) (h : List Doing) → Standing {H = H} hub s u before old h
+    begins : (s : Setup) (u : Unsettled) (before : List Said) (h : List ServerEvent) → Standing {H = H} hub s u before old h
         → TicksSo {H = H} hub s u before (record old { machine = now_on }) conns h
     begins s u before h st = record {
       so_far = passed_by {H = H} m h;
@@ -111,9 +111,9 @@ module _ {H Job : Type 0} (hub : Hub Job) (old : Server H Job) (conns : List ℕ
         none_now : NoneRings {H = H} m (moment h)
         none_now = subst (λ n. NoneRings {H = H} m n) st.clock (none (work h) st.machine)
 
-        passes_now : (w z : List Happening) → StandsMachine {H = H} hub m w → NoneRings {H = H} m (moment h) → AreTimely (moment h) w
+        passes_now : (w z : List MachineEvent) → StandsMachine {H = H} hub m w → NoneRings {H = H} m (moment h) → AreTimely (moment h) w
             → HasPassed {H = H} m (moment h) w z → StandsMachine {H = H} hub now_on z
-        passes_now = subst (λ n. (w z : List Happening) → StandsMachine {H = H} hub m w → NoneRings {H = H} m n → AreTimely n w
+        passes_now = subst (λ n. (w z : List MachineEvent) → StandsMachine {H = H} hub m w → NoneRings {H = H} m n → AreTimely n w
             → HasPassed {H = H} m n w z → StandsMachine {H = H} hub now_on z) st.clock passes
 
         numbers : AreNumbers {H = H} m conns

@@ -8,21 +8,21 @@ use Rattle.hd_delivery.specs.Histories as of
 use Rattle.hd_delivery.specs.Histories.{Ticked, is_silence, present_link}
 use Rattle.hd_delivery.specs.Bytes.{Does as Step_of}
 use Rattle.hd_calls.specs.Hubs.{Hub}
-use Rattle.hd_calls.specs.Peers.{Move, Plain, Settings, steps}
-use Rattle.hd_serving.specs.declared.vocabulary.Said.{Said}
-use Rattle.hd_serving.specs.Lives.{numbers_to, socket_of}
-use Rattle.hd_serving.specs.Machine.{Happening, Does, greatest, has_gone, is_there, moves}
-use Rattle.hd_serving.specs.Doings.{Doing, Works, config_of, has_peer, history, history_with, moment, notes, peer, work}
-use Rattle.hd_serving.specs.Plans.{Setup, onto, step}
-use Rattle.hd_serving.specs.Serves.{silenced, ticking, ticks}
+use Rattle.hd_calls.specs.Peers.{PeerEvent, Plain, Settings, steps}
+use Rattle.hd_server.specs.declared.vocabulary.Said.{Said}
+use Rattle.hd_server.specs.Lives.{numbers_to, socket_of}
+use Rattle.hd_server.specs.Machine.{MachineEvent, Does, greatest, has_gone, is_there, moves}
+use Rattle.hd_server.specs.Doings.{ServerEvent, Works, config_of, has_peer, history, history_with, moment, notes, peer, work}
+use Rattle.hd_server.specs.Plans.{Setup, onto, step}
+use Rattle.hd_server.specs.Serves.{silenced, ticking, ticks}
 use Rattle.hub_server.specs.declared.machine.Machine.{Machine}
 use Rattle.hub_server.specs.declared.server.Server.{Server}
-use Rattle.hub_server.specs.declared.sleepers.Nap.{Nap}
-use Rattle.hub_server.specs.Machines.{IsAlarmOf, StandsMachine, is_awake_at, nap_at, peer_at}
+use Rattle.hub_server.specs.declared.idle_set.IdlePeer.{IdlePeer}
+use Rattle.hub_server.specs.Machines.{IsDeadlineOf, StandsMachine, is_awake_at, idle_peer_at, peer_at}
 use Rattle.hub_server.specs.Lanes.{Unsettled}
 use Rattle.hub_server.specs.Rounds.{AreNumbers, AreRising}
 use Rattle.hub_server.specs.Servers.{IsOrderly, Standing}
-use Rattle.hub_server.specs.Sleepers.{alarm_in}
+use Rattle.hub_server.specs.IdleSet.{deadline_in}
 use Rattle.hub_server.specs.Sleeping.{AreTimely, HasPassed, NoneRings}
 use Rattle.hub_server.specs.Spreads.{is_listed}
 use Rattle.hub_server.proofs.Agree.{Agree, AreAnyParts, AreParts, SameButMoves, agree_onto, agree_past, agree_refl, agree_trans}
@@ -39,25 +39,25 @@ use Rattle.hub_server.proofs.TickSteps.{IsBegun, begun_here}
 -- ---- in another order
 
 -- of these numbers those that pass one test do what they do, and some of the others make a move
-module _ (t : ℕ → List Doing) (parts : (c : ℕ) → AreParts c (t c)) (q p r a : ℕ → Bool) (m : Move)
+module _ (t : ℕ → List ServerEvent) (parts : (c : ℕ) → AreParts c (t c)) (q p r a : ℕ → Bool) (m : PeerEvent)
     (whole : (c : ℕ) → q c ≡ (p c || r c)) (apart : (c : ℕ) → p c ≡ true → r c ≡ false)
     (plain : (c : ℕ) → r c ≡ true → t c ≡ (if a c then Works (Does c m) ∷ [] else [])) where
-  abbrev those : (ℕ → Bool) → List ℕ → List Doing
+  abbrev those : (ℕ → Bool) → List ℕ → List ServerEvent
   those x cs = flat_map t (filter x cs)
 
   -- all these come before what the others do, or after it
-  abbrev MayPass : List Doing → List ℕ → Type 0
-  MayPass ds cs = (b : List Doing) → Agree (onto (those r cs) (onto ds b)) (onto ds (onto (those r cs) b))
+  abbrev MayPass : List ServerEvent → List ℕ → Type 0
+  MayPass ds cs = (b : List ServerEvent) → Agree (onto (those r cs) (onto ds b)) (onto ds (onto (those r cs) b))
 
   any_all : (cs : List ℕ) → AreAnyParts (flat_map t cs)
   any_all [] = tt
   any_all (c ∷ cs) = any_join (t c) (flat_map t cs) (any_parts c (t c) (parts c)) (any_all cs)
 
-  may_pass : (c : ℕ) (ds : List Doing) → AreParts c ds → p c ≡ true → (cs : List ℕ) → MayPass ds cs
+  may_pass : (c : ℕ) (ds : List ServerEvent) → AreParts c ds → p c ≡ true → (cs : List ℕ) → MayPass ds cs
   may_pass c ds of is [] b = agree_refl (onto ds b)
   may_pass c ds of is (k ∷ cs) b = by (may_pass c ds of is cs) (r k) refl
     where
-      after : List Doing
+      after : List ServerEvent
       after = those r cs
 
       other : r k ≡ true → (c == k) ≡ false
@@ -83,7 +83,7 @@ module _ (t : ℕ → List Doing) (parts : (c : ℕ) → AreParts c (t c)) (q p 
 
   -- so it is one list whether each does so in order, or those others first
   abbrev MayComeFirst : List ℕ → Type 0
-  MayComeFirst cs = (b : List Doing) → Agree (onto (those q cs) b) (onto (those p cs) (onto (those r cs) b))
+  MayComeFirst cs = (b : List ServerEvent) → Agree (onto (those q cs) b) (onto (those p cs) (onto (those r cs) b))
 
   pub may_come_first : (cs : List ℕ) → MayComeFirst cs
   may_come_first [] b = agree_refl b
@@ -92,13 +92,13 @@ module _ (t : ℕ → List Doing) (parts : (c : ℕ) → AreParts c (t c)) (q p 
       (onto (those p (c ∷ cs)) (onto (those r (c ∷ cs)) b))) (sym (whole c))
       (by (may_come_first cs) (p c) refl (r c) refl)
     where
-      all : List Doing
+      all : List ServerEvent
       all = those q cs
 
-      first : List Doing
+      first : List ServerEvent
       first = those p cs
 
-      after : List Doing
+      after : List ServerEvent
       after = those r cs
 
       by : MayComeFirst cs → (y : Bool) → p c ≡ y → (z : Bool) → r c ≡ z
@@ -119,11 +119,11 @@ module _ (t : ℕ → List Doing) (parts : (c : ℕ) → AreParts c (t c)) (q p 
 -- ---- only ticks
 
 -- a connection ticks, if it passes the test
-abbrev pub resting : (ℕ → Bool) → ℕ → ℕ → List Doing
+abbrev pub resting : (ℕ → Bool) → ℕ → ℕ → List ServerEvent
 resting a now c = if a c then step c (Ticked now) ∷ [] else []
 
 -- all connections are in order still
-one_rests : (u : Unsettled) (c : ℕ) (h : List Doing) → ((k : ℕ) → IsOrderly u k h) → (k : ℕ) → IsOrderly u k (step c (Ticked (moment h)) ∷ h)
+one_rests : (u : Unsettled) (c : ℕ) (h : List ServerEvent) → ((k : ℕ) → IsOrderly u k h) → (k : ℕ) → IsOrderly u k (step c (Ticked (moment h)) ∷ h)
 one_rests u c h each k = by (k == c) refl
   where
     no_later : moment h ≤ moment h
@@ -135,12 +135,12 @@ one_rests u c h each k = by (k == c) refl
         orderly_alike u k (step c (Ticked (moment h)) ∷ h) h (alike_does k c (Plain (Step_of (Ticked (moment h)))) h e) no_later (each k)
 
 -- these ticked, as far as they pass the test, and nothing else has changed
-record HaveTicked (u : Unsettled) (a : ℕ → Bool) (now : ℕ) (cs : List ℕ) (g h : List Doing) : Type 0 where
+record HaveTicked (u : Unsettled) (a : ℕ → Bool) (now : ℕ) (cs : List ℕ) (g h : List ServerEvent) : Type 0 where
   rest : SameButMoves g h
   orderly : (c : ℕ) → IsOrderly u c g
   moved : (c : ℕ) → moves c (work g) ≡ (if is_listed c cs && a c then Plain (Step_of (Ticked now)) ∷ moves c (work h) else moves c (work h))
 
-rests : (u : Unsettled) (a : ℕ → Bool) (cs : List ℕ) (h : List Doing) → AreRising cs → ((c : ℕ) → IsOrderly u c h)
+rests : (u : Unsettled) (a : ℕ → Bool) (cs : List ℕ) (h : List ServerEvent) → AreRising cs → ((c : ℕ) → IsOrderly u c h)
     → HaveTicked u a (moment h) cs (onto (flat_map (resting a (moment h)) cs) h) h
 rests u a [] h rise each = record { rest = same_but_moves_refl h; orderly = each; moved = λ c. refl }
 rests u a (k ∷ cs) h rise each =
@@ -159,11 +159,11 @@ rests u a (k ∷ cs) h rise each =
       lanes = λ l. same_lane_works l (Does k (Plain (Step_of (Ticked (moment h))))) h;
     }
 
-    more : List Move → List Move
+    more : List PeerEvent → List PeerEvent
     more ms = Plain (Step_of (Ticked (moment h))) ∷ ms
 
     -- one that ticks is none of the others
-    moved_on : (c : ℕ) (x y z : Bool) → (x ≡ true → y ≡ false) → (x ≡ true → z ≡ true) → (ms : List Move)
+    moved_on : (c : ℕ) (x y z : Bool) → (x ≡ true → y ≡ false) → (x ≡ true → z ≡ true) → (ms : List PeerEvent)
         → (if y && z then more (if x then more ms else ms) else (if x then more ms else ms)) ≡ (if (x || y) && z then more ms else ms)
     moved_on c true true z f g ms = absurd (true≢false (f refl))
     moved_on c true false true f g ms = refl
@@ -171,18 +171,18 @@ rests u a (k ∷ cs) h rise each =
     moved_on c false y z f g ms = refl
 
     -- and of one that doesn't nothing is told
-    unmoved : (c : ℕ) (x y z : Bool) → (x ≡ true → z ≡ false) → (ms : List Move)
+    unmoved : (c : ℕ) (x y z : Bool) → (x ≡ true → z ≡ false) → (ms : List PeerEvent)
         → (if y && z then more ms else ms) ≡ (if (x || y) && z then more ms else ms)
     unmoved c true true z f ms = refl
     unmoved c true false true f ms = absurd (true≢false (f refl))
     unmoved c true false false f ms = refl
     unmoved c false y z f ms = refl
 
-    by : ((g : List Doing) → ((c : ℕ) → IsOrderly u c g) → HaveTicked u a (moment g) cs (onto (flat_map (resting a (moment g)) cs) g) g)
+    by : ((g : List ServerEvent) → ((c : ℕ) → IsOrderly u c g) → HaveTicked u a (moment g) cs (onto (flat_map (resting a (moment g)) cs) g) g)
         → (b : Bool) → a k ≡ b
         → HaveTicked u a (moment h) (k ∷ cs) (onto ((if b then step k (Ticked (moment h)) ∷ [] else []) ++ flat_map (resting a (moment h)) cs) h) h
     by later true e =
-        let g : List Doing = step k (Ticked (moment h)) ∷ h in
+        let g : List ServerEvent = step k (Ticked (moment h)) ∷ h in
         let r : HaveTicked u a (moment h) cs (onto (flat_map (resting a (moment h)) cs) g) g =
         later g (one_rests u k h each) in
         record {
@@ -206,18 +206,18 @@ rests u a (k ∷ cs) h rise each =
 
 -- those that sleep by a machine
 abbrev sleeps_at : {H Job : Type 0} → Machine H Job → ℕ → Bool
-sleeps_at m c = is_some (nap_at m c)
+sleeps_at m c = is_some (idle_peer_at m c)
 
 abbrev rests_at : {H Job : Type 0} → Machine H Job → ℕ → Bool
-rests_at m c = is_some (alarm_in (nap_at m c))
+rests_at m c = is_some (deadline_in (idle_peer_at m c))
 
 -- their ticks are put there first
-abbrev pub passed_by : {H Job : Type 0} → Machine H Job → List Doing → List Doing
+abbrev pub passed_by : {H Job : Type 0} → Machine H Job → List ServerEvent → List ServerEvent
 passed_by {H} m h = onto (flat_map (resting (rests_at {H = H} m) (moment h)) (filter (sleeps_at {H = H} m) (numbers_to (greatest (work h))))) h
 
 module _ {H Job : Type 0} (hub : Hub Job) (s : Setup) (u : Unsettled) (before : List Said) (v : Server H Job) (m now_on : Machine H Job)
-    (h : List Doing) (st : Standing {H = H} hub s u before v h) (rung : StandsMachine {H = H} hub m (work h)) (none : NoneRings {H = H} m (moment h))
-    (passed : (w z : List Happening) → StandsMachine {H = H} hub m w → NoneRings {H = H} m (moment h) → AreTimely (moment h) w
+    (h : List ServerEvent) (st : Standing {H = H} hub s u before v h) (rung : StandsMachine {H = H} hub m (work h)) (none : NoneRings {H = H} m (moment h))
+    (passed : (w z : List MachineEvent) → StandsMachine {H = H} hub m w → NoneRings {H = H} m (moment h) → AreTimely (moment h) w
     → HasPassed {H = H} m (moment h) w z → StandsMachine {H = H} hub now_on z) where
   abbrev numbers : List ℕ
   numbers = numbers_to (greatest (work h))
@@ -242,7 +242,7 @@ module _ {H Job : Type 0} (hub : Hub Job) (s : Setup) (u : Unsettled) (before : 
   no_silence false b x e = absurd (true≢false (sym e))
 
   ticks_so : (c : ℕ) → sleeps_at {H = H} m c ≡ true → ticking (moment h) c h ≡ resting (rests_at {H = H} m) (moment h) c
-  ticks_so c e = by z.nap.alarm refl
+  ticks_so c e = by z.idle_peer.deadline refl
     where
       z : IsAsleep {H = H} m c (work h)
       z = asleep {H = H} {Job = Job} hub m (work h) c rung e
@@ -259,21 +259,21 @@ module _ {H Job : Type 0} (hub : Hub Job) (s : Setup) (u : Unsettled) (before : 
       config_so : config_of c h ≡ z.settings.config
       config_so = is.config_is ∙ ap (λ (t : Settings). t.config) same
 
-      alarm_so : alarm_in (nap_at m c) ≡ z.nap.alarm
-      alarm_so = ap alarm_in z.naps
+      deadline_so : deadline_in (idle_peer_at m c) ≡ z.idle_peer.deadline
+      deadline_so = ap deadline_in z.idle_peers
 
-      by : (o : Option ℕ) → z.nap.alarm ≡ o → ticking (moment h) c h ≡ resting (rests_at {H = H} m) (moment h) c
+      by : (o : Option ℕ) → z.idle_peer.deadline ≡ o → ticking (moment h) c h ≡ resting (rests_at {H = H} m) (moment h) c
       by None f =
           let off : present_link (steps z.settings (moves c (work h))) ≡ None =
-          subst (λ o. IsAlarmOf m.sleepers.clock o z.settings (moves c (work h))) f (let may = z.may in may.alarm) in
+          subst (λ o. IsDeadlineOf m.idle_set.clock o z.settings (moves c (work h))) f (let may = z.may in may.deadline) in
           ap (λ (b : Bool). if b
           then (if is_silence (config_of c h) (moment h) (history c h) then silenced c (socket_of c (notes h)) (moment h) h
           else step c (Ticked (moment h)) ∷ []) else [])
           (ap (λ x. is_some (present_link x)) history_so ∙ ap is_some off)
-          ∙ sym (ap (λ (o : Option ℕ). if is_some o then step c (Ticked (moment h)) ∷ [] else []) (alarm_so ∙ f))
-      by (Some alarm) f =
-          let on : IsAlarmOf m.sleepers.clock (Some alarm) z.settings (moves c (work h)) =
-          subst (λ o. IsAlarmOf m.sleepers.clock o z.settings (moves c (work h))) f (let may = z.may in may.alarm) in
+          ∙ sym (ap (λ (o : Option ℕ). if is_some o then step c (Ticked (moment h)) ∷ [] else []) (deadline_so ∙ f))
+      by (Some deadline) f =
+          let on : IsDeadlineOf m.idle_set.clock (Some deadline) z.settings (moves c (work h)) =
+          subst (λ o. IsDeadlineOf m.idle_set.clock o z.settings (moves c (work h))) f (let may = z.may in may.deadline) in
           ap (λ (b : Bool). if b
           then (if is_silence (config_of c h) (moment h) (history c h) then silenced c (socket_of c (notes h)) (moment h) h
           else step c (Ticked (moment h)) ∷ []) else [])
@@ -281,30 +281,30 @@ module _ {H Job : Type 0} (hub : Hub Job) (s : Setup) (u : Unsettled) (before : 
           ∙ ap (λ (b : Bool). if b then silenced c (socket_of c (notes h)) (moment h) h else step c (Ticked (moment h)) ∷ [])
           (ap (λ k. is_silence k (moment h) (history c h)) config_so
           ∙ ap (λ x. is_silence z.settings.config (moment h) x) history_so
-          ∙ no_silence _ _ _ (on.3 (moment h) (none c alarm (alarm_so ∙ f))))
-          ∙ sym (ap (λ (o : Option ℕ). if is_some o then step c (Ticked (moment h)) ∷ [] else []) (alarm_so ∙ f))
+          ∙ no_silence _ _ _ (on.3 (moment h) (none c deadline (deadline_so ∙ f))))
+          ∙ sym (ap (λ (o : Option ℕ). if is_some o then step c (Ticked (moment h)) ∷ [] else []) (deadline_so ∙ f))
 
   have : HaveTicked u (rests_at {H = H} m) (moment h) (filter (sleeps_at {H = H} m) numbers) (passed_by {H = H} m h) h
   have = rests u (rests_at {H = H} m) (filter (sleeps_at {H = H} m) numbers) h (rising_to (sleeps_at {H = H} m) (greatest (work h))) st.orderly
 
   -- whoever has an alarm is among them
   among : (c : ℕ) → (is_listed c (filter (sleeps_at {H = H} m) numbers) && rests_at {H = H} m c) ≡ rests_at {H = H} m c
-  among c = by (nap_at m c) refl
+  among c = by (idle_peer_at m c) refl
     where
       listed : sleeps_at {H = H} m c ≡ true → is_listed c (filter (sleeps_at {H = H} m) numbers) ≡ true
       listed e =
           listed_filter (sleeps_at {H = H} m) c numbers
           ∙ ap (λ (b : Bool). b && is_listed c numbers) (e ∙ sym (here c e)) ∙ there_within (work h) rung.from_one c ∙ here c e
 
-      by : (o : Option Nap) → nap_at m c ≡ o → (is_listed c (filter (sleeps_at {H = H} m) numbers) && rests_at {H = H} m c) ≡ rests_at {H = H} m c
+      by : (o : Option IdlePeer) → idle_peer_at m c ≡ o → (is_listed c (filter (sleeps_at {H = H} m) numbers) && rests_at {H = H} m c) ≡ rests_at {H = H} m c
       by None e =
-          ap (λ (o : Option Nap). is_listed c (filter (sleeps_at {H = H} m) numbers) && is_some (alarm_in o)) e
-          ∙ and_false (is_listed c (filter (sleeps_at {H = H} m) numbers)) ∙ sym (ap (λ (o : Option Nap). is_some (alarm_in o)) e)
+          ap (λ (o : Option IdlePeer). is_listed c (filter (sleeps_at {H = H} m) numbers) && is_some (deadline_in o)) e
+          ∙ and_false (is_listed c (filter (sleeps_at {H = H} m) numbers)) ∙ sym (ap (λ (o : Option IdlePeer). is_some (deadline_in o)) e)
         where
           and_false : (b : Bool) → (b && false) ≡ false
           and_false true = refl
           and_false false = refl
-      by (Some nap) e = ap (λ (b : Bool). b && rests_at {H = H} m c) (listed (ap is_some e))
+      by (Some idle_peer) e = ap (λ (b : Bool). b && rests_at {H = H} m c) (listed (ap is_some e))
 
   moved_so : (c : ℕ) → moves c (work (passed_by {H = H} m h))
       ≡ (if rests_at {H = H} m c then Plain (Step_of (Ticked (moment h))) ∷ moves c (work h) else moves c (work h))
@@ -329,13 +329,13 @@ module _ {H Job : Type 0} (hub : Hub Job) (s : Setup) (u : Unsettled) (before : 
   -- one that is awake is as it was
   pub alike_passed : (c : ℕ) → is_awake_at m c ≡ true → Alike c (passed_by {H = H} m h) h
   alike_passed c e = same_alike c (passed_by {H = H} m h) h same_passed
-      (moved_so c ∙ ap (λ (o : Option Nap). if is_some (alarm_in o) then Plain (Step_of (Ticked (moment h))) ∷ moves c (work h)
-      else moves c (work h)) (no_nap (is_some (peer_at m c)) (nap_at m c) e))
+      (moved_so c ∙ ap (λ (o : Option IdlePeer). if is_some (deadline_in o) then Plain (Step_of (Ticked (moment h))) ∷ moves c (work h)
+      else moves c (work h)) (no_idle_peer (is_some (peer_at m c)) (idle_peer_at m c) e))
     where
-      no_nap : (b : Bool) (o : Option Nap) → (b && not (is_some o)) ≡ true → o ≡ None
-      no_nap true None f = refl
-      no_nap true (Some nap) f = absurd (true≢false (sym f))
-      no_nap false o f = absurd (true≢false (sym f))
+      no_idle_peer : (b : Bool) (o : Option IdlePeer) → (b && not (is_some o)) ≡ true → o ≡ None
+      no_idle_peer true None f = refl
+      no_idle_peer true (Some idle_peer) f = absurd (true≢false (sym f))
+      no_idle_peer false o f = absurd (true≢false (sym f))
 
   -- once those that are awake have ticked too, all have ticked
   pub all_ticked : (conns : List ℕ) → AreNumbers {H = H} m conns
@@ -360,8 +360,8 @@ module _ {H Job : Type 0} (hub : Hub Job) (s : Setup) (u : Unsettled) (before : 
           → flat_map (λ c. ticking (moment h) c h) cs ≡ flat_map (resting (rests_at {H = H} m) (moment h)) cs
       plain_all [] each = refl
       plain_all (c ∷ cs) each =
-          ap (λ (xs : List Doing). xs ++ flat_map (λ c. ticking (moment h) c h) cs) (ticks_so c (each c (first_is_listed c cs)))
-          ∙ ap (λ (xs : List Doing). resting (rests_at {H = H} m) (moment h) c ++ xs) (plain_all cs (λ k l. each k (later_listed k c cs l)))
+          ap (λ (xs : List ServerEvent). xs ++ flat_map (λ c. ticking (moment h) c h) cs) (ticks_so c (each c (first_is_listed c cs)))
+          ∙ ap (λ (xs : List ServerEvent). resting (rests_at {H = H} m) (moment h) c ++ xs) (plain_all cs (λ k l. each k (later_listed k c cs l)))
 
       whole : (c : ℕ) → is_there c (work h) ≡ (is_awake_at m c || sleeps_at {H = H} m c)
       whole c = here_by_peer {H = H} {Job = Job} hub m (work h) rung c

@@ -10,11 +10,11 @@ use Rattle.hd_delivery.specs.Histories.{Detached, is_this, present_link}
 use Rattle.hd_delivery.specs.Bytes.{Does as Step_of}
 use Rattle.hd_calls.specs.Hubs.{Hub}
 use Rattle.hd_calls.specs.Peers.{Plain, steps}
-use Rattle.hd_serving.specs.declared.vocabulary.Said.{Said}
-use Rattle.hd_serving.specs.Lives.{LaneLost, is_made, is_polling, lost_at, numbers_to, poll_ended, poll_of, socket_of}
-use Rattle.hd_serving.specs.Machine.{Does, connections, greatest, is_there, settings_of}
-use Rattle.hd_serving.specs.Doings.{Doing, Notes, notes, work, moment, peer, has_peer, history, is_granted}
-use Rattle.hd_serving.specs.Plans.{Setup, conn_on, letting_go, losing, losing_lane, onto, poller_on, step}
+use Rattle.hd_server.specs.declared.vocabulary.Said.{Said}
+use Rattle.hd_server.specs.Lives.{LaneLost, is_made, is_polling, lost_at, numbers_to, poll_ended, poll_of, socket_of}
+use Rattle.hd_server.specs.Machine.{Does, connections, greatest, is_there, settings_of}
+use Rattle.hd_server.specs.Doings.{ServerEvent, Notes, notes, work, moment, peer, has_peer, history, is_granted}
+use Rattle.hd_server.specs.Plans.{Setup, conn_on, letting_go, losing, losing_lane, onto, poller_on, step}
 use Rattle.hn_server_front.specs.declared.front.Front.{Front}
 use Rattle.hn_server_front.specs.Stands as front
 use Rattle.hub_server.specs.declared.lane.Lane.{Lane}
@@ -26,13 +26,13 @@ use Rattle.hub_server.specs.Servers.{IsOrderly, OfEach, Standing}
 use Rattle.hub_server.proofs.Alike.{Alike, alike_note, at_alike, orderly_alike}
 use Rattle.hub_server.proofs.Gone.{lane_left}
 use Rattle.hub_server.proofs.LaneKept.{lane_wider, orderly_wider, same_lane_note}
-use Rattle.hub_server.proofs.NamedOn.{kept_polls, kept_stands, none_kept}
+use Rattle.hub_server.proofs.OutcomeOn.{kept_polls, kept_stands, none_kept}
 use Rattle.hub_server.proofs.TickSteps.{IsBegun, begun_here, off_granted, off_off, standing_detached}
 use Rattle.hub_server.proofs.TurnFirst.{find_both, first_to, from_one, none_to, within}
 
 -- ---- the only connection that passes a test
 
-module _ (p : ℕ → Bool) (h : List Doing) where
+module _ (p : ℕ → Bool) (h : List ServerEvent) where
   abbrev passes : ℕ → Bool
   passes k = is_there k (work h) && p k
 
@@ -63,12 +63,12 @@ this_is : (lane : ℕ) (o : Option ℕ) → is_this lane o ≡ true → o ≡ So
 this_is lane None e = absurd (let no : false ≡ true = e in cc)
 this_is lane (Some l) e = ap Some (sym (eqb-true lane l e))
 
-there_at : (lane c : ℕ) (h : List Doing) → has_peer c h ≡ true
+there_at : (lane c : ℕ) (h : List ServerEvent) → has_peer c h ≡ true
     → (is_this lane (socket_of c (notes h)) || is_this lane (poll_lane c (notes h))) ≡ true → is_at lane c h ≡ true
 there_at lane c h there e = and_from (has_peer c h) (is_this lane (socket_of c (notes h)) || is_this lane (poll_lane c (notes h))) there e
 
 -- a lane that isn't kept is settled with the others
-settled_lanes : (lane : ℕ) (x : ℕ → Option Lane) (g : List Doing) → ((k : ℕ) → IsLane (lane_of (Some lane)) (x k) k g) → x lane ≡ None
+settled_lanes : (lane : ℕ) (x : ℕ → Option Lane) (g : List ServerEvent) → ((k : ℕ) → IsLane (lane_of (Some lane)) (x k) k g) → x lane ≡ None
     → (k : ℕ) → IsLane settled (x k) k g
 settled_lanes lane x g each none k = by (k == lane) refl
   where
@@ -78,7 +78,7 @@ settled_lanes lane x g each none k = by (k == lane) refl
         subst (λ o. IsLane settled o k g) (sym gone) (subst (λ o. IsLane (lane_of (Some lane)) o k g) gone (each k))
     by false e = lane_wider (lane_of (Some lane)) settled (x k) k g (λ f. absurd (both_ways (k == lane) e f)) (each k)
 
-module _ {H Job : Type 0} (hub : Hub Job) (s : Setup) (before : List Said) (v : Server H Job) (lane : ℕ) (h : List Doing)
+module _ {H Job : Type 0} (hub : Hub Job) (s : Setup) (before : List Said) (v : Server H Job) (lane : ℕ) (h : List ServerEvent)
     (st : Standing {H = H} hub s (lane_of (Some lane)) before v h) where
   -- ---- nobody
 
@@ -170,7 +170,7 @@ module _ {H Job : Type 0} (hub : Hub Job) (s : Setup) (before : List Said) (v : 
       abbrev now : ℕ
       now = moment h
 
-      abbrev g : List Doing
+      abbrev g : List ServerEvent
       g = Notes (LaneLost c lane now) ∷ h
 
       socket_now : socket_of c (notes g) ≡ None
@@ -296,7 +296,7 @@ module _ {H Job : Type 0} (hub : Hub Job) (s : Setup) (before : List Said) (v : 
       stands_one : conn_on lane h ≡ Some c
       stands_one = kept_stands (lane_of (Some lane)) x lane h (st.orderly c) has sockets
 
-      abbrev mid : List Doing
+      abbrev mid : List ServerEvent
       mid = step c (Detached (moment h)) ∷ h
 
       linked : is_some (present_link (steps t.settings (peer c h))) ≡ true

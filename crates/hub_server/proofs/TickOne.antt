@@ -8,13 +8,13 @@ use Rattle.hd_delivery.specs.Histories.{Silenced, Ticked, is_silence, present_li
 use Rattle.hd_delivery.specs.Bytes.{Does as Step_of}
 use Rattle.hd_calls.specs.Hubs.{Hub}
 use Rattle.hd_calls.specs.Peers.{Plain, steps}
-use Rattle.hd_serving.specs.declared.vocabulary.Said.{Said}
-use Rattle.hd_serving.specs.declared.vocabulary.Said.TheVariants as say
-use Rattle.hd_serving.specs.Lives.{LaneLost, is_let_go, is_made, socket_of}
-use Rattle.hd_serving.specs.Machine.{Does}
-use Rattle.hd_serving.specs.Doings.{Doing, Notes, Says, notes, work, moment, peer, config_of, has_peer, history, is_granted, was_refused}
-use Rattle.hd_serving.specs.Plans.{Setup, letting_go, losing, onto, shutting, step}
-use Rattle.hd_serving.specs.Serves.{silenced, ticking}
+use Rattle.hd_server.specs.declared.vocabulary.Said.{Said}
+use Rattle.hd_server.specs.declared.vocabulary.Said.TheVariants as say
+use Rattle.hd_server.specs.Lives.{LaneLost, is_let_go, is_made, socket_of}
+use Rattle.hd_server.specs.Machine.{Does}
+use Rattle.hd_server.specs.Doings.{ServerEvent, Notes, Says, notes, work, moment, peer, config_of, has_peer, history, is_granted, was_refused}
+use Rattle.hd_server.specs.Plans.{Setup, letting_go, losing, onto, shutting, step}
+use Rattle.hd_server.specs.Serves.{silenced, ticking}
 use Rattle.hn_server_front.specs.Calls as front
 use Rattle.hub_server.specs.declared.machine.Machine.{Machine}
 use Rattle.hub_server.specs.declared.server.Server.{Server}
@@ -31,7 +31,7 @@ use Rattle.hub_server.proofs.TickSteps.{standing_steps}
 -- ---- what a front and lanes tell of one that has a peer
 
 -- its lane is that of its socket
-pub lane_here : (u : Unsettled) (c : ℕ) (h : List Doing) → IsOrderly u c h → has_peer c h ≡ true → front.lane_of c (notes h) ≡ socket_of c (notes h)
+pub lane_here : (u : Unsettled) (c : ℕ) (h : List ServerEvent) → IsOrderly u c h → has_peer c h ≡ true → front.lane_of c (notes h) ≡ socket_of c (notes h)
 lane_here u c h o there =
     let t = begun_here c h there in
     chosen {A = Option ℕ} (is_made c (notes h) && not (is_let_go c (notes h))) (socket_of c (notes h)) None
@@ -50,11 +50,11 @@ is_refused false e = absurd (let no : true ≡ false = e in cc)
 -- ---- a tick
 
 -- by whether it stands on a link, and whether the tick is a silence
-abbrev ticking_by : Bool → Bool → ℕ → ℕ → List Doing → List Doing
+abbrev ticking_by : Bool → Bool → ℕ → ℕ → List ServerEvent → List ServerEvent
 ticking_by attached silent now c h =
     if attached then (if silent then silenced c (socket_of c (notes h)) now h else step c (Ticked now) ∷ []) else []
 
-module _ {H Job : Type 0} (hub : Hub Job) (s : Setup) (u : Unsettled) (before : List Said) (v : Server H Job) (c : ℕ) (h : List Doing)
+module _ {H Job : Type 0} (hub : Hub Job) (s : Setup) (u : Unsettled) (before : List Said) (v : Server H Job) (c : ℕ) (h : List ServerEvent)
     (st : Standing {H = H} hub s u before v h) (there : has_peer c h ≡ true)
     (attached : Bool) (tells : OfConn {H = H} hub v.machine c (λ w t ms. attached ≡ is_some (present_link (steps t ms)))) where
   t : IsBegun c h
@@ -122,7 +122,7 @@ module _ {H Job : Type 0} (hub : Hub Job) (s : Setup) (u : Unsettled) (before : 
       socket : socket_of c (notes h) ≡ Some lane
       socket = sym (at ∙ lane_here u c h (st.orderly c) there)
 
-      abbrev mid : List Doing
+      abbrev mid : List ServerEvent
       mid = step c (Silenced (moment h)) ∷ h
 
       silent_stands : Standing {H = H} hub s (cut_of lane) before (record v { machine = new }) mid
@@ -141,7 +141,7 @@ module _ {H Job : Type 0} (hub : Hub Job) (s : Setup) (u : Unsettled) (before : 
       refused : shuts ≡ not (was_refused lane h)
       refused = may s (cut_of lane) before mid silent_stands c (at_socket lane c mid there socket)
 
-      whole : (xs : List Doing) → shutting lane h ≡ xs → (last : Server H Job)
+      whole : (xs : List ServerEvent) → shutting lane h ≡ xs → (last : Server H Job)
           → Standing {H = H} hub s settled before last (onto xs (onto (losing c lane (moment h) h) mid))
           → Standing {H = H} hub s u before last (onto (ticking (moment h) c h) h)
       whole xs is last x =
@@ -156,12 +156,12 @@ module _ {H Job : Type 0} (hub : Hub Job) (s : Setup) (u : Unsettled) (before : 
           (onto (ticking (moment h) c h) h)
       lost_shut e =
           whole (Says (say.Shut lane) ∷ [])
-          (passed_by {A = List Doing} (was_refused lane h) [] (Says (say.Shut lane) ∷ []) (unrefused (was_refused lane h) (sym refused ∙ e)))
+          (passed_by {A = List ServerEvent} (was_refused lane h) [] (Says (say.Shut lane) ∷ []) (unrefused (was_refused lane h) (sym refused ∙ e)))
           (record after { words = after.words ++ say.Shut lane ∷ [] })
           (standing_shuts {H = H} hub s settled before after lane (onto (losing c lane (moment h) h) mid) gone)
 
       -- the door has shut it
       pub lost_shut_before : shuts ≡ false → Standing {H = H} hub s u before after (onto (ticking (moment h) c h) h)
       lost_shut_before e =
-          whole [] (chosen {A = List Doing} (was_refused lane h) [] (Says (say.Shut lane) ∷ [])
+          whole [] (chosen {A = List ServerEvent} (was_refused lane h) [] (Says (say.Shut lane) ∷ [])
           (is_refused (was_refused lane h) (sym refused ∙ e))) after gone

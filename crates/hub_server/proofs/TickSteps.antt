@@ -5,15 +5,15 @@ use Rattle.std.specs.Prelude.{if◌then◌else◌}
 use Rattle.std.specs.Ordering.{nat_cmp}
 use Rattle.std.specs.BTreeMap.{get}
 use Rattle.std.proofs.lemmas.Bool.{eqb-true, eq-eqb}
-use Rattle.hd_delivery.specs.Histories.{Step, Silenced, Detached, is_closed, is_kept, is_this, present_link}
+use Rattle.hd_delivery.specs.Histories.{EndEvent, Silenced, Detached, is_closed, is_resumable, is_this, present_link}
 use Rattle.hd_delivery.specs.Bytes.{Does as Step_of}
 use Rattle.hd_calls.specs.Hubs.{Hub}
-use Rattle.hd_calls.specs.Peers.{Move, Plain, Settings, steps}
-use Rattle.hd_serving.specs.declared.vocabulary.Said.{Said}
-use Rattle.hd_serving.specs.Lives.{socket_of}
-use Rattle.hd_serving.specs.Machine.{Does, has_gone, is_open_at, moves, settings_of}
-use Rattle.hd_serving.specs.Doings.{Doing, notes, work, moment, peer, config_of, config_with, has_peer, history, history_with, is_granted}
-use Rattle.hd_serving.specs.Plans.{Setup, step}
+use Rattle.hd_calls.specs.Peers.{PeerEvent, Plain, Settings, steps}
+use Rattle.hd_server.specs.declared.vocabulary.Said.{Said}
+use Rattle.hd_server.specs.Lives.{socket_of}
+use Rattle.hd_server.specs.Machine.{Does, has_gone, is_open_at, moves, settings_of}
+use Rattle.hd_server.specs.Doings.{ServerEvent, notes, work, moment, peer, config_of, config_with, has_peer, history, history_with, is_granted}
+use Rattle.hd_server.specs.Plans.{Setup, step}
 use Rattle.hub_server.specs.declared.machine.Machine.{Machine}
 use Rattle.hub_server.specs.declared.server.Server.{Server}
 use Rattle.hub_server.specs.Machines.{StandsMachine, settings_there}
@@ -33,14 +33,14 @@ passed_by b x y e = ap (λ (t : Bool). if t then x else y) e
 
 -- ---- how the peer of a connection was begun that has one
 
-pub record IsBegun (c : ℕ) (h : List Doing) : Type 0 where
+pub record IsBegun (c : ℕ) (h : List ServerEvent) : Type 0 where
   pub settings : Settings
   pub there : settings_there c (work h) ≡ Some settings
   pub begun : settings_of c (work h) ≡ Some settings
   pub history_is : history c h ≡ steps settings (peer c h)
   pub config_is : config_of c h ≡ settings.config
 
-pub begun_here : (c : ℕ) (h : List Doing) → has_peer c h ≡ true → IsBegun c h
+pub begun_here : (c : ℕ) (h : List ServerEvent) → has_peer c h ≡ true → IsBegun c h
 begun_here c h e = by (settings_of c (work h)) refl (has_gone c (work h)) refl e
   where
     by : (o : Option Settings) → settings_of c (work h) ≡ o → (b : Bool) → has_gone c (work h) ≡ b → (is_some o && not b) ≡ true → IsBegun c h
@@ -60,7 +60,7 @@ not_later : (n : ℕ) → n ≤ n
 not_later n = omega arith
 
 pub standing_steps : {H Job : Type 0} (hub : Hub Job) (s : Setup) (u w : Unsettled) (before : List Said) (v : Server H Job) (m : Machine H Job)
-    (c : ℕ) (x : Step) (h : List Doing)
+    (c : ℕ) (x : EndEvent) (h : List ServerEvent)
     → ((lane : ℕ) → is_this lane u.lane ≡ true → is_this lane w.lane ≡ true) → ((k : ℕ) → is_this k u.conn ≡ true → is_this k w.conn ≡ true)
     → ((lane : ℕ) → is_this lane u.cut ≡ true → is_this lane w.cut ≡ true)
     → Standing {H = H} hub s u before v h → StandsMachine {H = H} hub m (Does c (Plain (Step_of x)) ∷ work h) → IsOrderly w c (step c x ∷ h)
@@ -87,7 +87,7 @@ standing_steps {H} hub s u w before v m c x h lane conn cut st machine own = rec
 -- ---- a link ends
 
 -- the lane on which the connection stood is the one that is cut
-pub cut_there : (c lane : ℕ) (h : List Doing) → socket_of c (notes h) ≡ Some lane → (l : ℕ) → socket_of c (notes h) ≡ Some l
+pub cut_there : (c lane : ℕ) (h : List ServerEvent) → socket_of c (notes h) ≡ Some lane → (l : ℕ) → socket_of c (notes h) ≡ Some l
     → is_this l (Some lane) ≡ true
 cut_there c lane h e l f = eq-eqb l lane (let same : ◌≡◌ {A = Option ℕ} (Some l) (Some lane) = sym f ∙ e in cc)
 
@@ -98,38 +98,38 @@ granted_by true false false = refl
 granted_by false false closed = refl
 
 -- whether the end may be resumed is read off its moves
-abbrev granted_with : Bool → Option Settings → List Move → Bool
-granted_with here o ms = (here && is_open_at o ms) && is_kept (config_with o) (history_with o ms)
+abbrev granted_with : Bool → Option Settings → List PeerEvent → Bool
+granted_with here o ms = (here && is_open_at o ms) && is_resumable (config_with o) (history_with o ms)
 
-granted_silent : (here : Bool) (o : Option Settings) (now : ℕ) (ms : List Move)
+granted_silent : (here : Bool) (o : Option Settings) (now : ℕ) (ms : List PeerEvent)
     → granted_with here o (Plain (Step_of (Silenced now)) ∷ ms) ≡ granted_with here o ms
 granted_silent here None now ms = refl
-granted_silent here (Some t) now ms = granted_by here (is_kept t.config (steps t ms)) (is_closed t.config (steps t ms))
+granted_silent here (Some t) now ms = granted_by here (is_resumable t.config (steps t ms)) (is_closed t.config (steps t ms))
 
-granted_off : (here : Bool) (o : Option Settings) (now : ℕ) (ms : List Move)
+granted_off : (here : Bool) (o : Option Settings) (now : ℕ) (ms : List PeerEvent)
     → granted_with here o (Plain (Step_of (Detached now)) ∷ ms) ≡ granted_with here o ms
 granted_off here None now ms = refl
-granted_off here (Some t) now ms = granted_by here (is_kept t.config (steps t ms)) (is_closed t.config (steps t ms))
+granted_off here (Some t) now ms = granted_by here (is_resumable t.config (steps t ms)) (is_closed t.config (steps t ms))
 
 -- the loss of its link doesn't change that
-pub silent_granted : (c now : ℕ) (h : List Doing) → is_granted c (step c (Silenced now) ∷ h) ≡ is_granted c h
+pub silent_granted : (c now : ℕ) (h : List ServerEvent) → is_granted c (step c (Silenced now) ∷ h) ≡ is_granted c h
 silent_granted c now h =
     ap (granted_with (not (has_gone c (work h))) (settings_of c (work h))) (moves_own c (Plain (Step_of (Silenced now))) (work h))
     ∙ granted_silent (not (has_gone c (work h))) (settings_of c (work h)) now (moves c (work h))
 
-pub off_granted : (c now : ℕ) (h : List Doing) → is_granted c (step c (Detached now) ∷ h) ≡ is_granted c h
+pub off_granted : (c now : ℕ) (h : List ServerEvent) → is_granted c (step c (Detached now) ∷ h) ≡ is_granted c h
 off_granted c now h =
     ap (granted_with (not (has_gone c (work h))) (settings_of c (work h))) (moves_own c (Plain (Step_of (Detached now))) (work h))
     ∙ granted_off (not (has_gone c (work h))) (settings_of c (work h)) now (moves c (work h))
 
 -- no link is left
-pub silent_off : (c now : ℕ) (h : List Doing) → has_peer c h ≡ true → present_link (history c (step c (Silenced now) ∷ h)) ≡ None
+pub silent_off : (c now : ℕ) (h : List ServerEvent) → has_peer c h ≡ true → present_link (history c (step c (Silenced now) ∷ h)) ≡ None
 silent_off c now h there =
     let t = begun_here c h there in
     ap (λ o. present_link (history_with o (moves c (work (step c (Silenced now) ∷ h))))) t.begun
     ∙ ap (λ ms. present_link (steps t.settings ms)) (moves_own c (Plain (Step_of (Silenced now))) (work h))
 
-pub off_off : (c now : ℕ) (h : List Doing) → has_peer c h ≡ true → present_link (history c (step c (Detached now) ∷ h)) ≡ None
+pub off_off : (c now : ℕ) (h : List ServerEvent) → has_peer c h ≡ true → present_link (history c (step c (Detached now) ∷ h)) ≡ None
 off_off c now h there =
     let t = begun_here c h there in
     ap (λ o. present_link (history_with o (moves c (work (step c (Detached now) ∷ h))))) t.begun
@@ -140,7 +140,7 @@ no_lane x l e = absurd (let no : false ≡ true = e in cc)
 
 -- a silence on a lane: the lane is cut
 pub standing_silenced : {H Job : Type 0} (hub : Hub Job) (s : Setup) (before : List Said) (v : Server H Job) (m : Machine H Job) (c lane : ℕ)
-    (h : List Doing)
+    (h : List ServerEvent)
     → Standing {H = H} hub s settled before v h → socket_of c (notes h) ≡ Some lane
     → StandsMachine {H = H} hub m (Does c (Plain (Step_of (Silenced (moment h)))) ∷ work h)
     → Standing {H = H} hub s (cut_of lane) before (record v { machine = m }) (step c (Silenced (moment h)) ∷ h)
@@ -152,7 +152,7 @@ standing_silenced {H} hub s before v m c lane h st socket machine =
 
 -- a silence of one that stands on no lane
 pub standing_mute : {H Job : Type 0} (hub : Hub Job) (s : Setup) (u : Unsettled) (before : List Said) (v : Server H Job) (m : Machine H Job) (c : ℕ)
-    (h : List Doing)
+    (h : List ServerEvent)
     → Standing {H = H} hub s u before v h → socket_of c (notes h) ≡ None
     → StandsMachine {H = H} hub m (Does c (Plain (Step_of (Silenced (moment h)))) ∷ work h)
     → Standing {H = H} hub s u before (record v { machine = m }) (step c (Silenced (moment h)) ∷ h)
@@ -162,7 +162,7 @@ standing_mute {H} hub s u before v m c h st socket machine =
 
 -- the lane was lost: its link ends
 pub standing_detached : {H Job : Type 0} (hub : Hub Job) (s : Setup) (before : List Said) (v : Server H Job) (m : Machine H Job) (c lane : ℕ)
-    (h : List Doing)
+    (h : List ServerEvent)
     → Standing {H = H} hub s (lane_of (Some lane)) before v h → socket_of c (notes h) ≡ Some lane
     → StandsMachine {H = H} hub m (Does c (Plain (Step_of (Detached (moment h)))) ∷ work h)
     → Standing {H = H} hub s (cut_of lane) before (record v { machine = m }) (step c (Detached (moment h)) ∷ h)

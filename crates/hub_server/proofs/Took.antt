@@ -4,8 +4,8 @@ use Rattle.hm_message.specs.declared.message.Message.{Message}
 use Rattle.hd_delivery.specs.Histories.{Took, Failed}
 use Rattle.hd_delivery.specs.Bytes.{Does as Step_of}
 use Rattle.hd_calls.specs.Hubs.{Hub}
-use Rattle.hd_calls.specs.Peers.{InUse, TooMany, Flood, Move, Plain, Reads, Handles, Settings, waiting}
-use Rattle.hd_serving.specs.Machine.{Happening, moves}
+use Rattle.hd_calls.specs.Peers.{InUse, TooMany, Flood, PeerEvent, Plain, Reads, Handles, Settings, waiting}
+use Rattle.hd_server.specs.Machine.{MachineEvent, moves}
 use Rattle.hp_peer.specs.declared.did.Did.{Did}
 use Rattle.hp_peer.specs.declared.did.Did.TheVariants as did
 use Rattle.hp_peer.specs.declared.errors.PeerError.{PeerError}
@@ -18,15 +18,15 @@ use Rattle.hub_server.specs.Machines.{StandsMachine}
 use Rattle.hub_server.specs.Calls.{OfNextHere, HasHandled, IsUnhandled, IsUntaken, Takes, doing}
 
 -- the message that waits, or is read first
-next_here : (t : Settings) (h : List Move) (Holds Here : Message → List Move → Type 0) → ((m : Message) (read : List Move) → Holds m (read ++ h) → Here m read)
+next_here : (t : Settings) (h : List PeerEvent) (Holds Here : Message → List PeerEvent → Type 0) → ((m : Message) (read : List PeerEvent) → Holds m (read ++ h) → Here m read)
     → (o : Option Message) → peer.OfNext t h o Holds → OfNextHere t h o Here
 next_here t h Holds Here each (Some m) x = each m [] x
 next_here t h Holds Here each None x = (x.0, x.1, each x.0 (Reads x.0 ∷ []) x.2)
 
 -- the machine stands for what the peer of this connection does
-module _ {H Job : Type 0} (hub : Hub Job) (new : Machine H Job) (c : ℕ) (w : List Happening) (t : Settings) (p : Peer H Job)
-    (becomes : (ms : List Move) → Stands {H = H} hub t p (ms ++ moves c w) → StandsMachine {H = H} hub new (doing c ms w)) where
-  handled : (now : ℕ) (told : Did) (m : Message) (read : List Move) → peer.HasHandled {H = H} hub t p now told m (read ++ moves c w)
+module _ {H Job : Type 0} (hub : Hub Job) (new : Machine H Job) (c : ℕ) (w : List MachineEvent) (t : Settings) (p : Peer H Job)
+    (becomes : (ms : List PeerEvent) → Stands {H = H} hub t p (ms ++ moves c w) → StandsMachine {H = H} hub new (doing c ms w)) where
+  handled : (now : ℕ) (told : Did) (m : Message) (read : List PeerEvent) → peer.HasHandled {H = H} hub t p now told m (read ++ moves c w)
       → HasHandled {H = H} hub new c w (moves c w) now told m read
   handled now told m read x = record { effect = x.effect; told_as = x.told_as; stands = becomes (Handles m x.effect ∷ read) x.stands }
 
@@ -37,7 +37,7 @@ module _ {H Job : Type 0} (hub : Hub Job) (new : Machine H Job) (c : ℕ) (w : L
       next_here t (moves c w) (peer.HasHandled {H = H} hub t p now told) (HasHandled {H = H} hub new c w (moves c w) now told) (handled now told)
       (waiting (moves c w)) x
 
-  unhandled : (e : PeerError) (m : Message) (read : List Move) → peer.IsUnhandled {H = H} hub t p e m (read ++ moves c w)
+  unhandled : (e : PeerError) (m : Message) (read : List PeerEvent) → peer.IsUnhandled {H = H} hub t p e m (read ++ moves c w)
       → IsUnhandled {H = H} hub new c w t (moves c w) e m read
   unhandled (error.Next e) m read x = x
   unhandled (error.InUse id) m read x = record { call = x.call; taken = x.taken; stands = becomes (Handles m (InUse x.call) ∷ read) x.stands }

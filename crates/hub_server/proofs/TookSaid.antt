@@ -9,16 +9,16 @@ use Rattle.hd_delivery.specs.Due.{due}
 use Rattle.hd_delivery.specs.Bytes.{Does as Step_of}
 use Rattle.hd_calls.specs.Hubs.{Hub}
 use Rattle.hd_calls.specs.Peers.{Plain, Settings, codec, steps}
-use Rattle.hd_serving.specs.Machine.{Happening, moves}
+use Rattle.hd_server.specs.Machine.{MachineEvent, moves}
 use Rattle.hp_peer.specs.declared.peer.Peer.{Peer}
 use Rattle.hp_peer.specs.Lending.{HasLent}
 use Rattle.hub_server.specs.declared.machine.Machine.{Machine}
-use Rattle.hub_server.specs.Machines.{StandsMachine, nap_at, peer_at, settings_there}
+use Rattle.hub_server.specs.Machines.{StandsMachine, idle_peer_at, peer_at, settings_there}
 use Rattle.hub_server.specs.Calls.{HasSaid}
 use Rattle.hub_server.proofs.Ends.{goes_on}
 
-module _ {H Job : Type 0} (hub : Hub Job) (old : Machine H Job) (w : List Happening) (c : ℕ) (t : Settings) (was p : Peer H Job)
-    (s : StandsMachine {H = H} hub old w) (there : settings_there c w ≡ Some t) (at : Some was ≡ peer_at old c) (awake : nap_at old c ≡ None)
+module _ {H Job : Type 0} (hub : Hub Job) (old : Machine H Job) (w : List MachineEvent) (c : ℕ) (t : Settings) (was p : Peer H Job)
+    (s : StandsMachine {H = H} hub old w) (there : settings_there c w ≡ Some t) (at : Some was ≡ peer_at old c) (awake : idle_peer_at old c ≡ None)
     (ps : BTreeMap ℕ (Peer H Job)) (through : WritesThrough nat_cmp (nat_cmp c) old.peers p ps) where
   -- nothing was due
   quiet : (o : Option LinkFrame) → o ≡ due t.config (steps t (moves c w)) → (before : List ℕ)

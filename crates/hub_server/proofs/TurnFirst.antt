@@ -5,8 +5,8 @@ use Rattle.std.specs.Option.{option_or}
 use Rattle.std.proofs.lemmas.Bool.{and_from, and_left, and_right, eqb-true, le-leb, leb-false, leb-true}
 use Rattle.std.proofs.lemmas.List.Folds.{find-append}
 use Rattle.hd_calls.specs.Peers.{Settings}
-use Rattle.hd_serving.specs.Lives.{numbers_to}
-use Rattle.hd_serving.specs.Machine.{Happening, Connects, greatest, has_gone, is_there, last_turn, next_turn, settings_of, turn_at}
+use Rattle.hd_server.specs.Lives.{numbers_to}
+use Rattle.hd_server.specs.Machine.{MachineEvent, Connects, greatest, has_gone, is_there, last_turn, next_turn, settings_of, turn_at}
 use Rattle.hub_server.specs.Machines.{settings_there}
 use Rattle.hub_server.specs.Rounds.{has_turn}
 use Rattle.hub_server.proofs.Doing.{there_is}
@@ -55,7 +55,7 @@ module _ (p : ℕ → Bool) where
 -- ---- connections
 
 -- a connection that was begun is no greater than the greatest
-pub within : (c : ℕ) (t : Settings) (w : List Happening) → settings_of c w ≡ Some t → c ≤ greatest w
+pub within : (c : ℕ) (t : Settings) (w : List MachineEvent) → settings_of c w ≡ Some t → c ≤ greatest w
 within c t [] e = absurd (let z : ◌≡◌ {A = Option Settings} None (Some t) = e in cc)
 within c t (Connects k own user ∷ w) e = by (c == k) refl e (within c t w)
   where
@@ -66,22 +66,22 @@ within c t (Connects k own user ∷ w) e = by (c == k) refl e (within c t w)
 within c t (x ∷ w) e = within c t w e
 
 -- how a connection that is there was begun, and that it is there
-pub record IsHere (c : ℕ) (t : Settings) (w : List Happening) : Type 0 where
+pub record IsHere (c : ℕ) (t : Settings) (w : List MachineEvent) : Type 0 where
   pub begun : settings_of c w ≡ Some t
   pub here : is_there c w ≡ true
 
-pub here_of : (c : ℕ) (t : Settings) (w : List Happening) → settings_there c w ≡ Some t → IsHere c t w
+pub here_of : (c : ℕ) (t : Settings) (w : List MachineEvent) → settings_there c w ≡ Some t → IsHere c t w
 here_of c t w e = let is = there_is c w t e in record { begun = is.1; here = and_from _ _ (ap is_some is.1) (ap not is.0) }
 
 -- one that isn't there has no turn
-pub none_gone : (c : ℕ) (w : List Happening) → settings_there c w ≡ None → has_turn c w ≡ false
+pub none_gone : (c : ℕ) (w : List MachineEvent) → settings_there c w ≡ None → has_turn c w ≡ false
 none_gone c w e = and_right (nat_le (last_turn w) c) _ (and_left (is_there c w) _ (by (has_gone c w) refl e)) where
   by : (b : Bool) → has_gone c w ≡ b → (if b then None else settings_of c w) ≡ None → is_there c w ≡ false
   by true f e = and_right (is_some (settings_of c w)) _ (ap not f)
   by false f e = and_left _ (not (has_gone c w)) (ap is_some e)
 
 -- they are numbered from 1
-pub from_one : (c : ℕ) (t : Settings) (w : List Happening) → settings_of 0 w ≡ None → settings_of c w ≡ Some t → 0 < c
+pub from_one : (c : ℕ) (t : Settings) (w : List MachineEvent) → settings_of 0 w ≡ None → settings_of c w ≡ Some t → 0 < c
 from_one zero t w none e = absurd (let z : ◌≡◌ {A = Option Settings} None (Some t) = sym none ∙ e in cc)
 from_one (suc c) t w none e = omega arith
 
@@ -93,7 +93,7 @@ swap false true d e = refl
 swap false false d e = refl
 
 -- the first that has a turn has the next one
-pub next_is : (c : ℕ) (t : Settings) (w : List Happening) → settings_of 0 w ≡ None → IsHere c t w → last_turn w ≤ c
+pub next_is : (c : ℕ) (t : Settings) (w : List MachineEvent) → settings_of 0 w ≡ None → IsHere c t w → last_turn w ≤ c
     → is_some (turn_at c w) ≡ true → ((k : ℕ) → k < c → has_turn k w ≡ false) → next_turn w ≡ Some c
 next_is c t w none here last turn before =
     find_both (λ k. nat_le (last_turn w) k && is_some (turn_at k w)) (λ k. is_there k w) (numbers_to (greatest w))

@@ -9,7 +9,7 @@ use Rattle.hd_calls.specs.declared.vocabulary.Act.TheVariants as act
 use Rattle.hd_calls.specs.declared.vocabulary.Input.{Input}
 use Rattle.hd_calls.specs.declared.vocabulary.Input.TheVariants as input
 use Rattle.hd_calls.specs.Hubs.{Invoked, Turn, End}
-use Rattle.hd_calls.specs.Peers.{Move, Calls, Handles, Runs, Answers, Refuses, Brings, acts, ask_refused, asker_of, asks, has_asked, last_of, reply}
+use Rattle.hd_calls.specs.Peers.{PeerEvent, Calls, Handles, Runs, Answers, Refuses, Brings, acts, ask_refused, asker_of, asks, has_asked, last_of, reply}
 use Rattle.hd_calls.specs.Rules.{IsPrompt, asking}
 
 -- the last of a list to which one more was added
@@ -19,18 +19,18 @@ last_added (y ∷ []) x = refl
 last_added (y ∷ z ∷ xs) x = last_added (z ∷ xs) x
 
 -- the job's last act asks for this, and what it asks for is neither made nor answered
-pub record IsOpen (target : List ℕ) (arguments : List Tree) (j : ℕ) (h : List Move) : Type 0 where
+pub record IsOpen (target : List ℕ) (arguments : List Tree) (j : ℕ) (h : List PeerEvent) : Type 0 where
   pub last : last_of (acts j h) ≡ Some (act.Ask target arguments)
   pub unmade : has_asked j h ≡ false
   pub unanswered : reply j h ≡ None
 
 -- a move that settles nothing comes after no ask
-not_asked : (j : ℕ) (h : List Move) → asking h ≡ Some j → (asking h ≡ None) ⊎ (asking h ≡ None) → ⊥
+not_asked : (j : ℕ) (h : List PeerEvent) → asking h ≡ Some j → (asking h ≡ None) ⊎ (asking h ≡ None) → ⊥
 not_asked j h e (inl f) = cc
 not_asked j h e (inr f) = cc
 
 -- a move that settles another's ask doesn't come after this one's
-not_of : (j : ℕ) (h : List Move) (o : Option ℕ) → asking h ≡ Some j → is_this j o ≡ false → (asking h ≡ None) ⊎ (asking h ≡ o) → ⊥
+not_of : (j : ℕ) (h : List PeerEvent) (o : Option ℕ) → asking h ≡ Some j → is_this j o ≡ false → (asking h ≡ None) ⊎ (asking h ≡ o) → ⊥
 not_of j h o e f (inl g) = cc
 not_of j h o e f (inr g) =
     let same : is_this j o ≡ true = ap (λ x. is_this j x) (sym g ∙ e) ∙ eq-eqb j j refl in
@@ -44,7 +44,7 @@ none_before false o x e = e
 
 module _ (target : List ℕ) (arguments : List Tree) (j : ℕ) where
   -- its own turn is the one that asks; after another's nothing is open
-  ran : (k : ℕ) (c : Invoked) (since : ℕ) (turn : Turn) (what : Act) (h : List Move) (b : Bool) → (j == k) ≡ b
+  ran : (k : ℕ) (c : Invoked) (since : ℕ) (turn : Turn) (what : Act) (h : List PeerEvent) (b : Bool) → (j == k) ≡ b
       → last_of (if b then acts j h ++ what ∷ [] else acts j h) ≡ Some (act.Ask target arguments) → (if b then false else has_asked j h) ≡ false
       → (if b then None else reply j h) ≡ None → (asking h ≡ None) ⊎ (asking h ≡ None) → (IsOpen target arguments j h → asking h ≡ Some j)
       → asking (Runs k c since turn what ∷ h) ≡ Some j
@@ -56,7 +56,7 @@ module _ (target : List ℕ) (arguments : List Tree) (j : ℕ) where
       absurd (not_asked j h (before (record { last = last; unmade = unmade; unanswered = unanswered })) prompt)
 
   -- its ask isn't refused, and another's isn't open
-  refused : (k : ℕ) (h : List Move) (b : Bool) → (j == k) ≡ b → last_of (acts j h) ≡ Some (act.Ask target arguments) → has_asked j h ≡ false
+  refused : (k : ℕ) (h : List PeerEvent) (b : Bool) → (j == k) ≡ b → last_of (acts j h) ≡ Some (act.Ask target arguments) → has_asked j h ≡ false
       → (if b then Some (input.Asked ask_refused) else reply j h) ≡ None → (asking h ≡ None) ⊎ (asking h ≡ Some k)
       → (IsOpen target arguments j h → asking h ≡ Some j) → ⊥
   refused k h true e last unmade unanswered prompt before = cc
@@ -64,7 +64,7 @@ module _ (target : List ℕ) (arguments : List Tree) (j : ℕ) where
       not_of j h (Some k) (before (record { last = last; unmade = unmade; unanswered = unanswered })) e prompt
 
   -- no deed of it is answered
-  answered : (k : ℕ) (i : Input) (h : List Move) (b : Bool) → last_of (acts j h) ≡ Some (act.Ask target arguments) → has_asked j h ≡ false
+  answered : (k : ℕ) (i : Input) (h : List PeerEvent) (b : Bool) → last_of (acts j h) ≡ Some (act.Ask target arguments) → has_asked j h ≡ false
       → (if b then Some i else reply j h) ≡ None → (asking h ≡ None) ⊎ (asking h ≡ None)
       → (IsOpen target arguments j h → asking h ≡ Some j) → ⊥
   answered k i h true last unmade unanswered prompt before = cc
@@ -72,7 +72,7 @@ module _ (target : List ℕ) (arguments : List Tree) (j : ℕ) where
       not_asked j h (before (record { last = last; unmade = unmade; unanswered = unanswered })) prompt
 
   -- an ask that is open is the latest turn's
-  pub asked_at_once : (h : List Move) → IsPrompt h → IsOpen target arguments j h → asking h ≡ Some j
+  pub asked_at_once : (h : List PeerEvent) → IsPrompt h → IsOpen target arguments j h → asking h ≡ Some j
   asked_at_once [] prompt x = absurd (let z : ◌≡◌ {A = Option Act} None (Some (act.Ask target arguments)) = x.last in cc)
   asked_at_once (Runs k c since turn what ∷ h) prompt x =
       ran k c since turn what h (j == k) refl x.last x.unmade x.unanswered prompt.1 (asked_at_once h prompt.0)

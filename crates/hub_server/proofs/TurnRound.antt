@@ -6,10 +6,10 @@ use Rattle.hd_calls.specs.declared.vocabulary.Act.{Act}
 use Rattle.hd_calls.specs.declared.vocabulary.Act.TheVariants as act
 use Rattle.hd_calls.specs.declared.vocabulary.Deed.{Deed}
 use Rattle.hd_calls.specs.Hubs.{Hub, Invoked, Turn, Given, Cancelled}
-use Rattle.hd_calls.specs.Peers.{Move, Calls, Runs, Refuses, Settings}
+use Rattle.hd_calls.specs.Peers.{PeerEvent, Calls, Runs, Refuses, Settings}
 use Rattle.hd_calls.specs.Rules.{Follows, IsAsked, IsPrompt, MayRun, MayTurn, asking, next_job, settles}
-use Rattle.hd_serving.specs.Laws.{TurnsAreTested}
-use Rattle.hd_serving.specs.Machine.{Happening, Does, IsAt, MayFollow, NothingOwed, Owed, OwesCall, is_there, last_turn, may_turn, moves, owed, settings_of, turn_at, turn_with}
+use Rattle.hd_server.specs.Laws.{TurnsAreTested}
+use Rattle.hd_server.specs.Machine.{MachineEvent, Does, IsAt, MayFollow, NothingOwed, Owed, OwesCall, is_there, last_turn, may_turn, moves, owed, settings_of, turn_at, turn_with}
 use Rattle.hp_peer.specs.Turning.{AreTurns, is_deed}
 use Rattle.hp_peer.specs.Turning as peer
 use Rattle.hub_server.specs.Calls.{doing}
@@ -26,7 +26,7 @@ owed_by c None = NothingOwed
 owed_by c (Some j) = OwesCall c j
 
 -- a turn at which no deed is handed up owes what its job asks for
-owed_after : (c j : ℕ) (call : Invoked) (since : ℕ) (turn : Turn) (what : Act) (w : List Happening) (h : List Move) → is_deed what ≡ false
+owed_after : (c j : ℕ) (call : Invoked) (since : ℕ) (turn : Turn) (what : Act) (w : List MachineEvent) (h : List PeerEvent) → is_deed what ≡ false
     → owed (Does c (Runs j call since turn what) ∷ w) ≡ owed_by c (asking (Runs j call since turn what ∷ h))
 owed_after c j call since turn (act.Do deed) w h e = absurd (cc)
 owed_after c j call since turn (act.Ask target arguments) w h e = refl
@@ -36,14 +36,14 @@ owed_after c j call since turn (act.Item v) w h e = refl
 owed_after c j call since turn (act.End v) w h e = refl
 
 -- a turn comes after no ask
-pub either_none : (h : List Move) → (asking h ≡ None) ⊎ (asking h ≡ None) → asking h ≡ None
+pub either_none : (h : List PeerEvent) → (asking h ≡ None) ⊎ (asking h ≡ None) → asking h ≡ None
 either_none h (inl e) = e
 either_none h (inr e) = e
 
 -- ---- on the way
 
 -- the round is at this connection, whose peer did all these moves
-pub record IsOn (now c : ℕ) (t : Settings) (w r : List Happening) (h : List Move) : Type 0 where
+pub record IsOn (now c : ℕ) (t : Settings) (w r : List MachineEvent) (h : List PeerEvent) : Type 0 where
   pub of_round : IsOfRound now w r
   pub owes : owed r ≡ owed_by c (asking h)
   pub last : last_turn r ≤ c
@@ -53,7 +53,7 @@ pub record IsOn (now c : ℕ) (t : Settings) (w r : List Happening) (h : List Mo
   pub moves_are : moves c r ≡ h
 
 -- the round goes on with one happening more
-longer : (now : ℕ) (w r : List Happening) (x : Happening) → IsOfRound now w r → MayFollow now (owed r) r x → IsOfRound now w (x ∷ r)
+longer : (now : ℕ) (w r : List MachineEvent) (x : MachineEvent) → IsOfRound now w r → MayFollow now (owed r) r x → IsOfRound now w (x ∷ r)
 longer now w r x o may = record {
   since = x ∷ o.since;
   are = ap (λ z. x ∷ z) o.are;
@@ -70,7 +70,7 @@ not_below : (k c : ℕ) → k < c → (c == k) ≡ false
 not_below k c e = ne_eqb c k (λ same. omega (arith, e, same))
 
 -- where neither this connection nor one before has a turn
-pub up_to : (c : ℕ) (r : List Happening) → ((k : ℕ) → k < c → has_turn k r ≡ false) → has_turn c r ≡ false
+pub up_to : (c : ℕ) (r : List MachineEvent) → ((k : ℕ) → k < c → has_turn k r ≡ false) → has_turn c r ≡ false
     → (k : ℕ) → k < suc c → has_turn k r ≡ false
 up_to c r before none k e = by (k == c) refl where
   by : (b : Bool) → (k == c) ≡ b → has_turn k r ≡ false
@@ -78,24 +78,24 @@ up_to c r before none k e = by (k == c) refl where
   by false other = before k (let apart = eqb-false k c other in omega (arith, e, apart))
 
 -- a move of this connection gives no turn to another
-other_turn : (k c : ℕ) (m : Move) (r : List Happening) → (c == k) ≡ false → last_turn (Does c m ∷ r) ≡ last_turn r
+other_turn : (k c : ℕ) (m : PeerEvent) (r : List MachineEvent) → (c == k) ≡ false → last_turn (Does c m ∷ r) ≡ last_turn r
     → has_turn k (Does c m ∷ r) ≡ has_turn k r
 other_turn k c m r other last =
     ap (λ n. has n (moves k (Does c m ∷ r))) last ∙ ap (λ h. has (last_turn r) h) (moves_stay c k (m ∷ []) r other)
   where
-    has : ℕ → List Move → Bool
+    has : ℕ → List PeerEvent → Bool
     has n h = nat_le n k && (is_there k r && is_some (turn_with (settings_of k r) h))
 
 -- its peer's moves are one more
-moves_more : (c : ℕ) (m : Move) (r : List Happening) (h : List Move) → moves c r ≡ h → moves c (Does c m ∷ r) ≡ m ∷ h
+moves_more : (c : ℕ) (m : PeerEvent) (r : List MachineEvent) (h : List PeerEvent) → moves c r ≡ h → moves c (Does c m ∷ r) ≡ m ∷ h
 moves_more c m r h e = moves_done c (m ∷ []) r ∙ ap (λ l. m ∷ l) e
 
-module _ {Job : Type 0} (hub : Hub Job) (tested : TurnsAreTested) (now c : ℕ) (t : Settings) (w : List Happening) where
+module _ {Job : Type 0} (hub : Hub Job) (tested : TurnsAreTested) (now c : ℕ) (t : Settings) (w : List MachineEvent) where
   -- a peer that may have a turn has the one of its next job
-  turn_is : (h : List Move) (j : ℕ) → MayTurn t h → next_job t h ≡ Some j → turn_with (Some t) h ≡ Some j
+  turn_is : (h : List PeerEvent) (j : ℕ) → MayTurn t h → next_job t h ≡ Some j → turn_with (Some t) h ≡ Some j
   turn_is h j may next = ap (λ b. if b then next_job t h else None) ((tested t h).1 may) ∙ next
 
-  module _ (r : List Happening) (h : List Move) (on : IsOn now c t w r h) where
+  module _ (r : List MachineEvent) (h : List PeerEvent) (on : IsOn now c t w r h) where
     -- what its peer did says which turn it has
     turn_with_peer : turn_at c r ≡ turn_with (Some t) h
     turn_with_peer = ap (λ o. turn_with o (moves c r)) on.here.begun ∙ ap (λ l. turn_with (Some t) l) on.moves_are
@@ -131,7 +131,7 @@ module _ {Job : Type 0} (hub : Hub Job) (tested : TurnsAreTested) (now c : ℕ) 
     }
 
     -- what settles the ask of the last turn
-    on_settled : (j : ℕ) (m : Move) → asking h ≡ Some j → settles m ≡ Some j → owed (Does c m ∷ r) ≡ NothingOwed → asking (m ∷ h) ≡ None
+    on_settled : (j : ℕ) (m : PeerEvent) → asking h ≡ Some j → settles m ≡ Some j → owed (Does c m ∷ r) ≡ NothingOwed → asking (m ∷ h) ≡ None
         → last_turn (Does c m ∷ r) ≡ last_turn r → IsOn now c t w (Does c m ∷ r) (m ∷ h)
     on_settled j m asks settled owes none last = record {
       of_round = longer now w r _ on.of_round
@@ -163,12 +163,12 @@ module _ {Job : Type 0} (hub : Hub Job) (tested : TurnsAreTested) (now c : ℕ) 
         turn_none = turn_with_peer ∙ either (may_turn t h) refl rests
 
   -- what a job asks for it asked for at the last turn
-  asked_last : (h : List Move) (j : ℕ) (call : Invoked) → IsPrompt h → IsAsked t j call h → asking h ≡ Some j
+  asked_last : (h : List PeerEvent) (j : ℕ) (call : Invoked) → IsPrompt h → IsAsked t j call h → asking h ≡ Some j
   asked_last h j call prompt x =
       asked_at_once x.target x.arguments j h prompt (record { last = x.last; unmade = x.unmade; unanswered = x.unanswered })
 
   -- the round goes on with these turns
-  pub on_turns : (r : List Happening) (h ms : List Move) → IsOn now c t w r h → AreTurns now ms → Follows hub t (ms ++ h) → IsPrompt (ms ++ h)
+  pub on_turns : (r : List MachineEvent) (h ms : List PeerEvent) → IsOn now c t w r h → AreTurns now ms → Follows hub t (ms ++ h) → IsPrompt (ms ++ h)
       → IsOn now c t w (doing c ms r) (ms ++ h)
   on_turns r h [] on are follows prompt = on
   on_turns r h (Runs j call since turn what ∷ ms) on are follows prompt =

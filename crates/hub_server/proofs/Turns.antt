@@ -6,18 +6,18 @@ use Rattle.std.specs.BTreeMap.{BTreeMap, WritesThrough}
 use Rattle.hd_calls.specs.declared.vocabulary.Act.TheVariants as act
 use Rattle.hd_calls.specs.declared.vocabulary.Deed.{Deed}
 use Rattle.hd_calls.specs.Hubs.{Hub}
-use Rattle.hd_calls.specs.Peers.{Move, Calls, Runs, Refuses, Settings, begun}
+use Rattle.hd_calls.specs.Peers.{PeerEvent, Calls, Runs, Refuses, Settings, begun}
 use Rattle.hd_calls.specs.Rules.{Follows, first_from, is_due, next_job, passed}
-use Rattle.hd_serving.specs.Laws.{TurnsAreTested}
-use Rattle.hd_serving.specs.Machine.{Happening, moves}
+use Rattle.hd_server.specs.Laws.{TurnsAreTested}
+use Rattle.hd_server.specs.Machine.{MachineEvent, moves}
 use Rattle.hp_peer.specs.declared.peer.Peer.{Peer}
 use Rattle.hp_peer.specs.Stands.{OfEach, Stands}
 use Rattle.hp_peer.specs.Turning.{AfterTurns, AreTurns}
 use Rattle.hp_peer.specs.Turning as peer
 use Rattle.hub_server.specs.declared.machine.Machine.{Machine}
-use Rattle.hub_server.specs.declared.sleepers.Nap.{Nap}
+use Rattle.hub_server.specs.declared.idle_set.IdlePeer.{IdlePeer}
 use Rattle.hub_server.specs.Calls.{ClosesOut, doing}
-use Rattle.hub_server.specs.Machines.{IsKeptAs, IsPeerOf, StandsMachine, nap_at, peer_at, settings_there}
+use Rattle.hub_server.specs.Machines.{IsKeptAs, IsPeerOf, StandsMachine, idle_peer_at, peer_at, settings_there}
 use Rattle.hub_server.specs.Rounds.{HasHandedUp, HasStepped, InRound, IsCountOfJobs, Steps}
 use Rattle.hub_server.proofs.Doing.{awake_is, moves_done}
 use Rattle.hub_server.proofs.Ends.{closes_out}
@@ -29,7 +29,7 @@ use Rattle.hub_server.proofs.TurnRound.{IsOn, either_none, on_deed, on_rest, on_
 -- ---- what turns leave as it was, and how far they take the round
 
 -- they begin no job
-same_begun : (now : ℕ) (ms h : List Move) → AreTurns now ms → begun (ms ++ h) ≡ begun h
+same_begun : (now : ℕ) (ms h : List PeerEvent) → AreTurns now ms → begun (ms ++ h) ≡ begun h
 same_begun now [] h are = refl
 same_begun now (Runs j call since turn what ∷ ms) h are = same_begun now ms h are.2
 same_begun now (Calls (Some j) n call ∷ ms) h are = same_begun now ms h are
@@ -46,11 +46,11 @@ next_from (suc u) k p j e = by (p k) e (next_from u (suc k) p j)
     by false f later = let over = later f in omega (arith, over)
 
 -- the next job is past the last one
-next_past : (t : Settings) (h : List Move) (j : ℕ) → next_job t h ≡ Some j → passed h ≤ j
+next_past : (t : Settings) (h : List PeerEvent) (j : ℕ) → next_job t h ≡ Some j → passed h ≤ j
 next_past t h j e = next_from (length (begun h) - passed h) (passed h) (λ i. is_due t i h) j e
 
 -- turns never take the round back
-further : {Job : Type 0} (hub : Hub Job) (t : Settings) (now : ℕ) (ms h : List Move) → AreTurns now ms → Follows hub t (ms ++ h)
+further : {Job : Type 0} (hub : Hub Job) (t : Settings) (now : ℕ) (ms h : List PeerEvent) → AreTurns now ms → Follows hub t (ms ++ h)
     → passed h ≤ passed (ms ++ h)
 further hub t now [] h are follows = omega arith
 further hub t now (Runs j call since turn what ∷ ms) h are follows =
@@ -64,24 +64,24 @@ further hub t now (m ∷ ms) h are follows = absurd are
 -- ---- one connection
 
 -- one that has a peer is there, and its peer stands for what it did
-pub record IsStanding {H Job : Type 0} (hub : Hub Job) (p : Peer H Job) (o : Option Settings) (h : List Move) : Type 0 where
+pub record IsStanding {H Job : Type 0} (hub : Hub Job) (p : Peer H Job) (o : Option Settings) (h : List PeerEvent) : Type 0 where
   pub settings : Settings
   pub there : o ≡ Some settings
   pub stands : Stands {H = H} hub settings p h
 
-pub standing_of : {H Job : Type 0} (hub : Hub Job) (p : Peer H Job) (o : Option Settings) (h : List Move) → IsPeerOf {H = H} hub o h (Some p)
+pub standing_of : {H Job : Type 0} (hub : Hub Job) (p : Peer H Job) (o : Option Settings) (h : List PeerEvent) → IsPeerOf {H = H} hub o h (Some p)
     → IsStanding {H = H} hub p o h
 standing_of hub p None h s = absurd s
 standing_of hub p (Some t) h s = record { settings = t; there = refl; stands = s }
 
 -- one that has none isn't there
-gone_of : (H : Type 0) {Job : Type 0} (hub : Hub Job) (clock : ℕ) (nap : Option Nap) (o : Option Settings) (h : List Move)
-    → IsKeptAs {H = H} hub clock nap o h None → o ≡ None
-gone_of H hub clock nap None h s = refl
+gone_of : (H : Type 0) {Job : Type 0} (hub : Hub Job) (clock : ℕ) (idle_peer : Option IdlePeer) (o : Option Settings) (h : List PeerEvent)
+    → IsKeptAs {H = H} hub clock idle_peer o h None → o ≡ None
+gone_of H hub clock idle_peer None h s = refl
 gone_of H hub clock None (Some t) h s = absurd s
-gone_of H hub clock (Some nap) (Some t) h s = absurd s
+gone_of H hub clock (Some idle_peer) (Some t) h s = absurd s
 
-module _ {H Job : Type 0} (hub : Hub Job) (tested : TurnsAreTested) (old : Machine H Job) (now c : ℕ) (w r : List Happening)
+module _ {H Job : Type 0} (hub : Hub Job) (tested : TurnsAreTested) (old : Machine H Job) (now c : ℕ) (w r : List MachineEvent)
     (s : StandsMachine {H = H} hub old r) (round : InRound now w r c) where
   -- one that isn't there has no turn
   pub steps_none : None ≡ peer_at old c → HasStepped {H = H} hub old now w r c
@@ -93,14 +93,14 @@ module _ {H Job : Type 0} (hub : Hub Job) (tested : TurnsAreTested) (old : Machi
       settled = round.settled;
       last = let last = round.last in omega (arith, last);
       none_before = up_to c r round.none_before (none_gone c r
-          (gone_of H hub old.sleepers.clock (nap_at old c) (settings_there c r) (moves c r)
-          (subst (λ o. IsKeptAs {H = H} hub old.sleepers.clock (nap_at old c) (settings_there c r) (moves c r) o) (sym none) (s.at c))));
+          (gone_of H hub old.idle_set.clock (idle_peer_at old c) (settings_there c r) (moves c r)
+          (subst (λ o. IsKeptAs {H = H} hub old.idle_set.clock (idle_peer_at old c) (settings_there c r) (moves c r) o) (sym none) (s.at c))));
     };
     same_begun = refl;
     goes = λ o. goes_doing o c [] r;
   }
 
-  module _ (p q : Peer H Job) (ps : BTreeMap ℕ (Peer H Job)) (new : Machine H Job) (at : Some p ≡ peer_at old c) (awake : nap_at old c ≡ None)
+  module _ (p q : Peer H Job) (ps : BTreeMap ℕ (Peer H Job)) (new : Machine H Job) (at : Some p ≡ peer_at old c) (awake : idle_peer_at old c ≡ None)
       (through : WritesThrough nat_cmp (nat_cmp c) old.peers q ps) (out : ClosesOut {H = H} hub (record old { peers = ps }) new c)
       (t : Settings) (there : settings_there c r ≡ Some t) (own : Stands {H = H} hub t p (moves c r)) where
     -- the round is at this connection before they have
@@ -116,7 +116,7 @@ module _ {H Job : Type 0} (hub : Hub Job) (tested : TurnsAreTested) (old : Machi
     }
 
     -- the machine stands for what the peer does
-    stands_after : (ms : List Move) → Stands {H = H} hub t q (ms ++ moves c r) → StandsMachine {H = H} hub new (doing c ms r)
+    stands_after : (ms : List PeerEvent) → Stands {H = H} hub t q (ms ++ moves c r) → StandsMachine {H = H} hub new (doing c ms r)
     stands_after ms st =
         closes_out {H = H} {Job = Job} hub old r c t p q ms s there at awake ps through (λ before. st) (record old { peers = ps }) new refl out
 
@@ -165,21 +165,21 @@ module _ {H Job : Type 0} (hub : Hub Job) (tested : TurnsAreTested) (old : Machi
 
   -- its jobs had turns
   pub steps_some : (p q : Peer H Job) (ps : BTreeMap ℕ (Peer H Job)) (new : Machine H Job) (found : Option (ℕ × Deed)) → Some p ≡ peer_at old c
-      → nap_at old c ≡ None → WritesThrough nat_cmp (nat_cmp c) old.peers q ps → ClosesOut {H = H} hub (record old { peers = ps }) new c
-      → ((t : Settings) (h : List Move) → Stands {H = H} hub t p h → peer.Turns {H = H} hub t h q now found) → Steps {H = H} hub new now w r c found
+      → idle_peer_at old c ≡ None → WritesThrough nat_cmp (nat_cmp c) old.peers q ps → ClosesOut {H = H} hub (record old { peers = ps }) new c
+      → ((t : Settings) (h : List PeerEvent) → Stands {H = H} hub t p h → peer.Turns {H = H} hub t h q now found) → Steps {H = H} hub new now w r c found
   steps_some p q ps new found at awake through out turns =
       let x = standing_of {H = H} hub p (settings_there c r) (moves c r)
       (subst (λ o. IsPeerOf {H = H} hub (settings_there c r) (moves c r) o) (sym at)
-      (awake_is {H = H} hub old.sleepers.clock (nap_at old c) (settings_there c r) (moves c r) (peer_at old c) awake (s.at c))) in
+      (awake_is {H = H} hub old.idle_set.clock (idle_peer_at old c) (settings_there c r) (moves c r) (peer_at old c) awake (s.at c))) in
       steps p q ps new at awake through out x.settings x.there x.stands found (turns x.settings (moves c r) x.stands)
 
 -- ---- how many jobs there are
 
 -- the peer of one that sleeps knows it too, since none was begun at it
 pub count_is : {H Job : Type 0} (hub : Hub Job) (m : Machine H Job) (c : ℕ) (p : Peer H Job) (n : ℕ) → Some p ≡ peer_at m c
-    → OfEach {H = H} hub p (λ t h. n ≡ length (begun h)) → (r : List Happening) → StandsMachine {H = H} hub m r → IsCountOfJobs c r n
+    → OfEach {H = H} hub p (λ t h. n ≡ length (begun h)) → (r : List MachineEvent) → StandsMachine {H = H} hub m r → IsCountOfJobs c r n
 count_is {H} {Job} hub m c p n at says r s there =
-    kept_either {H = H} {Job = Job} hub m.sleepers.clock
-    (λ o q. IfSome q (λ p. OfEach {H = H} hub p (λ t h. n ≡ length (begun h)) → n ≡ length (begun (moves c r)))) (nap_at m c)
+    kept_either {H = H} {Job = Job} hub m.idle_set.clock
+    (λ o q. IfSome q (λ p. OfEach {H = H} hub p (λ t h. n ≡ length (begun h)) → n ≡ length (begun (moves c r)))) (idle_peer_at m c)
     (settings_there c r) (moves c r) (Some p) tt (λ t q x says. says t x.before x.stands ∙ sym (ap length x.same.begins))
-    (subst (λ o. IsKeptAs {H = H} hub m.sleepers.clock (nap_at m c) (settings_there c r) (moves c r) o) (sym at) (s.at c)) says
+    (subst (λ o. IsKeptAs {H = H} hub m.idle_set.clock (idle_peer_at m c) (settings_there c r) (moves c r) o) (sym at) (s.at c)) says

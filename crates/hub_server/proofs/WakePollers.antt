@@ -5,24 +5,24 @@ use Rattle.std.specs.Prelude.{if◌then◌else◌, nat_le, option_map}
 use Rattle.std.proofs.lemmas.Bool.{eq-eqb, eqb-true}
 use Rattle.hd_delivery.specs.Histories.{is_this}
 use Rattle.hd_calls.specs.Hubs.{Hub}
-use Rattle.hd_serving.specs.Machine.{Happening}
-use Rattle.hd_serving.specs.Numbers.{held_for}
-use Rattle.hd_serving.specs.Lives.{poll_of}
-use Rattle.hd_serving.specs.Doings.{has_peer, moment, notes, work}
+use Rattle.hd_server.specs.Machine.{MachineEvent}
+use Rattle.hd_server.specs.Numbers.{held_for}
+use Rattle.hd_server.specs.Lives.{poll_of}
+use Rattle.hd_server.specs.Doings.{has_peer, moment, notes, work}
 use Rattle.hn_server_front.specs.declared.moments.Waiting.{Waiting}
 use Rattle.hn_server_front.specs.Calls as calls
 use Rattle.hn_server_front.specs.Calls.{is_held_long, poll_held}
 use Rattle.hn_server_front.specs.Moments.{at, is_within}
 use Rattle.hub_server.specs.declared.machine.Machine.{Machine}
 use Rattle.hub_server.specs.declared.server.Server.{Server}
-use Rattle.hub_server.specs.Machines.{StandsMachine, nap_at, peer_at}
+use Rattle.hub_server.specs.Machines.{StandsMachine, idle_peer_at, peer_at}
 use Rattle.hub_server.specs.Servers.{OfEach, Standing}
 use Rattle.hub_server.proofs.Conns.{here_by_peer}
 use Rattle.hub_server.proofs.TellOne.{noted_known}
 
 -- the connection is awake, if it is there
 abbrev pub IsUp : {H Job : Type 0} → Machine H Job → ℕ → Type 0
-IsUp m c = (nap_at m c ≡ None) ⊎ (peer_at m c ≡ None)
+IsUp m c = (idle_peer_at m c ≡ None) ⊎ (peer_at m c ≡ None)
 
 -- each of these is
 abbrev pub AreUp : {H Job : Type 0} → Machine H Job → List Waiting → Type 0
@@ -39,7 +39,7 @@ abbrev pub KeepsUp : {H Job : Type 0} → Machine H Job → Machine H Job → Ty
 KeepsUp {H} old new = (k : ℕ) → IsUp {H = H} old k → IsUp {H = H} new k
 
 keeps_up : {H Job : Type 0} (old new : Machine H Job) (c : ℕ) → IsUp {H = H} new c
-    → ((k : ℕ) → (c == k) ≡ false → (peer_at new k ≡ peer_at old k) × (nap_at new k ≡ nap_at old k)) → KeepsUp {H = H} old new
+    → ((k : ℕ) → (c == k) ≡ false → (peer_at new k ≡ peer_at old k) × (idle_peer_at new k ≡ idle_peer_at old k)) → KeepsUp {H = H} old new
 keeps_up {H} {Job} old new c now others k up = by (c == k) refl
   where
     by : (b : Bool) → (c == k) ≡ b → IsUp {H = H} new k
@@ -80,8 +80,8 @@ none_woken hub old = record { stands = λ s u before h x. x; up = tt }
 
 pub one_woken : {H Job : Type 0} (hub : Hub Job) (old v : Server H Job) (m : Machine H Job) (w : Waiting) (ws : List Waiting) (i : ℕ)
     → i < length ws → HaveWoken {H = H} hub old v (take i ws)
-    → ((z : List Happening) → StandsMachine {H = H} hub v.machine z → StandsMachine {H = H} hub m z) → IsUp {H = H} m (get_or ws i w).conn
-    → ((k : ℕ) → ((get_or ws i w).conn == k) ≡ false → (peer_at m k ≡ peer_at v.machine k) × (nap_at m k ≡ nap_at v.machine k))
+    → ((z : List MachineEvent) → StandsMachine {H = H} hub v.machine z → StandsMachine {H = H} hub m z) → IsUp {H = H} m (get_or ws i w).conn
+    → ((k : ℕ) → ((get_or ws i w).conn == k) ≡ false → (peer_at m k ≡ peer_at v.machine k) × (idle_peer_at m k ≡ idle_peer_at v.machine k))
     → HaveWoken {H = H} hub old (record v { machine = m }) (take (i + 1) ws)
 one_woken {H} {Job} hub old v m w ws i l so wakes now others = record {
   stands = λ s u before h x. let y = so.stands s u before h x in record {
@@ -106,7 +106,7 @@ one_woken {H} {Job} hub old v m w ws i l so wakes now others = record {
 pub all_woken : {H Job : Type 0} (hub : Hub Job) (old new : Server H Job) (ws : List Waiting)
     → calls.OfEach old.front (λ n. (since c : ℕ) → is_within (at since c) ws ≡ is_held_long old.moment since c n) → HaveWoken {H = H} hub old new ws
     → OfEach {H = H} hub old (λ s u before h. (c lane since : ℕ) → poll_of c (notes h) ≡ Some (lane, since) → has_peer c h ≡ true
-    → nat_le (since + held_for) (moment h) ≡ true → nap_at new.machine c ≡ None)
+    → nat_le (since + held_for) (moment h) ≡ true → idle_peer_at new.machine c ≡ None)
 all_woken {H} {Job} hub old new ws told so s u before h x c lane since polls there late =
     awake (up_within {H = H} {Job = Job} new.machine ws since c so.up (told (notes h) x.front since c ∙ long))
   where
@@ -119,7 +119,7 @@ all_woken {H} {Job} hub old new ws told so s u before h x c lane since polls the
         ∙ ap (λ (b : Bool). b && nat_le (since + held_for) old.moment) (eq-eqb since since refl)
         ∙ ap (nat_le (since + held_for)) x.clock ∙ late
 
-    awake : IsUp {H = H} new.machine c → nap_at new.machine c ≡ None
+    awake : IsUp {H = H} new.machine c → idle_peer_at new.machine c ≡ None
     awake (inl e) = e
     awake (inr e) = absurd (let stands = so.stands s u before h x in true≢false
         (sym there ∙ here_by_peer {H = H} {Job = Job} hub new.machine (work h) stands.machine c ∙ ap is_some e))

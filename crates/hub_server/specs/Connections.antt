@@ -4,35 +4,35 @@ use Rattle.std.specs.Ordering.{nat_cmp}
 use Rattle.std.specs.BTreeMap.{get}
 use Rattle.hd_delivery.specs.Histories.{is_this}
 use Rattle.hd_calls.specs.Hubs.{Hub}
-use Rattle.hd_serving.specs.declared.vocabulary.Said.{Said}
-use Rattle.hd_serving.specs.Lives.{is_let_go, is_made, is_polling, lost_at, socket_of}
-use Rattle.hd_serving.specs.Doings.{Doing, notes, moment, has_peer, is_granted}
-use Rattle.hd_serving.specs.Plans.{Setup}
-use Rattle.hd_serving.specs.Serves.{FeedsOne}
+use Rattle.hd_server.specs.declared.vocabulary.Said.{Said}
+use Rattle.hd_server.specs.Lives.{is_let_go, is_made, is_polling, lost_at, socket_of}
+use Rattle.hd_server.specs.Doings.{ServerEvent, notes, moment, has_peer, is_granted}
+use Rattle.hd_server.specs.Plans.{Setup}
+use Rattle.hd_server.specs.Serves.{FeedsOne}
 use Rattle.hub_server.specs.declared.server.Server.{Server}
 use Rattle.hub_server.specs.Lanes.{Unsettled, cut_of, is_at, lane_of, poll_lane, settled}
 use Rattle.hub_server.specs.Servers.{Standing}
 
 -- it was made, and isn't let go
-pub record IsKnown (c : ℕ) (h : List Doing) : Type 0 where
+pub record IsKnown (c : ℕ) (h : List ServerEvent) : Type 0 where
   pub made : is_made c (notes h) ≡ true
   pub held : is_let_go c (notes h) ≡ false
 
 -- it may stand on a socket: it doesn't poll, and its end may be resumed, or it has none yet
-pub record CanStand (c : ℕ) (h : List Doing) : Type 0 where
+pub record CanStand (c : ℕ) (h : List ServerEvent) : Type 0 where
   pub known : IsKnown c h
   pub unpolled : is_polling c (notes h) ≡ false
   pub granted : has_peer c h ≡ true → is_granted c h ≡ true
 
 -- a poll may come for it: it has a peer, and stood on no socket
-pub record CanHold (c : ℕ) (h : List Doing) : Type 0 where
+pub record CanHold (c : ℕ) (h : List ServerEvent) : Type 0 where
   pub known : IsKnown c h
   pub there : has_peer c h ≡ true
   pub unsocketed : socket_of c (notes h) ≡ None
   pub unlost : lost_at c (notes h) ≡ None
 
 -- the lanes of a server but those on which a connection stands or polls
-pub record HasLeft {H Job : Type 0} (c : ℕ) (old new : Server H Job) (h : List Doing) : Type 0 where
+pub record HasLeft {H Job : Type 0} (c : ℕ) (old new : Server H Job) (h : List ServerEvent) : Type 0 where
   pub base : new.base ≡ old.base
   pub machine : new.machine ≡ old.machine
   pub front : new.front ≡ old.front
@@ -44,12 +44,12 @@ pub record HasLeft {H Job : Type 0} (c : ℕ) (old new : Server H Job) (h : List
 
 -- It stands for what there is once a connection is let go: with what wasn't settled before, and with nothing if that was the lane on which
 -- the connection was
-pub record Frees {H Job : Type 0} (hub : Hub Job) (s : Setup) (u : Unsettled) (before : List Said) (new : Server H Job) (c : ℕ) (h after : List Doing) : Type 0 where
+pub record Frees {H Job : Type 0} (hub : Hub Job) (s : Setup) (u : Unsettled) (before : List Said) (new : Server H Job) (c : ℕ) (h after : List ServerEvent) : Type 0 where
   pub stands : Standing hub s u before new after
   pub freed : (lane : ℕ) → (u ≡ lane_of (Some lane)) ⊎ (u ≡ cut_of lane) → is_at lane c h ≡ true → Standing hub s settled before new after
 
 -- it was fed these bytes
-pub record IsFedTo {H Job : Type 0} (hub : Hub Job) (s : Setup) (u : Unsettled) (before : List Said) (new : Server H Job) (c : ℕ) (bytes : List ℕ) (h : List Doing) : Type 0 where
-  pub after : List Doing
+pub record IsFedTo {H Job : Type 0} (hub : Hub Job) (s : Setup) (u : Unsettled) (before : List Said) (new : Server H Job) (c : ℕ) (bytes : List ℕ) (h : List ServerEvent) : Type 0 where
+  pub after : List ServerEvent
   pub feeds : FeedsOne (moment h) c bytes h after
   pub stands : Standing hub s u before new after

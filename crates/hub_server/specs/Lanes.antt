@@ -1,20 +1,20 @@
 -- Who is on which lane.
 use Rattle.std.specs.Prelude.{◌≡◌, ℕ, Bool, true, false, not, ◌&&◌, ◌||◌, List, Option, Some, None, option_map}
 use Rattle.hd_delivery.specs.Histories.{is_this}
-use Rattle.hd_serving.specs.Lives.{Note, poll_of, socket_of}
-use Rattle.hd_serving.specs.Doings.{Doing, notes, awaits_reply, has_peer, is_upgraded, wants_shut, was_refused}
+use Rattle.hd_server.specs.Lives.{ConnectionEvent, poll_of, socket_of}
+use Rattle.hd_server.specs.Doings.{ServerEvent, notes, awaits_reply, has_peer, is_upgraded, wants_shut, was_refused}
 use Rattle.hub_server.specs.declared.lane.Lane.{Lane}
 
 -- the lane of the poll that is held
-abbrev pub poll_lane : ℕ → List Note → Option ℕ
+abbrev pub poll_lane : ℕ → List ConnectionEvent → Option ℕ
 poll_lane c n = option_map (λ poll. poll.0) (poll_of c n)
 
 -- a connection that has a peer stands on its socket there, or holds a poll there
-abbrev pub is_at : ℕ → ℕ → List Doing → Bool
+abbrev pub is_at : ℕ → ℕ → List ServerEvent → Bool
 is_at lane c h = has_peer c h && (is_this lane (socket_of c (notes h)) || is_this lane (poll_lane c (notes h)))
 
 -- a request comes there only after it was lost, or answered
-abbrev pub is_taken : ℕ → List Doing → Bool
+abbrev pub is_taken : ℕ → List ServerEvent → Bool
 is_taken lane h = is_upgraded lane h || awaits_reply lane h
 
 -- what isn't settled yet in the middle of an event
@@ -36,7 +36,7 @@ abbrev pub conn_of : ℕ → Unsettled
 conn_of c = record { lane = None; cut = None; conn = Some c }
 
 -- this is kept of a lane on which one connection is, and no other
-pub record HasLane (u : Unsettled) (x : Lane) (lane : ℕ) (h : List Doing) : Type 0 where
+pub record HasLane (u : Unsettled) (x : Lane) (lane : ℕ) (h : List ServerEvent) : Type 0 where
   pub at : is_at lane x.conn h ≡ true
   pub only : (c : ℕ) → is_at lane c h ≡ true → c ≡ x.conn
   pub polls : x.polls ≡ not (is_this lane (socket_of x.conn (notes h)))
@@ -45,9 +45,9 @@ pub record HasLane (u : Unsettled) (x : Lane) (lane : ℕ) (h : List Doing) : Ty
   pub taken : (is_this lane u.lane || is_taken lane h) ≡ true
 
 -- no connection is on the lane
-abbrev pub IsNobodys : ℕ → List Doing → Type 0
+abbrev pub IsNobodys : ℕ → List ServerEvent → Type 0
 IsNobodys lane h = (c : ℕ) → is_at lane c h ≡ false
 
-abbrev pub IsLane : Unsettled → Option Lane → ℕ → List Doing → Type 0
+abbrev pub IsLane : Unsettled → Option Lane → ℕ → List ServerEvent → Type 0
 IsLane u None lane h = IsNobodys lane h
 IsLane u (Some x) lane h = HasLane u x lane h

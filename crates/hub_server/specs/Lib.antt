@@ -1,9 +1,9 @@
 pub mod Spreads
-pub mod Sleepers
+pub mod IdleSet
 pub mod Machines
-pub mod Affairs
+pub mod MachineView
 pub mod Sleeping
-pub mod Deals
+pub mod Delivers
 pub mod Outside
 pub mod Rounds
 pub mod Carrying

@@ -2,10 +2,10 @@
 use Rattle.std.specs.Prelude.{◌≡◌, ◌≤◌, ℕ, ◌+◌, ◌||◌, List, [], ◌∷◌, ◌++◌, map, Option, Some, None, option_map, if◌then◌else◌}
 use Rattle.hm_message.specs.declared.message.Codec.{Codec}
 use Rattle.hd_delivery.specs.Histories.{is_shaken}
-use Rattle.hd_calls.specs.Peers.{Move, Settings, codec, steps}
-use Rattle.hd_server.specs.declared.vocabulary.Asked.{Asked}
-use Rattle.hd_server.specs.Kept.{Content, KeeperDid, CountsFaults}
-use Rattle.hd_serving.specs.Machine.{Happening, Carries, moves, settings_of}
+use Rattle.hd_calls.specs.Peers.{PeerEvent, Settings, codec, steps}
+use Rattle.hd_rooms.specs.declared.vocabulary.Asked.{Asked}
+use Rattle.hd_rooms.specs.Kept.{Content, KeeperDid, CountsFaults}
+use Rattle.hd_server.specs.Machine.{MachineEvent, Carries, moves, settings_of}
 use Rattle.he_end.specs.Stands.{is_client}
 use Rattle.hub_server.specs.Spreads.{codecs_among}
 
@@ -27,28 +27,28 @@ pub record Goes (before now : Outside) (asks : List Asked) (most : ℕ) : Type 0
   pub spelled : now.spelled ≤ before.spelled + most
 
 -- what the keeper was asked for deeds, the first first
-abbrev pub asks_in : List Happening → List Asked
+abbrev pub asks_in : List MachineEvent → List Asked
 asks_in [] = []
 asks_in (Carries c j d fates (Some ask) ∷ w) = asks_in w ++ ask ∷ []
 asks_in (_ ∷ w) = asks_in w
 
 -- in which codec a peer that was begun so and did this is spoken to, if it has one yet
-abbrev pub spoken_to : Option Settings → List Move → Option Codec
+abbrev pub spoken_to : Option Settings → List PeerEvent → Option Codec
 spoken_to None h = None
 spoken_to (Some t) h = if is_shaken (steps t h) || is_client t.config.side then Some (codec t h) else None
 
 -- in which one a connection is spoken to after these happenings
-abbrev pub spoken_at : ℕ → List Happening → Option Codec
+abbrev pub spoken_at : ℕ → List MachineEvent → Option Codec
 spoken_at c w = spoken_to (settings_of c w) (moves c w)
 
 -- how often happenings may take a spelling: for a deed once for each codec among its members
-abbrev pub spellings : List Happening → ℕ
+abbrev pub spellings : List MachineEvent → ℕ
 spellings [] = 0
 spellings (Carries c j d fates asked ∷ w) = codecs_among (λ k. spoken_at k w) (map (λ f. f.0) fates) + spellings w
 spellings (_ ∷ w) = spellings w
 
 -- so the outside went on while happenings did
-pub record GoesWith (before now : Outside) (w after : List Happening) : Type 0 where
+pub record GoesWith (before now : Outside) (w after : List MachineEvent) : Type 0 where
   pub asks : List Asked
   pub are : asks_in after ≡ asks_in w ++ asks
   pub most : ℕ

@@ -1,109 +1,115 @@
--- What is done about a request, by what it leads to.
-use Rattle.std.specs.Prelude.{◌≡◌, ℕ, Bool, false, not, List, [], ◌∷◌, ◌++◌, Option, Some, None, is_some, option_map, unwrap_or, if◌then◌else◌}
+-- What is done about a request, by its outcome.
+use Rattle.std.specs.Prelude.{◌≡◌, ℕ, Bool, true, false, List, [], ◌∷◌, ◌++◌, Option, Some, None, is_some, option_map, if◌then◌else◌}
+use Rattle.hw_lanes.specs.Replies.{IsReply}
 use Rattle.hd_calls.specs.Hubs.{Hub}
-use Rattle.hd_server.specs.declared.vocabulary.Asked.{Asked}
-use Rattle.hd_server.specs.declared.vocabulary.Asked.TheVariants as keeper
-use Rattle.hd_server.specs.Kept.{Content, KeeperDid, CountsFaults}
-use Rattle.hd_serving.specs.declared.vocabulary.Life.{Life}
-use Rattle.hd_serving.specs.declared.vocabulary.Life.TheVariants.{Unknown}
-use Rattle.hd_serving.specs.declared.vocabulary.Said.{Said}
-use Rattle.hd_serving.specs.Lives.{conn_with, is_busy, life}
-use Rattle.hd_serving.specs.Table as table
-use Rattle.hd_serving.specs.Table.{Facts, Outcome, text_in}
-use Rattle.hd_serving.specs.Doings.{Doing, Draws, notes, moment}
-use Rattle.hd_serving.specs.Plans.{Occasion, Setup, caller_by, is_granted_some, makes_token, onto, request_plan}
-use Rattle.hd_serving.specs.Serves.{IsDraw}
-use Rattle.hn_server_front.specs.Routes.{entry_outcome, negotiate_outcome}
-use Rattle.hub_server.specs.declared.requests.Caller.{Caller}
-use Rattle.hub_server.specs.declared.requests.Caller.TheVariants as caller
+use Rattle.hd_rooms.specs.declared.vocabulary.Asked.{Asked}
+use Rattle.hd_rooms.specs.declared.vocabulary.Asked.TheVariants as keeper
+use Rattle.hd_rooms.specs.Kept.{Content, KeeperDid, CountsFaults}
+use Rattle.hd_server.specs.declared.vocabulary.Said.{Said}
+use Rattle.hd_server.specs.Lives.{is_busy, is_made, standing}
+use Rattle.hd_server.specs.declared.vocabulary.Caller.{Caller}
+use Rattle.hd_server.specs.declared.vocabulary.Caller.TheVariants.{Named}
+use Rattle.hd_server.specs.declared.vocabulary.Outcome.{Outcome}
+use Rattle.hd_server.specs.declared.vocabulary.Outcome.TheVariants.{Refusal, NewToken, PlainSocket, TokenSocket, Deletion}
+use Rattle.hd_server.specs.Table.{Facts, text_in}
+use Rattle.hd_server.specs.Doings.{ServerEvent, Draws, is_granted, notes, moment}
+use Rattle.hd_server.specs.Plans.{PendingRequest, Setup, bare_reply, caller_by, onto, request_plan}
+use Rattle.hd_server.specs.Serves.{IsDraw}
 use Rattle.hub_server.specs.declared.server.Server.{Server}
 use Rattle.hub_server.specs.Lanes.{settled}
 use Rattle.hub_server.specs.Servers.{IsRested, Standing}
 use Rattle.hub_server.specs.Steps.{AddsAll, CountsDraws, Follows, HasCome, NoneOverdue}
 
 -- of all doings for which the server stood when a request had come
-abbrev pub OfRequest : {H Job : Type 0} → Hub Job → Server H Job → ℕ → Bool → (Setup → List Said → List Doing → Type 0) → Type 0
-OfRequest hub v lane is_last P = (s : Setup) (before : List Said) (h : List Doing) → Standing hub s settled before v h → ((c : ℕ) → IsRested c h) → HasCome lane is_last h → NoneOverdue h → P s before h
+abbrev pub OfRequest : {H Job : Type 0} → Hub Job → Server H Job → ℕ → Bool → (Setup → List Said → List ServerEvent → Type 0) → Type 0
+OfRequest hub v lane is_last P = (s : Setup) (before : List Said) (h : List ServerEvent) → Standing hub s settled before v h → ((c : ℕ) → IsRested c h) → HasCome lane is_last h → NoneOverdue h → P s before h
 
 -- ---- who calls
 
-abbrev pub caller_meant : Caller → table.Caller
-caller_meant caller.Anonymous = table.Anonymous
-caller_meant (caller.Named name) = table.Named name
-caller_meant caller.Unauthorized = table.Unauthorized
-caller_meant caller.Failed = table.KeeperFailed
-
 -- whose connection it would be
 abbrev pub name_meant : Caller → Option (List ℕ)
-name_meant (caller.Named name) = Some name
+name_meant (Named name) = Some name
 name_meant _ = None
+
+-- the text of which the keeper is asked: the access token of one who would have a connection, if it is a text
+abbrev pub text_asked : Bool → Option (List ℕ) → Option (List ℕ)
+text_asked is_entry bearer = if is_entry then text_in bearer else None
 
 -- what the keeper is asked, where it answers this
 abbrev pub asks_who : Option (List ℕ) → Option (Option (List ℕ)) → List Asked
 asks_who None name = []
 asks_who (Some token) name = keeper.User token name ∷ []
 
--- this is the caller, by what the keeper answered
-pub record IsCaller (bearer : Option (List ℕ)) (who : Caller) (holds : Option Content) (answers : Option (List Asked)) (faults : ℕ)
+-- this is the caller, by what the keeper answered if it was asked of a text
+pub record IsCaller (text bearer : Option (List ℕ)) (who : Caller) (holds : Option Content) (answers : Option (List Asked)) (faults : ℕ)
     (holds_now : Option Content) (answers_now : Option (List Asked)) (faults_now : ℕ) : Type 0 where
   pub name : Option (Option (List ℕ))
-  pub is : caller_meant who ≡ caller_by (text_in bearer) bearer name
-  pub told : answers_now ≡ option_map (λ (known : List Asked). known ++ asks_who (text_in bearer) name) answers
-  pub kept : KeeperDid holds (asks_who (text_in bearer) name) holds_now
-  pub counted : CountsFaults faults (asks_who (text_in bearer) name) faults_now
+  pub is : who ≡ caller_by text bearer name
+  pub told : answers_now ≡ option_map (λ (known : List Asked). known ++ asks_who text name) answers
+  pub kept : KeeperDid holds (asks_who text name) holds_now
+  pub counted : CountsFaults faults (asks_who text name) faults_now
 
--- ---- requests that would make a connection
+-- ---- what is known when an outcome is carried out
 
--- what the table looks at there
-abbrev pub entry_facts : Caller → List Doing → Bool → Facts
-entry_facts who h failed = record { caller = caller_meant who; busy = is_busy (moment h) (notes h); lots_failed = failed; life = Unknown; granted = false }
+-- its reply can be sent: a refusal has a status for that, and where a socket is accepted, what accepts it is there
+abbrev pub CanBeSaid : Option (List ℕ) → Outcome → Type 0
+CanBeSaid accept (Refusal status) = IsReply (bare_reply status)
+CanBeSaid accept PlainSocket = is_some accept ≡ true
+CanBeSaid accept TokenSocket = is_some accept ≡ true
+CanBeSaid accept _ = Unit {0}
 
--- the lots are asked if nothing else stands against a token
-abbrev pub drawing : Bool → Caller → Option (List ℕ) → List Doing → List Doing
-drawing asked who drawn h = if makes_token (negotiate_outcome asked (entry_facts who h false)) then Draws drawn ∷ h else h
+-- it is about the connection of the token that is named
+abbrev pub is_about_token : Outcome → Bool
+is_about_token (Refusal status) = false
+is_about_token (NewToken reconnect) = false
+is_about_token PlainSocket = false
+is_about_token _ = true
 
-abbrev pub draws_told : Bool → Caller → Option (List ℕ) → List Doing → List (Option (List ℕ))
-draws_told asked who drawn h = if makes_token (negotiate_outcome asked (entry_facts who h false)) then drawn ∷ [] else []
+-- this is that connection, and no moment of it has come
+pub record IsNamed (f : Facts) (c : ℕ) (h : List ServerEvent) : Type 0 where
+  pub made : is_made c (notes h) ≡ true
+  pub lives : f.life ≡ standing c (notes h)
+  pub grants : f.granted ≡ is_granted c h
 
--- a negotiate of this caller is answered
-pub record Negotiates {H Job : Type 0} (hub : Hub Job) (s : Setup) (before : List Said) (new : Server H Job) (o : Occasion) (asked : Bool) (who : Caller)
-    (told : Option (List (Option (List ℕ)))) (failures : ℕ) (told_now : Option (List (Option (List ℕ)))) (failures_now : ℕ) (h : List Doing) : Type 0 where
+-- what the table looked at is so
+pub record IsSeen (f : Facts) (c : ℕ) (out : Outcome) (h : List ServerEvent) : Type 0 where
+  pub busy : f.busy ≡ is_busy (moment h) (notes h)
+  pub named : is_about_token out ≡ true → IsNamed f c h
+
+-- ---- what each outcome comes to
+
+-- a token of what was drawn is told, or a refusal if the lots failed
+pub record MakesToken {H Job : Type 0} (hub : Hub Job) (s : Setup) (before : List Said) (new : Server H Job) (o : PendingRequest) (reconnect : Bool)
+    (told : Option (List (Option (List ℕ)))) (failures : ℕ) (told_now : Option (List (Option (List ℕ)))) (failures_now : ℕ) (h : List ServerEvent) : Type 0 where
   pub drawn : Option (List ℕ)
   pub of_sixteen : IsDraw drawn
   pub stands : Standing hub s settled before new
-      (onto (request_plan s o drawn 0 (drawing asked who drawn h) (negotiate_outcome asked (entry_facts who h (not (is_some drawn))))).first (drawing asked who drawn h))
-  pub drawn_told : AddsAll told told_now (draws_told asked who drawn h)
-  pub failed : CountsDraws failures (draws_told asked who drawn h) failures_now
+      (onto (request_plan s o drawn 0 (Draws drawn ∷ h) (if is_some drawn then NewToken reconnect else Refusal 500)).first (Draws drawn ∷ h))
+  pub drawn_told : AddsAll told told_now (drawn ∷ [])
+  pub failed : CountsDraws failures (drawn ∷ []) failures_now
 
--- a socket without a token is answered
-abbrev pub OpensTo : {H Job : Type 0} → Hub Job → Setup → List Said → Server H Job → Occasion → Caller → List Doing → Type 0
-OpensTo hub s before new o who h =
-    Standing hub s settled before new (onto (request_plan s o None 0 h (entry_outcome table.PlainSocket (entry_facts who h false))).first h)
-
--- ---- requests that name a token
-
--- the token's connection
-abbrev pub named_by : List ℕ → List Doing → ℕ
-named_by token h = unwrap_or (conn_with token (notes h)) 0
-
--- this outcome is carried out for the token's connection
-pub record IsCarriedOut {H Job : Type 0} (hub : Hub Job) (s : Setup) (before : List Said) (new : Server H Job) (o : Occasion) (token : List ℕ) (done : Outcome) (h : List Doing) : Type 0 where
-  pub after : List Doing
-  pub follows : Follows (request_plan s o None (named_by token h) h done) h after
+-- this outcome of all that ask for no lots is carried out, for this connection
+pub record IsCarriedOut {H Job : Type 0} (hub : Hub Job) (s : Setup) (before : List Said) (new : Server H Job) (o : PendingRequest) (c : ℕ) (out : Outcome) (h : List ServerEvent) : Type 0 where
+  pub after : List ServerEvent
+  pub follows : Follows (request_plan s o None c h out) h after
   pub stands : Standing hub s settled before new after
 
--- the token's life at the event
-abbrev pub life_now : List ℕ → List Doing → Life
-life_now token h = life token (moment h) (notes h)
+-- an outcome is carried out, and lots were asked only for a token
+abbrev pub CarriesOut : {H Job : Type 0} → Hub Job → Setup → List Said → Server H Job → PendingRequest → ℕ → Option (List (Option (List ℕ))) → ℕ →
+    Option (List (Option (List ℕ))) → ℕ → List ServerEvent → Outcome → Type 0
+CarriesOut hub s before new o c told failures told_now failures_now h (NewToken reconnect) =
+    MakesToken hub s before new o reconnect told failures told_now failures_now h
+CarriesOut hub s before new o c told failures told_now failures_now h out =
+    (told_now ≡ told) × (failures_now ≡ failures) × IsCarriedOut hub s before new o c out h
 
--- and whether its end may be resumed
-abbrev pub granted_now : List ℕ → List Doing → Bool
-granted_now token h = is_granted_some (conn_with token (notes h)) h
+-- one more connection stands on the request's lane, without a token
+abbrev pub OpensTo : {H Job : Type 0} → Hub Job → Setup → List Said → Server H Job → PendingRequest → List ServerEvent → Type 0
+OpensTo hub s before new o h = Standing hub s settled before new (onto (request_plan s o None 0 h PlainSocket).first h)
 
 -- the connection stands on the request's lane, and an older one is shut
-abbrev pub StandsOver : {H Job : Type 0} → Hub Job → Setup → List Said → Server H Job → Occasion → ℕ → List Doing → Type 0
-StandsOver hub s before new o c h = Standing hub s settled before new (onto (request_plan s o None c h table.TokenSocket).first h)
+abbrev pub StandsOver : {H Job : Type 0} → Hub Job → Setup → List Said → Server H Job → PendingRequest → ℕ → List ServerEvent → Type 0
+StandsOver hub s before new o c h = Standing hub s settled before new (onto (request_plan s o None c h TokenSocket).first h)
 
 -- the connection is deleted
-abbrev pub Erases : {H Job : Type 0} → Hub Job → Setup → List Said → Server H Job → Occasion → ℕ → List Doing → Type 0
-Erases hub s before new o c h = Standing hub s settled before new (onto (request_plan s o None c h table.Deletion).first h)
+abbrev pub Erases : {H Job : Type 0} → Hub Job → Setup → List Said → Server H Job → PendingRequest → ℕ → List ServerEvent → Type 0
+Erases hub s before new o c h = Standing hub s settled before new (onto (request_plan s o None c h Deletion).first h)

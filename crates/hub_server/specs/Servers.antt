@@ -3,17 +3,17 @@ use Rattle.std.specs.Prelude.{◌≡◌, ◌≤◌, ◌<◌, ℕ, true, false, �
 use Rattle.std.specs.Ordering.{nat_cmp}
 use Rattle.std.specs.BTreeMap.{get}
 use Rattle.hd_delivery.specs.Histories as of
-use Rattle.hd_delivery.specs.Histories.{is_kept, is_this, link_count, present_link, was_on}
+use Rattle.hd_delivery.specs.Histories.{is_resumable, is_this, link_count, present_link, was_on}
 use Rattle.hd_delivery.specs.Processes.{processes}
 use Rattle.he_wire.specs.Wires.{IsHouseWire}
 use Rattle.hd_calls.specs.Hubs.{Hub}
 use Rattle.hd_calls.specs.Peers.{Settings, waiting}
-use Rattle.hd_serving.specs.declared.vocabulary.Said.{Said}
-use Rattle.hd_serving.specs.Numbers.{most_frame}
-use Rattle.hd_serving.specs.Lives.{ended_at, is_let_go, is_made, is_polling, lost_at, socket_of}
-use Rattle.hd_serving.specs.Machine.{settings_of}
-use Rattle.hd_serving.specs.Doings.{Doing, notes, work, moment, said, user_of, peer, history, config_for, config_of, has_peer, is_up}
-use Rattle.hd_serving.specs.Plans.{Setup, usual_setup}
+use Rattle.hd_server.specs.declared.vocabulary.Said.{Said}
+use Rattle.hd_server.specs.Numbers.{most_frame}
+use Rattle.hd_server.specs.Lives.{ended_at, is_let_go, is_made, is_polling, lost_at, socket_of}
+use Rattle.hd_server.specs.Machine.{settings_of}
+use Rattle.hd_server.specs.Doings.{ServerEvent, notes, work, moment, said, user_of, peer, history, config_for, config_of, has_peer, is_up}
+use Rattle.hd_server.specs.Plans.{Setup, usual_setup}
 use Rattle.hn_server_front.specs.Stands as front
 use Rattle.hub_server.specs.declared.server.Server.{Server}
 use Rattle.hub_server.specs.Machines.{StandsMachine}
@@ -22,7 +22,7 @@ use Rattle.hub_server.specs.Lanes.{IsLane, Unsettled}
 -- ---- one connection
 
 -- what holds of each connection of a server, after each of its doings
-pub record IsOrderly (u : Unsettled) (c : ℕ) (h : List Doing) : Type 0 where
+pub record IsOrderly (u : Unsettled) (c : ℕ) (h : List ServerEvent) : Type 0 where
   pub made : is_some (settings_of c (work h)) ≡ true → is_made c (notes h) ≡ true
   pub there : has_peer c h ≡ true → is_let_go c (notes h) ≡ false
   pub gone : is_some (settings_of c (work h)) ≡ true → has_peer c h ≡ false → is_let_go c (notes h) ≡ true
@@ -32,18 +32,18 @@ pub record IsOrderly (u : Unsettled) (c : ℕ) (h : List Doing) : Type 0 where
   pub used : has_peer c h ≡ true → (is_this c u.conn || (is_some (socket_of c (notes h)) || is_some (lost_at c (notes h)) || is_polling c (notes h))) ≡ true
   pub linked : has_peer c h ≡ true → (lane : ℕ) → socket_of c (notes h) ≡ Some lane → (is_this lane u.cut || is_some (present_link (history c h))) ≡ true
   pub unlinked : has_peer c h ≡ true → is_some (lost_at c (notes h)) ≡ true → present_link (history c h) ≡ None
-  pub kept : has_peer c h ≡ true → is_some (lost_at c (notes h)) ≡ true → is_kept (config_of c h) (history c h) ≡ true
+  pub kept : has_peer c h ≡ true → is_some (lost_at c (notes h)) ≡ true → is_resumable (config_of c h) (history c h) ≡ true
   pub links : (l : ℕ) → was_on l (history c h) ≡ true → l < link_count (history c h)
   pub timely : of.moment (history c h) ≤ moment h
   pub handled : waiting (peer c h) ≡ None
   pub taken : processes (config_of c h) (history c h) ≡ None
 
 -- between events each connection that doesn't poll is open
-abbrev pub IsRested : ℕ → List Doing → Type 0
+abbrev pub IsRested : ℕ → List ServerEvent → Type 0
 IsRested c h = has_peer c h ≡ true → is_polling c (notes h) ≡ false → is_up c h ≡ true
 
 -- whose connection it is, until it has a peer or is let go
-abbrev pub caller_of : ℕ → List Doing → Option (List ℕ)
+abbrev pub caller_of : ℕ → List ServerEvent → Option (List ℕ)
 caller_of c h = if is_some (settings_of c (work h)) || is_let_go c (notes h) then None else user_of c h
 
 -- ---- the server
@@ -61,7 +61,7 @@ pub record IsBegunBy (s : Setup) (t : Settings) : Type 0 where
 
 -- The server stands for these doings, the latest first, of which these were said before the event that is heard. `u`: what isn't
 -- settled yet
-pub record Standing {H Job : Type 0} (hub : Hub Job) (s : Setup) (u : Unsettled) (before : List Said) (v : Server H Job) (h : List Doing) : Type 0 where
+pub record Standing {H Job : Type 0} (hub : Hub Job) (s : Setup) (u : Unsettled) (before : List Said) (v : Server H Job) (h : List ServerEvent) : Type 0 where
   pub setup : IsSetup s v.base
   pub machine : StandsMachine hub v.machine (work h)
   pub front : front.Stands v.front (notes h)
@@ -73,5 +73,5 @@ pub record Standing {H Job : Type 0} (hub : Hub Job) (s : Setup) (u : Unsettled)
   pub words : said h ≡ before ++ v.words
 
 -- so it is of all doings for which it stood
-abbrev pub OfEach : {H Job : Type 0} → Hub Job → Server H Job → (Setup → Unsettled → List Said → List Doing → Type 0) → Type 0
-OfEach hub v P = (s : Setup) (u : Unsettled) (before : List Said) (h : List Doing) → Standing hub s u before v h → P s u before h
+abbrev pub OfEach : {H Job : Type 0} → Hub Job → Server H Job → (Setup → Unsettled → List Said → List ServerEvent → Type 0) → Type 0
+OfEach hub v P = (s : Setup) (u : Unsettled) (before : List Said) (h : List ServerEvent) → Standing hub s u before v h → P s u before h

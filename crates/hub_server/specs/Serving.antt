@@ -8,10 +8,10 @@ use Rattle.hw_door.specs.declared.error.DoorError.TheVariants as door
 use Rattle.hw_door.specs.declared.heard.Given.{Given}
 use Rattle.hw_door.specs.declared.heard.Heard.{Heard}
 use Rattle.hw_door.specs.Calls.{Told}
-use Rattle.hd_serving.specs.declared.vocabulary.Said.{Said}
-use Rattle.hd_serving.specs.Doings.{Doing, moment}
-use Rattle.hd_serving.specs.Plans.{Setup}
-use Rattle.hd_serving.specs.Serving.{ServesOn, given_as}
+use Rattle.hd_server.specs.declared.vocabulary.Said.{Said}
+use Rattle.hd_server.specs.Doings.{ServerEvent, moment}
+use Rattle.hd_server.specs.Plans.{Setup}
+use Rattle.hd_server.specs.Serving.{ServesOn, given_as}
 use Rattle.hub_server.specs.declared.server.Server.{Server}
 use Rattle.hub_server.specs.declared.serving.ServeFault.{ServeFault}
 use Rattle.hub_server.specs.declared.serving.ServeFault.TheVariants as fault
@@ -57,13 +57,13 @@ pub record GivesAll (before now : Option Told) (words : List Said) (ok : Bool) :
 -- ---- a whole run
 
 -- at its end the server stands for this, and what is around it went on so
-pub record AtEnd {H Job : Type 0} (hub : Hub Job) (s : Setup) (new : Server H Job) (at since : Around) (last : ℕ) (h after : List Doing) : Type 0 where
+pub record AtEnd {H Job : Type 0} (hub : Hub Job) (s : Setup) (new : Server H Job) (at since : Around) (last : ℕ) (h after : List ServerEvent) : Type 0 where
   pub stands : StandsServer hub s new after
   pub went : Went at since h after
   pub timely : moment after ≤ last
 
 -- memory ran out in the middle of an event, before which what is around it had gone on so
-pub record HasEnded {H Job : Type 0} (new : Server H Job) (at : Around) (last : ℕ) (h after : List Doing) : Type 0 where
+pub record HasEnded {H Job : Type 0} (new : Server H Job) (at : Around) (last : ℕ) (h after : List ServerEvent) : Type 0 where
   pub ended : new.is_ended ≡ true
   pub until : Around
   pub went : Went at until h after
@@ -75,7 +75,7 @@ AreTurns None turns n = n ≡ turns
 AreTurns (Some why) turns n = n ≤ turns
 
 -- this happened, which only want of memory can bring about
-abbrev pub IfMemoryEnds : Option ServeFault → (List Doing → Type 0) → List Doing → Type 0
+abbrev pub IfMemoryEnds : Option ServeFault → (List ServerEvent → Type 0) → List ServerEvent → Type 0
 IfMemoryEnds (Some fault.NoMemory) Ended after = Ended after
 IfMemoryEnds (Some fault.Door) Ended after = ⊥
 IfMemoryEnds None Ended after = ⊥
@@ -88,5 +88,5 @@ pub record HasServed {H Job : Type 0} (hub : Hub Job) (old new : Server H Job) (
   pub given : List Given
   pub told : TellsMore before now heard waits given
   pub count : AreTurns why turns (length heard)
-  pub serves : (s : Setup) (h : List Doing) → StandsServer hub s old h → moment h ≤ first
+  pub serves : (s : Setup) (h : List ServerEvent) → StandsServer hub s old h → moment h ≤ first
       → ServesOn hub s (is_some why) (AtEnd hub s new at since last h) (IfMemoryEnds why (HasEnded new at last h)) h heard waits given

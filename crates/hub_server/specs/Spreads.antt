@@ -8,22 +8,22 @@ use Rattle.he_end.specs.declared.errors.SendError.{SendError}
 use Rattle.he_end.specs.declared.errors.SendError.TheVariants.{Full, NoMemory}
 use Rattle.he_end.specs.declared.spelled.Spelled.{Spelled}
 use Rattle.he_end.specs.Calls.{IsSpelled}
-use Rattle.hub_server.specs.declared.spreading.Spellings.{Spellings}
+use Rattle.hub_server.specs.declared.broadcast.Spellings.{Spellings}
 
 -- what is done with a connection
-pub data Dealing : Type 0 where
-  Sends : (conn : ℕ) → (message : Message) → (refusal : Option SendError) → Dealing  -- the message is sent to it, or refused
-  Slows : (conn : ℕ) → Dealing  -- it is closed as too slow
+pub data Delivering : Type 0 where
+  Sends : (conn : ℕ) → (message : Message) → (refusal : Option SendError) → Delivering  -- the message is sent to it, or refused
+  Slows : (conn : ℕ) → Delivering  -- it is closed as too slow
 
 -- what was answered when the message was sent to a connection: None if it wasn't, as it has no codec
 abbrev pub Answer : Type 0
 Answer = Option (Option SendError)
 
 -- one that has no room is closed as too slow
-abbrev pub dealing : Message → ℕ × Answer → List Dealing
-dealing m (c, None) = []
-dealing m (c, Some (Some (Full held bytes size))) = Sends c m (Some (Full held bytes size)) ∷ Slows c ∷ []
-dealing m (c, Some refusal) = Sends c m refusal ∷ []
+abbrev pub delivering : Message → ℕ × Answer → List Delivering
+delivering m (c, None) = []
+delivering m (c, Some (Some (Full held bytes size))) = Sends c m (Some (Full held bytes size)) ∷ Slows c ∷ []
+delivering m (c, Some refusal) = Sends c m refusal ∷ []
 
 -- the message is sent to a connection exactly if it has a codec, and there was memory for it
 pub record IsAsked (codec : Option Codec) (answer : Answer) : Type 0 where
@@ -35,11 +35,11 @@ AreAsked codec [] = Unit {0}
 AreAsked codec (a ∷ answers) = IsAsked (codec a.0) a.1 × AreAsked codec answers
 
 -- the message goes to each of these connections, once and in order: what is done beyond what was done before
-pub record Spreads (codec : ℕ → Option Codec) (to : List ℕ) (m : Message) (before after : List Dealing) : Type 0 where
+pub record Spreads (codec : ℕ → Option Codec) (to : List ℕ) (m : Message) (before after : List Delivering) : Type 0 where
   pub answers : List (ℕ × Answer)
   pub of_each : map (λ a. a.0) answers ≡ to
   pub asked : AreAsked codec answers
-  pub dealt : after ≡ before ++ flat_map (dealing m) answers
+  pub dealt : after ≡ before ++ flat_map (delivering m) answers
 
 -- the connection is one of these
 abbrev pub is_listed : ℕ → List ℕ → Bool
@@ -47,14 +47,14 @@ is_listed k [] = false
 is_listed k (c ∷ cs) = (k == c) || is_listed k cs
 
 -- there was no memory for sending it to this connection
-abbrev pub IsRefused : ℕ → Message → List Dealing → List Dealing → Type 0
+abbrev pub IsRefused : ℕ → Message → List Delivering → List Delivering → Type 0
 IsRefused c m before after = after ≡ before ++ Sends c m (Some NoMemory) ∷ []
 
 -- nothing was done, or it went to the first of these, up to one for which there was no memory
-abbrev pub IsCutShort : (ℕ → Option Codec) → List ℕ → Message → List Dealing → List Dealing → Type 0
+abbrev pub IsCutShort : (ℕ → Option Codec) → List ℕ → Message → List Delivering → List Delivering → Type 0
 IsCutShort codec to m before after =
     (after ≡ before)
-    ⊎ ((some rest : List ℕ) × (c : ℕ) × (mid : List Dealing) × (to ≡ some ++ c ∷ rest) × Spreads codec some m before mid × IsRefused c m mid after)
+    ⊎ ((some rest : List ℕ) × (c : ℕ) × (mid : List Delivering) × (to ≡ some ++ c ∷ rest) × Spreads codec some m before mid × IsRefused c m mid after)
 
 -- ---- spellings
 

@@ -1,15 +1,15 @@
 //! How connections begin, stand on lanes, poll and end.
 
 ghost use Rattle.std.specs.Prelude.{◌≡◌, ℕ, true, false, List, ◌∷◌, ◌++◌, [], IfOk, OnOk, Some as Given, None as Absent, option_copied, unwrap_or};
-ghost use Rattle.hd_lanes.specs.Replies.{IsReply};
+ghost use Rattle.hw_lanes.specs.Replies.{IsReply};
 ghost use Rattle.hd_delivery.specs.declared.vocabulary.Reason.TheVariants as reason;
-ghost use Rattle.hd_serving.specs.Table.{FirstPoll, NextPoll};
-ghost use Rattle.hd_serving.specs.Doings.{Doing, Notes, has_peer, history, is_granted, moment, notes};
-ghost use Rattle.hd_serving.specs.Lives as note;
-ghost use Rattle.hd_serving.specs.Plans.{Occasion as OccasionMeant, Setup, closing, connecting, ending_held, letting_go, losing, onto, replying, request_plan, standing_on};
+ghost use Rattle.hd_server.specs.declared.vocabulary.Outcome.TheVariants.{FirstPoll, NextPoll};
+ghost use Rattle.hd_server.specs.Doings.{ServerEvent, Notes, has_peer, history, is_granted, moment, notes};
+ghost use Rattle.hd_server.specs.Lives as note;
+ghost use Rattle.hd_server.specs.Plans.{PendingRequest as OccasionMeant, Setup, closing, connecting, ending_held, letting_go, losing, onto, replying, request_plan, standing_on};
 ghost use Rattle.hj_jobs.specs.Meaning.{meaning};
 ghost use Rattle.hub_server.specs.Lanes.{conn_of, cut_of, is_at, lane_of, poll_lane, settled};
-ghost use Rattle.hd_serving.specs.Numbers.{most_frame, most_held, most_held_bytes};
+ghost use Rattle.hd_server.specs.Numbers.{most_frame, most_held, most_held_bytes};
 ghost use Rattle.hd_delivery.specs.Histories.{present_link};
 ghost use Rattle.hub_server.specs.Servers.{OfEach, Standing};
 ghost use Rattle.hub_server.specs.Steps.{Follows, HasCome};
@@ -17,16 +17,16 @@ ghost use Rattle.hub_server.specs.Connections.{CanHold, CanStand, Frees, HasLeft
 ghost use Rattle.std.specs.Fmt.{decimal};
 
 use crate::lane::Lane;
-use crate::requests::{Occasion, bare};
+use crate::requests::{PendingRequest, bare};
 use crate::server::Server;
 use hd_delivery::Reason;
-use hd_lanes::{BodyKind, Reply, Text8, Vec8};
-use hd_serving::{MOST_FRAME, MOST_HELD, MOST_HELD_BYTES};
+use hd_server::{MOST_FRAME, MOST_HELD, MOST_HELD_BYTES};
 use he_end::Config;
 use hj_jobs::Hub;
 use hm_message::Codec;
 use hq_resend::Limits;
 use hv_value::Text;
+use hw_lanes::{BodyKind, Reply, Text8, Vec8};
 use std::alloc::{AllocError, Global};
 
 impl<H: Hub> Server<H> {
@@ -39,20 +39,20 @@ impl<H: Hub> Server<H> {
 
     // ---- sockets
 
-    /// The connection stands on the lane from now on, and is told so. Its peer begins, if it has none; `promised`: it can be resumed.
-    pub(crate) fn stand_on(
+    /// The connection stands on the lane from now on, and is told so. Its peer begins, if it has none; `resumable`: it can be resumed.
+    pub(crate) fn attach_socket(
         &mut self,
         alloc: Global,
         conn: u64,
-        at: Occasion,
-        promised: bool,
+        at: PendingRequest,
+        resumable: bool,
         accept: Text8,
     ) -> Result<(), AllocError>
         ensures stands { OnOk result (OfEach (meaning H.begin_of H.step_of) self.old (λ s u before h. u ≡ settled → HasCome at.lane at.is_last h → CanStand conn h →
             (o : OccasionMeant) → o.now ≡ moment h → o.lane ≡ at.lane → o.request.upgrade ≡ Given accept →
-            Standing (meaning H.begin_of H.step_of) s u before self.new (onto (standing_on s o conn promised h) h))) }
+            Standing (meaning H.begin_of H.step_of) s u before self.new (onto (standing_on s o conn resumable h) h))) }
     {
-        self.connect(alloc, conn, promised)?;
+        self.connect(alloc, conn, resumable)?;
         // Its end is open and kept, or new.
         let _attached = self.machine.attach(conn, self.moment);
         if let Some(older) = self.front.lane(conn) {
@@ -77,9 +77,9 @@ impl<H: Hub> Server<H> {
     }
 
     /// The connection gets its peer, if it has none.
-    fn connect(&mut self, alloc: Global, conn: u64, promised: bool) -> Result<(), AllocError>
+    fn connect(&mut self, alloc: Global, conn: u64, resumable: bool) -> Result<(), AllocError>
         ensures connects { OnOk result (OfEach (meaning H.begin_of H.step_of) self.old (λ s u before h. u ≡ settled → IsKnown conn h →
-            Standing (meaning H.begin_of H.step_of) s (conn_of conn) before self.new (onto (connecting s conn promised h) h))) }
+            Standing (meaning H.begin_of H.step_of) s (conn_of conn) before self.new (onto (connecting s conn resumable h) h))) }
     {
         if self.machine.peer(conn).is_some() {
             return Ok(());
@@ -89,7 +89,7 @@ impl<H: Hub> Server<H> {
         let config = Config {
             codec: Codec::Json,
             version: 1,
-            reconnect: promised,
+            reconnect: resumable,
             limits: limits(),
         };
         self.machine
@@ -105,11 +105,11 @@ impl<H: Hub> Server<H> {
         alloc: Global,
         hub: &H,
         conn: u64,
-        at: Occasion,
+        at: PendingRequest,
     ) -> Result<(), AllocError>
         ensures polled { OnOk result (OfEach (meaning H.begin_of H.step_of) self.old (λ s u before h. u ≡ settled → HasCome at.lane at.is_last h → CanStand conn h →
             has_peer conn h ≡ false → note.socket_of conn (notes h) ≡ Absent → note.lost_at conn (notes h) ≡ Absent → (o : OccasionMeant) → o.now ≡ moment h → o.lane ≡ at.lane →
-            (after : List Doing) × Follows (request_plan s o Absent conn h FirstPoll) h after × Standing (meaning H.begin_of H.step_of) s u before self.new after)) }
+            (after : List ServerEvent) × Follows (request_plan s o Absent conn h FirstPoll) h after × Standing (meaning H.begin_of H.step_of) s u before self.new after)) }
     {
         self.connect(alloc, conn, false)?;
         let _attached = self.machine.attach(conn, self.moment);
@@ -126,11 +126,11 @@ impl<H: Hub> Server<H> {
         alloc: Global,
         hub: &H,
         conn: u64,
-        at: Occasion,
+        at: PendingRequest,
     ) -> Result<(), AllocError>
         ensures polled { OnOk result (OfEach (meaning H.begin_of H.step_of) self.old (λ s u before h. HasCome at.lane at.is_last h → u ≡ settled →
             CanHold conn h → (o : OccasionMeant) → o.now ≡ moment h → o.lane ≡ at.lane →
-            (after : List Doing) × Follows (request_plan s o Absent conn h NextPoll) h after × Standing (meaning H.begin_of H.step_of) s u before self.new after)) }
+            (after : List ServerEvent) × Follows (request_plan s o Absent conn h NextPoll) h after × Standing (meaning H.begin_of H.step_of) s u before self.new after)) }
     {
         self.end_held(alloc, conn)?;
         self.feed(alloc, hub, conn, &[])?;
@@ -139,7 +139,7 @@ impl<H: Hub> Server<H> {
     }
 
     /// The connection holds this poll from now on.
-    pub(crate) fn hold_poll(&mut self, conn: u64, at: Occasion) -> Result<(), AllocError>
+    pub(crate) fn hold_poll(&mut self, conn: u64, at: PendingRequest) -> Result<(), AllocError>
         ensures held { OnOk result (OfEach (meaning H.begin_of H.step_of) self.old (λ s u before h. u ≡ settled → HasCome at.lane at.is_last h → CanHold conn h →
             Standing (meaning H.begin_of H.step_of) s u before self.new (Notes (note.Polled conn at.lane (moment h)) ∷ h))) }
     {
@@ -238,7 +238,7 @@ impl<H: Hub> Server<H> {
     {
         self.leave(conn);
         self.callers.remove(&conn);
-        self.machine.drop_conn(conn);
+        self.machine.remove_conn(conn);
         self.front.closed(conn);
     }
 
@@ -273,7 +273,7 @@ impl<H: Hub> Server<H> {
 fn limits() -> Limits
     ensures { result ≡ record { frame = most_frame; count = most_held; bytes = most_held_bytes } }
 {
-    hd_serving::numbers_are_named();
+    hd_server::numbers_are_named();
     Limits::of(MOST_FRAME, MOST_HELD, MOST_HELD_BYTES).unwrap()
 }
 

@@ -1,21 +1,21 @@
 //! Events: what a server does about each, but for requests; and what a moment ends.
 
 ghost use Rattle.std.specs.Prelude.{◌≡◌, ℕ, List, OnOk, Some as Given, None as Absent, true};
-ghost use Rattle.hd_serving.specs.Doings.{Doing, moment};
-ghost use Rattle.hd_serving.specs.Lives.{overdue};
-ghost use Rattle.hd_serving.specs.Plans.{conn_on, losing_lane, onto, poller_on};
-ghost use Rattle.hd_serving.specs.Serves.{IsFed};
+ghost use Rattle.hd_server.specs.Doings.{ServerEvent, moment};
+ghost use Rattle.hd_server.specs.Lives.{overdue};
+ghost use Rattle.hd_server.specs.Plans.{conn_on, losing_lane, onto, poller_on};
+ghost use Rattle.hd_server.specs.Serves.{IsFed};
 ghost use Rattle.hj_jobs.specs.Meaning.{meaning};
 ghost use Rattle.hub_server.specs.Lanes.{lane_of, settled};
 ghost use Rattle.hub_server.specs.Servers.{IsRested, OfEach, Standing};
 ghost use Rattle.hub_server.specs.Steps.{CanHandle, Handles, NoneOverdue, around, expired_by, lost_in};
 ghost use Rattle.hub_server.specs.Events.{Expires, HasHeardBytes};
-ghost use Rattle.hd_serving.specs.declared.vocabulary.Said.{Said as SaidMeant};
-ghost use Rattle.hd_serving.specs.Plans.{Setup};
+ghost use Rattle.hd_server.specs.declared.vocabulary.Said.{Said as SaidMeant};
+ghost use Rattle.hd_server.specs.Plans.{Setup};
 
 use crate::server::Server;
 use hd_delivery::Reason;
-use hd_serving::Life;
+use hd_server::Life;
 use hj_jobs::Hub;
 use hk_keeper::Keeper;
 use hw_door::{Event, Lots};
@@ -31,7 +31,7 @@ impl<H: Hub> Server<H> {
         keeper: &mut K,
         lots: &mut L,
     ) -> Result<(), AllocError>
-        ensures { OnOk result ((s : Setup) (before : List SaidMeant) (h : List Doing) → Standing (meaning H.begin_of H.step_of) s (lane_of (lost_in event)) before self.old h →
+        ensures { OnOk result ((s : Setup) (before : List SaidMeant) (h : List ServerEvent) → Standing (meaning H.begin_of H.step_of) s (lane_of (lost_in event)) before self.old h →
             ((c : ℕ) → IsRested c h) → CanHandle event h → NoneOverdue h → Handles (meaning H.begin_of H.step_of) s before self.new
             (around (K.holds keeper.old) (K.answers keeper.old) (K.faults keeper.old) (L.drawn lots.old) (L.faults lots.old))
             (around (K.holds keeper.new) (K.answers keeper.new) (K.faults keeper.new) (L.drawn lots.new) (L.faults lots.new))
@@ -104,7 +104,7 @@ impl<H: Hub> Server<H> {
             Standing (meaning H.begin_of H.step_of) s u before self.new (expired_by h)) }
         ensures over { OfEach (meaning H.begin_of H.step_of) self.old (λ s u before h. NoneOverdue (expired_by h)) }
     {
-        hd_serving::moments_come_once();
+        hd_server::moments_come_once();
         for _expired in 0..u64::MAX {
             if !self.expire_next() {
                 return;
@@ -126,7 +126,7 @@ impl<H: Hub> Server<H> {
         }
         self.leave(conn);
         self.callers.remove(&conn);
-        self.machine.drop_conn(conn);
+        self.machine.remove_conn(conn);
         let _conn = self.front.expired(self.moment);
         true
     }

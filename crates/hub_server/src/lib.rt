@@ -11,7 +11,7 @@
 //! out what jobs hand up: who joins and leaves groups, what a group or a user is told, what the keeper keeps and recalls. A message goes to
 //! many connections by [`spread`], whoever these [`Members`] are.
 //!
-//! Proved: a server stands for the list of all that it did, as `hd_serving` defines it, and each event adds a turn of the definitions, which
+//! Proved: a server stands for the list of all that it did, as `hd_server` defines it, and each event adds a turn of the definitions, which
 //! asks the keeper and the lots no more and no less than that; through a door each event is answered whole before the next is heard. A
 //! machine stands for the list of all that happened, and each call adds its own. A round gives each job that is due one turn, connection by
 //! connection in the order of their numbers, and carries out what a job hands up before the next turn; a message to many goes to each member
@@ -22,26 +22,26 @@
 //! The crate doesn't know what a hub's methods do, how a keeper keeps, nor sockets and clocks.
 #![tactic(auto)]
 
-mod answering;
-mod carrying;
+mod broadcast;
 mod connections;
+mod effects;
 mod events;
+mod flush;
+mod idle_set;
 mod lane;
 mod machine;
 mod members;
+mod members_of_machine;
 mod requests;
 mod rounds;
 mod server;
 mod serving;
-mod sleepers;
 mod sleeping;
-mod spreading;
-mod telling;
 mod traffic;
 mod words;
 
+pub use broadcast::spread;
 pub use machine::Machine;
 pub use members::Members;
 pub use server::Server;
 pub use serving::{ServeFault, serve};
-pub use spreading::spread;

@@ -4,20 +4,20 @@ ghost use Rattle.std.specs.Prelude.{◌≡◌, ◌≤◌, ◌<◌, ◌⊎◌, �
 ghost use Rattle.hs_shake.specs.Requests.{IsVersion};
 ghost use Rattle.hd_delivery.specs.declared.vocabulary.Side.TheVariants.{Server};
 ghost use Rattle.hd_delivery.specs.Histories as of;
-ghost use Rattle.hd_delivery.specs.Histories.{Attached, Detached, Lent, Ticked, Silenced, present_link, was_on, first_link, is_kept, is_silence};
+ghost use Rattle.hd_delivery.specs.Histories.{Attached, Detached, Lent, Ticked, Silenced, present_link, was_on, first_link, is_resumable, is_silence};
 ghost use Rattle.hd_delivery.specs.Due.{due};
 ghost use Rattle.hd_delivery.specs.Bytes.{Wire, Bytes, Does as Step_of, unread};
 ghost use Rattle.hd_delivery.specs.OneHistory.{next_reader};
 ghost use Rattle.he_wire.specs.Wires.{IsHouseWire};
 ghost use Rattle.he_end.specs.Calls.{taken_at};
 ghost use Rattle.hd_calls.specs.Peers.{Plain, byte_steps, codec, is_shut, steps};
-ghost use Rattle.hd_serving.specs.Machine.{Connects, Does, Goes, Happening, settings_of};
+ghost use Rattle.hd_server.specs.Machine.{Connects, Does, Goes, MachineEvent, settings_of};
 ghost use Rattle.hj_jobs.specs.Meaning.{meaning};
 ghost use Rattle.hp_peer.specs.Stands.{settings};
 ghost use Rattle.hub_server.specs.Machines.{IsAsItWas, OfConn, peer_at, settings_there, StandsMachine};
 ghost use Rattle.hub_server.specs.Calls.{ClosesOut, HasSaid, IsUntaken, Takes};
 
-use crate::sleepers::Sleepers;
+use crate::idle_set::IdleSet;
 use hd_delivery::{Reason, Side, State};
 use he_end::{AttachError, Config};
 use hg_groups::Registry;
@@ -39,7 +39,7 @@ use std::collections::BTreeMap;
 pub struct Machine<H: Hub> {
     pub(crate) peers: BTreeMap<u64, Peer<H>>,
     pub(crate) registry: Registry,
-    pub(crate) sleepers: Sleepers,
+    pub(crate) idle_set: IdleSet,
 }
 
 impl<H: Hub> Machine<H> {
@@ -50,7 +50,7 @@ impl<H: Hub> Machine<H> {
         Ok(Machine {
             peers: BTreeMap::new(alloc),
             registry: Registry::start(alloc)?,
-            sleepers: Sleepers::start(alloc),
+            idle_set: IdleSet::start(alloc),
         })
     }
 
@@ -72,7 +72,7 @@ impl<H: Hub> Machine<H> {
         user: Option<&Text>,
     ) -> Result<(), AllocError>
         requires { IsVersion config.version }
-        ensures { OnOk result ((w : List Happening) (wire : Wire) → IsHouseWire config.limits.frame wire → 0 < conn → settings_of conn w ≡ None →
+        ensures { OnOk result ((w : List MachineEvent) (wire : Wire) → IsHouseWire config.limits.frame wire → 0 < conn → settings_of conn w ≡ None →
             StandsMachine (meaning H.begin_of H.step_of) self.old w →
             StandsMachine (meaning H.begin_of H.step_of) self.new (Connects conn (settings Server config wire who) (option_copied user.entry) ∷ w)) }
     {
@@ -80,14 +80,14 @@ impl<H: Hub> Machine<H> {
         if let Some(user) = user {
             self.registry.name(alloc, user, conn)?;
         }
-        self.sleepers.reserve(self.peers.len() + 1)?;
+        self.idle_set.reserve(self.peers.len() + 1)?;
         self.peers.insert(conn, peer)?;
-        self.sleepers.add(conn);
+        self.idle_set.add(conn);
         Ok(())
     }
 
     /// Nothing is kept of a connection.
-    pub fn drop_conn(&mut self, conn: u64)
+    pub fn remove_conn(&mut self, conn: u64)
         ensures gone { OfConn (meaning H.begin_of H.step_of) self.old conn (λ w t h. StandsMachine (meaning H.begin_of H.step_of) self.new (Goes conn ∷ w)) }
         ensures none { peer_at self.old conn ≡ None → self.new ≡ self.old }
     {
@@ -96,7 +96,7 @@ impl<H: Hub> Machine<H> {
         }
         self.peers.remove(&conn);
         self.registry.gone(conn);
-        self.sleepers.forget(conn);
+        self.idle_set.forget(conn);
     }
 
     // ---- what the connection's end is told, and what it tells
@@ -107,8 +107,8 @@ impl<H: Hub> Machine<H> {
             StandsMachine (meaning H.begin_of H.step_of) self.new (Does conn (Plain (Step_of (Attached l now))) ∷ w))) }
         ensures closed { IfErr result (λ e. e ≡ AttachError.Closed → OfConn (meaning H.begin_of H.step_of) self.old conn (λ w t h. is_shut t h ≡ true)) }
         ensures not_granted { IfErr result (λ e. e ≡ AttachError.NotGranted → OfConn (meaning H.begin_of H.step_of) self.old conn (λ w t h.
-            (is_shut t h ≡ false) × (is_kept t.config (steps t h) ≡ false) × (first_link (steps t h) ≡ None → ⊥))) }
-        ensures kept { OnErr result (IsAsItWas (meaning H.begin_of H.step_of) self.old self.new) }
+            (is_shut t h ≡ false) × (is_resumable t.config (steps t h) ≡ false) × (first_link (steps t h) ≡ None → ⊥))) }
+        ensures unchanged { OnErr result (IsAsItWas (meaning H.begin_of H.step_of) self.old self.new) }
         ensures absent { peer_at self.old conn ≡ None → (result ≡ Err AttachError.Closed) × (self.new ≡ self.old) }
     {
         self.wake(conn);

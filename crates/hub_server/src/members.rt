@@ -7,19 +7,19 @@ ghost use Rattle.hm_message.specs.declared.message.Codec.{Codec as CodecMeant};
 ghost use Rattle.hd_calls.specs.Hubs.{Invoked};
 ghost use Rattle.he_end.specs.Calls.{IsSpelled};
 ghost use Rattle.hp_peer.specs.Calling.{IsNotice};
-ghost use Rattle.hub_server.specs.Spreads.{Dealing, Sends, Slows};
+ghost use Rattle.hub_server.specs.Spreads.{Delivering, Sends, Slows};
 
 use he_end::{SendError, Spelled};
 use hm_message::{Codec, Message};
 
 /// Connections by their numbers.
 ///
-/// An implementation says by `Deals` which dealings with them, in order, lead from one state to another (none from a state to itself), and by
-/// `codec_of` in which codec each is spoken to. What a refused message leaves is for `Deals` to say.
+/// An implementation says by `Delivers` which dealings with them, in order, lead from one state to another (none from a state to itself), and by
+/// `codec_of` in which codec each is spoken to. What a refused message leaves is for `Delivers` to say.
 pub trait Members {
-    ghost Deals: { Self → List Dealing → Self → Type 0 };
+    ghost Delivers: { Self → List Delivering → Self → Type 0 };
 
-    ghost starts: { (s : Self) → Deals s [] s };
+    ghost starts: { (s : Self) → Delivers s [] s };
 
     ghost codec_of: { Self → ℕ → Option CodecMeant };
 
@@ -39,12 +39,12 @@ pub trait Members {
         requires fits { Fits message.now }
         requires member { codec_of self.old conn ≡ Given spelled.now.codec }
         requires spelled { IsSpelled spelled.now.codec message.now spelled.now.frame }
-        ensures dealt { (s : Self) (deals : List Dealing) → Deals s deals self.old →
-            Deals s (deals ++ Sends conn message.now (result_err result) ∷ []) self.new }
+        ensures dealt { (s : Self) (deals : List Delivering) → Delivers s deals self.old →
+            Delivers s (deals ++ Sends conn message.now (result_err result) ∷ []) self.new }
         ensures same { (k : ℕ) → codec_of self.new k ≡ codec_of self.old k };
 
     /// Closes the connection as too slow. The codec of no other changes.
     fn slow(&mut self, conn: u64)
-        ensures dealt { (s : Self) (deals : List Dealing) → Deals s deals self.old → Deals s (deals ++ Slows conn ∷ []) self.new }
+        ensures dealt { (s : Self) (deals : List Delivering) → Delivers s deals self.old → Delivers s (deals ++ Slows conn ∷ []) self.new }
         ensures others { (k : ℕ) → (k ≡ conn → ⊥) → codec_of self.new k ≡ codec_of self.old k };
 }

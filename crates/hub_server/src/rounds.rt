@@ -3,15 +3,15 @@
 
 ghost use Rattle.std.specs.Prelude.{◌≡◌, ◌==◌, ◌<◌, ℕ, false, List, ◌∷◌, Some, None, IfOk, OnOk, is_some, not};
 ghost use Rattle.std.specs.BTreeMap.{btree_map_len};
-ghost use Rattle.hd_serving.specs.Machine.{first_turn, Happening, Rounds};
+ghost use Rattle.hd_server.specs.Machine.{first_turn, MachineEvent, Rounds};
 ghost use Rattle.hj_jobs.specs.Meaning.{meaning};
-ghost use Rattle.hub_server.specs.Machines.{StandsMachine, nap_at, peer_at};
+ghost use Rattle.hub_server.specs.Machines.{StandsMachine, idle_peer_at, peer_at};
 ghost use Rattle.hub_server.specs.Outside.{outside};
 ghost use Rattle.hub_server.specs.Rounds.{AreNumbers, HasBegun, HasRound, HasTurned, InRound, IsCountOfJobs, Steps as StepsTo, has_turn};
 
 use crate::machine::Machine;
 use hd_calls::Deed;
-use hd_serving::turns_are_tested;
+use hd_server::turns_are_tested;
 use he_end::Steps;
 use hj_jobs::Hub;
 use hk_keeper::Keeper;
@@ -31,11 +31,11 @@ impl<H: Hub> Machine<H> {
         steps: &mut Steps<L>,
         now: u64,
     ) -> Result<(), AllocError>
-        ensures { OnOk result ((w : List Happening) → StandsMachine (meaning H.begin_of H.step_of) self.old w → HasRound (meaning H.begin_of H.step_of) self.new
+        ensures { OnOk result ((w : List MachineEvent) → StandsMachine (meaning H.begin_of H.step_of) self.old w → HasRound (meaning H.begin_of H.step_of) self.new
             (outside (K.holds keeper.old) (K.answers keeper.old) (K.faults keeper.old) steps.old)
             (outside (K.holds keeper.new) (K.answers keeper.new) (K.faults keeper.new) steps.new) now w) }
     {
-        hd_server::answers_join();
+        hd_rooms::answers_join();
         turns_are_tested();
         let conns = self.awake(alloc)?;
         self.begin_rounds(&conns);
@@ -52,10 +52,10 @@ impl<H: Hub> Machine<H> {
 
     /// Whether a round that begins now would give no job a turn.
     pub fn idle(&self) -> bool
-        ensures { (w : List Happening) (now : ℕ) → StandsMachine (meaning H.begin_of H.step_of) self.now w → result ≡ not (is_some (first_turn now w)) }
+        ensures { (w : List MachineEvent) (now : ℕ) → StandsMachine (meaning H.begin_of H.step_of) self.now w → result ≡ not (is_some (first_turn now w)) }
     {
         turns_are_tested();
-        for &conn in self.sleepers.awake.numbers() {
+        for &conn in self.idle_set.awake.numbers() {
             if self.is_due(conn) {
                 return false;
             }
@@ -65,7 +65,7 @@ impl<H: Hub> Machine<H> {
 
     /// Whether a round that begins now would give a job of this connection a turn.
     fn is_due(&self, conn: u64) -> bool
-        ensures there { (w : List Happening) (now : ℕ) → StandsMachine (meaning H.begin_of H.step_of) self.now w → nap_at self.now conn ≡ None →
+        ensures there { (w : List MachineEvent) (now : ℕ) → StandsMachine (meaning H.begin_of H.step_of) self.now w → idle_peer_at self.now conn ≡ None →
             result ≡ has_turn conn (Rounds now ∷ w) }
     {
         turns_are_tested();
@@ -77,7 +77,7 @@ impl<H: Hub> Machine<H> {
 
     /// A round begins at each of these, which are all that are awake. At the others no job has a turn in it.
     fn begin_rounds(&mut self, conns: &[u64])
-        ensures { (w : List Happening) (now : ℕ) → AreNumbers self.old conns.now → StandsMachine (meaning H.begin_of H.step_of) self.old w →
+        ensures { (w : List MachineEvent) (now : ℕ) → AreNumbers self.old conns.now → StandsMachine (meaning H.begin_of H.step_of) self.old w →
             StandsMachine (meaning H.begin_of H.step_of) self.new (Rounds now ∷ w) }
     {
         for &conn in conns {
@@ -90,7 +90,7 @@ impl<H: Hub> Machine<H> {
         ensures begun { HasBegun (meaning H.begin_of H.step_of) (peer_at self.old conn) (peer_at self.new conn) }
         ensures others { (k : ℕ) → (conn == k) ≡ false → peer_at self.new k ≡ peer_at self.old k }
         ensures registry { self.new.registry ≡ self.old.registry }
-        ensures sleepers { self.new.sleepers ≡ self.old.sleepers }
+        ensures idle_set { self.new.idle_set ≡ self.old.idle_set }
         ensures count { btree_map_len self.new.peers ≡ btree_map_len self.old.peers }
     {
         if let Some(peer) = self.peers.get_mut(&conn) {
@@ -108,13 +108,13 @@ impl<H: Hub> Machine<H> {
         conn: u64,
         now: u64,
     ) -> Result<(), AllocError>
-        ensures { OnOk result ((w r : List Happening) → StandsMachine (meaning H.begin_of H.step_of) self.old r → InRound now w r conn →
+        ensures { OnOk result ((w r : List MachineEvent) → StandsMachine (meaning H.begin_of H.step_of) self.old r → InRound now w r conn →
             HasTurned (meaning H.begin_of H.step_of) self.new
             (outside (K.holds keeper.old) (K.answers keeper.old) (K.faults keeper.old) steps.old)
             (outside (K.holds keeper.new) (K.answers keeper.new) (K.faults keeper.new) steps.new) now w r conn) }
     {
         // Each deed takes the round past one job more, so after as many deeds as there are jobs none is left.
-        hd_server::answers_join();
+        hd_rooms::answers_join();
         let jobs = self.jobs(conn);
         for _deed in 0..jobs {
             let Some((job, deed)) = self.step_job(alloc, hub, conn, now)? else {
@@ -127,7 +127,7 @@ impl<H: Hub> Machine<H> {
 
     /// How many calls have begun a job at this connection.
     fn jobs(&self, conn: u64) -> u64
-        ensures { (r : List Happening) → StandsMachine (meaning H.begin_of H.step_of) self.now r → IsCountOfJobs conn r result }
+        ensures { (r : List MachineEvent) → StandsMachine (meaning H.begin_of H.step_of) self.now r → IsCountOfJobs conn r result }
     {
         match self.peers.get(&conn) {
             Some(peer) => peer.begun(),
@@ -143,7 +143,7 @@ impl<H: Hub> Machine<H> {
         conn: u64,
         now: u64,
     ) -> Result<Option<(u64, Deed)>, AllocError>
-        ensures { IfOk result (λ found. (w r : List Happening) → StandsMachine (meaning H.begin_of H.step_of) self.old r → InRound now w r conn →
+        ensures { IfOk result (λ found. (w r : List MachineEvent) → StandsMachine (meaning H.begin_of H.step_of) self.old r → InRound now w r conn →
             StepsTo (meaning H.begin_of H.step_of) self.new now w r conn found) }
     {
         turns_are_tested();

@@ -1,22 +1,22 @@
 //! A server of hubs: what it hears event by event, and what it says.
 
 ghost use Rattle.std.specs.Prelude.{◌≡◌, ◌<◌, ◌∷◌, ℕ, List, [], true, is_err, IfOk, OnOk, OnErr};
-ghost use Rattle.hd_lanes.specs.Replies.{IsReply};
-ghost use Rattle.hd_serving.specs.Doings.{Hears, Doing, has_peer, has_closed, history, is_granted, is_up, moment, name_now, notes, work};
-ghost use Rattle.hd_serving.specs.Plans.{Setup};
-ghost use Rattle.hd_serving.specs.Serves.{IsTurn, MayBeHeard};
-ghost use Rattle.hd_serving.specs.Serving.{is_idle};
+ghost use Rattle.hw_lanes.specs.Replies.{IsReply};
+ghost use Rattle.hd_server.specs.Doings.{Hears, ServerEvent, has_peer, has_closed, history, is_granted, is_up, moment, name_now, notes, work};
+ghost use Rattle.hd_server.specs.Plans.{Setup};
+ghost use Rattle.hd_server.specs.Serves.{IsTurn, MayBeHeard};
+ghost use Rattle.hd_server.specs.Serving.{is_idle};
 ghost use Rattle.hj_jobs.specs.Meaning.{meaning};
 ghost use Rattle.hub_server.specs.Lanes.{lane_of, settled};
 ghost use Rattle.hub_server.specs.Words.{AreReplies};
 ghost use Rattle.hub_server.specs.Servers.{IsRested, IsSetup, OfEach, Standing};
-ghost use Rattle.hd_serving.specs.declared.vocabulary.Said.{Said as SaidMeant};
+ghost use Rattle.hd_server.specs.declared.vocabulary.Said.{Said as SaidMeant};
 ghost use Rattle.hub_server.specs.Steps.{HasTurn, IsRounded, StandsServer, TurnsTo, around, lost_in};
 
 use crate::lane::Lane;
 use crate::machine::Machine;
 use crate::words::Words;
-use hd_serving::Said;
+use hd_server::Said;
 use he_end::Steps;
 use hj_jobs::Hub;
 use hk_keeper::Keeper;
@@ -76,7 +76,7 @@ impl<H: Hub> Server<H> {
         keeper: &mut K,
         lots: &mut L,
     ) -> Result<Vec<Said>, AllocError>
-        ensures turn { IfOk result (λ words. (s : Setup) (h : List Doing) → StandsServer (meaning H.begin_of H.step_of) s self.old h → MayBeHeard heard h →
+        ensures turn { IfOk result (λ words. (s : Setup) (h : List ServerEvent) → StandsServer (meaning H.begin_of H.step_of) s self.old h → MayBeHeard heard h →
             HasTurn (meaning H.begin_of H.step_of) s self.new
             (around (K.holds keeper.old) (K.answers keeper.old) (K.faults keeper.old) (L.drawn lots.old) (L.faults lots.old))
             (around (K.holds keeper.new) (K.answers keeper.new) (K.faults keeper.new) (L.drawn lots.new) (L.faults lots.new))
@@ -103,7 +103,7 @@ impl<H: Hub> Server<H> {
 
     /// Whether a round that begins now would give no job a turn.
     pub fn idle(&self) -> bool
-        ensures { (s : Setup) (h : List Doing) → StandsServer (meaning H.begin_of H.step_of) s self.now h → result ≡ is_idle h }
+        ensures { (s : Setup) (h : List ServerEvent) → StandsServer (meaning H.begin_of H.step_of) s self.now h → result ≡ is_idle h }
     {
         self.machine.idle()
     }
@@ -117,20 +117,20 @@ impl<H: Hub> Server<H> {
         keeper: &mut K,
         lots: &mut L,
     ) -> Result<(), AllocError>
-        ensures turn { OnOk result ((s : Setup) (before : List SaidMeant) (h : List Doing) → Standing (meaning H.begin_of H.step_of) s settled before self.old h → ((c : ℕ) → IsRested c h) → MayBeHeard heard h →
+        ensures turn { OnOk result ((s : Setup) (before : List SaidMeant) (h : List ServerEvent) → Standing (meaning H.begin_of H.step_of) s settled before self.old h → ((c : ℕ) → IsRested c h) → MayBeHeard heard h →
             TurnsTo (meaning H.begin_of H.step_of) s before self.new
             (around (K.holds keeper.old) (K.answers keeper.old) (K.faults keeper.old) (L.drawn lots.old) (L.faults lots.old))
             (around (K.holds keeper.new) (K.answers keeper.new) (K.faults keeper.new) (L.drawn lots.new) (L.faults lots.new))
             heard h) }
     {
-        hd_server::answers_join();
+        hd_rooms::answers_join();
         let Heard { now, event } = heard;
         self.hear(now, &event);
         self.expire();
         self.handle(alloc, event, hub, keeper, lots)?;
         self.tick_all(alloc)?;
         self.round::<K, Brand>(alloc, hub, keeper, Blank::new(1))?;
-        self.tell_all(alloc)?;
+        self.flush_all(alloc)?;
         Ok(())
     }
 

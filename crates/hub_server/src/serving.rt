@@ -9,7 +9,7 @@ ghost use Rattle.hub_server.specs.declared.serving.ServeFault.TheVariants as fau
 ghost use Rattle.hub_server.specs.Words.{AreReplies};
 
 use crate::server::Server;
-use hd_serving::{MOST_WAIT, Said};
+use hd_server::{MOST_WAIT, Said};
 use hj_jobs::Hub;
 use hk_keeper::Keeper;
 use hw_door::{Door, DoorError, Lots};
@@ -66,7 +66,7 @@ pub fn serve<D: Door, H: Hub, K: Keeper, L: Lots>(
     ensures ended { server.old.is_ended ≡ true → (is_ok result ≡ (turns == 0)) × (server.new.is_ended ≡ true) }
     ensures cause { IsCausedBy (D.faults door.old) (D.faults door.new) result }
 {
-    hd_server::answers_join();
+    hd_rooms::answers_join();
     for _turn in 0..turns {
         turn(alloc, server, hub, door, keeper, lots)?;
     }
@@ -99,7 +99,7 @@ fn turn<D: Door, H: Hub, K: Keeper, L: Lots>(
 fn give_all<D: Door>(door: &mut D, words: Vec<Said>) -> Result<(), ServeFault>
     requires { AreReplies words.items }
     ensures given { GivesAll (D.told door.old) (D.told door.new) words.items (is_ok result) }
-    ensures still { D.moment door.new ≡ D.moment door.old }
+    ensures others_unchanged { D.moment door.new ≡ D.moment door.old }
     ensures cause { IsCausedBy (D.faults door.old) (D.faults door.new) result }
 {
     for word in words {
@@ -112,7 +112,7 @@ fn give_all<D: Door>(door: &mut D, words: Vec<Said>) -> Result<(), ServeFault>
 fn give<D: Door>(door: &mut D, word: Said) -> Result<(), ServeFault>
     requires { AreReplies (word ∷ []) }
     ensures given { GivesAll (D.told door.old) (D.told door.new) (word ∷ []) (is_ok result) }
-    ensures still { D.moment door.new ≡ D.moment door.old }
+    ensures others_unchanged { D.moment door.new ≡ D.moment door.old }
     ensures cause { IsCausedBy (D.faults door.old) (D.faults door.new) result }
 {
     match word {

@@ -1,18 +1,18 @@
 //! What one connection's end is fed, and what it says.
 
 ghost use Rattle.std.specs.Prelude.{◌≡◌, ◌≤◌, ◌&&◌, not, OnOk, IfOk, is_some, true, false, [], length, None as Absent};
-ghost use Rattle.hd_delivery.specs.Histories.{is_kept, present_link};
+ghost use Rattle.hd_delivery.specs.Histories.{is_resumable, present_link};
 ghost use Rattle.hd_calls.specs.Peers.{codec, is_shut, steps};
-ghost use Rattle.hd_serving.specs.Serves.{can_feed, is_text};
-ghost use Rattle.hd_serving.specs.Machine.{Happening, connections};
+ghost use Rattle.hd_server.specs.Serves.{can_feed, is_text};
+ghost use Rattle.hd_server.specs.Machine.{MachineEvent, connections};
 ghost use Rattle.hj_jobs.specs.Meaning.{meaning};
-ghost use Rattle.hq_resend.specs.Bounds.{most_frame};
+ghost use Rattle.hd_delivery.specs.Bounds.{most_frame};
 ghost use Rattle.hub_server.specs.Machines.{OfConn, StandsMachine, peer_at};
 ghost use Rattle.hub_server.specs.Traffic.{FeedsBytes, FeedsPiece, IsClear, LendsDue, LendsSome, TakesOne, TakesWhole, IsServers};
 
 use crate::machine::Machine;
 use hd_delivery::State;
-use hd_serving::MOST_BEFORE_LAST;
+use hd_server::MOST_BEFORE_LAST;
 use hj_jobs::Hub;
 use hm_message::Codec;
 use hp_peer::PeerError;
@@ -45,11 +45,11 @@ impl<H: Hub> Machine<H> {
 
     /// Whether it is open, and kept when its link is lost.
     pub(crate) fn is_granted(&self, conn: u64) -> bool
-        ensures there { OfConn (meaning H.begin_of H.step_of) self.now conn (λ w t h. result ≡ (not (is_shut t h) && is_kept t.config (steps t h))) }
+        ensures there { OfConn (meaning H.begin_of H.step_of) self.now conn (λ w t h. result ≡ (not (is_shut t h) && is_resumable t.config (steps t h))) }
         ensures absent { peer_at self.now conn ≡ Absent → result ≡ false }
     {
         match self.peers.get(&conn) {
-            Some(peer) => peer.end().state() != State::Closed && peer.end().is_kept(),
+            Some(peer) => peer.end().state() != State::Closed && peer.end().is_resumable(),
             None => false,
         }
     }
@@ -103,7 +103,7 @@ impl<H: Hub> Machine<H> {
         ensures fed { IfOk result (λ fed. OfConn (meaning H.begin_of H.step_of) self.old conn (λ w t h. IsClear t h →
             FeedsPiece (meaning H.begin_of H.step_of) self.new conn w t h now fed bytes.now)) }
     {
-        hd_runs::taken_has_room();
+        hd_delivery::taken_has_room();
         he_wire::wire_is_sound();
         if !self.can_feed(conn) {
             return Ok(0);
@@ -126,7 +126,7 @@ impl<H: Hub> Machine<H> {
         ensures { OnOk result (OfConn (meaning H.begin_of H.step_of) self.old conn (λ w t h.
             TakesWhole (meaning H.begin_of H.step_of) self.new conn w t h now)) }
     {
-        hd_runs::takes_few();
+        hd_delivery::takes_few();
         he_wire::wire_is_sound();
         self.frames_are_few(conn);
         for _taken in 0..u64::MAX {
@@ -171,7 +171,7 @@ impl<H: Hub> Machine<H> {
             LendsDue (meaning H.begin_of H.step_of) self.new conn w t h any out.old.items out.new.items)) }
     {
         hd_delivery::facts_hold();
-        hd_runs::writes_few();
+        hd_delivery::writes_few();
         let mut any = false;
         for _said in 0..u64::MAX {
             if !self.say(conn, out)? {
@@ -188,8 +188,8 @@ impl<H: Hub> Machine<H> {
             LendsSome (meaning H.begin_of H.step_of) self.new conn w t h any body.new.items)) }
     {
         hd_delivery::facts_hold();
-        hd_runs::writes_few();
-        hd_serving::numbers_are_named();
+        hd_delivery::writes_few();
+        hd_server::numbers_are_named();
         let mut any = false;
         for _said in 0..u64::MAX {
             if body.len() > MOST_BEFORE_LAST {

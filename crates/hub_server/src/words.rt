@@ -1,12 +1,12 @@
 //! What a server says at an event.
 
 ghost use Rattle.std.specs.Prelude.{◌≡◌, ◌++◌, ◌∷◌, [], OnOk};
-ghost use Rattle.hd_lanes.specs.Replies.{IsReply};
-ghost use Rattle.hd_serving.specs.declared.vocabulary.Said.TheVariants as say;
+ghost use Rattle.hw_lanes.specs.Replies.{IsReply};
+ghost use Rattle.hd_server.specs.declared.vocabulary.Said.TheVariants as say;
 ghost use Rattle.hub_server.specs.Words.{AreReplies};
 
-use hd_lanes::{Reply, Vec8};
-use hd_serving::Said;
+use hd_server::Said;
+use hw_lanes::{Reply, Vec8};
 use std::alloc::{AllocError, Global};
 use std::marker::Model;
 use std::mem;
@@ -19,7 +19,7 @@ pub struct Words {
 
 impl Model for Words {
     ghost use Rattle.std.specs.Prelude.{List};
-    ghost use Rattle.hd_serving.specs.declared.vocabulary.Said.{Said};
+    ghost use Rattle.hd_server.specs.declared.vocabulary.Said.{Said};
     ghost use Rattle.hub_server.specs.Words.{AreReplies};
 
     ghost Value = { List Said };

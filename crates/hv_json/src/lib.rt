@@ -2,8 +2,7 @@
 //!
 //! Whoever reads many texts keeps a scratch, and reads each of them by
 //! `read_value_in(alloc, &mut scratch, bytes)`; [`write_value`] appends to what `out` holds. To write
-//! values among tokens of one's own there are [`put_value`] and [`put_items`], and to read them [`quick`]
-//! and [`read_members_in`].
+//! values among tokens of one's own there are [`put_value`] and [`put_items`].
 //!
 //! Proved: what is read is what `serde_json` reads in the bytes, and each refusal is the first of the
 //! reasons that hold; what is written is the value's compact text, which is read again as its image.
@@ -19,6 +18,5 @@ pub use laws::{
     printed_is_text, reading_takes_no_memory, text_has_no_control, text_is_of_image,
     text_is_read_again, written_is_read_again,
 };
-pub use one_pass::{Hard, quick};
-pub use reading::{JsonError, read_members_in, read_value, read_value_in};
+pub use reading::{JsonError, read_value, read_value_in};
 pub use writing::{put_items, put_value, write_value};

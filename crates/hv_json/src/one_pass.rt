@@ -16,7 +16,7 @@ use thiserror::Error;
 
 /// Why the quick reading gives no value.
 #[derive(Clone, Copy, Debug, Drop, PartialEq, Eq, Error)]
-pub enum Hard {
+pub(crate) enum Fallback {
     /// It is for the slower reading to say what it is. The text may also have a value.
     #[error("the quick reading leaves it to the slower one")]
     Other,
@@ -24,15 +24,15 @@ pub enum Hard {
     NoMemory,
 }
 
-impl From<AllocError> for Hard {
-    fn from(_e: AllocError) -> Hard {
-        Hard::NoMemory
+impl From<AllocError> for Fallback {
+    fn from(_e: AllocError) -> Fallback {
+        Fallback::NoMemory
     }
 }
 
-impl<T: Drop> From<AllocFailed<T>> for Hard {
-    fn from(_e: AllocFailed<T>) -> Hard {
-        Hard::NoMemory
+impl<T: Drop> From<AllocFailed<T>> for Fallback {
+    fn from(_e: AllocFailed<T>) -> Fallback {
+        Fallback::NoMemory
     }
 }
 
@@ -40,35 +40,35 @@ impl<T: Drop> From<AllocFailed<T>> for Hard {
 /// After it the reader is at what follows the value; after an error it may be anywhere. Nothing is said of which
 /// tokens it doubts.
 #[cycle(quick)]
-pub fn quick(alloc: Global, reader: &mut Reader<'_>, room: u32) -> Result<Value, Hard>
+pub(crate) fn quick(alloc: Global, reader: &mut Reader<'_>, room: u32) -> Result<Value, Fallback>
     requires { room ≤ 64 }
     ensures ok { IfOk result (λ v. Begins room reader.old reader.new (tree v)) }
     ensures shorter { OnOk result (length reader.new < length reader.old) }
 {
     map_has_the_keys();
     pairs_in_order_are_their_map();
-    let token = reader.next().ok_or(Hard::Other)?;
+    let token = reader.next().ok_or(Fallback::Other)?;
     match token {
         Token::String(text) => Ok(Value::Text(Text::of(alloc, text)?)),
         Token::Number(text) => match whole(text) {
             Some(n) => Ok(Value::Int(n)),
-            None => Err(Hard::Other),
+            None => Err(Fallback::Other),
         },
         Token::Bool(b) => Ok(Value::Bool(b)),
         Token::Null => Ok(Value::Null),
         Token::BeginArray => {
             if room == 0 {
-                return Err(Hard::Other);
+                return Err(Fallback::Other);
             }
             let values = quick_items(alloc, reader, room - 1)?;
             match Items::of(values) {
                 Ok(items) => Ok(Value::List(items)),
-                Err(_) => Err(Hard::Other),
+                Err(_) => Err(Fallback::Other),
             }
         }
         Token::BeginObject => {
             if room == 0 {
-                return Err(Hard::Other);
+                return Err(Fallback::Other);
             }
             let pairs = quick_members(alloc, reader, room - 1)?;
             match Value::map_from(pairs) {
@@ -77,17 +77,17 @@ pub fn quick(alloc: Global, reader: &mut Reader<'_>, room: u32) -> Result<Value,
                     prove!(map.depth() <= 64);
                     Ok(map)
                 }
-                Err(ValueError::NoMemory) => Err(Hard::NoMemory),
-                Err(ValueError::TooDeep) => Err(Hard::Other),
+                Err(ValueError::NoMemory) => Err(Fallback::NoMemory),
+                Err(ValueError::TooDeep) => Err(Fallback::Other),
             }
         }
-        _ => Err(Hard::Other),
+        _ => Err(Fallback::Other),
     }
 }
 
 #[cycle(quick)]
 #[inline(never)]
-fn quick_items(alloc: Global, reader: &mut Reader<'_>, room: u32) -> Result<Vec<Value>, Hard>
+fn quick_items(alloc: Global, reader: &mut Reader<'_>, room: u32) -> Result<Vec<Value>, Fallback>
     requires { room ≤ 63 }
     ensures ok { IfOk result (λ v. BeginsItems room reader.old reader.new (trees_of v.items)) }
     ensures shorter { OnOk result (length reader.new < length reader.old) }
@@ -102,11 +102,11 @@ fn quick_items(alloc: Global, reader: &mut Reader<'_>, room: u32) -> Result<Vec<
 
 #[cycle(quick)]
 #[inline(never)]
-pub(crate) fn quick_members(
+fn quick_members(
     alloc: Global,
     reader: &mut Reader<'_>,
     room: u32,
-) -> Result<Vec<(Text, Value)>, Hard>
+) -> Result<Vec<(Text, Value)>, Fallback>
     requires { room ≤ 63 }
     ensures shallow { IfOk result (λ v. depth_of_values (entries v.items) ≤ room) }
     ensures ok { IfOk result (λ v. BeginsMembers room reader.old reader.new (entries v.items)) }
@@ -118,13 +118,13 @@ pub(crate) fn quick_members(
         let name = match reader.next_key() {
             Ok(Some(name)) => name,
             Ok(None) => break,
-            Err(_) => return Err(Hard::Other),
+            Err(_) => return Err(Fallback::Other),
         };
         let key = Text::of(alloc, name)?;
         let member = quick(alloc, reader, room)?;
         // It never is, but this is sooner seen than proved.
         if member.depth() > room {
-            return Err(Hard::Other);
+            return Err(Fallback::Other);
         }
         pairs.push((key, member))?;
     }

@@ -4,14 +4,14 @@ ghost use Rattle.serde_json.specs.Data.{depth as nesting, items_depth, members_d
 ghost use Rattle.serde_json.specs.Written.{has_float, items_have_float, members_have_float};
 ghost use Rattle.serde_json.specs.View.{view, items_view, members_view, number_view};
 ghost use Rattle.serde_json.specs.Find.{is_float};
-ghost use Rattle.hv_value.specs.Tree.{int, depth, depth_of_all, depth_of_values, map_of};
+ghost use Rattle.hv_value.specs.Tree.{int, depth, depth_of_all, depth_of_values};
 ghost use Rattle.hv_value.specs.View.{tree, trees_of as values_of, entries};
 ghost use Rattle.hv_json.specs.Reading.{Refuses, json, reading, tree_of, trees_of, pairs_of, int_of};
 
-use crate::one_pass::{Hard, quick, quick_members};
+use crate::one_pass::{Fallback, quick};
 use hv_value::{
     Items, MOST_LEVELS, Text, Value, ValueError, Whole, depth_of_one_more_item,
-    depth_of_one_more_pair, map_keys_are_in_order, pairs_in_order_are_their_map,
+    depth_of_one_more_pair,
 };
 use json::{Reader, Scratch, Token};
 use serde_json::{Map, Number, Value as Json};
@@ -211,46 +211,18 @@ fn parse(alloc: Global, bytes: &[u8]) -> Result<Option<Json>, AllocError>
 }
 
 /// The value of JSON text that has no fault, if the quick reading sees that.
-fn read_quickly(alloc: Global, scratch: &mut Scratch, bytes: &[u8]) -> Result<Value, Hard>
+fn read_quickly(alloc: Global, scratch: &mut Scratch, bytes: &[u8]) -> Result<Value, Fallback>
     ensures { IfOk result (λ v. reading bytes.now ≡ Ok (tree v)) }
 {
     let Ok(text) = simdutf8::basic::from_utf8(bytes) else {
-        return Err(Hard::Other);
+        return Err(Fallback::Other);
     };
     let mut reader = Reader::new(text, scratch)?;
     let value = quick(alloc, &mut reader, MOST_LEVELS)?;
     if reader.next().is_some() {
-        return Err(Hard::Other);
+        return Err(Fallback::Other);
     }
     Ok(value)
-}
-
-/// The members of JSON text that is one object, as they stand there, if the quick reading sees that
-/// the text has no fault: their map is the text's value. Of those with one name the last counts.
-/// `Other` says nothing of the text: [`read_value_in`] says what it is. `scratch` is as there.
-pub fn read_members_in(
-    alloc: Global,
-    scratch: &mut Scratch,
-    bytes: &[u8],
-) -> Result<Vec<(Text, Value)>, Hard>
-    ensures ok { IfOk result (λ ps. reading bytes.now ≡ Ok (map_of (entries ps.items))) }
-    ensures shallow { IfOk result (λ ps. depth_of_values (entries ps.items) ≤ 63) }
-{
-    map_keys_are_in_order();
-    pairs_in_order_are_their_map();
-    let Ok(text) = simdutf8::basic::from_utf8(bytes) else {
-        return Err(Hard::Other);
-    };
-    let mut reader = Reader::new(text, scratch)?;
-    let token = reader.next().ok_or(Hard::Other)?;
-    let Token::BeginObject = token else {
-        return Err(Hard::Other);
-    };
-    let pairs = quick_members(alloc, &mut reader, MOST_LEVELS - 1)?;
-    if reader.next().is_some() {
-        return Err(Hard::Other);
-    }
-    Ok(pairs)
 }
 
 /// The value, or why there is none, by a tree of JSON that is judged as a whole.
@@ -280,8 +252,8 @@ pub fn read_value_in(alloc: Global, scratch: &mut Scratch, bytes: &[u8]) -> Resu
 {
     match read_quickly(alloc, scratch, bytes) {
         Ok(value) => Ok(value),
-        Err(Hard::NoMemory) => Err(JsonError::NoMemory),
-        Err(Hard::Other) => read_slowly(alloc, bytes),
+        Err(Fallback::NoMemory) => Err(JsonError::NoMemory),
+        Err(Fallback::Other) => read_slowly(alloc, bytes),
     }
 }
 

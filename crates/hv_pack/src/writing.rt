@@ -23,14 +23,14 @@ use std::alloc::{AllocError, Global};
 
 fn put_bytes(out: &mut Vec<u8>, bytes: &[u8]) -> Result<(), AllocError>
     ensures ok { OnOk result (out.new.items ≡ out.old.items ++ bytes.now) }
-    ensures kept { IsPrefix out.old.items out.new.items }
+    ensures unchanged { IsPrefix out.old.items out.new.items }
 {
     out.extend_from_slice(bytes)
 }
 
 fn put_byte(out: &mut Vec<u8>, byte: u8) -> Result<(), AllocError>
     ensures ok { OnOk result (out.new.items ≡ out.old.items ++ byte ∷ []) }
-    ensures kept { IsPrefix out.old.items out.new.items }
+    ensures unchanged { IsPrefix out.old.items out.new.items }
 {
     Ok(out.push(byte)?)
 }
@@ -38,7 +38,7 @@ fn put_byte(out: &mut Vec<u8>, byte: u8) -> Result<(), AllocError>
 /// A marker and the two bytes after it, the higher first.
 fn put_two(out: &mut Vec<u8>, marker: u8, n: u16) -> Result<(), AllocError>
     ensures ok { OnOk result (out.new.items ≡ out.old.items ++ marker ∷ to_be_bytes w16 n) }
-    ensures kept { IsPrefix out.old.items out.new.items }
+    ensures unchanged { IsPrefix out.old.items out.new.items }
 {
     let [a, b] = n.to_be_bytes();
     put_bytes(out, &[marker, a, b])
@@ -47,7 +47,7 @@ fn put_two(out: &mut Vec<u8>, marker: u8, n: u16) -> Result<(), AllocError>
 /// A marker and the four bytes after it, the highest first.
 fn put_four(out: &mut Vec<u8>, marker: u8, n: u32) -> Result<(), AllocError>
     ensures ok { OnOk result (out.new.items ≡ out.old.items ++ marker ∷ to_be_bytes w32 n) }
-    ensures kept { IsPrefix out.old.items out.new.items }
+    ensures unchanged { IsPrefix out.old.items out.new.items }
 {
     let [a, b, c, d] = n.to_be_bytes();
     put_bytes(out, &[marker, a, b, c, d])
@@ -56,7 +56,7 @@ fn put_four(out: &mut Vec<u8>, marker: u8, n: u32) -> Result<(), AllocError>
 /// A marker and the eight bytes after it, the highest first.
 fn put_eight(out: &mut Vec<u8>, marker: u8, n: u64) -> Result<(), AllocError>
     ensures ok { OnOk result (out.new.items ≡ out.old.items ++ marker ∷ to_be_bytes w64 n) }
-    ensures kept { IsPrefix out.old.items out.new.items }
+    ensures unchanged { IsPrefix out.old.items out.new.items }
 {
     let [a, b, c, d, e, f, g, h] = n.to_be_bytes();
     put_bytes(out, &[marker, a, b, c, d, e, f, g, h])
@@ -66,7 +66,7 @@ fn put_eight(out: &mut Vec<u8>, marker: u8, n: u64) -> Result<(), AllocError>
 fn put_text_head(out: &mut Vec<u8>, len: usize) -> Result<(), AllocError>
     ensures ok { OnOk result (out.new.items ≡ out.old.items ++ text_head len) }
     ensures fits { OnOk result (len < 2 ^ 32) }
-    ensures kept { IsPrefix out.old.items out.new.items }
+    ensures unchanged { IsPrefix out.old.items out.new.items }
 {
     match len {
         0..=0x1f => put_byte(out, FIX_STR + len as u8),
@@ -81,7 +81,7 @@ fn put_text_head(out: &mut Vec<u8>, len: usize) -> Result<(), AllocError>
 fn put_bytes_head(out: &mut Vec<u8>, len: usize) -> Result<(), AllocError>
     ensures ok { OnOk result (out.new.items ≡ out.old.items ++ bytes_head len) }
     ensures fits { OnOk result (len < 2 ^ 32) }
-    ensures kept { IsPrefix out.old.items out.new.items }
+    ensures unchanged { IsPrefix out.old.items out.new.items }
 {
     match len {
         0..=0xff => put_bytes(out, &[BIN_8, len as u8]),
@@ -100,7 +100,7 @@ fn put_bytes_head(out: &mut Vec<u8>, len: usize) -> Result<(), AllocError>
 pub fn put_list_head(out: &mut Vec<u8>, len: usize) -> Result<(), AllocError>
     ensures ok { OnOk result (out.new.items ≡ out.old.items ++ list_head len) }
     ensures fits { OnOk result (len < 2 ^ 32) }
-    ensures kept { IsPrefix out.old.items out.new.items }
+    ensures unchanged { IsPrefix out.old.items out.new.items }
 {
     match len {
         0..=0xf => put_byte(out, FIX_ARRAY + len as u8),
@@ -119,7 +119,7 @@ pub fn put_list_head(out: &mut Vec<u8>, len: usize) -> Result<(), AllocError>
 pub fn put_map_head(out: &mut Vec<u8>, len: usize) -> Result<(), AllocError>
     ensures ok { OnOk result (out.new.items ≡ out.old.items ++ map_head len) }
     ensures fits { OnOk result (len < 2 ^ 32) }
-    ensures kept { IsPrefix out.old.items out.new.items }
+    ensures unchanged { IsPrefix out.old.items out.new.items }
 {
     match len {
         0..=0xf => put_byte(out, FIX_MAP + len as u8),
@@ -135,7 +135,7 @@ pub fn put_map_head(out: &mut Vec<u8>, len: usize) -> Result<(), AllocError>
 #[tactic(auto, unfolding(crate::specs::Writing::int_text))]
 pub fn put_number(out: &mut Vec<u8>, n: u64) -> Result<(), AllocError>
     ensures ok { OnOk result (out.new.items ≡ out.old.items ++ int_text (pos n)) }
-    ensures kept { IsPrefix out.old.items out.new.items }
+    ensures unchanged { IsPrefix out.old.items out.new.items }
 {
     match n {
         0..=0x7f => put_byte(out, n as u8),
@@ -151,7 +151,7 @@ pub fn put_number(out: &mut Vec<u8>, n: u64) -> Result<(), AllocError>
 fn put_negative(out: &mut Vec<u8>, k: u64) -> Result<(), AllocError>
     requires { k < 2 ^ 63 }
     ensures ok { OnOk result (out.new.items ≡ out.old.items ++ int_text (negsuc k)) }
-    ensures kept { IsPrefix out.old.items out.new.items }
+    ensures unchanged { IsPrefix out.old.items out.new.items }
 {
     match k {
         0..=0x1f => put_byte(out, u8::MAX - k as u8),
@@ -165,7 +165,7 @@ fn put_negative(out: &mut Vec<u8>, k: u64) -> Result<(), AllocError>
 fn put_int(out: &mut Vec<u8>, n: Whole) -> Result<(), AllocError>
     ensures ok { OnOk result (out.new.items ≡ out.old.items ++ int_text n) }
     ensures fits { OnOk result (IsWhole n) }
-    ensures kept { IsPrefix out.old.items out.new.items }
+    ensures unchanged { IsPrefix out.old.items out.new.items }
 {
     let n = n.get();
     if n >= 0 {
@@ -183,7 +183,7 @@ pub fn put_text(out: &mut Vec<u8>, text: &Text) -> Result<(), AllocError>
     ensures ok { OnOk result (out.new.items ≡ out.old.items ++ string_text text.now) }
     ensures fits { OnOk result (length text.now < 2 ^ 32) }
     ensures utf8 { OnOk result (IsUtf8 text.now) }
-    ensures kept { IsPrefix out.old.items out.new.items }
+    ensures unchanged { IsPrefix out.old.items out.new.items }
 {
     let text = text.as_str();
     put_text_head(out, text.len())?;
@@ -196,7 +196,7 @@ pub fn put_text(out: &mut Vec<u8>, text: &Text) -> Result<(), AllocError>
 /// After an error, which is out of memory, `out` holds what it held.
 pub fn put_nil(out: &mut Vec<u8>) -> Result<(), AllocError>
     ensures ok { OnOk result (out.new.items ≡ out.old.items ++ shortest null) }
-    ensures kept { IsPrefix out.old.items out.new.items }
+    ensures unchanged { IsPrefix out.old.items out.new.items }
 {
     put_byte(out, NIL)
 }
@@ -206,7 +206,7 @@ pub fn put_nil(out: &mut Vec<u8>) -> Result<(), AllocError>
 /// After an error, which is out of memory, `out` holds what it held.
 pub fn put_bool(out: &mut Vec<u8>, b: bool) -> Result<(), AllocError>
     ensures ok { OnOk result (out.new.items ≡ out.old.items ++ shortest (boolean b)) }
-    ensures kept { IsPrefix out.old.items out.new.items }
+    ensures unchanged { IsPrefix out.old.items out.new.items }
 {
     if b {
         put_byte(out, TRUE)
@@ -223,7 +223,7 @@ pub fn put_bool(out: &mut Vec<u8>, b: bool) -> Result<(), AllocError>
 pub fn put_value(out: &mut Vec<u8>, value: &Value) -> Result<(), AllocError>
     ensures ok { OnOk result (out.new.items ≡ out.old.items ++ shortest (tree value.now)) }
     ensures fits { OnOk result (IsWritable (tree value.now)) }
-    ensures kept { IsPrefix out.old.items out.new.items }
+    ensures unchanged { IsPrefix out.old.items out.new.items }
 {
     match value {
         Value::Null => put_nil(out),
@@ -260,7 +260,7 @@ pub fn put_values(out: &mut Vec<u8>, values: &[Value]) -> Result<(), AllocError>
     ensures ok { OnOk result
         (out.new.items ≡ out.old.items ++ trees_text (trees (trees_of values.now))) }
     ensures fits { OnOk result (AreWritable (trees (trees_of values.now))) }
-    ensures kept { IsPrefix out.old.items out.new.items }
+    ensures unchanged { IsPrefix out.old.items out.new.items }
 {
     no_item_is_deeper();
     for value in values {
@@ -274,7 +274,7 @@ fn put_pairs(out: &mut Vec<u8>, members: &[(Text, Value)]) -> Result<(), AllocEr
     ensures ok { OnOk result
         (out.new.items ≡ out.old.items ++ pairs_text (pairs (entries members.now))) }
     ensures fits { OnOk result (PairsAreWritable (pairs (entries members.now))) }
-    ensures kept { IsPrefix out.old.items out.new.items }
+    ensures unchanged { IsPrefix out.old.items out.new.items }
 {
     no_pair_is_deeper();
     for (key, value) in members {

@@ -6,3 +6,4 @@ pub mod Images
 pub mod Orders
 pub mod Keys
 pub mod Places
+pub mod Rising

@@ -4,7 +4,7 @@ use Rattle.std.specs.Map.{keys_of}
 use Rattle.std.specs.List.Sorted.{IsStrictlySortedBy}
 use Rattle.hv_value.specs.Tree.{Tree, Pair, map, pairs, depth, depth_of_all, depth_of_values, key_cmp, map_of, put_all, value_at, last_of}
 use Rattle.hv_value.specs.Order.{keys_of_pairs}
-use Rattle.hv_value.specs.Image.{image}
+use Rattle.hv_value.specs.Image.{image, images}
 use Rattle.hv_value.specs.View.{tree, trees_of, entries}
 use Rattle.hv_value.specs.declared.value.Value.{Value}
 
@@ -35,6 +35,11 @@ MapHasTheKeys = (ps : List Pair) → keys_of_pairs (pairs ps) ≡ keys_of ps
 -- an image is its own image
 abbrev pub ImageIsItsOwn : Type 0
 ImageIsItsOwn = (t : Tree) → image (image t) ≡ image t
+
+-- an image nests as deep as its value, and so do several
+pub record ImageIsAsDeep : Type 0 where
+  pub of_one : (t : Tree) → depth (image t) ≡ depth t
+  pub of_all : (ts : List Tree) → depth_of_all (images ts) ≡ depth_of_all ts
 
 -- the keys of a map of pairs are distinct and in byte order
 abbrev pub KeysOfAMapAreInOrder : Type 0

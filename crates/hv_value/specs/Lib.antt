@@ -9,3 +9,4 @@ pub mod Order
 pub mod Image
 pub mod Places
 pub mod Laws
+pub mod SortedSet

@@ -1,5 +1,5 @@
 //! Facts about all values, which proofs of other crates call upon. Each function does nothing: its contract is the law.
-ghost use Rattle.hv_value.specs.Laws.{NoItemIsDeeper, NoPairIsDeeper, DepthOfOneMoreItem, DepthOfOneMorePair, PairsInOrderAreTheirMap, MapHasTheKeys, ImageIsItsOwn, KeysOfAMapAreInOrder, LastPairCounts};
+ghost use Rattle.hv_value.specs.Laws.{NoItemIsDeeper, NoPairIsDeeper, DepthOfOneMoreItem, DepthOfOneMorePair, PairsInOrderAreTheirMap, MapHasTheKeys, ImageIsItsOwn, ImageIsAsDeep, KeysOfAMapAreInOrder, LastPairCounts};
 
 /// No value of a list is deeper than the deepest of them.
 pub fn no_item_is_deeper()
@@ -34,6 +34,11 @@ pub fn map_has_the_keys()
 /// An image is its own image.
 pub fn image_is_its_own()
     ensures { ImageIsItsOwn }
+{}
+
+/// An image nests as deep as its value.
+pub fn image_is_as_deep()
+    ensures { ImageIsAsDeep }
 {}
 
 /// The keys of a map of pairs are distinct and in byte order.

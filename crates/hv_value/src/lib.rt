@@ -8,18 +8,20 @@
 //! with one key the last counts, and two values are equal if their trees are the same.
 #![tactic(auto)]
 
-mod blob;
+mod byte_string;
 mod laws;
+mod sorted_set;
 mod text;
 mod value;
 mod whole;
 
-pub use blob::Blob;
+pub use byte_string::{Blob, ByteString};
 pub use laws::{
-    depth_of_one_more_item, depth_of_one_more_pair, image_is_its_own, last_pair_counts,
-    map_has_the_keys, map_keys_are_in_order, no_item_is_deeper, no_pair_is_deeper,
-    pairs_in_order_are_their_map,
+    depth_of_one_more_item, depth_of_one_more_pair, image_is_as_deep, image_is_its_own,
+    last_pair_counts, map_has_the_keys, map_keys_are_in_order, no_item_is_deeper,
+    no_pair_is_deeper, pairs_in_order_are_their_map,
 };
+pub use sorted_set::SortedSet;
 pub use text::{Text, Texts};
 pub use value::{Entries, Items, MOST_LEVELS, Value, ValueError};
 pub use whole::Whole;

@@ -11,7 +11,7 @@ ghost use Rattle.hv_value.specs.declared.value.ValueError.TheVariants.{TooDeep, 
 
 mod merge;
 
-use crate::blob::Blob;
+use crate::byte_string::Blob;
 use crate::laws::map_keys_are_in_order;
 use crate::text::Text;
 use crate::whole::Whole;

@@ -1,13 +1,13 @@
 -- One answer more.
 use Rattle.std.proofs.Common.{◌≡◌, ◌+◌, ◌≤◌, ℕ, List, [], ◌∷◌, ◌++◌, length, take, drop, ◌∙◌, ap, refl, suc, arith, length-drop}
 use Rattle.std.proofs.lemmas.List.{take_all, take-append-le, drop-append-le}
-use Rattle.hw_door.specs.declared.ledger.Note.{Note}
-use Rattle.hw_door.specs.declared.ledger.Note.TheVariants as note
+use Rattle.hw_door.specs.declared.ledger.WireCall.{WireCall}
+use Rattle.hw_door.specs.declared.ledger.WireCall.TheVariants as note
 use Rattle.hw_door.specs.Traffic.{Answer}
 use Rattle.hw_door.specs.Ledger.{answer_of, answers_of, bytes_of, size_of, total}
 
 -- what the notes are is as before where more bytes follow, and the last note has those
-pub one_answer_more : (notes : List Note) (one : Note) (bytes new : List ℕ) → total notes ≡ length bytes → bytes_of one ≡ length new →
+pub one_answer_more : (notes : List WireCall) (one : WireCall) (bytes new : List ℕ) → total notes ≡ length bytes → bytes_of one ≡ length new →
     answers_of (notes ++ one ∷ []) (bytes ++ new) ≡ answers_of notes bytes ++ answer_of one new ∷ []
 one_answer_more [] one [] new p q = ap (λ (xs : List ℕ). answer_of one xs ∷ []) (take_all (bytes_of one) new (omega (arith, q)))
 one_answer_more [] one (b ∷ bytes) new p q = absurd (omega (arith, p))
@@ -20,17 +20,17 @@ one_answer_more (n ∷ notes) one bytes new p q =
     ∙ one_answer_more notes one (drop (bytes_of n) bytes) new rest q)
 
 -- and it counts
-pub total_more : (notes : List Note) (one : Note) → total (notes ++ one ∷ []) ≡ total notes + bytes_of one
+pub total_more : (notes : List WireCall) (one : WireCall) → total (notes ++ one ∷ []) ≡ total notes + bytes_of one
 total_more [] one = omega arith
 total_more (n ∷ notes) one = omega (arith, total_more notes one)
 
 -- each note is one answer
-pub as_many : (notes : List Note) (bytes : List ℕ) → length (answers_of notes bytes) ≡ length notes
+pub as_many : (notes : List WireCall) (bytes : List ℕ) → length (answers_of notes bytes) ≡ length notes
 as_many [] bytes = refl
 as_many (n ∷ notes) bytes = ap suc (as_many notes (drop (bytes_of n) bytes))
 
 -- an answer has the bytes that its note stands for
-pub size_told : (one : Note) (bytes : List ℕ) → bytes_of one ≡ length bytes → size_of (answer_of one bytes) ≡ length bytes
+pub size_told : (one : WireCall) (bytes : List ℕ) → bytes_of one ≡ length bytes → size_of (answer_of one bytes) ≡ length bytes
 size_told (note.Polled now) bytes p = p
 size_told note.PollFailed bytes p = p
 size_told (note.Accepted wire) bytes p = p

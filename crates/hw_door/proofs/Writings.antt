@@ -4,8 +4,8 @@ use Rattle.std.specs.Prelude.{if◌then◌else◌, slice_get, ◌==◌}
 use Rattle.std.proofs.lemmas.List.{append-nil}
 use Rattle.std.proofs.lemmas.Bool.Decides.{eqb_tells}
 use Rattle.hw_door.specs.declared.memory_wire.MemoryWire.{MemoryWire}
-use Rattle.hw_door.specs.declared.ledger.Note.{Note}
-use Rattle.hw_door.specs.declared.ledger.Note.TheVariants as note
+use Rattle.hw_door.specs.declared.ledger.WireCall.{WireCall}
+use Rattle.hw_door.specs.declared.ledger.WireCall.TheVariants as note
 use Rattle.hw_door.specs.Ledger.{LedgerState, answer_of, after_telling, with_answer, has_room, size_of}
 use Rattle.hw_door.specs.Lines.{WritesAreTold}
 use Rattle.hw_door.specs.Traffic.{Answer, polled, poll_failed, accepted, accept_failed, connected, connect_failed, bytes_in, not_yet, ended, read_failed, bytes_out, write_failed, was_shut, written_on}
@@ -51,7 +51,7 @@ nothing_of : (b : Bool) → (if b then nothing ++ [] else nothing) ≡ nothing
 nothing_of true = refl
 nothing_of false = refl
 
-pub note_unwritten : (one : Note) (wire : ℕ) → written_on wire (answer_of one [] ∷ []) ≡ []
+pub note_unwritten : (one : WireCall) (wire : ℕ) → written_on wire (answer_of one [] ∷ []) ≡ []
 note_unwritten (note.Polled now) wire = refl
 note_unwritten note.PollFailed wire = refl
 note_unwritten (note.Accepted at) wire = refl
@@ -72,7 +72,7 @@ told_if true one ledger wires p told = told_unwritten wires ledger.answers one p
 told_if false one ledger wires p told = told
 
 -- a note of no bytes, or none, as there is no room
-pub told_still : (one : Note) (ledger : LedgerState) (wires : List WireLeft) → WritesAreTold wires ledger.answers →
+pub told_still : (one : WireCall) (ledger : LedgerState) (wires : List WireLeft) → WritesAreTold wires ledger.answers →
     WritesAreTold wires (after_telling (answer_of one []) ledger).answers
 told_still one ledger wires told =
     told_if (has_room (size_of (answer_of one [])) ledger) (answer_of one []) ledger wires (note_unwritten one) told

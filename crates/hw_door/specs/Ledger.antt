@@ -1,17 +1,17 @@
 -- What wires in memory tell, as notes of the calls and the bytes of all of them one after the other.
 use Rattle.std.specs.Prelude.{◌+◌, ◌-◌, ◌&&◌, ℕ, Bool, true, not, nat_lt, nat_le, List, [], ◌∷◌, ◌++◌, take, drop, length, Option, Some, None, if◌then◌else◌}
-use Rattle.hw_door.specs.declared.ledger.Note.{Note}
-use Rattle.hw_door.specs.declared.ledger.Note.TheVariants as note
+use Rattle.hw_door.specs.declared.ledger.WireCall.{WireCall}
+use Rattle.hw_door.specs.declared.ledger.WireCall.TheVariants as note
 use Rattle.hw_door.specs.Traffic.{Answer, polled, poll_failed, accepted, accept_failed, connected, connect_failed, bytes_in, not_yet, ended, read_failed, bytes_out, write_failed, was_shut}
 
 -- how many bytes a note stands for
-abbrev pub bytes_of : Note → ℕ
+abbrev pub bytes_of : WireCall → ℕ
 bytes_of (note.BytesIn wire count) = count
 bytes_of (note.BytesOut wire count) = count
 bytes_of _ = 0
 
 -- the answer that a note and its bytes are
-abbrev pub answer_of : Note → List ℕ → Answer
+abbrev pub answer_of : WireCall → List ℕ → Answer
 answer_of (note.Polled now) bytes = polled now
 answer_of note.PollFailed bytes = poll_failed
 answer_of (note.Accepted wire) bytes = accepted wire
@@ -33,12 +33,12 @@ size_of (bytes_out wire bytes) = length bytes
 size_of _ = 0
 
 -- the answers that the notes are, each with the next bytes
-abbrev pub answers_of : List Note → List ℕ → List Answer
+abbrev pub answers_of : List WireCall → List ℕ → List Answer
 answers_of [] bytes = []
 answers_of (one ∷ notes) bytes = answer_of one (take (bytes_of one) bytes) ∷ answers_of notes (drop (bytes_of one) bytes)
 
 -- how many bytes the notes stand for
-abbrev pub total : List Note → ℕ
+abbrev pub total : List WireCall → ℕ
 total [] = 0
 total (one ∷ notes) = bytes_of one + total notes
 

@@ -2,8 +2,8 @@
 //!
 //! A lane is one connection, by its number. A moment is in milliseconds since a start of the door's own.
 
-use hd_lanes::{Method, Reply, Request, Text8, Vec8};
 use hv_value::Text;
+use hw_lanes::{Method, Reply, Request, Text8, Vec8};
 
 /// The random bytes of one ask for a WebSocket.
 #[derive(Clone, Copy, Debug, Drop, PartialEq, Eq)]

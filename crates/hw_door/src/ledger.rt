@@ -8,7 +8,7 @@ use std::marker::Model;
 
 /// What one call answered; of bytes that were read or written, how many they were.
 #[derive(Clone, Copy, Drop)]
-pub enum Note {
+pub enum WireCall {
     Polled(u64),
     PollFailed,
     Accepted(Option<u64>),
@@ -27,7 +27,7 @@ pub enum Note {
 /// The answers of calls in order, the bytes of all of them one after the other.
 #[derive(Drop)]
 pub struct Ledger {
-    notes: Vec<Note>,
+    notes: Vec<WireCall>,
     bytes: Vec<u8>,
     note_room: usize,
     byte_room: usize,
@@ -91,7 +91,7 @@ impl Ledger {
     }
 
     /// Tells what a call answered.
-    pub fn tell(&mut self, note: Note, bytes: &[u8])
+    pub fn tell(&mut self, note: WireCall, bytes: &[u8])
         requires room { IsTrue (has_room (length bytes.now) self.old) }
         requires count { bytes_of note ≡ length bytes.now }
         ensures { self.new ≡ with_answer (answer_of note bytes.now) self.old }
@@ -101,7 +101,7 @@ impl Ledger {
     }
 
     /// Tells what a call answered that moved no bytes, if there is room for it. If not, nothing is told from now on.
-    pub fn tell_or_fill(&mut self, note: Note)
+    pub fn tell_or_fill(&mut self, note: WireCall)
         requires count { bytes_of note ≡ 0 }
         ensures { self.new ≡ after_telling (answer_of note []) self.old }
     {

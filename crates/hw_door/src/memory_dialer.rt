@@ -9,7 +9,7 @@ use crate::error::DoorError;
 use crate::heard::{Given, Heard, Upgrade};
 use crate::scripted::Scripted;
 use crate::traits::Dialer;
-use hd_lanes::{Method, Text8, Vec8};
+use hw_lanes::{Method, Text8, Vec8};
 use std::marker::Model;
 
 /// A dialer in memory, for tests: it gives what it was made with, keeps what it is given to say, all of which it says, and fails at the
@@ -86,7 +86,7 @@ impl Dialer for MemoryDialer {
         requires { method ≢ Method.Other }
         ensures given { Says (Some self.old.told) (Some self.new.told) (λ lane. say.Ask lane method target.now upgrade) result }
         ensures fresh { IsNewLane (asks_of self.old + 1) (asks_of self.new + 1) result }
-        ensures still { self.new.moment ≡ self.old.moment }
+        ensures others_unchanged { self.new.moment ≡ self.old.moment }
         ensures cause { HasFaultCause self.old.faults self.new.faults result }
         ensures lane { IfOk result (λ lane. lane ≡ asks_of self.old + 1) }
         ensures fails { FailsIf (ScriptFails self.old) result }
@@ -120,7 +120,7 @@ impl Dialer for MemoryDialer {
     /// Keeps a copy of the message. It fails exactly at the calls that are to fail.
     fn send(&mut self, lane: u64, bytes: &[u8], text: bool) -> Result<(), DoorError>
         ensures given { Says (Some self.old.told) (Some self.new.told) (λ done. say.Bytes lane bytes.now text) result }
-        ensures still { self.new.moment ≡ self.old.moment }
+        ensures others_unchanged { self.new.moment ≡ self.old.moment }
         ensures lanes { asks_of self.new + 1 ≡ asks_of self.old + 1 }
         ensures cause { HasFaultCause self.old.faults self.new.faults result }
         ensures fails { FailsIf (ScriptFails self.old) result }
@@ -133,7 +133,7 @@ impl Dialer for MemoryDialer {
     /// Keeps that the lane was shut. It fails exactly at the calls that are to fail.
     fn shut(&mut self, lane: u64) -> Result<(), DoorError>
         ensures given { Says (Some self.old.told) (Some self.new.told) (λ done. say.Shut lane) result }
-        ensures still { self.new.moment ≡ self.old.moment }
+        ensures others_unchanged { self.new.moment ≡ self.old.moment }
         ensures lanes { asks_of self.new + 1 ≡ asks_of self.old + 1 }
         ensures cause { HasFaultCause self.old.faults self.new.faults result }
         ensures fails { FailsIf (ScriptFails self.old) result }

@@ -1,7 +1,7 @@
 //! A door in memory, for tests.
 
 ghost use Rattle.std.specs.Prelude.{◌≡◌, ℕ, IfOk, Some};
-ghost use Rattle.hd_lanes.specs.Replies.{IsReply};
+ghost use Rattle.hw_lanes.specs.Replies.{IsReply};
 ghost use Rattle.hw_door.specs.declared.heard.Given.TheVariants as say;
 ghost use Rattle.hw_door.specs.Calls.{HasFaultCause, Hears, Says, IsLater};
 ghost use Rattle.hw_door.specs.Memory.{MemoryScript, NeverFalls, ScriptFails, FailsIf, script_of, next_of, after_next, after_saying};
@@ -10,7 +10,7 @@ use crate::error::DoorError;
 use crate::heard::{Given, Heard};
 use crate::scripted::Scripted;
 use crate::traits::Door;
-use hd_lanes::{Reply, Vec8};
+use hw_lanes::{Reply, Vec8};
 use std::marker::Model;
 
 /// A door in memory, for tests: it gives what it was made with, keeps what it is given to say, all of which it says, and fails at the
@@ -75,7 +75,7 @@ impl Door for MemoryDoor {
     fn reply(&mut self, lane: u64, reply: Reply) -> Result<(), DoorError>
         requires { IsReply reply }
         ensures given { Says (Some self.old.told) (Some self.new.told) (λ done. say.Reply lane reply) result }
-        ensures still { self.new.moment ≡ self.old.moment }
+        ensures others_unchanged { self.new.moment ≡ self.old.moment }
         ensures cause { HasFaultCause self.old.faults self.new.faults result }
         ensures fails { FailsIf (ScriptFails self.old) result }
         ensures after { self.new ≡ after_saying (λ done. say.Reply lane reply) result self.old }
@@ -86,7 +86,7 @@ impl Door for MemoryDoor {
     /// Keeps a copy of the message. It fails exactly at the calls that are to fail.
     fn send(&mut self, lane: u64, bytes: &[u8], text: bool) -> Result<(), DoorError>
         ensures given { Says (Some self.old.told) (Some self.new.told) (λ done. say.Bytes lane bytes.now text) result }
-        ensures still { self.new.moment ≡ self.old.moment }
+        ensures others_unchanged { self.new.moment ≡ self.old.moment }
         ensures cause { HasFaultCause self.old.faults self.new.faults result }
         ensures fails { FailsIf (ScriptFails self.old) result }
         ensures after { self.new ≡ after_saying (λ done. say.Bytes lane bytes.now text) result self.old }
@@ -98,7 +98,7 @@ impl Door for MemoryDoor {
     /// Keeps that the lane was shut. It fails exactly at the calls that are to fail.
     fn shut(&mut self, lane: u64) -> Result<(), DoorError>
         ensures given { Says (Some self.old.told) (Some self.new.told) (λ done. say.Shut lane) result }
-        ensures still { self.new.moment ≡ self.old.moment }
+        ensures others_unchanged { self.new.moment ≡ self.old.moment }
         ensures cause { HasFaultCause self.old.faults self.new.faults result }
         ensures fails { FailsIf (ScriptFails self.old) result }
         ensures after { self.new ≡ after_saying (λ done. say.Shut lane) result self.old }

@@ -1,6 +1,6 @@
 //! What wires in memory are made of.
 
-use hd_lanes::Vec8;
+use hw_lanes::Vec8;
 
 /// What a read on a wire in memory gives.
 #[derive(Drop, PartialEq, Eq)]

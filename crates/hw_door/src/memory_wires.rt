@@ -8,7 +8,7 @@ ghost use Rattle.hw_door.specs.Traffic.{CountsWithin, IsPolled, IsNewWire, poll_
 ghost use Rattle.hw_door.specs.Wires.{WiresState, IsRising, wires_of, written_of, is_to_fail, poll_next, accept_next, connect_next, read_next, write_next, answered, after_call, after_shut};
 
 use crate::failing::is_to_fail;
-use crate::ledger::{Ledger, Note};
+use crate::ledger::{Ledger, WireCall};
 use crate::lines::Lines;
 use crate::memory_wire::MemoryWire;
 use crate::moments::Moments;
@@ -63,15 +63,15 @@ fn count_of(read: WireRead) -> usize
     }
 }
 
-fn note_of(wire: u64, read: WireRead) -> Note
+fn note_of(wire: u64, read: WireRead) -> WireCall
     ensures bytes { bytes_of result ≡ count_of read }
     ensures unwritten { (at : ℕ) (bytes : List ℕ) → written_on at (answer_of result bytes ∷ []) ≡ [] }
     ensures answer { (buf : List ℕ) → answer_of result (take (count_of read) buf) ≡ read_answer wire buf (Ok read) }
 {
     match read {
-        WireRead::Some(count) => Note::BytesIn(wire, count),
-        WireRead::NotYet => Note::NotYet(wire),
-        WireRead::Ended => Note::Ended(wire),
+        WireRead::Some(count) => WireCall::BytesIn(wire, count),
+        WireRead::NotYet => WireCall::NotYet(wire),
+        WireRead::Ended => WireCall::Ended(wire),
     }
 }
 
@@ -116,7 +116,7 @@ impl MemoryWires {
     }
 
     /// Fails this call, and tells it if there is room.
-    fn fail(&mut self, note: Note) -> Failed
+    fn fail(&mut self, note: WireCall) -> Failed
         requires { bytes_of note ≡ 0 }
         ensures { self.new ≡ record self.old {
           ledger = after_telling (answer_of note []) self.old.ledger;
@@ -160,56 +160,56 @@ impl Wires for MemoryWires {
         ensures after { self.new ≡ after_call (poll_next self.old) self.old }
     {
         if self.is_to_fail() {
-            return Err(self.fail(Note::PollFailed));
+            return Err(self.fail(WireCall::PollFailed));
         }
         if !self.ledger.has_room(0) {
             return Err(self.overrun());
         }
         let now = self.moments.next();
-        self.ledger.tell(Note::Polled(now), &[]);
+        self.ledger.tell(WireCall::Polled(now), &[]);
         Ok(now)
     }
 
     /// Gives the next wire, if the moment polled last is not before the one from which it may be accepted.
     fn accept(&mut self) -> Result<Option<u64>, Failed>
         ensures fresh { IsNewWire self.old.given self.new.given (accepted_wire result) }
-        ensures still { self.new.moment ≡ self.old.moment }
+        ensures others_unchanged { self.new.moment ≡ self.old.moment }
         ensures told { Adds (told_by self.old.ledger) (told_by self.new.ledger) (accept_answer result) }
         ensures cause { HasCause self.old.faults self.new.faults result }
         ensures answers { accept_answer result ≡ answered accept_failed (accept_next self.old) self.old }
         ensures after { self.new ≡ after_call (accept_next self.old) self.old }
     {
         if self.is_to_fail() {
-            return Err(self.fail(Note::AcceptFailed));
+            return Err(self.fail(WireCall::AcceptFailed));
         }
         if !self.ledger.has_room(0) {
             return Err(self.overrun());
         }
         let wire = self.lines.accept(self.moments.last());
-        self.ledger.tell(Note::Accepted(wire), &[]);
+        self.ledger.tell(WireCall::Accepted(wire), &[]);
         Ok(wire)
     }
 
     /// Gives the next wire, whatever its moment, and fails if none is left.
     fn connect(&mut self, host: &str, port: u16) -> Result<u64, Failed>
         ensures fresh { IsNewWire self.old.given self.new.given (connected_wire result) }
-        ensures still { self.new.moment ≡ self.old.moment }
+        ensures others_unchanged { self.new.moment ≡ self.old.moment }
         ensures told { Adds (told_by self.old.ledger) (told_by self.new.ledger) (connect_answer result) }
         ensures cause { HasCause self.old.faults self.new.faults result }
         ensures answers { connect_answer result ≡ answered connect_failed (connect_next self.old) self.old }
         ensures after { self.new ≡ after_call (connect_next self.old) self.old }
     {
         if self.is_to_fail() {
-            return Err(self.fail(Note::ConnectFailed));
+            return Err(self.fail(WireCall::ConnectFailed));
         }
         if !self.lines.has_next() {
-            return Err(self.fail(Note::ConnectFailed));
+            return Err(self.fail(WireCall::ConnectFailed));
         }
         if !self.ledger.has_room(0) {
             return Err(self.overrun());
         }
         let wire = self.lines.give();
-        self.ledger.tell(Note::Connected(wire), &[]);
+        self.ledger.tell(WireCall::Connected(wire), &[]);
         Ok(wire)
     }
 
@@ -218,17 +218,17 @@ impl Wires for MemoryWires {
     fn read(&mut self, wire: u64, buf: &mut [u8]) -> Result<WireRead, Failed>
         ensures count { IfOk result (λ read. CountsWithin read (length buf.new)) }
         ensures wires { self.new.given ≡ self.old.given }
-        ensures still { self.new.moment ≡ self.old.moment }
+        ensures others_unchanged { self.new.moment ≡ self.old.moment }
         ensures told { Adds (told_by self.old.ledger) (told_by self.new.ledger) (read_answer wire buf.new result) }
         ensures cause { HasCause self.old.faults self.new.faults result }
         ensures answers { read_answer wire buf.new result ≡ answered (read_failed wire) (read_next wire (length buf.old) self.old) self.old }
         ensures after { self.new ≡ after_call (read_next wire (length buf.old) self.old) self.old }
     {
         if self.is_to_fail() {
-            return Err(self.fail(Note::ReadFailed(wire)));
+            return Err(self.fail(WireCall::ReadFailed(wire)));
         }
         match self.lines.peek(wire, buf) {
-            Err(_) => Err(self.fail(Note::ReadFailed(wire))),
+            Err(_) => Err(self.fail(WireCall::ReadFailed(wire))),
             Ok(read) => {
                 let count = count_of(read);
                 if !self.ledger.has_room(count) {
@@ -246,24 +246,24 @@ impl Wires for MemoryWires {
     fn write(&mut self, wire: u64, bytes: &[u8]) -> Result<usize, Failed>
         ensures count { IfOk result (λ count. count ≤ length bytes.now) }
         ensures wires { self.new.given ≡ self.old.given }
-        ensures still { self.new.moment ≡ self.old.moment }
+        ensures others_unchanged { self.new.moment ≡ self.old.moment }
         ensures told { Adds (told_by self.old.ledger) (told_by self.new.ledger) (write_answer wire bytes.now result) }
         ensures cause { HasCause self.old.faults self.new.faults result }
         ensures answers { write_answer wire bytes.now result ≡ answered (write_failed wire) (write_next wire bytes.now self.old) self.old }
         ensures after { self.new ≡ after_call (write_next wire bytes.now self.old) self.old }
     {
         if self.is_to_fail() {
-            return Err(self.fail(Note::WriteFailed(wire)));
+            return Err(self.fail(WireCall::WriteFailed(wire)));
         }
         match self.lines.taken(wire, bytes) {
-            Err(_) => Err(self.fail(Note::WriteFailed(wire))),
+            Err(_) => Err(self.fail(WireCall::WriteFailed(wire))),
             Ok(count) => {
                 if !self.ledger.has_room(count) {
                     return Err(self.overrun());
                 }
                 let taken = &bytes[..count];
                 self.lines.write(wire, taken);
-                self.ledger.tell(Note::BytesOut(wire, count), taken);
+                self.ledger.tell(WireCall::BytesOut(wire, count), taken);
                 Ok(count)
             }
         }
@@ -272,12 +272,12 @@ impl Wires for MemoryWires {
     /// Shuts a wire, also past the room.
     fn shut(&mut self, wire: u64)
         ensures wires { self.new.given ≡ self.old.given }
-        ensures still { self.new.moment ≡ self.old.moment }
+        ensures others_unchanged { self.new.moment ≡ self.old.moment }
         ensures told { Adds (told_by self.old.ledger) (told_by self.new.ledger) (was_shut wire) }
         ensures unfailed { self.new.faults ≡ self.old.faults }
         ensures after { self.new ≡ after_shut wire self.old }
     {
         self.lines.shut(wire);
-        self.ledger.tell_or_fill(Note::WasShut(wire));
+        self.ledger.tell_or_fill(WireCall::WasShut(wire));
     }
 }

@@ -3,14 +3,14 @@
 ghost use Rattle.std.specs.Prelude.{◌≡◌, ◌≢◌, ℕ, List, Option, None};
 ghost use Rattle.std.specs.Result.{result_ok};
 ghost use Rattle.hd_facts.specs.Counts.{HasCause};
-ghost use Rattle.hd_lanes.specs.Replies.{IsReply};
+ghost use Rattle.hw_lanes.specs.Replies.{IsReply};
 ghost use Rattle.hw_door.specs.declared.heard.Given.TheVariants as say;
 ghost use Rattle.hw_door.specs.Calls.{Told, Adds, HasFaultCause, Hears, Says, IsLater, IsNewLane};
 
 use crate::error::DoorError;
 use crate::heard::{Heard, Upgrade};
-use hd_lanes::{Method, Reply};
 use hw_io::Failed;
+use hw_lanes::{Method, Reply};
 
 /// Random draws, of the system or of memory.
 ///
@@ -55,19 +55,19 @@ pub trait Door {
     fn reply(&mut self, lane: u64, reply: Reply) -> Result<(), DoorError>
         requires { IsReply reply }
         ensures given { Says (told self.old) (told self.new) (λ done. say.Reply lane reply) result }
-        ensures still { moment self.new ≡ moment self.old }
+        ensures others_unchanged { moment self.new ≡ moment self.old }
         ensures cause { HasFaultCause (faults self.old) (faults self.new) result };
 
     /// Sends one message, a text or not, on a lane that is a WebSocket. On a lane that is broken this is Ok, and nothing is said.
     fn send(&mut self, lane: u64, bytes: &[u8], text: bool) -> Result<(), DoorError>
         ensures given { Says (told self.old) (told self.new) (λ done. say.Bytes lane bytes.now text) result }
-        ensures still { moment self.new ≡ moment self.old }
+        ensures others_unchanged { moment self.new ≡ moment self.old }
         ensures cause { HasFaultCause (faults self.old) (faults self.new) result };
 
     /// Ends the lane, once what it was given before is said.
     fn shut(&mut self, lane: u64) -> Result<(), DoorError>
         ensures given { Says (told self.old) (told self.new) (λ done. say.Shut lane) result }
-        ensures still { moment self.new ≡ moment self.old }
+        ensures others_unchanged { moment self.new ≡ moment self.old }
         ensures cause { HasFaultCause (faults self.old) (faults self.new) result };
 }
 
@@ -95,7 +95,7 @@ pub trait Dialer {
         requires { method ≢ Method.Other }
         ensures given { Says (told self.old) (told self.new) (λ lane. say.Ask lane method target.now upgrade) result }
         ensures fresh { IsNewLane (lanes self.old) (lanes self.new) result }
-        ensures still { moment self.new ≡ moment self.old }
+        ensures others_unchanged { moment self.new ≡ moment self.old }
         ensures cause { HasFaultCause (faults self.old) (faults self.new) result };
 
     /// Hears what happens next, and waits for that at most `wait` milliseconds. Its moment is never before that of what was heard last.
@@ -108,14 +108,14 @@ pub trait Dialer {
     /// Sends one message, a text or not, on a lane that is a WebSocket. On a lane that is broken this is Ok, and nothing is said.
     fn send(&mut self, lane: u64, bytes: &[u8], text: bool) -> Result<(), DoorError>
         ensures given { Says (told self.old) (told self.new) (λ done. say.Bytes lane bytes.now text) result }
-        ensures still { moment self.new ≡ moment self.old }
+        ensures others_unchanged { moment self.new ≡ moment self.old }
         ensures lanes { lanes self.new ≡ lanes self.old }
         ensures cause { HasFaultCause (faults self.old) (faults self.new) result };
 
     /// Ends the lane, once what it was given before is said.
     fn shut(&mut self, lane: u64) -> Result<(), DoorError>
         ensures given { Says (told self.old) (told self.new) (λ done. say.Shut lane) result }
-        ensures still { moment self.new ≡ moment self.old }
+        ensures others_unchanged { moment self.new ≡ moment self.old }
         ensures lanes { lanes self.new ≡ lanes self.old }
         ensures cause { HasFaultCause (faults self.old) (faults self.new) result };
 }

@@ -46,14 +46,14 @@ pub trait Wires {
     /// Takes a connection that came, if there is one, and answers its number: one that was never answered before.
     fn accept(&mut self) -> Result<Option<u64>, Failed>
         ensures fresh { IsNewWire (wires self.old) (wires self.new) (accepted_wire result) }
-        ensures still { moment self.new ≡ moment self.old }
+        ensures others_unchanged { moment self.new ≡ moment self.old }
         ensures told { Adds (told self.old) (told self.new) (accept_answer result) }
         ensures cause { HasCause (faults self.old) (faults self.new) result };
 
     /// Begins a connection, and answers its number: one that was never answered before. It may not be there yet, or never come to be.
     fn connect(&mut self, host: &str, port: u16) -> Result<u64, Failed>
         ensures fresh { IsNewWire (wires self.old) (wires self.new) (connected_wire result) }
-        ensures still { moment self.new ≡ moment self.old }
+        ensures others_unchanged { moment self.new ≡ moment self.old }
         ensures told { Adds (told self.old) (told self.new) (connect_answer result) }
         ensures cause { HasCause (faults self.old) (faults self.new) result };
 
@@ -61,7 +61,7 @@ pub trait Wires {
     fn read(&mut self, wire: u64, buf: &mut [u8]) -> Result<WireRead, Failed>
         ensures count { IfOk result (λ r. CountsWithin r (length buf.new)) }
         ensures wires { wires self.new ≡ wires self.old }
-        ensures still { moment self.new ≡ moment self.old }
+        ensures others_unchanged { moment self.new ≡ moment self.old }
         ensures told { Adds (told self.old) (told self.new) (read_answer wire buf.new result) }
         ensures cause { HasCause (faults self.old) (faults self.new) result };
 
@@ -69,14 +69,21 @@ pub trait Wires {
     fn write(&mut self, wire: u64, bytes: &[u8]) -> Result<usize, Failed>
         ensures count { IfOk result (λ count. count ≤ length bytes.now) }
         ensures wires { wires self.new ≡ wires self.old }
-        ensures still { moment self.new ≡ moment self.old }
+        ensures others_unchanged { moment self.new ≡ moment self.old }
         ensures told { Adds (told self.old) (told self.new) (write_answer wire bytes.now result) }
         ensures cause { HasCause (faults self.old) (faults self.new) result };
 
     /// Ends the wire.
     fn shut(&mut self, wire: u64)
         ensures wires { wires self.new ≡ wires self.old }
-        ensures still { moment self.new ≡ moment self.old }
+        ensures others_unchanged { moment self.new ≡ moment self.old }
         ensures told { Adds (told self.old) (told self.new) (was_shut wire) }
         ensures unfailed { faults self.new ≡ faults self.old };
+
+    /// A wire on which a read may give something: the first after that of this number, in an order of the wires that goes round. It is a
+    /// hint of which nothing is promised: the wire may have nothing or be none of the caller's, and one that has something may never be
+    /// named. A caller that begins its reads there finds what there is sooner. Wires that can't tell name none.
+    fn ready_after(&self, wire: u64) -> Option<u64> {
+        None
+    }
 }

@@ -3,6 +3,21 @@
 //! [`Source`] and [`Sink`] are the traits. [`MemorySource`] and [`MemorySink`] are forms of them in
 //! memory that fail at chosen calls, for tests; [`StdSource`] and [`StdSink`] stand over a reader
 //! and a writer of std, such as a file, a socket or a standard stream.
+//!
+//! ```text
+//! let mut piece = [0; 4096];
+//! loop {
+//!     let count = source.take(&mut piece)?;          // Err(Failed): nothing was taken
+//!     if count == 0 { break; }                       // the end of the input
+//!     sink.put(&piece[..count])?;                    // Err(Failed): a first part went out
+//! }
+//! ```
+//!
+//! Proved: `take` gives the first of the bytes that were left, and `put` takes all of a piece, after
+//! those before; each fails if and only if its count of faults rises in that call, so no later call
+//! hides a fault.
+//!
+//! The crate doesn't know frames, nor what the bytes say, and it neither waits nor tries again.
 #![tactic(auto)]
 
 mod failing;

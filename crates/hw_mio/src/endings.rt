@@ -11,7 +11,7 @@ use std::collections::VecDeque;
 
 /// A wire that was shut, and the moment at which it is closed at the latest.
 #[derive(Clone, Copy, Drop)]
-struct Due {
+struct Closing {
     wire: u64,
     moment: u64,
 }
@@ -20,7 +20,7 @@ struct Due {
 /// is needed.
 #[derive(Drop)]
 pub struct Endings {
-    queue: VecDeque<Due>,
+    queue: VecDeque<Closing>,
     ghost room: { ENDINGS ≤ deque_capacity queue },
 }
 
@@ -29,7 +29,7 @@ impl Endings {
     pub fn start(alloc: Global) -> Result<Endings, AllocError> {
         let mut queue = VecDeque::with_capacity(alloc, ENDINGS)?;
         // All of it is written once, or its pages would come one by one, and a server would seem to grow.
-        queue.resize(ENDINGS, Due { wire: 0, moment: 0 })?;
+        queue.resize(ENDINGS, Closing { wire: 0, moment: 0 })?;
         queue.clear();
         Ok(Endings { queue })
     }
@@ -46,7 +46,7 @@ impl Endings {
             return;
         }
         let moment = now.saturating_add(MOST_ENDING);
-        self.queue.push_back_reserved(Due { wire, moment });
+        self.queue.push_back_reserved(Closing { wire, moment });
     }
 
     fn forget_closed(&mut self, table: &Table) {

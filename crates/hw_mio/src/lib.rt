@@ -28,12 +28,12 @@ mod incoming;
 mod limits;
 mod mio_wires;
 mod opened;
-mod place;
-mod ready;
+mod ready_set;
 mod refusal;
+mod slot;
 mod table;
 #[cfg(test)]
 mod tests;
 
-pub use limits::PLACES;
+pub use limits::SLOTS;
 pub use mio_wires::MioWires;

@@ -1,7 +1,7 @@
 //! The bounds of the wires.
 
 /// How many wires may be up at once. Those that were shut and whose peers may still send are counted.
-pub const PLACES: usize = 16_384;
+pub const SLOTS: usize = 16_384;
 
 /// How many wires are numbered in all, so that a number is below 2^62.
 pub const MOST_WIRES: u64 = 1 << 48;
@@ -28,4 +28,4 @@ pub const ENDINGS: usize = 32_768;
 pub const MOST_CROWDED: u64 = 1_000;
 
 /// How many polls in a row that might wait don't, while some wire is readable, after there was something.
-pub const STIRRED: u8 = 2;
+pub const EAGER_POLLS: u8 = 2;

@@ -7,13 +7,12 @@ ghost use Rattle.hw_mio.specs.Standard.{start_error, wires_bound, wires_moment, 
 
 use crate::endings::Endings;
 use crate::incoming::Incoming;
-use crate::limits::{EVENTS, MOST_UNASKED, STIRRED};
+use crate::limits::{EAGER_POLLS, EVENTS, MOST_UNASKED};
 use crate::opened::{LISTENER, Opened};
 use crate::refusal::{Refusal, refusal_of};
 use crate::table::{Shut, Table};
 use hw_door::{WireRead, Wires};
 use hw_io::Failed;
-use hw_net::ReadyWires;
 use mio::Events;
 use mio::net::TcpStream;
 use std::alloc::{AllocError, Global};
@@ -24,7 +23,7 @@ use std::time::{Duration, Instant};
 
 /// Wires over the TCP sockets of the system. All memory is taken when they are made: no call takes more.
 ///
-/// A wire's number is below 2^62. At most [`PLACES`](crate::PLACES) wires are up at once, and 2^48 are made in all. Past either,
+/// A wire's number is below 2^62. At most [`SLOTS`](crate::SLOTS) wires are up at once, and 2^48 are made in all. Past either,
 /// `accept` answers `None`, as it does if the system has no descriptor or memory for one more, and `connect` fails.
 ///
 /// `poll` waits for an event of a socket. What an event told stays known until a call on that wire would wait, or a read gives less than
@@ -34,11 +33,11 @@ use std::time::{Duration, Instant};
 /// shut, or `accept` failed, as the caller may have left that wire unread for this. Of polls that don't wait only each 33rd asks the system
 /// for events.
 ///
-/// The wires that are named are those of which a read may give something, or of which the last read did, in the order of their places.
+/// The wires that are named are those of which a read may give something, or of which the last read did, in the order of their slots.
 ///
 /// `shut` ends what is written, but not the connection: what still comes is read and dropped, until the peer ends too, for at most 2 s
 /// and 1 MiB. So the peer gets all that was written before, though it had sent bytes that were never read. The wire's number is gone
-/// at once, but its place is taken meanwhile.
+/// at once, but its slot is taken meanwhile.
 #[derive(Drop)]
 pub struct MioWires<'a, R> {
     rt: &'a R,
@@ -48,15 +47,15 @@ pub struct MioWires<'a, R> {
     endings: Endings,
     incoming: Incoming,
     // In how many polls the caller may still have left wires unread for something that there was.
-    stirred: u8,
+    eager_polls: u8,
     // How many polls in a row left the system unasked.
     unasked: u64,
     moment: u64,
     faults: u64,
 }
 
-/// Takes the events of all wires, and answers whether the listener may give a connection then.
-fn wake(events: &Events, table: &mut Table, incoming: Incoming) -> Incoming
+/// Hands each event to the wire or the listener that it tells of. The answer is whether the listener may give a connection then.
+fn dispatch(events: &Events, table: &mut Table, incoming: Incoming) -> Incoming
     ensures { table.new ≡ table.old }
 {
     let mut incoming = incoming;
@@ -64,7 +63,7 @@ fn wake(events: &Events, table: &mut Table, incoming: Incoming) -> Incoming
         let token = event.token();
         if token == LISTENER {
             incoming = Incoming::Waiting;
-        } else if table.wake(token.0, event) {
+        } else if table.note_event(token.0, event) {
             incoming = incoming.after_close();
         }
     }
@@ -107,7 +106,7 @@ impl<'a, R: Net + Clock> MioWires<'a, R> {
             table: Table::start(alloc)?,
             endings: Endings::start(alloc)?,
             incoming: Incoming::Quiet,
-            stirred: 0,
+            eager_polls: 0,
             unasked: 0,
             moment: 0,
             faults: 0,
@@ -126,7 +125,7 @@ impl<'a, R: Net + Clock> MioWires<'a, R> {
 
     /// Fails this call.
     fn fail(&mut self) -> Failed
-        ensures still { self.new ≡ record self.old { faults = self.new.faults } }
+        ensures others_unchanged { self.new ≡ record self.old { faults = self.new.faults } }
         ensures never_falls { wires_faults self.old ≤ wires_faults self.new }
         ensures rises { Rose (wires_faults self.old) (wires_faults self.new) }
     {
@@ -138,7 +137,7 @@ impl<'a, R: Net + Clock> MioWires<'a, R> {
     fn wait_for(&self, wait: u64) -> u64
         ensures { result ≤ wait }
     {
-        if self.stirred > 0 && self.table.has_readable() {
+        if self.eager_polls > 0 && self.table.has_readable() {
             return 0;
         }
         let wait = self.endings.wait_for(wait, self.moment);
@@ -163,7 +162,7 @@ impl<'a, R: Net + Clock> MioWires<'a, R> {
 
     /// Waits for events, and takes them. The answer is whether there were any.
     fn take_events(&mut self, wait: u64) -> io::Result<bool>
-        ensures still { IsStill self.old self.new }
+        ensures others_unchanged { IsStill self.old self.new }
         ensures wires { wires_bound self.new ≡ wires_bound self.old }
     {
         let opened = match &mut self.opened {
@@ -173,7 +172,7 @@ impl<'a, R: Net + Clock> MioWires<'a, R> {
         opened
             .poll
             .poll(&mut self.events, Some(Duration::from_millis(wait)))?;
-        self.incoming = wake(&self.events, &mut self.table, self.incoming);
+        self.incoming = dispatch(&self.events, &mut self.table, self.incoming);
         Ok(self.events.iter().next().is_some())
     }
 
@@ -189,7 +188,7 @@ impl<'a, R: Net + Clock> MioWires<'a, R> {
 
     /// Closes the wires that were shut and whose moment has come.
     fn close_due(&mut self)
-        ensures still { IsStill self.old self.new }
+        ensures others_unchanged { IsStill self.old self.new }
         ensures wires { wires_bound self.new ≡ wires_bound self.old }
     {
         if self.endings.close_due(self.moment, &mut self.table) {
@@ -202,7 +201,7 @@ impl<'a, R: Net + Clock> MioWires<'a, R> {
     fn take_connection(&mut self) -> io::Result<Option<u64>>
         ensures fresh { IfOk result (IsNewWire (wires_bound self.old) (wires_bound self.new)) }
         ensures err { OnErr result (wires_bound self.new ≡ wires_bound self.old) }
-        ensures still { IsStill self.old self.new }
+        ensures others_unchanged { IsStill self.old self.new }
     {
         let opened = self.opened.as_ref().map_err(|error| *error)?;
         let Some(listener) = &opened.listener else {
@@ -231,7 +230,7 @@ impl<'a, R: Net + Clock> MioWires<'a, R> {
     fn dial(&mut self, host: &str, port: u16) -> io::Result<Option<u64>>
         ensures fresh { IfOk result (IsNewWire (wires_bound self.old) (wires_bound self.new)) }
         ensures err { OnErr result (wires_bound self.new ≡ wires_bound self.old) }
-        ensures still { IsStill self.old self.new }
+        ensures others_unchanged { IsStill self.old self.new }
     {
         let opened = self.opened.as_ref().map_err(|error| *error)?;
         if !self.table.has_room() {
@@ -255,16 +254,16 @@ impl<'a, R: Net + Clock> Wires for MioWires<'a, R> {
 
     fn poll(&mut self, wait: u64) -> Result<u64, Failed> {
         self.close_due();
-        let stirred = if wait > 0 {
-            self.stirred.saturating_sub(1)
+        let eager_polls = if wait > 0 {
+            self.eager_polls.saturating_sub(1)
         } else {
-            self.stirred
+            self.eager_polls
         };
         let wait = self.wait_for(wait);
         let mut is_told = false;
         if self.must_ask(wait) {
             // Events that are taken before this fails aren't told again.
-            self.stirred = STIRRED;
+            self.eager_polls = EAGER_POLLS;
             match self.take_events(wait) {
                 Ok(told) => is_told = told,
                 Err(_) => return Err(self.fail()),
@@ -274,7 +273,7 @@ impl<'a, R: Net + Clock> Wires for MioWires<'a, R> {
             return Err(self.fail());
         };
         if !is_told {
-            self.stirred = stirred;
+            self.eager_polls = eager_polls;
         }
         self.moment = now;
         self.close_due();
@@ -285,7 +284,7 @@ impl<'a, R: Net + Clock> Wires for MioWires<'a, R> {
         match self.take_connection() {
             Ok(wire) => Ok(wire),
             Err(_) => {
-                self.stirred = STIRRED;
+                self.eager_polls = EAGER_POLLS;
                 Err(self.fail())
             }
         }
@@ -301,9 +300,9 @@ impl<'a, R: Net + Clock> Wires for MioWires<'a, R> {
     }
 
     fn read(&mut self, wire: u64, buf: &mut [u8]) -> Result<WireRead, Failed> {
-        match self.table.read(wire, buf) {
+        match self.table.read_wire(wire, buf) {
             Ok(WireRead::Some(count)) => {
-                self.stirred = STIRRED;
+                self.eager_polls = EAGER_POLLS;
                 Ok(WireRead::Some(count))
             }
             Ok(WireRead::NotYet) => Ok(WireRead::NotYet),
@@ -313,24 +312,22 @@ impl<'a, R: Net + Clock> Wires for MioWires<'a, R> {
     }
 
     fn write(&mut self, wire: u64, bytes: &[u8]) -> Result<usize, Failed> {
-        match self.table.write(wire, bytes) {
+        match self.table.write_wire(wire, bytes) {
             Ok(count) => Ok(count),
             Err(_) => Err(self.fail()),
         }
     }
 
     fn shut(&mut self, wire: u64) {
-        match self.table.shut(wire) {
+        match self.table.shut_wire(wire) {
             Shut::Absent => return,
             Shut::Closed => self.incoming = self.incoming.after_close(),
             Shut::Ending => self.endings.add(wire, self.moment, &mut self.table),
         }
-        self.stirred = STIRRED;
+        self.eager_polls = EAGER_POLLS;
     }
-}
 
-impl<'a, R: Net + Clock> ReadyWires for MioWires<'a, R> {
     fn ready_after(&self, wire: u64) -> Option<u64> {
-        self.table.ready_after(wire)
+        self.table.next_ready(wire)
     }
 }

@@ -1,6 +1,6 @@
 //! What is opened at the start.
 
-use crate::limits::PLACES;
+use crate::limits::SLOTS;
 use mio::net::TcpListener;
 use mio::{Interest, Poll, Token};
 use std::io;
@@ -8,8 +8,8 @@ use std::net::{Net, SocketAddr};
 use std::rt::Clock;
 use std::time::Instant;
 
-/// The token of the listener. That of a wire is its place, which is below it.
-pub const LISTENER: Token = Token(PLACES);
+/// The token of the listener. That of a wire is its slot, which is below it.
+pub const LISTENER: Token = Token(SLOTS);
 
 /// The sockets that are waited for, the listener if there is one, and the instant that is moment 0.
 #[derive(Drop)]

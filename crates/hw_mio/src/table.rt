@@ -1,11 +1,11 @@
-//! The table of all wires, each in a place.
+//! The table of all wires, each in a slot.
 
 ghost use Rattle.std.specs.Prelude.{◌≡◌, ◌<◌, ◌≤◌, ◌^◌, length, IfOk, IfSome, vec_len};
 ghost use Rattle.hw_door.specs.Traffic.{CountsWithin, IsNewWire};
 
-use crate::limits::{MOST_WIRES, PLACES};
-use crate::place::{Live, Place};
-use crate::ready::ReadySet;
+use crate::limits::{MOST_WIRES, SLOTS};
+use crate::ready_set::ReadySet;
+use crate::slot::{Live, Slot};
 use hw_door::WireRead;
 use mio::event::Event;
 use mio::net::TcpStream;
@@ -19,23 +19,23 @@ use std::{io, mem};
 pub enum Shut {
     /// There is no such wire.
     Absent,
-    /// Its place is free.
+    /// Its slot is free.
     Closed,
-    /// Its place is taken until the peer ends.
+    /// Its slot is taken until the peer ends.
     Ending,
 }
 
 /// All wires. A contract sees the bound below which all their numbers lie.
 ///
-/// A number is the count of wires made before, times [`PLACES`], and the place. So it tells the place, and no two are the same.
+/// A number is the count of wires made before, times [`SLOTS`], and the slot. So it tells the slot, and no two are the same.
 #[derive(Drop)]
 pub struct Table {
-    places: Vec<Place>,
-    // The first of the free places, each of which names the next.
+    slots: Vec<Slot>,
+    // The first of the free slots, each of which names the next.
     free: Option<usize>,
     // How many wires were made.
     made: u64,
-    // The places of wires of which a read may give something, or of which the last read did.
+    // The slots of wires of which a read may give something, or of which the last read did.
     ready: ReadySet,
     // How many wires a read may give something of.
     readable: usize,
@@ -43,31 +43,31 @@ pub struct Table {
 
 impl Model for Table {
     ghost use Rattle.std.specs.Prelude.{◌≡◌, ◌*◌, ◌≤◌, ℕ, vec_len};
-    ghost use Rattle.hw_mio.specs.declared.limits.TheConstants.{MOST_WIRES, PLACES};
+    ghost use Rattle.hw_mio.specs.declared.limits.TheConstants.{MOST_WIRES, SLOTS};
 
     ghost Value = { ℕ };
 
-    ghost view = { λ t. t.made * PLACES };
+    ghost view = { λ t. t.made * SLOTS };
 
-    ghost invariant = { λ t. (vec_len t.places ≡ PLACES) × (t.made ≤ MOST_WIRES) };
+    ghost invariant = { λ t. (vec_len t.slots ≡ SLOTS) × (t.made ≤ MOST_WIRES) };
 }
 
-fn place_of(wire: u64) -> usize
-    ensures { result < PLACES }
+fn slot_of(wire: u64) -> usize
+    ensures { result < SLOTS }
 {
-    (wire % PLACES as u64) as usize
+    (wire % SLOTS as u64) as usize
 }
 
-/// All places, each free.
-fn free_places(alloc: Global) -> Result<Vec<Place>, AllocError>
-    ensures { IfOk result (λ places. vec_len places ≡ PLACES) }
+/// All slots, each free.
+fn free_slots(alloc: Global) -> Result<Vec<Slot>, AllocError>
+    ensures { IfOk result (λ slots. vec_len slots ≡ SLOTS) }
 {
-    let mut places = Vec::with_capacity(alloc, PLACES)?;
-    for at in 0..PLACES {
-        let next = if at + 1 < PLACES { Some(at + 1) } else { None };
-        places.push(Place::Free(next))?;
+    let mut slots = Vec::with_capacity(alloc, SLOTS)?;
+    for at in 0..SLOTS {
+        let next = if at + 1 < SLOTS { Some(at + 1) } else { None };
+        slots.push(Slot::Free(next))?;
     }
-    Ok(places)
+    Ok(slots)
 }
 
 impl Table {
@@ -76,7 +76,7 @@ impl Table {
         ensures { IfOk result (λ table. table ≡ 0) }
     {
         Ok(Table {
-            places: free_places(alloc)?,
+            slots: free_slots(alloc)?,
             free: Some(0),
             made: 0,
             ready: ReadySet::start(alloc)?,
@@ -84,7 +84,7 @@ impl Table {
         })
     }
 
-    /// Whether one more wire can be made: a place is free, and numbers are left.
+    /// Whether one more wire can be made: a slot is free, and numbers are left.
     pub fn has_room(&self) -> bool {
         self.free.is_some() && self.made < MOST_WIRES
     }
@@ -98,7 +98,7 @@ impl Table {
             return None;
         }
         let at = self.free?;
-        let Some(Place::Free(next)) = self.places.get(at) else {
+        let Some(Slot::Free(next)) = self.slots.get(at) else {
             return None;
         };
         let next = *next;
@@ -106,8 +106,8 @@ impl Table {
         if registry.register(&mut stream, Token(at), both).is_err() {
             return None;
         }
-        let number = self.made * PLACES as u64 + at as u64;
-        self.places[at] = Place::Live(Live::start(number, stream, is_ready));
+        let number = self.made * SLOTS as u64 + at as u64;
+        self.slots[at] = Slot::Live(Live::start(number, stream, is_ready));
         if is_ready {
             self.ready.insert(at);
             self.readable = self.readable.saturating_add(1);
@@ -117,33 +117,34 @@ impl Table {
         Some(number)
     }
 
-    /// Takes an event of the place. The answer is whether the place is free by it.
-    pub fn wake(&mut self, at: usize, event: &Event) -> bool
+    /// Notes an event of the slot, and whether its wire is ready by it. The answer is whether the slot is free by it.
+    pub fn note_event(&mut self, at: usize, event: &Event) -> bool
         ensures { self.new ≡ self.old }
     {
-        if at >= PLACES {
+        if at >= SLOTS {
             return false;
         }
-        let was_readable = self.places[at].is_readable();
-        let is_over = self.places[at].wake(event);
+        let was_readable = self.slots[at].is_readable();
+        let is_over = self.slots[at].apply_event(event);
         if is_over {
             self.close(at);
-        } else if !was_readable && self.places[at].is_readable() {
+        } else if !was_readable && self.slots[at].is_readable() {
             self.ready.insert(at);
             self.readable = self.readable.saturating_add(1);
         }
         is_over
     }
 
-    pub fn read(&mut self, wire: u64, buf: &mut [u8]) -> io::Result<WireRead>
+    /// Reads on a wire, and notes whether it is still ready.
+    pub fn read_wire(&mut self, wire: u64, buf: &mut [u8]) -> io::Result<WireRead>
         ensures count { IfOk result (λ read. CountsWithin read (length buf.new)) }
         ensures bound { self.new ≡ self.old }
     {
-        let at = place_of(wire);
-        let place = &mut self.places[at];
-        let was_readable = place.is_readable();
-        let read = place.read(wire, buf);
-        let is_readable = place.is_readable();
+        let at = slot_of(wire);
+        let slot = &mut self.slots[at];
+        let was_readable = slot.is_readable();
+        let read = slot.read_numbered(wire, buf);
+        let is_readable = slot.is_readable();
         if was_readable && !is_readable {
             self.readable = self.readable.saturating_sub(1);
         }
@@ -158,70 +159,70 @@ impl Table {
         self.readable > 0
     }
 
-    /// The wire in the first place after that of this one, in a circle, of which a read may give something or the last one did.
-    pub fn ready_after(&self, wire: u64) -> Option<u64> {
-        let at = self.ready.next_after(place_of(wire))?;
-        self.places.get(at)?.number()
+    /// The wire in the first slot after that of this one, in a circle, of which a read may give something or the last one did.
+    pub fn next_ready(&self, wire: u64) -> Option<u64> {
+        let at = self.ready.next_after(slot_of(wire))?;
+        self.slots.get(at)?.number()
     }
 
-    pub fn write(&mut self, wire: u64, bytes: &[u8]) -> io::Result<usize>
+    pub fn write_wire(&mut self, wire: u64, bytes: &[u8]) -> io::Result<usize>
         ensures count { IfOk result (λ count. count ≤ length bytes.now) }
         ensures bound { self.new ≡ self.old }
     {
-        self.places[place_of(wire)].write(wire, bytes)
+        self.slots[slot_of(wire)].write_numbered(wire, bytes)
     }
 
-    /// Shuts a wire.
-    pub fn shut(&mut self, wire: u64) -> Shut
+    /// Shuts a wire, which is no more ready then.
+    pub fn shut_wire(&mut self, wire: u64) -> Shut
         ensures { self.new ≡ self.old }
     {
-        let at = place_of(wire);
-        if !self.places[at].is_live(wire) {
+        let at = slot_of(wire);
+        if !self.slots[at].is_live(wire) {
             return Shut::Absent;
         }
         self.forget_readable(at);
-        let place = mem::replace(&mut self.places[at], Place::Free(None));
-        self.places[at] = place.shut();
-        if self.places[at].is_ending(wire) {
+        let slot = mem::replace(&mut self.slots[at], Slot::Free(None));
+        self.slots[at] = slot.after_shut();
+        if self.slots[at].is_ending(wire) {
             return Shut::Ending;
         }
         self.close(at);
         Shut::Closed
     }
 
-    /// Whether this wire was shut, and its place isn't free yet.
+    /// Whether this wire was shut, and its slot isn't free yet.
     pub fn is_ending(&self, wire: u64) -> bool {
-        self.places[place_of(wire)].is_ending(wire)
+        self.slots[slot_of(wire)].is_ending(wire)
     }
 
-    /// Closes a wire that was shut, if its place isn't free yet. The answer is whether it was closed here.
+    /// Closes a wire that was shut, if its slot isn't free yet. The answer is whether it was closed here.
     pub fn close_ending(&mut self, wire: u64) -> bool
         ensures { self.new ≡ self.old }
     {
         let is_ending = self.is_ending(wire);
         if is_ending {
-            self.close(place_of(wire));
+            self.close(slot_of(wire));
         }
         is_ending
     }
 
-    /// The wire in this place is read no more.
+    /// The wire in this slot is read no more.
     fn forget_readable(&mut self, at: usize)
-        requires { at < PLACES }
+        requires { at < SLOTS }
         ensures { self.new ≡ self.old }
     {
-        if self.places[at].is_readable() {
+        if self.slots[at].is_readable() {
             self.readable = self.readable.saturating_sub(1);
         }
         self.ready.remove(at);
     }
 
-    /// Closes the socket at a place, which is free then.
+    /// Closes the socket at a slot, which is free then.
     fn close(&mut self, at: usize)
-        requires { at < PLACES }
+        requires { at < SLOTS }
         ensures { self.new ≡ self.old }
     {
-        self.places[at] = Place::Free(self.free);
+        self.slots[at] = Slot::Free(self.free);
         self.free = Some(at);
     }
 }

@@ -1,8 +1,7 @@
 //! Wires over the loopback address, against plain sockets of std.
 
-use crate::{MioWires, PLACES};
+use crate::{MioWires, SLOTS};
 use hw_door::{WireRead, Wires};
-use hw_net::ReadyWires;
 use std::io::{Read, Write};
 use std::net::{IpAddr, Ipv4Addr, Net, Shutdown, TcpStream};
 use std::rt::Clock;
@@ -97,7 +96,7 @@ fn a_wire_that_is_shut_says_all_that_was_written(rt: HostRuntime) -> Result<(), 
 }
 
 #[test]
-fn a_place_is_used_again_under_another_number(rt: HostRuntime) -> Result<(), Fail> {
+fn a_slot_is_used_again_under_another_number(rt: HostRuntime) -> Result<(), Fail> {
     let mut wires = MioWires::listen(&rt, rt.alloc(), HERE, 47_804)?;
     let peer = TcpStream::connect(&rt, (HERE, 47_804))?;
     let first = accept(&mut wires).ok_or("no wire")?;
@@ -108,7 +107,7 @@ fn a_place_is_used_again_under_another_number(rt: HostRuntime) -> Result<(), Fai
     let _other = TcpStream::connect(&rt, (HERE, 47_804))?;
     let second = accept(&mut wires).ok_or("no wire")?;
     assert!(rt; first < second);
-    assert_eq!(rt; first % PLACES as u64, second % PLACES as u64);
+    assert_eq!(rt; first % SLOTS as u64, second % SLOTS as u64);
     assert!(rt; wires.read(first, &mut buf).is_err());
     Ok(())
 }

@@ -1,7 +1,7 @@
 -- In a session the requests heard on a lane are those of all bytes read on its wire.
 use Rattle.std.proofs.Common.{◌≡◌, ◌==◌, ◌++◌, ◌∷◌, [], ℕ, Bool, true, false, if◌then◌else◌, List, Option, None, Some, refl, sym, ap, ◌∙◌, subst, inl, inr, append-nil, append_assoc, length}
-use Rattle.hd_lanes.specs.declared.http.Reply.{Reply}
-use Rattle.hd_lanes.specs.declared.http.Request.{Request}
+use Rattle.hw_lanes.specs.declared.http.Reply.{Reply}
+use Rattle.hw_lanes.specs.declared.http.Request.{Request}
 use Rattle.hh_http.specs.Asks.{Asks, request_grammar}
 use Rattle.hh_http.specs.Messages.{Refuses}
 use Rattle.hh_http.specs.Texts.{reply_text}
@@ -9,15 +9,15 @@ use Rattle.hw_door.specs.declared.heard.Event.{Event}
 use Rattle.hw_door.specs.declared.heard.Event.TheVariants as event
 use Rattle.hw_door.specs.Traffic.{Answer, bytes_in, not_yet, ended, read_failed, bytes_out, write_failed, was_shut, read_on}
 use Rattle.hw_net.specs.declared.limits.TheConstants.{SWITCHING}
-use Rattle.hw_net.specs.declared.news.News.{News}
-use Rattle.hw_net.specs.declared.news.News.TheVariants as news
-use Rattle.hw_net.specs.declared.talk.Talk.{Talk}
-use Rattle.hw_net.specs.declared.talk.Talk.TheVariants.{Http, Socket}
-use Rattle.hw_net.specs.declared.talk.Stage.{Stage}
-use Rattle.hw_net.specs.declared.talk.Stage.TheVariants.{Live, Lost, Closing, Over}
-use Rattle.hw_net.specs.Asking.{AskingState, requests_of}
+use Rattle.hw_net.specs.declared.input.Input.{Input}
+use Rattle.hw_net.specs.declared.input.Input.TheVariants as input
+use Rattle.hw_net.specs.declared.protocol.Protocol.{Protocol}
+use Rattle.hw_net.specs.declared.protocol.Protocol.TheVariants.{Http, Socket}
+use Rattle.hw_net.specs.declared.protocol.Stage.{Stage}
+use Rattle.hw_net.specs.declared.protocol.Stage.TheVariants.{Live, Lost, Closing, Over}
+use Rattle.hw_net.specs.HttpState.{HttpStateView, requests_of}
 use Rattle.hw_net.specs.Door.{new_lane}
-use Rattle.hw_net.specs.Lane.{Lane, waits, after_end, after_reply, owes, is_live, is_overdue, talk_after_shut, talk_after_reply, new_socket, rest_of}
+use Rattle.hw_net.specs.Lane.{Lane, waits, after_end, after_reply, owes, is_live, is_overdue, protocol_after_shut, protocol_after_reply, new_socket, rest_of}
 use Rattle.hw_net.specs.Saying.{Writes, WritesOut, SpeaksAs, Says, SaysAt, SaysMore, must_end, is_too_much}
 use Rattle.hw_net.specs.Sessions as session
 use Rattle.hw_net.specs.Sessions.{Call, Session, answers_in, answers_of, request_on, requests_on, HeardRequests, RequestsAreAsked, RefusalsAreDeserved}
@@ -29,15 +29,15 @@ use Rattle.hw_net.proofs.Shares.{share, read-append, read-share, same}
 use Rattle.hw_net.proofs.Walks.{IsHeard, Heeds, Moves, moves-wire, IsUntouched, each-lane, each-before, off-and-on, mover, unrequested}
 
 -- these requests were heard of these bytes
-abbrev pub HeardIn : List ℕ → List Request → Talk → Type 0
-HeardIn bytes requests (Http asking) = Asks bytes requests asking.lane.held
-HeardIn bytes requests (Socket talking) =
+abbrev pub HeardIn : List ℕ → List Request → Protocol → Type 0
+HeardIn bytes requests (Http http_state) = Asks bytes requests http_state.lane.held
+HeardIn bytes requests (Socket websocket_state) =
     (first : List ℕ) × (rest : List ℕ) × (more : List ℕ) × (bytes ≡ first ++ more) × Asks first requests rest
 
 -- nothing is read, and what was heard is as before
 abbrev pub Silent : Lane → Lane → List Answer → Type 0
 Silent before after answers =
-    ((wire : ℕ) → read_on wire answers ≡ []) × ((bytes : List ℕ) (requests : List Request) → HeardIn bytes requests before.talk → HeardIn bytes requests after.talk)
+    ((wire : ℕ) → read_on wire answers ≡ []) × ((bytes : List ℕ) (requests : List Request) → HeardIn bytes requests before.protocol → HeardIn bytes requests after.protocol)
 
 -- ---- writing
 
@@ -48,8 +48,8 @@ writes-none at wire waits (bytes_out to (b ∷ bs) ∷ answers) left whole h = w
 writes-none at wire waits (write_failed to ∷ []) left whole h = refl
 writes-none at wire waits _ left whole h = absurd h
 
-speaks-heard : (before after : Talk) (bytes : List ℕ) (requests : List Request) → SpeaksAs before after → HeardIn bytes requests before → HeardIn bytes requests after
-speaks-heard (Http before) (Http after) bytes requests e h = subst (λ (a : AskingState). Asks bytes requests a.lane.held) (sym e) h
+speaks-heard : (before after : Protocol) (bytes : List ℕ) (requests : List Request) → SpeaksAs before after → HeardIn bytes requests before → HeardIn bytes requests after
+speaks-heard (Http before) (Http after) bytes requests e h = subst (λ (a : HttpStateView). Asks bytes requests a.lane.held) (sym e) h
 speaks-heard (Socket before) (Socket after) bytes requests e h = h
 speaks-heard _ _ bytes requests e h = absurd e
 
@@ -57,7 +57,7 @@ none-of : (wire : ℕ) (answers all : List Answer) → all ≡ answers → read_
 none-of wire answers all e f = ap (λ l. read_on wire l) e ∙ f
 
 pub writes-silent : (before after : Lane) (answers : List Answer) → WritesOut before after answers → Silent before after answers
-writes-silent before after answers w = (λ wire. go wire (must_end before.stage (length (waits after)) w.is_whole) refl, λ bytes requests. speaks-heard before.talk after.talk bytes requests w.still.talk) where
+writes-silent before after answers w = (λ wire. go wire (must_end before.stage (length (waits after)) w.is_whole) refl, λ bytes requests. speaks-heard before.protocol after.protocol bytes requests w.still.protocol) where
   none : (wire : ℕ) → read_on wire w.sent ≡ []
   none wire = writes-none wire before.wire (waits before) w.sent (waits after) w.is_whole w.writes
 
@@ -65,11 +65,11 @@ writes-silent before after answers w = (λ wire. go wire (must_end before.stage 
   go wire true e = none-of wire (w.sent ++ was_shut before.wire ∷ []) answers (w.ends e).0 (read-append wire w.sent (was_shut before.wire ∷ []) ∙ append-nil (read_on wire w.sent) ∙ none wire)
   go wire false e = none-of wire w.sent answers (w.stays e).0 (none wire)
 
-talk-silent : (before after : Lane) (answers : List Answer) → ((wire : ℕ) → read_on wire answers ≡ []) → after.talk ≡ before.talk → Silent before after answers
-talk-silent before after answers none e = (none, λ bytes requests h. subst (λ (t : Talk). HeardIn bytes requests t) (sym e) h)
+protocol-silent : (before after : Lane) (answers : List Answer) → ((wire : ℕ) → read_on wire answers ≡ []) → after.protocol ≡ before.protocol → Silent before after answers
+protocol-silent before after answers none e = (none, λ bytes requests h. subst (λ (t : Protocol). HeardIn bytes requests t) (sym e) h)
 
 still-silent : (before after : Lane) (answers : List Answer) → answers ≡ [] → after ≡ before → Silent before after answers
-still-silent before after answers e f = talk-silent before after answers (λ wire. none-of wire [] answers e refl) (ap (λ (l : Lane). l.talk) f)
+still-silent before after answers e f = protocol-silent before after answers (λ wire. none-of wire [] answers e refl) (ap (λ (l : Lane). l.protocol) f)
 
 pub says-silent : (before after : Lane) (answers : List Answer) → Says before after answers → Silent before after answers
 says-silent before after answers h = go before.stage h where
@@ -82,7 +82,7 @@ says-silent before after answers h = go before.stage h where
 pub more-silent : (before after : Lane) (answers : List Answer) → SaysMore before after answers → Silent before after answers
 more-silent before after answers h = go (is_too_much (length (waits before))) h where
   go : (b : Bool) → Chooses b ((answers ≡ was_shut before.wire ∷ []) × (after ≡ record before { stage = after_end before.stage })) (WritesOut before after answers) → Silent before after answers
-  go true h = talk-silent before after answers (λ wire. none-of wire (was_shut before.wire ∷ []) answers h.0 refl) (ap (λ (l : Lane). l.talk) h.1)
+  go true h = protocol-silent before after answers (λ wire. none-of wire (was_shut before.wire ∷ []) answers h.0 refl) (ap (λ (l : Lane). l.protocol) h.1)
   go false h = writes-silent before after answers h
 
 -- ---- hearing
@@ -102,48 +102,48 @@ gives-bytes wire room [] got h = sym (ap bytes_of h)
 gives-bytes wire room (answer ∷ []) got h = reads-bytes wire room answer got h.1
 gives-bytes wire room (answer ∷ next ∷ more) got h = absurd h
 
-no-requests : (wire : ℕ) (before after : Talk) (answers : List Answer) (got : Option (List ℕ)) → List ℕ
+no-requests : (wire : ℕ) (before after : Protocol) (answers : List Answer) (got : Option (List ℕ)) → List ℕ
 no-requests wire before after answers got = []
 
-hears-asked : (wire : ℕ) (before after : Talk) (answers : List Answer) (what : News) (bytes : List ℕ) (requests : List Request) → Hears wire before after answers what → HeardIn bytes requests before →
+hears-asked : (wire : ℕ) (before after : Protocol) (answers : List Answer) (what : Input) (bytes : List ℕ) (requests : List Request) → Hears wire before after answers what → HeardIn bytes requests before →
     HeardIn (bytes ++ read_on wire answers) (requests ++ requests_of what) after
 hears-asked wire (Http before) (Http after) answers what bytes requests h k =
     subst (λ (l : List ℕ). Asks (bytes ++ l) (requests ++ requests_of what) after.lane.held) (sym (gives-bytes wire _ answers h.got h.read)) (h.asks bytes requests k)
 hears-asked wire (Socket before) (Socket after) answers what bytes requests h k =
-    (k.0, k.1, k.2 ++ read_on wire answers, ap (λ l. l ++ read_on wire answers) k.3 ∙ append_assoc k.0 k.2 (read_on wire answers), go what h.is_news) where
+    (k.0, k.1, k.2 ++ read_on wire answers, ap (λ l. l ++ read_on wire answers) k.3 ∙ append_assoc k.0 k.2 (read_on wire answers), go what h.is_input) where
       same-requests : (more : List Request) → more ≡ [] → Asks k.0 (requests ++ more) k.1
       same-requests more e = subst (λ (l : List Request). Asks k.0 l k.1) (sym (ap (λ l. requests ++ l) e ∙ append-nil requests)) k.4
 
-      go : (what : News) → Rattle.hw_net.specs.Talking.IsNews before after answers h.got what → Asks k.0 (requests ++ requests_of what) k.1
-      go news.Nothing n = same-requests [] refl
-      go (news.Request request) n = absurd n
-      go (news.Refused status) n = absurd n
-      go (news.Message message) n = same-requests [] refl
-      go news.Broken n = same-requests [] refl
-      go news.Gone n = same-requests [] refl
+      go : (what : Input) → Rattle.hw_net.specs.WebSocketState.IsInput before after answers h.got what → Asks k.0 (requests ++ requests_of what) k.1
+      go input.Nothing n = same-requests [] refl
+      go (input.Request request) n = absurd n
+      go (input.Refused status) n = absurd n
+      go (input.Message message) n = same-requests [] refl
+      go input.Broken n = same-requests [] refl
+      go input.Gone n = same-requests [] refl
 hears-asked wire _ _ answers what bytes requests h k = absurd h
 
-shut-heard : (talk : Talk) (bytes : List ℕ) (requests : List Request) → HeardIn bytes requests talk → HeardIn bytes requests (talk_after_shut talk)
-shut-heard (Http asking) bytes requests h = h
-shut-heard (Socket talking) bytes requests h = h
+shut-heard : (protocol : Protocol) (bytes : List ℕ) (requests : List Request) → HeardIn bytes requests protocol → HeardIn bytes requests (protocol_after_shut protocol)
+shut-heard (Http http_state) bytes requests h = h
+shut-heard (Socket websocket_state) bytes requests h = h
 
 falls-silent : (before after : Lane) (answers : List Answer) (heard : Option Event) → Falls before after answers heard → Silent before after answers
-falls-silent before after answers heard h = talk-silent before after answers (λ wire. none-of wire (was_shut before.wire ∷ []) answers h.0 refl) (ap (λ (l : Lane). l.talk) h.2)
+falls-silent before after answers heard h = protocol-silent before after answers (λ wire. none-of wire (was_shut before.wire ∷ []) answers h.0 refl) (ap (λ (l : Lane). l.protocol) h.2)
 
-passes-silent : (before becomes after : Lane) (answers : List Answer) (told heard : Option Event) → becomes.talk ≡ before.talk → Passes becomes after answers told heard → Silent before after answers
-passes-silent before becomes after answers told heard e h = talk-silent before after answers (λ wire. none-of wire [] answers h.0 refl) (ap (λ (l : Lane). l.talk) h.2 ∙ e)
+passes-silent : (before becomes after : Lane) (answers : List Answer) (told heard : Option Event) → becomes.protocol ≡ before.protocol → Passes becomes after answers told heard → Silent before after answers
+passes-silent before becomes after answers told heard e h = protocol-silent before after answers (λ wire. none-of wire [] answers h.0 refl) (ap (λ (l : Lane). l.protocol) h.2 ∙ e)
 
-pub settles-silent : (now : ℕ) (before after : Lane) (answers : List Answer) (what : News) (heard : Option Event) → Settles now before after answers what heard → Silent before after answers
-settles-silent now before after answers news.Nothing heard h = go (is_overdue now before) h where
+pub settles-silent : (now : ℕ) (before after : Lane) (answers : List Answer) (what : Input) (heard : Option Event) → Settles now before after answers what heard → Silent before after answers
+settles-silent now before after answers input.Nothing heard h = go (is_overdue now before) h where
   go : (b : Bool) → Chooses b (Falls before after answers heard) (Passes before after answers None heard) → Silent before after answers
   go true h = falls-silent before after answers heard h
   go false h = passes-silent before before after answers None heard refl h
-settles-silent now before after answers (news.Request request) heard h = passes-silent before before after answers _ heard refl h
-settles-silent now before after answers (news.Refused status) heard h = passes-silent before _ after answers _ heard refl h
-settles-silent now before after answers (news.Message bytes) heard h = passes-silent before before after answers _ heard refl h
-settles-silent now before after answers news.Broken heard h = falls-silent before after answers heard h
-settles-silent now before after answers news.Gone heard h =
-    (λ wire. none-of wire [] answers h.0 refl, λ bytes requests k. subst (λ (l : Lane). HeardIn bytes requests l.talk) (sym h.2) (shut-heard before.talk bytes requests k))
+settles-silent now before after answers (input.Request request) heard h = passes-silent before before after answers _ heard refl h
+settles-silent now before after answers (input.Refused status) heard h = passes-silent before _ after answers _ heard refl h
+settles-silent now before after answers (input.Message bytes) heard h = passes-silent before before after answers _ heard refl h
+settles-silent now before after answers input.Broken heard h = falls-silent before after answers heard h
+settles-silent now before after answers input.Gone heard h =
+    (λ wire. none-of wire [] answers h.0 refl, λ bytes requests k. subst (λ (l : Lane). HeardIn bytes requests l.protocol) (sym h.2) (shut-heard before.protocol bytes requests k))
 
 -- the requests that are heard
 abbrev pub requests_in : ℕ → Option Event → List Request
@@ -153,16 +153,16 @@ requests_in wire (Some told) = request_on wire told
 told-request : (wire : ℕ) (request : Request) → request_on wire (event.Request wire request) ≡ request ∷ []
 told-request wire request = ap (λ b. if b then request ∷ [] else []) (same wire)
 
-pub settles-requests : (now : ℕ) (before after : Lane) (answers : List Answer) (what : News) (heard : Option Event) → Settles now before after answers what heard → requests_in before.wire heard ≡ requests_of what
-settles-requests now before after answers news.Nothing heard h = go (is_overdue now before) h where
+pub settles-requests : (now : ℕ) (before after : Lane) (answers : List Answer) (what : Input) (heard : Option Event) → Settles now before after answers what heard → requests_in before.wire heard ≡ requests_of what
+settles-requests now before after answers input.Nothing heard h = go (is_overdue now before) h where
   go : (b : Bool) → Chooses b (Falls before after answers heard) (Passes before after answers None heard) → requests_in before.wire heard ≡ []
   go true h = ap (λ o. requests_in before.wire o) h.1
   go false h = ap (λ o. requests_in before.wire o) h.1
-settles-requests now before after answers (news.Request request) heard h = ap (λ o. requests_in before.wire o) h.1 ∙ told-request before.wire request
-settles-requests now before after answers (news.Refused status) heard h = ap (λ o. requests_in before.wire o) h.1
-settles-requests now before after answers (news.Message bytes) heard h = ap (λ o. requests_in before.wire o) h.1
-settles-requests now before after answers news.Broken heard h = ap (λ o. requests_in before.wire o) h.1
-settles-requests now before after answers news.Gone heard h = ap (λ o. requests_in before.wire o) h.1
+settles-requests now before after answers (input.Request request) heard h = ap (λ o. requests_in before.wire o) h.1 ∙ told-request before.wire request
+settles-requests now before after answers (input.Refused status) heard h = ap (λ o. requests_in before.wire o) h.1
+settles-requests now before after answers (input.Message bytes) heard h = ap (λ o. requests_in before.wire o) h.1
+settles-requests now before after answers input.Broken heard h = ap (λ o. requests_in before.wire o) h.1
+settles-requests now before after answers input.Gone heard h = ap (λ o. requests_in before.wire o) h.1
 
 pub loses-requests : (wire : ℕ) (told : Option Event) (before after : Lane) (heard : Option Event) → Loses told before after heard → requests_in wire heard ≡ requests_in wire told
 loses-requests wire (Some here) before after heard h = ap (λ o. requests_in wire o) h.0
@@ -173,26 +173,26 @@ loses-requests wire None before after heard h = go before.stage h where
   go Closing h = ap (λ o. requests_in wire o) h.0
   go Over h = ap (λ o. requests_in wire o) h.0
 
-loses-talk : (told : Option Event) (before after : Lane) (heard : Option Event) → Loses told before after heard → after.talk ≡ before.talk
-loses-talk (Some here) before after heard h = ap (λ (l : Lane). l.talk) h.1
-loses-talk None before after heard h = go before.stage h where
-  go : (s : Stage) → LosesAt s before after heard → after.talk ≡ before.talk
-  go Live h = ap (λ (l : Lane). l.talk) h.1
-  go Lost h = ap (λ (l : Lane). l.talk) h.1
-  go Closing h = ap (λ (l : Lane). l.talk) h.1
-  go Over h = ap (λ (l : Lane). l.talk) h.1
+loses-protocol : (told : Option Event) (before after : Lane) (heard : Option Event) → Loses told before after heard → after.protocol ≡ before.protocol
+loses-protocol (Some here) before after heard h = ap (λ (l : Lane). l.protocol) h.1
+loses-protocol None before after heard h = go before.stage h where
+  go : (s : Stage) → LosesAt s before after heard → after.protocol ≡ before.protocol
+  go Live h = ap (λ (l : Lane). l.protocol) h.1
+  go Lost h = ap (λ (l : Lane). l.protocol) h.1
+  go Closing h = ap (λ (l : Lane). l.protocol) h.1
+  go Over h = ap (λ (l : Lane). l.protocol) h.1
 
 -- ---- turns
 
 -- what a lane read and heard in a call
 abbrev Asked : Lane → Lane → List Answer → List Request → Type 0
 Asked x y mine more =
-    (bytes : List ℕ) (requests : List Request) → HeardIn bytes requests x.talk → HeardIn (bytes ++ read_on x.wire mine) (requests ++ more) y.talk
+    (bytes : List ℕ) (requests : List Request) → HeardIn bytes requests x.protocol → HeardIn (bytes ++ read_on x.wire mine) (requests ++ more) y.protocol
 
 nothing-more : (x y : Lane) (mine : List Answer) (more : List Request) → Silent x y mine → more ≡ [] → Asked x y mine more
 nothing-more x y mine more s e bytes requests k =
-    subst (λ (l : List Request). HeardIn (bytes ++ read_on x.wire mine) l y.talk) (sym (ap (λ l. requests ++ l) e ∙ append-nil requests))
-    (subst (λ (l : List ℕ). HeardIn l requests y.talk) (sym (ap (λ l. bytes ++ l) (s.0 x.wire) ∙ append-nil bytes)) (s.1 bytes requests k))
+    subst (λ (l : List Request). HeardIn (bytes ++ read_on x.wire mine) l y.protocol) (sym (ap (λ l. requests ++ l) e ∙ append-nil requests))
+    (subst (λ (l : List ℕ). HeardIn l requests y.protocol) (sym (ap (λ l. bytes ++ l) (s.0 x.wire) ∙ append-nil bytes)) (s.1 bytes requests k))
 
 pub live-reads : (wire : ℕ) (answers read shut written : List Answer) → answers ≡ read ++ (shut ++ written) → read_on wire shut ≡ [] → read_on wire written ≡ [] → read_on wire answers ≡ read_on wire read
 live-reads wire answers read shut written all e f =
@@ -200,16 +200,16 @@ live-reads wire answers read shut written all e f =
 
 live-asked : (now : ℕ) (x y : Lane) (mine : List Answer) (own : Option Event) → TurnsLive now x y mine own → Asked x y mine (requests_in x.wire own)
 live-asked now x y mine own h bytes requests k =
-    let settled = settles-silent now (record x { talk = h.talk }) h.settled h.shut h.news h.told h.settles in
+    let settled = settles-silent now (record x { protocol = h.protocol }) h.settled h.shut h.input h.told h.settles in
     let said = says-silent h.settled h.said h.written h.says in
-    let news_are : requests_in x.wire own ≡ requests_of h.news =
-    loses-requests x.wire h.told h.said y own h.loses ∙ settles-requests now (record x { talk = h.talk }) h.settled h.shut h.news h.told h.settles in
+    let news_are : requests_in x.wire own ≡ requests_of h.input =
+    loses-requests x.wire h.told h.said y own h.loses ∙ settles-requests now (record x { protocol = h.protocol }) h.settled h.shut h.input h.told h.settles in
     let reads = live-reads x.wire mine h.read h.shut h.written h.all (settled.0 x.wire) (said.0 x.wire) in
-    let heard = hears-asked x.wire x.talk h.talk h.read h.news bytes requests h.hears k in
+    let heard = hears-asked x.wire x.protocol h.protocol h.read h.input bytes requests h.hears k in
     let all = bytes ++ read_on x.wire h.read in
-    let most = requests ++ requests_of h.news in
-    let at_end : HeardIn all most y.talk = subst (λ (t : Talk). HeardIn all most t) (sym (loses-talk h.told h.said y own h.loses)) (said.1 all most (settled.1 all most heard)) in
-    subst (λ (l : List ℕ). HeardIn (bytes ++ l) (requests ++ requests_in x.wire own) y.talk) (sym reads) (subst (λ (l : List Request). HeardIn all (requests ++ l) y.talk) (sym news_are) at_end)
+    let most = requests ++ requests_of h.input in
+    let at_end : HeardIn all most y.protocol = subst (λ (t : Protocol). HeardIn all most t) (sym (loses-protocol h.told h.said y own h.loses)) (said.1 all most (settled.1 all most heard)) in
+    subst (λ (l : List ℕ). HeardIn (bytes ++ l) (requests ++ requests_in x.wire own) y.protocol) (sym reads) (subst (λ (l : List Request). HeardIn all (requests ++ l) y.protocol) (sym news_are) at_end)
 
 listens-asked : (now : ℕ) (x y : Lane) (mine : List Answer) (own : Option Event) → Listens now x y mine own → Asked x y mine (requests_in x.wire own)
 listens-asked now x y mine own h = go x.stage h where
@@ -229,48 +229,48 @@ heeds-asked now what x y mine (inr h) = nothing-more x y mine (request_on x.wire
 
 -- ---- saying
 
-replied-heard : (b : Bool) (talk : Talk) (bytes : List ℕ) (requests : List Request) → HeardIn bytes requests talk → HeardIn bytes requests (if b then new_socket (rest_of talk) else talk_after_reply talk)
-replied-heard true (Http asking) bytes requests h = (bytes, asking.lane.held, [], sym (append-nil bytes), h)
-replied-heard true (Socket talking) bytes requests h = h
-replied-heard false (Http asking) bytes requests h = h
-replied-heard false (Socket talking) bytes requests h = h
+replied-heard : (b : Bool) (protocol : Protocol) (bytes : List ℕ) (requests : List Request) → HeardIn bytes requests protocol → HeardIn bytes requests (if b then new_socket (rest_of protocol) else protocol_after_reply protocol)
+replied-heard true (Http http_state) bytes requests h = (bytes, http_state.lane.held, [], sym (append-nil bytes), h)
+replied-heard true (Socket websocket_state) bytes requests h = h
+replied-heard false (Http http_state) bytes requests h = h
+replied-heard false (Socket websocket_state) bytes requests h = h
 
-replied-talk : (now : ℕ) (reply : Reply) (lane : Lane) → (after_reply now reply lane).talk ≡ (if reply.status == SWITCHING then new_socket (rest_of lane.talk) else talk_after_reply lane.talk)
-replied-talk now reply lane = go (reply.status == SWITCHING) where
-  go : (b : Bool) → (if b then record lane { talk = new_socket (rest_of lane.talk); out = lane.out ++ reply_text reply }
-      else record lane { talk = talk_after_reply lane.talk; out = lane.out ++ reply_text reply; since = now }).talk ≡ (if b then new_socket (rest_of lane.talk) else talk_after_reply lane.talk)
+replied-protocol : (now : ℕ) (reply : Reply) (lane : Lane) → (after_reply now reply lane).protocol ≡ (if reply.status == SWITCHING then new_socket (rest_of lane.protocol) else protocol_after_reply lane.protocol)
+replied-protocol now reply lane = go (reply.status == SWITCHING) where
+  go : (b : Bool) → (if b then record lane { protocol = new_socket (rest_of lane.protocol); out = lane.out ++ reply_text reply }
+      else record lane { protocol = protocol_after_reply lane.protocol; out = lane.out ++ reply_text reply; since = now }).protocol ≡ (if b then new_socket (rest_of lane.protocol) else protocol_after_reply lane.protocol)
   go true = refl
   go false = refl
 
-then-silent : (before mid after : Lane) (answers : List Answer) → ((bytes : List ℕ) (requests : List Request) → HeardIn bytes requests before.talk → HeardIn bytes requests mid.talk) → Silent mid after answers → Silent before after answers
+then-silent : (before mid after : Lane) (answers : List Answer) → ((bytes : List ℕ) (requests : List Request) → HeardIn bytes requests before.protocol → HeardIn bytes requests mid.protocol) → Silent mid after answers → Silent before after answers
 then-silent before mid after answers f s = (s.0, λ bytes requests k. s.1 bytes requests (f bytes requests k))
 
 pub replies-silent : (now : ℕ) (reply : Reply) (before after : Lane) (answers : List Answer) → Replies now reply before after answers → Silent before after answers
 replies-silent now reply before after answers h = go (owes before) h where
   go : (b : Bool) → Chooses b (SaysMore (after_reply now reply before) after answers) ((answers ≡ []) × (after ≡ before)) → Silent before after answers
   go true h = then-silent before (after_reply now reply before) after answers
-      (λ bytes requests k. subst (λ (t : Talk). HeardIn bytes requests t) (sym (replied-talk now reply before)) (replied-heard (reply.status == SWITCHING) before.talk bytes requests k))
+      (λ bytes requests k. subst (λ (t : Protocol). HeardIn bytes requests t) (sym (replied-protocol now reply before)) (replied-heard (reply.status == SWITCHING) before.protocol bytes requests k))
       (more-silent (after_reply now reply before) after answers h)
   go false h = still-silent before after answers h.0 h.1
 
-put-heard : (live : Bool) (talk : Talk) (bytes : List ℕ) (text : Bool) (before after : Lane) (is_put : Bool) → before.talk ≡ talk → PutsAt live talk bytes text before after is_put →
-    (all : List ℕ) (requests : List Request) → HeardIn all requests before.talk → HeardIn all requests after.talk
-put-heard true (Socket talking) bytes text before after is_put e h all requests k =
-    subst (λ (l : Lane). HeardIn all requests l.talk) (sym h.2) (subst (λ (t : Talk). HeardIn all requests t) e k)
-put-heard true (Http asking) bytes text before after is_put e h all requests k = subst (λ (l : Lane). HeardIn all requests l.talk) (sym h.1) k
-put-heard false talk bytes text before after is_put e h all requests k = subst (λ (l : Lane). HeardIn all requests l.talk) (sym h.1) k
+put-heard : (live : Bool) (protocol : Protocol) (bytes : List ℕ) (text : Bool) (before after : Lane) (is_put : Bool) → before.protocol ≡ protocol → PutsAt live protocol bytes text before after is_put →
+    (all : List ℕ) (requests : List Request) → HeardIn all requests before.protocol → HeardIn all requests after.protocol
+put-heard true (Socket websocket_state) bytes text before after is_put e h all requests k =
+    subst (λ (l : Lane). HeardIn all requests l.protocol) (sym h.2) (subst (λ (t : Protocol). HeardIn all requests t) e k)
+put-heard true (Http http_state) bytes text before after is_put e h all requests k = subst (λ (l : Lane). HeardIn all requests l.protocol) (sym h.1) k
+put-heard false protocol bytes text before after is_put e h all requests k = subst (λ (l : Lane). HeardIn all requests l.protocol) (sym h.1) k
 
 pub sends-silent : (bytes : List ℕ) (text : Bool) (before after : Lane) (answers : List Answer) → Sends bytes text before after answers → Silent before after answers
-sends-silent bytes text before after answers h = then-silent before h.0 after answers (put-heard (is_live before.stage) before.talk bytes text before h.0 h.1 refl h.2) (go h.0 h.1 h.3) where
+sends-silent bytes text before after answers h = then-silent before h.0 after answers (put-heard (is_live before.stage) before.protocol bytes text before h.0 h.1 refl h.2) (go h.0 h.1 h.3) where
   go : (mid : Lane) (b : Bool) → Chooses b (SaysMore mid after answers) ((answers ≡ []) × (after ≡ mid)) → Silent mid after answers
   go mid true h = more-silent mid after answers h
   go mid false h = still-silent mid after answers h.0 h.1
 
 pub shuts-silent : (before after : Lane) (answers : List Answer) → Shuts before after answers → Silent before after answers
 shuts-silent before after answers h = go (is_live before.stage) h where
-  go : (b : Bool) → Chooses b (WritesOut (record before { talk = talk_after_shut before.talk; stage = Closing }) after answers) ((answers ≡ []) × (after ≡ before)) → Silent before after answers
-  go true h = then-silent before (record before { talk = talk_after_shut before.talk; stage = Closing }) after answers (λ bytes requests k. shut-heard before.talk bytes requests k)
-      (writes-silent (record before { talk = talk_after_shut before.talk; stage = Closing }) after answers h)
+  go : (b : Bool) → Chooses b (WritesOut (record before { protocol = protocol_after_shut before.protocol; stage = Closing }) after answers) ((answers ≡ []) × (after ≡ before)) → Silent before after answers
+  go true h = then-silent before (record before { protocol = protocol_after_shut before.protocol; stage = Closing }) after answers (λ bytes requests k. shut-heard before.protocol bytes requests k)
+      (writes-silent (record before { protocol = protocol_after_shut before.protocol; stage = Closing }) after answers h)
   go false h = still-silent before after answers h.0 h.1
 
 at-silent : (wire : ℕ) (Does : Lane → Lane → List Answer → Type 0) (x y : Lane) (mine : List Answer) → (Does x y mine → Silent x y mine) → ActsAt wire Does x y mine → Silent x y mine
@@ -304,51 +304,51 @@ pub read-more : (wire : ℕ) (calls : List Call) (call : Call) → read_on wire 
 read-more wire calls call = read-append wire (answers_of calls) (answers_in call) ∙ ap (λ l. read_on wire (answers_of calls) ++ l) (read-share wire (answers_in call))
 
 abbrev pub IsAsked : List Call → Lane → Type 0
-IsAsked calls lane = HeardIn (read_on lane.wire (answers_of calls)) (requests_on lane.wire calls) lane.talk
+IsAsked calls lane = HeardIn (read_on lane.wire (answers_of calls)) (requests_on lane.wire calls) lane.protocol
 
 -- what a lane heard, and then what a call adds
-asked-more : (call : Call) (calls : List Call) (x y : Lane) → IsAsked calls x → Moves call x y → HeardIn (read_on x.wire (answers_of (call ∷ calls))) (requests_on x.wire (call ∷ calls)) y.talk
+asked-more : (call : Call) (calls : List Call) (x y : Lane) → IsAsked calls x → Moves call x y → HeardIn (read_on x.wire (answers_of (call ∷ calls))) (requests_on x.wire (call ∷ calls)) y.protocol
 asked-more call calls x y k h =
-    subst (λ (l : List ℕ). HeardIn l (requests_on x.wire (call ∷ calls)) y.talk) (sym (read-more x.wire calls call))
-    (subst (λ (l : List Request). HeardIn (read_on x.wire (answers_of calls) ++ read_on x.wire (share x.wire (answers_in call))) l y.talk) (sym (requests-more x.wire call calls))
+    subst (λ (l : List ℕ). HeardIn l (requests_on x.wire (call ∷ calls)) y.protocol) (sym (read-more x.wire calls call))
+    (subst (λ (l : List Request). HeardIn (read_on x.wire (answers_of calls) ++ read_on x.wire (share x.wire (answers_in call))) l y.protocol) (sym (requests-more x.wire call calls))
     (moves-asked call x y h (read_on x.wire (answers_of calls)) (requests_on x.wire calls) k))
 
 pub step-asked : (call : Call) (calls : List Call) (x y : Lane) → IsAsked calls x → Moves call x y → IsAsked (call ∷ calls) y
 step-asked call calls x y k h =
-    subst (λ n. HeardIn (read_on n (answers_of (call ∷ calls))) (requests_on n (call ∷ calls)) y.talk) (sym (moves-wire call x y h)) (asked-more call calls x y k h)
+    subst (λ n. HeardIn (read_on n (answers_of (call ∷ calls))) (requests_on n (call ∷ calls)) y.protocol) (sym (moves-wire call x y h)) (asked-more call calls x y k h)
 
 pub new-asked : (calls : List Call) (now wire : ℕ) → IsUntouched wire calls → IsAsked calls (new_lane now wire)
 new-asked calls now wire h =
     subst (λ (l : List Request). Asks (read_on wire (answers_of calls)) l []) (sym h.requests) (read-share wire (answers_of calls) ∙ ap (λ l. read_on wire l) h.answers)
 
-heard-requests-of : (calls : List Call) (wire : ℕ) (talk : Talk) → HeardIn (read_on wire (answers_of calls)) (requests_on wire calls) talk → HeardRequests calls wire talk
-heard-requests-of calls wire (Http asking) h = h
-heard-requests-of calls wire (Socket talking) h = h
+heard-requests-of : (calls : List Call) (wire : ℕ) (protocol : Protocol) → HeardIn (read_on wire (answers_of calls)) (requests_on wire calls) protocol → HeardRequests calls wire protocol
+heard-requests-of calls wire (Http http_state) h = h
+heard-requests-of calls wire (Socket websocket_state) h = h
 
 pub requests-are-asked : RequestsAreAsked
 requests-are-asked calls bound now h lane has =
-    heard-requests-of calls lane.wire lane.talk (each-lane IsAsked new-asked step-asked calls bound now h lane (has-of now.lanes lane has))
+    heard-requests-of calls lane.wire lane.protocol (each-lane IsAsked new-asked step-asked calls bound now h lane (has-of now.lanes lane has))
 
 -- ---- refusals
 
-abbrev status_of : News → Option ℕ
-status_of (news.Refused status) = Some status
+abbrev status_of : Input → Option ℕ
+status_of (input.Refused status) = Some status
 status_of _ = None
 
 abbrev status_in : Option Event → Option ℕ
 status_in (Some (event.Refused at status)) = Some status
 status_in _ = None
 
-settles-status : (now : ℕ) (before after : Lane) (answers : List Answer) (what : News) (heard : Option Event) → Settles now before after answers what heard → status_in heard ≡ status_of what
-settles-status now before after answers news.Nothing heard h = go (is_overdue now before) h where
+settles-status : (now : ℕ) (before after : Lane) (answers : List Answer) (what : Input) (heard : Option Event) → Settles now before after answers what heard → status_in heard ≡ status_of what
+settles-status now before after answers input.Nothing heard h = go (is_overdue now before) h where
   go : (b : Bool) → Chooses b (Falls before after answers heard) (Passes before after answers None heard) → status_in heard ≡ None
   go true h = ap (λ o. status_in o) h.1
   go false h = ap (λ o. status_in o) h.1
-settles-status now before after answers (news.Request request) heard h = ap (λ o. status_in o) h.1
-settles-status now before after answers (news.Refused status) heard h = ap (λ o. status_in o) h.1
-settles-status now before after answers (news.Message bytes) heard h = ap (λ o. status_in o) h.1
-settles-status now before after answers news.Broken heard h = ap (λ o. status_in o) h.1
-settles-status now before after answers news.Gone heard h = ap (λ o. status_in o) h.1
+settles-status now before after answers (input.Request request) heard h = ap (λ o. status_in o) h.1
+settles-status now before after answers (input.Refused status) heard h = ap (λ o. status_in o) h.1
+settles-status now before after answers (input.Message bytes) heard h = ap (λ o. status_in o) h.1
+settles-status now before after answers input.Broken heard h = ap (λ o. status_in o) h.1
+settles-status now before after answers input.Gone heard h = ap (λ o. status_in o) h.1
 
 loses-status : (told : Option Event) (before after : Lane) (heard : Option Event) → Loses told before after heard → status_in heard ≡ status_in told
 loses-status (Some here) before after heard h = ap (λ o. status_in o) h.0
@@ -363,32 +363,32 @@ loses-status None before after heard h = go before.stage h where
 abbrev Deserves : List ℕ → List Request → ℕ → Type 0
 Deserves bytes requests status = (rest : List ℕ) × Asks bytes requests rest × Refuses request_grammar rest status
 
-hears-refused : (wire : ℕ) (before after : Talk) (answers : List Answer) (what : News) (status : ℕ) (bytes : List ℕ) (requests : List Request) → status_of what ≡ Some status → Hears wire before after answers what →
+hears-refused : (wire : ℕ) (before after : Protocol) (answers : List Answer) (what : Input) (status : ℕ) (bytes : List ℕ) (requests : List Request) → status_of what ≡ Some status → Hears wire before after answers what →
     HeardIn bytes requests before → Deserves (bytes ++ read_on wire answers) requests status
-hears-refused wire (Http before) (Http after) answers (news.Refused told) status bytes requests e h k =
+hears-refused wire (Http before) (Http after) answers (input.Refused told) status bytes requests e h k =
     let same_status : told ≡ status = cc e in (
       after.lane.held,
       subst (λ (l : List ℕ). Asks (bytes ++ l) requests after.lane.held) (sym (gives-bytes wire _ answers h.got h.read))
           (subst (λ (l : List Request). Asks (bytes ++ bytes_of h.got) l after.lane.held) (append-nil requests) (h.asks bytes requests k)),
-      subst (λ n. Refuses request_grammar after.lane.held n) same_status h.is_news.3,
+      subst (λ n. Refuses request_grammar after.lane.held n) same_status h.is_input.3,
     )
-hears-refused wire (Socket before) (Socket after) answers (news.Refused told) status bytes requests e h k = absurd h.is_news
-hears-refused wire (Http before) (Socket after) answers (news.Refused told) status bytes requests e h k = absurd h
-hears-refused wire (Socket before) (Http after) answers (news.Refused told) status bytes requests e h k = absurd h
+hears-refused wire (Socket before) (Socket after) answers (input.Refused told) status bytes requests e h k = absurd h.is_input
+hears-refused wire (Http before) (Socket after) answers (input.Refused told) status bytes requests e h k = absurd h
+hears-refused wire (Socket before) (Http after) answers (input.Refused told) status bytes requests e h k = absurd h
 hears-refused wire before after answers _ status bytes requests e h k = absurd (cc e)
 
 live-refused : (now : ℕ) (x y : Lane) (mine : List Answer) (own : Option Event) (status : ℕ) (bytes : List ℕ) (requests : List Request) → TurnsLive now x y mine own → status_in own ≡ Some status →
-    HeardIn bytes requests x.talk → Deserves (bytes ++ read_on x.wire mine) requests status
+    HeardIn bytes requests x.protocol → Deserves (bytes ++ read_on x.wire mine) requests status
 live-refused now x y mine own status bytes requests h e k =
-    let settled = settles-silent now (record x { talk = h.talk }) h.settled h.shut h.news h.told h.settles in
+    let settled = settles-silent now (record x { protocol = h.protocol }) h.settled h.shut h.input h.told h.settles in
     let said = says-silent h.settled h.said h.written h.says in
-    let news_is : status_of h.news ≡ Some status =
-    sym (settles-status now (record x { talk = h.talk }) h.settled h.shut h.news h.told h.settles) ∙ sym (loses-status h.told h.said y own h.loses) ∙ e in
+    let news_is : status_of h.input ≡ Some status =
+    sym (settles-status now (record x { protocol = h.protocol }) h.settled h.shut h.input h.told h.settles) ∙ sym (loses-status h.told h.said y own h.loses) ∙ e in
     let reads = live-reads x.wire mine h.read h.shut h.written h.all (settled.0 x.wire) (said.0 x.wire) in
-    subst (λ (l : List ℕ). Deserves (bytes ++ l) requests status) (sym reads) (hears-refused x.wire x.talk h.talk h.read h.news status bytes requests news_is h.hears k)
+    subst (λ (l : List ℕ). Deserves (bytes ++ l) requests status) (sym reads) (hears-refused x.wire x.protocol h.protocol h.read h.input status bytes requests news_is h.hears k)
 
 listens-refused : (now : ℕ) (x y : Lane) (mine : List Answer) (own : Option Event) (status : ℕ) (bytes : List ℕ) (requests : List Request) → Listens now x y mine own → status_in own ≡ Some status →
-    HeardIn bytes requests x.talk → Deserves (bytes ++ read_on x.wire mine) requests status
+    HeardIn bytes requests x.protocol → Deserves (bytes ++ read_on x.wire mine) requests status
 listens-refused now x y mine own status bytes requests h e k = go x.stage h where
   never : ◌≡◌ {A = Option ℕ} None (Some status) → Deserves (bytes ++ read_on x.wire mine) requests status
   never f = absurd (cc f)
@@ -403,7 +403,7 @@ is-refused : (wire status : ℕ) → is_on wire (event.Refused wire status) ≡ 
 is-refused wire status = same wire
 
 heeds-refused : (now : ℕ) (what : Event) (x y : Lane) (mine : List Answer) (status : ℕ) (bytes : List ℕ) (requests : List Request) → Heeds now what x y mine → what ≡ event.Refused x.wire status →
-    HeardIn bytes requests x.talk → Deserves (bytes ++ read_on x.wire mine) requests status
+    HeardIn bytes requests x.protocol → Deserves (bytes ++ read_on x.wire mine) requests status
 heeds-refused now what x y mine status bytes requests (inl h) e k = go h.0 h.1 h.2 where
   go : (own : Option Event) → Listens now x y mine own → IsHeard x.wire own what → Deserves (bytes ++ read_on x.wire mine) requests status
   go None l is = absurd (off-and-on (is_on x.wire what) is (ap (λ v. is_on x.wire v) e ∙ is-refused x.wire status))

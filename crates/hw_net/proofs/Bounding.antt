@@ -1,19 +1,19 @@
 -- After what a lane does in a call no more waits on it than may.
 use Rattle.std.proofs.Common.{◌≡◌, ◌≤◌, ◌==◌, ◌||◌, ◌++◌, ◌∷◌, [], ℕ, Bool, true, false, List, length, Option, None, Some, refl, sym, ap, ◌∙◌, subst, arith, inl, inr}
-use Rattle.hd_lanes.specs.declared.http.Reply.{Reply}
+use Rattle.hw_lanes.specs.declared.http.Reply.{Reply}
 use Rattle.hw_door.specs.declared.heard.Event.{Event}
 use Rattle.hw_door.specs.Traffic.{Answer, was_shut}
 use Rattle.hw_socket.specs.Lane as socket
 use Rattle.hw_socket.specs.Masks.{Written}
 use Rattle.hw_socket.specs.Sending as sending
 use Rattle.hw_net.specs.declared.limits.TheConstants.{MOST_UNWRITTEN}
-use Rattle.hw_net.specs.declared.talk.Talk.{Talk}
-use Rattle.hw_net.specs.declared.talk.Talk.TheVariants.{Http, Socket}
-use Rattle.hw_net.specs.declared.talk.Stage.{Stage}
-use Rattle.hw_net.specs.declared.talk.Stage.TheVariants.{Live, Lost, Closing, Over}
+use Rattle.hw_net.specs.declared.protocol.Protocol.{Protocol}
+use Rattle.hw_net.specs.declared.protocol.Protocol.TheVariants.{Http, Socket}
+use Rattle.hw_net.specs.declared.protocol.Stage.{Stage}
+use Rattle.hw_net.specs.declared.protocol.Stage.TheVariants.{Live, Lost, Closing, Over}
 use Rattle.hw_net.specs.Bounds.{has_wire, IsWithin, AreWithin, NextIsWithin, RepliesAreWithin, SendsAreWithin, ShutsAreWithin}
 use Rattle.hw_net.specs.Door.{HearsAll}
-use Rattle.hw_net.specs.Lane.{Lane, waits, frames_of, after_end, owes, is_live, after_reply, talk_after_shut}
+use Rattle.hw_net.specs.Lane.{Lane, waits, frames_of, after_end, owes, is_live, after_reply, protocol_after_shut}
 use Rattle.hw_net.specs.Saying.{WritesOut, Says, SaysAt, SaysMore, must_end, is_too_much}
 use Rattle.hw_net.specs.Told.{Chooses}
 use Rattle.hw_net.specs.Turn.{Turns, TurnsAt, TurnAll, Loses, LosesAt, Replies, PutsAt, Puts, Sends, Shuts, AtLane}
@@ -131,8 +131,8 @@ replies-within lane now reply before after answers h k =
 
 shuts-one : (before after : Lane) (answers : List Answer) → Shuts before after answers → IsWithin before → IsWithin after
 shuts-one before after answers h k = go (is_live before.stage) h where
-  go : (b : Bool) → Chooses b (WritesOut (record before { talk = talk_after_shut before.talk; stage = Closing }) after answers) ((answers ≡ []) × (after ≡ before)) → IsWithin after
-  go true h = writes-within (record before { talk = talk_after_shut before.talk; stage = Closing }) after answers h
+  go : (b : Bool) → Chooses b (WritesOut (record before { protocol = protocol_after_shut before.protocol; stage = Closing }) after answers) ((answers ≡ []) × (after ≡ before)) → IsWithin after
+  go true h = writes-within (record before { protocol = protocol_after_shut before.protocol; stage = Closing }) after answers h
   go false h = same-within before after h.1 k
 
 pub shuts-within : ShutsAreWithin
@@ -143,22 +143,22 @@ unsaid : (lane next : socket.Lane) (bytes : List ℕ) (text : Bool) → sending.
 unsaid lane next bytes text (inl h) = ap (λ (l : socket.Lane). l.out) h.1
 unsaid lane next bytes text (inr h) = ap (λ (l : socket.Lane). l.out) h.3
 
-unput : (live : Bool) (talk : Talk) (bytes : List ℕ) (text : Bool) (before after : Lane) → before.talk ≡ talk → PutsAt live talk bytes text before after false →
+unput : (live : Bool) (protocol : Protocol) (bytes : List ℕ) (text : Bool) (before after : Lane) → before.protocol ≡ protocol → PutsAt live protocol bytes text before after false →
     (after.stage ≡ before.stage) × (waits after ≡ waits before)
-unput true (Socket talking) bytes text before after e h =
-    let out : h.0.out ≡ talking.lane.out = unsaid talking.lane h.0 bytes text h.1 in (
+unput true (Socket websocket_state) bytes text before after e h =
+    let out : h.0.out ≡ websocket_state.lane.out = unsaid websocket_state.lane h.0 bytes text h.1 in (
       ap (λ (l : Lane). l.stage) h.2,
-      ap waits h.2 ∙ ap (λ (o : Written). before.out ++ o.bytes) out ∙ sym (ap (λ (t : Talk). before.out ++ frames_of t) e),
+      ap waits h.2 ∙ ap (λ (o : Written). before.out ++ o.bytes) out ∙ sym (ap (λ (t : Protocol). before.out ++ frames_of t) e),
     )
-unput true (Http asking) bytes text before after e h = (ap (λ (l : Lane). l.stage) h.1, ap waits h.1)
-unput false talk bytes text before after e h = (ap (λ (l : Lane). l.stage) h.1, ap waits h.1)
+unput true (Http http_state) bytes text before after e h = (ap (λ (l : Lane). l.stage) h.1, ap waits h.1)
+unput false protocol bytes text before after e h = (ap (λ (l : Lane). l.stage) h.1, ap waits h.1)
 
 send-within : (bytes : List ℕ) (text : Bool) (before after : Lane) (answers : List Answer) → Sends bytes text before after answers → IsWithin before → IsWithin after
 send-within bytes text before after answers h k = go h.0 h.1 h.2 h.3 where
   go : (mid : Lane) (b : Bool) → Puts bytes text before mid b → Chooses b (SaysMore mid after answers) ((answers ≡ []) × (after ≡ mid)) → IsWithin after
   go mid true p h = more-within mid after answers h
   go mid false p h =
-      let u = unput (is_live before.stage) before.talk bytes text before mid refl p in
+      let u = unput (is_live before.stage) before.protocol bytes text before mid refl p in
       same-within mid after h.1 (λ has. subst (λ (l : List ℕ). length l ≤ MOST_UNWRITTEN) (sym u.1) (k (sym (ap has_wire u.0) ∙ has)))
 
 pub sends-within : SendsAreWithin

@@ -6,24 +6,24 @@ use Rattle.hw_door.specs.Traffic.{Answer}
 use Rattle.hw_socket.specs.Lane as socket
 use Rattle.hw_socket.specs.Reading.{Feeds, Takes, Steps}
 use Rattle.hw_socket.specs.declared.vocabulary.SocketRead.TheVariants as read
-use Rattle.hw_net.specs.declared.glance.Glance.{Glance}
-use Rattle.hw_net.specs.declared.glance.Glance.TheVariants.{Unread, Still, Read}
+use Rattle.hw_net.specs.declared.first_read.FirstRead.{FirstRead}
+use Rattle.hw_net.specs.declared.first_read.FirstRead.TheVariants.{Unread, NothingRead, Read}
 use Rattle.hw_net.specs.declared.limits.TheConstants.{PIECE}
-use Rattle.hw_net.specs.declared.news.News.{News}
-use Rattle.hw_net.specs.declared.news.News.TheVariants as news
-use Rattle.hw_net.specs.declared.talk.Talk.{Talk}
-use Rattle.hw_net.specs.declared.talk.Talk.TheVariants.{Http, Socket}
-use Rattle.hw_net.specs.declared.talk.Stage.{Stage}
-use Rattle.hw_net.specs.declared.talk.Stage.TheVariants.{Live}
-use Rattle.hw_net.specs.Glances.{Glances, GlancesAt, IsCalmLane, IsCalmTalk}
+use Rattle.hw_net.specs.declared.input.Input.{Input}
+use Rattle.hw_net.specs.declared.input.Input.TheVariants as input
+use Rattle.hw_net.specs.declared.protocol.Protocol.{Protocol}
+use Rattle.hw_net.specs.declared.protocol.Protocol.TheVariants.{Http, Socket}
+use Rattle.hw_net.specs.declared.protocol.Stage.{Stage}
+use Rattle.hw_net.specs.declared.protocol.Stage.TheVariants.{Live}
+use Rattle.hw_net.specs.FirstReads.{ReadsFirst, ReadsFirstAt, IsCalmLane, IsCalmProtocol}
 use Rattle.hw_net.specs.Lane.{Lane, waits, frames_of, is_late}
 use Rattle.hw_net.specs.Lanes.{DoesHere}
 use Rattle.hw_net.specs.Saying.{Says}
-use Rattle.hw_net.specs.Tally.{is_lagging, is_lagging_by}
-use Rattle.hw_net.specs.Talking.{Talking, HearsTalking, ReadsInto, Finds, IsCalm, room_of}
+use Rattle.hw_net.specs.Tally.{has_unwritten, has_unwritten_by}
+use Rattle.hw_net.specs.WebSocketState.{WebSocketState, HearsWebSocket, ReadsInto, Finds, IsCalm, room_of}
 use Rattle.hw_net.specs.Told.{Chooses, Reads, Gives, Tells}
 use Rattle.hw_net.specs.Turn.{Hears, Settles, Passes, Falls, Loses, LosesAt, TurnsLive, TurnsAt, Listens}
-use Rattle.hw_net.proofs.Talkings.{room-hungry, news-of}
+use Rattle.hw_net.proofs.WebSocketFacts.{room-wants_read, input-of}
 use Rattle.hw_net.proofs.Telling.{tells-none}
 use Rattle.hw_net.proofs.Walking.{silent}
 
@@ -32,65 +32,65 @@ use Rattle.hw_net.proofs.Walking.{silent}
 fed-nothing : (lane : socket.Lane) → Feeds lane [] lane
 fed-nothing lane = ap (λ u. record lane { unread = u }) (sym (append-nil lane.unread))
 
-gave : (wire : ℕ) (before : Talking) (answer : Answer) (got : Option (List ℕ)) → before.hungry ≡ true → Reads wire PIECE answer got → Gives wire (room_of before) (answer ∷ []) got
-gave wire before answer got hungry h =
-    let room = room-hungry before hungry in
+last_read_was_full : (wire : ℕ) (before : WebSocketState) (answer : Answer) (got : Option (List ℕ)) → before.wants_read ≡ true → Reads wire PIECE answer got → Gives wire (room_of before) (answer ∷ []) got
+last_read_was_full wire before answer got wants_read h =
+    let room = room-wants_read before wants_read in
     (omega (arith, room), subst (λ n. Reads wire n answer got) (sym room) h)
 
 -- bytes came, and one message was heard, or none
-pub hears-after : (wire : ℕ) (before mid after : Talking) (piece : List ℕ) (answer : Answer) (heard : News) → before.hungry ≡ true → Reads wire PIECE answer (Some piece) →
-    Feeds before.lane piece mid.lane → mid.spoiled ≡ before.spoiled → Finds mid after heard → after.spoiled ≡ before.spoiled → HearsTalking wire before after (answer ∷ []) heard
-hears-after wire before mid after piece answer heard hungry h fed kept f same =
-    let read = gave wire before answer (Some piece) hungry h in
-    let into : ReadsInto wire before mid (answer ∷ []) true = record { got = Some piece; read = read; asked = λ _. omega arith; whole = refl; fed = fed; spoiled = kept } in
-    record { got = Some piece; read = read; is_news = news-of wire before mid after (answer ∷ []) heard into f; spoiled = same }
+pub hears-after : (wire : ℕ) (before mid after : WebSocketState) (piece : List ℕ) (answer : Answer) (heard : Input) → before.wants_read ≡ true → Reads wire PIECE answer (Some piece) →
+    Feeds before.lane piece mid.lane → mid.lost_bytes ≡ before.lost_bytes → Finds mid after heard → after.lost_bytes ≡ before.lost_bytes → HearsWebSocket wire before after (answer ∷ []) heard
+hears-after wire before mid after piece answer heard wants_read h fed kept f same =
+    let read = last_read_was_full wire before answer (Some piece) wants_read h in
+    let into : ReadsInto wire before mid (answer ∷ []) true = record { got = Some piece; read = read; asked = λ _. omega arith; whole = refl; fed = fed; lost_bytes = kept } in
+    record { got = Some piece; read = read; is_input = input-of wire before mid after (answer ∷ []) heard into f; lost_bytes = same }
 
 -- the wire broke
-pub breaks-after : (wire : ℕ) (before : Talking) (answer : Answer) → before.hungry ≡ true → Reads wire PIECE answer None → HearsTalking wire before before (answer ∷ []) news.Broken
-breaks-after wire before answer hungry h = record { got = None; read = gave wire before answer None hungry h; is_news = (inl refl, refl); spoiled = refl }
+pub breaks-after : (wire : ℕ) (before : WebSocketState) (answer : Answer) → before.wants_read ≡ true → Reads wire PIECE answer None → HearsWebSocket wire before before (answer ∷ []) input.Broken
+breaks-after wire before answer wants_read h = record { got = None; read = last_read_was_full wire before answer None wants_read h; is_input = (inl refl, refl); lost_bytes = refl }
 
 -- nothing came
-pub still-hears : (wire : ℕ) (talking : Talking) (answer : Answer) → IsCalm talking → Reads wire PIECE answer (Some []) → HearsTalking wire talking talking (answer ∷ []) news.Nothing
-still-hears wire talking answer calm h =
-    let takes : Takes talking.lane talking.lane read.NotYet = inr (calm.there, ([], talking.lane, refl, calm.waiting)) in
-    hears-after wire talking talking talking [] answer news.Nothing calm.hungry h (fed-nothing talking.lane) refl (takes, calm.hungry) refl
+pub still-hears : (wire : ℕ) (websocket_state : WebSocketState) (answer : Answer) → IsCalm websocket_state → Reads wire PIECE answer (Some []) → HearsWebSocket wire websocket_state websocket_state (answer ∷ []) input.Nothing
+still-hears wire websocket_state answer calm h =
+    let takes : Takes websocket_state.lane websocket_state.lane read.NotYet = inr (calm.there, ([], websocket_state.lane, refl, calm.waiting)) in
+    hears-after wire websocket_state websocket_state websocket_state [] answer input.Nothing calm.wants_read h (fed-nothing websocket_state.lane) refl (takes, calm.wants_read) refl
 
 -- ---- a lane
 
-still-news : (wire : ℕ) (talk : Talk) (answer : Answer) → IsCalmTalk talk → Reads wire PIECE answer (Some []) → Hears wire talk talk (answer ∷ []) news.Nothing
-still-news wire (Http asking) answer calm h = absurd calm
-still-news wire (Socket talking) answer calm h = still-hears wire talking answer calm h
+still-input : (wire : ℕ) (protocol : Protocol) (answer : Answer) → IsCalmProtocol protocol → Reads wire PIECE answer (Some []) → Hears wire protocol protocol (answer ∷ []) input.Nothing
+still-input wire (Http http_state) answer calm h = absurd calm
+still-input wire (Socket websocket_state) answer calm h = still-hears wire websocket_state answer calm h
 
-pub calm-news : (lane : Lane) (first : List Answer) (buf : List ℕ) → Glances lane first buf Still → Hears lane.wire lane.talk lane.talk first news.Nothing
-calm-news lane first buf h =
-    subst (λ (l : List Answer). Hears lane.wire lane.talk lane.talk l news.Nothing) (sym h.1.1) (still-news lane.wire lane.talk h.1.0 h.0.talk h.1.2)
+pub calm-input : (lane : Lane) (first : List Answer) (buf : List ℕ) → ReadsFirst lane first buf NothingRead → Hears lane.wire lane.protocol lane.protocol first input.Nothing
+calm-input lane first buf h =
+    subst (λ (l : List Answer). Hears lane.wire lane.protocol lane.protocol l input.Nothing) (sym h.1.1) (still-input lane.wire lane.protocol h.1.0 h.0.protocol h.1.2)
 
-in-time : (now since : ℕ) (talk : Talk) → IsCalmTalk talk → is_late now since talk ≡ false
-in-time now since (Http asking) calm = absurd calm
-in-time now since (Socket talking) calm = refl
+in-time : (now since : ℕ) (protocol : Protocol) → IsCalmProtocol protocol → is_late now since protocol ≡ false
+in-time now since (Http http_state) calm = absurd calm
+in-time now since (Socket websocket_state) calm = refl
 
-frameless : (talk : Talk) → IsCalmTalk talk → frames_of talk ≡ []
-frameless (Http asking) calm = absurd calm
-frameless (Socket talking) calm = calm.written
+frameless : (protocol : Protocol) → IsCalmProtocol protocol → frames_of protocol ≡ []
+frameless (Http http_state) calm = absurd calm
+frameless (Socket websocket_state) calm = calm.written
 
-unlagging : (lane : Lane) → IsCalmLane lane → is_lagging lane ≡ false
-unlagging lane calm =
-    let none : waits lane ≡ [] = ap (λ (l : List ℕ). l ++ frames_of lane.talk) calm.out ∙ frameless lane.talk calm.talk in
-    ap (λ (s : Stage). is_lagging_by s (length (waits lane))) calm.live ∙ ap (λ (l : List ℕ). is_lagging_by Live (length l)) none
+nothing-unwritten : (lane : Lane) → IsCalmLane lane → has_unwritten lane ≡ false
+nothing-unwritten lane calm =
+    let none : waits lane ≡ [] = ap (λ (l : List ℕ). l ++ frames_of lane.protocol) calm.out ∙ frameless lane.protocol calm.protocol in
+    ap (λ (s : Stage). has_unwritten_by s (length (waits lane))) calm.live ∙ ap (λ (l : List ℕ). has_unwritten_by Live (length l)) none
 
 second : (b : Bool) (A B : Type 0) → b ≡ false → B → Chooses b A B
 second true A B e h = absurd (cc e)
 second false A B e h = h
 
 -- the turn of a calm lane whose wire gave nothing
-pub calm-listens : (now : ℕ) (lane : Lane) (first : List Answer) (buf : List ℕ) → Glances lane first buf Still → Listens now lane lane first None
+pub calm-listens : (now : ℕ) (lane : Lane) (first : List Answer) (buf : List ℕ) → ReadsFirst lane first buf NothingRead → Listens now lane lane first None
 calm-listens now lane first buf h =
     let calm = h.0 in
-    let settles : Settles now lane lane [] news.Nothing None = second (is_late now lane.since lane.talk) _ _ (in-time now lane.since lane.talk calm.talk) (refl, refl, refl) in
+    let settles : Settles now lane lane [] input.Nothing None = second (is_late now lane.since lane.protocol) _ _ (in-time now lane.since lane.protocol calm.protocol) (refl, refl, refl) in
     let loses : LosesAt lane.stage lane lane None = subst (λ (s : Stage). LosesAt s lane lane None) (sym calm.live) (refl, refl) in
     let turns : TurnsLive now lane lane first None = record {
-      news = news.Nothing;
-      talk = lane.talk;
+      input = input.Nothing;
+      protocol = lane.protocol;
       settled = lane;
       said = lane;
       told = None;
@@ -98,9 +98,9 @@ calm-listens now lane first buf h =
       shut = [];
       written = [];
       all = sym (append-nil first);
-      hears = calm-news lane first buf h;
+      hears = calm-input lane first buf h;
       settles = settles;
-      says = silent lane (unlagging lane calm);
+      says = silent lane (nothing-unwritten lane calm);
       loses = loses;
     } in
     subst (λ (s : Stage). TurnsAt s now lane lane first None) (sym calm.live) turns
@@ -108,38 +108,38 @@ calm-listens now lane first buf h =
 -- ---- what calls that end with this come to
 
 -- a message is heard after bytes that came
-pub looked : {E : Type 0} (r : Result News E) (before mid after : Talking) (count : ℕ) (buf : List ℕ) (got : Option ℕ) → got ≡ Some count → Feeds before.lane (take count buf) mid.lane → IfOk r (Finds mid after) → (mid.spoiled ≡ before.spoiled) × (after.spoiled ≡ before.spoiled) →
-    IfOk r (λ heard. (wire : ℕ) (answer : Answer) → IsCalm before → Reads wire PIECE answer (option_map (λ n. take n buf) got) → HearsTalking wire before after (answer ∷ []) heard)
+pub looked : {E : Type 0} (r : Result Input E) (before mid after : WebSocketState) (count : ℕ) (buf : List ℕ) (got : Option ℕ) → got ≡ Some count → Feeds before.lane (take count buf) mid.lane → IfOk r (Finds mid after) → (mid.lost_bytes ≡ before.lost_bytes) × (after.lost_bytes ≡ before.lost_bytes) →
+    IfOk r (λ heard. (wire : ℕ) (answer : Answer) → IsCalm before → Reads wire PIECE answer (option_map (λ n. take n buf) got) → HearsWebSocket wire before after (answer ∷ []) heard)
 looked (Ok heard) before mid after count buf got e fed f same = λ wire answer calm h.
-    hears-after wire before mid after (take count buf) answer heard calm.hungry (subst (λ (o : Option ℕ). Reads wire PIECE answer (option_map (λ n. take n buf) o)) e h) fed same.0 f same.1
+    hears-after wire before mid after (take count buf) answer heard calm.wants_read (subst (λ (o : Option ℕ). Reads wire PIECE answer (option_map (λ n. take n buf) o)) e h) fed same.0 f same.1
 looked (Err why) before mid after count buf got e fed f same = f
 
 -- nothing more is told after a look that read the wire
-pub after-glance : {E : Type 0} (r : Result News E) (told : Option (List Answer)) (before : Lane) (talk : Talk) (buf : List ℕ) (glance : Glance) (got : Option ℕ) → glance ≡ Read got →
-    IfOk r (λ heard. (first : List Answer) → Glances before first buf (Read got) → Hears before.wire before.talk talk first heard) →
-    IfOk r (λ heard. (first : List Answer) → Glances before first buf glance → (answers : List Answer) × Tells told told answers × Hears before.wire before.talk talk (first ++ answers) heard)
-after-glance (Ok heard) told before talk buf glance got e h = λ first glances.
-    let k = h first (subst (λ x. Glances before first buf x) e glances) in
-    ([], tells-none told, subst (λ (l : List Answer). Hears before.wire before.talk talk l heard) (sym (append-nil first)) k)
-after-glance (Err why) told before talk buf glance got e h = h
+pub after-first_look : {E : Type 0} (r : Result Input E) (told : Option (List Answer)) (before : Lane) (protocol : Protocol) (buf : List ℕ) (first_look : FirstRead) (got : Option ℕ) → first_look ≡ Read got →
+    IfOk r (λ heard. (first : List Answer) → ReadsFirst before first buf (Read got) → Hears before.wire before.protocol protocol first heard) →
+    IfOk r (λ heard. (first : List Answer) → ReadsFirst before first buf first_look → (answers : List Answer) × Tells told told answers × Hears before.wire before.protocol protocol (first ++ answers) heard)
+after-first_look (Ok heard) told before protocol buf first_look got e h = λ first reads_first.
+    let k = h first (subst (λ x. ReadsFirst before first buf x) e reads_first) in
+    ([], tells-none told, subst (λ (l : List Answer). Hears before.wire before.protocol protocol l heard) (sym (append-nil first)) k)
+after-first_look (Err why) told before protocol buf first_look got e h = h
 
 -- the turn of a live lane
-pub live-turns : {E : Type 0} (r : Result (Option Event) E) (a b : Option (List Answer)) (now : ℕ) (before after : Lane) (buf : List ℕ) (glance : Glance) → before.stage ≡ Live →
-    IfOk r (λ heard. (first : List Answer) → Glances before first buf glance → (answers : List Answer) × Tells a b answers × TurnsLive now before after (first ++ answers) heard) →
-    IfOk r (λ heard. (first : List Answer) → Glances before first buf glance → (answers : List Answer) × Tells a b answers × Listens now before after (first ++ answers) heard)
-live-turns (Ok heard) a b now before after buf glance live h = λ first glances.
-    let k = h first glances in
+pub live-turns : {E : Type 0} (r : Result (Option Event) E) (a b : Option (List Answer)) (now : ℕ) (before after : Lane) (buf : List ℕ) (first_look : FirstRead) → before.stage ≡ Live →
+    IfOk r (λ heard. (first : List Answer) → ReadsFirst before first buf first_look → (answers : List Answer) × Tells a b answers × TurnsLive now before after (first ++ answers) heard) →
+    IfOk r (λ heard. (first : List Answer) → ReadsFirst before first buf first_look → (answers : List Answer) × Tells a b answers × Listens now before after (first ++ answers) heard)
+live-turns (Ok heard) a b now before after buf first_look live h = λ first reads_first.
+    let k = h first reads_first in
     (k.0, k.1, subst (λ (s : Stage). TurnsAt s now before after (first ++ k.0) heard) (sym live) k.2)
-live-turns (Err why) a b now before after buf glance live h = h
+live-turns (Err why) a b now before after buf first_look live h = h
 
 -- the turn of the lane of a place
-pub turns-here : {E : Type 0} (r : Result (Option Event) E) (a b : Option (List Answer)) (now place : ℕ) (lanes after : List Lane) (lane next : Lane) (buf : List ℕ) (glance : Glance) → place < length lanes →
+pub turns-here : {E : Type 0} (r : Result (Option Event) E) (a b : Option (List Answer)) (now place : ℕ) (lanes after : List Lane) (lane next : Lane) (buf : List ℕ) (first_look : FirstRead) → place < length lanes →
     get_or lanes place lane ≡ lane → after ≡ set lanes place next →
-    IfOk r (λ heard. (first : List Answer) → Glances lane first buf glance → (answers : List Answer) × Tells a b answers × Listens now lane next (first ++ answers) heard) →
-    IfOk r (λ heard. (first : List Answer) → GlancesAt place lanes first buf glance → (answers : List Answer) × Tells a b answers
+    IfOk r (λ heard. (first : List Answer) → ReadsFirst lane first buf first_look → (answers : List Answer) × Tells a b answers × Listens now lane next (first ++ answers) heard) →
+    IfOk r (λ heard. (first : List Answer) → ReadsFirstAt place lanes first buf first_look → (answers : List Answer) × Tells a b answers
     × DoesHere place (λ before after said. Listens now before after (first ++ said) heard) lanes after answers)
-turns-here (Ok heard) a b now place lanes after lane next buf glance within found order h = λ first glances.
-    let same : glances.0 ≡ lane = sym glances.1 ∙ get_or_default lanes place glances.0 lane within ∙ found in
-    let k = h first (subst (λ (l : Lane). Glances l first buf glance) same glances.2) in
+turns-here (Ok heard) a b now place lanes after lane next buf first_look within found order h = λ first reads_first.
+    let same : reads_first.0 ≡ lane = sym reads_first.1 ∙ get_or_default lanes place reads_first.0 lane within ∙ found in
+    let k = h first (subst (λ (l : Lane). ReadsFirst l first buf first_look) same reads_first.2) in
     (k.0, k.1, record { lane = lane; next = next; at = found; order = order; does = k.2 })
-turns-here (Err why) a b now place lanes after lane next buf glance within found order h = h
+turns-here (Err why) a b now place lanes after lane next buf first_look within found order h = h

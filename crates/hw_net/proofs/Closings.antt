@@ -1,20 +1,20 @@
 -- In a session a wire is shut once, for a cause, and then its lane does nothing on it.
 use Rattle.std.proofs.Common.{◌≡◌, ◌⊎◌, ◌==◌, ◌&&◌, ◌||◌, ◌++◌, ◌∷◌, [], ℕ, Bool, true, false, not, if◌then◌else◌, List, Option, None, Some, refl, sym, ap, ◌∙◌, subst, inl, inr, length, Contains}
-use Rattle.hd_lanes.specs.declared.http.Reply.{Reply}
+use Rattle.hw_lanes.specs.declared.http.Reply.{Reply}
 use Rattle.hh_http.specs.Texts.{reply_text}
 use Rattle.hw_door.specs.declared.heard.Event.{Event}
 use Rattle.hw_door.specs.declared.heard.Event.TheVariants as event
 use Rattle.hw_door.specs.Traffic.{Answer, was_shut}
 use Rattle.hw_net.specs.declared.limits.TheConstants.{SWITCHING}
-use Rattle.hw_net.specs.declared.news.News.{News}
-use Rattle.hw_net.specs.declared.news.News.TheVariants as news
-use Rattle.hw_net.specs.declared.talk.Talk.{Talk}
-use Rattle.hw_net.specs.declared.talk.Talk.TheVariants.{Http, Socket}
-use Rattle.hw_net.specs.declared.talk.Stage.{Stage}
-use Rattle.hw_net.specs.declared.talk.Stage.TheVariants.{Live, Lost, Closing, Over}
+use Rattle.hw_net.specs.declared.input.Input.{Input}
+use Rattle.hw_net.specs.declared.input.Input.TheVariants as input
+use Rattle.hw_net.specs.declared.protocol.Protocol.{Protocol}
+use Rattle.hw_net.specs.declared.protocol.Protocol.TheVariants.{Http, Socket}
+use Rattle.hw_net.specs.declared.protocol.Stage.{Stage}
+use Rattle.hw_net.specs.declared.protocol.Stage.TheVariants.{Live, Lost, Closing, Over}
 use Rattle.hw_net.specs.Bounds.{has_wire}
 use Rattle.hw_net.specs.Door.{DoorState, new_lane}
-use Rattle.hw_net.specs.Lane.{Lane, waits, is_live, is_busy, owes, is_overdue, after_end, after_reply, talk_after_shut, talk_after_reply, new_socket, rest_of}
+use Rattle.hw_net.specs.Lane.{Lane, waits, is_live, is_busy, owes, is_overdue, after_end, after_reply, protocol_after_shut, protocol_after_reply, new_socket, rest_of}
 use Rattle.hw_net.specs.Saying.{WritesOut, Says, SaysAt, SaysMore, must_end, is_too_much}
 use Rattle.hw_net.specs.Sessions as session
 use Rattle.hw_net.specs.Sessions.{Call, Session, answers_in, answers_of, is_about, are_about, was_shut_in, came_in, is_end_on, is_done_on, LanesHaveWires, WiresAreShutOnce, WiresAreShutForACause}
@@ -188,7 +188,7 @@ abbrev ends_in : ℕ → Option Event → Bool
 ends_in wire None = false
 ends_in wire (Some told) = is_end_on wire told
 
--- what the news come to: the wire is shut, and the lane is over; or it isn't, and the lane has its wire
+-- what the input comes to: the wire is shut, and the lane is over; or it isn't, and the lane has its wire
 abbrev Settled : ℕ → Stage → List Answer → Option Event → Type 0
 Settled wire after shut told =
     ((shut ≡ was_shut wire ∷ []) × (after ≡ Over) × (ends_in wire told ≡ true))
@@ -205,7 +205,7 @@ passes-settled wire mid after shut told heard has done h = inr (
   λ d. ap (λ o. ends_in wire o) h.1 ∙ done (sym (ap (λ (l : Lane). is_done l.stage) h.2) ∙ d),
 )
 
-settles-settled : (now : ℕ) (x after : Lane) (shut : List Answer) (what : News) (told : Option Event) → x.stage ≡ Live → Settles now x after shut what told → Settled x.wire after.stage shut told
+settles-settled : (now : ℕ) (x after : Lane) (shut : List Answer) (what : Input) (told : Option Event) → x.stage ≡ Live → Settles now x after shut what told → Settled x.wire after.stage shut told
 settles-settled now x after shut what told live s = go what s where
   has : has_wire x.stage ≡ true
   has = ap has_wire live
@@ -217,13 +217,13 @@ settles-settled now x after shut what told live s = go what s where
   nothing true f = falls-settled x after shut told f
   nothing false f = passes-settled x.wire x after shut None told has (λ d. undone d) f
 
-  go : (what : News) → Settles now x after shut what told → Settled x.wire after.stage shut told
-  go news.Nothing s = nothing (is_overdue now x) s
-  go (news.Request request) s = passes-settled x.wire x after shut _ told has (λ d. undone d) s
-  go (news.Refused status) s = passes-settled x.wire _ after shut _ told refl (λ d. same x.wire) s
-  go (news.Message bytes) s = passes-settled x.wire x after shut _ told has (λ d. undone d) s
-  go news.Broken s = falls-settled x after shut told s
-  go news.Gone s = passes-settled x.wire _ after shut _ told refl (λ d. same x.wire) s
+  go : (what : Input) → Settles now x after shut what told → Settled x.wire after.stage shut told
+  go input.Nothing s = nothing (is_overdue now x) s
+  go (input.Request request) s = passes-settled x.wire x after shut _ told has (λ d. undone d) s
+  go (input.Refused status) s = passes-settled x.wire _ after shut _ told refl (λ d. same x.wire) s
+  go (input.Message bytes) s = passes-settled x.wire x after shut _ told has (λ d. undone d) s
+  go input.Broken s = falls-settled x after shut told s
+  go input.Gone s = passes-settled x.wire _ after shut _ told refl (λ d. same x.wire) s
 
 -- the loss of a lane whose wire was shut is heard
 loses-close : (wire : ℕ) (told : Option Event) (said y : Lane) (own : Option Event) → said.wire ≡ wire → Loses told said y own →
@@ -245,18 +245,18 @@ loses-close wire None said y own e h = go said.stage refl h where
   go Over s h = stays h.1
 
 live-close : (now : ℕ) (x y : Lane) (mine : List Answer) (own : Option Event) → x.stage ≡ Live → TurnsLive now x y mine own → Closes x.wire x.stage y.stage mine (ends_in x.wire own)
-live-close now x y mine own live h = go (settles-settled now mid h.settled h.shut h.news h.told live h.settles) where
+live-close now x y mine own live h = go (settles-settled now mid h.settled h.shut h.input h.told live h.settles) where
   mid : Lane
-  mid = record x { talk = h.talk }
+  mid = record x { protocol = h.protocol }
 
   w : ℕ
   w = x.wire
 
   unread : was_shut_in x.wire h.read ≡ false
-  unread = hears-unshut x.wire x.wire x.talk h.talk h.read h.news h.hears
+  unread = hears-unshut x.wire x.wire x.protocol h.protocol h.read h.input h.hears
 
   kept : h.settled.wire ≡ x.wire
-  kept = (settles-keeps now (record x { talk = h.talk }) h.settled h.shut h.news h.told h.settles).0.0
+  kept = (settles-keeps now (record x { protocol = h.protocol }) h.settled h.shut h.input h.told h.settles).0.0
 
   said : Closes x.wire h.settled.stage h.said.stage h.written false
   said = subst (λ n. Closes n h.settled.stage h.said.stage h.written false) kept (says-close h.settled h.said h.written h.says)
@@ -362,7 +362,7 @@ pub owes-live : (x : Lane) → owes x ≡ true → is_live x.stage ≡ true
 owes-live x e = go (is_live x.stage) refl where
   go : (b : Bool) → is_live x.stage ≡ b → is_live x.stage ≡ true
   go true f = f
-  go false f = absurd (cc (sym (ap (λ b. b && is_busy x.talk) f) ∙ e))
+  go false f = absurd (cc (sym (ap (λ b. b && is_busy x.protocol) f) ∙ e))
 
 -- the wire and the stage of the lane that it becomes first are those that it had
 moved-close : (x mid y : Lane) (mine : List Answer) → mid.wire ≡ x.wire → mid.stage ≡ x.stage → Closes mid.wire mid.stage y.stage mine false → Closes x.wire x.stage y.stage mine false
@@ -370,8 +370,8 @@ moved-close x mid y mine e f c = subst (λ n. Closes n x.stage y.stage mine fals
 
 pub replied-stage : (now : ℕ) (reply : Reply) (x : Lane) → (after_reply now reply x).stage ≡ x.stage
 replied-stage now reply x = go (reply.status == SWITCHING) where
-  go : (b : Bool) → (if b then record x { talk = new_socket (rest_of x.talk); out = x.out ++ reply_text reply }
-      else record x { talk = talk_after_reply x.talk; out = x.out ++ reply_text reply; since = now }).stage ≡ x.stage
+  go : (b : Bool) → (if b then record x { protocol = new_socket (rest_of x.protocol); out = x.out ++ reply_text reply }
+      else record x { protocol = protocol_after_reply x.protocol; out = x.out ++ reply_text reply; since = now }).stage ≡ x.stage
   go true = refl
   go false = refl
 
@@ -383,25 +383,25 @@ replies-close now reply x y mine h = go (owes x) refl h where
       (more-close (after_reply now reply x) y mine (ap has_wire (replied-stage now reply x) ∙ live-has x.stage (owes-live x e)) h)
   go false e h = idles x.wire x.stage y.stage mine h.0 (ap (λ (l : Lane). l.stage) h.1)
 
-pub put-stage : (live : Bool) (talk : Talk) (bytes : List ℕ) (text : Bool) (x mid : Lane) (is_put : Bool) → PutsAt live talk bytes text x mid is_put → (mid.stage ≡ x.stage) × (is_put ≡ true → live ≡ true)
-put-stage true (Socket talking) bytes text x mid is_put h = (ap (λ (l : Lane). l.stage) h.2, λ e. refl)
-put-stage true (Http asking) bytes text x mid is_put h = (ap (λ (l : Lane). l.stage) h.1, λ e. refl)
-put-stage false talk bytes text x mid is_put h = (ap (λ (l : Lane). l.stage) h.1, λ e. absurd (cc (sym h.0 ∙ e)))
+pub put-stage : (live : Bool) (protocol : Protocol) (bytes : List ℕ) (text : Bool) (x mid : Lane) (is_put : Bool) → PutsAt live protocol bytes text x mid is_put → (mid.stage ≡ x.stage) × (is_put ≡ true → live ≡ true)
+put-stage true (Socket websocket_state) bytes text x mid is_put h = (ap (λ (l : Lane). l.stage) h.2, λ e. refl)
+put-stage true (Http http_state) bytes text x mid is_put h = (ap (λ (l : Lane). l.stage) h.1, λ e. refl)
+put-stage false protocol bytes text x mid is_put h = (ap (λ (l : Lane). l.stage) h.1, λ e. absurd (cc (sym h.0 ∙ e)))
 
 sends-close : (bytes : List ℕ) (text : Bool) (x y : Lane) (mine : List Answer) → Sends bytes text x y mine → Closes x.wire x.stage y.stage mine false
 sends-close bytes text x y mine h = go h.0 h.1 h.2 h.3 where
   go : (mid : Lane) (b : Bool) → Puts bytes text x mid b → Chooses b (SaysMore mid y mine) ((mine ≡ []) × (y ≡ mid)) → Closes x.wire x.stage y.stage mine false
   go mid true p s =
-      let put = put-stage (is_live x.stage) x.talk bytes text x mid true p in
-      moved-close x mid y mine (put-wire (is_live x.stage) x.talk bytes text x mid true p) put.0 (more-close mid y mine (ap has_wire put.0 ∙ live-has x.stage (put.1 refl)) s)
-  go mid false p s = idles x.wire x.stage y.stage mine s.0 (ap (λ (l : Lane). l.stage) s.1 ∙ (put-stage (is_live x.stage) x.talk bytes text x mid false p).0)
+      let put = put-stage (is_live x.stage) x.protocol bytes text x mid true p in
+      moved-close x mid y mine (put-wire (is_live x.stage) x.protocol bytes text x mid true p) put.0 (more-close mid y mine (ap has_wire put.0 ∙ live-has x.stage (put.1 refl)) s)
+  go mid false p s = idles x.wire x.stage y.stage mine s.0 (ap (λ (l : Lane). l.stage) s.1 ∙ (put-stage (is_live x.stage) x.protocol bytes text x mid false p).0)
 
 shuts-close : (x y : Lane) (mine : List Answer) → Shuts x y mine → Closes x.wire x.stage y.stage mine true
 shuts-close x y mine h = go (is_live x.stage) refl h where
-  go : (b : Bool) → is_live x.stage ≡ b → Chooses b (WritesOut (record x { talk = talk_after_shut x.talk; stage = Closing }) y mine) ((mine ≡ []) × (y ≡ x)) → Closes x.wire x.stage y.stage mine true
+  go : (b : Bool) → is_live x.stage ≡ b → Chooses b (WritesOut (record x { protocol = protocol_after_shut x.protocol; stage = Closing }) y mine) ((mine ≡ []) × (y ≡ x)) → Closes x.wire x.stage y.stage mine true
   go true e h =
       let has = live-has x.stage e in
-      let c = writes-close (record x { talk = talk_after_shut x.talk; stage = Closing }) y mine refl h in
+      let c = writes-close (record x { protocol = protocol_after_shut x.protocol; stage = Closing }) y mine refl h in
       record {
         ends = subst (λ b. ((was_shut_in x.wire mine ≡ true) × (has_wire y.stage ≡ false)) ⊎ ((was_shut_in x.wire mine ≡ false) × (has_wire y.stage ≡ b))) (sym has) c.ends;
         last = c.last;

@@ -1,20 +1,20 @@
 -- In a session a request is heard on a lane only once each one before it there was replied to.
 use Rattle.std.proofs.Common.{◌≡◌, ◌==◌, ◌&&◌, ◌+◌, ◌++◌, ◌∷◌, [], ℕ, Bool, true, false, if◌then◌else◌, List, Option, None, Some, refl, sym, ap, ◌∙◌, subst, inl, inr, arith, length}
-use Rattle.hd_lanes.specs.declared.http.Reply.{Reply}
-use Rattle.hd_lanes.specs.declared.http.Request.{Request}
+use Rattle.hw_lanes.specs.declared.http.Reply.{Reply}
+use Rattle.hw_lanes.specs.declared.http.Request.{Request}
 use Rattle.hh_http.specs.Texts.{reply_text}
 use Rattle.hw_door.specs.declared.heard.Event.{Event}
 use Rattle.hw_door.specs.Traffic.{Answer}
 use Rattle.hw_net.specs.declared.limits.TheConstants.{SWITCHING}
-use Rattle.hw_net.specs.declared.news.News.{News}
-use Rattle.hw_net.specs.declared.news.News.TheVariants as news
-use Rattle.hw_net.specs.declared.talk.Talk.{Talk}
-use Rattle.hw_net.specs.declared.talk.Talk.TheVariants.{Http, Socket}
-use Rattle.hw_net.specs.declared.talk.Stage.{Stage}
-use Rattle.hw_net.specs.declared.talk.Stage.TheVariants.{Live, Lost, Closing, Over}
-use Rattle.hw_net.specs.Asking.{AskingState, requests_of}
+use Rattle.hw_net.specs.declared.input.Input.{Input}
+use Rattle.hw_net.specs.declared.input.Input.TheVariants as input
+use Rattle.hw_net.specs.declared.protocol.Protocol.{Protocol}
+use Rattle.hw_net.specs.declared.protocol.Protocol.TheVariants.{Http, Socket}
+use Rattle.hw_net.specs.declared.protocol.Stage.{Stage}
+use Rattle.hw_net.specs.declared.protocol.Stage.TheVariants.{Live, Lost, Closing, Over}
+use Rattle.hw_net.specs.HttpState.{HttpStateView, requests_of}
 use Rattle.hw_net.specs.Door.{new_lane}
-use Rattle.hw_net.specs.Lane.{Lane, waits, is_live, is_busy, owes, is_overdue, after_end, after_reply, talk_after_shut, talk_after_reply, new_socket, rest_of}
+use Rattle.hw_net.specs.Lane.{Lane, waits, is_live, is_busy, owes, is_overdue, after_end, after_reply, protocol_after_shut, protocol_after_reply, new_socket, rest_of}
 use Rattle.hw_net.specs.Saying.{WritesOut, Says, SaysAt, SaysMore, is_too_much}
 use Rattle.hw_net.specs.Sessions as session
 use Rattle.hw_net.specs.Sessions.{Call, Session, requests_on, replies_on, request_on, refusal_on, RequestsWaitForReplies}
@@ -29,12 +29,12 @@ use Rattle.hw_net.proofs.Voices.{refusals_of, refusals_in, settles-refusals, los
 use Rattle.hw_net.proofs.Walks.{Heeds, Moves, moves-wire, IsUntouched, each-before, mover, unrequested, unrefused}
 
 -- how many requests wait for a reply
-abbrev busy_count : Talk → ℕ
-busy_count talk = if is_busy talk then 1 else 0
+abbrev busy_count : Protocol → ℕ
+busy_count protocol = if is_busy protocol then 1 else 0
 
 -- as long as a lane is live, the replies said there are as many as the requests heard, but for the one that waits
 abbrev IsEven : ℕ → ℕ → Lane → Type 0
-IsEven requests replies lane = is_live lane.stage ≡ true → requests ≡ replies + busy_count lane.talk
+IsEven requests replies lane = is_live lane.stage ≡ true → requests ≡ replies + busy_count lane.protocol
 
 -- a call adds these many
 abbrev StaysEven : Lane → Lane → ℕ → ℕ → Type 0
@@ -44,13 +44,13 @@ StaysEven x y requests replies = (n m : ℕ) → IsEven n m x → IsEven (n + re
 
 -- a lane that is live was so before, and is as busy
 abbrev pub Lives : Lane → Lane → Type 0
-Lives x y = is_live y.stage ≡ true → (is_live x.stage ≡ true) × (is_busy y.talk ≡ is_busy x.talk)
+Lives x y = is_live y.stage ≡ true → (is_live x.stage ≡ true) × (is_busy y.protocol ≡ is_busy x.protocol)
 
 even-lives : (x y : Lane) (requests replies : ℕ) → Lives x y → requests ≡ 0 → replies ≡ 0 → StaysEven x y requests replies
 even-lives x y requests replies l e f n m k live =
     let was = l live in
-    let count : busy_count y.talk ≡ busy_count x.talk = ap (λ b. if b then 1 else 0) was.1 in
-    let before : n ≡ m + busy_count x.talk = k was.0 in
+    let count : busy_count y.protocol ≡ busy_count x.protocol = ap (λ b. if b then 1 else 0) was.1 in
+    let before : n ≡ m + busy_count x.protocol = k was.0 in
     omega (arith, count, before, e, f)
 
 ended : (s : Stage) → is_live (after_end s) ≡ true → ⊥
@@ -59,15 +59,15 @@ ended Lost e = absurd (cc e)
 ended Closing e = absurd (cc e)
 ended Over e = absurd (cc e)
 
-ends-lives : (wire : ℕ) (x y : Lane) (answers : List Answer) → Ends wire x.stage y.stage answers → is_busy y.talk ≡ is_busy x.talk → Lives x y
+ends-lives : (wire : ℕ) (x y : Lane) (answers : List Answer) → Ends wire x.stage y.stage answers → is_busy y.protocol ≡ is_busy x.protocol → Lives x y
 ends-lives wire x y answers (inl h) e live = absurd (ended x.stage (sym (ap is_live h.1) ∙ live))
 ends-lives wire x y answers (inr h) e live = (sym (ap is_live h.1) ∙ live, e)
 
 pub same-lives : (x y : Lane) → y ≡ x → Lives x y
-same-lives x y e live = (sym (ap (λ (l : Lane). is_live l.stage) e) ∙ live, ap (λ (l : Lane). is_busy l.talk) e)
+same-lives x y e live = (sym (ap (λ (l : Lane). is_live l.stage) e) ∙ live, ap (λ (l : Lane). is_busy l.protocol) e)
 
 pub writes-live : (x y : Lane) (answers : List Answer) → WritesOut x y answers → Lives x y
-writes-live x y answers w = ends-lives x.wire x y answers (writes-end x y answers w) (speaks-busy x.talk y.talk w.still.talk)
+writes-live x y answers w = ends-lives x.wire x y answers (writes-end x y answers w) (speaks-busy x.protocol y.protocol w.still.protocol)
 
 pub says-live : (x y : Lane) (answers : List Answer) → Says x y answers → Lives x y
 says-live x y answers h = go x.stage h where
@@ -79,9 +79,9 @@ says-live x y answers h = go x.stage h where
 
 pub more-live : (x y : Lane) (answers : List Answer) → SaysMore x y answers → Lives x y
 more-live x y answers h = ends-lives x.wire x y answers (more-end x y answers h) (busy (is_too_much (length (waits x))) h) where
-  busy : (b : Bool) → Chooses b ((answers ≡ Rattle.hw_door.specs.Traffic.was_shut x.wire ∷ []) × (y ≡ record x { stage = after_end x.stage })) (WritesOut x y answers) → is_busy y.talk ≡ is_busy x.talk
-  busy true h = ap (λ (l : Lane). is_busy l.talk) h.1
-  busy false h = speaks-busy x.talk y.talk h.still.talk
+  busy : (b : Bool) → Chooses b ((answers ≡ Rattle.hw_door.specs.Traffic.was_shut x.wire ∷ []) × (y ≡ record x { stage = after_end x.stage })) (WritesOut x y answers) → is_busy y.protocol ≡ is_busy x.protocol
+  busy true h = ap (λ (l : Lane). is_busy l.protocol) h.1
+  busy false h = speaks-busy x.protocol y.protocol h.still.protocol
 
 lives-on : (x y z : Lane) → Lives x y → Lives y z → Lives x z
 lives-on x y z f g live = let a = g live in let b = f a.0 in (b.0, a.1 ∙ b.1)
@@ -101,65 +101,65 @@ loses-live None x y heard h = go x.stage h where
 gone : (x mid after : Lane) (requests replies : ℕ) → after ≡ mid → is_live mid.stage ≡ false → StaysEven x after requests replies
 gone x mid after requests replies e f n m k live = absurd (cc (sym f ∙ sym (ap (λ (l : Lane). is_live l.stage) e) ∙ live))
 
-settles-even : (now : ℕ) (x : Lane) (talk : Talk) (after : Lane) (read answers : List Answer) (what : News) (heard : Option Event) → Hears x.wire x.talk talk read what → Settles now (record x { talk = talk }) after answers what heard →
+settles-even : (now : ℕ) (x : Lane) (protocol : Protocol) (after : Lane) (read answers : List Answer) (what : Input) (heard : Option Event) → Hears x.wire x.protocol protocol read what → Settles now (record x { protocol = protocol }) after answers what heard →
     StaysEven x after (length (requests_of what)) (length (refusals_of what))
-settles-even now x talk after read answers what heard h s n m k = go x.talk talk what h s k where
-  kept : (old new : Talk) → is_busy new ≡ is_busy old → (l : Lane) → l ≡ record x { talk = new } → (is_live x.stage ≡ true → n ≡ m + busy_count old) → is_live l.stage ≡ true → n + 0 ≡ m + 0 + busy_count l.talk
+settles-even now x protocol after read answers what heard h s n m k = go x.protocol protocol what h s k where
+  kept : (old new : Protocol) → is_busy new ≡ is_busy old → (l : Lane) → l ≡ record x { protocol = new } → (is_live x.stage ≡ true → n ≡ m + busy_count old) → is_live l.stage ≡ true → n + 0 ≡ m + 0 + busy_count l.protocol
   kept old new e l f k live =
       let was : is_live x.stage ≡ true = sym (ap (λ (l : Lane). is_live l.stage) f) ∙ live in
-      let count : busy_count l.talk ≡ busy_count old = ap (λ (l : Lane). busy_count l.talk) f ∙ ap (λ b. if b then 1 else 0) e in
+      let count : busy_count l.protocol ≡ busy_count old = ap (λ (l : Lane). busy_count l.protocol) f ∙ ap (λ b. if b then 1 else 0) e in
       let before : n ≡ m + busy_count old = k was in
       omega (arith, count, before)
 
-  asked : (old new : AskingState) → old.busy ≡ false → new.busy ≡ true → (l : Lane) → l ≡ record x { talk = Http new } → (is_live x.stage ≡ true → n ≡ m + busy_count (Http old)) → is_live l.stage ≡ true → n + 1 ≡ m + 0 + busy_count l.talk
+  asked : (old new : HttpStateView) → old.busy ≡ false → new.busy ≡ true → (l : Lane) → l ≡ record x { protocol = Http new } → (is_live x.stage ≡ true → n ≡ m + busy_count (Http old)) → is_live l.stage ≡ true → n + 1 ≡ m + 0 + busy_count l.protocol
   asked old new e f l g k live =
       let was : is_live x.stage ≡ true = sym (ap (λ (l : Lane). is_live l.stage) g) ∙ live in
-      let now_is : busy_count l.talk ≡ 1 = ap (λ (l : Lane). busy_count l.talk) g ∙ ap (λ b. if b then 1 else 0) f in
+      let now_is : busy_count l.protocol ≡ 1 = ap (λ (l : Lane). busy_count l.protocol) g ∙ ap (λ b. if b then 1 else 0) f in
       let then_was : busy_count (Http old) ≡ 0 = ap (λ b. if b then 1 else 0) e in
       let before : n ≡ m + busy_count (Http old) = k was in
       omega (arith, now_is, then_was, before)
 
-  nothing : (old new : Talk) → is_busy new ≡ is_busy old → (is_live x.stage ≡ true → n ≡ m + busy_count old) → (b : Bool) →
-      Chooses b (Falls (record x { talk = new }) after answers heard) (Passes (record x { talk = new }) after answers None heard) → is_live after.stage ≡ true → n + 0 ≡ m + 0 + busy_count after.talk
+  nothing : (old new : Protocol) → is_busy new ≡ is_busy old → (is_live x.stage ≡ true → n ≡ m + busy_count old) → (b : Bool) →
+      Chooses b (Falls (record x { protocol = new }) after answers heard) (Passes (record x { protocol = new }) after answers None heard) → is_live after.stage ≡ true → n + 0 ≡ m + 0 + busy_count after.protocol
   nothing old new e k true f live = absurd (cc (sym (ap (λ (l : Lane). is_live l.stage) f.2) ∙ live))
   nothing old new e k false f live = kept old new e after f.2 k live
 
-  over : (mid : Lane) (requests replies : ℕ) → after ≡ mid → is_live mid.stage ≡ false → is_live after.stage ≡ true → n + requests ≡ m + replies + busy_count after.talk
+  over : (mid : Lane) (requests replies : ℕ) → after ≡ mid → is_live mid.stage ≡ false → is_live after.stage ≡ true → n + requests ≡ m + replies + busy_count after.protocol
   over mid requests replies e f live = absurd (cc (sym f ∙ sym (ap (λ (l : Lane). is_live l.stage) e) ∙ live))
 
-  go : (old new : Talk) (what : News) → Hears x.wire old new read what → Settles now (record x { talk = new }) after answers what heard → (is_live x.stage ≡ true → n ≡ m + busy_count old) →
-      is_live after.stage ≡ true → n + length (requests_of what) ≡ m + length (refusals_of what) + busy_count after.talk
-  go (Http old) (Http new) news.Nothing h s k = nothing (Http old) (Http new) h.is_news.2 k (is_overdue now (record x { talk = Http new })) s
-  go (Http old) (Http new) (news.Request request) h s k = asked old new h.is_news.1 h.is_news.2 after s.2 k
-  go (Http old) (Http new) (news.Refused status) h s k = over _ 0 1 s.2 refl
-  go (Http old) (Http new) (news.Message bytes) h s k = absurd h.is_news
-  go (Http old) (Http new) news.Broken h s k = over _ 0 0 s.2 refl
-  go (Http old) (Http new) news.Gone h s k = absurd h.is_news
-  go (Socket old) (Socket new) news.Nothing h s k = nothing (Socket old) (Socket new) refl k (is_overdue now (record x { talk = Socket new })) s
-  go (Socket old) (Socket new) (news.Request request) h s k = absurd h.is_news
-  go (Socket old) (Socket new) (news.Refused status) h s k = absurd h.is_news
-  go (Socket old) (Socket new) (news.Message bytes) h s k = kept (Socket old) (Socket new) refl after s.2 k
-  go (Socket old) (Socket new) news.Broken h s k = over _ 0 0 s.2 refl
-  go (Socket old) (Socket new) news.Gone h s k = over _ 0 0 s.2 refl
+  go : (old new : Protocol) (what : Input) → Hears x.wire old new read what → Settles now (record x { protocol = new }) after answers what heard → (is_live x.stage ≡ true → n ≡ m + busy_count old) →
+      is_live after.stage ≡ true → n + length (requests_of what) ≡ m + length (refusals_of what) + busy_count after.protocol
+  go (Http old) (Http new) input.Nothing h s k = nothing (Http old) (Http new) h.is_input.2 k (is_overdue now (record x { protocol = Http new })) s
+  go (Http old) (Http new) (input.Request request) h s k = asked old new h.is_input.1 h.is_input.2 after s.2 k
+  go (Http old) (Http new) (input.Refused status) h s k = over _ 0 1 s.2 refl
+  go (Http old) (Http new) (input.Message bytes) h s k = absurd h.is_input
+  go (Http old) (Http new) input.Broken h s k = over _ 0 0 s.2 refl
+  go (Http old) (Http new) input.Gone h s k = absurd h.is_input
+  go (Socket old) (Socket new) input.Nothing h s k = nothing (Socket old) (Socket new) refl k (is_overdue now (record x { protocol = Socket new })) s
+  go (Socket old) (Socket new) (input.Request request) h s k = absurd h.is_input
+  go (Socket old) (Socket new) (input.Refused status) h s k = absurd h.is_input
+  go (Socket old) (Socket new) (input.Message bytes) h s k = kept (Socket old) (Socket new) refl after s.2 k
+  go (Socket old) (Socket new) input.Broken h s k = over _ 0 0 s.2 refl
+  go (Socket old) (Socket new) input.Gone h s k = over _ 0 0 s.2 refl
   go (Http old) (Socket new) what h s k = absurd h
   go (Socket old) (Http new) what h s k = absurd h
 
 even-on : (x y z : Lane) (requests replies : ℕ) → StaysEven x y requests replies → Lives y z → StaysEven x z requests replies
 even-on x y z requests replies f l n m k live =
     let was = l live in
-    let count : busy_count z.talk ≡ busy_count y.talk = ap (λ b. if b then 1 else 0) was.1 in
-    let before : n + requests ≡ m + replies + busy_count y.talk = f n m k was.0 in
+    let count : busy_count z.protocol ≡ busy_count y.protocol = ap (λ b. if b then 1 else 0) was.1 in
+    let before : n + requests ≡ m + replies + busy_count y.protocol = f n m k was.0 in
     omega (arith, count, before)
 
 live-even : (now : ℕ) (x y : Lane) (mine : List Answer) (own : Option Event) → TurnsLive now x y mine own → StaysEven x y (length (requests_in x.wire own)) (length (refusals_in x.wire own))
 live-even now x y mine own h =
-    let mid = record x { talk = h.talk } in
-    let requests : requests_in x.wire own ≡ requests_of h.news = loses-requests x.wire h.told h.said y own h.loses ∙ settles-requests now mid h.settled h.shut h.news h.told h.settles in
-    let refusals : refusals_in x.wire own ≡ refusals_of h.news = loses-refusals x.wire h.told h.said y own h.loses ∙ settles-refusals now mid h.settled h.shut h.news h.told h.settles in
-    let at_end = even-on x h.settled y (length (requests_of h.news)) (length (refusals_of h.news)) (settles-even now x h.talk h.settled h.read h.shut h.news h.told h.hears h.settles)
+    let mid = record x { protocol = h.protocol } in
+    let requests : requests_in x.wire own ≡ requests_of h.input = loses-requests x.wire h.told h.said y own h.loses ∙ settles-requests now mid h.settled h.shut h.input h.told h.settles in
+    let refusals : refusals_in x.wire own ≡ refusals_of h.input = loses-refusals x.wire h.told h.said y own h.loses ∙ settles-refusals now mid h.settled h.shut h.input h.told h.settles in
+    let at_end = even-on x h.settled y (length (requests_of h.input)) (length (refusals_of h.input)) (settles-even now x h.protocol h.settled h.read h.shut h.input h.told h.hears h.settles)
     (lives-on h.settled h.said y (says-live h.settled h.said h.written h.says) (loses-live h.told h.said y own h.loses)) in
     subst (λ (l : List Request). StaysEven x y (length l) (length (refusals_in x.wire own))) (sym requests)
-    (subst (λ (l : List Reply). StaysEven x y (length (requests_of h.news)) (length l)) (sym refusals) at_end)
+    (subst (λ (l : List Reply). StaysEven x y (length (requests_of h.input)) (length l)) (sym refusals) at_end)
 
 -- nothing is heard and said
 quiet-even : (x y : Lane) (wire : ℕ) (own : Option Event) → Lives x y → requests_in wire own ≡ [] → refusals_in wire own ≡ [] → StaysEven x y (length (requests_in wire own)) (length (refusals_in wire own))
@@ -182,22 +182,22 @@ heeds-even now what x y mine (inr h) =
 
 -- ---- saying
 
-live-busy : (x : Lane) → is_live x.stage ≡ true → owes x ≡ is_busy x.talk
-live-busy x e = ap (λ b. b && is_busy x.talk) e
+live-busy : (x : Lane) → is_live x.stage ≡ true → owes x ≡ is_busy x.protocol
+live-busy x e = ap (λ b. b && is_busy x.protocol) e
 
 -- a lane after its reply is live as it was, and not busy
 replied-even : (now : ℕ) (reply : Reply) (x : Lane) → owes x ≡ true → StaysEven x (after_reply now reply x) 0 1
 replied-even now reply x owed n m k live =
     let stage : (after_reply now reply x).stage ≡ x.stage = go (reply.status == SWITCHING) in
     let was : is_live x.stage ≡ true = sym (ap is_live stage) ∙ live in
-    let busy : is_busy x.talk ≡ true = sym (live-busy x was) ∙ owed in
-    let unbusy : is_busy (after_reply now reply x).talk ≡ false = sym (live-busy (after_reply now reply x) live) ∙ replied-owes now reply x in
-    let count : busy_count x.talk ≡ 1 = ap (λ b. if b then 1 else 0) busy in
-    let uncount : busy_count (after_reply now reply x).talk ≡ 0 = ap (λ b. if b then 1 else 0) unbusy in
-    let before : n ≡ m + busy_count x.talk = k was in
+    let busy : is_busy x.protocol ≡ true = sym (live-busy x was) ∙ owed in
+    let unbusy : is_busy (after_reply now reply x).protocol ≡ false = sym (live-busy (after_reply now reply x) live) ∙ replied-owes now reply x in
+    let count : busy_count x.protocol ≡ 1 = ap (λ b. if b then 1 else 0) busy in
+    let uncount : busy_count (after_reply now reply x).protocol ≡ 0 = ap (λ b. if b then 1 else 0) unbusy in
+    let before : n ≡ m + busy_count x.protocol = k was in
     omega (arith, count, uncount, before) where
-      go : (b : Bool) → (if b then record x { talk = new_socket (rest_of x.talk); out = x.out ++ reply_text reply }
-          else record x { talk = talk_after_reply x.talk; out = x.out ++ reply_text reply; since = now }).stage ≡ x.stage
+      go : (b : Bool) → (if b then record x { protocol = new_socket (rest_of x.protocol); out = x.out ++ reply_text reply }
+          else record x { protocol = protocol_after_reply x.protocol; out = x.out ++ reply_text reply; since = now }).stage ≡ x.stage
       go true = refl
       go false = refl
 
@@ -207,22 +207,22 @@ replies-even now reply x y mine h = go (owes x) refl h where
   go true e h = even-on x (after_reply now reply x) y 0 1 (replied-even now reply x e) (more-live (after_reply now reply x) y mine h)
   go false e h = even-lives x y 0 0 (same-lives x y h.1) refl refl
 
-put-lives : (live : Bool) (talk : Talk) (bytes : List ℕ) (text : Bool) (x mid : Lane) (is_put : Bool) → x.talk ≡ talk → PutsAt live talk bytes text x mid is_put → Lives x mid
-put-lives true (Socket talking) bytes text x mid is_put e h = λ alive.
-    (sym (ap (λ (l : Lane). is_live l.stage) h.2) ∙ alive, ap (λ (l : Lane). is_busy l.talk) h.2 ∙ sym (ap is_busy e))
-put-lives true (Http asking) bytes text x mid is_put e h = same-lives x mid h.1
-put-lives false talk bytes text x mid is_put e h = same-lives x mid h.1
+put-lives : (live : Bool) (protocol : Protocol) (bytes : List ℕ) (text : Bool) (x mid : Lane) (is_put : Bool) → x.protocol ≡ protocol → PutsAt live protocol bytes text x mid is_put → Lives x mid
+put-lives true (Socket websocket_state) bytes text x mid is_put e h = λ alive.
+    (sym (ap (λ (l : Lane). is_live l.stage) h.2) ∙ alive, ap (λ (l : Lane). is_busy l.protocol) h.2 ∙ sym (ap is_busy e))
+put-lives true (Http http_state) bytes text x mid is_put e h = same-lives x mid h.1
+put-lives false protocol bytes text x mid is_put e h = same-lives x mid h.1
 
 sends-live : (bytes : List ℕ) (text : Bool) (x y : Lane) (mine : List Answer) → Sends bytes text x y mine → Lives x y
-sends-live bytes text x y mine h = lives-on x h.0 y (put-lives (is_live x.stage) x.talk bytes text x h.0 h.1 refl h.2) (go h.0 h.1 h.3) where
+sends-live bytes text x y mine h = lives-on x h.0 y (put-lives (is_live x.stage) x.protocol bytes text x h.0 h.1 refl h.2) (go h.0 h.1 h.3) where
   go : (mid : Lane) (b : Bool) → Chooses b (SaysMore mid y mine) ((mine ≡ []) × (y ≡ mid)) → Lives mid y
   go mid true h = more-live mid y mine h
   go mid false h = same-lives mid y h.1
 
 shuts-live : (x y : Lane) (mine : List Answer) → Shuts x y mine → Lives x y
 shuts-live x y mine h = go (is_live x.stage) h where
-  go : (b : Bool) → Chooses b (WritesOut (record x { talk = talk_after_shut x.talk; stage = Closing }) y mine) ((mine ≡ []) × (y ≡ x)) → Lives x y
-  go true h = λ live. absurd (cc ((writes-live (record x { talk = talk_after_shut x.talk; stage = Closing }) y mine h live).0))
+  go : (b : Bool) → Chooses b (WritesOut (record x { protocol = protocol_after_shut x.protocol; stage = Closing }) y mine) ((mine ≡ []) × (y ≡ x)) → Lives x y
+  go true h = λ live. absurd (cc ((writes-live (record x { protocol = protocol_after_shut x.protocol; stage = Closing }) y mine h live).0))
   go false h = same-lives x y h.1
 
 -- ---- sessions
@@ -265,13 +265,13 @@ new-even calls now wire h = (
 
 -- a lane on which a request is heard is live, and not busy
 abbrev IsFree : Lane → Type 0
-IsFree x = (is_live x.stage ≡ true) × (is_busy x.talk ≡ false)
+IsFree x = (is_live x.stage ≡ true) × (is_busy x.protocol ≡ false)
 
-hears-free : (wire : ℕ) (before after : Talk) (answers : List Answer) (what : News) (request : Request) → Hears wire before after answers what → requests_of what ≡ request ∷ [] → is_busy before ≡ false
-hears-free wire (Http before) (Http after) answers (news.Request told) request h e = h.is_news.1
-hears-free wire (Socket before) (Socket after) answers (news.Request told) request h e = refl
-hears-free wire (Http before) (Socket after) answers (news.Request told) request h e = absurd h
-hears-free wire (Socket before) (Http after) answers (news.Request told) request h e = absurd h
+hears-free : (wire : ℕ) (before after : Protocol) (answers : List Answer) (what : Input) (request : Request) → Hears wire before after answers what → requests_of what ≡ request ∷ [] → is_busy before ≡ false
+hears-free wire (Http before) (Http after) answers (input.Request told) request h e = h.is_input.1
+hears-free wire (Socket before) (Socket after) answers (input.Request told) request h e = refl
+hears-free wire (Http before) (Socket after) answers (input.Request told) request h e = absurd h
+hears-free wire (Socket before) (Http after) answers (input.Request told) request h e = absurd h
 hears-free wire before after answers _ request h e = absurd (cc e)
 
 listens-free : (now : ℕ) (x y : Lane) (mine : List Answer) (own : Option Event) (request : Request) → Listens now x y mine own → requests_in x.wire own ≡ request ∷ [] → IsFree x
@@ -282,8 +282,8 @@ listens-free now x y mine own request h e = go x.stage refl h where
   go : (s : Stage) → x.stage ≡ s → TurnsAt s now x y mine own → IsFree x
   go Live f h = (
     ap is_live f,
-    hears-free x.wire x.talk h.talk h.read h.news request h.hears
-        (sym (loses-requests x.wire h.told h.said y own h.loses ∙ settles-requests now (record x { talk = h.talk }) h.settled h.shut h.news h.told h.settles) ∙ e),
+    hears-free x.wire x.protocol h.protocol h.read h.input request h.hears
+        (sym (loses-requests x.wire h.told h.said y own h.loses ∙ settles-requests now (record x { protocol = h.protocol }) h.settled h.shut h.input h.told h.settles) ∙ e),
   )
   go Lost f h = never (ap (λ o. requests_in x.wire o) h.1)
   go Closing f h = never (ap (λ o. requests_in x.wire o) h.0)
@@ -301,7 +301,7 @@ requests-wait what answers calls bound now h lane request e =
     let told : request_on x.wire what.event ≡ request ∷ [] =
     ap (λ v. request_on x.wire v) e ∙ ap (λ n. if lane == n then request ∷ [] else []) m.4 ∙ ap (λ b. if b then request ∷ [] else []) (same lane) in
     let free = heeds-free what.now what.event x m.1 _ request m.5 told in
-    let count : busy_count x.talk ≡ 0 = ap (λ b. if b then 1 else 0) free.1 in
-    let here : length (requests_on x.wire calls) ≡ length (replies_on x.wire calls) + busy_count x.talk = even.1 free.0 in
+    let count : busy_count x.protocol ≡ 0 = ap (λ b. if b then 1 else 0) free.1 in
+    let here : length (requests_on x.wire calls) ≡ length (replies_on x.wire calls) + busy_count x.protocol = even.1 free.0 in
     let at_wire : length (replies_on x.wire calls) ≡ length (requests_on x.wire calls) = omega (arith, count, here) in
     subst (λ n. length (replies_on n calls) ≡ length (requests_on n calls)) m.4 at_wire

@@ -1,18 +1,18 @@
 -- What a lane's share of the answers says of its stage: whether its wire was shut, and whether a reply is still owed.
 use Rattle.std.proofs.Common.{if◌then◌else◌, ◌≡◌, ◌⊎◌, ◌==◌, ◌&&◌, ◌||◌, ◌++◌, ◌∷◌, [], ℕ, Bool, true, false, not, List, Option, None, Some, refl, sym, ap, ◌∙◌, subst, inl, inr, length}
-use Rattle.hd_lanes.specs.declared.http.Reply.{Reply}
+use Rattle.hw_lanes.specs.declared.http.Reply.{Reply}
 use Rattle.hh_http.specs.Texts.{reply_text}
 use Rattle.hw_door.specs.declared.heard.Event.{Event}
 use Rattle.hw_door.specs.Traffic.{Answer, bytes_in, not_yet, ended, read_failed, bytes_out, write_failed, was_shut}
 use Rattle.hw_net.specs.declared.limits.TheConstants.{SWITCHING}
-use Rattle.hw_net.specs.declared.news.News.{News}
-use Rattle.hw_net.specs.declared.news.News.TheVariants as news
-use Rattle.hw_net.specs.declared.talk.Talk.{Talk}
-use Rattle.hw_net.specs.declared.talk.Talk.TheVariants.{Http, Socket}
-use Rattle.hw_net.specs.declared.talk.Stage.{Stage}
-use Rattle.hw_net.specs.declared.talk.Stage.TheVariants.{Live, Lost, Closing, Over}
-use Rattle.hw_net.specs.Asking.{AskingState}
-use Rattle.hw_net.specs.Lane.{Lane, waits, is_live, is_busy, owes, is_overdue, after_end, after_reply, talk_after_shut, talk_after_reply, new_socket, rest_of}
+use Rattle.hw_net.specs.declared.input.Input.{Input}
+use Rattle.hw_net.specs.declared.input.Input.TheVariants as input
+use Rattle.hw_net.specs.declared.protocol.Protocol.{Protocol}
+use Rattle.hw_net.specs.declared.protocol.Protocol.TheVariants.{Http, Socket}
+use Rattle.hw_net.specs.declared.protocol.Stage.{Stage}
+use Rattle.hw_net.specs.declared.protocol.Stage.TheVariants.{Live, Lost, Closing, Over}
+use Rattle.hw_net.specs.HttpState.{HttpStateView}
+use Rattle.hw_net.specs.Lane.{Lane, waits, is_live, is_busy, owes, is_overdue, after_end, after_reply, protocol_after_shut, protocol_after_reply, new_socket, rest_of}
 use Rattle.hw_net.specs.Saying.{Writes, WritesOut, SpeaksAs, Says, SaysAt, SaysMore, must_end, is_too_much}
 use Rattle.hw_net.specs.Sessions.{was_shut_in, is_request_on}
 use Rattle.hw_net.specs.Told.{Reads, Gives, Chooses}
@@ -42,7 +42,7 @@ gives-unshut at wire room [] got h = refl
 gives-unshut at wire room (answer ∷ []) got h = reads-unshut at wire room answer got h.1
 gives-unshut at wire room (answer ∷ next ∷ more) got h = absurd h
 
-pub hears-unshut : (at wire : ℕ) (before after : Talk) (answers : List Answer) (what : News) → Hears wire before after answers what → was_shut_in at answers ≡ false
+pub hears-unshut : (at wire : ℕ) (before after : Protocol) (answers : List Answer) (what : Input) → Hears wire before after answers what → was_shut_in at answers ≡ false
 hears-unshut at wire (Http before) (Http after) answers what h = gives-unshut at wire _ answers h.got h.read
 hears-unshut at wire (Socket before) (Socket after) answers what h = gives-unshut at wire _ answers h.got h.read
 hears-unshut at wire _ _ answers what h = absurd h
@@ -93,24 +93,24 @@ not-live Lost = refl
 not-live Closing = refl
 not-live Over = refl
 
-pub speaks-busy : (before after : Talk) → SpeaksAs before after → is_busy after ≡ is_busy before
-speaks-busy (Http before) (Http after) e = ap (λ (a : AskingState). a.busy) e
+pub speaks-busy : (before after : Protocol) → SpeaksAs before after → is_busy after ≡ is_busy before
+speaks-busy (Http before) (Http after) e = ap (λ (a : HttpStateView). a.busy) e
 speaks-busy (Socket before) (Socket after) e = refl
 speaks-busy _ _ e = absurd e
 
-ends-owes : (wire : ℕ) (before after : Lane) (answers : List Answer) → Ends wire before.stage after.stage answers → is_busy after.talk ≡ is_busy before.talk →
+ends-owes : (wire : ℕ) (before after : Lane) (answers : List Answer) → Ends wire before.stage after.stage answers → is_busy after.protocol ≡ is_busy before.protocol →
     owes after ≡ (not (was_shut_in wire answers) && owes before)
 ends-owes wire before after answers (inl h) e =
-    ap (λ s. is_live s && is_busy after.talk) h.1 ∙ ap (λ b. b && is_busy after.talk) (not-live before.stage) ∙ ap (λ b. not b && owes before) (sym h.0)
+    ap (λ s. is_live s && is_busy after.protocol) h.1 ∙ ap (λ b. b && is_busy after.protocol) (not-live before.stage) ∙ ap (λ b. not b && owes before) (sym h.0)
 ends-owes wire before after answers (inr h) e =
-    ap (λ s. is_live s && is_busy after.talk) h.1 ∙ ap (λ b. is_live before.stage && b) e ∙ ap (λ b. not b && owes before) (sym h.0)
+    ap (λ s. is_live s && is_busy after.protocol) h.1 ∙ ap (λ b. is_live before.stage && b) e ∙ ap (λ b. not b && owes before) (sym h.0)
 
 -- after writing, one is owed if it was and the wire wasn't shut
 abbrev pub KeepsOwing : Lane → Lane → List Answer → Type 0
 KeepsOwing before after answers = owes after ≡ (not (was_shut_in before.wire answers) && owes before)
 
 writes-owes : (before after : Lane) (answers : List Answer) → WritesOut before after answers → KeepsOwing before after answers
-writes-owes before after answers w = ends-owes before.wire before after answers (writes-end before after answers w) (speaks-busy before.talk after.talk w.still.talk)
+writes-owes before after answers w = ends-owes before.wire before after answers (writes-end before after answers w) (speaks-busy before.protocol after.protocol w.still.protocol)
 
 still-owes : (before after : Lane) (answers : List Answer) → answers ≡ [] → after ≡ before → KeepsOwing before after answers
 still-owes before after answers e f = ap owes f ∙ ap (λ l. not (was_shut_in before.wire l) && owes before) (sym e)
@@ -126,13 +126,13 @@ says-owes before after answers h = go before.stage h where
 pub more-owes : (before after : Lane) (answers : List Answer) → SaysMore before after answers → KeepsOwing before after answers
 more-owes before after answers h = go (is_too_much (length (waits before))) h where
   go : (b : Bool) → Chooses b ((answers ≡ was_shut before.wire ∷ []) × (after ≡ record before { stage = after_end before.stage })) (WritesOut before after answers) → KeepsOwing before after answers
-  go true h = ends-owes before.wire before after answers (inl (ap (λ l. was_shut_in before.wire l) h.0 ∙ one-shut before.wire, ap (λ (l : Lane). l.stage) h.1)) (ap (λ (l : Lane). is_busy l.talk) h.1)
+  go true h = ends-owes before.wire before after answers (inl (ap (λ l. was_shut_in before.wire l) h.0 ∙ one-shut before.wire, ap (λ (l : Lane). l.stage) h.1)) (ap (λ (l : Lane). is_busy l.protocol) h.1)
   go false h = writes-owes before after answers h
 
 -- ---- hearing
 
-abbrev pub is_request : News → Bool
-is_request (news.Request request) = true
+abbrev pub is_request : Input → Bool
+is_request (input.Request request) = true
 is_request _ = false
 
 abbrev pub is_request_in : ℕ → Option Event → Bool
@@ -140,63 +140,63 @@ is_request_in wire None = false
 is_request_in wire (Some told) = is_request_on wire told
 
 -- what is heard of a lane that was live, before it writes
-abbrev pub Settled : Lane → Talk → Lane → List Answer → Bool → Type 0
-Settled before talk after answers requested =
-    owes after ≡ (not (was_shut_in before.wire answers) && (requested || is_busy before.talk))
+abbrev pub Settled : Lane → Protocol → Lane → List Answer → Bool → Type 0
+Settled before protocol after answers requested =
+    owes after ≡ (not (was_shut_in before.wire answers) && (requested || is_busy before.protocol))
 
-falls-owes : (before talking after : Lane) (answers : List Answer) (heard : Option Event) (busy : Bool) → talking.wire ≡ before.wire → Falls talking after answers heard →
+falls-owes : (before websocket_state after : Lane) (answers : List Answer) (heard : Option Event) (busy : Bool) → websocket_state.wire ≡ before.wire → Falls websocket_state after answers heard →
     owes after ≡ (not (was_shut_in before.wire answers) && busy)
-falls-owes before talking after answers heard busy e h =
+falls-owes before websocket_state after answers heard busy e h =
     ap owes h.2 ∙ ap (λ b. not b && busy) (sym (ap (λ l. was_shut_in before.wire l) h.0 ∙ ap (λ n. was_shut_in before.wire (was_shut n ∷ [])) e ∙ one-shut before.wire))
 
 passes-owes : (wire : ℕ) (becomes after : Lane) (answers : List Answer) (told heard : Option Event) (owed : Bool) → Passes becomes after answers told heard → owes becomes ≡ owed →
     owes after ≡ (not (was_shut_in wire answers) && owed)
 passes-owes wire becomes after answers told heard owed h e = ap owes h.2 ∙ e ∙ ap (λ l. not (was_shut_in wire l) && owed) (sym h.0)
 
-settles-owes : (now : ℕ) (x : Lane) (talk : Talk) (after : Lane) (read answers : List Answer) (what : News) (heard : Option Event) → x.stage ≡ Live → Hears x.wire x.talk talk read what →
-    Settles now (record x { talk = talk }) after answers what heard → owes after ≡ (not (was_shut_in x.wire answers) && (is_request what || is_busy x.talk))
-settles-owes now x talk after read answers what heard live h s = go x.talk talk what h s where
+settles-owes : (now : ℕ) (x : Lane) (protocol : Protocol) (after : Lane) (read answers : List Answer) (what : Input) (heard : Option Event) → x.stage ≡ Live → Hears x.wire x.protocol protocol read what →
+    Settles now (record x { protocol = protocol }) after answers what heard → owes after ≡ (not (was_shut_in x.wire answers) && (is_request what || is_busy x.protocol))
+settles-owes now x protocol after read answers what heard live h s = go x.protocol protocol what h s where
   was-live : is_live x.stage ≡ true
   was-live = ap is_live live
 
-  kept : (talk : Talk) (busy : Bool) → is_busy talk ≡ busy → (is_live x.stage && is_busy talk) ≡ busy
-  kept talk busy e = ap (λ b. b && is_busy talk) was-live ∙ e
+  kept : (protocol : Protocol) (busy : Bool) → is_busy protocol ≡ busy → (is_live x.stage && is_busy protocol) ≡ busy
+  kept protocol busy e = ap (λ b. b && is_busy protocol) was-live ∙ e
 
-  nothing : (talk : Talk) (busy : Bool) → is_busy talk ≡ busy → (b : Bool) → Chooses b (Falls (record x { talk = talk }) after answers heard) (Passes (record x { talk = talk }) after answers None heard) →
+  nothing : (protocol : Protocol) (busy : Bool) → is_busy protocol ≡ busy → (b : Bool) → Chooses b (Falls (record x { protocol = protocol }) after answers heard) (Passes (record x { protocol = protocol }) after answers None heard) →
       owes after ≡ (not (was_shut_in x.wire answers) && busy)
-  nothing talk busy e true k = falls-owes x (record x { talk = talk }) after answers heard busy refl k
-  nothing talk busy e false k = passes-owes x.wire (record x { talk = talk }) after answers None heard busy k (kept talk busy e)
+  nothing protocol busy e true k = falls-owes x (record x { protocol = protocol }) after answers heard busy refl k
+  nothing protocol busy e false k = passes-owes x.wire (record x { protocol = protocol }) after answers None heard busy k (kept protocol busy e)
 
-  go : (old new : Talk) (what : News) → Hears x.wire old new read what → Settles now (record x { talk = new }) after answers what heard →
+  go : (old new : Protocol) (what : Input) → Hears x.wire old new read what → Settles now (record x { protocol = new }) after answers what heard →
       owes after ≡ (not (was_shut_in x.wire answers) && (is_request what || is_busy old))
-  go (Http old) (Http new) news.Nothing h s = nothing (Http new) old.busy h.is_news.2 (is_overdue now (record x { talk = Http new })) s
-  go (Http old) (Http new) (news.Request request) h s = passes-owes x.wire (record x { talk = Http new }) after answers _ heard true s (kept (Http new) true h.is_news.2)
-  go (Http old) (Http new) (news.Refused status) h s = passes-owes x.wire _ after answers _ heard old.busy s (sym h.is_news.1)
-  go (Http old) (Http new) (news.Message bytes) h s = absurd h.is_news
-  go (Http old) (Http new) news.Broken h s = falls-owes x (record x { talk = Http new }) after answers heard old.busy refl s
-  go (Http old) (Http new) news.Gone h s = absurd h.is_news
-  go (Socket old) (Socket new) news.Nothing h s = nothing (Socket new) false refl (is_overdue now (record x { talk = Socket new })) s
-  go (Socket old) (Socket new) (news.Request request) h s = absurd h.is_news
-  go (Socket old) (Socket new) (news.Refused status) h s = absurd h.is_news
-  go (Socket old) (Socket new) (news.Message bytes) h s = passes-owes x.wire (record x { talk = Socket new }) after answers _ heard false s (kept (Socket new) false refl)
-  go (Socket old) (Socket new) news.Broken h s = falls-owes x (record x { talk = Socket new }) after answers heard false refl s
-  go (Socket old) (Socket new) news.Gone h s = passes-owes x.wire _ after answers _ heard false s refl
+  go (Http old) (Http new) input.Nothing h s = nothing (Http new) old.busy h.is_input.2 (is_overdue now (record x { protocol = Http new })) s
+  go (Http old) (Http new) (input.Request request) h s = passes-owes x.wire (record x { protocol = Http new }) after answers _ heard true s (kept (Http new) true h.is_input.2)
+  go (Http old) (Http new) (input.Refused status) h s = passes-owes x.wire _ after answers _ heard old.busy s (sym h.is_input.1)
+  go (Http old) (Http new) (input.Message bytes) h s = absurd h.is_input
+  go (Http old) (Http new) input.Broken h s = falls-owes x (record x { protocol = Http new }) after answers heard old.busy refl s
+  go (Http old) (Http new) input.Gone h s = absurd h.is_input
+  go (Socket old) (Socket new) input.Nothing h s = nothing (Socket new) false refl (is_overdue now (record x { protocol = Socket new })) s
+  go (Socket old) (Socket new) (input.Request request) h s = absurd h.is_input
+  go (Socket old) (Socket new) (input.Refused status) h s = absurd h.is_input
+  go (Socket old) (Socket new) (input.Message bytes) h s = passes-owes x.wire (record x { protocol = Socket new }) after answers _ heard false s (kept (Socket new) false refl)
+  go (Socket old) (Socket new) input.Broken h s = falls-owes x (record x { protocol = Socket new }) after answers heard false refl s
+  go (Socket old) (Socket new) input.Gone h s = passes-owes x.wire _ after answers _ heard false s refl
   go (Http old) (Socket new) what h s = absurd h
   go (Socket old) (Http new) what h s = absurd h
 
 told-is-request : (wire : ℕ) (told : Option Event) (here : Event) (b : Bool) → told ≡ Some here → is_request_on wire here ≡ b → is_request_in wire told ≡ b
 told-is-request wire told here b e f = ap (λ o. is_request_in wire o) e ∙ f
 
-pub settles-request : (now : ℕ) (before after : Lane) (answers : List Answer) (what : News) (heard : Option Event) → Settles now before after answers what heard → is_request_in before.wire heard ≡ is_request what
-settles-request now before after answers news.Nothing heard h = go (is_overdue now before) h where
+pub settles-request : (now : ℕ) (before after : Lane) (answers : List Answer) (what : Input) (heard : Option Event) → Settles now before after answers what heard → is_request_in before.wire heard ≡ is_request what
+settles-request now before after answers input.Nothing heard h = go (is_overdue now before) h where
   go : (b : Bool) → Chooses b (Falls before after answers heard) (Passes before after answers None heard) → is_request_in before.wire heard ≡ false
   go true h = ap (λ o. is_request_in before.wire o) h.1
   go false h = ap (λ o. is_request_in before.wire o) h.1
-settles-request now before after answers (news.Request request) heard h = told-is-request before.wire heard _ true h.1 (same before.wire)
-settles-request now before after answers (news.Refused status) heard h = ap (λ o. is_request_in before.wire o) h.1
-settles-request now before after answers (news.Message bytes) heard h = ap (λ o. is_request_in before.wire o) h.1
-settles-request now before after answers news.Broken heard h = ap (λ o. is_request_in before.wire o) h.1
-settles-request now before after answers news.Gone heard h = ap (λ o. is_request_in before.wire o) h.1
+settles-request now before after answers (input.Request request) heard h = told-is-request before.wire heard _ true h.1 (same before.wire)
+settles-request now before after answers (input.Refused status) heard h = ap (λ o. is_request_in before.wire o) h.1
+settles-request now before after answers (input.Message bytes) heard h = ap (λ o. is_request_in before.wire o) h.1
+settles-request now before after answers input.Broken heard h = ap (λ o. is_request_in before.wire o) h.1
+settles-request now before after answers input.Gone heard h = ap (λ o. is_request_in before.wire o) h.1
 
 pub loses-request : (wire : ℕ) (told : Option Event) (before after : Lane) (heard : Option Event) → Loses told before after heard → is_request_in wire heard ≡ is_request_in wire told
 loses-request wire (Some here) before after heard h = ap (λ o. is_request_in wire o) h.0
@@ -212,7 +212,7 @@ loses-owes (Some here) before after heard h = ap owes h.1
 loses-owes None before after heard h = go before.stage refl h where
   go : (s : Stage) → before.stage ≡ s → LosesAt s before after heard → owes after ≡ owes before
   go Live e h = ap owes h.1
-  go Lost e h = ap owes h.1 ∙ ap (λ s. is_live s && is_busy before.talk) (sym e)
+  go Lost e h = ap owes h.1 ∙ ap (λ s. is_live s && is_busy before.protocol) (sym e)
   go Closing e h = ap owes h.1
   go Over e h = ap owes h.1
 
@@ -229,24 +229,24 @@ live-shuts wire answers read shut written all =
     ap (λ l. was_shut_in wire l) all ∙ shut-append wire read (shut ++ written) ∙ ap (λ b. was_shut_in wire read || b) (shut-append wire shut written)
 
 live-owes : (now : ℕ) (x y : Lane) (mine : List Answer) (own : Option Event) → x.stage ≡ Live → TurnsLive now x y mine own →
-    owes y ≡ (not (was_shut_in x.wire mine) && (is_request_in x.wire own || is_busy x.talk))
+    owes y ≡ (not (was_shut_in x.wire mine) && (is_request_in x.wire own || is_busy x.protocol))
 live-owes now x y mine own live h =
     let w = x.wire in
-    let kept = settles-keeps now (record x { talk = h.talk }) h.settled h.shut h.news h.told h.settles in
-    let requested : is_request_in w own ≡ is_request h.news =
-    loses-request w h.told h.said y own h.loses ∙ settles-request now (record x { talk = h.talk }) h.settled h.shut h.news h.told h.settles in
-    let q = is_request h.news || is_busy x.talk in
+    let kept = settles-keeps now (record x { protocol = h.protocol }) h.settled h.shut h.input h.told h.settles in
+    let requested : is_request_in w own ≡ is_request h.input =
+    loses-request w h.told h.said y own h.loses ∙ settles-request now (record x { protocol = h.protocol }) h.settled h.shut h.input h.told h.settles in
+    let q = is_request h.input || is_busy x.protocol in
     let wrote : owes h.said ≡ (not (was_shut_in w h.written) && owes h.settled) =
     subst (λ n. owes h.said ≡ (not (was_shut_in n h.written) && owes h.settled)) kept.0.0 (says-owes h.settled h.said h.written h.says) in
     loses-owes h.told h.said y own h.loses ∙ wrote
-    ∙ ap (λ b. not (was_shut_in w h.written) && b) (settles-owes now x h.talk h.settled h.read h.shut h.news h.told live h.hears h.settles)
-    ∙ thrice (was_shut_in w h.read) (was_shut_in w h.shut) (was_shut_in w h.written) q (hears-unshut w w x.talk h.talk h.read h.news h.hears)
+    ∙ ap (λ b. not (was_shut_in w h.written) && b) (settles-owes now x h.protocol h.settled h.read h.shut h.input h.told live h.hears h.settles)
+    ∙ thrice (was_shut_in w h.read) (was_shut_in w h.shut) (was_shut_in w h.written) q (hears-unshut w w x.protocol h.protocol h.read h.input h.hears)
     ∙ ap (λ b. not b && q) (sym (live-shuts w mine h.read h.shut h.written h.all))
-    ∙ ap (λ b. not (was_shut_in w mine) && (b || is_busy x.talk)) (sym requested)
+    ∙ ap (λ b. not (was_shut_in w mine) && (b || is_busy x.protocol)) (sym requested)
 
 -- a lane that isn't live owes nothing
 idle : (x : Lane) (s : Stage) → x.stage ≡ s → is_live s ≡ false → owes x ≡ false
-idle x s e f = ap (λ t. is_live t && is_busy x.talk) e ∙ ap (λ b. b && is_busy x.talk) f
+idle x s e f = ap (λ t. is_live t && is_busy x.protocol) e ∙ ap (λ b. b && is_busy x.protocol) f
 
 none-owed : (shut : Bool) → (not shut && false) ≡ false
 none-owed true = refl
@@ -262,7 +262,7 @@ listens-owes now x y mine own h = go x.stage refl h where
   unowed s e f r k = k ∙ sym (ap (λ b. not (was_shut_in x.wire mine) && (b || owes x)) r ∙ ap (λ b. not (was_shut_in x.wire mine) && b) (idle x s e f) ∙ none-owed (was_shut_in x.wire mine))
 
   go : (s : Stage) → x.stage ≡ s → TurnsAt s now x y mine own → OwesAfter x y mine (is_request_in x.wire own)
-  go Live e h = live-owes now x y mine own e h ∙ ap (λ b. not (was_shut_in x.wire mine) && (is_request_in x.wire own || b)) (sym (ap (λ s. is_live s && is_busy x.talk) e))
+  go Live e h = live-owes now x y mine own e h ∙ ap (λ b. not (was_shut_in x.wire mine) && (is_request_in x.wire own || b)) (sym (ap (λ s. is_live s && is_busy x.protocol) e))
   go Lost e h = unowed Lost e refl (ap (λ o. is_request_in x.wire o) h.1) (ap owes h.2)
   go Closing e h = says-owes x y mine h.1 ∙ ap (λ o. not (was_shut_in x.wire mine) && (is_request_in x.wire o || owes x)) (sym h.0)
   go Over e h = unowed Over e refl (ap (λ o. is_request_in x.wire o) h.1) (ap owes h.2 ∙ idle x Over e refl)
@@ -285,14 +285,14 @@ dead Over = refl
 
 pub replied-owes : (now : ℕ) (reply : Reply) (lane : Lane) → owes (after_reply now reply lane) ≡ false
 replied-owes now reply lane = go (reply.status == SWITCHING) where
-  unbusy : (talk : Talk) → is_busy (talk_after_reply talk) ≡ false
-  unbusy (Http asking) = refl
-  unbusy (Socket talking) = refl
+  unbusy : (protocol : Protocol) → is_busy (protocol_after_reply protocol) ≡ false
+  unbusy (Http http_state) = refl
+  unbusy (Socket websocket_state) = refl
 
-  go : (b : Bool) → owes (if b then record lane { talk = new_socket (rest_of lane.talk); out = lane.out ++ reply_text reply }
-      else record lane { talk = talk_after_reply lane.talk; out = lane.out ++ reply_text reply; since = now }) ≡ false
+  go : (b : Bool) → owes (if b then record lane { protocol = new_socket (rest_of lane.protocol); out = lane.out ++ reply_text reply }
+      else record lane { protocol = protocol_after_reply lane.protocol; out = lane.out ++ reply_text reply; since = now }) ≡ false
   go true = dead lane.stage
-  go false = ap (λ b. is_live lane.stage && b) (unbusy lane.talk) ∙ dead lane.stage
+  go false = ap (λ b. is_live lane.stage && b) (unbusy lane.protocol) ∙ dead lane.stage
 
 -- nothing is owed after a reply, nor after the caller shut the lane, and a message changes nothing
 pub replies-owe : (now : ℕ) (reply : Reply) (x y : Lane) (mine : List Answer) → Replies now reply x y mine → owes y ≡ false
@@ -302,16 +302,16 @@ replies-owe now reply x y mine h = go (owes x) refl h where
       ∙ none-owed (was_shut_in (after_reply now reply x).wire mine)
   go false e h = ap owes h.1 ∙ e
 
-puts-owe : (live : Bool) (talk : Talk) (bytes : List ℕ) (text : Bool) (x mid : Lane) (is_put : Bool) → x.talk ≡ talk → PutsAt live talk bytes text x mid is_put →
+puts-owe : (live : Bool) (protocol : Protocol) (bytes : List ℕ) (text : Bool) (x mid : Lane) (is_put : Bool) → x.protocol ≡ protocol → PutsAt live protocol bytes text x mid is_put →
     (owes mid ≡ owes x) × ((is_put ≡ false) ⊎ (owes x ≡ false))
-puts-owe true (Socket talking) bytes text x mid is_put e h =
+puts-owe true (Socket websocket_state) bytes text x mid is_put e h =
     let unowed : owes x ≡ false = ap (λ t. is_live x.stage && is_busy t) e ∙ dead x.stage in
     (ap owes h.2 ∙ dead x.stage ∙ sym unowed, inr unowed)
-puts-owe true (Http asking) bytes text x mid is_put e h = (ap owes h.1, inl h.0)
-puts-owe false talk bytes text x mid is_put e h = (ap owes h.1, inl h.0)
+puts-owe true (Http http_state) bytes text x mid is_put e h = (ap owes h.1, inl h.0)
+puts-owe false protocol bytes text x mid is_put e h = (ap owes h.1, inl h.0)
 
 pub sends-owe : (bytes : List ℕ) (text : Bool) (x y : Lane) (mine : List Answer) → Sends bytes text x y mine → owes y ≡ owes x
-sends-owe bytes text x y mine h = go h.0 h.1 (puts-owe (is_live x.stage) x.talk bytes text x h.0 h.1 refl h.2) h.3 where
+sends-owe bytes text x y mine h = go h.0 h.1 (puts-owe (is_live x.stage) x.protocol bytes text x h.0 h.1 refl h.2) h.3 where
   go : (mid : Lane) (b : Bool) → (owes mid ≡ owes x) × ((b ≡ false) ⊎ (owes x ≡ false)) → Chooses b (SaysMore mid y mine) ((mine ≡ []) × (y ≡ mid)) → owes y ≡ owes x
   go mid true (e, inl f) h = absurd (cc f)
   go mid true (e, inr f) h = more-owes mid y mine h ∙ ap (λ b. not (was_shut_in mid.wire mine) && b) (e ∙ f) ∙ none-owed (was_shut_in mid.wire mine) ∙ sym f
@@ -319,6 +319,6 @@ sends-owe bytes text x y mine h = go h.0 h.1 (puts-owe (is_live x.stage) x.talk 
 
 pub shuts-owe : (x y : Lane) (mine : List Answer) → Shuts x y mine → owes y ≡ false
 shuts-owe x y mine h = go (is_live x.stage) refl h where
-  go : (b : Bool) → is_live x.stage ≡ b → Chooses b (WritesOut (record x { talk = talk_after_shut x.talk; stage = Closing }) y mine) ((mine ≡ []) × (y ≡ x)) → owes y ≡ false
-  go true e h = writes-owes (record x { talk = talk_after_shut x.talk; stage = Closing }) y mine h ∙ none-owed (was_shut_in x.wire mine)
-  go false e h = ap owes h.1 ∙ ap (λ b. b && is_busy x.talk) e
+  go : (b : Bool) → is_live x.stage ≡ b → Chooses b (WritesOut (record x { protocol = protocol_after_shut x.protocol; stage = Closing }) y mine) ((mine ≡ []) × (y ≡ x)) → owes y ≡ false
+  go true e h = writes-owes (record x { protocol = protocol_after_shut x.protocol; stage = Closing }) y mine h ∙ none-owed (was_shut_in x.wire mine)
+  go false e h = ap owes h.1 ∙ ap (λ b. b && is_busy x.protocol) e

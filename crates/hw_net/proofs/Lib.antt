@@ -1,4 +1,4 @@
-pub mod Askings
+pub mod HttpFacts
 pub mod Bounding
 pub mod Findings
 pub mod Numbering
@@ -6,7 +6,7 @@ pub mod Places
 pub mod Sayings
 pub mod Sweeps
 pub mod Tallying
-pub mod Talkings
+pub mod WebSocketFacts
 pub mod Telling
 pub mod Walking
 pub mod Calm

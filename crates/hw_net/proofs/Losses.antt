@@ -1,20 +1,20 @@
 -- In a session a lane is heard as lost for a cause.
 use Rattle.std.proofs.Common.{◌≡◌, ◌⊎◌, ◌==◌, ◌||◌, ◌++◌, ◌∷◌, [], ℕ, Bool, true, false, not, List, Option, None, Some, refl, sym, ap, ◌∙◌, subst, inl, inr, length, Contains}
-use Rattle.hd_lanes.specs.declared.http.Reply.{Reply}
+use Rattle.hw_lanes.specs.declared.http.Reply.{Reply}
 use Rattle.hw_door.specs.declared.heard.Event.{Event}
 use Rattle.hw_door.specs.declared.heard.Event.TheVariants as event
 use Rattle.hw_door.specs.declared.heard.Heard.{Heard}
 use Rattle.hw_door.specs.Traffic.{Answer, ended, read_failed, bytes_out, write_failed, was_shut, read_on}
 use Rattle.hw_socket.specs.Reading.{Feeds}
-use Rattle.hw_net.specs.declared.news.News.{News}
-use Rattle.hw_net.specs.declared.news.News.TheVariants as news
-use Rattle.hw_net.specs.declared.talk.Talk.{Talk}
-use Rattle.hw_net.specs.declared.talk.Talk.TheVariants.{Http, Socket}
-use Rattle.hw_net.specs.declared.talk.Stage.{Stage}
-use Rattle.hw_net.specs.declared.talk.Stage.TheVariants.{Live, Lost, Closing, Over}
+use Rattle.hw_net.specs.declared.input.Input.{Input}
+use Rattle.hw_net.specs.declared.input.Input.TheVariants as input
+use Rattle.hw_net.specs.declared.protocol.Protocol.{Protocol}
+use Rattle.hw_net.specs.declared.protocol.Protocol.TheVariants.{Http, Socket}
+use Rattle.hw_net.specs.declared.protocol.Stage.{Stage}
+use Rattle.hw_net.specs.declared.protocol.Stage.TheVariants.{Live, Lost, Closing, Over}
 use Rattle.hw_net.specs.Bounds.{has_wire}
 use Rattle.hw_net.specs.Door.{new_lane}
-use Rattle.hw_net.specs.Lane.{Lane, waits, is_live, owes, is_overdue, after_end, after_reply, talk_after_shut}
+use Rattle.hw_net.specs.Lane.{Lane, waits, is_live, owes, is_overdue, after_end, after_reply, protocol_after_shut}
 use Rattle.hw_net.specs.Saying.{Writes, WritesOut, Says, SaysAt, SaysMore, must_end, is_too_much}
 use Rattle.hw_net.specs.Sessions as session
 use Rattle.hw_net.specs.Sessions.{Call, Session, Does, answers_in, answers_of, broke_in, IsGone, IsSpoiled, IsLostRightly, LossesHaveCauses}
@@ -100,7 +100,7 @@ more-break x y mine has h = go (is_too_much (length (waits x))) refl h where
 -- ---- turns
 
 -- a lane that settled has its wire, or it is over
-settled-unlost : (now : ℕ) (x after : Lane) (shut : List Answer) (what : News) (told : Option Event) → x.stage ≡ Live → Settles now x after shut what told → is_lost after.stage ≡ false
+settled-unlost : (now : ℕ) (x after : Lane) (shut : List Answer) (what : Input) (told : Option Event) → x.stage ≡ Live → Settles now x after shut what told → is_lost after.stage ≡ false
 settled-unlost now x after shut what told live s = go what s where
   same-stage : (mid : Lane) → after ≡ mid → is_lost mid.stage ≡ false → is_lost after.stage ≡ false
   same-stage mid e f = ap (λ (l : Lane). is_lost l.stage) e ∙ f
@@ -109,13 +109,13 @@ settled-unlost now x after shut what told live s = go what s where
   nothing true f = same-stage _ f.2 refl
   nothing false f = same-stage x f.2 (ap is_lost live)
 
-  go : (what : News) → Settles now x after shut what told → is_lost after.stage ≡ false
-  go news.Nothing s = nothing (is_overdue now x) s
-  go (news.Request request) s = same-stage x s.2 (ap is_lost live)
-  go (news.Refused status) s = same-stage _ s.2 refl
-  go (news.Message bytes) s = same-stage x s.2 (ap is_lost live)
-  go news.Broken s = same-stage _ s.2 refl
-  go news.Gone s = same-stage _ s.2 refl
+  go : (what : Input) → Settles now x after shut what told → is_lost after.stage ≡ false
+  go input.Nothing s = nothing (is_overdue now x) s
+  go (input.Request request) s = same-stage x s.2 (ap is_lost live)
+  go (input.Refused status) s = same-stage _ s.2 refl
+  go (input.Message bytes) s = same-stage x s.2 (ap is_lost live)
+  go input.Broken s = same-stage _ s.2 refl
+  go input.Gone s = same-stage _ s.2 refl
 
 live-broke : (wire : ℕ) (answers read shut written : List Answer) → answers ≡ read ++ (shut ++ written) → (broke_in wire read || (broke_in wire shut || broke_in wire written)) ≡ broke_in wire answers
 live-broke wire answers read shut written all =
@@ -131,13 +131,13 @@ broke-read a b c d e f = sym e ∙ ap (λ k. k || (b || c)) f
 said-cause : (now : ℕ) (x y : Lane) (mine : List Answer) (own : Option Event) → x.stage ≡ Live → (h : TurnsLive now x y mine own) → h.said.stage ≡ Lost → Cause x.wire mine h.said
 said-cause now x y mine own live h lost = go (says-break h.settled h.said h.written h.says lost) where
   kept : h.settled.wire ≡ x.wire
-  kept = (settles-keeps now (record x { talk = h.talk }) h.settled h.shut h.news h.told h.settles).0.0
+  kept = (settles-keeps now (record x { protocol = h.protocol }) h.settled h.shut h.input h.told h.settles).0.0
 
   go : Cause h.settled.wire h.written h.said ⊎ (h.said ≡ h.settled) → Cause x.wire mine h.said
   go (inl (inl e)) = inl (broke-written (broke_in x.wire h.read) (broke_in x.wire h.shut) (broke_in x.wire h.written) (broke_in x.wire mine)
       (live-broke x.wire mine h.read h.shut h.written h.all) (subst (λ n. broke_in n h.written ≡ true) kept e))
   go (inl (inr e)) = inr e
-  go (inr e) = unlost h.said.stage h.settled.stage (ap (λ (l : Lane). l.stage) e) (settled-unlost now (record x { talk = h.talk }) h.settled h.shut h.news h.told live h.settles) lost
+  go (inr e) = unlost h.said.stage h.settled.stage (ap (λ (l : Lane). l.stage) e) (settled-unlost now (record x { protocol = h.protocol }) h.settled h.shut h.input h.told live h.settles) lost
 
 live-breaks : (now : ℕ) (x y : Lane) (mine : List Answer) (own : Option Event) → x.stage ≡ Live → TurnsLive now x y mine own → y.stage ≡ Lost → Cause x.wire mine y
 live-breaks now x y mine own live h lost = go h.told h.loses where
@@ -178,21 +178,21 @@ replies-break now reply x y mine h = go (owes x) refl h where
 -- a message that isn't put leaves the stage, and what waits
 sends-break : (bytes : List ℕ) (text : Bool) (x y : Lane) (mine : List Answer) → Sends bytes text x y mine → Breaks x y mine
 sends-break bytes text x y mine h = go h.0 h.1 h.2 h.3 where
-  unput : (live : Bool) (talk : Talk) (mid : Lane) → is_live x.stage ≡ live → PutsAt live talk bytes text x mid false → y ≡ mid → Breaks x y mine
-  unput true (Socket talking) mid e p f = λ lost. unlost y.stage x.stage (ap (λ (l : Lane). l.stage) (f ∙ p.2)) (has-unlost x.stage (live-has x.stage e)) lost
-  unput true (Http asking) mid e p f = λ lost. inr (f ∙ p.1)
-  unput false talk mid e p f = λ lost. inr (f ∙ p.1)
+  unput : (live : Bool) (protocol : Protocol) (mid : Lane) → is_live x.stage ≡ live → PutsAt live protocol bytes text x mid false → y ≡ mid → Breaks x y mine
+  unput true (Socket websocket_state) mid e p f = λ lost. unlost y.stage x.stage (ap (λ (l : Lane). l.stage) (f ∙ p.2)) (has-unlost x.stage (live-has x.stage e)) lost
+  unput true (Http http_state) mid e p f = λ lost. inr (f ∙ p.1)
+  unput false protocol mid e p f = λ lost. inr (f ∙ p.1)
 
   go : (mid : Lane) (b : Bool) → Puts bytes text x mid b → Chooses b (SaysMore mid y mine) ((mine ≡ []) × (y ≡ mid)) → Breaks x y mine
   go mid true p s = λ lost.
-      let put = put-stage (is_live x.stage) x.talk bytes text x mid true p in
-      inl (subst (λ n. Cause n mine y) (put-wire (is_live x.stage) x.talk bytes text x mid true p) (more-break mid y mine (ap has_wire put.0 ∙ live-has x.stage (put.1 refl)) s lost))
-  go mid false p s = unput (is_live x.stage) x.talk mid refl p s.1
+      let put = put-stage (is_live x.stage) x.protocol bytes text x mid true p in
+      inl (subst (λ n. Cause n mine y) (put-wire (is_live x.stage) x.protocol bytes text x mid true p) (more-break mid y mine (ap has_wire put.0 ∙ live-has x.stage (put.1 refl)) s lost))
+  go mid false p s = unput (is_live x.stage) x.protocol mid refl p s.1
 
 shuts-break : (x y : Lane) (mine : List Answer) → Shuts x y mine → Breaks x y mine
 shuts-break x y mine h = go (is_live x.stage) h where
-  go : (b : Bool) → Chooses b (WritesOut (record x { talk = talk_after_shut x.talk; stage = Closing }) y mine) ((mine ≡ []) × (y ≡ x)) → Breaks x y mine
-  go true h = λ lost. inl (writes-break (record x { talk = talk_after_shut x.talk; stage = Closing }) y mine refl h lost)
+  go : (b : Bool) → Chooses b (WritesOut (record x { protocol = protocol_after_shut x.protocol; stage = Closing }) y mine) ((mine ≡ []) × (y ≡ x)) → Breaks x y mine
+  go true h = λ lost. inl (writes-break (record x { protocol = protocol_after_shut x.protocol; stage = Closing }) y mine refl h lost)
   go false h = λ lost. inr h.1
 
 -- ---- sessions
@@ -238,7 +238,7 @@ new-caused calls now wire h lost = unlost Live Live refl refl lost
 -- what the lane shows that heard its loss, or what it was before
 abbrev Shows : ℕ → Lane → Lane → List Answer → Type 0
 Shows now x y mine =
-    (broke_in x.wire mine ≡ true) ⊎ (is_overdue now y ≡ true) ⊎ (is_too_much (length (waits y)) ≡ true) ⊎ IsGone (read_on x.wire mine) x.talk ⊎ IsSpoiled x.talk
+    (broke_in x.wire mine ≡ true) ⊎ (is_overdue now y ≡ true) ⊎ (is_too_much (length (waits y)) ≡ true) ⊎ IsGone (read_on x.wire mine) x.protocol ⊎ IsSpoiled x.protocol
 
 reads-broke : (wire room : ℕ) (answer : Answer) → Reads wire room answer None → broke_in wire (answer ∷ []) ≡ true
 reads-broke wire room (ended at) h = broke-here at wire h
@@ -264,51 +264,51 @@ over-said after said y written o s last = go after.stage o s where
   go Closing f k = absurd (cc f)
   go Over f k = last ∙ k.1
 
--- what the lane shows, of which this was the talk before
-abbrev ShowsOf : ℕ → Talk → List Answer → Lane → ℕ → Type 0
+-- what the lane shows, of which this was the protocol before
+abbrev ShowsOf : ℕ → Protocol → List Answer → Lane → ℕ → Type 0
 ShowsOf wire old mine y now =
     (broke_in wire mine ≡ true) ⊎ ((is_overdue now y ≡ true) ⊎ ((is_too_much (length (waits y)) ≡ true) ⊎ (IsGone (read_on wire mine) old ⊎ IsSpoiled old)))
 
--- the loss is that of the news
-news-shows : (now wire : ℕ) (x : Lane) (talk : Talk) (after y : Lane) (mine read shut : List Answer) (what : News) (told : Option Event) → is_loss told ≡ true → Hears wire x.talk talk read what →
-    Settles now (record x { talk = talk }) after shut what told → (broke_in wire read ≡ true → broke_in wire mine ≡ true) → read_on wire mine ≡ read_on wire read → (after.stage ≡ Over → y ≡ after) →
-    ShowsOf wire x.talk mine y now
-news-shows now wire x talk after y mine read shut what told loss h s broke same_read last = go x.talk talk what h s where
+-- the loss is that of the input
+input-shows : (now wire : ℕ) (x : Lane) (protocol : Protocol) (after y : Lane) (mine read shut : List Answer) (what : Input) (told : Option Event) → is_loss told ≡ true → Hears wire x.protocol protocol read what →
+    Settles now (record x { protocol = protocol }) after shut what told → (broke_in wire read ≡ true → broke_in wire mine ≡ true) → read_on wire mine ≡ read_on wire read → (after.stage ≡ Over → y ≡ after) →
+    ShowsOf wire x.protocol mine y now
+input-shows now wire x protocol after y mine read shut what told loss h s broke same_read last = go x.protocol protocol what h s where
   never : {A : Type 0} (o : Option Event) → told ≡ o → is_loss o ≡ false → A
   never o e f = absurd (cc (sym f ∙ sym (ap is_loss e) ∙ loss))
 
-  nothing : (old new : Talk) (b : Bool) → is_overdue now (record x { talk = new }) ≡ b → Chooses b (Falls (record x { talk = new }) after shut told) (Passes (record x { talk = new }) after shut None told) → ShowsOf wire old mine y now
+  nothing : (old new : Protocol) (b : Bool) → is_overdue now (record x { protocol = new }) ≡ b → Chooses b (Falls (record x { protocol = new }) after shut told) (Passes (record x { protocol = new }) after shut None told) → ShowsOf wire old mine y now
   nothing old new true e f = inr (inl (ap (λ (l : Lane). is_overdue now l) (last (ap (λ (l : Lane). l.stage) f.2) ∙ f.2) ∙ e))
   nothing old new false e f = never None f.1 refl
 
-  go : (old new : Talk) (what : News) → Hears wire old new read what → Settles now (record x { talk = new }) after shut what told → ShowsOf wire old mine y now
-  go old new news.Nothing h s = nothing old new (is_overdue now (record x { talk = new })) refl s
-  go old new (news.Request request) h s = never _ s.1 refl
-  go old new (news.Refused status) h s = never _ s.1 refl
-  go old new (news.Message bytes) h s = never _ s.1 refl
-  go (Http old) (Http new) news.Broken h s = inl (broke (gives-broke wire _ read h.got h.is_news.0 h.read))
-  go (Socket old) (Socket new) news.Broken h s = by h.is_news.0 where
-    by : (h.got ≡ None) ⊎ (old.spoiled ≡ true) → ShowsOf wire (Socket old) mine y now
+  go : (old new : Protocol) (what : Input) → Hears wire old new read what → Settles now (record x { protocol = new }) after shut what told → ShowsOf wire old mine y now
+  go old new input.Nothing h s = nothing old new (is_overdue now (record x { protocol = new })) refl s
+  go old new (input.Request request) h s = never _ s.1 refl
+  go old new (input.Refused status) h s = never _ s.1 refl
+  go old new (input.Message bytes) h s = never _ s.1 refl
+  go (Http old) (Http new) input.Broken h s = inl (broke (gives-broke wire _ read h.got h.is_input.0 h.read))
+  go (Socket old) (Socket new) input.Broken h s = by h.is_input.0 where
+    by : (h.got ≡ None) ⊎ (old.lost_bytes ≡ true) → ShowsOf wire (Socket old) mine y now
     by (inl e) = inl (broke (gives-broke wire _ read h.got e h.read))
     by (inr e) = inr (inr (inr (inr e)))
-  go (Http old) (Socket new) news.Broken h s = absurd h
-  go (Socket old) (Http new) news.Broken h s = absurd h
-  go (Http old) (Http new) news.Gone h s = absurd h.is_news
-  go (Socket old) (Socket new) news.Gone h s =
-      let gets = h.is_news.0 in
+  go (Http old) (Socket new) input.Broken h s = absurd h
+  go (Socket old) (Http new) input.Broken h s = absurd h
+  go (Http old) (Http new) input.Gone h s = absurd h.is_input
+  go (Socket old) (Socket new) input.Gone h s =
+      let gets = h.is_input.0 in
       inr (inr (inr (inl (
         gets.1.0,
         new.lane,
         subst (λ (l : List ℕ). Feeds old.lane l gets.1.0) (sym (same_read ∙ gives-bytes wire _ read h.got h.read)) gets.1.1,
         gets.1.2,
       ))))
-  go (Http old) (Socket new) news.Gone h s = absurd h
-  go (Socket old) (Http new) news.Gone h s = absurd h
+  go (Http old) (Socket new) input.Gone h s = absurd h
+  go (Socket old) (Http new) input.Gone h s = absurd h
 
-live-shows : (now : ℕ) (x y : Lane) (mine : List Answer) (own : Option Event) → x.stage ≡ Live → is_loss own ≡ true → TurnsLive now x y mine own → ShowsOf x.wire x.talk mine y now
+live-shows : (now : ℕ) (x y : Lane) (mine : List Answer) (own : Option Event) → x.stage ≡ Live → is_loss own ≡ true → TurnsLive now x y mine own → ShowsOf x.wire x.protocol mine y now
 live-shows now x y mine own live loss h = go h.told refl h.loses where
-  settled : Silent (record x { talk = h.talk }) h.settled h.shut
-  settled = settles-silent now (record x { talk = h.talk }) h.settled h.shut h.news h.told h.settles
+  settled : Silent (record x { protocol = h.protocol }) h.settled h.shut
+  settled = settles-silent now (record x { protocol = h.protocol }) h.settled h.shut h.input h.told h.settles
 
   said : Silent h.settled h.said h.written
   said = says-silent h.settled h.said h.written h.says
@@ -316,19 +316,19 @@ live-shows now x y mine own live loss h = go h.told refl h.loses where
   never : {A : Type 0} → own ≡ None → A
   never e = absurd (cc (sym (ap is_loss e) ∙ loss))
 
-  by : y ≡ record h.said { stage = Over } → Cause x.wire mine h.said → ShowsOf x.wire x.talk mine y now
+  by : y ≡ record h.said { stage = Over } → Cause x.wire mine h.said → ShowsOf x.wire x.protocol mine y now
   by e (inl b) = inl b
   by e (inr m) = inr (inr (inl (ap (λ (l : Lane). is_too_much (length (waits l))) e ∙ m)))
 
-  at : (s : Stage) → h.said.stage ≡ s → LosesAt s h.said y own → ShowsOf x.wire x.talk mine y now
+  at : (s : Stage) → h.said.stage ≡ s → LosesAt s h.said y own → ShowsOf x.wire x.protocol mine y now
   at Live e k = never k.0
   at Lost e k = by k.1 (said-cause now x y mine own live h e)
   at Closing e k = never k.0
   at Over e k = never k.0
 
-  go : (told : Option Event) → h.told ≡ told → Loses told h.said y own → ShowsOf x.wire x.talk mine y now
+  go : (told : Option Event) → h.told ≡ told → Loses told h.said y own → ShowsOf x.wire x.protocol mine y now
   go (Some here) e k =
-      news-shows now x.wire x h.talk h.settled y mine h.read h.shut h.news h.told (ap is_loss (e ∙ sym k.0) ∙ loss) h.hears h.settles
+      input-shows now x.wire x h.protocol h.settled y mine h.read h.shut h.input h.told (ap is_loss (e ∙ sym k.0) ∙ loss) h.hears h.settles
       (broke-read (broke_in x.wire h.read) (broke_in x.wire h.shut) (broke_in x.wire h.written) (broke_in x.wire mine) (live-broke x.wire mine h.read h.shut h.written h.all))
       (live-reads x.wire mine h.read h.shut h.written h.all (settled.0 x.wire) (said.0 x.wire))
       (λ o. over-said h.settled h.said y h.written o h.says k.1)
@@ -336,7 +336,7 @@ live-shows now x y mine own live loss h = go h.told refl h.loses where
 
 -- the loss of a lane that heard it: shown in this call, or the cause of a lane whose wire was shut before
 abbrev Heard-loss : ℕ → Lane → Lane → List Answer → Type 0
-Heard-loss now x y mine = ShowsOf x.wire x.talk mine y now ⊎ ((x.stage ≡ Lost) × (waits y ≡ waits x))
+Heard-loss now x y mine = ShowsOf x.wire x.protocol mine y now ⊎ ((x.stage ≡ Lost) × (waits y ≡ waits x))
 
 listens-loss : (now : ℕ) (x y : Lane) (mine : List Answer) (own : Option Event) → is_loss own ≡ true → Listens now x y mine own → Heard-loss now x y mine
 listens-loss now x y mine own loss h = go x.stage refl h where
@@ -357,8 +357,8 @@ heeds-loss now what x y mine e (inl h) = go h.0 h.1 h.2 where
 heeds-loss now what x y mine e (inr h) = absurd (off-and-on (is_on x.wire what) h.1 (ap (λ v. is_on x.wire v) e ∙ same x.wire))
 
 -- a lane that is no WebSocket isn't gone or spoiled
-new-talk : (bound : ℕ) (x : Lane) (bytes : List ℕ) → IsNew bound x → IsGone bytes x.talk ⊎ IsSpoiled x.talk → ⊥
-new-talk bound x bytes n h = go (subst (λ (l : Lane). IsGone bytes l.talk ⊎ IsSpoiled l.talk) n.2 h) where
+new-protocol : (bound : ℕ) (x : Lane) (bytes : List ℕ) → IsNew bound x → IsGone bytes x.protocol ⊎ IsSpoiled x.protocol → ⊥
+new-protocol bound x bytes n h = go (subst (λ (l : Lane). IsGone bytes l.protocol ⊎ IsSpoiled l.protocol) n.2 h) where
   go : ⊥ ⊎ ⊥ → ⊥
   go (inl e) = e
   go (inr e) = e
@@ -366,7 +366,7 @@ new-talk bound x bytes n h = go (subst (λ (l : Lane). IsGone bytes l.talk ⊎ I
 loss-cause : (now : ℕ) (what : Heard) (answers : List Answer) (calls : List Call) (x y : Lane) (before after : List Lane) (bound : ℕ) → Has after y → y.wire ≡ x.wire → Has before x ⊎ IsNew bound x → IsCaused calls x →
     Heard-loss now x y (share x.wire answers) →
     ((lane : Lane) × Contains after lane × (lane.wire ≡ x.wire) × IsLostRightly now (answers_of (session.heard what answers ∷ calls)) lane)
-    ⊎ ((lane : Lane) × Contains before lane × (lane.wire ≡ x.wire) × (IsGone (read_on x.wire answers) lane.talk ⊎ IsSpoiled lane.talk))
+    ⊎ ((lane : Lane) × Contains before lane × (lane.wire ≡ x.wire) × (IsGone (read_on x.wire answers) lane.protocol ⊎ IsSpoiled lane.protocol))
 loss-cause now what answers calls x y before after bound has wire were caused h = go h where
   broke : broke_in x.wire (answers_of (session.heard what answers ∷ calls)) ≡ true →
       (lane : Lane) × Contains after lane × (lane.wire ≡ x.wire) × IsLostRightly now (answers_of (session.heard what answers ∷ calls)) lane
@@ -375,10 +375,10 @@ loss-cause now what answers calls x y before after bound has wire were caused h 
   much : is_too_much (length (waits y)) ≡ true → (lane : Lane) × Contains after lane × (lane.wire ≡ x.wire) × IsLostRightly now (answers_of (session.heard what answers ∷ calls)) lane
   much e = (y, contains-of after y has, wire, inr (inr e))
 
-  ended : IsGone (read_on x.wire (share x.wire answers)) x.talk ⊎ IsSpoiled x.talk → Has before x ⊎ IsNew bound x →
-      (lane : Lane) × Contains before lane × (lane.wire ≡ x.wire) × (IsGone (read_on x.wire answers) lane.talk ⊎ IsSpoiled lane.talk)
-  ended g (inl k) = (x, contains-of before x k, refl, subst (λ (l : List ℕ). IsGone l x.talk ⊎ IsSpoiled x.talk) (sym (read-share x.wire answers)) g)
-  ended g (inr n) = absurd (new-talk bound x (read_on x.wire (share x.wire answers)) n g)
+  ended : IsGone (read_on x.wire (share x.wire answers)) x.protocol ⊎ IsSpoiled x.protocol → Has before x ⊎ IsNew bound x →
+      (lane : Lane) × Contains before lane × (lane.wire ≡ x.wire) × (IsGone (read_on x.wire answers) lane.protocol ⊎ IsSpoiled lane.protocol)
+  ended g (inl k) = (x, contains-of before x k, refl, subst (λ (l : List ℕ). IsGone l x.protocol ⊎ IsSpoiled x.protocol) (sym (read-share x.wire answers)) g)
+  ended g (inr n) = absurd (new-protocol bound x (read_on x.wire (share x.wire answers)) n g)
 
   earlier : waits y ≡ waits x → Cause x.wire (answers_of calls) x → (lane : Lane) × Contains after lane × (lane.wire ≡ x.wire) × IsLostRightly now (answers_of (session.heard what answers ∷ calls)) lane
   earlier e (inl b) = broke (broke-before x.wire calls (session.heard what answers) b)
@@ -386,7 +386,7 @@ loss-cause now what answers calls x y before after bound has wire were caused h 
 
   go : Heard-loss now x y (share x.wire answers) →
       ((lane : Lane) × Contains after lane × (lane.wire ≡ x.wire) × IsLostRightly now (answers_of (session.heard what answers ∷ calls)) lane)
-      ⊎ ((lane : Lane) × Contains before lane × (lane.wire ≡ x.wire) × (IsGone (read_on x.wire answers) lane.talk ⊎ IsSpoiled lane.talk))
+      ⊎ ((lane : Lane) × Contains before lane × (lane.wire ≡ x.wire) × (IsGone (read_on x.wire answers) lane.protocol ⊎ IsSpoiled lane.protocol))
   go (inl (inl e)) = inl (broke (broke-now x.wire calls (session.heard what answers) e))
   go (inl (inr (inl e))) = inl (y, contains-of after y has, wire, inr (inl e))
   go (inl (inr (inr (inl e)))) = inl (much e)
@@ -402,6 +402,6 @@ losses-have-causes what answers calls bound bound_after before after h d wire e 
     let step = steps-in (session.heard what answers) calls bound_after after (bound, before, h, d) in
     let caused = each-before IsCaused new-caused step-caused (session.heard what answers) calls bound_after after (bound, before, h, d) x m.2 in
     subst (λ n. ((lane : Lane) × Contains after.lanes lane × (lane.wire ≡ n) × IsLostRightly what.now (answers_of (session.heard what answers ∷ calls)) lane)
-    ⊎ ((lane : Lane) × Contains before.lanes lane × (lane.wire ≡ n) × (IsGone (read_on n answers) lane.talk ⊎ IsSpoiled lane.talk))) m.4
+    ⊎ ((lane : Lane) × Contains before.lanes lane × (lane.wire ≡ n) × (IsGone (read_on n answers) lane.protocol ⊎ IsSpoiled lane.protocol))) m.4
     (loss-cause what.now what answers calls x y before.lanes after.lanes bound m.3 (moves-wire (session.heard what answers) x y m.5) (step.were x m.2) caused
     (heeds-loss what.now what.event x y (share x.wire answers) here m.5))

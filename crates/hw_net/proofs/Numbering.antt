@@ -1,14 +1,14 @@
 -- The numbers of lanes rise, and stay as they are in all calls but `next`.
 use Rattle.std.proofs.Common.{◌≡◌, ◌≤◌, ◌+◌, ◌==◌, ◌++◌, ◌∷◌, [], ℕ, Bool, true, false, not, cond, List, Option, None, Some, refl, sym, ap, ◌∙◌, subst, arith, option_to_list, length, if◌then◌else◌}
 use Rattle.std.proofs.lemmas.List.{append-nil}
-use Rattle.hd_lanes.specs.declared.http.Reply.{Reply}
+use Rattle.hw_lanes.specs.declared.http.Reply.{Reply}
 use Rattle.hw_door.specs.Traffic.{Answer, was_shut}
 use Rattle.hw_net.specs.declared.limits.TheConstants.{SWITCHING}
-use Rattle.hw_net.specs.declared.talk.Stage.TheVariants.{Closing}
-use Rattle.hw_net.specs.declared.talk.Talk.{Talk}
-use Rattle.hw_net.specs.declared.talk.Talk.TheVariants.{Http, Socket}
+use Rattle.hw_net.specs.declared.protocol.Stage.TheVariants.{Closing}
+use Rattle.hw_net.specs.declared.protocol.Protocol.{Protocol}
+use Rattle.hw_net.specs.declared.protocol.Protocol.TheVariants.{Http, Socket}
 use Rattle.hw_net.specs.Door.{IsNumbered, kept}
-use Rattle.hw_net.specs.Lane.{Lane, wires_of, waits, is_over, is_live, owes, after_end, after_reply, talk_after_shut, talk_after_reply, new_socket, rest_of}
+use Rattle.hw_net.specs.Lane.{Lane, wires_of, waits, is_over, is_live, owes, after_end, after_reply, protocol_after_shut, protocol_after_reply, new_socket, rest_of}
 use Rattle.hw_net.specs.Numbers.{NumbersRise, RepliesKeepNumbers, SendsKeepNumbers, ShutsKeepNumbers}
 use Rattle.hw_net.specs.Rising.{IsRising}
 use Rattle.hw_net.specs.Saying.{WritesOut, SaysMore, is_too_much}
@@ -63,8 +63,8 @@ more-wire before after answers h = go (is_too_much (length (waits before))) h wh
 
 pub replied-wire : (now : ℕ) (reply : Reply) (lane : Lane) → (after_reply now reply lane).wire ≡ lane.wire
 replied-wire now reply lane = go (reply.status == SWITCHING) where
-  go : (b : Bool) → (if b then record lane { talk = new_socket (rest_of lane.talk); out = lane.out ++ reply_text reply }
-      else record lane { talk = talk_after_reply lane.talk; out = lane.out ++ reply_text reply; since = now }).wire ≡ lane.wire
+  go : (b : Bool) → (if b then record lane { protocol = new_socket (rest_of lane.protocol); out = lane.out ++ reply_text reply }
+      else record lane { protocol = protocol_after_reply lane.protocol; out = lane.out ++ reply_text reply; since = now }).wire ≡ lane.wire
   go true = refl
   go false = refl
 
@@ -77,13 +77,13 @@ reply-wire now reply before after answers h = go (owes before) h where
 pub replies-keep : RepliesKeepNumbers
 replies-keep lane now reply before after answers h = at-wires lane (Replies now reply) before.lanes after.lanes answers (reply-wire now reply) h.0
 
-pub put-wire : (live : Bool) (talk : Talk) (bytes : List ℕ) (text : Bool) (before after : Lane) (is_put : Bool) → PutsAt live talk bytes text before after is_put → after.wire ≡ before.wire
-put-wire true (Socket talking) bytes text before after is_put h = ap (λ (l : Lane). l.wire) h.2
-put-wire true (Http asking) bytes text before after is_put h = ap (λ (l : Lane). l.wire) h.1
-put-wire false talk bytes text before after is_put h = ap (λ (l : Lane). l.wire) h.1
+pub put-wire : (live : Bool) (protocol : Protocol) (bytes : List ℕ) (text : Bool) (before after : Lane) (is_put : Bool) → PutsAt live protocol bytes text before after is_put → after.wire ≡ before.wire
+put-wire true (Socket websocket_state) bytes text before after is_put h = ap (λ (l : Lane). l.wire) h.2
+put-wire true (Http http_state) bytes text before after is_put h = ap (λ (l : Lane). l.wire) h.1
+put-wire false protocol bytes text before after is_put h = ap (λ (l : Lane). l.wire) h.1
 
 pub send-wire : (bytes : List ℕ) (text : Bool) (before after : Lane) (answers : List Answer) → Sends bytes text before after answers → after.wire ≡ before.wire
-send-wire bytes text before after answers h = go h.0 h.1 h.3 ∙ put-wire (is_live before.stage) before.talk bytes text before h.0 h.1 h.2 where
+send-wire bytes text before after answers h = go h.0 h.1 h.3 ∙ put-wire (is_live before.stage) before.protocol bytes text before h.0 h.1 h.2 where
   go : (mid : Lane) (b : Bool) → Chooses b (SaysMore mid after answers) ((answers ≡ []) × (after ≡ mid)) → after.wire ≡ mid.wire
   go mid true h = more-wire mid after answers h
   go mid false h = ap (λ (l : Lane). l.wire) h.1
@@ -93,7 +93,7 @@ sends-keep lane bytes text before after answers h = at-wires lane (Sends bytes t
 
 pub shut-wire : (before after : Lane) (answers : List Answer) → Shuts before after answers → after.wire ≡ before.wire
 shut-wire before after answers h = go (is_live before.stage) h where
-  go : (b : Bool) → Chooses b (WritesOut (record before { talk = talk_after_shut before.talk; stage = Closing }) after answers) ((answers ≡ []) × (after ≡ before)) → after.wire ≡ before.wire
+  go : (b : Bool) → Chooses b (WritesOut (record before { protocol = protocol_after_shut before.protocol; stage = Closing }) after answers) ((answers ≡ []) × (after ≡ before)) → after.wire ≡ before.wire
   go true h = h.still.wire
   go false h = ap (λ (l : Lane). l.wire) h.1
 

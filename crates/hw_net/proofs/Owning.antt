@@ -1,16 +1,16 @@
 -- A lane keeps its number, and what it does is told of its own wire and heard on it.
 use Rattle.std.proofs.Common.{◌≡◌, ◌==◌, ◌++◌, ◌∷◌, [], ℕ, Bool, true, false, List, Option, None, Some, refl, sym, ap, ◌∙◌, subst, length}
-use Rattle.hd_lanes.specs.declared.http.Reply.{Reply}
+use Rattle.hw_lanes.specs.declared.http.Reply.{Reply}
 use Rattle.hw_door.specs.declared.heard.Event.{Event}
 use Rattle.hw_door.specs.declared.heard.Event.TheVariants as event
 use Rattle.hw_door.specs.Traffic.{Answer, bytes_in, not_yet, ended, read_failed, bytes_out, write_failed, was_shut}
-use Rattle.hw_net.specs.declared.news.News.{News}
-use Rattle.hw_net.specs.declared.news.News.TheVariants as news
-use Rattle.hw_net.specs.declared.talk.Talk.{Talk}
-use Rattle.hw_net.specs.declared.talk.Talk.TheVariants.{Http, Socket}
-use Rattle.hw_net.specs.declared.talk.Stage.{Stage}
-use Rattle.hw_net.specs.declared.talk.Stage.TheVariants.{Live, Lost, Closing, Over}
-use Rattle.hw_net.specs.Lane.{Lane, waits, after_end, after_reply, owes, is_live, is_overdue, talk_after_shut}
+use Rattle.hw_net.specs.declared.input.Input.{Input}
+use Rattle.hw_net.specs.declared.input.Input.TheVariants as input
+use Rattle.hw_net.specs.declared.protocol.Protocol.{Protocol}
+use Rattle.hw_net.specs.declared.protocol.Protocol.TheVariants.{Http, Socket}
+use Rattle.hw_net.specs.declared.protocol.Stage.{Stage}
+use Rattle.hw_net.specs.declared.protocol.Stage.TheVariants.{Live, Lost, Closing, Over}
+use Rattle.hw_net.specs.Lane.{Lane, waits, after_end, after_reply, owes, is_live, is_overdue, protocol_after_shut}
 use Rattle.hw_net.specs.Saying.{Writes, WritesOut, Says, SaysAt, SaysMore, must_end, is_too_much}
 use Rattle.hw_net.specs.Sessions.{is_about}
 use Rattle.hw_net.specs.Told.{Reads, Gives, Chooses}
@@ -98,12 +98,12 @@ gives-own wire room [] got h = tt
 gives-own wire room (answer ∷ []) got h = (reads-about wire room answer got h.1, tt)
 gives-own wire room (answer ∷ next ∷ more) got h = absurd h
 
-hears-own : (wire : ℕ) (before after : Talk) (answers : List Answer) (heard : News) → Hears wire before after answers heard → AreOwn wire answers
+hears-own : (wire : ℕ) (before after : Protocol) (answers : List Answer) (heard : Input) → Hears wire before after answers heard → AreOwn wire answers
 hears-own wire (Http before) (Http after) answers heard h = gives-own wire _ answers h.got h.read
 hears-own wire (Socket before) (Socket after) answers heard h = gives-own wire _ answers h.got h.read
 hears-own wire _ _ answers heard h = absurd h
 
--- what is settled of the news: the number, the answers, and where it is heard
+-- what is settled of the input: the number, the answers, and where it is heard
 abbrev pub Settled : Lane → Lane → List Answer → Option Event → Type 0
 Settled before after answers heard = Keeps before after answers × IsOn before.wire heard
 
@@ -119,16 +119,16 @@ passes-keeps : (before becomes after : Lane) (answers : List Answer) (told : Eve
 passes-keeps before becomes after answers told heard e is h =
     ((ap (λ (l : Lane). l.wire) h.2 ∙ e, to-own before.wire [] answers h.0 tt), on-own before.wire heard told is h.1)
 
-pub settles-keeps : (now : ℕ) (before after : Lane) (answers : List Answer) (heard_news : News) (heard : Option Event) → Settles now before after answers heard_news heard → Settled before after answers heard
-settles-keeps now before after answers news.Nothing heard h = go (is_overdue now before) h where
+pub settles-keeps : (now : ℕ) (before after : Lane) (answers : List Answer) (heard_news : Input) (heard : Option Event) → Settles now before after answers heard_news heard → Settled before after answers heard
+settles-keeps now before after answers input.Nothing heard h = go (is_overdue now before) h where
   go : (b : Bool) → Chooses b (Falls before after answers heard) (Passes before after answers None heard) → Settled before after answers heard
   go true h = falls-keeps before after answers heard h
   go false h = (still-keeps before after answers h.0 h.2, subst (λ (o : Option Event). IsOn before.wire o) (sym h.1) tt)
-settles-keeps now before after answers (news.Request request) heard h = passes-keeps before _ after answers (event.Request before.wire request) heard refl (same before.wire) h
-settles-keeps now before after answers (news.Refused status) heard h = passes-keeps before _ after answers (event.Refused before.wire status) heard refl (same before.wire) h
-settles-keeps now before after answers (news.Message bytes) heard h = passes-keeps before _ after answers (event.Bytes before.wire bytes) heard refl (same before.wire) h
-settles-keeps now before after answers news.Broken heard h = falls-keeps before after answers heard h
-settles-keeps now before after answers news.Gone heard h = passes-keeps before _ after answers (event.Lost before.wire) heard refl (same before.wire) h
+settles-keeps now before after answers (input.Request request) heard h = passes-keeps before _ after answers (event.Request before.wire request) heard refl (same before.wire) h
+settles-keeps now before after answers (input.Refused status) heard h = passes-keeps before _ after answers (event.Refused before.wire status) heard refl (same before.wire) h
+settles-keeps now before after answers (input.Message bytes) heard h = passes-keeps before _ after answers (event.Bytes before.wire bytes) heard refl (same before.wire) h
+settles-keeps now before after answers input.Broken heard h = falls-keeps before after answers heard h
+settles-keeps now before after answers input.Gone heard h = passes-keeps before _ after answers (event.Lost before.wire) heard refl (same before.wire) h
 
 loses-keeps : (wire : ℕ) (told : Option Event) (before after : Lane) (heard : Option Event) → before.wire ≡ wire → IsOn wire told → Loses told before after heard →
     (after.wire ≡ before.wire) × IsOn wire heard
@@ -142,14 +142,14 @@ loses-keeps wire None before after heard e is h = go before.stage h where
 
 live-keeps : (now : ℕ) (before after : Lane) (answers : List Answer) (heard : Option Event) → TurnsLive now before after answers heard → Settled before after answers heard
 live-keeps now before after answers heard h =
-    let settled = settles-keeps now (record before { talk = h.talk }) h.settled h.shut h.news h.told h.settles in
+    let settled = settles-keeps now (record before { protocol = h.protocol }) h.settled h.shut h.input h.told h.settles in
     let said = says-keeps h.settled h.said h.written h.says in
     let wrote : AreOwn before.wire h.written = subst (λ n. AreOwn n h.written) settled.0.0 said.1 in
     let loses = loses-keeps before.wire h.told h.said after heard (said.0 ∙ settled.0.0) settled.1 h.loses in (
       (
         loses.0 ∙ said.0 ∙ settled.0.0,
         to-own before.wire (h.read ++ (h.shut ++ h.written)) answers h.all
-            (own-append before.wire h.read (h.shut ++ h.written) (hears-own before.wire before.talk h.talk h.read h.news h.hears) (own-append before.wire h.shut h.written settled.0.1 wrote)),
+            (own-append before.wire h.read (h.shut ++ h.written) (hears-own before.wire before.protocol h.protocol h.read h.input h.hears) (own-append before.wire h.shut h.written settled.0.1 wrote)),
       ),
       loses.1,
     )
@@ -180,11 +180,11 @@ replies-keeps now reply before after answers h = (reply-wire now reply before af
 pub sends-keeps : (bytes : List ℕ) (text : Bool) (before after : Lane) (answers : List Answer) → Sends bytes text before after answers → Keeps before after answers
 sends-keeps bytes text before after answers h = (send-wire bytes text before after answers h, go h.0 h.1 h.2 h.3) where
   go : (mid : Lane) (b : Bool) → Puts bytes text before mid b → Chooses b (SaysMore mid after answers) ((answers ≡ []) × (after ≡ mid)) → AreOwn before.wire answers
-  go mid true p h = more-own before.wire mid after answers (put-wire (is_live before.stage) before.talk bytes text before mid true p) h
+  go mid true p h = more-own before.wire mid after answers (put-wire (is_live before.stage) before.protocol bytes text before mid true p) h
   go mid false p h = to-own before.wire [] answers h.0 tt
 
 pub shuts-keeps : (before after : Lane) (answers : List Answer) → Shuts before after answers → Keeps before after answers
 shuts-keeps before after answers h = (shut-wire before after answers h, go (is_live before.stage) h) where
-  go : (b : Bool) → Chooses b (WritesOut (record before { talk = talk_after_shut before.talk; stage = Closing }) after answers) ((answers ≡ []) × (after ≡ before)) → AreOwn before.wire answers
-  go true h = (writes-out-keeps (record before { talk = talk_after_shut before.talk; stage = Closing }) after answers h).1
+  go : (b : Bool) → Chooses b (WritesOut (record before { protocol = protocol_after_shut before.protocol; stage = Closing }) after answers) ((answers ≡ []) × (after ≡ before)) → AreOwn before.wire answers
+  go true h = (writes-out-keeps (record before { protocol = protocol_after_shut before.protocol; stage = Closing }) after answers h).1
   go false h = to-own before.wire [] answers h.0 tt

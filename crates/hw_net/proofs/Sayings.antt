@@ -2,7 +2,7 @@
 use Rattle.std.proofs.Common.{◌≡◌, ◌≢◌, ℕ, List, [], ◌∷◌, ◌++◌, Bool, true, false, Option, length, refl, sym, ap, subst, ◌∙◌, append_assoc}
 use Rattle.hw_door.specs.declared.heard.Event.{Event}
 use Rattle.hw_door.specs.Traffic.{Answer, was_shut}
-use Rattle.hw_net.specs.declared.news.News.{News}
+use Rattle.hw_net.specs.declared.input.Input.{Input}
 use Rattle.hw_net.specs.Told.{Tells}
 use Rattle.hw_net.specs.Lane.{Lane, waits, after_end}
 use Rattle.hw_net.specs.Saying.{Writes, WritesOut, Says, IsLaneStill, must_end}
@@ -23,7 +23,7 @@ said-ended a b c before mid whole h still same must shut =
         sent = h.0;
         is_whole = whole;
         writes = h.2;
-        still = record { wire = still.wire; since = still.since; talk = still.talk };
+        still = record { wire = still.wire; since = still.since; protocol = still.protocol };
         ends = λ m. (refl, ap after_end same);
         stays = λ m. cc (sym ends ∙ m);
       },
@@ -46,17 +46,17 @@ done-both a b c wire out more left rest first whole h e none k =
     let gone : Writes wire out h.0 [] true = subst (λ (l : List ℕ). Writes wire out h.0 l true) none all in
     (h.0 ++ k.0, tells-more a b c h.0 k.0 h.1 k.1, writes-both wire out more h.0 k.0 left whole gone k.2)
 
--- a live lane heard news after a first look at it, whose answers come before; they were settled, and it wrote what waited
-pub turned-after : (a b c d : Option (List Answer)) (now : ℕ) (before heard settled said after : Lane) (news : News) (told event : Option Event) (first : List Answer) →
-    ((answers : List Answer) × Tells a b answers × Hears before.wire before.talk heard.talk (first ++ answers) news) → heard ≡ record before { talk = heard.talk } →
-    ((answers : List Answer) × Tells b c answers × Settles now heard settled answers news told) → ((answers : List Answer) × Tells c d answers × Says settled said answers) →
+-- a live lane heard an input after a first look at it, whose answers come before; it was settled, and it wrote what waited
+pub turned-after : (a b c d : Option (List Answer)) (now : ℕ) (before heard settled said after : Lane) (input : Input) (told event : Option Event) (first : List Answer) →
+    ((answers : List Answer) × Tells a b answers × Hears before.wire before.protocol heard.protocol (first ++ answers) input) → heard ≡ record before { protocol = heard.protocol } →
+    ((answers : List Answer) × Tells b c answers × Settles now heard settled answers input told) → ((answers : List Answer) × Tells c d answers × Says settled said answers) →
     Loses told said after event → (answers : List Answer) × Tells a d answers × TurnsLive now before after (first ++ answers) event
-turned-after a b c d now before heard settled said after news told event first h e s w l = (
+turned-after a b c d now before heard settled said after input told event first h e s w l = (
   h.0 ++ (s.0 ++ w.0),
   tells-more a b d h.0 (s.0 ++ w.0) h.1 (tells-more b c d s.0 w.0 s.1 w.1),
   record {
-    news = news;
-    talk = heard.talk;
+    input = input;
+    protocol = heard.protocol;
     settled = settled;
     said = said;
     told = told;
@@ -65,7 +65,7 @@ turned-after a b c d now before heard settled said after news told event first h
     written = w.0;
     all = sym (append_assoc first h.0 (s.0 ++ w.0));
     hears = h.2;
-    settles = subst (λ (x : Lane). Settles now x settled s.0 news told) e s.2;
+    settles = subst (λ (x : Lane). Settles now x settled s.0 input told) e s.2;
     says = w.2;
     loses = l;
   },

@@ -1,7 +1,7 @@
 -- In a session a lane that became a WebSocket carries a fresh one, call by call.
 use Rattle.std.proofs.Common.{◌≡◌, ◌==◌, ◌&&◌, ◌++◌, ◌∷◌, [], ℕ, Bool, true, false, if◌then◌else◌, List, Option, None, Some, refl, sym, ap, ◌∙◌, subst, inl, inr, append-nil, append_assoc, length}
-use Rattle.hd_lanes.specs.declared.http.Reply.{Reply}
-use Rattle.hd_lanes.specs.declared.http.Request.{Request}
+use Rattle.hw_lanes.specs.declared.http.Reply.{Reply}
+use Rattle.hw_lanes.specs.declared.http.Request.{Request}
 use Rattle.hh_http.specs.Asks.{Asks}
 use Rattle.hh_http.specs.Texts.{reply_text}
 use Rattle.hw_door.specs.declared.heard.Event.{Event}
@@ -15,19 +15,19 @@ use Rattle.hw_socket.specs.declared.vocabulary.SocketRead.{SocketRead}
 use Rattle.hw_socket.specs.declared.vocabulary.SocketRead.TheVariants as read
 use Rattle.hw_socket.specs.declared.vocabulary.SocketSide.TheVariants as side
 use Rattle.hw_net.specs.declared.limits.TheConstants.{SWITCHING}
-use Rattle.hw_net.specs.declared.news.News.{News}
-use Rattle.hw_net.specs.declared.news.News.TheVariants as news
-use Rattle.hw_net.specs.declared.talk.Talk.{Talk}
-use Rattle.hw_net.specs.declared.talk.Talk.TheVariants.{Http, Socket}
-use Rattle.hw_net.specs.declared.talk.Stage.{Stage}
-use Rattle.hw_net.specs.declared.talk.Stage.TheVariants.{Live, Lost, Closing, Over}
-use Rattle.hw_net.specs.Asking.{AskingState, requests_of}
+use Rattle.hw_net.specs.declared.input.Input.{Input}
+use Rattle.hw_net.specs.declared.input.Input.TheVariants as input
+use Rattle.hw_net.specs.declared.protocol.Protocol.{Protocol}
+use Rattle.hw_net.specs.declared.protocol.Protocol.TheVariants.{Http, Socket}
+use Rattle.hw_net.specs.declared.protocol.Stage.{Stage}
+use Rattle.hw_net.specs.declared.protocol.Stage.TheVariants.{Live, Lost, Closing, Over}
+use Rattle.hw_net.specs.HttpState.{HttpStateView, requests_of}
 use Rattle.hw_net.specs.Door.{new_lane}
-use Rattle.hw_net.specs.Lane.{Lane, waits, frames_of, is_live, is_busy, owes, is_overdue, after_end, after_reply, talk_after_shut, talk_after_reply, new_socket, rest_of}
+use Rattle.hw_net.specs.Lane.{Lane, waits, frames_of, is_live, is_busy, owes, is_overdue, after_end, after_reply, protocol_after_shut, protocol_after_reply, new_socket, rest_of}
 use Rattle.hw_net.specs.Saying.{WritesOut, SpeaksAs, Says, SaysAt, SaysMore, must_end, is_too_much}
 use Rattle.hw_net.specs.Sessions as session
 use Rattle.hw_net.specs.Sessions.{Call, Session, answers_in, answers_of, requests_on, replies_on, texts_of, message_on, messages_on, IsCarried, CarriesSocket, SocketsAreCarried}
-use Rattle.hw_net.specs.Talking.{Talking, Gets}
+use Rattle.hw_net.specs.WebSocketState.{WebSocketState, Gets}
 use Rattle.hw_net.specs.Told.{Chooses, bytes_of}
 use Rattle.hw_net.specs.Turn.{Hears, Falls, Passes, Settles, Loses, LosesAt, TurnsLive, TurnsAt, Listens, Replies, Puts, PutsAt, Sends, Shuts}
 use Rattle.hw_net.proofs.Asked.{HeardIn, IsAsked, step-asked, new-asked, requests_by, requests-more, requests_in, settles-requests, loses-requests, heard-requests, gives-bytes, live-reads, settles-silent, says-silent, read-more, replies-silent, sends-silent, shuts-silent}
@@ -155,34 +155,34 @@ carries-shut live from written out requests messages replies now c =
 -- ---- lanes
 
 -- on a lane of requests no message is heard, and another carries its WebSocket
-abbrev Borne : Bool → List ℕ → List ℕ → List Request → List (List ℕ) → List Reply → Talk → Type 0
-Borne live from all requests messages replies (Http asking) = messages ≡ []
-Borne live from all requests messages replies (Socket talking) = IsCarried live from all requests messages replies talking.lane
+abbrev Borne : Bool → List ℕ → List ℕ → List Request → List (List ℕ) → List Reply → Protocol → Type 0
+Borne live from all requests messages replies (Http http_state) = messages ≡ []
+Borne live from all requests messages replies (Socket websocket_state) = IsCarried live from all requests messages replies websocket_state.lane
 
 abbrev IsBorne : List ℕ → List ℕ → List Request → List (List ℕ) → List Reply → Lane → Type 0
-IsBorne from written requests messages replies lane = Borne (is_live lane.stage) from (written ++ waits lane) requests messages replies lane.talk
+IsBorne from written requests messages replies lane = Borne (is_live lane.stage) from (written ++ waits lane) requests messages replies lane.protocol
 
 -- nothing is added, and what waits is written
 abbrev Glides : Lane → Lane → List Answer → Type 0
 Glides x y mine = (from written : List ℕ) (requests : List Request) (messages : List (List ℕ)) (replies : List Reply) → IsBorne from written requests messages replies x →
     IsBorne from (written ++ written_on x.wire mine) requests messages replies y
 
-borne-less : (live after : Bool) (from all : List ℕ) (requests : List Request) (messages : List (List ℕ)) (replies : List Reply) (talk : Talk) → (after ≡ true → live ≡ true) →
-    Borne live from all requests messages replies talk → Borne after from all requests messages replies talk
-borne-less live after from all requests messages replies (Http asking) f b = b
-borne-less live after from all requests messages replies (Socket talking) f b = carries-on live after from all requests messages replies talking.lane talking.lane f refl b
+borne-less : (live after : Bool) (from all : List ℕ) (requests : List Request) (messages : List (List ℕ)) (replies : List Reply) (protocol : Protocol) → (after ≡ true → live ≡ true) →
+    Borne live from all requests messages replies protocol → Borne after from all requests messages replies protocol
+borne-less live after from all requests messages replies (Http http_state) f b = b
+borne-less live after from all requests messages replies (Socket websocket_state) f b = carries-on live after from all requests messages replies websocket_state.lane websocket_state.lane f refl b
 
-speaks-borne : (live after : Bool) (from all : List ℕ) (requests : List Request) (messages : List (List ℕ)) (replies : List Reply) (old new : Talk) → (after ≡ true → live ≡ true) → SpeaksAs old new →
+speaks-borne : (live after : Bool) (from all : List ℕ) (requests : List Request) (messages : List (List ℕ)) (replies : List Reply) (old new : Protocol) → (after ≡ true → live ≡ true) → SpeaksAs old new →
     Borne live from all requests messages replies old → Borne after from all requests messages replies new
 speaks-borne live after from all requests messages replies (Http old) (Http new) f e b = b
-speaks-borne live after from all requests messages replies (Socket old) (Socket new) f e b = carries-on live after from all requests messages replies old.lane new.lane f (ap (λ (t : Talking). t.lane) e) b
+speaks-borne live after from all requests messages replies (Socket old) (Socket new) f e b = carries-on live after from all requests messages replies old.lane new.lane f (ap (λ (t : WebSocketState). t.lane) e) b
 speaks-borne live after from all requests messages replies _ _ f e b = absurd e
 
 glides : (x y : Lane) (mine : List Answer) → written_on x.wire mine ++ waits y ≡ waits x →
-    ((from all : List ℕ) (requests : List Request) (messages : List (List ℕ)) (replies : List Reply) → Borne (is_live x.stage) from all requests messages replies x.talk → Borne (is_live y.stage) from all requests messages replies y.talk) → Glides x y mine
+    ((from all : List ℕ) (requests : List Request) (messages : List (List ℕ)) (replies : List Reply) → Borne (is_live x.stage) from all requests messages replies x.protocol → Borne (is_live y.stage) from all requests messages replies y.protocol) → Glides x y mine
 glides x y mine e f from written requests messages replies b =
     f from ((written ++ written_on x.wire mine) ++ waits y) requests messages replies
-    (subst (λ (l : List ℕ). Borne (is_live x.stage) from l requests messages replies x.talk) (sym (append_assoc written (written_on x.wire mine) (waits y) ∙ ap (λ l. written ++ l) e)) b)
+    (subst (λ (l : List ℕ). Borne (is_live x.stage) from l requests messages replies x.protocol) (sym (append_assoc written (written_on x.wire mine) (waits y) ∙ ap (λ l. written ++ l) e)) b)
 
 lives-stage : (x y : Lane) → Lives x y → is_live y.stage ≡ true → is_live x.stage ≡ true
 lives-stage x y l e = (l e).0
@@ -190,7 +190,7 @@ lives-stage x y l e = (l e).0
 writes-glide : (x y : Lane) (mine : List Answer) → WritesOut x y mine → Glides x y mine
 writes-glide x y mine w =
     glides x y mine (go (must_end x.stage (length (waits y)) w.is_whole) refl)
-    (λ from all requests messages replies. speaks-borne (is_live x.stage) (is_live y.stage) from all requests messages replies x.talk y.talk (lives-stage x y (writes-live x y mine w)) w.still.talk) where
+    (λ from all requests messages replies. speaks-borne (is_live x.stage) (is_live y.stage) from all requests messages replies x.protocol y.protocol (lives-stage x y (writes-live x y mine w)) w.still.protocol) where
       front : written_on x.wire w.sent ++ waits y ≡ waits x
       front = writes-front x.wire (waits x) w.sent (waits y) w.is_whole w.writes
 
@@ -200,15 +200,15 @@ writes-glide x y mine w =
       go false e = ap (λ l. written_on x.wire l ++ waits y) (w.stays e).0 ∙ front
 
 -- the stage alone may be another
-stage-glides : (x y : Lane) (mine : List Answer) → written_on x.wire mine ≡ [] → waits y ≡ waits x → y.talk ≡ x.talk → (is_live y.stage ≡ true → is_live x.stage ≡ true) → Glides x y mine
+stage-glides : (x y : Lane) (mine : List Answer) → written_on x.wire mine ≡ [] → waits y ≡ waits x → y.protocol ≡ x.protocol → (is_live y.stage ≡ true → is_live x.stage ≡ true) → Glides x y mine
 stage-glides x y mine e f g l =
     glides x y mine (ap (λ k. k ++ waits y) e ∙ f)
-    (λ from all requests messages replies b. subst (λ (t : Talk). Borne (is_live y.stage) from all requests messages replies t) (sym g)
-    (borne-less (is_live x.stage) (is_live y.stage) from all requests messages replies x.talk l b))
+    (λ from all requests messages replies b. subst (λ (t : Protocol). Borne (is_live y.stage) from all requests messages replies t) (sym g)
+    (borne-less (is_live x.stage) (is_live y.stage) from all requests messages replies x.protocol l b))
 
 same-glides : (x y : Lane) (mine : List Answer) → mine ≡ [] → y ≡ x → Glides x y mine
 same-glides x y mine e f =
-    stage-glides x y mine (ap (λ l. written_on x.wire l) e) (ap waits f) (ap (λ (l : Lane). l.talk) f) (λ k. sym (ap (λ (l : Lane). is_live l.stage) f) ∙ k)
+    stage-glides x y mine (ap (λ l. written_on x.wire l) e) (ap waits f) (ap (λ (l : Lane). l.protocol) f) (λ k. sym (ap (λ (l : Lane). is_live l.stage) f) ∙ k)
 
 says-glide : (x y : Lane) (mine : List Answer) → Says x y mine → Glides x y mine
 says-glide x y mine h = go x.stage h where
@@ -221,29 +221,29 @@ says-glide x y mine h = go x.stage h where
 more-glide : (x y : Lane) (mine : List Answer) → SaysMore x y mine → Glides x y mine
 more-glide x y mine s = go (is_too_much (length (waits x))) s where
   go : (b : Bool) → Chooses b ((mine ≡ was_shut x.wire ∷ []) × (y ≡ record x { stage = after_end x.stage })) (WritesOut x y mine) → Glides x y mine
-  go true h = stage-glides x y mine (ap (λ l. written_on x.wire l) h.0) (ap waits h.1) (ap (λ (l : Lane). l.talk) h.1) (lives-stage x y (more-live x y mine s))
+  go true h = stage-glides x y mine (ap (λ l. written_on x.wire l) h.0) (ap waits h.1) (ap (λ (l : Lane). l.protocol) h.1) (lives-stage x y (more-live x y mine s))
   go false h = writes-glide x y mine h
 
 -- ---- hearing
 
-abbrev messages_of : News → List (List ℕ)
-messages_of (news.Message bytes) = bytes ∷ []
+abbrev messages_of : Input → List (List ℕ)
+messages_of (input.Message bytes) = bytes ∷ []
 messages_of _ = []
 
 abbrev messages_in : ℕ → Option Event → List (List ℕ)
 messages_in wire None = []
 messages_in wire (Some told) = message_on wire told
 
-settles-messages : (now : ℕ) (before after : Lane) (answers : List Answer) (what : News) (heard : Option Event) → Settles now before after answers what heard → messages_in before.wire heard ≡ messages_of what
-settles-messages now before after answers news.Nothing heard h = go (is_overdue now before) h where
+settles-messages : (now : ℕ) (before after : Lane) (answers : List Answer) (what : Input) (heard : Option Event) → Settles now before after answers what heard → messages_in before.wire heard ≡ messages_of what
+settles-messages now before after answers input.Nothing heard h = go (is_overdue now before) h where
   go : (b : Bool) → Chooses b (Falls before after answers heard) (Passes before after answers None heard) → messages_in before.wire heard ≡ []
   go true h = ap (λ o. messages_in before.wire o) h.1
   go false h = ap (λ o. messages_in before.wire o) h.1
-settles-messages now before after answers (news.Request request) heard h = ap (λ o. messages_in before.wire o) h.1
-settles-messages now before after answers (news.Refused status) heard h = ap (λ o. messages_in before.wire o) h.1
-settles-messages now before after answers (news.Message bytes) heard h = ap (λ o. messages_in before.wire o) h.1 ∙ ap (λ b. if b then bytes ∷ [] else []) (same before.wire)
-settles-messages now before after answers news.Broken heard h = ap (λ o. messages_in before.wire o) h.1
-settles-messages now before after answers news.Gone heard h = ap (λ o. messages_in before.wire o) h.1
+settles-messages now before after answers (input.Request request) heard h = ap (λ o. messages_in before.wire o) h.1
+settles-messages now before after answers (input.Refused status) heard h = ap (λ o. messages_in before.wire o) h.1
+settles-messages now before after answers (input.Message bytes) heard h = ap (λ o. messages_in before.wire o) h.1 ∙ ap (λ b. if b then bytes ∷ [] else []) (same before.wire)
+settles-messages now before after answers input.Broken heard h = ap (λ o. messages_in before.wire o) h.1
+settles-messages now before after answers input.Gone heard h = ap (λ o. messages_in before.wire o) h.1
 
 loses-messages : (wire : ℕ) (told : Option Event) (before after : Lane) (heard : Option Event) → Loses told before after heard → messages_in wire heard ≡ messages_in wire told
 loses-messages wire (Some here) before after heard h = ap (λ o. messages_in wire o) h.0
@@ -282,69 +282,69 @@ gets-carried from written out requests messages more replies old new got answer 
     carries-taken true (from ++ bytes_of got) written out requests messages more replies fed new answer e h.1.2
     (subst (λ (l : List ℕ). IsCarried true (from ++ bytes_of got) (written ++ (out ++ l)) requests messages replies fed) (sym bytes) food)
 
-settles-borne : (now : ℕ) (x : Lane) (talk : Talk) (after : Lane) (reads answers : List Answer) (what : News) (heard : Option Event) (from written : List ℕ) (requests : List Request) (messages : List (List ℕ)) (replies : List Reply) →
-    x.stage ≡ Live → Hears x.wire x.talk talk reads what → Settles now (record x { talk = talk }) after answers what heard → IsBorne from written requests messages replies x →
+settles-borne : (now : ℕ) (x : Lane) (protocol : Protocol) (after : Lane) (reads answers : List Answer) (what : Input) (heard : Option Event) (from written : List ℕ) (requests : List Request) (messages : List (List ℕ)) (replies : List Reply) →
+    x.stage ≡ Live → Hears x.wire x.protocol protocol reads what → Settles now (record x { protocol = protocol }) after answers what heard → IsBorne from written requests messages replies x →
     IsBorne (from ++ read_on x.wire reads) written (requests ++ requests_of what) (messages ++ messages_of what) (replies ++ refusals_of what) after
-settles-borne now x talk after reads answers what heard from written requests messages replies live h s b = go x.talk talk what h s was where
-  was : Borne true from (written ++ (x.out ++ frames_of x.talk)) requests messages replies x.talk
-  was = borne-less (is_live x.stage) true from (written ++ (x.out ++ frames_of x.talk)) requests messages replies x.talk (λ e. ap is_live live) b
+settles-borne now x protocol after reads answers what heard from written requests messages replies live h s b = go x.protocol protocol what h s was where
+  was : Borne true from (written ++ (x.out ++ frames_of x.protocol)) requests messages replies x.protocol
+  was = borne-less (is_live x.stage) true from (written ++ (x.out ++ frames_of x.protocol)) requests messages replies x.protocol (λ e. ap is_live live) b
 
-  none : (rest : List ℕ) (more : List Request) (answers : List Reply) (mid : Lane) (asking : AskingState) → after ≡ mid → mid.talk ≡ Http asking → messages ≡ [] →
+  none : (rest : List ℕ) (more : List Request) (answers : List Reply) (mid : Lane) (http_state : HttpStateView) → after ≡ mid → mid.protocol ≡ Http http_state → messages ≡ [] →
       IsBorne rest written more (messages ++ []) answers after
-  none rest more answers mid asking e f k = becomes rest written more (messages ++ []) answers after mid e
-      (subst (λ (t : Talk). Borne (is_live mid.stage) rest (written ++ waits mid) more (messages ++ []) answers t) (sym f) (append-nil messages ∙ k))
+  none rest more answers mid http_state e f k = becomes rest written more (messages ++ []) answers after mid e
+      (subst (λ (t : Protocol). Borne (is_live mid.stage) rest (written ++ waits mid) more (messages ++ []) answers t) (sym f) (append-nil messages ∙ k))
 
-  carried : (new : Talking) (mid : Lane) (what : News) → after ≡ mid → requests_of what ≡ [] → refusals_of what ≡ [] → IsBorne (from ++ read_on x.wire reads) written requests (messages ++ messages_of what) replies mid →
+  carried : (new : WebSocketState) (mid : Lane) (what : Input) → after ≡ mid → requests_of what ≡ [] → refusals_of what ≡ [] → IsBorne (from ++ read_on x.wire reads) written requests (messages ++ messages_of what) replies mid →
       IsBorne (from ++ read_on x.wire reads) written (requests ++ requests_of what) (messages ++ messages_of what) (replies ++ refusals_of what) after
   carried new mid what e f g k = becomes (from ++ read_on x.wire reads) written (requests ++ requests_of what) (messages ++ messages_of what) (replies ++ refusals_of what) after mid e
       (padded (from ++ read_on x.wire reads) written requests (messages ++ messages_of what) replies (requests_of what) (refusals_of what) mid f g k)
 
-  got : (old new : Talking) (bytes : Option (List ℕ)) (answer : SocketRead) (more : List (List ℕ)) → read_on x.wire reads ≡ bytes_of bytes → socket_calls.heard (socket_calls.Read answer ∷ []) ≡ more → Gets old.lane bytes answer new.lane →
+  got : (old new : WebSocketState) (bytes : Option (List ℕ)) (answer : SocketRead) (more : List (List ℕ)) → read_on x.wire reads ≡ bytes_of bytes → socket_calls.heard (socket_calls.Read answer ∷ []) ≡ more → Gets old.lane bytes answer new.lane →
       IsCarried true from (written ++ (x.out ++ old.lane.out.bytes)) requests messages replies old.lane → IsCarried true (from ++ read_on x.wire reads) (written ++ (x.out ++ new.lane.out.bytes)) requests (messages ++ more) replies new.lane
   got old new bytes answer more e f g c =
       subst (λ (l : List ℕ). IsCarried true (from ++ l) (written ++ (x.out ++ new.lane.out.bytes)) requests (messages ++ more) replies new.lane) (sym e)
       (gets-carried from written x.out requests messages more replies old.lane new.lane bytes answer f g c)
 
-  stage : (new : Talking) (more : List (List ℕ)) (s : Stage) → IsCarried true (from ++ read_on x.wire reads) (written ++ (x.out ++ new.lane.out.bytes)) requests more replies new.lane →
-      IsBorne (from ++ read_on x.wire reads) written requests more replies (record x { talk = Socket new; stage = s })
+  stage : (new : WebSocketState) (more : List (List ℕ)) (s : Stage) → IsCarried true (from ++ read_on x.wire reads) (written ++ (x.out ++ new.lane.out.bytes)) requests more replies new.lane →
+      IsBorne (from ++ read_on x.wire reads) written requests more replies (record x { protocol = Socket new; stage = s })
   stage new more s c = carries-on true (is_live s) (from ++ read_on x.wire reads) (written ++ (x.out ++ new.lane.out.bytes)) requests more replies new.lane new.lane (λ e. refl) refl c
 
-  nothing : (new : Talking) → IsCarried true (from ++ read_on x.wire reads) (written ++ (x.out ++ new.lane.out.bytes)) requests (messages ++ []) replies new.lane → (b : Bool) →
-      Chooses b (Falls (record x { talk = Socket new }) after answers heard) (Passes (record x { talk = Socket new }) after answers None heard) →
+  nothing : (new : WebSocketState) → IsCarried true (from ++ read_on x.wire reads) (written ++ (x.out ++ new.lane.out.bytes)) requests (messages ++ []) replies new.lane → (b : Bool) →
+      Chooses b (Falls (record x { protocol = Socket new }) after answers heard) (Passes (record x { protocol = Socket new }) after answers None heard) →
       IsBorne (from ++ read_on x.wire reads) written (requests ++ []) (messages ++ []) (replies ++ []) after
-  nothing new c true f = carried new (record x { talk = Socket new; stage = Over }) news.Nothing f.2 refl refl (stage new (messages ++ []) Over c)
-  nothing new c false f = carried new (record x { talk = Socket new }) news.Nothing f.2 refl refl (stage new (messages ++ []) x.stage c)
+  nothing new c true f = carried new (record x { protocol = Socket new; stage = Over }) input.Nothing f.2 refl refl (stage new (messages ++ []) Over c)
+  nothing new c false f = carried new (record x { protocol = Socket new }) input.Nothing f.2 refl refl (stage new (messages ++ []) x.stage c)
 
-  go : (old new : Talk) (what : News) → Hears x.wire old new reads what → Settles now (record x { talk = new }) after answers what heard → Borne true from (written ++ (x.out ++ frames_of old)) requests messages replies old →
+  go : (old new : Protocol) (what : Input) → Hears x.wire old new reads what → Settles now (record x { protocol = new }) after answers what heard → Borne true from (written ++ (x.out ++ frames_of old)) requests messages replies old →
       IsBorne (from ++ read_on x.wire reads) written (requests ++ requests_of what) (messages ++ messages_of what) (replies ++ refusals_of what) after
-  go (Http old) (Http new) news.Nothing h s k = idle (is_overdue now (record x { talk = Http new })) s where
-    idle : (b : Bool) → Chooses b (Falls (record x { talk = Http new }) after answers heard) (Passes (record x { talk = Http new }) after answers None heard) →
+  go (Http old) (Http new) input.Nothing h s k = idle (is_overdue now (record x { protocol = Http new })) s where
+    idle : (b : Bool) → Chooses b (Falls (record x { protocol = Http new }) after answers heard) (Passes (record x { protocol = Http new }) after answers None heard) →
         IsBorne (from ++ read_on x.wire reads) written (requests ++ []) (messages ++ []) (replies ++ []) after
     idle true f = none _ _ _ _ new f.2 refl k
     idle false f = none _ _ _ _ new f.2 refl k
-  go (Http old) (Http new) (news.Request request) h s k = none _ _ _ _ new s.2 refl k
-  go (Http old) (Http new) (news.Refused status) h s k = none _ _ _ _ new s.2 refl k
-  go (Http old) (Http new) (news.Message bytes) h s k = absurd h.is_news
-  go (Http old) (Http new) news.Broken h s k = none _ _ _ _ new s.2 refl k
-  go (Http old) (Http new) news.Gone h s k = absurd h.is_news
-  go (Socket old) (Socket new) news.Nothing h s k =
-      nothing new (got old new h.got read.NotYet [] (gives-bytes x.wire _ reads h.got h.read) refl h.is_news.0 k) (is_overdue now (record x { talk = Socket new })) s
-  go (Socket old) (Socket new) (news.Request request) h s k = absurd h.is_news
-  go (Socket old) (Socket new) (news.Refused status) h s k = absurd h.is_news
-  go (Socket old) (Socket new) (news.Message bytes) h s k =
-      carried new (record x { talk = Socket new }) (news.Message bytes) s.2 refl refl
-      (stage new (messages ++ bytes ∷ []) x.stage (got old new h.got (read.Payload bytes) (bytes ∷ []) (gives-bytes x.wire _ reads h.got h.read) refl h.is_news.0 k))
-  go (Socket old) (Socket new) news.Broken h s k =
-      carried new (record x { talk = Socket new; stage = Over }) news.Broken s.2 refl refl
-      (subst (λ (l : List ℕ). IsCarried false (from ++ read_on x.wire reads) (written ++ (x.out ++ l)) requests (messages ++ []) replies new.lane) (sym (ap (λ (l : socket.Lane). l.out.bytes) h.is_news.1))
+  go (Http old) (Http new) (input.Request request) h s k = none _ _ _ _ new s.2 refl k
+  go (Http old) (Http new) (input.Refused status) h s k = none _ _ _ _ new s.2 refl k
+  go (Http old) (Http new) (input.Message bytes) h s k = absurd h.is_input
+  go (Http old) (Http new) input.Broken h s k = none _ _ _ _ new s.2 refl k
+  go (Http old) (Http new) input.Gone h s k = absurd h.is_input
+  go (Socket old) (Socket new) input.Nothing h s k =
+      nothing new (got old new h.got read.NotYet [] (gives-bytes x.wire _ reads h.got h.read) refl h.is_input.0 k) (is_overdue now (record x { protocol = Socket new })) s
+  go (Socket old) (Socket new) (input.Request request) h s k = absurd h.is_input
+  go (Socket old) (Socket new) (input.Refused status) h s k = absurd h.is_input
+  go (Socket old) (Socket new) (input.Message bytes) h s k =
+      carried new (record x { protocol = Socket new }) (input.Message bytes) s.2 refl refl
+      (stage new (messages ++ bytes ∷ []) x.stage (got old new h.got (read.Payload bytes) (bytes ∷ []) (gives-bytes x.wire _ reads h.got h.read) refl h.is_input.0 k))
+  go (Socket old) (Socket new) input.Broken h s k =
+      carried new (record x { protocol = Socket new; stage = Over }) input.Broken s.2 refl refl
+      (subst (λ (l : List ℕ). IsCarried false (from ++ read_on x.wire reads) (written ++ (x.out ++ l)) requests (messages ++ []) replies new.lane) (sym (ap (λ (l : socket.Lane). l.out.bytes) h.is_input.1))
       (subst (λ (l : List (List ℕ)). IsCarried false (from ++ read_on x.wire reads) (written ++ (x.out ++ old.lane.out.bytes)) requests l replies new.lane) (sym (append-nil messages))
-      (carries-lost from (written ++ (x.out ++ old.lane.out.bytes)) requests messages replies old.lane new.lane (read_on x.wire reads) h.is_news.1 k)))
-  go (Socket old) (Socket new) news.Gone h s k =
-      carried new (record x { talk = talk_after_shut (Socket new); stage = Closing }) news.Gone s.2 refl refl
-      (unpadded (messages ++ []) (λ m. IsBorne (from ++ read_on x.wire reads) written requests m replies (record x { talk = talk_after_shut (Socket new); stage = Closing }))
+      (carries-lost from (written ++ (x.out ++ old.lane.out.bytes)) requests messages replies old.lane new.lane (read_on x.wire reads) h.is_input.1 k)))
+  go (Socket old) (Socket new) input.Gone h s k =
+      carried new (record x { protocol = protocol_after_shut (Socket new); stage = Closing }) input.Gone s.2 refl refl
+      (unpadded (messages ++ []) (λ m. IsBorne (from ++ read_on x.wire reads) written requests m replies (record x { protocol = protocol_after_shut (Socket new); stage = Closing }))
       (carries-on true false (from ++ read_on x.wire reads) (written ++ (x.out ++ (sending.after_shut new.lane).out.bytes)) requests ((messages ++ []) ++ []) replies (sending.after_shut new.lane) (sending.after_shut new.lane) (λ e. absurd (cc e)) refl
       (carries-shut true (from ++ read_on x.wire reads) written x.out requests (messages ++ []) replies new.lane
-      (got old new h.got read.Gone [] (gives-bytes x.wire _ reads h.got h.read) refl h.is_news.0 k))))
+      (got old new h.got read.Gone [] (gives-bytes x.wire _ reads h.got h.read) refl h.is_input.0 k))))
   go (Http old) (Socket new) what h s k = absurd h
   go (Socket old) (Http new) what h s k = absurd h
 
@@ -355,7 +355,7 @@ loses-borne None before after heard from written requests messages replies h b =
   go : (s : Stage) → LosesAt s before after heard → IsBorne from written requests messages replies after
   go Live h = becomes from written requests messages replies after before h.1 b
   go Lost h = becomes from written requests messages replies after (record before { stage = Over }) h.1
-      (borne-less (is_live before.stage) false from (written ++ waits before) requests messages replies before.talk (λ e. absurd (cc e)) b)
+      (borne-less (is_live before.stage) false from (written ++ waits before) requests messages replies before.protocol (λ e. absurd (cc e)) b)
   go Closing h = becomes from written requests messages replies after before h.1 b
   go Over h = becomes from written requests messages replies after before h.1 b
 
@@ -373,27 +373,27 @@ glides-bear x y mine more_requests more_messages more_replies g r e f k from wri
 
 live-bears : (now : ℕ) (x y : Lane) (mine : List Answer) (own : Option Event) → x.stage ≡ Live → TurnsLive now x y mine own → Bears x y mine (requests_in x.wire own) (messages_in x.wire own) (refusals_in x.wire own)
 live-bears now x y mine own live h from written requests messages replies b =
-    let mid = record x { talk = h.talk } in
+    let mid = record x { protocol = h.protocol } in
     let w = x.wire in
-    let kept = settles-keeps now mid h.settled h.shut h.news h.told h.settles in
-    let silent = settles-silent now mid h.settled h.shut h.news h.told h.settles in
+    let kept = settles-keeps now mid h.settled h.shut h.input h.told h.settles in
+    let silent = settles-silent now mid h.settled h.shut h.input h.told h.settles in
     let quiet = says-silent h.settled h.said h.written h.says in
     let reads : read_on w mine ≡ read_on w h.read = live-reads w mine h.read h.shut h.written h.all (silent.0 w) (quiet.0 w) in
     let writes : written_on w mine ≡ written_on h.settled.wire h.written =
-    live-written w mine h.read h.shut h.written h.all (hears-unwritten w w x.talk h.talk h.read h.news h.hears) (settles-unwritten w now mid h.settled h.shut h.news h.told h.settles)
+    live-written w mine h.read h.shut h.written h.all (hears-unwritten w w x.protocol h.protocol h.read h.input h.hears) (settles-unwritten w now mid h.settled h.shut h.input h.told h.settles)
     ∙ ap (λ n. written_on n h.written) (sym kept.0.0) in
-    let asked : requests_in w own ≡ requests_of h.news = loses-requests w h.told h.said y own h.loses ∙ settles-requests now mid h.settled h.shut h.news h.told h.settles in
-    let told : messages_in w own ≡ messages_of h.news = loses-messages w h.told h.said y own h.loses ∙ settles-messages now mid h.settled h.shut h.news h.told h.settles in
-    let refused : refusals_in w own ≡ refusals_of h.news = loses-refusals w h.told h.said y own h.loses ∙ settles-refusals now mid h.settled h.shut h.news h.told h.settles in
+    let asked : requests_in w own ≡ requests_of h.input = loses-requests w h.told h.said y own h.loses ∙ settles-requests now mid h.settled h.shut h.input h.told h.settles in
+    let told : messages_in w own ≡ messages_of h.input = loses-messages w h.told h.said y own h.loses ∙ settles-messages now mid h.settled h.shut h.input h.told h.settles in
+    let refused : refusals_in w own ≡ refusals_of h.input = loses-refusals w h.told h.said y own h.loses ∙ settles-refusals now mid h.settled h.shut h.input h.told h.settles in
     let bytes = from ++ read_on w h.read in
-    let settled = settles-borne now x h.talk h.settled h.read h.shut h.news h.told from written requests messages replies live h.hears h.settles b in
-    let said = says-glide h.settled h.said h.written h.says bytes written (requests ++ requests_of h.news) (messages ++ messages_of h.news) (replies ++ refusals_of h.news) settled in
-    let lost = loses-borne h.told h.said y own bytes (written ++ written_on h.settled.wire h.written) (requests ++ requests_of h.news) (messages ++ messages_of h.news) (replies ++ refusals_of h.news) h.loses said in
+    let settled = settles-borne now x h.protocol h.settled h.read h.shut h.input h.told from written requests messages replies live h.hears h.settles b in
+    let said = says-glide h.settled h.said h.written h.says bytes written (requests ++ requests_of h.input) (messages ++ messages_of h.input) (replies ++ refusals_of h.input) settled in
+    let lost = loses-borne h.told h.said y own bytes (written ++ written_on h.settled.wire h.written) (requests ++ requests_of h.input) (messages ++ messages_of h.input) (replies ++ refusals_of h.input) h.loses said in
     subst (λ (l : List ℕ). IsBorne (from ++ l) (written ++ written_on w mine) (requests ++ requests_in w own) (messages ++ messages_in w own) (replies ++ refusals_in w own) y) (sym reads)
     (subst (λ (l : List ℕ). IsBorne bytes (written ++ l) (requests ++ requests_in w own) (messages ++ messages_in w own) (replies ++ refusals_in w own) y) (sym writes)
     (subst (λ (l : List Request). IsBorne bytes (written ++ written_on h.settled.wire h.written) (requests ++ l) (messages ++ messages_in w own) (replies ++ refusals_in w own) y) (sym asked)
-    (subst (λ (l : List (List ℕ)). IsBorne bytes (written ++ written_on h.settled.wire h.written) (requests ++ requests_of h.news) (messages ++ l) (replies ++ refusals_in w own) y) (sym told)
-    (subst (λ (l : List Reply). IsBorne bytes (written ++ written_on h.settled.wire h.written) (requests ++ requests_of h.news) (messages ++ messages_of h.news) (replies ++ l) y) (sym refused) lost))))
+    (subst (λ (l : List (List ℕ)). IsBorne bytes (written ++ written_on h.settled.wire h.written) (requests ++ requests_of h.input) (messages ++ l) (replies ++ refusals_in w own) y) (sym told)
+    (subst (λ (l : List Reply). IsBorne bytes (written ++ written_on h.settled.wire h.written) (requests ++ requests_of h.input) (messages ++ messages_of h.input) (replies ++ l) y) (sym refused) lost))))
 
 listens-bear : (now : ℕ) (x y : Lane) (mine : List Answer) (own : Option Event) → Listens now x y mine own → Bears x y mine (requests_in x.wire own) (messages_in x.wire own) (refusals_in x.wire own)
 listens-bear now x y mine own h = go x.stage refl h where
@@ -405,7 +405,7 @@ listens-bear now x y mine own h = go x.stage refl h where
 
   go : (s : Stage) → x.stage ≡ s → TurnsAt s now x y mine own → Bears x y mine (requests_in x.wire own) (messages_in x.wire own) (refusals_in x.wire own)
   go Live e h = live-bears now x y mine own e h
-  go Lost e h = quiet (stage-glides x y mine (ap (λ l. written_on x.wire l) h.0) (ap waits h.2) (ap (λ (l : Lane). l.talk) h.2) (λ k. absurd (cc (sym (ap (λ (l : Lane). is_live l.stage) h.2) ∙ k))))
+  go Lost e h = quiet (stage-glides x y mine (ap (λ l. written_on x.wire l) h.0) (ap waits h.2) (ap (λ (l : Lane). l.protocol) h.2) (λ k. absurd (cc (sym (ap (λ (l : Lane). is_live l.stage) h.2) ∙ k))))
       (ap (λ l. read_on x.wire l) h.0) (nothing (Some (event.Lost x.wire)) h.1 (refl, refl, refl))
   go Closing e h = quiet (says-glide x y mine h.1) ((says-silent x y mine h.1).0 x.wire) (nothing None h.0 (refl, refl, refl))
   go Over e h = quiet (same-glides x y mine h.0 h.2) (ap (λ l. read_on x.wire l) h.0) (nothing None h.1 (refl, refl, refl))
@@ -423,17 +423,17 @@ heeds-bear now what x y mine (inr h) =
 -- ---- saying
 
 -- a lane of requests that upgrades carries a WebSocket that was fed with what it held
-upgraded : (x : Lane) (asking : AskingState) (reply : Reply) (from written : List ℕ) (requests : List Request) (messages : List (List ℕ)) (replies : List Reply) → Asks from requests asking.lane.held →
+upgraded : (x : Lane) (http_state : HttpStateView) (reply : Reply) (from written : List ℕ) (requests : List Request) (messages : List (List ℕ)) (replies : List Reply) → Asks from requests http_state.lane.held →
     written ++ (x.out ++ []) ≡ texts_of replies → messages ≡ [] →
-    IsCarried (is_live x.stage) from (written ++ ((x.out ++ reply_text reply) ++ [])) requests messages (replies ++ reply ∷ []) (record (socket.fresh_lane side.Server) { unread = asking.lane.held })
-upgraded x asking reply from written requests messages replies asks wrote none = record {
-  calls = socket_calls.Feed asking.lane.held ∷ [];
-  keeps = record (socket.fresh_lane side.Server) { unread = asking.lane.held };
-  runs = (record (socket.fresh_lane side.Server) { unread = asking.lane.held }, refl, refl);
+    IsCarried (is_live x.stage) from (written ++ ((x.out ++ reply_text reply) ++ [])) requests messages (replies ++ reply ∷ []) (record (socket.fresh_lane side.Server) { unread = http_state.lane.held })
+upgraded x http_state reply from written requests messages replies asks wrote none = record {
+  calls = socket_calls.Feed http_state.lane.held ∷ [];
+  keeps = record (socket.fresh_lane side.Server) { unread = http_state.lane.held };
+  runs = (record (socket.fresh_lane side.Server) { unread = http_state.lane.held }, refl, refl);
   undropped = refl;
   same = refl;
   front = from;
-  rest = asking.lane.held;
+  rest = http_state.lane.held;
   more = [];
   lost = [];
   parts = sym (append-nil from);
@@ -446,24 +446,24 @@ upgraded x asking reply from written requests messages replies asks wrote none =
 
 -- a lane that owes a reply says it
 reply-borne : (now : ℕ) (reply : Reply) (x : Lane) (from written : List ℕ) (requests : List Request) (messages : List (List ℕ)) (replies : List Reply) → owes x ≡ true →
-    HeardIn from requests x.talk → Voiced (written ++ waits x) replies x.talk → IsBorne from written requests messages replies x → IsBorne from written requests messages (replies ++ reply ∷ []) (after_reply now reply x)
-reply-borne now reply x from written requests messages replies owed asks wrote b = go x.talk refl owed asks wrote b where
-  http : (asking : AskingState) → x.talk ≡ Http asking → Asks from requests asking.lane.held → written ++ (x.out ++ []) ≡ texts_of replies → messages ≡ [] → (b : Bool) →
-      IsBorne from written requests messages (replies ++ reply ∷ []) (if b then record x { talk = new_socket (rest_of x.talk); out = x.out ++ reply_text reply }
-      else record x { talk = talk_after_reply x.talk; out = x.out ++ reply_text reply; since = now })
-  http asking e asks wrote none true =
-      subst (λ (t : Talk). IsBorne from written requests messages (replies ++ reply ∷ []) (record x { talk = new_socket (rest_of t); out = x.out ++ reply_text reply })) (sym e)
-      (upgraded x asking reply from written requests messages replies asks wrote none)
-  http asking e asks wrote none false =
-      subst (λ (t : Talk). IsBorne from written requests messages (replies ++ reply ∷ []) (record x { talk = talk_after_reply t; out = x.out ++ reply_text reply; since = now })) (sym e) none
+    HeardIn from requests x.protocol → Voiced (written ++ waits x) replies x.protocol → IsBorne from written requests messages replies x → IsBorne from written requests messages (replies ++ reply ∷ []) (after_reply now reply x)
+reply-borne now reply x from written requests messages replies owed asks wrote b = go x.protocol refl owed asks wrote b where
+  http : (http_state : HttpStateView) → x.protocol ≡ Http http_state → Asks from requests http_state.lane.held → written ++ (x.out ++ []) ≡ texts_of replies → messages ≡ [] → (b : Bool) →
+      IsBorne from written requests messages (replies ++ reply ∷ []) (if b then record x { protocol = new_socket (rest_of x.protocol); out = x.out ++ reply_text reply }
+      else record x { protocol = protocol_after_reply x.protocol; out = x.out ++ reply_text reply; since = now })
+  http http_state e asks wrote none true =
+      subst (λ (t : Protocol). IsBorne from written requests messages (replies ++ reply ∷ []) (record x { protocol = new_socket (rest_of t); out = x.out ++ reply_text reply })) (sym e)
+      (upgraded x http_state reply from written requests messages replies asks wrote none)
+  http http_state e asks wrote none false =
+      subst (λ (t : Protocol). IsBorne from written requests messages (replies ++ reply ∷ []) (record x { protocol = protocol_after_reply t; out = x.out ++ reply_text reply; since = now })) (sym e) none
 
-  go : (talk : Talk) → x.talk ≡ talk → (is_live x.stage && is_busy talk) ≡ true → HeardIn from requests talk → Voiced (written ++ (x.out ++ frames_of talk)) replies talk →
-      Borne (is_live x.stage) from (written ++ (x.out ++ frames_of talk)) requests messages replies talk → IsBorne from written requests messages (replies ++ reply ∷ []) (after_reply now reply x)
-  go (Http asking) e owed asks wrote b = http asking e asks wrote b (reply.status == SWITCHING)
-  go (Socket talking) e owed asks wrote b = absurd (cc (sym (dead x.stage) ∙ owed))
+  go : (protocol : Protocol) → x.protocol ≡ protocol → (is_live x.stage && is_busy protocol) ≡ true → HeardIn from requests protocol → Voiced (written ++ (x.out ++ frames_of protocol)) replies protocol →
+      Borne (is_live x.stage) from (written ++ (x.out ++ frames_of protocol)) requests messages replies protocol → IsBorne from written requests messages (replies ++ reply ∷ []) (after_reply now reply x)
+  go (Http http_state) e owed asks wrote b = http http_state e asks wrote b (reply.status == SWITCHING)
+  go (Socket websocket_state) e owed asks wrote b = absurd (cc (sym (dead x.stage) ∙ owed))
 
 replies-borne : (now : ℕ) (reply : Reply) (x y : Lane) (mine : List Answer) (from written : List ℕ) (requests : List Request) (messages : List (List ℕ)) (replies : List Reply) → Replies now reply x y mine →
-    HeardIn from requests x.talk → Voiced (written ++ waits x) replies x.talk → IsBorne from written requests messages replies x →
+    HeardIn from requests x.protocol → Voiced (written ++ waits x) replies x.protocol → IsBorne from written requests messages replies x →
     IsBorne from (written ++ written_on x.wire mine) requests messages (replies ++ (if owes x then reply ∷ [] else [])) y
 replies-borne now reply x y mine from written requests messages replies h asks wrote b = go (owes x) refl h where
   go : (c : Bool) → owes x ≡ c → Chooses c (SaysMore (after_reply now reply x) y mine) ((mine ≡ []) × (y ≡ x)) → IsBorne from (written ++ written_on x.wire mine) requests messages (replies ++ (if c then reply ∷ [] else [])) y
@@ -473,39 +473,39 @@ replies-borne now reply x y mine from written requests messages replies h asks w
   go false e h =
       subst (λ (l : List Reply). IsBorne from (written ++ written_on x.wire mine) requests messages l y) (sym (append-nil replies)) (same-glides x y mine h.0 h.1 from written requests messages replies b)
 
-put-borne : (live : Bool) (talk : Talk) (bytes : List ℕ) (text : Bool) (x mid : Lane) (is_put : Bool) → x.talk ≡ talk → PutsAt live talk bytes text x mid is_put →
+put-borne : (live : Bool) (protocol : Protocol) (bytes : List ℕ) (text : Bool) (x mid : Lane) (is_put : Bool) → x.protocol ≡ protocol → PutsAt live protocol bytes text x mid is_put →
     (from written : List ℕ) (requests : List Request) (messages : List (List ℕ)) (replies : List Reply) → IsBorne from written requests messages replies x → IsBorne from written requests messages replies mid
-put-borne true (Socket talking) bytes text x mid is_put e h from written requests messages replies b =
-    becomes from written requests messages replies mid (record x { talk = Socket (record talking { lane = h.0 }) }) h.2
+put-borne true (Socket websocket_state) bytes text x mid is_put e h from written requests messages replies b =
+    becomes from written requests messages replies mid (record x { protocol = Socket (record websocket_state { lane = h.0 }) }) h.2
     (unpadded messages (λ m. IsCarried (is_live x.stage) from (written ++ (x.out ++ h.0.out.bytes)) requests m replies h.0)
-    (carries-said (is_live x.stage) from written x.out requests messages replies talking.lane h.0 bytes text is_put h.1
-    (subst (λ (t : Talk). Borne (is_live x.stage) from (written ++ (x.out ++ frames_of t)) requests messages replies t) e b)))
-put-borne true (Http asking) bytes text x mid is_put e h from written requests messages replies b = becomes from written requests messages replies mid x h.1 b
-put-borne false talk bytes text x mid is_put e h from written requests messages replies b = becomes from written requests messages replies mid x h.1 b
+    (carries-said (is_live x.stage) from written x.out requests messages replies websocket_state.lane h.0 bytes text is_put h.1
+    (subst (λ (t : Protocol). Borne (is_live x.stage) from (written ++ (x.out ++ frames_of t)) requests messages replies t) e b)))
+put-borne true (Http http_state) bytes text x mid is_put e h from written requests messages replies b = becomes from written requests messages replies mid x h.1 b
+put-borne false protocol bytes text x mid is_put e h from written requests messages replies b = becomes from written requests messages replies mid x h.1 b
 
 sends-glide : (bytes : List ℕ) (text : Bool) (x y : Lane) (mine : List Answer) → Sends bytes text x y mine → Glides x y mine
 sends-glide bytes text x y mine h from written requests messages replies b = go h.0 h.1 h.2 h.3 where
   go : (mid : Lane) (c : Bool) → Puts bytes text x mid c → Chooses c (SaysMore mid y mine) ((mine ≡ []) × (y ≡ mid)) → IsBorne from (written ++ written_on x.wire mine) requests messages replies y
   go mid c p s =
-      let put = put-borne (is_live x.stage) x.talk bytes text x mid c refl p from written requests messages replies b in
-      subst (λ n. IsBorne from (written ++ written_on n mine) requests messages replies y) (put-wire (is_live x.stage) x.talk bytes text x mid c p) (rest c s put) where
+      let put = put-borne (is_live x.stage) x.protocol bytes text x mid c refl p from written requests messages replies b in
+      subst (λ n. IsBorne from (written ++ written_on n mine) requests messages replies y) (put-wire (is_live x.stage) x.protocol bytes text x mid c p) (rest c s put) where
         rest : (c : Bool) → Chooses c (SaysMore mid y mine) ((mine ≡ []) × (y ≡ mid)) → IsBorne from written requests messages replies mid → IsBorne from (written ++ written_on mid.wire mine) requests messages replies y
         rest true s put = more-glide mid y mine s from written requests messages replies put
         rest false s put = same-glides mid y mine s.0 s.1 from written requests messages replies put
 
-shut-borne : (x : Lane) (talk : Talk) (from written : List ℕ) (requests : List Request) (messages : List (List ℕ)) (replies : List Reply) → Borne (is_live x.stage) from (written ++ (x.out ++ frames_of talk)) requests messages replies talk →
-    Borne false from (written ++ (x.out ++ frames_of (talk_after_shut talk))) requests messages replies (talk_after_shut talk)
-shut-borne x (Http asking) from written requests messages replies b = b
-shut-borne x (Socket talking) from written requests messages replies b =
-    carries-on (is_live x.stage) false from (written ++ (x.out ++ (sending.after_shut talking.lane).out.bytes)) requests messages replies (sending.after_shut talking.lane) (sending.after_shut talking.lane) (λ e. absurd (cc e)) refl
-    (unpadded messages (λ m. IsCarried (is_live x.stage) from (written ++ (x.out ++ (sending.after_shut talking.lane).out.bytes)) requests m replies (sending.after_shut talking.lane))
-    (carries-shut (is_live x.stage) from written x.out requests messages replies talking.lane b))
+shut-borne : (x : Lane) (protocol : Protocol) (from written : List ℕ) (requests : List Request) (messages : List (List ℕ)) (replies : List Reply) → Borne (is_live x.stage) from (written ++ (x.out ++ frames_of protocol)) requests messages replies protocol →
+    Borne false from (written ++ (x.out ++ frames_of (protocol_after_shut protocol))) requests messages replies (protocol_after_shut protocol)
+shut-borne x (Http http_state) from written requests messages replies b = b
+shut-borne x (Socket websocket_state) from written requests messages replies b =
+    carries-on (is_live x.stage) false from (written ++ (x.out ++ (sending.after_shut websocket_state.lane).out.bytes)) requests messages replies (sending.after_shut websocket_state.lane) (sending.after_shut websocket_state.lane) (λ e. absurd (cc e)) refl
+    (unpadded messages (λ m. IsCarried (is_live x.stage) from (written ++ (x.out ++ (sending.after_shut websocket_state.lane).out.bytes)) requests m replies (sending.after_shut websocket_state.lane))
+    (carries-shut (is_live x.stage) from written x.out requests messages replies websocket_state.lane b))
 
 shuts-glide : (x y : Lane) (mine : List Answer) → Shuts x y mine → Glides x y mine
 shuts-glide x y mine h = go (is_live x.stage) h where
-  go : (b : Bool) → Chooses b (WritesOut (record x { talk = talk_after_shut x.talk; stage = Closing }) y mine) ((mine ≡ []) × (y ≡ x)) → Glides x y mine
+  go : (b : Bool) → Chooses b (WritesOut (record x { protocol = protocol_after_shut x.protocol; stage = Closing }) y mine) ((mine ≡ []) × (y ≡ x)) → Glides x y mine
   go true h = λ from written requests messages replies b.
-      writes-glide (record x { talk = talk_after_shut x.talk; stage = Closing }) y mine h from written requests messages replies (shut-borne x x.talk from written requests messages replies b)
+      writes-glide (record x { protocol = protocol_after_shut x.protocol; stage = Closing }) y mine h from written requests messages replies (shut-borne x x.protocol from written requests messages replies b)
   go false h = same-glides x y mine h.0 h.1
 
 -- ---- sessions
@@ -526,7 +526,7 @@ BearsAt x y mine from written requests messages replies more_requests more_messa
     IsBorne (from ++ read_on x.wire mine) (written ++ written_on x.wire mine) (requests ++ more_requests) (messages ++ more_messages) (replies ++ more_replies) y
 
 -- a reply is the only thing that needs to know more of the lane
-moves-bear : (call : Call) (x y : Lane) (from written : List ℕ) (requests : List Request) (messages : List (List ℕ)) (replies : List Reply) → Moves call x y → HeardIn from requests x.talk → Voiced (written ++ waits x) replies x.talk →
+moves-bear : (call : Call) (x y : Lane) (from written : List ℕ) (requests : List Request) (messages : List (List ℕ)) (replies : List Reply) → Moves call x y → HeardIn from requests x.protocol → Voiced (written ++ waits x) replies x.protocol →
     IsBorne from written requests messages replies x → BearsAt x y (share x.wire (answers_in call)) from written requests messages replies (requests_by x.wire call) (messages_by x.wire call) (replies_by x.wire (owes x) call)
 moves-bear (session.heard what answers) x y from written requests messages replies h asks wrote b = heeds-bear what.now what.event x y (share x.wire answers) h from written requests messages replies b
 moves-bear (session.replied at reply answers) x y from written requests messages replies h asks wrote b =
@@ -580,10 +580,10 @@ step-whole call calls x y k h = (
 new-whole : (calls : List Call) (now wire : ℕ) → IsUntouched wire calls → IsWhole calls (new_lane now wire)
 new-whole calls now wire h = (new-asked calls now wire h, new-said calls now wire h, h.messages)
 
-carries-of : (calls : List Call) (lane : Lane) (talk : Talk) → Borne (is_live lane.stage) (read_on lane.wire (answers_of calls)) (written_on lane.wire (answers_of calls) ++ waits lane) (requests_on lane.wire calls) (messages_on lane.wire calls) (replies_on lane.wire calls) talk → CarriesSocket calls lane talk
-carries-of calls lane (Http asking) b = tt
-carries-of calls lane (Socket talking) b = b
+carries-of : (calls : List Call) (lane : Lane) (protocol : Protocol) → Borne (is_live lane.stage) (read_on lane.wire (answers_of calls)) (written_on lane.wire (answers_of calls) ++ waits lane) (requests_on lane.wire calls) (messages_on lane.wire calls) (replies_on lane.wire calls) protocol → CarriesSocket calls lane protocol
+carries-of calls lane (Http http_state) b = tt
+carries-of calls lane (Socket websocket_state) b = b
 
 pub sockets-are-carried : SocketsAreCarried
 sockets-are-carried calls bound now h lane has =
-    carries-of calls lane lane.talk (each-lane IsWhole new-whole step-whole calls bound now h lane (has-of now.lanes lane has)).2
+    carries-of calls lane lane.protocol (each-lane IsWhole new-whole step-whole calls bound now h lane (has-of now.lanes lane has)).2

@@ -2,12 +2,12 @@
 use Rattle.std.proofs.Common.{◌≡◌, ◌<◌, ◌≤◌, ◌+◌, ◌^◌, ◌++◌, ◌∷◌, [], ℕ, zero, suc, Bool, true, false, not, cond, ◌||◌, List, refl, sym, ap, ◌∙◌, subst, arith, length, set, get_or, ltb}
 use Rattle.std.specs.Int.{from_bool}
 use Rattle.std.specs.List.{list_any}
-use Rattle.hw_net.specs.declared.talk.Stage.{Stage}
-use Rattle.hw_net.specs.declared.talk.Stage.TheVariants.{Live, Lost, Closing, Over}
+use Rattle.hw_net.specs.declared.protocol.Stage.{Stage}
+use Rattle.hw_net.specs.declared.protocol.Stage.TheVariants.{Live, Lost, Closing, Over}
 use Rattle.hw_net.specs.declared.tally.Tally.{Tally}
 use Rattle.hw_net.specs.Door.{kept}
 use Rattle.hw_net.specs.Lane.{Lane, waits, is_over, is_awake, is_awake_by}
-use Rattle.hw_net.specs.Tally.{Has, HasRoom, is_lagging, is_lagging_by, with_lane, tally_of}
+use Rattle.hw_net.specs.Tally.{Has, HasRoom, has_unwritten, has_unwritten_by, with_lane, tally_of}
 
 at-most-one : (b : Bool) → from_bool b ≤ 1
 at-most-one true = omega arith
@@ -18,25 +18,25 @@ pub at-counted : (lanes : List Lane) (place : ℕ) (lane : Lane) → place < len
 at-counted [] place lane lt same = absurd (omega (arith, lt))
 at-counted (first ∷ lanes) zero lane lt same =
     subst (λ (l : Lane). Has l (with_lane first (tally_of lanes))) same
-    (record { over = omega arith; awake = omega arith; lagging = omega arith })
+    (record { over = omega arith; awake = omega arith; writers = omega arith })
 at-counted (first ∷ lanes) (suc place) lane lt same =
     let h = at-counted lanes place lane (omega (arith, lt)) same in
-    record { over = omega (arith, h.over); awake = omega (arith, h.awake); lagging = omega (arith, h.lagging) }
+    record { over = omega (arith, h.over); awake = omega (arith, h.awake); writers = omega (arith, h.writers) }
 
 -- no kind has more than there are lanes
 pub record IsWithin (tally : Tally) (count : ℕ) : Type 0 where
   pub over : tally.over ≤ count
   pub awake : tally.awake ≤ count
-  pub lagging : tally.lagging ≤ count
+  pub writers : tally.writers ≤ count
 
 pub all-within : (lanes : List Lane) → IsWithin (tally_of lanes) (length lanes)
-all-within [] = record { over = omega arith; awake = omega arith; lagging = omega arith }
+all-within [] = record { over = omega arith; awake = omega arith; writers = omega arith }
 all-within (lane ∷ lanes) =
     let h = all-within lanes in
     record {
       over = omega (arith, h.over, at-most-one (is_over lane.stage));
       awake = omega (arith, h.awake, at-most-one (is_awake lane));
-      lagging = omega (arith, h.lagging, at-most-one (is_lagging lane));
+      writers = omega (arith, h.writers, at-most-one (has_unwritten lane));
     }
 
 -- there is room for one lane more, as all lanes stand in memory
@@ -44,7 +44,7 @@ pub room-for-one : (lanes : List Lane) (tally : Tally) → tally ≡ tally_of la
 room-for-one lanes tally is lt =
     let h = all-within lanes in
     subst (λ (t : Tally). HasRoom t) (sym is)
-    (record { over = omega (arith, h.over, lt); awake = omega (arith, h.awake, lt); lagging = omega (arith, h.lagging, lt) })
+    (record { over = omega (arith, h.over, lt); awake = omega (arith, h.awake, lt); writers = omega (arith, h.writers, lt) })
 
 -- so there is after a lane was taken out
 pub room-again : (lanes : List Lane) (lane : Lane) (tally rest : Tally) → tally ≡ tally_of lanes → tally ≡ with_lane lane rest → length lanes + 1 < 2 ^ 64 → HasRoom rest
@@ -54,15 +54,15 @@ room-again lanes lane tally rest is out lt =
     record {
       over = omega (arith, h.over, lt, ap (λ (t : Tally). t.over) same);
       awake = omega (arith, h.awake, lt, ap (λ (t : Tally). t.awake) same);
-      lagging = omega (arith, h.lagging, lt, ap (λ (t : Tally). t.lagging) same);
+      writers = omega (arith, h.writers, lt, ap (λ (t : Tally). t.writers) same);
     }
 
 abbrev make : ℕ → ℕ → ℕ → Tally
-make over awake lagging = record { over = over; awake = awake; lagging = lagging }
+make over awake writers = record { over = over; awake = awake; writers = writers }
 
 -- two tallies that have as many of each kind are one
-tally-same : (a b : Tally) → a.over ≡ b.over → a.awake ≡ b.awake → a.lagging ≡ b.lagging → a ≡ b
-tally-same a b o w l = ap (λ n. make n a.awake a.lagging) o ∙ ap (λ n. make b.over n a.lagging) w ∙ ap (λ n. make b.over b.awake n) l
+tally-same : (a b : Tally) → a.over ≡ b.over → a.awake ≡ b.awake → a.writers ≡ b.writers → a ≡ b
+tally-same a b o w l = ap (λ n. make n a.awake a.writers) o ∙ ap (λ n. make b.over n a.writers) w ∙ ap (λ n. make b.over b.awake n) l
 
 -- one lane is changed at its place
 swapped : (lanes : List Lane) (place : ℕ) (lane next : Lane) → place < length lanes → get_or lanes place lane ≡ lane → with_lane lane (tally_of (set lanes place next)) ≡ with_lane next (tally_of lanes)
@@ -72,7 +72,7 @@ swapped (first ∷ lanes) zero lane next lt same =
     (tally-same _ _ (omega arith) (omega arith) (omega arith))
 swapped (first ∷ lanes) (suc place) lane next lt same =
     let h = swapped lanes place lane next (omega (arith, lt)) same in
-    tally-same _ _ (omega (arith, ap (λ (t : Tally). t.over) h)) (omega (arith, ap (λ (t : Tally). t.awake) h)) (omega (arith, ap (λ (t : Tally). t.lagging) h))
+    tally-same _ _ (omega (arith, ap (λ (t : Tally). t.over) h)) (omega (arith, ap (λ (t : Tally). t.awake) h)) (omega (arith, ap (λ (t : Tally). t.writers) h))
 
 -- a lane is taken out, changed and put in again
 pub put-again : (lanes : List Lane) (place : ℕ) (lane next : Lane) (tally rest after : Tally) → place < length lanes → get_or lanes place lane ≡ lane → tally ≡ tally_of lanes → tally ≡ with_lane lane rest →
@@ -83,14 +83,14 @@ put-again lanes place lane next tally rest after lt same is out put =
     put ∙ tally-same (with_lane next rest) (tally_of (set lanes place next))
     (omega (arith, ap (λ (t : Tally). t.over) h, ap (λ (t : Tally). t.over) e))
     (omega (arith, ap (λ (t : Tally). t.awake) h, ap (λ (t : Tally). t.awake) e))
-    (omega (arith, ap (λ (t : Tally). t.lagging) h, ap (λ (t : Tally). t.lagging) e))
+    (omega (arith, ap (λ (t : Tally). t.writers) h, ap (λ (t : Tally). t.writers) e))
 
 -- a lane comes after the others
 pub one-more : (lanes : List Lane) (lane : Lane) → tally_of (lanes ++ lane ∷ []) ≡ with_lane lane (tally_of lanes)
 one-more [] lane = refl
 one-more (first ∷ lanes) lane =
     let h = one-more lanes lane in
-    tally-same _ _ (omega (arith, ap (λ (t : Tally). t.over) h)) (omega (arith, ap (λ (t : Tally). t.awake) h)) (omega (arith, ap (λ (t : Tally). t.lagging) h))
+    tally-same _ _ (omega (arith, ap (λ (t : Tally). t.over) h)) (omega (arith, ap (λ (t : Tally). t.awake) h)) (omega (arith, ap (λ (t : Tally). t.writers) h))
 
 -- ---- lanes that are over
 
@@ -110,9 +110,9 @@ pub none-goes : (lanes : List Lane) (tally : Tally) → tally ≡ tally_of lanes
 none-goes lanes tally is e = none-over lanes (subst (λ (t : Tally). t.over ≤ 0) is (grind (arith, e)))
 
 -- a lane that is over is of no other kind
-over-only : (lane : Lane) → is_over lane.stage ≡ true → (is_awake lane ≡ false) × (is_lagging lane ≡ false)
+over-only : (lane : Lane) → is_over lane.stage ≡ true → (is_awake lane ≡ false) × (has_unwritten lane ≡ false)
 over-only lane e = go lane.stage e where
-  go : (s : Stage) → is_over s ≡ true → (is_awake_by s lane.talk ≡ false) × (is_lagging_by s (length (waits lane)) ≡ false)
+  go : (s : Stage) → is_over s ≡ true → (is_awake_by s lane.protocol ≡ false) × (has_unwritten_by s (length (waits lane)) ≡ false)
   go Live e = cc e
   go Lost e = cc e
   go Closing e = cc e
@@ -128,11 +128,11 @@ over-go (lane ∷ lanes) = go (is_over lane.stage) refl (over-go lanes) where
       let only = over-only lane e in
       tally-same _ _ (ap (λ (t : Tally). t.over) k)
       (omega (arith, ap (λ (t : Tally). t.awake) k, ap from_bool only.0))
-      (omega (arith, ap (λ (t : Tally). t.lagging) k, ap from_bool only.1))
+      (omega (arith, ap (λ (t : Tally). t.writers) k, ap from_bool only.1))
   go false e k =
       tally-same _ _ (omega (arith, ap (λ (t : Tally). t.over) k, ap from_bool e))
       (omega (arith, ap (λ (t : Tally). t.awake) k))
-      (omega (arith, ap (λ (t : Tally). t.lagging) k))
+      (omega (arith, ap (λ (t : Tally). t.writers) k))
 
 -- ---- lanes of which something may be heard at once
 

@@ -1,25 +1,25 @@
 -- In a session what was written on a lane's wire, and then what waits, is what was said there.
 use Rattle.std.proofs.Common.{◌≡◌, ◌==◌, ◌&&◌, ◌++◌, ◌∷◌, [], ℕ, Bool, true, false, if◌then◌else◌, List, Option, None, Some, refl, sym, ap, ◌∙◌, subst, inl, inr, append-nil, append_assoc, length}
 use Rattle.std.proofs.lemmas.Grind.{flat_map-append}
-use Rattle.hd_lanes.specs.declared.http.Reply.{Reply}
+use Rattle.hw_lanes.specs.declared.http.Reply.{Reply}
 use Rattle.hh_http.specs.Texts.{reply_text}
 use Rattle.hw_door.specs.declared.heard.Event.{Event}
 use Rattle.hw_door.specs.Traffic.{Answer, bytes_in, not_yet, ended, read_failed, bytes_out, write_failed, was_shut, written_on}
 use Rattle.hw_socket.specs.Lane as socket
 use Rattle.hw_socket.specs.declared.vocabulary.SocketRead.{SocketRead}
 use Rattle.hw_net.specs.declared.limits.TheConstants.{SWITCHING}
-use Rattle.hw_net.specs.declared.news.News.{News}
-use Rattle.hw_net.specs.declared.news.News.TheVariants as news
-use Rattle.hw_net.specs.declared.talk.Talk.{Talk}
-use Rattle.hw_net.specs.declared.talk.Talk.TheVariants.{Http, Socket}
-use Rattle.hw_net.specs.declared.talk.Stage.{Stage}
-use Rattle.hw_net.specs.declared.talk.Stage.TheVariants.{Live, Lost, Closing, Over}
+use Rattle.hw_net.specs.declared.input.Input.{Input}
+use Rattle.hw_net.specs.declared.input.Input.TheVariants as input
+use Rattle.hw_net.specs.declared.protocol.Protocol.{Protocol}
+use Rattle.hw_net.specs.declared.protocol.Protocol.TheVariants.{Http, Socket}
+use Rattle.hw_net.specs.declared.protocol.Stage.{Stage}
+use Rattle.hw_net.specs.declared.protocol.Stage.TheVariants.{Live, Lost, Closing, Over}
 use Rattle.hw_net.specs.Door.{new_lane}
-use Rattle.hw_net.specs.Lane.{Lane, waits, frames_of, is_live, owes, is_overdue, refusal_of, after_end, after_reply, talk_after_shut, talk_after_reply, new_socket, rest_of}
+use Rattle.hw_net.specs.Lane.{Lane, waits, frames_of, is_live, owes, is_overdue, refusal_of, after_end, after_reply, protocol_after_shut, protocol_after_reply, new_socket, rest_of}
 use Rattle.hw_net.specs.Saying.{Writes, WritesOut, SpeaksAs, Says, SaysAt, SaysMore, must_end, is_too_much}
 use Rattle.hw_net.specs.Sessions as session
 use Rattle.hw_net.specs.Sessions.{Call, Session, answers_in, answers_of, refusal_on, replies_on, texts_of, WroteReplies, RepliesAreWritten}
-use Rattle.hw_net.specs.Talking.{Talking, Gets}
+use Rattle.hw_net.specs.WebSocketState.{WebSocketState, Gets}
 use Rattle.hw_net.specs.Told.{Reads, Gives, Chooses, bytes_of}
 use Rattle.hw_net.specs.Turn.{Hears, Falls, Passes, Settles, Loses, LosesAt, TurnsLive, TurnsAt, Listens, Replies, Puts, PutsAt, Sends, Shuts}
 use Rattle.hw_net.proofs.Appends.{Grows, grows-none, grows-on, takes-grows, feeds-grows, shut-grows, says-grows}
@@ -32,15 +32,15 @@ use Rattle.hw_net.proofs.Shares.{share, written-append, written-share, same, equ
 use Rattle.hw_net.proofs.Walks.{IsHeard, Heeds, Moves, moves-wire, IsUntouched, each-lane, unrefused}
 
 -- these bytes are the texts of the replies, and then frames
-abbrev pub Voiced : List ℕ → List Reply → Talk → Type 0
-Voiced all replies (Http asking) = all ≡ texts_of replies
-Voiced all replies (Socket talking) =
+abbrev pub Voiced : List ℕ → List Reply → Protocol → Type 0
+Voiced all replies (Http http_state) = all ≡ texts_of replies
+Voiced all replies (Socket websocket_state) =
     (first : List Reply) × (upgrade : Reply) × (frames : List ℕ)
     × (replies ≡ first ++ upgrade ∷ []) × (upgrade.status ≡ SWITCHING) × (all ≡ texts_of replies ++ frames)
 
 -- so it is of what was written and what waits
 abbrev pub IsVoiced : List ℕ → List Reply → Lane → Type 0
-IsVoiced written replies lane = Voiced (written ++ waits lane) replies lane.talk
+IsVoiced written replies lane = Voiced (written ++ waits lane) replies lane.protocol
 
 -- ---- writing
 
@@ -56,7 +56,7 @@ writes-front wire waits (bytes_out at (b ∷ bs) ∷ answers) left whole h =
 writes-front wire waits (write_failed at ∷ []) left whole h = h.2
 writes-front wire waits _ left whole h = absurd h
 
-speaks-voiced : (before after : Talk) (all : List ℕ) (replies : List Reply) → SpeaksAs before after → Voiced all replies before → Voiced all replies after
+speaks-voiced : (before after : Protocol) (all : List ℕ) (replies : List Reply) → SpeaksAs before after → Voiced all replies before → Voiced all replies after
 speaks-voiced (Http before) (Http after) all replies e h = h
 speaks-voiced (Socket before) (Socket after) all replies e h = h
 speaks-voiced _ _ all replies e h = absurd e
@@ -66,14 +66,14 @@ abbrev pub Pours : Lane → Lane → List Answer → Type 0
 Pours before after answers = (written : List ℕ) (replies : List Reply) → IsVoiced written replies before → IsVoiced (written ++ written_on before.wire answers) replies after
 
 poured : (before after : Lane) (answers : List Answer) → written_on before.wire answers ++ waits after ≡ waits before →
-    ((all : List ℕ) (replies : List Reply) → Voiced all replies before.talk → Voiced all replies after.talk) → Pours before after answers
+    ((all : List ℕ) (replies : List Reply) → Voiced all replies before.protocol → Voiced all replies after.protocol) → Pours before after answers
 poured before after answers e f written replies h =
     f ((written ++ written_on before.wire answers) ++ waits after) replies
-    (subst (λ (l : List ℕ). Voiced l replies before.talk) (sym (append_assoc written (written_on before.wire answers) (waits after) ∙ ap (λ l. written ++ l) e)) h)
+    (subst (λ (l : List ℕ). Voiced l replies before.protocol) (sym (append_assoc written (written_on before.wire answers) (waits after) ∙ ap (λ l. written ++ l) e)) h)
 
 writes-pour : (before after : Lane) (answers : List Answer) → WritesOut before after answers → Pours before after answers
 writes-pour before after answers w =
-    poured before after answers (go (must_end before.stage (length (waits after)) w.is_whole) refl) (λ all replies. speaks-voiced before.talk after.talk all replies w.still.talk) where
+    poured before after answers (go (must_end before.stage (length (waits after)) w.is_whole) refl) (λ all replies. speaks-voiced before.protocol after.protocol all replies w.still.protocol) where
       front : written_on before.wire w.sent ++ waits after ≡ waits before
       front = writes-front before.wire (waits before) w.sent (waits after) w.is_whole w.writes
 
@@ -82,12 +82,12 @@ writes-pour before after answers w =
           ∙ ap (λ l. l ++ waits after) (written-append before.wire w.sent (was_shut before.wire ∷ []) ∙ append-nil (written_on before.wire w.sent)) ∙ front
       go false e = ap (λ l. written_on before.wire l ++ waits after) (w.stays e).0 ∙ front
 
-still-pours : (before after : Lane) (answers : List Answer) → written_on before.wire answers ≡ [] → waits after ≡ waits before → after.talk ≡ before.talk → Pours before after answers
+still-pours : (before after : Lane) (answers : List Answer) → written_on before.wire answers ≡ [] → waits after ≡ waits before → after.protocol ≡ before.protocol → Pours before after answers
 still-pours before after answers e f g =
-    poured before after answers (ap (λ l. l ++ waits after) e ∙ f) (λ all replies h. subst (λ (t : Talk). Voiced all replies t) (sym g) h)
+    poured before after answers (ap (λ l. l ++ waits after) e ∙ f) (λ all replies h. subst (λ (t : Protocol). Voiced all replies t) (sym g) h)
 
 same-pours : (before after : Lane) (answers : List Answer) → answers ≡ [] → after ≡ before → Pours before after answers
-same-pours before after answers e f = still-pours before after answers (ap (λ l. written_on before.wire l) e) (ap waits f) (ap (λ (l : Lane). l.talk) f)
+same-pours before after answers e f = still-pours before after answers (ap (λ l. written_on before.wire l) e) (ap waits f) (ap (λ (l : Lane). l.protocol) f)
 
 says-pour : (before after : Lane) (answers : List Answer) → Says before after answers → Pours before after answers
 says-pour before after answers h = go before.stage h where
@@ -100,13 +100,13 @@ says-pour before after answers h = go before.stage h where
 more-pour : (before after : Lane) (answers : List Answer) → SaysMore before after answers → Pours before after answers
 more-pour before after answers h = go (is_too_much (length (waits before))) h where
   go : (b : Bool) → Chooses b ((answers ≡ was_shut before.wire ∷ []) × (after ≡ record before { stage = after_end before.stage })) (WritesOut before after answers) → Pours before after answers
-  go true h = still-pours before after answers (ap (λ l. written_on before.wire l) h.0) (ap waits h.1) (ap (λ (l : Lane). l.talk) h.1)
+  go true h = still-pours before after answers (ap (λ l. written_on before.wire l) h.0) (ap waits h.1) (ap (λ (l : Lane). l.protocol) h.1)
   go false h = writes-pour before after answers h
 
 -- ---- frames and replies that are added
 
 -- a WebSocket's frames may grow
-frames-grow : (written out before after : List ℕ) (replies : List Reply) (old new : Talking) → Grows before after → Voiced (written ++ (out ++ before)) replies (Socket old) →
+frames-grow : (written out before after : List ℕ) (replies : List Reply) (old new : WebSocketState) → Grows before after → Voiced (written ++ (out ++ before)) replies (Socket old) →
     Voiced (written ++ (out ++ after)) replies (Socket new)
 frames-grow written out before after replies old new g h = (
   h.0,
@@ -141,25 +141,25 @@ gives-unwritten at wire room [] got h = refl
 gives-unwritten at wire room (answer ∷ []) got h = reads-unwritten at wire room answer got h.1
 gives-unwritten at wire room (answer ∷ next ∷ more) got h = absurd h
 
-pub hears-unwritten : (at wire : ℕ) (before after : Talk) (answers : List Answer) (what : News) → Hears wire before after answers what → written_on at answers ≡ []
+pub hears-unwritten : (at wire : ℕ) (before after : Protocol) (answers : List Answer) (what : Input) → Hears wire before after answers what → written_on at answers ≡ []
 hears-unwritten at wire (Http before) (Http after) answers what h = gives-unwritten at wire _ answers h.got h.read
 hears-unwritten at wire (Socket before) (Socket after) answers what h = gives-unwritten at wire _ answers h.got h.read
 hears-unwritten at wire _ _ answers what h = absurd h
 
-pub settles-unwritten : (at now : ℕ) (before after : Lane) (answers : List Answer) (what : News) (heard : Option Event) → Settles now before after answers what heard → written_on at answers ≡ []
-settles-unwritten at now before after answers news.Nothing heard h = go (is_overdue now before) h where
+pub settles-unwritten : (at now : ℕ) (before after : Lane) (answers : List Answer) (what : Input) (heard : Option Event) → Settles now before after answers what heard → written_on at answers ≡ []
+settles-unwritten at now before after answers input.Nothing heard h = go (is_overdue now before) h where
   go : (b : Bool) → Chooses b (Falls before after answers heard) (Passes before after answers None heard) → written_on at answers ≡ []
   go true h = ap (λ l. written_on at l) h.0
   go false h = ap (λ l. written_on at l) h.0
-settles-unwritten at now before after answers (news.Request request) heard h = ap (λ l. written_on at l) h.0
-settles-unwritten at now before after answers (news.Refused status) heard h = ap (λ l. written_on at l) h.0
-settles-unwritten at now before after answers (news.Message bytes) heard h = ap (λ l. written_on at l) h.0
-settles-unwritten at now before after answers news.Broken heard h = ap (λ l. written_on at l) h.0
-settles-unwritten at now before after answers news.Gone heard h = ap (λ l. written_on at l) h.0
+settles-unwritten at now before after answers (input.Request request) heard h = ap (λ l. written_on at l) h.0
+settles-unwritten at now before after answers (input.Refused status) heard h = ap (λ l. written_on at l) h.0
+settles-unwritten at now before after answers (input.Message bytes) heard h = ap (λ l. written_on at l) h.0
+settles-unwritten at now before after answers input.Broken heard h = ap (λ l. written_on at l) h.0
+settles-unwritten at now before after answers input.Gone heard h = ap (λ l. written_on at l) h.0
 
--- the door's own reply to the news
-abbrev pub refusals_of : News → List Reply
-refusals_of (news.Refused status) = refusal_of status ∷ []
+-- the door's own reply to the input
+abbrev pub refusals_of : Input → List Reply
+refusals_of (input.Refused status) = refusal_of status ∷ []
 refusals_of _ = []
 
 gets-grow : (before after : socket.Lane) (got : Option (List ℕ)) (answer : SocketRead) → Gets before got answer after → Grows before.out.bytes after.out.bytes
@@ -170,43 +170,43 @@ gets-grow before after got answer h =
 becomes : (written : List ℕ) (replies : List Reply) (settled mid : Lane) → settled ≡ mid → IsVoiced written replies mid → IsVoiced written replies settled
 becomes written replies settled mid e h = subst (λ (l : Lane). IsVoiced written replies l) (sym e) h
 
-settles-voiced : (now : ℕ) (x : Lane) (talk : Talk) (after : Lane) (read answers : List Answer) (what : News) (heard : Option Event) (written : List ℕ) (replies : List Reply) → Hears x.wire x.talk talk read what →
-    Settles now (record x { talk = talk }) after answers what heard → IsVoiced written replies x → IsVoiced written (replies ++ refusals_of what) after
-settles-voiced now x talk after read answers what heard written replies h s k = go x.talk talk what h s k where
+settles-voiced : (now : ℕ) (x : Lane) (protocol : Protocol) (after : Lane) (read answers : List Answer) (what : Input) (heard : Option Event) (written : List ℕ) (replies : List Reply) → Hears x.wire x.protocol protocol read what →
+    Settles now (record x { protocol = protocol }) after answers what heard → IsVoiced written replies x → IsVoiced written (replies ++ refusals_of what) after
+settles-voiced now x protocol after read answers what heard written replies h s k = go x.protocol protocol what h s k where
   none : (l : Lane) → IsVoiced written replies l → IsVoiced written (replies ++ []) l
   none l v = subst (λ (r : List Reply). IsVoiced written r l) (sym (append-nil replies)) v
 
-  nothing : (talk : Talk) → IsVoiced written replies (record x { talk = talk }) → (b : Bool) → Chooses b (Falls (record x { talk = talk }) after answers heard) (Passes (record x { talk = talk }) after answers None heard) →
+  nothing : (protocol : Protocol) → IsVoiced written replies (record x { protocol = protocol }) → (b : Bool) → Chooses b (Falls (record x { protocol = protocol }) after answers heard) (Passes (record x { protocol = protocol }) after answers None heard) →
       IsVoiced written replies after
-  nothing talk v true f = becomes written replies after (record x { talk = talk; stage = Over }) f.2 v
-  nothing talk v false f = becomes written replies after (record x { talk = talk }) f.2 v
+  nothing protocol v true f = becomes written replies after (record x { protocol = protocol; stage = Over }) f.2 v
+  nothing protocol v false f = becomes written replies after (record x { protocol = protocol }) f.2 v
 
-  grown : (old new : Talking) → Grows old.lane.out.bytes new.lane.out.bytes → Voiced (written ++ (x.out ++ old.lane.out.bytes)) replies (Socket old) → Voiced (written ++ (x.out ++ new.lane.out.bytes)) replies (Socket new)
+  grown : (old new : WebSocketState) → Grows old.lane.out.bytes new.lane.out.bytes → Voiced (written ++ (x.out ++ old.lane.out.bytes)) replies (Socket old) → Voiced (written ++ (x.out ++ new.lane.out.bytes)) replies (Socket new)
   grown old new g v = frames-grow written x.out old.lane.out.bytes new.lane.out.bytes replies old new g v
 
-  go : (old new : Talk) (what : News) → Hears x.wire old new read what → Settles now (record x { talk = new }) after answers what heard → Voiced (written ++ (x.out ++ frames_of old)) replies old →
+  go : (old new : Protocol) (what : Input) → Hears x.wire old new read what → Settles now (record x { protocol = new }) after answers what heard → Voiced (written ++ (x.out ++ frames_of old)) replies old →
       IsVoiced written (replies ++ refusals_of what) after
-  go (Http old) (Http new) news.Nothing h s v = none after (nothing (Http new) v (is_overdue now (record x { talk = Http new })) s)
-  go (Http old) (Http new) (news.Request request) h s v = none after (becomes written replies after (record x { talk = Http new }) s.2 v)
-  go (Http old) (Http new) (news.Refused status) h s v =
-      becomes written (replies ++ refusal_of status ∷ []) after (record x { talk = Http new; out = x.out ++ reply_text (refusal_of status); stage = Closing }) s.2
+  go (Http old) (Http new) input.Nothing h s v = none after (nothing (Http new) v (is_overdue now (record x { protocol = Http new })) s)
+  go (Http old) (Http new) (input.Request request) h s v = none after (becomes written replies after (record x { protocol = Http new }) s.2 v)
+  go (Http old) (Http new) (input.Refused status) h s v =
+      becomes written (replies ++ refusal_of status ∷ []) after (record x { protocol = Http new; out = x.out ++ reply_text (refusal_of status); stage = Closing }) s.2
       (reply-said written x.out replies (refusal_of status) v)
-  go (Http old) (Http new) (news.Message bytes) h s v = absurd h.is_news
-  go (Http old) (Http new) news.Broken h s v = none after (becomes written replies after (record x { talk = Http new; stage = Over }) s.2 v)
-  go (Http old) (Http new) news.Gone h s v = absurd h.is_news
-  go (Socket old) (Socket new) news.Nothing h s v =
-      none after (nothing (Socket new) (grown old new (gets-grow old.lane new.lane h.got _ h.is_news.0) v) (is_overdue now (record x { talk = Socket new })) s)
-  go (Socket old) (Socket new) (news.Request request) h s v = absurd h.is_news
-  go (Socket old) (Socket new) (news.Refused status) h s v = absurd h.is_news
-  go (Socket old) (Socket new) (news.Message bytes) h s v =
-      none after (becomes written replies after (record x { talk = Socket new }) s.2 (grown old new (gets-grow old.lane new.lane h.got _ h.is_news.0) v))
-  go (Socket old) (Socket new) news.Broken h s v =
-      none after (becomes written replies after (record x { talk = Socket new; stage = Over }) s.2
-      (grown old new (grows-none old.lane.out.bytes new.lane.out.bytes (ap (λ (l : socket.Lane). l.out.bytes) h.is_news.1)) v))
-  go (Socket old) (Socket new) news.Gone h s v =
-      none after (becomes written replies after (record x { talk = talk_after_shut (Socket new); stage = Closing }) s.2
-      (frames-grow written x.out old.lane.out.bytes (frames_of (talk_after_shut (Socket new))) replies old old
-      (grows-on old.lane.out.bytes new.lane.out.bytes (frames_of (talk_after_shut (Socket new))) (gets-grow old.lane new.lane h.got _ h.is_news.0) (shut-grows new.lane)) v))
+  go (Http old) (Http new) (input.Message bytes) h s v = absurd h.is_input
+  go (Http old) (Http new) input.Broken h s v = none after (becomes written replies after (record x { protocol = Http new; stage = Over }) s.2 v)
+  go (Http old) (Http new) input.Gone h s v = absurd h.is_input
+  go (Socket old) (Socket new) input.Nothing h s v =
+      none after (nothing (Socket new) (grown old new (gets-grow old.lane new.lane h.got _ h.is_input.0) v) (is_overdue now (record x { protocol = Socket new })) s)
+  go (Socket old) (Socket new) (input.Request request) h s v = absurd h.is_input
+  go (Socket old) (Socket new) (input.Refused status) h s v = absurd h.is_input
+  go (Socket old) (Socket new) (input.Message bytes) h s v =
+      none after (becomes written replies after (record x { protocol = Socket new }) s.2 (grown old new (gets-grow old.lane new.lane h.got _ h.is_input.0) v))
+  go (Socket old) (Socket new) input.Broken h s v =
+      none after (becomes written replies after (record x { protocol = Socket new; stage = Over }) s.2
+      (grown old new (grows-none old.lane.out.bytes new.lane.out.bytes (ap (λ (l : socket.Lane). l.out.bytes) h.is_input.1)) v))
+  go (Socket old) (Socket new) input.Gone h s v =
+      none after (becomes written replies after (record x { protocol = protocol_after_shut (Socket new); stage = Closing }) s.2
+      (frames-grow written x.out old.lane.out.bytes (frames_of (protocol_after_shut (Socket new))) replies old old
+      (grows-on old.lane.out.bytes new.lane.out.bytes (frames_of (protocol_after_shut (Socket new))) (gets-grow old.lane new.lane h.got _ h.is_input.0) (shut-grows new.lane)) v))
   go (Http old) (Socket new) what h s v = absurd h
   go (Socket old) (Http new) what h s v = absurd h
 
@@ -224,17 +224,17 @@ abbrev pub refusals_in : ℕ → Option Event → List Reply
 refusals_in wire None = []
 refusals_in wire (Some told) = refusal_on wire told
 
-pub settles-refusals : (now : ℕ) (before after : Lane) (answers : List Answer) (what : News) (heard : Option Event) → Settles now before after answers what heard → refusals_in before.wire heard ≡ refusals_of what
-settles-refusals now before after answers news.Nothing heard h = go (is_overdue now before) h where
+pub settles-refusals : (now : ℕ) (before after : Lane) (answers : List Answer) (what : Input) (heard : Option Event) → Settles now before after answers what heard → refusals_in before.wire heard ≡ refusals_of what
+settles-refusals now before after answers input.Nothing heard h = go (is_overdue now before) h where
   go : (b : Bool) → Chooses b (Falls before after answers heard) (Passes before after answers None heard) → refusals_in before.wire heard ≡ []
   go true h = ap (λ o. refusals_in before.wire o) h.1
   go false h = ap (λ o. refusals_in before.wire o) h.1
-settles-refusals now before after answers (news.Request request) heard h = ap (λ o. refusals_in before.wire o) h.1
-settles-refusals now before after answers (news.Refused status) heard h =
+settles-refusals now before after answers (input.Request request) heard h = ap (λ o. refusals_in before.wire o) h.1
+settles-refusals now before after answers (input.Refused status) heard h =
     ap (λ o. refusals_in before.wire o) h.1 ∙ ap (λ b. if b then refusal_of status ∷ [] else []) (same before.wire)
-settles-refusals now before after answers (news.Message bytes) heard h = ap (λ o. refusals_in before.wire o) h.1
-settles-refusals now before after answers news.Broken heard h = ap (λ o. refusals_in before.wire o) h.1
-settles-refusals now before after answers news.Gone heard h = ap (λ o. refusals_in before.wire o) h.1
+settles-refusals now before after answers (input.Message bytes) heard h = ap (λ o. refusals_in before.wire o) h.1
+settles-refusals now before after answers input.Broken heard h = ap (λ o. refusals_in before.wire o) h.1
+settles-refusals now before after answers input.Gone heard h = ap (λ o. refusals_in before.wire o) h.1
 
 pub loses-refusals : (wire : ℕ) (told : Option Event) (before after : Lane) (heard : Option Event) → Loses told before after heard → refusals_in wire heard ≡ refusals_in wire told
 loses-refusals wire (Some here) before after heard h = ap (λ o. refusals_in wire o) h.0
@@ -260,22 +260,22 @@ live-written wire answers read shut written all e f =
 
 live-says : (now : ℕ) (x y : Lane) (mine : List Answer) (own : Option Event) → TurnsLive now x y mine own → SaysIn x y mine (refusals_in x.wire own)
 live-says now x y mine own h written replies v =
-    let mid = record x { talk = h.talk } in
+    let mid = record x { protocol = h.protocol } in
     let w = x.wire in
-    let kept = settles-keeps now mid h.settled h.shut h.news h.told h.settles in
-    let refused : refusals_in w own ≡ refusals_of h.news = loses-refusals w h.told h.said y own h.loses ∙ settles-refusals now mid h.settled h.shut h.news h.told h.settles in
+    let kept = settles-keeps now mid h.settled h.shut h.input h.told h.settles in
+    let refused : refusals_in w own ≡ refusals_of h.input = loses-refusals w h.told h.said y own h.loses ∙ settles-refusals now mid h.settled h.shut h.input h.told h.settles in
     let wrote_is : written_on w mine ≡ written_on h.settled.wire h.written =
-    live-written w mine h.read h.shut h.written h.all (hears-unwritten w w x.talk h.talk h.read h.news h.hears) (settles-unwritten w now mid h.settled h.shut h.news h.told h.settles)
+    live-written w mine h.read h.shut h.written h.all (hears-unwritten w w x.protocol h.protocol h.read h.input h.hears) (settles-unwritten w now mid h.settled h.shut h.input h.told h.settles)
     ∙ ap (λ n. written_on n h.written) (sym kept.0.0) in
-    let more = replies ++ refusals_of h.news in
-    let settled = settles-voiced now x h.talk h.settled h.read h.shut h.news h.told written replies h.hears h.settles v in
+    let more = replies ++ refusals_of h.input in
+    let settled = settles-voiced now x h.protocol h.settled h.read h.shut h.input h.told written replies h.hears h.settles v in
     let said = says-pour h.settled h.said h.written h.says written more settled in
     let lost = loses-voiced h.told h.said y own (written ++ written_on h.settled.wire h.written) more h.loses said in
     subst (λ (l : List ℕ). IsVoiced (written ++ l) (replies ++ refusals_in w own) y) (sym wrote_is)
     (subst (λ (r : List Reply). IsVoiced (written ++ written_on h.settled.wire h.written) (replies ++ r) y) (sym refused) lost)
 
-passes-pour : (x mid y : Lane) (mine : List Answer) (told heard : Option Event) → waits mid ≡ waits x → mid.talk ≡ x.talk → Passes mid y mine told heard → Pours x y mine
-passes-pour x mid y mine told heard e f h = still-pours x y mine (ap (λ l. written_on x.wire l) h.0) (ap waits h.2 ∙ e) (ap (λ (l : Lane). l.talk) h.2 ∙ f)
+passes-pour : (x mid y : Lane) (mine : List Answer) (told heard : Option Event) → waits mid ≡ waits x → mid.protocol ≡ x.protocol → Passes mid y mine told heard → Pours x y mine
+passes-pour x mid y mine told heard e f h = still-pours x y mine (ap (λ l. written_on x.wire l) h.0) (ap waits h.2 ∙ e) (ap (λ (l : Lane). l.protocol) h.2 ∙ f)
 
 listens-say : (now : ℕ) (x y : Lane) (mine : List Answer) (own : Option Event) → Listens now x y mine own → SaysIn x y mine (refusals_in x.wire own)
 listens-say now x y mine own h = go x.stage h where
@@ -297,18 +297,18 @@ heeds-say now what x y mine (inr h) = pours-say x y mine (refusal_on x.wire what
 
 -- a lane that owes a reply says it
 reply-voiced : (now : ℕ) (reply : Reply) (x : Lane) (written : List ℕ) (replies : List Reply) → owes x ≡ true → IsVoiced written replies x → IsVoiced written (replies ++ reply ∷ []) (after_reply now reply x)
-reply-voiced now reply x written replies owed v = go x.talk refl owed v where
-  http : (asking : Rattle.hw_net.specs.Asking.AskingState) → x.talk ≡ Http asking → written ++ (x.out ++ []) ≡ texts_of replies → (b : Bool) → (reply.status == SWITCHING) ≡ b →
-      IsVoiced written (replies ++ reply ∷ []) (if b then record x { talk = new_socket (rest_of x.talk); out = x.out ++ reply_text reply }
-      else record x { talk = talk_after_reply x.talk; out = x.out ++ reply_text reply; since = now })
-  http asking e v true f = (replies, reply, [], refl, equal reply.status SWITCHING f, reply-said written x.out replies reply v ∙ sym (append-nil (texts_of (replies ++ reply ∷ []))))
-  http asking e v false f =
-      subst (λ (t : Talk). IsVoiced written (replies ++ reply ∷ []) (record x { talk = talk_after_reply t; out = x.out ++ reply_text reply; since = now })) (sym e)
+reply-voiced now reply x written replies owed v = go x.protocol refl owed v where
+  http : (http_state : Rattle.hw_net.specs.HttpState.HttpStateView) → x.protocol ≡ Http http_state → written ++ (x.out ++ []) ≡ texts_of replies → (b : Bool) → (reply.status == SWITCHING) ≡ b →
+      IsVoiced written (replies ++ reply ∷ []) (if b then record x { protocol = new_socket (rest_of x.protocol); out = x.out ++ reply_text reply }
+      else record x { protocol = protocol_after_reply x.protocol; out = x.out ++ reply_text reply; since = now })
+  http http_state e v true f = (replies, reply, [], refl, equal reply.status SWITCHING f, reply-said written x.out replies reply v ∙ sym (append-nil (texts_of (replies ++ reply ∷ []))))
+  http http_state e v false f =
+      subst (λ (t : Protocol). IsVoiced written (replies ++ reply ∷ []) (record x { protocol = protocol_after_reply t; out = x.out ++ reply_text reply; since = now })) (sym e)
       (reply-said written x.out replies reply v)
 
-  go : (talk : Talk) → x.talk ≡ talk → (is_live x.stage && Rattle.hw_net.specs.Lane.is_busy talk) ≡ true → Voiced (written ++ (x.out ++ frames_of talk)) replies talk → IsVoiced written (replies ++ reply ∷ []) (after_reply now reply x)
-  go (Http asking) e owed v = http asking e v (reply.status == SWITCHING) refl
-  go (Socket talking) e owed v = absurd (cc (sym (dead x.stage) ∙ owed))
+  go : (protocol : Protocol) → x.protocol ≡ protocol → (is_live x.stage && Rattle.hw_net.specs.Lane.is_busy protocol) ≡ true → Voiced (written ++ (x.out ++ frames_of protocol)) replies protocol → IsVoiced written (replies ++ reply ∷ []) (after_reply now reply x)
+  go (Http http_state) e owed v = http http_state e v (reply.status == SWITCHING) refl
+  go (Socket websocket_state) e owed v = absurd (cc (sym (dead x.stage) ∙ owed))
 
 replies-say : (now : ℕ) (reply : Reply) (x y : Lane) (mine : List Answer) → Replies now reply x y mine → SaysIn x y mine (if owes x then reply ∷ [] else [])
 replies-say now reply x y mine h = go (owes x) refl h where
@@ -318,32 +318,32 @@ replies-say now reply x y mine h = go (owes x) refl h where
       (more-pour (after_reply now reply x) y mine h written (replies ++ reply ∷ []) (reply-voiced now reply x written replies e v))
   go false e h = pours-say x y mine [] (same-pours x y mine h.0 h.1) refl
 
-put-voiced : (live : Bool) (talk : Talk) (bytes : List ℕ) (text : Bool) (x mid : Lane) (is_put : Bool) → x.talk ≡ talk → PutsAt live talk bytes text x mid is_put →
+put-voiced : (live : Bool) (protocol : Protocol) (bytes : List ℕ) (text : Bool) (x mid : Lane) (is_put : Bool) → x.protocol ≡ protocol → PutsAt live protocol bytes text x mid is_put →
     (written : List ℕ) (replies : List Reply) → IsVoiced written replies x → IsVoiced written replies mid
-put-voiced true (Socket talking) bytes text x mid is_put e h written replies v =
-    becomes written replies mid _ h.2 (frames-grow written x.out talking.lane.out.bytes h.0.out.bytes replies talking talking (says-grows talking.lane h.0 bytes text is_put h.1)
-    (subst (λ (t : Talk). Voiced (written ++ (x.out ++ frames_of t)) replies t) e v))
-put-voiced true (Http asking) bytes text x mid is_put e h written replies v = becomes written replies mid x h.1 v
-put-voiced false talk bytes text x mid is_put e h written replies v = becomes written replies mid x h.1 v
+put-voiced true (Socket websocket_state) bytes text x mid is_put e h written replies v =
+    becomes written replies mid _ h.2 (frames-grow written x.out websocket_state.lane.out.bytes h.0.out.bytes replies websocket_state websocket_state (says-grows websocket_state.lane h.0 bytes text is_put h.1)
+    (subst (λ (t : Protocol). Voiced (written ++ (x.out ++ frames_of t)) replies t) e v))
+put-voiced true (Http http_state) bytes text x mid is_put e h written replies v = becomes written replies mid x h.1 v
+put-voiced false protocol bytes text x mid is_put e h written replies v = becomes written replies mid x h.1 v
 
 sends-pour : (bytes : List ℕ) (text : Bool) (x y : Lane) (mine : List Answer) → Sends bytes text x y mine → Pours x y mine
 sends-pour bytes text x y mine h written replies v = go h.0 h.1 h.2 h.3 where
   go : (mid : Lane) (b : Bool) → Puts bytes text x mid b → Chooses b (SaysMore mid y mine) ((mine ≡ []) × (y ≡ mid)) → IsVoiced (written ++ written_on x.wire mine) replies y
   go mid b p s =
-      let put = put-voiced (is_live x.stage) x.talk bytes text x mid b refl p written replies v in
-      subst (λ n. IsVoiced (written ++ written_on n mine) replies y) (put-wire (is_live x.stage) x.talk bytes text x mid b p) (rest b s put) where
+      let put = put-voiced (is_live x.stage) x.protocol bytes text x mid b refl p written replies v in
+      subst (λ n. IsVoiced (written ++ written_on n mine) replies y) (put-wire (is_live x.stage) x.protocol bytes text x mid b p) (rest b s put) where
         rest : (b : Bool) → Chooses b (SaysMore mid y mine) ((mine ≡ []) × (y ≡ mid)) → IsVoiced written replies mid → IsVoiced (written ++ written_on mid.wire mine) replies y
         rest true s put = more-pour mid y mine s written replies put
         rest false s put = same-pours mid y mine s.0 s.1 written replies put
 
-shut-voiced : (talk : Talk) (written out : List ℕ) (replies : List Reply) → Voiced (written ++ (out ++ frames_of talk)) replies talk → Voiced (written ++ (out ++ frames_of (talk_after_shut talk))) replies (talk_after_shut talk)
-shut-voiced (Http asking) written out replies v = v
-shut-voiced (Socket talking) written out replies v = frames-grow written out talking.lane.out.bytes (frames_of (talk_after_shut (Socket talking))) replies talking talking (shut-grows talking.lane) v
+shut-voiced : (protocol : Protocol) (written out : List ℕ) (replies : List Reply) → Voiced (written ++ (out ++ frames_of protocol)) replies protocol → Voiced (written ++ (out ++ frames_of (protocol_after_shut protocol))) replies (protocol_after_shut protocol)
+shut-voiced (Http http_state) written out replies v = v
+shut-voiced (Socket websocket_state) written out replies v = frames-grow written out websocket_state.lane.out.bytes (frames_of (protocol_after_shut (Socket websocket_state))) replies websocket_state websocket_state (shut-grows websocket_state.lane) v
 
 shuts-pour : (x y : Lane) (mine : List Answer) → Shuts x y mine → Pours x y mine
 shuts-pour x y mine h = go (is_live x.stage) h where
-  go : (b : Bool) → Chooses b (WritesOut (record x { talk = talk_after_shut x.talk; stage = Closing }) y mine) ((mine ≡ []) × (y ≡ x)) → Pours x y mine
-  go true h = λ written replies v. writes-pour (record x { talk = talk_after_shut x.talk; stage = Closing }) y mine h written replies (shut-voiced x.talk written x.out replies v)
+  go : (b : Bool) → Chooses b (WritesOut (record x { protocol = protocol_after_shut x.protocol; stage = Closing }) y mine) ((mine ≡ []) × (y ≡ x)) → Pours x y mine
+  go true h = λ written replies v. writes-pour (record x { protocol = protocol_after_shut x.protocol; stage = Closing }) y mine h written replies (shut-voiced x.protocol written x.out replies v)
   go false h = same-pours x y mine h.0 h.1
 
 -- ---- sessions
@@ -385,10 +385,10 @@ new-said calls now wire h = (
   append-nil (written_on wire (answers_of calls)) ∙ written-share wire (answers_of calls) ∙ ap (λ l. written_on wire l) h.answers ∙ ap texts_of (sym h.replies),
 )
 
-wrote-of : (calls : List Call) (lane : Lane) (talk : Talk) → Voiced (written_on lane.wire (answers_of calls) ++ waits lane) (replies_on lane.wire calls) talk → WroteReplies calls lane talk
-wrote-of calls lane (Http asking) h = h
-wrote-of calls lane (Socket talking) h = h
+wrote-of : (calls : List Call) (lane : Lane) (protocol : Protocol) → Voiced (written_on lane.wire (answers_of calls) ++ waits lane) (replies_on lane.wire calls) protocol → WroteReplies calls lane protocol
+wrote-of calls lane (Http http_state) h = h
+wrote-of calls lane (Socket websocket_state) h = h
 
 pub replies-are-written : RepliesAreWritten
 replies-are-written calls bound now h lane has =
-    wrote-of calls lane lane.talk (each-lane HasSaid new-said step-said calls bound now h lane (has-of now.lanes lane has)).1
+    wrote-of calls lane lane.protocol (each-lane HasSaid new-said step-said calls bound now h lane (has-of now.lanes lane has)).1

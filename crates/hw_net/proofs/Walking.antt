@@ -4,19 +4,19 @@ use Rattle.std.proofs.lemmas.List.{append-nil, length-drop, length-map, get_or-d
 use Rattle.std.specs.Int.{from_bool}
 use Rattle.hw_door.specs.declared.heard.Event.{Event}
 use Rattle.hw_door.specs.Traffic.{Answer}
-use Rattle.hw_net.specs.declared.glance.Glance.{Glance}
-use Rattle.hw_net.specs.declared.glance.Glance.TheVariants.{Still}
+use Rattle.hw_net.specs.declared.first_read.FirstRead.{FirstRead}
+use Rattle.hw_net.specs.declared.first_read.FirstRead.TheVariants.{NothingRead}
 use Rattle.hw_net.specs.declared.limits.TheConstants.{MOST_UNWRITTEN}
-use Rattle.hw_net.specs.declared.talk.Talk.{Talk}
-use Rattle.hw_net.specs.declared.talk.Talk.TheVariants.{Http, Socket}
-use Rattle.hw_net.specs.declared.talk.Stage.{Stage}
-use Rattle.hw_net.specs.declared.talk.Stage.TheVariants.{Live, Lost, Closing, Over}
+use Rattle.hw_net.specs.declared.protocol.Protocol.{Protocol}
+use Rattle.hw_net.specs.declared.protocol.Protocol.TheVariants.{Http, Socket}
+use Rattle.hw_net.specs.declared.protocol.Stage.{Stage}
+use Rattle.hw_net.specs.declared.protocol.Stage.TheVariants.{Live, Lost, Closing, Over}
 use Rattle.hw_net.specs.Door.{HearsAll, place_of_first}
-use Rattle.hw_net.specs.Glances.{Glances, GlancesAt}
+use Rattle.hw_net.specs.FirstReads.{ReadsFirst, ReadsFirstAt}
 use Rattle.hw_net.specs.Lane.{Lane, waits, wires_of}
 use Rattle.hw_net.specs.Lanes.{DoesHere}
 use Rattle.hw_net.specs.Saying.{WritesOut, Says, SaysAt, SpeaksAs, must_end}
-use Rattle.hw_net.specs.Tally.{is_lagging, is_lagging_by, tally_of}
+use Rattle.hw_net.specs.Tally.{has_unwritten, has_unwritten_by, tally_of}
 use Rattle.hw_net.specs.Told.{Tells}
 use Rattle.hw_net.specs.Turn.{Listens, Turns, TurnAll}
 use Rattle.hw_net.specs.Walks.{Walks, Speak, between}
@@ -112,13 +112,13 @@ walk-more now told begin place all cur lane next answers more mid heard le withi
           (subst (λ n. Walks now told begin (begin + (count + 1)) all (set cur n next) (answers ++ more) heard) (sym e) done)
 
 -- the same of calls on wires, the first of which looks at the lane
-pub walks-glanced : (a b c d : Option (List Answer)) (now : ℕ) (heard : Option Event) (begin place : ℕ) (all cur after : List Lane) (buf : List ℕ) (glance : Glance) → begin ≤ place → place < length all → place < length cur →
+pub walks-after-look : (a b c d : Option (List Answer)) (now : ℕ) (heard : Option Event) (begin place : ℕ) (all cur after : List Lane) (buf : List ℕ) (first_look : FirstRead) → begin ≤ place → place < length all → place < length cur →
     ((answers : List Answer) × Tells a b answers × Walks now None begin place all cur answers None) →
-    ((answers : List Answer) × Tells b c answers × GlancesAt place cur answers buf glance) →
-    ((first : List Answer) → GlancesAt place cur first buf glance
+    ((answers : List Answer) × Tells b c answers × ReadsFirstAt place cur answers buf first_look) →
+    ((first : List Answer) → ReadsFirstAt place cur first buf first_look
     → (answers : List Answer) × Tells c d answers × DoesHere place (λ lane next said. Listens now lane next (first ++ said) heard) cur after answers) →
     (answers : List Answer) × Tells a d answers × Walks now None begin (place + 1) all after answers heard
-walks-glanced a b c d now heard begin place all cur after buf glance le within inside h look turn =
+walks-after-look a b c d now heard begin place all cur after buf first_look le within inside h look turn =
     let k = turn look.0 look.2 in
     let walked = walk-more now None begin place all cur k.2.lane k.2.next h.0 (look.0 ++ k.0) None heard le within inside k.2.at h.2 k.2.does in (
       h.0 ++ (look.0 ++ k.0),
@@ -127,14 +127,14 @@ walks-glanced a b c d now heard begin place all cur after buf glance le within i
     )
 
 -- one that gave nothing was the lane's turn
-pub walks-still : (a b c : Option (List Answer)) (now : ℕ) (begin place : ℕ) (all cur : List Lane) (buf : List ℕ) (glance : Glance) → begin ≤ place → place < length all → place < length cur →
-    ((lane : Lane) (first : List Answer) → Glances lane first buf Still → Listens now lane lane first None) → glance ≡ Still →
+pub walks-still : (a b c : Option (List Answer)) (now : ℕ) (begin place : ℕ) (all cur : List Lane) (buf : List ℕ) (first_look : FirstRead) → begin ≤ place → place < length all → place < length cur →
+    ((lane : Lane) (first : List Answer) → ReadsFirst lane first buf NothingRead → Listens now lane lane first None) → first_look ≡ NothingRead →
     ((answers : List Answer) × Tells a b answers × Walks now None begin place all cur answers None) →
-    ((answers : List Answer) × Tells b c answers × GlancesAt place cur answers buf glance) →
+    ((answers : List Answer) × Tells b c answers × ReadsFirstAt place cur answers buf first_look) →
     (answers : List Answer) × Tells a c answers × Walks now None begin (place + 1) all cur answers None
-walks-still a b c now begin place all cur buf glance le within inside listens still h look =
+walks-still a b c now begin place all cur buf first_look le within inside listens still h look =
     let lane = look.2.0 in
-    let turn = listens lane look.0 (subst (λ x. Glances lane look.0 buf x) still look.2.2) in
+    let turn = listens lane look.0 (subst (λ x. ReadsFirst lane look.0 buf x) still look.2.2) in
     let walked = walk-more now None begin place all cur lane lane h.0 look.0 None None le within inside look.2.1 h.2 turn in
     let same : set cur place lane ≡ cur = ap (λ (l : Lane). set cur place l) (sym look.2.1) ∙ set-get_or cur place lane in
     (h.0 ++ look.0, tells-more a b c h.0 look.0 h.1 look.1, subst (λ (l : List Lane). Walks now None begin (place + 1) all l (h.0 ++ look.0) None) same walked)
@@ -241,12 +241,12 @@ nothing-waits : (n : ℕ) → ltb 0 n ≡ false → n ≡ 0
 nothing-waits n e = grind (arith, e)
 
 -- what a lane speaks stays if nothing is written
-spoken : (talk : Talk) → SpeaksAs talk talk
-spoken (Http asking) = refl
-spoken (Socket talking) = refl
+spoken : (protocol : Protocol) → SpeaksAs protocol protocol
+spoken (Http http_state) = refl
+spoken (Socket websocket_state) = refl
 
 -- a lane on which nothing waits says nothing
-pub silent : (lane : Lane) → is_lagging lane ≡ false → Says lane lane []
+pub silent : (lane : Lane) → has_unwritten lane ≡ false → Says lane lane []
 silent lane e = go lane.stage e refl where
   quiet : lane.stage ≡ Live → length (waits lane) ≡ 0 → WritesOut lane lane []
   quiet live none =
@@ -256,42 +256,42 @@ silent lane e = go lane.stage e refl where
         sent = [];
         is_whole = true;
         writes = (empty, empty, refl);
-        still = record { wire = refl; since = refl; talk = spoken lane.talk };
+        still = record { wire = refl; since = refl; protocol = spoken lane.protocol };
         ends = λ must. absurd (never (sym must ∙ stays));
         stays = λ _. (refl, refl);
       }
 
-  go : (s : Stage) → is_lagging_by s (length (waits lane)) ≡ false → lane.stage ≡ s → SaysAt s lane lane []
+  go : (s : Stage) → has_unwritten_by s (length (waits lane)) ≡ false → lane.stage ≡ s → SaysAt s lane lane []
   go Live e is = quiet is (nothing-waits (length (waits lane)) e)
   go Lost e is = (refl, refl)
   go Closing e is = absurd (never e)
   go Over e is = (refl, refl)
 
-unlagging : (b : Bool) → from_bool b ≤ 0 → b ≡ false
-unlagging true h = absurd (omega (arith, h))
-unlagging false h = refl
+nothing-unwritten : (b : Bool) → from_bool b ≤ 0 → b ≡ false
+nothing-unwritten true h = absurd (omega (arith, h))
+nothing-unwritten false h = refl
 
 -- lanes of which none lags take their turns and stay as they are
-silent-turns : (now : ℕ) (told : Event) (lanes : List Lane) → (tally_of lanes).lagging ≤ 0 → TurnAll now (Some told) lanes lanes [] (Some told)
+silent-turns : (now : ℕ) (told : Event) (lanes : List Lane) → (tally_of lanes).writers ≤ 0 → TurnAll now (Some told) lanes lanes [] (Some told)
 silent-turns now told [] h = (refl, refl, refl)
 silent-turns now told (lane ∷ lanes) h =
-    let lane_is : is_lagging lane ≡ false = unlagging (is_lagging lane) (omega (arith, h)) in
+    let lane_is : has_unwritten lane ≡ false = nothing-unwritten (has_unwritten lane) (omega (arith, h)) in
     (Some told, lane, lanes, [], [], refl, refl, (refl, silent lane lane_is), silent-turns now told lanes (omega (arith, h)))
 
-fewer-after : (n : ℕ) (lanes : List Lane) → (tally_of (drop n lanes)).lagging ≤ (tally_of lanes).lagging
+fewer-after : (n : ℕ) (lanes : List Lane) → (tally_of (drop n lanes)).writers ≤ (tally_of lanes).writers
 fewer-after zero lanes = omega arith
 fewer-after (suc n) [] = omega arith
 fewer-after (suc n) (lane ∷ lanes) = omega (arith, fewer-after n lanes)
 
-fewer-before : (n : ℕ) (lanes : List Lane) → (tally_of (take n lanes)).lagging ≤ (tally_of lanes).lagging
+fewer-before : (n : ℕ) (lanes : List Lane) → (tally_of (take n lanes)).writers ≤ (tally_of lanes).writers
 fewer-before zero lanes = omega arith
 fewer-before (suc n) [] = omega arith
 fewer-before (suc n) (lane ∷ lanes) = omega (arith, fewer-before n lanes)
 
-pub silent-walk : (begin end : ℕ) (lanes : List Lane) → ltb 0 (tally_of lanes).lagging ≡ false → Speak begin end lanes lanes []
+pub silent-walk : (begin end : ℕ) (lanes : List Lane) → ltb 0 (tally_of lanes).writers ≡ false → Speak begin end lanes lanes []
 silent-walk begin end lanes e now told =
-    let none : (tally_of lanes).lagging ≡ 0 = nothing-waits (tally_of lanes).lagging e in
-    let few : (tally_of (between begin end lanes)).lagging ≤ 0 = omega (arith, none, fewer-after begin lanes, fewer-before (end - begin) (drop begin lanes)) in
+    let none : (tally_of lanes).writers ≡ 0 = nothing-waits (tally_of lanes).writers e in
+    let few : (tally_of (between begin end lanes)).writers ≤ 0 = omega (arith, none, fewer-after begin lanes, fewer-before (end - begin) (drop begin lanes)) in
     record { front = refl; back = refl; turns = silent-turns now told (between begin end lanes) few }
 
 -- ---- parts of a call on wires, put together
@@ -322,7 +322,7 @@ hears-or-fails a b c now from place all cur after (Ok heard) here same h k = hea
 hears-or-fails a b c now from place all cur after (Err why) here same h k = k
 
 -- a lane on which nothing waits, where it stands
-pub says-nothing : (lanes : List Lane) (place : ℕ) (lane : Lane) → get_or lanes place lane ≡ lane → is_lagging lane ≡ false → DoesHere place Says lanes lanes []
+pub says-nothing : (lanes : List Lane) (place : ℕ) (lane : Lane) → get_or lanes place lane ≡ lane → has_unwritten lane ≡ false → DoesHere place Says lanes lanes []
 says-nothing lanes place lane found e = record {
   lane = lane;
   next = lane;

@@ -1,11 +1,11 @@
 -- How much may wait on the lanes of a door.
 use Rattle.std.specs.Prelude.{◌≡◌, ◌≤◌, ℕ, Bool, true, false, List, [], ◌∷◌, length, ⊤}
-use Rattle.hd_lanes.specs.declared.http.Reply.{Reply}
+use Rattle.hw_lanes.specs.declared.http.Reply.{Reply}
 use Rattle.hw_door.specs.declared.heard.Heard.{Heard}
 use Rattle.hw_door.specs.Traffic.{Answer}
 use Rattle.hw_net.specs.declared.limits.TheConstants.{MOST_UNWRITTEN}
-use Rattle.hw_net.specs.declared.talk.Stage.{Stage}
-use Rattle.hw_net.specs.declared.talk.Stage.TheVariants.{Live, Lost, Closing, Over}
+use Rattle.hw_net.specs.declared.protocol.Stage.{Stage}
+use Rattle.hw_net.specs.declared.protocol.Stage.TheVariants.{Live, Lost, Closing, Over}
 use Rattle.hw_net.specs.Door.{DoorState, HearsNext, DoesAt}
 use Rattle.hw_net.specs.Lane.{Lane, waits}
 use Rattle.hw_net.specs.Turn.{Replies, Sends, Shuts}

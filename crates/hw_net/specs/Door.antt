@@ -6,8 +6,8 @@ use Rattle.hw_door.specs.declared.heard.Event.TheVariants as event
 use Rattle.hw_door.specs.Traffic.{Answer, polled, accepted, poll_failed, accept_failed}
 use Rattle.hh_http.specs.Lane.{at_start}
 use Rattle.hw_net.specs.declared.limits.TheConstants.{MOST_NAMED}
-use Rattle.hw_net.specs.declared.talk.Talk.TheVariants.{Http}
-use Rattle.hw_net.specs.declared.talk.Stage.TheVariants.{Live}
+use Rattle.hw_net.specs.declared.protocol.Protocol.TheVariants.{Http}
+use Rattle.hw_net.specs.declared.protocol.Stage.TheVariants.{Live}
 use Rattle.hw_net.specs.declared.door.NetDoor.{NetDoor}
 use Rattle.hw_net.specs.Lane.{Lane, is_over, wires_of}
 use Rattle.hw_net.specs.Turn.{TurnAll, AtLane}
@@ -28,7 +28,7 @@ abbrev pub new_lane : ℕ → ℕ → Lane
 new_lane now wire = record {
   wire = wire;
   since = now;
-  talk = Http (record { lane = at_start; busy = false; stirred = true; gave = true });
+  protocol = Http (record { lane = at_start; busy = false; has_unparsed = true; last_read_was_full = true });
   out = [];
   stage = Live;
 }

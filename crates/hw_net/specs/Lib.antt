@@ -1,10 +1,10 @@
 pub mod Limits
 pub mod Told
-pub mod News
-pub mod Asking
-pub mod Talking
+pub mod Input
+pub mod HttpState
+pub mod WebSocketState
 pub mod Lane
-pub mod Glances
+pub mod FirstReads
 pub mod Tally
 pub mod Lanes
 pub mod Rising

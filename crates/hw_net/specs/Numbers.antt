@@ -1,6 +1,6 @@
 -- The numbers of the lanes of a door.
 use Rattle.std.specs.Prelude.{◌≡◌, ℕ, Bool, List}
-use Rattle.hd_lanes.specs.declared.http.Reply.{Reply}
+use Rattle.hw_lanes.specs.declared.http.Reply.{Reply}
 use Rattle.hw_door.specs.Traffic.{Answer}
 use Rattle.hw_net.specs.Door.{DoorState, KeepsLanes, DoesAt}
 use Rattle.hw_net.specs.Lane.{Lane, wires_of}

@@ -2,10 +2,10 @@
 use Rattle.std.specs.Prelude.{◌≡◌, ◌≢◌, ◌==◌, ◌||◌, ℕ, Bool, true, false, not, nat_lt, List, [], ◌∷◌, ◌++◌, length}
 use Rattle.hw_door.specs.Traffic.{Answer, bytes_out, write_failed, was_shut}
 use Rattle.hw_net.specs.declared.limits.TheConstants.{MOST_UNWRITTEN}
-use Rattle.hw_net.specs.declared.talk.Talk.{Talk}
-use Rattle.hw_net.specs.declared.talk.Talk.TheVariants.{Http, Socket}
-use Rattle.hw_net.specs.declared.talk.Stage.{Stage}
-use Rattle.hw_net.specs.declared.talk.Stage.TheVariants.{Live, Lost, Closing, Over}
+use Rattle.hw_net.specs.declared.protocol.Protocol.{Protocol}
+use Rattle.hw_net.specs.declared.protocol.Protocol.TheVariants.{Http, Socket}
+use Rattle.hw_net.specs.declared.protocol.Stage.{Stage}
+use Rattle.hw_net.specs.declared.protocol.Stage.TheVariants.{Live, Lost, Closing, Over}
 use Rattle.hw_net.specs.Told.{Chooses}
 use Rattle.hw_net.specs.Lane.{Lane, waits, after_end}
 
@@ -20,7 +20,7 @@ Writes wire waits (write_failed at ∷ []) left is_whole = (at ≡ wire) × (wai
 Writes wire waits _ left is_whole = ⊥
 
 -- the same but for the frames that are to be written
-abbrev pub SpeaksAs : Talk → Talk → Type 0
+abbrev pub SpeaksAs : Protocol → Protocol → Type 0
 SpeaksAs (Http before) (Http after) = after ≡ before
 SpeaksAs (Socket before) (Socket after) =
     after ≡ record before { lane = record before.lane { out = record before.lane.out { bytes = after.lane.out.bytes } } }
@@ -30,7 +30,7 @@ SpeaksAs _ _ = ⊥
 pub record IsLaneStill (before after : Lane) : Type 0 where
   pub wire : after.wire ≡ before.wire
   pub since : after.since ≡ before.since
-  pub talk : SpeaksAs before.talk after.talk
+  pub protocol : SpeaksAs before.protocol after.protocol
 
 -- more waits than may
 abbrev pub is_too_much : ℕ → Bool

@@ -1,7 +1,7 @@
 -- Sessions of a door: its calls since it started, and what they hear, say and shut, put together.
 use Rattle.std.specs.Prelude.{◌≡◌, ◌⊎◌, ◌==◌, ◌&&◌, ◌||◌, ℕ, Bool, true, false, not, if◌then◌else◌, List, [], ◌∷◌, ◌++◌, length, flat_map, Contains, Some, ⊤}
-use Rattle.hd_lanes.specs.declared.http.Reply.{Reply}
-use Rattle.hd_lanes.specs.declared.http.Request.{Request}
+use Rattle.hw_lanes.specs.declared.http.Reply.{Reply}
+use Rattle.hw_lanes.specs.declared.http.Request.{Request}
 use Rattle.hh_http.specs.Asks.{Asks, request_grammar}
 use Rattle.hh_http.specs.Messages.{Refuses}
 use Rattle.hh_http.specs.Texts.{reply_text}
@@ -15,9 +15,9 @@ use Rattle.hw_socket.specs.Reading.{Feeds, Takes}
 use Rattle.hw_socket.specs.declared.vocabulary.SocketRead.TheVariants as read
 use Rattle.hw_socket.specs.declared.vocabulary.SocketSide.TheVariants as side
 use Rattle.hw_net.specs.declared.limits.TheConstants.{SWITCHING}
-use Rattle.hw_net.specs.declared.talk.Stage.TheVariants.{Lost, Over}
-use Rattle.hw_net.specs.declared.talk.Talk.{Talk}
-use Rattle.hw_net.specs.declared.talk.Talk.TheVariants.{Http, Socket}
+use Rattle.hw_net.specs.declared.protocol.Stage.TheVariants.{Lost, Over}
+use Rattle.hw_net.specs.declared.protocol.Protocol.{Protocol}
+use Rattle.hw_net.specs.declared.protocol.Protocol.TheVariants.{Http, Socket}
 use Rattle.hw_net.specs.Bounds.{has_wire}
 use Rattle.hw_net.specs.Door.{DoorState, HearsNext, KeepsLanes, DoesAt}
 use Rattle.hw_net.specs.Lane.{Lane, waits, is_live, refusal_of, is_overdue}
@@ -112,9 +112,9 @@ requests_on lane (_ ∷ calls) = requests_on lane calls
 
 -- The requests heard on a lane are those of all bytes read on its wire, and what is held is what these leave. On a lane that became a
 -- WebSocket they are those of a first part of the bytes.
-abbrev pub HeardRequests : List Call → ℕ → Talk → Type 0
-HeardRequests calls wire (Http asking) = Asks (read_on wire (answers_of calls)) (requests_on wire calls) asking.lane.held
-HeardRequests calls wire (Socket talking) =
+abbrev pub HeardRequests : List Call → ℕ → Protocol → Type 0
+HeardRequests calls wire (Http http_state) = Asks (read_on wire (answers_of calls)) (requests_on wire calls) http_state.lane.held
+HeardRequests calls wire (Socket websocket_state) =
     (bytes : List ℕ) × (rest : List ℕ) × (more : List ℕ)
     × (read_on wire (answers_of calls) ≡ bytes ++ more) × Asks bytes (requests_on wire calls) rest
 
@@ -122,7 +122,7 @@ HeardRequests calls wire (Socket talking) =
 abbrev pub RequestsAreAsked : Type 0
 RequestsAreAsked =
     (calls : List Call) (bound : ℕ) (now : DoorState) → Session calls bound now
-    → (lane : Lane) → Contains now.lanes lane → HeardRequests calls lane.wire lane.talk
+    → (lane : Lane) → Contains now.lanes lane → HeardRequests calls lane.wire lane.protocol
 
 -- what is refused on a lane is what the requests heard there leave of all bytes read on its wire
 abbrev pub RefusalsAreDeserved : Type 0
@@ -165,9 +165,9 @@ texts_of replies = flat_map reply_text replies
 
 -- What was written on a lane's wire, and then what waits, are the texts of the replies said there. On a lane that became a WebSocket the
 -- last reply is the upgrade, and its frames follow.
-abbrev pub WroteReplies : List Call → Lane → Talk → Type 0
-WroteReplies calls lane (Http asking) = written_on lane.wire (answers_of calls) ++ waits lane ≡ texts_of (replies_on lane.wire calls)
-WroteReplies calls lane (Socket talking) =
+abbrev pub WroteReplies : List Call → Lane → Protocol → Type 0
+WroteReplies calls lane (Http http_state) = written_on lane.wire (answers_of calls) ++ waits lane ≡ texts_of (replies_on lane.wire calls)
+WroteReplies calls lane (Socket websocket_state) =
     (replies : List Reply) × (upgrade : Reply) × (frames : List ℕ)
     × (replies_on lane.wire calls ≡ replies ++ upgrade ∷ []) × (upgrade.status ≡ SWITCHING)
     × (written_on lane.wire (answers_of calls) ++ waits lane ≡ texts_of (replies_on lane.wire calls) ++ frames)
@@ -176,7 +176,7 @@ WroteReplies calls lane (Socket talking) =
 abbrev pub RepliesAreWritten : Type 0
 RepliesAreWritten =
     (calls : List Call) (bound : ℕ) (now : DoorState) → Session calls bound now
-    → (lane : Lane) → Contains now.lanes lane → WroteReplies calls lane lane.talk
+    → (lane : Lane) → Contains now.lanes lane → WroteReplies calls lane lane.protocol
 
 -- a request is heard on a lane only after each one before it there was replied to
 abbrev pub RequestsWaitForReplies : Type 0
@@ -222,14 +222,14 @@ LanesHaveWires =
     → (lane : Lane) → Contains now.lanes lane → was_shut_in lane.wire (answers_of calls) ≡ not (has_wire lane.stage)
 
 -- its WebSocket is gone once it is fed with these bytes: its other side closes it or breaks its rules, or a text to send was none
-abbrev pub IsGone : List ℕ → Talk → Type 0
-IsGone bytes (Http asking) = ⊥
-IsGone bytes (Socket talking) = (fed : socket.Lane) × (next : socket.Lane) × Feeds talking.lane bytes fed × Takes fed next read.Gone
+abbrev pub IsGone : List ℕ → Protocol → Type 0
+IsGone bytes (Http http_state) = ⊥
+IsGone bytes (Socket websocket_state) = (fed : socket.Lane) × (next : socket.Lane) × Feeds websocket_state.lane bytes fed × Takes fed next read.Gone
 
 -- bytes that were read for its WebSocket are lost, as memory was out
-abbrev pub IsSpoiled : Talk → Type 0
-IsSpoiled (Http asking) = ⊥
-IsSpoiled (Socket talking) = talking.spoiled ≡ true
+abbrev pub IsSpoiled : Protocol → Type 0
+IsSpoiled (Http http_state) = ⊥
+IsSpoiled (Socket websocket_state) = websocket_state.lost_bytes ≡ true
 
 -- why a lane is lost, by what the wires answered so far, and by how it is left: its wire broke, it waited for a request for too long,
 -- or too much waits on it
@@ -245,7 +245,7 @@ LossesHaveCauses =
     → Session calls bound before → Does (heard what answers) bound bound_after before after
     → (wire : ℕ) → what.event ≡ event.Lost wire
     → ((lane : Lane) × Contains after.lanes lane × (lane.wire ≡ wire) × IsLostRightly what.now (answers_of (heard what answers ∷ calls)) lane)
-    ⊎ ((lane : Lane) × Contains before.lanes lane × (lane.wire ≡ wire) × (IsGone (read_on wire answers) lane.talk ⊎ IsSpoiled lane.talk))
+    ⊎ ((lane : Lane) × Contains before.lanes lane × (lane.wire ≡ wire) × (IsGone (read_on wire answers) lane.protocol ⊎ IsSpoiled lane.protocol))
 
 -- ---- what WebSockets do
 
@@ -280,14 +280,14 @@ pub record IsCarried (live : Bool) (came wrote : List ℕ) (requests : List Requ
   pub heard_all : socket_calls.heard calls ≡ messages
   pub wrote_all : wrote ≡ texts_of replies ++ keeps.out.bytes
 
-abbrev pub CarriesSocket : List Call → Lane → Talk → Type 0
-CarriesSocket calls lane (Http asking) = ⊤
-CarriesSocket calls lane (Socket talking) =
+abbrev pub CarriesSocket : List Call → Lane → Protocol → Type 0
+CarriesSocket calls lane (Http http_state) = ⊤
+CarriesSocket calls lane (Socket websocket_state) =
     IsCarried (is_live lane.stage) (read_on lane.wire (answers_of calls)) (written_on lane.wire (answers_of calls) ++ waits lane)
-    (requests_on lane.wire calls) (messages_on lane.wire calls) (replies_on lane.wire calls) talking.lane
+    (requests_on lane.wire calls) (messages_on lane.wire calls) (replies_on lane.wire calls) websocket_state.lane
 
 -- so it is of each lane that became a WebSocket
 abbrev pub SocketsAreCarried : Type 0
 SocketsAreCarried =
     (calls : List Call) (bound : ℕ) (now : DoorState) → Session calls bound now
-    → (lane : Lane) → Contains now.lanes lane → CarriesSocket calls lane lane.talk
+    → (lane : Lane) → Contains now.lanes lane → CarriesSocket calls lane lane.protocol

@@ -1,6 +1,6 @@
 -- What a lane does in one call of a door.
 use Rattle.std.specs.Prelude.{◌≡◌, ◌==◌, ℕ, Bool, true, false, List, [], ◌∷◌, ◌++◌, Option, None, Some, ⊤}
-use Rattle.hd_lanes.specs.declared.http.Reply.{Reply}
+use Rattle.hw_lanes.specs.declared.http.Reply.{Reply}
 use Rattle.hh_http.specs.Asks.{request_grammar}
 use Rattle.hh_http.specs.Messages.{Refuses}
 use Rattle.hh_http.specs.Texts.{reply_text}
@@ -9,31 +9,31 @@ use Rattle.hw_door.specs.declared.heard.Event.TheVariants as event
 use Rattle.hw_door.specs.Traffic.{Answer, was_shut}
 use Rattle.hw_socket.specs.Lane as socket
 use Rattle.hw_socket.specs.Sending as sending
-use Rattle.hw_net.specs.declared.news.News.{News}
-use Rattle.hw_net.specs.declared.news.News.TheVariants as news
-use Rattle.hw_net.specs.declared.talk.Talk.{Talk}
-use Rattle.hw_net.specs.declared.talk.Talk.TheVariants.{Http, Socket}
-use Rattle.hw_net.specs.declared.talk.Stage.{Stage}
-use Rattle.hw_net.specs.declared.talk.Stage.TheVariants.{Live, Lost, Closing, Over}
+use Rattle.hw_net.specs.declared.input.Input.{Input}
+use Rattle.hw_net.specs.declared.input.Input.TheVariants as input
+use Rattle.hw_net.specs.declared.protocol.Protocol.{Protocol}
+use Rattle.hw_net.specs.declared.protocol.Protocol.TheVariants.{Http, Socket}
+use Rattle.hw_net.specs.declared.protocol.Stage.{Stage}
+use Rattle.hw_net.specs.declared.protocol.Stage.TheVariants.{Live, Lost, Closing, Over}
 use Rattle.hw_net.specs.Told.{Chooses}
-use Rattle.hw_net.specs.Asking.{HearsAsking}
-use Rattle.hw_net.specs.Talking.{HearsTalking}
-use Rattle.hw_net.specs.Lane.{Lane, is_live, owes, is_overdue, refusal_of, talk_after_shut, after_reply}
+use Rattle.hw_net.specs.HttpState.{HearsHttp}
+use Rattle.hw_net.specs.WebSocketState.{HearsWebSocket}
+use Rattle.hw_net.specs.Lane.{Lane, is_live, owes, is_overdue, refusal_of, protocol_after_shut, after_reply}
 use Rattle.hw_net.specs.Saying.{WritesOut, Says, SaysMore}
 
 -- ---- hearing
 
 -- what a lane hears of its wire in one turn
-abbrev pub Hears : ℕ → Talk → Talk → List Answer → News → Type 0
-Hears wire (Http before) (Http after) answers heard = HearsAsking wire before after answers heard
-Hears wire (Socket before) (Socket after) answers heard = HearsTalking wire before after answers heard
+abbrev pub Hears : ℕ → Protocol → Protocol → List Answer → Input → Type 0
+Hears wire (Http before) (Http after) answers heard = HearsHttp wire before after answers heard
+Hears wire (Socket before) (Socket after) answers heard = HearsWebSocket wire before after answers heard
 Hears wire _ _ answers heard = ⊥
 
 -- a refusal is one of what is held
-abbrev pub IsRightNews : Talk → News → Type 0
-IsRightNews (Http asking) (news.Refused status) = Refuses request_grammar asking.lane.held status
-IsRightNews (Socket talking) (news.Refused status) = ⊥
-IsRightNews talk _ = ⊤
+abbrev pub IsRightInput : Protocol → Input → Type 0
+IsRightInput (Http http_state) (input.Refused status) = Refuses request_grammar http_state.lane.held status
+IsRightInput (Socket websocket_state) (input.Refused status) = ⊥
+IsRightInput protocol _ = ⊤
 
 -- the wire is shut, and the loss of the lane is heard
 abbrev pub Falls : Lane → Lane → List Answer → Option Event → Type 0
@@ -44,18 +44,18 @@ Falls before after answers heard =
 abbrev pub Passes : Lane → Lane → List Answer → Option Event → Option Event → Type 0
 Passes becomes after answers told heard = (answers ≡ []) × (heard ≡ told) × (after ≡ becomes)
 
--- The event that is heard of the news. A lane that has waited for too long is lost, what is no request is answered, and a WebSocket that is
+-- The event that is heard of the input. A lane that has waited for too long is lost, what is no request is answered, and a WebSocket that is
 -- gone says so.
-abbrev pub Settles : ℕ → Lane → Lane → List Answer → News → Option Event → Type 0
-Settles now before after answers news.Nothing heard =
+abbrev pub Settles : ℕ → Lane → Lane → List Answer → Input → Option Event → Type 0
+Settles now before after answers input.Nothing heard =
     Chooses (is_overdue now before) (Falls before after answers heard) (Passes before after answers None heard)
-Settles now before after answers (news.Request request) heard = Passes before after answers (Some (event.Request before.wire request)) heard
-Settles now before after answers (news.Refused status) heard =
+Settles now before after answers (input.Request request) heard = Passes before after answers (Some (event.Request before.wire request)) heard
+Settles now before after answers (input.Refused status) heard =
     Passes (record before { out = before.out ++ reply_text (refusal_of status); stage = Closing }) after answers (Some (event.Refused before.wire status)) heard
-Settles now before after answers (news.Message bytes) heard = Passes before after answers (Some (event.Bytes before.wire bytes)) heard
-Settles now before after answers news.Broken heard = Falls before after answers heard
-Settles now before after answers news.Gone heard =
-    Passes (record before { talk = talk_after_shut before.talk; stage = Closing }) after answers (Some (event.Lost before.wire)) heard
+Settles now before after answers (input.Message bytes) heard = Passes before after answers (Some (event.Bytes before.wire bytes)) heard
+Settles now before after answers input.Broken heard = Falls before after answers heard
+Settles now before after answers input.Gone heard =
+    Passes (record before { protocol = protocol_after_shut before.protocol; stage = Closing }) after answers (Some (event.Lost before.wire)) heard
 
 -- a lane whose wire was shut meanwhile is heard as lost, if nothing else is heard of it
 abbrev pub LosesAt : Stage → Lane → Lane → Option Event → Type 0
@@ -66,10 +66,10 @@ abbrev pub Loses : Option Event → Lane → Lane → Option Event → Type 0
 Loses None before after heard = LosesAt before.stage before after heard
 Loses (Some told) before after heard = (heard ≡ Some told) × (after ≡ before)
 
--- One turn of a live lane: it hears news, which become the event, and then it writes what waits.
+-- One turn of a live lane: it hears an input, which becomes the event, and then it writes what waits.
 pub record TurnsLive (now : ℕ) (before after : Lane) (answers : List Answer) (heard : Option Event) : Type 0 where
-  pub news : News
-  pub talk : Talk
+  pub input : Input
+  pub protocol : Protocol
   pub settled : Lane
   pub said : Lane
   pub told : Option Event
@@ -77,8 +77,8 @@ pub record TurnsLive (now : ℕ) (before after : Lane) (answers : List Answer) (
   pub shut : List Answer
   pub written : List Answer
   pub all : answers ≡ read ++ (shut ++ written)
-  pub hears : Hears before.wire before.talk talk read news
-  pub settles : Settles now (record before { talk = talk }) settled shut news told
+  pub hears : Hears before.wire before.protocol protocol read input
+  pub settles : Settles now (record before { protocol = protocol }) settled shut input told
   pub says : Says settled said written
   pub loses : Loses told said after heard
 
@@ -112,14 +112,14 @@ Replies now reply before after answers =
     Chooses (owes before) (SaysMore (after_reply now reply before) after answers) ((answers ≡ []) × (after ≡ before))
 
 -- a message is added to what waits of a live WebSocket, unless that is gone; another lane takes none
-abbrev pub PutsAt : Bool → Talk → List ℕ → Bool → Lane → Lane → Bool → Type 0
-PutsAt true (Socket talking) bytes text before after is_put =
-    (lane : socket.Lane) × sending.Says talking.lane lane bytes text is_put × (after ≡ record before { talk = Socket (record talking { lane = lane }) })
-PutsAt true (Http asking) bytes text before after is_put = (is_put ≡ false) × (after ≡ before)
-PutsAt false talk bytes text before after is_put = (is_put ≡ false) × (after ≡ before)
+abbrev pub PutsAt : Bool → Protocol → List ℕ → Bool → Lane → Lane → Bool → Type 0
+PutsAt true (Socket websocket_state) bytes text before after is_put =
+    (lane : socket.Lane) × sending.Says websocket_state.lane lane bytes text is_put × (after ≡ record before { protocol = Socket (record websocket_state { lane = lane }) })
+PutsAt true (Http http_state) bytes text before after is_put = (is_put ≡ false) × (after ≡ before)
+PutsAt false protocol bytes text before after is_put = (is_put ≡ false) × (after ≡ before)
 
 abbrev pub Puts : List ℕ → Bool → Lane → Lane → Bool → Type 0
-Puts bytes text before after is_put = PutsAt (is_live before.stage) before.talk bytes text before after is_put
+Puts bytes text before after is_put = PutsAt (is_live before.stage) before.protocol bytes text before after is_put
 
 -- a lane is given a message: if that was added, what waits is written, and else nothing is said
 abbrev pub Sends : List ℕ → Bool → Lane → Lane → List Answer → Type 0
@@ -131,7 +131,7 @@ Sends bytes text before after answers =
 abbrev pub Shuts : Lane → Lane → List Answer → Type 0
 Shuts before after answers =
     Chooses (is_live before.stage)
-    (WritesOut (record before { talk = talk_after_shut before.talk; stage = Closing }) after answers)
+    (WritesOut (record before { protocol = protocol_after_shut before.protocol; stage = Closing }) after answers)
     ((answers ≡ []) × (after ≡ before))
 
 -- the first lane of this number does this, if there is one, and the others stay as they are

@@ -3,7 +3,7 @@
 ghost use Rattle.std.specs.Prelude.{◌≡◌, ◌≤◌, ◌+◌, ◌∷◌, [], ℕ, List, Option, None, Some, Err, IfOk, IfErr, IfSome, IfNone, OnOk, OnErr, if◌then◌else◌, max};
 ghost use Rattle.std.specs.List.{list_any};
 ghost use Rattle.hd_facts.specs.Counts.{Rose};
-ghost use Rattle.hd_lanes.specs.Replies.{IsReply};
+ghost use Rattle.hw_lanes.specs.Replies.{IsReply};
 ghost use Rattle.hw_door.specs.declared.heard.Given.TheVariants as say;
 ghost use Rattle.hw_door.specs.Calls.{HasFaultCause, IsCaused, Hears, Says, IsLater};
 ghost use Rattle.hw_door.specs.Traffic.{Answer, polled, poll_failed, accepted, accept_failed};
@@ -16,10 +16,9 @@ ghost use Rattle.hw_net.specs.Turn.{Replies, Sends, Shuts};
 use crate::lane::NetLane;
 use crate::lanes::Lanes;
 use crate::limits::MOST_NAMED;
-use crate::ready::ReadyWires;
 use crate::turns::turn_from;
-use hd_lanes::Reply;
-use hw_door::{Door, DoorError, Event, Heard};
+use hw_door::{Door, DoorError, Event, Heard, Wires};
+use hw_lanes::Reply;
 use std::alloc::{AllocError, Global};
 use std::marker::Model;
 
@@ -32,7 +31,7 @@ use std::marker::Model;
 /// The wires wait in `poll` unless a lane may have more at once. So they have to tell of what comes on a wire after a read that gave less than
 /// there was room for.
 #[derive(Drop)]
-pub struct NetDoor<W: ReadyWires + Drop> {
+pub struct NetDoor<W: Wires + Drop> {
     alloc: Global,
     wires: W,
     lanes: Lanes,
@@ -47,7 +46,7 @@ pub struct NetDoor<W: ReadyWires + Drop> {
 }
 
 // The numbers of the lanes rise, and the wires answer no number again, so a lane is found by its number in few steps.
-impl<W: ReadyWires + Drop> Model for NetDoor<W> {
+impl<W: Wires + Drop> Model for NetDoor<W> {
     ghost use Rattle.hw_net.specs.Lane.{wires_of};
     ghost use Rattle.hw_net.specs.Parts.{DoorParts};
     ghost use Rattle.hw_net.specs.Rising.{IsRising};
@@ -66,7 +65,7 @@ impl<W: ReadyWires + Drop> Model for NetDoor<W> {
     ghost invariant = { λ d. IsRising 0 (W.wires d.wires) (wires_of d.lanes.items) };
 }
 
-impl<W: ReadyWires + Drop> NetDoor<W> {
+impl<W: Wires + Drop> NetDoor<W> {
     /// A door at which nothing was heard. It takes no memory yet.
     pub fn start(alloc: Global, wires: W) -> NetDoor<W>
         ensures state { state_of result ≡ record { lanes = []; from = 0; named = 0; moment = 0 } }
@@ -96,7 +95,7 @@ impl<W: ReadyWires + Drop> NetDoor<W> {
     fn fail(&mut self) -> DoorError
         ensures failed { result ≡ DoorError.Failed }
         ensures cause { IsCaused self.old.faults self.new.faults result }
-        ensures still { self.new ≡ record self.old { faults = self.new.faults } }
+        ensures others_unchanged { self.new ≡ record self.old { faults = self.new.faults } }
     {
         self.faults = self.faults.saturating_add(1);
         DoorError::Failed
@@ -104,7 +103,7 @@ impl<W: ReadyWires + Drop> NetDoor<W> {
 
     /// Forgets the lanes that are over.
     fn clear(&mut self)
-        ensures kept { self.new.lanes.items ≡ kept self.old.lanes.items }
+        ensures unchanged { self.new.lanes.items ≡ kept self.old.lanes.items }
         ensures wires { self.new.wires ≡ self.old.wires }
         ensures from { self.new.from ≡ self.old.from }
         ensures named { self.new.named ≡ self.old.named }
@@ -127,7 +126,7 @@ impl<W: ReadyWires + Drop> NetDoor<W> {
         ensures failed { IfErr result (λ e. (e ≡ DoorError.Failed) × Rose (W.faults self.old.wires) (W.faults self.new.wires)
             × Tells (W.told self.old.wires) (W.told self.new.wires) (poll_failed ∷ [])) }
         ensures unfailed { OnOk result (W.faults self.new.wires ≡ W.faults self.old.wires) }
-        ensures still { self.new ≡ record self.old { wires = self.new.wires; faults = self.new.faults } }
+        ensures others_unchanged { self.new ≡ record self.old { wires = self.new.wires; faults = self.new.faults } }
         ensures cause { HasFaultCause self.old.faults self.new.faults result }
         ensures bound { W.wires self.new.wires ≡ W.wires self.old.wires }
     {
@@ -183,7 +182,7 @@ impl<W: ReadyWires + Drop> NetDoor<W> {
 
     fn turn_away(&mut self, wire: u64) -> DoorError
         ensures memory { result ≡ DoorError.NoMemory }
-        ensures still { self.new ≡ record self.old { wires = self.new.wires } }
+        ensures others_unchanged { self.new ≡ record self.old { wires = self.new.wires } }
         ensures bound { W.wires self.new.wires ≡ W.wires self.old.wires }
     {
         self.wires.shut(wire);
@@ -193,7 +192,7 @@ impl<W: ReadyWires + Drop> NetDoor<W> {
     /// The number from which on the lanes come first now: that of a wire which is named, if one is, but for one search after so many.
     fn begin(&mut self) -> u64
         ensures begins { Begins (state_of self.old) result self.new.named }
-        ensures still { self.new ≡ record self.old { named = self.new.named } }
+        ensures others_unchanged { self.new ≡ record self.old { named = self.new.named } }
     {
         if self.named < MOST_NAMED
             && let Some(wire) = self.wires.ready_after(self.last_named)
@@ -236,7 +235,7 @@ impl<W: ReadyWires + Drop> NetDoor<W> {
     fn turn_from(&mut self, begin: u64, now: u64) -> Result<Option<Event>, AllocError>
         ensures hears { IfOk result (λ told. (answers : List Answer) × Tells (W.told self.old.wires) (W.told self.new.wires) answers
             × HearsAll now begin self.old.lanes.items self.new.lanes.items answers told) }
-        ensures still { self.new ≡ record self.old { wires = self.new.wires; lanes = self.new.lanes } }
+        ensures others_unchanged { self.new ≡ record self.old { wires = self.new.wires; lanes = self.new.lanes } }
         ensures lanes { wires_of self.new.lanes.items ≡ wires_of self.old.lanes.items }
         ensures bound { W.wires self.new.wires ≡ W.wires self.old.wires }
     {
@@ -260,7 +259,7 @@ fn next_lane(event: &Event) -> u64
     lane.saturating_add(1)
 }
 
-impl<W: ReadyWires + Drop> Door for NetDoor<W> {
+impl<W: Wires + Drop> Door for NetDoor<W> {
     ghost moment = { λ d. d.moment };
 
     ghost faults = { λ d. d.faults };
@@ -287,13 +286,13 @@ impl<W: ReadyWires + Drop> Door for NetDoor<W> {
     fn reply(&mut self, lane: u64, reply: Reply) -> Result<(), DoorError>
         requires { IsReply reply }
         ensures given { Says None None (λ done. say.Reply lane reply) result }
-        ensures still { self.new.moment ≡ self.old.moment }
+        ensures others_unchanged { self.new.moment ≡ self.old.moment }
         ensures cause { HasFaultCause self.old.faults self.new.faults result }
         ensures replied { OnOk result ((answers : List Answer) × Tells (W.told self.old.wires) (W.told self.new.wires) answers
             × DoesAt lane (Replies self.old.moment reply) (state_of self.old) (state_of self.new) answers) }
         ensures memory { IfErr result (λ e. e ≡ DoorError.NoMemory) }
         ensures bound { W.wires self.new.wires ≡ W.wires self.old.wires }
-        ensures kept { OnErr result ((state_of self.new ≡ state_of self.old) × (W.told self.new.wires ≡ W.told self.old.wires)) }
+        ensures unchanged { OnErr result ((state_of self.new ≡ state_of self.old) × (W.told self.new.wires ≡ W.told self.old.wires)) }
     {
         let Some(place) = self.lanes.place_of(lane) else {
             return Ok(());
@@ -305,13 +304,13 @@ impl<W: ReadyWires + Drop> Door for NetDoor<W> {
 
     fn send(&mut self, lane: u64, bytes: &[u8], text: bool) -> Result<(), DoorError>
         ensures given { Says None None (λ done. say.Bytes lane bytes.now text) result }
-        ensures still { self.new.moment ≡ self.old.moment }
+        ensures others_unchanged { self.new.moment ≡ self.old.moment }
         ensures cause { HasFaultCause self.old.faults self.new.faults result }
         ensures sent { OnOk result ((answers : List Answer) × Tells (W.told self.old.wires) (W.told self.new.wires) answers
             × DoesAt lane (Sends bytes.now text) (state_of self.old) (state_of self.new) answers) }
         ensures memory { IfErr result (λ e. e ≡ DoorError.NoMemory) }
         ensures bound { W.wires self.new.wires ≡ W.wires self.old.wires }
-        ensures kept { OnErr result ((state_of self.new ≡ state_of self.old) × (W.told self.new.wires ≡ W.told self.old.wires)) }
+        ensures unchanged { OnErr result ((state_of self.new ≡ state_of self.old) × (W.told self.new.wires ≡ W.told self.old.wires)) }
     {
         let Some(place) = self.lanes.place_of(lane) else {
             return Ok(());
@@ -322,13 +321,13 @@ impl<W: ReadyWires + Drop> Door for NetDoor<W> {
 
     fn shut(&mut self, lane: u64) -> Result<(), DoorError>
         ensures given { Says None None (λ done. say.Shut lane) result }
-        ensures still { self.new.moment ≡ self.old.moment }
+        ensures others_unchanged { self.new.moment ≡ self.old.moment }
         ensures cause { HasFaultCause self.old.faults self.new.faults result }
         ensures shut { OnOk result ((answers : List Answer) × Tells (W.told self.old.wires) (W.told self.new.wires) answers
             × DoesAt lane Shuts (state_of self.old) (state_of self.new) answers) }
         ensures memory { IfErr result (λ e. e ≡ DoorError.NoMemory) }
         ensures bound { W.wires self.new.wires ≡ W.wires self.old.wires }
-        ensures kept { OnErr result ((state_of self.new ≡ state_of self.old) × (W.told self.new.wires ≡ W.told self.old.wires)) }
+        ensures unchanged { OnErr result ((state_of self.new ≡ state_of self.old) × (W.told self.new.wires ≡ W.told self.old.wires)) }
     {
         let Some(place) = self.lanes.place_of(lane) else {
             return Ok(());

@@ -1,29 +1,29 @@
 //! One lane of a door: what it hears in a turn, and what it says.
 
 ghost use Rattle.std.specs.Prelude.{◌≡◌, ◌≤◌, ◌++◌, ◌∷◌, [], List, true, length, IfOk, IfSome, OnOk, OnErr};
-ghost use Rattle.hd_lanes.specs.Replies.{IsReply};
+ghost use Rattle.hw_lanes.specs.Replies.{IsReply};
 ghost use Rattle.hh_http.specs.Texts.{reply_text};
 ghost use Rattle.hw_door.specs.Traffic.{Answer, was_shut};
 ghost use Rattle.hw_net.specs.Door.{new_lane};
-ghost use Rattle.hw_net.specs.Glances.{Glances, IsCalmLane, IsWithin};
-ghost use Rattle.hw_net.specs.Lane.{waits, frames_of, is_over, is_awake, is_overdue, owes, refusal_of, after_end, after_reply, talk_after_shut, talk_after_reply, new_socket, rest_of};
+ghost use Rattle.hw_net.specs.FirstReads.{ReadsFirst, IsCalmLane, IsWithin};
+ghost use Rattle.hw_net.specs.Lane.{waits, frames_of, is_over, is_awake, is_overdue, owes, refusal_of, after_end, after_reply, protocol_after_shut, protocol_after_reply, new_socket, rest_of};
 ghost use Rattle.hw_net.specs.Saying.{Writes, WritesOut, Says, SaysMore, SpeaksAs, IsLaneStill, must_end};
-ghost use Rattle.hw_net.specs.Tally.{is_lagging};
+ghost use Rattle.hw_net.specs.Tally.{has_unwritten};
 ghost use Rattle.hw_net.specs.Told.{Tells};
-ghost use Rattle.hw_net.specs.Turn.{Hears, Settles, IsRightNews, TurnsLive, Listens, Loses, LosesAt, Replies, Puts, Sends, Shuts};
+ghost use Rattle.hw_net.specs.Turn.{Hears, Settles, IsRightInput, TurnsLive, Listens, Loses, LosesAt, Replies, Puts, Sends, Shuts};
 
-use crate::asking::Asking;
-use crate::glance::Glance;
+use crate::first_read::FirstRead;
+use crate::http_state::HttpState;
+use crate::input::Input;
 use crate::limits::{MOST_UNWRITTEN, MOST_WAIT, PIECE, SWITCHING};
-use crate::news::News;
+use crate::protocol::{Protocol, Stage};
 use crate::reading::read_piece;
 use crate::refusing::refusal;
-use crate::talk::{Stage, Talk};
-use crate::talking::Talking;
+use crate::websocket_state::WebSocketState;
 use crate::writing::write_bytes;
-use hd_lanes::Reply;
 use hh_http::write_reply;
 use hw_door::{Event, Wires};
+use hw_lanes::Reply;
 use hw_socket::{SocketLane, SocketSide};
 use std::alloc::{AllocError, Global};
 use std::marker::Model;
@@ -47,7 +47,7 @@ pub struct NetLane {
     wire: u64,
     // The moment since which it waits for a whole request.
     since: u64,
-    talk: Talk,
+    protocol: Protocol,
     // What was replied and isn't written. What a WebSocket has to write comes after it.
     out: Vec<u8>,
     stage: Stage,
@@ -58,7 +58,7 @@ impl Model for NetLane {
 
     ghost Value = { Lane };
 
-    ghost view = { λ a. record { wire = a.wire; since = a.since; talk = a.talk; out = a.out.items; stage = a.stage } };
+    ghost view = { λ a. record { wire = a.wire; since = a.since; protocol = a.protocol; out = a.out.items; stage = a.stage } };
 }
 
 impl NetLane {
@@ -70,7 +70,7 @@ impl NetLane {
             alloc,
             wire,
             since: now,
-            talk: Talk::Http(Asking::start(alloc)?),
+            protocol: Protocol::Http(HttpState::start(alloc)?),
             out: Vec::new(alloc),
             stage: Stage::Live,
         })
@@ -93,9 +93,9 @@ impl NetLane {
         ensures { result ≡ is_awake self.now }
     {
         match self.stage {
-            Stage::Live => match &self.talk {
-                Talk::Http(asking) => asking.is_awake(),
-                Talk::Socket(talking) => talking.is_awake(),
+            Stage::Live => match &self.protocol {
+                Protocol::Http(http_state) => http_state.is_awake(),
+                Protocol::Socket(websocket_state) => websocket_state.is_awake(),
             },
             Stage::Lost => true,
             Stage::Closing => false,
@@ -104,8 +104,8 @@ impl NetLane {
     }
 
     /// Whether there may be something to write.
-    pub fn is_lagging(&self) -> bool
-        ensures { result ≡ is_lagging self.now }
+    pub fn has_unwritten(&self) -> bool
+        ensures { result ≡ has_unwritten self.now }
     {
         match self.stage {
             Stage::Live => self.unwritten() > 0,
@@ -119,58 +119,61 @@ impl NetLane {
     fn unwritten(&self) -> usize
         ensures { result ≡ length (waits self.now) }
     {
-        match &self.talk {
-            Talk::Http(_) => self.out.len(),
-            Talk::Socket(talking) => self.out.len().saturating_add(talking.out().len()),
+        match &self.protocol {
+            Protocol::Http(_) => self.out.len(),
+            Protocol::Socket(websocket_state) => self
+                .out
+                .len()
+                .saturating_add(websocket_state.out().len()),
         }
     }
 
     /// Whether this is known, as it is of most WebSockets: nothing is to be heard or written before more bytes come.
-    fn is_calm(&self) -> bool
+    fn is_idle(&self) -> bool
         ensures { result ≡ true → IsCalmLane self.now }
     {
-        match &self.talk {
-            Talk::Http(_) => false,
-            Talk::Socket(talking) => {
-                self.stage == Stage::Live && self.out.is_empty() && talking.is_calm()
+        match &self.protocol {
+            Protocol::Http(_) => false,
+            Protocol::Socket(websocket_state) => {
+                self.stage == Stage::Live && self.out.is_empty() && websocket_state.is_idle()
             }
         }
     }
 
     /// Reads the wire, if nothing else is known to be done before more bytes come.
-    pub fn glance<W: Wires>(&self, wires: &mut W, buf: &mut [u8]) -> Glance
+    pub fn read_first<W: Wires>(&self, wires: &mut W, buf: &mut [u8]) -> FirstRead
         requires { length buf.old ≡ PIECE }
-        ensures glances { (answers : List Answer) × Tells (W.told wires.old) (W.told wires.new) answers
-            × Glances self.now answers buf.new result }
+        ensures reads_first { (answers : List Answer) × Tells (W.told wires.old) (W.told wires.new) answers
+            × ReadsFirst self.now answers buf.new result }
         ensures count { IsWithin result }
         ensures wires { W.wires wires.new ≡ W.wires wires.old }
     {
-        if !self.is_calm() {
-            return Glance::Unread;
+        if !self.is_idle() {
+            return FirstRead::Unread;
         }
         match read_piece(wires, self.wire, buf) {
-            Some(0) => Glance::Still,
-            read => Glance::Read(read),
+            Some(0) => FirstRead::NothingRead,
+            read => FirstRead::Read(read),
         }
     }
 
-    /// One turn, after this glance: the lane hears at most one event, and then writes what waits.
+    /// One turn, after this first look: the lane hears at most one event, and then writes what waits.
     pub fn turn<W: Wires>(
         &mut self,
-        glance: Glance,
+        first_look: FirstRead,
         wires: &mut W,
         buf: &mut [u8],
         now: u64,
     ) -> Result<Option<Event>, AllocError>
         requires buffer { length buf.old ≡ PIECE }
-        requires count { IsWithin glance }
-        ensures turned { IfOk result (λ heard. (first : List Answer) → Glances self.old first buf.old glance
+        requires count { IsWithin first_look }
+        ensures turned { IfOk result (λ heard. (first : List Answer) → ReadsFirst self.old first buf.old first_look
             → (answers : List Answer) × Tells (W.told wires.old) (W.told wires.new) answers × Listens now self.old self.new (first ++ answers) heard) }
         ensures wires { W.wires wires.new ≡ W.wires wires.old }
         ensures lane { self.new.wire ≡ self.old.wire }
     {
         match self.stage {
-            Stage::Live => self.turn_live(glance, wires, buf, now),
+            Stage::Live => self.turn_live(first_look, wires, buf, now),
             Stage::Lost => Ok(Some(self.tell_loss())),
             Stage::Closing => {
                 self.say(wires);
@@ -182,60 +185,60 @@ impl NetLane {
 
     fn turn_live<W: Wires>(
         &mut self,
-        glance: Glance,
+        first_look: FirstRead,
         wires: &mut W,
         buf: &mut [u8],
         now: u64,
     ) -> Result<Option<Event>, AllocError>
         requires buffer { length buf.old ≡ PIECE }
-        requires count { IsWithin glance }
+        requires count { IsWithin first_look }
         requires live { self.old.stage ≡ Stage.Live }
-        ensures turned { IfOk result (λ heard. (first : List Answer) → Glances self.old first buf.old glance
+        ensures turned { IfOk result (λ heard. (first : List Answer) → ReadsFirst self.old first buf.old first_look
             → (answers : List Answer) × Tells (W.told wires.old) (W.told wires.new) answers × TurnsLive now self.old self.new (first ++ answers) heard) }
         ensures wires { W.wires wires.new ≡ W.wires wires.old }
         ensures lane { self.new.wire ≡ self.old.wire }
     {
-        let news = self.hear_on(glance, wires, buf)?;
-        let event = self.take(wires, news, now)?;
+        let input = self.hear_on(first_look, wires, buf)?;
+        let event = self.take(wires, input, now)?;
         self.say(wires);
         Ok(self.heard(event))
     }
 
-    /// Hears what there is after this glance.
+    /// Hears what there is after this first look.
     fn hear_on<W: Wires>(
         &mut self,
-        glance: Glance,
+        first_look: FirstRead,
         wires: &mut W,
         buf: &mut [u8],
-    ) -> Result<News, AllocError>
+    ) -> Result<Input, AllocError>
         requires buffer { length buf.old ≡ PIECE }
-        requires count { IsWithin glance }
-        ensures heard { IfOk result (λ news. (first : List Answer) → Glances self.old first buf.old glance
+        requires count { IsWithin first_look }
+        ensures heard { IfOk result (λ input. (first : List Answer) → ReadsFirst self.old first buf.old first_look
             → (answers : List Answer) × Tells (W.told wires.old) (W.told wires.new) answers
-            × Hears self.old.wire self.old.talk self.new.talk (first ++ answers) news) }
-        ensures right { IfOk result (IsRightNews self.new.talk) }
-        ensures still { self.new ≡ record self.old { talk = self.new.talk } }
+            × Hears self.old.wire self.old.protocol self.new.protocol (first ++ answers) input) }
+        ensures right { IfOk result (IsRightInput self.new.protocol) }
+        ensures others_unchanged { self.new ≡ record self.old { protocol = self.new.protocol } }
         ensures wires { W.wires wires.new ≡ W.wires wires.old }
     {
-        match glance {
-            Glance::Unread => self.hear(wires, buf),
-            Glance::Still => Ok(News::Nothing),
-            Glance::Read(read) => self.hear_after(read, buf),
+        match first_look {
+            FirstRead::Unread => self.hear(wires, buf),
+            FirstRead::NothingRead => Ok(Input::Nothing),
+            FirstRead::Read(read) => self.hear_after(read, buf),
         }
     }
 
     /// Hears what comes of this read.
-    fn hear_after(&mut self, read: Option<usize>, buf: &[u8]) -> Result<News, AllocError>
+    fn hear_after(&mut self, read: Option<usize>, buf: &[u8]) -> Result<Input, AllocError>
         requires buffer { length buf.now ≡ PIECE }
         requires count { IfSome read (λ count. count ≤ PIECE) }
-        ensures heard { IfOk result (λ news. (first : List Answer) → Glances self.old first buf.now (Glance.Read read)
-            → Hears self.old.wire self.old.talk self.new.talk first news) }
-        ensures right { IfOk result (IsRightNews self.new.talk) }
-        ensures still { self.new ≡ record self.old { talk = self.new.talk } }
+        ensures heard { IfOk result (λ input. (first : List Answer) → ReadsFirst self.old first buf.now (FirstRead.Read read)
+            → Hears self.old.wire self.old.protocol self.new.protocol first input) }
+        ensures right { IfOk result (IsRightInput self.new.protocol) }
+        ensures others_unchanged { self.new ≡ record self.old { protocol = self.new.protocol } }
     {
-        match &mut self.talk {
-            Talk::Http(_) => Ok(News::Nothing),
-            Talk::Socket(talking) => talking.hear_after(read, buf),
+        match &mut self.protocol {
+            Protocol::Http(_) => Ok(Input::Nothing),
+            Protocol::Socket(websocket_state) => websocket_state.hear_after(read, buf),
         }
     }
 
@@ -262,47 +265,47 @@ impl NetLane {
         }
     }
 
-    fn hear<W: Wires>(&mut self, wires: &mut W, buf: &mut [u8]) -> Result<News, AllocError>
+    fn hear<W: Wires>(&mut self, wires: &mut W, buf: &mut [u8]) -> Result<Input, AllocError>
         requires { length buf.old ≡ PIECE }
-        ensures heard { IfOk result (λ news. (answers : List Answer) × Tells (W.told wires.old) (W.told wires.new) answers
-            × Hears self.old.wire self.old.talk self.new.talk answers news) }
-        ensures still { self.new ≡ record self.old { talk = self.new.talk } }
+        ensures heard { IfOk result (λ input. (answers : List Answer) × Tells (W.told wires.old) (W.told wires.new) answers
+            × Hears self.old.wire self.old.protocol self.new.protocol answers input) }
+        ensures others_unchanged { self.new ≡ record self.old { protocol = self.new.protocol } }
         ensures wires { W.wires wires.new ≡ W.wires wires.old }
     {
-        match &mut self.talk {
-            Talk::Http(asking) => asking.hear(wires, self.wire, buf),
-            Talk::Socket(talking) => talking.hear(wires, self.wire, buf),
+        match &mut self.protocol {
+            Protocol::Http(http_state) => http_state.hear(wires, self.wire, buf),
+            Protocol::Socket(websocket_state) => websocket_state.hear(wires, self.wire, buf),
         }
     }
 
-    /// What is heard of the news.
+    /// What is heard of this input.
     fn take<W: Wires>(
         &mut self,
         wires: &mut W,
-        news: News,
+        input: Input,
         now: u64,
     ) -> Result<Option<Event>, AllocError>
         requires live { self.old.stage ≡ Stage.Live }
-        requires right { IsRightNews self.old.talk news }
+        requires right { IsRightInput self.old.protocol input }
         ensures settled { IfOk result (λ heard. (answers : List Answer) × Tells (W.told wires.old) (W.told wires.new) answers
-            × Settles now self.old self.new answers news heard) }
+            × Settles now self.old self.new answers input heard) }
         ensures wires { W.wires wires.new ≡ W.wires wires.old }
         ensures lane { self.new.wire ≡ self.old.wire }
     {
         let lane = self.wire;
-        match news {
-            News::Nothing => Ok(self.expire(wires, now)),
-            News::Request(request) => Ok(Some(Event::Request { lane, request })),
-            News::Refused(status) => {
+        match input {
+            Input::Nothing => Ok(self.expire(wires, now)),
+            Input::Request(request) => Ok(Some(Event::Request { lane, request })),
+            Input::Refused(status) => {
                 self.refuse(status)?;
                 Ok(Some(Event::Refused { lane, status }))
             }
-            News::Message(bytes) => Ok(Some(Event::Bytes { lane, bytes })),
-            News::Broken => {
+            Input::Message(bytes) => Ok(Some(Event::Bytes { lane, bytes })),
+            Input::Broken => {
                 self.end(wires);
                 Ok(Some(self.tell_loss()))
             }
-            News::Gone => {
+            Input::Gone => {
                 self.part()?;
                 Ok(Some(Event::Lost { lane }))
             }
@@ -313,7 +316,7 @@ impl NetLane {
     fn expire<W: Wires>(&mut self, wires: &mut W, now: u64) -> Option<Event>
         requires { self.old.stage ≡ Stage.Live }
         ensures settled { (answers : List Answer) × Tells (W.told wires.old) (W.told wires.new) answers
-            × Settles now self.old self.new answers News.Nothing result }
+            × Settles now self.old self.new answers Input.Nothing result }
         ensures wires { W.wires wires.new ≡ W.wires wires.old }
         ensures lane { self.new.wire ≡ self.old.wire }
     {
@@ -327,9 +330,10 @@ impl NetLane {
     fn is_overdue(&self, now: u64) -> bool
         ensures { result ≡ is_overdue now self.now }
     {
-        match &self.talk {
-            Talk::Http(asking) => !asking.is_busy() && now.saturating_sub(self.since) >= MOST_WAIT,
-            Talk::Socket(_) => false,
+        match &self.protocol {
+            Protocol::Http(http_state) => !http_state.is_busy()
+                && now.saturating_sub(self.since) >= MOST_WAIT,
+            Protocol::Socket(_) => false,
         }
     }
 
@@ -347,10 +351,10 @@ impl NetLane {
     /// Says that the WebSocket ends. The lane is heard no more.
     fn part(&mut self) -> Result<(), AllocError>
         ensures err { OnErr result (self.new ≡ self.old) }
-        ensures ok { OnOk result (self.new ≡ record self.old { talk = talk_after_shut self.old.talk; stage = Stage.Closing }) }
+        ensures ok { OnOk result (self.new ≡ record self.old { protocol = protocol_after_shut self.old.protocol; stage = Stage.Closing }) }
     {
-        if let Talk::Socket(talking) = &mut self.talk {
-            talking.shut()?;
+        if let Protocol::Socket(websocket_state) = &mut self.protocol {
+            websocket_state.shut()?;
         }
         self.stage = Stage::Closing;
         Ok(())
@@ -411,7 +415,7 @@ impl NetLane {
     fn write<W: Wires>(&mut self, wires: &mut W) -> bool
         ensures written { (answers : List Answer) × Tells (W.told wires.old) (W.told wires.new) answers
             × Writes self.old.wire (waits self.old) answers (waits self.new) result }
-        ensures still { IsLaneStill self.old self.new }
+        ensures others_unchanged { IsLaneStill self.old self.new }
         ensures stage { self.new.stage ≡ self.old.stage }
         ensures wires { W.wires wires.new ≡ W.wires wires.old }
     {
@@ -427,14 +431,14 @@ impl NetLane {
     /// Writes what a WebSocket has to write. The answer is false if the wire failed.
     fn write_frames<W: Wires>(&mut self, wires: &mut W) -> bool
         ensures written { (answers : List Answer) × Tells (W.told wires.old) (W.told wires.new) answers
-            × Writes self.old.wire (frames_of self.old.talk) answers (frames_of self.new.talk) result }
-        ensures talk { SpeaksAs self.old.talk self.new.talk }
-        ensures still { self.new ≡ record self.old { talk = self.new.talk } }
+            × Writes self.old.wire (frames_of self.old.protocol) answers (frames_of self.new.protocol) result }
+        ensures protocol { SpeaksAs self.old.protocol self.new.protocol }
+        ensures others_unchanged { self.new ≡ record self.old { protocol = self.new.protocol } }
         ensures wires { W.wires wires.new ≡ W.wires wires.old }
     {
-        match &mut self.talk {
-            Talk::Http(_) => true,
-            Talk::Socket(talking) => talking.write(wires, self.wire),
+        match &mut self.protocol {
+            Protocol::Http(_) => true,
+            Protocol::Socket(websocket_state) => websocket_state.write(wires, self.wire),
         }
     }
 
@@ -461,7 +465,7 @@ impl NetLane {
         requires { IsReply reply.now }
         ensures replied { OnOk result ((answers : List Answer) × Tells (W.told wires.old) (W.told wires.new) answers
             × Replies now reply.now self.old self.new answers) }
-        ensures kept { OnErr result ((self.new ≡ self.old) × (W.told wires.new ≡ W.told wires.old)) }
+        ensures unchanged { OnErr result ((self.new ≡ self.old) × (W.told wires.new ≡ W.told wires.old)) }
         ensures wires { W.wires wires.new ≡ W.wires wires.old }
         ensures lane { self.new.wire ≡ self.old.wire }
     {
@@ -481,24 +485,24 @@ impl NetLane {
     fn owes(&self) -> bool
         ensures { result ≡ owes self.now }
     {
-        match &self.talk {
-            Talk::Http(asking) => self.stage == Stage::Live && asking.is_busy(),
-            Talk::Socket(_) => false,
+        match &self.protocol {
+            Protocol::Http(http_state) => self.stage == Stage::Live && http_state.is_busy(),
+            Protocol::Socket(_) => false,
         }
     }
 
     fn answer(&mut self, reply: &Reply, now: u64) -> Result<(), AllocError>
         requires { IsReply reply.now }
         ensures ok { OnOk result (self.new ≡ record self.old {
-          talk = talk_after_reply self.old.talk;
+          protocol = protocol_after_reply self.old.protocol;
           out = self.old.out ++ reply_text reply.now;
           since = now;
         }) }
         ensures err { OnErr result (self.new ≡ self.old) }
     {
         write_reply(reply, &mut self.out)?;
-        if let Talk::Http(asking) = &mut self.talk {
-            asking.go_on();
+        if let Protocol::Http(http_state) = &mut self.protocol {
+            http_state.go_on();
         }
         self.since = now;
         Ok(())
@@ -508,17 +512,17 @@ impl NetLane {
     fn upgrade(&mut self, reply: &Reply) -> Result<(), AllocError>
         requires { IsReply reply.now }
         ensures ok { OnOk result (self.new ≡ record self.old {
-          talk = new_socket (rest_of self.old.talk);
+          protocol = new_socket (rest_of self.old.protocol);
           out = self.old.out ++ reply_text reply.now;
         }) }
         ensures err { OnErr result (self.new ≡ self.old) }
     {
         let mut lane = SocketLane::start(self.alloc, SocketSide::Server);
-        if let Talk::Http(asking) = &self.talk {
-            lane.feed(asking.rest())?;
+        if let Protocol::Http(http_state) = &self.protocol {
+            lane.feed(http_state.rest())?;
         }
         write_reply(reply, &mut self.out)?;
-        self.talk = Talk::Socket(Talking::of(lane));
+        self.protocol = Protocol::Socket(WebSocketState::of(lane));
         Ok(())
     }
 
@@ -531,7 +535,7 @@ impl NetLane {
     ) -> Result<(), AllocError>
         ensures sent { OnOk result ((answers : List Answer) × Tells (W.told wires.old) (W.told wires.new) answers
             × Sends bytes.now text self.old self.new answers) }
-        ensures kept { OnErr result ((self.new ≡ self.old) × (W.told wires.new ≡ W.told wires.old)) }
+        ensures unchanged { OnErr result ((self.new ≡ self.old) × (W.told wires.new ≡ W.told wires.old)) }
         ensures wires { W.wires wires.new ≡ W.wires wires.old }
         ensures lane { self.new.wire ≡ self.old.wire }
     {
@@ -550,9 +554,9 @@ impl NetLane {
         if self.stage != Stage::Live {
             return Ok(false);
         }
-        match &mut self.talk {
-            Talk::Http(_) => Ok(false),
-            Talk::Socket(talking) => talking.send(bytes, text),
+        match &mut self.protocol {
+            Protocol::Http(_) => Ok(false),
+            Protocol::Socket(websocket_state) => websocket_state.send(bytes, text),
         }
     }
 
@@ -560,7 +564,7 @@ impl NetLane {
     pub fn shut<W: Wires>(&mut self, wires: &mut W) -> Result<(), AllocError>
         ensures shut { OnOk result ((answers : List Answer) × Tells (W.told wires.old) (W.told wires.new) answers
             × Shuts self.old self.new answers) }
-        ensures kept { OnErr result ((self.new ≡ self.old) × (W.told wires.new ≡ W.told wires.old)) }
+        ensures unchanged { OnErr result ((self.new ≡ self.old) × (W.told wires.new ≡ W.told wires.old)) }
         ensures wires { W.wires wires.new ≡ W.wires wires.old }
         ensures lane { self.new.wire ≡ self.old.wire }
     {

@@ -3,10 +3,10 @@
 
 ghost use Rattle.std.specs.Prelude.{◌≡◌, ◌<◌, ◌==◌, ◌++◌, ◌∷◌, [], List, length, nat_lt, position, IfOk, IfErr, OnOk, OnErr};
 ghost use Rattle.std.specs.List.{list_any};
-ghost use Rattle.hd_lanes.specs.Replies.{IsReply};
+ghost use Rattle.hw_lanes.specs.Replies.{IsReply};
 ghost use Rattle.hw_door.specs.Traffic.{Answer};
 ghost use Rattle.hw_net.specs.Door.{kept, place_of_first};
-ghost use Rattle.hw_net.specs.Glances.{GlancesAt, IsWithin};
+ghost use Rattle.hw_net.specs.FirstReads.{ReadsFirstAt, IsWithin};
 ghost use Rattle.hw_net.specs.Lane.{Lane, is_awake, wires_of};
 ghost use Rattle.hw_net.specs.Lanes.{DoesHere};
 ghost use Rattle.hw_net.specs.Rising.{Rise};
@@ -16,12 +16,12 @@ ghost use Rattle.hw_net.specs.Told.{Tells};
 ghost use Rattle.hw_net.specs.Turn.{Listens, Replies, Sends, Shuts};
 
 use crate::finding::{place_of, place_of_first};
-use crate::glance::Glance;
+use crate::first_read::FirstRead;
 use crate::lane::NetLane;
 use crate::limits::PIECE;
 use crate::tally::Tally;
-use hd_lanes::Reply;
 use hw_door::{Event, Wires};
+use hw_lanes::Reply;
 use std::alloc::{AllocError, Global};
 use std::marker::Model;
 
@@ -69,10 +69,10 @@ impl Lanes {
     }
 
     /// Whether some lane may have something to write.
-    pub fn has_lagging(&self) -> bool
-        ensures { result ≡ nat_lt 0 (tally_of self.now.items).lagging }
+    pub fn has_writers(&self) -> bool
+        ensures { result ≡ nat_lt 0 (tally_of self.now.items).writers }
     {
-        self.tally.has_lagging()
+        self.tally.has_writers()
     }
 
     /// Forgets the lanes that are over.
@@ -88,7 +88,7 @@ impl Lanes {
     /// Adds a lane after all others.
     pub fn add(&mut self, lane: NetLane) -> Result<(), AllocError>
         ensures added { OnOk result (self.new.items ≡ self.old.items ++ lane ∷ []) }
-        ensures kept { OnErr result (self.new.items ≡ self.old.items) }
+        ensures unchanged { OnErr result (self.new.items ≡ self.old.items) }
     {
         let place = self.items.len();
         self.items.push(lane)?;
@@ -113,30 +113,30 @@ impl Lanes {
     }
 
     /// Reads the wire of the lane of this place, if nothing else is known to be done there before more bytes come.
-    pub fn glance<W: Wires>(&self, place: usize, wires: &mut W, buf: &mut [u8]) -> Glance
+    pub fn read_first<W: Wires>(&self, place: usize, wires: &mut W, buf: &mut [u8]) -> FirstRead
         requires buffer { length buf.old ≡ PIECE }
         requires place { place < length self.now.items }
-        ensures glances { (answers : List Answer) × Tells (W.told wires.old) (W.told wires.new) answers
-            × GlancesAt place self.now.items answers buf.new result }
+        ensures reads_first { (answers : List Answer) × Tells (W.told wires.old) (W.told wires.new) answers
+            × ReadsFirstAt place self.now.items answers buf.new result }
         ensures count { IsWithin result }
         ensures wires { W.wires wires.new ≡ W.wires wires.old }
     {
-        self.items[place].glance(wires, buf)
+        self.items[place].read_first(wires, buf)
     }
 
-    /// A turn of the lane of this place, after this glance at it.
+    /// A turn of the lane of this place, after this first look at it.
     pub fn turn<W: Wires>(
         &mut self,
         place: usize,
-        glance: Glance,
+        first_look: FirstRead,
         wires: &mut W,
         buf: &mut [u8],
         now: u64,
     ) -> Result<Option<Event>, AllocError>
         requires buffer { length buf.old ≡ PIECE }
         requires place { place < length self.old.items }
-        requires count { IsWithin glance }
-        ensures turned { IfOk result (λ heard. (first : List Answer) → GlancesAt place self.old.items first buf.old glance
+        requires count { IsWithin first_look }
+        ensures turned { IfOk result (λ heard. (first : List Answer) → ReadsFirstAt place self.old.items first buf.old first_look
             → (answers : List Answer) × Tells (W.told wires.old) (W.told wires.new) answers
             × DoesHere place (λ before after said. Listens now before after (first ++ said) heard)
             self.old.items self.new.items answers) }
@@ -145,7 +145,7 @@ impl Lanes {
     {
         let lane = &mut self.items[place];
         self.tally.leave(lane);
-        let heard = lane.turn(glance, wires, buf, now);
+        let heard = lane.turn(first_look, wires, buf, now);
         self.tally.enter(lane);
         heard
     }
@@ -158,7 +158,7 @@ impl Lanes {
         ensures wires { W.wires wires.new ≡ W.wires wires.old }
         ensures lanes { wires_of self.new.items ≡ wires_of self.old.items }
     {
-        if !self.items[place].is_lagging() {
+        if !self.items[place].has_unwritten() {
             return;
         }
         let lane = &mut self.items[place];
@@ -180,7 +180,7 @@ impl Lanes {
         ensures replied { OnOk result ((answers : List Answer)
             × Tells (W.told wires.old) (W.told wires.new) answers
             × DoesHere place (Replies now reply.now) self.old.items self.new.items answers) }
-        ensures kept { OnErr result ((self.new.items ≡ self.old.items) × (W.told wires.new ≡ W.told wires.old)) }
+        ensures unchanged { OnErr result ((self.new.items ≡ self.old.items) × (W.told wires.new ≡ W.told wires.old)) }
         ensures wires { W.wires wires.new ≡ W.wires wires.old }
         ensures lanes { wires_of self.new.items ≡ wires_of self.old.items }
     {
@@ -203,7 +203,7 @@ impl Lanes {
         ensures sent { OnOk result ((answers : List Answer)
             × Tells (W.told wires.old) (W.told wires.new) answers
             × DoesHere place (Sends bytes.now text) self.old.items self.new.items answers) }
-        ensures kept { OnErr result ((self.new.items ≡ self.old.items) × (W.told wires.new ≡ W.told wires.old)) }
+        ensures unchanged { OnErr result ((self.new.items ≡ self.old.items) × (W.told wires.new ≡ W.told wires.old)) }
         ensures wires { W.wires wires.new ≡ W.wires wires.old }
         ensures lanes { wires_of self.new.items ≡ wires_of self.old.items }
     {
@@ -220,7 +220,7 @@ impl Lanes {
         ensures shut { OnOk result ((answers : List Answer)
             × Tells (W.told wires.old) (W.told wires.new) answers
             × DoesHere place Shuts self.old.items self.new.items answers) }
-        ensures kept { OnErr result ((self.new.items ≡ self.old.items) × (W.told wires.new ≡ W.told wires.old)) }
+        ensures unchanged { OnErr result ((self.new.items ≡ self.old.items) × (W.told wires.new ≡ W.told wires.old)) }
         ensures wires { W.wires wires.new ≡ W.wires wires.old }
         ensures lanes { wires_of self.new.items ≡ wires_of self.old.items }
     {

@@ -1,22 +1,79 @@
-//! The door of a server over any wires: bytes become requests and messages, and replies and messages become bytes.
+//! The door of a server over any wires: bytes that are read become requests and messages, and replies and messages become bytes that are
+//! written. [`NetDoor`] is a [`hw_door::Door`] over any [`hw_door::Wires`]; each connection is a lane, with the number of its wire.
+//!
+//! ```text
+//! accepted
+//!    |
+//!    v          its head is whole             its body is: `Request`             a reply with 101
+//! waits for a head ------------> reads a body -----------------> owes a reply ------------------> is a WebSocket
+//!    ^                                                                |
+//!    +----------------------------------------------------------------+
+//!                                any other reply
+//!
+//! These four are live. A live lane ends in one of three ways:
+//!
+//!       bytes that are no request: `Refused`            all is written, a write fails,
+//!       the WebSocket is gone: `Lost`                   or more than 1 MiB waits
+//! live -------------------------------------> closing ---------------------------------> over
+//!       the call `shut`
+//!
+//!       a write fails,
+//!       or more than 1 MiB would wait                   its turn: `Lost`
+//! live -------------------------------------> lost ------------------------------------> over
+//!
+//!       the wire ended or a read failed, no whole request came in 30 s, or memory was
+//!       out for bytes that a WebSocket had read: `Lost`
+//! live --------------------------------------------------------------------------------> over
+//! ```
+//!
+//! A lane that is closing isn't read any more, but writes what waits. The wire is shut where a lane becomes lost, and else where it is
+//! over. The next call of `next` forgets a lane that is over.
+//!
+//! ```text
+//! let mut door = NetDoor::start(alloc, wires);
+//! loop {
+//!     let heard = door.next(wait)?;                        // waits for at most so many milliseconds
+//!     match heard.event {
+//!         Event::Request { lane, request } => door.reply(lane, reply_to(request))?,
+//!         Event::Bytes { lane, bytes } => door.send(lane, answer_to(bytes), true)?,
+//!         Event::Refused { lane, .. } => forget(lane),     // it was answered, and nothing more is heard of it
+//!         Event::Lost { lane } => forget(lane),
+//!         _ => {}                                          // `Quiet`: nothing came in that time
+//!     }
+//! }
+//! ```
+//!
+//! Proved, of each call, by the answers that the wires gave in it:
+//!
+//! - `start` takes no memory, and has no lanes.
+//! - `next` polls once, accepts one connection at most, and gives the lanes their turns until one hears something, which is what all bytes
+//!   of that lane say. It is `Quiet` only if each lane was listened to, loses no lane, and fails only where `poll` or `accept` did.
+//! - `reply` puts the text of the reply behind what waits, if a request waits for it.
+//! - `send` puts the frame of a message behind what waits, if the lane is a live WebSocket that isn't gone.
+//! - `shut` puts a close frame behind what waits, if the lane is a live WebSocket, and the wire is shut once all is written.
+//!
+//! The last three write as far as the wire takes it, leave all other lanes as they are, and change nothing when memory is out. Over whole
+//! sessions, in which no call was out of memory, what is heard is what was read, what was written and waits is what was replied, in
+//! order, and a wire is shut once, for a cause: [`requests_are_asked`], [`replies_are_written`] and the laws beside them.
+//!
+//! The crate doesn't know what a request means, what a message says, sockets, nor clocks: moments are those that the wires polled.
 #![tactic(auto)]
 
-mod asking;
 mod door;
 mod finding;
-mod glance;
+mod first_read;
+mod http_state;
+mod input;
 mod lane;
 mod lanes;
 mod laws;
 mod limits;
-mod news;
+mod protocol;
 mod reading;
-mod ready;
 mod refusing;
-mod talk;
-mod talking;
 mod tally;
 mod turns;
+mod websocket_state;
 mod writing;
 
 pub use door::NetDoor;
@@ -25,4 +82,3 @@ pub use laws::{
     requests_are_asked, requests_wait_for_replies, sockets_are_carried, wires_are_shut_for_a_cause,
 };
 pub use limits::{MOST_NAMED, MOST_UNWRITTEN, MOST_WAIT};
-pub use ready::ReadyWires;

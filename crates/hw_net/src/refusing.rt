@@ -3,7 +3,7 @@
 ghost use Rattle.std.specs.Prelude.{◌≡◌};
 ghost use Rattle.hw_net.specs.Lane.{refusal_of};
 
-use hd_lanes::{BodyKind, Reply, Vec8};
+use hw_lanes::{BodyKind, Reply, Vec8};
 use std::alloc::Global;
 
 /// A reply with this status and nothing else.

@@ -14,7 +14,7 @@ pub struct Tally {
     // Lanes of which something may be heard at once.
     awake: usize,
     // Lanes that may have something to write.
-    lagging: usize,
+    writers: usize,
 }
 
 impl Tally {
@@ -25,7 +25,7 @@ impl Tally {
         Tally {
             over: 0,
             awake: 0,
-            lagging: 0,
+            writers: 0,
         }
     }
 
@@ -36,7 +36,7 @@ impl Tally {
     {
         self.over += usize::from(lane.is_over());
         self.awake += usize::from(lane.is_awake());
-        self.lagging += usize::from(lane.is_lagging());
+        self.writers += usize::from(lane.has_unwritten());
     }
 
     /// Counts this lane no more.
@@ -46,7 +46,7 @@ impl Tally {
     {
         self.over -= usize::from(lane.is_over());
         self.awake -= usize::from(lane.is_awake());
-        self.lagging -= usize::from(lane.is_lagging());
+        self.writers -= usize::from(lane.has_unwritten());
     }
 
     /// Counts the lanes that are over no more.
@@ -68,9 +68,9 @@ impl Tally {
         self.awake > 0
     }
 
-    pub fn has_lagging(&self) -> bool
-        ensures { result ≡ nat_lt 0 self.now.lagging }
+    pub fn has_writers(&self) -> bool
+        ensures { result ≡ nat_lt 0 self.now.writers }
     {
-        self.lagging > 0
+        self.writers > 0
     }
 }

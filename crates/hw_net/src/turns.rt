@@ -8,7 +8,7 @@ ghost use Rattle.hw_net.specs.Rising.{Rise};
 ghost use Rattle.hw_net.specs.Told.{Tells};
 ghost use Rattle.hw_net.specs.Walks.{Walks, Speak};
 
-use crate::glance::Glance;
+use crate::first_read::FirstRead;
 use crate::lanes::Lanes;
 use crate::limits::PIECE;
 use hw_door::{Event, Wires};
@@ -44,11 +44,11 @@ fn turn_until<W: Wires>(
     ensures lanes { wires_of lanes.new.items ≡ wires_of lanes.old.items }
 {
     for place in begin..end {
-        let glance = lanes.glance(place, wires, buf);
-        if glance == Glance::Still {
+        let first_look = lanes.read_first(place, wires, buf);
+        if first_look == FirstRead::NothingRead {
             continue;
         }
-        if let Some(event) = lanes.turn(place, glance, wires, buf, now)? {
+        if let Some(event) = lanes.turn(place, first_look, wires, buf, now)? {
             return Ok(Some(Found {
                 event,
                 next: place + 1,
@@ -67,7 +67,7 @@ fn say_all<W: Wires>(lanes: &mut Lanes, begin: usize, end: usize, wires: &mut W)
     ensures wires { W.wires wires.new ≡ W.wires wires.old }
     ensures lanes { wires_of lanes.new.items ≡ wires_of lanes.old.items }
 {
-    if !lanes.has_lagging() {
+    if !lanes.has_writers() {
         return;
     }
     for place in begin..end {

@@ -30,7 +30,7 @@ pub fn write_bytes<W: Wires>(wires: &mut W, wire: u64, bytes: &mut Vec<u8>) -> b
 pub fn write_frames<W: Wires>(wires: &mut W, wire: u64, lane: &mut SocketLane) -> bool
     ensures writes { (answers : List Answer) × Tells (W.told wires.old) (W.told wires.new) answers
         × Writes wire lane.old.out.bytes answers lane.new.out.bytes result }
-    ensures still { lane.new ≡ record lane.old { out = record lane.old.out { bytes = lane.new.out.bytes } } }
+    ensures others_unchanged { lane.new ≡ record lane.old { out = record lane.old.out { bytes = lane.new.out.bytes } } }
     ensures wires { W.wires wires.new ≡ W.wires wires.old }
 {
     while !lane.out().is_empty() {

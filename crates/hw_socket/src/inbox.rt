@@ -50,7 +50,7 @@ impl Inbox {
     /// Adds bytes that came.
     pub fn feed(&mut self, piece: &[u8]) -> Result<(), AllocError>
         ensures fed { OnOk result (self.new ≡ self.old ++ piece.now) }
-        ensures kept { OnErr result (self.new ≡ self.old) }
+        ensures unchanged { OnErr result (self.new ≡ self.old) }
     {
         self.compact();
         self.fed.extend_from_slice(piece)
@@ -96,7 +96,7 @@ impl Inbox {
         ensures inside { IfOk result (λ status. IfMessage status (IsReceivedInside self.new)) }
         ensures refused { IfErr result (GivesError (read_step context.old self.old)) }
         ensures failed { OnErr result (context.new ≡ failed_connection context.old) }
-        ensures kept { OnErr result (outbox.new ≡ outbox.old) }
+        ensures unchanged { OnErr result (outbox.new ≡ outbox.old) }
     {
         outbox.read(context, &mut self.fed[self.start..])
     }

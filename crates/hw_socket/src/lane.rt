@@ -13,7 +13,7 @@ ghost use Rattle.hw_socket.specs.Sending.{Says, Drops, after_shut, shut_ending};
 use crate::inbox::Inbox;
 use crate::outbox::Outbox;
 use crate::vocabulary::{Ending, MOST_MESSAGE, SocketRead, SocketSide};
-use hd_lanes::Vec8;
+use hw_lanes::Vec8;
 use std::alloc::{AllocError, Global};
 use std::marker::Model;
 use std::str;
@@ -69,7 +69,7 @@ impl SocketLane {
     /// memory, the lane is as before.
     pub fn feed(&mut self, piece: &[u8]) -> Result<(), AllocError>
         ensures fed { OnOk result (Feeds self.old piece.now self.new) }
-        ensures kept { OnErr result (self.new ≡ self.old) }
+        ensures unchanged { OnErr result (self.new ≡ self.old) }
     {
         self.inbox.feed(piece)
     }
@@ -101,7 +101,7 @@ impl SocketLane {
     /// gone, and if a text isn't UTF-8, which makes the lane gone. If this is out of memory, the lane is as before.
     pub fn send(&mut self, bytes: &[u8], text: bool) -> Result<bool, AllocError>
         ensures said { IfOk result (Says self.old self.new bytes.now text) }
-        ensures kept { OnErr result (self.new ≡ self.old) }
+        ensures unchanged { OnErr result (self.new ≡ self.old) }
     {
         if self.ending.is_some() {
             return Ok(false);
@@ -120,7 +120,7 @@ impl SocketLane {
         ensures shut { OnOk result (self.new ≡ after_shut self.old) }
         ensures done { OnOk result (IsDoneSending self.new.conn.state) }
         ensures once { IsDoneSending self.old.conn.state → self.new.out ≡ self.old.out }
-        ensures kept { OnErr result (self.new ≡ self.old) }
+        ensures unchanged { OnErr result (self.new ≡ self.old) }
     {
         if self
             .outbox

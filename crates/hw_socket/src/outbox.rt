@@ -73,7 +73,7 @@ impl Outbox {
     pub fn put(&mut self, opcode: OpCode, payload: &[u8]) -> Result<(), AllocError>
         ensures put { OnOk result (self.new ≡ after_frame self.old
             (record { opcode = opcode; payload = payload.now })) }
-        ensures kept { OnErr result (self.new ≡ self.old) }
+        ensures unchanged { OnErr result (self.new ≡ self.old) }
     {
         let header = FrameHeader::new(opcode, mask(self.side, self.frames));
         write_frame(&header, payload, &mut self.bytes)?;
@@ -95,7 +95,7 @@ impl Outbox {
         ensures inside { IfOk result (λ status. IfMessage status (IsReceivedInside input.new)) }
         ensures refused { IfErr result (GivesError (read_step context.old input.old)) }
         ensures failed { OnErr result (context.new ≡ failed_connection context.old) }
-        ensures kept { OnErr result (self.new ≡ self.old) }
+        ensures unchanged { OnErr result (self.new ≡ self.old) }
     {
         let from = self.bytes.len();
         // The library's clauses don't say which key a frame takes, so the frame is given its own here.
@@ -113,7 +113,7 @@ impl Outbox {
             (closing_state context.old.state)) }
         ensures memory { IfErr result (λ error. error ≡ Error.OutOfMemory) }
         ensures failed { OnErr result (context.new ≡ context.old) }
-        ensures kept { OnErr result (self.new ≡ self.old) }
+        ensures unchanged { OnErr result (self.new ≡ self.old) }
     {
         let from = self.bytes.len();
         let frame = CloseFrame { code, reason: "" };

@@ -1,6 +1,6 @@
 //! The words of a lane: its side, what a read answers, why a lane is gone, and its bounds.
 
-use hd_lanes::Vec8;
+use hw_lanes::Vec8;
 
 /// The most bytes in a frame that comes, and in a message that comes, in however many frames.
 pub const MOST_MESSAGE: usize = 1_048_576;

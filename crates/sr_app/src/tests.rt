@@ -1,10 +1,10 @@
 //! What no clause says: that each status comes where memory is there, and that output isn't held back to the end.
 
 use crate::run::run;
-use hd_lanes::Vec8;
 use hk_keeper::MemoryKeeper;
 use hw_door::{Door, MemoryDoor, MemoryLots, MemoryWire, MemoryWires, WireGiven};
 use hw_io::{MemorySink, MemorySource};
+use hw_lanes::Vec8;
 use hw_net::NetDoor;
 use std::alloc::Global;
 use std::test::Fail;

@@ -16,7 +16,7 @@ use Rattle.hm_codec.specs.declared.why.FrameWhy.TheVariants.{Split}
 use Rattle.hm_codec.specs.Words.{why_words}
 use Rattle.sr_check.specs.Output.{framing, IsWritten, last_text}
 use Rattle.sr_check.specs.Stream.{AreWritten, BeginsFrames, IsFrontText, IsFaultAt, IsTouchedByBytesAlone}
-use Rattle.sr_check.specs.Going.{IsRefusal, IsReader, IsAt, IsResting, IsSoFar, IsBegunSoFar, IsStoppedSoFar, IsLastPut, Ends, EndsOnDesk, with_desk}
+use Rattle.sr_check.specs.Going.{IsRefusal, IsReader, IsAt, IsResting, IsSoFar, IsBegunSoFar, IsStoppedSoFar, IsLastPut, Ends, EndsOnDesk, with_output_buffer}
 use Rattle.sr_check.specs.Laws.{FaultsLast}
 
 pub with_reader : (t : Task) (P : Framing → ℕ → Type 0) (held : Held) → IsReader t held → P held.framing held.most → P (framing t) 32768
@@ -236,37 +236,37 @@ ends_last t first held start now then_ last stop.ReadFault going stopped put str
 -- ---- on the desk
 
 -- text that is put on the desk is put behind what the output will hold
-appends-desk : (now : Option (List ℕ)) (text piece : List ℕ) → Appends (with_desk now text) (with_desk now (text ++ piece)) piece
-appends-desk None text piece = tt
-appends-desk (Some bytes) text piece = sym (append_assoc bytes text piece)
+appends-output_buffer : (now : Option (List ℕ)) (text piece : List ℕ) → Appends (with_output_buffer now text) (with_output_buffer now (text ++ piece)) piece
+appends-output_buffer None text piece = tt
+appends-output_buffer (Some bytes) text piece = sym (append_assoc bytes text piece)
 
-pub desk_empty : (now : Option (List ℕ)) (text : List ℕ) → text ≡ [] → with_desk now text ≡ now
+pub desk_empty : (now : Option (List ℕ)) (text : List ℕ) → text ≡ [] → with_output_buffer now text ≡ now
 desk_empty None text none = refl
 desk_empty (Some bytes) text none = ap (λ xs. Some (bytes ++ xs)) none ∙ ap (λ (xs : List ℕ). Some xs) (append-nil bytes)
 
 -- Frames are being written of on the desk, whatever the output holds.
 abbrev pub IsGoingOnDesk : Task → Held → Held → List ℕ → List ℕ → Type 0
-IsGoingOnDesk t first held start text = (now : Option (List ℕ)) → IsGoing t first held (with_desk now start) (with_desk now text)
+IsGoingOnDesk t first held start text = (now : Option (List ℕ)) → IsGoing t first held (with_output_buffer now start) (with_output_buffer now text)
 
 pub desk_next : (t : Task) (first held next : Held) (start text longer piece : List ℕ) (item : Spelled) → IsGoingOnDesk t first held start text
     → IsWritten t held.place item.frame piece → next ≡ after_pass held item
     → ((stream : List ℕ) (passed : List Spelled) → Stands (always (framing t)) held stream passed → IsInStep (always (framing t)) held passed → Stands (always (framing t)) next stream (passed ++ item ∷ []))
     → longer ≡ text ++ piece → IsGoingOnDesk t first next start longer
 desk_next t first held next start text longer piece item going good is stands same now =
-    subst (λ (xs : List ℕ). IsGoing t first next (with_desk now start) (with_desk now xs)) (sym same)
-    (going_next t first held next (with_desk now start) (with_desk now text) (with_desk now (text ++ piece)) piece item (going now) good is stands (appends-desk now text piece))
+    subst (λ (xs : List ℕ). IsGoing t first next (with_output_buffer now start) (with_output_buffer now xs)) (sym same)
+    (going_next t first held next (with_output_buffer now start) (with_output_buffer now text) (with_output_buffer now (text ++ piece)) piece item (going now) good is stands (appends-output_buffer now text piece))
 
 pub desk_ends : (t : Task) (first held : Held) (start text longer : List ℕ) (P : List ℕ → Type 0) (how : Stop) → IsGoingOnDesk t first held start text
     → ((stream : List ℕ) (items : List Spelled) (front last : List ℕ) → IsAt t held stream items front → P last → IsStoppedSoFar t stream (front ++ last))
     → EndsOnDesk how P text longer
-    → (stream : List ℕ) (before now : Option (List ℕ)) → IsSoFar t first stream before (with_desk now start) → Ends t how stream before (with_desk now longer)
+    → (stream : List ℕ) (before now : Option (List ℕ)) → IsSoFar t first stream before (with_output_buffer now start) → Ends t how stream before (with_output_buffer now longer)
 desk_ends t first held start text longer P stop.Refused going stopped end stream before now far =
-    subst (λ (xs : List ℕ). Ends t stop.Refused stream before (with_desk now xs)) (sym end.2)
-    (ends_last t first held (with_desk now start) (with_desk now text) (with_desk now (text ++ end.0)) end.0 stop.Refused (going now)
-    (λ stream items front at. stopped stream items front end.0 at end.1) (appends-desk now text end.0) stream before far)
+    subst (λ (xs : List ℕ). Ends t stop.Refused stream before (with_output_buffer now xs)) (sym end.2)
+    (ends_last t first held (with_output_buffer now start) (with_output_buffer now text) (with_output_buffer now (text ++ end.0)) end.0 stop.Refused (going now)
+    (λ stream items front at. stopped stream items front end.0 at end.1) (appends-output_buffer now text end.0) stream before far)
 desk_ends t first held start text longer P stop.NoMemory going stopped end stream before now far =
-    subst (λ (xs : List ℕ). Ends t stop.NoMemory stream before (with_desk now xs)) (sym end)
-    (ends_memory t first held (with_desk now start) (with_desk now text) stop.NoMemory refl (going now) stream before far)
+    subst (λ (xs : List ℕ). Ends t stop.NoMemory stream before (with_output_buffer now xs)) (sym end)
+    (ends_memory t first held (with_output_buffer now start) (with_output_buffer now text) stop.NoMemory refl (going now) stream before far)
 desk_ends t first held start text longer P stop.ReadFault going stopped end stream before now far = absurd end
 desk_ends t first held start text longer P stop.WriteFault going stopped end stream before now far = absurd end
 
@@ -275,22 +275,22 @@ no_write_fault how P text longer end is = absurd (rw is at end)
 
 -- ---- the desk is written
 
-put-all : (before now then_ : Option (List ℕ)) (all desk : List ℕ) → Appends before (with_desk now desk) all → Appends now then_ desk → Appends before then_ all
-put-all None now then_ all desk p q = tt
-put-all (Some a) None then_ all desk p q = absurd p
-put-all (Some a) (Some b) None all desk p q = absurd q
-put-all (Some a) (Some b) (Some c) all desk p q = q ∙ p
+put-all : (before now then_ : Option (List ℕ)) (all output_buffer : List ℕ) → Appends before (with_output_buffer now output_buffer) all → Appends now then_ output_buffer → Appends before then_ all
+put-all None now then_ all output_buffer p q = tt
+put-all (Some a) None then_ all output_buffer p q = absurd p
+put-all (Some a) (Some b) None all output_buffer p q = absurd q
+put-all (Some a) (Some b) (Some c) all output_buffer p q = q ∙ p
 
 -- a first part of it
-put-part : (before now then_ : Option (List ℕ)) (front all desk : List ℕ) (n : ℕ) → Appends before now front → Appends before (with_desk now desk) all → Appends now then_ (take n desk)
+put-part : (before now then_ : Option (List ℕ)) (front all output_buffer : List ℕ) (n : ℕ) → Appends before now front → Appends before (with_output_buffer now output_buffer) all → Appends now then_ (take n output_buffer)
     → (m : ℕ) × Appends before then_ (take m all)
-put-part None now then_ front all desk n f p q = (0, tt)
-put-part (Some a) None then_ front all desk n f p q = absurd f
-put-part (Some a) (Some b) then_ front all desk n f p q =
-    let same : front ++ desk ≡ all = append_cancel_left a (front ++ desk) all (sym (append_assoc a front desk) ∙ ap (λ xs. xs ++ desk) (sym f) ∙ p) in
-    subst (λ (xs : List ℕ). (m : ℕ) × Appends (Some a) then_ (take m xs)) same (appends_part (Some a) (Some b) then_ front desk n f q)
+put-part None now then_ front all output_buffer n f p q = (0, tt)
+put-part (Some a) None then_ front all output_buffer n f p q = absurd f
+put-part (Some a) (Some b) then_ front all output_buffer n f p q =
+    let same : front ++ output_buffer ≡ all = append_cancel_left a (front ++ output_buffer) all (sym (append_assoc a front output_buffer) ∙ ap (λ xs. xs ++ output_buffer) (sym f) ∙ p) in
+    subst (λ (xs : List ℕ). (m : ℕ) × Appends (Some a) then_ (take m xs)) same (appends_part (Some a) (Some b) then_ front output_buffer n f q)
 
-pub so_far_put : (t : Task) (held : Held) (stream : List ℕ) (before now then_ : Option (List ℕ)) (text : List ℕ) → Appends now then_ text → IsSoFar t held stream before (with_desk now text) → IsSoFar t held stream before then_
+pub so_far_put : (t : Task) (held : Held) (stream : List ℕ) (before now then_ : Option (List ℕ)) (text : List ℕ) → Appends now then_ text → IsSoFar t held stream before (with_output_buffer now text) → IsSoFar t held stream before then_
 so_far_put t held stream before now then_ text put far = record {
   items = far.items;
   text = far.text;
@@ -298,7 +298,7 @@ so_far_put t held stream before now then_ text put far = record {
   wrote = put-all before now then_ far.text text far.wrote put;
 }
 
-pub ends_put : (t : Task) (how : Stop) (stream : List ℕ) (before now then_ : Option (List ℕ)) (text : List ℕ) → Appends now then_ text → Ends t how stream before (with_desk now text) → Ends t how stream before then_
+pub ends_put : (t : Task) (how : Stop) (stream : List ℕ) (before now then_ : Option (List ℕ)) (text : List ℕ) → Appends now then_ text → Ends t how stream before (with_output_buffer now text) → Ends t how stream before then_
 ends_put t stop.Refused stream before now then_ text put end = (end.0, end.1, put-all before now then_ end.0 text end.2 put)
 ends_put t stop.NoMemory stream before now then_ text put end = (end.0, end.1, put-all before now then_ end.0 text end.2 put)
 ends_put t stop.WriteFault stream before now then_ text put end = (end.0, end.1, (end.2.0, put-all before now then_ (take end.2.0 end.0) text end.2.1 put))
@@ -307,8 +307,8 @@ ends_put t stop.ReadFault stream before now then_ text put end = absurd end
 -- the desk could not be written whole
 pub ends_part : (t : Task) (end : Result (Unit {0}) Stop) (how : Stop) (held : Held) (stream front : List ℕ) (before now then_ : Option (List ℕ)) (text : List ℕ) (n : ℕ) → how ≡ stop.WriteFault
     → (◌≡◌ {A = Result (Unit {0}) Stop} end (Err stop.WriteFault) → ⊥)
-    → OnOk end (IsSoFar t held stream before (with_desk now text))
-    → IfErr end (λ how. Ends t how stream before (with_desk now text))
+    → OnOk end (IsSoFar t held stream before (with_output_buffer now text))
+    → IfErr end (λ how. Ends t how stream before (with_output_buffer now text))
     → Appends before now front → Appends now then_ (take n text) → Ends t how stream before then_
 ends_part t (Ok u) how held stream front before now then_ text n is unput ok err wrote put =
     rw is (ok.text, inl (ok.items, front_at t held stream ok.items ok.text ok.at), put-part before now then_ front ok.text text n wrote ok.wrote put)

@@ -24,9 +24,9 @@ EndsOnDesk stop.NoMemory P before now = now ≡ before
 EndsOnDesk how P before now = ⊥
 
 -- what the output holds once the text on the desk is written
-abbrev pub with_desk : Option (List ℕ) → List ℕ → Option (List ℕ)
-with_desk None text = None
-with_desk (Some bytes) text = Some (bytes ++ text)
+abbrev pub with_output_buffer : Option (List ℕ) → List ℕ → Option (List ℕ)
+with_output_buffer None text = None
+with_output_buffer (Some bytes) text = Some (bytes ++ text)
 
 -- a splitter for the task's stream
 pub record IsReader (task : Task) (held : Held) : Type 0 where

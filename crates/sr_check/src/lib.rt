@@ -5,8 +5,8 @@
 //! belongs to the frames of a piece in one go. It does not know which command asked for it, nor what a message means.
 #![tactic(auto)]
 
-mod desk;
 mod laws;
+mod output_buffer;
 mod run;
 mod stream;
 mod task;

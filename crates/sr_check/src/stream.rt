@@ -5,11 +5,11 @@ ghost use Rattle.hd_facts.specs.Counts.{Rose, HasCause};
 ghost use Rattle.hf_split.specs.Held.{at_start};
 ghost use Rattle.sr_check.specs.Output.{framing, last_text};
 ghost use Rattle.sr_check.specs.Stream.{IsDone, IsAllSoFar, IsTouchedByBytesAlone, ReadsNoFurther, most_bytes, most_frame};
-ghost use Rattle.sr_check.specs.Going.{IsReader, IsResting, IsSoFar, IsWholeSoFar, IsLastPut, Ends, EndsAt, EndsInput, with_desk};
+ghost use Rattle.sr_check.specs.Going.{IsReader, IsResting, IsSoFar, IsWholeSoFar, IsLastPut, Ends, EndsAt, EndsInput, with_output_buffer};
 ghost use Rattle.hd_facts.specs.Writes.{Writes, WritesOfRead};
 
-use crate::desk::{Desk, put_frame, put_last, put_refusal};
 use crate::laws::faults_last;
+use crate::output_buffer::{OutputBuffer, put_frame, put_last, put_refusal};
 use crate::task::{Stop, Task};
 use hf_split::Splitter;
 use hm_codec::FrameWhy;
@@ -27,20 +27,20 @@ const MOST_BYTES: usize = 1099511627776;
 const MOST_PIECE: usize = 4096;
 
 /// Writes what stands on the desk, which is then empty. Where nothing stands there the output isn't touched.
-fn put<K: Sink>(out: &mut K, desk: &mut Desk) -> Result<(), Stop>
-    ensures ok { OnOk result (Appends (K.holds out.old) (K.holds out.new) desk.old.text.items) }
-    ensures err { OnErr result ((n : ℕ) × Appends (K.holds out.old) (K.holds out.new) (take n desk.old.text.items)) }
+fn put<K: Sink>(out: &mut K, output_buffer: &mut OutputBuffer) -> Result<(), Stop>
+    ensures ok { OnOk result (Appends (K.holds out.old) (K.holds out.new) output_buffer.old.text.items) }
+    ensures err { OnErr result ((n : ℕ) × Appends (K.holds out.old) (K.holds out.new) (take n output_buffer.old.text.items)) }
     ensures fault { IfErr result (λ e. e ≡ Stop.WriteFault) }
     ensures cause { HasCause (K.faults out.old) (K.faults out.new) result }
-    ensures untouched { desk.old.text.items ≡ [] → out.new ≡ out.old }
+    ensures untouched { output_buffer.old.text.items ≡ [] → out.new ≡ out.old }
     ensures touched { OnOk result (IsTouchedByBytesAlone K.holds out.old out.new) }
-    ensures empty { desk.new.text.items ≡ [] }
+    ensures empty { output_buffer.new.text.items ≡ [] }
 {
-    if desk.text.is_empty() {
+    if output_buffer.text.is_empty() {
         return Ok(());
     }
-    let put = out.put(&desk.text);
-    desk.text.clear();
+    let put = out.put(&output_buffer.text);
+    output_buffer.text.clear();
     match put {
         Ok(()) => Ok(()),
         Err(Failed) => Err(Stop::WriteFault),
@@ -53,20 +53,20 @@ fn write_last<K: Sink>(
     at: u64,
     first: &[u8],
     words: &[u8],
-    desk: &mut Desk,
+    output_buffer: &mut OutputBuffer,
     out: &mut K,
 ) -> Stop
-    requires { desk.old.text.items ≡ [] }
+    requires { output_buffer.old.text.items ≡ [] }
     ensures last { IsLastPut result (last_text task at (first.now ++ words.now)) (K.holds out.old) (K.holds out.new) }
     ensures read { result ≢ Stop.ReadFault }
     ensures fault { result ≡ Stop.WriteFault → Rose (K.faults out.old) (K.faults out.new) }
     ensures unfailed { result ≢ Stop.WriteFault → K.faults out.new ≡ K.faults out.old }
     ensures touched { result ≢ Stop.WriteFault → IsTouchedByBytesAlone K.holds out.old out.new }
 {
-    if put_last(task, at, first, words, desk).is_err() {
+    if put_last(task, at, first, words, output_buffer).is_err() {
         return Stop::NoMemory;
     }
-    match put(out, desk) {
+    match put(out, output_buffer) {
         Ok(()) => Stop::Refused,
         Err(_) => Stop::WriteFault,
     }
@@ -77,24 +77,24 @@ fn put_frames(
     alloc: Global,
     task: Task,
     splitter: &mut Splitter,
-    desk: &mut Desk,
+    output_buffer: &mut OutputBuffer,
 ) -> Result<(), Stop>
     requires { IsReader task splitter.old }
     ensures resting { OnOk result (IsResting task splitter.new) }
-    ensures so_far { (stream : List ℕ) (before now : Option (List ℕ)) → IsSoFar task splitter.old stream before (with_desk now desk.old.text.items) →
-        OnOk result (IsSoFar task splitter.new stream before (with_desk now desk.new.text.items)) }
+    ensures so_far { (stream : List ℕ) (before now : Option (List ℕ)) → IsSoFar task splitter.old stream before (with_output_buffer now output_buffer.old.text.items) →
+        OnOk result (IsSoFar task splitter.new stream before (with_output_buffer now output_buffer.new.text.items)) }
     ensures ended { IfErr result (λ stop. (stream : List ℕ) (before now : Option (List ℕ)) →
-        IsSoFar task splitter.old stream before (with_desk now desk.old.text.items) → Ends task stop stream before (with_desk now desk.new.text.items)) }
+        IsSoFar task splitter.old stream before (with_output_buffer now output_buffer.old.text.items) → Ends task stop stream before (with_output_buffer now output_buffer.new.text.items)) }
     ensures no_fault { result ≢ Err Stop.WriteFault }
 {
     faults_last();
     loop {
         match splitter.frame() {
-            Ok(Some((at, frame))) => put_frame(alloc, task, at, frame, desk)?,
+            Ok(Some((at, frame))) => put_frame(alloc, task, at, frame, output_buffer)?,
             Ok(None) => return Ok(()),
             Err(fault) => {
                 let why = FrameWhy::Split(fault);
-                return Err(put_refusal(alloc, task, splitter.place(), why, desk));
+                return Err(put_refusal(alloc, task, splitter.place(), why, output_buffer));
             }
         }
         splitter.pass();
@@ -107,23 +107,23 @@ fn put_piece(
     task: Task,
     splitter: &mut Splitter,
     piece: &[u8],
-    desk: &mut Desk,
+    output_buffer: &mut OutputBuffer,
 ) -> Result<(), Stop>
     requires { IsResting task splitter.old }
     ensures resting { OnOk result (IsResting task splitter.new) }
     ensures so_far { (stream : List ℕ) (before now : Option (List ℕ)) → length (stream ++ piece.now) < 2 ^ 64 →
-        IsSoFar task splitter.old stream before (with_desk now desk.old.text.items) →
-        OnOk result (IsSoFar task splitter.new (stream ++ piece.now) before (with_desk now desk.new.text.items)) }
+        IsSoFar task splitter.old stream before (with_output_buffer now output_buffer.old.text.items) →
+        OnOk result (IsSoFar task splitter.new (stream ++ piece.now) before (with_output_buffer now output_buffer.new.text.items)) }
     ensures ended { IfErr result (λ stop. (stream : List ℕ) (before now : Option (List ℕ)) → length (stream ++ piece.now) < 2 ^ 64 →
-        IsSoFar task splitter.old stream before (with_desk now desk.old.text.items) →
-        Ends task stop (stream ++ piece.now) before (with_desk now desk.new.text.items)) }
+        IsSoFar task splitter.old stream before (with_output_buffer now output_buffer.old.text.items) →
+        Ends task stop (stream ++ piece.now) before (with_output_buffer now output_buffer.new.text.items)) }
     ensures no_fault { result ≢ Err Stop.WriteFault }
 {
     faults_last();
     let mut at = 0;
     while at < piece.len() {
         at += splitter.feed(&piece[at..]);
-        put_frames(alloc, task, splitter, desk)?;
+        put_frames(alloc, task, splitter, output_buffer)?;
     }
     Ok(())
 }
@@ -134,11 +134,11 @@ fn write_piece<K: Sink>(
     task: Task,
     splitter: &mut Splitter,
     piece: &[u8],
-    desk: &mut Desk,
+    output_buffer: &mut OutputBuffer,
     out: &mut K,
 ) -> Result<(), Stop>
     requires resting { IsResting task splitter.old }
-    requires empty { desk.old.text.items ≡ [] }
+    requires empty { output_buffer.old.text.items ≡ [] }
     ensures resting { OnOk result (IsResting task splitter.new) }
     ensures so_far { (stream : List ℕ) (before : Option (List ℕ)) → length (stream ++ piece.now) < 2 ^ 64 →
         IsSoFar task splitter.old stream before (K.holds out.old) → OnOk result (IsSoFar task splitter.new (stream ++ piece.now) before (K.holds out.new)) }
@@ -147,10 +147,10 @@ fn write_piece<K: Sink>(
     ensures fault { result ≡ Err Stop.WriteFault → Rose (K.faults out.old) (K.faults out.new) }
     ensures unfailed { result ≢ Err Stop.WriteFault → K.faults out.new ≡ K.faults out.old }
     ensures touched { result ≢ Err Stop.WriteFault → IsTouchedByBytesAlone K.holds out.old out.new }
-    ensures empty { desk.new.text.items ≡ [] }
+    ensures empty { output_buffer.new.text.items ≡ [] }
 {
-    let end = put_piece(alloc, task, splitter, piece, desk);
-    put(out, desk)?;
+    let end = put_piece(alloc, task, splitter, piece, output_buffer);
+    put(out, output_buffer)?;
     end
 }
 
@@ -158,11 +158,11 @@ fn write_piece<K: Sink>(
 fn write_rest<K: Sink>(
     task: Task,
     splitter: &Splitter,
-    desk: &mut Desk,
+    output_buffer: &mut OutputBuffer,
     out: &mut K,
 ) -> Result<(), Stop>
     requires resting { IsResting task splitter.now }
-    requires empty { desk.old.text.items ≡ [] }
+    requires empty { output_buffer.old.text.items ≡ [] }
     ensures whole { OnOk result ((stream : List ℕ) (before : Option (List ℕ)) →
         IsSoFar task splitter.now stream before (K.holds out.old) → IsWholeSoFar task stream before (K.holds out.new)) }
     ensures ended { IfErr result (λ stop. (stream : List ℕ) (before : Option (List ℕ)) → length stream ≤ most_bytes →
@@ -178,7 +178,14 @@ fn write_rest<K: Sink>(
     }
     let mut digits = Buffer::new();
     let words = digits.format(held).as_bytes();
-    Err(write_last(task, splitter.place(), b"unfinished ", words, desk, out))
+    Err(write_last(
+        task,
+        splitter.place(),
+        b"unfinished ",
+        words,
+        output_buffer,
+        out,
+    ))
 }
 
 /// Follows the input piece by piece to its end.
@@ -203,19 +210,33 @@ pub(crate) fn follow<S: Source, K: Sink>(
     faults_last();
     let mut piece = [0u8; MOST_PIECE];
     let mut left = MOST_BYTES;
-    let mut desk = Desk::new(alloc);
+    let mut output_buffer = OutputBuffer::new(alloc);
     loop {
         let count = match input.take(&mut piece) {
-            Ok(0) => return write_rest(task, splitter, &mut desk, out),
+            Ok(0) => return write_rest(task, splitter, &mut output_buffer, out),
             Ok(count) => count,
             Err(Failed) => return Err(Stop::ReadFault),
         };
         if count > left {
-            write_piece(alloc, task, splitter, &piece[..left], &mut desk, out)?;
+            write_piece(
+                alloc,
+                task,
+                splitter,
+                &piece[..left],
+                &mut output_buffer,
+                out,
+            )?;
             let at = splitter.place();
-            return Err(write_last(task, at, b"", b"limit", &mut desk, out));
+            return Err(write_last(task, at, b"", b"limit", &mut output_buffer, out));
         }
-        write_piece(alloc, task, splitter, &piece[..count], &mut desk, out)?;
+        write_piece(
+            alloc,
+            task,
+            splitter,
+            &piece[..count],
+            &mut output_buffer,
+            out,
+        )?;
         left -= count;
     }
 }

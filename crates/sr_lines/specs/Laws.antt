@@ -7,7 +7,7 @@ use Rattle.he_end.specs.declared.errors.SendError.{SendError}
 use Rattle.he_end.specs.Calls.{fault_of, refusal_of}
 use Rattle.he_end.specs.Words.{next_words, send_words}
 use Rattle.hd_calls.specs.Hubs.{Answer, Invoked}
-use Rattle.hd_calls.specs.Peers.{Move, Settings}
+use Rattle.hd_calls.specs.Peers.{PeerEvent, Settings}
 use Rattle.hd_calls.specs.Rules.{CallRefusal, IsRefusedCall, IsRefusedUpload, IsRefusedCancel}
 use Rattle.hp_peer.specs.declared.errors.AskError.{AskError}
 use Rattle.hp_peer.specs.declared.errors.AskError.TheVariants as ask
@@ -28,6 +28,6 @@ IsToldAs Why e = (e ≡ ask.NoMemory → ⊥) → (why : CallRefusal) × (Why wh
 
 -- so it is of a call, of an upload and of a cancellation
 pub record AsksAreTold : Type 0 where
-  pub calls : (t : Settings) (h : List Move) (c : Invoked) (e : AskError) → HasCause (IsRefusedCall t h c) e → IsToldAs (IsRefusedCall t h c) e
-  pub uploads : (t : Settings) (h : List Move) (n w : ℕ) (a : Answer) (e : AskError) → HasCause (IsRefusedUpload t h n w a) e → IsToldAs (IsRefusedUpload t h n w a) e
-  pub cancels : (t : Settings) (h : List Move) (n : ℕ) (e : AskError) → HasCause (IsRefusedCancel t h n) e → IsToldAs (IsRefusedCancel t h n) e
+  pub calls : (t : Settings) (h : List PeerEvent) (c : Invoked) (e : AskError) → HasCause (IsRefusedCall t h c) e → IsToldAs (IsRefusedCall t h c) e
+  pub uploads : (t : Settings) (h : List PeerEvent) (n w : ℕ) (a : Answer) (e : AskError) → HasCause (IsRefusedUpload t h n w a) e → IsToldAs (IsRefusedUpload t h n w a) e
+  pub cancels : (t : Settings) (h : List PeerEvent) (n : ℕ) (e : AskError) → HasCause (IsRefusedCancel t h n) e → IsToldAs (IsRefusedCancel t h n) e

@@ -17,7 +17,7 @@ use Rattle.hd_delivery.specs.declared.vocabulary.State.{State}
 use Rattle.hd_delivery.specs.declared.vocabulary.State.TheVariants.{Opening, Ready, Away}
 use Rattle.hd_delivery.specs.declared.vocabulary.State.TheVariants as states
 use Rattle.hd_delivery.specs.Histories as of
-use Rattle.hd_delivery.specs.Histories.{Step, Took, Failed, Sent, Silenced, Fault, Unread, Shake, Gap, AckBeyond, sent_messages, processed_messages}
+use Rattle.hd_delivery.specs.Histories.{EndEvent, Took, Failed, Sent, Silenced, Fault, Unread, Shake, Gap, AckBeyond, sent_messages, processed_messages}
 use Rattle.hd_delivery.specs.Sending as refusal
 use Rattle.hd_delivery.specs.Sending.{SendRefusal}
 use Rattle.hd_calls.specs.Rules.{CallRefusal, TooManyLive, Spent, TooDeep, Unsent}
@@ -67,7 +67,7 @@ fault_words (Gap got most) = codes "gap " ++ (decimal got ++ (codes " " ++ decim
 fault_words (AckBeyond got most) = codes "ack " ++ (decimal got ++ (codes " " ++ decimal most))
 
 -- the line of a step, where the end made these before it: most steps have none
-abbrev pub step_text : Side → List Step → Step → List ℕ
+abbrev pub step_text : Side → List EndEvent → EndEvent → List ℕ
 step_text side k (Took got) = line_at side (got_words (suc (length (processed_messages k))) got)
 step_text side k (Failed fault) = line_at side (codes "fault " ++ fault_words fault)
 step_text side k (Sent m) = line_at side (codes "sent " ++ decimal (suc (length (sent_messages k))))
@@ -202,5 +202,5 @@ standing_line side state sent processed held = line (side_word side ++ (codes " 
     ++ (codes " processed " ++ (decimal processed ++ (codes " held " ++ decimal held))))))))
 
 -- the line of an end that is begun so and has this history
-abbrev pub standing_text : Side → of.Config → List Step → List ℕ
+abbrev pub standing_text : Side → of.Config → List EndEvent → List ℕ
 standing_text side c k = standing_line side (of.state c k) (length (sent_messages k)) (length (processed_messages k)) (length (of.held_messages c k))

@@ -4,8 +4,8 @@ use Rattle.std.specs.Prelude.{◌↔◌, IsTrue}
 use Rattle.hv_value.specs.declared.value.Value.{Value}
 use Rattle.hd_delivery.specs.declared.vocabulary.Side.{Side}
 use Rattle.hd_delivery.specs.Worlds.{Event}
-use Rattle.hd_runs.specs.Sides.{by, history}
-use Rattle.hd_calls.specs.Peers.{Move, Calls, Runs, Refuses, Rounds, Settings}
+use Rattle.hd_delivery.specs.Sides.{by, history}
+use Rattle.hd_calls.specs.Peers.{PeerEvent, Calls, Runs, Refuses, Rounds, Settings}
 use Rattle.hd_calls.specs.PeerWorlds.{Pair, settings}
 use Rattle.hd_calls.specs.Rules.{IsPeerDue}
 use Rattle.hp_peer.specs.Calling.{upload_end, upload_item}
@@ -35,13 +35,13 @@ pub record IsPlainAction (a : Action) : Type 0 where
   pub later : (actions : List Action) → moment_after (a ∷ actions) ≡ moment_after actions
 
 -- the lanes are kept as they were
-pub lanes_kept : (p : Pair) (w : List (Event Move)) (old new : Peers) → new.lanes ≡ old.lanes → LanesStay p w old.lanes.items new.lanes.items
+pub lanes_kept : (p : Pair) (w : List (Event PeerEvent)) (old new : Peers) → new.lanes ≡ old.lanes → LanesStay p w old.lanes.items new.lanes.items
 lanes_kept p w old new e = subst (λ v. LanesStay p w old.lanes.items v.items) (sym e) (lanes_same p w old.lanes.items)
 
 module _ (side : Side) (seat : Seat side) (lent : LentGoesOn) (old new : Peers) (alike : seat.Alike old new) (same_now : new.now ≡ old.now) (before after : List ℕ) where
   -- after the actions and their run the side made these moves, for the action
   pub record Made (a : Action) (p : Pair) (actions : List Action) (r : Run) : Type 0 where
-    pub moves : List Move
+    pub moves : List PeerEvent
     pub acts : Acts p actions r a (map (by side) (made moves))
     pub keep : KeepToTheirSide moves
     pub timely : AreInTime (moment_after (a ∷ actions)) moves
@@ -93,7 +93,7 @@ module _ (side : Side) (seat : Seat side) (lent : LentGoesOn) (old new : Peers) 
   -- ---- each action
 
   pub closes : new.lanes ≡ old.lanes
-      → OfEach seat.hub (seat.at old) (λ t h. (ds : List Move) × (WithLosses t h (closing t h) ds × Goes seat.hub t h (seat.at new) before after ds))
+      → OfEach seat.hub (seat.at old) (λ t h. (ds : List PeerEvent) × (WithLosses t h (closing t h) ds × Goes seat.hub t h (seat.at new) before after ds))
       → GoesOn old (Close side) new before after
   closes kept close = goes_on_made (Close side) (record { links = λ actions. refl; later = λ actions. refl }) (λ p actions r follows.
       let t = settings side p in
@@ -164,7 +164,7 @@ module _ (side : Side) (seat : Seat side) (lent : LentGoesOn) (old new : Peers) 
       })
 
 -- a round has no lines
-turns_tell_none : (t : Settings) (h : List Move) (now : ℕ) (ds : List Move) → AreTurns now ds → TellsAll t h (ds ++ Rounds ∷ []) []
+turns_tell_none : (t : Settings) (h : List PeerEvent) (now : ℕ) (ds : List PeerEvent) → AreTurns now ds → TellsAll t h (ds ++ Rounds ∷ []) []
 turns_tell_none t h now [] a = ([], [], (refl, refl, refl))
 turns_tell_none t h now (Runs j c since turn what ∷ ds) a = ([], [], (turns_tell_none t h now ds a.2, refl, refl))
 turns_tell_none t h now (Calls (Some j) n c ∷ ds) a = ([], [], (turns_tell_none t h now ds a, refl, refl))
@@ -172,7 +172,7 @@ turns_tell_none t h now (Refuses j ∷ ds) a = ([], [], (turns_tell_none t h now
 turns_tell_none t h now (_ ∷ ds) a = absurd a
 
 pub rounds : (side : Side) (seat : Seat side) (lent : LentGoesOn) (old new : Peers) (alike : seat.Alike old new) (same_now : new.now ≡ old.now) → new.lanes ≡ old.lanes → (due : Bool)
-    → OfEach seat.hub (seat.at old) (λ t h. (ds : List Move) × (IsRound t h old.now ds × Plays seat.hub t (seat.at new) (ds ++ h) × (IsTrue due ↔ IsPeerDue t h)))
+    → OfEach seat.hub (seat.at old) (λ t h. (ds : List PeerEvent) × (IsRound t h old.now ds × Plays seat.hub t (seat.at new) (ds ++ h) × (IsTrue due ↔ IsPeerDue t h)))
     → (report : List ℕ) → WorksOn old (Round side) new report report due
 rounds side seat lent old new alike same_now kept due round report =
     works_on_made side seat lent old new alike same_now report report (Round side) (record { links = λ actions. refl; later = λ actions. refl }) due (λ p actions r follows.

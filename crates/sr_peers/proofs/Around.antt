@@ -9,13 +9,13 @@ use Rattle.hd_delivery.specs.Histories.{was_on}
 use Rattle.hd_delivery.specs.Worlds.{Event, config}
 use Rattle.hd_delivery.specs.Bytes.{ByteStep, bytes_on, lent_bytes}
 use Rattle.hd_delivery.specs.OneHistory.{IsHistory}
-use Rattle.hd_runs.specs.Sides.{by, other, history}
-use Rattle.hd_calls.specs.Peers.{Move, byte_steps, steps}
+use Rattle.hd_delivery.specs.Sides.{by, other, history}
+use Rattle.hd_calls.specs.Peers.{PeerEvent, byte_steps, steps}
 use Rattle.hd_calls.specs.PeerWorlds.{Pair, settings}
 use Rattle.sr_script.specs.declared.action.Action.{Action}
 use Rattle.sr_script.specs.declared.action.Action.TheVariants.{Accept}
 use Rattle.sr_script.specs.Script.{opened, moment_after}
-use Rattle.sr_peers.specs.declared.lane.Lane.{Lane}
+use Rattle.sr_peers.specs.declared.lane.LinkBytes.{LinkBytes}
 use Rattle.sr_peers.specs.Grows.{lent_in, KeepToTheirSide, LendNothing}
 use Rattle.sr_peers.specs.Laws.{LentGoesOn}
 use Rattle.sr_peers.specs.Runs.{steps_at}
@@ -55,17 +55,17 @@ none_beyond before = record { links = refl; later = omega arith; accepted = λ l
 -- ---- lanes
 
 -- after these moves it is kept of each link what was kept, as far as a side may yet read there
-pub record LanesStay (p : Pair) (w : List (Event Move)) (before after : List Lane) : Type 0 where
+pub record LanesStay (p : Pair) (w : List (Event PeerEvent)) (before after : List LinkBytes) : Type 0 where
   pub many : length after ≡ length before
-  pub was : (l : ℕ) (lane : Lane) → slice_get after l ≡ Some lane → Lane
-  pub there : (l : ℕ) (lane : Lane) (at : slice_get after l ≡ Some lane) → slice_get before l ≡ Some (was l lane at)
-  pub opened : (l : ℕ) (lane : Lane) (at : slice_get after l ≡ Some lane) → lane.opened ≡ (was l lane at).opened
-  pub unread : (l : ℕ) (lane : Lane) (at : slice_get after l ≡ Some lane) (s : Side) → MayRead (steps_at p w s) l → said_by (other s) lane ≡ said_by (other s) (was l lane at)
+  pub was : (l : ℕ) (lane : LinkBytes) → slice_get after l ≡ Some lane → LinkBytes
+  pub there : (l : ℕ) (lane : LinkBytes) (at : slice_get after l ≡ Some lane) → slice_get before l ≡ Some (was l lane at)
+  pub opened : (l : ℕ) (lane : LinkBytes) (at : slice_get after l ≡ Some lane) → lane.opened ≡ (was l lane at).opened
+  pub unread : (l : ℕ) (lane : LinkBytes) (at : slice_get after l ≡ Some lane) (s : Side) → MayRead (steps_at p w s) l → said_by (other s) lane ≡ said_by (other s) (was l lane at)
 
-pub lanes_same : (p : Pair) (w : List (Event Move)) (lanes : List Lane) → LanesStay p w lanes lanes
+pub lanes_same : (p : Pair) (w : List (Event PeerEvent)) (lanes : List LinkBytes) → LanesStay p w lanes lanes
 lanes_same p w lanes = record { many = refl; was = λ l lane at. lane; there = λ l lane at. at; opened = λ l lane at. refl; unread = λ l lane at s may. refl }
 
-pub lanes_left : (p : Pair) (w : List (Event Move)) (side : Side) (link : Option ℕ) (before after : List Lane) → IsLeft side link before after
+pub lanes_left : (p : Pair) (w : List (Event PeerEvent)) (side : Side) (link : Option ℕ) (before after : List LinkBytes) → IsLeft side link before after
     → ((l : ℕ) → link ≡ Some l → MayRead (steps_at p w side) l → ⊥) → LanesStay p w before after
 lanes_left p w side link before after left gone = record {
   many = left.many;
@@ -81,11 +81,11 @@ lanes_left p w side link before after left gone = record {
 
 -- ---- moves that lend nothing
 
-module _ (lent : LentGoesOn) (p : Pair) (w : List (Event Move)) (side : Side) (ds : List Move) where
+module _ (lent : LentGoesOn) (p : Pair) (w : List (Event PeerEvent)) (side : Side) (ds : List PeerEvent) where
   abbrev of_lent : List ByteStep → ℕ → List ℕ
   of_lent x l = lent_bytes p.wire (config side p.terms) l x
 
-  pub lent_same : IsHistory p.limits p.wire (config side p.terms) (byte_steps (settings side p) (ds ++ history side w)) → LendNothing ds
+  pub lent_same : IsHistory (p.limits side) p.wire (config side p.terms) (byte_steps (settings side p) (ds ++ history side w)) → LendNothing ds
       → (s : Side) (l : ℕ) → lent_in p (map (by side) ds ++ w) s l ≡ lent_in p w s l
   lent_same is_history lends = both_sides (λ s. (l : ℕ) → lent_in p (map (by side) ds ++ w) s l ≡ lent_in p w s l) side
       (λ l. ap (λ h. of_lent (byte_steps (settings side p) h) l) (one_side w side ds).0
@@ -94,7 +94,7 @@ module _ (lent : LentGoesOn) (p : Pair) (w : List (Event Move)) (side : Side) (d
 
 -- ---- moves that aren't late
 
-pub times_after : (p : Pair) (before actions : List Action) (w : List (Event Move)) (side : Side) (ds : List Move) → ((s : Side) → of.moment (steps_at p w s) ≤ moment_after before)
+pub times_after : (p : Pair) (before actions : List Action) (w : List (Event PeerEvent)) (side : Side) (ds : List PeerEvent) → ((s : Side) → of.moment (steps_at p w s) ≤ moment_after before)
     → AreInTime (moment_after actions) ds → moment_after before ≤ moment_after actions → (s : Side) → of.moment (steps_at p (map (by side) ds ++ w) s) ≤ moment_after actions
 times_after p before actions w side ds early timely later = both_sides (λ s. of.moment (steps_at p (map (by side) ds ++ w) s) ≤ moment_after actions) side
     (subst (λ h. of.moment (steps (settings side p) h) ≤ moment_after actions) (sym (one_side w side ds).0)
@@ -103,10 +103,10 @@ times_after p before actions w side ds early timely later = both_sides (λ s. of
 
 -- ---- moves that keep to their side
 
-module _ (lent : LentGoesOn) (p : Pair) (before actions : List Action) (w : List (Event Move)) (side : Side) (ds : List Move) (kept now : List Lane)
-    (was : IsWorldOf p before w kept) (is_history : IsHistory p.limits p.wire (config side p.terms) (byte_steps (settings side p) (ds ++ history side w)))
+module _ (lent : LentGoesOn) (p : Pair) (before actions : List Action) (w : List (Event PeerEvent)) (side : Side) (ds : List PeerEvent) (kept now : List LinkBytes)
+    (was : IsWorldOf p before w kept) (is_history : IsHistory (p.limits side) p.wire (config side p.terms) (byte_steps (settings side p) (ds ++ history side w)))
     (keep : KeepToTheirSide ds) (timely : AreInTime (moment_after actions) ds) (beyond : GoBeyond before actions) where
-  abbrev after : List (Event Move)
+  abbrev after : List (Event PeerEvent)
   after = map (by side) ds ++ w
 
   abbrev steps_before : Side → List ByteStep

@@ -7,19 +7,19 @@ use Rattle.std.proofs.lemmas.Option.{slice_get_within}
 use Rattle.hd_delivery.specs.declared.vocabulary.Side.{Side}
 use Rattle.hd_delivery.specs.declared.vocabulary.Side.TheVariants.{Client, Server}
 use Rattle.hd_delivery.specs.Histories as of
-use Rattle.hd_delivery.specs.Histories.{Step, Attached, present_link, was_on, fed_frames, taken_count}
+use Rattle.hd_delivery.specs.Histories.{EndEvent, Attached, present_link, was_on, fed_frames, taken_count}
 use Rattle.hd_delivery.specs.Worlds.{Event, ByClient, ByServer, MayName, config, client_of, server_of}
 use Rattle.hd_delivery.specs.Bytes.{Does, bytes_on, IsWorldOverBytes}
 use Rattle.hd_delivery.specs.OneHistory.{IsHistory}
 use Rattle.hd_delivery.specs.HistoryLaws.{UnusedIsUntouched}
-use Rattle.hd_runs.specs.Laws.{UnusedIsEmpty}
-use Rattle.hd_runs.specs.Sides.{by, other, history}
-use Rattle.hd_calls.specs.Peers.{Move, Plain, Settings, byte_steps, steps}
+use Rattle.hd_delivery.specs.AloneLaws.{UnusedIsEmpty}
+use Rattle.hd_delivery.specs.Sides.{by, other, history}
+use Rattle.hd_calls.specs.Peers.{PeerEvent, Plain, Settings, byte_steps, steps}
 use Rattle.hd_calls.specs.PeerWorlds.{Pair, settings, ends}
 use Rattle.sr_script.specs.declared.action.Action.{Action}
 use Rattle.sr_script.specs.declared.action.Action.TheVariants.{Open, Accept}
 use Rattle.sr_script.specs.Script.{opened, moment_after, IsInTurn, AreInTurn}
-use Rattle.sr_peers.specs.declared.lane.Lane.{Lane}
+use Rattle.sr_peers.specs.declared.lane.LinkBytes.{LinkBytes}
 use Rattle.sr_peers.specs.Grows.{lent_in}
 use Rattle.sr_peers.specs.Laws.{LentGoesOn}
 use Rattle.hub_calc.specs.Table.{calc_hub}
@@ -84,15 +84,15 @@ by_same P l k same apart = go (l == k) refl
 
 -- ---- a link that is taken
 
-module _ (lent : LentGoesOn) (p : Pair) (before : List Action) (w : List (Event Move)) (side : Side) (link now : ℕ) (kept lanes : List Lane)
+module _ (lent : LentGoesOn) (p : Pair) (before : List Action) (w : List (Event PeerEvent)) (side : Side) (link now : ℕ) (kept lanes : List LinkBytes)
     (was : IsWorldOf p before w kept) (new : was_on link (steps_at p w side) ≡ false)
-    (is_history : IsHistory p.limits p.wire (config side p.terms) (byte_steps (settings side p) (Plain (Does (Attached link now)) ∷ history side w)))
+    (is_history : IsHistory (p.limits side) p.wire (config side p.terms) (byte_steps (settings side p) (Plain (Does (Attached link now)) ∷ history side w)))
     (named : MayName side link (steps_at p w side) (steps_at p w (other side)))
     (left : Option ℕ) (left_is : left ≡ present_link (steps_at p w side)) (is_left : IsLeft side left kept lanes) where
-  abbrev took : List Move
+  abbrev took : List PeerEvent
   took = Plain (Does (Attached link now)) ∷ []
 
-  abbrev after : List (Event Move)
+  abbrev after : List (Event PeerEvent)
   after = map (by side) took ++ w
 
   own : steps_at p after side ≡ Attached link now ∷ steps_at p w side
@@ -130,7 +130,7 @@ module _ (lent : LentGoesOn) (p : Pair) (before : List Action) (w : List (Event 
       ∙ ap (λ xs. drop (length (bytes_on l (byte_steps (settings s p) (history s w)))) xs) (still_lent (other s) l)
 
   -- what is kept of each other link
-  pub lanes_are : (l : ℕ) (lane : Lane) → slice_get lanes l ≡ Some lane → (side ≡ Client → l ≡ link → ⊥) → IsLane p after l lane
+  pub lanes_are : (l : ℕ) (lane : LinkBytes) → slice_get lanes l ≡ Some lane → (side ≡ Client → l ≡ link → ⊥) → IsLane p after l lane
   lanes_are l lane at apart =
       let w_lane = (is_left.each l lane at).0 in
       let has = (is_left.each l lane at).1.1 in
@@ -150,14 +150,14 @@ module _ (lent : LentGoesOn) (p : Pair) (before : List Action) (w : List (Event 
 
 -- ---- the server accepts
 
-module _ (lent : LentGoesOn) (p : Pair) (before : List Action) (w : List (Event Move)) (link : ℕ) (kept lanes : List Lane) (was : IsWorldOf p before w kept)
+module _ (lent : LentGoesOn) (p : Pair) (before : List Action) (w : List (Event PeerEvent)) (link : ℕ) (kept lanes : List LinkBytes) (was : IsWorldOf p before w kept)
     (turns : AreInTurn before) (unaccepted : Contains before (Accept link) → ⊥) where
   pub server_new : was_on link (steps_at p w Server) ≡ false
   server_new = not_on (was_on link (steps_at p w Server)) (λ on. unaccepted (was.accepted_links link on))
 
   -- the link is taken
   pub accepted_world : (now : ℕ) → now ≤ moment_after before → was_on link (steps_at p w Client) ≡ true
-      → IsHistory p.limits p.wire (config Server p.terms) (byte_steps (settings Server p) (Plain (Does (Attached link now)) ∷ history Server w))
+      → IsHistory (p.limits Server) p.wire (config Server p.terms) (byte_steps (settings Server p) (Plain (Does (Attached link now)) ∷ history Server w))
       → (left : Option ℕ) → left ≡ present_link (steps_at p w Server) → IsLeft Server left kept lanes
       → IsWorldOf p (Accept link ∷ before) (ByServer (Plain (Does (Attached link now))) ∷ w) lanes
   accepted_world now early was_opened is_history left left_is is_left =
@@ -172,7 +172,7 @@ module _ (lent : LentGoesOn) (p : Pair) (before : List Action) (w : List (Event 
       }
 
 -- a world that stands for more actions
-pub same_world : (p : Pair) (before actions : List Action) (w : List (Event Move)) (kept : List Lane) → GoBeyond before actions → IsWorldOf p before w kept → IsWorldOf p actions w kept
+pub same_world : (p : Pair) (before actions : List Action) (w : List (Event PeerEvent)) (kept : List LinkBytes) → GoBeyond before actions → IsWorldOf p before w kept → IsWorldOf p actions w kept
 same_world p before actions w kept beyond was = record {
   world = was.world;
   links = was.links ∙ sym beyond.links;
@@ -184,7 +184,7 @@ same_world p before actions w kept beyond was = record {
 
 -- ---- the client opens
 
-module _ (empty : UnusedIsEmpty) (lent : LentGoesOn) (p : Pair) (before : List Action) (w : List (Event Move)) (kept lanes : List Lane) (was : IsWorldOf p before w kept)
+module _ (empty : UnusedIsEmpty) (lent : LentGoesOn) (p : Pair) (before : List Action) (w : List (Event PeerEvent)) (kept lanes : List LinkBytes) (was : IsWorldOf p before w kept)
     (turns : AreInTurn before) where
   abbrev link : ℕ
   link = opened before
@@ -200,16 +200,16 @@ module _ (empty : UnusedIsEmpty) (lent : LentGoesOn) (p : Pair) (before : List A
   nothing_lent Server = (empty p.wire (config Server p.terms) (byte_steps (settings Server p) (history Server w)) link unaccepted).0
 
   -- a lane on which nothing was said
-  abbrev new_lane : Bool → Lane → Type 0
+  abbrev new_lane : Bool → LinkBytes → Type 0
   new_lane taken lane = (lane.to_server.items ≡ []) × (lane.to_client.items ≡ []) × (lane.opened ≡ taken)
 
-  nothing_said : (taken : Bool) (lane : Lane) → new_lane taken lane → (s : Side) → said_by s lane ≡ []
+  nothing_said : (taken : Bool) (lane : LinkBytes) → new_lane taken lane → (s : Side) → said_by s lane ≡ []
   nothing_said taken lane is Client = is.0
   nothing_said taken lane is Server = is.1
 
   -- the link is taken
-  pub opened_world : (now : ℕ) (lane : Lane) → new_lane true lane → now ≤ moment_after before
-      → IsHistory p.limits p.wire (config Client p.terms) (byte_steps (settings Client p) (Plain (Does (Attached link now)) ∷ history Client w))
+  pub opened_world : (now : ℕ) (lane : LinkBytes) → new_lane true lane → now ≤ moment_after before
+      → IsHistory (p.limits Client) p.wire (config Client p.terms) (byte_steps (settings Client p) (Plain (Does (Attached link now)) ∷ history Client w))
       → (left : Option ℕ) → left ≡ present_link (steps_at p w Client) → IsLeft Client left kept lanes
       → IsWorldOf p (Open ∷ before) (ByClient (Plain (Does (Attached link now))) ∷ w) (lanes ++ lane ∷ [])
   opened_world now lane is early is_history left left_is is_left =
@@ -234,7 +234,7 @@ module _ (empty : UnusedIsEmpty) (lent : LentGoesOn) (p : Pair) (before : List A
       }
 
   -- the link is refused
-  pub unopened_world : (lane : Lane) → new_lane false lane → IsWorldOf p (Open ∷ before) w (kept ++ lane ∷ [])
+  pub unopened_world : (lane : LinkBytes) → new_lane false lane → IsWorldOf p (Open ∷ before) w (kept ++ lane ∷ [])
   unopened_world lane is =
       let links = was.links in record {
         world = was.world;
@@ -254,19 +254,19 @@ module _ (empty : UnusedIsEmpty) (lent : LentGoesOn) (p : Pair) (before : List A
 -- ---- the peers
 
 -- of a link that is taken or refused
-abbrev pub by_tries : (P : Doing → Type 0) (t : Settings) (h : List Move) (link now : ℕ) (taken : Bool) → IsTried t h link now taken
+abbrev pub by_tries : (P : Doing → Type 0) (t : Settings) (h : List PeerEvent) (link now : ℕ) (taken : Bool) → IsTried t h link now taken
     → (taken ≡ true → P (Makes (Plain (Does (Attached link now))))) → ((words : List ℕ) → taken ≡ false → P (Refuses words)) → P (attaching t h link now)
 by_tries P t h l now true tried f g = subst P (sym tried) (f refl)
 by_tries P t h l now false tried f g = subst P (sym tried.1) (g tried.0 refl)
 
 -- on a new link nothing is to be taken
-new_taken : UnusedIsUntouched → (t : Settings) (h : List Move) (link now : ℕ) → was_on link (steps t h) ≡ false → HasTakenAll t (Plain (Does (Attached link now)) ∷ h)
+new_taken : UnusedIsUntouched → (t : Settings) (h : List PeerEvent) (link now : ℕ) → was_on link (steps t h) ≡ false → HasTakenAll t (Plain (Does (Attached link now)) ∷ h)
 new_taken untouched t h link now new live l at =
     let e : link ≡ l = cc in
     subst (λ l. slice_get (fed_frames l (steps t h)) (taken_count l (steps t h)) ≡ None) e (ap (λ fs. slice_get fs (taken_count link (steps t h))) (untouched (steps t h) link new).fed)
 
 module _ (untouched : UnusedIsUntouched) (lent : LentGoesOn) (p : Pair) (actions : List Action) (r : Run) (old : Peers) (follows : Follows p actions r old) where
-  abbrev w : List (Event Move)
+  abbrev w : List (Event PeerEvent)
   w = world_of r
 
   -- the server accepts a link on which the client stood
@@ -322,7 +322,7 @@ module _ (untouched : UnusedIsUntouched) (lent : LentGoesOn) (p : Pair) (actions
   )
 
   -- the client opens a link, of which a lane is kept
-  pub client_attaches : UnusedIsEmpty → (new : Peers) (lanes : List Lane) (lane : Lane) (link : ℕ) (taken : Bool) (before after : List ℕ) → IsInTurn actions Open → link ≡ opened actions
+  pub client_attaches : UnusedIsEmpty → (new : Peers) (lanes : List LinkBytes) (lane : LinkBytes) (link : ℕ) (taken : Bool) (before after : List ℕ) → IsInTurn actions Open → link ≡ opened actions
       → (lane.to_server.items ≡ []) × (lane.to_client.items ≡ []) × (lane.opened ≡ taken) → new.lanes.items ≡ lanes ++ lane ∷ []
       → new.server ≡ old.server → new.now ≡ old.now
       → OfEach client_hub old.client (λ t h. was_on link (steps t h) ≡ false → of.moment (steps t h) ≤ old.now
@@ -346,7 +346,7 @@ module _ (untouched : UnusedIsUntouched) (lent : LentGoesOn) (p : Pair) (actions
         is_world = subst (λ all. IsWorldOf p (Open ∷ actions) (ByClient (Plain (Does (Attached link old.now))) ∷ w) all) (sym grown)
             (subst (λ l. IsWorldOf p (Open ∷ actions) (ByClient (Plain (Does (Attached l old.now))) ∷ w) (lanes ++ lane ∷ [])) (sym is_link)
             (opened_world empty lent p actions w old.lanes.items lanes is_world follows.turns old.now lane (is_lane.0, is_lane.1, is_lane.2 ∙ e) (omega (arith, holds.now))
-            (subst (λ l. IsHistory p.limits p.wire (config Client p.terms) (byte_steps t (Plain (Does (Attached l old.now)) ∷ h))) is_link
+            (subst (λ l. IsHistory (p.limits Client) p.wire (config Client p.terms) (byte_steps t (Plain (Does (Attached l old.now)) ∷ h))) is_link
             (history_of client_hub t new.client.peer (Plain (Does (Attached link old.now)) ∷ h) plays.stands)) moved.link (moved.link_is t h holds.client.plays) (moved.left e)));
         client = record { plays = plays; took_all = new_taken untouched t h link old.now unused };
         server = kept_server;

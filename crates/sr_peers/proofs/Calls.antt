@@ -4,7 +4,7 @@ use Rattle.hv_value.specs.Tree.{Tree}
 use Rattle.hd_delivery.specs.Histories.{present_link}
 use Rattle.hd_calls.specs.declared.vocabulary.CallKind.{CallKind}
 use Rattle.hd_calls.specs.Hubs.{Hub}
-use Rattle.hd_calls.specs.Peers.{Move, Calls, Settings, drawn, waiting, steps}
+use Rattle.hd_calls.specs.Peers.{PeerEvent, Calls, Settings, drawn, waiting, steps}
 use Rattle.hd_calls.specs.Rules.{CallRefusal, IsRefusedCall}
 use Rattle.hi_calls.specs.Numbering.{number_after}
 use Rattle.hp_peer.specs.declared.errors.AskError.{AskError}
@@ -20,10 +20,10 @@ use Rattle.sr_peers.specs.Told.{TellsMove}
 use Rattle.sr_peers.specs.Plays.{Plays, HasDone}
 use Rattle.sr_peers.proofs.Chains.{with}
 
-module _ {H Job : Type 0} (hub : Hub Job) (t : Settings) (h : List Move) (p : Party H Job) (plays : Plays hub t p h) (x : Peer H Job)
+module _ {H Job : Type 0} (hub : Hub Job) (t : Settings) (h : List PeerEvent) (p : Party H Job) (plays : Plays hub t p h) (x : Peer H Job)
     (before after : List ℕ) where
   -- this move is made, and its line has these words
-  pub asked : (d : Move) (words : List ℕ) (Refused : CallRefusal → Type 0) → Stands hub t x (d ∷ h) → waiting (d ∷ h) ≡ waiting h
+  pub asked : (d : PeerEvent) (words : List ℕ) (Refused : CallRefusal → Type 0) → Stands hub t x (d ∷ h) → waiting (d ∷ h) ≡ waiting h
       → present_link (steps t (d ∷ h)) ≡ present_link (steps t h) → TellsMove t h d (line_at t.config.side words) → after ≡ before ++ line_at p.side words
       → (did : Doing) × (IsDone d Refused did × HasDone hub t h (with p x) before after did)
   asked d words Refused stands waits there tells is = (
@@ -40,7 +40,7 @@ module _ {H Job : Type 0} (hub : Hub Job) (t : Settings) (h : List Move) (p : Pa
   )
 
   -- it is refused for a reason, and the line has the reason's words
-  pub unasked : (d : Move) (Refused : CallRefusal → Type 0) (e : AskError) → Stands hub t x h → (e ≡ ask.NoMemory → ⊥) → IsToldAs Refused e
+  pub unasked : (d : PeerEvent) (Refused : CallRefusal → Type 0) (e : AskError) → Stands hub t x h → (e ≡ ask.NoMemory → ⊥) → IsToldAs Refused e
       → after ≡ before ++ line_at p.side (codes "refused " ++ ask_words e)
       → (did : Doing) × (IsDone d Refused did × HasDone hub t h (with p x) before after did)
   unasked d Refused e stands some told is = let why = told some in (

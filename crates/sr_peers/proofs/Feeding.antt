@@ -7,13 +7,13 @@ use Rattle.hd_delivery.specs.Histories.{present_link}
 use Rattle.hd_delivery.specs.Processes.{processes}
 use Rattle.hd_delivery.specs.Bytes.{Bytes, bytes_on, unread, unread_count}
 use Rattle.hd_delivery.specs.OneHistory.{next_reader}
-use Rattle.hd_runs.specs.Laws.{TakenHasRoom, HasRoomFor}
-use Rattle.hd_runs.specs.Alone.{piece_fed, feeding}
+use Rattle.hd_delivery.specs.AloneLaws.{TakenHasRoom, HasRoomFor}
+use Rattle.hd_delivery.specs.Alone.{piece_fed, feeding}
 use Rattle.he_end.specs.Calls.{taken_at}
 use Rattle.he_end.specs.Stands.{limits_of}
 use Rattle.he_wire.specs.Laws.{WireIsSound}
 use Rattle.hd_calls.specs.Hubs.{Hub}
-use Rattle.hd_calls.specs.Peers.{Move, Plain, Settings, byte_steps, is_shut, steps}
+use Rattle.hd_calls.specs.Peers.{PeerEvent, Plain, Settings, byte_steps, is_shut, steps}
 use Rattle.hp_peer.specs.declared.peer.Peer.{Peer}
 use Rattle.hp_peer.specs.Stands.{Stands}
 use Rattle.sr_peers.specs.declared.party.Party.{Party}
@@ -24,18 +24,18 @@ use Rattle.sr_peers.proofs.Chains.{with, plays_still}
 -- ---- what is fed next
 
 -- so many bytes the end has room for on this link
-abbrev room_on : Settings → List Move → ℕ → ℕ
+abbrev room_on : Settings → List PeerEvent → ℕ → ℕ
 room_on t h l = (t.limits.frame + most_framing) - unread_count t.wire t.config l (byte_steps t h)
 
 -- of these bytes of the link those that weren't fed
-abbrev pub unfed : Settings → List ℕ → List Move → ℕ → List ℕ
+abbrev pub unfed : Settings → List ℕ → List PeerEvent → ℕ → List ℕ
 unfed t all h l = drop (length (bytes_on l (byte_steps t h))) all
 
 -- of a piece of this length so many bytes are taken there
-abbrev taken_on : Settings → List Move → ℕ → ℕ → ℕ
+abbrev taken_on : Settings → List PeerEvent → ℕ → ℕ → ℕ
 taken_on t h l piece = let held = unread t.wire t.config l (byte_steps t h) in taken_at t.limits (next_reader t.wire t.config l (steps t h) held) (length held) piece
 
-module _ (t : Settings) (all : List ℕ) (h : List Move) where
+module _ (t : Settings) (all : List ℕ) (h : List PeerEvent) where
   -- a closed end is fed nothing
   pub closed_next : is_shut t h ≡ true → fed_next t all h ≡ None
   closed_next over = ap (λ b. if b then None else feeding t.limits t.wire t.config all (byte_steps t h) (present_link (steps t h))) over
@@ -51,7 +51,7 @@ take_none zero xs is = refl
 take_none (suc n) xs is = ap (take (suc n)) is
 
 -- with no bytes left none are fed
-pub ends : (t : Settings) (all : List ℕ) (h : List Move) (l : ℕ) → present_link (steps t h) ≡ Some l → unfed t all h l ≡ []
+pub ends : (t : Settings) (all : List ℕ) (h : List PeerEvent) (l : ℕ) → present_link (steps t h) ≡ Some l → unfed t all h l ≡ []
     → (b : Bool) → is_shut t h ≡ b → fed_next t all h ≡ None
 ends t all h l at gone true over = closed_next t all h over
 ends t all h l at gone false live =
@@ -59,7 +59,7 @@ ends t all h l at gone false live =
 
 -- ---- what was fed
 
-module _ {H Job : Type 0} (hub : Hub Job) (t : Settings) (h : List Move) (new : Party H Job) (all : List ℕ) where
+module _ {H Job : Type 0} (hub : Hub Job) (t : Settings) (h : List PeerEvent) (new : Party H Job) (all : List ℕ) where
   -- some bytes that were to be fed were fed
   feeds_some : (piece : List ℕ) → 0 < length piece → fed_next t all h ≡ piece_fed piece → Plays hub t new (Plain (Bytes piece) ∷ h)
       → Feeds hub t h new all piece
@@ -70,7 +70,7 @@ module _ {H Job : Type 0} (hub : Hub Job) (t : Settings) (h : List Move) (new : 
   feeds_none [] empty is plays = (is, plays)
   feeds_none (b ∷ bytes) empty is plays = absurd (cc)
 
-module _ (room : TakenHasRoom) (sound : WireIsSound) {H Job : Type 0} (hub : Hub Job) (t : Settings) (h : List Move) (p : Party H Job) (plays : Plays hub t p h)
+module _ (room : TakenHasRoom) (sound : WireIsSound) {H Job : Type 0} (hub : Hub Job) (t : Settings) (h : List PeerEvent) (p : Party H Job) (plays : Plays hub t p h)
     (l : ℕ) (all piece : List ℕ) (at : present_link (steps t h) ≡ Some l) (is : piece ≡ unfed t all h l)
     (none : processes t.config (steps t h) ≡ None) (some : 0 < length piece) (x : Peer H Job) (n : ℕ) where
   has_room : is_shut t h ≡ false → HasRoomFor t.limits t.wire t.config (byte_steps t h) l

@@ -3,20 +3,20 @@ use Rattle.std.proofs.Common.{inl, inr, ◌≡◌, ◌⊎◌, ℕ, ◌+◌, ◌-
 use Rattle.std.proofs.lemmas.List.{append-nil}
 use Rattle.hd_delivery.specs.declared.vocabulary.Got.TheVariants as gives
 use Rattle.hd_delivery.specs.Histories as of
-use Rattle.hd_delivery.specs.Histories.{Step, Took, Lent, present_link, codec_of, is_closed, is_kept, sent_messages, acked_count, most_lent, held_messages}
+use Rattle.hd_delivery.specs.Histories.{EndEvent, Took, Lent, present_link, codec_of, is_closed, is_resumable, sent_messages, acked_count, most_lent, held_messages}
 use Rattle.hd_delivery.specs.Due.{due}
 use Rattle.hd_delivery.specs.Frames.{LinkFrame}
 use Rattle.hd_delivery.specs.Processes.{processes, next_frame}
 use Rattle.hd_delivery.specs.HistoryLaws.{FactsHold}
 use Rattle.hd_delivery.specs.Bytes.{Wire, ByteStep, Does}
-use Rattle.hd_runs.specs.Following.{Follow, FollowUpTo}
-use Rattle.hd_runs.specs.Alone.{writing, taking, lent_text}
-use Rattle.hd_runs.specs.Laws.{WritesFew, TakesFew}
+use Rattle.hd_delivery.specs.Following.{Follow, FollowUpTo}
+use Rattle.hd_delivery.specs.Alone.{writing, taking, lent_text}
+use Rattle.hd_delivery.specs.AloneLaws.{WritesFew, TakesFew}
 use Rattle.he_wire.specs.Laws.{WireIsSound}
 use Rattle.he_end.specs.Stands.{limits_of}
-use Rattle.hq_resend.specs.Bounds.{AreLimits}
+use Rattle.hd_delivery.specs.Bounds.{AreLimits}
 use Rattle.hd_calls.specs.Hubs.{Hub}
-use Rattle.hd_calls.specs.Peers.{Move, Plain, Reads, Settings, byte_steps, codec, is_shut, reason_of, steps}
+use Rattle.hd_calls.specs.Peers.{PeerEvent, Plain, Reads, Settings, byte_steps, codec, is_shut, reason_of, steps}
 use Rattle.hp_peer.specs.declared.peer.Peer.{Peer}
 use Rattle.hp_peer.specs.Lending.{HasLent, Lends}
 use Rattle.sr_peers.specs.declared.party.Party.{Party}
@@ -29,12 +29,12 @@ use Rattle.sr_peers.proofs.Takes.{shut_or_same}
 -- ---- so many frames are taken
 
 -- an end that takes a frame isn't closed
-live_of : (b : Bool) (o : Option Step) (s : Step) → (if b then None else o) ≡ Some s → b ≡ false
+live_of : (b : Bool) (o : Option EndEvent) (s : EndEvent) → (if b then None else o) ≡ Some s → b ≡ false
 live_of true o s e = absurd (cc)
 live_of false o s e = refl
 
-pub record HasTakenSome {H Job : Type 0} (hub : Hub Job) (t : Settings) (now : ℕ) (h : List Move) (p : Party H Job) (before after : List ℕ) (n : ℕ) : Type 0 where
-  pub moves : List Move
+pub record HasTakenSome {H Job : Type 0} (hub : Hub Job) (t : Settings) (now : ℕ) (h : List PeerEvent) (p : Party H Job) (before after : List ℕ) (n : ℕ) : Type 0 where
+  pub moves : List PeerEvent
   pub chain : Chain (Taking t now) h moves
   pub goes : Goes hub t h p before after moves
   pub taken : List ByteStep
@@ -42,7 +42,7 @@ pub record HasTakenSome {H Job : Type 0} (hub : Hub Job) (t : Settings) (now : �
   pub many : length taken ≡ n
   pub are : (byte_steps t (moves ++ h) ≡ taken ++ byte_steps t h) ⊎ (is_shut t (moves ++ h) ≡ true)
 
-one_chain : {H Job : Type 0} (hub : Hub Job) (t : Settings) (now : ℕ) (p : Party H Job) (x : List Move) (s : Step) (ds : List Move) → Plays hub t p x
+one_chain : {H Job : Type 0} (hub : Hub Job) (t : Settings) (now : ℕ) (p : Party H Job) (x : List PeerEvent) (s : EndEvent) (ds : List PeerEvent) → Plays hub t p x
     → processes t.config (steps t x) ≡ Some s → IsOneTake x now s ds → Chain (Taking t now) x ds
 one_chain hub t now p x s ds plays next (inl (plain, is)) = rw is (tt, (plain, plays.handled, next))
 one_chain hub t now p x s ds plays next (inr one) =
@@ -50,13 +50,13 @@ one_chain hub t now p x s ds plays next (inr one) =
     rw one.is ((tt, (plays.handled, read)), (refl, one.at))
 
 -- the end has made the step, and may be closed then
-one_step : (t : Settings) (now : ℕ) (x : List Move) (s : Step) (ds : List Move) → IsOneTake x now s ds
+one_step : (t : Settings) (now : ℕ) (x : List PeerEvent) (s : EndEvent) (ds : List PeerEvent) → IsOneTake x now s ds
     → (byte_steps t (ds ++ x) ≡ Does s ∷ byte_steps t x) ⊎ (is_shut t (ds ++ x) ≡ true)
 one_step t now x s ds (inl (plain, is)) = rw is (inl refl)
 one_step t now x s ds (inr one) = rw (one.is, one.step)
     (shut_or_same t.wire t.config (is_shut t (Reads one.message ∷ x)) (reason_of one.effect) (byte_steps t (Reads one.message ∷ x)))
 
-module _ {H Job : Type 0} (hub : Hub Job) (t : Settings) (now : ℕ) (h : List Move) where
+module _ {H Job : Type 0} (hub : Hub Job) (t : Settings) (now : ℕ) (h : List PeerEvent) where
   pub taken_none : (p : Party H Job) (before : List ℕ) → Plays hub t p h → HasTakenSome hub t now h p before before 0
   taken_none p before plays =
       record { moves = []; chain = tt; goes = goes_none hub t h p before plays; taken = []; follow = tt; many = refl; are = inl refl }
@@ -91,12 +91,12 @@ module _ {H Job : Type 0} (hub : Hub Job) (t : Settings) (now : ℕ) (h : List M
         after_one same (inr shut) = inr shut
 
     -- no whole frame has come
-    pub taken_all : TakesOne hub t (has.moves ++ h) new now mid after false → (ds : List Move) × (WholeChain (Taking t now) h ds × Goes hub t h new before after ds)
+    pub taken_all : TakesOne hub t (has.moves ++ h) new now mid after false → (ds : List PeerEvent) × (WholeChain (Taking t now) h ds × Goes hub t h new before after ds)
     taken_all done =
         (has.moves, ((has.chain, (has.goes.plays.handled, done.0)), goes_same hub t h p new before mid after has.moves has.goes done.1 done.2))
 
 -- frames that are taken are fewer than 64 bits count
-pub taken_few : {H Job : Type 0} (hub : Hub Job) (t : Settings) (now : ℕ) (h : List Move) (first p : Party H Job) (before after : List ℕ) (n : ℕ) → TakesFew → WireIsSound
+pub taken_few : {H Job : Type 0} (hub : Hub Job) (t : Settings) (now : ℕ) (h : List PeerEvent) (first p : Party H Job) (before after : List ℕ) (n : ℕ) → TakesFew → WireIsSound
     → AreLimits (limits_of first.peer.end) → Plays hub t first h → HasTakenSome hub t now h p before after n → n < 2 ^ 64 - 1
 taken_few hub t now h first p before after n few sound are plays has =
     let limits = limits_of first.peer.end in
@@ -108,7 +108,7 @@ taken_few hub t now h first p before after n few sound are plays has =
 
 -- ---- one frame is written
 
-module _ {H Job : Type 0} (hub : Hub Job) (t : Settings) (p : Party H Job) (h : List Move) (plays : Plays hub t p h) (x : Peer H Job) (before : List ℕ) where
+module _ {H Job : Type 0} (hub : Hub Job) (t : Settings) (p : Party H Job) (h : List PeerEvent) (plays : Plays hub t p h) (x : Peer H Job) (before : List ℕ) where
   none_is_due : (o : Option LinkFrame) → None ≡ option_map (t.wire.spell (codec t h)) o → HasLent hub t h x o
       → (option_map (λ f. Does (Lent f)) o ≡ None) × Plays hub t (with p x) h × (before ≡ before)
   none_is_due None said lent = (refl, plays_still hub t h p plays x lent, refl)
@@ -137,7 +137,7 @@ module _ {H Job : Type 0} (hub : Hub Job) (t : Settings) (p : Party H Job) (h : 
 
 -- ---- so many frames are written
 
-pub steps_lifted : (t : Settings) (h : List Move) (ss : List ByteStep) → byte_steps t (lifted ss ++ h) ≡ ss ++ byte_steps t h
+pub steps_lifted : (t : Settings) (h : List PeerEvent) (ss : List ByteStep) → byte_steps t (lifted ss ++ h) ≡ ss ++ byte_steps t h
 steps_lifted t h [] = refl
 steps_lifted t h (s ∷ ss) = ap (λ x. s ∷ x) (steps_lifted t h ss)
 
@@ -150,7 +150,7 @@ lends_one : (o : Option LinkFrame) (s : ByteStep) (ss : List ByteStep) → optio
 lends_one None s ss e = absurd (cc)
 lends_one (Some f) s ss e = let q : Does (Lent f) ≡ s = cc in subst (λ s. moves_bytes (lifted (s ∷ ss)) ≡ true) q refl
 
-pub record HasWritten {H Job : Type 0} (hub : Hub Job) (t : Settings) (h : List Move) (p : Party H Job) (before after : List ℕ) (n : ℕ) (wrote : Bool) : Type 0 where
+pub record HasWritten {H Job : Type 0} (hub : Hub Job) (t : Settings) (h : List PeerEvent) (p : Party H Job) (before after : List ℕ) (n : ℕ) (wrote : Bool) : Type 0 where
   pub written : List ByteStep
   pub follow : Follow (writing t.wire t.config) (byte_steps t h) written
   pub many : length written ≡ n
@@ -159,7 +159,7 @@ pub record HasWritten {H Job : Type 0} (hub : Hub Job) (t : Settings) (h : List 
   pub wrote_is : wrote ≡ moves_bytes (lifted written)
 
 -- what was written, of so many frames at most
-abbrev pub IsWritten : {H Job : Type 0} → Hub Job → Settings → List Move → Party H Job → List ℕ → List ℕ → Option ℕ → Bool → Type 0
+abbrev pub IsWritten : {H Job : Type 0} → Hub Job → Settings → List PeerEvent → Party H Job → List ℕ → List ℕ → Option ℕ → Bool → Type 0
 IsWritten hub t h new before after most wrote = (ss : List ByteStep) × (FollowUpTo most (writing t.wire t.config) (byte_steps t h) ss
     × Plays hub t new (lifted ss ++ h) × (after ≡ before ++ lent_text t.wire t.config (byte_steps t h) ss) × (wrote ≡ moves_bytes (lifted ss)))
 
@@ -167,7 +167,7 @@ IsWritten hub t h new before after most wrote = (ss : List ByteStep) × (FollowU
 abbrev pub most_of : Option ℕ → ℕ
 most_of most = unwrap_or most (2 ^ 64 - 1)
 
-module _ {H Job : Type 0} (hub : Hub Job) (t : Settings) (h : List Move) where
+module _ {H Job : Type 0} (hub : Hub Job) (t : Settings) (h : List PeerEvent) where
   pub written_none : (p : Party H Job) (before : List ℕ) → Plays hub t p h → HasWritten hub t h p before before 0 false
   written_none p before plays =
       record { written = []; follow = tt; many = refl; plays = plays; text_is = sym (append-nil before); wrote_is = refl }
@@ -217,7 +217,7 @@ shorter true n m xs = omega (arith, length-drop n xs)
 shorter false n m xs = omega (arith, length-drop m xs)
 
 -- an end writes fewer frames than 64 bits count
-pub written_few : {H Job : Type 0} (hub : Hub Job) (t : Settings) (h : List Move) (first : Party H Job) (ss : List ByteStep) → WritesFew → FactsHold
+pub written_few : {H Job : Type 0} (hub : Hub Job) (t : Settings) (h : List PeerEvent) (first : Party H Job) (ss : List ByteStep) → WritesFew → FactsHold
     → Plays hub t first h → Follow (writing t.wire t.config) (byte_steps t h) ss → length ss < 2 ^ 64 - 1
 written_few hub t h first ss few facts plays follow =
     let limits = limits_of first.peer.end in
@@ -225,5 +225,5 @@ written_few hub t h first ss few facts plays follow =
     let history = plays.stands.end.history in
     let all = few limits t.wire t.config (byte_steps t h) ss history follow in
     let sent = (facts limits t.wire t.config (byte_steps t h) history).sent_are_few in
-    let held : length (held_messages t.config k) ≤ length (sent_messages k) = shorter (is_kept t.config k) (acked_count k) (most_lent k) (sent_messages k) in
+    let held : length (held_messages t.config k) ≤ length (sent_messages k) = shorter (is_resumable t.config k) (acked_count k) (most_lent k) (sent_messages k) in
     omega arith

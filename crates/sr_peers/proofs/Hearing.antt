@@ -5,14 +5,14 @@ use Rattle.hd_facts.specs.Prefixes.{IsPrefix}
 use Rattle.hd_delivery.specs.declared.vocabulary.Reason.{Reason}
 use Rattle.hd_delivery.specs.declared.vocabulary.Side.{Side}
 use Rattle.hd_delivery.specs.Numbers.{most_framing}
-use Rattle.hd_delivery.specs.Histories.{Step, Took, Failed, is_this, present_link, is_shaken}
+use Rattle.hd_delivery.specs.Histories.{EndEvent, Took, Failed, is_this, present_link, is_shaken}
 use Rattle.hd_delivery.specs.Worlds.{Event, config}
 use Rattle.hd_delivery.specs.Bytes.{ByteStep, Bytes, Does, bare_steps, bytes_on, in_frames, unread_count}
 use Rattle.hd_delivery.specs.Laws.{FedIsUnseen}
-use Rattle.hd_runs.specs.Alone.{piece_fed, feeding, IsOfFrame}
-use Rattle.hd_runs.specs.Laws.{FramesAreTaken}
-use Rattle.hd_runs.specs.Sides.{other, history}
-use Rattle.hd_calls.specs.Peers.{Move, Plain, Calls, Uploads, Cancels, Reads, Handles, Runs, Answers, Refuses, Loses, Rounds, Settings, reason_of, shuts, add, byte_steps, steps, is_shut}
+use Rattle.hd_delivery.specs.Alone.{piece_fed, feeding, IsOfFrame}
+use Rattle.hd_delivery.specs.AloneLaws.{FramesAreTaken}
+use Rattle.hd_delivery.specs.Sides.{other, history}
+use Rattle.hd_calls.specs.Peers.{PeerEvent, Plain, Calls, Uploads, Cancels, Reads, Handles, Runs, Answers, Refuses, Loses, Rounds, Settings, reason_of, shuts, add, byte_steps, steps, is_shut}
 use Rattle.hd_calls.specs.PeerWorlds.{Pair, settings}
 use Rattle.sr_peers.specs.Doings.{Chain, Losing, Reading, ReadsTo}
 use Rattle.sr_peers.specs.Grows.{lent_in, FitsOther, MayJoin}
@@ -49,7 +49,7 @@ is_this-same : (l : ℕ) (o : Option ℕ) → o ≡ Some l → is_this l o ≡ t
 is_this-same l None e = absurd (cc)
 is_this-same l (Some k) e = eq-eqb l k (let f : k ≡ l = cc in sym f)
 
-module _ (unseen : FedIsUnseen) (taken : FramesAreTaken) (p : Pair) (w : List (Event Move)) (side : Side) (l now : ℕ) (bytes : List ℕ) (there : IsPrefix bytes (lent_in p w (other side) l)) where
+module _ (unseen : FedIsUnseen) (taken : FramesAreTaken) (p : Pair) (w : List (Event PeerEvent)) (side : Side) (l now : ℕ) (bytes : List ℕ) (there : IsPrefix bytes (lent_in p w (other side) l)) where
   abbrev t : Settings
   t = settings side p
 
@@ -75,28 +75,28 @@ module _ (unseen : FedIsUnseen) (taken : FramesAreTaken) (p : Pair) (w : List (E
 
   -- the piece that is fed is such a one
   is_piece : (h : List ByteStep) (shut : Bool) (o : Option ℕ) (piece : List ℕ) → o ≡ Some l
-      → (if shut then None else feeding p.limits p.wire (config side p.terms) bytes h o) ≡ Some (Bytes piece)
-      → take ((p.limits.frame + most_framing) - unread_count p.wire (config side p.terms) l h) (drop (length (bytes_on l h)) bytes) ≡ piece
+      → (if shut then None else feeding (p.limits side) p.wire (config side p.terms) bytes h o) ≡ Some (Bytes piece)
+      → take (((p.limits side).frame + most_framing) - unread_count p.wire (config side p.terms) l h) (drop (length (bytes_on l h)) bytes) ≡ piece
   is_piece h true o piece at e = absurd (cc)
   is_piece h false None piece at e = absurd (cc)
   is_piece h false (Some j) piece at e =
       let same : j ≡ l = cc in
-      let e' : feeding p.limits p.wire (config side p.terms) bytes h (Some l) ≡ Some (Bytes piece) = subst (λ j. feeding p.limits p.wire (config side p.terms) bytes h (Some j) ≡ Some (Bytes piece)) same e in
-      let found = take ((p.limits.frame + most_framing) - unread_count p.wire (config side p.terms) l h) (drop (length (bytes_on l h)) bytes) in
+      let e' : feeding (p.limits side) p.wire (config side p.terms) bytes h (Some l) ≡ Some (Bytes piece) = subst (λ j. feeding (p.limits side) p.wire (config side p.terms) bytes h (Some j) ≡ Some (Bytes piece)) same e in
+      let found = take (((p.limits side).frame + most_framing) - unread_count p.wire (config side p.terms) l h) (drop (length (bytes_on l h)) bytes) in
       same_piece found piece (fed_one found (Bytes piece) e')
 
   -- a frame that is dealt with leaves the link
-  took : (h : List ByteStep) (s : Step) → IsOfFrame (is_shaken (in_frames p.wire (config side p.terms) h)) s → Hears h → Hears (Does s ∷ h)
+  took : (h : List ByteStep) (s : EndEvent) → IsOfFrame (is_shaken (in_frames p.wire (config side p.terms) h)) s → Hears h → Hears (Does s ∷ h)
   took h (Took got) is r = record { at = r.at; front = r.front }
   took h (Failed fault) is r = record { at = r.at; front = r.front }
   took h s is r = absurd is
 
-  fits_frame : (h : List Move) (shaken : Bool) (s : Step) → IsOfFrame shaken s → FitsOther p w side h (Plain (Does s))
+  fits_frame : (h : List PeerEvent) (shaken : Bool) (s : EndEvent) → IsOfFrame shaken s → FitsOther p w side h (Plain (Does s))
   fits_frame h shaken (Took got) is = tt
   fits_frame h shaken (Failed fault) is = tt
   fits_frame h shaken s is = absurd is
 
-  fits_piece : (h : List Move) (piece : List ℕ) → Hears (byte_steps t h) → Hears (Bytes piece ∷ byte_steps t h) → FitsOther p w side h (Plain (Bytes piece))
+  fits_piece : (h : List PeerEvent) (piece : List ℕ) → Hears (byte_steps t h) → Hears (Bytes piece ∷ byte_steps t h) → FitsOther p w side h (Plain (Bytes piece))
   fits_piece h piece r next j at =
       let same : l ≡ j = (let a = r.at in let e : Some l ≡ Some j = sym a ∙ at in cc) in
       let x = byte_steps t h in
@@ -105,12 +105,12 @@ module _ (unseen : FedIsUnseen) (taken : FramesAreTaken) (p : Pair) (w : List (E
       subst (λ j. IsPrefix (bytes_on j x ++ piece) (lent_in p w (other side) j)) same (prefix_trans (bytes_on l x ++ piece) bytes (lent_in p w (other side) l) front there)
 
   -- what comes next keeps the side there, and fits what the other side lent
-  one : (h : List Move) (d : Move) → Hears (byte_steps t h) → Reading t now bytes h (Some d) → Hears (byte_steps t (d ∷ h)) × FitsOther p w side h d
+  one : (h : List PeerEvent) (d : PeerEvent) → Hears (byte_steps t h) → Reading t now bytes h (Some d) → Hears (byte_steps t (d ∷ h)) × FitsOther p w side h d
   one h (Plain (Bytes piece)) r next =
       let x = byte_steps t h in
       let is = is_piece x (is_shut t h) (present_link (steps t h)) piece r.at next.1 in
       let more : Hears (Bytes piece ∷ byte_steps t h) =
-      subst (λ y. Hears (Bytes y ∷ byte_steps t h)) is (fed x ((p.limits.frame + most_framing) - unread_count p.wire (config side p.terms) l x) r) in
+      subst (λ y. Hears (Bytes y ∷ byte_steps t h)) is (fed x (((p.limits side).frame + most_framing) - unread_count p.wire (config side p.terms) l x) r) in
       (more, fits_piece h piece r more)
   one h (Plain (Does s)) r next =
       let is = taken (config side p.terms) (steps t h) s next.2 in
@@ -128,7 +128,7 @@ module _ (unseen : FedIsUnseen) (taken : FramesAreTaken) (p : Pair) (w : List (E
 
   -- ---- all of them
 
-  reads : Hears (byte_steps t (history side w)) → (ds : List Move) → Chain (Reading t now bytes) (history side w) ds → Hears (byte_steps t (ds ++ history side w)) × MayJoin p w side ds
+  reads : Hears (byte_steps t (history side w)) → (ds : List PeerEvent) → Chain (Reading t now bytes) (history side w) ds → Hears (byte_steps t (ds ++ history side w)) × MayJoin p w side ds
   reads r [] f = (r, tt)
   reads r (d ∷ ds) f =
       let before = reads r ds f.0 in
@@ -136,13 +136,13 @@ module _ (unseen : FedIsUnseen) (taken : FramesAreTaken) (p : Pair) (w : List (E
       (next.0, (before.1, next.1))
 
   -- calls that are gone need no other side
-  lost : (k gone ds : List Move) → Chain (Losing t) k gone → MayJoin p w side ds → MayJoin p w side (gone ++ ds)
+  lost : (k gone ds : List PeerEvent) → Chain (Losing t) k gone → MayJoin p w side ds → MayJoin p w side (gone ++ ds)
   lost k [] ds f joins = joins
   lost k (Loses n ∷ gone) ds f joins = (lost k gone ds f.0 joins, tt)
   lost k (d ∷ gone) ds f joins = absurd f.1
 
   pub reads_join : present_link (steps t (history side w)) ≡ Some l → IsPrefix (bytes_on l (byte_steps t (history side w))) bytes
-      → (new : List Move) → ReadsTo t (history side w) now bytes new → MayJoin p w side new
+      → (new : List PeerEvent) → ReadsTo t (history side w) now bytes new → MayJoin p w side new
   reads_join at front new f =
       let ds = f.0 in
       let gone = f.1.1.0 in

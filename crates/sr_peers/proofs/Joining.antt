@@ -10,8 +10,8 @@ use Rattle.hd_delivery.specs.Histories.{Attached, Fed, Sent, Closed}
 use Rattle.hd_delivery.specs.Worlds.{Limits, Terms, Event, ByClient, ByServer, client_of, server_of, config}
 use Rattle.hd_delivery.specs.Bytes.{Wire, ByteStep, Bytes, Does, AllowedOverBytes, IsWorldOverBytes}
 use Rattle.hd_delivery.specs.OneHistory.{MayDoOverBytes, IsHistory}
-use Rattle.hd_runs.specs.Sides.{by, other, history}
-use Rattle.hd_calls.specs.Peers.{Move, Plain, Calls, Uploads, Cancels, Reads, Handles, Runs, Answers, Refuses, Loses, Rounds, reason_of, shuts, add, byte_steps}
+use Rattle.hd_delivery.specs.Sides.{by, other, history}
+use Rattle.hd_calls.specs.Peers.{PeerEvent, Plain, Calls, Uploads, Cancels, Reads, Handles, Runs, Answers, Refuses, Loses, Rounds, reason_of, shuts, add, byte_steps}
 use Rattle.hd_calls.specs.PeerWorlds.{Pair, settings, next_step, ends}
 use Rattle.sr_peers.specs.Grows.{FitsOther, MayJoin, NeedNoOther}
 use Rattle.sr_peers.specs.Laws.{OneSideGrows}
@@ -21,12 +21,12 @@ use Rattle.sr_peers.specs.Laws.{OneSideGrows}
 pub one_side : OneSideGrows
 one_side w side ds = (own side ds, others side ds)
   where
-    own : (side : Side) (ds : List Move) → history side (map (by side) ds ++ w) ≡ ds ++ history side w
+    own : (side : Side) (ds : List PeerEvent) → history side (map (by side) ds ++ w) ≡ ds ++ history side w
     own side [] = refl
     own Client (d ∷ ds) = ap (λ h. d ∷ h) (own Client ds)
     own Server (d ∷ ds) = ap (λ h. d ∷ h) (own Server ds)
 
-    others : (side : Side) (ds : List Move) → history (other side) (map (by side) ds ++ w) ≡ history (other side) w
+    others : (side : Side) (ds : List PeerEvent) → history (other side) (map (by side) ds ++ w) ≡ history (other side) w
     others side [] = refl
     others Client (d ∷ ds) = others Client ds
     others Server (d ∷ ds) = others Server ds
@@ -47,14 +47,14 @@ server_others : (o : Option ByteStep) (v : List (Event ByteStep)) → server_of 
 server_others None v = refl
 server_others (Some s) v = refl
 
-client_steps : (p : Pair) (w : List (Event Move)) → client_of (ends p w) ≡ byte_steps (settings Client p) (client_of w)
+client_steps : (p : Pair) (w : List (Event PeerEvent)) → client_of (ends p w) ≡ byte_steps (settings Client p) (client_of w)
 client_steps p [] = refl
 client_steps p (ByClient d ∷ w) =
     let o = next_step (settings Client p) (client_of w) d in
     client_own o (ends p w) ∙ ap (add o) (client_steps p w)
 client_steps p (ByServer d ∷ w) = client_others (next_step (settings Server p) (server_of w) d) (ends p w) ∙ client_steps p w
 
-server_steps : (p : Pair) (w : List (Event Move)) → server_of (ends p w) ≡ byte_steps (settings Server p) (server_of w)
+server_steps : (p : Pair) (w : List (Event PeerEvent)) → server_of (ends p w) ≡ byte_steps (settings Server p) (server_of w)
 server_steps p [] = refl
 server_steps p (ByServer d ∷ w) =
     let o = next_step (settings Server p) (server_of w) d in
@@ -62,19 +62,19 @@ server_steps p (ByServer d ∷ w) =
 server_steps p (ByClient d ∷ w) = server_others (next_step (settings Client p) (client_of w) d) (ends p w) ∙ server_steps p w
 
 -- the world of the two ends has the steps that each side's moves make
-pub steps_in : (p : Pair) (w : List (Event Move)) (side : Side) → history side (ends p w) ≡ byte_steps (settings side p) (history side w)
+pub steps_in : (p : Pair) (w : List (Event PeerEvent)) (side : Side) → history side (ends p w) ≡ byte_steps (settings side p) (history side w)
 steps_in p w Client = client_steps p w
 steps_in p w Server = server_steps p w
 
-ends_more : (p : Pair) (w : List (Event Move)) (side : Side) (d : Move) → ends p (by side d ∷ w) ≡ add (option_map (by side) (next_step (settings side p) (history side w) d)) (ends p w)
+ends_more : (p : Pair) (w : List (Event PeerEvent)) (side : Side) (d : PeerEvent) → ends p (by side d ∷ w) ≡ add (option_map (by side) (next_step (settings side p) (history side w) d)) (ends p w)
 ends_more p w Client d = refl
 ends_more p w Server d = refl
 
 -- ---- one move
 
 -- the step, if there is one, may come after the world
-world_more : (limits : Limits) (wire : Wire) (t : Terms) (side : Side) (o : Option ByteStep) (v : List (Event ByteStep)) → IsWorldOverBytes limits wire t v
-    → ((s : ByteStep) → o ≡ Some s → AllowedOverBytes limits wire (config side t) (config (other side) t) (history side v) (history (other side) v) s)
+world_more : (limits : Side → Limits) (wire : Wire) (t : Terms) (side : Side) (o : Option ByteStep) (v : List (Event ByteStep)) → IsWorldOverBytes limits wire t v
+    → ((s : ByteStep) → o ≡ Some s → AllowedOverBytes (limits side) wire (config side t) (config (other side) t) (history side v) (history (other side) v) s)
     → IsWorldOverBytes limits wire t (add (option_map (by side) o) v)
 world_more limits wire t side None v i allowed = i
 world_more limits wire t Client (Some s) v i allowed = (i, allowed s refl)
@@ -88,12 +88,12 @@ may_do : (limits : Limits) (wire : Wire) (c : of.Config) (o : Option ByteStep) (
 may_do limits wire c None x s e i = absurd (cc)
 may_do limits wire c (Some u) x s e i = let q : u ≡ s = cc in subst (MayDoOverBytes limits wire c x) q i.1
 
-module _ (p : Pair) (w : List (Event Move)) (side : Side) (h : List Move) where
+module _ (p : Pair) (w : List (Event PeerEvent)) (side : Side) (h : List PeerEvent) where
   abbrev MayDo : ByteStep → Type 0
-  MayDo s = MayDoOverBytes p.limits p.wire (config side p.terms) (byte_steps (settings side p) h) s
+  MayDo s = MayDoOverBytes (p.limits side) p.wire (config side p.terms) (byte_steps (settings side p) h) s
 
   abbrev Allowed : ByteStep → Type 0
-  Allowed s = AllowedOverBytes p.limits p.wire (config side p.terms) (config (other side) p.terms) (byte_steps (settings side p) h) (byte_steps (settings (other side) p) (history (other side) w)) s
+  Allowed s = AllowedOverBytes (p.limits side) p.wire (config side p.terms) (config (other side) p.terms) (byte_steps (settings side p) h) (byte_steps (settings (other side) p) (history (other side) w)) s
 
   -- a step of the end alone
   plain : (s : ByteStep) → MayDo s → FitsOther p w side h (Plain s) → Allowed s
@@ -116,7 +116,7 @@ module _ (p : Pair) (w : List (Event Move)) (side : Side) (h : List Move) where
   its_own : (s u : ByteStep) → Some s ≡ Some u → (MayDo s → Allowed s) → MayDo u → Allowed u
   its_own s u e f m = let q : s ≡ u = cc in subst (λ s. MayDo s → Allowed s) q f m
 
-  allowed : (d : Move) (s : ByteStep) → next_step (settings side p) h d ≡ Some s → FitsOther p w side h d → MayDo s → Allowed s
+  allowed : (d : PeerEvent) (s : ByteStep) → next_step (settings side p) h d ≡ Some s → FitsOther p w side h d → MayDo s → Allowed s
   allowed (Plain u) s e fits m = its_own u s e (λ m. plain u m fits) m
   allowed (Calls a n c) s e fits m = its_own _ s e (λ m. m) m
   allowed (Uploads n k a) s e fits m = its_own _ s e (λ m. m) m
@@ -131,31 +131,31 @@ module _ (p : Pair) (w : List (Event Move)) (side : Side) (h : List Move) where
 
 -- ---- all of them
 
-module _ (p : Pair) (w : List (Event Move)) (side : Side) (i : IsWorldOverBytes p.limits p.wire p.terms (ends p w)) where
-  abbrev After : List Move → List (Event Move)
+module _ (p : Pair) (w : List (Event PeerEvent)) (side : Side) (i : IsWorldOverBytes p.limits p.wire p.terms (ends p w)) where
+  abbrev After : List PeerEvent → List (Event PeerEvent)
   After ds = map (by side) ds ++ w
 
-  pub worlds_grow : (ds : List Move) → IsHistory p.limits p.wire (config side p.terms) (byte_steps (settings side p) (ds ++ history side w)) → MayJoin p w side ds
+  pub worlds_grow : (ds : List PeerEvent) → IsHistory (p.limits side) p.wire (config side p.terms) (byte_steps (settings side p) (ds ++ history side w)) → MayJoin p w side ds
       → IsWorldOverBytes p.limits p.wire p.terms (ends p (After ds))
   worlds_grow [] is joins = i
   worlds_grow (d ∷ ds) is joins =
-      let h : List Move = ds ++ history side w in
+      let h : List PeerEvent = ds ++ history side w in
       let o : Option ByteStep = next_step (settings side p) h d in
       let x : List ByteStep = byte_steps (settings side p) h in
       let own : history side (ends p (After ds)) ≡ x = steps_in p (After ds) side ∙ ap (byte_steps (settings side p)) (one_side w side ds).0 in
       let others : history (other side) (ends p (After ds)) ≡ byte_steps (settings (other side) p) (history (other side) w)
       = steps_in p (After ds) (other side) ∙ ap (byte_steps (settings (other side) p)) (one_side w side ds).1 in
-      let before = worlds_grow ds (history_before p.limits p.wire (config side p.terms) o x is) joins.0 in
+      let before = worlds_grow ds (history_before (p.limits side) p.wire (config side p.terms) o x is) joins.0 in
       let more = world_more p.limits p.wire p.terms side o (ends p (After ds)) before (λ s e.
-      subst (λ y. AllowedOverBytes p.limits p.wire (config side p.terms) (config (other side) p.terms) y (history (other side) (ends p (After ds))) s) (sym own)
-      (subst (λ y. AllowedOverBytes p.limits p.wire (config side p.terms) (config (other side) p.terms) x y s) (sym others)
-      (allowed p w side h d s e joins.1 (may_do p.limits p.wire (config side p.terms) o x s e is)))) in
+      subst (λ y. AllowedOverBytes (p.limits side) p.wire (config side p.terms) (config (other side) p.terms) y (history (other side) (ends p (After ds))) s) (sym own)
+      (subst (λ y. AllowedOverBytes (p.limits side) p.wire (config side p.terms) (config (other side) p.terms) x y s) (sym others)
+      (allowed p w side h d s e joins.1 (may_do (p.limits side) p.wire (config side p.terms) o x s e is)))) in
       subst (λ v. IsWorldOverBytes p.limits p.wire p.terms v)
       (sym (ends_more p (After ds) side d ∙ ap (λ k. add (option_map (by side) (next_step (settings side p) k d)) (ends p (After ds))) (one_side w side ds).0)) more
 
 -- ---- moves that need no other side
 
-pub others_join : (p : Pair) (w : List (Event Move)) (side : Side) (ds : List Move) → NeedNoOther ds → MayJoin p w side ds
+pub others_join : (p : Pair) (w : List (Event PeerEvent)) (side : Side) (ds : List PeerEvent) → NeedNoOther ds → MayJoin p w side ds
 others_join p w side [] n = tt
 others_join p w side (Plain (Bytes piece) ∷ ds) n = absurd n
 others_join p w side (Plain (Does (Attached l now)) ∷ ds) n = absurd n

@@ -3,7 +3,7 @@ use Rattle.std.proofs.Common.{inl, inr, ⊎_elim, ◌≡◌, ◌⊎◌, ℕ, zer
 use Rattle.std.proofs.lemmas.Option.{slice_get-get_or}
 use Rattle.std.specs.Prelude.{slice_get}
 use Rattle.hd_delivery.specs.declared.vocabulary.Side.{Side}
-use Rattle.sr_peers.specs.declared.lane.Lane.{Lane}
+use Rattle.sr_peers.specs.declared.lane.LinkBytes.{LinkBytes}
 use Rattle.sr_peers.specs.Follows.{HasLeft, IsLeft, said_by}
 
 -- ---- lists
@@ -27,11 +27,11 @@ get_set (x ∷ xs) (suc i) v (suc j) y e = up (get_set xs i v j y e)
 -- ---- lanes
 
 -- nothing was forgotten
-pub left_none : (side : Side) (link : Option ℕ) (lanes : List Lane) → IsLeft side link lanes lanes
+pub left_none : (side : Side) (link : Option ℕ) (lanes : List LinkBytes) → IsLeft side link lanes lanes
 left_none side link lanes = record { many = refl; each = λ l lane at. (lane, (at, record { opened = refl; said = refl; heard = λ f. refl })) }
 
 -- what came on this link was
-pub left_one : (side : Side) (link : ℕ) (lanes : List Lane) (was now : Lane) → link < length lanes → was ≡ get_or lanes link was → now.opened ≡ was.opened
+pub left_one : (side : Side) (link : ℕ) (lanes : List LinkBytes) (was now : LinkBytes) → link < length lanes → was ≡ get_or lanes link was → now.opened ≡ was.opened
     → said_by side now ≡ said_by side was → IsLeft side (Some link) lanes (slice_set lanes link now)
 left_one side link lanes was now within e opened said = record {
   many = length-set lanes link now;

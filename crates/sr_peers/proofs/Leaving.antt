@@ -5,11 +5,11 @@ use Rattle.std.proofs.lemmas.Bool.{eq-eqb}
 use Rattle.hd_delivery.specs.declared.vocabulary.Side.{Side}
 use Rattle.hd_delivery.specs.declared.vocabulary.Side.TheVariants.{Client, Server}
 use Rattle.hd_delivery.specs.Histories as of
-use Rattle.hd_delivery.specs.Histories.{Step, Attached, Detached, Ticked, Silenced, present_link, was_on, is_silence}
+use Rattle.hd_delivery.specs.Histories.{EndEvent, Attached, Detached, Ticked, Silenced, present_link, was_on, is_silence}
 use Rattle.hd_delivery.specs.Worlds.{Event, server_of}
 use Rattle.hd_delivery.specs.Bytes.{Wire, ByteStep, Does, in_frames}
-use Rattle.hd_runs.specs.Sides.{by, history}
-use Rattle.hd_calls.specs.Peers.{Move, Plain, Loses, Settings, byte_steps, steps}
+use Rattle.hd_delivery.specs.Sides.{by, history}
+use Rattle.hd_calls.specs.Peers.{PeerEvent, Plain, Loses, Settings, byte_steps, steps}
 use Rattle.hd_calls.specs.PeerWorlds.{Pair, settings}
 use Rattle.sr_script.specs.declared.action.Action.{Action}
 use Rattle.sr_script.specs.declared.action.Action.TheVariants.{Lose, Tick}
@@ -35,7 +35,7 @@ use Rattle.sr_peers.proofs.Seats.{Seat, the_client, the_server}
 use Rattle.sr_peers.proofs.Acting.{goes_on_made, plays_at}
 
 -- an end was on the link where it stands
-pub was_there : (k : List Step) (l : ℕ) → present_link k ≡ Some l → was_on l k ≡ true
+pub was_there : (k : List EndEvent) (l : ℕ) → present_link k ≡ Some l → was_on l k ≡ true
 was_there [] l at = absurd (cc)
 was_there (Attached m now ∷ k) l at = let e : l ≡ m = (let f : m ≡ l = cc in sym f) in on e
   where
@@ -46,17 +46,17 @@ was_there (Silenced now ∷ k) l at = absurd (cc)
 was_there (s ∷ k) l at = was_there k l at
 
 -- losses make no step of the end
-pub losses_are_no_steps : (t : Settings) (k gone : List Move) → Chain (Losing t) k gone → byte_steps t (gone ++ k) ≡ byte_steps t k
+pub losses_are_no_steps : (t : Settings) (k gone : List PeerEvent) → Chain (Losing t) k gone → byte_steps t (gone ++ k) ≡ byte_steps t k
 losses_are_no_steps t k [] f = refl
 losses_are_no_steps t k (Loses n ∷ gone) f = losses_are_no_steps t k gone f.0
 losses_are_no_steps t k (d ∷ gone) f = absurd f.1
 
-pub steps_with_losses : (t : Settings) (h ds new : List Move) → WithLosses t h ds new → steps t (new ++ h) ≡ steps t (ds ++ h)
+pub steps_with_losses : (t : Settings) (h ds new : List PeerEvent) → WithLosses t h ds new → steps t (new ++ h) ≡ steps t (ds ++ h)
 steps_with_losses t h ds new f =
     ap (λ x. steps t (x ++ h)) f.1.1 ∙ (ap (steps t) (append_assoc f.0 ds h) ∙ ap (in_frames t.wire t.config) (losses_are_no_steps t (ds ++ h) f.0 f.1.0.0))
 
 -- after a loss the end stands on no link
-pub left_after : (t : Settings) (h : List Move) (now l : ℕ) (new : List Move) → present_link (steps t h) ≡ Some l → WithLosses t h (leaving t h now) new
+pub left_after : (t : Settings) (h : List PeerEvent) (now l : ℕ) (new : List PeerEvent) → present_link (steps t h) ≡ Some l → WithLosses t h (leaving t h now) new
     → present_link (steps t (new ++ h)) ≡ None
 left_after t h now l new at f =
     ap present_link (steps_with_losses t h (leaving t h now) new f)
@@ -71,7 +71,7 @@ never_read wire c x y l quiet at left (inr never) = absurd (let was = was_there 
 module _ (side : Side) (seat : Seat side) (lent : LentGoesOn) (old new : Peers) (alike : seat.Alike old new) (before after : List ℕ) (link : Option ℕ)
     (link_is : OfEach seat.hub (seat.at old) (λ t h. link ≡ present_link (steps t h))) where
   -- what is kept of the links stays, if nothing is kept of the one that was left
-  pub lanes_after : (p : Pair) (w : List (Event Move)) (ds : List Move) → NeedNoOther ds
+  pub lanes_after : (p : Pair) (w : List (Event PeerEvent)) (ds : List PeerEvent) → NeedNoOther ds
       → Plays seat.hub (settings side p) (seat.at old) (history side w) → Plays seat.hub (settings side p) (seat.at new) (ds ++ history side w)
       → ((l : ℕ) → present_link (steps_at p w side) ≡ Some l → present_link (steps (settings side p) (ds ++ history side w)) ≡ None)
       → IsLeft side link old.lanes.items new.lanes.items → LanesStay p (map (by side) ds ++ w) old.lanes.items new.lanes.items
@@ -84,7 +84,7 @@ module _ (side : Side) (seat : Seat side) (lent : LentGoesOn) (old new : Peers) 
       never_read t.wire t.config (byte_steps t h) (byte_steps t (ds ++ h)) l quiet at (left l at) (subst (λ k. MayRead (steps t k) l) (one_side w side ds).0 may))
 
   pub loses : new.now ≡ old.now → IsLeft side link old.lanes.items new.lanes.items
-      → OfEach seat.hub (seat.at old) (λ t h. of.moment (steps t h) ≤ old.now → (ds : List Move) × (WithLosses t h (leaving t h old.now) ds × Goes seat.hub t h (seat.at new) before after ds))
+      → OfEach seat.hub (seat.at old) (λ t h. of.moment (steps t h) ≤ old.now → (ds : List PeerEvent) × (WithLosses t h (leaving t h old.now) ds × Goes seat.hub t h (seat.at new) before after ds))
       → GoesOn old (Lose side) new before after
   loses same_now is_left lose = goes_on_made side seat lent old new alike same_now before after (Lose side) (record { links = λ actions. refl; later = λ actions. refl })
       (λ p actions r follows.
@@ -105,15 +105,15 @@ module _ (side : Side) (seat : Seat side) (lent : LentGoesOn) (old new : Peers) 
 -- ---- moments
 
 -- a side is told a moment, or hears nothing for too long
-pub record Ticks (side : Side) (seat : Seat side) (p : Pair) (actions : List Action) (now : ℕ) (w : List (Event Move)) (new : Peers) (before after : List ℕ) : Type 0 where
-  pub moves : List Move
+pub record Ticks (side : Side) (seat : Seat side) (p : Pair) (actions : List Action) (now : ℕ) (w : List (Event PeerEvent)) (new : Peers) (before after : List ℕ) : Type 0 where
+  pub moves : List PeerEvent
   pub ticking : WithLosses (settings side p) (history side w) (doings.ticking (settings side p) (history side w) now) moves
   pub goes : Goes seat.hub (settings side p) (history side w) (seat.at new) before after moves
   pub holds : Holds p actions (map (by side) moves ++ w) new
 
 module _ (side : Side) (seat : Seat side) (lent : LentGoesOn) (old new : Peers) (alike : seat.Alike old new) (now : ℕ) (new_now : new.now ≡ now) (before after : List ℕ)
     (forgot : HasForgotten seat.hub side (seat.at old) (seat.at new) old.lanes.items new.lanes.items) where
-  lanes_stay : (p : Pair) (w : List (Event Move)) (ds : List Move) → Plays seat.hub (settings side p) (seat.at old) (history side w)
+  lanes_stay : (p : Pair) (w : List (Event PeerEvent)) (ds : List PeerEvent) → Plays seat.hub (settings side p) (seat.at old) (history side w)
       → Plays seat.hub (settings side p) (seat.at new) (ds ++ history side w) → NeedNoOther ds → (o : Option ℕ) → forgot.later ≡ o
       → LanesStay p (map (by side) ds ++ w) old.lanes.items new.lanes.items
   lanes_stay p w ds plays now_plays need None e =
@@ -123,8 +123,8 @@ module _ (side : Side) (seat : Seat side) (lent : LentGoesOn) (old new : Peers) 
       subst (λ lanes. LanesStay p (map (by side) ds ++ w) old.lanes.items lanes) (sym (forgot.kept (λ f. absurd (cc)))) (lanes_same p _ old.lanes.items)
 
   pub ticks : OfEach seat.hub (seat.at old) (λ t h. of.moment (steps t h) ≤ now
-      → (ds : List Move) × (WithLosses t h (ticking t h now) ds × Goes seat.hub t h (seat.at new) before after ds))
-      → (p : Pair) (actions more : List Action) (w : List (Event Move)) → moment_after more ≡ now → GoBeyond actions more → Holds p actions w old
+      → (ds : List PeerEvent) × (WithLosses t h (ticking t h now) ds × Goes seat.hub t h (seat.at new) before after ds))
+      → (p : Pair) (actions more : List Action) (w : List (Event PeerEvent)) → moment_after more ≡ now → GoBeyond actions more → Holds p actions w old
       → of.moment (steps_at p w side) ≤ now → Ticks side seat p more now w new before after
   ticks tick p actions more w is_now beyond holds early =
       let t = settings side p in
@@ -144,9 +144,9 @@ module _ (side : Side) (seat : Seat side) (lent : LentGoesOn) (old new : Peers) 
 pub both_tick : (lent : LentGoesOn) (old mid new : Peers) (now : ℕ) (before between after : List ℕ) → mid.server ≡ old.server → new.client ≡ mid.client → mid.now ≡ now → new.now ≡ now
     → HasForgotten client_hub Client old.client mid.client old.lanes.items mid.lanes.items → HasForgotten calc_hub Server mid.server new.server mid.lanes.items new.lanes.items
     → OfEach client_hub old.client (λ t h. of.moment (steps t h) ≤ now
-    → (ds : List Move) × (WithLosses t h (ticking t h now) ds × Goes client_hub t h mid.client before between ds))
+    → (ds : List PeerEvent) × (WithLosses t h (ticking t h now) ds × Goes client_hub t h mid.client before between ds))
     → OfEach calc_hub mid.server (λ t h. of.moment (steps t h) ≤ now
-    → (ds : List Move) × (WithLosses t h (ticking t h now) ds × Goes calc_hub t h new.server between after ds))
+    → (ds : List PeerEvent) × (WithLosses t h (ticking t h now) ds × Goes calc_hub t h new.server between after ds))
     → GoesOn old (Tick now) new before after
 both_tick lent old mid new now before between after server_same client_same mid_now new_now client_forgot server_forgot client_ticks server_ticks p actions r follows turn =
     let more = Tick now ∷ actions in

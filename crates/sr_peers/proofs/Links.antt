@@ -3,14 +3,14 @@ use Rattle.std.proofs.Common.{inl, inr, ◌≡◌, ◌⊎◌, ℕ, Bool, true, f
 use Rattle.std.specs.Prelude.{not, ◌&&◌, is_some, if◌then◌else◌}
 use Rattle.std.proofs.lemmas.List.{append-nil}
 use Rattle.hd_delivery.specs.declared.vocabulary.Reason.TheVariants.{Done}
-use Rattle.hd_delivery.specs.Histories.{Attached, Detached, Ticked, Silenced, Closed, present_link, first_link, is_kept, is_silence}
+use Rattle.hd_delivery.specs.Histories.{Attached, Detached, Ticked, Silenced, Closed, present_link, first_link, is_resumable, is_silence}
 use Rattle.hd_delivery.specs.Worlds.{MayBegin}
 use Rattle.hd_delivery.specs.Bytes.{Does}
 use Rattle.he_end.specs.declared.session.AttachError.{AttachError}
 use Rattle.he_end.specs.declared.session.AttachError.TheVariants as attach
 use Rattle.he_end.specs.Words.{attach_words}
 use Rattle.hd_calls.specs.Hubs.{Hub}
-use Rattle.hd_calls.specs.Peers.{Move, Plain, Settings, is_shut, steps}
+use Rattle.hd_calls.specs.Peers.{PeerEvent, Plain, Settings, is_shut, steps}
 use Rattle.hp_peer.specs.declared.peer.Peer.{Peer}
 use Rattle.hp_peer.specs.Stands.{Stands}
 use Rattle.sr_lines.specs.Lines.{line_at}
@@ -30,23 +30,23 @@ refused_is None kept some e = absurd (some refl)
 refused_is (Some l) true some e = absurd (cc)
 refused_is (Some l) false some e = refl
 
-module _ (t : Settings) (h : List Move) (l now : ℕ) where
+module _ (t : Settings) (h : List PeerEvent) (l now : ℕ) where
   pub attaches : MayBegin t.config (steps t h) l now → attaching t h l now ≡ Makes (Plain (Does (Attached l now)))
-  attaches may = rw (may.unclosed, granted_is (first_link (steps t h)) (is_kept t.config (steps t h)) may.granted) refl
+  attaches may = rw (may.unclosed, granted_is (first_link (steps t h)) (is_resumable t.config (steps t h)) may.granted) refl
 
   pub closed_refuses : is_shut t h ≡ true → attaching t h l now ≡ Refuses (codes "Closed")
   closed_refuses over = rw over refl
 
-  pub plain_refuses : is_shut t h ≡ false → is_kept t.config (steps t h) ≡ false → (first_link (steps t h) ≡ None → ⊥)
+  pub plain_refuses : is_shut t h ≡ false → is_resumable t.config (steps t h) ≡ false → (first_link (steps t h) ≡ None → ⊥)
       → attaching t h l now ≡ Refuses (codes "NotGranted")
-  plain_refuses live plain had = rw (live, refused_is (first_link (steps t h)) (is_kept t.config (steps t h)) had plain) refl
+  plain_refuses live plain had = rw (live, refused_is (first_link (steps t h)) (is_resumable t.config (steps t h)) had plain) refl
 
 -- a moment came to the peer, a silence exactly if this is so
-abbrev pub HasTicked : {H Job : Type 0} → Hub Job → Settings → List Move → Peer H Job → ℕ → Bool → Type 0
+abbrev pub HasTicked : {H Job : Type 0} → Hub Job → Settings → List PeerEvent → Peer H Job → ℕ → Bool → Type 0
 HasTicked hub t h x now silent =
     (silent ≡ is_silence t.config now (steps t h)) × Stands hub t x (Plain (Does (if silent then Silenced now else Ticked now)) ∷ h)
 
-module _ {H Job : Type 0} (hub : Hub Job) (t : Settings) (h : List Move) (p : Party H Job) (plays : Plays hub t p h) (x : Peer H Job) where
+module _ {H Job : Type 0} (hub : Hub Job) (t : Settings) (h : List PeerEvent) (p : Party H Job) (plays : Plays hub t p h) (x : Peer H Job) where
   pub taken_link : (l now : ℕ) (before : List ℕ) → Stands hub t x (Plain (Does (Attached l now)) ∷ h)
       → IsTried t h l now true × HasDone hub t h (record p { peer = x; link = Some l }) before before (attaching t h l now)
   taken_link l now before stands =
@@ -75,7 +75,7 @@ module _ {H Job : Type 0} (hub : Hub Job) (t : Settings) (h : List Move) (p : Pa
 
   -- the link is refused for this reason
   pub refused_for : (l now : ℕ) (e : AttachError) (before after : List ℕ) → x ≡ p.peer → (e ≡ attach.Closed → is_shut t h ≡ true)
-      → (e ≡ attach.NotGranted → (is_shut t h ≡ false) × (is_kept t.config (steps t h) ≡ false) × (first_link (steps t h) ≡ None → ⊥))
+      → (e ≡ attach.NotGranted → (is_shut t h ≡ false) × (is_resumable t.config (steps t h) ≡ false) × (first_link (steps t h) ≡ None → ⊥))
       → after ≡ before ++ line_at p.side (codes "refused " ++ attach_words e)
       → IsTried t h l now false × HasDone hub t h (with p x) before after (attaching t h l now)
   refused_for l now attach.Closed before after same over plain is =

@@ -3,7 +3,7 @@ use Rattle.std.proofs.Common.{◌≡◌, ℕ, zero, suc, ◌+◌, ◌-◌, ◌^�
 use Rattle.std.specs.Prelude.{◌==◌, ◌&&◌, ◌||◌, not, max, if◌then◌else◌}
 use Rattle.std.proofs.lemmas.Bool.{eqb-true, eq-eqb}
 use Rattle.hd_calls.specs.Hubs.{Hub, Invoked}
-use Rattle.hd_calls.specs.Peers.{Move, Calls, Loses, Settings, drawn, call_of, given, has_end, has_id, live_call, lost}
+use Rattle.hd_calls.specs.Peers.{PeerEvent, Calls, Loses, Settings, drawn, call_of, given, has_end, has_id, live_call, lost}
 use Rattle.hp_peer.specs.declared.peer.Peer.{Peer}
 use Rattle.hp_peer.specs.Calling.{Loss}
 use Rattle.hp_peer.specs.Laws.{KeepsItsCalls}
@@ -16,7 +16,7 @@ use Rattle.sr_peers.proofs.Chains.{with, goes_none, goes_one, goes_on, goes_same
 
 -- ---- numbers
 
-number_called : (n : ℕ) (h : List Move) (c : Invoked) → call_of n h ≡ Some c → n ≤ drawn h
+number_called : (n : ℕ) (h : List PeerEvent) (c : Invoked) → call_of n h ≡ Some c → n ≤ drawn h
 number_called n [] c e = absurd (cc)
 number_called n (Calls a k d ∷ h) c e = go (n == k) refl (number_called n h c) e
   where
@@ -26,7 +26,7 @@ number_called n (Calls a k d ∷ h) c e = go (n == k) refl (number_called n h c)
     go false is before e = let b = before e in omega arith
 number_called n (_ ∷ h) c e = number_called n h c e
 
-number_live : (n : ℕ) (h : List Move) → live_call n h ≡ true → n ≤ drawn h
+number_live : (n : ℕ) (h : List PeerEvent) → live_call n h ≡ true → n ≤ drawn h
 number_live n h live = go (call_of n h) refl
   where
     go : (o : Option Invoked) → call_of n h ≡ o → n ≤ drawn h
@@ -47,12 +47,12 @@ above (suc m) zero l e = absurd (l (omega arith))
 above (suc m) (suc n) l e = let a = above m n (λ x. l (omega (arith, x))) (λ x. e (ap suc x)) in omega arith
 
 -- the next call that is gone has a greater number
-next_greater : (m n : ℕ) (h : List Move) → ((k : ℕ) → k < m → live_call k h ≡ false) → live_call n (Loses m ∷ h) ≡ true → m < n
+next_greater : (m n : ℕ) (h : List PeerEvent) → ((k : ℕ) → k < m → live_call k h ≡ false) → live_call n (Loses m ∷ h) ≡ true → m < n
 next_greater m n h none live =
     let was = was_live (has_id (call_of n h)) (not (has_end (given n h))) (n == m) (lost n h) live in
     above m n (λ l. let f = none n l in let u = was.0 in cc) (λ e. let f = eq-eqb n m e in let u = was.1 in cc)
 
-number_of_loss : (t : Settings) (h : List Move) (n : ℕ) (ds : List Move) → Chain (Losing t) h (Loses n ∷ ds) → length ds ≤ n
+number_of_loss : (t : Settings) (h : List PeerEvent) (n : ℕ) (ds : List PeerEvent) → Chain (Losing t) h (Loses n ∷ ds) → length ds ≤ n
 number_of_loss t h n [] chain = omega arith
 number_of_loss t h n (Loses m ∷ ds) chain =
     let before = number_of_loss t h m ds chain.0 in
@@ -60,7 +60,7 @@ number_of_loss t h n (Loses m ∷ ds) chain =
     omega arith
 number_of_loss t h n (_ ∷ ds) chain = absurd chain.0.1
 
-drawn_still : (t : Settings) (h ds : List Move) → Chain (Losing t) h ds → drawn (ds ++ h) ≡ drawn h
+drawn_still : (t : Settings) (h ds : List PeerEvent) → Chain (Losing t) h ds → drawn (ds ++ h) ≡ drawn h
 drawn_still t h [] chain = refl
 drawn_still t h (Loses n ∷ ds) chain = drawn_still t h ds chain.0
 drawn_still t h (_ ∷ ds) chain = absurd chain.1
@@ -76,13 +76,13 @@ losses_are_few t h (_ ∷ ds) chain = absurd chain.1
 
 -- ---- the calls that were handed out so far
 
-pub record HasLost {H Job : Type 0} (hub : Hub Job) (t : Settings) (h : List Move) (p : Party H Job) (before now : List ℕ) (n : ℕ) : Type 0 where
-  pub moves : List Move
+pub record HasLost {H Job : Type 0} (hub : Hub Job) (t : Settings) (h : List PeerEvent) (p : Party H Job) (before now : List ℕ) (n : ℕ) : Type 0 where
+  pub moves : List PeerEvent
   pub chain : Chain (Losing t) h moves
   pub many : length moves ≡ n
   pub goes : Goes hub t h p before now moves
 
-module _ {H Job : Type 0} (hub : Hub Job) (t : Settings) (h : List Move) where
+module _ {H Job : Type 0} (hub : Hub Job) (t : Settings) (h : List PeerEvent) where
   pub lost_none : (p : Party H Job) (before : List ℕ) → Plays hub t p h → HasLost hub t h p before before 0
   lost_none p before plays = record { moves = []; chain = tt; many = refl; goes = goes_none hub t h p before plays }
 
@@ -101,7 +101,7 @@ module _ {H Job : Type 0} (hub : Hub Job) (t : Settings) (h : List Move) where
           goes = goes_on hub t h p (with p x) before now after has.moves (Loses call ∷ []) has.goes one;
         }
 
-    pub lost_all : (x : Peer H Job) → Loss hub t (has.moves ++ h) x None → (ds : List Move) × (WholeChain (Losing t) h ds × Goes hub t h (with p x) before now ds)
+    pub lost_all : (x : Peer H Job) → Loss hub t (has.moves ++ h) x None → (ds : List PeerEvent) × (WholeChain (Losing t) h ds × Goes hub t h (with p x) before now ds)
     lost_all x loss =
         let plays = has.goes.plays in (
           has.moves,
@@ -113,7 +113,7 @@ module _ {H Job : Type 0} (hub : Hub Job) (t : Settings) (h : List Move) where
         )
 
 -- they are not so many as 64 bits count
-pub lost_few : {H Job : Type 0} (hub : Hub Job) (t : Settings) (h : List Move) (first p : Party H Job) (before now : List ℕ) (n : ℕ) → LossesAreFew
+pub lost_few : {H Job : Type 0} (hub : Hub Job) (t : Settings) (h : List PeerEvent) (first p : Party H Job) (before now : List ℕ) (n : ℕ) → LossesAreFew
     → KeepsItsCalls hub first.peer → Plays hub t first h → HasLost hub t h p before now n → n < 2 ^ 64 - 1
 lost_few hub t h first p before now n few keeps plays has =
     let some = few t h has.moves has.chain in

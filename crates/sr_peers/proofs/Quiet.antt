@@ -6,10 +6,10 @@ use Rattle.hd_delivery.specs.declared.vocabulary.Reason.{Reason}
 use Rattle.hd_delivery.specs.declared.vocabulary.Got.{Got}
 use Rattle.hd_delivery.specs.declared.vocabulary.Got.TheVariants as gives
 use Rattle.hd_delivery.specs.Histories as of
-use Rattle.hd_delivery.specs.Histories.{Step, Attached, Detached, Fed, Took, Failed, Sent, Lent, Ticked, Silenced, Closed, present_link, was_on, fed_frames, taken_count, stands_on, is_kept, is_closed}
+use Rattle.hd_delivery.specs.Histories.{EndEvent, Attached, Detached, Fed, Took, Failed, Sent, Lent, Ticked, Silenced, Closed, present_link, was_on, fed_frames, taken_count, stands_on, is_resumable, is_closed}
 use Rattle.hd_delivery.specs.Bytes.{Wire, ByteStep, Bytes, Does, bytes_on, in_frames}
 use Rattle.hd_delivery.specs.OneHistory.{IsHistory}
-use Rattle.hd_calls.specs.Peers.{Move, Plain, Calls, Uploads, Cancels, Reads, Handles, Runs, Answers, Refuses, Loses, Rounds, Settings, add, byte_steps, reason_of, shuts}
+use Rattle.hd_calls.specs.Peers.{PeerEvent, Plain, Calls, Uploads, Cancels, Reads, Handles, Runs, Answers, Refuses, Loses, Rounds, Settings, add, byte_steps, reason_of, shuts}
 use Rattle.hd_calls.specs.PeerWorlds.{next_step}
 use Rattle.sr_peers.specs.Grows.{NeedNoOther}
 use Rattle.sr_peers.specs.Follows.{HasTakenAll}
@@ -52,18 +52,18 @@ live_if : (kept shut : Bool) → (if kept then shut else true) ≡ false → shu
 live_if true shut e = e
 live_if false shut e = absurd (cc)
 
-live_got : (c : of.Config) (k : List Step) (got : Got) → is_closed c (Took got ∷ k) ≡ false → is_closed c k ≡ false
+live_got : (c : of.Config) (k : List EndEvent) (got : Got) → is_closed c (Took got ∷ k) ≡ false → is_closed c k ≡ false
 live_got c k (gives.Closed error allow) e = absurd (cc)
 live_got c k got e = e
 
 -- neither a link that is taken nor a frame that is fed
-abbrev IsAlone : Step → Type 0
+abbrev IsAlone : EndEvent → Type 0
 IsAlone (Attached l now) = ⊥
 IsAlone (Fed piece) = ⊥
 IsAlone s = Unit {0}
 
 module _ (wire : Wire) (c : of.Config) (x : List ByteStep) where
-  quiet_step : (s : Step) → IsAlone s → IsQuiet wire c x (Does s ∷ x)
+  quiet_step : (s : EndEvent) → IsAlone s → IsQuiet wire c x (Does s ∷ x)
   quiet_step (Attached l now) alone = absurd alone
   quiet_step (Fed piece) alone = absurd alone
   quiet_step (Took got) alone = record {
@@ -84,14 +84,14 @@ module _ (wire : Wire) (c : of.Config) (x : List ByteStep) where
     names = λ l. refl;
     stands = λ l at. absurd (cc);
     bytes = λ l. refl;
-    live = live_if (is_kept c (in_frames wire c x)) (is_closed c (in_frames wire c x));
+    live = live_if (is_resumable c (in_frames wire c x)) (is_closed c (in_frames wire c x));
     taken = λ l e. e;
   }
   quiet_step (Silenced now) alone = record {
     names = λ l. refl;
     stands = λ l at. absurd (cc);
     bytes = λ l. refl;
-    live = live_if (is_kept c (in_frames wire c x)) (is_closed c (in_frames wire c x));
+    live = live_if (is_resumable c (in_frames wire c x)) (is_closed c (in_frames wire c x));
     taken = λ l e. e;
   }
   quiet_step (Closed reason allow) alone = record { names = λ l. refl; stands = λ l at. at; bytes = λ l. refl; live = λ e. absurd (cc); taken = λ l e. e }
@@ -110,7 +110,7 @@ module _ (wire : Wire) (c : of.Config) (x : List ByteStep) where
 -- ---- moves
 
 module _ (t : Settings) where
-  quiet_move : (h : List Move) (d : Move) → NeedNoOther (d ∷ []) → IsHistory t.limits t.wire t.config (byte_steps t (d ∷ h))
+  quiet_move : (h : List PeerEvent) (d : PeerEvent) → NeedNoOther (d ∷ []) → IsHistory t.limits t.wire t.config (byte_steps t (d ∷ h))
       → IsQuiet t.wire t.config (byte_steps t h) (byte_steps t (d ∷ h))
   quiet_move h (Plain (Bytes piece)) n i = absurd n
   quiet_move h (Plain (Does (Attached l now))) n i = absurd n
@@ -127,13 +127,13 @@ module _ (t : Settings) where
   quiet_move h (Loses k) n i = quiet_none t.wire t.config (byte_steps t h)
   quiet_move h Rounds n i = quiet_none t.wire t.config (byte_steps t h)
 
-  pub need_none : (d : Move) (ds : List Move) → NeedNoOther (d ∷ ds) → NeedNoOther (d ∷ []) × NeedNoOther ds
+  pub need_none : (d : PeerEvent) (ds : List PeerEvent) → NeedNoOther (d ∷ ds) → NeedNoOther (d ∷ []) × NeedNoOther ds
   need_none (Plain (Bytes piece)) ds n = absurd n
   need_none (Plain (Does (Attached l now))) ds n = absurd n
   need_none (Plain (Does s)) ds n = (tt, n)
   need_none d ds n = (tt, n)
 
-  pub quiet_moves : (h ds : List Move) → NeedNoOther ds → IsHistory t.limits t.wire t.config (byte_steps t (ds ++ h))
+  pub quiet_moves : (h ds : List PeerEvent) → NeedNoOther ds → IsHistory t.limits t.wire t.config (byte_steps t (ds ++ h))
       → IsQuiet t.wire t.config (byte_steps t h) (byte_steps t (ds ++ h))
   quiet_moves h [] n i = quiet_none t.wire t.config (byte_steps t h)
   quiet_moves h (d ∷ ds) n i =
@@ -143,5 +143,5 @@ module _ (t : Settings) where
       (quiet_move (ds ++ h) d need.0 i)
 
   -- what was taken stays taken
-  pub took_still : (h ds : List Move) → IsQuiet t.wire t.config (byte_steps t h) (byte_steps t (ds ++ h)) → HasTakenAll t h → HasTakenAll t (ds ++ h)
+  pub took_still : (h ds : List PeerEvent) → IsQuiet t.wire t.config (byte_steps t h) (byte_steps t (ds ++ h)) → HasTakenAll t h → HasTakenAll t (ds ++ h)
   took_still h ds quiet took live l at = quiet.taken l (took (quiet.live live) l (quiet.stands l at))

@@ -7,20 +7,20 @@ use Rattle.hd_facts.specs.Prefixes.{IsPrefix}
 use Rattle.hd_delivery.specs.declared.vocabulary.Reason.{Reason}
 use Rattle.hd_delivery.specs.declared.vocabulary.Side.{Side}
 use Rattle.hd_delivery.specs.Histories as of
-use Rattle.hd_delivery.specs.Histories.{Step, Took, Failed, is_this, present_link, was_on, fed_frames, taken_count, is_shaken, is_closed}
+use Rattle.hd_delivery.specs.Histories.{EndEvent, Took, Failed, is_this, present_link, was_on, fed_frames, taken_count, is_shaken, is_closed}
 use Rattle.hd_delivery.specs.Processes.{processes, next_frame, next_number, reads}
 use Rattle.hd_delivery.specs.Bytes.{ByteStep, Bytes, Does, bare_steps, bytes_on, in_frames, lent_bytes}
 use Rattle.hd_delivery.specs.Laws.{FedIsUnseen}
-use Rattle.hd_runs.specs.Alone.{IsOfFrame}
-use Rattle.hd_runs.specs.Laws.{FedIsLent, FramesAreTaken}
-use Rattle.hd_runs.specs.Sides.{by, other, history}
-use Rattle.hd_calls.specs.Peers.{Move, Plain, Reads, Handles, Loses, Settings, add, byte_steps, steps, is_shut, reason_of, shuts}
+use Rattle.hd_delivery.specs.Alone.{IsOfFrame}
+use Rattle.hd_delivery.specs.AloneLaws.{FedIsLent, FramesAreTaken}
+use Rattle.hd_delivery.specs.Sides.{by, other, history}
+use Rattle.hd_calls.specs.Peers.{PeerEvent, Plain, Reads, Handles, Loses, Settings, add, byte_steps, steps, is_shut, reason_of, shuts}
 use Rattle.hd_calls.specs.PeerWorlds.{settings}
 use Rattle.sr_script.specs.declared.action.Count.{Count}
 use Rattle.sr_script.specs.declared.action.Count.TheVariants.{UpTo, Everything}
 use Rattle.sr_script.specs.declared.action.Action.TheVariants.{Read}
 use Rattle.sr_script.specs.Script.{moment_after}
-use Rattle.sr_peers.specs.declared.lane.Lane.{Lane}
+use Rattle.sr_peers.specs.declared.lane.LinkBytes.{LinkBytes}
 use Rattle.sr_peers.specs.declared.peers.Peers.{Peers}
 use Rattle.sr_peers.specs.Doings.{Chain, Losing, ReadsTo, made}
 use Rattle.sr_peers.specs.Doings as did
@@ -62,7 +62,7 @@ module _ (unseen : FedIsUnseen) (taken : FramesAreTaken) (t : Settings) (l now :
   closed x y false None r = r
   closed x y true o r = r
 
-  took : (x y : List ByteStep) (s : Step) → IsOfFrame (is_shaken (in_frames t.wire t.config y)) s → StaysOn x y → StaysOn x (Does s ∷ y)
+  took : (x y : List ByteStep) (s : EndEvent) → IsOfFrame (is_shaken (in_frames t.wire t.config y)) s → StaysOn x y → StaysOn x (Does s ∷ y)
   took x y (Took got) is r = record { at = r.at; names = r.names; elsewhere = r.elsewhere }
   took x y (Failed fault) is r = record { at = r.at; names = r.names; elsewhere = r.elsewhere }
   took x y s is r = absurd is
@@ -75,19 +75,19 @@ module _ (unseen : FedIsUnseen) (taken : FramesAreTaken) (t : Settings) (l now :
         (not_this j l (present_link (bare_steps y)) (sym (unseen t.wire t.config y).link ∙ r.at) apart) ∙ r.elsewhere j apart;
   }
 
-  one : (x : List ByteStep) (k : List Move) (d : Move) → did.Reading t now bytes k (Some d) → StaysOn x (byte_steps t k) → StaysOn x (byte_steps t (d ∷ k))
+  one : (x : List ByteStep) (k : List PeerEvent) (d : PeerEvent) → did.Reading t now bytes k (Some d) → StaysOn x (byte_steps t k) → StaysOn x (byte_steps t (d ∷ k))
   one x k (Plain (Bytes piece)) next r = fed x (byte_steps t k) piece r
   one x k (Plain (Does s)) next r = took x (byte_steps t k) s (taken t.config (steps t k) s next.2) r
   one x k (Reads m) next r = record { at = r.at; names = r.names; elsewhere = r.elsewhere }
   one x k (Handles m e) next r = closed x (byte_steps t k) (is_shut t k) (reason_of e) r
   one x k d next r = absurd next
 
-  all : (h ds : List Move) → present_link (steps t h) ≡ Some l → Chain (did.Reading t now bytes) h ds → StaysOn (byte_steps t h) (byte_steps t (ds ++ h))
+  all : (h ds : List PeerEvent) → present_link (steps t h) ≡ Some l → Chain (did.Reading t now bytes) h ds → StaysOn (byte_steps t h) (byte_steps t (ds ++ h))
   all h [] at f = record { at = at; names = λ j. refl; elsewhere = λ j apart. refl }
   all h (d ∷ ds) at f = one (byte_steps t h) (ds ++ h) d f.1 (all h ds at f.0)
 
 -- calls that are gone make no step
-gone_same : (t : Settings) (k gone : List Move) → Chain (Losing t) k gone → byte_steps t (gone ++ k) ≡ byte_steps t k
+gone_same : (t : Settings) (k gone : List PeerEvent) → Chain (Losing t) k gone → byte_steps t (gone ++ k) ≡ byte_steps t k
 gone_same t k [] f = refl
 gone_same t k (Loses n ∷ gone) f = gone_same t k gone f.0
 gone_same t k (d ∷ gone) f = absurd f.1
@@ -99,14 +99,14 @@ some_none f None e = refl
 some_none f (Some x) e = absurd (cc)
 
 -- an end that isn't closed and processes nothing has taken every frame of its link
-took_all : (c : of.Config) (k : List Step) → processes c k ≡ None → is_closed c k ≡ false → (l : ℕ) → present_link k ≡ Some l
+took_all : (c : of.Config) (k : List EndEvent) → processes c k ≡ None → is_closed c k ≡ false → (l : ℕ) → present_link k ≡ Some l
     → slice_get (fed_frames l k) (taken_count l k) ≡ None
 took_all c k e live l at =
     some_none (reads c k (next_number c k l)) (slice_get (fed_frames l k) (taken_count l k))
     (ap (next_frame c k) (sym at) ∙ ap (λ b. if b then None else next_frame c k (present_link k)) (sym live) ∙ e)
 
 -- and the other way round
-processes_none : (t : Settings) (h : List Move) → HasTakenAll t h → processes t.config (steps t h) ≡ None
+processes_none : (t : Settings) (h : List PeerEvent) → HasTakenAll t h → processes t.config (steps t h) ≡ None
 processes_none t h took = open_end (is_shut t h) refl
   where
     on_link : (o : Option ℕ) → present_link (steps t h) ≡ o → is_shut t h ≡ false → next_frame t.config (steps t h) o ≡ None
@@ -156,20 +156,20 @@ reads_none side seat lent x alike count off report =
 abbrev pub ReadsFrom : (side : Side) (seat : Seat side) → ℕ → Count → Peers → Peers → List ℕ → List ℕ → List ℕ → List ℕ → Bool → Type 0
 ReadsFrom side seat now count old new before after was left has_read = OfEach seat.hub (seat.at old) (λ t h. (l : ℕ) (lent : List ℕ) → present_link (steps t h) ≡ Some l
     → length (bytes_on l (byte_steps t h)) ≤ length lent → was ≡ drop (length (bytes_on l (byte_steps t h))) lent → processes t.config (steps t h) ≡ None
-    → (ds : List Move) × (ReadsTo t h now (read_in_all count (length (bytes_on l (byte_steps t h))) lent) ds
+    → (ds : List PeerEvent) × (ReadsTo t h now (read_in_all count (length (bytes_on l (byte_steps t h))) lent) ds
     × Goes seat.hub t h (seat.at new) before after ds
     × (left ≡ drop (length (bytes_on l (byte_steps t (ds ++ h)))) lent)
     × (has_read ≡ moves_bytes ds)))
 
 module _ (unseen : FedIsUnseen) (taken : FramesAreTaken) (fed_is_lent : FedIsLent) (lends : WritesLend) where
   -- the end stays on its link, and has taken what came
-  record HasRead (t : Settings) (h ds : List Move) (l : ℕ) : Type 0 where
+  record HasRead (t : Settings) (h ds : List PeerEvent) (l : ℕ) : Type 0 where
     at : present_link (steps t (ds ++ h)) ≡ Some l
     names : (j : ℕ) → was_on j (steps t (ds ++ h)) ≡ was_on j (steps t h)
     elsewhere : (j : ℕ) → (j ≡ l → ⊥) → bytes_on j (byte_steps t (ds ++ h)) ≡ bytes_on j (byte_steps t h)
     took : HasTakenAll t (ds ++ h)
 
-  has_read : (t : Settings) (h ds : List Move) (l now : ℕ) (bytes : List ℕ) → present_link (steps t h) ≡ Some l → ReadsTo t h now bytes ds → HasRead t h ds l
+  has_read : (t : Settings) (h ds : List PeerEvent) (l now : ℕ) (bytes : List ℕ) → present_link (steps t h) ≡ Some l → ReadsTo t h now bytes ds → HasRead t h ds l
   has_read t h ds l now bytes at f =
       let read = f.0 in
       let gone = f.1.1.0 in
@@ -186,7 +186,7 @@ module _ (unseen : FedIsUnseen) (taken : FramesAreTaken) (fed_is_lent : FedIsLen
       }
 
   pub reads_on : (side : Side) (seat : Seat side) → HoldsOn side seat → LentGoesOn → (old new : Peers) → seat.Alike old new → new.now ≡ old.now
-      → (link : ℕ) (count : Count) (lane new_lane : Lane) → IsOn side seat (Some link) old
+      → (link : ℕ) (count : Count) (lane new_lane : LinkBytes) → IsOn side seat (Some link) old
       → slice_get old.lanes.items link ≡ Some lane → new.lanes.items ≡ slice_set old.lanes.items link new_lane → new_lane.opened ≡ lane.opened
       → said_by side new_lane ≡ said_by side lane → (before after : List ℕ) (worked : Bool)
       → ReadsFrom side seat old.now count old new before after (said_by (other side) lane) (said_by (other side) new_lane) worked

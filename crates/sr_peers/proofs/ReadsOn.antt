@@ -10,7 +10,7 @@ use Rattle.hd_delivery.specs.Processes.{processes}
 use Rattle.hd_delivery.specs.Bytes.{ByteStep, Bytes, Does, bare_steps, bytes_on}
 use Rattle.hd_delivery.specs.Laws.{FedIsUnseen}
 use Rattle.hd_calls.specs.Hubs.{Hub}
-use Rattle.hd_calls.specs.Peers.{Move, Plain, Reads, Handles, Loses, Settings, add, byte_steps, is_shut, reason_of, shuts, steps}
+use Rattle.hd_calls.specs.Peers.{PeerEvent, Plain, Reads, Handles, Loses, Settings, add, byte_steps, is_shut, reason_of, shuts, steps}
 use Rattle.sr_peers.specs.declared.party.Party.{Party}
 use Rattle.sr_peers.specs.Doings.{Chain, WholeChain, Losing, Taking, Reading, ReadsTo, fed_next}
 use Rattle.sr_peers.specs.Plays.{Plays, Goes, Feeds}
@@ -28,7 +28,7 @@ shut_bytes l false (Some why) y = refl
 
 module _ (t : Settings) (now l : ℕ) where
   -- what is taken leaves the bytes that were fed
-  taken_bytes : (h ds : List Move) → Chain (Taking t now) h ds → bytes_on l (byte_steps t (ds ++ h)) ≡ bytes_on l (byte_steps t h)
+  taken_bytes : (h ds : List PeerEvent) → Chain (Taking t now) h ds → bytes_on l (byte_steps t (ds ++ h)) ≡ bytes_on l (byte_steps t h)
   taken_bytes h [] f = refl
   taken_bytes h (Plain (Does s) ∷ ds) f = taken_bytes h ds f.0
   taken_bytes h (Reads m ∷ ds) f = taken_bytes h ds f.0
@@ -36,26 +36,26 @@ module _ (t : Settings) (now l : ℕ) where
   taken_bytes h (d ∷ ds) f = absurd f.1
 
 -- calls that are gone leave the end
-lost_steps : (t : Settings) (h gone : List Move) → Chain (Losing t) h gone → byte_steps t (gone ++ h) ≡ byte_steps t h
+lost_steps : (t : Settings) (h gone : List PeerEvent) → Chain (Losing t) h gone → byte_steps t (gone ++ h) ≡ byte_steps t h
 lost_steps t h [] f = refl
 lost_steps t h (Loses n ∷ gone) f = lost_steps t h gone f.0
 lost_steps t h (d ∷ gone) f = absurd f.1
 
 -- nor do they move bytes
-lost_moves : (t : Settings) (h gone ds : List Move) → Chain (Losing t) h gone → moves_bytes (gone ++ ds) ≡ moves_bytes ds
+lost_moves : (t : Settings) (h gone ds : List PeerEvent) → Chain (Losing t) h gone → moves_bytes (gone ++ ds) ≡ moves_bytes ds
 lost_moves t h [] ds f = refl
 lost_moves t h (Loses n ∷ gone) ds f = lost_moves t h gone ds f.0
 lost_moves t h (d ∷ gone) ds f = absurd f.1
 
 -- once bytes were moved, they were
-moved_still : (ds before : List Move) → moves_bytes before ≡ true → moves_bytes (ds ++ before) ≡ true
+moved_still : (ds before : List PeerEvent) → moves_bytes before ≡ true → moves_bytes (ds ++ before) ≡ true
 moved_still [] before e = e
 moved_still (Plain (Bytes piece) ∷ ds) before e = refl
 moved_still (Plain (Does (Lent f)) ∷ ds) before e = refl
 moved_still (Plain (Does s) ∷ ds) before e = moved_still ds before e
 moved_still (d ∷ ds) before e = moved_still ds before e
 
-fed_bytes : FedIsUnseen → (t : Settings) (h : List Move) (l : ℕ) (piece : List ℕ) → present_link (steps t h) ≡ Some l
+fed_bytes : FedIsUnseen → (t : Settings) (h : List PeerEvent) (l : ℕ) (piece : List ℕ) → present_link (steps t h) ≡ Some l
     → bytes_on l (Bytes piece ∷ byte_steps t h) ≡ bytes_on l (byte_steps t h) ++ piece
 fed_bytes unseen t h l piece at =
     let x = byte_steps t h in
@@ -64,7 +64,7 @@ fed_bytes unseen t h l piece at =
     ap (λ b. if b then bytes_on l x ++ piece else bytes_on l x) stands
 
 -- what is taken is so of one that reads
-taken_reads : (t : Settings) (now : ℕ) (all : List ℕ) (h ds : List Move) → Chain (Taking t now) h ds → Chain (Reading t now all) h ds
+taken_reads : (t : Settings) (now : ℕ) (all : List ℕ) (h ds : List PeerEvent) → Chain (Taking t now) h ds → Chain (Reading t now all) h ds
 taken_reads t now all h [] f = tt
 taken_reads t now all h (Plain (Does s) ∷ ds) f = (taken_reads t now all h ds f.0, f.1)
 taken_reads t now all h (Reads m ∷ ds) f = (taken_reads t now all h ds f.0, f.1)
@@ -74,9 +74,9 @@ taken_reads t now all h (d ∷ ds) f = absurd f.1
 -- ---- so far
 
 -- of these bytes so many were read, and all that came was taken
-pub record HasRead {H Job : Type 0} (hub : Hub Job) (t : Settings) (now : ℕ) (h : List Move) (p : Party H Job) (l : ℕ) (all bytes before after : List ℕ)
+pub record HasRead {H Job : Type 0} (hub : Hub Job) (t : Settings) (now : ℕ) (h : List PeerEvent) (p : Party H Job) (l : ℕ) (all bytes before after : List ℕ)
     (at : ℕ) : Type 0 where
-  pub moves : List Move
+  pub moves : List PeerEvent
   pub chain : Chain (Reading t now all) h moves
   pub goes : Goes hub t h p before after moves
   pub none : processes t.config (steps t (moves ++ h)) ≡ None
@@ -85,20 +85,20 @@ pub record HasRead {H Job : Type 0} (hub : Hub Job) (t : Settings) (now : ℕ) (
   pub moved : moves_bytes moves ≡ nat_lt 0 at
 
 -- the bytes up to where these end were read, so many of those that were left
-abbrev pub IsRead : {H Job : Type 0} → Hub Job → Settings → ℕ → List Move → Party H Job → ℕ → List ℕ → List ℕ → List ℕ → List ℕ → ℕ → Type 0
-IsRead hub t now h new l all bytes before after fed = (ds : List Move) × (ReadsTo t h now all ds
+abbrev pub IsRead : {H Job : Type 0} → Hub Job → Settings → ℕ → List PeerEvent → Party H Job → ℕ → List ℕ → List ℕ → List ℕ → List ℕ → ℕ → Type 0
+IsRead hub t now h new l all bytes before after fed = (ds : List PeerEvent) × (ReadsTo t h now all ds
     × Goes hub t h new before after ds
     × (bytes_on l (byte_steps t (ds ++ h)) ≡ bytes_on l (byte_steps t h) ++ take fed bytes)
     × (fed ≤ length bytes)
     × (moves_bytes ds ≡ nat_lt 0 fed))
 
 -- some bytes that were fed were next
-feeds_bytes : {H Job : Type 0} (hub : Hub Job) (t : Settings) (h : List Move) (new : Party H Job) (all piece : List ℕ) → 0 < length piece
+feeds_bytes : {H Job : Type 0} (hub : Hub Job) (t : Settings) (h : List PeerEvent) (new : Party H Job) (all piece : List ℕ) → 0 < length piece
     → Feeds hub t h new all piece → (fed_next t all h ≡ Some (Bytes piece)) × Plays hub t new (Plain (Bytes piece) ∷ h)
 feeds_bytes hub t h new all [] some fed = absurd (omega arith)
 feeds_bytes hub t h new all (b ∷ piece) some fed = fed
 
-module _ {H Job : Type 0} (hub : Hub Job) (t : Settings) (now : ℕ) (h : List Move) (l : ℕ) (all bytes before : List ℕ) where
+module _ {H Job : Type 0} (hub : Hub Job) (t : Settings) (now : ℕ) (h : List PeerEvent) (l : ℕ) (all bytes before : List ℕ) where
   pub read_none : (p : Party H Job) → Plays hub t p h → present_link (steps t h) ≡ Some l → processes t.config (steps t h) ≡ None
       → HasRead hub t now h p l all bytes before before 0
   read_none p plays at none = record {
@@ -113,7 +113,7 @@ module _ {H Job : Type 0} (hub : Hub Job) (t : Settings) (now : ℕ) (h : List M
 
   module _ (is : bytes ≡ unfed t all h l) (p : Party H Job) (mid : List ℕ) (at : ℕ)
       (has : HasRead hub t now h p l all bytes before mid at) (within : at ≤ length bytes) where
-    abbrev x : List Move
+    abbrev x : List PeerEvent
     x = has.moves ++ h
 
     -- the bytes that are left are those that are to be read next
@@ -126,7 +126,7 @@ module _ {H Job : Type 0} (hub : Hub Job) (t : Settings) (now : ℕ) (h : List M
 
     -- nothing is left to be fed, and the calls that are gone are handed out
     pub read_over : (q new : Party H Job) (after : List ℕ) → Plays hub t q x → fed_next t all x ≡ None
-        → (gone : List Move) × (WholeChain (Losing t) x gone × Goes hub t x new mid after gone) → IsRead hub t now h new l all bytes before after at
+        → (gone : List PeerEvent) × (WholeChain (Losing t) x gone × Goes hub t x new mid after gone) → IsRead hub t now h new l all bytes before after at
     read_over q new after plays over gone =
         let first = goes_same hub t h p q before mid mid has.moves has.goes plays refl in
         let all_moves = goes_on hub t h q new before mid after has.moves gone.0 first gone.1.1 in
@@ -151,7 +151,7 @@ module _ {H Job : Type 0} (hub : Hub Job) (t : Settings) (now : ℕ) (h : List M
       pub plays_fed : Plays hub t fed (Plain (Bytes piece) ∷ x)
       plays_fed = was_fed.1
 
-      pub read_on : (ds : List Move) × (WholeChain (Taking t now) (Plain (Bytes piece) ∷ x) ds × Goes hub t (Plain (Bytes piece) ∷ x) new mid after ds)
+      pub read_on : (ds : List PeerEvent) × (WholeChain (Taking t now) (Plain (Bytes piece) ∷ x) ds × Goes hub t (Plain (Bytes piece) ∷ x) new mid after ds)
           → HasRead hub t now h new l all bytes before after (at + n)
       read_on took =
           let ds = took.0 in

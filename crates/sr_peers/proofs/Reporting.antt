@@ -7,7 +7,7 @@ use Rattle.hd_delivery.specs.Histories as of
 use Rattle.hd_delivery.specs.Histories.{sent_messages, processed_messages, held_messages}
 use Rattle.hd_delivery.specs.Bytes.{Wire, ByteStep, in_frames}
 use Rattle.hd_delivery.specs.Worlds.{config}
-use Rattle.hd_runs.specs.Sides.{history}
+use Rattle.hd_delivery.specs.Sides.{history}
 use Rattle.he_end.specs.declared.end.End.{End}
 use Rattle.he_end.specs.Stands as of_end
 use Rattle.hd_calls.specs.Hubs.{Hub}

@@ -11,11 +11,11 @@ use Rattle.hd_delivery.specs.declared.vocabulary.Side.{Side}
 use Rattle.hd_delivery.specs.Worlds.{Event, config}
 use Rattle.hd_delivery.specs.Bytes.{Wire, ByteStep, Bytes, Does, in_frames, lent_bytes}
 use Rattle.hd_delivery.specs.OneHistory.{IsHistory}
-use Rattle.hd_runs.specs.Following.{Next, Follow, FollowUpTo}
-use Rattle.hd_runs.specs.Alone.{writing, lent_text}
-use Rattle.hd_runs.specs.Laws.{LentComesLast, LentStays}
-use Rattle.hd_runs.specs.Sides.{by, other}
-use Rattle.hd_calls.specs.Peers.{Move, Plain, Calls, Uploads, Cancels, Reads, Handles, Runs, Answers, Refuses, Loses, Rounds, Settings, reason_of, shuts, add, byte_steps, steps}
+use Rattle.hd_delivery.specs.Following.{Next, Follow, FollowUpTo}
+use Rattle.hd_delivery.specs.Alone.{writing, lent_text}
+use Rattle.hd_delivery.specs.AloneLaws.{LentComesLast, LentStays}
+use Rattle.hd_delivery.specs.Sides.{by, other}
+use Rattle.hd_calls.specs.Peers.{PeerEvent, Plain, Calls, Uploads, Cancels, Reads, Handles, Runs, Answers, Refuses, Loses, Rounds, Settings, reason_of, shuts, add, byte_steps, steps}
 use Rattle.hd_calls.specs.PeerWorlds.{Pair, settings, next_step}
 use Rattle.sr_peers.specs.Doings.{lifted}
 use Rattle.sr_peers.specs.Grows.{lent_in, LendNothingOn}
@@ -23,7 +23,7 @@ use Rattle.sr_peers.proofs.Joining.{one_side, history_before}
 
 -- ---- moves of the other side
 
-pub lent_apart : (p : Pair) (w : List (Event Move)) (side : Side) (ds : List Move) (l : ℕ) → lent_in p (map (by side) ds ++ w) (other side) l ≡ lent_in p w (other side) l
+pub lent_apart : (p : Pair) (w : List (Event PeerEvent)) (side : Side) (ds : List PeerEvent) (l : ℕ) → lent_in p (map (by side) ds ++ w) (other side) l ≡ lent_in p w (other side) l
 lent_apart p w side ds l = ap (λ h. lent_bytes p.wire (config (other side) p.terms) l (byte_steps (settings (other side) p) h)) (one_side w side ds).1
 
 -- ---- moves that lend nothing
@@ -37,7 +37,7 @@ no_close false (Some why) f e = absurd (cc)
 no_close false None f e = absurd (cc)
 no_close true o f e = absurd (cc)
 
-module _ (stays : LentStays) (t : Settings) (l : ℕ) (h : List Move) where
+module _ (stays : LentStays) (t : Settings) (l : ℕ) (h : List PeerEvent) where
   one : (o : Option ByteStep) (x : List ByteStep) → IsHistory t.limits t.wire t.config (add o x)
       → ((f : LinkFrame) → o ≡ Some (Does (Lent f)) → present_link (in_frames t.wire t.config x) ≡ Some l → ⊥)
       → lent_bytes t.wire t.config l (add o x) ≡ lent_bytes t.wire t.config l x
@@ -45,7 +45,7 @@ module _ (stays : LentStays) (t : Settings) (l : ℕ) (h : List Move) where
   one (Some s) x i never = stays t.limits t.wire t.config x s l i (λ f e at. never f (ap Some e) at)
 
   -- no move but one that lends a frame makes such a step
-  lends_none : (ds : List Move) (d : Move) → LendNothingOn t l h (d ∷ ds) → (f : LinkFrame) → next_step t (ds ++ h) d ≡ Some (Does (Lent f)) → present_link (steps t (ds ++ h)) ≡ Some l → ⊥
+  lends_none : (ds : List PeerEvent) (d : PeerEvent) → LendNothingOn t l h (d ∷ ds) → (f : LinkFrame) → next_step t (ds ++ h) d ≡ Some (Does (Lent f)) → present_link (steps t (ds ++ h)) ≡ Some l → ⊥
   lends_none ds (Plain (Bytes piece)) n f e at = absurd (cc)
   lends_none ds (Plain (Does (Lent g))) n f e at = n.1 at
   lends_none ds (Plain (Does s)) n f e at = absurd (cc)
@@ -60,13 +60,13 @@ module _ (stays : LentStays) (t : Settings) (l : ℕ) (h : List Move) where
   lends_none ds (Loses k) n f e at = absurd (cc)
   lends_none ds Rounds n f e at = absurd (cc)
 
-  before : (d : Move) (ds : List Move) → LendNothingOn t l h (d ∷ ds) → LendNothingOn t l h ds
+  before : (d : PeerEvent) (ds : List PeerEvent) → LendNothingOn t l h (d ∷ ds) → LendNothingOn t l h ds
   before (Plain (Bytes piece)) ds n = n
   before (Plain (Does (Lent f))) ds n = n.0
   before (Plain (Does s)) ds n = n
   before d ds n = n
 
-  pub lent_stays : (ds : List Move) → IsHistory t.limits t.wire t.config (byte_steps t (ds ++ h)) → LendNothingOn t l h ds
+  pub lent_stays : (ds : List PeerEvent) → IsHistory t.limits t.wire t.config (byte_steps t (ds ++ h)) → LendNothingOn t l h ds
       → lent_bytes t.wire t.config l (byte_steps t (ds ++ h)) ≡ lent_bytes t.wire t.config l (byte_steps t h)
   lent_stays [] i n = refl
   lent_stays (d ∷ ds) i n =
@@ -76,7 +76,7 @@ module _ (stays : LentStays) (t : Settings) (l : ℕ) (h : List Move) where
 -- ---- what is written
 
 -- moves of the end alone are its steps
-pub lifted_steps : (t : Settings) (h : List Move) (ss : List ByteStep) → byte_steps t (lifted ss ++ h) ≡ ss ++ byte_steps t h
+pub lifted_steps : (t : Settings) (h : List PeerEvent) (ss : List ByteStep) → byte_steps t (lifted ss ++ h) ≡ ss ++ byte_steps t h
 lifted_steps t h [] = refl
 lifted_steps t h (s ∷ ss) = ap (λ x. s ∷ x) (lifted_steps t h ss)
 
@@ -108,7 +108,7 @@ module _ (last : LentComesLast) (wire : Wire) (c : of.Config) (l : ℕ) (h : Lis
   pub written_text : (ss : List ByteStep) → Follow (writing wire c) h ss → lent_bytes wire c l (ss ++ h) ≡ lent_bytes wire c l h ++ lent_text wire c h ss
   written_text ss f = (written ss f).text
 
-pub written_last : LentComesLast → (t : Settings) (l : ℕ) (h : List Move) (most : Option ℕ) (ss : List ByteStep) → present_link (steps t h) ≡ Some l
+pub written_last : LentComesLast → (t : Settings) (l : ℕ) (h : List PeerEvent) (most : Option ℕ) (ss : List ByteStep) → present_link (steps t h) ≡ Some l
     → FollowUpTo most (writing t.wire t.config) (byte_steps t h) ss
     → lent_bytes t.wire t.config l (byte_steps t (lifted ss ++ h)) ≡ lent_bytes t.wire t.config l (byte_steps t h) ++ lent_text t.wire t.config (byte_steps t h) ss
 written_last last t l h most ss at f =

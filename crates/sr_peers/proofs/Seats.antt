@@ -4,9 +4,9 @@ use Rattle.std.specs.Prelude.{OnOk}
 use Rattle.hd_delivery.specs.declared.vocabulary.Side.{Side}
 use Rattle.hd_delivery.specs.declared.vocabulary.Side.TheVariants.{Client, Server}
 use Rattle.hd_delivery.specs.Worlds.{Event}
-use Rattle.hd_runs.specs.Sides.{by, history}
+use Rattle.hd_delivery.specs.Sides.{by, history}
 use Rattle.hd_calls.specs.Hubs.{Hub}
-use Rattle.hd_calls.specs.Peers.{Move}
+use Rattle.hd_calls.specs.Peers.{PeerEvent}
 use Rattle.hd_calls.specs.PeerWorlds.{Pair, settings}
 use Rattle.hub_calc.specs.Table.{Plan, calc_hub}
 use Rattle.hub_calc.specs.Client.{client_hub}
@@ -37,8 +37,8 @@ pub record Seat (side : Side) : Type 1 where
   pub hub : Hub Job
   pub at : Peers → Party H Job
   pub Alike : Peers → Peers → Type 0  -- the other peer is as it was
-  pub played : (p : Pair) (actions : List Action) (w : List (Event Move)) (x : Peers) → Holds p actions w x → IsPlayed hub (settings side p) (at x) (history side w)
-  pub goes_on : (lent : LentGoesOn) (p : Pair) (before actions : List Action) (w : List (Event Move)) (old new : Peers) (ds : List Move) → Holds p before w old
+  pub played : (p : Pair) (actions : List Action) (w : List (Event PeerEvent)) (x : Peers) → Holds p actions w x → IsPlayed hub (settings side p) (at x) (history side w)
+  pub goes_on : (lent : LentGoesOn) (p : Pair) (before actions : List Action) (w : List (Event PeerEvent)) (old new : Peers) (ds : List PeerEvent) → Holds p before w old
       → KeepToTheirSide ds → AreInTime (moment_after actions) ds → GoBeyond before actions → new.now ≡ moment_after actions
       → Plays hub (settings side p) (at new) (ds ++ history side w) → Alike old new
       → LanesStay p (map (by side) ds ++ w) old.lanes.items new.lanes.items → Holds p actions (map (by side) ds ++ w) new

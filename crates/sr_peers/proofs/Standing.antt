@@ -9,16 +9,16 @@ use Rattle.hd_delivery.specs.Worlds.{Event, config}
 use Rattle.hd_delivery.specs.Bytes.{ByteStep, bytes_on, lent_bytes, IsWorldOverBytes}
 use Rattle.hd_delivery.specs.OneHistory.{IsHistory}
 use Rattle.hd_delivery.specs.HistoryLaws.{FactsHold}
-use Rattle.hd_runs.specs.Laws.{FedIsLent}
-use Rattle.hd_runs.specs.Sides.{by, other, history}
-use Rattle.hd_calls.specs.Peers.{Move, byte_steps, steps}
+use Rattle.hd_delivery.specs.AloneLaws.{FedIsLent}
+use Rattle.hd_delivery.specs.Sides.{by, other, history}
+use Rattle.hd_calls.specs.Peers.{PeerEvent, byte_steps, steps}
 use Rattle.hd_calls.specs.PeerWorlds.{Pair, settings, ends}
 use Rattle.hub_calc.specs.Table.{calc_hub}
 use Rattle.hub_calc.specs.Client.{client_hub}
 use Rattle.sr_script.specs.declared.action.Action.{Action}
 use Rattle.sr_script.specs.declared.action.Action.TheVariants.{Open, Accept}
 use Rattle.sr_script.specs.Script.{opened, moment_after, IsInTurn, AreInTurn}
-use Rattle.sr_peers.specs.declared.lane.Lane.{Lane}
+use Rattle.sr_peers.specs.declared.lane.LinkBytes.{LinkBytes}
 use Rattle.sr_peers.specs.declared.peers.Peers.{Peers}
 use Rattle.sr_peers.specs.Grows.{lent_in, MayJoin}
 use Rattle.sr_peers.specs.Plays.{Plays, OfEach}
@@ -53,13 +53,13 @@ pub accepted_is_open : (actions : List Action) (l : ℕ) → AreInTurn actions �
 accepted_is_open actions l turns c = accepted_at actions l c.0 turns c.1 c.2
 
 -- each link on which a side was is kept
-link_kept : (p : Pair) (actions : List Action) (w : List (Event Move)) (kept : List Lane) → IsWorldOf p actions w kept → AreInTurn actions
+link_kept : (p : Pair) (actions : List Action) (w : List (Event PeerEvent)) (kept : List LinkBytes) → IsWorldOf p actions w kept → AreInTurn actions
     → (side : Side) (l : ℕ) → was_on l (steps_at p w side) ≡ true → l < length kept
 link_kept p actions w kept was turns Client l on = omega (arith, was.links, was.opened_links l on)
 link_kept p actions w kept was turns Server l on = omega (arith, was.links, accepted_is_open actions l turns (was.accepted_links l on))
 
 -- what a side was fed on a link is a first part of what the other side lent there
-pub fed_there : FedIsLent → (p : Pair) (w : List (Event Move)) → IsWorldOverBytes p.limits p.wire p.terms (ends p w) → (side : Side) (l : ℕ)
+pub fed_there : FedIsLent → (p : Pair) (w : List (Event PeerEvent)) → IsWorldOverBytes p.limits p.wire p.terms (ends p w) → (side : Side) (l : ℕ)
     → IsPrefix (bytes_on l (byte_steps (settings side p) (history side w))) (lent_in p w (other side) l)
 fed_there fed p w world side l =
     subst (λ x. IsPrefix (bytes_on l x) (lent_in p w (other side) l)) (steps_in p w side)
@@ -74,7 +74,7 @@ IsOn side seat link x = OfEach seat.hub (seat.at x) (λ t h. link ≡ present_li
 
 -- the side made moves after which this is the world, and has taken what came: the two peers stand for that
 abbrev pub HoldsOn : (side : Side) → Seat side → Type 0
-HoldsOn side seat = (p : Pair) (before actions : List Action) (w : List (Event Move)) (old new : Peers) (ds : List Move) → Holds p before w old
+HoldsOn side seat = (p : Pair) (before actions : List Action) (w : List (Event PeerEvent)) (old new : Peers) (ds : List PeerEvent) → Holds p before w old
     → IsWorldOf p actions (map (by side) ds ++ w) new.lanes.items → Plays seat.hub (settings side p) (seat.at new) (ds ++ history side w)
     → HasTakenAll (settings side p) (ds ++ history side w) → seat.Alike old new → new.now ≡ moment_after actions
     → Holds p actions (map (by side) ds ++ w) new
@@ -110,11 +110,11 @@ never_past side seat facts x link on past a before after worked p actions r foll
 
 -- ---- the world after moves of a side on its link
 
-module _ (p : Pair) (before actions : List Action) (w : List (Event Move)) (side : Side) (ds : List Move) (kept : List Lane) (was : IsWorldOf p before w kept)
-    (is_history : IsHistory p.limits p.wire (config side p.terms) (byte_steps (settings side p) (ds ++ history side w)))
+module _ (p : Pair) (before actions : List Action) (w : List (Event PeerEvent)) (side : Side) (ds : List PeerEvent) (kept : List LinkBytes) (was : IsWorldOf p before w kept)
+    (is_history : IsHistory (p.limits side) p.wire (config side p.terms) (byte_steps (settings side p) (ds ++ history side w)))
     (joins : MayJoin p w side ds) (timely : AreInTime (moment_after actions) ds) (beyond : GoBeyond before actions)
     (names : (l : ℕ) → was_on l (steps (settings side p) (ds ++ history side w)) ≡ was_on l (steps_at p w side)) where
-  abbrev after : List (Event Move)
+  abbrev after : List (Event PeerEvent)
   after = map (by side) ds ++ w
 
   -- the steps of the side's end
@@ -139,11 +139,11 @@ module _ (p : Pair) (before actions : List Action) (w : List (Event Move)) (side
   IsHeard l said = MayRead (steps_at p w (other side)) l → said ≡ drop (length (fed_to_other l)) (lent_bytes p.wire (config side p.terms) l own)
 
   -- of what this side said the other side may have heard a part
-  pub was_heard : (l : ℕ) (lane : Lane) → IsLane p w l lane → MayRead (steps_at p w (other side)) l → said_by side lane ≡ drop (length (fed_to_other l)) (lent_in p w side l)
+  pub was_heard : (l : ℕ) (lane : LinkBytes) → IsLane p w l lane → MayRead (steps_at p w (other side)) l → said_by side lane ≡ drop (length (fed_to_other l)) (lent_in p w side l)
   was_heard l lane is_lane may =
       subst (λ x. said_by x lane ≡ drop (length (fed_to_other l)) (lent_in p w x l)) (back_again side) (is_lane.unread (other side) may)
 
-  lane_after : (l : ℕ) (lane new : Lane) → IsLane p w l lane → new.opened ≡ lane.opened → Hears l (said_by (other side) new) → IsHeard l (said_by side new) → IsLane p after l new
+  lane_after : (l : ℕ) (lane new : LinkBytes) → IsLane p w l lane → new.opened ≡ lane.opened → Hears l (said_by (other side) new) → IsHeard l (said_by side new) → IsLane p after l new
   lane_after l lane new is_lane same hears heard = record {
     unread = both_sides (λ s. MayRead (steps_at p after s) l → said_by (other s) new ≡ unfed p after s l) side
         (subst (λ h. MayRead (steps (settings side p) h) l → said_by (other side) new ≡ drop (length (bytes_on l (byte_steps (settings side p) h))) (lent_in p after (other side) l))
@@ -159,7 +159,7 @@ module _ (p : Pair) (before actions : List Action) (w : List (Event Move)) (side
   }
 
   -- Of one link something else is kept now, by what the side read and said there. On the others it neither read nor said anything.
-  pub world_after : (l : ℕ) (lane new : Lane) (now : List Lane) → slice_get kept l ≡ Some lane → now ≡ slice_set kept l new → new.opened ≡ lane.opened
+  pub world_after : (l : ℕ) (lane new : LinkBytes) (now : List LinkBytes) → slice_get kept l ≡ Some lane → now ≡ slice_set kept l new → new.opened ≡ lane.opened
       → Hears l (said_by (other side) new) → IsHeard l (said_by side new)
       → ((j : ℕ) → MayRead (steps (settings side p) (ds ++ history side w)) j → MayRead (steps_at p w side) j)
       → ((j : ℕ) → (j ≡ l → ⊥) → bytes_on j own ≡ bytes_on j (byte_steps (settings side p) (history side w)))
@@ -174,7 +174,7 @@ module _ (p : Pair) (before actions : List Action) (w : List (Event Move)) (side
     in_time = times_after p before actions w side ds was.in_time timely beyond.later;
   }
     where
-      go : (j : ℕ) (x : Lane) → ((j ≡ l) × (new ≡ x)) ⊎ ((j ≡ l → ⊥) × (slice_get kept j ≡ Some x)) → IsLane p after j x
+      go : (j : ℕ) (x : LinkBytes) → ((j ≡ l) × (new ≡ x)) ⊎ ((j ≡ l → ⊥) × (slice_get kept j ≡ Some x)) → IsLane p after j x
       go j x (inl here) =
           subst (λ j. IsLane p after j x) (sym here.0) (subst (IsLane p after l) here.1 (lane_after l lane new (was.lanes l lane at) same hears heard))
       go j x (inr apart) =

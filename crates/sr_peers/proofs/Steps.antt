@@ -4,9 +4,9 @@ use Rattle.hd_delivery.specs.declared.vocabulary.Side.{Side}
 use Rattle.hd_delivery.specs.declared.vocabulary.Side.TheVariants.{Client, Server}
 use Rattle.hd_delivery.specs.Worlds.{Event, ByClient, ByServer, client_of, server_of}
 use Rattle.hd_delivery.specs.OneHistory.{IsHistory}
-use Rattle.hd_runs.specs.Sides.{by, history}
+use Rattle.hd_delivery.specs.Sides.{by, history}
 use Rattle.hd_calls.specs.Hubs.{Hub}
-use Rattle.hd_calls.specs.Peers.{Move, Settings, byte_steps}
+use Rattle.hd_calls.specs.Peers.{PeerEvent, Settings, byte_steps}
 use Rattle.hd_calls.specs.PeerWorlds.{Pair, settings}
 use Rattle.hp_peer.specs.Stands.{Stands}
 use Rattle.hp_peer.specs.declared.peer.Peer.{Peer}
@@ -29,13 +29,13 @@ use Rattle.sr_peers.proofs.Around.{GoBeyond, LanesStay, lanes_same, one_beyond, 
 
 -- ---- the world of a run
 
-pub world_made : (side : Side) (ds : List Move) (r : Run) → world_of (map (by side) (made ds) ++ r) ≡ map (by side) ds ++ world_of r
+pub world_made : (side : Side) (ds : List PeerEvent) (r : Run) → world_of (map (by side) (made ds) ++ r) ≡ map (by side) ds ++ world_of r
 world_made side [] r = refl
 world_made Client (d ∷ ds) r = ap (λ w. ByClient d ∷ w) (world_made Client ds r)
 world_made Server (d ∷ ds) r = ap (λ w. ByServer d ∷ w) (world_made Server ds r)
 
 -- of what a side did the moves are its own
-pub own_made : (side : Side) (ds : List Move) → history side (world_of (map (by side) (made ds))) ≡ ds
+pub own_made : (side : Side) (ds : List PeerEvent) → history side (world_of (map (by side) (made ds))) ≡ ds
 own_made Client [] = refl
 own_made Server [] = refl
 own_made Client (d ∷ ds) = ap (λ h. d ∷ h) (own_made Client ds)
@@ -49,7 +49,7 @@ world_did Server (Refuses words) r = refl
 
 -- ---- its lines
 
-pub tells_made : (p : Pair) (side : Side) (r : Run) (ds : List Move) (text : List ℕ) → TellsAll (settings side p) (history side (world_of r)) ds text
+pub tells_made : (p : Pair) (side : Side) (r : Run) (ds : List PeerEvent) (text : List ℕ) → TellsAll (settings side p) (history side (world_of r)) ds text
     → TellsRun p r (map (by side) (made ds)) text
 tells_made p side r [] text tells = tells
 tells_made p Client r (d ∷ ds) text tells = (
@@ -99,10 +99,10 @@ tells_run_append p r first (ByServer did ∷ second) a b told more = (
 
 -- ---- the peers
 
-pub history_of : {H Job : Type 0} (hub : Hub Job) (t : Settings) (peer : Peer H Job) (h : List Move) → Stands hub t peer h → IsHistory t.limits t.wire t.config (byte_steps t h)
+pub history_of : {H Job : Type 0} (hub : Hub Job) (t : Settings) (peer : Peer H Job) (h : List PeerEvent) → Stands hub t peer h → IsHistory t.limits t.wire t.config (byte_steps t h)
 history_of hub t peer h stands = subst (λ m. IsHistory m t.wire t.config (byte_steps t h)) (sym stands.limits) stands.end.history
 
-module _ (lent : LentGoesOn) (p : Pair) (before actions : List Action) (w : List (Event Move)) (old new : Peers) (ds : List Move) (was : Holds p before w old)
+module _ (lent : LentGoesOn) (p : Pair) (before actions : List Action) (w : List (Event PeerEvent)) (old new : Peers) (ds : List PeerEvent) (was : Holds p before w old)
     (keep : KeepToTheirSide ds) (timely : AreInTime (moment_after actions) ds) (beyond : GoBeyond before actions) (now : new.now ≡ moment_after actions) where
   -- the client made moves that keep to its side
   pub client_goes_on : Plays client_hub (settings Client p) new.client (ds ++ client_of w) → new.server ≡ old.server
@@ -148,7 +148,7 @@ GoesOnBy p actions r a new before after = (made : Run) × (text : List ℕ) × I
 
 module _ (p : Pair) (actions : List Action) (r : Run) (a : Action) (old new : Peers) (follows : Follows p actions r old) (turn : IsInTurn actions a) (before after : List ℕ) where
   -- a side made moves, and these were told
-  pub made_by_moves : (side : Side) (ds : List Move) (text : List ℕ) → Acts p actions r a (map (by side) (made ds)) → TellsAll (settings side p) (history side (world_of r)) ds text
+  pub made_by_moves : (side : Side) (ds : List PeerEvent) (text : List ℕ) → Acts p actions r a (map (by side) (made ds)) → TellsAll (settings side p) (history side (world_of r)) ds text
       → after ≡ before ++ text → Holds p (a ∷ actions) (map (by side) ds ++ world_of r) new → IsMade p actions r a new before after (map (by side) (made ds)) text
   made_by_moves side ds text acts tells appended holds = (
     acts,

@@ -10,7 +10,7 @@ use Rattle.hd_delivery.specs.Histories.{Took, Failed, Fault, present_link, proce
 use Rattle.hd_delivery.specs.Bytes.{Wire, ByteStep, Does, in_frames}
 use Rattle.he_end.specs.Words.{next_words}
 use Rattle.hd_calls.specs.Hubs.{Hub, Item, End, Purpose, ToBegin, ToAnswer, ToCancel, ToNothing, purpose_of, id_of}
-use Rattle.hd_calls.specs.Peers.{Effect, Begins, InUse, TooMany, Brings, Feeds, Flood, Marks, Nothing, Move, Plain, Reads, Handles, Settings, add, byte_steps, is_shut, reason_of, shuts, steps, waiting}
+use Rattle.hd_calls.specs.Peers.{Effect, Begins, InUse, TooMany, Brings, Feeds, Flood, Marks, Nothing, PeerEvent, Plain, Reads, Handles, Settings, add, byte_steps, is_shut, reason_of, shuts, steps, waiting}
 use Rattle.hd_calls.specs.Rules.{IsPlain}
 use Rattle.hp_peer.specs.declared.did.Did.{Did}
 use Rattle.hp_peer.specs.declared.did.Did.TheVariants as did
@@ -30,7 +30,7 @@ use Rattle.sr_peers.proofs.Chains.{with, goes_one, plays_still}
 -- ---- words
 
 -- what is no message has the same words whatever number a message had
-same_words : (a b : ℕ) (h : List Move) (got : Got) → IsPlain h (Does (Took got)) → got_words a got ≡ got_words b got
+same_words : (a b : ℕ) (h : List PeerEvent) (got : Got) → IsPlain h (Does (Took got)) → got_words a got ≡ got_words b got
 same_words a b h (gives.Message m) plain = absurd plain
 same_words a b h (gives.Shaken codec version) plain = refl
 same_words a b h (gives.Acked upto) plain = refl
@@ -51,7 +51,7 @@ id_is (ToCancel i) id is = is
 id_is ToNothing id is = absurd is
 
 -- what is told of a message that was handled has the words of what it did
-told_so : (t : Settings) (h : List Move) (now : ℕ) (m : Message) (e : Effect) (d : Did) (number : ℕ) → IsToldAs h now m e d
+told_so : (t : Settings) (h : List PeerEvent) (now : ℕ) (m : Message) (e : Effect) (d : Did) (number : ℕ) → IsToldAs h now m e d
     → BeginsAt now e × TellsEffect t h m e (did_words number d)
 told_so t h now m (Begins c since) (did.Began job id target arguments) number is =
     (is.0.moment, ap (λ i. began_words i target) is.0.id_is ∙ ap (λ x. began_words (id_of c.way) x) is.0.target_is)
@@ -82,7 +82,7 @@ shut_or_same wire c false (Some why) y = inr refl
 
 -- ---- one take
 
-module _ {H Job : Type 0} (hub : Hub Job) (t : Settings) (p : Party H Job) (h : List Move) (plays : Plays hub t p h) (x : Peer H Job) (now : ℕ)
+module _ {H Job : Type 0} (hub : Hub Job) (t : Settings) (p : Party H Job) (h : List PeerEvent) (plays : Plays hub t p h) (x : Peer H Job) (now : ℕ)
     (before after : List ℕ) where
   at_side : (words : List ℕ) → after ≡ before ++ line_at p.side words → after ≡ before ++ line_at t.config.side words
   at_side words is = is ∙ ap (λ s. before ++ line_at s words) plays.side_is
@@ -135,7 +135,7 @@ module _ {H Job : Type 0} (hub : Hub Job) (t : Settings) (p : Party H Job) (h : 
     };
   }
 
-  of_next : (Holds : Message → List Move → Type 0) → OfNext t h (waiting h) Holds → OfNext t h None Holds
+  of_next : (Holds : Message → List PeerEvent → Type 0) → OfNext t h (waiting h) Holds → OfNext t h None Holds
   of_next Holds has = subst (λ o. OfNext t h o Holds) plays.handled has
 
   took_told : (told : Did) (number : ℕ) → OfNext t h (waiting h) (HasHandled hub t x now told) → after ≡ before ++ line_at p.side (did_words number told)

@@ -8,16 +8,16 @@ use Rattle.hd_delivery.specs.Histories as of
 use Rattle.hd_delivery.specs.Histories.{Lent, present_link, was_on}
 use Rattle.hd_delivery.specs.Due.{due, due_on}
 use Rattle.hd_delivery.specs.Bytes.{Wire, ByteStep, Does, bytes_on, in_frames}
-use Rattle.hd_runs.specs.Following.{Follow, FollowUpTo}
-use Rattle.hd_runs.specs.Alone.{writing, lent_text}
-use Rattle.hd_runs.specs.Laws.{FedIsLent}
-use Rattle.hd_runs.specs.Sides.{by, other, history}
-use Rattle.hd_calls.specs.Peers.{Move, Settings, byte_steps, steps}
+use Rattle.hd_delivery.specs.Following.{Follow, FollowUpTo}
+use Rattle.hd_delivery.specs.Alone.{writing, lent_text}
+use Rattle.hd_delivery.specs.AloneLaws.{FedIsLent}
+use Rattle.hd_delivery.specs.Sides.{by, other, history}
+use Rattle.hd_calls.specs.Peers.{PeerEvent, Settings, byte_steps, steps}
 use Rattle.hd_calls.specs.PeerWorlds.{settings}
 use Rattle.sr_script.specs.declared.action.Count.{Count}
 use Rattle.sr_script.specs.declared.action.Action.TheVariants.{Write}
 use Rattle.sr_script.specs.Script.{moment_after, most_of}
-use Rattle.sr_peers.specs.declared.lane.Lane.{Lane}
+use Rattle.sr_peers.specs.declared.lane.LinkBytes.{LinkBytes}
 use Rattle.sr_peers.specs.declared.peers.Peers.{Peers}
 use Rattle.sr_peers.specs.Doings.{lifted, made, Writes}
 use Rattle.sr_peers.specs.Told.{TellsAll}
@@ -62,14 +62,14 @@ writes_none side seat lent x alike count off report =
     ))
 
 -- nothing of what is written is reported
-one_silent : (t : Settings) (h : List Move) (ss : List ByteStep) (s : ByteStep) (o : Option LinkFrame) → option_map (λ f. Does (Lent f)) o ≡ Some s
+one_silent : (t : Settings) (h : List PeerEvent) (ss : List ByteStep) (s : ByteStep) (o : Option LinkFrame) → option_map (λ f. Does (Lent f)) o ≡ Some s
     → TellsAll t h (lifted ss) [] → TellsAll t h (lifted (s ∷ ss)) []
 one_silent t h ss s None e tells = absurd (cc)
 one_silent t h ss s (Some f) e tells =
     let q : Does (Lent f) ≡ s = cc in
     subst (λ s. TellsAll t h (lifted (s ∷ ss)) []) q ([], [], (tells, refl, refl))
 
-silent : (t : Settings) (h : List Move) (ss : List ByteStep) → Follow (writing t.wire t.config) (byte_steps t h) ss → TellsAll t h (lifted ss) []
+silent : (t : Settings) (h : List PeerEvent) (ss : List ByteStep) → Follow (writing t.wire t.config) (byte_steps t h) ss → TellsAll t h (lifted ss) []
 silent t h [] f = refl
 silent t h (s ∷ ss) f = one_silent t h ss s (due t.config (in_frames t.wire t.config (ss ++ byte_steps t h))) f.1 (silent t h ss f.0)
 
@@ -84,7 +84,7 @@ WritesOn side seat most old new was now wrote = OfEach seat.hub (seat.at old) (�
     × Plays seat.hub t (seat.at new) (lifted ss ++ h) × (now ≡ was ++ lent_text t.wire t.config (byte_steps t h) ss) × (wrote ≡ moves_bytes (lifted ss))))
 
 pub writes : (side : Side) (seat : Seat side) → HoldsOn side seat → LentGoesOn → WritesLend → FedIsLent → (old new : Peers) → seat.Alike old new → new.now ≡ old.now
-    → (link : ℕ) (count : Count) (most : Option ℕ) → most ≡ most_of count → (lane new_lane : Lane) → IsOn side seat (Some link) old
+    → (link : ℕ) (count : Count) (most : Option ℕ) → most ≡ most_of count → (lane new_lane : LinkBytes) → IsOn side seat (Some link) old
     → slice_get old.lanes.items link ≡ Some lane → new.lanes.items ≡ slice_set old.lanes.items link new_lane → new_lane.opened ≡ lane.opened
     → said_by (other side) new_lane ≡ said_by (other side) lane → (wrote : Bool) → WritesOn side seat most old new (said_by side lane) (said_by side new_lane) wrote
     → (report : List ℕ) → WorksOn old (Write side count) new report report wrote
@@ -97,7 +97,7 @@ writes side seat holds_on lent lends fed_is_lent old new alike same_now link cou
     let at = sym (on t h played.plays) in
     let done = did t h played.plays in
     let ss = done.0 in
-    let ds : List Move = lifted ss in
+    let ds : List PeerEvent = lifted ss in
     let up_to = subst (λ most. FollowUpTo most (writing t.wire t.config) (byte_steps t h) ss) most_is done.1.0 in
     let written : Writes t h (most_of count) ds = (ss, (up_to, refl)) in
     let need_none = lends.writes t h (most_of count) ds written in

@@ -4,7 +4,7 @@ use Rattle.hd_delivery.specs.declared.vocabulary.Side.TheVariants.{Client, Serve
 use Rattle.hd_delivery.specs.Worlds.{Event, config}
 use Rattle.hd_delivery.specs.Bytes.{Wire, DeliveryOverBytes}
 use Rattle.he_wire.specs.Wires.{IsHouseWire}
-use Rattle.hd_calls.specs.Peers.{Move}
+use Rattle.hd_calls.specs.Peers.{PeerEvent}
 use Rattle.hd_calls.specs.PeerWorlds.{Pair, BothOnce, IsPeerWorld, ends}
 use Rattle.hub_calc.specs.Table.{calc_hub}
 use Rattle.hub_calc.specs.Client.{client_hub}
@@ -27,7 +27,7 @@ pub record IsOnce (p : Pair) (actions : List Action) (r : Run) : Type 0 where
   pub once : BothOnce client_hub calc_hub p (world_of r)
 
 -- the two lines of how both ends stand
-abbrev pub standing_lines : Pair → List (Event Move) → List ℕ
+abbrev pub standing_lines : Pair → List (Event PeerEvent) → List ℕ
 standing_lines p w = standing_text Client (config Client p.terms) (steps_at p w Client) ++ standing_text Server (config Server p.terms) (steps_at p w Server)
 
 -- two peers as the options of a script say

@@ -2,12 +2,12 @@
 use Rattle.std.specs.Prelude.{◌≡◌, ◌+◌, ℕ, List, [], ◌∷◌, ◌++◌, length, take, map, codes, Option, Some, None, if◌then◌else◌}
 use Rattle.hd_delivery.specs.declared.vocabulary.Side.{Side}
 use Rattle.hd_delivery.specs.declared.vocabulary.Side.TheVariants.{Client, Server}
-use Rattle.hd_delivery.specs.Histories.{Step, present_link, was_on}
-use Rattle.hd_delivery.specs.Worlds.{Limits, Terms, Event, ByClient, ByServer, client_of, server_of}
+use Rattle.hd_delivery.specs.Histories.{EndEvent, present_link, was_on}
+use Rattle.hd_delivery.specs.Worlds.{Limits, alike, Terms, Event, ByClient, ByServer, client_of, server_of}
 use Rattle.hd_delivery.specs.Bytes.{Wire, bytes_on}
-use Rattle.hd_runs.specs.Sides.{by, other, history}
+use Rattle.hd_delivery.specs.Sides.{by, other, history}
 use Rattle.hd_calls.specs.Ids.{id_at}
-use Rattle.hd_calls.specs.Peers.{Move, Settings, byte_steps, steps}
+use Rattle.hd_calls.specs.Peers.{PeerEvent, Settings, byte_steps, steps}
 use Rattle.hd_calls.specs.PeerWorlds.{Pair, settings}
 use Rattle.hp_peer.specs.Calling.{upload_end, upload_item}
 use Rattle.sr_script.specs.declared.action.Count.{Count}
@@ -25,14 +25,14 @@ the_other = codes "peer"
 
 -- two peers that are begun so
 abbrev pub pair_of : Limits → Wire → Terms → Pair
-pair_of limits wire t = record { limits = limits; wire = wire; terms = t; name = id_at; who = λ side. the_other }
+pair_of limits wire t = record { limits = alike limits; wire = wire; terms = t; name = id_at; who = λ side. the_other }
 
 -- what the two peers did
 abbrev pub Run : Type 0
 Run = List (Event Doing)
 
 -- their moves, in the order in which they were made: the world of the run
-abbrev pub world_of : Run → List (Event Move)
+abbrev pub world_of : Run → List (Event PeerEvent)
 world_of [] = []
 world_of (ByClient (Makes d) ∷ r) = ByClient d ∷ world_of r
 world_of (ByServer (Makes d) ∷ r) = ByServer d ∷ world_of r
@@ -40,17 +40,17 @@ world_of (ByClient (Refuses words) ∷ r) = world_of r
 world_of (ByServer (Refuses words) ∷ r) = world_of r
 
 -- the history of a side's end in a world, in frames
-abbrev pub steps_at : Pair → List (Event Move) → Side → List Step
+abbrev pub steps_at : Pair → List (Event PeerEvent) → Side → List EndEvent
 steps_at p w side = steps (settings side p) (history side w)
 
 -- ---- what an action does
 
 -- the side made moves of which this holds
-abbrev pub MadeAt : Pair → Run → Side → (Settings → List Move → List Move → Type 0) → Run → Type 0
-MadeAt p r side Holds new = (ds : List Move) × (Holds (settings side p) (history side (world_of r)) ds × (new ≡ map (by side) (made ds)))
+abbrev pub MadeAt : Pair → Run → Side → (Settings → List PeerEvent → List PeerEvent → Type 0) → Run → Type 0
+MadeAt p r side Holds new = (ds : List PeerEvent) × (Holds (settings side p) (history side (world_of r)) ds × (new ≡ map (by side) (made ds)))
 
 -- the side did one thing, of which this holds
-abbrev pub DoneAt : Pair → Run → Side → (Settings → List Move → Doing → Type 0) → Run → Type 0
+abbrev pub DoneAt : Pair → Run → Side → (Settings → List PeerEvent → Doing → Type 0) → Run → Type 0
 DoneAt p r side Holds new = (did : Doing) × (Holds (settings side p) (history side (world_of r)) did × (new ≡ by side did ∷ []))
 
 -- the bytes of a link up to where a side reads, of which it read `before` earlier
@@ -59,7 +59,7 @@ read_in_all Everything before bytes = bytes
 read_in_all (UpTo n) before bytes = take (before + n) bytes
 
 -- what the other side lent on the link, up to where the side reads
-abbrev pub to_be_read : Pair → List (Event Move) → Side → Count → ℕ → List ℕ
+abbrev pub to_be_read : Pair → List (Event PeerEvent) → Side → Count → ℕ → List ℕ
 to_be_read p w side count link = read_in_all count (length (bytes_on link (byte_steps (settings side p) (history side w)))) (lent_in p w (other side) link)
 
 -- the side reads on its link; without one it reads nothing

@@ -2,8 +2,8 @@
 use Rattle.std.specs.Prelude.{◌≡◌, ◌↔◌, Bool, true, false, List, [], ◌∷◌, IsTrue}
 use Rattle.hd_delivery.specs.Histories.{Lent}
 use Rattle.hd_delivery.specs.Bytes.{Bytes, Does}
-use Rattle.hd_runs.specs.Sides.{history}
-use Rattle.hd_calls.specs.Peers.{Move, Plain}
+use Rattle.hd_delivery.specs.Sides.{history}
+use Rattle.hd_calls.specs.Peers.{PeerEvent, Plain}
 use Rattle.hd_calls.specs.PeerWorlds.{Pair, settings}
 use Rattle.hd_calls.specs.Rules.{IsPeerDue}
 use Rattle.sr_script.specs.declared.action.Action.{Action}
@@ -11,7 +11,7 @@ use Rattle.sr_script.specs.declared.action.Action.TheVariants.{Write, Read, Roun
 use Rattle.sr_peers.specs.Runs.{Run, world_of}
 
 -- whether a frame is written or a piece is read among these moves
-abbrev pub moves_bytes : List Move → Bool
+abbrev pub moves_bytes : List PeerEvent → Bool
 moves_bytes [] = false
 moves_bytes (Plain (Does (Lent f)) ∷ ds) = true
 moves_bytes (Plain (Bytes piece) ∷ ds) = true

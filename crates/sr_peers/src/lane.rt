@@ -7,7 +7,7 @@ use std::alloc::Global;
 
 /// What was said on a link and isn't read yet.
 #[derive(Drop)]
-pub(crate) struct Lane {
+pub(crate) struct LinkBytes {
     pub(crate) to_server: Vec<u8>,
     pub(crate) to_client: Vec<u8>,
     // whether the client was there: it may have refused the link
@@ -15,7 +15,7 @@ pub(crate) struct Lane {
 }
 
 /// Forgets what came to a side on a link that it has left, and gives its memory back: nobody reads it.
-pub(crate) fn leave(alloc: Global, lanes: &mut Vec<Lane>, side: Side, link: Option<u64>)
+pub(crate) fn leave(alloc: Global, lanes: &mut Vec<LinkBytes>, side: Side, link: Option<u64>)
     ensures { IsLeft side link lanes.old.items lanes.new.items }
 {
     let Some(link) = link else {

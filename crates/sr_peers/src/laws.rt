@@ -2,8 +2,7 @@
 
 ghost use Rattle.sr_peers.specs.Laws.{DoingsKeep, LentGoesOn, LossesAreFew, OneSideGrows, OthersJoin, ReadsAreSaid, WorldsGrow, WritesLend};
 
-use hd_delivery::fed_is_unseen;
-use hd_runs::{frames_are_taken, lent_comes_last, lent_stays};
+use hd_delivery::{fed_is_unseen, frames_are_taken, lent_comes_last, lent_stays};
 
 /// The moves of one side are its own, and the other side's stay as they were.
 pub fn one_side_grows()

@@ -7,11 +7,11 @@ ghost use Rattle.hd_delivery.specs.Histories as of;
 ghost use Rattle.hd_delivery.specs.Histories.{present_link, was_on};
 ghost use Rattle.hd_delivery.specs.Processes.{processes};
 ghost use Rattle.hd_delivery.specs.Bytes.{Wire, ByteStep, bytes_on};
-ghost use Rattle.hd_runs.specs.Following.{FollowUpTo};
-ghost use Rattle.hd_runs.specs.Alone.{writing, lent_text};
+ghost use Rattle.hd_delivery.specs.Following.{FollowUpTo};
+ghost use Rattle.hd_delivery.specs.Alone.{writing, lent_text};
 ghost use Rattle.he_wire.specs.Wires.{IsHouseWire};
 ghost use Rattle.hd_calls.specs.Numbers.{most_uploads};
-ghost use Rattle.hd_calls.specs.Peers.{Move, byte_steps, steps};
+ghost use Rattle.hd_calls.specs.Peers.{PeerEvent, byte_steps, steps};
 ghost use Rattle.hd_calls.specs.Rules.{IsPeerDue};
 ghost use Rattle.hj_jobs.specs.Meaning.{meaning};
 ghost use Rattle.hub_calc.specs.Laws.{HandsUpNothing};
@@ -25,8 +25,9 @@ ghost use Rattle.sr_peers.specs.Plays.{Feeds, Goes, HasDone, OfEach, Plays, Take
 
 use crate::laws::losses_are_few;
 use hd_calls::CallKind;
-use hd_delivery::{Got, Reason, Side, facts_hold, fed_is_unseen};
-use hd_runs::{taken_has_room, takes_few, writes_few};
+use hd_delivery::{
+    Got, Reason, Side, facts_hold, fed_is_unseen, taken_has_room, takes_few, writes_few,
+};
 use he_end::{Config, End};
 use he_wire::wire_is_sound;
 use hj_jobs::Hub;
@@ -119,7 +120,7 @@ impl<H: Hub> Party<H> {
     /// Loses its link, if it has one.
     pub fn lose(&mut self, alloc: Global, now: u64, report: &mut Vec<u8>) -> Result<(), AllocError>
         ensures { OnOk result (OfEach (meaning H.begin_of H.step_of) self.old (λ t h. of.moment (steps t h) ≤ now →
-            (ds : List Move) × (WithLosses t h (leaving t h now) ds
+            (ds : List PeerEvent) × (WithLosses t h (leaving t h now) ds
             × Goes (meaning H.begin_of H.step_of) t h self.new report.old.items report.new.items ds))) }
     {
         self.peer.detach(now);
@@ -131,7 +132,7 @@ impl<H: Hub> Party<H> {
     /// Closes its end, if it isn't closed: nothing is left to do.
     pub fn close(&mut self, alloc: Global, report: &mut Vec<u8>) -> Result<(), AllocError>
         ensures { OnOk result (OfEach (meaning H.begin_of H.step_of) self.old (λ t h.
-            (ds : List Move) × (WithLosses t h (closing t h) ds
+            (ds : List PeerEvent) × (WithLosses t h (closing t h) ds
             × Goes (meaning H.begin_of H.step_of) t h self.new report.old.items report.new.items ds))) }
     {
         self.peer.close(Reason::Done, false);
@@ -142,7 +143,7 @@ impl<H: Hub> Party<H> {
     /// A moment comes, which may be a silence.
     pub fn tick(&mut self, alloc: Global, now: u64, report: &mut Vec<u8>) -> Result<(), AllocError>
         ensures { OnOk result (OfEach (meaning H.begin_of H.step_of) self.old (λ t h. of.moment (steps t h) ≤ now →
-            (ds : List Move) × (WithLosses t h (ticking t h now) ds
+            (ds : List PeerEvent) × (WithLosses t h (ticking t h now) ds
             × Goes (meaning H.begin_of H.step_of) t h self.new report.old.items report.new.items ds))) }
     {
         if self.peer.tick(now) {
@@ -186,7 +187,7 @@ impl<H: Hub> Party<H> {
     ) -> Result<usize, AllocError>
         ensures { IfOk result (λ fed. OfEach (meaning H.begin_of H.step_of) self.old (λ t h. (l : ℕ) (all : List ℕ) → present_link (steps t h) ≡ Some l →
             bytes.now ≡ drop (length (bytes_on l (byte_steps t h))) all → processes t.config (steps t h) ≡ None →
-            (ds : List Move) × (ReadsTo t h now all ds
+            (ds : List PeerEvent) × (ReadsTo t h now all ds
             × Goes (meaning H.begin_of H.step_of) t h self.new report.old.items report.new.items ds
             × (bytes_on l (byte_steps t (ds ++ h)) ≡ bytes_on l (byte_steps t h) ++ take fed bytes.now)
             × (fed ≤ length bytes.now)
@@ -303,7 +304,7 @@ impl<H: Hub> Party<H> {
     /// Each job that is due has one turn. True exactly if one is due. The hub hands up no deeds.
     pub fn round(&mut self, alloc: Global, hub: &H, now: u64) -> Result<bool, AllocError>
         requires { HandsUpNothing (meaning H.begin_of H.step_of) }
-        ensures { IfOk result (λ due. OfEach (meaning H.begin_of H.step_of) self.old (λ t h. (ds : List Move) × (IsRound t h now ds
+        ensures { IfOk result (λ due. OfEach (meaning H.begin_of H.step_of) self.old (λ t h. (ds : List PeerEvent) × (IsRound t h now ds
             × Plays (meaning H.begin_of H.step_of) t self.new (ds ++ h)
             × (IsTrue due ↔ IsPeerDue t h)))) }
     {
@@ -329,7 +330,7 @@ impl<H: Hub> Party<H> {
 
     /// Hands out the calls that are gone, if its end is closed, and reports them.
     fn tell_gone(&mut self, alloc: Global, report: &mut Vec<u8>) -> Result<(), AllocError>
-        ensures { OnOk result (OfEach (meaning H.begin_of H.step_of) self.old (λ t h. (ds : List Move) × (WholeChain (Losing t) h ds
+        ensures { OnOk result (OfEach (meaning H.begin_of H.step_of) self.old (λ t h. (ds : List PeerEvent) × (WholeChain (Losing t) h ds
             × Goes (meaning H.begin_of H.step_of) t h self.new report.old.items report.new.items ds))) }
     {
         losses_are_few();
@@ -365,7 +366,7 @@ impl<H: Hub> Party<H> {
         now: u64,
         report: &mut Vec<u8>,
     ) -> Result<(), AllocError>
-        ensures taken { OnOk result (OfEach (meaning H.begin_of H.step_of) self.old (λ t h. (ds : List Move) × (WholeChain (Taking t now) h ds
+        ensures taken { OnOk result (OfEach (meaning H.begin_of H.step_of) self.old (λ t h. (ds : List PeerEvent) × (WholeChain (Taking t now) h ds
             × Goes (meaning H.begin_of H.step_of) t h self.new report.old.items report.new.items ds))) }
         ensures link { OnOk result (self.new.link ≡ self.old.link) }
     {

@@ -8,7 +8,7 @@ ghost use Rattle.hd_delivery.specs.Histories.{present_link, was_on};
 ghost use Rattle.hd_delivery.specs.Processes.{processes};
 ghost use Rattle.hd_delivery.specs.Bytes.{Wire, bytes_on};
 ghost use Rattle.he_wire.specs.Wires.{IsHouseWire};
-ghost use Rattle.hd_calls.specs.Peers.{Move, byte_steps, drawn, steps};
+ghost use Rattle.hd_calls.specs.Peers.{PeerEvent, byte_steps, drawn, steps};
 ghost use Rattle.hd_calls.specs.Rules.{own_live};
 ghost use Rattle.hj_jobs.specs.Meaning.{meaning};
 ghost use Rattle.hd_calls.specs.PeerWorlds.{Pair};
@@ -21,16 +21,18 @@ ghost use Rattle.sr_script.specs.declared.action.Action.TheVariants as action;
 ghost use Rattle.sr_peers.specs.Follows.{Follows, GoesOn, HasForgotten, HasMoved, IsOfPeers, WorksOn};
 ghost use Rattle.sr_peers.specs.Works.{moves_bytes};
 ghost use Rattle.sr_peers.specs.Runs.{Run, TellsRun, pair_of, read_in_all, world_of};
-ghost use Rattle.hd_runs.specs.Sides.{history};
+ghost use Rattle.hd_delivery.specs.Sides.{history};
 ghost use Rattle.hd_delivery.specs.declared.vocabulary.Side.TheVariants.{Client, Server};
 ghost use Rattle.sr_peers.specs.Report.{IsOnce, IsReportOver, pair_in};
 ghost use Rattle.sr_peers.specs.Begun.{terms_of};
 
-use crate::lane::{Lane, leave};
+use crate::lane::{LinkBytes, leave};
 use crate::laws::{what_is_lent_goes_on, writes_lend};
 use crate::party::Party;
-use hd_delivery::{Side, facts_hold, fed_is_unseen, unused_is_untouched};
-use hd_runs::{fed_is_lent, frames_are_taken, unused_is_empty};
+use hd_delivery::{
+    Side, facts_hold, fed_is_lent, fed_is_unseen, frames_are_taken, unused_is_empty,
+    unused_is_untouched,
+};
 use he_end::Config;
 use hj_jobs::Hub;
 use hp_peer::{peers_call_once, peers_keep_their_calls};
@@ -49,7 +51,7 @@ pub struct Peers {
     client: Party<ClientHub>,
     server: Party<CalcHub>,
     // by the script's numbers of the links
-    lanes: Vec<Lane>,
+    lanes: Vec<LinkBytes>,
     // the latest moment, in milliseconds
     now: u64,
 }
@@ -176,7 +178,7 @@ impl Peers {
             self.now,
             report,
         )?;
-        self.lanes.push(Lane {
+        self.lanes.push(LinkBytes {
             to_server: Vec::new(alloc),
             to_client: Vec::new(alloc),
             opened,
@@ -489,7 +491,7 @@ fn attach<H: Hub>(
     alloc: Global,
     party: &mut Party<H>,
     side: Side,
-    lanes: &mut Vec<Lane>,
+    lanes: &mut Vec<LinkBytes>,
     link: u64,
     now: u64,
     report: &mut Vec<u8>,
@@ -512,12 +514,12 @@ fn tick<H: Hub>(
     alloc: Global,
     party: &mut Party<H>,
     side: Side,
-    lanes: &mut Vec<Lane>,
+    lanes: &mut Vec<LinkBytes>,
     now: u64,
     report: &mut Vec<u8>,
 ) -> Result<(), AllocError>
     ensures ticks { OnOk result (OfEach (meaning H.begin_of H.step_of) party.old (λ t h. of.moment (steps t h) ≤ now →
-        (ds : List Move) × (WithLosses t h (ticking t h now) ds
+        (ds : List PeerEvent) × (WithLosses t h (ticking t h now) ds
         × Goes (meaning H.begin_of H.step_of) t h party.new report.old.items report.new.items ds))) }
     ensures lanes { OnOk result (HasForgotten (meaning H.begin_of H.step_of) side party.old party.new lanes.old.items lanes.new.items) }
 {
@@ -553,7 +555,7 @@ fn read<H: Hub>(
 ) -> Result<bool, AllocError>
     ensures { IfOk result (λ has_read. OfEach (meaning H.begin_of H.step_of) party.old (λ t h. (l : ℕ) (lent : List ℕ) → present_link (steps t h) ≡ Some l →
         length (bytes_on l (byte_steps t h)) ≤ length lent → bytes.old.items ≡ drop (length (bytes_on l (byte_steps t h))) lent → processes t.config (steps t h) ≡ None →
-        (ds : List Move) × (ReadsTo t h now (read_in_all count (length (bytes_on l (byte_steps t h))) lent) ds
+        (ds : List PeerEvent) × (ReadsTo t h now (read_in_all count (length (bytes_on l (byte_steps t h))) lent) ds
         × Goes (meaning H.begin_of H.step_of) t h party.new report.old.items report.new.items ds
         × (bytes.new.items ≡ drop (length (bytes_on l (byte_steps t (ds ++ h)))) lent)
         × (has_read ≡ moves_bytes ds)))) }

@@ -4,7 +4,7 @@ use Rattle.hd_delivery.specs.declared.vocabulary.Side.{Side}
 use Rattle.hd_delivery.specs.declared.vocabulary.Side.TheVariants.{Client, Server}
 use Rattle.hd_delivery.specs.Bytes.{ByteStep, bare_steps}
 use Rattle.sr_replay.specs.Runs.{Doing, Makes, Refuses, Run, steps_of, world_of, made_by}
-use Rattle.hd_runs.specs.Sides.{by, history, other}
+use Rattle.hd_delivery.specs.Sides.{by, history, other}
 use Rattle.sr_replay.specs.Report.{doing_text, run_text}
 use Rattle.sr_replay.specs.Plays.{steps_text}
 

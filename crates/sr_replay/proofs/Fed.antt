@@ -6,7 +6,7 @@ use Rattle.std.specs.Prelude.{option_map, if◌then◌else◌}
 use Rattle.hd_facts.specs.Prefixes.{IsPrefix}
 use Rattle.hd_delivery.specs.Numbers.{most_framing}
 use Rattle.hd_delivery.specs.Histories as of
-use Rattle.hd_delivery.specs.Histories.{Step, Took, Failed, first_of, present_link, was_on, is_shaken, is_closed}
+use Rattle.hd_delivery.specs.Histories.{EndEvent, Took, Failed, first_of, present_link, was_on, is_shaken, is_closed}
 use Rattle.hd_delivery.specs.Processes.{processes, next_frame}
 use Rattle.hd_delivery.specs.Worlds.{Limits}
 use Rattle.hd_delivery.specs.Bytes.{Wire, IsSoundWire, ByteStep, Bytes, Does, bare_steps, bytes_on, in_frames, lent_bytes, unread_count}
@@ -15,9 +15,9 @@ use Rattle.hd_delivery.specs.Laws.{FedIsUnseen}
 use Rattle.sr_script.specs.declared.action.Count.{Count}
 use Rattle.sr_script.specs.declared.action.Count.TheVariants.{UpTo, Everything}
 use Rattle.sr_replay.specs.declared.player.Player.{Player}
-use Rattle.hd_runs.specs.Laws.{FramesAreTaken, LentStays, TakenHasRoom}
-use Rattle.hd_runs.specs.Following.{Follow, FollowAll}
-use Rattle.hd_runs.specs.Alone.{IsOfFrame, piece_fed, feeding, reading}
+use Rattle.hd_delivery.specs.AloneLaws.{FramesAreTaken, LentStays, TakenHasRoom}
+use Rattle.hd_delivery.specs.Following.{Follow, FollowAll}
+use Rattle.hd_delivery.specs.Alone.{IsOfFrame, piece_fed, feeding, reading}
 use Rattle.sr_replay.specs.Runs.{read_in_all}
 use Rattle.sr_replay.specs.Plays.{Plays, limits_at}
 use Rattle.sr_replay.specs.Follows.{IsPlayed}
@@ -30,7 +30,7 @@ fed_one : (piece : List ℕ) (s : ByteStep) → piece_fed piece ≡ Some s → B
 fed_one [] s e = absurd (cc)
 fed_one (b ∷ piece) s e = cc
 
-live_of : (b : Bool) (o : Option Step) (u : Step) → (if b then None else o) ≡ Some u → b ≡ false
+live_of : (b : Bool) (o : Option EndEvent) (u : EndEvent) → (if b then None else o) ≡ Some u → b ≡ false
 live_of true o u e = absurd (cc)
 live_of false o u e = refl
 
@@ -43,7 +43,7 @@ module _ (taken : FramesAreTaken) (stays : LentStays) (unseen : FedIsUnseen) (li
     front : IsPrefix (bytes_on l x) all → IsPrefix (bytes_on l now) all
     live : is_closed c (in_frames wire c now) ≡ false → is_closed c (in_frames wire c x) ≡ false
 
-  took : (x : List ByteStep) (u : Step) → present_link (in_frames wire c x) ≡ Some l → IsOfFrame (is_shaken (in_frames wire c x)) u → is_closed c (in_frames wire c x) ≡ false
+  took : (x : List ByteStep) (u : EndEvent) → present_link (in_frames wire c x) ≡ Some l → IsOfFrame (is_shaken (in_frames wire c x)) u → is_closed c (in_frames wire c x) ≡ false
       → IsHistory limits wire c (Does u ∷ x) → Reads x (Does u ∷ x)
   took x (Took got) at is live i = record { at = at; names = λ j. refl; lent = λ j. stays limits wire c x (Does (Took got)) j i (λ f e h. absurd (cc)); front = λ p. p; live = λ e. live }
   took x (Failed fault) at is live i = record { at = at; names = λ j. refl; lent = λ j. refl; front = λ p. p; live = λ e. live }
@@ -74,7 +74,7 @@ module _ (taken : FramesAreTaken) (stays : LentStays) (unseen : FedIsUnseen) (li
       open_end true live f = absurd (cc)
       open_end false live f = feeds (present_link (in_frames wire c x)) at live f
 
-      go : (o : Option Step) → processes c (in_frames wire c x) ≡ o
+      go : (o : Option EndEvent) → processes c (in_frames wire c x) ≡ o
           → first_of (option_map Does o) (if is_closed c (in_frames wire c x) then None else feeding limits wire c all x (present_link (in_frames wire c x))) ≡ Some s → Reads x (s ∷ x)
       go None p f = open_end (is_closed c (in_frames wire c x)) refl f
       go (Some u) p f =
@@ -96,7 +96,7 @@ module _ (taken : FramesAreTaken) (stays : LentStays) (unseen : FedIsUnseen) (li
 
 -- ---- where it ends
 
-neither : (o : Option Step) (p : Option ByteStep) → first_of (option_map Does o) p ≡ None → (o ≡ None) × (p ≡ None)
+neither : (o : Option EndEvent) (p : Option ByteStep) → first_of (option_map Does o) p ≡ None → (o ≡ None) × (p ≡ None)
 neither None p e = (refl, e)
 neither (Some u) p e = absurd (cc)
 

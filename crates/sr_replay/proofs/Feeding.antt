@@ -15,9 +15,9 @@ use Rattle.he_end.specs.declared.end.End.{End}
 use Rattle.he_end.specs.Stands.{Stands}
 use Rattle.he_end.specs.Calls.{taken_at}
 use Rattle.sr_replay.specs.declared.player.Player.{Player}
-use Rattle.hd_runs.specs.Laws.{TakenHasRoom, HasRoomFor}
-use Rattle.hd_runs.specs.Following.{Next, Follow}
-use Rattle.hd_runs.specs.Alone.{piece_fed, feeding, taking, reading}
+use Rattle.hd_delivery.specs.AloneLaws.{TakenHasRoom, HasRoomFor}
+use Rattle.hd_delivery.specs.Following.{Next, Follow}
+use Rattle.hd_delivery.specs.Alone.{piece_fed, feeding, taking, reading}
 use Rattle.sr_replay.specs.Plays.{Plays, Feeds, limits_at, steps_text}
 
 -- the player with another end

@@ -3,22 +3,22 @@ use Rattle.std.proofs.Common.{inl, inr, ◌≡◌, ℕ, ◌+◌, ◌<◌, ◌≤
 use Rattle.std.proofs.lemmas.List.{append-nil}
 use Rattle.hd_delivery.specs.declared.vocabulary.Side.{Side}
 use Rattle.hd_delivery.specs.Histories as of
-use Rattle.hd_delivery.specs.Histories.{Lent, sent_messages, acked_count, most_lent, is_kept, held_messages}
+use Rattle.hd_delivery.specs.Histories.{Lent, sent_messages, acked_count, most_lent, is_resumable, held_messages}
 use Rattle.hd_delivery.specs.Worlds.{Limits}
 use Rattle.hd_delivery.specs.OneHistory.{IsHistory}
 use Rattle.hd_delivery.specs.HistoryLaws.{FactsHold}
 use Rattle.he_wire.specs.Laws.{WireIsSound}
 use Rattle.he_wire.specs.Wires.{IsHouseWire}
-use Rattle.hq_resend.specs.Bounds.{AreLimits}
+use Rattle.hd_delivery.specs.Bounds.{AreLimits}
 use Rattle.hd_delivery.specs.Bytes.{Wire, ByteStep, Does, in_frames}
 use Rattle.sr_script.specs.declared.action.Count.{Count}
 use Rattle.sr_script.specs.declared.action.Count.TheVariants.{UpTo, Everything}
 use Rattle.sr_replay.specs.declared.player.Player.{Player}
-use Rattle.hd_runs.specs.Laws.{WritesFew, TakesFew}
-use Rattle.hd_runs.specs.Following.{Next, Follow, FollowAll, FollowUpTo}
-use Rattle.hd_runs.specs.Alone.{writing, taking}
+use Rattle.hd_delivery.specs.AloneLaws.{WritesFew, TakesFew}
+use Rattle.hd_delivery.specs.Following.{Next, Follow, FollowAll, FollowUpTo}
+use Rattle.hd_delivery.specs.Alone.{writing, taking}
 use Rattle.sr_replay.specs.Plays.{Plays, Text, Goes, steps_text, most_steps}
-use Rattle.hd_runs.specs.Alone.{lent_text}
+use Rattle.hd_delivery.specs.Alone.{lent_text}
 use Rattle.sr_script.specs.Script.{most_of}
 
 -- ---- texts
@@ -102,7 +102,7 @@ written_few few facts limits wire c h ss history follow =
     let k = in_frames wire c h in
     let all = few limits wire c h ss history follow in
     let sent = (facts limits wire c h history).sent_are_few in
-    let held : length (held_messages c k) ≤ length (sent_messages k) = shorter (is_kept c k) (acked_count k) (most_lent k) (sent_messages k) in
+    let held : length (held_messages c k) ≤ length (sent_messages k) = shorter (is_resumable c k) (acked_count k) (most_lent k) (sent_messages k) in
     omega arith
 
 -- so does one that takes what it was fed

@@ -4,7 +4,7 @@ use Rattle.std.proofs.lemmas.Bool.{both_ways, cases_order}
 use Rattle.hm_message.specs.declared.message.Message.{Message}
 use Rattle.hm_codec.specs.Frames.{said_again}
 use Rattle.hd_delivery.specs.Histories as of
-use Rattle.hd_delivery.specs.Histories.{Step, present_link, codec_of, is_shaken, is_closed}
+use Rattle.hd_delivery.specs.Histories.{EndEvent, present_link, codec_of, is_shaken, is_closed}
 use Rattle.hd_delivery.specs.Sending as refusal
 use Rattle.hd_delivery.specs.Sending.{SendRefusal, IsRefusedToSend}
 use Rattle.hd_delivery.specs.Worlds.{Limits, Sizes, HasRoom, MaySend, Terms, config}
@@ -15,9 +15,9 @@ use Rattle.sr_script.specs.declared.action.Count.{Count}
 use Rattle.sr_script.specs.declared.action.Count.TheVariants.{UpTo, Everything}
 use Rattle.sr_replay.specs.Runs.{Run, Doing, Refuses, Sending, to_be_read, made_by, world_of, frames_at, Acts, Runs}
 use Rattle.sr_lines.specs.Lines.{refusal_words}
-use Rattle.hd_runs.specs.Following.{Next, Follow, FollowAll, FollowUpTo}
-use Rattle.hd_runs.specs.Alone.{writing, reading}
-use Rattle.hd_runs.specs.Sides.{by, history}
+use Rattle.hd_delivery.specs.Following.{Next, Follow, FollowAll, FollowUpTo}
+use Rattle.hd_delivery.specs.Alone.{writing, reading}
+use Rattle.hd_delivery.specs.Sides.{by, history}
 use Rattle.sr_script.specs.Script.{most_of}
 
 -- ---- steps that follow from one another
@@ -58,7 +58,7 @@ up_to_same (UpTo n) next h ss ts (inr a) (inr b) = all_same next h ss ts a.0 b.0
 
 -- ---- what is sent
 
-module _ (limits : Limits) (sizes : Sizes) (c : of.Config) (k : List Step) (m : Message) where
+module _ (limits : Limits) (sizes : Sizes) (c : of.Config) (k : List EndEvent) (m : Message) where
   -- a message that may be sent is not refused
   not_refused : (why : SendRefusal) → MaySend limits sizes c k m → IsRefusedToSend limits sizes c k m why → ⊥
   not_refused refusal.Opening a r = both_ways (is_shaken k) r.0 a.shakes
@@ -96,7 +96,7 @@ module _ (limits : Limits) (sizes : Sizes) (c : of.Config) (k : List Step) (m : 
   one_refusal refusal.Exhausted (refusal.Full held bytes size) p q = absurd (q.4 (subst (λ n. HasRoom limits sizes c k n) (sym q.3) p.1))
   one_refusal refusal.Exhausted refusal.Exhausted p q = refl
 
-pub sending_once : (limits : Limits) (wire : Wire) (c : of.Config) (k : List Step) (m : Message) (d e : Doing)
+pub sending_once : (limits : Limits) (wire : Wire) (c : of.Config) (k : List EndEvent) (m : Message) (d e : Doing)
     → Sending limits wire c k m d → Sending limits wire c k m e → d ≡ e
 sending_once limits wire c k m d e (inl a) (inl b) = a.1 ∙ sym b.1
 sending_once limits wire c k m d e (inl a) (inr b) = absurd (not_refused limits (sizes_of wire) c k (said_again (codec_of c k) m) b.0 a.0 b.1.0)

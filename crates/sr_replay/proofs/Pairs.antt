@@ -7,8 +7,8 @@ use Rattle.hd_delivery.specs.declared.vocabulary.Side.TheVariants.{Client, Serve
 use Rattle.hd_delivery.specs.declared.vocabulary.Reason.TheVariants.{Done}
 use Rattle.hd_delivery.specs.declared.vocabulary.State.{State}
 use Rattle.hd_delivery.specs.Histories as of
-use Rattle.hd_delivery.specs.Histories.{Step, Closed, Detached, Sent, present_link, was_on, is_closed, moment}
-use Rattle.hd_delivery.specs.Worlds.{Limits, MaySend, Terms, config}
+use Rattle.hd_delivery.specs.Histories.{EndEvent, Closed, Detached, Sent, present_link, was_on, is_closed, moment}
+use Rattle.hd_delivery.specs.Worlds.{alike, Limits, MaySend, Terms, config}
 use Rattle.hd_delivery.specs.Sending.{SendRefusal, IsRefusedToSend}
 use Rattle.he_end.specs.Words.{send_words}
 use Rattle.he_end.specs.declared.errors.SendError.{SendError}
@@ -24,22 +24,22 @@ use Rattle.hm_codec.specs.Frames.{said_again}
 use Rattle.he_wire.specs.Laws.{WireIsSound}
 use Rattle.hd_delivery.specs.HistoryLaws.{FactsHold, UnusedIsUntouched}
 use Rattle.sr_replay.specs.Laws.{RunsAreWorlds, IsWorldOf}
-use Rattle.hd_runs.specs.Laws.{FramesAreTaken, UnusedIsEmpty, LentComesLast, LentStays, FedIsLent, TakenHasRoom}
+use Rattle.hd_delivery.specs.AloneLaws.{FramesAreTaken, UnusedIsEmpty, LentComesLast, LentStays, FedIsLent, TakenHasRoom}
 use Rattle.sr_script.specs.declared.action.Action.{Action}
 use Rattle.sr_script.specs.declared.action.Action.TheVariants as action
 use Rattle.sr_replay.specs.declared.player.Player.{Player}
-use Rattle.sr_replay.specs.declared.pair.Lane.{Lane}
+use Rattle.sr_replay.specs.declared.pair.LinkBytes.{LinkBytes}
 use Rattle.sr_replay.specs.declared.pair.Pair.{Pair}
 use Rattle.sr_script.specs.Script.{opened, moment_after, IsInTurn, most_of}
 use Rattle.sr_replay.specs.Runs.{Doing, Makes, Refuses, Run, Acts, read_in_all, to_be_read, Sending, steps_of, world_of, attaching, losing, closing, ticking, frames_at}
 use Rattle.sr_lines.specs.Lines.{refusal_words}
-use Rattle.hd_runs.specs.Following.{FollowAll, FollowUpTo}
-use Rattle.hd_runs.specs.Alone.{writing, reading}
-use Rattle.hd_runs.specs.Sides.{other, by, history}
+use Rattle.hd_delivery.specs.Following.{FollowAll, FollowUpTo}
+use Rattle.hd_delivery.specs.Alone.{writing, reading}
+use Rattle.hd_delivery.specs.Sides.{other, by, history}
 use Rattle.sr_replay.specs.Report.{doing_text, run_text, report_text}
 use Rattle.sr_lines.specs.Lines.{line_at, standing_line, standing_text}
 use Rattle.sr_replay.specs.Plays.{Plays, OfEach, limits_at, steps_text}
-use Rattle.hd_runs.specs.Alone.{lent_text}
+use Rattle.hd_delivery.specs.Alone.{lent_text}
 use Rattle.sr_replay.specs.Follows.{IsPlayed, MayRead, Tries, said_by, IsLane, Holds, Follows, GoesOn}
 use Rattle.sr_replay.proofs.Small.{both}
 use Rattle.sr_replay.proofs.Doings.{own, others, text, doings_text, made_is, steps_made, text_made}
@@ -126,7 +126,7 @@ module _ (limits : Limits) (wire : Wire) (t : Terms) (actions : List Action) (r 
 abbrev pub Closes : Player → Player → Type 0
 Closes old new = OfEach old (λ wire c h. Plays wire c new (steps_of (closing c (in_frames wire c h)) ++ h))
 
-closing_text : (side : Side) (c : of.Config) (k : List Step) (h : List ByteStep) → doings_text side h (closing c k) ≡ []
+closing_text : (side : Side) (c : of.Config) (k : List EndEvent) (h : List ByteStep) → doings_text side h (closing c k) ≡ []
 closing_text side c k h = both (λ ds. doings_text side h ds ≡ []) (is_closed c k) [] (Makes (Does (Closed Done false)) ∷ []) (λ e. refl) (λ e. refl)
 
 -- a report that nothing is appended to
@@ -164,7 +164,7 @@ server_closes p x side e did same = subst (λ side. GoesOn p (action.Close side)
 abbrev pub Loses : ℕ → Player → Player → Type 0
 Loses now old new = OfEach old (λ wire c h. moment (in_frames wire c h) ≤ now → Plays wire c new (steps_of (losing (in_frames wire c h) now) ++ h))
 
-losing_text : (side : Side) (k : List Step) (h : List ByteStep) (now : ℕ) → doings_text side h (losing k now) ≡ []
+losing_text : (side : Side) (k : List EndEvent) (h : List ByteStep) (now : ℕ) → doings_text side h (losing k now) ≡ []
 losing_text side k h now = both (λ ds. doings_text side h ds ≡ []) (is_some (present_link k)) (Makes (Does (Detached now)) ∷ []) [] (λ e. refl) (λ e. refl)
 
 -- the run of a pair is a world, whose moments aren't past its actions'
@@ -331,7 +331,7 @@ AttachesTo side link now old new taken before after text_before text_after = OfE
     × (text_after ≡ text_before ++ doing_text side (bare_steps h) (attaching c (in_frames wire c h) link now)))
 
 module _ (worlds : RunsAreWorlds) (sound : WireIsSound) (untouched : UnusedIsUntouched) (empty : UnusedIsEmpty) where
-  pub client_opens : (p : Pair) (x : Player) (number place : ℕ) (report : Vec ℕ Global) (lanes : Vec Lane Global) (lane : Lane) (taken : Bool)
+  pub client_opens : (p : Pair) (x : Player) (number place : ℕ) (report : Vec ℕ Global) (lanes : Vec LinkBytes Global) (lane : LinkBytes) (taken : Bool)
       → number ≡ length p.lanes.items → AttachesTo Client number p.now p.client x taken p.client_place place p.report.items report.items → limits_at x ≡ limits_at p.client
       → lanes.items ≡ p.lanes.items ++ lane ∷ [] → lane.to_server.items ≡ [] → lane.to_client.items ≡ [] → lane.opened ≡ taken
       → GoesOn p action.Open (record p { client = x; client_place = place; lanes = lanes; report = report })
@@ -373,7 +373,7 @@ module _ (worlds : RunsAreWorlds) (sound : WireIsSound) (untouched : UnusedIsUnt
       })
       done.2
 
-  pub server_accepts : (p : Pair) (x : Player) (link place : ℕ) (report : Vec ℕ Global) (lane : Lane) (taken : Bool)
+  pub server_accepts : (p : Pair) (x : Player) (link place : ℕ) (report : Vec ℕ Global) (lane : LinkBytes) (taken : Bool)
       → slice_get p.lanes.items link ≡ Some lane → lane.opened ≡ true
       → AttachesTo Server link p.now p.server x taken p.server_place place p.report.items report.items → limits_at x ≡ limits_at p.server
       → GoesOn p (action.Accept link) (record p { server = x; server_place = place; report = report })
@@ -396,7 +396,7 @@ module _ (worlds : RunsAreWorlds) (sound : WireIsSound) (untouched : UnusedIsUnt
       done.2
 
 -- the client isn't there
-pub none_accepted : (p : Pair) (link : ℕ) (lane : Lane) → slice_get p.lanes.items link ≡ Some lane → lane.opened ≡ false → GoesOn p (action.Accept link) p
+pub none_accepted : (p : Pair) (link : ℕ) (lane : LinkBytes) → slice_get p.lanes.items link ≡ Some lane → lane.opened ≡ false → GoesOn p (action.Accept link) p
 none_accepted p link lane at off_line limits wire t actions r was turn =
     let c = history Client (world_of r) in
     let s = history Server (world_of r) in
@@ -412,7 +412,7 @@ none_accepted p link lane at off_line limits wire t actions r was turn =
 abbrev pub IsOn : Option ℕ → Player → Type 0
 IsOn o p = OfEach p (λ wire c h. o ≡ present_link (in_frames wire c h))
 
-abbrev pub WritesTo : Side → Count → Player → Player → Lane → Lane → Type 0
+abbrev pub WritesTo : Side → Count → Player → Player → LinkBytes → LinkBytes → Type 0
 WritesTo side count old new lane_old lane_new = OfEach old (λ wire c h. (ss : List ByteStep) × (FollowUpTo (most_of count) (writing wire c) h ss
     × Plays wire c new (ss ++ h) × (said_by side lane_new ≡ said_by side lane_old ++ lent_text wire c h ss)))
 
@@ -472,7 +472,7 @@ module _ (facts : FactsHold) (worlds : RunsAreWorlds) (sound : WireIsSound) wher
   server_never_past p a link on past limits wire t actions r was turn =
       absurd (omega (arith, past, server_link limits wire t actions r p link was (sym (on wire (config Server t) (history Server (world_of r)) was.holds.server.plays))))
 
-pub client_writes : LentComesLast → LentStays → (p : Pair) (x : Player) (link : ℕ) (lane new_lane : Lane) (lanes : Vec Lane Global) (count : Count) (side : Side) → side ≡ Client
+pub client_writes : LentComesLast → LentStays → (p : Pair) (x : Player) (link : ℕ) (lane new_lane : LinkBytes) (lanes : Vec LinkBytes Global) (count : Count) (side : Side) → side ≡ Client
     → IsOn (Some link) p.client → slice_get p.lanes.items link ≡ Some lane → lanes.items ≡ slice_set p.lanes.items link new_lane
     → said_by (other side) new_lane ≡ said_by (other side) lane → new_lane.opened ≡ lane.opened → WritesTo side count p.client x lane new_lane → limits_at x ≡ limits_at p.client
     → GoesOn p (action.Write side count) (record p { client = x; lanes = lanes })
@@ -511,7 +511,7 @@ client_writes last stays p x link lane new_lane lanes count side e on there set_
         }))
         (unchanged p.report.items (doings_text Client h made) (text_made Client h ss ∙ silent Client h ss lent))
 
-pub server_writes : LentComesLast → LentStays → (p : Pair) (x : Player) (link : ℕ) (lane new_lane : Lane) (lanes : Vec Lane Global) (count : Count) (side : Side) → side ≡ Server
+pub server_writes : LentComesLast → LentStays → (p : Pair) (x : Player) (link : ℕ) (lane new_lane : LinkBytes) (lanes : Vec LinkBytes Global) (count : Count) (side : Side) → side ≡ Server
     → IsOn (Some link) p.server → slice_get p.lanes.items link ≡ Some lane → lanes.items ≡ slice_set p.lanes.items link new_lane
     → said_by (other side) new_lane ≡ said_by (other side) lane → new_lane.opened ≡ lane.opened → WritesTo side count p.server x lane new_lane → limits_at x ≡ limits_at p.server
     → GoesOn p (action.Write side count) (record p { server = x; lanes = lanes })
@@ -562,7 +562,7 @@ prefix_length : (xs ys : List ℕ) → IsPrefix xs ys → length xs ≤ length y
 prefix_length xs ys p = let e = sym (length-append xs p.0) ∙ ap length p.1 in omega (arith, e)
 
 module _ (taken : FramesAreTaken) (worlds : RunsAreWorlds) (sound : WireIsSound) (fed_is_lent : FedIsLent) (stays : LentStays) (unseen : FedIsUnseen) (room : TakenHasRoom) where
-  pub client_reads : (p : Pair) (x : Player) (link place : ℕ) (report : Vec ℕ Global) (lane : Lane) (count : Count) (side : Side) → side ≡ Client
+  pub client_reads : (p : Pair) (x : Player) (link place : ℕ) (report : Vec ℕ Global) (lane : LinkBytes) (count : Count) (side : Side) → side ≡ Client
       → IsOn (Some link) p.client → slice_get p.lanes.items link ≡ Some lane → ReadsFrom count p.client x (said_by Server lane) p.client_place place p.report.items report.items
       → limits_at x ≡ limits_at p.client → GoesOn p (action.Read side count) (record p { client = x; client_place = place; report = report })
   client_reads p x link place report lane count side e on there did same = subst (λ side. GoesOn p (action.Read side count) (record p { client = x; client_place = place; report = report })) (sym e) goes
@@ -575,7 +575,7 @@ module _ (taken : FramesAreTaken) (worlds : RunsAreWorlds) (sound : WireIsSound)
           let world = the_world worlds sound limits wire t actions r p was in
           let soundly = sound limits wire (subst (λ x. IsHouseWire x.frame wire) was.holds.client.keeps was.holds.client.plays.stands.house) in
           let lane_is = (was.holds.lanes link lane there).to_client in
-          let front = subst (λ said. IsPrefix (bytes_on link h) said) (sym lane_is) (fed_is_lent limits wire t (world_of r) Client link world.world) in
+          let front = subst (λ said. IsPrefix (bytes_on link h) said) (sym lane_is) (fed_is_lent (alike limits) wire t (world_of r) Client link world.world) in
           let all = read_in_all count (length (bytes_on link h)) (said_by Server lane) in
           let done = did wire c h was.holds.client.plays link (record {
             here = at;
@@ -598,7 +598,7 @@ module _ (taken : FramesAreTaken) (worlds : RunsAreWorlds) (sound : WireIsSound)
           (subst (λ y. SaysNothing wire c h (y ++ h)) (sym (steps_made ss)) (record { lent = said_as_before taken stays unseen room limits wire soundly c link all h ss at follows is; names = named_as_before taken stays unseen room limits wire soundly c link all h ss at follows is })) refl refl)
           (done.1.2 ∙ ap (λ x. p.report.items ++ x) (sym (text_made Client h ss)))
 
-  pub server_reads : (p : Pair) (x : Player) (link place : ℕ) (report : Vec ℕ Global) (lane : Lane) (count : Count) (side : Side) → side ≡ Server
+  pub server_reads : (p : Pair) (x : Player) (link place : ℕ) (report : Vec ℕ Global) (lane : LinkBytes) (count : Count) (side : Side) → side ≡ Server
       → IsOn (Some link) p.server → slice_get p.lanes.items link ≡ Some lane → ReadsFrom count p.server x (said_by Client lane) p.server_place place p.report.items report.items
       → limits_at x ≡ limits_at p.server → GoesOn p (action.Read side count) (record p { server = x; server_place = place; report = report })
   server_reads p x link place report lane count side e on there did same = subst (λ side. GoesOn p (action.Read side count) (record p { server = x; server_place = place; report = report })) (sym e) goes
@@ -611,7 +611,7 @@ module _ (taken : FramesAreTaken) (worlds : RunsAreWorlds) (sound : WireIsSound)
           let world = the_world worlds sound limits wire t actions r p was in
           let soundly = sound limits wire (subst (λ x. IsHouseWire x.frame wire) was.holds.client.keeps was.holds.client.plays.stands.house) in
           let lane_is = (was.holds.lanes link lane there).to_server in
-          let front = subst (λ said. IsPrefix (bytes_on link h) said) (sym lane_is) (fed_is_lent limits wire t (world_of r) Server link world.world) in
+          let front = subst (λ said. IsPrefix (bytes_on link h) said) (sym lane_is) (fed_is_lent (alike limits) wire t (world_of r) Server link world.world) in
           let all = read_in_all count (length (bytes_on link h)) (said_by Client lane) in
           let done = did wire c h was.holds.server.plays link (record {
             here = at;

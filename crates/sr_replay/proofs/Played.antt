@@ -4,12 +4,12 @@ use Rattle.std.specs.Prelude.{slice_get, is_some, option_map, if◌then◌else�
 use Rattle.hm_message.specs.declared.message.Message.{Message}
 use Rattle.hd_delivery.specs.declared.vocabulary.Reason.TheVariants.{Done}
 use Rattle.hd_delivery.specs.Histories as of
-use Rattle.hd_delivery.specs.Histories.{Step, Attached, Detached, Sent, Ticked, Silenced, Closed, present_link, was_on, fed_frames, taken_count, is_closed, is_silence}
+use Rattle.hd_delivery.specs.Histories.{EndEvent, Attached, Detached, Sent, Ticked, Silenced, Closed, present_link, was_on, fed_frames, taken_count, is_closed, is_silence}
 use Rattle.hd_delivery.specs.Processes.{processes, reads, next_number, next_frame}
 use Rattle.hd_delivery.specs.Worlds.{Limits}
 use Rattle.hd_delivery.specs.Bytes.{Wire, ByteStep, Does, bytes_on, in_frames, lent_bytes}
 use Rattle.hd_delivery.specs.HistoryLaws.{UnusedIsUntouched}
-use Rattle.hd_runs.specs.Laws.{UnusedIsEmpty}
+use Rattle.hd_delivery.specs.AloneLaws.{UnusedIsEmpty}
 use Rattle.sr_replay.specs.declared.player.Player.{Player}
 use Rattle.sr_replay.specs.Runs.{Makes, steps_of, attaching, losing, closing, ticking}
 use Rattle.sr_replay.specs.Plays.{Plays, limits_at}
@@ -31,13 +31,13 @@ some_none f None e = refl
 some_none f (Some x) e = absurd (cc)
 
 -- an end that isn't closed and processes nothing has taken every frame of its link
-pub took_all : (c : of.Config) (k : List Step) → processes c k ≡ None → (l : ℕ) → present_link k ≡ Some l → is_closed c k ≡ false → slice_get (fed_frames l k) (taken_count l k) ≡ None
+pub took_all : (c : of.Config) (k : List EndEvent) → processes c k ≡ None → (l : ℕ) → present_link k ≡ Some l → is_closed c k ≡ false → slice_get (fed_frames l k) (taken_count l k) ≡ None
 took_all c k e l at live =
     some_none (reads c k (next_number c k l)) (slice_get (fed_frames l k) (taken_count l k))
     (ap (next_frame c k) (sym at) ∙ ap (λ b. if b then None else next_frame c k (present_link k)) (sym live) ∙ e)
 
 -- and the other way round
-pub processes_none : (c : of.Config) (k : List Step)
+pub processes_none : (c : of.Config) (k : List EndEvent)
     → ((l : ℕ) → present_link k ≡ Some l → is_closed c k ≡ false → slice_get (fed_frames l k) (taken_count l k) ≡ None) → processes c k ≡ None
 processes_none c k none = both (λ o. o ≡ None) (is_closed c k) None (next_frame c k (present_link k)) (λ e. refl) (λ e. on_link (present_link k) refl e)
   where

@@ -3,7 +3,7 @@ use Rattle.std.proofs.Common.{inl, inr, ◌≡◌, ◌⊎◌, ℕ, Bool, true, f
 use Rattle.hm_message.specs.declared.message.Message.{Message}
 use Rattle.hd_delivery.specs.declared.vocabulary.Reason.TheVariants.{Done}
 use Rattle.hd_delivery.specs.Histories as of
-use Rattle.hd_delivery.specs.Histories.{Step, Attached, Detached, Closed, present_link, first_link, is_kept, is_closed}
+use Rattle.hd_delivery.specs.Histories.{EndEvent, Attached, Detached, Closed, present_link, first_link, is_resumable, is_closed}
 use Rattle.hd_delivery.specs.Worlds.{Limits, MayBegin}
 use Rattle.hd_delivery.specs.Sending as refusal
 use Rattle.hd_delivery.specs.Sending.{SendRefusal, IsRefusedToSend}
@@ -33,15 +33,15 @@ refused_is None kept some e = absurd (some refl)
 refused_is (Some l) true some e = absurd (cc)
 refused_is (Some l) false some e = refl
 
-module _ (c : of.Config) (k : List Step) (l now : ℕ) where
+module _ (c : of.Config) (k : List EndEvent) (l now : ℕ) where
   pub attaches : MayBegin c k l now → attaching c k l now ≡ Makes (Does (Attached l now))
-  attaches may = rw (may.unclosed, granted_is (first_link k) (is_kept c k) may.granted) refl
+  attaches may = rw (may.unclosed, granted_is (first_link k) (is_resumable c k) may.granted) refl
 
   pub closed_refuses : is_closed c k ≡ true → attaching c k l now ≡ Refuses (attach_words attach.Closed)
   closed_refuses over = rw over refl
 
-  pub plain_refuses : is_closed c k ≡ false → is_kept c k ≡ false → (first_link k ≡ None → ⊥) → attaching c k l now ≡ Refuses (attach_words attach.NotGranted)
-  plain_refuses live plain had = rw (live, refused_is (first_link k) (is_kept c k) had plain) refl
+  pub plain_refuses : is_closed c k ≡ false → is_resumable c k ≡ false → (first_link k ≡ None → ⊥) → attaching c k l now ≡ Refuses (attach_words attach.NotGranted)
+  plain_refuses live plain had = rw (live, refused_is (first_link k) (is_resumable c k) had plain) refl
 
 -- ---- the end with another end inside, and on another link
 
@@ -75,7 +75,7 @@ module _ (wire : Wire) (c : of.Config) (p : Player) (h : List ByteStep) (plays :
 -- ---- a message
 
 -- it is refused for this reason, if there is one
-abbrev RefusesWith : Limits → Wire → of.Config → List Step → Message → Option SendRefusal → Type 0
+abbrev RefusesWith : Limits → Wire → of.Config → List EndEvent → Message → Option SendRefusal → Type 0
 RefusesWith limits wire c k read None = Unit {0}
 RefusesWith limits wire c k read (Some why) = IsRefusedToSend limits (sizes_of wire) c k read why
 
@@ -89,7 +89,7 @@ same_words send.Exhausted why is = let j : refusal.Exhausted ≡ why = cc in rw 
 same_words send.NoMemory why is = absurd (cc)
 
 -- why a message isn't sent, if memory doesn't lack
-pub why_not : (limits : Limits) (wire : Wire) (c : of.Config) (k : List Step) (read : Message) (e : SendError) → RefusesWith limits wire c k read (refusal_of e)
+pub why_not : (limits : Limits) (wire : Wire) (c : of.Config) (k : List EndEvent) (read : Message) (e : SendError) → RefusesWith limits wire c k read (refusal_of e)
     → (e ≡ send.NoMemory → ⊥) → (why : SendRefusal) × (IsRefusedToSend limits (sizes_of wire) c k read why × (refusal_words why ≡ send_words e))
 why_not limits wire c k read send.Opening is some = (refusal.Opening, (is, same_words send.Opening refusal.Opening refl))
 why_not limits wire c k read send.Closed is some = (refusal.Closed, (is, same_words send.Closed refusal.Closed refl))

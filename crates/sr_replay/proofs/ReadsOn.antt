@@ -3,24 +3,24 @@ use Rattle.std.proofs.Common.{◌≡◌, ℕ, ◌+◌, ◌<◌, ◌≤◌, true,
 use Rattle.std.proofs.lemmas.Bool.{eq-eqb}
 use Rattle.std.proofs.lemmas.List.{append-nil, drop-drop, drop_all}
 use Rattle.hd_delivery.specs.Histories as of
-use Rattle.hd_delivery.specs.Histories.{Step, is_this, stands_on, present_link, is_closed}
+use Rattle.hd_delivery.specs.Histories.{EndEvent, is_this, stands_on, present_link, is_closed}
 use Rattle.hd_delivery.specs.Processes.{processes}
 use Rattle.hd_delivery.specs.Worlds.{Limits}
 use Rattle.hd_delivery.specs.Bytes.{Wire, ByteStep, Bytes, Does, bare_steps, bytes_on, in_frames}
 use Rattle.hd_delivery.specs.Laws.{FedIsUnseen}
 use Rattle.sr_replay.specs.declared.player.Player.{Player}
-use Rattle.hd_runs.specs.Following.{Next, Follow, FollowAll}
-use Rattle.hd_runs.specs.Alone.{taking, reading}
+use Rattle.hd_delivery.specs.Following.{Next, Follow, FollowAll}
+use Rattle.hd_delivery.specs.Alone.{taking, reading}
 use Rattle.sr_replay.specs.Plays.{Plays, Feeds, steps_text}
 use Rattle.sr_replay.proofs.Feeding.{follow_append, text_append, taken_follow, ends}
 
 -- ---- the bytes of the link
 
-not_fed : (o : Option Step) (piece : List ℕ) → option_map Does o ≡ Some (Bytes piece) → ⊥
+not_fed : (o : Option EndEvent) (piece : List ℕ) → option_map Does o ≡ Some (Bytes piece) → ⊥
 not_fed None piece is = cc
 not_fed (Some s) piece is = cc
 
-no_step : (o : Option Step) → option_map Does o ≡ None → o ≡ None
+no_step : (o : Option EndEvent) → option_map Does o ≡ None → o ≡ None
 no_step None is = refl
 no_step (Some s) is = absurd (cc)
 

@@ -4,7 +4,7 @@ use Rattle.hd_delivery.specs.declared.vocabulary.Got.{Got}
 use Rattle.hd_delivery.specs.declared.vocabulary.Got.TheVariants as gives
 use Rattle.hd_delivery.specs.declared.vocabulary.Why.TheVariants.{Duplicate, Unknown, BeforeSequence, NotUsed}
 use Rattle.hd_delivery.specs.Histories as of
-use Rattle.hd_delivery.specs.Histories.{Step, Took, Failed, Fault, Unread, Shake, Gap, AckBeyond, processed_messages}
+use Rattle.hd_delivery.specs.Histories.{EndEvent, Took, Failed, Fault, Unread, Shake, Gap, AckBeyond, processed_messages}
 use Rattle.hd_delivery.specs.Processes.{processes}
 use Rattle.hd_delivery.specs.Laws.{FedIsUnseen}
 use Rattle.hd_delivery.specs.Bytes.{Wire, ByteStep, Does, bare_steps, in_frames}
@@ -16,12 +16,12 @@ use Rattle.he_end.specs.Stands.{Stands}
 use Rattle.he_end.specs.Words.{next_words}
 use Rattle.sr_replay.specs.declared.player.Player.{Player}
 use Rattle.sr_lines.specs.Lines.{line_at, got_words, fault_words}
-use Rattle.hd_runs.specs.Alone.{taking}
+use Rattle.hd_delivery.specs.Alone.{taking}
 use Rattle.sr_replay.specs.Plays.{Plays, Goes, steps_text}
 use Rattle.sr_replay.proofs.Feeding.{with}
 
 -- a message that was handed out has the number of all that were
-same_words : (k : List Step) (got : Got) → got_words (length (processed_messages (Took got ∷ k))) got ≡ got_words (suc (length (processed_messages k))) got
+same_words : (k : List EndEvent) (got : Got) → got_words (length (processed_messages (Took got ∷ k))) got ≡ got_words (suc (length (processed_messages k))) got
 same_words k (gives.Message m) = ap (λ n. got_words n (gives.Message m)) (omega (arith, length-append (processed_messages k) (m ∷ [])))
 same_words k (gives.Shaken codec version) = refl
 same_words k (gives.Acked upto) = refl

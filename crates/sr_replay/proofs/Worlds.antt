@@ -12,10 +12,10 @@ use Rattle.hd_delivery.specs.declared.vocabulary.Side.TheVariants.{Client, Serve
 use Rattle.hd_delivery.specs.Numbers.{most_framing}
 use Rattle.hd_delivery.specs.Frames.{LinkFrame}
 use Rattle.hd_delivery.specs.Histories as of
-use Rattle.hd_delivery.specs.Histories.{Step, Attached, Detached, Took, Failed, Sent, Lent, Ticked, Silenced, Closed, present_link, was_on, first_link, first_of, codec_of, is_kept, is_closed, is_shaken, is_silence}
+use Rattle.hd_delivery.specs.Histories.{EndEvent, Attached, Detached, Took, Failed, Sent, Lent, Ticked, Silenced, Closed, present_link, was_on, first_link, first_of, codec_of, is_resumable, is_closed, is_shaken, is_silence}
 use Rattle.hd_delivery.specs.Due.{due}
 use Rattle.hd_delivery.specs.Processes.{processes}
-use Rattle.hd_delivery.specs.Worlds.{Limits, Terms, config, Event, ByClient, ByServer, client_of, server_of}
+use Rattle.hd_delivery.specs.Worlds.{alike, Limits, Terms, config, Event, ByClient, ByServer, client_of, server_of}
 use Rattle.hd_delivery.specs.Bytes.{Wire, IsSoundWire, ByteStep, Bytes, Does, bytes_on, in_frames, unread, unread_count, lent_bytes, AllowedOverBytes, IsWorldOverBytes}
 use Rattle.hd_delivery.specs.OneHistory.{IsHistory}
 use Rattle.hd_delivery.specs.HistoryLaws.{StandsThere, UnreadGrows, UnreadIsBounded, WorldsAreHistories}
@@ -25,10 +25,10 @@ use Rattle.sr_script.specs.declared.action.Count.{Count}
 use Rattle.sr_script.specs.declared.action.Count.TheVariants.{UpTo, Everything}
 use Rattle.sr_script.specs.Script.{IsInTurn, AreInTurn, opened, moment_after, most_of}
 use Rattle.sr_replay.specs.Runs.{Doing, Makes, Refuses, Run, world_of, attaching, losing, closing, ticking, Sending, made_by, to_be_read, frames_at, Acts, Runs}
-use Rattle.hd_runs.specs.Sides.{by, history, other}
-use Rattle.hd_runs.specs.Following.{Next, Follow, FollowUpTo}
-use Rattle.hd_runs.specs.Alone.{IsOfFrame, writing, piece_fed, feeding, reading}
-use Rattle.hd_runs.specs.Laws.{FedIsLent, FramesAreTaken}
+use Rattle.hd_delivery.specs.Sides.{by, history, other}
+use Rattle.hd_delivery.specs.Following.{Next, Follow, FollowUpTo}
+use Rattle.hd_delivery.specs.Alone.{IsOfFrame, writing, piece_fed, feeding, reading}
+use Rattle.hd_delivery.specs.AloneLaws.{FedIsLent, FramesAreTaken}
 use Rattle.sr_replay.specs.Laws.{IsWorldOf}
 use Rattle.sr_replay.proofs.Small.{both, take_prefix, take_few, next_piece}
 
@@ -76,7 +76,7 @@ Named most accepted Server l = accepted l
 
 module _ (limits : Limits) (wire : Wire) (t : Terms) where
   record Good (most : ℕ) (accepted : ℕ → Type 0) (now : ℕ) (w : List (Event ByteStep)) : Type 0 where
-    world : IsWorldOverBytes limits wire t w
+    world : IsWorldOverBytes (alike limits) wire t w
     named : (side : Side) (l : ℕ) → was_on l (frames_at wire t w side) ≡ true → Named most accepted side l
     in_time : (side : Side) → of.moment (frames_at wire t w side) ≤ now
 
@@ -94,7 +94,7 @@ module _ (limits : Limits) (wire : Wire) (t : Terms) where
       go None d f = absurd (cc)
       go (Some f) d g = let q : Does (Lent f) ≡ s = cc in subst (Plain c oc x y) q (record { allowed = d; names = λ l. refl; moves = refl; stands = refl })
 
-  took : (c oc : of.Config) (x y : List ByteStep) (shaken : Bool) (s : Step) → IsOfFrame shaken s → processes c (in_frames wire c x) ≡ Some s → Plain c oc x y (Does s)
+  took : (c oc : of.Config) (x y : List ByteStep) (shaken : Bool) (s : EndEvent) → IsOfFrame shaken s → processes c (in_frames wire c x) ≡ Some s → Plain c oc x y (Does s)
   took c oc x y shaken (Took got) is e = record { allowed = e; names = λ l. refl; moves = refl; stands = refl }
   took c oc x y shaken (Failed fault) is e = record { allowed = e; names = λ l. refl; moves = refl; stands = refl }
   took c oc x y shaken s is e = absurd is
@@ -147,7 +147,7 @@ module _ (limits : Limits) (wire : Wire) (t : Terms) where
         open_end true live f = absurd (cc)
         open_end false live f = on_link (present_link (in_frames wire c x)) refl live f
 
-        go : (o : Option Step) → processes c (in_frames wire c x) ≡ o
+        go : (o : Option EndEvent) → processes c (in_frames wire c x) ≡ o
             → first_of (option_map Does o) (if is_closed c (in_frames wire c x) then None else feeding limits wire c bytes x (present_link (in_frames wire c x))) ≡ Some s → Plain c oc x y s
         go None p f = open_end (is_closed c (in_frames wire c x)) refl f
         go (Some u) p f = let q : Does u ≡ s = cc in subst (Plain c oc x y) q (took c oc x y (is_shaken (in_frames wire c x)) u (taken c (in_frames wire c x) u p) p)
@@ -209,13 +209,13 @@ not_off true e = refl
 not_off false e = absurd (cc)
 
 -- an attach is refused, or allowed as far as the end's own state says
-attach_cases : (P : Doing → Type 0) (c : of.Config) (k : List Step) (l now : ℕ) → ((words : List ℕ) → P (Refuses words))
-    → (is_closed c k ≡ false → (first_link k ≡ None) ⊎ (is_kept c k ≡ true) → P (Makes (Does (Attached l now)))) → P (attaching c k l now)
+attach_cases : (P : Doing → Type 0) (c : of.Config) (k : List EndEvent) (l now : ℕ) → ((words : List ℕ) → P (Refuses words))
+    → (is_closed c k ≡ false → (first_link k ≡ None) ⊎ (is_resumable c k ≡ true) → P (Makes (Does (Attached l now)))) → P (attaching c k l now)
 attach_cases P c k l now refused attached = both P (is_closed c k) _ _ (λ e. refused _)
-    (λ e. both P (is_some (first_link k) && not (is_kept c k)) _ _ (λ f. refused _)
-    (λ f. attached e (⊎_elim (λ g. inl (no_link (first_link k) g)) (λ g. inr (not_off (is_kept c k) g)) (and_cases (is_some (first_link k)) (not (is_kept c k)) f))))
+    (λ e. both P (is_some (first_link k) && not (is_resumable c k)) _ _ (λ f. refused _)
+    (λ f. attached e (⊎_elim (λ g. inl (no_link (first_link k) g)) (λ g. inr (not_off (is_resumable c k) g)) (and_cases (is_some (first_link k)) (not (is_resumable c k)) f))))
 
-was_not : (l : ℕ) (k : List Step) → (was_on l k ≡ true → ⊥) → was_on l k ≡ false
+was_not : (l : ℕ) (k : List EndEvent) → (was_on l k ≡ true → ⊥) → was_on l k ≡ false
 was_not l k never = go (was_on l k) refl
   where
     go : (b : Bool) → was_on l k ≡ b → b ≡ false
@@ -226,9 +226,9 @@ module _ (worlds : WorldsAreHistories) (taken : FramesAreTaken) (fed_is_lent : F
   abbrev GoodFor : List Action → List (Event ByteStep) → Type 0
   GoodFor actions w = Good limits wire t (opened actions) (λ l. Contains actions (Accept l)) (moment_after actions) w
 
-  histories : (side : Side) (w : List (Event ByteStep)) → IsWorldOverBytes limits wire t w → IsHistory limits wire (config side t) (history side w)
-  histories Client w i = (worlds limits wire t w i).0
-  histories Server w i = (worlds limits wire t w i).1
+  histories : (side : Side) (w : List (Event ByteStep)) → IsWorldOverBytes (alike limits) wire t w → IsHistory limits wire (config side t) (history side w)
+  histories Client w i = (worlds (alike limits) wire t w i).0
+  histories Server w i = (worlds (alike limits) wire t w i).1
 
   -- links and moments as they were, for one action more
   widened : (a : Action) (before : List Action) (w : List (Event ByteStep)) → opened before ≤ opened (a ∷ before) → moment_after before ≤ moment_after (a ∷ before)
@@ -335,7 +335,7 @@ module _ (worlds : WorldsAreHistories) (taken : FramesAreTaken) (fed_is_lent : F
           (subst (IsHistory limits wire (config side t)) (own side ss (world_of r)) (histories side (After side ss (world_of r)) good.world))
           (λ l at. subst (λ y. IsPrefix (bytes_on l (ss ++ history side (world_of r))) (lent_bytes wire (config (other side) t) l y)) (others side ss (world_of r))
           (subst (λ x. IsPrefix (bytes_on l x) (lent_bytes wire (config (other side) t) l (history (other side) (After side ss (world_of r))))) (own side ss (world_of r))
-          (fed_is_lent limits wire t (After side ss (world_of r)) side l good.world)))
+          (fed_is_lent (alike limits) wire t (After side ss (world_of r)) side l good.world)))
           (λ l at. read_front side count (present_link (frames_at wire t (world_of r) side)) l (sym same ∙ at))
           s e) ss f).0
 
@@ -386,7 +386,7 @@ module _ (worlds : WorldsAreHistories) (taken : FramesAreTaken) (fed_is_lent : F
 
   good : (actions : List Action) (r : Run) → AreInTurn actions → Runs limits wire t actions r → GoodFor actions (world_of r)
   good [] r turns e = subst (λ r. GoodFor [] (world_of r)) (sym e) (record {
-    world = tt;
+    world = refl;
     named = pick (λ side. (l : ℕ) → was_on l (frames_at wire t [] side) ≡ true → Named 0 (λ l. Contains [] (Accept l)) side l) (λ l f. absurd (cc)) (λ l f. absurd (cc));
     in_time = pick (λ side. of.moment (frames_at wire t [] side) ≤ 0) (omega arith) (omega arith);
   })

@@ -11,12 +11,12 @@ use Rattle.hd_delivery.specs.OneHistory.{IsHistory}
 use Rattle.sr_script.specs.declared.action.Count.{Count}
 use Rattle.sr_script.specs.declared.action.Count.TheVariants.{UpTo, Everything}
 use Rattle.sr_replay.specs.declared.player.Player.{Player}
-use Rattle.hd_runs.specs.Laws.{LentComesLast, LentStays}
-use Rattle.hd_runs.specs.Following.{Next, Follow, FollowUpTo}
-use Rattle.hd_runs.specs.Alone.{writing}
+use Rattle.hd_delivery.specs.AloneLaws.{LentComesLast, LentStays}
+use Rattle.hd_delivery.specs.Following.{Next, Follow, FollowUpTo}
+use Rattle.hd_delivery.specs.Alone.{writing}
 use Rattle.hd_delivery.specs.declared.vocabulary.Side.{Side}
 use Rattle.sr_replay.specs.Plays.{Plays, limits_at, steps_text}
-use Rattle.hd_runs.specs.Alone.{lent_text}
+use Rattle.hd_delivery.specs.Alone.{lent_text}
 use Rattle.sr_replay.specs.Follows.{IsPlayed}
 use Rattle.sr_script.specs.Script.{most_of}
 

@@ -3,7 +3,7 @@ use Rattle.std.specs.Prelude.{◌≡◌, ◌≤◌, ℕ, Bool, true, false, List
 use Rattle.hd_delivery.specs.declared.vocabulary.Side.{Side}
 use Rattle.hd_delivery.specs.declared.vocabulary.Side.TheVariants.{Client, Server}
 use Rattle.hd_delivery.specs.Histories as of
-use Rattle.hd_delivery.specs.Histories.{Step, Attached, present_link, was_on, fed_frames, taken_count, is_closed}
+use Rattle.hd_delivery.specs.Histories.{EndEvent, Attached, present_link, was_on, fed_frames, taken_count, is_closed}
 use Rattle.hd_delivery.specs.Processes.{processes}
 use Rattle.hd_delivery.specs.Worlds.{Limits, Terms, config}
 use Rattle.hd_delivery.specs.Bytes.{Wire, ByteStep, Does, bytes_on, in_frames, lent_bytes}
@@ -11,11 +11,11 @@ use Rattle.sr_script.specs.declared.action.Action.{Action}
 use Rattle.sr_script.specs.declared.action.Action.TheVariants.{Call, Item, Done, Cancel, Round}
 use Rattle.sr_script.specs.Asking.{IsWhole}
 use Rattle.sr_replay.specs.declared.player.Player.{Player}
-use Rattle.sr_replay.specs.declared.pair.Lane.{Lane}
+use Rattle.sr_replay.specs.declared.pair.LinkBytes.{LinkBytes}
 use Rattle.sr_replay.specs.declared.pair.Pair.{Pair}
 use Rattle.sr_script.specs.Script.{opened, moment_after, IsInTurn, AreInTurn}
 use Rattle.sr_replay.specs.Runs.{Makes, Refuses, Run, Runs, Acts, attaching, world_of}
-use Rattle.hd_runs.specs.Sides.{history}
+use Rattle.hd_delivery.specs.Sides.{history}
 use Rattle.sr_replay.specs.Report.{run_text}
 use Rattle.sr_replay.specs.Plays.{Plays, limits_at}
 
@@ -37,19 +37,19 @@ pub record MayRead (wire : Wire) (c : of.Config) (h : List ByteStep) (l place : 
   pub within : length (bytes_on l h) ≤ length said
 
 -- whether the link is taken: its bytes are read from the first
-abbrev pub Tries : of.Config → List Step → ℕ → ℕ → Bool → ℕ → ℕ → Type 0
+abbrev pub Tries : of.Config → List EndEvent → ℕ → ℕ → Bool → ℕ → ℕ → Type 0
 Tries c k link now true before after = (attaching c k link now ≡ Makes (Does (Attached link now))) × (after ≡ 0)
 Tries c k link now false before after = (words : List ℕ) × ((attaching c k link now ≡ Refuses words) × (after ≡ before))
 
 -- ---- both ends
 
 -- what an end of this side said on the link
-abbrev pub said_by : Side → Lane → List ℕ
+abbrev pub said_by : Side → LinkBytes → List ℕ
 said_by Client lane = lane.to_server.items
 said_by Server lane = lane.to_client.items
 
 -- what is kept of a link: what both ends said there, and whether the client was there
-pub record IsLane (wire : Wire) (t : Terms) (c s : List ByteStep) (l : ℕ) (lane : Lane) : Type 0 where
+pub record IsLane (wire : Wire) (t : Terms) (c s : List ByteStep) (l : ℕ) (lane : LinkBytes) : Type 0 where
   pub to_server : lane.to_server.items ≡ lent_bytes wire (config Client t) l c
   pub to_client : lane.to_client.items ≡ lent_bytes wire (config Server t) l s
   pub was_opened : lane.opened ≡ was_on l (in_frames wire (config Client t) c)
@@ -59,7 +59,7 @@ pub record Holds (limits : Limits) (wire : Wire) (t : Terms) (actions : List Act
   pub client : IsPlayed limits wire (config Client t) p.client p.client_place c
   pub server : IsPlayed limits wire (config Server t) p.server p.server_place s
   pub links : length p.lanes.items ≡ opened actions
-  pub lanes : (l : ℕ) (lane : Lane) → slice_get p.lanes.items l ≡ Some lane → IsLane wire t c s l lane
+  pub lanes : (l : ℕ) (lane : LinkBytes) → slice_get p.lanes.items l ≡ Some lane → IsLane wire t c s l lane
   pub now : p.now ≡ moment_after actions
 
 -- after these actions the pair stands for their run, and its report is the text of it

@@ -4,7 +4,7 @@ use Rattle.hd_delivery.specs.declared.vocabulary.Side.{Side}
 use Rattle.hd_delivery.specs.declared.vocabulary.Side.TheVariants.{Client, Server}
 use Rattle.hd_delivery.specs.Histories as of
 use Rattle.hd_delivery.specs.Histories.{was_on}
-use Rattle.hd_delivery.specs.Worlds.{Limits, Terms, Event, config, client_of, server_of}
+use Rattle.hd_delivery.specs.Worlds.{alike, Limits, Terms, Event, config, client_of, server_of}
 use Rattle.hd_delivery.specs.Bytes.{Wire, IsSoundWire, ByteStep, IsWorldOverBytes}
 use Rattle.he_wire.specs.Wires.{IsHouseWire}
 use Rattle.he_end.specs.declared.end.End.{End}
@@ -24,7 +24,7 @@ RunsOnce = (limits : Limits) (wire : Wire) (t : Terms) (actions : List Action) (
 
 -- the two ends' world after these actions: its links are those that were opened and accepted, and no moment lies after theirs
 pub record IsWorldOf (limits : Limits) (wire : Wire) (t : Terms) (actions : List Action) (w : List (Event ByteStep)) : Type 0 where
-  pub world : IsWorldOverBytes limits wire t w
+  pub world : IsWorldOverBytes (alike limits) wire t w
   pub opened_links : (l : ℕ) → was_on l (frames_at wire t w Client) ≡ true → l < opened actions
   pub accepted_links : (l : ℕ) → was_on l (frames_at wire t w Server) ≡ true → Contains actions (Accept l)
   pub in_time : (side : Side) → of.moment (frames_at wire t w side) ≤ moment_after actions
@@ -45,6 +45,6 @@ ReportsHaveLines = (p : Program) (text : List ℕ) → IsReportOf p text → tex
 -- Where these ends stand for a script's run, the text of the run is the script's report over this project's wire.
 abbrev pub EndsReport : End → End → Type 0
 EndsReport client server = (wire : Wire) (text : List ℕ) (p : Program) (r : Run) → IsHouseWire (limits_in p.settings).frame wire → Parses text p
-    → limits_of client ≡ limits_in p.settings → Runs (limits_in p.settings) wire (terms_in p.settings) p.actions r
+    → limits_of client ≡ limits_in p.settings → limits_of server ≡ limits_in p.settings → Runs (limits_in p.settings) wire (terms_in p.settings) p.actions r
     → Stands wire (config Client (terms_in p.settings)) client (client_of (world_of r)) → Stands wire (config Server (terms_in p.settings)) server (server_of (world_of r))
     → IsReportOver wire p (report_text (terms_in p.settings) r)

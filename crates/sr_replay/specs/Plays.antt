@@ -9,7 +9,7 @@ use Rattle.he_end.specs.Stands.{Stands, limits_of}
 use Rattle.sr_script.specs.declared.action.Count.{Count}
 use Rattle.sr_script.specs.declared.action.Count.TheVariants.{UpTo, Everything}
 use Rattle.sr_replay.specs.declared.player.Player.{Player}
-use Rattle.hd_runs.specs.Following.{Next}
+use Rattle.hd_delivery.specs.Following.{Next}
 use Rattle.sr_replay.specs.Runs.{Makes}
 use Rattle.sr_replay.specs.Report.{doing_text}
 

@@ -3,19 +3,19 @@ use Rattle.std.specs.Prelude.{◌≡◌, ℕ, Bool, true, false, List, [], ◌�
 use Rattle.hd_facts.specs.Unique.{IsTheOne}
 use Rattle.hd_delivery.specs.declared.vocabulary.Side.{Side}
 use Rattle.hd_delivery.specs.declared.vocabulary.Side.TheVariants.{Client, Server}
-use Rattle.hd_delivery.specs.Histories.{Step}
-use Rattle.hd_delivery.specs.Worlds.{Terms, config, ByClient, ByServer}
+use Rattle.hd_delivery.specs.Histories.{EndEvent}
+use Rattle.hd_delivery.specs.Worlds.{alike, Terms, config, ByClient, ByServer}
 use Rattle.hd_delivery.specs.Bytes.{Wire, Does, bare_steps, IsWorldOverBytes, DeliveryOverBytes}
 use Rattle.he_wire.specs.Wires.{IsHouseWire}
 use Rattle.sr_script.specs.Script.{Program}
 use Rattle.sr_lines.specs.Lines.{line_at, step_text, standing_text}
 use Rattle.sr_replay.specs.Runs.{Doing, Makes, Refuses, Run, Runs, world_of}
-use Rattle.hd_runs.specs.Sides.{history}
+use Rattle.hd_delivery.specs.Sides.{history}
 use Rattle.sr_script.specs.Terms.{limits_in, peers_in, terms_in}
 use Rattle.sr_peers.specs.Report as of_peers
 
 -- the line of what an end did
-abbrev pub doing_text : Side → List Step → Doing → List ℕ
+abbrev pub doing_text : Side → List EndEvent → Doing → List ℕ
 doing_text side k (Makes (Does s)) = step_text side k s
 doing_text side k (Makes _) = []
 doing_text side k (Refuses words) = line_at side (codes "refused " ++ words)
@@ -37,7 +37,7 @@ report_text t r = run_text r ++ (standing_text Client (config Client t) (bare_st
 pub record IsReportOver (wire : Wire) (p : Program) (text : List ℕ) : Type 0 where
   pub run : Run
   pub runs : IsTheOne (Runs (limits_in p.settings) wire (terms_in p.settings) p.actions) run
-  pub world : IsWorldOverBytes (limits_in p.settings) wire (terms_in p.settings) (world_of run)
+  pub world : IsWorldOverBytes (alike (limits_in p.settings)) wire (terms_in p.settings) (world_of run)
   pub delivers : DeliveryOverBytes wire (terms_in p.settings) (world_of run)
   pub text_is : text ≡ report_text (terms_in p.settings) run
 

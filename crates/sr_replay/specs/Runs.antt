@@ -6,7 +6,7 @@ use Rattle.hd_delivery.specs.declared.vocabulary.Reason.TheVariants as reason
 use Rattle.hd_delivery.specs.declared.vocabulary.Side.{Side}
 use Rattle.hd_delivery.specs.declared.vocabulary.Side.TheVariants.{Client, Server}
 use Rattle.hd_delivery.specs.Histories as of
-use Rattle.hd_delivery.specs.Histories.{Step, Attached, Detached, Sent, Ticked, Silenced, Closed, present_link, was_on, first_link, codec_of, is_kept, is_closed, is_silence}
+use Rattle.hd_delivery.specs.Histories.{EndEvent, Attached, Detached, Sent, Ticked, Silenced, Closed, present_link, was_on, first_link, codec_of, is_resumable, is_closed, is_silence}
 use Rattle.hd_delivery.specs.Sending.{SendRefusal, IsRefusedToSend}
 use Rattle.hd_delivery.specs.Worlds.{Limits, MaySend, Terms, config, Event, ByClient, ByServer}
 use Rattle.hd_delivery.specs.Bytes.{Wire, sizes_of, ByteStep, Does, bytes_on, in_frames, lent_bytes}
@@ -16,9 +16,9 @@ use Rattle.sr_script.specs.declared.action.Action.{Action}
 use Rattle.sr_script.specs.declared.action.Action.TheVariants.{Open, Accept, Lose, Write, Read, Close, Send, Tick, Call, Item, Done, Cancel, Round}
 use Rattle.sr_lines.specs.Lines.{refusal_words}
 use Rattle.sr_script.specs.Script.{opened, moment_after, most_of}
-use Rattle.hd_runs.specs.Following.{FollowAll, FollowUpTo}
-use Rattle.hd_runs.specs.Sides.{by, history, other}
-use Rattle.hd_runs.specs.Alone.{writing, reading}
+use Rattle.hd_delivery.specs.Following.{FollowAll, FollowUpTo}
+use Rattle.hd_delivery.specs.Sides.{by, history, other}
+use Rattle.hd_delivery.specs.Alone.{writing, reading}
 
 -- ---- what one end does
 
@@ -46,25 +46,25 @@ world_of (ByClient (Refuses words) ∷ r) = world_of r
 world_of (ByServer (Refuses words) ∷ r) = world_of r
 
 -- an attach. A closed end refuses it, and so does an end that isn't kept and had a link before
-abbrev pub attaching : of.Config → List Step → ℕ → ℕ → Doing
+abbrev pub attaching : of.Config → List EndEvent → ℕ → ℕ → Doing
 attaching c k link now =
     if is_closed c k then Refuses (codes "Closed")
-    else (if is_some (first_link k) && not (is_kept c k) then Refuses (codes "NotGranted") else Makes (Does (Attached link now)))
+    else (if is_some (first_link k) && not (is_resumable c k) then Refuses (codes "NotGranted") else Makes (Does (Attached link now)))
 
 -- the loss of a link, if there is one
-abbrev pub losing : List Step → ℕ → List Doing
+abbrev pub losing : List EndEvent → ℕ → List Doing
 losing k now = if is_some (present_link k) then Makes (Does (Detached now)) ∷ [] else []
 
 -- a close, of an end that isn't closed
-abbrev pub closing : of.Config → List Step → List Doing
+abbrev pub closing : of.Config → List EndEvent → List Doing
 closing c k = if is_closed c k then [] else Makes (Does (Closed reason.Done false)) ∷ []
 
 -- a tick, which may be a silence
-abbrev pub ticking : of.Config → List Step → ℕ → Doing
+abbrev pub ticking : of.Config → List EndEvent → ℕ → Doing
 ticking c k now = Makes (Does (if is_silence c now k then Silenced now else Ticked now))
 
 -- a message is sent as the other end reads it, or refused
-abbrev pub Sending : Limits → Wire → of.Config → List Step → Message → Doing → Type 0
+abbrev pub Sending : Limits → Wire → of.Config → List EndEvent → Message → Doing → Type 0
 Sending limits wire c k m d =
     (MaySend limits (sizes_of wire) c k (said_again (codec_of c k) m) × (d ≡ Makes (Does (Sent (said_again (codec_of c k) m)))))
     ⊎ ((why : SendRefusal) × (IsRefusedToSend limits (sizes_of wire) c k (said_again (codec_of c k) m) why × (d ≡ Refuses (refusal_words why))))
@@ -87,7 +87,7 @@ to_be_read wire t w side count (Some link) =
     read_in_all count (length (bytes_on link (history side w))) (lent_bytes wire (config (other side) t) link (history (other side) w))
 
 -- the history of a side in frames
-abbrev pub frames_at : Wire → Terms → List (Event ByteStep) → Side → List Step
+abbrev pub frames_at : Wire → Terms → List (Event ByteStep) → Side → List EndEvent
 frames_at wire t w side = in_frames wire (config side t) (history side w)
 
 -- After these actions and their run the action makes this. No call goes between ends alone.

@@ -2,8 +2,9 @@
 
 ghost use Rattle.sr_replay.specs.Laws.{EndsReport, ReportsHaveLines, ReportsOnce, RunsAreWorlds, RunsOnce};
 
-use hd_delivery::{unread_grows, unread_is_bounded, worlds_are_histories};
-use hd_runs::{fed_is_lent, frames_are_taken};
+use hd_delivery::{
+    fed_is_lent, frames_are_taken, unread_grows, unread_is_bounded, worlds_are_histories,
+};
 use he_end::{End, ends_deliver};
 use he_wire::{has_wire, wire_is_sound};
 use sr_script::{scripts_are_in_turn, scripts_are_settled};

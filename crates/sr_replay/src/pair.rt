@@ -15,21 +15,21 @@ ghost use Rattle.sr_script.specs.declared.action.Action.TheVariants as action;
 ghost use Rattle.sr_script.specs.Script.{Program, Parses, opened, most_of};
 ghost use Rattle.sr_script.specs.Terms.{limits_in, terms_in};
 ghost use Rattle.sr_replay.specs.Runs.{Doing, Run, attaching, ticking, steps_of, Sending, read_in_all};
-ghost use Rattle.hd_runs.specs.Following.{FollowAll, FollowUpTo};
-ghost use Rattle.hd_runs.specs.Alone.{writing, reading};
-ghost use Rattle.hd_runs.specs.Sides.{other};
+ghost use Rattle.hd_delivery.specs.Following.{FollowAll, FollowUpTo};
+ghost use Rattle.hd_delivery.specs.Alone.{writing, reading};
+ghost use Rattle.hd_delivery.specs.Sides.{other};
 ghost use Rattle.sr_lines.specs.Lines.{standing_text};
 ghost use Rattle.sr_replay.specs.Report.{IsReportOver, doing_text, report_text};
 ghost use Rattle.sr_replay.specs.Plays.{Plays, OfEach, limits_at, steps_text};
-ghost use Rattle.hd_runs.specs.Alone.{lent_text};
+ghost use Rattle.hd_delivery.specs.Alone.{lent_text};
 ghost use Rattle.sr_replay.specs.Follows.{Follows, GoesOn, IsOfEnds, MayRead, Tries, said_by};
 ghost use Rattle.sr_peers.specs.Begun.{terms_of};
 
 use crate::laws::{ends_report, runs_are_worlds};
 use crate::player::Player;
-use hd_delivery::{Side, State, facts_hold, fed_is_unseen, unused_is_untouched};
-use hd_runs::{
-    fed_is_lent, frames_are_taken, lent_comes_last, lent_stays, taken_has_room, unused_is_empty,
+use hd_delivery::{
+    Side, State, facts_hold, fed_is_lent, fed_is_unseen, frames_are_taken, lent_comes_last,
+    lent_stays, taken_has_room, unused_is_empty, unused_is_untouched,
 };
 use he_end::{Config, SendError};
 use he_wire::wire_is_sound;
@@ -40,7 +40,7 @@ use std::alloc::{AllocError, Global};
 
 /// What both ends said on a link. A lost link keeps it.
 #[derive(Drop)]
-pub(crate) struct Lane {
+pub(crate) struct LinkBytes {
     to_server: Vec<u8>,
     to_client: Vec<u8>,
     // whether the client was there: it may have refused the link
@@ -56,7 +56,7 @@ pub(crate) struct Pair {
     client_place: usize,
     server_place: usize,
     // by the script's numbers of the links
-    lanes: Vec<Lane>,
+    lanes: Vec<LinkBytes>,
     // the latest moment, in milliseconds
     now: u64,
     report: Vec<u8>,
@@ -155,7 +155,12 @@ fn tick(player: &mut Player, side: Side, now: u64, report: &mut Vec<u8>) -> Resu
 }
 
 /// Writes on a link.
-fn write(player: &mut Player, side: Side, count: Count, lane: &mut Lane) -> Result<(), AllocError>
+fn write(
+    player: &mut Player,
+    side: Side,
+    count: Count,
+    lane: &mut LinkBytes,
+) -> Result<(), AllocError>
     ensures writes { OnOk result (OfEach player.old (λ wire c h. (ss : List ByteStep) × (FollowUpTo (most_of count) (writing wire c) h ss
         × Plays wire c player.new (ss ++ h) × (said_by side lane.new ≡ said_by side lane.old ++ lent_text wire c h ss)))) }
     ensures other { said_by (other side) lane.new ≡ said_by (other side) lane.old }
@@ -313,7 +318,7 @@ impl Pair {
             &mut self.client_place,
             &mut self.report,
         )?;
-        self.lanes.push(Lane {
+        self.lanes.push(LinkBytes {
             to_server: Vec::new(alloc),
             to_client: Vec::new(alloc),
             opened,

@@ -16,14 +16,15 @@ ghost use Rattle.he_end.specs.Words.{attach_words, send_words};
 ghost use Rattle.he_end.specs.declared.errors.SendError.TheVariants as send;
 ghost use Rattle.sr_replay.specs.Runs.{Makes, Refuses, attaching, losing, closing, steps_of};
 ghost use Rattle.sr_lines.specs.Lines.{refusal_words};
-ghost use Rattle.hd_runs.specs.Following.{FollowAll, FollowUpTo};
-ghost use Rattle.hd_runs.specs.Alone.{writing, reading, taking};
+ghost use Rattle.hd_delivery.specs.Following.{FollowAll, FollowUpTo};
+ghost use Rattle.hd_delivery.specs.Alone.{writing, reading, taking};
 ghost use Rattle.sr_replay.specs.Plays.{Plays, OfEach, Feeds, Goes, limits_at, most_steps, steps_text};
-ghost use Rattle.hd_runs.specs.Alone.{lent_text};
+ghost use Rattle.hd_delivery.specs.Alone.{lent_text};
 ghost use Rattle.sr_script.specs.Script.{most_of};
 
-use hd_delivery::{Reason, Side, State, facts_hold, fed_is_unseen};
-use hd_runs::{taken_has_room, takes_few, writes_few};
+use hd_delivery::{
+    Reason, Side, State, facts_hold, fed_is_unseen, taken_has_room, takes_few, writes_few,
+};
 use he_end::{AttachError, Config, End, NextError, SendError};
 use he_wire::wire_is_sound;
 use hm_message::Message;

@@ -14,7 +14,7 @@ use Rattle.hd_delivery.specs.declared.vocabulary.Side.{Side}
 use Rattle.hd_delivery.specs.declared.vocabulary.Side.TheVariants.{Client, Server}
 use Rattle.hd_delivery.specs.Worlds.{Limits}
 use Rattle.hd_facts.specs.Unique.{IsTheOne}
-use Rattle.hq_resend.specs.Bounds.{AreLimits}
+use Rattle.hd_delivery.specs.Bounds.{AreLimits}
 use Rattle.hs_shake.specs.Requests.{IsVersion}
 use Rattle.sr_script.specs.declared.action.Setting.{Setting}
 use Rattle.sr_script.specs.declared.action.Setting.TheVariants as setting

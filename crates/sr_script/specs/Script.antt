@@ -12,7 +12,7 @@ use Rattle.hv_json.specs.Reading.{reading}
 use Rattle.hd_calls.specs.declared.vocabulary.CallKind.{CallKind}
 use Rattle.hd_calls.specs.declared.vocabulary.CallKind.TheVariants as kind
 use Rattle.hs_shake.specs.Requests.{IsVersion}
-use Rattle.hq_resend.specs.Bounds.{AreLimits}
+use Rattle.hd_delivery.specs.Bounds.{AreLimits}
 use Rattle.hd_delivery.specs.declared.vocabulary.Side.{Side}
 use Rattle.hd_delivery.specs.declared.vocabulary.Side.TheVariants.{Client, Server}
 use Rattle.sr_script.specs.declared.action.Setting.{Setting}

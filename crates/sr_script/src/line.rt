@@ -7,7 +7,7 @@ ghost use Rattle.hm_message.specs.declared.message.Message.{Message};
 ghost use Rattle.hm_message.specs.Message.{Fits, is_sequenced};
 ghost use Rattle.hm_json.specs.Says.{Says};
 ghost use Rattle.hd_delivery.specs.Worlds.{Limits};
-ghost use Rattle.hq_resend.specs.Bounds.{AreLimits};
+ghost use Rattle.hd_delivery.specs.Bounds.{AreLimits};
 ghost use Rattle.hs_shake.specs.Requests.{IsVersion};
 ghost use Rattle.hd_facts.specs.Unique.{IsTheOne};
 ghost use Rattle.sr_script.specs.declared.action.Setting.{Setting};

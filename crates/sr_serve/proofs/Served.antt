@@ -2,16 +2,16 @@
 use Rattle.std.proofs.Common.{◌≡◌, ◌⊎◌, ◌≤◌, ℕ, List, [], ◌∷◌, ◌++◌, take, refl, sym, arith, inl, inr, ⊎_elim, Option, Some, None, is_some, IfSome, subst, option_map, Err}
 use Rattle.std.specs.Io.KnownBytes.{Appends}
 use Rattle.hd_facts.specs.Counts.{Rose}
-use Rattle.hd_server.specs.declared.vocabulary.Asked.{Asked}
-use Rattle.hd_server.specs.declared.vocabulary.Asked.TheVariants as ask
-use Rattle.hd_server.specs.Kept.{Content, row_count}
+use Rattle.hd_rooms.specs.declared.vocabulary.Asked.{Asked}
+use Rattle.hd_rooms.specs.declared.vocabulary.Asked.TheVariants as ask
+use Rattle.hd_rooms.specs.Kept.{Content, row_count}
 use Rattle.hd_delivery.specs.Bytes.{HoldsOverBytes}
-use Rattle.hd_serving.specs.Doings.{Doing}
-use Rattle.hd_serving.specs.Laws.{ServersArePeers}
-use Rattle.hd_serving.specs.Plans.{Setup}
-use Rattle.hd_serving.specs.Serving.{ServesOn}
-use Rattle.hub_serve.specs.declared.hub.ServeJob.{ServeJob}
-use Rattle.hub_serve.specs.Serving.{serve_hub}
+use Rattle.hd_server.specs.Doings.{ServerEvent}
+use Rattle.hd_server.specs.Laws.{ServersArePeers}
+use Rattle.hd_server.specs.Plans.{Setup}
+use Rattle.hd_server.specs.Serving.{ServesOn}
+use Rattle.hub_demo.specs.declared.hub.ServeJob.{ServeJob}
+use Rattle.hub_demo.specs.Serving.{serve_hub}
 use Rattle.hub_server.specs.declared.server.Server.{Server}
 use Rattle.hub_server.specs.Servers.{IsSetup}
 use Rattle.hub_server.specs.declared.serving.ServeFault.{ServeFault}

@@ -3,18 +3,18 @@ use Rattle.std.specs.Prelude.{◌≡◌, ◌⊎◌, ◌≤◌, ℕ, List, [], �
 use Rattle.std.specs.Fmt.{decimal}
 use Rattle.std.specs.Io.KnownBytes.{Appends}
 use Rattle.hd_facts.specs.Counts.{Rose}
-use Rattle.hd_server.specs.declared.vocabulary.Asked.{Asked}
-use Rattle.hd_server.specs.declared.vocabulary.Asked.TheVariants as ask
-use Rattle.hd_server.specs.Kept.{Content, row_count}
+use Rattle.hd_rooms.specs.declared.vocabulary.Asked.{Asked}
+use Rattle.hd_rooms.specs.declared.vocabulary.Asked.TheVariants as ask
+use Rattle.hd_rooms.specs.Kept.{Content, row_count}
 use Rattle.hk_keeper.specs.declared.keeper.KeepError.{KeepError}
 use Rattle.hk_keeper.specs.declared.keeper.KeepError.TheVariants as keep
 use Rattle.hw_door.specs.declared.heard.Given.{Given}
 use Rattle.hw_door.specs.declared.heard.Heard.{Heard}
 use Rattle.hw_door.specs.Calls.{Told}
-use Rattle.hd_serving.specs.Doings.{Doing, moment}
-use Rattle.hd_serving.specs.Plans.{Setup}
-use Rattle.hd_serving.specs.Serving.{ServesOn}
-use Rattle.hub_serve.specs.Serving.{serve_hub}
+use Rattle.hd_server.specs.Doings.{ServerEvent, moment}
+use Rattle.hd_server.specs.Plans.{Setup}
+use Rattle.hd_server.specs.Serving.{ServesOn}
+use Rattle.hub_demo.specs.Serving.{serve_hub}
 use Rattle.hub_server.specs.declared.serving.ServeFault.{ServeFault}
 use Rattle.hub_server.specs.declared.serving.ServeFault.TheVariants as fault
 use Rattle.hub_server.specs.Servers.{IsSetup}
@@ -50,13 +50,13 @@ counted rows a = record a { answers = option_map (λ (asks : List Asked). asks +
 -- ---- what is served
 
 -- all was answered: the keeper and the lots went on as this history tells, each connection is a side that delivers
-pub record IsServed (at since : Around) (last : ℕ) (h : List Doing) : Type 0 where
+pub record IsServed (at since : Around) (last : ℕ) (h : List ServerEvent) : Type 0 where
   pub went : Went at since [] h
   pub timely : moment h ≤ last
   pub sides : AreSides serve_hub h
 
 -- memory ran out in the middle of an event: so it was at some moment before, and what was asked and drawn since isn't told
-pub record IsCut (at : Around) (last : ℕ) (h : List Doing) : Type 0 where
+pub record IsCut (at : Around) (last : ℕ) (h : List ServerEvent) : Type 0 where
   pub until : Around
   pub served : IsServed at until last h
 

@@ -8,7 +8,7 @@ ghost use Rattle.sr_serve.specs.Serving.{Ends, outside, serving_line, error_of_k
 ghost use Rattle.sr_serve.specs.declared.serving.ServeError.TheVariants as end;
 
 use hk_keeper::{KeepError, Keeper};
-use hub_serve::{ServeHub, ServeJob};
+use hub_demo::{ServeHub, ServeJob};
 use hub_server::{ServeFault, Server, serve};
 use hv_value::Text;
 use hw_door::{Door, Lots};
@@ -105,7 +105,7 @@ pub fn serve_hub<K: Sink, D: Door, R: Keeper, L: Lots>(
     ensures no_memory { result ≡ Err end.NoMemory → (out.new ≡ out.old) ⊎ ((rows : ℕ) × Appends (K.holds out.old) (K.holds out.new) (serving_line rows)) }
     ensures unheard { (result ≡ Err end.Keeper) ⊎ (result ≡ Err end.Write) → (door.new ≡ door.old) × (lots.new ≡ lots.old) }
 {
-    hd_serving::servers_are_peers::<ServeJob>();
+    hd_server::servers_are_peers::<ServeJob>();
     hd_delivery::delivery_over_bytes();
     let rows = keeper.rows()?;
     let mut server = Server::start(alloc, base)?;

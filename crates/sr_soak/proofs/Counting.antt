@@ -1,7 +1,7 @@
 -- Each call that has an id has ended or is live.
 use Rattle.std.proofs.Common.{◌≡◌, ℕ, zero, suc, ◌<◌, ◌≤◌, Bool, true, false, List, refl, ap, ◌∙◌, arith}
 use Rattle.std.specs.Prelude.{◌+◌, ◌&&◌, ◌||◌, not, if◌then◌else◌}
-use Rattle.hd_calls.specs.Peers.{Move, drawn, call_of, given, lost, has_end, has_id}
+use Rattle.hd_calls.specs.Peers.{PeerEvent, drawn, call_of, given, lost, has_end, has_id}
 use Rattle.hd_calls.specs.Rules.{count_below, sum_below}
 use Rattle.sr_soak.specs.Counts.{calls_in, endings_in, live_in}
 
@@ -19,7 +19,7 @@ count_split zero p e l = refl
 count_split (suc n) p e l = one_split (p n) (e n) (l n) (count_below n p) (count_below n (λ k. p k && (e k || l k)))
     (count_below n (λ k. p k && (not (e k) && not (l k)))) (count_split n p e l)
 
-pub ended_or_live : (h : List Move) → calls_in h ≡ endings_in h + live_in h
+pub ended_or_live : (h : List PeerEvent) → calls_in h ≡ endings_in h + live_in h
 ended_or_live h = count_split (suc (drawn h)) (λ n. has_id (call_of n h)) (λ n. has_end (given n h)) (λ n. lost n h)
 
 -- all numbers but 0 pass

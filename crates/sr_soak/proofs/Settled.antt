@@ -3,7 +3,7 @@ use Rattle.std.proofs.Common.{◌≡◌, List, arith}
 use Rattle.std.specs.Prelude.{◌+◌}
 use Rattle.hd_delivery.specs.declared.vocabulary.Side.{Side}
 use Rattle.hd_delivery.specs.declared.vocabulary.Side.TheVariants.{Client, Server}
-use Rattle.hd_runs.specs.Sides.{history}
+use Rattle.hd_delivery.specs.Sides.{history}
 use Rattle.hd_calls.specs.Peers.{drawn}
 use Rattle.hd_calls.specs.PeerWorlds.{Pair, settings}
 use Rattle.hd_calls.specs.Rules.{own_live}

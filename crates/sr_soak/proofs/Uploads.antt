@@ -5,12 +5,12 @@ use Rattle.std.proofs.lemmas.List.Elements.{All-nil, All-cons, All-head, All-tai
 use Rattle.hv_value.specs.Tree.{Tree}
 use Rattle.hd_delivery.specs.declared.vocabulary.Side.{Side}
 use Rattle.hd_delivery.specs.declared.vocabulary.Side.TheVariants.{Client, Server}
-use Rattle.hd_delivery.specs.Histories.{present_link, first_link, is_kept, was_on}
+use Rattle.hd_delivery.specs.Histories.{present_link, first_link, is_resumable, was_on}
 use Rattle.hd_delivery.specs.Worlds.{Event, ByClient, ByServer, client_of, server_of}
 use Rattle.hd_delivery.specs.Bytes.{ByteStep}
-use Rattle.hd_runs.specs.Sides.{by, history}
+use Rattle.hd_delivery.specs.Sides.{by, history}
 use Rattle.hd_calls.specs.declared.vocabulary.CallKind.{CallKind}
-use Rattle.hd_calls.specs.Peers.{Move, Plain, Calls, Runs, Refuses, Rounds, Settings, drawn, steps, is_shut}
+use Rattle.hd_calls.specs.Peers.{PeerEvent, Plain, Calls, Runs, Refuses, Rounds, Settings, drawn, steps, is_shut}
 use Rattle.hd_calls.specs.PeerWorlds.{Pair, settings}
 use Rattle.hd_calls.specs.Rules.{CallRefusal, IsRefusedCall}
 use Rattle.hi_calls.specs.Numbering.{number_after}
@@ -29,20 +29,20 @@ use Rattle.sr_soak.proofs.Numbered.{IsBare, AreBare}
 
 -- ---- moves
 
-chain_bare : (next : List Move → Option Move → Type 0) → ((k : List Move) (d : Move) → next k (Some d) → IsBare d)
-    → (h ds : List Move) → Chain next h ds → AreBare ds
+chain_bare : (next : List PeerEvent → Option PeerEvent → Type 0) → ((k : List PeerEvent) (d : PeerEvent) → next k (Some d) → IsBare d)
+    → (h ds : List PeerEvent) → Chain next h ds → AreBare ds
 chain_bare next each h [] chain = All-nil IsBare
 chain_bare next each h (d ∷ ds) chain = All-cons IsBare d ds (each (ds ++ h) d chain.1) (chain_bare next each h ds chain.0)
 
-losing_bare : (t : Settings) (k : List Move) (d : Move) → Losing t k (Some d) → IsBare d
+losing_bare : (t : Settings) (k : List PeerEvent) (d : PeerEvent) → Losing t k (Some d) → IsBare d
 losing_bare t k (Calls a n c) next = absurd next
 losing_bare t k d next = tt
 
-reading_bare : (t : Settings) (now : ℕ) (bytes : List ℕ) (k : List Move) (d : Move) → Reading t now bytes k (Some d) → IsBare d
+reading_bare : (t : Settings) (now : ℕ) (bytes : List ℕ) (k : List PeerEvent) (d : PeerEvent) → Reading t now bytes k (Some d) → IsBare d
 reading_bare t now bytes k (Calls a n c) next = absurd next
 reading_bare t now bytes k d next = tt
 
-turns_bare : (now : ℕ) (ds : List Move) → AreTurns now ds → AreBare ds
+turns_bare : (now : ℕ) (ds : List PeerEvent) → AreTurns now ds → AreBare ds
 turns_bare now [] are = All-nil IsBare
 turns_bare now (Runs j c since turn what ∷ ds) are = All-cons IsBare (Runs j c since turn what) ds tt (turns_bare now ds are.2)
 turns_bare now (Calls (Some j) n c ∷ ds) are = All-cons IsBare (Calls (Some j) n c) ds tt (turns_bare now ds are)
@@ -52,7 +52,7 @@ turns_bare now (_ ∷ ds) are = absurd are
 lifted_bare : (ss : List ByteStep) → AreBare (lifted ss)
 lifted_bare ss = All-map IsBare (λ s. Plain s) ss (λ k d l. tt)
 
-with_losses_bare : (t : Settings) (h ds new : List Move) → AreBare ds → WithLosses t h ds new → AreBare new
+with_losses_bare : (t : Settings) (h ds new : List PeerEvent) → AreBare ds → WithLosses t h ds new → AreBare new
 with_losses_bare t h ds new bare lost =
     All-same IsBare new (lost.0 ++ ds) lost.1.1 (All-append IsBare lost.0 ds (chain_bare (Losing t) (losing_bare t) (ds ++ h) lost.0 lost.1.0.0) bare)
 
@@ -63,17 +63,17 @@ either : {A : Type 0} (P : A → Type 0) (b : Bool) (x y : A) → P x → P y �
 either P true x y f g = f
 either P false x y f g = g
 
-leaving_bare : (t : Settings) (h : List Move) (now : ℕ) → AreBare (leaving t h now)
+leaving_bare : (t : Settings) (h : List PeerEvent) (now : ℕ) → AreBare (leaving t h now)
 leaving_bare t h now = either AreBare (is_some (present_link (steps t h))) _ [] (plain_bare _) (All-nil IsBare)
 
-closing_bare : (t : Settings) (h : List Move) → AreBare (closing t h)
+closing_bare : (t : Settings) (h : List PeerEvent) → AreBare (closing t h)
 closing_bare t h = either AreBare (is_shut t h) [] _ (All-nil IsBare) (plain_bare _)
 
-reads_bare : (t : Settings) (h : List Move) (now : ℕ) (bytes : List ℕ) (new : List Move) → ReadsTo t h now bytes new → AreBare new
+reads_bare : (t : Settings) (h : List PeerEvent) (now : ℕ) (bytes : List ℕ) (new : List PeerEvent) → ReadsTo t h now bytes new → AreBare new
 reads_bare t h now bytes new reads =
     with_losses_bare t h reads.0 new (chain_bare (Reading t now bytes) (reading_bare t now bytes) h reads.0 reads.1.0.0) reads.1.1
 
-round_bare : (t : Settings) (h : List Move) (now : ℕ) (ds : List Move) → IsRound t h now ds → AreBare ds
+round_bare : (t : Settings) (h : List PeerEvent) (now : ℕ) (ds : List PeerEvent) → IsRound t h now ds → AreBare ds
 round_bare t h now ds round = All-same IsBare ds (round.turns ++ Rounds ∷ []) round.is
     (All-append IsBare round.turns (Rounds ∷ []) (turns_bare now round.turns round.are_turns) (All-cons IsBare Rounds [] tt (All-nil IsBare)))
 
@@ -91,9 +91,9 @@ IsBareEvent (ByServer did) = IsBareDoing did
 abbrev pub IsBareRun : Run → Type 0
 IsBareRun r = All IsBareEvent r
 
-attaching_bare : (t : Settings) (h : List Move) (link now : ℕ) → IsBareDoing (attaching t h link now)
+attaching_bare : (t : Settings) (h : List PeerEvent) (link now : ℕ) → IsBareDoing (attaching t h link now)
 attaching_bare t h link now = either IsBareDoing (is_shut t h) _ _ tt
-    (either IsBareDoing (is_some (first_link (steps t h)) && not (is_kept t.config (steps t h))) _ _ tt tt)
+    (either IsBareDoing (is_some (first_link (steps t h)) && not (is_resumable t.config (steps t h))) _ _ tt tt)
 
 event_bare : (side : Side) (did : Doing) → IsBareDoing did → IsBareEvent (by side did)
 event_bare Client did bare = bare
@@ -102,12 +102,12 @@ event_bare Server did bare = bare
 one_bare : (side : Side) (did : Doing) → IsBareDoing did → IsBareRun (by side did ∷ [])
 one_bare side did bare = All-cons IsBareEvent (by side did) [] (event_bare side did bare) (All-nil IsBareEvent)
 
-moves_bare : (side : Side) (ds : List Move) → AreBare ds → IsBareRun (map (by side) (made ds))
+moves_bare : (side : Side) (ds : List PeerEvent) → AreBare ds → IsBareRun (map (by side) (made ds))
 moves_bare Client ds bare = All-map IsBareEvent (by Client) (made ds) (All-map IsBareDoing (λ d. Makes d) ds bare)
 moves_bare Server ds bare = All-map IsBareEvent (by Server) (made ds) (All-map IsBareDoing (λ d. Makes d) ds bare)
 
 -- what is done in place of a move is no call
-done_bare : (d : Move) (Refused : CallRefusal → Type 0) (did : Doing) → IsBare d → IsDone d Refused did → IsBareDoing did
+done_bare : (d : PeerEvent) (Refused : CallRefusal → Type 0) (did : Doing) → IsBare d → IsDone d Refused did → IsBareDoing did
 done_bare d Refused did bare done =
     ⊎_elim (λ e. subst IsBareDoing (sym e) bare) (λ e. subst IsBareDoing (sym e.1.1) tt) done
 
@@ -129,17 +129,17 @@ run_bare Server (ByClient (does.Refuses words) ∷ r) bare = run_bare Server r (
 -- ---- actions
 
 module _ (p : Pair) (r : Run) where
-  made_bare : (side : Side) (Holds : Settings → List Move → List Move → Type 0) (new : Run)
-      → ((ds : List Move) → Holds (settings side p) (history side (world_of r)) ds → AreBare ds) → MadeAt p r side Holds new → IsBareRun new
+  made_bare : (side : Side) (Holds : Settings → List PeerEvent → List PeerEvent → Type 0) (new : Run)
+      → ((ds : List PeerEvent) → Holds (settings side p) (history side (world_of r)) ds → AreBare ds) → MadeAt p r side Holds new → IsBareRun new
   made_bare side Holds new each moves =
       All-same IsBareEvent new (map (by side) (made moves.0)) moves.1.1 (moves_bare side moves.0 (each moves.0 moves.1.0))
 
-  did_bare : (side : Side) (Holds : Settings → List Move → Doing → Type 0) (new : Run)
+  did_bare : (side : Side) (Holds : Settings → List PeerEvent → Doing → Type 0) (new : Run)
       → ((did : Doing) → Holds (settings side p) (history side (world_of r)) did → IsBareDoing did) → DoneAt p r side Holds new → IsBareRun new
   did_bare side Holds new each done =
       All-same IsBareEvent new (by side done.0 ∷ []) done.1.1 (one_bare side done.0 (each done.0 done.1.0))
 
-  losses_bare : (side : Side) (moves : Settings → List Move → List Move) (new : Run)
+  losses_bare : (side : Side) (moves : Settings → List PeerEvent → List PeerEvent) (new : Run)
       → AreBare (moves (settings side p) (history side (world_of r))) → MadeAt p r side (λ t h ds. WithLosses t h (moves t h) ds) new → IsBareRun new
   losses_bare side moves new bare = made_bare side (λ t h ds. WithLosses t h (moves t h) ds) new
       (λ ds. with_losses_bare (settings side p) (history side (world_of r)) (moves (settings side p) (history side (world_of r))) ds bare)
@@ -155,7 +155,7 @@ module _ (p : Pair) (r : Run) where
   asks_bare side kind target arguments uploads did none asks =
       let t = settings side p in
       let h = history side (world_of r) in
-      let call : ℕ → Move = λ u. Calls None (number_after kind u (drawn h)) (heard_call t h kind target arguments u) in
+      let call : ℕ → PeerEvent = λ u. Calls None (number_after kind u (drawn h)) (heard_call t h kind target arguments u) in
       let none_with : (heard_call t h kind target arguments uploads).streams ≡ [] = ap (λ u. (heard_call t h kind target arguments u).streams) none in
       done_bare (call uploads) (IsRefusedCall t h (heard_call t h kind target arguments uploads)) did none_with asks
 

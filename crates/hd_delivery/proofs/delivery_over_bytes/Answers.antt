@@ -4,6 +4,7 @@ use Rattle.hd_delivery.specs.Histories.{sent_messages}
 use Rattle.hd_delivery.specs.Worlds.{client_of, server_of}
 use Rattle.hd_delivery.specs.Bytes.{client_in_frames, server_in_frames}
 use Rattle.hd_delivery.proofs.Final.{delivery_holds}
+use Rattle.hd_delivery.proofs.OwnLimits.{one_frame}
 use Rattle.hd_delivery.proofs.OverBytes.{together_over_bytes, still_in_frames}
 use Rattle.hd_delivery.proofs.delivery_over_bytes.Goals as goal
 
@@ -11,8 +12,9 @@ pub returns : goal.returns
 returns c limits wire terms w law world =
     let by_client = sent_messages (client_in_frames wire terms w) in
     let by_server = sent_messages (server_in_frames wire terms w) in
-    let t = together_over_bytes limits wire terms (by_client ++ by_server) law w (λ m e. Contains-append_left by_client by_server m e) (λ m e. Contains-append_right by_client by_server m e) world in
+    let frame = one_frame limits wire terms w world in
+    let t = together_over_bytes limits wire terms (by_client ++ by_server) law frame w (λ m e. Contains-append_left by_client by_server m e) (λ m e. Contains-append_right by_client by_server m e) world in
     record {
       holds = delivery_holds terms (client_in_frames wire terms w) (server_in_frames wire terms w) t.together;
-      still = still_in_frames limits wire terms (by_client ++ by_server) law (client_of w) (server_of w) t;
+      still = still_in_frames limits wire terms (by_client ++ by_server) law frame (client_of w) (server_of w) t;
     }

@@ -14,12 +14,12 @@ returns g c hc hs p w apart base client server q =
     let t = p.terms in
     let x = client_is p w in
     let y = server_is p w in
-    let by_client = subst (λ s. AreReadAsSent p.limits p.wire (config Client t) (in_frames p.wire (config Client t) s)) (sym x) client in
-    let by_server = subst (λ s. AreReadAsSent p.limits p.wire (config Server t) (in_frames p.wire (config Server t) s)) (sym y) server in
+    let by_client = subst (λ s. AreReadAsSent (p.limits Client) p.wire (config Client t) (in_frames p.wire (config Client t) s)) (sym x) client in
+    let by_server = subst (λ s. AreReadAsSent (p.limits Server) p.wire (config Server t) (in_frames p.wire (config Server t) s)) (sym y) server in
     let read = c.all_is_read.ensures p.limits p.wire t (ends p w) base by_client by_server q.is_world in (
       c.delivery_as_sent.ensures p.limits p.wire t (ends p w) base by_client by_server q.is_world,
       c.calls_once.ensures hc hs p w apart
-          (subst (λ s. IsFaithful p.limits p.wire t.codec t.version (sent_messages (in_frames p.wire (config Client t) s) ++ sent_messages (steps (settings Server p) (server_of w)))) x
-          (subst (λ s. IsFaithful p.limits p.wire t.codec t.version (sent_messages (client_in_frames p.wire t (ends p w)) ++ sent_messages (in_frames p.wire (config Server t) s))) y read))
+          (subst (λ s. IsFaithful (p.limits Client) p.wire t.codec t.version (sent_messages (in_frames p.wire (config Client t) s) ++ sent_messages (steps (settings Server p) (server_of w)))) x
+          (subst (λ s. IsFaithful (p.limits Client) p.wire t.codec t.version (sent_messages (client_in_frames p.wire t (ends p w)) ++ sent_messages (in_frames p.wire (config Server t) s))) y read))
           q,
     )

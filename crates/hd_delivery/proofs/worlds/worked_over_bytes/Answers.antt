@@ -1,6 +1,6 @@
 use Rattle.std.proofs.Common.{refl}
 use Rattle.hm_message.specs.declared.message.Codec.TheVariants.{Json, Pack}
-use Rattle.hd_delivery.proofs.ExamplesOverBytes.{four_is_faithful, four_is_sound, bytewise_is_world, unread_nine_is_world}
+use Rattle.hd_delivery.proofs.ExamplesOverBytes.{four_is_faithful, four_is_sound, bytewise_is_world, unread_nine_is_world, own_limits_is_world}
 use Rattle.hd_delivery.specs.Examples.{usual}
 use Rattle.hd_delivery.proofs.worlds.worked_over_bytes.Goals as goal
 
@@ -18,3 +18,6 @@ returns-clause-unread_nine c = record { is_world = unread_nine_is_world; at_clie
 
 pub returns-clause-sound : goal.returns-clause-sound
 returns-clause-sound c = four_is_sound usual
+
+pub returns-clause-own_limits : goal.returns-clause-own_limits
+returns-clause-own_limits c = record { is_world = own_limits_is_world; at_client = refl; at_server = refl }

@@ -1,6 +1,6 @@
 use Rattle.std.proofs.Common.{rules, ◌≡◌, sym, ◌∙◌}
 use Rattle.std.specs.Prelude.{count_by}
-use Rattle.hd_server.specs.Kept.{is_of_room}
+use Rattle.hd_rooms.specs.Kept.{is_of_room}
 use Rattle.hk_keeper.proofs.Texts.{texts_count}
 use Rattle.hk_keeper.proofs.reading.count_of.Goals as goal
 

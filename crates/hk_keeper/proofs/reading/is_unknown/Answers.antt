@@ -1,5 +1,5 @@
 use Rattle.std.proofs.Common.{not, ℕ, List, ◌∙◌, ap}
-use Rattle.hd_server.specs.Kept.{has_token}
+use Rattle.hd_rooms.specs.Kept.{has_token}
 use Rattle.hk_keeper.proofs.Users.{none_passes}
 use Rattle.hk_keeper.proofs.reading.is_unknown.Goals as goal
 

@@ -1,5 +1,5 @@
 use Rattle.std.proofs.Common.{◌≡◌, take, drop, length, min}
-use Rattle.hd_server.specs.Kept.{texts_of_room}
+use Rattle.hd_rooms.specs.Kept.{texts_of_room}
 use Rattle.hk_keeper.proofs.reading.texts_past.Given as goal
 
 abbrev pub invariant-loop-row : goal.invariant-loop-row

@@ -12,5 +12,5 @@ returns c =
     let none : drop c.loop-key.key-index xs ≡ [] = drop_all c.loop-key.key-index xs c.loop-key-test.false in
     let found : all_headers (pairs (entries xs)) ≡ Some c.loop-key.pairs.items = sym (rw none at c.loop-key.invariant) ∙ ap Some (append-nil c.loop-key.pairs.items) in
     let here = rw c.pairs-key-items.ensures.pairs at found in
-    let kept = c.in_ok-of.ensures.kept (IsHeaders-all_headers c.in-Map.entries c.loop-key.pairs.items c.pairs.ensures.in_order here) in
+    let kept = c.in_ok-of.ensures.unchanged (IsHeaders-all_headers c.in-Map.entries c.loop-key.pairs.items c.pairs.ensures.in_order here) in
     rw (c.in-Map.is, kept, here) refl

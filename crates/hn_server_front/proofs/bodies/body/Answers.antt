@@ -1,7 +1,7 @@
 use Rattle.std.proofs.Common.{◌≡◌, ◌∙◌, ap, sym}
 use Rattle.std.specs.Fmt.{decimal}
 use Rattle.std.proofs.lemmas.List.Elements.{same_from_all_zip}
-use Rattle.hd_serving.specs.Texts.{reconnect_text}
+use Rattle.hd_server.specs.Texts.{reconnect_text}
 use Rattle.hn_server_front.proofs.Pieces.{front_of, pieces_of, body_for-pieces}
 use Rattle.hn_server_front.proofs.bodies.body.Goals as goal
 use Rattle.hn_server_front.proofs.bodies.body.Goals.{in-All, in-Sockets, then-reconnect, else-reconnect}

@@ -2,7 +2,7 @@ use Rattle.std.proofs.Common.{rules, tests, sym, ◌≡◌, ◌∙◌, true}
 use Rattle.std.specs.List.{list_all}
 use Rattle.std.proofs.lemmas.Iterator.{YieldsList-from_slice}
 use Rattle.std.proofs.lemmas.Iterator.Search.{all_from_yields_List}
-use Rattle.hd_serving.specs.Table.{is_digit}
+use Rattle.hd_server.specs.Table.{is_digit}
 use Rattle.hn_server_front.proofs.Versions.{digits_are_text, version_read, version_unread}
 use Rattle.hn_server_front.proofs.route.is_a_version.Goals as goal
 

@@ -1,7 +1,7 @@
 use Rattle.std.proofs.Common.{ℕ, List}
 use Rattle.hv_value.specs.View.{trees_of}
-use Rattle.hd_server.specs.declared.vocabulary.RoomsMethod.TheVariants.{Join, Leave, History}
-use Rattle.hd_server.specs.Rooms.{deeds_of}
+use Rattle.hd_rooms.specs.declared.vocabulary.RoomsMethod.TheVariants.{Join, Leave, History}
+use Rattle.hd_rooms.specs.Rooms.{deeds_of}
 use Rattle.hub_rooms.proofs.Methods.{for_one}
 use Rattle.hub_rooms.proofs.deeds.deeds_for.Goals as goal
 

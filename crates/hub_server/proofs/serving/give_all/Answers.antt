@@ -30,7 +30,7 @@ loop-word-preserved g c = record {
       gives_more (g.D.Door.told c.args.door.now) (g.D.Door.told c.loop-word.door) (g.D.Door.told c.give.new.door) c.loop-word.yielded
       (c.in-Some.word ∷ [])
       c.loop-word.invariant.given c.in_ok-give.ensures.given;
-  still = c.in_ok-give.ensures.still ∙ c.loop-word.invariant.still;
+  still = c.in_ok-give.ensures.others_unchanged ∙ c.loop-word.invariant.still;
   unfailed = c.in_ok-give.ensures.cause ∙ c.loop-word.invariant.unfailed;
 }
 
@@ -44,8 +44,8 @@ returns-in_err-give-clause-given g c =
     (c.in-Some.word ∷ [])
     (into_iter_items c.next.new.self) c.loop-word.invariant.given c.in_err-give.ensures.given))
 
-pub returns-in_err-give-clause-still : goal.returns-in_err-give-clause-still
-returns-in_err-give-clause-still g c = c.in_err-give.ensures.still ∙ c.loop-word.invariant.still
+pub returns-in_err-give-clause-others_unchanged : goal.returns-in_err-give-clause-others_unchanged
+returns-in_err-give-clause-others_unchanged g c = c.in_err-give.ensures.others_unchanged ∙ c.loop-word.invariant.still
 
 pub returns-in_err-give-clause-cause : goal.returns-in_err-give-clause-cause
 returns-in_err-give-clause-cause g c =
@@ -57,8 +57,8 @@ returns-clause-given g c =
     let all : c.loop-word.yielded ≡ c.args.words.items = grind (arith, common_steps) in
     subst (λ l. GivesAll (g.D.Door.told c.args.door.now) (g.D.Door.told c.loop-word.door) l true) all c.loop-word.invariant.given
 
-pub returns-clause-still : goal.returns-clause-still
-returns-clause-still g c = c.loop-word.invariant.still
+pub returns-clause-others_unchanged : goal.returns-clause-others_unchanged
+returns-clause-others_unchanged g c = c.loop-word.invariant.still
 
 pub returns-clause-cause : goal.returns-clause-cause
 returns-clause-cause g c = c.loop-word.invariant.unfailed

@@ -1,7 +1,7 @@
 use Rattle.std.proofs.Common.{◌≡◌, true, false, sym, subst, ◌∙◌}
 use Rattle.std.proofs.lemmas.Bool.{cond-false, cond-true}
-use Rattle.hd_serving.specs.Numbers.{most_wait}
-use Rattle.hd_serving.specs.Serving.{is_idle}
+use Rattle.hd_server.specs.Numbers.{most_wait}
+use Rattle.hd_server.specs.Serving.{is_idle}
 use Rattle.hj_jobs.specs.Meaning.{meaning}
 use Rattle.hub_server.specs.declared.serving.ServeFault.TheVariants as fault
 use Rattle.hub_server.specs.Serving.{IsCausedBy}
@@ -61,7 +61,7 @@ returns-clause-served g c =
     (g.L.Lots.drawn c.step.new.lots) (g.L.Lots.faults c.step.new.lots))
     (g.D.Door.told c.args.door.now) (g.D.Door.told c.next.new.self) (g.D.Door.told c.give_all.new.door) (g.D.Door.moment c.args.door.now)
     (g.D.Door.moment c.give_all.new.door) c.if-idle.wait c.in_ok-heard.heard c.give_all.result c.in_ok-words.words.items
-    c.in_ok-heard.ensures.heard (c.in_ok-heard.ensures.later.0, c.give_all.ensures.still ∙ c.in_ok-heard.ensures.later.1)
+    c.in_ok-heard.ensures.heard (c.in_ok-heard.ensures.later.0, c.give_all.ensures.others_unchanged ∙ c.in_ok-heard.ensures.later.1)
     c.in_ok-words.ensures.turn
     (λ s h stands. elim c.if-idle.branch [
       | then-idle w ↦ w.wait-is ∙ sym (cond-true (is_idle h) most_wait 0 (sym (c.idle.ensures s h stands) ∙ w.if-idle.true))

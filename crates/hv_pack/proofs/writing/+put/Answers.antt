@@ -51,6 +51,6 @@ put_value-returns-in_ok-put_pairs-in-Map-clause-fits t c =
     rw (c.in-Map.is, ← c.pairs-pairs.ensures.pairs, pairs_count_is)
     (c.in_ok-put_map_head-in-Map.ensures.fits, c.in_ok-put_pairs-in-Map.ensures.fits)
 
-pub put_pairs-returns-in_err-put_value-clause-kept : goal.put_pairs-returns-in_err-put_value-clause-kept
-put_pairs-returns-in_err-put_value-clause-kept t c =
-    kept_on _ _ _ (kept_with _ _ _ c.loop-key.invariant.text) (kept_on _ _ _ c.in_ok-put_text.ensures.kept c.in_err-put_value.ensures.kept)
+pub put_pairs-returns-in_err-put_value-clause-unchanged : goal.put_pairs-returns-in_err-put_value-clause-unchanged
+put_pairs-returns-in_err-put_value-clause-unchanged t c =
+    kept_on _ _ _ (kept_with _ _ _ c.loop-key.invariant.text) (kept_on _ _ _ c.in_ok-put_text.ensures.unchanged c.in_err-put_value.ensures.unchanged)

@@ -7,9 +7,9 @@ use Rattle.hw_net.proofs.Telling.{tells-none}
 use Rattle.hw_net.proofs.Walking.{silent-walk, speaks-here, same-length}
 use Rattle.hw_net.proofs.turns.say_all.Goals as goal
 
-pub returns-then-not-has_lagging-clause-said : goal.returns-then-not-has_lagging-clause-said
-returns-then-not-has_lagging-clause-said g c =
-    let none : ltb 0 (tally_of c.args.lanes.now.items).lagging ≡ false = search rules in
+pub returns-then-not-has_writers-clause-said : goal.returns-then-not-has_writers-clause-said
+returns-then-not-has_writers-clause-said g c =
+    let none : ltb 0 (tally_of c.args.lanes.now.items).writers ≡ false = search rules in
     ([], tells-none (g.W.Wires.told c.args.wires.now), silent-walk c.args.begin c.args.end c.args.lanes.now.items none)
 
 pub loop-place-preserved : goal.loop-place-preserved

@@ -1,6 +1,6 @@
 use Rattle.std.proofs.Common.{rules, arith, ◌≡◌, ◌<◌, None, Some, length}
 use Rattle.hw_net.proofs.Calm.{calm-listens}
-use Rattle.hw_net.proofs.Walking.{walks-glanced, walks-still, same-length}
+use Rattle.hw_net.proofs.Walking.{walks-after-look, walks-still, same-length}
 use Rattle.hw_net.proofs.turns.turn_until.Goals as goal
 
 pub returns-in-Some-clause-found : goal.returns-in-Some-clause-found
@@ -11,9 +11,9 @@ returns-in-Some-clause-found g c =
     let inside : c.loop-place.place < length c.loop-place.lanes.items = omega (arith, within, same) in (
       search rules,
       search rules,
-      walks-glanced (told c.args.wires.now) (told c.loop-place.wires) (told c.glance-glance.new.wires) (told c.turn.new.wires) c.args.now (Some c.in-Some.event) c.args.begin c.loop-place.place
-          c.args.lanes.now.items c.loop-place.lanes.items c.turn.new.self.items c.glance-glance.new.buf c.glance-glance.result c.loop-place.invariant.1 within inside c.loop-place.invariant.0
-          c.glance-glance.ensures.glances (rw c.in-Some.is at c.in_ok-event.ensures.turned),
+      walks-after-look (told c.args.wires.now) (told c.loop-place.wires) (told c.read_first-first_look.new.wires) (told c.turn.new.wires) c.args.now (Some c.in-Some.event) c.args.begin c.loop-place.place
+          c.args.lanes.now.items c.loop-place.lanes.items c.turn.new.self.items c.read_first-first_look.new.buf c.read_first-first_look.result c.loop-place.invariant.1 within inside c.loop-place.invariant.0
+          c.read_first-first_look.ensures.reads_first (rw c.in-Some.is at c.in_ok-event.ensures.turned),
     )
 
 pub loop-place-preserved : goal.loop-place-preserved
@@ -23,9 +23,9 @@ loop-place-preserved g c =
     let same = same-length c.loop-place.lanes.items c.args.lanes.now.items c.loop-place.invariant.4 in
     let inside : c.loop-place.place < length c.loop-place.lanes.items = omega (arith, within, same) in
     let none : c.in_ok-event.field-0 ≡ None = search rules in (
-      walks-glanced (told c.args.wires.now) (told c.loop-place.wires) (told c.glance-glance.new.wires) (told c.turn.new.wires) c.args.now None c.args.begin c.loop-place.place
-          c.args.lanes.now.items c.loop-place.lanes.items c.turn.new.self.items c.glance-glance.new.buf c.glance-glance.result c.loop-place.invariant.1 within inside c.loop-place.invariant.0
-          c.glance-glance.ensures.glances (rw none at c.in_ok-event.ensures.turned),
+      walks-after-look (told c.args.wires.now) (told c.loop-place.wires) (told c.read_first-first_look.new.wires) (told c.turn.new.wires) c.args.now None c.args.begin c.loop-place.place
+          c.args.lanes.now.items c.loop-place.lanes.items c.turn.new.self.items c.read_first-first_look.new.buf c.read_first-first_look.result c.loop-place.invariant.1 within inside c.loop-place.invariant.0
+          c.read_first-first_look.ensures.reads_first (rw none at c.in_ok-event.ensures.turned),
       search rules,
       search rules,
       search rules,
@@ -38,9 +38,9 @@ loop-place-preserved-then-eq g c =
     let within : c.loop-place.place < length c.args.lanes.now.items = search rules in
     let same = same-length c.loop-place.lanes.items c.args.lanes.now.items c.loop-place.invariant.4 in
     let inside : c.loop-place.place < length c.loop-place.lanes.items = omega (arith, within, same) in (
-      walks-still (told c.args.wires.now) (told c.loop-place.wires) (told c.glance-glance.new.wires) c.args.now c.args.begin c.loop-place.place
-          c.args.lanes.now.items c.loop-place.lanes.items c.glance-glance.new.buf c.glance-glance.result c.loop-place.invariant.1 within inside
-          (λ lane first glances. calm-listens c.args.now lane first c.glance-glance.new.buf glances) (search rules) c.loop-place.invariant.0 c.glance-glance.ensures.glances,
+      walks-still (told c.args.wires.now) (told c.loop-place.wires) (told c.read_first-first_look.new.wires) c.args.now c.args.begin c.loop-place.place
+          c.args.lanes.now.items c.loop-place.lanes.items c.read_first-first_look.new.buf c.read_first-first_look.result c.loop-place.invariant.1 within inside
+          (λ lane first reads_first. calm-listens c.args.now lane first c.read_first-first_look.new.buf reads_first) (search rules) c.loop-place.invariant.0 c.read_first-first_look.ensures.reads_first,
       search rules,
       search rules,
       search rules,

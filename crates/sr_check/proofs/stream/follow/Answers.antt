@@ -15,7 +15,7 @@ loop-splitter-init g c = record {
   source = refl;
   sink = refl;
   touched = inl refl;
-  empty = c.new-desk.ensures;
+  empty = c.new-output_buffer.ensures;
 }
 
 pub returns-in-Ok-eq0-clause-done : goal.returns-in-Ok-eq0-clause-done

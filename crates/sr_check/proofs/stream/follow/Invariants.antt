@@ -9,7 +9,7 @@ invariant-loop-splitter g l = record {
   source : g.S.Source.faults l.input ≡ g.S.Source.faults l.fn.input;
   sink : g.K.Sink.faults l.out ≡ g.K.Sink.faults l.fn.out;
   touched : IsTouchedByBytesAlone g.K.Sink.holds l.fn.out l.out;
-  empty : l.desk.text.items ≡ [];
+  empty : l.output_buffer.text.items ≡ [];
 }
 
 abbrev pub decreases-loop-splitter : goal.decreases-loop-splitter

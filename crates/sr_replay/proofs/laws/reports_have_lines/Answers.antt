@@ -5,14 +5,14 @@ use Rattle.hd_delivery.specs.declared.vocabulary.Side.TheVariants.{Client, Serve
 use Rattle.hd_delivery.specs.declared.vocabulary.Side.{Side}
 use Rattle.hd_delivery.specs.declared.vocabulary.State.{State}
 use Rattle.hd_delivery.specs.Histories as of
-use Rattle.hd_delivery.specs.Histories.{Step, sent_messages, processed_messages, held_messages, state}
+use Rattle.hd_delivery.specs.Histories.{EndEvent, sent_messages, processed_messages, held_messages, state}
 use Rattle.hd_delivery.specs.Worlds.{config}
 use Rattle.hd_delivery.specs.Bytes.{Wire, bare_steps}
 use Rattle.he_wire.specs.Laws.{HasWire}
 use Rattle.sr_script.specs.Script.{Program}
 use Rattle.sr_script.specs.Terms.{limits_in, peers_in, terms_in}
 use Rattle.sr_replay.specs.Runs.{world_of}
-use Rattle.hd_runs.specs.Sides.{history}
+use Rattle.hd_delivery.specs.Sides.{history}
 use Rattle.sr_replay.specs.Report.{run_text, IsReportOver, IsReportBy}
 use Rattle.sr_peers.specs.Report as of_peers
 use Rattle.sr_peers.specs.Runs as peer_runs
@@ -27,7 +27,7 @@ line_of_end side s sent processed held =
     line_is_some (side_word side ++ (codes " " ++ (state_word s ++ (codes " sent " ++ (decimal sent
     ++ (codes " processed " ++ (decimal processed ++ (codes " held " ++ decimal held))))))))
 
-standing_is_some : (side : Side) (c : of.Config) (k : List Step) → 0 < length (standing_text side c k)
+standing_is_some : (side : Side) (c : of.Config) (k : List EndEvent) → 0 < length (standing_text side c k)
 standing_is_some side c k = line_of_end side (state c k) (length (sent_messages k)) (length (processed_messages k)) (length (held_messages c k))
 
 -- a text in which a line stands is some

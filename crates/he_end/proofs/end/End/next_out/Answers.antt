@@ -1,5 +1,5 @@
 use Rattle.std.proofs.Common.{refl, ap, ◌∙◌, Some}
-use Rattle.he_end.specs.declared.due.Due.TheVariants as kind
+use Rattle.he_end.specs.declared.next_frame.NextFrame.TheVariants as kind
 use Rattle.hd_delivery.specs.Frames.{Response, Sequence, Ack, Ping}
 use Rattle.he_end.specs.Remembers.{close_of}
 use Rattle.he_end.proofs.Outs.{lends, spells, lends_none, spells_request, spells_refusal, lends_message, spells_message}
@@ -18,7 +18,7 @@ returns-in-Message c = let is = c.in_ok-due.was ∙ ap Some c.in-Message.is in l
 pub returns-in-Request : goal.returns-in-Request
 returns-in-Request c = let is = c.in_ok-due.was ∙ ap Some c.in-Request.is in (
   (refl, (λ _. tt), (c.say_request.ensures.limits, lends c.args.self.now c.due.result c.due.ensures kind.Request is c.say_request.new.self c.say_request.ensures.said)),
-  record { after = tt; bytes = spells_request c.args.self.now c.due.result c.due.ensures is c.facts_hold.ensures _ (c.bytes.ensures ∙ c.say_request.ensures.slate) },
+  record { after = tt; bytes = spells_request c.args.self.now c.due.result c.due.ensures is c.facts_hold.ensures _ (c.bytes.ensures ∙ c.say_request.ensures.control_buffer) },
 )
 
 pub returns-in-Response : goal.returns-in-Response
@@ -36,23 +36,23 @@ returns-in_ok-answer-in-Refusal c = let is = c.in_ok-due.was ∙ ap Some c.in-Re
 pub returns-in-Sequence : goal.returns-in-Sequence
 returns-in-Sequence c = let is = c.in_ok-due.was ∙ ap Some c.in-Sequence.is in (
   (refl, (λ _. tt), (c.say_control.ensures.limits, lends c.args.self.now c.due.result c.due.ensures (kind.Sequence c.in-Sequence.first c.in-Sequence.received) is c.say_control.new.self c.say_control.ensures.said)),
-  record { after = tt; bytes = spells c.args.self.now c.due.result c.due.ensures (kind.Sequence c.in-Sequence.first c.in-Sequence.received) is _ (Sequence c.in-Sequence.first c.in-Sequence.received) (c.bytes-in-Sequence.ensures ∙ c.say_control.ensures.slate) (λ cc' k g h. let q = h in cc) },
+  record { after = tt; bytes = spells c.args.self.now c.due.result c.due.ensures (kind.Sequence c.in-Sequence.first c.in-Sequence.received) is _ (Sequence c.in-Sequence.first c.in-Sequence.received) (c.bytes-in-Sequence.ensures ∙ c.say_control.ensures.control_buffer) (λ cc' k g h. let q = h in cc) },
 )
 
 pub returns-in-Ack : goal.returns-in-Ack
 returns-in-Ack c = let is = c.in_ok-due.was ∙ ap Some c.in-Ack.is in (
   (refl, (λ _. tt), (c.say_control-in-Ack.ensures.limits, lends c.args.self.now c.due.result c.due.ensures (kind.Ack c.in-Ack.upto) is c.say_control-in-Ack.new.self c.say_control-in-Ack.ensures.said)),
-  record { after = tt; bytes = spells c.args.self.now c.due.result c.due.ensures (kind.Ack c.in-Ack.upto) is _ (Ack c.in-Ack.upto) (c.bytes-in-Ack.ensures ∙ c.say_control-in-Ack.ensures.slate) (λ cc' k g h. let q = h in cc) },
+  record { after = tt; bytes = spells c.args.self.now c.due.result c.due.ensures (kind.Ack c.in-Ack.upto) is _ (Ack c.in-Ack.upto) (c.bytes-in-Ack.ensures ∙ c.say_control-in-Ack.ensures.control_buffer) (λ cc' k g h. let q = h in cc) },
 )
 
 pub returns-in-Ping : goal.returns-in-Ping
 returns-in-Ping c = let is = c.in_ok-due.was ∙ ap Some c.in-Ping.is in (
   (refl, (λ _. tt), (c.say_control-in-Ping.ensures.limits, lends c.args.self.now c.due.result c.due.ensures kind.Ping is c.say_control-in-Ping.new.self c.say_control-in-Ping.ensures.said)),
-  record { after = tt; bytes = spells c.args.self.now c.due.result c.due.ensures kind.Ping is _ Ping (c.bytes-in-Ping.ensures ∙ c.say_control-in-Ping.ensures.slate) (λ cc' k g h. let q = h in cc) },
+  record { after = tt; bytes = spells c.args.self.now c.due.result c.due.ensures kind.Ping is _ Ping (c.bytes-in-Ping.ensures ∙ c.say_control-in-Ping.ensures.control_buffer) (λ cc' k g h. let q = h in cc) },
 )
 
 pub returns-in-Close : goal.returns-in-Close
 returns-in-Close c = let is = c.in_ok-due.was ∙ ap Some c.in-Close.is in (
   (refl, (λ _. tt), (c.say_control-in-Close.ensures.limits, lends c.args.self.now c.due.result c.due.ensures (kind.Close c.in-Close.farewell) is c.say_control-in-Close.new.self c.say_control-in-Close.ensures.said)),
-  record { after = tt; bytes = spells c.args.self.now c.due.result c.due.ensures (kind.Close c.in-Close.farewell) is _ (close_of c.in-Close.farewell) (c.bytes-in-Close.ensures ∙ c.say_control-in-Close.ensures.slate) (λ cc' k g h. let q = h in cc) },
+  record { after = tt; bytes = spells c.args.self.now c.due.result c.due.ensures (kind.Close c.in-Close.farewell) is _ (close_of c.in-Close.farewell) (c.bytes-in-Close.ensures ∙ c.say_control-in-Close.ensures.control_buffer) (λ cc' k g h. let q = h in cc) },
 )

@@ -19,7 +19,7 @@ returns-in-Ok-clause-ok c m counts fits is wire config h st =
     let room = c.in-Ok.ensures.room in
     sends wire config c.args.self.now h st c.frame_is_of_image.ensures live.0 live.1 m c.args.frame is c.unframed_size-size.result sized
     (let small = c.if-size-frame.false in let value = c.frame-2.ensures.value in let all = ap (λ x. x.frame) c.limits.ensures in omega arith)
-    c.values_are_trees.ensures c.image_is_its_image.ensures c.unread_stays.ensures counts fits room.0 room.1 c.push.new.self c.push.ensures.limits c.in-Ok.number c.in-Ok.ensures.ok
+    c.message_image_is_as_deep.ensures c.image_is_its_image.ensures c.unread_stays.ensures counts fits room.0 room.1 c.push.new.self c.push.ensures.limits c.in-Ok.number c.in-Ok.ensures.ok
 
 pub returns-in-Err-Full-clause-refused : goal.returns-in-Err-Full-clause-refused
 returns-in-Err-Full-clause-refused c m is =

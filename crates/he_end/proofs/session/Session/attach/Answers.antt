@@ -19,7 +19,7 @@ pub returns-in-Some-2-clause-ok : goal.returns-in-Some-2-clause-ok
 returns-in-Some-2-clause-ok c cc' k l r apart late =
     let s = c.args.self.now in
     let open' = sym r.closed ∙ c.if-self.false in
-    let kept = sym (c.is_kept.ensures cc' k r) ∙ c.if-not-is_kept.false in (
+    let kept = sym (c.is_resumable.ensures cc' k r) ∙ c.if-not-is_resumable.false in (
       open',
       inr kept,
       rw (c.begin-in-Some-2.ensures, c.expect_sequence.ensures)

@@ -1,5 +1,5 @@
 use Rattle.std.proofs.Common.{refl}
-use Rattle.hd_server.specs.Registry.{without}
+use Rattle.hd_rooms.specs.Registry.{without}
 use Rattle.hg_groups.proofs.IndexLemmas.{EachOnce-gone, Agree-gone, Stands-same, Stands-without, Stands-gone}
 use Rattle.hg_groups.proofs.index.Index.gone.Goals as goal
 

@@ -11,8 +11,8 @@ invariant_of-self c = record {
       (pushed (is_ok c.push.result) (vec_len c.in-Some.conns.now) (vec_len c.push.new.self) c.push.ensures.len (c.args.self.now.none_is_empty c.args.name.now c.in-Some.conns.now (sym c.in-Some.ensures.value)));
 }
 
-pub returns-in_err-push-clause-kept : goal.returns-in_err-push-clause-kept
-returns-in_err-push-clause-kept c =
+pub returns-in_err-push-clause-unchanged : goal.returns-in_err-push-clause-unchanged
+returns-in_err-push-clause-unchanged c =
     let p = err_from_is_err_and c.from_residual.result c.from_residual.ensures.1 in
     rw p.1 (SameLists-Puts c.args.self.now.by_name (c.get_mut.follows.lender c.push.new.self) c.args.name.now (Some c.push.new.self)
     (Puts-written c.args.self.now.by_name (c.get_mut.follows.lender c.push.new.self) c.args.name.now c.in-Some.conns.now c.push.new.self c.in-Some.ensures.value (c.get_mut.follows.holds c.push.new.self))

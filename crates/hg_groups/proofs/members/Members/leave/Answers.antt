@@ -1,6 +1,6 @@
 use Rattle.std.proofs.Common.{Some, None, ap, sym, subst, ◌∙◌}
 use Rattle.hg_groups.specs.Maps.{NoneIsEmpty, Left}
-use Rattle.hd_server.specs.RegistryLaws.{others_than}
+use Rattle.hd_rooms.specs.RegistryLaws.{others_than}
 use Rattle.hg_groups.proofs.MapLemmas.{conns_of, Puts-written, Puts-twice, Left-Puts, Left-nobody, NoneIsEmpty-Some, NoneIsEmpty-None}
 use Rattle.hg_groups.proofs.members.Members.leave.Goals as goal
 

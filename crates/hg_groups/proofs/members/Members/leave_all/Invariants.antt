@@ -1,6 +1,6 @@
 use Rattle.std.proofs.Common.{◌≡◌, ℕ, List, IsTrue}
 use Rattle.std.specs.BTreeSet.{btree_set_len}
-use Rattle.hd_server.specs.RegistryLaws.{is_among, others_than}
+use Rattle.hd_rooms.specs.RegistryLaws.{is_among, others_than}
 use Rattle.hg_groups.specs.Maps.{listed, has_name}
 use Rattle.hg_groups.proofs.members.Members.leave_all.Given as goal
 

@@ -1,5 +1,5 @@
 use Rattle.std.proofs.Common.{Some, ap, subst, length, ◌∙◌, ◌||◌}
-use Rattle.hd_server.specs.Registry.{same_text}
+use Rattle.hd_rooms.specs.Registry.{same_text}
 use Rattle.hg_groups.proofs.MapLemmas.{names_have, PutsAt, PutsAt-written, Entered-PutsAt, has_name-insert, has_name-none}
 use Rattle.hg_groups.proofs.names.Names.enter.Goals as goal
 

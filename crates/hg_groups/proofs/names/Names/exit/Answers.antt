@@ -1,5 +1,5 @@
 use Rattle.std.proofs.Common.{Some, None, ap, sym, refl, ◌∙◌, not, ◌&&◌}
-use Rattle.hd_server.specs.Registry.{same_text}
+use Rattle.hd_rooms.specs.Registry.{same_text}
 use Rattle.hg_groups.proofs.MapLemmas.{names_have, PutsAt-written, PutsAt-twice, Exited-PutsAt, has_name-remove, has_name-none}
 use Rattle.hg_groups.proofs.names.Names.exit.Goals as goal
 

@@ -1,6 +1,6 @@
 use Rattle.std.proofs.Common.{refl, ◌∙◌}
 use Rattle.std.specs.Prelude.{◌==◌}
-use Rattle.hj_jobs.specs.Due.{is_in}
+use Rattle.hv_value.specs.SortedSet.{is_in}
 use Rattle.hj_jobs.proofs.Accepting.{or_if}
 use Rattle.hj_jobs.proofs.jobs.Jobs.enter.Goals as goal
 
@@ -10,12 +10,12 @@ returns g c = record {
   begins = c.begin.ensures;
   live = c.insert.ensures;
   due = record {
-    at = λ rising place k. c.add.ensures.added rising (place refl) k ∙ or_if (k == c.args.number) (is_in k c.args.self.now.due.jobs.items);
+    at = λ rising place k. c.add.ensures.added rising (place refl) k ∙ or_if (k == c.args.number) (is_in k c.args.self.now.due.numbers.items);
     rising = c.add.ensures.rising;
     capacity = c.add.ensures.capacity;
   };
   names = refl;
   accepted = refl;
   passed = refl;
-  halfway = refl;
+  prepared = refl;
 }

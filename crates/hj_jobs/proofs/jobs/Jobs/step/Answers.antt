@@ -6,5 +6,5 @@ returns-in_default-clause-ok g c = λ who h s. (rw c.in_default.is at (c.in_ok-s
 
 pub returns-clause-ok : goal.returns-clause-ok
 returns-clause-ok g c = λ who h s.
-    both_halves {H = g.row.H.Denot} _ who c.attempt.new.self c.finish.new.self h c.args.now c.args.room c.in-Some.stepped
-    (rw c.in-Some.is at (c.in_ok-stepped.ensures.ok who h s)) (λ a. c.finish.ensures.turned who h c.args.now a)
+    both_halves {H = g.row.H.Denot} _ who c.prepare.new.self c.commit.new.self h c.args.now c.args.room c.in-Some.stepped
+    (rw c.in-Some.is at (c.in_ok-stepped.ensures.ok who h s)) (λ a. c.commit.ensures.turned who h c.args.now a)

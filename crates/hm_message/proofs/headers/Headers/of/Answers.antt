@@ -11,8 +11,8 @@ returns-clause-last c =
     let none = nil_from_length (into_iter_items c.loop-key.key-iterator) (search rules) in
     ap (header_at key) (e ∙ rw none at c.loop-key.invariant) ∙ last_counts c.args.pairs.items key
 
-pub returns-clause-kept : goal.returns-clause-kept
-returns-clause-kept c =
+pub returns-clause-unchanged : goal.returns-clause-unchanged
+returns-clause-unchanged c =
     λ h. let e : c.in_ok-pairs.pairs.items ≡ c.loop-key.map.entries = search rules in
     let none = nil_from_length (into_iter_items c.loop-key.key-iterator) (search rules) in
     e ∙ rw none at c.loop-key.invariant ∙ headers_kept c.args.pairs.items h

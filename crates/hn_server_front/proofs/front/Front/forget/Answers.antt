@@ -1,5 +1,5 @@
 use Rattle.std.proofs.Common.{◌≡◌, true, ◌∷◌, sym, ap, refl, subst, ◌∙◌}
-use Rattle.hd_serving.specs.Lives.{LetGo, is_made}
+use Rattle.hd_server.specs.Lives.{LetGo, is_made}
 use Rattle.hn_server_front.specs.Entries.{Remembers, text_told}
 use Rattle.hn_server_front.specs.Stands.{IsEntryOf}
 use Rattle.hn_server_front.proofs.Noting.{let_go, let_go_follows, no_bool, stands_gone, stands_same, stands_without, tokens_with, tokens_without}

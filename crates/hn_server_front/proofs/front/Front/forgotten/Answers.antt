@@ -1,6 +1,6 @@
 use Rattle.std.proofs.Common.{◌+◌, not, length, filter, ap, ◌∙◌}
 use Rattle.std.proofs.lemmas.List.{take_all}
-use Rattle.hd_serving.specs.Lives.{is_known, life_of, live}
+use Rattle.hd_server.specs.Lives.{is_known, life_of, live}
 use Rattle.hn_server_front.proofs.Forgotten.{forgotten_counted}
 use Rattle.hn_server_front.proofs.front.Front.forgotten.Goals as goal
 

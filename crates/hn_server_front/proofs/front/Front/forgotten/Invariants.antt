@@ -1,5 +1,5 @@
 use Rattle.std.proofs.Common.{◌≡◌, ◌≤◌, not, filter, length, take}
-use Rattle.hd_serving.specs.Lives.{is_known, life_of}
+use Rattle.hd_server.specs.Lives.{is_known, life_of}
 use Rattle.hn_server_front.specs.Calls.{OfEach}
 use Rattle.hn_server_front.proofs.front.Front.forgotten.Given as goal
 

@@ -1,6 +1,6 @@
 use Rattle.std.proofs.Common.{length, sym, ◌∙◌, arith}
 use Rattle.std.proofs.lemmas.Bool.{lt-leb}
-use Rattle.hd_serving.specs.Lives.{live}
+use Rattle.hd_server.specs.Lives.{live}
 use Rattle.hn_server_front.proofs.Forgotten.{live_few}
 use Rattle.hn_server_front.proofs.front.Front.is_full.Goals as goal
 

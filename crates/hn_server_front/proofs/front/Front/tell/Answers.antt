@@ -1,6 +1,6 @@
 use Rattle.std.proofs.Common.{◌≡◌, ap, ◌∙◌, suc, refl, sym, length, rules}
 use Rattle.hn_server_front.specs.Stands.{IsTokenOf}
-use Rattle.hd_serving.specs.Texts.{token_of}
+use Rattle.hd_server.specs.Texts.{token_of}
 use Rattle.hn_server_front.specs.Bodies.{body_for}
 use Rattle.hn_server_front.proofs.Making.{tells_few, tells_next, given_ok}
 use Rattle.hn_server_front.proofs.front.Front.tell.Goals as goal

@@ -20,7 +20,7 @@ returns-clause-refused g c = IfErr-weaker c.say.result _ _
     (c.in_ok-message.ensures.ok _ _ s.calls) e why)
     c.say.ensures.refused
 
-pub returns-clause-kept : goal.returns-clause-kept
-returns-clause-kept g c = on_err_weaker c.say.result
+pub returns-clause-unchanged : goal.returns-clause-unchanged
+returns-clause-unchanged g c = on_err_weaker c.say.result
     (λ stays t h s. unsaid_stays {H = g.row.H.Denot} _ t c.args.self.now h s c.say.new.self c.say.ensures.others c.say.ensures.limits stays)
-    c.say.ensures.kept
+    c.say.ensures.unchanged

@@ -27,6 +27,6 @@ returns-clause-lost g c = λ t h s.
     let is = c.state.ensures t.wire t.config (byte_steps t h) s.end in
     let same : c.state.result ≡ Closed = differs_false the_type (search rules) _ _ (sym c.if-ne.ensures) in
     loses {H = g.row.H.Denot} _ t c.args.self.now h s (c.tables_agree.ensures t h).0 c.in_ok-call.call
-    (record c.args.self.now { calls = c.lose_next.new.self; askers = c.swap_remove-asker.new.self }) refl
+    (record c.args.self.now { calls = c.lose_next.new.self; jobs_by_call = c.swap_remove-asker.new.self }) refl
     (shut (is_closed t.config (steps t h)) (is_shaken (steps t h)) (present_link (steps t h)) (subst (λ x. x ≡ Closed) is same))
     (c.in_ok-call.ensures.lost (prefix_of t.config.side) (call_happenings h) s.calls) c.swap_remove-asker.ensures.updates.0

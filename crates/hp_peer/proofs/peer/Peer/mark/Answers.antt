@@ -7,4 +7,4 @@ returns-in-Ok-clause-told g c = λ headers now t h s.
 
 pub returns-in-Err-clause-told : goal.returns-in-Err-clause-told
 returns-in-Err-clause-told g c = λ headers now t h s.
-    marks_none {H = g.row.H.Denot} _ t c.args.self.now headers c.args.id h s (c.tables_agree.ensures t h).1 c.requires.none_waits now 0 _ (c.in-Err.ensures.unknown t.who _ s.jobs) c.in-Err.ensures.kept
+    marks_none {H = g.row.H.Denot} _ t c.args.self.now headers c.args.id h s (c.tables_agree.ensures t h).1 c.requires.none_waits now 0 _ (c.in-Err.ensures.unknown t.who _ s.jobs) c.in-Err.ensures.unchanged

@@ -2,8 +2,8 @@ use Rattle.std.proofs.lemmas.Result.{err_from_is_err_and}
 use Rattle.hp_peer.proofs.Asked.{stays_itself, unsent_is}
 use Rattle.hp_peer.proofs.peer.Peer.say.Goals as goal
 
-pub returns-then-not-fits-clause-kept : goal.returns-then-not-fits-clause-kept
-returns-then-not-fits-clause-kept g c = stays_itself c.args.self.now.end
+pub returns-then-not-fits-clause-unchanged : goal.returns-then-not-fits-clause-unchanged
+returns-then-not-fits-clause-unchanged g c = stays_itself c.args.self.now.end
 
 pub returns-in_err-_number-clause-refused : goal.returns-in_err-_number-clause-refused
 returns-in_err-_number-clause-refused g c =

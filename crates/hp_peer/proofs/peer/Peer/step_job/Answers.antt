@@ -27,7 +27,7 @@ returns-in-Ok-HandedUp-clause-goes_on g c = c.in-Ok-HandedUp.ensures.turns ∙ c
 pub returns-in-Err-clause-failed : goal.returns-in-Err-clause-failed
 returns-in-Err-clause-failed g c = λ t h s.
     let x = c.loop-turn.invariant.1 t h s in
-    had_some {H = g.row.H.Denot} _ t h c.args.now c.loop-turn._turn c.loop-turn.self x c.turn.new.self (c.in-Err.ensures.kept t (x.turns ++ h) x.holds.0)
+    had_some {H = g.row.H.Denot} _ t h c.args.now c.loop-turn._turn c.loop-turn.self x c.turn.new.self (c.in-Err.ensures.unchanged t (x.turns ++ h) x.holds.0)
 
 pub loop-turn-preserved : goal.loop-turn-preserved
 loop-turn-preserved g c = (

@@ -15,10 +15,10 @@ returns-in_err-say-clause-refused g c =
     rw (p.1, p.2) (λ t h s. end_is_unuploaded {H = g.row.H.Denot} _ t c.args.self.now h s c.tables_agree.ensures c.ids_are_of_a_side.ensures c.args.call c.args.which
     c.args.error c.in_ok-message.message (c.in_ok-message.ensures.ok _ _ s.calls) _ c.in_err-say.ensures.refused)
 
-pub returns-in_err-say-clause-kept : goal.returns-in_err-say-clause-kept
-returns-in_err-say-clause-kept g c =
+pub returns-in_err-say-clause-unchanged : goal.returns-in_err-say-clause-unchanged
+returns-in_err-say-clause-unchanged g c =
     let p = err_from_is_err_and c.from_residual-in_err-say.result c.from_residual-in_err-say.ensures.1 in
-    rw p.1 (λ t h s. unsaid_stays {H = g.row.H.Denot} _ t c.args.self.now h s c.say.new.self c.say.ensures.others c.say.ensures.limits c.in_err-say.ensures.kept)
+    rw p.1 (λ t h s. unsaid_stays {H = g.row.H.Denot} _ t c.args.self.now h s c.say.new.self c.say.ensures.others c.say.ensures.limits c.in_err-say.ensures.unchanged)
 
 pub returns-clause-ok : goal.returns-clause-ok
 returns-clause-ok g c = λ t h s.

@@ -20,10 +20,10 @@ returns-clause-ok g c = on_ok_weaker c.say.result
 pub returns-clause-refused : goal.returns-clause-refused
 returns-clause-refused g c = IfErr-weaker c.say.result _ _
     (λ e why t h s. item_is_unuploaded {H = g.row.H.Denot} _ t c.args.self.now h s c.tables_agree.ensures c.ids_are_of_a_side.ensures c.args.call c.args.which c.args.value
-    c.in_ok-message.message (c.in_ok-message.ensures.ok _ _ s.calls) c.values_are_trees.ensures e why)
+    c.in_ok-message.message (c.in_ok-message.ensures.ok _ _ s.calls) c.message_image_is_as_deep.ensures e why)
     c.say.ensures.refused
 
-pub returns-clause-kept : goal.returns-clause-kept
-returns-clause-kept g c = on_err_weaker c.say.result
+pub returns-clause-unchanged : goal.returns-clause-unchanged
+returns-clause-unchanged g c = on_err_weaker c.say.result
     (λ stays t h s. unsaid_stays {H = g.row.H.Denot} _ t c.args.self.now h s c.say.new.self c.say.ensures.others c.say.ensures.limits stays)
-    c.say.ensures.kept
+    c.say.ensures.unchanged

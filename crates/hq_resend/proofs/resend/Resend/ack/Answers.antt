@@ -1,7 +1,7 @@
 use Rattle.std.proofs.Common.{arith, ap, sym, subst, ◌∙◌, ◌∷◌, List, ℕ, length}
 use Rattle.std.specs.Prelude.{sum_by}
 use Rattle.circular_buffer.specs.Buffer as rings
-use Rattle.hq_resend.specs.Happenings.{Stands, Acked}
+use Rattle.hq_resend.specs.ResendEvents.{Stands, Acked}
 use Rattle.hq_resend.proofs.Places.{ack-IsRing, ack-buffer, ring-IsWithin}
 use Rattle.hq_resend.proofs.Standing.{ack-Stands}
 use Rattle.hq_resend.proofs.resend.Resend.ack.Goals as goal

@@ -1,7 +1,7 @@
 use Rattle.std.proofs.Common.{refl, sym, subst}
 use Rattle.hd_calls.specs.Peers.{Answers}
 use Rattle.hj_jobs.specs.Meaning.{meaning}
-use Rattle.hub_server.specs.Affairs.{StandsFor, moved}
+use Rattle.hub_server.specs.MachineView.{StandsFor, moved}
 use Rattle.hub_server.proofs.Ends.{awake_now, keeps, written}
 use Rattle.hub_server.proofs.CarryAnswer.{answer_stands, answer_unheard, takes_answer}
 use Rattle.hub_server.proofs.machine.Machine.answer.Goals as goal

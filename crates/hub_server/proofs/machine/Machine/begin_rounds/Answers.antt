@@ -10,7 +10,7 @@ pub loop-conn-preserved : goal.loop-conn-preserved
 loop-conn-preserved g c =
     begun_at (meaning g.H.Hub.begin_of g.H.Hub.step_of) c.args.self.now c.loop-conn.self c.begin_round_at.new.self c.args.conns.now
     c.loop-conn.conn-index c.loop-conn-test.true c.loop-conn.invariant c.begin_round_at.ensures.begun c.begin_round_at.ensures.others
-    c.begin_round_at.ensures.registry c.begin_round_at.ensures.sleepers c.begin_round_at.ensures.count
+    c.begin_round_at.ensures.registry c.begin_round_at.ensures.idle_set c.begin_round_at.ensures.count
 
 pub returns : goal.returns
 returns g c = λ w now numbers was.

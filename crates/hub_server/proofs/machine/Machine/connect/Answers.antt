@@ -1,7 +1,7 @@
 use Rattle.std.proofs.Common.{is_some, sym, ap, subst, option_copied, arith}
 use Rattle.std.specs.BTreeMap.{btree_map_len}
 use Rattle.hd_delivery.specs.declared.vocabulary.Side.TheVariants.{Server}
-use Rattle.hd_server.specs.Registry.{named}
+use Rattle.hd_rooms.specs.Registry.{named}
 use Rattle.hg_groups.specs.Standing.{StandsRegistry}
 use Rattle.hj_jobs.specs.Meaning.{meaning}
 use Rattle.hp_peer.specs.Stands.{settings}
@@ -15,7 +15,7 @@ returns g c w wire house from_one fresh s =
     let hub = meaning g.H.Hub.begin_of g.H.Hub.step_of in
     let t = settings Server c.args.config wire c.args.who in
     let mid = c.match-user.self in
-    let adds : AddsOne mid.sleepers c.reserve.new.self c.add.new.self (btree_map_len mid.peers) (btree_map_len c.insert.new.self) c.args.conn = record {
+    let adds : AddsOne mid.idle_set c.reserve.new.self c.add.new.self (btree_map_len mid.peers) (btree_map_len c.insert.new.self) c.args.conn = record {
       same = c.reserve.ensures.same;
       capacity = c.reserve.ensures.capacity;
       room = let e = c.len.ensures.len in let r = c.in_ok-reserve.ensures.room in omega (arith, e, r);

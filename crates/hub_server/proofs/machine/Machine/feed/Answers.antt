@@ -1,7 +1,7 @@
 use Rattle.std.proofs.Common.{[], ◌∷◌, take, refl}
 use Rattle.hd_delivery.specs.Bytes.{Bytes}
 use Rattle.hd_calls.specs.Peers.{Plain}
-use Rattle.hd_serving.specs.Machine.{moves}
+use Rattle.hd_server.specs.Machine.{moves}
 use Rattle.hj_jobs.specs.Meaning.{meaning}
 use Rattle.hub_server.proofs.Ends.{awake_now, goes_on, stood, woken_as_it_was, written_same}
 use Rattle.hub_server.proofs.machine.Machine.feed.Goals as goal

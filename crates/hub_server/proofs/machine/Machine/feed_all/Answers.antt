@@ -1,6 +1,6 @@
 use Rattle.std.proofs.Common.{◌≡◌, ◌∙◌, ◌-◌, ℕ, List, length, take, drop, ap, arith, length-drop}
 use Rattle.std.proofs.lemmas.List.{take_rest}
-use Rattle.hd_serving.specs.Machine.{moves}
+use Rattle.hd_server.specs.Machine.{moves}
 use Rattle.hj_jobs.specs.Meaning.{meaning}
 use Rattle.hub_server.specs.Calls.{doing}
 use Rattle.hub_server.proofs.Doing.{there_stay}

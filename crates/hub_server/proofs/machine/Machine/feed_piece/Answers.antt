@@ -1,8 +1,8 @@
 use Rattle.std.proofs.Common.{◌≡◌, ◌∙◌, true, [], ◌∷◌, sym, take}
 use Rattle.hd_delivery.specs.Bytes.{Bytes}
 use Rattle.hd_calls.specs.Peers.{Plain}
-use Rattle.hd_serving.specs.Machine.{moves}
-use Rattle.hd_serving.specs.Serves.{can_feed}
+use Rattle.hd_server.specs.Machine.{moves}
+use Rattle.hd_server.specs.Serves.{can_feed}
 use Rattle.hj_jobs.specs.Meaning.{meaning}
 use Rattle.hub_server.specs.Traffic.{TakesWhole}
 use Rattle.hub_server.proofs.FeedAt.{at_done}

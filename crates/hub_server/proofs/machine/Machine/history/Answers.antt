@@ -12,7 +12,7 @@ returns-in_ok-rows-in-Ok g c r j number owes there s spelled =
     let now : Outside = outside (g.K.Keeper.holds c.history.new.self) (g.K.Keeper.answers c.history.new.self) (g.K.Keeper.faults c.history.new.self) spelled in
     history_carried {H = g.row.H.Denot} {Job = g.row.H-Job.Denot} hub c.answer.new.self c.args.self.now before now r c.args.conn j
     c.args.room.now c.args.most (Some c.in-Ok.texts) s owes there
-    (was_recalled before now c.args.room.now c.args.most c.in-Ok.texts c.in-Ok.ensures.last c.in-Ok.ensures.kept c.in-Ok.ensures.noted
+    (was_recalled before now c.args.room.now c.args.most c.in-Ok.texts c.in-Ok.ensures.last c.in-Ok.ensures.unchanged c.in-Ok.ensures.noted
     c.in-Ok.ensures.cause refl)
     (subst (λ rows. IsTold {H = g.row.H.Denot} {Job = g.row.H-Job.Denot} hub c.args.self.now c.answer.new.self c.args.conn j (Done rows))
     c.in_ok-rows-in-Ok.ensures (λ a. c.answer.ensures a j number))
@@ -25,5 +25,5 @@ returns-in-Err-Failed g c r j number owes there s spelled =
     history_carried {H = g.row.H.Denot} {Job = g.row.H-Job.Denot} hub c.answer-in-Err-Failed.new.self c.args.self.now before now r c.args.conn j
     c.args.room.now c.args.most None s owes there
     (was_unrecalled before now c.args.room.now c.args.most c.in-Err-Failed.field-0 c.in-Err-Failed.field-0-is
-    c.in-Err-Failed.ensures.kept c.in-Err-Failed.ensures.noted c.in-Err-Failed.ensures.cause refl)
+    c.in-Err-Failed.ensures.unchanged c.in-Err-Failed.ensures.noted c.in-Err-Failed.ensures.cause refl)
     (λ a. c.answer-in-Err-Failed.ensures a j number)

@@ -1,7 +1,7 @@
 use Rattle.std.proofs.Common.{◌∙◌, refl}
 use Rattle.hd_delivery.specs.contracts.vocabulary.StatePartialEq.TheImpl as states
 use Rattle.hd_calls.specs.Peers.{byte_steps}
-use Rattle.hd_serving.specs.Machine.{moves}
+use Rattle.hd_server.specs.Machine.{moves}
 use Rattle.hj_jobs.specs.Meaning.{meaning}
 use Rattle.hub_server.proofs.Lags.{lags}
 use Rattle.hub_server.proofs.Looked.{end_looked, is_shut_by}

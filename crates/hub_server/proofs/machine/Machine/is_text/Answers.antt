@@ -1,12 +1,12 @@
 use Rattle.std.proofs.Common.{◌∙◌, sym, refl}
 use Rattle.hm_message.specs.contracts.message.CodecPartialEq.TheImpl as codecs
 use Rattle.hd_calls.specs.Peers.{byte_steps}
-use Rattle.hd_serving.specs.Machine.{moves}
+use Rattle.hd_server.specs.Machine.{moves}
 use Rattle.hj_jobs.specs.Meaning.{meaning}
 use Rattle.hub_server.proofs.Doing.{peer_is}
 use Rattle.hub_server.proofs.Lags.{lags}
 use Rattle.hub_server.proofs.Looked.{end_looked}
-use Rattle.hub_server.proofs.WhirlText.{is_text_by}
+use Rattle.hub_server.proofs.RoundWritesText.{is_text_by}
 use Rattle.hub_server.proofs.machine.Machine.is_text.Goals as goal
 
 pub returns-in-Some : goal.returns-in-Some

@@ -1,8 +1,8 @@
 use Rattle.std.proofs.Common.{None, refl, arith}
 use Rattle.hd_calls.specs.declared.vocabulary.Deed.TheVariants as deed
 use Rattle.hj_jobs.specs.Meaning.{meaning}
-use Rattle.hd_serving.specs.Machine.{registry}
-use Rattle.hub_server.specs.Affairs.{affairs, lists_after, with_lists}
+use Rattle.hd_server.specs.Machine.{registry}
+use Rattle.hub_server.specs.MachineView.{machine_view, lists_after, with_lists}
 use Rattle.hub_server.proofs.Carry.{carried_quietly, goes_alone, may_answer, stands_listed}
 use Rattle.hub_server.proofs.machine.Machine.join.Goals as goal
 
@@ -10,7 +10,7 @@ pub returns : goal.returns
 returns g c r j number owes there s holds answers faults spelled =
     let hub = meaning g.H.Hub.begin_of g.H.Hub.step_of in
     let d = deed.Join c.args.group.now in
-    let a = with_lists (lists_after d c.args.conn (registry r)) (affairs r) in
+    let a = with_lists (lists_after d c.args.conn (registry r)) (machine_view r) in
     record {
       asked = None;
       is_asked = refl;

@@ -3,11 +3,11 @@ use Rattle.hv_value.specs.declared.value.Value.TheVariants as value
 use Rattle.hd_calls.specs.declared.vocabulary.Deed.TheVariants as deed
 use Rattle.hd_calls.specs.declared.vocabulary.Input.TheVariants as input
 use Rattle.hj_jobs.specs.Meaning.{meaning}
-use Rattle.hd_server.specs.Registry.{members}
-use Rattle.hd_serving.specs.Machine.{joined, registry}
-use Rattle.hub_server.specs.Affairs.{AreUp, affairs, fates_in}
+use Rattle.hd_rooms.specs.Registry.{members}
+use Rattle.hd_server.specs.Machine.{joined, registry}
+use Rattle.hub_server.specs.MachineView.{AreUp, machine_view, fates_in}
 use Rattle.hub_server.proofs.Carry.{carried_telling, fates_in_are, goes_alone, may_answer_told, members_up, stands_for}
-use Rattle.hub_server.proofs.Spelt.{spelled_so}
+use Rattle.hub_server.proofs.EncodedCodecs.{spelled_so}
 use Rattle.hub_server.proofs.machine.Machine.post.Goals as goal
 
 pub returns : goal.returns
@@ -16,14 +16,14 @@ returns g c r j number owes there s holds answers faults =
     let d = deed.Post c.args.group.now c.args.target c.args.arguments in
     let to = members c.args.group.now (registry r).groups in
     let are : c.deref.result.now ≡ to = c.deref.ensures.value ∙ c.in_ok-to.ensures.listed (registry r) s.registry in
-    let fates = fates_in (affairs r) c.deref.result.now c.args.target c.args.arguments in
-    let said = c.in_ok-notify.ensures.told (affairs r) d (λ codec. refl) (subst (AreUp (affairs r)) (sym are) (members_up r c.args.group.now (joined r)))
+    let fates = fates_in (machine_view r) c.deref.result.now c.args.target c.args.arguments in
+    let said = c.in_ok-notify.ensures.told (machine_view r) d (λ codec. refl) (subst (AreUp (machine_view r)) (sym are) (members_up r c.args.group.now (joined r)))
     (stands_for {H = g.row.H.Denot} hub c.args.self.now r s) in
     record {
       asked = None;
       is_asked = refl;
       stands = carried_telling {H = g.row.H.Denot} hub c.answer.new.self c.args.self.now r c.args.conn j d fates said.0 s owes there refl refl said.1
-          (ap (λ cs. fates_in (affairs r) cs c.args.target c.args.arguments) are
+          (ap (λ cs. fates_in (machine_view r) cs c.args.target c.args.arguments) are
           ∙ fates_in_are r to c.args.target c.args.arguments (members_up r c.args.group.now (joined r)))
           (c.answer.ensures said.0 j number
           (may_answer_told {H = g.row.H.Denot} hub c.args.self.now r c.args.conn j d (input.Done value.Null) fates said.0 s owes refl said.1) said.2);

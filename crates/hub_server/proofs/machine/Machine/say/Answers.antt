@@ -1,4 +1,4 @@
-use Rattle.hd_serving.specs.Machine.{moves}
+use Rattle.hd_server.specs.Machine.{moves}
 use Rattle.hj_jobs.specs.Meaning.{meaning}
 use Rattle.hub_server.proofs.Ends.{awake_now, stood}
 use Rattle.hub_server.proofs.TookSaid.{says, says_none}

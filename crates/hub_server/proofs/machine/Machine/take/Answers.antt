@@ -1,6 +1,6 @@
 use Rattle.std.proofs.Common.{refl}
 use Rattle.std.proofs.lemmas.Result.{IfOk-weaker, IfErr-weaker}
-use Rattle.hd_serving.specs.Machine.{moves}
+use Rattle.hd_server.specs.Machine.{moves}
 use Rattle.hj_jobs.specs.Meaning.{meaning}
 use Rattle.hub_server.proofs.Ends.{awake_now, closes_out, stood}
 use Rattle.hub_server.proofs.Took.{takes, untaken}

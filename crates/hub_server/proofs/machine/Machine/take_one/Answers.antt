@@ -1,5 +1,5 @@
 use Rattle.std.proofs.Common.{inl}
-use Rattle.hd_serving.specs.Machine.{moves}
+use Rattle.hd_server.specs.Machine.{moves}
 use Rattle.hub_server.proofs.FeedTaken.{refused_one}
 use Rattle.hub_server.proofs.machine.Machine.take_one.Goals as goal
 

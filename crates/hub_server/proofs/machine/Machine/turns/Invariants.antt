@@ -1,5 +1,5 @@
 use Rattle.std.proofs.Common.{List}
-use Rattle.hd_serving.specs.Machine.{Happening}
+use Rattle.hd_server.specs.Machine.{MachineEvent}
 use Rattle.hj_jobs.specs.Meaning.{meaning}
 use Rattle.hub_server.specs.Machines.{StandsMachine}
 use Rattle.hub_server.specs.Outside.{outside}
@@ -8,7 +8,7 @@ use Rattle.hub_server.proofs.RoundTurned.{HasPassed}
 use Rattle.hub_server.proofs.machine.Machine.turns.Given as goal
 
 abbrev pub invariant-loop-deed : goal.invariant-loop-deed
-invariant-loop-deed g l = (w r : List Happening)
+invariant-loop-deed g l = (w r : List MachineEvent)
     → StandsMachine {H = g.row.H.Denot} (meaning g.H.Hub.begin_of g.H.Hub.step_of) l.fn.self r → InRound l.now w r l.conn
     → HasPassed {H = g.row.H.Denot} (meaning g.H.Hub.begin_of g.H.Hub.step_of) l.self
     (outside (g.K.Keeper.holds l.fn.keeper) (g.K.Keeper.answers l.fn.keeper) (g.K.Keeper.faults l.fn.keeper) l.fn.steps)

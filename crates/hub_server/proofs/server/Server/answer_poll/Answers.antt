@@ -1,9 +1,9 @@
 use Rattle.std.proofs.Common.{refl, sym, ap, subst, ◌∙◌, ◌∷◌}
 use Rattle.std.proofs.lemmas.Bool.{and_from, eq-eqb, or_right}
 use Rattle.hd_delivery.specs.Histories.{is_this}
-use Rattle.hd_serving.specs.Lives.{Answered, socket_of}
-use Rattle.hd_serving.specs.Doings.{Notes, has_peer, moment, notes}
-use Rattle.hd_serving.specs.Plans.{onto, replying}
+use Rattle.hd_server.specs.Lives.{Answered, socket_of}
+use Rattle.hd_server.specs.Doings.{Notes, has_peer, moment, notes}
+use Rattle.hd_server.specs.Plans.{onto, replying}
 use Rattle.hj_jobs.specs.Meaning.{meaning}
 use Rattle.hub_server.specs.declared.server.Server.{Server}
 use Rattle.hub_server.specs.Lanes.{poll_lane}

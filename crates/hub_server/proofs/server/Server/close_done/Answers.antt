@@ -1,6 +1,6 @@
 use Rattle.std.proofs.Common.{subst}
 use Rattle.hd_delivery.specs.declared.vocabulary.Reason.TheVariants.{Done}
-use Rattle.hd_serving.specs.Plans.{closing, onto}
+use Rattle.hd_server.specs.Plans.{closing, onto}
 use Rattle.hj_jobs.specs.Meaning.{meaning}
 use Rattle.hub_server.specs.Servers.{Standing}
 use Rattle.hub_server.proofs.ExpireOne.{standing_closes}

@@ -13,14 +13,14 @@ pub returns-then-is_some : goal.returns-then-is_some
 returns-then-is_some g c = record {
   connects = λ s u before h st is known. connected_already {H = g.row.H.Denot} {Job = g.row.H-Job.Denot}
       (meaning g.H.Hub.begin_of g.H.Hub.step_of) s u before
-      c.args.self.now c.args.conn c.args.promised h st is
+      c.args.self.now c.args.conn c.args.resumable h st is
       (sym (ap (λ o. is_some o) c.peer.ensures) ∙ copied c.peer.result ∙ sym c.is_some.ensures ∙ c.if-is_some.true);
 }
 
 pub returns : goal.returns
 returns g c = record {
   connects = λ s u before h st is known. connected {H = g.row.H.Denot} {Job = g.row.H-Job.Denot} (meaning g.H.Hub.begin_of g.H.Hub.step_of) s u before
-      c.args.self.now c.args.conn c.args.promised h st is known
+      c.args.self.now c.args.conn c.args.resumable h st is known
       (sym (ap (λ o. is_some o) c.peer.ensures) ∙ copied c.peer.result ∙ sym c.is_some.ensures ∙ c.if-is_some.false)
       c.remove-user.new.self c.remove-user.ensures.updates c.limits.result c.limits.ensures
       (option_copied c.as_ref-2.result) (c.as_ref-2.ensures.value ∙ c.remove-user.ensures.value)

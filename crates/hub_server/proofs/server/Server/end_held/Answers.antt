@@ -2,9 +2,9 @@ use Rattle.std.proofs.Common.{◌≡◌, ◌∷◌, [], not, is_some, sym, ap, s
 use Rattle.std.proofs.Common.{Some as Given, None as Absent}
 use Rattle.std.specs.Prelude.{option_map}
 use Rattle.std.proofs.lemmas.Bool.{and_from, cond-true, not_from_false, or_left}
-use Rattle.hd_serving.specs.Lives.{Answered, is_let_go, is_made, is_polling, lost_at, poll_ended, poll_of, socket_of}
-use Rattle.hd_serving.specs.Doings.{Notes, moment, notes}
-use Rattle.hd_serving.specs.Plans.{bare_reply, ending_poll, onto, replying}
+use Rattle.hd_server.specs.Lives.{Answered, is_let_go, is_made, is_polling, lost_at, poll_ended, poll_of, socket_of}
+use Rattle.hd_server.specs.Doings.{Notes, moment, notes}
+use Rattle.hd_server.specs.Plans.{bare_reply, ending_poll, onto, replying}
 use Rattle.hj_jobs.specs.Meaning.{meaning}
 use Rattle.hn_server_front.specs.Entries.{held_as}
 use Rattle.hn_server_front.specs.Stands.{is_there}

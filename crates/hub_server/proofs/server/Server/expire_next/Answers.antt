@@ -1,5 +1,5 @@
 use Rattle.std.proofs.Common.{sym, ◌∙◌}
-use Rattle.hd_serving.specs.Doings.{notes}
+use Rattle.hd_server.specs.Doings.{notes}
 use Rattle.hj_jobs.specs.Meaning.{meaning}
 use Rattle.hub_server.proofs.ExpireOne.{expires_closing, expires_dropping}
 use Rattle.hub_server.proofs.server.Server.expire_next.Goals as goal
@@ -17,5 +17,5 @@ returns g c = λ s u before h st free.
     expires_dropping {H = g.row.H.Denot} (meaning g.H.Hub.begin_of g.H.Hub.step_of) s u before c.args.self.now h st c.in-Some.conn first.0 first.1
     (λ e. c.in_default-life_at.not-Ending (c.life_at.ensures (notes h) st.front ∙ e)) c.leave.new.self
     (λ known. c.leave.ensures.left s u before h st known)
-    c.drop_conn.new.self c.drop_conn.ensures.gone c.drop_conn.ensures.none c.remove.new.self c.remove.ensures.updates
+    c.remove_conn.new.self c.remove_conn.ensures.gone c.remove_conn.ensures.none c.remove.new.self c.remove.ensures.updates
     c.expired-conn-2.new.self c.expired-conn-2.result c.expired-conn-2.ensures

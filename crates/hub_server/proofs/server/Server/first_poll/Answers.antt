@@ -1,9 +1,9 @@
 use Rattle.std.proofs.Common.{ℕ, false, List, [], ◌∷◌, refl, sym, ap, subst, ◌∙◌}
 use Rattle.hd_delivery.specs.Histories.{Attached, link_count}
 use Rattle.hj_jobs.specs.Meaning.{meaning}
-use Rattle.hd_serving.specs.Lives.{is_made, lost_at, poll_ended, poll_of, socket_of}
-use Rattle.hd_serving.specs.Doings.{Doing, history, moment}
-use Rattle.hd_serving.specs.Plans.{bare_reply, connecting, onto, replying, step}
+use Rattle.hd_server.specs.Lives.{is_made, lost_at, poll_ended, poll_of, socket_of}
+use Rattle.hd_server.specs.Doings.{ServerEvent, history, moment}
+use Rattle.hd_server.specs.Plans.{bare_reply, connecting, onto, replying, step}
 use Rattle.hub_server.specs.Lanes.{conn_of, settled}
 use Rattle.hub_server.specs.Servers.{Standing}
 use Rattle.hub_server.specs.Steps.{HasCome}
@@ -21,7 +21,7 @@ returns g c = record {
       let k : ℕ = c.args.conn in
       let at : ℕ = c.args.at.lane in
       let begin = subst (λ w. Standing {H = g.row.H.Denot} hub s w before c.args.self.now h) is st in
-      let h1 : List Doing = onto (connecting s k false h) h in
+      let h1 : List ServerEvent = onto (connecting s k false h) h in
       let peered : Standing {H = g.row.H.Denot} hub s
       (conn_of k) before c.connect.new.self h1 = c.in_ok-connect.ensures.connects s u before h st is can.known in
       let is_ready = ready {H = g.row.H.Denot} {Job = g.row.H-Job.Denot} hub s before c.args.self.now k false at c.args.at.is_last h begin come can in
@@ -30,7 +30,7 @@ returns g c = record {
       c.connect.new.self.moment h1 c.attach-attached.result c.attach-attached.ensures.ok c.attach-attached.ensures.closed
       c.attach-attached.ensures.not_granted
       peered.machine (peered.orderly k) is_ready.there is_ready.opens peered.clock in
-      let h2 : List Doing = step k (Attached (link_count (history k h1)) (moment h1)) ∷ h1 in
+      let h2 : List ServerEvent = step k (Attached (link_count (history k h1)) (moment h1)) ∷ h1 in
       let on_link = stands_linked {H = g.row.H.Denot} {Job = g.row.H-Job.Denot} hub s before c.connect.new.self k h1 peered is_ready.there none
       c.attach-attached.new.self machine in
       let fed : IsFedTo {H = g.row.H.Denot} {Job = g.row.H-Job.Denot} hub s (conn_of k) before c.feed.new.self k [] h2 =
@@ -57,7 +57,7 @@ returns g c = record {
       let comes = polled_come {H = g.row.H.Denot} {Job = g.row.H-Job.Denot} hub s before c.feed.new.self k at c.args.at.is_last fed.after fed.stands
       there made
       still waits in
-      let after : List Doing = at_once k at (moment fed.after) fed.after in
+      let after : List ServerEvent = at_once k at (moment fed.after) fed.after in
       let replied = subst (λ r. Standing {H = g.row.H.Denot} hub s settled before c.reply.new.self (onto (replying at r after) after)) c.bare.ensures
       (c.in_ok-reply.ensures.said s settled before after polled comes) in (
         onto (replying at (bare_reply 200) after) after,

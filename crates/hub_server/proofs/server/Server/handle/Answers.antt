@@ -5,7 +5,7 @@ use Rattle.hub_server.specs.Lanes.{lane_of, settled}
 use Rattle.hub_server.specs.Servers.{Standing}
 use Rattle.hub_server.specs.Steps.{Handles, around, lost_in}
 use Rattle.hub_server.specs.Events.{HasHeardBytes}
-use Rattle.hub_server.proofs.NamedEvents.{heard_bytes, heard_nothing, heard_refusal, heard_response, heard_upgrade, lost_lane}
+use Rattle.hub_server.proofs.OutcomeEvents.{heard_bytes, heard_nothing, heard_refusal, heard_response, heard_upgrade, lost_lane}
 use Rattle.hub_server.proofs.server.Server.handle.Goals as goal
 
 pub returns-in-Bytes : goal.returns-in-Bytes

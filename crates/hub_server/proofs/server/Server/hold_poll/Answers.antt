@@ -1,5 +1,5 @@
 use Rattle.hj_jobs.specs.Meaning.{meaning}
-use Rattle.hd_serving.specs.Doings.{notes}
+use Rattle.hd_server.specs.Doings.{notes}
 use Rattle.hub_server.specs.Lanes.{poll_lane}
 use Rattle.hub_server.proofs.HoldPolls.{CutsLane, cuts_held, cuts_unheld, polled_stands}
 use Rattle.hub_server.proofs.server.Server.hold_poll.Goals.{in-Some, in_default}

@@ -1,7 +1,7 @@
 use Rattle.std.proofs.Common.{sym, ap, subst, ◌∙◌}
 use Rattle.std.specs.Ordering.{nat_cmp}
 use Rattle.std.specs.BTreeMap.{get}
-use Rattle.hd_serving.specs.Doings.{notes, work}
+use Rattle.hd_server.specs.Doings.{notes, work}
 use Rattle.hj_jobs.specs.Meaning.{meaning}
 use Rattle.hn_server_front.specs.Stands as front
 use Rattle.hub_server.specs.Machines.{StandsMachine}
@@ -17,7 +17,7 @@ returns g c = record {
       lets_go {H = g.row.H.Denot} {Job = g.row.H-Job.Denot} hub s u before c.args.self.now
       (record {
         base = c.leave.new.self.base;
-        machine = c.drop_conn.new.self;
+        machine = c.remove_conn.new.self;
         front = c.closed.new.self;
         callers = c.remove.new.self;
         lanes = c.leave.new.self.lanes;
@@ -27,9 +27,9 @@ returns g c = record {
       })
       c.args.conn h stands known left.base left.clock left.words left.lanes
       c.remove.ensures.updates.1 (λ k e. c.remove.ensures.updates.2 k (apart c.args.conn k e) ∙ ap (λ m. get nat_cmp m k) left.callers)
-      (λ t there. c.drop_conn.ensures.gone (work h) t
+      (λ t there. c.remove_conn.ensures.gone (work h) t
       (subst (λ m. StandsMachine {H = g.row.H.Denot} hub m (work h)) (sym left.machine) stands.machine) there)
-      (λ none. subst (λ m. StandsMachine {H = g.row.H.Denot} hub m (work h)) (sym (c.drop_conn.ensures.none
+      (λ none. subst (λ m. StandsMachine {H = g.row.H.Denot} hub m (work h)) (sym (c.remove_conn.ensures.none
       (no_peer {H = g.row.H.Denot} {Job = g.row.H-Job.Denot} hub c.leave.new.self.machine (work h) c.args.conn
       (subst (λ m. StandsMachine {H = g.row.H.Denot} hub m (work h)) (sym left.machine) stands.machine) none) ∙ left.machine)) stands.machine)
       ((c.closed.ensures (notes h) (subst (λ f. front.Stands f (notes h)) (sym left.front) stands.front)).0 known.made);

@@ -1,10 +1,10 @@
 use Rattle.std.proofs.Common.{◌≡◌, inr, ◌∷◌, [], true, false, refl, sym, ap, subst, ◌∙◌, is_some, if◌then◌else◌}
 use Rattle.std.proofs.lemmas.Bool.{and_from, and_parts, eq-eqb, or_left}
 use Rattle.hd_delivery.specs.Histories.{is_this}
-use Rattle.hd_serving.specs.Machine.{settings_of}
-use Rattle.hd_serving.specs.Lives.{LaneLost, socket_of}
-use Rattle.hd_serving.specs.Doings.{Notes, has_peer, is_granted, moment, notes, work}
-use Rattle.hd_serving.specs.Plans.{letting_go, onto}
+use Rattle.hd_server.specs.Machine.{settings_of}
+use Rattle.hd_server.specs.Lives.{LaneLost, socket_of}
+use Rattle.hd_server.specs.Doings.{Notes, has_peer, is_granted, moment, notes, work}
+use Rattle.hd_server.specs.Plans.{letting_go, onto}
 use Rattle.hj_jobs.specs.Meaning.{meaning}
 use Rattle.hn_server_front.specs.Stands as front
 use Rattle.hub_server.specs.declared.server.Server.{Server}

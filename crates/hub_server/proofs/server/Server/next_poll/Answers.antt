@@ -1,8 +1,8 @@
 use Rattle.std.proofs.Common.{ℕ, List, [], ◌∷◌}
 use Rattle.hj_jobs.specs.Meaning.{meaning}
-use Rattle.hd_serving.specs.Lives.{Polled}
-use Rattle.hd_serving.specs.Doings.{Doing, Notes, moment}
-use Rattle.hd_serving.specs.Plans.{ending_held, onto}
+use Rattle.hd_server.specs.Lives.{Polled}
+use Rattle.hd_server.specs.Doings.{ServerEvent, Notes, moment}
+use Rattle.hd_server.specs.Plans.{ending_held, onto}
 use Rattle.hub_server.specs.Connections.{IsFedTo}
 use Rattle.hub_server.proofs.HoldMoved.{come_moved, ended_still, fed_moved, hold_moved}
 use Rattle.hub_server.proofs.HoldNext.{follows_next}
@@ -14,7 +14,7 @@ returns g c = record {
       let hub = meaning g.H.Hub.begin_of g.H.Hub.step_of in
       let k : ℕ = c.args.conn in
       let at : ℕ = c.args.at.lane in
-      let h1 : List Doing = onto (ending_held k (moment h) h) h in
+      let h1 : List ServerEvent = onto (ending_held k (moment h) h) h in
       let ended = c.in_ok-end_held.ensures.ended s u before h st is can.known in
       let still = ended_still k at c.args.at.is_last (moment h) h can come in
       let fed : IsFedTo {H = g.row.H.Denot} {Job = g.row.H-Job.Denot} hub s u before c.feed.new.self k [] h1 =

@@ -1,9 +1,9 @@
 use Rattle.std.proofs.Common.{refl, sym, ap, subst, option_map, option_copied, ◌∙◌}
 use Rattle.std.proofs.lemmas.Result.{on_ok_weaker}
-use Rattle.hd_serving.specs.Doings.{moment}
-use Rattle.hd_serving.specs.Serves.{IsFed}
+use Rattle.hd_server.specs.Doings.{moment}
+use Rattle.hd_server.specs.Serves.{IsFed}
 use Rattle.hub_server.specs.Lanes.{HasLane, IsLane}
-use Rattle.hub_server.proofs.NamedOn.{kept_polls, kept_stands, kept_there, none_kept}
+use Rattle.hub_server.proofs.OutcomeOn.{kept_polls, kept_stands, kept_there, none_kept}
 use Rattle.hub_server.proofs.server.Server.on_bytes.Goals as goal
 
 pub returns-in-Some : goal.returns-in-Some

@@ -1,5 +1,5 @@
 use Rattle.std.proofs.Common.{sym, subst, ◌∙◌}
-use Rattle.hd_serving.specs.Doings.{notes}
+use Rattle.hd_server.specs.Doings.{notes}
 use Rattle.hj_jobs.specs.Meaning.{meaning}
 use Rattle.hub_server.specs.Servers.{Standing}
 use Rattle.hub_server.proofs.Ends.{apart}

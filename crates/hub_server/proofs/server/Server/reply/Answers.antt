@@ -1,7 +1,7 @@
 use Rattle.std.proofs.Common.{◌≡◌, ◌∷◌, ◌++◌, [], ap, ◌∙◌}
-use Rattle.hd_serving.specs.declared.vocabulary.Said.TheVariants as say
+use Rattle.hd_server.specs.declared.vocabulary.Said.TheVariants as say
 use Rattle.hj_jobs.specs.Meaning.{meaning}
-use Rattle.hub_server.proofs.NamedReplies.{ends, ends_last, ends_not, ends_refused, replied_last, replied_only}
+use Rattle.hub_server.proofs.OutcomeReplies.{ends, ends_last, ends_not, ends_refused, replied_last, replied_only}
 use Rattle.hub_server.proofs.server.Server.reply.Goals.{then-reply-eq400, else-reply-eq400+then-at, else-reply-eq400+else-at}
 use Rattle.hub_server.proofs.server.Server.reply.Goals as goal
 

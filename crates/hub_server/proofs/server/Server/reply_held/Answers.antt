@@ -2,7 +2,7 @@ use Rattle.std.proofs.Common.{◌≡◌, ◌==◌, Bool, not, ◌&&◌, ◌||◌
 use Rattle.std.specs.Ordering.{nat_cmp}
 use Rattle.std.specs.BTreeMap.{get}
 use Rattle.std.proofs.lemmas.Bool.{and_left, and_right, eq-eqb, ne_eqb, not_from_true}
-use Rattle.hd_serving.specs.Doings.{wants_shut, was_refused}
+use Rattle.hd_server.specs.Doings.{wants_shut, was_refused}
 use Rattle.hj_jobs.specs.Meaning.{meaning}
 use Rattle.hub_server.specs.Servers.{Standing}
 use Rattle.hub_server.proofs.GoneServer.{none_kept, replied_open, replied_shut, some_flags, test_first, test_none, test_second}

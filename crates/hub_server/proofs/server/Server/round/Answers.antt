@@ -1,7 +1,7 @@
 use Rattle.hj_jobs.specs.Meaning.{meaning}
-use Rattle.hd_serving.specs.Doings.{work}
+use Rattle.hd_server.specs.Doings.{work}
 use Rattle.hub_server.proofs.Carry.{on_ok}
-use Rattle.hub_server.proofs.WhirlRound.{rounded}
+use Rattle.hub_server.proofs.RoundKeepsServer.{rounded}
 use Rattle.hub_server.proofs.server.Server.round.Goals as goal
 
 pub returns : goal.returns

@@ -1,5 +1,5 @@
 use Rattle.std.proofs.Common.{false, sym, ap, subst}
-use Rattle.hd_serving.specs.Doings.{said}
+use Rattle.hd_server.specs.Doings.{said}
 use Rattle.hj_jobs.specs.Meaning.{meaning}
 use Rattle.hub_server.specs.Lanes.{settled}
 use Rattle.hub_server.specs.Servers.{Standing}

@@ -31,9 +31,9 @@ returns-then-saturating_sub-ge-HELD_FOR g c = on_ok c.answer_poll-then-saturatin
     c.if-saturating_sub-ge-HELD_FOR.true (omega arith) answers) c.answer_poll-then-saturating_sub-ge-HELD_FOR.ensures.answered
 
 pub returns : goal.returns
-returns g c = on_ok c.rest.result _ _ (λ rests s u before h x calm there held.
+returns g c = on_ok c.park.result _ _ (λ rests s u before h x calm there held.
     polls_on {H = g.row.H.Denot} {Job = g.row.H-Job.Denot}
     (meaning g.H.Hub.begin_of g.H.Hub.step_of) s u before c.args.self.now c.say_some.new.self c.args.conn c.args.held.lane c.args.held.since
     c.in_ok-say_some.field-0 c.new-body.result.items c.say_some.new.body.items h c.new-body.ensures.items x calm there held c.in_ok-say_some.ensures
-    c.is_closed.result c.saturating_sub.result c.rest.new.self c.if-branch.false c.if-is_closed.false c.is_closed.ensures.there
-    c.saturating_sub.ensures c.if-saturating_sub-ge-HELD_FOR.false rests) c.rest.ensures
+    c.is_closed.result c.saturating_sub.result c.park.new.self c.if-branch.false c.if-is_closed.false c.is_closed.ensures.there
+    c.saturating_sub.ensures c.if-saturating_sub-ge-HELD_FOR.false rests) c.park.ensures

@@ -1,7 +1,7 @@
 use Rattle.std.proofs.Common.{subst}
-use Rattle.hd_serving.specs.Doings.{moment}
-use Rattle.hd_serving.specs.Plans.{onto}
-use Rattle.hd_serving.specs.Serves.{ending}
+use Rattle.hd_server.specs.Doings.{moment}
+use Rattle.hd_server.specs.Plans.{onto}
+use Rattle.hd_server.specs.Serves.{ending}
 use Rattle.hj_jobs.specs.Meaning.{meaning}
 use Rattle.hub_server.specs.Servers.{Standing}
 use Rattle.hub_server.proofs.TellOne.{on_ok, tells_held, tells_nothing}

@@ -1,7 +1,7 @@
 use Rattle.std.proofs.Common.{sym, subst, ◌∙◌}
-use Rattle.hd_serving.specs.Doings.{moment, notes}
-use Rattle.hd_serving.specs.Plans.{onto}
-use Rattle.hd_serving.specs.Serves.{ticking}
+use Rattle.hd_server.specs.Doings.{moment, notes}
+use Rattle.hd_server.specs.Plans.{onto}
+use Rattle.hd_server.specs.Serves.{ticking}
 use Rattle.hj_jobs.specs.Meaning.{meaning}
 use Rattle.hub_server.specs.Servers.{Standing}
 use Rattle.hub_server.proofs.TickOne.{lost_shut, lost_shut_before, muted, ticked, unattached}

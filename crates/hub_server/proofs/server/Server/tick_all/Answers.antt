@@ -8,9 +8,9 @@ use Rattle.hub_server.proofs.server.Server.tick_all.Goals as goal
 pub loop-conn-init : goal.loop-conn-init
 loop-conn-init g c =
     ticks_begin {H = g.row.H.Denot} {Job = g.row.H-Job.Denot} (meaning g.H.Hub.begin_of g.H.Hub.step_of) c.args.self.now
-    c.deref-conn-items.result.now c.ring.new.self c.pass.new.self c.in_ok-ring.ensures.stands c.in_ok-ring.ensures.rung
-    (λ w s. subst (λ cs. AreNumbers {H = g.row.H.Denot} c.ring.new.self cs) (sym c.deref-conn-items.ensures.value) (c.in_ok-conns.ensures w s))
-    c.pass.ensures.passed
+    c.deref-conn-items.result.now c.wake_expired.new.self c.advance_clock.new.self c.in_ok-wake_expired.ensures.stands c.in_ok-wake_expired.ensures.rung
+    (λ w s. subst (λ cs. AreNumbers {H = g.row.H.Denot} c.wake_expired.new.self cs) (sym c.deref-conn-items.ensures.value) (c.in_ok-conns.ensures w s))
+    c.advance_clock.ensures.passed
 
 pub loop-conn-preserved : goal.loop-conn-preserved
 loop-conn-preserved g c =

@@ -10,7 +10,7 @@ returns g c = record {
   turn = λ s before h stands rested may.
       let hub = meaning g.H.Hub.begin_of g.H.Hub.step_of in
       turns_through {H = g.row.H.Denot} {Job = g.row.H-Job.Denot} hub s before c.hear.new.self c.expire.new.self c.handle.new.self c.tick_all.new.self
-      c.round.new.self c.tell_all.new.self
+      c.round.new.self c.flush_all.new.self
       (around (g.K.Keeper.holds c.args.keeper.now) (g.K.Keeper.answers c.args.keeper.now) (g.K.Keeper.faults c.args.keeper.now)
       (g.L.Lots.drawn c.args.lots.now) (g.L.Lots.faults c.args.lots.now))
       (around (g.K.Keeper.holds c.handle.new.keeper) (g.K.Keeper.answers c.handle.new.keeper) (g.K.Keeper.faults c.handle.new.keeper)
@@ -18,7 +18,7 @@ returns g c = record {
       (around (g.K.Keeper.holds c.round.new.keeper) (g.K.Keeper.answers c.round.new.keeper) (g.K.Keeper.faults c.round.new.keeper)
       (g.L.Lots.drawn c.handle.new.lots) (g.L.Lots.faults c.handle.new.lots))
       c.args.heard.now c.args.heard.event h refl refl c.answers_join.ensures
-      (λ f x. c.in_ok-tell_all.ensures s settled before f x refl)
+      (λ f x. c.in_ok-flush_all.ensures s settled before f x refl)
       (λ f x. c.in_ok-tick_all.ensures s settled before f x refl)
       (λ f x. c.in_ok-round.ensures s settled before f x)
       (λ f x. c.in_ok-handle.ensures s before f x)

@@ -1,5 +1,5 @@
 use Rattle.std.proofs.Common.{[], ◌∷◌, sym, subst}
-use Rattle.hd_serving.specs.declared.vocabulary.Said.TheVariants as say
+use Rattle.hd_server.specs.declared.vocabulary.Said.TheVariants as say
 use Rattle.hub_server.specs.Words.{AreReplies}
 use Rattle.hub_server.proofs.StepWords.{replies_append}
 use Rattle.hub_server.proofs.words.Words.bytes.Goals as goal

@@ -1,5 +1,5 @@
 use Rattle.std.proofs.Common.{refl}
-use Rattle.hw_door.specs.declared.ledger.Note.TheVariants as note
+use Rattle.hw_door.specs.declared.ledger.WireCall.TheVariants as note
 use Rattle.hw_door.specs.Wires.{at_wire, with_shut}
 use Rattle.hw_door.specs.Traffic.{was_shut}
 use Rattle.hw_door.proofs.Writings.{told_still, told_changed, left_still}

@@ -3,5 +3,5 @@ use Rattle.hw_net.proofs.door.NetDoor.hear.Goals as goal
 
 pub returns-clause-hears : goal.returns-clause-hears
 returns-clause-hears g c =
-    let heard = rw c.begin-begin.ensures.still at (rw c.in-Some.is at c.in_ok-event.ensures.hears) in
+    let heard = rw c.begin-begin.ensures.others_unchanged at (rw c.in-Some.is at c.in_ok-event.ensures.hears) in
     rw c.remember.ensures (heard.0, heard.1, (Some c.in-Some.event, c.begin-begin.result, search rules, heard.2, refl, search rules, search rules))

@@ -13,4 +13,4 @@ returns-then-must_end-clause-said g c =
     let must : must_end mid.stage (length (waits mid)) c.write-is_whole.result ≡ true = search rules in
     subst (λ (l : Lane). (answers : List Answer) × Tells (told c.args.wires.now) (told c.end.new.wires) answers × WritesOut c.args.self.now l answers) (sym c.end.ensures.ended)
     (said-ended (told c.args.wires.now) (told c.write-is_whole.new.wires) (told c.end.new.wires) c.args.self.now mid c.write-is_whole.result
-    c.write-is_whole.ensures.written c.write-is_whole.ensures.still c.write-is_whole.ensures.stage must c.end.ensures.shut)
+    c.write-is_whole.ensures.written c.write-is_whole.ensures.others_unchanged c.write-is_whole.ensures.stage must c.end.ensures.shut)

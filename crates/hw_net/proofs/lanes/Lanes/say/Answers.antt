@@ -27,8 +27,8 @@ pub returns-clause-lanes : goal.returns-clause-lanes
 returns-clause-lanes g c =
     wires-kept c.self.inside.items.items c.args.place c.index_mut-lane.result.now c.say.new.self (search rules) ∙ search rules
 
-pub returns-then-not-is_lagging-clause-said : goal.returns-then-not-is_lagging-clause-said
-returns-then-not-is_lagging-clause-said g c =
+pub returns-then-not-has_unwritten-clause-said : goal.returns-then-not-has_unwritten-clause-said
+returns-then-not-has_unwritten-clause-said g c =
     let lanes = c.args.self.now.items in
     let lane = c.index.result.now in
     ([], tells-none (g.W.Wires.told c.args.wires.now), says-nothing lanes c.args.place lane (search rules) (search rules))

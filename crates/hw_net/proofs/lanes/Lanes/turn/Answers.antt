@@ -31,5 +31,5 @@ returns-clause-turned g c =
     let told = g.W.Wires.told in
     let found : get_or c.args.self.now.items c.args.place c.index_mut-lane.result.now ≡ c.index_mut-lane.result.now = search rules in
     let within : c.args.place < length c.args.self.now.items = search rules in
-    turns-here c.turn-heard.result (told c.args.wires.now) (told c.turn-heard.new.wires) c.args.now c.args.place c.args.self.now.items _ c.index_mut-lane.result.now c.turn-heard.new.self c.args.buf.now c.args.glance
+    turns-here c.turn-heard.result (told c.args.wires.now) (told c.turn-heard.new.wires) c.args.now c.args.place c.args.self.now.items _ c.index_mut-lane.result.now c.turn-heard.new.self c.args.buf.now c.args.first_look
     within found (search rules) c.turn-heard.ensures.turned

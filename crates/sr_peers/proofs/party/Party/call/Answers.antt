@@ -15,6 +15,6 @@ pub returns-in_ok-refuse-in-Err : goal.returns-in_ok-refuse-in-Err
 returns-in_ok-refuse-in-Err g c = λ t h plays.
     let call = heard_call t h c.args.kind c.args.target c.args.arguments c.args.uploads in
     unasked {H = g.row.H.Denot} _ t h c.args.self.now plays c.call.new.self c.args.report.now.items c.refuse.new.report.items
-    (Calls None (number_after c.args.kind c.args.uploads (drawn h)) call) (IsRefusedCall t h call) c.in-Err.why (c.in-Err.ensures.kept t h plays.stands)
+    (Calls None (number_after c.args.kind c.args.uploads (drawn h)) call) (IsRefusedCall t h call) c.in-Err.why (c.in-Err.ensures.unchanged t h plays.stands)
     c.in_ok-refuse-in-Err.ensures.some (c.asks_are_told.ensures.calls t h call c.in-Err.why (c.in-Err.ensures.refused t h plays.stands))
     c.in_ok-refuse-in-Err.ensures.told

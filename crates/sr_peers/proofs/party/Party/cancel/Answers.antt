@@ -15,5 +15,5 @@ pub returns-in_ok-refuse-in-Err : goal.returns-in_ok-refuse-in-Err
 returns-in_ok-refuse-in-Err g c = λ t h plays.
     let told = c.asks_are_told.ensures.cancels t h c.args.call c.in-Err.why (c.in-Err.ensures.refused t h plays.stands) in
     unasked {H = g.row.H.Denot} _ t h c.args.self.now plays c.cancel.new.self c.args.report.now.items c.refuse.new.report.items
-    (Cancels c.args.call) (IsRefusedCancel t h c.args.call) c.in-Err.why (c.in-Err.ensures.kept t h plays.stands)
+    (Cancels c.args.call) (IsRefusedCancel t h c.args.call) c.in-Err.why (c.in-Err.ensures.unchanged t h plays.stands)
     c.in_ok-refuse-in-Err.ensures.some told c.in_ok-refuse-in-Err.ensures.told

@@ -18,5 +18,5 @@ returns-in_ok-refuse-in-Err g c = λ t h plays.
     let item = upload_item t h c.args.value in
     let told = c.asks_are_told.ensures.uploads t h c.args.call 0 item c.in-Err.why (c.in-Err.ensures.refused t h plays.stands) in
     unasked {H = g.row.H.Denot} _ t h c.args.self.now plays c.upload_item.new.self c.args.report.now.items c.refuse.new.report.items
-    (Uploads c.args.call 0 item) (IsRefusedUpload t h c.args.call 0 item) c.in-Err.why (c.in-Err.ensures.kept t h plays.stands)
+    (Uploads c.args.call 0 item) (IsRefusedUpload t h c.args.call 0 item) c.in-Err.why (c.in-Err.ensures.unchanged t h plays.stands)
     c.in_ok-refuse-in-Err.ensures.some told c.in_ok-refuse-in-Err.ensures.told

@@ -1,5 +1,5 @@
 use Rattle.std.proofs.Common.{◌++◌, refl, ap, ◌∙◌, subst, arith}
-use Rattle.hq_resend.specs.Bounds.{AreLimits}
+use Rattle.hd_delivery.specs.Bounds.{AreLimits}
 use Rattle.he_end.specs.Stands.{limits_of}
 use Rattle.sr_peers.specs.Plays.{TakesOne}
 use Rattle.sr_peers.proofs.Going.{taken_none, taken_more, taken_all, taken_few}

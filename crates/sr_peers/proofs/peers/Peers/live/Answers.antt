@@ -1,6 +1,6 @@
 use Rattle.std.proofs.Common.{◌≡◌, arith}
 use Rattle.hd_delivery.specs.declared.vocabulary.Side.TheVariants.{Client, Server}
-use Rattle.hd_runs.specs.Sides.{history}
+use Rattle.hd_delivery.specs.Sides.{history}
 use Rattle.hd_calls.specs.Rules.{own_live}
 use Rattle.hd_calls.specs.PeerWorlds.{settings}
 use Rattle.hp_peer.specs.Laws.{IsSound}

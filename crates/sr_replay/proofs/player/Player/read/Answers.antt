@@ -1,6 +1,6 @@
 use Rattle.std.proofs.Common.{◌≡◌, ◌≤◌, ◌<◌, ◌++◌, ◌-◌, ℕ, List, length, take, drop, refl, ap, ◌∙◌, subst, arith, length-drop, length-take}
 use Rattle.std.proofs.lemmas.List.{take_rest}
-use Rattle.hd_runs.specs.Alone.{reading}
+use Rattle.hd_delivery.specs.Alone.{reading}
 use Rattle.sr_replay.specs.Plays.{Feeds, limits_at}
 use Rattle.sr_replay.proofs.ReadsOn.{read_none, read_end, read_stop, read_on, plays_fed, left}
 use Rattle.sr_replay.proofs.player.Player.read.Goals as goal

@@ -1,8 +1,8 @@
 use Rattle.std.proofs.Common.{◌<◌, ◌++◌, length, refl, ◌∙◌, subst, arith}
-use Rattle.hq_resend.specs.Bounds.{AreLimits}
+use Rattle.hd_delivery.specs.Bounds.{AreLimits}
 use Rattle.sr_script.specs.declared.action.Count.TheVariants.{Everything}
 use Rattle.sr_replay.specs.Plays.{Goes, steps_text, limits_at, most_steps}
-use Rattle.hd_runs.specs.Alone.{taking}
+use Rattle.hd_delivery.specs.Alone.{taking}
 use Rattle.sr_replay.proofs.Going.{steps_add, gone_none, gone_on, all_done, taken_few}
 use Rattle.sr_replay.proofs.player.Player.take_all.Goals as goal
 

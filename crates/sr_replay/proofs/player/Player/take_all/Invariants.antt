@@ -2,7 +2,7 @@ use Rattle.std.proofs.Common.{◌≡◌, List}
 use Rattle.hd_delivery.specs.Histories as of
 use Rattle.hd_delivery.specs.Bytes.{Wire, ByteStep}
 use Rattle.sr_replay.specs.Plays.{Plays, limits_at, steps_text}
-use Rattle.hd_runs.specs.Alone.{taking}
+use Rattle.hd_delivery.specs.Alone.{taking}
 use Rattle.sr_replay.proofs.Going.{HasGone}
 use Rattle.sr_replay.proofs.player.Player.take_all.Given as goal
 

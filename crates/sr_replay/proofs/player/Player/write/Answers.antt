@@ -1,7 +1,7 @@
 use Rattle.std.proofs.Common.{◌≡◌, ◌++◌, refl, ◌∙◌, subst, arith}
 use Rattle.sr_replay.specs.Plays.{Goes, limits_at, most_steps}
-use Rattle.hd_runs.specs.Alone.{lent_text}
-use Rattle.hd_runs.specs.Alone.{writing}
+use Rattle.hd_delivery.specs.Alone.{lent_text}
+use Rattle.hd_delivery.specs.Alone.{writing}
 use Rattle.sr_replay.proofs.Going.{HasGone, lent_add, gone_none, gone_on, up_to_done, up_to_most, written_few}
 use Rattle.sr_replay.proofs.player.Player.write.Goals as goal
 

@@ -2,8 +2,8 @@ use Rattle.std.proofs.Common.{◌≡◌, List}
 use Rattle.hd_delivery.specs.Histories as of
 use Rattle.hd_delivery.specs.Bytes.{Wire, ByteStep}
 use Rattle.sr_replay.specs.Plays.{Plays, limits_at}
-use Rattle.hd_runs.specs.Alone.{lent_text}
-use Rattle.hd_runs.specs.Alone.{writing}
+use Rattle.hd_delivery.specs.Alone.{lent_text}
+use Rattle.hd_delivery.specs.Alone.{writing}
 use Rattle.sr_replay.proofs.Going.{HasGone}
 use Rattle.sr_replay.proofs.player.Player.write.Given as goal
 

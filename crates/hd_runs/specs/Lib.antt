@@ -1,4 +1,0 @@
-pub mod Following
-pub mod Sides
-pub mod Alone
-pub mod Laws

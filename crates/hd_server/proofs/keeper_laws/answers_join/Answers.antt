@@ -1,5 +1,0 @@
-use Rattle.hd_server.proofs.Joins.{did_join, faults_join}
-use Rattle.hd_server.proofs.keeper_laws.answers_join.Goals as goal
-
-pub returns : goal.returns
-returns c = record { kept = did_join; faults = faults_join }

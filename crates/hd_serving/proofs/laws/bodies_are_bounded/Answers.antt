@@ -1,5 +1,0 @@
-use Rattle.hd_serving.proofs.Bodies.{bodies_are_bounded}
-use Rattle.hd_serving.proofs.laws.bodies_are_bounded.Goals as goal
-
-pub returns : goal.returns
-returns c = bodies_are_bounded

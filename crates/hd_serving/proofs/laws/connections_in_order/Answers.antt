@@ -1,5 +1,0 @@
-use Rattle.hd_serving.proofs.InOrder.{connections_in_order}
-use Rattle.hd_serving.proofs.laws.connections_in_order.Goals as goal
-
-pub returns : goal.returns
-returns c = connections_in_order

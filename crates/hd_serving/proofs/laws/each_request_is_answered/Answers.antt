@@ -1,5 +1,0 @@
-use Rattle.hd_serving.proofs.RepliesAll.{each_request_is_answered}
-use Rattle.hd_serving.proofs.laws.each_request_is_answered.Goals as goal
-
-pub returns : goal.returns
-returns g c = each_request_is_answered

@@ -1,5 +1,0 @@
-use Rattle.hd_serving.proofs.Tests.{fates_are_refusals}
-use Rattle.hd_serving.proofs.laws.fates_are_refusals.Goals as goal
-
-pub returns : goal.returns
-returns c = fates_are_refusals c.image_is_its_image.ensures

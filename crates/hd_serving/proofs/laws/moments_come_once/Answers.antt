@@ -1,5 +1,0 @@
-use Rattle.hd_serving.proofs.Once.{moments_come_once}
-use Rattle.hd_serving.proofs.laws.moments_come_once.Goals as goal
-
-pub returns : goal.returns
-returns c = moments_come_once

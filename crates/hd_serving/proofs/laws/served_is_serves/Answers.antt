@@ -1,5 +1,0 @@
-use Rattle.hd_serving.proofs.Served.{served_is_serves}
-use Rattle.hd_serving.proofs.laws.served_is_serves.Goals as goal
-
-pub returns : goal.returns
-returns g c = served_is_serves

@@ -1,5 +1,0 @@
-use Rattle.hd_serving.proofs.Grown.{servers_are_peers}
-use Rattle.hd_serving.proofs.laws.servers_are_peers.Goals as goal
-
-pub returns : goal.returns
-returns g c = servers_are_peers c.turns_go_further.ensures

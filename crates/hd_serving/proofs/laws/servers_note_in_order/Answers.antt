@@ -1,5 +1,0 @@
-use Rattle.hd_serving.proofs.Orderly.{servers_note_in_order}
-use Rattle.hd_serving.proofs.laws.servers_note_in_order.Goals as goal
-
-pub returns : goal.returns
-returns g c = servers_note_in_order

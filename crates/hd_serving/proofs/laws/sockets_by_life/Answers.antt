@@ -1,5 +1,0 @@
-use Rattle.hd_serving.proofs.SocketAnswers.{sockets_by_life}
-use Rattle.hd_serving.proofs.laws.sockets_by_life.Goals as goal
-
-pub returns : goal.returns
-returns c = sockets_by_life

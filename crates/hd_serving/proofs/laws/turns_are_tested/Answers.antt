@@ -1,5 +1,0 @@
-use Rattle.hd_serving.proofs.Tests.{turns_are_tested}
-use Rattle.hd_serving.proofs.laws.turns_are_tested.Goals as goal
-
-pub returns : goal.returns
-returns c = turns_are_tested

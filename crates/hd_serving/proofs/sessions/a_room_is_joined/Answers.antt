@@ -1,5 +1,0 @@
-use Rattle.hd_serving.proofs.OneSession.{served}
-use Rattle.hd_serving.proofs.sessions.a_room_is_joined.Goals as goal
-
-pub returns : goal.returns
-returns c = served

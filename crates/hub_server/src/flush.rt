@@ -1,0 +1,217 @@
+//! Ticks, and what is said at the end of an event, connection by connection.
+
+ghost use Rattle.std.specs.Prelude.{◌≡◌, ◌+◌, ℕ, List, OnOk, Some as Given, None as Absent, nat_le, true, not};
+ghost use Rattle.hd_server.specs.Doings.{ServerEvent, has_peer, moment, notes, was_refused};
+ghost use Rattle.hd_server.specs.Lives.{is_polling, poll_of, socket_of};
+ghost use Rattle.hd_server.specs.Plans.{frames_reply, onto, shutting};
+ghost use Rattle.hd_server.specs.Serves.{ending, ticking, ticks};
+ghost use Rattle.hj_jobs.specs.Meaning.{meaning};
+ghost use Rattle.hd_server.specs.Numbers.{held_for};
+ghost use Rattle.hub_server.specs.Lanes.{is_at, settled};
+ghost use Rattle.hub_server.specs.Machines.{idle_peer_at};
+ghost use Rattle.hub_server.specs.Servers.{OfEach, Standing};
+ghost use Rattle.hub_server.specs.Steps.{IsTold};
+ghost use Rattle.hub_server.specs.Tells.{TellsOne, TellsPoll, Writes};
+
+use crate::requests::bare;
+use crate::server::Server;
+use hd_server::HELD_FOR;
+use hj_jobs::Hub;
+use hn_server_front::Held;
+use hw_lanes::{BodyKind, Reply, Vec8};
+use std::alloc::{AllocError, Global};
+
+impl<H: Hub> Server<H> {
+    // ---- ticks
+
+    /// Each end on a link ticks once.
+    pub(crate) fn tick_all(&mut self, alloc: Global) -> Result<(), AllocError>
+        ensures { OnOk result (OfEach (meaning H.begin_of H.step_of) self.old (λ s u before h. u ≡ settled →
+            Standing (meaning H.begin_of H.step_of) s u before self.new (onto (ticks (moment h) h) h))) }
+    {
+        self.machine.wake_expired(alloc, self.moment)?;
+        let conns = self.machine.awake(alloc)?;
+        self.machine.advance_clock(self.moment);
+        for &conn in &conns {
+            self.tick(conn)?;
+        }
+        Ok(())
+    }
+
+    /// The end of a connection ticks, if it stands on a link. A silence is a loss, and its lane is to end.
+    fn tick(&mut self, conn: u64) -> Result<(), AllocError>
+        ensures { OnOk result (OfEach (meaning H.begin_of H.step_of) self.old (λ s u before h. u ≡ settled → has_peer conn h ≡ true →
+            Standing (meaning H.begin_of H.step_of) s u before self.new (onto (ticking (moment h) conn h) h))) }
+    {
+        if !self.machine.is_attached(conn) {
+            return Ok(());
+        }
+        let granted = self.is_granted(conn);
+        if !self.machine.tick(conn, self.moment) {
+            return Ok(());
+        }
+        let Some(lane) = self.front.lane(conn) else {
+            return Ok(());
+        };
+        let shuts = self.may_shut(lane);
+        self.lose(conn, lane, granted);
+        if shuts {
+            self.words.shut(lane)?;
+        }
+        Ok(())
+    }
+
+    /// Whether the door hasn't shut a lane on which a connection is.
+    pub(crate) fn may_shut(&self, lane: u64) -> bool
+        ensures { OfEach (meaning H.begin_of H.step_of) self.now (λ s u before h. (c : ℕ) → is_at lane c h ≡ true → result ≡ not (was_refused lane h)) }
+    {
+        match self.lanes.get(&lane) {
+            Some(kept) => !kept.is_refused,
+            None => true,
+        }
+    }
+
+    /// The lane of a connection is to end, unless the door has shut it.
+    pub(crate) fn shut(&mut self, lane: u64) -> Result<(), AllocError>
+        ensures { OnOk result (OfEach (meaning H.begin_of H.step_of) self.old (λ s u before h. (c : ℕ) → is_at lane c h ≡ true →
+            Standing (meaning H.begin_of H.step_of) s u before self.new (onto (shutting lane h) h))) }
+    {
+        if !self.may_shut(lane) {
+            return Ok(());
+        }
+        self.words.shut(lane)?;
+        Ok(())
+    }
+
+    // ---- what is said
+
+    /// Each connection says what is due.
+    pub(crate) fn flush_all(&mut self, alloc: Global) -> Result<(), AllocError>
+        ensures { OnOk result (OfEach (meaning H.begin_of H.step_of) self.old (λ s u before h. u ≡ settled →
+            IsTold (meaning H.begin_of H.step_of) s before self.new h)) }
+    {
+        self.wake_pollers();
+        let conns = self.machine.awake(alloc)?;
+        for &conn in &conns {
+            self.flush(alloc, conn)?;
+        }
+        Ok(())
+    }
+
+    /// Connections whose polls were held for as long as they may be wake.
+    fn wake_pollers(&mut self)
+        ensures stands { OfEach (meaning H.begin_of H.step_of) self.old (λ s u before h. Standing (meaning H.begin_of H.step_of) s u before self.new h) }
+        ensures awake { OfEach (meaning H.begin_of H.step_of) self.old (λ s u before h. (c lane since : ℕ) → poll_of c (notes h) ≡ Given (lane, since) → has_peer c h ≡ true →
+            nat_le (since + held_for) (moment h) ≡ true → idle_peer_at self.new.machine c ≡ Absent) }
+    {
+        for waiting in self.front.held_long(self.moment) {
+            self.machine.wake(waiting.conn);
+        }
+    }
+
+    /// A connection says what is due, on its socket or by the poll that it holds. Of one that is closed nothing is kept once that is said.
+    fn flush(&mut self, alloc: Global, conn: u64) -> Result<(), AllocError>
+        ensures { OnOk result (OfEach (meaning H.begin_of H.step_of) self.old (λ s u before h. u ≡ settled → has_peer conn h ≡ true →
+            TellsOne (meaning H.begin_of H.step_of) s before self.new conn (socket_of conn (notes h)) (poll_of conn (notes h)) h)) }
+    {
+        match self.front.lane(conn) {
+            Some(lane) => self.flush_socket(alloc, conn, lane),
+            None if self.front.polls(conn) => self.tell_poller(alloc, conn),
+            None => {
+                if self.machine.is_closed(conn) {
+                    self.let_go(conn);
+                    return Ok(());
+                }
+                self.machine.park(conn)
+            }
+        }
+    }
+
+    /// On a socket: in one message, if anything is due.
+    fn flush_socket(&mut self, alloc: Global, conn: u64, lane: u64) -> Result<(), AllocError>
+        ensures { OnOk result (OfEach (meaning H.begin_of H.step_of) self.old (λ s u before h. u ≡ settled → has_peer conn h ≡ true → socket_of conn (notes h) ≡ Given lane →
+            TellsOne (meaning H.begin_of H.step_of) s before self.new conn (Given lane) (poll_of conn (notes h)) h)) }
+    {
+        self.write(alloc, conn, lane)?;
+        if !self.machine.is_closed(conn) {
+            return self.machine.park(conn);
+        }
+        self.shut(lane)?;
+        self.let_go(conn);
+        Ok(())
+    }
+
+    /// What is due is written there.
+    fn write(&mut self, alloc: Global, conn: u64, lane: u64) -> Result<(), AllocError>
+        ensures { OnOk result (OfEach (meaning H.begin_of H.step_of) self.old (λ s u before h. has_peer conn h ≡ true →
+            Writes (meaning H.begin_of H.step_of) s u before self.new conn lane h)) }
+    {
+        let text = self.machine.is_text(conn);
+        let mut bytes = Vec::new(alloc);
+        if !self.machine.say_all(conn, &mut bytes)? {
+            return Ok(());
+        }
+        self.words.bytes(lane, Vec8::from_vec(bytes), text)?;
+        Ok(())
+    }
+
+    /// Of one that polls: by the poll that it holds. If it is closed, its token is ending.
+    fn tell_poller(&mut self, alloc: Global, conn: u64) -> Result<(), AllocError>
+        ensures { OnOk result (OfEach (meaning H.begin_of H.step_of) self.old (λ s u before h. u ≡ settled → has_peer conn h ≡ true → socket_of conn (notes h) ≡ Absent →
+            is_polling conn (notes h) ≡ true → TellsOne (meaning H.begin_of H.step_of) s before self.new conn Absent (poll_of conn (notes h)) h)) }
+    {
+        self.end_poller(conn);
+        match self.front.held(conn) {
+            Some(held) => self.tell_poll(alloc, conn, held),
+            None => Ok(()),
+        }
+    }
+
+    /// The token of one that polls is ending, if it is closed.
+    fn end_poller(&mut self, conn: u64)
+        ensures { OfEach (meaning H.begin_of H.step_of) self.old (λ s u before h. has_peer conn h ≡ true → is_polling conn (notes h) ≡ true →
+            Standing (meaning H.begin_of H.step_of) s u before self.new (onto (ending (moment h) conn h) h)) }
+    {
+        if !self.machine.is_closed(conn) {
+            return;
+        }
+        if self.front.is_ending(conn) {
+            return;
+        }
+        self.front.ending(conn, self.moment);
+    }
+
+    /// The poll that is held ends with what is due; without any, if its connection is closed, of which nothing is kept then; or after 90,000
+    /// milliseconds.
+    fn tell_poll(&mut self, alloc: Global, conn: u64, held: Held) -> Result<(), AllocError>
+        ensures { OnOk result (OfEach (meaning H.begin_of H.step_of) self.old (λ s u before h. u ≡ settled → has_peer conn h ≡ true →
+            poll_of conn (notes h) ≡ Given (held.lane, held.since) →
+            TellsPoll (meaning H.begin_of H.step_of) s before self.new conn (held.lane, held.since) h)) }
+    {
+        let mut body = Vec::new(alloc);
+        if self.machine.say_some(conn, &mut body)? {
+            return self.answer_poll(conn, held.lane, frames(body));
+        }
+        if self.machine.is_closed(conn) {
+            self.reply_held(held.lane, bare(alloc, 204))?;
+            self.let_go(conn);
+            return Ok(());
+        }
+        if self.moment.saturating_sub(held.since) >= HELD_FOR {
+            return self.answer_poll(conn, held.lane, bare(alloc, 200));
+        }
+        self.machine.park(conn)
+    }
+}
+
+/// The frames of a poll, as its reply.
+fn frames(body: Vec<u8>) -> Reply
+    ensures { result ≡ frames_reply body.items }
+{
+    Reply {
+        status: 200,
+        kind: BodyKind::Octets,
+        body: Vec8::from_vec(body),
+        accept: None,
+    }
+}

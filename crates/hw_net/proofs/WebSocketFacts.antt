@@ -1,0 +1,46 @@
+-- How a read of a wire and one of a WebSocket come to one turn.
+use Rattle.std.proofs.Common.{◌≡◌, ◌≤◌, ℕ, List, [], ◌∷◌, Bool, true, Option, Some, IfOk, Result, Ok, Err, refl, sym, subst, ◌∙◌, arith}
+use Rattle.hw_door.specs.Traffic.{Answer}
+use Rattle.hw_socket.specs.Reading.{Feeds}
+use Rattle.hw_net.specs.declared.limits.TheConstants.{PIECE}
+use Rattle.hw_net.specs.declared.input.Input.{Input}
+use Rattle.hw_net.specs.declared.input.Input.TheVariants as input
+use Rattle.hw_net.specs.Told.{Tells, Reads}
+use Rattle.hw_net.specs.WebSocketState.{WebSocketState, HearsWebSocket, ReadsInto, Finds, IsInput, room_of}
+
+pub room-wants_read : (before : WebSocketState) → before.wants_read ≡ true → room_of before ≡ PIECE
+room-wants_read before e = rw e refl
+
+pub websocket_state-reads : (a b : Option (List Answer)) (wire room : ℕ) (before after : WebSocketState) (piece : List ℕ) → before.wants_read ≡ true → room ≡ PIECE →
+    ((answer : Answer) × Tells a b (answer ∷ []) × Reads wire room answer (Some piece)) → Feeds before.lane piece after.lane → after.lost_bytes ≡ before.lost_bytes →
+    (answers : List Answer) × Tells a b answers × ReadsInto wire before after answers true
+websocket_state-reads a b wire room before after piece wants_read size h fed same_spoiled =
+    let same : room ≡ room_of before = size ∙ sym (room-wants_read before wants_read) in
+    let some : 1 ≤ room_of before = omega (arith, room-wants_read before wants_read) in (
+      h.0 ∷ [],
+      h.1,
+      record {
+        got = Some piece;
+        read = (some, subst (λ n. Reads wire n h.0 (Some piece)) same h.2);
+        asked = λ had. omega arith;
+        whole = refl;
+        fed = fed;
+        lost_bytes = same_spoiled;
+      },
+    )
+
+pub input-of : (wire : ℕ) (before mid after : WebSocketState) (answers : List Answer) (heard : Input) → (r : ReadsInto wire before mid answers true) → Finds mid after heard → IsInput before after answers r.got heard
+input-of wire before mid after answers input.Nothing r f = ((sym r.whole, (mid.lane, r.fed, f.0)), r.asked, f.1)
+input-of wire before mid after answers (input.Request request) r f = absurd f
+input-of wire before mid after answers (input.Refused status) r f = absurd f
+input-of wire before mid after answers (input.Message bytes) r f = ((sym r.whole, (mid.lane, r.fed, f.0)), f.1)
+input-of wire before mid after answers input.Broken r f = absurd f
+input-of wire before mid after answers input.Gone r f = ((sym r.whole, (mid.lane, r.fed, f.0)), f.1)
+
+pub websocket_state-hears : {E : Type 0} (a b : Option (List Answer)) (wire : ℕ) (before mid after : WebSocketState) (whole : Bool) (r : Result Input E) → whole ≡ true →
+    ((answers : List Answer) × Tells a b answers × ReadsInto wire before mid answers whole) → IfOk r (Finds mid after) → after.lost_bytes ≡ mid.lost_bytes →
+    IfOk r (λ heard. (answers : List Answer) × Tells a b answers × HearsWebSocket wire before after answers heard)
+websocket_state-hears a b wire before mid after whole (Ok heard) e h f same =
+    let read : ReadsInto wire before mid h.0 true = subst (λ w. ReadsInto wire before mid h.0 w) e h.2 in
+    (h.0, h.1, record { got = read.got; read = read.read; is_input = input-of wire before mid after h.0 heard read f; lost_bytes = same ∙ read.lost_bytes })
+websocket_state-hears a b wire before mid after whole (Err why) e h f same = f

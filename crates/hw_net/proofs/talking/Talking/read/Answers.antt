@@ -1,9 +1,0 @@
-use Rattle.std.proofs.Common.{rules, take}
-use Rattle.hw_net.proofs.Talkings.{talking-reads}
-use Rattle.hw_net.proofs.talking.Talking.read.Goals as goal
-
-pub returns-clause-read : goal.returns-clause-read
-returns-clause-read g c =
-    let told = g.W.Wires.told in
-    talking-reads (told c.args.wires.now) (told c.read_piece.new.wires) c.args.wire _ c.args.self.now c.take.new.self (take c.in-Some.count c.read_piece.new.buf)
-    (search rules) (search rules) c.in-Some.ensures.read c.in_ok-take.ensures.fed c.in_ok-take.ensures.whole

@@ -1,0 +1,9 @@
+use Rattle.std.proofs.Common.{rules, take}
+use Rattle.hw_net.proofs.WebSocketFacts.{websocket_state-reads}
+use Rattle.hw_net.proofs.websocket_state.WebSocketState.read.Goals as goal
+
+pub returns-clause-read : goal.returns-clause-read
+returns-clause-read g c =
+    let told = g.W.Wires.told in
+    websocket_state-reads (told c.args.wires.now) (told c.read_piece.new.wires) c.args.wire _ c.args.self.now c.take.new.self (take c.in-Some.count c.read_piece.new.buf)
+    (search rules) (search rules) c.in-Some.ensures.read c.in_ok-take.ensures.fed c.in_ok-take.ensures.whole

@@ -1,0 +1,12 @@
+-- What one turn of a lane hears.
+use Rattle.std.specs.Prelude.{Bool, true, false}
+use Rattle.hw_net.specs.declared.input.Input.{Input}
+use Rattle.hw_net.specs.declared.input.Input.TheVariants as input
+
+abbrev pub is_nothing : Input → Bool
+is_nothing input.Nothing = true
+is_nothing (input.Request request) = false
+is_nothing (input.Refused status) = false
+is_nothing (input.Message bytes) = false
+is_nothing input.Broken = false
+is_nothing input.Gone = false

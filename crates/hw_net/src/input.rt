@@ -1,0 +1,35 @@
+//! What one turn of a lane hears.
+
+ghost use Rattle.std.specs.Prelude.{◌≡◌};
+ghost use Rattle.hw_net.specs.Input.{is_nothing};
+
+use hw_lanes::{Request, Vec8};
+
+#[derive(Drop)]
+pub enum Input {
+    /// Nothing that is whole.
+    Nothing,
+    Request(Request),
+    /// What came is no request, and is to be answered with this status.
+    Refused(u16),
+    /// A message of a WebSocket.
+    Message(Vec8),
+    /// The wire ended or failed, or bytes that were read are lost.
+    Broken,
+    /// The WebSocket is gone: its other side closed it or broke its rules, or a text to send was none.
+    Gone,
+}
+
+/// Whether nothing was heard.
+pub fn is_nothing(input: &Input) -> bool
+    ensures { result ≡ is_nothing input.now }
+{
+    match input {
+        Input::Nothing => true,
+        Input::Request(_) => false,
+        Input::Refused(_) => false,
+        Input::Message(_) => false,
+        Input::Broken => false,
+        Input::Gone => false,
+    }
+}
