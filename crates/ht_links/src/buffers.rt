@@ -19,10 +19,10 @@
 use crate::alike;
 use crate::stop::Stop;
 use crate::words::{count, first_word, limits, number, switch, told};
-use hd_delivery::{MOST_FRAMING, MOST_MESSAGES};
+use hd_delivery::{MOST_FRAMING, MOST_MESSAGES, numbers_are_named};
 use hq_resend::{
     Beyond, Frame, Gap, Limits, PushError, Resend, buffer_is_within, intake_is_numbering,
-    next_is_in_order, numbers_are_named,
+    next_is_in_order,
 };
 use std::alloc::{AllocError, Global};
 
