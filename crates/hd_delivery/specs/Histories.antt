@@ -4,6 +4,7 @@
 use Rattle.std.specs.Prelude.{ℕ, suc, ◌+◌, ◌-◌, min, max, Bool, true, false, not, ◌&&◌, ◌||◌, ◌==◌, List, [], ◌∷◌, ◌++◌, take, drop, Option, Some, None, is_some, nat_le, if◌then◌else◌}
 use Rattle.hm_message.specs.declared.message.Codec.{Codec}
 use Rattle.hm_message.specs.declared.message.Message.{Message}
+use Rattle.hm_message.specs.Message.{Fits}
 use Rattle.hd_delivery.specs.declared.vocabulary.Side.{Side}
 use Rattle.hd_delivery.specs.declared.vocabulary.State.{State}
 use Rattle.hd_delivery.specs.declared.vocabulary.State.TheVariants as states
@@ -153,6 +154,11 @@ abbrev pub most_lent : List EndEvent → ℕ
 most_lent [] = 0
 most_lent (Lent (Numbered m) ∷ h) = max (next_place h) (most_lent h)
 most_lent (_ ∷ h) = most_lent h
+
+-- a message that is handed out fits: it can be written
+abbrev pub HasFit : Got → Type 0
+HasFit (gives.Message m) = Fits m
+HasFit got = Unit {0}
 
 -- ---- the handshake and the state
 

@@ -1,7 +1,6 @@
 -- What is due, as the session names it, and what a frame that was read makes.
 use Rattle.std.specs.Prelude.{◌≡◌, ◌≤◌, ◌⊎◌, ℕ, Bool, true, false, not, ◌&&◌, ◌||◌, List, ◌∷◌, Option, Some, None, Result, Ok, Err, slice_get}
 use Rattle.hm_message.specs.declared.message.Message.{Message}
-use Rattle.hm_message.specs.Message.{Fits}
 use Rattle.hm_message.specs.declared.message.Read.{Read}
 use Rattle.hm_message.specs.declared.message.Read.TheVariants as read
 use Rattle.hd_delivery.specs.declared.vocabulary.Got.{Got}
@@ -72,11 +71,6 @@ step_counted m (Err e) = Failed (fault_of e)
 abbrev pub step_made : Result Got Refused → EndEvent
 step_made (Ok got) = Took got
 step_made (Err e) = Failed (fault_of e)
-
--- a message that is handed out fits: it can be written
-abbrev pub HasFit : Got → Type 0
-HasFit (gives.Message m) = Fits m
-HasFit got = Unit {0}
 
 -- what came makes this step, and the session remembers it
 abbrev pub Makes : Config → Session → List EndEvent → Result Got Refused → Type 0

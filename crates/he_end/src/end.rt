@@ -25,7 +25,7 @@ ghost use Rattle.he_end.specs.Stands.{Stands, begun, limits_of, is_client};
 ghost use Rattle.he_end.specs.Spoken.{spoken_in};
 ghost use Rattle.he_end.specs.Calls.{OfEach, taken_at, Said, IsReading, Takes, Greets, Refuses, FailsAt, Gives, Fails, IsSpelled, Sends, RefusesToSend, Lends, AreDue};
 ghost use Rattle.he_end.specs.EndLending.{EndsAs};
-ghost use Rattle.he_end.specs.Says.{HasFit};
+ghost use Rattle.hd_delivery.specs.Histories.{HasFit};
 ghost use Rattle.hm_message.specs.Reads.{MessageIs};
 
 use crate::config::Config;

@@ -10,7 +10,7 @@ ghost use Rattle.hd_delivery.specs.Frames.{LinkFrame, Request, Response, Numbere
 ghost use Rattle.hd_delivery.specs.Histories.{Config, EndEvent, Took, Failed, Unread, Shake, present_link, own_number, is_shaken, can_keep};
 ghost use Rattle.hd_delivery.specs.Processes.{has_frames, processes};
 ghost use Rattle.he_end.specs.Remembers.{Remembers, answer_text, after_fault, after_resume};
-ghost use Rattle.he_end.specs.Says.{Awaits, Takes, Shakes, HasFit, answer_at, frame_read, is_early, step_counted};
+ghost use Rattle.he_end.specs.Says.{Awaits, Takes, Shakes, answer_at, frame_read, is_early, step_counted};
 
 use crate::link::{Agreed, Answer, Farewell, Link};
 use crate::session::Session;

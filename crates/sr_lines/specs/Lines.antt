@@ -30,7 +30,7 @@ use Rattle.hp_peer.specs.declared.errors.PeerError.{PeerError}
 use Rattle.hp_peer.specs.declared.errors.PeerError.TheVariants as error
 use Rattle.hi_calls.specs.declared.errors.CallError.{CallError}
 use Rattle.hi_calls.specs.declared.errors.CallError.TheVariants as table
-use Rattle.he_end.specs.Says.{HasFit}
+use Rattle.hd_delivery.specs.Histories.{HasFit}
 use Rattle.he_end.specs.Words.{next_words, send_words}
 use Rattle.sr_script.specs.Script.{letter}
 use Rattle.sr_lines.specs.declared.telling.Asked.{Asked}

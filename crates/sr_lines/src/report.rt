@@ -4,7 +4,7 @@ ghost use Rattle.std.specs.Prelude.{◌≡◌, ◌++◌, ℕ, Bool, OnOk, codes}
 ghost use Rattle.std.specs.Fmt.{decimal};
 ghost use Rattle.hm_message.specs.Message.{Fits};
 ghost use Rattle.hd_delivery.specs.declared.vocabulary.Got.TheVariants as gives;
-ghost use Rattle.he_end.specs.Says.{HasFit};
+ghost use Rattle.hd_delivery.specs.Histories.{HasFit};
 ghost use Rattle.he_end.specs.Words.{attach_words, next_words, send_words};
 ghost use Rattle.sr_script.specs.Script.{letter};
 ghost use Rattle.sr_lines.specs.Lines.{got_words, line_at, side_word, standing_line, state_word};
