@@ -11,7 +11,7 @@ returns-in_err-tell_rows-clause-ends g c =
     let p = err_from_is_err_and c.from_residual-in_err-tell_rows.result c.from_residual-in_err-tell_rows.ensures.1 in
     let rows = c.in_ok-rows.ensures in
     let line = c.in_err-tell_rows.ensures in
-    let kept = counted_by c.in_ok-rows.rows _ _ _ _ _ _ (g.L.Lots.drawn c.args.lots.now) (g.L.Lots.faults c.args.lots.now) rows.kept rows.noted rows.cause in
+    let kept = counted_by c.in_ok-rows.rows _ _ _ _ _ _ (g.L.Lots.drawn c.args.lots.now) (g.L.Lots.faults c.args.lots.now) rows.unchanged rows.noted rows.cause in
     rw (p.1, p.2) (⊎_elim
     (λ write. rw write (let part = line.part (ap Err write) in
     (record { rows = c.in_ok-rows.rows; are_rows = rows.count; n = part.1.0; part = part.1.1; kept = kept }, refl, part.0)))
@@ -29,7 +29,7 @@ pub returns-in_err-serve-clause-ends : goal.returns-in_err-serve-clause-ends
 returns-in_err-serve-clause-ends g c =
     let p = err_from_is_err_and c.from_residual-in_err-serve.result c.from_residual-in_err-serve.ensures.1 in
     let rows = c.in_ok-rows.ensures in
-    let kept = counted_by c.in_ok-rows.rows _ _ _ _ _ _ (g.L.Lots.drawn c.args.lots.now) (g.L.Lots.faults c.args.lots.now) rows.kept rows.noted rows.cause in
+    let kept = counted_by c.in_ok-rows.rows _ _ _ _ _ _ (g.L.Lots.drawn c.args.lots.now) (g.L.Lots.faults c.args.lots.now) rows.unchanged rows.noted rows.cause in
     rw (p.1, p.2) (serving_failed c.args.base c.args.turns _ _ c.in_err-serve.field-0.0
     (serves_by c.servers_are_peers.ensures c.delivery_over_bytes.ensures c.args.base c.args.turns c.in_ok-rows.rows (Some c.in_err-serve.field-0.0) _ _ _ _ _ rows.count
     c.in_ok-tell_rows.ensures.told kept c.in_ok-server.ensures c.in_err-serve.ensures.served)
@@ -51,7 +51,7 @@ returns-in_err-serve-clause-unheard g c = λ either.
 pub returns-clause-ends : goal.returns-clause-ends
 returns-clause-ends g c =
     let rows = c.in_ok-rows.ensures in
-    let kept = counted_by c.in_ok-rows.rows _ _ _ _ _ _ (g.L.Lots.drawn c.args.lots.now) (g.L.Lots.faults c.args.lots.now) rows.kept rows.noted rows.cause in (
+    let kept = counted_by c.in_ok-rows.rows _ _ _ _ _ _ (g.L.Lots.drawn c.args.lots.now) (g.L.Lots.faults c.args.lots.now) rows.unchanged rows.noted rows.cause in (
       serves_by c.servers_are_peers.ensures c.delivery_over_bytes.ensures c.args.base c.args.turns c.in_ok-rows.rows None _ _ _ _ _ rows.count
           c.in_ok-tell_rows.ensures.told kept c.in_ok-server.ensures c.in_ok-serve.ensures.served,
       c.in_ok-tell_rows.ensures.unfailed (λ is. cc),
