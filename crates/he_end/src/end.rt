@@ -10,7 +10,7 @@ ghost use Rattle.hm_message.specs.Message.{is_sequenced, Fits};
 ghost use Rattle.hm_codec.specs.Frames.{framed, framing_of};
 ghost use Rattle.hs_shake.specs.Requests.{IsVersion};
 ghost use Rattle.hd_delivery.specs.Histories as of;
-ghost use Rattle.hd_delivery.specs.Histories.{Attached, Detached, Ticked, Silenced, present_link, was_on, first_link, codec_of, is_resumable, is_closed, is_silence, state, sent_messages, processed_messages, held_messages};
+ghost use Rattle.hd_delivery.specs.Histories.{Attached, Detached, Ticked, Silenced, HasFit, present_link, was_on, first_link, codec_of, is_resumable, is_closed, is_silence, state, sent_messages, processed_messages, held_messages};
 ghost use Rattle.hd_delivery.specs.Worlds.{HasRoom};
 ghost use Rattle.hd_delivery.specs.Due.{is_unseen};
 ghost use Rattle.hd_delivery.specs.Numbers.{most_of_64_bits};
@@ -25,7 +25,6 @@ ghost use Rattle.he_end.specs.Stands.{Stands, begun, limits_of, is_client};
 ghost use Rattle.he_end.specs.Spoken.{spoken_in};
 ghost use Rattle.he_end.specs.Calls.{OfEach, taken_at, Said, IsReading, Takes, Greets, Refuses, FailsAt, Gives, Fails, IsSpelled, Sends, RefusesToSend, Lends, AreDue};
 ghost use Rattle.he_end.specs.EndLending.{EndsAs};
-ghost use Rattle.hd_delivery.specs.Histories.{HasFit};
 ghost use Rattle.hm_message.specs.Reads.{MessageIs};
 
 use crate::config::Config;

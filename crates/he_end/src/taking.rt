@@ -7,7 +7,7 @@ ghost use Rattle.hm_message.specs.Message.{is_sequenced, Fits};
 ghost use Rattle.hm_message.specs.Reads.{MessageIs};
 ghost use Rattle.hs_shake.specs.Responses.{IsAnswered};
 ghost use Rattle.hd_delivery.specs.Frames.{LinkFrame, Request, Response, Numbered, Ack, Sequence, Strange, Unreadable, count, received_of, frame_of};
-ghost use Rattle.hd_delivery.specs.Histories.{Config, EndEvent, Took, Failed, Unread, Shake, present_link, own_number, is_shaken, can_keep};
+ghost use Rattle.hd_delivery.specs.Histories.{Config, EndEvent, Took, Failed, Unread, Shake, HasFit, present_link, own_number, is_shaken, can_keep};
 ghost use Rattle.hd_delivery.specs.Processes.{has_frames, processes};
 ghost use Rattle.he_end.specs.Remembers.{Remembers, answer_text, after_fault, after_resume};
 ghost use Rattle.he_end.specs.Says.{Awaits, Takes, Shakes, answer_at, frame_read, is_early, step_counted};

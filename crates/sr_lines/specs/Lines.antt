@@ -17,7 +17,7 @@ use Rattle.hd_delivery.specs.declared.vocabulary.State.{State}
 use Rattle.hd_delivery.specs.declared.vocabulary.State.TheVariants.{Opening, Ready, Away}
 use Rattle.hd_delivery.specs.declared.vocabulary.State.TheVariants as states
 use Rattle.hd_delivery.specs.Histories as of
-use Rattle.hd_delivery.specs.Histories.{EndEvent, Took, Failed, Sent, Silenced, Fault, Unread, Shake, Gap, AckBeyond, sent_messages, processed_messages}
+use Rattle.hd_delivery.specs.Histories.{EndEvent, Took, Failed, Sent, Silenced, Fault, Unread, Shake, Gap, AckBeyond, HasFit, sent_messages, processed_messages}
 use Rattle.hd_delivery.specs.Sending as refusal
 use Rattle.hd_delivery.specs.Sending.{SendRefusal}
 use Rattle.hd_calls.specs.Rules.{CallRefusal, TooManyLive, Spent, TooDeep, Unsent}
@@ -30,7 +30,6 @@ use Rattle.hp_peer.specs.declared.errors.PeerError.{PeerError}
 use Rattle.hp_peer.specs.declared.errors.PeerError.TheVariants as error
 use Rattle.hi_calls.specs.declared.errors.CallError.{CallError}
 use Rattle.hi_calls.specs.declared.errors.CallError.TheVariants as table
-use Rattle.hd_delivery.specs.Histories.{HasFit}
 use Rattle.he_end.specs.Words.{next_words, send_words}
 use Rattle.sr_script.specs.Script.{letter}
 use Rattle.sr_lines.specs.declared.telling.Asked.{Asked}
