@@ -49,6 +49,10 @@ def is_int(v):
     return isinstance(v, int) and not isinstance(v, bool)
 
 
+def is_count(v):
+    return is_int(v) and 0 <= v <= MOST_TURNS
+
+
 def value(word):
     if re.fullmatch(r"[+-]?[0-9]+", word, re.ASCII) and is_whole(int(word)):
         return int(word)
@@ -65,24 +69,27 @@ def shown(v):
 
 def ending_of(words):
     word, _, rest = words.partition(" ")
-    match word:
-        case "void":
-            return ("void",)
-        case "result":
-            return ("result", value(rest))
-        case "error":
-            return ("error", rest)
+    if word == "void":
+        return ("void",)
+    if word == "result":
+        return ("result", value(rest))
+    if word == "error":
+        return ("error", rest)
     raise Refused
 
 
 def shown_ending(ending):
-    match ending:
-        case ("void",):
-            return "void"
-        case ("result", v):
-            return "result " + shown(v)
-        case ("error", text):
-            return "error " + text
+    if ending == ("void",):
+        return "void"
+    word, told = ending
+    return f"{word} {shown(told) if word == 'result' else told}"
+
+
+def asked_of(asks, verb):
+    """Does what these functions have for a verb."""
+    if verb not in asks:
+        raise Refused
+    return asks[verb]()
 
 
 def target_with(target, arguments):
@@ -193,30 +200,20 @@ class OwnCalls:
     def ask(self, verb, rest):
         word, _, more = rest.partition(" ")
         last, _, words = more.partition(" ")
-        match verb:
-            case "begin":
-                kind, uploads = kind_of(word), number(last, 32)
-                target, _, arguments = words.partition(" ")
-                return self.begin(kind, uploads, target, values(arguments))
-            case "undo":
-                return self.undo()
-            case "settle":
-                return self.settle(rest)
-            case "item":
-                return self.item(rest)
-            case "cancel":
-                return self.cancel(number(rest))
-            case "upload-item":
-                return self.upload_item(number(word), number(last, 32), value(words))
-            case "upload-end":
-                return self.upload_end(number(word), number(last, 32), words)
-            case "upload-ended":
-                return self.upload_ended(number(word), number(more, 32))
-            case "lose":
-                return self.lose()
-            case "live":
-                return self.live()
-        raise Refused
+        target, _, arguments = words.partition(" ")
+        asks = {
+            "begin": lambda: self.begin(kind_of(word), number(last, 32), target, values(arguments)),
+            "undo": self.undo,
+            "settle": lambda: self.settle(rest),
+            "item": lambda: self.item(rest),
+            "cancel": lambda: self.cancel(number(rest)),
+            "upload-item": lambda: self.upload_item(number(word), number(last, 32), value(words)),
+            "upload-end": lambda: self.upload_end(number(word), number(last, 32), words),
+            "upload-ended": lambda: self.upload_ended(number(word), number(more, 32)),
+            "lose": self.lose,
+            "live": self.live,
+        }
+        return asked_of(asks, verb)
 
 
 # ---- the calculator
@@ -234,36 +231,38 @@ def calculator(kind, target, arguments, streams, inputs):
     wrong = ("end", ("error", "Wrong arguments."))
     if len(streams) != (1 if target == "Sum" else 0):
         return wrong
-    match [target, *arguments]:
-        case ["Echo", v]:
-            return ("end", ("result", v))
-        case ["Add", a, b] if is_int(a) and is_int(b):
-            return ("end", ("result", a + b) if is_whole(a + b) else ("error", "Out of range."))
-        case ["Count", n] if is_int(n) and 0 <= n <= MOST_TURNS:
-            return ("item", turn + 1) if turn < n else ("end", ("void",))
-        case ["Sum"]:
-            return sum_of(inputs)
-        case ["Slow", n, v] if is_int(n) and 0 <= n <= MOST_TURNS:
-            return ("more",) if turn < n else ("end", ("result", v))
-        case ["Fail", str(t)]:
-            return ("end", ("error", t))
-        case ["Ask", str(t), v]:
-            return ("ask", t, [v]) if turn == 0 else ("end", inputs[-1][1])
+    asked = target, len(arguments)
+    if asked == ("Echo", 1):
+        return ("end", ("result", arguments[0]))
+    if asked == ("Add", 2) and all(map(is_int, arguments)):
+        total = sum(arguments)
+        return ("end", ("result", total) if is_whole(total) else ("error", "Out of range."))
+    if asked == ("Count", 1) and is_count(arguments[0]):
+        return ("item", turn + 1) if turn < arguments[0] else ("end", ("void",))
+    if asked == ("Sum", 0):
+        return sum_of(inputs)
+    if asked == ("Slow", 2) and is_count(arguments[0]):
+        return ("more",) if turn < arguments[0] else ("end", ("result", arguments[1]))
+    if asked == ("Fail", 1) and isinstance(arguments[0], str):
+        return ("end", ("error", arguments[0]))
+    if asked == ("Ask", 2) and isinstance(arguments[0], str):
+        return ("ask", arguments[0], arguments[1:]) if turn == 0 else ("end", inputs[-1][1])
     return wrong
 
 
 def sum_of(inputs):
     """The first turn was given nothing. No item before the last ended the sum."""
     total = sum(i[1] for i in inputs[1:-1])
-    match inputs[-1]:
-        case ("go",):
-            return ("wait",)
-        case ("item", v) if is_int(v):
-            return ("wait",) if is_whole(total + v) else ("end", ("error", "Out of range."))
-        case ("item", _):
-            return ("end", ("error", "Wrong arguments."))
-        case ("stream end", error):
-            return ("end", ("error", error) if error else ("result", total))
+    word, *given = inputs[-1]
+    if word == "go":
+        return ("wait",)
+    if word == "stream end":
+        (error,) = given
+        return ("end", ("error", error) if error else ("result", total))
+    (item,) = given
+    if not is_int(item):
+        return ("end", ("error", "Wrong arguments."))
+    return ("wait",) if is_whole(total + item) else ("end", ("error", "Out of range."))
 
 
 # ---- jobs
@@ -355,17 +354,15 @@ class Jobs:
         self.log.append(("replied", job, ("asked", ending)))
         return "answered"
 
-    def answer_deed(self):
+    def answer_deed(self, _job):
         """No job of the calculator hands up a deed."""
         return "unknown"
 
     def next_input(self, job):
-        match self.last_act(job):
-            case ("wait",):
-                return (self.waiting(job) or [None])[0]
-            case ("ask", _, _):
-                return self.reply(job)
-        return ("go",)
+        word = (self.last_act(job) or ("none",))[0]
+        if word == "wait":
+            return (self.waiting(job) or [None])[0]
+        return self.reply(job) if word == "ask" else ("go",)
 
     def is_due(self, job):
         return ("marked", job) in self.log or self.next_input(job) is not None
@@ -414,52 +411,35 @@ class Jobs:
 
     @staticmethod
     def shown_act(act):
-        match act:
-            case ("item", v):
-                return "item " + shown(v)
-            case ("end", ending):
-                return "end " + shown_ending(ending)
-            case ("ask", target, arguments):
-                return "ask " + target_with(target, arguments)
-        return act[0]
+        word, *parts = act
+        ways = {"item": shown, "end": shown_ending, "ask": target_with}
+        return f"{word} {ways[word](*parts)}" if word in ways else word
 
     def ask(self, verb, rest):
         word, _, more = rest.partition(" ")
-        match verb:
-            case "accept":
-                kind = kind_of(word)
-                text, _, words = more.partition(" ")
-                streams, _, words = words.partition(" ")
-                target, _, words = words.partition(" ")
-                return self.accept(kind, text, [] if streams == "-" else streams.split(","), target, values(words))
-            case "input":
-                return self.feed(word, ("item", value(more)))
-            case "stream-end":
-                return self.feed(word, ("stream end", more))
-            case "cancel":
-                return self.cancel(rest)
-            case "end":
-                return self.end(number(rest))
-            case "answer":
-                ending = ending_of(more)
-                return self.answer(number(word), ending)
-            case "reply":
-                number(word)
-                return self.answer_deed()
-            case "fail":
-                number(rest)
-                return self.answer_deed()
-            case "round":
-                return self.round()
-            case "step" | "halves":
-                return self.step(True)
-            case "stall":
-                return self.step(False)
-            case "due":
-                return self.due()
-            case "live":
-                return self.live()
-        raise Refused
+        asks = {
+            "accept": lambda: self.accept_words(kind_of(word), more),
+            "input": lambda: self.feed(word, ("item", value(more))),
+            "stream-end": lambda: self.feed(word, ("stream end", more)),
+            "cancel": lambda: self.cancel(rest),
+            "end": lambda: self.end(number(rest)),
+            "answer": lambda: self.answer(number(word), ending_of(more)),
+            "reply": lambda: self.answer_deed(number(word)),
+            "fail": lambda: self.answer_deed(number(rest)),
+            "round": self.round,
+            "step": lambda: self.step(True),
+            "halves": lambda: self.step(True),
+            "stall": lambda: self.step(False),
+            "due": self.due,
+            "live": self.live,
+        }
+        return asked_of(asks, verb)
+
+    def accept_words(self, kind, words):
+        text, _, words = words.partition(" ")
+        streams, _, words = words.partition(" ")
+        target, _, words = words.partition(" ")
+        return self.accept(kind, text, [] if streams == "-" else streams.split(","), target, values(words))
 
 
 # ---- scripts
@@ -473,20 +453,17 @@ class Model:
     def ask(self, action):
         table, _, words = action.partition(" ")
         verb, _, rest = words.partition(" ")
-        match (table, verb):
-            case ("note", _):
-                return words
-            case ("calls", "new"):
-                self.calls = OwnCalls(rest)
-                return self.calls.live()
-            case ("jobs", "new"):
-                self.jobs = Jobs()
-                return self.jobs.live()
-            case ("calls", _):
-                return self.calls.ask(verb, rest)
-            case ("jobs", _):
-                return self.jobs.ask(verb, rest)
-        raise Refused
+        if table == "note":
+            return words
+        if table not in ("calls", "jobs"):
+            raise Refused
+        if verb != "new":
+            return (self.calls if table == "calls" else self.jobs).ask(verb, rest)
+        if table == "calls":
+            self.calls = OwnCalls(rest)
+            return self.calls.live()
+        self.jobs = Jobs()
+        return self.jobs.live()
 
     def answers(self, place, line):
         """The answers to a line of a script, which are lines."""

@@ -184,17 +184,16 @@ class Page:
         return self.browser.ask(method, self.session, **parameters)
 
     def note(self, method, told):
-        match method:
-            case "Network.webSocketCreated":
-                path, _, query = told["url"].partition("?")
-                self.frames.append(("socket", path))
-                self.tokens.append(query.removeprefix("id="))
-            case "Network.webSocketFrameSent":
-                self.frames.append(("sent", told["response"]["payloadData"]))
-            case "Network.webSocketFrameReceived":
-                self.frames.append(("received", told["response"]["payloadData"]))
-            case "Runtime.exceptionThrown":
-                self.faults.append(told["exceptionDetails"].get("exception", told["exceptionDetails"]))
+        if method == "Network.webSocketCreated":
+            path, _, query = told["url"].partition("?")
+            self.frames.append(("socket", path))
+            self.tokens.append(query.removeprefix("id="))
+        elif method == "Network.webSocketFrameSent":
+            self.frames.append(("sent", told["response"]["payloadData"]))
+        elif method == "Network.webSocketFrameReceived":
+            self.frames.append(("received", told["response"]["payloadData"]))
+        elif method == "Runtime.exceptionThrown":
+            self.faults.append(told["exceptionDetails"].get("exception", told["exceptionDetails"]))
 
     def value(self, expression):
         answer = self.ask("Runtime.evaluate", expression=expression, returnByValue=True, awaitPromise=True)

@@ -54,18 +54,18 @@ def main(crate, make, answers_of=None, options={}):
     """Does what the words say, for a program that makes the script and the answers of this crate. `answers_of` is what a model says of any
     script, and `options` has for further options what they do with the words after them."""
     name = pathlib.Path(sys.argv[0]).stem
-    match sys.argv[1:]:
-        case ["--write"]:
-            script, answers = make()
-            (CRATES / crate / "stdin").write_text(script)
-            (CRATES / crate / "stdout").write_text(answers)
-            return 0
-        case ["--check", *built] if len(built) < 2:
-            return check(name, crate, *make(), built[0] if built else None)
-        case [] if answers_of:
-            sys.stdout.write(answers_of(sys.stdin.read()))
-            return 0
-        case [option, *words] if option in options and len(words) == len(signature(options[option]).parameters):
-            return options[option](*words)
+    option, *words = sys.argv[1:] or [None]
+    if option == "--write" and not words:
+        script, answers = make()
+        (CRATES / crate / "stdin").write_text(script)
+        (CRATES / crate / "stdout").write_text(answers)
+        return 0
+    if option == "--check" and len(words) < 2:
+        return check(name, crate, *make(), words[0] if words else None)
+    if option is None and answers_of:
+        sys.stdout.write(answers_of(sys.stdin.read()))
+        return 0
+    if option in options and len(words) == len(signature(options[option]).parameters):
+        return options[option](*words)
     print(sys.modules["__main__"].__doc__)
     return 2

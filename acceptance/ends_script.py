@@ -386,14 +386,16 @@ def frame_of(end, text):
         tree = json.loads(text)
     except ValueError:
         raise Unsaid from None
-    match tree:
-        case {"protocol": "json", "version": 1 | 2 | 3 as version} if not end.shaken(): return ("request", "json", version)
-        case {} if not end.shaken() and tree == {}: return ("response",)
-        case {"type": 6}: return ("ping",)
-        case {"type": 7}: return ("close", tree.get("error"), tree.get("allowReconnect", False))
-        case {"type": 8, "sequenceId": number}: return ("ack", number)
-        case {"type": 9, "sequenceId": number}: return ("sequence", number, None)
-        case {"type": 1}: return ("message", text)
+    if not isinstance(tree, dict): raise Unsaid
+    if not end.shaken():
+        if tree.get("protocol") == "json" and tree.get("version") in (1, 2, 3): return ("request", "json", tree["version"])
+        if tree == {}: return ("response",)
+    kind = tree.get("type")
+    if kind == 6: return ("ping",)
+    if kind == 7: return ("close", tree.get("error"), tree.get("allowReconnect", False))
+    if kind == 8 and "sequenceId" in tree: return ("ack", tree["sequenceId"])
+    if kind == 9 and "sequenceId" in tree: return ("sequence", tree["sequenceId"], None)
+    if kind == 1: return ("message", text)
     raise Unsaid
 
 
@@ -414,19 +416,24 @@ class Model:
         if word == "share": return ", ".join(f"{side} {self.send(end, rest)}" for side, end in self.ends.items())
         verb, _, rest = rest.partition(" ")
         end, other = self.ends[word], self.ends["s" if word == "c" else "c"]
-        match verb:
-            case "attach": return self.attach(end, int(rest))
-            case "detach": return self.detach(end, int(rest))
-            case "tick": return self.tick(end, int(rest))
-            case "close": return self.close(end, *rest.split(" "))
-            case "out": return self.out(end) or "nothing"
-            case "hear": return self.hear(end, rest)
-            case "carry": return self.hear(other, "text " + "".join(iter(lambda: self.out(end), None)))
-            case "send": return self.send(end, rest)
-            case "stand": return self.stand(end)
-            case "codec": return "Json" if word == "c" or end.shaken() else "none"
-            case "room": return "room" if len(end.held()) < end.limits[0] and self.octets(end) + int(rest) <= end.limits[1] else "no room"
-        raise Unsaid
+        answers = {
+            "attach": lambda: self.attach(end, int(rest)),
+            "detach": lambda: self.detach(end, int(rest)),
+            "tick": lambda: self.tick(end, int(rest)),
+            "close": lambda: self.close(end, *rest.split(" ")),
+            "out": lambda: self.out(end) or "nothing",
+            "hear": lambda: self.hear(end, rest),
+            "carry": lambda: self.hear(other, "text " + "".join(iter(lambda: self.out(end), None))),
+            "send": lambda: self.send(end, rest),
+            "stand": lambda: self.stand(end),
+            "codec": lambda: "Json" if word == "c" or end.shaken() else "none",
+            "room": lambda: self.room(end, int(rest)),
+        }
+        if verb not in answers: raise Unsaid
+        return answers[verb]()
+
+    def room(self, end, size):
+        return "room" if len(end.held()) < end.limits[0] and self.octets(end) + size <= end.limits[1] else "no room"
 
     def attach(self, end, now):
         if end.closed(): return "refused Closed"
@@ -468,14 +475,16 @@ class Model:
             return got[1]
         end.steps.append(("took", got, frame))
         if frame[0] == "request": end.version = frame[2]
-        match got:
-            case ("shaken",): return f"shaken Json {end.version}"
-            case ("message", text): return f"got {json.loads(text)['target']}"
-            case ("sequenced", first): return f"sequence {first}"
-            case ("closed", error): return " ".join(["closed", "true" if frame[2] else "false"] + ([error] if error else []))
-            case ("skipped", "not-used"): return "skipped NotUsed"
-            case ("skipped", "before-sequence"): return "skipped BeforeSequence"
-            case ("acked" | "ping", *rest): return " ".join(map(str, got))
+        return self.told(end, frame, *got)
+
+    def told(self, end, frame, kind, *parts):
+        if kind == "shaken": return f"shaken Json {end.version}"
+        if kind == "message": return f"got {json.loads(parts[0])['target']}"
+        if kind == "sequenced": return f"sequence {parts[0]}"
+        if kind == "closed": return " ".join(["closed", "true" if frame[2] else "false", *filter(None, parts)])
+        if kind == "skipped" and parts[0] == "not-used": return "skipped NotUsed"
+        if kind == "skipped" and parts[0] == "before-sequence": return "skipped BeforeSequence"
+        if kind in ("acked", "ping"): return " ".join(map(str, [kind, *parts]))
         raise Unsaid
 
     def send(self, end, text):

@@ -232,6 +232,16 @@ def dash(text):
     return "-" if text is None else f"[{shown(text)}]"
 
 
+def drip(lane, size, bytes_):
+    """Feeds the bytes, `size` at a time, and gives the answers that come meanwhile."""
+    for place in range(0, len(bytes_), size):
+        lane.feed(bytes_[place : place + size])
+        answer = lane.next()
+        if answer:
+            yield answer
+    yield "dripped"
+
+
 class Bench:
     def __init__(self):
         self.anew()
@@ -243,37 +253,30 @@ class Bench:
     def carry_out(self, line):
         word, _, rest = line.partition(" ")
         lane = self.responses if word in ("hear", "hear-drip", "answer", "after") else self.requests
-        match word:
-            case "note": yield f"note {rest}"
-            case "lanes":
-                self.anew()
-                yield "lanes"
-            case "feed" | "hear": yield f"fed {lane.feed(spelled(rest))}"
-            case "fill":
-                count, _, byte = rest.partition(" ")
-                yield f"fed {lane.feed(byte.encode() * int(count))}"
-            case "drip" | "hear-drip":
-                size, _, text = rest.partition(" ")
-                bytes_ = spelled(text)
-                for place in range(0, len(bytes_), int(size)):
-                    lane.feed(bytes_[place : place + int(size)])
-                    answer = lane.next()
-                    if answer:
-                        yield answer
-                yield "dripped"
-            case "next" | "answer": yield lane.next() or "none"
-            case "rest" | "after": yield f"{word} [{shown(lane.held)}]"
-            case "reply":
-                status, kind, text = (rest + "  ").split(" ", 2)
-                yield f"reply [{shown(reply_of(int(status), kind, spelled(text.rstrip(' '))))}]"
-            case "ask":
-                method, host, target, key = (rest + " ").split(" ", 3)
-                yield f"ask [{shown(ask_of(method, host, target, key.rstrip(' ')))}]"
-            case "accept": yield f"accept [{shown(accept_of(spelled(rest)))}]"
-            case "query":
-                query, _, name = rest.partition(" ")
-                value = query_value(spelled(query), spelled(name))
-                yield "no value" if value is None else f"value [{shown(value)}]"
+        if word == "note": yield f"note {rest}"
+        elif word == "lanes":
+            self.anew()
+            yield "lanes"
+        elif word in ("feed", "hear"): yield f"fed {lane.feed(spelled(rest))}"
+        elif word == "fill":
+            count, _, byte = rest.partition(" ")
+            yield f"fed {lane.feed(byte.encode() * int(count))}"
+        elif word in ("drip", "hear-drip"):
+            size, _, text = rest.partition(" ")
+            yield from drip(lane, int(size), spelled(text))
+        elif word in ("next", "answer"): yield lane.next() or "none"
+        elif word in ("rest", "after"): yield f"{word} [{shown(lane.held)}]"
+        elif word == "reply":
+            status, kind, text = (rest + "  ").split(" ", 2)
+            yield f"reply [{shown(reply_of(int(status), kind, spelled(text.rstrip(' '))))}]"
+        elif word == "ask":
+            method, host, target, key = (rest + " ").split(" ", 3)
+            yield f"ask [{shown(ask_of(method, host, target, key.rstrip(' ')))}]"
+        elif word == "accept": yield f"accept [{shown(accept_of(spelled(rest)))}]"
+        elif word == "query":
+            query, _, name = rest.partition(" ")
+            value = query_value(spelled(query), spelled(name))
+            yield "no value" if value is None else f"value [{shown(value)}]"
 
 
 def answers(script):

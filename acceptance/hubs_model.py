@@ -68,27 +68,25 @@ def joined(*parts):
 def ending(words):
     """As it is printed."""
     word, _, rest = words.partition(" ")
-    match word:
-        case "void":
-            return "void"
-        case "result":
-            return "result " + shown(value(rest))
-        case "error":
-            return "error " + rest
+    if word == "void":
+        return "void"
+    if word == "result":
+        return "result " + shown(value(rest))
+    if word == "error":
+        return "error " + rest
     raise Refused
 
 
 def given(words):
     word, _, rest = words.partition(" ")
-    match word:
-        case "go" | "uploaded" | "failed":
-            return (word, None)
-        case "item" | "done":
-            return (word, value(rest))
-        case "broken":
-            return (word, rest)
-        case "asked":
-            return (word, ending(rest))
+    if word in ("go", "uploaded", "failed"):
+        return (word, None)
+    if word in ("item", "done"):
+        return (word, value(rest))
+    if word == "broken":
+        return (word, rest)
+    if word == "asked":
+        return (word, ending(rest))
     raise Refused
 
 
@@ -281,17 +279,16 @@ class Groups:
 
     def ask(self, word, rest):
         first, _, more = rest.partition(" ")
-        match word:
-            case "members":
-                return self.of(name(rest))
-            case "fill":
-                return self.fill(*map(number, rest.split(" ")))
-            case "sizes":
-                names = {str(n or "") for n in range(number(rest))}
-                return f"{self.size(self.members, names)} members, {self.size(self.users, names)} connections of users"
-            case "empty":
-                self.lose(range(number(rest)))
-                return "gone"
+        if word == "members":
+            return self.of(name(rest))
+        if word == "fill":
+            return self.fill(*map(number, rest.split(" ")))
+        if word == "sizes":
+            names = {str(n or "") for n in range(number(rest))}
+            return f"{self.size(self.members, names)} members, {self.size(self.users, names)} connections of users"
+        if word == "empty":
+            self.lose(range(number(rest)))
+            return "gone"
         return " | ".join([self.change(word, first, more)] + [self.of(called) for called in self.watched])
 
     def change(self, word, first, more):

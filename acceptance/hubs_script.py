@@ -250,17 +250,14 @@ def random_keeper():
     for call, chance in enumerate(chances(CALLS_OF_KEEPER)):
         chance >>= 33
         first, second = chance % 3, chance // 3 % 5
-        match chance // 15 % 5:
-            case 0:
-                yield f"keeper log room{first} name{call} text{call}"
-            case 1:
-                yield f"keeper history room{first} {second}"
-            case 2:
-                yield f"keeper user token{second}"
-            case 3:
-                yield f"keeper add token{second} name{call}"
-            case _:
-                yield "keeper rows"
+        lines = [
+            f"keeper log room{first} name{call} text{call}",
+            f"keeper history room{first} {second}",
+            f"keeper user token{second}",
+            f"keeper add token{second} name{call}",
+            "keeper rows",
+        ]
+        yield lines[chance // 15 % 5]
     yield "keeper copy"
 
 

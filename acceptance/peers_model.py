@@ -14,7 +14,7 @@ import committed
 import peers_script
 import replay_model
 from calls_model import MOST_TIMES, MOST_UPLOADS, Jobs, OwnCalls, calculator
-from calls_model import Refused as WordRefused, kind_of, number
+from calls_model import Refused as WordRefused, asked_of, kind_of, number
 from replay_model import Refused, json_text, number_of
 
 TOO_LONG = {"error": "The answer is too long."}
@@ -34,26 +34,23 @@ REQUIRED = {
 # ---- values and messages
 
 
+def values_in(value):
+    """The values in a list or a map. None if it is neither."""
+    if isinstance(value, list):
+        return value
+    return value.values() if isinstance(value, dict) else None
+
+
 def depth(value):
-    match value:
-        case list():
-            return 1 + max(map(depth, value), default=0)
-        case dict():
-            return 1 + max(map(depth, value.values()), default=0)
-    return 0
+    inner = values_in(value)
+    return 0 if inner is None else 1 + max(map(depth, inner), default=0)
 
 
 def has_fraction(value):
-    match value:
-        case list():
-            return any(map(has_fraction, value))
-        case dict():
-            return any(map(has_fraction, value.values()))
-        case float():
-            return True
-        case int():
-            return not -(2**63) <= value < 2**64
-    return False
+    inner = values_in(value)
+    if inner is not None:
+        return any(map(has_fraction, inner))
+    return isinstance(value, float) or isinstance(value, int) and not -(2**63) <= value < 2**64
 
 
 def value_of(text):
@@ -111,34 +108,33 @@ def frame_of(tree):
     for name in REQUIRED[kind]:
         if name not in tree:
             return ("bad", "Missing " + name)
-    match kind:
-        case 6:
-            return ("ping",)
-        case 7:
-            return ("close", tree.get("error"), tree.get("allowReconnect", False))
-        case 8:
-            return ("ack", tree["sequenceId"])
-        case 9:
-            return ("sequence", tree["sequenceId"], tree.get("received"))
+    if kind == 6:
+        return ("ping",)
+    if kind == 7:
+        return ("close", tree.get("error"), tree.get("allowReconnect", False))
+    if kind == 8:
+        return ("ack", tree["sequenceId"])
+    if kind == 9:
+        return ("sequence", tree["sequenceId"], tree.get("received"))
     return ("message", json_text(tree))
 
 
 def tree_of(array):
     """The object that says what this array of MessagePack says. Arrays of messages with headers or of other types aren't asked for."""
-    match array:
-        case [1 | 4 as kind, {}, id, target, arguments, *streams]:
-            tree = {"type": kind, "target": target, "arguments": arguments} | ({} if id is None else {"invocationId": id})
-            return tree | ({"streamIds": streams[0]} if streams and streams[0] else {})
-        case [2, {}, id, item]:
-            return {"type": 2, "invocationId": id, "item": item}
-        case [3, {}, id, 1, error]:
-            return {"type": 3, "invocationId": id, "error": error}
-        case [3, {}, id, 3, result]:
-            return {"type": 3, "invocationId": id, "result": result}
-        case [3, {}, id, 2]:
-            return {"type": 3, "invocationId": id}
-        case [5, {}, id]:
-            return {"type": 5, "invocationId": id}
+    if not isinstance(array, list) or len(array) < 3 or not isinstance(array[1], dict):
+        raise Refused
+    kind, _, id, *parts = array
+    if kind in (1, 4) and len(parts) >= 2:
+        target, arguments, *streams = parts
+        tree = {"type": kind, "target": target, "arguments": arguments} | ({} if id is None else {"invocationId": id})
+        return tree | ({"streamIds": streams[0]} if streams and streams[0] else {})
+    tree = {"type": kind, "invocationId": id}
+    if kind == 2 and len(parts) == 1:
+        return tree | {"item": parts[0]}
+    if kind == 3 and len(parts) == 2 and parts[0] in (1, 3):
+        return tree | {"error" if parts[0] == 1 else "result": parts[1]}
+    if kind == 3 and parts == [2] or kind == 5 and not parts:
+        return tree
     raise Refused
 
 
@@ -181,49 +177,39 @@ class Pair(replay_model.Script):
 
     def act_of(self, side, verb, rest):
         word, _, more = rest.partition(" ")
-        match verb:
-            case "lose" | "close" | "write" | "read":
-                self.action(f"{side} {verb} {rest}".strip())()
-            case "forge":
-                self.forge(side, rest)
-            case "forge-pack":
-                self.forge_pack(side, rest)
-            case "round":
-                self.round(side)
-            case "turns":
-                self.turns(side)
-            case "due":
-                due = self.may_turn(side) and self.jobs[side].due() == "due"
-                self.say(side, "due" if due else "none due")
-            case "answer":
-                # No job of these hubs hands up a deed, and an ask has another answer.
-                number(word)
-                if more not in ("done", "failed", "asked"):
-                    raise Refused
-                self.say(side, "refused UnknownId")
-            case "call" | "stream" | "notify":
-                self.call(side, verb, 0, word, values_of(more))
-            case "upload":
-                self.call(side, "call", 1, word, values_of(more))
-            case "with":
-                count, _, more = more.partition(" ")
-                target, _, arguments = more.partition(" ")
-                self.call(side, kind_of(word), number(count, 32), target, values_of(arguments))
-            case "cancel":
-                self.cancel(side, number(word))
-            case "item":
-                self.upload(side, "item-sent", number(word), 0, {"type": 2, "item": value_of(more)})
-            case "item-of":
-                place, _, more = more.partition(" ")
-                self.upload(side, "item-sent", number(word), number(place, 32), {"type": 2, "item": value_of(more)})
-            case "done":
-                self.upload(side, "done", number(word), 0, {"type": 3})
-            case "done-of":
-                self.upload(side, "done", number(word), number(more, 32), {"type": 3})
-            case "fail":
-                self.upload(side, "done", number(word), 0, {"type": 3, "error": more})
-            case _:
-                raise Refused
+        second, _, last = more.partition(" ")
+        acts = {
+            "forge": lambda: self.forge(side, rest),
+            "forge-pack": lambda: self.forge_pack(side, rest),
+            "round": lambda: self.round(side),
+            "turns": lambda: self.turns(side),
+            "due": lambda: self.tell_due(side),
+            "answer": lambda: self.answer_deed(side, number(word), more),
+            "upload": lambda: self.call(side, "call", 1, word, values_of(more)),
+            "with": lambda: self.call(side, kind_of(word), number(second, 32), last.partition(" ")[0], values_of(last.partition(" ")[2])),
+            "cancel": lambda: self.cancel(side, number(word)),
+            "item": lambda: self.upload(side, "item-sent", number(word), 0, {"type": 2, "item": value_of(more)}),
+            "item-of": lambda: self.upload(side, "item-sent", number(word), number(second, 32), {"type": 2, "item": value_of(last)}),
+            "done": lambda: self.upload(side, "done", number(word), 0, {"type": 3}),
+            "done-of": lambda: self.upload(side, "done", number(word), number(more, 32), {"type": 3}),
+            "fail": lambda: self.upload(side, "done", number(word), 0, {"type": 3, "error": more}),
+        }
+        if verb in ("lose", "close", "write", "read"):
+            self.action(f"{side} {verb} {rest}".strip())()
+        elif verb in ("call", "stream", "notify"):
+            self.call(side, verb, 0, word, values_of(more))
+        else:
+            asked_of(acts, verb)
+
+    def tell_due(self, side):
+        due = self.may_turn(side) and self.jobs[side].due() == "due"
+        self.say(side, "due" if due else "none due")
+
+    def answer_deed(self, side, _job, answer):
+        """No job of these hubs hands up a deed, and an ask has another answer."""
+        if answer not in ("done", "failed", "asked"):
+            raise Refused
+        self.say(side, "refused UnknownId")
 
     # ---- what is forged
 
@@ -301,40 +287,35 @@ class Pair(replay_model.Script):
 
     def take(self, side, frame):
         e = self.ends[side]
-        match frame:
-            case ("bad", words):
-                heard = self.frames["s" if side == "c" else "c", e.link()]
-                at = sum(size for _, size in heard[: len(e.taken(e.link()))])
-                fault = f"frame {len(e.links()) - 1} {at} {words}"
-                e.steps.append(("failed", fault, frame))
-                self.say(side, f"fault {fault}")
-            case ("unknown", kind):
-                e.steps.append(("took", ("skipped", f"unknown {kind}"), frame))
-                self.say(side, f"skipped unknown {kind}")
-            case ("message", text) if e.makes(frame)[0] == "message":
-                e.steps.append(("took", ("message", text), frame))
-                self.handle(side, json.loads(text))
-            case _:
-                super().take(side, frame)
+        kind, *parts = frame
+        if kind == "bad":
+            heard = self.frames["s" if side == "c" else "c", e.link()]
+            at = sum(size for _, size in heard[: len(e.taken(e.link()))])
+            fault = f"frame {len(e.links()) - 1} {at} {parts[0]}"
+            e.steps.append(("failed", fault, frame))
+            self.say(side, f"fault {fault}")
+        elif kind == "unknown":
+            e.steps.append(("took", ("skipped", f"unknown {parts[0]}"), frame))
+            self.say(side, f"skipped unknown {parts[0]}")
+        elif kind == "message" and e.makes(frame)[0] == "message":
+            e.steps.append(("took", frame, frame))
+            self.handle(side, json.loads(parts[0]))
+        else:
+            super().take(side, frame)
 
     def handle(self, side, tree):
-        id = tree.get("invocationId")
-        match tree["type"]:
-            case 1:
-                self.accept(side, "notify" if id is None else "call", tree)
-            case 4:
-                self.accept(side, "stream", tree)
-            case 2:
-                streams = [n for n, kind in self.calls[side].live_calls() if self.calls[side].id(n) == id and kind == "stream"]
-                if streams:
-                    self.say(side, f"item {streams[0]} {json_text(tree['item'])}")
-                else:
-                    self.feed(side, id, ("item", tree["item"]))
-            case 3:
-                self.take_ending(side, id, ending_of(tree))
-            case 5:
-                found = self.jobs[side].cancel(id) != "unknown"
-                self.say(side, f"cancelled {id}" if found else f"skipped unknown-id {id}")
+        kind, id = tree["type"], tree.get("invocationId")
+        if kind == 1:
+            self.accept(side, "notify" if id is None else "call", tree)
+        elif kind == 4:
+            self.accept(side, "stream", tree)
+        elif kind == 2:
+            self.take_item(side, id, tree["item"])
+        elif kind == 3:
+            self.take_ending(side, id, ending_of(tree))
+        elif kind == 5:
+            found = self.jobs[side].cancel(id) != "unknown"
+            self.say(side, f"cancelled {id}" if found else f"skipped unknown-id {id}")
 
     def accept(self, side, kind, tree):
         id = tree.get("invocationId")
@@ -360,6 +341,14 @@ class Pair(replay_model.Script):
             self.break_off(side, "Too many inputs.", "flood")
         else:
             self.say(side, f"fed {id}")
+
+    def take_item(self, side, id, item):
+        calls = self.calls[side]
+        streams = [n for n, kind in calls.live_calls() if calls.id(n) == id and kind == "stream"]
+        if streams:
+            self.say(side, f"item {streams[0]} {json_text(item)}")
+        else:
+            self.feed(side, id, ("item", item))
 
     def take_ending(self, side, id, ending):
         calls = self.calls[side]
@@ -394,18 +383,18 @@ class Pair(replay_model.Script):
 
     def carry_out(self, side, job, call, act):
         kind, id, *_ = call
-        match act:
-            case ("item", value) if kind == "stream":
-                if not self.say_answer(side, id, {"type": 2, "invocationId": id, "item": value}):
-                    self.jobs[side].end(job)
-            case ("end", ending) if kind != "notify":
-                self.say_answer(side, id, {"type": 3, "invocationId": id} | ending_tree(ending))
-            case ("ask", target, arguments):
-                made = self.make_call(side, "call", 0, target, arguments)
-                if isinstance(made, str):
-                    self.jobs[side].answer(job, ("error", "The ask was refused."))
-                else:
-                    self.asked[side].append((made, job))
+        word, *parts = act
+        if word == "item" and kind == "stream":
+            if not self.say_answer(side, id, {"type": 2, "invocationId": id, "item": parts[0]}):
+                self.jobs[side].end(job)
+        elif word == "end" and kind != "notify":
+            self.say_answer(side, id, {"type": 3, "invocationId": id} | ending_tree(parts[0]))
+        elif word == "ask":
+            made = self.make_call(side, "call", 0, *parts)
+            if isinstance(made, str):
+                self.jobs[side].answer(job, ("error", "The ask was refused."))
+            else:
+                self.asked[side].append((made, job))
 
     def say_answer(self, side, id, tree):
         """Sends an answer or, if that is too long or too deep, the last word: whether it was the answer."""
@@ -440,24 +429,24 @@ class Replay(Pair):
     def action_of_peer(self, side, words):
         verb, _, rest = words.partition(" ")
         word, _, more = rest.partition(" ")
-        match verb:
-            case "round" if words == verb:
-                return lambda: self.round(side)
-            case "call" | "stream" | "notify" | "upload" if word:
-                kind, uploads = ("call", 1) if verb == "upload" else (verb, 0)
-                arguments = values_of(more)
-                return lambda: self.call(side, kind, uploads, word, arguments)
-            case "item":
-                call, tree = number_of(word), {"type": 2, "item": value_of(more)}
-                return lambda: self.upload(side, "item-sent", call, 0, tree)
-            case "done":
-                call = number_of(rest)
-                return lambda: self.upload(side, "done", call, 0, {"type": 3})
-            case "cancel":
-                call = number_of(rest)
-                return lambda: self.cancel(side, call)
-            case "send":
-                raise Refused
+        if words == "round":
+            return lambda: self.round(side)
+        if verb in ("call", "stream", "notify", "upload") and word:
+            kind, uploads = ("call", 1) if verb == "upload" else (verb, 0)
+            arguments = values_of(more)
+            return lambda: self.call(side, kind, uploads, word, arguments)
+        if verb == "item":
+            call, tree = number_of(word), {"type": 2, "item": value_of(more)}
+            return lambda: self.upload(side, "item-sent", call, 0, tree)
+        if verb == "done":
+            call = number_of(rest)
+            return lambda: self.upload(side, "done", call, 0, {"type": 3})
+        if verb == "cancel":
+            call = number_of(rest)
+            return lambda: self.cancel(side, call)
+        if verb == "send":
+            raise Refused
+        return None
 
 
 # ---- scripts

@@ -193,24 +193,23 @@ def draws(seed):
 
 def drawn_actions(k, d, links):
     """The actions of two draws."""
-    match k % 12:
-        case 0 | 3 as kind:
-            return [f"c {'notify' if kind else 'call'} Echo [{d % 1000}]"]
-        case 1:
-            return [f"c stream Count [{d % 5}]"]
-        case 2:
-            return [f"c call Slow [{d % 7},{d % 1000}]"]
-        case 4:
-            return [f"c cancel {1 + d % 1000}"]
-        case 5:
-            return [f"s call Confirm [{d % 1000}]"]
-        case 6 | 7 as kind:
-            return [f"{'cs'[kind - 6]} write {1 + d % 16}"]
-        case 8 | 9 as kind:
-            return [f"{'cs'[kind - 8]} read {1 + d % 1024}"]
-        case 11 if d % 8 == 0 and links < 1000:
-            return ["open", f"accept {links}"]
-    return ["s round", "c round"][: 1 if k % 12 == 11 else 2]
+    if k % 12 == 10:
+        return ["s round", "c round"]
+    if k % 12 == 11:
+        return ["open", f"accept {links}"] if d % 8 == 0 and links < 1000 else ["s round"]
+    actions = [
+        f"c call Echo [{d % 1000}]",
+        f"c stream Count [{d % 5}]",
+        f"c call Slow [{d % 7},{d % 1000}]",
+        f"c notify Echo [{d % 1000}]",
+        f"c cancel {1 + d % 1000}",
+        f"s call Confirm [{d % 1000}]",
+        f"c write {1 + d % 16}",
+        f"s write {1 + d % 16}",
+        f"c read {1 + d % 1024}",
+        f"s read {1 + d % 1024}",
+    ]
+    return [actions[k % 12]]
 
 
 def drawn_soak(play, seed, count):

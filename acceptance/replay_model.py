@@ -2,7 +2,9 @@
 """A plain, slow model of `sr replay`: two ends as lists of what they did, from which all is read off.
 
     acceptance/replay_model.py < SCRIPT                 the report that the definitions give
-    acceptance/replay_model.py --random SEED N PROGRAM  N random scripts, each run by PROGRAM too and compared
+    acceptance/replay_model.py --random SEED N PROGRAM  N random scripts, each run by PROGRAM too and compared, up to the first that differs
+
+The last line of the second is 'N passed, N failed', and its status 0 if none failed.
 
 It follows the rules of docs/delivery.md and docs/protocol.md and shares no code with the program. What scripts with `peers on` do
 beside that stands in peers_model.py. It reads a message of a
@@ -30,14 +32,15 @@ def json_text(value):
 
 
 def message_tree(frame):
-    match frame:
-        case ("message", text): return json.loads(text)
-        case ("ack", n): return {"sequenceId": n, "type": 8}
-        case ("sequence", first, None): return {"sequenceId": first, "type": 9}
-        case ("sequence", first, received): return {"received": received, "sequenceId": first, "type": 9}
-        case ("ping",): return {"type": 6}
-        case ("close", None, allow): return {"type": 7} | ({"allowReconnect": True} if allow else {})
-        case ("close", error, allow): return {"error": error, "type": 7} | ({"allowReconnect": True} if allow else {})
+    kind, *parts = frame
+    if kind == "message": return json.loads(parts[0])
+    if kind == "ack": return {"sequenceId": parts[0], "type": 8}
+    if kind == "ping": return {"type": 6}
+    if kind == "sequence":
+        first, received = parts
+        return {"sequenceId": first, "type": 9} | ({} if received is None else {"received": received})
+    error, allow = parts
+    return {"type": 7} | ({} if error is None else {"error": error}) | ({"allowReconnect": True} if allow else {})
 
 
 def pack(value):
@@ -68,19 +71,18 @@ def pack(value):
 
 
 def packed_message(t):
-    headers = t.get("headers") or {}
-    match t["type"]:
-        case 1 | 4: return [t["type"], headers, t.get("invocationId"), t["target"], t["arguments"], t.get("streamIds") or []]
-        case 2: return [2, headers, t["invocationId"], t["item"]]
-        case 3:
-            if t.get("error") is not None: return [3, headers, t["invocationId"], 1, t["error"]]
-            if "result" in t: return [3, headers, t["invocationId"], 3, t["result"]]
-            return [3, headers, t["invocationId"], 2]
-        case 5: return [5, headers, t["invocationId"]]
-        case 6: return [6]
-        case 7: return [7, t.get("error"), t.get("allowReconnect", False)]
-        case 8: return [8, t["sequenceId"]]
-        case 9: return [9, t["sequenceId"]] + ([t["received"]] if "received" in t else [])
+    kind, headers = t["type"], t.get("headers") or {}
+    if kind in (1, 4): return [kind, headers, t.get("invocationId"), t["target"], t["arguments"], t.get("streamIds") or []]
+    if kind == 2: return [2, headers, t["invocationId"], t["item"]]
+    if kind == 3:
+        if t.get("error") is not None: return [3, headers, t["invocationId"], 1, t["error"]]
+        if "result" in t: return [3, headers, t["invocationId"], 3, t["result"]]
+        return [3, headers, t["invocationId"], 2]
+    if kind == 5: return [5, headers, t["invocationId"]]
+    if kind == 6: return [6]
+    if kind == 7: return [7, t.get("error"), t.get("allowReconnect", False)]
+    if kind == 8: return [8, t["sequenceId"]]
+    if kind == 9: return [9, t["sequenceId"]] + ([t["received"]] if "received" in t else [])
 
 
 def bare(frame, codec):
@@ -91,11 +93,11 @@ def bare(frame, codec):
 
 @functools.cache
 def spell(frame, codec):
-    match frame:
-        case ("request", asked, version):
-            name = {"json": "json", "pack": "messagepack"}[asked]
-            return json_text({"protocol": name, "version": version}).encode() + b"\x1e"
-        case ("response",): return b"{}\x1e"
+    if frame[0] == "request":
+        _, asked, version = frame
+        name = {"json": "json", "pack": "messagepack"}[asked]
+        return json_text({"protocol": name, "version": version}).encode() + b"\x1e"
+    if frame[0] == "response": return b"{}\x1e"
     body = bare(frame, codec)
     if codec == "json": return body + b"\x1e"
     n, head = len(body), b""
@@ -322,36 +324,35 @@ class Script:
         self.ends = {side: End(side, o.get("codec", "json"), o.get("version", 2), o.get("reconnect", True), o.get("buffer", (1024, 100000, 32768))) for side in "cs"}
 
     def action(self, text):
-        words = text.split(" ")
-        match words:
-            case ["open"]:
-                if self.opened >= 1024: raise Refused
-                link, self.opened = self.opened, self.opened + 1
-                return lambda: self.attach("c", link)
-            case ["accept", k]:
-                k = number_of(k)
-                if k >= self.opened or k in self.accepted: raise Refused
-                self.accepted.add(k)
-                return lambda: self.attach("s", k) if k in self.ends["c"].links() else None
-            case ["tick", ms]:
-                ms = number_of(ms)
-                if ms < self.now: raise Refused
-                self.now = ms
-                return self.tick
-            case [("c" | "s") as side, "lose"]: return lambda: self.lose(side)
-            case [("c" | "s") as side, "close"]: return lambda: self.close(side)
-            case [("c" | "s") as side, "write", n]:
-                n = count_of(n)
-                return lambda: self.write(side, n)
-            case [("c" | "s") as side, "read", n]:
-                n = count_of(n)
-                return lambda: self.read(side, n)
-            case [("c" | "s") as side, "send", *_]:
-                try: tree = json.loads(text[7:])
-                except ValueError: raise Refused
-                if not isinstance(tree, dict) or tree.get("type") not in (1, 2, 3, 4, 5): raise Refused
-                return lambda: self.send(side, json_text(tree))
+        word, *words = text.split(" ")
+        if word in ("c", "s") and words: return self.action_of_end(word, words[0], words[1:], text[7:])
+        if word == "open" and not words:
+            if self.opened >= 1024: raise Refused
+            link, self.opened = self.opened, self.opened + 1
+            return lambda: self.attach("c", link)
+        if word == "accept" and len(words) == 1:
+            k = number_of(words[0])
+            if k >= self.opened or k in self.accepted: raise Refused
+            self.accepted.add(k)
+            return lambda: self.attach("s", k) if k in self.ends["c"].links() else None
+        if word == "tick" and len(words) == 1:
+            ms = number_of(words[0])
+            if ms < self.now: raise Refused
+            self.now = ms
+            return self.tick
         raise Refused
+
+    def action_of_end(self, side, verb, words, text):
+        if verb == "lose" and not words: return lambda: self.lose(side)
+        if verb == "close" and not words: return lambda: self.close(side)
+        if verb in ("write", "read") and len(words) == 1:
+            n = count_of(words[0])
+            return lambda: self.write(side, n) if verb == "write" else self.read(side, n)
+        if verb != "send": raise Refused
+        try: tree = json.loads(text)
+        except ValueError: raise Refused
+        if not isinstance(tree, dict) or tree.get("type") not in (1, 2, 3, 4, 5): raise Refused
+        return lambda: self.send(side, json_text(tree))
 
     def say(self, side, words): self.report.append(f"{side} {words}")
 
@@ -416,11 +417,12 @@ class Script:
             e.steps.append(("failed", got[1], frame))
             return self.say(side, f"fault {got[1]}")
         e.steps.append(("took", got, frame))
-        match got:
-            case ("message", text): self.say(side, f"got {len(e.processed())} {text}")
-            case ("sequenced", first): self.say(side, f"sequence {first}")
-            case ("closed", error): self.say(side, f"closed {'-' if error is None else json_text(error)}")
-            case (name, *rest): self.say(side, " ".join([name, *map(str, rest)]))
+        kind, *parts = got
+        if kind == "message": told = ["got", len(e.processed()), *parts]
+        elif kind == "sequenced": told = ["sequence", *parts]
+        elif kind == "closed": told = ["closed", "-" if parts == [None] else json_text(*parts)]
+        else: told = got
+        self.say(side, " ".join(map(str, told)))
 
     def stand(self):
         for side, name in ("c", "client"), ("s", "server"):
@@ -556,10 +558,11 @@ def main():
             script = random_script(random.Random(f"{seed} {i}"))
             want = report_of(script)
             run = subprocess.run([program, "replay"], input=script.encode(), capture_output=True, timeout=60)
-            if (run.stdout.decode(), run.returncode) != want:
-                print(f"script {i} of seed {seed} differs:\n{script}\nwant {want[1]}\n{want[0]}\ngot {run.returncode}\n{run.stdout.decode()}")
+            got = run.stdout.decode(errors="replace"), run.returncode
+            if got != want:
+                print(f"FAILED script {i} of seed {seed}:\n{script}\nwant {want[1]}\n{want[0]}\ngot  {got[1]}\n{got[0]}\n{i} passed, 1 failed")
                 sys.exit(1)
-        print(f"{n} scripts, all alike")
+        print(f"{n} passed, 0 failed")
         return
     text, status = report_of(sys.stdin.read())
     sys.stdout.write(text)

@@ -1,5 +1,5 @@
 #!/usr/bin/env python3
-"""Runs the rows of acceptance/*.toml against the built program, byte for byte.
+"""Runs the rows of acceptance/*.toml against the built program, byte for byte, some side by side.
 
     acceptance/run.py [PROGRAM]      PROGRAM is bin/sr by default, which proves and builds the program if it has to
 
@@ -13,61 +13,72 @@ separator (the byte 1E), or one of these:
     { hex = "02 91 06" }                          bytes
 
 The last line is 'N passed, N failed'; the status is 0 if none failed."""
+import concurrent.futures
+import os
 import pathlib
 import subprocess
 import sys
-import tomllib
+
+import rows
 
 HERE = pathlib.Path(__file__).resolve().parent
+SECONDS = 120
+SHOWN = 160  # bytes
 
 
 def bytes_of(piece, named):
-    match piece:
-        case str():
-            return piece.replace("␞", "\x1e").encode()
-        case list():
-            return b"".join(bytes_of(part, named) for part in piece)
-        case {"named": name}:
-            return named[name].encode()
-        case {"hex": digits}:
-            return bytes.fromhex(digits)
-        case {"text": text, "times": times}:
-            return bytes_of(text, named) * times
-        case {"text": text, "numbers": [first, last]}:
-            return b"".join(bytes_of(text.replace("#", str(n)), named) for n in range(first, last + 1))
+    if isinstance(piece, str):
+        return piece.replace("␞", "\x1e").encode()
+    if isinstance(piece, list):
+        return b"".join(bytes_of(part, named) for part in piece)
+    if piece.keys() == {"named"}:
+        return named[piece["named"]].encode()
+    if piece.keys() == {"hex"}:
+        return bytes.fromhex(piece["hex"])
+    if piece.keys() == {"text", "times"}:
+        return bytes_of(piece["text"], named) * piece["times"]
+    if piece.keys() == {"text", "numbers"}:
+        first, last = piece["numbers"]
+        return b"".join(bytes_of(piece["text"].replace("#", str(n)), named) for n in range(first, last + 1))
     raise ValueError(f"no piece: {piece}")
 
 
-def shown(data):
-    return repr(data if len(data) <= 300 else data[:140] + b" .. " + data[-140:])
+def shown(data, other):
+    """Some bytes around the first that isn't as in the other bytes."""
+    differs = next((at for at, (ours, theirs) in enumerate(zip(data, other)) if ours != theirs), min(len(data), len(other)))
+    begin = max(0, differs - SHOWN // 4)
+    part = data[begin : begin + SHOWN]
+    return repr(part) if part == data else f"{part!r}, which is from byte {begin} of {len(data)} on"
 
 
-def passes(program, row, named):
+def faults(program, row, named):
+    """What is wrong with what the program does at a row, in lines."""
     want = bytes_of(row["output"], named)
-    run = subprocess.run([program, *row["words"].split()], input=bytes_of(row["input"], named), capture_output=True, timeout=120)
+    try:
+        run = subprocess.run([program, *row["words"].split()], input=bytes_of(row["input"], named), capture_output=True, timeout=SECONDS)
+    except subprocess.TimeoutExpired:
+        return [f"it didn't end in {SECONDS} s"]
     if (run.stdout, run.returncode) == (want, row["status"]):
-        return True
-    print(f"FAILED {row['name']}: sr {row['words']}")
-    print(f"  want {row['status']} {shown(want)}\n  got  {run.returncode} {shown(run.stdout)}")
-    print(f"  standard error {shown(run.stderr)}")
-    return False
+        return []
+    lines = [f"want {row['status']} {shown(want, run.stdout)}", f"got  {run.returncode} {shown(run.stdout, want)}"]
+    return lines + [f"standard error {run.stderr[:SHOWN]!r}"]
 
 
 def main():
     program = sys.argv[1] if len(sys.argv) > 1 else str(HERE.parent / "bin" / "sr")
     # The first call of bin/sr may prove and build, and has no time limit for that.
     subprocess.run([program], stdin=subprocess.DEVNULL, stdout=subprocess.DEVNULL)
-    passed = failed = 0
-    for path in sorted(HERE.glob("*.toml")):
-        table = tomllib.loads(path.read_text())
-        for row in table["row"]:
-            if passes(program, row, table.get("pieces", {})):
-                passed += 1
-            else:
+    tables = [rows.read(path) for path in sorted(HERE.glob("*.toml"))]
+    listed = [(row, table.get("pieces", {})) for table in tables for row in table["row"]]
+    failed = 0
+    with concurrent.futures.ThreadPoolExecutor(os.cpu_count()) as lanes:
+        for (row, _), wrong in zip(listed, lanes.map(lambda it: faults(program, *it), listed)):
+            if wrong:
                 failed += 1
-    print(f"{passed} passed, {failed} failed")
-    sys.exit(1 if failed or not passed else 0)
+                print(f"FAILED {row['name']}: sr {row['words']}", *wrong, sep="\n    ", flush=True)
+    print(f"{len(listed) - failed} passed, {failed} failed")
+    return 1 if failed or not listed else 0
 
 
 if __name__ == "__main__":
-    main()
+    sys.exit(main())

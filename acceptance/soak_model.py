@@ -2,8 +2,10 @@
 """A model of `sr soak`: the script that a seed draws, played by the model of peers (peers_model.py).
 
     acceptance/soak_model.py SEED STEPS              prints the line of a soak
-    acceptance/soak_model.py --random SEED N PROGRAM    soaks by N seeds and steps that SEED draws, by the model and by PROGRAM
+    acceptance/soak_model.py --random SEED N PROGRAM    soaks by N seeds and steps that SEED draws, by the model and by PROGRAM, up to the first
+                                                        that differs
 
+The last line of the second is 'N passed, N failed', and its status 0 if none failed.
 docs/protocol.md has the recipe. The model scans lists anew at each question, so it takes a few seconds for some hundred steps."""
 import random
 import subprocess
@@ -92,14 +94,15 @@ def main():
         sys.stdout.write(line_of(int(sys.argv[1]), int(sys.argv[2])))
         return
     draw, n, program = random.Random(sys.argv[2]), int(sys.argv[3]), sys.argv[4]
-    for _ in range(n):
+    for done in range(n):
         seed, steps = draw.choice([draw.randrange(100), draw.randrange(1 << 64)]), draw.randrange(250)
         want = line_of(seed, steps)
-        run = subprocess.run([program, "soak", str(seed), str(steps)], stdin=subprocess.DEVNULL, capture_output=True, text=True, timeout=60)
-        if (run.stdout, run.returncode) != (want, 0):
-            print(f"soak {seed} {steps}: want {want} got {run.returncode} {run.stdout}")
+        run = subprocess.run([program, "soak", str(seed), str(steps)], stdin=subprocess.DEVNULL, capture_output=True, timeout=60)
+        got = run.stdout.decode(errors="replace"), run.returncode
+        if got != (want, 0):
+            print(f"FAILED soak {seed} {steps}\n  want 0 {want}  got  {got[1]} {got[0]}\n{done} passed, 1 failed")
             sys.exit(1)
-    print(f"{n} soaks, all alike")
+    print(f"{n} passed, 0 failed")
 
 
 if __name__ == "__main__":

@@ -3,17 +3,16 @@
 
 def packed(value):
     """A value in its shortest spelling. Texts, lists and maps are short here, and numbers below 128."""
-    match value:
-        case None:
-            return b"\xc0"
-        case int() if 0 <= value < 128:
-            return bytes([value])
-        case str() if len(value.encode()) < 32:
-            return bytes([0xA0 + len(value.encode())]) + value.encode()
-        case list() if len(value) < 16:
-            return bytes([0x90 + len(value)]) + b"".join(map(packed, value))
-        case dict() if len(value) < 16:
-            return bytes([0x80 + len(value)]) + b"".join(packed(part) for pair in value.items() for part in pair)
+    if value is None:
+        return b"\xc0"
+    if isinstance(value, int) and 0 <= value < 128:
+        return bytes([value])
+    if isinstance(value, str) and len(value.encode()) < 32:
+        return bytes([0xA0 + len(value.encode())]) + value.encode()
+    if isinstance(value, list) and len(value) < 16:
+        return bytes([0x90 + len(value)]) + b"".join(map(packed, value))
+    if isinstance(value, dict) and len(value) < 16:
+        return bytes([0x80 + len(value)]) + b"".join(packed(part) for pair in value.items() for part in pair)
     raise ValueError(value)
 
 
