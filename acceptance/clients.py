@@ -4,10 +4,11 @@
     acceptance/clients.py [PROGRAM]      PROGRAM is bin/sr by default, which proves and builds the program if it has to
 
 Each client of acceptance/clients/ that can run here gets a server of its own on a free port, and has to print what stands in
-clients/session.txt, which was written by hand. Then each exchange that docs/clients.md shows is done again, byte for byte. A client
-whose libraries aren't installed is skipped with a word: Debian has them as python3-websockets, and as nodejs with node-ws.
+clients/session.txt, which was written by hand. Beside that each exchange that docs/clients.md shows is done again, byte for byte. A
+client whose library isn't installed is skipped with a word.
 
 The last line is 'N passed, N failed, N skipped'; the status is 0 if none failed."""
+import concurrent.futures
 import difflib
 import os
 import pathlib
@@ -19,7 +20,8 @@ sys.path.insert(0, str(HERE / "clients"))
 from serving import Serving  # noqa: E402
 
 CLIENTS = HERE / "clients"
-NODE = {**os.environ, "NODE_PATH": "/usr/share/nodejs"}
+# Where Debian's node-ws is, behind what the caller names.
+NODE = {**os.environ, "NODE_PATH": os.pathsep.join(filter(None, [os.environ.get("NODE_PATH"), "/usr/share/nodejs"]))}
 SECONDS = 120
 
 
@@ -40,6 +42,7 @@ def python_client():
 
 
 def node_client():
+    """The client in JavaScript, if Node is here and has its library."""
     return ["node", CLIENTS / "session.mjs"] if runs(["node", "-e", 'require("ws")'], env=NODE) else None
 
 
@@ -63,6 +66,7 @@ def session(program, client):
 
 
 def page(program):
+    """Does the exchanges of docs/clients.md again. Answers what is wrong with them, in lines."""
     command = [sys.executable, CLIENTS / "page.py", program]
     done = subprocess.run(command, capture_output=True, text=True)
     return [] if done.returncode == 0 else (done.stdout + done.stderr).splitlines()
@@ -70,18 +74,23 @@ def page(program):
 
 def main():
     program = sys.argv[1] if len(sys.argv) > 1 else str(HERE.parent / "bin" / "sr")
-    counts = {"passed": 0, "failed": 0, "skipped": 0}
-
-    def tell(name, wrong):
-        outcome = "skipped" if wrong is None else "failed" if wrong else "passed"
-        counts[outcome] += 1
-        print(f"{outcome} {name}", *(wrong or []), sep="\n    ", flush=True)
-
-    for name, client in ("Python", python_client()), ("Node", node_client()):
-        tell(f"a client in {name}" if client else f"a client in {name}: its libraries aren't installed", client and session(program, client))
-    tell("the exchanges of docs/clients.md", page(program))
-    print(", ".join(f"{count} {outcome}" for outcome, count in counts.items()))
-    return 1 if counts["failed"] else 0
+    clients = [
+        ("a client in Python, with websockets 10.4 (python3-websockets)", python_client()),
+        ("a client in JavaScript, with Node and ws 8.11 (nodejs, node-ws)", node_client()),
+    ]
+    skipped = [name for name, client in clients if not client]
+    with concurrent.futures.ThreadPoolExecutor() as lanes:
+        running = [(name, lanes.submit(session, program, client)) for name, client in clients if client]
+        running.append(("the exchanges of docs/clients.md", lanes.submit(page, program)))
+    failed = 0
+    for name, ended in running:
+        wrong = ended.result()
+        failed += bool(wrong)
+        print(f"{'FAILED' if wrong else 'passed'} {name}", *wrong, sep="\n    ")
+    for name in skipped:
+        print(f"skipped {name}: it isn't installed")
+    print(f"{len(running) - failed} passed, {failed} failed, {len(skipped)} skipped")
+    return 1 if failed else 0
 
 
 if __name__ == "__main__":

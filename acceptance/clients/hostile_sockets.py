@@ -72,7 +72,7 @@ def never_reads(port):
     for number in range(1, 1_000):
         try:
             deaf.send(echo)
-        except TimeoutError:
+        except socket.timeout:
             return "not read any more"
         except OSError:
             return f"cut off, {other.call('Add', 2, 3).get('result')}"
