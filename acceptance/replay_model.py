@@ -11,6 +11,7 @@ beside that stands in peers_model.py. It reads a message of a
 script with Python's json and takes any object of type 1 to 5 for one, so it is for scripts whose messages have their
 fields and are written in the usual way."""
 import collections
+import difflib
 import functools
 import json
 import random
@@ -19,6 +20,7 @@ import sys
 
 REASON_DONE = None
 PROTOCOL = "Protocol error."
+SHOWN = 40  # lines of a report that isn't as wanted
 
 
 class Refused(Exception):
@@ -551,19 +553,30 @@ def random_script(draw):
     return RandomScript(draw).text()
 
 
+def compare(script, program):
+    """What is wrong with what the program reports of a script, in lines."""
+    wanted, status = report_of(script)
+    run = subprocess.run([program, "replay"], input=script.encode(), capture_output=True, timeout=60)
+    got = run.stdout.decode(errors="replace")
+    if (got, run.returncode) == (wanted, status): return []
+    names = f"want, with status {status}", f"got, with status {run.returncode}"
+    differences = [*difflib.unified_diff(wanted.splitlines(), got.splitlines(), *names, lineterm="", n=2)]
+    return [*script.splitlines(), *(differences[:SHOWN] or names)]
+
+
+def compare_random(seed, n, program):
+    for i in range(n):
+        wrong = compare(random_script(random.Random(f"{seed} {i}")), program)
+        if wrong:
+            print(f"FAILED script {i} of seed {seed}", *wrong, sep="\n    ")
+            print(f"{i} passed, 1 failed")
+            return 1
+    print(f"{n} passed, 0 failed")
+    return 0
+
+
 def main():
-    if sys.argv[1:2] == ["--random"]:
-        seed, n, program = int(sys.argv[2]), int(sys.argv[3]), sys.argv[4]
-        for i in range(n):
-            script = random_script(random.Random(f"{seed} {i}"))
-            want = report_of(script)
-            run = subprocess.run([program, "replay"], input=script.encode(), capture_output=True, timeout=60)
-            got = run.stdout.decode(errors="replace"), run.returncode
-            if got != want:
-                print(f"FAILED script {i} of seed {seed}:\n{script}\nwant {want[1]}\n{want[0]}\ngot  {got[1]}\n{got[0]}\n{i} passed, 1 failed")
-                sys.exit(1)
-        print(f"{n} passed, 0 failed")
-        return
+    if sys.argv[1:2] == ["--random"]: sys.exit(compare_random(int(sys.argv[2]), int(sys.argv[3]), sys.argv[4]))
     text, status = report_of(sys.stdin.read())
     sys.stdout.write(text)
     sys.exit(status)

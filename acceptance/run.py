@@ -48,7 +48,7 @@ def shown(data, other):
     differs = next((at for at, (ours, theirs) in enumerate(zip(data, other)) if ours != theirs), min(len(data), len(other)))
     begin = max(0, differs - SHOWN // 4)
     part = data[begin : begin + SHOWN]
-    return repr(part) if part == data else f"{part!r}, which is from byte {begin} of {len(data)} on"
+    return repr(part) if part == data else f"{part!r}, bytes {begin} to {begin + len(part)} of {len(data)}"
 
 
 def faults(program, row, named):

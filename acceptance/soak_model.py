@@ -100,7 +100,7 @@ def main():
         run = subprocess.run([program, "soak", str(seed), str(steps)], stdin=subprocess.DEVNULL, capture_output=True, timeout=60)
         got = run.stdout.decode(errors="replace"), run.returncode
         if got != (want, 0):
-            print(f"FAILED soak {seed} {steps}\n  want 0 {want}  got  {got[1]} {got[0]}\n{done} passed, 1 failed")
+            print(f"FAILED soak {seed} {steps}\n    want 0 {want.strip()}\n    got  {got[1]} {got[0].strip()}\n{done} passed, 1 failed")
             sys.exit(1)
     print(f"{n} passed, 0 failed")
 
