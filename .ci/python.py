@@ -9,16 +9,16 @@ import sys
 
 TOP = pathlib.Path(__file__).resolve().parent.parent
 VERSION = (3, 9)
-# What these programs might reach for: modules, functions and parameters, with the version that brought them.
+# What these programs might reach for, with the version that brought it: modules, functions, and parameters of functions.
 NEWER = {
     "aiter": "3.10",
     "anext": "3.10",
     "batched": "3.12",
     "bit_count": "3.10",
-    "kw_only": "3.10",
+    "dataclass(kw_only=)": "3.10",
+    "dataclass(slots=)": "3.10",
     "pairwise": "3.10",
-    "slots": "3.10",
-    "strict": "3.10",
+    "zip(strict=)": "3.10",
     "ExceptionGroup": "3.11",
     "StrEnum": "3.11",
     "TaskGroup": "3.11",
@@ -34,7 +34,7 @@ def programs():
 
 
 def names_of(node):
-    """The names that a node of a program uses of modules, functions or parameters that it didn't make itself."""
+    """The names that a node of a program has, as NEWER has them."""
     if isinstance(node, ast.Name):
         return [node.id]
     if isinstance(node, ast.Attribute):
@@ -43,7 +43,9 @@ def names_of(node):
         return [alias.name for alias in node.names]
     if isinstance(node, ast.ImportFrom):
         return [node.module, *(alias.name for alias in node.names)]
-    return [keyword.arg for keyword in node.keywords] if isinstance(node, ast.Call) else []
+    if isinstance(node, ast.Call):
+        return [f"{name}({keyword.arg}=)" for name in names_of(node.func) for keyword in node.keywords]
+    return []
 
 
 def faults(path):
