@@ -1,16 +1,12 @@
 -- The lines of a report: of what an end takes, of what a peer tells, and of how an end stands.
-use Rattle.std.specs.Prelude.{ℕ, suc, List, [], ◌∷◌, ◌++◌, length, codes, Option, Some, None}
-use Rattle.std.specs.Fmt.{decimal, signed_decimal}
+use Rattle.std.specs.Prelude.{ℕ, suc, List, [], ◌++◌, length, codes, Option, Some, None}
+use Rattle.std.specs.Fmt.{decimal}
 use Rattle.hv_value.specs.Tree as tree
 use Rattle.hv_value.specs.View as view
 use Rattle.hv_value.specs.declared.value.Value.{Value}
 use Rattle.hv_json.specs.Writing.{json_text}
 use Rattle.hm_message.specs.declared.message.Ending.{Ending}
 use Rattle.hm_message.specs.declared.message.Ending.TheVariants as ending
-use Rattle.hm_json.specs.Frame.{frame_of}
-use Rattle.hd_delivery.specs.declared.vocabulary.Got.{Got}
-use Rattle.hd_delivery.specs.declared.vocabulary.Got.TheVariants as gives
-use Rattle.hd_delivery.specs.declared.vocabulary.Why.TheVariants.{Duplicate, Unknown, BeforeSequence, NotUsed}
 use Rattle.hd_delivery.specs.declared.vocabulary.Side.{Side}
 use Rattle.hd_delivery.specs.declared.vocabulary.Side.TheVariants.{Client, Server}
 use Rattle.hd_delivery.specs.declared.vocabulary.State.{State}
@@ -31,32 +27,9 @@ use Rattle.hp_peer.specs.declared.errors.PeerError.TheVariants as error
 use Rattle.hi_calls.specs.declared.errors.CallError.{CallError}
 use Rattle.hi_calls.specs.declared.errors.CallError.TheVariants as table
 use Rattle.he_end.specs.Words.{next_words, send_words}
-use Rattle.sr_script.specs.Script.{letter}
+use Rattle.sr_notation.specs.Words.{line, line_at, got_words}
 use Rattle.sr_lines.specs.declared.telling.Asked.{Asked}
 use Rattle.sr_lines.specs.declared.telling.Asked.TheVariants as asked
-
--- a line, which LF (10) ends
-abbrev pub line : List ℕ → List ℕ
-line words = words ++ 10 ∷ []
-
--- a line about an end
-abbrev pub line_at : Side → List ℕ → List ℕ
-line_at side words = line (letter side ++ (codes " " ++ words))
-
--- what a frame gave, in words; a message has this number
-abbrev pub got_words : ℕ → Got → List ℕ
-got_words number (gives.Shaken codec version) = codes "shaken"
-got_words number (gives.Message m) = codes "got " ++ (decimal number ++ (codes " " ++ frame_of m))
-got_words number (gives.Acked upto) = codes "acked " ++ decimal upto
-got_words number (gives.Sequenced first) = codes "sequence " ++ decimal first
-got_words number (gives.Resumed first received) = codes "resumed " ++ (decimal first ++ (codes " " ++ decimal received))
-got_words number gives.Ping = codes "ping"
-got_words number (gives.Skipped (Duplicate n)) = codes "skipped duplicate " ++ decimal n
-got_words number (gives.Skipped (Unknown n)) = codes "skipped unknown " ++ signed_decimal n
-got_words number (gives.Skipped BeforeSequence) = codes "skipped before-sequence"
-got_words number (gives.Skipped NotUsed) = codes "skipped not-used"
-got_words number (gives.Closed None allow) = codes "closed -"
-got_words number (gives.Closed (Some error) allow) = codes "closed " ++ json_text (tree.text error)
 
 -- a fault, in words
 abbrev pub fault_words : Fault → List ℕ

@@ -1,31 +1,16 @@
 //! The lines of what an end does, and of how it stands.
 
-ghost use Rattle.std.specs.Prelude.{◌≡◌, ◌++◌, ℕ, Bool, OnOk, codes};
+ghost use Rattle.std.specs.Prelude.{◌≡◌, ◌++◌, OnOk, codes};
 ghost use Rattle.std.specs.Fmt.{decimal};
-ghost use Rattle.hm_message.specs.Message.{Fits};
-ghost use Rattle.hd_delivery.specs.declared.vocabulary.Got.TheVariants as gives;
 ghost use Rattle.hd_delivery.specs.Histories.{HasFit};
 ghost use Rattle.he_end.specs.Words.{attach_words, next_words, send_words};
-ghost use Rattle.sr_script.specs.Script.{letter};
-ghost use Rattle.sr_lines.specs.Lines.{got_words, line_at, side_word, standing_line, state_word};
+ghost use Rattle.sr_notation.specs.Words.{got_words, line_at};
+ghost use Rattle.sr_lines.specs.Lines.{side_word, standing_line, state_word};
 
-use hd_delivery::{Got, Side, State, Why};
+use hd_delivery::{Got, Side, State};
 use he_end::{AttachError, NextError, SendError};
-use hm_json::write_message;
-use hm_message::Message;
-use hv_json::write_value;
-use hv_value::{Text, Value};
+use sr_notation::{letter, push_got_words};
 use std::alloc::{AllocError, Global};
-
-/// The letter of a side.
-pub(crate) fn letter(side: Side) -> &'static str
-    ensures { result.now ≡ letter side }
-{
-    match side {
-        Side::Client => "c",
-        Side::Server => "s",
-    }
-}
 
 /// The name of a side.
 fn name(side: Side) -> &'static str
@@ -126,71 +111,9 @@ pub fn push_got(
     requires { HasFit got.now }
     ensures { OnOk result (report.new.items ≡ report.old.items ++ line_at side (got_words number got.now)) }
 {
-    let letter = letter(side);
-    let line = match got {
-        Got::Message(message) => return push_message(alloc, report, side, number, message),
-        Got::Closed { error, .. } => return push_closed(alloc, report, side, error),
-        Got::Skipped(why) => return push_skipped(alloc, report, side, *why),
-        Got::Shaken { .. } => format!(in alloc; "{letter} shaken\n")?,
-        Got::Acked(upto) => format!(in alloc; "{letter} acked {upto}\n")?,
-        Got::Sequenced(first) => format!(in alloc; "{letter} sequence {first}\n")?,
-        Got::Resumed { first, received } => {
-            format!(in alloc; "{letter} resumed {first} {received}\n")?
-        }
-        Got::Ping => format!(in alloc; "{letter} ping\n")?,
-    };
-    report.extend_from_slice(line.as_bytes())
-}
-
-/// Appends the line of a message that was handed out with this number, in JSON.
-fn push_message(
-    alloc: Global,
-    report: &mut Vec<u8>,
-    side: Side,
-    number: u64,
-    message: &Message,
-) -> Result<(), AllocError>
-    requires { Fits message.now }
-    ensures { OnOk result (report.new.items ≡ report.old.items ++ line_at side (got_words number (gives.Message message.now))) }
-{
-    let letter = letter(side);
-    let line = format!(in alloc; "{letter} got {number} ")?;
-    report.extend_from_slice(line.as_bytes())?;
-    write_message(alloc, message, report)?;
-    report.push(b'\n')?;
-    Ok(())
-}
-
-/// Appends the line of a frame that was passed over.
-fn push_skipped(alloc: Global, report: &mut Vec<u8>, side: Side, why: Why) -> Result<(), AllocError>
-    ensures { OnOk result ((number : ℕ) → report.new.items ≡ report.old.items ++ line_at side (got_words number (gives.Skipped why))) }
-{
-    let letter = letter(side);
-    let line = match why {
-        Why::Duplicate(number) => format!(in alloc; "{letter} skipped duplicate {number}\n")?,
-        Why::Unknown(number) => format!(in alloc; "{letter} skipped unknown {number}\n")?,
-        Why::BeforeSequence => format!(in alloc; "{letter} skipped before-sequence\n")?,
-        Why::NotUsed => format!(in alloc; "{letter} skipped not-used\n")?,
-    };
-    report.extend_from_slice(line.as_bytes())
-}
-
-/// Appends the line of a Close that was read, with its error as JSON text.
-fn push_closed(
-    alloc: Global,
-    report: &mut Vec<u8>,
-    side: Side,
-    error: &Option<Text>,
-) -> Result<(), AllocError>
-    ensures { OnOk result ((number : ℕ) (allow : Bool) → report.new.items ≡ report.old.items ++ line_at side (got_words number (gives.Closed error.now allow))) }
-{
-    let letter = letter(side);
-    let line = format!(in alloc; "{letter} closed ")?;
-    report.extend_from_slice(line.as_bytes())?;
-    match error {
-        Some(error) => write_value(alloc, &Value::Text(error.copy()?), report)?,
-        None => report.push(b'-')?,
-    }
+    report.extend_from_slice(letter(side).as_bytes())?;
+    report.push(b' ')?;
+    push_got_words(alloc, report, number, got)?;
     report.push(b'\n')?;
     Ok(())
 }

@@ -2,15 +2,17 @@
 
 ghost use Rattle.std.specs.Prelude.{◌≡◌, ◌++◌, OnOk, codes};
 ghost use Rattle.hm_message.specs.declared.message.Ending.TheVariants as ending;
-ghost use Rattle.sr_lines.specs.Lines.{ask_words, asked_word, began_words, counted, did_words, ended_words, gone_words, id_words, item_words, line_at, peer_words, table_words, CanBeTold};
+ghost use Rattle.sr_notation.specs.Words.{line_at};
+ghost use Rattle.sr_lines.specs.Lines.{ask_words, asked_word, began_words, counted, did_words, ended_words, gone_words, id_words, item_words, peer_words, table_words, CanBeTold};
 
-use crate::report::{letter, push_fault, push_got, push_refused_send};
+use crate::report::{push_fault, push_got, push_refused_send};
 use hd_delivery::Side;
 use hi_calls::CallError;
 use hm_message::Ending;
 use hp_peer::{AskError, Did, PeerError};
 use hv_json::write_value;
 use hv_value::{Text, Value};
+use sr_notation::letter;
 use std::alloc::{AllocError, Global};
 
 /// What a peer's user asks for of an own call that is live.

@@ -13,7 +13,8 @@ use Rattle.hp_peer.specs.declared.peer.Peer.{Peer}
 use Rattle.hp_peer.specs.Calling.{HasCalled, heard_call}
 use Rattle.hp_peer.specs.Stands.{Stands}
 use Rattle.sr_lines.specs.Laws.{IsToldAs}
-use Rattle.sr_lines.specs.Lines.{ask_words, counted, line_at, why_words}
+use Rattle.sr_notation.specs.Words.{line_at}
+use Rattle.sr_lines.specs.Lines.{ask_words, counted, why_words}
 use Rattle.sr_peers.specs.declared.party.Party.{Party}
 use Rattle.sr_peers.specs.Doings.{Doing, Makes, Refuses, Asks, IsDone}
 use Rattle.sr_peers.specs.Told.{TellsMove}

@@ -13,7 +13,7 @@ use Rattle.hd_calls.specs.Hubs.{Hub}
 use Rattle.hd_calls.specs.Peers.{PeerEvent, Plain, Settings, is_shut, steps}
 use Rattle.hp_peer.specs.declared.peer.Peer.{Peer}
 use Rattle.hp_peer.specs.Stands.{Stands}
-use Rattle.sr_lines.specs.Lines.{line_at}
+use Rattle.sr_notation.specs.Words.{line_at}
 use Rattle.sr_peers.specs.declared.party.Party.{Party}
 use Rattle.sr_peers.specs.Doings.{Makes, Refuses, IsTried, attaching, closing, leaving, ticking}
 use Rattle.sr_peers.specs.Plays.{Plays, Goes, HasDone}

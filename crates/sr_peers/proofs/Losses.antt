@@ -7,7 +7,8 @@ use Rattle.hd_calls.specs.Peers.{PeerEvent, Calls, Loses, Settings, drawn, call_
 use Rattle.hp_peer.specs.declared.peer.Peer.{Peer}
 use Rattle.hp_peer.specs.Calling.{Loss}
 use Rattle.hp_peer.specs.Laws.{KeepsItsCalls}
-use Rattle.sr_lines.specs.Lines.{line_at, gone_words}
+use Rattle.sr_notation.specs.Words.{line_at}
+use Rattle.sr_lines.specs.Lines.{gone_words}
 use Rattle.sr_peers.specs.declared.party.Party.{Party}
 use Rattle.sr_peers.specs.Doings.{Chain, WholeChain, Losing}
 use Rattle.sr_peers.specs.Laws.{LossesAreFew}

@@ -19,7 +19,8 @@ use Rattle.hp_peer.specs.declared.errors.PeerError.TheVariants as error
 use Rattle.hp_peer.specs.declared.peer.Peer.{Peer}
 use Rattle.hp_peer.specs.Stands.{Stands}
 use Rattle.hp_peer.specs.Taking.{IsFor, IsToldAs, IsNext, OfNext, HasHandled, HasRead, Takes, IsUnhandled, IsUntaken}
-use Rattle.sr_lines.specs.Lines.{line_at, got_words, fault_words, began_words, item_words, ended_words, fed_words, cancelled_words, unknown_words, in_use_words, did_words, peer_words}
+use Rattle.sr_notation.specs.Words.{line_at, got_words}
+use Rattle.sr_lines.specs.Lines.{fault_words, began_words, item_words, ended_words, fed_words, cancelled_words, unknown_words, in_use_words, did_words, peer_words}
 use Rattle.sr_lines.specs.Laws.{FaultsAreTold}
 use Rattle.sr_peers.specs.declared.party.Party.{Party}
 use Rattle.sr_peers.specs.Doings.{BeginsAt}

@@ -10,7 +10,7 @@ use Rattle.hub_calc.specs.Table.{calc_hub}
 use Rattle.hub_calc.specs.Client.{client_hub}
 use Rattle.sr_script.specs.declared.action.Action.{Action}
 use Rattle.sr_script.specs.Script.{Program}
-use Rattle.sr_script.specs.Terms.{limits_in, terms_in}
+use Rattle.sr_notation.specs.Terms.{limits_in, terms_in}
 use Rattle.sr_lines.specs.Lines.{standing_text}
 use Rattle.sr_peers.specs.Runs.{Run, Runs, TellsRun, pair_of, steps_at, world_of}
 

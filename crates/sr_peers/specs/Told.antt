@@ -6,7 +6,8 @@ use Rattle.hd_calls.specs.Hubs.{Item, End, Purpose, ToBegin, ToAnswer, ToCancel,
 use Rattle.hd_calls.specs.Peers.{Effect, Begins, InUse, TooMany, Brings, Feeds, Flood, Marks, Nothing, PeerEvent, Plain, Calls, Uploads, Cancels, Handles, Loses, Settings, steps}
 use Rattle.hd_calls.specs.Tables.{job_happenings}
 use Rattle.hj_jobs.specs.Calls.{IsTaken}
-use Rattle.sr_lines.specs.Lines.{line_at, step_text, counted, began_words, item_words, ended_words, gone_words, fed_words, cancelled_words, unknown_words, in_use_words}
+use Rattle.sr_notation.specs.Words.{line_at}
+use Rattle.sr_lines.specs.Lines.{step_text, counted, began_words, item_words, ended_words, gone_words, fed_words, cancelled_words, unknown_words, in_use_words}
 use Rattle.sr_peers.specs.Doings.{Doing, Makes, Refuses}
 
 -- the id for which a message is, if it is an answer or a cancellation

@@ -19,7 +19,8 @@ ghost use Rattle.hp_peer.specs.declared.errors.AskError.TheVariants as ask;
 ghost use Rattle.hp_peer.specs.Calling.{upload_end, upload_item};
 ghost use Rattle.hp_peer.specs.Stands.{settings};
 ghost use Rattle.sr_peers.specs.Doings.{Asks, Cancelling, Doing, IsRound, IsTried, Losing, ReadsTo, Reading, Sends, Taking, WholeChain, WithLosses, attaching, closing, leaving, lifted, ticking};
-ghost use Rattle.sr_lines.specs.Lines.{ask_words, line_at};
+ghost use Rattle.sr_notation.specs.Words.{line_at};
+ghost use Rattle.sr_lines.specs.Lines.{ask_words};
 ghost use Rattle.sr_peers.specs.Works.{moves_bytes};
 ghost use Rattle.sr_peers.specs.Plays.{Feeds, Goes, HasDone, OfEach, Plays, TakesOne, WritesOne};
 

@@ -37,7 +37,8 @@ use Rattle.hd_delivery.specs.Following.{FollowAll, FollowUpTo}
 use Rattle.hd_delivery.specs.Alone.{writing, reading}
 use Rattle.hd_delivery.specs.Sides.{other, by, history}
 use Rattle.sr_replay.specs.Report.{doing_text, run_text, report_text}
-use Rattle.sr_lines.specs.Lines.{line_at, standing_line, standing_text}
+use Rattle.sr_notation.specs.Words.{line_at}
+use Rattle.sr_lines.specs.Lines.{standing_line, standing_text}
 use Rattle.sr_replay.specs.Plays.{Plays, OfEach, limits_at, steps_text}
 use Rattle.hd_delivery.specs.Alone.{lent_text}
 use Rattle.sr_replay.specs.Follows.{IsPlayed, MayRead, Tries, said_by, IsLane, Holds, Follows, GoesOn}

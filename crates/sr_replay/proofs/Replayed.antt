@@ -7,7 +7,7 @@ use Rattle.sr_script.specs.declared.action.Action.{Action}
 use Rattle.sr_script.specs.declared.action.Action.TheVariants.{Call, Item, Done, Cancel, Round}
 use Rattle.sr_script.specs.declared.script.Reader.{Reader}
 use Rattle.sr_script.specs.Script.{Program, Parses, Suits}
-use Rattle.sr_script.specs.Terms.{peers_in}
+use Rattle.sr_notation.specs.Terms.{peers_in}
 use Rattle.sr_script.specs.Reading.{HasRead}
 use Rattle.sr_script.specs.Laws.{SettingsComeFirst}
 use Rattle.sr_replay.specs.Runs.{Run}

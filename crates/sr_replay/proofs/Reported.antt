@@ -7,7 +7,7 @@ use Rattle.he_end.specs.Laws.{Deliver, limits_of_both}
 use Rattle.hd_delivery.specs.declared.vocabulary.Side.TheVariants.{Client, Server}
 use Rattle.hd_delivery.specs.Worlds.{Limits, alike, Terms, config, Event, ByClient, ByServer, client_of, server_of}
 use Rattle.hd_delivery.specs.Bytes.{Wire, ByteStep, AllowedOverBytes, IsWorldOverBytes}
-use Rattle.sr_script.specs.Terms.{limits_in, terms_in}
+use Rattle.sr_notation.specs.Terms.{limits_in, terms_in}
 use Rattle.sr_replay.specs.Runs.{world_of}
 use Rattle.sr_script.specs.Laws.{ScriptsAreInTurn, ScriptsAreSettled}
 use Rattle.sr_replay.specs.Laws.{RunsOnce, RunsAreWorlds, EndsReport}

@@ -15,7 +15,8 @@ use Rattle.he_end.specs.Calls.{fault_of, FailsBy}
 use Rattle.he_end.specs.Stands.{Stands}
 use Rattle.he_end.specs.Words.{next_words}
 use Rattle.sr_replay.specs.declared.player.Player.{Player}
-use Rattle.sr_lines.specs.Lines.{line_at, got_words, fault_words}
+use Rattle.sr_notation.specs.Words.{line_at, got_words}
+use Rattle.sr_lines.specs.Lines.{fault_words}
 use Rattle.hd_delivery.specs.Alone.{taking}
 use Rattle.sr_replay.specs.Plays.{Plays, Goes, steps_text}
 use Rattle.sr_replay.proofs.Feeding.{with}

@@ -8,7 +8,7 @@ use Rattle.sr_script.specs.declared.action.Action.TheVariants.{Send}
 use Rattle.sr_script.specs.declared.line.Asked.{Asked}
 use Rattle.sr_script.specs.declared.line.Asked.TheVariants as asked
 use Rattle.sr_script.specs.Script.{Program, Parses, Suits}
-use Rattle.sr_script.specs.Terms.{peers_in}
+use Rattle.sr_notation.specs.Terms.{peers_in}
 use Rattle.sr_script.specs.Asking.{IsWhole, IsAllowed, MayCome, and_then}
 use Rattle.sr_peers.specs.declared.peers.Peers.{Peers}
 use Rattle.sr_peers.specs.Told.{Tells}

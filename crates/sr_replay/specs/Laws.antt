@@ -12,7 +12,7 @@ use Rattle.he_end.specs.Stands.{Stands, limits_of}
 use Rattle.sr_script.specs.declared.action.Action.{Action}
 use Rattle.sr_script.specs.declared.action.Action.TheVariants.{Accept}
 use Rattle.sr_script.specs.Script.{Program, Parses, AreInTurn, opened, moment_after}
-use Rattle.sr_script.specs.Terms.{limits_in, terms_in}
+use Rattle.sr_notation.specs.Terms.{limits_in, terms_in}
 use Rattle.sr_replay.specs.Runs.{Run, Runs, frames_at, world_of}
 use Rattle.sr_replay.specs.Report.{report_text, IsReportOver, IsReport, IsReportOf}
 

@@ -5,14 +5,14 @@ use Rattle.hd_delivery.specs.Worlds.{Limits, Terms}
 use Rattle.hd_delivery.specs.Bytes.{Wire}
 use Rattle.he_wire.specs.Wires.{IsHouseWire}
 use Rattle.he_end.specs.declared.config.Config.{Config}
-use Rattle.sr_script.specs.declared.action.Setting.{Setting}
+use Rattle.sr_notation.specs.declared.setting.Setting.{Setting}
 use Rattle.sr_script.specs.declared.action.Action.{Action}
 use Rattle.sr_script.specs.declared.line.Asked.{Asked}
 use Rattle.sr_script.specs.declared.line.Asked.TheVariants as asked
 use Rattle.sr_replay.specs.declared.pair.Pair.{Pair}
 use Rattle.sr_script.specs.Script.{Program, Parses}
 use Rattle.sr_replay.specs.Runs.{Run}
-use Rattle.sr_script.specs.Terms.{codec_in, version_in, reconnect_in, limits_in, peers_in, terms_in}
+use Rattle.sr_notation.specs.Terms.{codec_in, version_in, reconnect_in, limits_in, peers_in, terms_in}
 use Rattle.sr_replay.specs.Follows.{Follows, GoesOn, IsOfEnds}
 
 -- both ends are begun so if these are the options

@@ -8,10 +8,11 @@ use Rattle.hd_delivery.specs.Worlds.{alike, Terms, config, ByClient, ByServer}
 use Rattle.hd_delivery.specs.Bytes.{Wire, Does, bare_steps, IsWorldOverBytes, DeliveryOverBytes}
 use Rattle.he_wire.specs.Wires.{IsHouseWire}
 use Rattle.sr_script.specs.Script.{Program}
-use Rattle.sr_lines.specs.Lines.{line_at, step_text, standing_text}
+use Rattle.sr_notation.specs.Words.{line_at}
+use Rattle.sr_lines.specs.Lines.{step_text, standing_text}
 use Rattle.sr_replay.specs.Runs.{Doing, Makes, Refuses, Run, Runs, world_of}
 use Rattle.hd_delivery.specs.Sides.{history}
-use Rattle.sr_script.specs.Terms.{limits_in, peers_in, terms_in}
+use Rattle.sr_notation.specs.Terms.{limits_in, peers_in, terms_in}
 use Rattle.sr_peers.specs.Report as of_peers
 
 -- the line of what an end did

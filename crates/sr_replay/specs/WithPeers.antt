@@ -7,7 +7,7 @@ use Rattle.sr_script.specs.declared.action.Action.{Action}
 use Rattle.sr_script.specs.declared.line.Asked.{Asked}
 use Rattle.sr_script.specs.declared.line.Asked.TheVariants as asked
 use Rattle.sr_script.specs.Script.{Program, Parses}
-use Rattle.sr_script.specs.Terms.{limits_in, peers_in}
+use Rattle.sr_notation.specs.Terms.{limits_in, peers_in}
 use Rattle.sr_peers.specs.declared.peers.Peers.{Peers}
 use Rattle.sr_peers.specs.Runs.{Run, TellsRun}
 use Rattle.sr_peers.specs.Follows.{Follows, GoesOn, IsOfPeers}

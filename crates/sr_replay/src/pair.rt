@@ -13,7 +13,7 @@ ghost use Rattle.he_end.specs.declared.errors.SendError.TheVariants as send;
 ghost use Rattle.sr_script.specs.declared.action.Action.{Action};
 ghost use Rattle.sr_script.specs.declared.action.Action.TheVariants as action;
 ghost use Rattle.sr_script.specs.Script.{Program, Parses, opened, most_of};
-ghost use Rattle.sr_script.specs.Terms.{limits_in, terms_in};
+ghost use Rattle.sr_notation.specs.Terms.{limits_in, terms_in};
 ghost use Rattle.sr_replay.specs.Runs.{Doing, Run, attaching, ticking, steps_of, Sending, read_in_all};
 ghost use Rattle.hd_delivery.specs.Following.{FollowAll, FollowUpTo};
 ghost use Rattle.hd_delivery.specs.Alone.{writing, reading};

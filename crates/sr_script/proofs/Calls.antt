@@ -16,12 +16,13 @@ use Rattle.hm_message.specs.Fields.{trees_in}
 use Rattle.hd_delivery.specs.declared.vocabulary.Side.{Side}
 use Rattle.hd_calls.specs.declared.vocabulary.CallKind.{CallKind}
 use Rattle.hd_calls.specs.declared.vocabulary.CallKind.TheVariants as kind
+use Rattle.sr_notation.specs.Laws.{WordsAreCutOnce}
+use Rattle.sr_notation.specs.Words.{IsWord}
 use Rattle.sr_script.specs.declared.action.Action.{Action}
 use Rattle.sr_script.specs.declared.action.Action.TheVariants.{Lose, Write, Read, Close, Send, Call, Item, Done, Cancel, Round}
 use Rattle.sr_script.specs.declared.action.Asking.{Asking}
 use Rattle.sr_script.specs.Script.{IsCallWord, NamesCall, WantsCall, NamesItem}
-use Rattle.sr_script.specs.Asking.{IsWord, OfLink, OfPeer, OfEnd}
-use Rattle.sr_script.proofs.Grammar.{one_split, decimal_word}
+use Rattle.sr_script.specs.Asking.{OfLink, OfPeer, OfEnd}
 
 -- letters of words, by their places from 0
 abbrev letter_at : ℕ → List ℕ → ℕ
@@ -105,18 +106,18 @@ pub record IsCut (words : List ℕ) (front rest : List ℕ) : Type 0 where
   pub word : IsWord front
   pub is : words ≡ front ++ 32 ∷ rest
 
-pub named_parts : (words front rest : List ℕ) (a : Asking) → IsCut words front rest → (names : NamesCall words a) → (front ≡ a.target) × (rest ≡ names.list_text)
-named_parts words front rest a cut names = one_split front a.target rest names.list_text cut.word names.target.spaceless (sym cut.is ∙ names.words_are)
+pub named_parts : WordsAreCutOnce → (words front rest : List ℕ) (a : Asking) → IsCut words front rest → (names : NamesCall words a) → (front ≡ a.target) × (rest ≡ names.list_text)
+named_parts cuts words front rest a cut names = cuts.one_cut front a.target rest names.list_text cut.word names.target.spaceless (sym cut.is ∙ names.words_are)
 
 -- so is what asks for a call
-pub wanted_parts : (words front rest : List ℕ) (a : Asking) → IsCut words front rest → (wants : WantsCall words a) → (front ≡ wants.word) × (rest ≡ wants.rest)
-wanted_parts words front rest a cut wants =
-    one_split front wants.word rest wants.rest cut.word (is_word wants.word a.kind a.uploads wants.called) (sym cut.is ∙ wants.words_are)
+pub wanted_parts : WordsAreCutOnce → (words front rest : List ℕ) (a : Asking) → IsCut words front rest → (wants : WantsCall words a) → (front ≡ wants.word) × (rest ≡ wants.rest)
+wanted_parts cuts words front rest a cut wants =
+    cuts.one_cut front wants.word rest wants.rest cut.word (is_word wants.word a.kind a.uploads wants.called) (sym cut.is ∙ wants.words_are)
 
-pub item_parts : (words front rest : List ℕ) (call : ℕ) (value : Value) → IsCut words front rest → (names : NamesItem words call value)
+pub item_parts : WordsAreCutOnce → (words front rest : List ℕ) (call : ℕ) (value : Value) → IsCut words front rest → (names : NamesItem words call value)
     → (front ≡ decimal call) × (rest ≡ names.value_text)
-item_parts words front rest call value cut names =
-    one_split front (decimal call) rest names.value_text cut.word (decimal_word call names.short) (sym cut.is ∙ names.words_are)
+item_parts cuts words front rest call value cut names =
+    cuts.one_cut front (decimal call) rest names.value_text cut.word (cuts.digits call names.short) (sym cut.is ∙ names.words_are)
 
 -- what is called so, and names this, asks for the call
 pub call_wanted : (words front rest : List ℕ) (k : CallKind) (uploads : ℕ) (a : Asking) → IsCut words front rest → IsCallWord front k uploads → NamesCall rest a
@@ -129,21 +130,21 @@ call_wanted words front rest k uploads a cut called names kind_is uploads_are = 
   names = names;
 }
 
-named_once : ValuesAreTrees → (words others : List ℕ) (a b : Asking) → words ≡ others → NamesCall words a → NamesCall others b → (a.target ≡ b.target) × (a.arguments ≡ b.arguments)
-named_once values words others a b e p q =
-    let parts = one_split a.target b.target p.list_text q.list_text p.target.spaceless q.target.spaceless (sym p.words_are ∙ e ∙ q.words_are) in
+named_once : WordsAreCutOnce → ValuesAreTrees → (words others : List ℕ) (a b : Asking) → words ≡ others → NamesCall words a → NamesCall others b → (a.target ≡ b.target) × (a.arguments ≡ b.arguments)
+named_once cuts values words others a b e p q =
+    let parts = cuts.one_cut a.target b.target p.list_text q.list_text p.target.spaceless q.target.spaceless (sym p.words_are ∙ e ∙ q.words_are) in
     (parts.0, same_list a.arguments b.arguments values (one_reading p.list_text q.list_text (list (trees a.arguments)) (list (trees b.arguments)) parts.1 p.arguments q.arguments))
 
-pub wanted_once : ValuesAreTrees → (words : List ℕ) (a b : Asking) → WantsCall words a → WantsCall words b → a ≡ b
-wanted_once values words a b p q =
-    let parts = one_split p.word q.word p.rest q.rest (is_word p.word a.kind a.uploads p.called) (is_word q.word b.kind b.uploads q.called) (sym p.words_are ∙ q.words_are) in
+pub wanted_once : WordsAreCutOnce → ValuesAreTrees → (words : List ℕ) (a b : Asking) → WantsCall words a → WantsCall words b → a ≡ b
+wanted_once cuts values words a b p q =
+    let parts = cuts.one_cut p.word q.word p.rest q.rest (is_word p.word a.kind a.uploads p.called) (is_word q.word b.kind b.uploads q.called) (sym p.words_are ∙ q.words_are) in
     let called = same_called p.word q.word a.kind b.kind a.uploads b.uploads parts.0 p.called q.called in
-    let named = named_once values p.rest q.rest a b parts.1 p.names q.names in
+    let named = named_once cuts values p.rest q.rest a b parts.1 p.names q.names in
     same_asking a b called.0 called.1 named.0 named.1
 
-pub item_once : ValuesAreTrees → (words others : List ℕ) (m n : ℕ) (v w : Value) → words ≡ others → NamesItem words m v → NamesItem others n w → (m ≡ n) × (v ≡ w)
-item_once values words others m n v w e p q =
-    let parts = one_split (decimal m) (decimal n) p.value_text q.value_text (decimal_word m p.short) (decimal_word n q.short) (sym p.words_are ∙ e ∙ q.words_are) in
+pub item_once : WordsAreCutOnce → ValuesAreTrees → (words others : List ℕ) (m n : ℕ) (v w : Value) → words ≡ others → NamesItem words m v → NamesItem others n w → (m ≡ n) × (v ≡ w)
+item_once cuts values words others m n v w e p q =
+    let parts = cuts.one_cut (decimal m) (decimal n) p.value_text q.value_text (cuts.digits m p.short) (cuts.digits n q.short) (sym p.words_are ∙ e ∙ q.words_are) in
     (decimal_injective m n p.short q.short parts.0, same_value v w values (one_reading p.value_text q.value_text (tree v) (tree w) parts.1 p.value_is q.value_is))
 
 -- ---- words of a peer
@@ -214,12 +215,12 @@ the_cancel side words rest call e is short = record {
       d.1.0 ∙ ap (λ (n : ℕ). Cancel side n) (decimal_injective d.0 call d.1.1 short (sym d.1.2 ∙ is)));
 }
 
-pub the_item : ValuesAreTrees → (side : Side) (words rest : List ℕ) (call : ℕ) (value : Value) → words ≡ 105 ∷ 116 ∷ 101 ∷ 109 ∷ 32 ∷ rest → NamesItem rest call value
+pub the_item : WordsAreCutOnce → ValuesAreTrees → (side : Side) (words rest : List ℕ) (call : ℕ) (value : Value) → words ≡ 105 ∷ 116 ∷ 101 ∷ 109 ∷ 32 ∷ rest → NamesItem rest call value
     → IsTheOne (OfPeer side words) (Item side call value)
-the_item values side words rest call value e names = record {
+the_item cuts values side words rest call value e names = record {
   holds = (refl, (rest, (e, names)));
   only = λ other asks. (let d = item_of side words rest other e asks in
-      let same = item_once values rest rest d.call call d.value value refl d.names names in
+      let same = item_once cuts values rest rest d.call call d.value value refl d.names names in
       d.action_is ∙ ap (λ (n : ℕ). Item side n d.value) same.0 ∙ ap (λ (v : Value). Item side call v) same.1);
 }
 

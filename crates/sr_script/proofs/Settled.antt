@@ -1,10 +1,11 @@
 -- What the lines of a script bring together.
 use Rattle.std.proofs.Common.{⊎_elim, ℕ, List, [], ◌∷◌, reverse, sym, subst, arith}
-use Rattle.sr_script.specs.declared.action.Setting.{Setting}
-use Rattle.sr_script.specs.declared.action.Setting.TheVariants as setting
+use Rattle.sr_notation.specs.declared.setting.Setting.{Setting}
+use Rattle.sr_notation.specs.declared.setting.Setting.TheVariants as setting
 use Rattle.sr_script.specs.Lines.{lines_of}
-use Rattle.sr_script.specs.Script.{Program, IsSetting, IsScript, Adds, Parses, AreInTurn, AllSuit}
-use Rattle.sr_script.specs.Terms.{peers_in}
+use Rattle.sr_notation.specs.Settings.{IsSetting}
+use Rattle.sr_script.specs.Script.{Program, IsScript, Adds, Parses, AreInTurn, AllSuit}
+use Rattle.sr_notation.specs.Terms.{peers_in}
 use Rattle.sr_script.specs.Laws.{IsSettled}
 
 -- ---- actions

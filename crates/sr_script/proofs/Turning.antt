@@ -6,14 +6,15 @@ use Rattle.std.proofs.lemmas.Bool.{cases_eq, both_ways}
 use Rattle.std.proofs.lemmas.List.Elements.{All-head, All-tail, All-cons}
 use Rattle.hm_message.specs.declared.message.Codec.{Codec}
 use Rattle.hd_delivery.specs.Worlds.{Limits}
-use Rattle.sr_script.specs.declared.action.Setting.{Setting}
-use Rattle.sr_script.specs.declared.action.Setting.TheVariants as setting
+use Rattle.sr_notation.specs.declared.setting.Setting.{Setting}
+use Rattle.sr_notation.specs.declared.setting.Setting.TheVariants as setting
 use Rattle.sr_script.specs.declared.action.Action.{Action}
 use Rattle.sr_script.specs.declared.action.Action.TheVariants.{Open, Accept, Lose, Write, Read, Close, Send, Tick, Call, Item, Done, Cancel, Round}
 use Rattle.sr_script.specs.declared.line.Asked.TheVariants as asked
 use Rattle.sr_script.specs.declared.turn.Turn.{Turn}
-use Rattle.sr_script.specs.Script.{Program, Name, TheCodec, TheVersion, TheReconnect, TheBuffer, ThePeers, name_of, IsNew, Suits, opened, moment_after}
-use Rattle.sr_script.specs.Terms.{peers_in}
+use Rattle.sr_notation.specs.Settings.{Name, TheCodec, TheVersion, TheReconnect, TheBuffer, ThePeers, name_of}
+use Rattle.sr_script.specs.Script.{Program, IsNew, Suits, opened, moment_after}
+use Rattle.sr_notation.specs.Terms.{peers_in}
 use Rattle.sr_script.specs.Asking.{and_then}
 use Rattle.sr_script.specs.Turns.{comes, TellsAccepted, Knows, Admits, IsPlain}
 

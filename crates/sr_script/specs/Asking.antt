@@ -1,29 +1,16 @@
 -- What one line of a script asks for.
-use Rattle.std.specs.Prelude.{◌≡◌, ◌≢◌, ◌⊎◌, ◌≤◌, ℕ, true, List, [], ◌∷◌, ◌++◌, codes, All}
+use Rattle.std.specs.Prelude.{◌≡◌, ◌⊎◌, ◌≤◌, ℕ, true, List, [], ◌∷◌, ◌++◌, codes}
 use Rattle.std.specs.Fmt.{decimal}
 use Rattle.hm_message.specs.Message.{Fits, is_sequenced}
 use Rattle.hm_json.specs.Says.{Says}
 use Rattle.hd_delivery.specs.declared.vocabulary.Side.{Side}
-use Rattle.hd_delivery.specs.Worlds.{Limits}
-use Rattle.sr_script.specs.declared.action.Setting.{Setting}
+use Rattle.sr_notation.specs.Settings.{IsSetting, name_of, IsOption}
+use Rattle.sr_notation.specs.Terms.{peers_in}
 use Rattle.sr_script.specs.declared.action.Action.{Action}
 use Rattle.sr_script.specs.declared.action.Action.TheVariants.{Lose, Write, Read, Close, Send, Call, Item, Done, Cancel, Round}
 use Rattle.sr_script.specs.declared.line.Asked.{Asked}
 use Rattle.sr_script.specs.declared.line.Asked.TheVariants as asked
-use Rattle.sr_script.specs.Script.{Program, setting_line, IsSetting, name_of, IsNew, Asks, IsInTurn, IsShort, IsCount, count_text, WantsCall, NamesItem, Suits}
-use Rattle.sr_script.specs.Terms.{peers_in}
-
--- without a space (32)
-abbrev pub IsWord : List ℕ → Type 0
-IsWord bytes = All (λ b. b ≢ 32) bytes
-
--- the words of the option `buffer`
-abbrev pub buffer_words : Limits → List ℕ
-buffer_words limits = decimal limits.count ++ (codes " " ++ (decimal limits.bytes ++ (codes " " ++ decimal limits.frame)))
-
--- the line is that of this option
-abbrev pub IsOption : List ℕ → Setting → Type 0
-IsOption line s = (line ≡ setting_line s) × IsSetting s
+use Rattle.sr_script.specs.Script.{Program, IsNew, Asks, IsInTurn, IsShort, IsCount, count_text, WantsCall, NamesItem, Suits}
 
 -- after the letter of this end, these words ask for the action of an end
 abbrev pub OfLink : Side → List ℕ → Action → Type 0

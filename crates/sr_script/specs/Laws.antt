@@ -3,11 +3,11 @@ use Rattle.std.specs.Prelude.{◌≡◌, ◌<◌, ℕ, List, [], ◌∷◌, ◌+
 use Rattle.hd_facts.specs.Unique.{IsTheOne}
 use Rattle.hs_shake.specs.Requests.{IsVersion}
 use Rattle.hd_delivery.specs.Bounds.{AreLimits}
-use Rattle.sr_script.specs.declared.action.Setting.{Setting}
+use Rattle.sr_notation.specs.declared.setting.Setting.{Setting}
 use Rattle.sr_script.specs.declared.action.Action.{Action}
 use Rattle.sr_script.specs.declared.script.Reader.{Reader}
 use Rattle.sr_script.specs.Script.{Program, Parses, IsRefusedAt, AreInTurn, AllSuit, most_script}
-use Rattle.sr_script.specs.Terms.{version_in, limits_in, peers_in}
+use Rattle.sr_notation.specs.Terms.{version_in, limits_in, peers_in}
 use Rattle.sr_script.specs.Reading.{HasRead}
 
 -- the actions of a script are in turn

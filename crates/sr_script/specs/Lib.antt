@@ -3,5 +3,4 @@ pub mod Script
 pub mod Asking
 pub mod Turns
 pub mod Reading
-pub mod Terms
 pub mod Laws

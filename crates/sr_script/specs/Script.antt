@@ -2,7 +2,6 @@
 use Rattle.std.specs.Prelude.{◌≡◌, ◌≢◌, ◌⊎◌, ◌≤◌, ◌<◌, ◌^◌, ℕ, suc, min, Bool, true, false, List, [], ◌∷◌, ◌++◌, length, take, reverse, codes, All, Contains, Option, Some, None, Ok}
 use Rattle.std.specs.Fmt.{decimal}
 use Rattle.std.specs.Str.{IsUtf8}
-use Rattle.hm_message.specs.declared.message.Codec.TheVariants.{Json, Pack}
 use Rattle.hm_message.specs.Message.{is_sequenced}
 use Rattle.hm_json.specs.Says.{Says}
 use Rattle.hv_value.specs.Tree.{list, trees}
@@ -11,19 +10,16 @@ use Rattle.hv_value.specs.declared.value.Value.{Value}
 use Rattle.hv_json.specs.Reading.{reading}
 use Rattle.hd_calls.specs.declared.vocabulary.CallKind.{CallKind}
 use Rattle.hd_calls.specs.declared.vocabulary.CallKind.TheVariants as kind
-use Rattle.hs_shake.specs.Requests.{IsVersion}
-use Rattle.hd_delivery.specs.Bounds.{AreLimits}
-use Rattle.hd_delivery.specs.declared.vocabulary.Side.{Side}
-use Rattle.hd_delivery.specs.declared.vocabulary.Side.TheVariants.{Client, Server}
-use Rattle.sr_script.specs.declared.action.Setting.{Setting}
-use Rattle.sr_script.specs.declared.action.Setting.TheVariants as setting
+use Rattle.sr_notation.specs.declared.setting.Setting.{Setting}
+use Rattle.sr_notation.specs.Settings.{Name, name_of, setting_line, IsSetting}
+use Rattle.sr_notation.specs.Terms.{peers_in}
+use Rattle.sr_notation.specs.Words.{letter}
 use Rattle.sr_script.specs.declared.action.Count.{Count}
 use Rattle.sr_script.specs.declared.action.Count.TheVariants.{UpTo, Everything}
 use Rattle.sr_script.specs.declared.action.Action.{Action}
 use Rattle.sr_script.specs.declared.action.Action.TheVariants.{Open, Accept, Lose, Write, Read, Close, Send, Tick, Call, Item, Done, Cancel, Round}
 use Rattle.sr_script.specs.declared.action.Asking.{Asking}
 use Rattle.sr_script.specs.Lines.{lines_of, text_of}
-use Rattle.sr_script.specs.Terms.{peers_in}
 
 -- the most bytes of a script: 16 MiB
 abbrev pub most_script : ℕ
@@ -33,47 +29,7 @@ most_script = 16777216
 abbrev pub most_links : ℕ
 most_links = 1024
 
--- ---- options
-
--- the line of an option
-abbrev pub setting_line : Setting → List ℕ
-setting_line (setting.Codec Json) = codes "codec json"
-setting_line (setting.Codec Pack) = codes "codec pack"
-setting_line (setting.Version version) = codes "version " ++ decimal version
-setting_line (setting.Reconnect true) = codes "reconnect on"
-setting_line (setting.Reconnect false) = codes "reconnect off"
-setting_line setting.Peers = codes "peers on"
-setting_line (setting.Buffer limits) = codes "buffer " ++ (decimal limits.count ++ (codes " " ++ (decimal limits.bytes ++ (codes " " ++ decimal limits.frame))))
-
--- an option whose numbers are in range
-abbrev pub IsSetting : Setting → Type 0
-IsSetting (setting.Codec codec) = Unit {0}
-IsSetting (setting.Version version) = IsVersion version
-IsSetting (setting.Reconnect keep) = Unit {0}
-IsSetting (setting.Buffer limits) = AreLimits limits
-IsSetting setting.Peers = Unit {0}
-
--- which option it is
-pub data Name : Type 0 where
-  TheCodec : Name
-  TheVersion : Name
-  TheReconnect : Name
-  TheBuffer : Name
-  ThePeers : Name
-
-abbrev pub name_of : Setting → Name
-name_of (setting.Codec codec) = TheCodec
-name_of (setting.Version version) = TheVersion
-name_of (setting.Reconnect keep) = TheReconnect
-name_of (setting.Buffer limits) = TheBuffer
-name_of setting.Peers = ThePeers
-
 -- ---- actions
-
--- the letter of a side
-abbrev pub letter : Side → List ℕ
-letter Client = codes "c"
-letter Server = codes "s"
 
 -- digits without needless zeros, or a star
 abbrev pub count_text : Count → List ℕ

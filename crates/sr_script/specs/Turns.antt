@@ -4,8 +4,9 @@ use Rattle.sr_script.specs.declared.action.Action.{Action}
 use Rattle.sr_script.specs.declared.action.Action.TheVariants.{Open, Accept, Tick}
 use Rattle.sr_script.specs.declared.line.Asked.{Asked}
 use Rattle.sr_script.specs.declared.turn.Turn.{Turn}
-use Rattle.sr_script.specs.Script.{Program, Name, TheCodec, TheVersion, TheReconnect, TheBuffer, ThePeers, IsNew, opened, moment_after}
-use Rattle.sr_script.specs.Terms.{peers_in}
+use Rattle.sr_notation.specs.Settings.{Name, TheCodec, TheVersion, TheReconnect, TheBuffer, ThePeers}
+use Rattle.sr_script.specs.Script.{Program, IsNew, opened, moment_after}
+use Rattle.sr_notation.specs.Terms.{peers_in}
 use Rattle.sr_script.specs.Asking.{MayCome, and_then}
 
 -- whether the option of this name may come

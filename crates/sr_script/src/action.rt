@@ -2,24 +2,8 @@
 
 use hd_calls::CallKind;
 use hd_delivery::Side;
-use hm_message::{Codec, Message};
-use hq_resend::Limits;
+use hm_message::Message;
 use hv_value::{Items, Text, Value};
-
-/// An option of a script. Options come before all actions.
-#[derive(Clone, Copy, Debug, PartialEq, Eq)]
-pub enum Setting {
-    /// The codec that the client asks for: JSON if no line says so.
-    Codec(Codec),
-    /// The version that the client asks for, 1 to 3: 2 if no line says so.
-    Version(u8),
-    /// Whether the connection is to be kept across links: it is if no line says so.
-    Reconnect(bool),
-    /// What each end may hold and read: 1,024 messages, 100,000 bytes and frames of 32,768 bytes if no line says so.
-    Buffer(Limits),
-    /// Calls go between the two ends, by peers: messages are sent as the script has them if no line says so.
-    Peers,
-}
 
 /// How much is written or read.
 #[derive(Clone, Copy, Debug, PartialEq, Eq)]

@@ -9,7 +9,8 @@
 //! `line.rt` reads one line, `turn.rt` says which line may come, and `script.rt` goes over all of them. `action.rt` has what they ask for.
 //!
 //! Proved: a text is a script that asks for one thing, or is refused at its first line that no script has ([`parse`]). What a reader gives
-//! is what the script asks for, in order ([`Reader::next_in`]). The definitions are `specs/Script.antt` and `Terms.antt`.
+//! is what the script asks for, in order ([`Reader::next_in`]). The definitions are `specs/Script.antt`. Options are those of
+//! `sr_notation`.
 //!
 //! The crate doesn't know what an action does, nor the ends that do it.
 #![tactic(auto)]
@@ -20,7 +21,7 @@ mod line;
 mod script;
 mod turn;
 
-pub use action::{Action, Asking, Count, Setting};
+pub use action::{Action, Asking, Count};
 pub use laws::{
     long_is_refused_by_its_front, scripts_are_in_turn, scripts_are_settled, scripts_suit,
     settings_come_first,

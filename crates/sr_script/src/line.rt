@@ -1,16 +1,11 @@
 //! The grammar of one line of a script: the option or the action that it asks for, if any. It doesn't know other lines.
 
-ghost use Rattle.std.specs.Prelude.{◌≡◌, ◌≢◌, ◌<◌, ◌^◌, ◌↔◌, ℕ, true, List, [], ◌∷◌, ◌++◌, IsTrue, Ok, IfOk, IfSome, IfNone, All};
-ghost use Rattle.std.specs.Fmt.{decimal};
+ghost use Rattle.std.specs.Prelude.{◌≡◌, ◌↔◌, ℕ, true, List, IsTrue, Ok, IfOk, IfSome, IfNone};
 ghost use Rattle.std.specs.Str.{IsUtf8};
 ghost use Rattle.hm_message.specs.declared.message.Message.{Message};
 ghost use Rattle.hm_message.specs.Message.{Fits, is_sequenced};
 ghost use Rattle.hm_json.specs.Says.{Says};
-ghost use Rattle.hd_delivery.specs.Worlds.{Limits};
-ghost use Rattle.hd_delivery.specs.Bounds.{AreLimits};
-ghost use Rattle.hs_shake.specs.Requests.{IsVersion};
 ghost use Rattle.hd_facts.specs.Unique.{IsTheOne};
-ghost use Rattle.sr_script.specs.declared.action.Setting.{Setting};
 ghost use Rattle.sr_script.specs.declared.action.Count.{Count};
 ghost use Rattle.sr_script.specs.declared.action.Action.{Action};
 ghost use Rattle.sr_script.specs.declared.action.Asking.{Asking};
@@ -21,17 +16,16 @@ ghost use Rattle.hv_value.specs.declared.value.Value.{Value};
 ghost use Rattle.hv_json.specs.Reading.{reading};
 ghost use Rattle.sr_script.specs.declared.line.Asked.{Asked};
 ghost use Rattle.sr_script.specs.Script.{IsCount, count_text, IsCallWord, NamesCall, WantsCall, NamesItem, Asks, IsPassedOver};
-ghost use Rattle.sr_script.specs.Asking.{IsWord, buffer_words, IsOption, OfLink, OfPeer, OfEnd, Wants, HasFit, IsReadable};
+ghost use Rattle.sr_script.specs.Asking.{OfLink, OfPeer, OfEnd, Wants, HasFit, IsReadable};
 
-use crate::action::{Action, Asking, Count, Setting};
+use crate::action::{Action, Asking, Count};
 use hd_calls::CallKind;
 use hd_delivery::Side;
 use hm_json::{Refusal, one_meaning, read_message};
-use hm_message::{Codec, Message, Read, values_are_trees};
-use hq_resend::Limits;
-use hs_shake::HIGHEST_VERSION;
+use hm_message::{Message, Read, values_are_trees};
 use hv_json::{JsonError, read_value};
 use hv_value::{Items, Text, Value};
+use sr_notation::{Setting, parse_number, parse_setting, split_at_space, words_are_cut_once};
 use std::alloc::{AllocError, Global};
 
 /// What a line asks for.
@@ -43,25 +37,6 @@ pub enum Asked {
     Action(Action),
 }
 
-/// The number whose digits these are, if they have no needless zeros and it is below 2^64.
-fn parse_number(alloc: Global, digits: &[u8]) -> Result<Option<u64>, AllocError>
-    ensures found { IfOk result (λ r. IfSome r (λ n. (digits.now ≡ decimal n) × (n < 2 ^ 64))) }
-    ensures none { IfOk result (λ r. IfNone r ((n : ℕ) → n < 2 ^ 64 → digits.now ≡ decimal n → ⊥)) }
-{
-    let Ok(text) = str::from_utf8(digits) else {
-        return Ok(None);
-    };
-    let Ok(n) = text.parse::<u64>() else {
-        return Ok(None);
-    };
-    let printed = n.to_string(alloc)?;
-    if printed.as_bytes() == digits {
-        Ok(Some(n))
-    } else {
-        Ok(None)
-    }
-}
-
 /// The count that these bytes say.
 fn parse_count(alloc: Global, bytes: &[u8]) -> Result<Option<Count>, AllocError>
     ensures found { IfOk result (λ r. IfSome r (λ count. (bytes.now ≡ count_text count) × IsCount count)) }
@@ -71,92 +46,6 @@ fn parse_count(alloc: Global, bytes: &[u8]) -> Result<Option<Count>, AllocError>
         return Ok(Some(Count::Everything));
     }
     Ok(parse_number(alloc, bytes)?.map(Count::UpTo))
-}
-
-/// The bytes before the first space, and those after it.
-fn split_at_space(bytes: &[u8]) -> Option<(&[u8], &[u8])>
-    ensures found { IfSome result (λ parts. IsWord parts.0.now × (bytes.now ≡ parts.0.now ++ 32 ∷ parts.1.now)) }
-    ensures none { IfNone result (IsWord bytes.now) }
-{
-    for (i, byte) in bytes.iter().enumerate() {
-        if *byte == b' ' {
-            return Some((&bytes[..i], &bytes[i + 1..]));
-        }
-    }
-    None
-}
-
-/// The limits whose count, bytes and frame these words are, if they are in range.
-fn parse_buffer(alloc: Global, words: &[u8]) -> Result<Option<Limits>, AllocError>
-    ensures found { IfOk result (λ r. IfSome r (λ limits. (words.now ≡ buffer_words limits) × AreLimits limits)) }
-    ensures none { IfOk result (λ r. IfNone r ((limits : Limits) → AreLimits limits → words.now ≡ buffer_words limits → ⊥)) }
-{
-    let Some((count, rest)) = split_at_space(words) else {
-        return Ok(None);
-    };
-    let Some((bytes, frame)) = split_at_space(rest) else {
-        return Ok(None);
-    };
-    let Some(count) = parse_number(alloc, count)? else {
-        return Ok(None);
-    };
-    let Some(bytes) = parse_number(alloc, bytes)? else {
-        return Ok(None);
-    };
-    let Some(frame) = parse_number(alloc, frame)? else {
-        return Ok(None);
-    };
-    Ok(Limits::of(frame as usize, count as usize, bytes as usize))
-}
-
-/// The version whose digits these are.
-fn parse_version(alloc: Global, digits: &[u8]) -> Result<Option<u8>, AllocError>
-    ensures found { IfOk result (λ r. IfSome r (λ version. (digits.now ≡ decimal version) × IsVersion version)) }
-    ensures none { IfOk result (λ r. IfNone r ((version : ℕ) → IsVersion version → digits.now ≡ decimal version → ⊥)) }
-{
-    let Some(version) = parse_number(alloc, digits)? else {
-        return Ok(None);
-    };
-    if 1 <= version && version <= u64::from(HIGHEST_VERSION) {
-        Ok(Some(version as u8))
-    } else {
-        Ok(None)
-    }
-}
-
-/// The option of a line.
-fn parse_setting(alloc: Global, line: &[u8]) -> Result<Option<Setting>, AllocError>
-    ensures found { IfOk result (λ r. IfSome r (λ s. IsTheOne (IsOption line.now) s)) }
-    ensures none { IfOk result (λ r. IfNone r ((s : Setting) → IsOption line.now s → ⊥)) }
-{
-    if line == b"codec json".as_slice() {
-        return Ok(Some(Setting::Codec(Codec::Json)));
-    }
-    if line == b"codec pack".as_slice() {
-        return Ok(Some(Setting::Codec(Codec::Pack)));
-    }
-    if line == b"reconnect on".as_slice() {
-        return Ok(Some(Setting::Reconnect(true)));
-    }
-    if line == b"reconnect off".as_slice() {
-        return Ok(Some(Setting::Reconnect(false)));
-    }
-    if line == b"peers on".as_slice() {
-        return Ok(Some(Setting::Peers));
-    }
-    if let Some(digits) = line.strip_prefix(b"version ") {
-        return match parse_version(alloc, digits)? {
-            Some(version) => Ok(Some(Setting::Version(version))),
-            None => Ok(None),
-        };
-    }
-    if let Some(words) = line.strip_prefix(b"buffer ") {
-        return match parse_buffer(alloc, words)? {
-            Some(limits) => Ok(Some(Setting::Buffer(limits))),
-            None => Ok(None),
-        };
-    }
-    Ok(None)
 }
 
 /// The message that this frame says, if it is one that is sent.
@@ -266,6 +155,7 @@ fn parse_call(
     ensures found { IfOk result (λ r. IfSome r (λ a. NamesCall words.now a × (a.kind ≡ kind) × (a.uploads ≡ uploads))) }
     ensures none { IfOk result (λ r. IfNone r ((a : Asking) → NamesCall words.now a → ⊥)) }
 {
+    words_are_cut_once();
     let Some((target, text)) = split_at_space(words) else {
         return Ok(None);
     };
@@ -296,6 +186,7 @@ fn parse_call_words(alloc: Global, words: &[u8]) -> Result<Option<Asking>, Alloc
     ensures none { IfOk result (λ r. IfNone r ((a : Asking) → WantsCall words.now a → ⊥)) }
 {
     values_are_trees();
+    words_are_cut_once();
     let Some((word, rest)) = split_at_space(words) else {
         return Ok(None);
     };
@@ -313,6 +204,7 @@ fn parse_item(alloc: Global, words: &[u8]) -> Result<Option<(u64, Value)>, Alloc
     ensures found { IfOk result (λ r. IfSome r (λ item. NamesItem words.now item.0 item.1)) }
     ensures none { IfOk result (λ r. IfNone r ((call : ℕ) (value : Value) → NamesItem words.now call value → ⊥)) }
 {
+    words_are_cut_once();
     let Some((call, text)) = split_at_space(words) else {
         return Ok(None);
     };
@@ -331,6 +223,7 @@ fn parse_peer_words(alloc: Global, side: Side, words: &[u8]) -> Result<Option<Ac
     ensures none { IfOk result (λ r. IfNone r ((a : Action) → OfPeer side words.now a → ⊥)) }
 {
     values_are_trees();
+    words_are_cut_once();
     if words == b"round".as_slice() {
         return Ok(Some(Action::Round(side)));
     }

@@ -1,15 +1,16 @@
 //! What of the lines before decides which line may come next. It doesn't know how lines are written.
 
 ghost use Rattle.std.specs.Prelude.{◌≡◌, ◌↔◌, ℕ, true, List, [], ◌∷◌, IfOk, IsTrue};
-ghost use Rattle.sr_script.specs.declared.action.Setting.TheVariants as setting;
+ghost use Rattle.sr_notation.specs.declared.setting.Setting.TheVariants as setting;
 ghost use Rattle.sr_script.specs.declared.action.Action.{Action};
 ghost use Rattle.sr_script.specs.declared.action.Action.TheVariants.{Open, Accept, Tick};
 ghost use Rattle.sr_script.specs.declared.line.Asked.TheVariants as asked;
 ghost use Rattle.sr_script.specs.Script.{Program, Suits};
 ghost use Rattle.sr_script.specs.Turns.{Knows, Admits, IsPlain};
 
-use crate::action::{Action, Setting};
+use crate::action::Action;
 use crate::line::Asked;
+use sr_notation::Setting;
 use std::alloc::{AllocError, Global};
 use std::mem;
 

@@ -4,7 +4,7 @@ use Rattle.hd_delivery.specs.Worlds.{Limits, Terms}
 use Rattle.hd_delivery.specs.Bytes.{Wire}
 use Rattle.he_wire.specs.Wires.{IsHouseWire}
 use Rattle.he_end.specs.declared.config.Config.{Config}
-use Rattle.sr_script.specs.Terms.{limits_in, terms_in}
+use Rattle.sr_notation.specs.Terms.{limits_in, terms_in}
 use Rattle.sr_peers.specs.declared.peers.Peers.{Peers}
 use Rattle.sr_peers.specs.Begun.{terms_of}
 use Rattle.sr_peers.specs.Runs.{pair_of}

@@ -5,7 +5,7 @@ use Rattle.he_wire.specs.Wires.{IsHouseWire}
 use Rattle.hd_calls.specs.PeerWorlds.{Pair}
 use Rattle.sr_script.specs.declared.action.Action.{Action}
 use Rattle.sr_script.specs.Script.{AreInTurn}
-use Rattle.sr_script.specs.Terms.{limits_in}
+use Rattle.sr_notation.specs.Terms.{limits_in}
 use Rattle.sr_peers.specs.declared.peers.Peers.{Peers}
 use Rattle.sr_peers.specs.Runs.{Run}
 use Rattle.sr_peers.specs.Follows.{Follows}

@@ -8,8 +8,8 @@ use Rattle.sr_script.specs.declared.action.Count.TheVariants.{UpTo, Everything}
 use Rattle.sr_script.specs.declared.action.Asking.{Asking}
 use Rattle.sr_script.specs.declared.action.Action.{Action}
 use Rattle.sr_script.specs.declared.action.Action.TheVariants.{Open, Accept, Write, Read, Call, Cancel, Round}
-use Rattle.sr_script.specs.declared.action.Setting.{Setting}
-use Rattle.sr_script.specs.declared.action.Setting.TheVariants as setting
+use Rattle.sr_notation.specs.declared.setting.Setting.{Setting}
+use Rattle.sr_notation.specs.declared.setting.Setting.TheVariants as setting
 use Rattle.sr_script.specs.Script.{opened}
 
 -- ---- numbers drawn

@@ -6,7 +6,7 @@ use Rattle.he_wire.specs.Wires.{IsHouseWire}
 use Rattle.hd_calls.specs.PeerWorlds.{Pair}
 use Rattle.sr_script.specs.declared.action.Action.{Action}
 use Rattle.sr_script.specs.Script.{opened}
-use Rattle.sr_script.specs.Terms.{limits_in, terms_in}
+use Rattle.sr_notation.specs.Terms.{limits_in, terms_in}
 use Rattle.sr_peers.specs.Runs.{Run, Runs, Acts, pair_of, world_of}
 use Rattle.sr_peers.specs.Report.{IsOnce}
 use Rattle.sr_peers.specs.Works.{Works}

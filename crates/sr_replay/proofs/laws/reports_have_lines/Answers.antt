@@ -10,13 +10,14 @@ use Rattle.hd_delivery.specs.Worlds.{config}
 use Rattle.hd_delivery.specs.Bytes.{Wire, bare_steps}
 use Rattle.he_wire.specs.Laws.{HasWire}
 use Rattle.sr_script.specs.Script.{Program}
-use Rattle.sr_script.specs.Terms.{limits_in, peers_in, terms_in}
+use Rattle.sr_notation.specs.Terms.{limits_in, peers_in, terms_in}
 use Rattle.sr_replay.specs.Runs.{world_of}
 use Rattle.hd_delivery.specs.Sides.{history}
 use Rattle.sr_replay.specs.Report.{run_text, IsReportOver, IsReportBy}
 use Rattle.sr_peers.specs.Report as of_peers
 use Rattle.sr_peers.specs.Runs as peer_runs
-use Rattle.sr_lines.specs.Lines.{line, side_word, state_word, standing_line, standing_text}
+use Rattle.sr_notation.specs.Words.{line}
+use Rattle.sr_lines.specs.Lines.{side_word, state_word, standing_line, standing_text}
 use Rattle.sr_replay.proofs.laws.reports_have_lines.Goals as goal
 
 line_is_some : (words : List ℕ) → 0 < length (line words)

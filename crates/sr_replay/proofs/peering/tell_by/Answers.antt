@@ -1,5 +1,5 @@
 use Rattle.std.proofs.Common.{[], ◌++◌, ◌∙◌, ap, sym, subst}
-use Rattle.sr_script.specs.Terms.{limits_in}
+use Rattle.sr_notation.specs.Terms.{limits_in}
 use Rattle.sr_peers.specs.Runs.{TellsRun}
 use Rattle.sr_peers.specs.Report.{IsReport, pair_in}
 use Rattle.sr_replay.proofs.peering.tell_by.Goals as goal

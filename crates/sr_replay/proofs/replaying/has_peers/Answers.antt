@@ -1,7 +1,7 @@
 use Rattle.std.proofs.Common.{[], ◌∷◌, ◌∙◌, ap, refl, sym, subst}
 use Rattle.sr_script.specs.Asking.{and_then}
 use Rattle.sr_script.specs.Reading.{HasRead}
-use Rattle.sr_script.specs.Terms.{peers_in}
+use Rattle.sr_notation.specs.Terms.{peers_in}
 use Rattle.sr_replay.proofs.replaying.has_peers.Goals as goal
 
 pub loop-reader-init : goal.loop-reader-init

@@ -1,7 +1,7 @@
 use Rattle.std.proofs.Common.{◌≡◌, ◌-◌, List, [], length}
-use Rattle.sr_script.specs.declared.action.Setting.{Setting}
+use Rattle.sr_notation.specs.declared.setting.Setting.{Setting}
 use Rattle.sr_script.specs.Reading.{HasRead}
-use Rattle.sr_script.specs.Terms.{peers_in}
+use Rattle.sr_notation.specs.Terms.{peers_in}
 use Rattle.sr_replay.proofs.replaying.has_peers.Given as goal
 
 abbrev pub invariant-loop-reader : goal.invariant-loop-reader

@@ -1,5 +1,5 @@
 use Rattle.std.proofs.Common.{◌-◌, List, [], length}
-use Rattle.sr_script.specs.declared.action.Setting.{Setting}
+use Rattle.sr_notation.specs.declared.setting.Setting.{Setting}
 use Rattle.sr_script.specs.Reading.{HasRead}
 use Rattle.sr_replay.specs.Replays.{Begins}
 use Rattle.sr_replay.proofs.replaying.options.Given as goal

@@ -1,5 +1,5 @@
 use Rattle.std.proofs.Common.{sym, subst}
-use Rattle.sr_script.specs.Terms.{limits_in, terms_in}
+use Rattle.sr_notation.specs.Terms.{limits_in, terms_in}
 use Rattle.sr_replay.specs.Report.{IsReport, IsReportOver}
 use Rattle.sr_replay.proofs.replaying.tell_ends.Goals as goal
 

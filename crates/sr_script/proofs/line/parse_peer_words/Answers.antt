@@ -23,7 +23,7 @@ returns-in-Some-4-clause-found c =
     let cut : c.args.words.now ≡ 105 ∷ 116 ∷ 101 ∷ 109 ∷ 32 ∷ c.in-Some-strip_prefix-2.rest.now =
     strip_prefix_is Decides-eqb c.args.words.now (105 ∷ 116 ∷ 101 ∷ 109 ∷ 32 ∷ []) (Some c.in-Some-strip_prefix-2.rest) c.in-Some-strip_prefix-2.ensures.cases in
     let found = rw c.in-Some-4.is at c.in_ok-call-3.ensures.found in
-    (the_item c.values_are_trees.ensures c.args.side c.args.words.now c.in-Some-strip_prefix-2.rest.now c.in-Some-4.call c.in-Some-4.value cut found, tt)
+    (the_item c.words_are_cut_once.ensures c.values_are_trees.ensures c.args.side c.args.words.now c.in-Some-strip_prefix-2.rest.now c.in-Some-4.call c.in-Some-4.value cut found, tt)
 
 pub returns-in-None-3-clause-none : goal.returns-in-None-3-clause-none
 returns-in-None-3-clause-none c = λ a is.

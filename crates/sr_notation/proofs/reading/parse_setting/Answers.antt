@@ -1,8 +1,8 @@
 use Rattle.std.proofs.Common.{◌≡◌, [], ◌∷◌, Some}
 use Rattle.std.proofs.lemmas.Slice.Eq.{strip_prefix_is}
 use Rattle.std.proofs.lemmas.Bool.Decides.{Decides-eqb}
-use Rattle.sr_script.proofs.Grammar.{the_version, the_buffer}
-use Rattle.sr_script.proofs.line.parse_setting.Goals as goal
+use Rattle.sr_notation.proofs.Options.{the_version, the_buffer}
+use Rattle.sr_notation.proofs.reading.parse_setting.Goals as goal
 
 pub returns-in-Some-2-clause-found : goal.returns-in-Some-2-clause-found
 returns-in-Some-2-clause-found c =

@@ -1,7 +1,8 @@
 use Rattle.std.proofs.Common.{◌++◌, ◌∷◌}
 use Rattle.std.specs.Fmt.{decimal}
-use Rattle.sr_script.proofs.Grammar.{buffer_parts, short_limits, no_space, no_second, no_limits}
-use Rattle.sr_script.proofs.line.parse_buffer.Goals as goal
+use Rattle.sr_notation.proofs.Cuts.{no_space}
+use Rattle.sr_notation.proofs.Options.{buffer_parts, short_limits, no_second, no_limits}
+use Rattle.sr_notation.proofs.reading.parse_buffer.Goals as goal
 
 pub returns-in_default-clause-none : goal.returns-in_default-clause-none
 returns-in_default-clause-none c = λ limits are is.

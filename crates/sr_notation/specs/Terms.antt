@@ -1,10 +1,10 @@
--- How both ends of a script are begun: what its options, the latest first, say, and what holds where none does.
+-- How two ends are begun: what the options, the latest first, say, and what holds where none does.
 use Rattle.std.specs.Prelude.{ℕ, Bool, true, false, List, [], ◌∷◌}
 use Rattle.hm_message.specs.declared.message.Codec.{Codec}
 use Rattle.hm_message.specs.declared.message.Codec.TheVariants.{Json}
 use Rattle.hd_delivery.specs.Worlds.{Limits, Terms}
-use Rattle.sr_script.specs.declared.action.Setting.{Setting}
-use Rattle.sr_script.specs.declared.action.Setting.TheVariants as setting
+use Rattle.sr_notation.specs.declared.setting.Setting.{Setting}
+use Rattle.sr_notation.specs.declared.setting.Setting.TheVariants as setting
 
 -- the codec for which the client asks
 abbrev pub codec_in : List Setting → Codec

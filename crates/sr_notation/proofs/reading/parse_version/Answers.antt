@@ -1,7 +1,7 @@
 use Rattle.std.proofs.Common.{◌≡◌, sym, ◌∙◌, arith}
 use Rattle.std.proofs.lemmas.Fmt.{decimal_injective}
-use Rattle.sr_script.proofs.line.parse_version.Goals.{else-version-ge1-via-then-version-ge1+else-version-from, else-version-ge1-via-else-version-ge1}
-use Rattle.sr_script.proofs.line.parse_version.Goals as goal
+use Rattle.sr_notation.proofs.reading.parse_version.Goals.{else-version-ge1-via-then-version-ge1+else-version-from, else-version-ge1-via-else-version-ge1}
+use Rattle.sr_notation.proofs.reading.parse_version.Goals as goal
 
 pub returns-else-version-ge1-clause-none : goal.returns-else-version-ge1-clause-none
 returns-else-version-ge1-clause-none c = λ version is e.

@@ -1,0 +1,4 @@
+pub mod Settings
+pub mod Terms
+pub mod Words
+pub mod Laws
