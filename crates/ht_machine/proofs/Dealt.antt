@@ -2,7 +2,7 @@
 use Rattle.std.proofs.Common.{◌≡◌, ℕ, Bool, true, false, ◌==◌, List, [], ◌∷◌, ◌++◌, Option, Some, None, if◌then◌else◌, refl, sym, ap, ◌∙◌}
 use Rattle.std.proofs.lemmas.Bool.{eqb-true}
 use Rattle.he_end.specs.declared.errors.SendError.{SendError}
-use Rattle.hub_server.specs.Spreads.{Delivering}
+use Rattle.hub_machine.specs.Spreads.{Delivering}
 use Rattle.ht_machine.specs.declared.room.Room.{Room}
 use Rattle.ht_machine.specs.Deals.{Kept, kept_at, codec_at, taken, conn_of, change_of, after, Delivers, Changes}
 

@@ -3,7 +3,7 @@ use Rattle.std.specs.Prelude.{◌≡◌, ℕ, ◌-◌, ◌==◌, nat_eq, false, 
 use Rattle.indexmap.specs.IndexMap.{get}
 use Rattle.hm_message.specs.declared.message.Codec.{Codec}
 use Rattle.he_end.specs.declared.errors.SendError.{SendError}
-use Rattle.hub_server.specs.Spreads.{Delivering, Sends, Slows}
+use Rattle.hub_machine.specs.Spreads.{Delivering, Sends, Slows}
 use Rattle.ht_machine.specs.declared.room.Member.{Member}
 use Rattle.ht_machine.specs.declared.room.Room.{Room}
 

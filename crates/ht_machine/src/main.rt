@@ -1,4 +1,4 @@
-//! Sends messages to connections in memory as the lines of its input say, and prints what comes of it: a program to test `hub_server` by.
+//! Sends messages to connections in memory as the lines of its input say, and prints what comes of it: a program to test `hub_machine` by.
 //! Its input and the output that is wanted are those of `acceptance/machine_script.py`, where each line stands beside what it wants.
 //! It implements the trait outside of its crate, with all that the trait asks, and promises nothing else.
 //!

@@ -7,7 +7,7 @@ ghost use Rattle.ht_machine.specs.Deals.{Delivers, Changes, codec_at, kept_in, t
 use crate::stop::Stop;
 use he_end::{SendError, Spelled};
 use hm_message::{Codec, Message};
-use hub_server::Members;
+use hub_machine::Members;
 use indexmap::IndexMap;
 use std::alloc::{AllocError, Global};
 

@@ -5,14 +5,14 @@ ghost use Rattle.std.specs.List.{IsDistinct};
 ghost use Rattle.hm_message.specs.Message.{Fits};
 ghost use Rattle.hd_calls.specs.Hubs.{Invoked};
 ghost use Rattle.hp_peer.specs.Calling.{IsNotice};
-ghost use Rattle.hub_server.specs.Spreads.{codecs_among, is_spoken};
+ghost use Rattle.hub_machine.specs.Spreads.{codecs_among, is_spoken};
 ghost use Rattle.ht_machine.specs.Deals.{codec_at};
 
 use crate::room::Room;
 use crate::stop::Stop;
 use he_end::Steps;
 use hm_message::{Codec, Message};
-use hub_server::{Members, spread};
+use hub_machine::{Members, spread};
 use std::alloc::Global;
 use std::marker::Brand;
 use std::sync::ledger::{Blank, Ledger};

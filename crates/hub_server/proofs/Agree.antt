@@ -5,6 +5,7 @@ use Rattle.std.specs.Prelude.{if◌then◌else◌}
 use Rattle.std.specs.Ordering.{nat_cmp}
 use Rattle.std.specs.BTreeMap.{get}
 use Rattle.std.proofs.lemmas.Bool.{both_ways, eq-eqb, eqb-true}
+use Rattle.std.proofs.lemmas.List.Elements.{filter_agree}
 use Rattle.hd_delivery.specs.Histories.{is_this, is_silence, present_link}
 use Rattle.hd_calls.specs.Hubs.{Hub}
 use Rattle.hd_calls.specs.Peers.{PeerEvent, Settings}
@@ -20,14 +21,13 @@ use Rattle.hd_server.specs.Doings.{was_refused}
 use Rattle.hd_server.specs.Plans.{Setup, letting_go, losing, onto, shutting}
 use Rattle.hd_server.specs.Serves.{silenced, ticking}
 use Rattle.hn_server_front.specs.Stands as front
-use Rattle.hub_server.specs.declared.machine.Machine.{Machine}
+use Rattle.hub_machine.specs.declared.machine.Machine.{Machine}
 use Rattle.hub_server.specs.declared.server.Server.{Server}
-use Rattle.hub_server.specs.Machines.{IsKeptAs, IsStranger, StandsMachine, idle_peer_at, peer_at, settings_there}
+use Rattle.hub_machine.specs.Machines.{IsKeptAs, IsStranger, StandsMachine, idle_peer_at, peer_at, settings_there}
 use Rattle.hub_server.specs.Lanes.{Unsettled, is_at, poll_lane}
 use Rattle.hub_server.specs.Servers.{IsOrderly, Standing, caller_of}
 use Rattle.hub_server.proofs.Alike.{Alike, alike_noted, orderly_alike}
 use Rattle.hub_server.proofs.LaneKept.{SameLane, lane_kept, same_lane_refl, same_lane_trans}
-use Rattle.hub_server.proofs.Open.{of_open_agrees}
 
 -- all but what peers did is the same
 pub record SameButMoves (g h : List ServerEvent) : Type 0 where
@@ -103,9 +103,9 @@ registry_same g h x = let r : SameButMoves g h = x.rest in
     ap (λ (ps : List Pair). lists_of (of_open (work g) ps) (of_open (work g) (user_pairs (work g)))) r.joins
     ∙ ap (λ (ps : List Pair). lists_of (of_open (work g) (joined (work h))) (of_open (work g) ps)) r.users
     ∙ ap (λ (ps : List Pair). lists_of ps (of_open (work g) (user_pairs (work h))))
-    (of_open_agrees (work h) (work g) (joined (work h)) (open_same g h x))
+    (filter_agree (λ (p : Pair). is_open p.1 (work g)) (λ p. is_open p.1 (work h)) (λ p. open_same g h x p.1) (joined (work h)))
     ∙ ap (λ (ps : List Pair). lists_of (of_open (work h) (joined (work h))) ps)
-    (of_open_agrees (work h) (work g) (user_pairs (work h)) (open_same g h x))
+    (filter_agree (λ (p : Pair). is_open p.1 (work g)) (λ p. is_open p.1 (work h)) (λ p. open_same g h x p.1) (user_pairs (work h)))
 
 pub machine_agrees : {H Job : Type 0} (hub : Hub Job) (m : Machine H Job) (g h : List ServerEvent) → Agree g h → StandsMachine {H = H} hub m (work h)
     → StandsMachine {H = H} hub m (work g)

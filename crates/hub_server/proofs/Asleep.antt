@@ -16,12 +16,13 @@ use Rattle.hd_server.specs.Lives.{Answered, Ended}
 use Rattle.hd_server.specs.Plans.{Setup, bare_reply, letting_go, replying, shutting}
 use Rattle.hd_server.specs.Serves.{AreAllDue, AreDueOn, all_telling, ending, telling, telling_on, telling_poll_some}
 use Rattle.hp_peer.specs.declared.peer.Peer.{Peer}
-use Rattle.hub_server.specs.declared.machine.Machine.{Machine}
-use Rattle.hub_server.specs.declared.idle_set.IdlePeer.{IdlePeer}
-use Rattle.hub_server.specs.Machines.{IsKeptAs, MaySleep, Sleeps, StandsMachine, is_awake_at, idle_peer_at, peer_at, settings_there}
-use Rattle.hub_server.specs.Rounds.{AreNumbers}
+use Rattle.hub_machine.specs.declared.machine.Machine.{Machine}
+use Rattle.hub_machine.specs.declared.idle_set.IdlePeer.{IdlePeer}
+use Rattle.hub_machine.specs.Laws.{ConnectionsAreNumbered}
+use Rattle.hub_machine.specs.Machines.{IsKeptAs, MaySleep, Sleeps, StandsMachine, is_awake_at, idle_peer_at, peer_at, settings_there}
+use Rattle.hub_machine.specs.Rounds.{AreNumbers}
 use Rattle.hub_server.specs.Servers.{IsRested}
-use Rattle.hub_server.specs.Spreads.{is_listed}
+use Rattle.hub_machine.specs.Spreads.{is_listed}
 use Rattle.hub_server.proofs.Conns.{here_by_peer, listed_filter, rising_to, same_rising, there_within}
 use Rattle.hub_server.proofs.TellSaid.{up_there}
 use Rattle.hub_server.proofs.TickSteps.{IsBegun, begun_here}
@@ -68,15 +69,15 @@ awake_there {H} {Job} hub m w c s e = here_by_peer {H = H} {Job = Job} hub m w s
     by false b f = f
 
 -- those that are numbered are the awake ones of all numbers
-pub awake_are : {H Job : Type 0} (hub : Hub Job) (m : Machine H Job) (w : List MachineEvent) (conns : List ℕ) → StandsMachine {H = H} hub m w
-    → AreNumbers {H = H} m conns → conns ≡ filter (λ k. is_awake_at m k) (numbers_to (greatest w))
-awake_are {H} {Job} hub m w conns s numbers =
+pub awake_are : {H Job : Type 0} → ConnectionsAreNumbered → (hub : Hub Job) (m : Machine H Job) (w : List MachineEvent) (conns : List ℕ)
+    → StandsMachine {H = H} hub m w → AreNumbers {H = H} m conns → conns ≡ filter (λ k. is_awake_at m k) (numbers_to (greatest w))
+awake_are {H} {Job} law hub m w conns s numbers =
     same_rising conns (filter (λ k. is_awake_at m k) (numbers_to (greatest w))) numbers.rise (rising_to (λ k. is_awake_at m k) (greatest w))
     (λ c. sym (numbers.are c) ∙ by c (is_awake_at m c) refl ∙ sym (listed_filter (λ k. is_awake_at m k) c (numbers_to (greatest w))))
   where
     by : (c : ℕ) (b : Bool) → is_awake_at m c ≡ b → is_awake_at m c ≡ (is_awake_at m c && is_listed c (numbers_to (greatest w)))
     by c true e =
-        e ∙ sym (sym (ap (λ b. b && is_listed c (numbers_to (greatest w))) (there ∙ sym e)) ∙ there_within w s.from_one c ∙ there)
+        e ∙ sym (sym (ap (λ b. b && is_listed c (numbers_to (greatest w))) (there ∙ sym e)) ∙ there_within law w s.from_one c ∙ there)
       where
         there : is_there c w ≡ true
         there = awake_there {H = H} {Job = Job} hub m w c s e

@@ -17,13 +17,13 @@ use Rattle.hd_server.specs.Machine.{MachineEvent, Connects, Does, has_gone, is_o
 use Rattle.hd_server.specs.Doings.{ServerEvent, Works, notes, work, moment, config_of, config_with}
 use Rattle.hd_server.specs.Doings.{has_peer, history, history_with, is_granted, is_up, peer, user_of}
 use Rattle.hd_server.specs.Plans.{Setup, connecting, onto, peer_settings, step}
-use Rattle.hub_server.specs.declared.machine.Machine.{Machine}
+use Rattle.hub_machine.specs.declared.machine.Machine.{Machine}
 use Rattle.hub_server.specs.declared.server.Server.{Server}
-use Rattle.hub_server.specs.Machines.{OfConn, StandsMachine, peer_at, settings_there}
+use Rattle.hub_machine.specs.Machines.{OfConn, StandsMachine, peer_at, settings_there}
 use Rattle.hub_server.specs.Lanes.{Unsettled, settled}
 use Rattle.hub_server.specs.Servers.{IsOrderly, Standing}
 use Rattle.hub_server.specs.Steps.{HasCome}
-use Rattle.hub_server.specs.Traffic.{IsClear}
+use Rattle.hub_machine.specs.Traffic.{IsClear}
 use Rattle.hub_server.specs.Connections.{CanStand, IsKnown}
 use Rattle.hub_server.proofs.BeginPeer.{at_same, blank, connecting_fresh, connecting_there, fresh, peer_there, settings_if, there_now}
 use Rattle.hub_server.proofs.Calm.{calm_attached, moves_own}

@@ -7,6 +7,7 @@ use Rattle.std.specs.Ordering.{nat_cmp}
 use Rattle.std.specs.BTreeMap.{BTreeMap, get, Updates}
 use Rattle.std.proofs.lemmas.Bool.{and_from, and_left, and_parts, and_right, both_ways, cond-true}
 use Rattle.std.proofs.lemmas.Bool.{cond-false, eq-eqb, eqb-true, ltb-true, or_from, or_left}
+use Rattle.std.specs.Cmp.{unsigned_tied}
 use Rattle.hm_message.specs.declared.message.Codec.TheVariants.{Json}
 use Rattle.hd_delivery.specs.declared.vocabulary.Side.TheVariants as side
 use Rattle.hd_delivery.specs.Histories as of
@@ -24,15 +25,14 @@ use Rattle.hd_server.specs.Machine.{MachineEvent, Connects, has_gone, is_there, 
 use Rattle.hd_server.specs.Doings.{ServerEvent, Works, notes, work, moment, config_of, has_peer, history, history_with, user_of}
 use Rattle.hd_server.specs.Plans.{Setup, connecting, onto, peer_settings}
 use Rattle.hp_peer.specs.Stands.{settings}
-use Rattle.hub_server.specs.declared.machine.Machine.{Machine}
+use Rattle.hub_machine.specs.declared.machine.Machine.{Machine}
 use Rattle.hub_server.specs.declared.server.Server.{Server}
-use Rattle.hub_server.specs.Machines.{IsStranger, StandsMachine, peer_at, settings_there}
+use Rattle.hub_machine.specs.Machines.{IsStranger, StandsMachine, peer_at, settings_there}
 use Rattle.hub_server.specs.Lanes.{Unsettled, conn_of, is_at, poll_lane, settled}
 use Rattle.hub_server.specs.Servers.{IsBegunBy, IsOrderly, IsSetup, Standing, caller_of}
 use Rattle.hub_server.specs.Connections.{IsKnown}
 use Rattle.hub_server.proofs.Alike.{alike_connects, caller_alike, orderly_alike}
 use Rattle.hub_server.proofs.Conns.{here_by_peer}
-use Rattle.hub_server.proofs.Ends.{apart}
 use Rattle.hub_server.proofs.HoldLanes.{turned}
 use Rattle.hub_server.proofs.HoldPolls.{no_some, not_later}
 use Rattle.hub_server.proofs.LaneKept.{lane_kept, lane_wider, orderly_wider, same_lane_works, standing_wider}
@@ -173,7 +173,7 @@ module _ {H Job : Type 0} (hub : Hub Job) (s : Setup) (before : List Said) (old 
       (or_left (is_some (settings_of k (work g))) (is_let_go k (notes h)) begun_now))
       ∙ ap (λ n. caller_of n g) (sym (eqb-true c k e))
   caller_each callers updates c false e =
-      updates.2 c (apart k c (turned c k e)) ∙ st.callers c ∙ sym (caller_alike c g h (alike_connects c k t user h e))
+      updates.2 c (unsigned_tied k c ∙ turned c k e) ∙ st.callers c ∙ sym (caller_alike c g h (alike_connects c k t user h e))
 
   at_none : (l : ℕ) → is_at l k g ≡ false
   at_none l = and_right (has_peer k g) (is_this l (socket_of k (notes h)) || is_this l (poll_lane k (notes h)))

@@ -21,9 +21,9 @@ use Rattle.hn_server_front.specs.Calls as calls
 use Rattle.hn_server_front.specs.declared.front.Front.{Front}
 use Rattle.hn_server_front.specs.Stands as front
 use Rattle.hub_server.specs.declared.lane.Lane.{Lane}
-use Rattle.hub_server.specs.declared.machine.Machine.{Machine}
+use Rattle.hub_machine.specs.declared.machine.Machine.{Machine}
 use Rattle.hub_server.specs.declared.server.Server.{Server}
-use Rattle.hub_server.specs.Machines.{StandsMachine}
+use Rattle.hub_machine.specs.Machines.{StandsMachine}
 use Rattle.hub_server.specs.Lanes.{conn_of, is_at, poll_lane, settled}
 use Rattle.hub_server.specs.Servers.{IsOrderly, IsSetup, Standing}
 use Rattle.hub_server.proofs.Alike.{Alike, alike_does, alike_note, alike_says, alike_trans, orderly_alike}

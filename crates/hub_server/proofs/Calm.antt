@@ -18,7 +18,7 @@ use Rattle.hd_server.specs.Doings.{ServerEvent, notes, work, moment, peer, histo
 use Rattle.hd_server.specs.Plans.{onto, step}
 use Rattle.hub_server.specs.Lanes.{Unsettled}
 use Rattle.hub_server.specs.Servers.{IsOrderly}
-use Rattle.hub_server.specs.Traffic.{IsClear, lends}
+use Rattle.hub_machine.specs.Traffic.{IsClear, lends}
 
 -- ---- the next frame of a link
 

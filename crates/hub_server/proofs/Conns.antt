@@ -2,7 +2,7 @@
 use Rattle.std.proofs.Common.{◌≡◌, ℕ, zero, suc, ◌<◌, ◌≤◌, Bool, true, false, not, List, [], ◌∷◌, ◌++◌, filter, Option, Some, None, is_some, refl}
 use Rattle.std.proofs.Common.{sym, ap, subst, ◌∙◌, arith, if◌then◌else◌}
 use Rattle.std.specs.Prelude.{◌==◌, ◌&&◌, ◌||◌, nat_le}
-use Rattle.std.proofs.lemmas.Bool.{eqb-true, leb-true, leb-false}
+use Rattle.std.proofs.lemmas.Bool.{eq-eqb, eqb-true, leb-true, leb-false}
 use Rattle.std.proofs.lemmas.List.{append-nil}
 use Rattle.std.proofs.lemmas.List.Elements.{filter-append}
 use Rattle.hd_calls.specs.Hubs.{Hub}
@@ -10,14 +10,15 @@ use Rattle.hd_calls.specs.Peers.{PeerEvent, Settings}
 use Rattle.hd_server.specs.Lives.{numbers_to}
 use Rattle.hd_server.specs.Machine.{MachineEvent, greatest, has_gone, is_there, moves, settings_of}
 use Rattle.hp_peer.specs.declared.peer.Peer.{Peer}
-use Rattle.hub_server.specs.declared.machine.Machine.{Machine}
-use Rattle.hub_server.specs.declared.idle_set.IdlePeer.{IdlePeer}
-use Rattle.hub_server.specs.Machines.{IsKeptAs, StandsMachine, idle_peer_at, peer_at, settings_there}
-use Rattle.hub_server.specs.Rounds.{AreRising}
-use Rattle.hub_server.specs.Spreads.{is_listed}
-pub use Rattle.hub_server.proofs.Listed.{first_is_listed, later_listed, listed_append, listed_filter, one_listed}
-use Rattle.hub_server.proofs.RoundNumbers.{AreLeft, all_left, fewer_left, none_between}
-use Rattle.hub_server.proofs.TurnFirst.{from_one, within}
+use Rattle.hub_machine.specs.declared.machine.Machine.{Machine}
+use Rattle.hub_machine.specs.declared.idle_set.IdlePeer.{IdlePeer}
+use Rattle.hub_machine.specs.Laws.{ConnectionsAreNumbered}
+use Rattle.hub_machine.specs.Machines.{IsKeptAs, StandsMachine, idle_peer_at, peer_at, settings_there}
+use Rattle.hub_machine.specs.Rounds.{AreRising}
+use Rattle.hub_machine.specs.Spreads.{is_listed}
+pub use Rattle.hub_server.proofs.Listed.{first_is_listed, later_listed, listed_filter, listed_last}
+use Rattle.hub_server.proofs.Rising.{AreLeft, all_left, fewer_left, none_between}
+pub use Rattle.hub_server.proofs.Rising.{rising_rest}
 
 -- ---- numbers that rise
 
@@ -30,16 +31,16 @@ rising_push (x ∷ y ∷ xs) n r below = (r.0, rising_push (y ∷ xs) n r.1 (λ 
 pub to_within : (n k : ℕ) → is_listed k (numbers_to n) ≡ true → k ≤ n
 to_within zero k e = absurd (let no : false ≡ true = e in cc)
 to_within (suc n) k e =
-    by (is_listed k (numbers_to n)) refl (sym (listed_append k (numbers_to n) (suc n ∷ [])) ∙ e) (to_within n k)
+    by (is_listed k (numbers_to n)) refl (sym (listed_last k (suc n) (numbers_to n)) ∙ e) (to_within n k)
   where
-    by : (b : Bool) → is_listed k (numbers_to n) ≡ b → (b || is_listed k (suc n ∷ [])) ≡ true → (is_listed k (numbers_to n) ≡ true → k ≤ n)
+    by : (b : Bool) → is_listed k (numbers_to n) ≡ b → (b || (k == suc n)) ≡ true → (is_listed k (numbers_to n) ≡ true → k ≤ n)
         → k ≤ suc n
     by true f g before = let l = before f in omega (arith, l)
-    by false f g before = let l = one_listed k (suc n) g in omega (arith, l)
+    by false f g before = let l = eqb-true k (suc n) g in omega (arith, l)
 
 pub in_numbers : (n k : ℕ) → 0 < k → k ≤ n → is_listed k (numbers_to n) ≡ true
 in_numbers zero k over l = absurd (omega (arith, over, l))
-in_numbers (suc n) k over l = listed_append k (numbers_to n) (suc n ∷ []) ∙ by (nat_le k n) refl (in_numbers n k over)
+in_numbers (suc n) k over l = listed_last k (suc n) (numbers_to n) ∙ by (nat_le k n) refl (in_numbers n k over)
   where
     left : (a b : Bool) → a ≡ true → (a || b) ≡ true
     left a b e = ap (λ (x : Bool). x || b) e
@@ -48,12 +49,12 @@ in_numbers (suc n) k over l = listed_append k (numbers_to n) (suc n ∷ []) ∙ 
     right true b e = refl
     right false b e = e
 
-    by : (b : Bool) → nat_le k n ≡ b → (k ≤ n → is_listed k (numbers_to n) ≡ true) → (is_listed k (numbers_to n) || is_listed k (suc n ∷ [])) ≡ true
+    by : (b : Bool) → nat_le k n ≡ b → (k ≤ n → is_listed k (numbers_to n) ≡ true) → (is_listed k (numbers_to n) || (k == suc n)) ≡ true
     by true e before = left _ _ (before (leb-true k n e))
     by false e before =
         let over_n = leb-false k n e in
         let is : k ≡ suc n = omega (arith, over_n, l) in
-        right (is_listed k (numbers_to n)) _ (subst (λ m. is_listed k (m ∷ []) ≡ true) is (first_is_listed k []))
+        right (is_listed k (numbers_to n)) (k == suc n) (eq-eqb k (suc n) is)
 
 -- those up to a number that pass a test rise
 pub rising_to : (p : ℕ → Bool) (n : ℕ) → AreRising (filter p (numbers_to n))
@@ -118,25 +119,22 @@ not_first c k cs rise e = by (k == c) refl
         let no : true ≡ false = sym e ∙ none in cc)
     by false f = refl
 
-pub rising_rest : (c : ℕ) (cs : List ℕ) → AreRising (c ∷ cs) → AreRising cs
-rising_rest c cs rise = let left = fewer_left (c ∷ cs) 0 c cs (all_left (c ∷ cs) rise) in left.rise
-
 -- ---- connections
 
 -- one that is there is among the numbers
-pub there_within : (w : List MachineEvent) → settings_of 0 w ≡ None → (c : ℕ)
+pub there_within : ConnectionsAreNumbered → (w : List MachineEvent) → settings_of 0 w ≡ None → (c : ℕ)
     → (is_there c w && is_listed c (numbers_to (greatest w))) ≡ is_there c w
-there_within w none c = by (settings_of c w) refl (not (has_gone c w))
+there_within law w none c = by (settings_of c w) refl (not (has_gone c w))
   where
     by : (o : Option Settings) → settings_of c w ≡ o → (b : Bool)
         → ((is_some o && b) && is_listed c (numbers_to (greatest w))) ≡ (is_some o && b)
     by None e b = refl
     by (Some t) e false = refl
-    by (Some t) e true = in_numbers (greatest w) c (from_one c t w none e) (within c t w e)
+    by (Some t) e true = let is = law c t w none e in in_numbers (greatest w) c is.0 is.1
 
 -- ---- who is there by a machine
 
-there_if : (gone : Bool) (t : Option Settings) → (is_some t && not gone) ≡ is_some (if gone then None else t)
+pub there_if : (gone : Bool) (t : Option Settings) → (is_some t && not gone) ≡ is_some (if gone then None else t)
 there_if true None = refl
 there_if true (Some t) = refl
 there_if false None = refl

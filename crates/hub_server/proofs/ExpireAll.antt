@@ -12,9 +12,9 @@ use Rattle.hd_server.specs.Plans.{Setup, expiring, onto}
 use Rattle.hub_server.specs.declared.server.Server.{Server}
 use Rattle.hub_server.specs.Events.{Expires, ExpiresFirst}
 use Rattle.hub_server.specs.Lanes.{Unsettled}
-use Rattle.hub_server.specs.Rounds.{AreRising}
+use Rattle.hub_machine.specs.Rounds.{AreRising}
 use Rattle.hub_server.specs.Servers.{OfEach, Standing}
-use Rattle.hub_server.specs.Spreads.{is_listed}
+use Rattle.hub_machine.specs.Spreads.{is_listed}
 use Rattle.hub_server.specs.Steps.{NoneOverdue, expired_by}
 use Rattle.hub_server.proofs.Alike.{Alike, alike_refl, alike_trans}
 use Rattle.hub_server.proofs.Conns.{first_is_listed, later_listed, not_first, rising_rest, rising_to}

@@ -3,7 +3,7 @@ use Rattle.std.proofs.Common.{◌≡◌, ◌≤◌, ◌<◌, ℕ, zero, suc, ◌
 use Rattle.std.proofs.Common.{Some, None, is_some}
 use Rattle.std.proofs.Common.{refl, sym, ap, ◌∙◌, arith}
 use Rattle.std.specs.Prelude.{if◌then◌else◌, option_map, unwrap_or}
-use Rattle.std.proofs.lemmas.Bool.{and_from, and_parts, and_right, le-leb, lt-ltb}
+use Rattle.std.proofs.lemmas.Bool.{and_from, and_parts, and_right, eqb-true, le-leb, lt-ltb}
 use Rattle.hd_delivery.specs.Histories.{first_of}
 use Rattle.hd_delivery.specs.declared.vocabulary.Reason.TheVariants as reason
 use Rattle.hd_server.specs.declared.vocabulary.Life.{Life}
@@ -15,9 +15,9 @@ use Rattle.hd_server.specs.Machine.{Goes}
 use Rattle.hd_server.specs.Doings.{ServerEvent, Notes, Works, has_peer, is_up, notes}
 use Rattle.hd_server.specs.Plans.{closing, dropping, expiring, onto, step}
 use Rattle.hd_delivery.specs.Histories.{Closed}
-use Rattle.hub_server.specs.Spreads.{is_listed}
+use Rattle.hub_machine.specs.Spreads.{is_listed}
 use Rattle.hub_server.proofs.Alike.{Alike, there_alike, up_alike}
-use Rattle.hub_server.proofs.Conns.{first_is_listed, listed_append, listed_filter, one_listed, to_within}
+use Rattle.hub_server.proofs.Conns.{first_is_listed, listed_filter, listed_last, to_within}
 use Rattle.hub_server.proofs.TickApart.{Apart, apart_closing, apart_dropping, apart_expired, apart_parts}
 
 -- ---- lives
@@ -84,11 +84,11 @@ past_polling Ending e = absurd (let no : Unknown ≡ Ending = e in cc)
 positive : (n k : ℕ) → is_listed k (numbers_to n) ≡ true → 0 < k
 positive zero k e = absurd (let no : false ≡ true = e in cc)
 positive (suc n) k e =
-    by (is_listed k (numbers_to n)) refl (sym (listed_append k (numbers_to n) (suc n ∷ [])) ∙ e) (positive n k)
+    by (is_listed k (numbers_to n)) refl (sym (listed_last k (suc n) (numbers_to n)) ∙ e) (positive n k)
   where
-    by : (b : Bool) → is_listed k (numbers_to n) ≡ b → (b || is_listed k (suc n ∷ [])) ≡ true → (is_listed k (numbers_to n) ≡ true → 0 < k) → 0 < k
+    by : (b : Bool) → is_listed k (numbers_to n) ≡ b → (b || (k == suc n)) ≡ true → (is_listed k (numbers_to n) ≡ true → 0 < k) → 0 < k
     by true f g before = before f
-    by false f g before = let l = one_listed k (suc n) g in omega (arith, l)
+    by false f g before = let l = eqb-true k (suc n) g in omega (arith, l)
 
 pub record IsOverdue (c now : ℕ) (n : List ConnectionEvent) : Type 0 where
   pub is_made_so : is_made c n ≡ true

@@ -5,6 +5,7 @@ use Rattle.std.specs.Prelude.{if◌then◌else◌}
 use Rattle.std.specs.Ordering.{nat_cmp}
 use Rattle.std.specs.BTreeMap.{BTreeMap, Updates, get}
 use Rattle.std.proofs.lemmas.Bool.{and_from, and_left, and_right, both_ways, eq-eqb, eqb-true, or_from, or_left, or_right}
+use Rattle.std.specs.Cmp.{unsigned_tied}
 use Rattle.hd_delivery.specs.declared.vocabulary.Reason.{Reason}
 use Rattle.hd_delivery.specs.declared.vocabulary.Reason.TheVariants as reason
 use Rattle.hd_delivery.specs.Histories.{Closed, is_this}
@@ -22,23 +23,21 @@ use Rattle.hd_server.specs.Plans.{Setup, closing, dropping, expiring, onto, step
 use Rattle.hn_server_front.specs.declared.front.Front.{Front}
 use Rattle.hn_server_front.specs.Calls as calls
 use Rattle.hn_server_front.specs.Stands as front
-use Rattle.hub_server.specs.declared.machine.Machine.{Machine}
+use Rattle.hub_machine.specs.declared.machine.Machine.{Machine}
 use Rattle.hub_server.specs.declared.server.Server.{Server}
 use Rattle.hub_server.specs.Connections.{HasLeft, IsKnown}
 use Rattle.hub_server.specs.Events.{ExpiresFirst}
-use Rattle.hub_server.specs.Machines.{OfConn, StandsMachine, peer_at, settings_there}
+use Rattle.hub_machine.specs.Machines.{OfConn, StandsMachine, peer_at, settings_there}
 use Rattle.hub_server.specs.Lanes.{Unsettled}
 use Rattle.hub_server.specs.Servers.{IsOrderly, IsSetup, Standing, caller_of}
 use Rattle.hub_server.proofs.Alike.{alike_goes, alike_note, alike_trans, at_alike, caller_alike, orderly_alike}
 use Rattle.hub_server.proofs.Calm.{orderly_closed}
-use Rattle.hub_server.proofs.Doing.{open_after}
-use Rattle.hub_server.proofs.Doing as doing
-use Rattle.hub_server.proofs.Ends.{apart}
 use Rattle.hub_server.proofs.Gone.{Freed, at_is_on, is_on, lane_left}
 use Rattle.hub_server.proofs.GoneServer.{absent_settings, no_peer}
 use Rattle.hub_server.proofs.LaneKept.{lane_kept, same_lane_note, same_lane_trans, same_lane_works}
 use Rattle.hub_server.proofs.ExpireNotes.{GoesThen, IsOverdue, OnlyPolls, first_overdue, goes_then, life_then, past_polling, polls_only}
 use Rattle.hub_server.proofs.TickSteps.{begun_here, chosen, passed_by, standing_steps}
+use Rattle.hub_server.proofs.HoldLanes.{turned}
 
 -- ---- one that is closed
 
@@ -47,6 +46,12 @@ shut_there : (gone : Bool) (o : Option Settings) (ms : List PeerEvent) → (if g
 shut_there true o ms e = refl
 shut_there false None ms e = refl
 shut_there false (Some t) ms e = absurd (let no : ◌≡◌ {A = Option Settings} (Some t) None = e in cc)
+
+-- and one that is there is open if its end isn't closed
+open_there : (gone : Bool) (o : Option Settings) (t : Settings) (ms : List PeerEvent) → (if gone then None else o) ≡ Some t
+    → (not gone && is_open_at o ms) ≡ not (is_shut t ms)
+open_there true o t ms e = absurd (let no : ◌≡◌ {A = Option Settings} None (Some t) = e in cc)
+open_there false o t ms e = ap (λ (x : Option Settings). is_open_at x ms) e
 
 -- another machine stands for the same
 with_machine : {H Job : Type 0} (hub : Hub Job) (s : Setup) (u : Unsettled) (before : List Said) (v : Server H Job) (m : Machine H Job)
@@ -81,10 +86,10 @@ standing_closes {H} {Job} hub s u before v m c why h st live closed absent = by 
 
     by_end : (t : Settings) → settings_there c (work h) ≡ Some t → (b : Bool) → is_shut t (moves c (work h)) ≡ b
         → Standing {H = H} hub s u before (record v { machine = m }) (onto (closing c why h) h)
-    by_end t e true f = by_state false (open_after c (work h) t [] e ∙ ap not f)
+    by_end t e true f = by_state false (open_there (has_gone c (work h)) (settings_of c (work h)) t (moves c (work h)) e ∙ ap not f)
         (with_machine {H = H} hub s u before v m h st (closed (work h) t st.machine e f))
     by_end t e false f =
-        by_state true (open_after c (work h) t [] e ∙ ap not f)
+        by_state true (open_there (has_gone c (work h)) (settings_of c (work h)) t (moves c (work h)) e ∙ ap not f)
         (standing_steps {H = H} hub s u u before v m c (Closed why false) h (λ l e. e) (λ k e. e) (λ l e. e) st (live (work h) t st.machine e f)
         (orderly_closed u c why false h (st.orderly c)))
 
@@ -275,7 +280,7 @@ standing_goes {H} hub s u before v mid c h g st freed known left m machine f sta
     called k true e = ap (λ n. get nat_cmp callers n) (eqb-true k c e) ∙ updates.1 ∙ sym freed.uncalled
         ∙ sym (ap (λ n. caller_of n g) (eqb-true k c e))
     called k false e =
-        updates.2 k (apart c k (doing.apart k c e)) ∙ ap (λ m. get nat_cmp m k) left.callers ∙ st.callers k
+        updates.2 k (unsigned_tied c k ∙ turned k c e) ∙ ap (λ m. get nat_cmp m k) left.callers ∙ st.callers k
         ∙ sym (caller_alike k g h (freed.others k e))
 
     each : (k : ℕ) (b : Bool) → (k == c) ≡ b → IsOrderly u k g

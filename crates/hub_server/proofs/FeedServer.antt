@@ -20,16 +20,16 @@ use Rattle.hd_server.specs.Doings.{ServerEvent, notes, work, moment, said, peer,
 use Rattle.hd_server.specs.Plans.{Setup}
 use Rattle.hd_server.specs.Serves.{Feeds, is_taking, moving}
 use Rattle.hn_server_front.specs.Stands as front
-use Rattle.hub_server.specs.declared.machine.Machine.{Machine}
+use Rattle.hub_machine.specs.declared.machine.Machine.{Machine}
 use Rattle.hub_server.specs.declared.server.Server.{Server}
-use Rattle.hub_server.specs.Machines.{OfConn, StandsMachine, settings_there}
-use Rattle.hub_server.specs.Calls.{doing}
-use Rattle.hub_server.specs.Traffic.{FeedsBytes, IsClear}
+use Rattle.hub_machine.specs.Laws.{MovesComeFirst}
+use Rattle.hub_machine.specs.Machines.{OfConn, StandsMachine, settings_there}
+use Rattle.hub_machine.specs.Calls.{doing}
+use Rattle.hub_machine.specs.Traffic.{FeedsBytes, IsClear}
 use Rattle.hub_server.specs.Connections.{IsFedTo}
 use Rattle.hub_server.specs.Lanes.{Unsettled, is_at, poll_lane}
 use Rattle.hub_server.specs.Servers.{IsOrderly, Standing, caller_of}
 use Rattle.hub_server.proofs.Alike.{Alike, alike_does, alike_refl, alike_trans, orderly_alike}
-use Rattle.hub_server.proofs.Doing.{moves_done}
 use Rattle.hub_server.proofs.LaneKept.{SameLane, lane_kept, same_lane_refl, same_lane_trans, same_lane_works}
 
 -- ---- what is fed leaves the end where it stands
@@ -140,14 +140,15 @@ module _ (c : ℕ) (h : List ServerEvent) where
 
 -- ---- the connection that is fed
 
-module _ (u : Unsettled) (c : ℕ) (h : List ServerEvent) (t : Settings) (begun : settings_of c (work h) ≡ Some t) (x : IsOrderly u c h)
-    (now : ℕ) (bytes : List ℕ) (ps : List (List ℕ)) (ms : List PeerEvent) (feeds : Feeds t now false bytes ps (peer c h) (ms ++ peer c h))
+module _ (law : MovesComeFirst) (u : Unsettled) (c : ℕ) (h : List ServerEvent) (t : Settings) (begun : settings_of c (work h) ≡ Some t)
+    (x : IsOrderly u c h) (now : ℕ) (bytes : List ℕ) (ps : List (List ℕ)) (ms : List PeerEvent)
+    (feeds : Feeds t now false bytes ps (peer c h) (ms ++ peer c h))
     (clear : IsClear t (ms ++ peer c h)) where
   abbrev g : List ServerEvent
   g = moving c ms h
 
   peer_is : peer c g ≡ ms ++ peer c h
-  peer_is = ap (moves c) (work_moving c h ms) ∙ moves_done c ms (work h)
+  peer_is = ap (moves c) (work_moving c h ms) ∙ law c ms (work h)
 
   begun_still : settings_of c (work g) ≡ Some t
   begun_still = settings_moving c h c ms ∙ begun
@@ -224,8 +225,8 @@ there_of c h e = by (settings_of c (work h)) refl (has_gone c (work h)) refl e
     by (Some t) f true k e = absurd (true≢false (sym e))
     by None f b k e = absurd (true≢false (sym e))
 
-module _ {H Job : Type 0} (hub : Hub Job) (s : Setup) (u : Unsettled) (before : List Said) (v : Server H Job) (h : List ServerEvent)
-    (x : Standing {H = H} hub s u before v h) (c : ℕ) (bytes : List ℕ) (m : Machine H Job) where
+module _ {H Job : Type 0} (law : MovesComeFirst) (hub : Hub Job) (s : Setup) (u : Unsettled) (before : List Said) (v : Server H Job)
+    (h : List ServerEvent) (x : Standing {H = H} hub s u before v h) (c : ℕ) (bytes : List ℕ) (m : Machine H Job) where
   fed_with : (t : Settings) → settings_of c (work h) ≡ Some t → FeedsBytes {H = H} hub m c (work h) t (peer c h) (moment h) false bytes
       → IsFedTo {H = H} hub s u before (record v { machine = m }) c bytes h
   fed_with t begun fed = record {
@@ -258,7 +259,7 @@ module _ {H Job : Type 0} (hub : Hub Job) (s : Setup) (u : Unsettled) (before : 
 
       orderly : (k : ℕ) (b : Bool) → (k == c) ≡ b → IsOrderly u k (moving c fed.moves h)
       orderly k true e = subst (λ n. IsOrderly u n (moving c fed.moves h)) (sym (eqb-true k c e))
-          (orderly_fed u c h t begun (x.orderly c) (moment h) bytes fed.pieces fed.moves fed.feeds fed.clear)
+          (orderly_fed law u c h t begun (x.orderly c) (moment h) bytes fed.pieces fed.moves fed.feeds fed.clear)
       orderly k false e =
           orderly_alike u k (moving c fed.moves h) h (others_moving c h k e fed.moves) (same_moment (moment_moving c h fed.moves)) (x.orderly k)
 

@@ -26,9 +26,9 @@ use Rattle.hub_server.specs.declared.server.Server.{Server}
 use Rattle.hub_server.specs.Connections.{Frees, IsKnown}
 use Rattle.hub_server.specs.Lanes.{HasLane, IsLane, Unsettled, cut_of, is_at, lane_of, poll_lane, settled}
 use Rattle.hp_peer.specs.declared.peer.Peer.{Peer}
-use Rattle.hub_server.specs.declared.machine.Machine.{Machine}
-use Rattle.hub_server.specs.declared.idle_set.IdlePeer.{IdlePeer}
-use Rattle.hub_server.specs.Machines.{IsKeptAs, StandsMachine, idle_peer_at, peer_at, settings_there}
+use Rattle.hub_machine.specs.declared.machine.Machine.{Machine}
+use Rattle.hub_machine.specs.declared.idle_set.IdlePeer.{IdlePeer}
+use Rattle.hub_machine.specs.Machines.{IsKeptAs, StandsMachine, idle_peer_at, peer_at, settings_there}
 use Rattle.hub_server.specs.Servers.{IsOrderly, IsSetup, Standing, caller_of}
 use Rattle.hub_server.proofs.Alike.{Alike, alike_note, alike_says, at_alike, caller_alike, orderly_alike}
 use Rattle.hub_server.proofs.LaneKept.{SameLane, lane_kept, lane_wider, orderly_wider, same_lane_note, same_lane_reply, standing_shuts}

@@ -21,9 +21,9 @@ use Rattle.hd_server.specs.Serves.{FeedsOne}
 use Rattle.hn_server_front.specs.Calls.{IsNoted}
 use Rattle.hn_server_front.specs.declared.front.Front.{Front}
 use Rattle.hn_server_front.specs.Stands as front
-use Rattle.hub_server.specs.declared.machine.Machine.{Machine}
+use Rattle.hub_machine.specs.declared.machine.Machine.{Machine}
 use Rattle.hub_server.specs.declared.server.Server.{Server}
-use Rattle.hub_server.specs.Machines.{StandsMachine}
+use Rattle.hub_machine.specs.Machines.{StandsMachine}
 use Rattle.hub_server.specs.Lanes.{conn_of, is_at, poll_lane, settled}
 use Rattle.hub_server.specs.Servers.{IsOrderly, Standing}
 use Rattle.hub_server.specs.Steps.{Follows, HasCome}

@@ -3,13 +3,13 @@ use Rattle.std.proofs.Common.{◌≡◌, ℕ, ◌==◌, Bool, true, false, not, 
 use Rattle.std.specs.Ordering.{nat_cmp}
 use Rattle.std.specs.BTreeMap.{BTreeMap, get, Updates}
 use Rattle.std.proofs.lemmas.Bool.{both_ways, eq-eqb, eqb-true, false_from_ne_true}
+use Rattle.std.specs.Cmp.{unsigned_tied}
 use Rattle.hd_delivery.specs.Histories.{is_this}
 use Rattle.hd_server.specs.Lives.{socket_of}
 use Rattle.hd_server.specs.Doings.{ServerEvent, notes, wants_shut, was_refused}
 use Rattle.hub_server.specs.declared.lane.Lane.{Lane}
 use Rattle.hub_server.specs.Lanes.{HasLane, IsLane, IsNobodys, is_at, is_taken, settled}
 use Rattle.hub_server.proofs.Alike.{Alike, at_alike}
-use Rattle.hub_server.proofs.Ends.{apart}
 use Rattle.hub_server.proofs.LaneKept.{SameLane, lane_kept}
 
 -- the connection k was on the older lane alone, and is on this one alone now
@@ -43,7 +43,7 @@ turned c k e = false_from_ne_true (k == c) (λ f. both_ways (c == k) e (eq-eqb c
 pub cuts : (l : ℕ) (lanes mid : BTreeMap ℕ Lane) → Updates nat_cmp lanes mid l None → HasCut (Some l) lanes mid
 cuts l lanes mid updates = record {
   gone = λ k e. ap (get nat_cmp mid) (eqb-true k l e) ∙ updates.1;
-  stays = λ k e. updates.2 k (apart l k (turned k l e));
+  stays = λ k e. updates.2 k (unsigned_tied l k ∙ turned k l e);
 }
 
 pub cuts_none : (lanes : BTreeMap ℕ Lane) → HasCut None lanes lanes
@@ -100,4 +100,4 @@ module _ (k at : ℕ) (older : Option ℕ) (g h : List ServerEvent) (m : Goes_ov
       go : (b : Bool) → (l == at) ≡ b → IsLane settled (get nat_cmp new l) l g
       go true e = subst (λ n. IsLane settled (get nat_cmp new n) n g) (sym (eqb-true l at e))
           (subst (λ o. IsLane settled o at g) (sym enters.1) own)
-      go false e = subst (λ o. IsLane settled o l g) (sym (enters.2 l (apart at l (turned l at e)))) (elsewhere e (is_this l older) refl)
+      go false e = subst (λ o. IsLane settled o l g) (sym (enters.2 l (unsigned_tied at l ∙ turned l at e))) (elsewhere e (is_this l older) refl)

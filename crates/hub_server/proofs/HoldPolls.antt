@@ -22,7 +22,7 @@ use Rattle.hn_server_front.specs.declared.front.Front.{Front}
 use Rattle.hn_server_front.specs.Stands as front
 use Rattle.hub_server.specs.declared.lane.Lane.{Lane}
 use Rattle.hub_server.specs.declared.server.Server.{Server}
-use Rattle.hub_server.specs.Machines.{StandsMachine}
+use Rattle.hub_machine.specs.Machines.{StandsMachine}
 use Rattle.hub_server.specs.Lanes.{IsLane, Unsettled, is_at, poll_lane, settled}
 use Rattle.hub_server.specs.Servers.{IsOrderly, IsSetup, Standing}
 use Rattle.hub_server.specs.Steps.{HasCome}

@@ -2,7 +2,7 @@
 use Rattle.std.proofs.Common.{◌≡◌, ℕ, Bool, true, false, List, [], ◌∷◌, ◌++◌, filter, refl, sym, ap, ◌∙◌, if◌then◌else◌}
 use Rattle.std.specs.Prelude.{◌==◌, ◌&&◌, ◌||◌}
 use Rattle.std.proofs.lemmas.Bool.{eqb-true, eq-eqb}
-use Rattle.hub_server.specs.Spreads.{is_listed}
+use Rattle.hub_machine.specs.Spreads.{is_listed}
 
 pub first_is_listed : (c : ℕ) (cs : List ℕ) → is_listed c (c ∷ cs) ≡ true
 first_is_listed c cs = ap (λ (b : Bool). b || is_listed c cs) (eq-eqb c c refl)
@@ -15,22 +15,18 @@ later_listed c k cs e = by (c == k)
     by true = refl
     by false = e
 
--- the only one that is listed is the same
-pub one_listed : (c k : ℕ) → is_listed c (k ∷ []) ≡ true → c ≡ k
-one_listed c k e = by (c == k) refl e
+-- it is one of these, or the one after them
+pub listed_last : (k c : ℕ) (cs : List ℕ) → is_listed k (cs ++ c ∷ []) ≡ (is_listed k cs || (k == c))
+listed_last k c [] = go (k == c)
   where
-    by : (b : Bool) → (c == k) ≡ b → (b || false) ≡ true → c ≡ k
-    by true f g = eqb-true c k f
-    by false f g = absurd (cc)
-
-either : (a b d : Bool) → (a || (b || d)) ≡ ((a || b) || d)
-either true b d = refl
-either false b d = refl
-
-pub listed_append : (c : ℕ) (xs ys : List ℕ) → is_listed c (xs ++ ys) ≡ (is_listed c xs || is_listed c ys)
-listed_append c [] ys = refl
-listed_append c (x ∷ xs) ys =
-    ap (λ (b : Bool). (c == x) || b) (listed_append c xs ys) ∙ either (c == x) (is_listed c xs) (is_listed c ys)
+    go : (b : Bool) → (b || false) ≡ b
+    go true = refl
+    go false = refl
+listed_last k c (d ∷ cs) = ap (λ (b : Bool). (k == d) || b) (listed_last k c cs) ∙ go (k == d)
+  where
+    go : (b : Bool) → (b || (is_listed k cs || (k == c))) ≡ ((b || is_listed k cs) || (k == c))
+    go true = refl
+    go false = refl
 
 -- of those that pass a test the same ones are listed, as far as they pass it
 pub listed_filter : (p : ℕ → Bool) (c : ℕ) (xs : List ℕ) → is_listed c (filter p xs) ≡ (p c && is_listed c xs)

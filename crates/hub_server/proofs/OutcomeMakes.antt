@@ -4,6 +4,7 @@ use Rattle.std.specs.Prelude.{◌==◌, not, nat_le, nat_lt, ◌&&◌, ◌||◌,
 use Rattle.std.specs.Ordering.{nat_cmp}
 use Rattle.std.specs.BTreeMap.{BTreeMap, Updates, get}
 use Rattle.std.proofs.lemmas.Bool.{and_from, and_parts, and_right, eqb-true, leb-true, le-leb, lt-leb, lt-ltb}
+use Rattle.std.specs.Cmp.{unsigned_tied}
 use Rattle.hd_calls.specs.Hubs.{Hub}
 use Rattle.hd_server.specs.declared.vocabulary.Said.{Said}
 use Rattle.hd_server.specs.Lives.{ConnectionEvent, Answered, Ended, Expired, LaneLost, LetGo, Negotiated, Opened, Polled, Socketed, is_let_go, is_made, is_opened, made, negotiated_at, poll_ended}
@@ -14,15 +15,14 @@ use Rattle.hd_server.specs.Plans.{Setup}
 use Rattle.hn_server_front.specs.declared.front.Front.{Front}
 use Rattle.hn_server_front.specs.Stands as front
 use Rattle.hn_server_front.specs.Stands.{IsUnborn}
-use Rattle.hub_server.specs.Machines.{StandsMachine}
+use Rattle.hub_machine.specs.Machines.{StandsMachine}
 use Rattle.hub_server.specs.declared.lane.Lane.{Lane}
 use Rattle.hub_server.specs.declared.server.Server.{Server}
 use Rattle.hub_server.specs.Lanes.{IsLane, Unsettled, settled}
 use Rattle.hub_server.specs.Servers.{IsOrderly, IsSetup, Standing, caller_of}
 use Rattle.hub_server.specs.Connections.{CanStand}
 use Rattle.hub_server.specs.Steps.{HasCome}
-use Rattle.hub_server.proofs.Doing.{apart}
-use Rattle.hub_server.proofs.Ends as ends
+use Rattle.hub_server.proofs.HoldLanes.{turned}
 
 -- with a token and what was granted with it, or without
 abbrev pub making : Option (List ℕ × Bool) → ℕ → ℕ → ConnectionEvent
@@ -221,7 +221,7 @@ named old new k name now updates is c = go (c == k) refl
   where
     go : (b : Bool) → (c == k) ≡ b → get nat_cmp new c ≡ (if b then now else get nat_cmp old c)
     go true same = ap (λ (n : ℕ). get nat_cmp new n) (eqb-true c k same) ∙ updates.1 ∙ sym is
-    go false other = updates.2 c (ends.apart k c (apart c k other))
+    go false other = updates.2 c (unsigned_tied k c ∙ turned c k other)
 
 -- ---- the one that was made may stand on a socket
 

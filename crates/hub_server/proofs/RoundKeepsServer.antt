@@ -14,11 +14,11 @@ use Rattle.hd_server.specs.Doings.{config_of, has_peer}
 use Rattle.hd_server.specs.Plans.{Setup}
 use Rattle.hn_server_front.specs.Stands as front
 use Rattle.hub_server.specs.declared.lane.Lane.{Lane}
-use Rattle.hub_server.specs.declared.machine.Machine.{Machine}
+use Rattle.hub_machine.specs.declared.machine.Machine.{Machine}
 use Rattle.hub_server.specs.declared.server.Server.{Server}
-use Rattle.hub_server.specs.Machines.{StandsMachine}
-use Rattle.hub_server.specs.Outside.{Outside, asks_in}
-use Rattle.hub_server.specs.Rounds.{HasRound}
+use Rattle.hub_machine.specs.Machines.{StandsMachine}
+use Rattle.hub_machine.specs.Outside.{Outside, asks_in}
+use Rattle.hub_machine.specs.Rounds.{HasRound}
 use Rattle.hub_server.specs.Lanes.{IsLane, Unsettled, is_at, is_taken, poll_lane}
 use Rattle.hub_server.specs.Servers.{IsOrderly, Standing, caller_of}
 use Rattle.hub_server.specs.Steps.{IsRounded}

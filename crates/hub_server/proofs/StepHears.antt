@@ -5,6 +5,7 @@ use Rattle.std.specs.Prelude.{if◌then◌else◌}
 use Rattle.std.specs.Ordering.{nat_cmp}
 use Rattle.std.specs.BTreeMap.{BTreeMap, UpdatesBy, WritesThrough, get}
 use Rattle.std.proofs.lemmas.Bool.{both_ways, eq-eqb, eqb-true, false_from_ne_true}
+use Rattle.std.specs.Cmp.{unsigned_tied}
 use Rattle.hw_lanes.specs.declared.http.Request.{Request}
 use Rattle.hd_calls.specs.Hubs.{Hub}
 use Rattle.hw_door.specs.declared.heard.Event.{Event}
@@ -20,7 +21,6 @@ use Rattle.hub_server.specs.Servers.{Standing}
 use Rattle.hub_server.specs.Steps.{lost_in}
 use Rattle.hub_server.proofs.Alike.{alike_hears, orderly_alike}
 use Rattle.hub_server.proofs.LaneKept.{orderly_wider}
-use Rattle.hub_server.proofs.Ends.{apart}
 
 -- what is kept of a lane then
 abbrev pub heard_lane : Event → ℕ → Option Lane → Option Lane
@@ -151,7 +151,7 @@ refused_one m n lane status k x at through = go (k == lane) refl
         let same = eqb-true k lane e in
         ap (get nat_cmp n) same ∙ updates.1 ∙ ap (λ b. Some (record x { is_refused = b || x.is_refused })) (sym e)
         ∙ ap (heard_lane (event.Refused lane status) k) (at ∙ ap (get nat_cmp m) (sym same))
-    go false e = updates.2 k (apart lane k (other_way k lane e)) ∙ sym (not_there lane status k (get nat_cmp m k) e)
+    go false e = updates.2 k (unsigned_tied lane k ∙ other_way k lane e) ∙ sym (not_there lane status k (get nat_cmp m k) e)
 
 pub refused_none : (m n : BTreeMap ℕ Lane) (lane status k : ℕ) → None ≡ get nat_cmp m lane → n ≡ m
     → get nat_cmp n k ≡ heard_lane (event.Refused lane status) k (get nat_cmp m k)

@@ -11,26 +11,24 @@ use Rattle.hd_server.specs.Machine.{connections, greatest, is_there}
 use Rattle.hd_server.specs.Doings.{ServerEvent, has_peer, moment, notes, work}
 use Rattle.hd_server.specs.Plans.{Setup, onto}
 use Rattle.hd_server.specs.Serves.{AreAllDue, AreDue, all_telling, telling, telling_on}
-use Rattle.hub_server.specs.declared.machine.Machine.{Machine}
+use Rattle.hub_machine.specs.declared.machine.Machine.{Machine}
 use Rattle.hub_server.specs.declared.server.Server.{Server}
-use Rattle.hub_server.specs.Machines.{StandsMachine, is_awake_at}
+use Rattle.hub_machine.specs.Laws.{ConnectionsAreNumbered}
+use Rattle.hub_machine.specs.Machines.{StandsMachine, is_awake_at}
 use Rattle.hub_server.specs.Lanes.{settled, Unsettled}
-use Rattle.hub_server.specs.Rounds.{AreNumbers, AreRising}
+use Rattle.hub_machine.specs.Rounds.{AreNumbers, AreRising}
 use Rattle.hub_server.specs.Servers.{IsRested, OfEach, Standing}
-use Rattle.hub_server.specs.Spreads.{is_listed}
+use Rattle.hub_machine.specs.Spreads.{is_listed}
 use Rattle.hub_server.specs.Steps.{IsTold}
 use Rattle.hub_server.specs.Tells.{TellsOne}
 use Rattle.hub_server.proofs.Alike.{Alike, alike_refl, alike_trans, rested_alike, there_alike}
 use Rattle.hub_server.proofs.Asleep.{IsMute, SaidByAll, awake_are, awake_there, said_by_all}
 use Rattle.hub_server.proofs.OntoAlike.{onto_append}
-use Rattle.hub_server.proofs.RoundNumbers.{left_at}
+use Rattle.hub_server.proofs.Listed.{listed_last}
+use Rattle.hub_server.proofs.Rising.{left_at, rising_rest}
 use Rattle.hub_server.proofs.FlushOthersUnchanged.{Unheard, all_alike, all_unheard, same_due, same_telling, telling_tells, unheard_same, unheard_then}
 
 -- ---- lists of connections
-
-tail_rises : (c : ℕ) (cs : List ℕ) → AreRising (c ∷ cs) → AreRising cs
-tail_rises c [] r = tt
-tail_rises c (k ∷ cs) r = r.1
 
 -- the first is less than each after it
 first_below : (c k : ℕ) (cs : List ℕ) → AreRising (c ∷ cs) → is_listed k cs ≡ true → c < k
@@ -40,19 +38,6 @@ first_below c k (d ∷ cs) r e = go (k == d) refl e (first_below d k cs r.1)
     go : (b : Bool) → (k == d) ≡ b → (b || is_listed k cs) ≡ true → (is_listed k cs ≡ true → d < k) → c < k
     go true f g later = subst (λ n. c < n) (sym (eqb-true k d f)) r.0
     go false f g later = let next : c < d = r.0 in let past : d < k = later g in omega (arith, next, past)
-
--- it is one of these, or the one after them
-listed_last : (k c : ℕ) (cs : List ℕ) → is_listed k (cs ++ c ∷ []) ≡ (is_listed k cs || (k == c))
-listed_last k c [] = go (k == c)
-  where
-    go : (b : Bool) → (b || false) ≡ b
-    go true = refl
-    go false = refl
-listed_last k c (d ∷ cs) = ap (λ (b : Bool). (k == d) || b) (listed_last k c cs) ∙ go (k == d)
-  where
-    go : (b : Bool) → (b || (is_listed k cs || (k == c))) ≡ ((b || is_listed k cs) || (k == c))
-    go true = refl
-    go false = refl
 
 -- ---- what was said by one more
 
@@ -199,7 +184,7 @@ module _ {H Job : Type 0} (hub : Hub Job) (s : Setup) (before : List Said) (old 
     done = p.done ++ c ∷ [];
     pieces = p.pieces ++ told.pieces ∷ [];
     are = append_assoc p.done (c ∷ []) cs ∙ p.are;
-    rise = tail_rises c cs p.rise;
+    rise = rising_rest c cs p.rise;
     below = λ k d e f. below_each k d (is_listed k p.done) (k == c) refl refl (sym (listed_last k c p.done) ∙ e) f;
     due = due_last s c told.pieces h p.done p.pieces p.due
         (same_due s (moment h) c (onto (all_telling s (moment h) p.done p.pieces h) h) h alike unheard told.pieces told.due);
@@ -234,11 +219,11 @@ one_told {H} {Job} hub s before old new conns i h l known p tells =
     listed all ds e = subst (λ xs. is_listed (get_or conns i 0) xs ≡ true) e (among (get_or conns i 0) ds (drop (i + 1) conns))
 
 -- all that are awake have told, and those that sleep have nothing to tell
-pub all_told : {H Job : Type 0} (hub : Hub Job) (s : Setup) (before : List Said) (m : Machine H Job) (v : Server H Job) (conns : List ℕ) (i : ℕ)
-    (h : List ServerEvent) → length conns ≤ i → StandsMachine {H = H} hub m (work h) → AreNumbers {H = H} m conns
+pub all_told : {H Job : Type 0} → ConnectionsAreNumbered → (hub : Hub Job) (s : Setup) (before : List Said) (m : Machine H Job)
+    (v : Server H Job) (conns : List ℕ) (i : ℕ) (h : List ServerEvent) → length conns ≤ i → StandsMachine {H = H} hub m (work h) → AreNumbers {H = H} m conns
     → ((k : ℕ) → has_peer k h ≡ true → is_awake_at m k ≡ false → IsMute s k h)
     → ToldSome {H = H} hub s before v conns (drop i conns) h → IsTold {H = H} hub s before v h
-all_told {H} {Job} hub s before m v conns i h l stands numbers mute p = record {
+all_told {H} {Job} law hub s before m v conns i h l stands numbers mute p = record {
   pieces = all.whole;
   all_due = all.due;
   stands = subst (λ xs. Standing {H = H} hub s settled before v (onto xs h)) (sym is) p.stands;
@@ -249,7 +234,7 @@ all_told {H} {Job} hub s before m v conns i h l stands numbers mute p = record {
     done_are = sym (append-nil p.done) ∙ ap (λ (cs : List ℕ). p.done ++ cs) (sym (drop_all i conns l)) ∙ p.are
 
     done_is : p.done ≡ filter (λ k. is_awake_at m k) (numbers_to (greatest (work h)))
-    done_is = done_are ∙ awake_are {H = H} {Job = Job} hub m (work h) conns stands numbers
+    done_is = done_are ∙ awake_are {H = H} {Job = Job} law hub m (work h) conns stands numbers
 
     all : SaidByAll s h (connections (work h)) (filter (λ k. is_awake_at m k) (numbers_to (greatest (work h)))) p.pieces
     all = said_by_all s h (λ k. is_there k (work h)) (λ k. is_awake_at m k) (numbers_to (greatest (work h))) p.pieces

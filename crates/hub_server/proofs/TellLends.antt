@@ -20,11 +20,11 @@ use Rattle.hd_server.specs.Doings.{history_with}
 use Rattle.hd_server.specs.Plans.{Setup, onto, step}
 use Rattle.hd_server.specs.Serves.{LendsAll, lending}
 use Rattle.hn_server_front.specs.Stands as front
-use Rattle.hub_server.specs.declared.machine.Machine.{Machine}
+use Rattle.hub_machine.specs.declared.machine.Machine.{Machine}
 use Rattle.hub_server.specs.declared.server.Server.{Server}
-use Rattle.hub_server.specs.Machines.{StandsMachine}
-use Rattle.hub_server.specs.Calls.{doing}
-use Rattle.hub_server.specs.Traffic.{lends}
+use Rattle.hub_machine.specs.Machines.{StandsMachine}
+use Rattle.hub_machine.specs.Calls.{doing}
+use Rattle.hub_machine.specs.Traffic.{lends}
 use Rattle.hub_server.specs.Lanes.{Unsettled, is_at}
 use Rattle.hub_server.specs.Servers.{IsOrderly, Standing, caller_of}
 use Rattle.hub_server.proofs.Alike.{Alike, alike_refl, alike_trans, alike_does, orderly_alike}

@@ -15,10 +15,10 @@ use Rattle.hd_server.specs.Lives.{Answered, ConnectionEvent, poll_of, socket_of}
 use Rattle.hd_server.specs.Doings.{ServerEvent, Notes, config_of, has_closed, has_peer, history, moment, notes}
 use Rattle.hd_server.specs.Plans.{Setup, bare_reply, frames_reply, letting_go, onto, replying}
 use Rattle.hd_server.specs.Serves.{LendsUpTo, bytes_of, lending, telling_poll}
-use Rattle.hub_server.specs.declared.machine.Machine.{Machine}
+use Rattle.hub_machine.specs.declared.machine.Machine.{Machine}
 use Rattle.hub_server.specs.declared.server.Server.{Server}
-use Rattle.hub_server.specs.Machines.{OfConn, StandsMachine}
-use Rattle.hub_server.specs.Traffic.{LendsSome, is_any}
+use Rattle.hub_machine.specs.Machines.{OfConn, StandsMachine}
+use Rattle.hub_machine.specs.Traffic.{LendsSome, is_any}
 use Rattle.hub_server.specs.Connections.{Frees, IsKnown}
 use Rattle.hub_server.specs.Lanes.{Unsettled, is_at, lane_of, poll_lane, settled}
 use Rattle.hub_server.specs.Servers.{OfEach, Standing}

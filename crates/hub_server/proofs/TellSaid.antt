@@ -18,10 +18,10 @@ use Rattle.hd_server.specs.Doings.{ServerEvent, Notes, Works, Says, config_of, c
 use Rattle.hd_server.specs.Doings.{notes, peer, wants_shut, was_refused, work}
 use Rattle.hd_server.specs.Plans.{Setup, letting_go, onto, replying, shutting}
 use Rattle.hd_server.specs.Serves.{LendsAll, LendsUpTo, bytes_of, is_text, lending, writing}
-use Rattle.hub_server.specs.declared.machine.Machine.{Machine}
+use Rattle.hub_machine.specs.declared.machine.Machine.{Machine}
 use Rattle.hub_server.specs.declared.server.Server.{Server}
-use Rattle.hub_server.specs.Machines.{OfConn, StandsMachine, settings_there}
-use Rattle.hub_server.specs.Traffic.{IsServers, LendsDue, LendsSome, is_any}
+use Rattle.hub_machine.specs.Machines.{OfConn, StandsMachine, settings_there}
+use Rattle.hub_machine.specs.Traffic.{IsServers, LendsDue, LendsSome, is_any}
 use Rattle.hub_server.specs.Connections.{IsKnown}
 use Rattle.hub_server.specs.Lanes.{Unsettled}
 use Rattle.hub_server.specs.Servers.{IsBegunBy, IsOrderly, Standing}

@@ -16,10 +16,10 @@ use Rattle.hd_server.specs.Machine.{MachineEvent, moves, settings_of}
 use Rattle.hd_server.specs.Doings.{ServerEvent, Says, config_of, config_with, has_closed, has_peer, history, history_with, notes, was_refused, work}
 use Rattle.hd_server.specs.Plans.{Setup, letting_go, onto, shutting}
 use Rattle.hd_server.specs.Serves.{AreNonempty, LendsAll, all_of, bytes_of, is_text, lending, telling_socket, writing}
-use Rattle.hub_server.specs.declared.machine.Machine.{Machine}
+use Rattle.hub_machine.specs.declared.machine.Machine.{Machine}
 use Rattle.hub_server.specs.declared.server.Server.{Server}
-use Rattle.hub_server.specs.Machines.{OfConn, StandsMachine}
-use Rattle.hub_server.specs.Traffic.{IsServers, LendsDue, is_any}
+use Rattle.hub_machine.specs.Machines.{OfConn, StandsMachine}
+use Rattle.hub_machine.specs.Traffic.{IsServers, LendsDue, is_any}
 use Rattle.hub_server.specs.Connections.{Frees, IsKnown}
 use Rattle.hub_server.specs.Lanes.{Unsettled, is_at, poll_lane, settled}
 use Rattle.hub_server.specs.Servers.{IsRested, OfEach, Standing}

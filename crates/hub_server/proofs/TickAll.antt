@@ -8,14 +8,15 @@ use Rattle.hd_server.specs.Machine.{MachineEvent}
 use Rattle.hd_server.specs.Doings.{ServerEvent, work, moment, has_peer}
 use Rattle.hd_server.specs.Plans.{Setup, onto}
 use Rattle.hd_server.specs.Serves.{ticking, ticks}
-use Rattle.hub_server.specs.declared.machine.Machine.{Machine}
+use Rattle.hub_machine.specs.declared.machine.Machine.{Machine}
 use Rattle.hub_server.specs.declared.server.Server.{Server}
-use Rattle.hub_server.specs.Machines.{StandsMachine}
+use Rattle.hub_machine.specs.Laws.{ConnectionsAreNumbered}
+use Rattle.hub_machine.specs.Machines.{StandsMachine}
 use Rattle.hub_server.specs.Lanes.{Unsettled, settled}
-use Rattle.hub_server.specs.Rounds.{AreNumbers, AreRising}
+use Rattle.hub_machine.specs.Rounds.{AreNumbers, AreRising}
 use Rattle.hub_server.specs.Servers.{OfEach, Standing}
-use Rattle.hub_server.specs.Sleeping.{AreTimely, HasPassed, NoneRings}
-use Rattle.hub_server.specs.Spreads.{is_listed}
+use Rattle.hub_machine.specs.Sleeping.{AreTimely, HasPassed, NoneRings}
+use Rattle.hub_machine.specs.Spreads.{is_listed}
 use Rattle.hub_server.proofs.Agree.{Agree, SameButMoves, standing_agrees}
 use Rattle.hub_server.proofs.Alike.{Alike, alike_trans, there_alike}
 use Rattle.hub_server.proofs.Asleep.{awake_there}
@@ -23,7 +24,7 @@ use Rattle.hub_server.proofs.Conns.{first_is_listed, later_listed, not_first, ri
 use Rattle.hub_server.proofs.LaneKept.{SameLane, same_lane_trans}
 use Rattle.hub_server.proofs.OntoAlike.{onto_append}
 use Rattle.hub_server.proofs.TickAsleep.{alike_passed, all_ticked, passed_by, same_passed, standing_passed}
-use Rattle.hub_server.proofs.RoundNumbers.{left_at}
+use Rattle.hub_server.proofs.Rising.{left_at}
 use Rattle.hub_server.proofs.TickApart.{Apart, apart_ticking, ticking_same}
 
 -- these, which are awake, are left to tick
@@ -87,7 +88,8 @@ module _ {H Job : Type 0} (hub : Hub Job) (old : Server H Job) (conns : List ℕ
       (subst (λ cs. Agree (onto (ticks (moment h) h) h) (onto (flat_map (λ c. ticking (moment h) c h) cs) x.so_far)) none x.whole) x.stands
 
   -- those that sleep have passed the moment, and those that are awake are left to tick
-  module _ (m now_on : Machine H Job) (rings : (w : List MachineEvent) → StandsMachine {H = H} hub old.machine w → StandsMachine {H = H} hub m w)
+  module _ (law : ConnectionsAreNumbered) (m now_on : Machine H Job)
+      (rings : (w : List MachineEvent) → StandsMachine {H = H} hub old.machine w → StandsMachine {H = H} hub m w)
       (none : (w : List MachineEvent) → StandsMachine {H = H} hub old.machine w → NoneRings {H = H} m old.moment)
       (known : (w : List MachineEvent) → StandsMachine {H = H} hub m w → AreNumbers {H = H} m conns)
       (passes : (w z : List MachineEvent) → StandsMachine {H = H} hub m w → NoneRings {H = H} m old.moment → AreTimely old.moment w
@@ -96,13 +98,13 @@ module _ {H Job : Type 0} (hub : Hub Job) (old : Server H Job) (conns : List ℕ
         → TicksSo {H = H} hub s u before (record old { machine = now_on }) conns h
     begins s u before h st = record {
       so_far = passed_by {H = H} m h;
-      stands = standing_passed {H = H} {Job = Job} hub s u before old m now_on h st rung none_now passes_now;
+      stands = standing_passed {H = H} {Job = Job} law hub s u before old m now_on h st rung none_now passes_now;
       same_moment = same.clock;
       lanes = same.lanes;
-      alike = λ k e. alike_passed {H = H} {Job = Job} hub s u before old m now_on h st rung none_now passes_now k (numbers.are k ∙ e);
+      alike = λ k e. alike_passed {H = H} {Job = Job} law hub s u before old m now_on h st rung none_now passes_now k (numbers.are k ∙ e);
       there = λ k e. awake_there {H = H} {Job = Job} hub m (work h) k rung (numbers.are k ∙ e);
       rise = numbers.rise;
-      whole = all_ticked {H = H} {Job = Job} hub s u before old m now_on h st rung none_now passes_now conns numbers;
+      whole = all_ticked {H = H} {Job = Job} law hub s u before old m now_on h st rung none_now passes_now conns numbers;
     }
       where
         rung : StandsMachine {H = H} hub m (work h)
@@ -120,7 +122,7 @@ module _ {H Job : Type 0} (hub : Hub Job) (old : Server H Job) (conns : List ℕ
         numbers = known (work h) rung
 
         same : SameButMoves (passed_by {H = H} m h) h
-        same = same_passed {H = H} {Job = Job} hub s u before old m now_on h st rung none_now passes_now
+        same = same_passed {H = H} {Job = Job} law hub s u before old m now_on h st rung none_now passes_now
 
     pub ticks_begin : TickSoFar (record old { machine = now_on }) 0
     ticks_begin = λ s u before h st sound. begins s u before h st

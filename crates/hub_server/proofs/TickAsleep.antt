@@ -11,27 +11,27 @@ use Rattle.hd_calls.specs.Hubs.{Hub}
 use Rattle.hd_calls.specs.Peers.{PeerEvent, Plain, Settings, steps}
 use Rattle.hd_server.specs.declared.vocabulary.Said.{Said}
 use Rattle.hd_server.specs.Lives.{numbers_to, socket_of}
-use Rattle.hd_server.specs.Machine.{MachineEvent, Does, greatest, has_gone, is_there, moves}
-use Rattle.hd_server.specs.Doings.{ServerEvent, Works, config_of, has_peer, history, history_with, moment, notes, peer, work}
+use Rattle.hd_server.specs.Machine.{MachineEvent, Does, greatest, has_gone, is_there, moves, settings_of}
+use Rattle.hd_server.specs.Doings.{ServerEvent, Works, config_of, has_peer, history, moment, notes, peer, work}
 use Rattle.hd_server.specs.Plans.{Setup, onto, step}
 use Rattle.hd_server.specs.Serves.{silenced, ticking, ticks}
-use Rattle.hub_server.specs.declared.machine.Machine.{Machine}
+use Rattle.hub_machine.specs.declared.machine.Machine.{Machine}
 use Rattle.hub_server.specs.declared.server.Server.{Server}
-use Rattle.hub_server.specs.declared.idle_set.IdlePeer.{IdlePeer}
-use Rattle.hub_server.specs.Machines.{IsDeadlineOf, StandsMachine, is_awake_at, idle_peer_at, peer_at}
+use Rattle.hub_machine.specs.declared.idle_set.IdlePeer.{IdlePeer}
+use Rattle.hub_machine.specs.Laws.{ConnectionsAreNumbered}
+use Rattle.hub_machine.specs.Machines.{IsDeadlineOf, StandsMachine, is_awake_at, idle_peer_at, peer_at}
 use Rattle.hub_server.specs.Lanes.{Unsettled}
-use Rattle.hub_server.specs.Rounds.{AreNumbers, AreRising}
+use Rattle.hub_machine.specs.Rounds.{AreNumbers, AreRising}
 use Rattle.hub_server.specs.Servers.{IsOrderly, Standing}
-use Rattle.hub_server.specs.IdleSet.{deadline_in}
-use Rattle.hub_server.specs.Sleeping.{AreTimely, HasPassed, NoneRings}
-use Rattle.hub_server.specs.Spreads.{is_listed}
+use Rattle.hub_machine.specs.IdleSet.{deadline_in}
+use Rattle.hub_machine.specs.Sleeping.{AreTimely, HasPassed, NoneRings}
+use Rattle.hub_machine.specs.Spreads.{is_listed}
 use Rattle.hub_server.proofs.Agree.{Agree, AreAnyParts, AreParts, SameButMoves, agree_onto, agree_past, agree_refl, agree_trans}
 use Rattle.hub_server.proofs.Agree.{any_join, any_parts, same_alike, same_but_moves_refl, same_but_moves_trans, standing_same, ticking_parts}
 use Rattle.hub_server.proofs.Alike.{Alike, alike_does, orderly_alike}
 use Rattle.hub_server.proofs.Asleep.{IsAsleep, asleep, awake_are}
 use Rattle.hub_server.proofs.Calm.{orderly_ticked}
-use Rattle.hub_server.proofs.Conns.{first_is_listed, here_by_peer, later_listed, listed_filter, not_first, rising_rest, rising_to, there_within}
-use Rattle.hub_server.proofs.Doing.{there_is}
+use Rattle.hub_server.proofs.Conns.{first_is_listed, here_by_peer, later_listed, listed_filter, not_first, rising_rest, rising_to, there_if, there_within}
 use Rattle.hub_server.proofs.LaneKept.{same_lane_works}
 use Rattle.hub_server.proofs.OntoAlike.{onto_append}
 use Rattle.hub_server.proofs.TickSteps.{IsBegun, begun_here}
@@ -215,7 +215,8 @@ rests_at m c = is_some (deadline_in (idle_peer_at m c))
 abbrev pub passed_by : {H Job : Type 0} → Machine H Job → List ServerEvent → List ServerEvent
 passed_by {H} m h = onto (flat_map (resting (rests_at {H = H} m) (moment h)) (filter (sleeps_at {H = H} m) (numbers_to (greatest (work h))))) h
 
-module _ {H Job : Type 0} (hub : Hub Job) (s : Setup) (u : Unsettled) (before : List Said) (v : Server H Job) (m now_on : Machine H Job)
+module _ {H Job : Type 0} (law : ConnectionsAreNumbered) (hub : Hub Job) (s : Setup) (u : Unsettled) (before : List Said) (v : Server H Job)
+    (m now_on : Machine H Job)
     (h : List ServerEvent) (st : Standing {H = H} hub s u before v h) (rung : StandsMachine {H = H} hub m (work h)) (none : NoneRings {H = H} m (moment h))
     (passed : (w z : List MachineEvent) → StandsMachine {H = H} hub m w → NoneRings {H = H} m (moment h) → AreTimely (moment h) w
     → HasPassed {H = H} m (moment h) w z → StandsMachine {H = H} hub now_on z) where
@@ -224,16 +225,16 @@ module _ {H Job : Type 0} (hub : Hub Job) (s : Setup) (u : Unsettled) (before : 
 
   timely : AreTimely (moment h) (work h)
   timely c t there =
-      let is = there_is c (work h) t there in
-      subst (λ x. of.moment x ≤ moment h) (ap (λ (o : Option Settings). history_with o (peer c h)) is.1)
+      let is : IsBegun c h = begun_here c h (there_if (has_gone c (work h)) (settings_of c (work h)) ∙ ap is_some there) in
+      let same : is.settings ≡ t = (let e : ◌≡◌ {A = Option Settings} (Some is.settings) (Some t) = sym is.there ∙ there in cc) in
+      subst (λ x. of.moment x ≤ moment h) (is.history_is ∙ ap (λ (o : Settings). steps o (peer c h)) same)
       (let o : IsOrderly u c h = st.orderly c in o.timely)
 
   -- one that sleeps is there, and ticks if it has an alarm
   here : (c : ℕ) → sleeps_at {H = H} m c ≡ true → has_peer c h ≡ true
   here c e =
       let z : IsAsleep {H = H} m c (work h) = asleep {H = H} {Job = Job} hub m (work h) c rung e in
-      let is = there_is c (work h) z.settings z.there in
-      ap (λ (o : Option Settings). is_some o && not (has_gone c (work h))) is.1 ∙ ap not is.0
+      there_if (has_gone c (work h)) (settings_of c (work h)) ∙ ap is_some z.there
 
   -- a tick that is unseen is no silence
   no_silence : (a b x : Bool) → ((a && not b) && x) ≡ true → b ≡ false
@@ -294,7 +295,7 @@ module _ {H Job : Type 0} (hub : Hub Job) (s : Setup) (u : Unsettled) (before : 
       listed : sleeps_at {H = H} m c ≡ true → is_listed c (filter (sleeps_at {H = H} m) numbers) ≡ true
       listed e =
           listed_filter (sleeps_at {H = H} m) c numbers
-          ∙ ap (λ (b : Bool). b && is_listed c numbers) (e ∙ sym (here c e)) ∙ there_within (work h) rung.from_one c ∙ here c e
+          ∙ ap (λ (b : Bool). b && is_listed c numbers) (e ∙ sym (here c e)) ∙ there_within law (work h) rung.from_one c ∙ here c e
 
       by : (o : Option IdlePeer) → idle_peer_at m c ≡ o → (is_listed c (filter (sleeps_at {H = H} m) numbers) && rests_at {H = H} m c) ≡ rests_at {H = H} m c
       by None e =
@@ -342,7 +343,7 @@ module _ {H Job : Type 0} (hub : Hub Job) (s : Setup) (u : Unsettled) (before : 
       → Agree (onto (ticks (moment h) h) h) (onto (flat_map (λ c. ticking (moment h) c h) conns) (passed_by {H = H} m h))
   all_ticked conns known =
       subst (λ cs. Agree (onto (ticks (moment h) h) h) (onto (flat_map (λ c. ticking (moment h) c h) cs) (passed_by {H = H} m h)))
-      (sym (awake_are {H = H} {Job = Job} hub m (work h) conns rung known))
+      (sym (awake_are {H = H} {Job = Job} law hub m (work h) conns rung known))
       (subst (λ xs. Agree (onto (ticks (moment h) h) h)
       (onto (flat_map (λ c. ticking (moment h) c h) (filter (λ k. is_awake_at m k) numbers)) (onto xs h)))
       (plain_all (filter (sleeps_at {H = H} m) numbers) (λ c l. sleeps_listed c l))

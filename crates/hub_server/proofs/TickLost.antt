@@ -1,7 +1,7 @@
 -- A lane is lost: who was there, and what a server stands for then.
 use Rattle.std.proofs.Common.{◌≡◌, ◌≤◌, ℕ, ◌==◌, Bool, true, false, not, ◌&&◌, ◌||◌, List, [], ◌∷◌, Option, Some, None, is_some}
 use Rattle.std.proofs.Common.{refl, sym, ap, subst, ◌∙◌, arith}
-use Rattle.std.specs.Prelude.{find, if◌then◌else◌, option_map}
+use Rattle.std.specs.Prelude.{if◌then◌else◌, option_map}
 use Rattle.std.specs.Ordering.{nat_cmp}
 use Rattle.std.specs.BTreeMap.{BTreeMap, get}
 use Rattle.std.proofs.lemmas.Bool.{and_from, and_parts, and_right, both_ways, eq-eqb, eqb-true, false_from_ne_true, or_left, or_right}
@@ -11,51 +11,24 @@ use Rattle.hd_delivery.specs.Bytes.{Does as Step_of}
 use Rattle.hd_calls.specs.Hubs.{Hub}
 use Rattle.hd_calls.specs.Peers.{Plain, steps}
 use Rattle.hd_server.specs.declared.vocabulary.Said.{Said}
-use Rattle.hd_server.specs.Lives.{LaneLost, is_made, is_polling, lost_at, numbers_to, poll_ended, poll_of, socket_of}
-use Rattle.hd_server.specs.Machine.{Does, connections, greatest, is_there, settings_of}
+use Rattle.hd_server.specs.Lives.{LaneLost, is_made, is_polling, lost_at, poll_ended, poll_of, socket_of}
+use Rattle.hd_server.specs.Machine.{Does, settings_of}
 use Rattle.hd_server.specs.Doings.{ServerEvent, Notes, notes, work, moment, peer, has_peer, history, is_granted}
 use Rattle.hd_server.specs.Plans.{Setup, conn_on, letting_go, losing, losing_lane, onto, poller_on, step}
 use Rattle.hn_server_front.specs.declared.front.Front.{Front}
 use Rattle.hn_server_front.specs.Stands as front
 use Rattle.hub_server.specs.declared.lane.Lane.{Lane}
-use Rattle.hub_server.specs.declared.machine.Machine.{Machine}
+use Rattle.hub_machine.specs.declared.machine.Machine.{Machine}
 use Rattle.hub_server.specs.declared.server.Server.{Server}
-use Rattle.hub_server.specs.Machines.{OfConn, StandsMachine}
+use Rattle.hub_machine.specs.Laws.{ConnectionsAreFound, FindsOne}
+use Rattle.hub_machine.specs.Machines.{OfConn, StandsMachine}
 use Rattle.hub_server.specs.Lanes.{HasLane, IsLane, IsNobodys, cut_of, is_at, lane_of, poll_lane, settled}
 use Rattle.hub_server.specs.Servers.{IsOrderly, OfEach, Standing}
 use Rattle.hub_server.proofs.Alike.{Alike, alike_note, at_alike, orderly_alike}
 use Rattle.hub_server.proofs.Gone.{lane_left}
 use Rattle.hub_server.proofs.LaneKept.{lane_wider, orderly_wider, same_lane_note}
-use Rattle.hub_server.proofs.OutcomeOn.{kept_polls, kept_stands, none_kept}
+use Rattle.hub_server.proofs.OutcomeOn.{FindsStanding, kept_polls, kept_stands, none_kept}
 use Rattle.hub_server.proofs.TickSteps.{IsBegun, begun_here, off_granted, off_off, standing_detached}
-use Rattle.hub_server.proofs.TurnFirst.{find_both, first_to, from_one, none_to, within}
-
--- ---- the only connection that passes a test
-
-module _ (p : ℕ → Bool) (h : List ServerEvent) where
-  abbrev passes : ℕ → Bool
-  passes k = is_there k (work h) && p k
-
-  fails : (k : ℕ) → (has_peer k h ≡ true → p k ≡ false) → passes k ≡ false
-  fails k none = by (is_there k (work h)) refl
-    where
-      by : (b : Bool) → is_there k (work h) ≡ b → (b && p k) ≡ false
-      by true e = none e
-      by false e = refl
-
-  pub found_none : ((k : ℕ) → has_peer k h ≡ true → p k ≡ false) → find p (connections (work h)) ≡ None
-  found_none none =
-      find_both p (λ k. is_there k (work h)) (numbers_to (greatest (work h)))
-      ∙ none_to passes (greatest (work h)) (λ k e. fails k (none k))
-
-  pub found_one : settings_of 0 (work h) ≡ None → (c : ℕ) → has_peer c h ≡ true → p c ≡ true → ((k : ℕ) → has_peer k h ≡ true → p k ≡ true → k ≡ c)
-      → find p (connections (work h)) ≡ Some c
-  found_one none c there here only =
-      let t = begun_here c h there in
-      find_both p (λ k. is_there k (work h)) (numbers_to (greatest (work h)))
-      ∙ first_to passes (greatest (work h)) c (from_one c t.settings (work h) none t.begun) (within c t.settings (work h) t.begun)
-      (and_from (is_there c (work h)) (p c) there here)
-      (λ k e. fails k (λ f. false_from_ne_true (p k) (λ g. let same = only k f g in absurd (omega (arith, e, same)))))
 
 -- ---- who is there
 
@@ -78,8 +51,14 @@ settled_lanes lane x g each none k = by (k == lane) refl
         subst (λ o. IsLane settled o k g) (sym gone) (subst (λ o. IsLane (lane_of (Some lane)) o k g) gone (each k))
     by false e = lane_wider (lane_of (Some lane)) settled (x k) k g (λ f. absurd (both_ways (k == lane) e f)) (each k)
 
-module _ {H Job : Type 0} (hub : Hub Job) (s : Setup) (before : List Said) (v : Server H Job) (lane : ℕ) (h : List ServerEvent)
-    (st : Standing {H = H} hub s (lane_of (Some lane)) before v h) where
+module _ {H Job : Type 0} (law : ConnectionsAreFound) (hub : Hub Job) (s : Setup) (before : List Said) (v : Server H Job) (lane : ℕ)
+    (h : List ServerEvent) (st : Standing {H = H} hub s (lane_of (Some lane)) before v h) where
+  finds_standing : FindsStanding lane h
+  finds_standing = law (λ k. is_this lane (socket_of k (notes h))) (work h) (let m = st.machine in m.from_one)
+
+  finds_polling : FindsOne (λ k. is_this lane (poll_lane k (notes h))) (work h)
+  finds_polling = law (λ k. is_this lane (poll_lane k (notes h))) (work h) (let m = st.machine in m.from_one)
+
   -- ---- nobody
 
   pub lost_none : get nat_cmp v.lanes lane ≡ None
@@ -102,10 +81,10 @@ module _ {H Job : Type 0} (hub : Hub Job) (s : Setup) (before : List Said) (v : 
       nobody = subst (λ x. IsLane (lane_of (Some lane)) x lane h) none (st.lanes lane)
 
       stands : conn_on lane h ≡ None
-      stands = none_kept lane h nobody
+      stands = none_kept lane h finds_standing nobody
 
       polls : poller_on lane h ≡ None
-      polls = found_none (λ k. is_this lane (poll_lane k (notes h))) h (λ k there. false_from_ne_true (is_this lane (poll_lane k (notes h))) (λ e.
+      polls = finds_polling.none (λ k there. false_from_ne_true (is_this lane (poll_lane k (notes h))) (λ e.
           both_ways (is_at lane k h) (nobody k) (there_at lane k h there
           (or_right (is_this lane (socket_of k (notes h))) (is_this lane (poll_lane k (notes h))) e))))
 
@@ -236,10 +215,10 @@ module _ {H Job : Type 0} (hub : Hub Job) (s : Setup) (before : List Said) (v : 
           }
 
       stands_none : conn_on lane h ≡ None
-      stands_none = kept_polls (lane_of (Some lane)) x lane h has polls
+      stands_none = kept_polls (lane_of (Some lane)) x lane h finds_standing has polls
 
       polls_one : poller_on lane h ≡ Some c
-      polls_one = found_one (λ k. is_this lane (poll_lane k (notes h))) h (let m = st.machine in m.from_one) c there holds
+      polls_one = finds_polling.one c there holds
           (λ k here e. has.only k (there_at lane k h here (or_right (is_this lane (socket_of k (notes h))) (is_this lane (poll_lane k (notes h))) e)))
 
       -- the poll has ended
@@ -294,7 +273,7 @@ module _ {H Job : Type 0} (hub : Hub Job) (s : Setup) (before : List Said) (v : 
           by false e = absurd (let no : true ≡ false = e in cc)
 
       stands_one : conn_on lane h ≡ Some c
-      stands_one = kept_stands (lane_of (Some lane)) x lane h (st.orderly c) has sockets
+      stands_one = kept_stands (lane_of (Some lane)) x lane h finds_standing has sockets
 
       abbrev mid : List ServerEvent
       mid = step c (Detached (moment h)) ∷ h

@@ -16,9 +16,9 @@ use Rattle.hd_server.specs.Doings.{ServerEvent, Notes, Says, notes, work, moment
 use Rattle.hd_server.specs.Plans.{Setup, letting_go, losing, onto, shutting, step}
 use Rattle.hd_server.specs.Serves.{silenced, ticking}
 use Rattle.hn_server_front.specs.Calls as front
-use Rattle.hub_server.specs.declared.machine.Machine.{Machine}
+use Rattle.hub_machine.specs.declared.machine.Machine.{Machine}
 use Rattle.hub_server.specs.declared.server.Server.{Server}
-use Rattle.hub_server.specs.Machines.{OfConn, StandsMachine}
+use Rattle.hub_machine.specs.Machines.{OfConn, StandsMachine}
 use Rattle.hub_server.specs.Lanes.{Unsettled, cut_of, is_at, settled}
 use Rattle.hub_server.specs.Servers.{IsOrderly, OfEach, Standing}
 use Rattle.hub_server.proofs.Calm.{orderly_ticked}

@@ -14,9 +14,9 @@ use Rattle.hd_server.specs.Lives.{socket_of}
 use Rattle.hd_server.specs.Machine.{Does, has_gone, is_open_at, moves, settings_of}
 use Rattle.hd_server.specs.Doings.{ServerEvent, notes, work, moment, peer, config_of, config_with, has_peer, history, history_with, is_granted}
 use Rattle.hd_server.specs.Plans.{Setup, step}
-use Rattle.hub_server.specs.declared.machine.Machine.{Machine}
+use Rattle.hub_machine.specs.declared.machine.Machine.{Machine}
 use Rattle.hub_server.specs.declared.server.Server.{Server}
-use Rattle.hub_server.specs.Machines.{StandsMachine, settings_there}
+use Rattle.hub_machine.specs.Machines.{StandsMachine, settings_there}
 use Rattle.hub_server.specs.Lanes.{Unsettled, cut_of, lane_of, settled}
 use Rattle.hub_server.specs.Servers.{IsOrderly, Standing}
 use Rattle.hub_server.proofs.Alike.{alike_does, orderly_alike}

@@ -13,9 +13,9 @@ use Rattle.hn_server_front.specs.declared.moments.Waiting.{Waiting}
 use Rattle.hn_server_front.specs.Calls as calls
 use Rattle.hn_server_front.specs.Calls.{is_held_long, poll_held}
 use Rattle.hn_server_front.specs.Moments.{at, is_within}
-use Rattle.hub_server.specs.declared.machine.Machine.{Machine}
+use Rattle.hub_machine.specs.declared.machine.Machine.{Machine}
 use Rattle.hub_server.specs.declared.server.Server.{Server}
-use Rattle.hub_server.specs.Machines.{StandsMachine, idle_peer_at, peer_at}
+use Rattle.hub_machine.specs.Machines.{StandsMachine, idle_peer_at, peer_at}
 use Rattle.hub_server.specs.Servers.{OfEach, Standing}
 use Rattle.hub_server.proofs.Conns.{here_by_peer}
 use Rattle.hub_server.proofs.TellOne.{noted_known}

@@ -1,15 +1,4 @@
-pub mod Spreads
-pub mod IdleSet
-pub mod Machines
-pub mod MachineView
-pub mod Sleeping
-pub mod Delivers
-pub mod Outside
-pub mod Rounds
-pub mod Carrying
-pub mod Calls
 pub mod Words
-pub mod Traffic
 pub mod Lanes
 pub mod Servers
 pub mod Steps

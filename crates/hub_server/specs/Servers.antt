@@ -16,7 +16,7 @@ use Rattle.hd_server.specs.Doings.{ServerEvent, notes, work, moment, said, user_
 use Rattle.hd_server.specs.Plans.{Setup, usual_setup}
 use Rattle.hn_server_front.specs.Stands as front
 use Rattle.hub_server.specs.declared.server.Server.{Server}
-use Rattle.hub_server.specs.Machines.{StandsMachine}
+use Rattle.hub_machine.specs.Machines.{StandsMachine}
 use Rattle.hub_server.specs.Lanes.{IsLane, Unsettled}
 
 -- ---- one connection

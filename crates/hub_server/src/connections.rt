@@ -216,6 +216,7 @@ impl<H: Hub> Server<H> {
         ensures fed { OnOk result (OfEach (meaning H.begin_of H.step_of) self.old (λ s u before h. has_peer conn h ≡ true →
             IsFedTo (meaning H.begin_of H.step_of) s u before self.new conn bytes.now h)) }
     {
+        hub_machine::moves_come_first();
         self.machine.feed_all(alloc, hub, conn, self.moment, bytes)?;
         Ok(())
     }

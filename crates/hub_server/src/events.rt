@@ -68,6 +68,7 @@ impl<H: Hub> Server<H> {
         ensures { OnOk result (OfEach (meaning H.begin_of H.step_of) self.old (λ s u before h.
             HasHeardBytes (meaning H.begin_of H.step_of) s u before self.new lane bytes.now h)) }
     {
+        hub_machine::connections_are_found();
         match self.lanes.get(&lane) {
             Some(kept) if !kept.polls => {
                 let conn = kept.conn;
@@ -83,6 +84,7 @@ impl<H: Hub> Server<H> {
             Standing (meaning H.begin_of H.step_of) s settled before self.new
             (onto (losing_lane (conn_on lane h) (poller_on lane h) lane (moment h) h) h)) }
     {
+        hub_machine::connections_are_found();
         let Some(kept) = self.lanes.get(&lane).copied() else {
             return;
         };

@@ -8,7 +8,7 @@ ghost use Rattle.hd_server.specs.Serves.{ending, ticking, ticks};
 ghost use Rattle.hj_jobs.specs.Meaning.{meaning};
 ghost use Rattle.hd_server.specs.Numbers.{held_for};
 ghost use Rattle.hub_server.specs.Lanes.{is_at, settled};
-ghost use Rattle.hub_server.specs.Machines.{idle_peer_at};
+ghost use Rattle.hub_machine.specs.Machines.{idle_peer_at};
 ghost use Rattle.hub_server.specs.Servers.{OfEach, Standing};
 ghost use Rattle.hub_server.specs.Steps.{IsTold};
 ghost use Rattle.hub_server.specs.Tells.{TellsOne, TellsPoll, Writes};
@@ -29,6 +29,7 @@ impl<H: Hub> Server<H> {
         ensures { OnOk result (OfEach (meaning H.begin_of H.step_of) self.old (λ s u before h. u ≡ settled →
             Standing (meaning H.begin_of H.step_of) s u before self.new (onto (ticks (moment h) h) h))) }
     {
+        hub_machine::connections_are_numbered();
         self.machine.wake_expired(alloc, self.moment)?;
         let conns = self.machine.awake(alloc)?;
         self.machine.advance_clock(self.moment);
@@ -90,6 +91,7 @@ impl<H: Hub> Server<H> {
         ensures { OnOk result (OfEach (meaning H.begin_of H.step_of) self.old (λ s u before h. u ≡ settled →
             IsTold (meaning H.begin_of H.step_of) s before self.new h)) }
     {
+        hub_machine::connections_are_numbered();
         self.wake_pollers();
         let conns = self.machine.awake(alloc)?;
         for &conn in &conns {

@@ -14,13 +14,13 @@ ghost use Rattle.hd_server.specs.declared.vocabulary.Said.{Said as SaidMeant};
 ghost use Rattle.hub_server.specs.Steps.{HasTurn, IsRounded, StandsServer, TurnsTo, around, lost_in};
 
 use crate::lane::Lane;
-use crate::machine::Machine;
 use crate::words::Words;
 use hd_server::Said;
 use he_end::Steps;
 use hj_jobs::Hub;
 use hk_keeper::Keeper;
 use hn_server_front::Front;
+use hub_machine::Machine;
 use hv_value::Text;
 use hw_door::{Event, Heard, Lots};
 use std::alloc::{AllocError, Global};

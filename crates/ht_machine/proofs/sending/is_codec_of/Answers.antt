@@ -1,7 +1,7 @@
 use Rattle.std.proofs.Common.{rules, tests}
 use Rattle.std.proofs.lemmas.Iterator.{YieldsList-from_slice}
 use Rattle.std.proofs.lemmas.Iterator.Search.{any_from_yields_List}
-use Rattle.hub_server.specs.Spreads.{is_in_codec}
+use Rattle.hub_machine.specs.Spreads.{is_in_codec}
 use Rattle.ht_machine.specs.Deals.{codec_at}
 use Rattle.ht_machine.proofs.sending.is_codec_of.Goals as goal
 

@@ -1,4 +1,4 @@
-use Rattle.hub_server.specs.Spreads.{Sends}
+use Rattle.hub_machine.specs.Spreads.{Sends}
 use Rattle.ht_machine.proofs.Dealt.{dealt, same_codecs}
 use Rattle.ht_machine.proofs.room.RoomMembers.send_spelled.Goals as goal
 

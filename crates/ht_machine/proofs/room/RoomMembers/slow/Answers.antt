@@ -1,4 +1,4 @@
-use Rattle.hub_server.specs.Spreads.{Slows}
+use Rattle.hub_machine.specs.Spreads.{Slows}
 use Rattle.ht_machine.proofs.Dealt.{dealt, other_codecs}
 use Rattle.ht_machine.proofs.room.RoomMembers.slow.Goals as goal
 

@@ -1,5 +1,6 @@
 use Rattle.std.proofs.Common.{refl, sym, ap, subst, ◌∙◌, ◌∷◌}
 use Rattle.std.proofs.lemmas.Bool.{and_from, eq-eqb, or_right}
+use Rattle.std.specs.Cmp.{unsigned_tied}
 use Rattle.hd_delivery.specs.Histories.{is_this}
 use Rattle.hd_server.specs.Lives.{Answered, socket_of}
 use Rattle.hd_server.specs.Doings.{Notes, has_peer, moment, notes}
@@ -8,7 +9,6 @@ use Rattle.hj_jobs.specs.Meaning.{meaning}
 use Rattle.hub_server.specs.declared.server.Server.{Server}
 use Rattle.hub_server.specs.Lanes.{poll_lane}
 use Rattle.hub_server.specs.Servers.{Standing}
-use Rattle.hub_server.proofs.Ends.{apart}
 use Rattle.hub_server.proofs.Gone.{is_on}
 use Rattle.hub_server.proofs.GoneServer.{answers_reply}
 use Rattle.hub_server.proofs.server.Server.answer_poll.Goals as goal
@@ -33,7 +33,7 @@ returns g c = record {
       subst (λ x. Standing {H = g.row.H.Denot} hub s x before new
       (Notes (Answered c.args.conn c.args.lane (moment h)) ∷ onto (replying c.args.lane c.args.reply h) h)) (sym is)
       (answers_reply {H = g.row.H.Denot} {Job = g.row.H-Job.Denot} hub s before c.reply_held.new.self new c.args.conn c.args.lane c.args.reply h
-      refl refl refl refl refl c.remove.ensures.updates.1 (λ l e. c.remove.ensures.updates.2 l (apart c.args.lane l e)) there poll
+      refl refl refl refl refl c.remove.ensures.updates.1 (λ l e. c.remove.ensures.updates.2 l (unsigned_tied c.args.lane l ∙ e)) there poll
       (λ n f made. (c.answered.ensures n f).0 made)
       (c.in_ok-reply_held.ensures.said s u before h stands is c.args.conn at));
 }

@@ -1,7 +1,7 @@
 use Rattle.std.proofs.Common.{subst, sym, ◌∙◌}
 use Rattle.hd_server.specs.Doings.{work}
 use Rattle.hj_jobs.specs.Meaning.{meaning}
-use Rattle.hub_server.specs.Rounds.{AreNumbers}
+use Rattle.hub_machine.specs.Rounds.{AreNumbers}
 use Rattle.hub_server.proofs.Asleep.{asleep, awake_there, mute_asleep, not_awake, not_held}
 use Rattle.hub_server.proofs.TellAll.{all_told, none_told, one_told}
 use Rattle.hub_server.proofs.server.Server.flush_all.Goals as goal
@@ -34,7 +34,8 @@ returns g c s u before h x calm =
     let stands = c.wake_pollers.ensures.stands s u before h x in
     let numbers = subst (λ cs. AreNumbers {H = g.row.H.Denot} v.machine cs) (sym c.deref-conn-items.ensures.value)
     (c.in_ok-conns.ensures (work h) stands.machine) in
-    all_told {H = g.row.H.Denot} {Job = g.row.H-Job.Denot} hub s before v.machine c.loop-conn.self c.deref-conn-items.result.now
+    all_told {H = g.row.H.Denot} {Job = g.row.H-Job.Denot} c.connections_are_numbered.ensures hub s
+    before v.machine c.loop-conn.self c.deref-conn-items.result.now
     c.loop-conn.conn-index h c.loop-conn-test.false stands.machine numbers
     (λ k there e. let z = asleep {H = g.row.H.Denot} {Job = g.row.H-Job.Denot} hub v.machine (work h) k stands.machine
     (not_awake {H = g.row.H.Denot} {Job = g.row.H-Job.Denot} hub v.machine (work h) k stands.machine there e) in

@@ -1,11 +1,11 @@
 use Rattle.std.proofs.Common.{sym, ap, subst, ◌∙◌}
 use Rattle.std.specs.Ordering.{nat_cmp}
 use Rattle.std.specs.BTreeMap.{get}
+use Rattle.std.specs.Cmp.{unsigned_tied}
 use Rattle.hd_server.specs.Doings.{notes, work}
 use Rattle.hj_jobs.specs.Meaning.{meaning}
 use Rattle.hn_server_front.specs.Stands as front
-use Rattle.hub_server.specs.Machines.{StandsMachine}
-use Rattle.hub_server.proofs.Ends.{apart}
+use Rattle.hub_machine.specs.Machines.{StandsMachine}
 use Rattle.hub_server.proofs.GoneServer.{lets_go, no_peer}
 use Rattle.hub_server.proofs.server.Server.let_go.Goals as goal
 
@@ -26,7 +26,7 @@ returns g c = record {
         is_ended = c.leave.new.self.is_ended;
       })
       c.args.conn h stands known left.base left.clock left.words left.lanes
-      c.remove.ensures.updates.1 (λ k e. c.remove.ensures.updates.2 k (apart c.args.conn k e) ∙ ap (λ m. get nat_cmp m k) left.callers)
+      c.remove.ensures.updates.1 (λ k e. c.remove.ensures.updates.2 k (unsigned_tied c.args.conn k ∙ e) ∙ ap (λ m. get nat_cmp m k) left.callers)
       (λ t there. c.remove_conn.ensures.gone (work h) t
       (subst (λ m. StandsMachine {H = g.row.H.Denot} hub m (work h)) (sym left.machine) stands.machine) there)
       (λ none. subst (λ m. StandsMachine {H = g.row.H.Denot} hub m (work h)) (sym (c.remove_conn.ensures.none

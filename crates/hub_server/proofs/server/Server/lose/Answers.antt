@@ -1,5 +1,6 @@
 use Rattle.std.proofs.Common.{◌≡◌, inr, ◌∷◌, [], true, false, refl, sym, ap, subst, ◌∙◌, is_some, if◌then◌else◌}
 use Rattle.std.proofs.lemmas.Bool.{and_from, and_parts, eq-eqb, or_left}
+use Rattle.std.specs.Cmp.{unsigned_tied}
 use Rattle.hd_delivery.specs.Histories.{is_this}
 use Rattle.hd_server.specs.Machine.{settings_of}
 use Rattle.hd_server.specs.Lives.{LaneLost, socket_of}
@@ -10,7 +11,6 @@ use Rattle.hn_server_front.specs.Stands as front
 use Rattle.hub_server.specs.declared.server.Server.{Server}
 use Rattle.hub_server.specs.Lanes.{poll_lane, settled}
 use Rattle.hub_server.specs.Servers.{Standing}
-use Rattle.hub_server.proofs.Ends.{apart}
 use Rattle.hub_server.proofs.Gone.{is_on}
 use Rattle.hub_server.proofs.GoneServer.{loses}
 use Rattle.hub_server.proofs.server.Server.lose.Goals as goal
@@ -35,7 +35,7 @@ returns-then-granted g c = record {
       (onto (if b then Notes (LaneLost c.args.conn c.args.lane (moment h)) ∷ [] else letting_go c.args.conn h) h)) (sym held)
       (loses {H = g.row.H.Denot} {Job = g.row.H-Job.Denot} hub s before c.args.self.now new
       c.args.conn c.args.lane h refl refl refl refl refl c.remove.ensures.updates.1
-      (λ l e. c.remove.ensures.updates.2 l (apart c.args.lane l e)) there
+      (λ l e. c.remove.ensures.updates.2 l (unsigned_tied c.args.lane l ∙ e)) there
       (subst (λ x. Standing {H = g.row.H.Denot} hub s x before c.args.self.now h) is stands) present socket held
       (subst (λ n. front.Stands c.lost.new.self (LaneLost c.args.conn c.args.lane n ∷ notes h)) stands.clock
       ((c.lost.ensures (notes h) stands.front).0 (o.made (and_parts (is_some (settings_of c.args.conn (work h))) _ there).0))));

@@ -1,14 +1,15 @@
 use Rattle.std.proofs.Common.{subst, sym}
 use Rattle.std.proofs.lemmas.List.{drop_all}
 use Rattle.hj_jobs.specs.Meaning.{meaning}
-use Rattle.hub_server.specs.Rounds.{AreNumbers}
+use Rattle.hub_machine.specs.Rounds.{AreNumbers}
 use Rattle.hub_server.proofs.TickAll.{ticks_begin, ticks_on, ticks_over}
 use Rattle.hub_server.proofs.server.Server.tick_all.Goals as goal
 
 pub loop-conn-init : goal.loop-conn-init
 loop-conn-init g c =
     ticks_begin {H = g.row.H.Denot} {Job = g.row.H-Job.Denot} (meaning g.H.Hub.begin_of g.H.Hub.step_of) c.args.self.now
-    c.deref-conn-items.result.now c.wake_expired.new.self c.advance_clock.new.self c.in_ok-wake_expired.ensures.stands c.in_ok-wake_expired.ensures.rung
+    c.deref-conn-items.result.now c.connections_are_numbered.ensures c.wake_expired.new.self c.advance_clock.new.self
+    c.in_ok-wake_expired.ensures.stands c.in_ok-wake_expired.ensures.rung
     (λ w s. subst (λ cs. AreNumbers {H = g.row.H.Denot} c.wake_expired.new.self cs) (sym c.deref-conn-items.ensures.value) (c.in_ok-conns.ensures w s))
     c.advance_clock.ensures.passed
 

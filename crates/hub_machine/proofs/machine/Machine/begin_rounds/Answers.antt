@@ -1,0 +1,20 @@
+use Rattle.std.proofs.Common.{arith}
+use Rattle.hj_jobs.specs.Meaning.{meaning}
+use Rattle.hub_machine.proofs.Unmoved.{begun_at, begun_everywhere, begun_nowhere, rounds_stand}
+use Rattle.hub_machine.proofs.machine.Machine.begin_rounds.Goals as goal
+
+pub loop-conn-init : goal.loop-conn-init
+loop-conn-init g c = begun_nowhere (meaning g.H.Hub.begin_of g.H.Hub.step_of) c.args.self.now c.args.conns.now
+
+pub loop-conn-preserved : goal.loop-conn-preserved
+loop-conn-preserved g c =
+    begun_at (meaning g.H.Hub.begin_of g.H.Hub.step_of) c.args.self.now c.loop-conn.self c.begin_round_at.new.self c.args.conns.now
+    c.loop-conn.conn-index c.loop-conn-test.true c.loop-conn.invariant c.begin_round_at.ensures.begun c.begin_round_at.ensures.others
+    c.begin_round_at.ensures.registry c.begin_round_at.ensures.idle_set c.begin_round_at.ensures.count
+
+pub returns : goal.returns
+returns g c = λ w now numbers was.
+    let hub = meaning g.H.Hub.begin_of g.H.Hub.step_of in
+    rounds_stand hub c.args.self.now c.loop-conn.self w now was
+    (begun_everywhere hub c.args.self.now c.loop-conn.self c.args.conns.now c.loop-conn.conn-index (omega (arith, c.loop-conn-test.false))
+    c.loop-conn.invariant numbers)

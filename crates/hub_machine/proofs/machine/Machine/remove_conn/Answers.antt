@@ -1,0 +1,21 @@
+use Rattle.std.proofs.Common.{arith, ◌≡◌, true, false, is_some, sym, ap, ◌∙◌}
+use Rattle.hj_jobs.specs.Meaning.{meaning}
+use Rattle.hub_machine.proofs.BegunGone.{goes, has_peer}
+use Rattle.hub_machine.proofs.machine.Machine.remove_conn.Goals as goal
+
+pub returns-then-not-contains_key-clause-gone : goal.returns-then-not-contains_key-clause-gone
+returns-then-not-contains_key-clause-gone g c w t s there =
+    let hub = meaning g.H.Hub.begin_of g.H.Hub.step_of in
+    absurd (has_peer {H = g.row.H.Denot} {Job = g.row.H-Job.Denot} hub c.args.self.now w c.args.conn t s there
+    (sym c.if-not-contains_key.true ∙ c.contains_key.ensures))
+
+pub returns-clause-gone : goal.returns-clause-gone
+returns-clause-gone g c w t s there =
+    let hub = meaning g.H.Hub.begin_of g.H.Hub.step_of in
+    goes {H = g.row.H.Denot} {Job = g.row.H-Job.Denot} hub c.args.self.now
+    (record { peers = c.remove.new.self; registry = c.gone.new.self; idle_set = c.forget.new.self }) w c.args.conn t s there c.remove.ensures.updates
+    (let l = c.remove.ensures.len in omega (arith, l)) c.forget.ensures c.gone.ensures
+
+pub returns-clause-none : goal.returns-clause-none
+returns-clause-none g c none =
+    absurd (let z : true ≡ false = sym c.if-not-contains_key.false ∙ c.contains_key.ensures ∙ ap is_some none in cc)

@@ -1,0 +1,48 @@
+-- Which connections sleep, and which are awake.
+use Rattle.std.specs.Prelude.{◌≡◌, ◌≤◌, ◌==◌, ℕ, Bool, true, List, Option, Some, None, if◌then◌else◌}
+use Rattle.std.specs.declared.cmp.Ordering.{Ordering}
+use Rattle.std.specs.Ordering.{nat_cmp, ordering_then}
+use Rattle.std.specs.BTreeMap.{get}
+use Rattle.std.specs.BTreeSet.{contains}
+use Rattle.std.specs.Vec.{vec_capacity}
+use Rattle.hv_value.specs.SortedSet.{IsRising, is_in}
+use Rattle.hub_machine.specs.declared.idle_set.Deadline.{Deadline}
+use Rattle.hub_machine.specs.declared.idle_set.IdlePeer.{IdlePeer}
+use Rattle.hub_machine.specs.declared.idle_set.IdleSet.{IdleSet}
+use Rattle.hub_machine.specs.Spreads.{is_listed}
+
+-- by the moment, and at one moment by the number
+abbrev pub in_order : Deadline → Deadline → Ordering
+in_order a b = ordering_then (nat_cmp a.moment b.moment) (nat_cmp a.conn b.conn)
+
+abbrev pub idle_peer_of : IdleSet → ℕ → Option IdlePeer
+idle_peer_of s c = get nat_cmp s.idle_peers c
+
+abbrev pub is_awake_in : IdleSet → ℕ → Bool
+is_awake_in s c = is_in c s.awake.numbers.items
+
+-- the alarm of a connection is set at this moment
+abbrev pub is_set_in : IdleSet → ℕ → ℕ → Bool
+is_set_in s moment c = contains in_order s.deadlines (record { moment = moment; conn = c })
+
+-- the alarm of one that sleeps, if it has any
+abbrev pub deadline_in : Option IdlePeer → Option ℕ
+deadline_in None = None
+deadline_in (Some idle_peer) = idle_peer.deadline
+
+-- those that are awake are in order, and the alarms of those that sleep are set
+pub record IsKept (s : IdleSet) : Type 0 where
+  pub rising : IsRising s.awake.numbers.items
+  pub set : (c moment : ℕ) → deadline_in (idle_peer_of s c) ≡ Some moment → is_set_in s moment c ≡ true
+
+-- what changed, and what is kept
+pub record Changes (old new : IdleSet) (c : ℕ) (idle_peer : Option IdlePeer) (is_awake : Bool) : Type 0 where
+  pub kept : IsKept new
+  pub idle_peers : (k : ℕ) → idle_peer_of new k ≡ (if c == k then idle_peer else idle_peer_of old k)
+  pub awake : (k : ℕ) → is_awake_in new k ≡ (if c == k then is_awake else is_awake_in old k)
+  pub clock : new.clock ≡ old.clock
+  pub capacity : vec_capacity old.awake.numbers ≤ vec_capacity new.awake.numbers
+
+-- these are those whose alarms have come at the moment
+abbrev pub AreRung : IdleSet → ℕ → List ℕ → Type 0
+AreRung s now conns = (c moment : ℕ) → is_set_in s moment c ≡ true → moment ≤ now → is_listed c conns ≡ true

@@ -1,0 +1,12 @@
+pub mod Spreads
+pub mod IdleSet
+pub mod Machines
+pub mod MachineView
+pub mod Sleeping
+pub mod Delivers
+pub mod Outside
+pub mod Rounds
+pub mod Carrying
+pub mod Calls
+pub mod Traffic
+pub mod Laws

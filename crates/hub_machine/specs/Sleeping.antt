@@ -1,0 +1,32 @@
+-- What becomes of those that sleep as time passes.
+use Rattle.std.specs.Prelude.{◌≡◌, ◌<◌, ◌≤◌, ℕ, List, ◌∷◌, Some, None, is_some, if◌then◌else◌}
+use Rattle.hd_delivery.specs.Histories as of
+use Rattle.hd_delivery.specs.Histories.{Ticked}
+use Rattle.hd_delivery.specs.Bytes.{Does as Step_of}
+use Rattle.hd_calls.specs.Peers.{PeerEvent, Plain, Settings, steps}
+use Rattle.hd_server.specs.Machine.{MachineEvent, has_gone, joined, moves, settings_of, user_pairs}
+use Rattle.hub_machine.specs.declared.machine.Machine.{Machine}
+use Rattle.hub_machine.specs.declared.idle_set.IdlePeer.{IdlePeer}
+use Rattle.hub_machine.specs.Machines.{MaySleep, idle_peer_at, settings_there}
+use Rattle.hub_machine.specs.IdleSet.{deadline_in}
+
+-- the connection is awake, and may have this nap
+pub record IsDrowsy {H Job : Type 0} (m : Machine H Job) (c : ℕ) (idle_peer : IdlePeer) (t : Settings) (h : List PeerEvent) : Type 0 where
+  pub awake : idle_peer_at m c ≡ None
+  pub may : MaySleep m.idle_set.clock idle_peer t h
+
+-- at the moment no alarm has come
+abbrev pub NoneRings : {H Job : Type 0} → Machine H Job → ℕ → Type 0
+NoneRings m now = (c moment : ℕ) → deadline_in (idle_peer_at m c) ≡ Some moment → now < moment
+
+-- no end did anything after the moment
+abbrev pub AreTimely : ℕ → List MachineEvent → Type 0
+AreTimely now w = (c : ℕ) (t : Settings) → settings_there c w ≡ Some t → of.moment (steps t (moves c w)) ≤ now
+
+-- the end of each that sleeps on a link ticked at the moment, and nothing else was done
+pub record HasPassed {H Job : Type 0} (m : Machine H Job) (now : ℕ) (w v : List MachineEvent) : Type 0 where
+  pub settings : (c : ℕ) → settings_of c v ≡ settings_of c w
+  pub gone : (c : ℕ) → has_gone c v ≡ has_gone c w
+  pub moved : (c : ℕ) → moves c v ≡ (if is_some (deadline_in (idle_peer_at m c)) then Plain (Step_of (Ticked now)) ∷ moves c w else moves c w)
+  pub joins : joined v ≡ joined w
+  pub users : user_pairs v ≡ user_pairs w

@@ -1,0 +1,130 @@
+//! Which connections of a machine sleep. One sleeps while nothing can happen at it but that time passes: no job of it is due, nothing is due on
+//! its link, and no tick does more than pass before its alarm. An event leaves those that sleep alone, however many they are.
+
+ghost use Rattle.std.specs.Prelude.{◌≡◌, ◌≤◌, ◌==◌, ℕ, true, false, Some, None, OnOk, IfOk, is_some, if◌then◌else◌};
+ghost use Rattle.std.specs.Vec.{vec_capacity};
+ghost use Rattle.hv_value.specs.SortedSet.{HasPlace};
+ghost use Rattle.hub_machine.specs.IdleSet.{AreRung, Changes, IsKept, is_awake_in, is_set_in, idle_peer_of};
+
+use hv_value::SortedSet;
+use std::alloc::{AllocError, Global};
+use std::collections::{BTreeMap, BTreeSet};
+
+/// That a connection sleeps.
+#[derive(Clone, Copy, Debug, PartialEq, Eq)]
+pub struct IdlePeer {
+    /// Before this moment, in milliseconds, no tick does more than pass. None: its end is on no link, so that no tick comes.
+    pub(crate) deadline: Option<u64>,
+}
+
+/// A moment at which a connection is to wake. They are ordered by the moments, and at one moment by the numbers.
+#[derive(Clone, Copy, Debug, PartialEq, Eq, PartialOrd, Ord)]
+pub struct Deadline {
+    pub(crate) moment: u64,
+    pub(crate) conn: u64,
+}
+
+/// Which connections sleep, and which are awake. Room for all of them to be awake is taken beforehand, so that one can wake without more
+/// memory.
+#[derive(Drop)]
+pub struct IdleSet {
+    pub(crate) awake: SortedSet,
+    pub(crate) idle_peers: BTreeMap<u64, IdlePeer>,
+    pub(crate) deadlines: BTreeSet<Deadline>,
+    /// The moment to which those that sleep on a link have ticked.
+    pub(crate) clock: u64,
+}
+
+impl IdleSet {
+    /// No connections.
+    pub(crate) fn start(alloc: Global) -> IdleSet
+        ensures unchanged { IsKept result }
+        ensures awake { (k : ℕ) → is_awake_in result k ≡ false }
+        ensures idle_peers { (k : ℕ) → idle_peer_of result k ≡ None }
+    {
+        IdleSet {
+            awake: SortedSet::start(alloc),
+            idle_peers: BTreeMap::new(alloc),
+            deadlines: BTreeSet::new(alloc),
+            clock: 0,
+        }
+    }
+
+    /// Takes room for this many connections in all.
+    pub(crate) fn reserve(&mut self, count: usize) -> Result<(), AllocError>
+        ensures room { OnOk result (count ≤ vec_capacity self.new.awake.numbers) }
+        ensures same { (self.new.awake.numbers.items ≡ self.old.awake.numbers.items) × (self.new.idle_peers ≡ self.old.idle_peers)
+            × (self.new.deadlines ≡ self.old.deadlines) × (self.new.clock ≡ self.old.clock) }
+        ensures capacity { vec_capacity self.old.awake.numbers ≤ vec_capacity self.new.awake.numbers }
+    {
+        self.awake.reserve(count)
+    }
+
+    /// A connection is there, and awake.
+    pub(crate) fn add(&mut self, conn: u64)
+        ensures { IsKept self.old → HasPlace self.old.awake conn → idle_peer_of self.old conn ≡ None → Changes self.old self.new conn None true }
+    {
+        self.awake.add(conn);
+    }
+
+    /// A connection is there no more.
+    pub(crate) fn forget(&mut self, conn: u64)
+        ensures { IsKept self.old → Changes self.old self.new conn None false }
+    {
+        self.awake.remove(conn);
+        if let Some(idle_peer) = self.idle_peers.remove(&conn) {
+            self.unset(conn, idle_peer);
+        }
+    }
+
+    /// Its alarm is set no more, if it has one.
+    fn unset(&mut self, conn: u64, idle_peer: IdlePeer)
+        ensures same { (self.new.awake ≡ self.old.awake) × (self.new.idle_peers ≡ self.old.idle_peers) × (self.new.clock ≡ self.old.clock) }
+        ensures others { (k : ℕ) (moment : ℕ) → (conn == k) ≡ false → is_set_in self.new moment k ≡ is_set_in self.old moment k }
+    {
+        if let Some(moment) = idle_peer.deadline {
+            self.deadlines.remove(&Deadline { moment, conn });
+        }
+    }
+
+    /// A connection that sleeps wakes: its nap. None: it doesn't sleep.
+    pub(crate) fn wake(&mut self, conn: u64) -> Option<IdlePeer>
+        ensures idle_peer { result ≡ idle_peer_of self.old conn }
+        ensures wakes { is_some result ≡ true → IsKept self.old → HasPlace self.old.awake conn → Changes self.old self.new conn None true }
+        ensures idle_peers { is_some result ≡ true → (k : ℕ) → idle_peer_of self.new k ≡ (if conn == k then None else idle_peer_of self.old k) }
+        ensures clock { self.new.clock ≡ self.old.clock }
+        ensures none { result ≡ None → self.new ≡ self.old }
+    {
+        let idle_peer = self.idle_peers.get(&conn).copied()?;
+        self.idle_peers.remove(&conn);
+        self.unset(conn, idle_peer);
+        self.awake.add(conn);
+        Some(idle_peer)
+    }
+
+    /// A connection that is awake falls asleep.
+    pub(crate) fn fall_asleep(&mut self, conn: u64, idle_peer: IdlePeer) -> Result<(), AllocError>
+        ensures { OnOk result (IsKept self.old → Changes self.old self.new conn (Some idle_peer) false) }
+    {
+        if let Some(moment) = idle_peer.deadline {
+            self.deadlines.insert(Deadline { moment, conn })?;
+        }
+        self.idle_peers.insert(conn, idle_peer)?;
+        self.awake.remove(conn);
+        Ok(())
+    }
+
+    /// Those whose alarms have come.
+    pub(crate) fn rung(&self, alloc: Global, now: u64) -> Result<Vec<u64>, AllocError>
+        ensures { IfOk result (λ conns. AreRung self.now now conns.items) }
+    {
+        let mut conns = Vec::new(alloc);
+        for deadline in self.deadlines.iter() {
+            if deadline.moment > now {
+                return Ok(conns);
+            }
+            conns.push(deadline.conn)?;
+        }
+        Ok(conns)
+    }
+}

@@ -1,5 +1,0 @@
-use Rattle.hub_server.proofs.Deadlines.{RungSoFar}
-use Rattle.hub_server.proofs.idle_set.IdleSet.rung.Given as goal
-
-abbrev pub invariant-loop-deadline : goal.invariant-loop-deadline
-invariant-loop-deadline l = RungSoFar l.self l.conns.items l.deadline-iterator
