@@ -24,7 +24,7 @@ use Rattle.hub_machine.specs.Rounds.{AreNumbers}
 use Rattle.hub_server.specs.Servers.{IsRested}
 use Rattle.hub_machine.specs.Spreads.{is_listed}
 use Rattle.hub_server.proofs.Conns.{here_by_peer, listed_filter, rising_to, same_rising, there_within}
-use Rattle.hub_server.proofs.TellSaid.{up_there}
+use Rattle.hub_server.proofs.FlushSaid.{up_there}
 use Rattle.hub_server.proofs.TickSteps.{IsBegun, begun_here}
 
 -- ---- one that sleeps

@@ -21,7 +21,7 @@ use Rattle.hd_server.specs.Serves.{IsFed, IsFree, all_telling, ticks}
 use Rattle.hub_server.specs.declared.server.Server.{Server}
 use Rattle.hub_server.specs.Lanes.{lane_of, settled}
 use Rattle.hub_server.specs.Servers.{IsRested, Standing}
-use Rattle.hub_server.specs.Steps.{AddsAll, Around, CanHandle, CountsDraws, Follows, Handles, HasTurn, IsHandled, IsRounded, IsTold, NoneOverdue}
+use Rattle.hub_server.specs.Steps.{AddsAll, Around, CanHandle, CountsDraws, Follows, Handles, HasTurn, IsHandled, IsRounded, IsFlushed, NoneOverdue}
 use Rattle.hub_server.specs.Steps.{TurnsTo, expired_by, lost_in}
 use Rattle.hub_server.proofs.StepHears.{nobody_comes}
 use Rattle.hub_server.proofs.StepExpired.{expiries_rest, expiries_wane, nobody_wanes}
@@ -119,7 +119,7 @@ pub turns_to : {H Job : Type 0} (hub : Hub Job) (s : Setup) (before : List Said)
     (h : List ServerEvent)
     (handled : Handles {H = H} hub s before v at mid e (expired_by (Hears now e ∷ h)))
     (turned : IsRounded {H = H} hub s settled before w mid.holds mid.answers mid.faults since.holds since.answers since.faults (ticked handled.after))
-    → IsTold {H = H} hub s before x (rounded turned.on.round (ticked handled.after))
+    → IsFlushed {H = H} hub s before x (rounded turned.on.round (ticked handled.after))
     → since.drawn ≡ mid.drawn → since.failures ≡ mid.failures → AnswersJoin
     → TurnsTo {H = H} hub s before x at since (record { now = now; event = e }) h
 turns_to {H} hub s before v w x at mid since now e h handled turned told drawn failures join =
@@ -188,7 +188,7 @@ turns_to {H} hub s before v w x at mid since now e h handled turned told drawn f
 module _ {H Job : Type 0} (hub : Hub Job) (s : Setup) (before : List Said) (v1 v2 v3 v4 v5 x : Server H Job) (at mid since : Around) (now : ℕ)
     (e : Event)
     (h : List ServerEvent) (drawn : since.drawn ≡ mid.drawn) (failures : since.failures ≡ mid.failures) (join : AnswersJoin)
-    (tell : (g : List ServerEvent) → Standing {H = H} hub s settled before v5 g → IsTold {H = H} hub s before x g) where
+    (tell : (g : List ServerEvent) → Standing {H = H} hub s settled before v5 g → IsFlushed {H = H} hub s before x g) where
   from_rounded : (handled : Handles {H = H} hub s before v3 at mid e (expired_by (Hears now e ∷ h)))
       → IsRounded {H = H} hub s settled before v5 mid.holds mid.answers mid.faults since.holds since.answers since.faults (ticked handled.after)
       → TurnsTo {H = H} hub s before x at since (record { now = now; event = e }) h

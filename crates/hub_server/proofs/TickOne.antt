@@ -24,7 +24,7 @@ use Rattle.hub_server.specs.Servers.{IsOrderly, OfEach, Standing}
 use Rattle.hub_server.proofs.Calm.{orderly_ticked}
 use Rattle.hub_server.proofs.LaneKept.{standing_shuts}
 use Rattle.hub_server.proofs.OntoAlike.{onto_append}
-use Rattle.hub_server.proofs.TellSocket.{at_socket}
+use Rattle.hub_server.proofs.FlushSocket.{at_socket}
 use Rattle.hub_server.proofs.TickSteps.{IsBegun, begun_here, chosen, passed_by, silent_granted, silent_off, standing_mute, standing_silenced}
 use Rattle.hub_server.proofs.TickSteps.{standing_steps}
 

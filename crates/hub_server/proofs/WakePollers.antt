@@ -18,7 +18,7 @@ use Rattle.hub_server.specs.declared.server.Server.{Server}
 use Rattle.hub_machine.specs.Machines.{StandsMachine, idle_peer_at, peer_at}
 use Rattle.hub_server.specs.Servers.{OfEach, Standing}
 use Rattle.hub_server.proofs.Conns.{here_by_peer}
-use Rattle.hub_server.proofs.TellOne.{noted_known}
+use Rattle.hub_server.proofs.FlushOne.{noted_known}
 
 -- the connection is awake, if it is there
 abbrev pub IsUp : {H Job : Type 0} → Machine H Job → ℕ → Type 0

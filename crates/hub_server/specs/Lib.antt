@@ -5,5 +5,5 @@ pub mod Steps
 pub mod Requests
 pub mod Connections
 pub mod Events
-pub mod Tells
+pub mod Flushes
 pub mod Serving

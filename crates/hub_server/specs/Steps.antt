@@ -117,7 +117,7 @@ pub record IsRounded {H Job : Type 0} (hub : Hub Job) (s : Setup) (u : Unsettled
   pub counted : CountsFaults faults on.asks faults_now
 
 -- what is due is said, connection by connection
-pub record IsTold {H Job : Type 0} (hub : Hub Job) (s : Setup) (before : List Said) (new : Server H Job) (h : List ServerEvent) : Type 0 where
+pub record IsFlushed {H Job : Type 0} (hub : Hub Job) (s : Setup) (before : List Said) (new : Server H Job) (h : List ServerEvent) : Type 0 where
   pub pieces : List (List (List LinkFrame))
   pub all_due : AreAllDue s (connections (work h)) pieces h
   pub stands : Standing hub s settled before new (onto (all_telling s (moment h) (connections (work h)) pieces h) h)

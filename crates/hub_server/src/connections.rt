@@ -229,22 +229,22 @@ impl<H: Hub> Server<H> {
             Standing (meaning H.begin_of H.step_of) s u before self.new (onto (closing conn reason.Done h ++ letting_go conn h) h)) }
     {
         self.machine.close(conn, Reason::Done);
-        self.let_go(conn);
+        self.remove_conn(conn);
     }
 
     /// Nothing is kept of the connection.
-    pub(crate) fn let_go(&mut self, conn: u64)
+    pub(crate) fn remove_conn(&mut self, conn: u64)
         ensures gone { OfEach (meaning H.begin_of H.step_of) self.old (λ s u before h. IsKnown conn h →
             Frees (meaning H.begin_of H.step_of) s u before self.new conn h (onto (letting_go conn h) h)) }
     {
-        self.leave(conn);
+        self.detach_lanes(conn);
         self.callers.remove(&conn);
         self.machine.remove_conn(conn);
         self.front.closed(conn);
     }
 
     /// The connection is on no lane any more.
-    pub(crate) fn leave(&mut self, conn: u64)
+    pub(crate) fn detach_lanes(&mut self, conn: u64)
         ensures left { OfEach (meaning H.begin_of H.step_of) self.old (λ s u before h. IsKnown conn h → HasLeft conn self.old self.new h) }
     {
         if let Some(lane) = self.front.lane(conn) {
@@ -265,7 +265,7 @@ impl<H: Hub> Server<H> {
             self.front.lost(conn, lane, self.moment);
             self.lanes.remove(&lane);
         } else {
-            self.let_go(conn);
+            self.remove_conn(conn);
         }
     }
 }

@@ -126,7 +126,7 @@ impl<H: Hub> Server<H> {
             let _conn = self.front.expired(self.moment);
             return true;
         }
-        self.leave(conn);
+        self.detach_lanes(conn);
         self.callers.remove(&conn);
         self.machine.remove_conn(conn);
         let _conn = self.front.expired(self.moment);

@@ -10,8 +10,8 @@ ghost use Rattle.hd_server.specs.Numbers.{held_for};
 ghost use Rattle.hub_server.specs.Lanes.{is_at, settled};
 ghost use Rattle.hub_machine.specs.Machines.{idle_peer_at};
 ghost use Rattle.hub_server.specs.Servers.{OfEach, Standing};
-ghost use Rattle.hub_server.specs.Steps.{IsTold};
-ghost use Rattle.hub_server.specs.Tells.{TellsOne, TellsPoll, Writes};
+ghost use Rattle.hub_server.specs.Steps.{IsFlushed};
+ghost use Rattle.hub_server.specs.Flushes.{FlushesOne, FlushesPoll, Writes};
 
 use crate::requests::bare;
 use crate::server::Server;
@@ -89,7 +89,7 @@ impl<H: Hub> Server<H> {
     /// Each connection says what is due.
     pub(crate) fn flush_all(&mut self, alloc: Global) -> Result<(), AllocError>
         ensures { OnOk result (OfEach (meaning H.begin_of H.step_of) self.old (λ s u before h. u ≡ settled →
-            IsTold (meaning H.begin_of H.step_of) s before self.new h)) }
+            IsFlushed (meaning H.begin_of H.step_of) s before self.new h)) }
     {
         hub_machine::connections_are_numbered();
         self.wake_pollers();
@@ -114,14 +114,14 @@ impl<H: Hub> Server<H> {
     /// A connection says what is due, on its socket or by the poll that it holds. Of one that is closed nothing is kept once that is said.
     fn flush(&mut self, alloc: Global, conn: u64) -> Result<(), AllocError>
         ensures { OnOk result (OfEach (meaning H.begin_of H.step_of) self.old (λ s u before h. u ≡ settled → has_peer conn h ≡ true →
-            TellsOne (meaning H.begin_of H.step_of) s before self.new conn (socket_of conn (notes h)) (poll_of conn (notes h)) h)) }
+            FlushesOne (meaning H.begin_of H.step_of) s before self.new conn (socket_of conn (notes h)) (poll_of conn (notes h)) h)) }
     {
         match self.front.lane(conn) {
             Some(lane) => self.flush_socket(alloc, conn, lane),
-            None if self.front.polls(conn) => self.tell_poller(alloc, conn),
+            None if self.front.polls(conn) => self.flush_poller(alloc, conn),
             None => {
                 if self.machine.is_closed(conn) {
-                    self.let_go(conn);
+                    self.remove_conn(conn);
                     return Ok(());
                 }
                 self.machine.park(conn)
@@ -132,14 +132,14 @@ impl<H: Hub> Server<H> {
     /// On a socket: in one message, if anything is due.
     fn flush_socket(&mut self, alloc: Global, conn: u64, lane: u64) -> Result<(), AllocError>
         ensures { OnOk result (OfEach (meaning H.begin_of H.step_of) self.old (λ s u before h. u ≡ settled → has_peer conn h ≡ true → socket_of conn (notes h) ≡ Given lane →
-            TellsOne (meaning H.begin_of H.step_of) s before self.new conn (Given lane) (poll_of conn (notes h)) h)) }
+            FlushesOne (meaning H.begin_of H.step_of) s before self.new conn (Given lane) (poll_of conn (notes h)) h)) }
     {
         self.write(alloc, conn, lane)?;
         if !self.machine.is_closed(conn) {
             return self.machine.park(conn);
         }
         self.shut(lane)?;
-        self.let_go(conn);
+        self.remove_conn(conn);
         Ok(())
     }
 
@@ -158,13 +158,13 @@ impl<H: Hub> Server<H> {
     }
 
     /// Of one that polls: by the poll that it holds. If it is closed, its token is ending.
-    fn tell_poller(&mut self, alloc: Global, conn: u64) -> Result<(), AllocError>
+    fn flush_poller(&mut self, alloc: Global, conn: u64) -> Result<(), AllocError>
         ensures { OnOk result (OfEach (meaning H.begin_of H.step_of) self.old (λ s u before h. u ≡ settled → has_peer conn h ≡ true → socket_of conn (notes h) ≡ Absent →
-            is_polling conn (notes h) ≡ true → TellsOne (meaning H.begin_of H.step_of) s before self.new conn Absent (poll_of conn (notes h)) h)) }
+            is_polling conn (notes h) ≡ true → FlushesOne (meaning H.begin_of H.step_of) s before self.new conn Absent (poll_of conn (notes h)) h)) }
     {
         self.end_poller(conn);
         match self.front.held(conn) {
-            Some(held) => self.tell_poll(alloc, conn, held),
+            Some(held) => self.flush_poll(alloc, conn, held),
             None => Ok(()),
         }
     }
@@ -185,10 +185,10 @@ impl<H: Hub> Server<H> {
 
     /// The poll that is held ends with what is due; without any, if its connection is closed, of which nothing is kept then; or after 90,000
     /// milliseconds.
-    fn tell_poll(&mut self, alloc: Global, conn: u64, held: Held) -> Result<(), AllocError>
+    fn flush_poll(&mut self, alloc: Global, conn: u64, held: Held) -> Result<(), AllocError>
         ensures { OnOk result (OfEach (meaning H.begin_of H.step_of) self.old (λ s u before h. u ≡ settled → has_peer conn h ≡ true →
             poll_of conn (notes h) ≡ Given (held.lane, held.since) →
-            TellsPoll (meaning H.begin_of H.step_of) s before self.new conn (held.lane, held.since) h)) }
+            FlushesPoll (meaning H.begin_of H.step_of) s before self.new conn (held.lane, held.since) h)) }
     {
         let mut body = Vec::new(alloc);
         if self.machine.say_some(conn, &mut body)? {
@@ -196,7 +196,7 @@ impl<H: Hub> Server<H> {
         }
         if self.machine.is_closed(conn) {
             self.reply_held(held.lane, bare(alloc, 204))?;
-            self.let_go(conn);
+            self.remove_conn(conn);
             return Ok(());
         }
         if self.moment.saturating_sub(held.since) >= HELD_FOR {

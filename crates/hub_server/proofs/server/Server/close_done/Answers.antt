@@ -14,6 +14,6 @@ returns g c = record {
       let conn = c.args.conn in
       let closed = standing_closes {H = g.row.H.Denot} {Job = g.row.H-Job.Denot} hub s u before c.args.self.now c.close.new.self conn Done h stands
       c.close.ensures.live c.close.ensures.closed c.close.ensures.absent in
-      subst (λ x. Standing {H = g.row.H.Denot} hub s u before c.let_go.new.self x) (closing_then conn Done h)
-      (c.let_go.ensures.gone s u before (onto (closing conn Done h) h) closed (known_closed conn Done h known)).stands;
+      subst (λ x. Standing {H = g.row.H.Denot} hub s u before c.remove_conn.new.self x) (closing_then conn Done h)
+      (c.remove_conn.ensures.gone s u before (onto (closing conn Done h) h) closed (known_closed conn Done h known)).stands;
 }

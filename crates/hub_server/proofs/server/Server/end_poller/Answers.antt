@@ -1,6 +1,6 @@
 use Rattle.std.proofs.Common.{refl}
 use Rattle.hj_jobs.specs.Meaning.{meaning}
-use Rattle.hub_server.proofs.TellOne.{ends_now, ends_open, ends_still}
+use Rattle.hub_server.proofs.FlushOne.{ends_now, ends_open, ends_still}
 use Rattle.hub_server.proofs.server.Server.end_poller.Goals as goal
 
 pub returns-then-not-is_closed : goal.returns-then-not-is_closed

@@ -15,7 +15,7 @@ pub returns : goal.returns
 returns g c = λ s u before h st free.
     let first = c.in-Some.ensures (notes h) st.front in
     expires_dropping {H = g.row.H.Denot} (meaning g.H.Hub.begin_of g.H.Hub.step_of) s u before c.args.self.now h st c.in-Some.conn first.0 first.1
-    (λ e. c.in_default-life_at.not-Ending (c.life_at.ensures (notes h) st.front ∙ e)) c.leave.new.self
-    (λ known. c.leave.ensures.left s u before h st known)
+    (λ e. c.in_default-life_at.not-Ending (c.life_at.ensures (notes h) st.front ∙ e)) c.detach_lanes.new.self
+    (λ known. c.detach_lanes.ensures.left s u before h st known)
     c.remove_conn.new.self c.remove_conn.ensures.gone c.remove_conn.ensures.none c.remove.new.self c.remove.ensures.updates
     c.expired-conn-2.new.self c.expired-conn-2.result c.expired-conn-2.ensures

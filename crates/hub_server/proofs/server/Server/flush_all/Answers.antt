@@ -3,7 +3,7 @@ use Rattle.hd_server.specs.Doings.{work}
 use Rattle.hj_jobs.specs.Meaning.{meaning}
 use Rattle.hub_machine.specs.Rounds.{AreNumbers}
 use Rattle.hub_server.proofs.Asleep.{asleep, awake_there, mute_asleep, not_awake, not_held}
-use Rattle.hub_server.proofs.TellAll.{all_told, none_told, one_told}
+use Rattle.hub_server.proofs.FlushAll.{all_told, none_told, one_told}
 use Rattle.hub_server.proofs.server.Server.flush_all.Goals as goal
 
 pub loop-conn-init : goal.loop-conn-init

@@ -5,7 +5,7 @@ use Rattle.hd_server.specs.Plans.{Setup}
 use Rattle.hj_jobs.specs.Meaning.{meaning}
 use Rattle.hub_server.specs.Lanes.{Unsettled, settled}
 use Rattle.hub_server.specs.Servers.{Standing}
-use Rattle.hub_server.proofs.TellAll.{ToldSome}
+use Rattle.hub_server.proofs.FlushAll.{ToldSome}
 use Rattle.hub_server.proofs.server.Server.flush_all.Given as goal
 
 abbrev pub invariant-loop-conn : goal.invariant-loop-conn

@@ -1,6 +1,6 @@
 use Rattle.hj_jobs.specs.Meaning.{meaning}
-use Rattle.hub_server.proofs.TellOne.{on_ok}
-use Rattle.hub_server.proofs.TellSocket.{settled_writes, tells_closed, tells_open}
+use Rattle.hub_server.proofs.FlushOne.{on_ok}
+use Rattle.hub_server.proofs.FlushSocket.{settled_writes, tells_closed, tells_open}
 use Rattle.hub_server.proofs.server.Server.flush_socket.Goals as goal
 
 pub returns-then-not-is_closed : goal.returns-then-not-is_closed
@@ -17,5 +17,5 @@ returns g c s u before h x calm there on =
     tells_closed {H = g.row.H.Denot} {Job = g.row.H-Job.Denot} hub s before c.write.new.self c.args.conn c.args.lane h
     (settled_writes {H = g.row.H.Denot} {Job = g.row.H-Job.Denot} hub s u before c.write.new.self c.args.conn c.args.lane h calm
     (c.in_ok-write.ensures s u before h x there))
-    there on c.is_closed.result c.shut.new.self c.let_go.new.self c.if-not-is_closed.false c.is_closed.ensures.there c.in_ok-shut.ensures
-    c.let_go.ensures.gone
+    there on c.is_closed.result c.shut.new.self c.remove_conn.new.self c.if-not-is_closed.false c.is_closed.ensures.there c.in_ok-shut.ensures
+    c.remove_conn.ensures.gone

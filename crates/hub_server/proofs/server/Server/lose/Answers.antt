@@ -47,9 +47,9 @@ returns-else-granted g c = record {
       let hub = meaning g.H.Hub.begin_of g.H.Hub.step_of in
       let held : is_granted c.args.conn h ≡ false = sym granted ∙ c.if-granted.false in
       let o = stands.orderly c.args.conn in
-      subst (λ b. Standing {H = g.row.H.Denot} hub s settled before c.let_go.new.self
+      subst (λ b. Standing {H = g.row.H.Denot} hub s settled before c.remove_conn.new.self
       (onto (if b then Notes (LaneLost c.args.conn c.args.lane (moment h)) ∷ [] else letting_go c.args.conn h) h)) (sym held)
-      ((c.let_go.ensures.gone s u before h stands
+      ((c.remove_conn.ensures.gone s u before h stands
       (record { made = o.made (and_parts (is_some (settings_of c.args.conn (work h))) _ there).0; held = o.there there })).freed c.args.lane (inr is)
       (and_from (has_peer c.args.conn h) (is_on c.args.lane c.args.conn h) there
       (or_left (is_this c.args.lane (socket_of c.args.conn (notes h))) (is_this c.args.lane (poll_lane c.args.conn (notes h)))

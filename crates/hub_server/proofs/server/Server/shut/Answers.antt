@@ -1,5 +1,5 @@
 use Rattle.hj_jobs.specs.Meaning.{meaning}
-use Rattle.hub_server.proofs.TellSocket.{shuts_none, shuts_one}
+use Rattle.hub_server.proofs.FlushSocket.{shuts_none, shuts_one}
 use Rattle.hub_server.proofs.server.Server.shut.Goals as goal
 
 pub returns-then-not-may_shut : goal.returns-then-not-may_shut

@@ -7,7 +7,7 @@ use Rattle.hj_jobs.specs.Meaning.{meaning}
 use Rattle.hub_server.specs.Lanes.{settled}
 use Rattle.hub_server.specs.Servers.{Standing}
 use Rattle.hub_server.proofs.OutcomeTokens.{lane_is, on_socket_there, promised_is, shut_come, shut_moment, shut_stands, stands_over}
-use Rattle.hub_server.proofs.TellSocket.{at_socket}
+use Rattle.hub_server.proofs.FlushSocket.{at_socket}
 use Rattle.hub_server.proofs.server.Server.token_socket.Goals.{in-Some+in_ok-shut, in_default}
 use Rattle.hub_server.proofs.server.Server.token_socket.Goals as goal
 

@@ -1,5 +1,5 @@
 use Rattle.hj_jobs.specs.Meaning.{meaning}
-use Rattle.hub_server.proofs.TellSocket.{writes_none, writes_some}
+use Rattle.hub_server.proofs.FlushSocket.{writes_none, writes_some}
 use Rattle.hub_server.proofs.server.Server.write.Goals as goal
 
 pub returns-then-not-branch : goal.returns-then-not-branch

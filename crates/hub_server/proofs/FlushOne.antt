@@ -26,10 +26,10 @@ use Rattle.hub_machine.specs.Machines.{OfConn, StandsMachine}
 use Rattle.hub_server.specs.Connections.{Frees, IsKnown}
 use Rattle.hub_server.specs.Lanes.{Unsettled, settled}
 use Rattle.hub_server.specs.Servers.{IsOrderly, IsRested, OfEach, Standing}
-use Rattle.hub_server.specs.Tells.{TellsOne, TellsPoll}
+use Rattle.hub_server.specs.Flushes.{FlushesOne, FlushesPoll}
 use Rattle.hub_server.proofs.LaneKept.{lane_kept, same_lane_note}
 use Rattle.hub_server.proofs.OntoAlike.{onto_append}
-use Rattle.hub_server.proofs.TellSaid.{closed_is, gone_after, is_one, standing_rests, up_there}
+use Rattle.hub_server.proofs.FlushSaid.{closed_is, gone_after, is_one, standing_rests, up_there}
 use Rattle.hub_server.proofs.FlushOthersUnchanged.{all_polls, telling_tells}
 
 -- of what holds once all is well something else follows
@@ -191,7 +191,7 @@ module _ {H Job : Type 0} (hub : Hub Job) (s : Setup) (before : List Said) (v : 
 
   -- it holds no poll
   pub tells_nothing : (o : Option Held) → calls.OfEach v.front (λ n. held_as o ≡ calls.poll_held c n) → o ≡ None
-      → TellsOne {H = H} hub s before v c None (poll_of c (notes h)) h
+      → FlushesOne {H = H} hub s before v c None (poll_of c (notes h)) h
   tells_nothing o told is =
       let none : poll_of c (notes h) ≡ None = sym left.noted ∙ poll_told {H = H} {Job = Job} hub s settled before v c
       (onto (ending (moment h) c h) h) o None x (left.stays ∙ there) told is in
@@ -205,14 +205,14 @@ module _ {H Job : Type 0} (hub : Hub Job) (s : Setup) (before : List Said) (v : 
   -- it holds one
   pub tells_held : (o : Option Held) (held : Held) (new : Server H Job) → calls.OfEach v.front (λ n. held_as o ≡ calls.poll_held c n) → o ≡ Some held
       → OfEach {H = H} hub v (λ t u said g. u ≡ settled → has_peer c g ≡ true → poll_of c (notes g) ≡ Some (held.lane, held.since)
-      → TellsPoll {H = H} hub t said new c (held.lane, held.since) g)
-      → TellsOne {H = H} hub s before new c None (poll_of c (notes h)) h
+      → FlushesPoll {H = H} hub t said new c (held.lane, held.since) g)
+      → FlushesOne {H = H} hub s before new c None (poll_of c (notes h)) h
   tells_held o held new told is tells =
       let g : List ServerEvent = onto (ending (moment h) c h) h in
       let holds : poll_of c (notes g) ≡ Some (held.lane, held.since) =
       poll_told {H = H} {Job = Job} hub s settled before v c g o (Some held) x (left.stays ∙ there) told is in
       let some : poll_of c (notes h) ≡ Some (held.lane, held.since) = sym left.noted ∙ holds in
-      let one : TellsPoll {H = H} hub s before new c (held.lane, held.since) g = tells s settled before g x refl (left.stays ∙ there) holds in
+      let one : FlushesPoll {H = H} hub s before new c (held.lane, held.since) g = tells s settled before g x refl (left.stays ∙ there) holds in
       let all : all_of (one.frames ∷ []) ≡ one.frames = append-nil one.frames in
       record {
         pieces = one.frames ∷ [];
@@ -249,10 +249,10 @@ module _ {H Job : Type 0} (hub : Hub Job) (s : Setup) (u : Unsettled) (before : 
       ∙ ap (λ (z : Bool). onto (if z then letting_go c h else []) h) e
 
   told_mute : (new : Server H Job) → Standing {H = H} hub s settled before new (onto (telling_on s (moment h) c None [] h) h)
-      → IsRested c (onto (telling_on s (moment h) c None [] h) h) → TellsOne {H = H} hub s before new c (socket_of c (notes h))
+      → IsRested c (onto (telling_on s (moment h) c None [] h) h) → FlushesOne {H = H} hub s before new c (socket_of c (notes h))
       (poll_of c (notes h)) h
   told_mute new stood rested =
-      subst (λ (o : Option ℕ). TellsOne {H = H} hub s before new c o (poll_of c (notes h)) h) (sym off) (record {
+      subst (λ (o : Option ℕ). FlushesOne {H = H} hub s before new c o (poll_of c (notes h)) h) (sym off) (record {
         pieces = [];
         due = subst (λ (p : Option (ℕ × ℕ)). AreDueOn s c None p [] h) (sym no_poll) refl;
         stands = stood;
@@ -275,7 +275,7 @@ module _ {H Job : Type 0} (hub : Hub Job) (s : Setup) (u : Unsettled) (before : 
 
   pub mute_open : (m : Machine H Job) → r ≡ false
       → OfConn {H = H} hub v.machine c (λ w t k. due t.config (steps t k) ≡ None → StandsMachine {H = H} hub m w)
-      → TellsOne {H = H} hub s before (record v { machine = m }) c (socket_of c (notes h)) (poll_of c (notes h)) h
+      → FlushesOne {H = H} hub s before (record v { machine = m }) c (socket_of c (notes h)) (poll_of c (notes h)) h
   mute_open m e rests =
       let shut : has_closed c h ≡ false = sym (closed_is {H = H} {Job = Job} hub s settled before v c h x there r of) ∙ e in
       told_mute (record v { machine = m })
@@ -285,7 +285,7 @@ module _ {H Job : Type 0} (hub : Hub Job) (s : Setup) (u : Unsettled) (before : 
 
   pub mute_closed : (new : Server H Job) → r ≡ true → OfEach {H = H} hub v (λ t w said g. IsKnown c g
       → Frees {H = H} hub t w said new c g (onto (letting_go c g) g))
-      → TellsOne {H = H} hub s before new c (socket_of c (notes h)) (poll_of c (notes h)) h
+      → FlushesOne {H = H} hub s before new c (socket_of c (notes h)) (poll_of c (notes h)) h
   mute_closed new e frees =
       let shut : has_closed c h ≡ true = sym (closed_is {H = H} {Job = Job} hub s settled before v c h x there r of) ∙ e in
       let freed : Frees {H = H} hub s settled before new c h (onto (letting_go c h) h) =

@@ -25,7 +25,7 @@ use Rattle.hub_machine.specs.Traffic.{IsServers, LendsDue, LendsSome, is_any}
 use Rattle.hub_server.specs.Connections.{IsKnown}
 use Rattle.hub_server.specs.Lanes.{Unsettled}
 use Rattle.hub_server.specs.Servers.{IsBegunBy, IsOrderly, Standing}
-use Rattle.hub_server.proofs.TellLends.{HasLent, all_lent, standing_lends, there_lent}
+use Rattle.hub_server.proofs.FlushLends.{HasLent, all_lent, standing_lends, there_lent}
 
 -- ---- only words
 

@@ -19,8 +19,8 @@ use Rattle.hub_server.specs.Lanes.{settled, Unsettled}
 use Rattle.hub_machine.specs.Rounds.{AreNumbers, AreRising}
 use Rattle.hub_server.specs.Servers.{IsRested, OfEach, Standing}
 use Rattle.hub_machine.specs.Spreads.{is_listed}
-use Rattle.hub_server.specs.Steps.{IsTold}
-use Rattle.hub_server.specs.Tells.{TellsOne}
+use Rattle.hub_server.specs.Steps.{IsFlushed}
+use Rattle.hub_server.specs.Flushes.{FlushesOne}
 use Rattle.hub_server.proofs.Alike.{Alike, alike_refl, alike_trans, rested_alike, there_alike}
 use Rattle.hub_server.proofs.Asleep.{IsMute, SaidByAll, awake_are, awake_there, said_by_all}
 use Rattle.hub_server.proofs.OntoAlike.{onto_append}
@@ -102,7 +102,7 @@ none_told {H} hub s u before v conns h rise is stands = record {
 -- one connection tells so
 abbrev pub TellsFrom : {H Job : Type 0} → Hub Job → Server H Job → Server H Job → ℕ → Type 0
 TellsFrom {H} hub old new c = OfEach {H = H} hub old (λ s u before h. u ≡ settled → has_peer c h ≡ true →
-    TellsOne {H = H} hub s before new c (socket_of c (notes h)) (poll_of c (notes h)) h)
+    FlushesOne {H = H} hub s before new c (socket_of c (notes h)) (poll_of c (notes h)) h)
 
 module _ {H Job : Type 0} (hub : Hub Job) (s : Setup) (before : List Said) (old new : Server H Job) (conns : List ℕ) (c : ℕ) (cs : List ℕ)
     (h : List ServerEvent)
@@ -120,7 +120,7 @@ module _ {H Job : Type 0} (hub : Hub Job) (s : Setup) (before : List Said) (old 
   unheard : Unheard (onto (all_telling s (moment h) p.done p.pieces h) h) h
   unheard = all_unheard_then s (moment h) p.done p.pieces h h
 
-  told : TellsOne {H = H} hub s before new c (socket_of c (notes (onto (all_telling s (moment h) p.done p.pieces h) h)))
+  told : FlushesOne {H = H} hub s before new c (socket_of c (notes (onto (all_telling s (moment h) p.done p.pieces h) h)))
       (poll_of c (notes (onto (all_telling s (moment h) p.done p.pieces h) h))) (onto (all_telling s (moment h) p.done p.pieces h) h)
   told = tells s settled before (onto (all_telling s (moment h) p.done p.pieces h) h) p.stands refl
       (there_alike c (onto (all_telling s (moment h) p.done p.pieces h) h) h alike ∙ there)
@@ -222,7 +222,7 @@ one_told {H} {Job} hub s before old new conns i h l known p tells =
 pub all_told : {H Job : Type 0} → ConnectionsAreNumbered → (hub : Hub Job) (s : Setup) (before : List Said) (m : Machine H Job)
     (v : Server H Job) (conns : List ℕ) (i : ℕ) (h : List ServerEvent) → length conns ≤ i → StandsMachine {H = H} hub m (work h) → AreNumbers {H = H} m conns
     → ((k : ℕ) → has_peer k h ≡ true → is_awake_at m k ≡ false → IsMute s k h)
-    → ToldSome {H = H} hub s before v conns (drop i conns) h → IsTold {H = H} hub s before v h
+    → ToldSome {H = H} hub s before v conns (drop i conns) h → IsFlushed {H = H} hub s before v h
 all_told {H} {Job} law hub s before m v conns i h l stands numbers mute p = record {
   pieces = all.whole;
   all_due = all.due;

@@ -22,10 +22,10 @@ use Rattle.hub_machine.specs.Traffic.{LendsSome, is_any}
 use Rattle.hub_server.specs.Connections.{Frees, IsKnown}
 use Rattle.hub_server.specs.Lanes.{Unsettled, is_at, lane_of, poll_lane, settled}
 use Rattle.hub_server.specs.Servers.{OfEach, Standing}
-use Rattle.hub_server.specs.Tells.{TellsPoll}
+use Rattle.hub_server.specs.Flushes.{FlushesPoll}
 use Rattle.hub_server.proofs.OntoAlike.{onto_append}
-use Rattle.hub_server.proofs.TellSaid.{Mild, SaidSome, closed_is, is_one, known_mild, letting_mild, mild_lends, mild_says, replying_mild}
-use Rattle.hub_server.proofs.TellSaid.{replying_says, said_some, standing_rests}
+use Rattle.hub_server.proofs.FlushSaid.{Mild, SaidSome, closed_is, is_one, known_mild, letting_mild, mild_lends, mild_says, replying_mild}
+use Rattle.hub_server.proofs.FlushSaid.{replying_says, said_some, standing_rests}
 
 -- the poll is held on its lane
 lane_of_poll : (c lane since : ℕ) (n : List ConnectionEvent) → poll_of c n ≡ Some (lane, since) → poll_lane c n ≡ Some lane
@@ -61,12 +61,12 @@ module _ {H Job : Type 0} (hub : Hub Job) (s : Setup) (u : Unsettled) (before : 
   -- frames were due
   pub polls_some : (new : Server H Job) (reply : Reply) → any ≡ true → reply ≡ frames_reply out
       → Answers {H = H} hub (record v { machine = m }) new c lane reply
-      → TellsPoll {H = H} hub s before new c (lane, since) h
+      → FlushesPoll {H = H} hub s before new c (lane, since) h
   polls_some new reply e is answers = go said.frames said.due (sym said.some ∙ e) (is ∙ ap frames_reply said.bytes) said.stands
     where
       go : (fs : List LinkFrame) → LendsUpTo s.wire (config_of c h) (history c h) 0 fs → is_any fs ≡ true → reply ≡ frames_reply (bytes_of s c fs h)
           → Standing {H = H} hub s settled before (record v { machine = m }) (onto (lending c fs) h)
-          → TellsPoll {H = H} hub s before new c (lane, since) h
+          → FlushesPoll {H = H} hub s before new c (lane, since) h
       go [] due f r stands = absurd (true≢false (sym f))
       go (f ∷ fs) due e r stands =
           let mid : List ServerEvent = onto (lending c (f ∷ fs)) h in
@@ -110,7 +110,7 @@ module _ {H Job : Type 0} (hub : Hub Job) (s : Setup) (u : Unsettled) (before : 
       → OfEach {H = H} hub (record v { machine = m }) (λ t w said g. w ≡ settled → (k : ℕ) → is_at lane k g ≡ true
       → Standing {H = H} hub t (lane_of (Some lane)) said mid (onto (replying lane reply g) g))
       → OfEach {H = H} hub mid (λ t w said g. IsKnown c g → Frees {H = H} hub t w said new c g (onto (letting_go c g) g))
-      → TellsPoll {H = H} hub s before new c (lane, since) h
+      → FlushesPoll {H = H} hub s before new c (lane, since) h
   polls_closed r mid new reply e f shut is replies frees =
       let base : Standing {H = H} hub s settled before (record v { machine = m }) h = (bare_stands e).1 in
       let on : is_at lane c h ≡ true = at_poll lane c h there (lane_of_poll c lane since (notes h) held) in
@@ -140,7 +140,7 @@ module _ {H Job : Type 0} (hub : Hub Job) (s : Setup) (u : Unsettled) (before : 
   pub polls_late : (r : Bool) (new : Server H Job) (reply : Reply) (late : ℕ) → any ≡ false → r ≡ false
       → OfConn {H = H} hub m c (λ w t k. r ≡ is_shut t k) → reply ≡ bare_reply 200
       → late ≡ v.moment - since → held_for ≤ late → 0 < held_for → Answers {H = H} hub (record v { machine = m }) new c lane reply
-      → TellsPoll {H = H} hub s before new c (lane, since) h
+      → FlushesPoll {H = H} hub s before new c (lane, since) h
   polls_late r new reply late e f shut is by long some answers =
       let base : Standing {H = H} hub s settled before (record v { machine = m }) h = (bare_stands e).1 in
       let stood : Standing {H = H} hub s settled before new (Notes (Answered c lane (moment h)) ∷ onto (replying lane reply h) h) =
@@ -166,7 +166,7 @@ module _ {H Job : Type 0} (hub : Hub Job) (s : Setup) (u : Unsettled) (before : 
   pub polls_on : (r : Bool) (late : ℕ) (rested : Machine H Job) → any ≡ false → r ≡ false → OfConn {H = H} hub m c (λ w t k. r ≡ is_shut t k)
       → late ≡ v.moment - since → late < held_for
       → OfConn {H = H} hub m c (λ w t k. due t.config (steps t k) ≡ None → StandsMachine {H = H} hub rested w)
-      → TellsPoll {H = H} hub s before (record v { machine = rested }) c (lane, since) h
+      → FlushesPoll {H = H} hub s before (record v { machine = rested }) c (lane, since) h
   polls_on r late rested e f shut by short rests =
       let base : Standing {H = H} hub s settled before (record v { machine = m }) h = (bare_stands e).1 in
       let clock : v.moment ≡ moment h = x.clock in

@@ -4,16 +4,16 @@ use Rattle.hd_server.specs.Plans.{onto}
 use Rattle.hd_server.specs.Serves.{ending}
 use Rattle.hj_jobs.specs.Meaning.{meaning}
 use Rattle.hub_server.specs.Servers.{Standing}
-use Rattle.hub_server.proofs.TellOne.{on_ok, tells_held, tells_nothing}
-use Rattle.hub_server.proofs.server.Server.tell_poller.Goals as goal
+use Rattle.hub_server.proofs.FlushOne.{on_ok, tells_held, tells_nothing}
+use Rattle.hub_server.proofs.server.Server.flush_poller.Goals as goal
 
 pub returns-in-Some : goal.returns-in-Some
-returns-in-Some g c = on_ok c.tell_poll.result _ _ (λ tells s u before h x calm there off polls.
+returns-in-Some g c = on_ok c.flush_poll.result _ _ (λ tells s u before h x calm there off polls.
     let hub = meaning g.H.Hub.begin_of g.H.Hub.step_of in
     tells_held {H = g.row.H.Denot} {Job = g.row.H-Job.Denot} hub s before c.end_poller.new.self c.args.conn h
     (subst (λ w. Standing {H = g.row.H.Denot} hub s w before c.end_poller.new.self (onto (ending (moment h) c.args.conn h) h)) calm
     (c.end_poller.ensures s u before h x there polls))
-    there polls c.held.result c.in-Some.held c.tell_poll.new.self c.held.ensures c.in-Some.is tells) c.tell_poll.ensures
+    there polls c.held.result c.in-Some.held c.flush_poll.new.self c.held.ensures c.in-Some.is tells) c.flush_poll.ensures
 
 pub returns-in-None : goal.returns-in-None
 returns-in-None g c s u before h x calm there off polls =

@@ -23,12 +23,12 @@ use Rattle.hub_machine.specs.Traffic.{IsServers, LendsDue, is_any}
 use Rattle.hub_server.specs.Connections.{Frees, IsKnown}
 use Rattle.hub_server.specs.Lanes.{Unsettled, is_at, poll_lane, settled}
 use Rattle.hub_server.specs.Servers.{IsRested, OfEach, Standing}
-use Rattle.hub_server.specs.Tells.{TellsOne, Writes}
+use Rattle.hub_server.specs.Flushes.{FlushesOne, Writes}
 use Rattle.hub_server.proofs.LaneKept.{standing_shuts, standing_tells}
 use Rattle.hub_server.proofs.OntoAlike.{onto_append}
-use Rattle.hub_server.proofs.TellLends.{lent_due}
-use Rattle.hub_server.proofs.TellSaid.{Mild, SaidAll, closed_is, gone_after, is_one, known_mild, letting_mild, mild_lends, mild_says, mild_then}
-use Rattle.hub_server.proofs.TellSaid.{said_all, shutting_mild, shutting_says, standing_rests, text_is, up_there, work_says, writing_says}
+use Rattle.hub_server.proofs.FlushLends.{lent_due}
+use Rattle.hub_server.proofs.FlushSaid.{Mild, SaidAll, closed_is, gone_after, is_one, known_mild, letting_mild, mild_lends, mild_says, mild_then}
+use Rattle.hub_server.proofs.FlushSaid.{said_all, shutting_mild, shutting_says, standing_rests, text_is, up_there, work_says, writing_says}
 use Rattle.hub_server.proofs.TickSteps.{begun_here}
 
 -- ---- what is written
@@ -142,7 +142,7 @@ module _ {H Job : Type 0} (hub : Hub Job) (s : Setup) (before : List Said) (v : 
   -- its end is open: it may rest, since nothing is due
   pub tells_open : (r : Bool) (m : Machine H Job) → r ≡ false → OfConn {H = H} hub v.machine c (λ k t ms. r ≡ is_shut t ms)
       → OfConn {H = H} hub v.machine c (λ k t ms. due t.config (steps t ms) ≡ None → StandsMachine {H = H} hub m k)
-      → TellsOne {H = H} hub s before (record v { machine = m }) c (Some lane) (poll_of c (notes h)) h
+      → FlushesOne {H = H} hub s before (record v { machine = m }) c (Some lane) (poll_of c (notes h)) h
   tells_open r m e of rests = record {
     pieces = w.pieces;
     due = (w.some, w.due);
@@ -179,7 +179,7 @@ module _ {H Job : Type 0} (hub : Hub Job) (s : Setup) (before : List Said) (v : 
   pub tells_closed : (r : Bool) (mid new : Server H Job) → r ≡ true → OfConn {H = H} hub v.machine c (λ k t ms. r ≡ is_shut t ms)
       → OfEach {H = H} hub v (λ t u said g. (k : ℕ) → is_at lane k g ≡ true → Standing {H = H} hub t u said mid (onto (shutting lane g) g))
       → OfEach {H = H} hub mid (λ t u said g. IsKnown c g → Frees {H = H} hub t u said new c g (onto (letting_go c g) g))
-      → TellsOne {H = H} hub s before new c (Some lane) (poll_of c (notes h)) h
+      → FlushesOne {H = H} hub s before new c (Some lane) (poll_of c (notes h)) h
   tells_closed r mid new e of shuts frees = record {
     pieces = w.pieces;
     due = (w.some, w.due);

@@ -7,30 +7,30 @@ use Rattle.hj_jobs.specs.Meaning.{meaning}
 use Rattle.hn_server_front.specs.Stands as front
 use Rattle.hub_machine.specs.Machines.{StandsMachine}
 use Rattle.hub_server.proofs.GoneServer.{lets_go, no_peer}
-use Rattle.hub_server.proofs.server.Server.let_go.Goals as goal
+use Rattle.hub_server.proofs.server.Server.remove_conn.Goals as goal
 
 pub returns : goal.returns
 returns g c = record {
   gone = λ s u before h stands known.
       let hub = meaning g.H.Hub.begin_of g.H.Hub.step_of in
-      let left = c.leave.ensures.left s u before h stands known in
+      let left = c.detach_lanes.ensures.left s u before h stands known in
       lets_go {H = g.row.H.Denot} {Job = g.row.H-Job.Denot} hub s u before c.args.self.now
       (record {
-        base = c.leave.new.self.base;
+        base = c.detach_lanes.new.self.base;
         machine = c.remove_conn.new.self;
         front = c.closed.new.self;
         callers = c.remove.new.self;
-        lanes = c.leave.new.self.lanes;
-        moment = c.leave.new.self.moment;
-        words = c.leave.new.self.words;
-        is_ended = c.leave.new.self.is_ended;
+        lanes = c.detach_lanes.new.self.lanes;
+        moment = c.detach_lanes.new.self.moment;
+        words = c.detach_lanes.new.self.words;
+        is_ended = c.detach_lanes.new.self.is_ended;
       })
       c.args.conn h stands known left.base left.clock left.words left.lanes
       c.remove.ensures.updates.1 (λ k e. c.remove.ensures.updates.2 k (unsigned_tied c.args.conn k ∙ e) ∙ ap (λ m. get nat_cmp m k) left.callers)
       (λ t there. c.remove_conn.ensures.gone (work h) t
       (subst (λ m. StandsMachine {H = g.row.H.Denot} hub m (work h)) (sym left.machine) stands.machine) there)
       (λ none. subst (λ m. StandsMachine {H = g.row.H.Denot} hub m (work h)) (sym (c.remove_conn.ensures.none
-      (no_peer {H = g.row.H.Denot} {Job = g.row.H-Job.Denot} hub c.leave.new.self.machine (work h) c.args.conn
+      (no_peer {H = g.row.H.Denot} {Job = g.row.H-Job.Denot} hub c.detach_lanes.new.self.machine (work h) c.args.conn
       (subst (λ m. StandsMachine {H = g.row.H.Denot} hub m (work h)) (sym left.machine) stands.machine) none) ∙ left.machine)) stands.machine)
       ((c.closed.ensures (notes h) (subst (λ f. front.Stands f (notes h)) (sym left.front) stands.front)).0 known.made);
 }

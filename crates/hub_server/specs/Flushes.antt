@@ -11,14 +11,14 @@ use Rattle.hub_server.specs.Lanes.{Unsettled, settled}
 use Rattle.hub_server.specs.Servers.{IsRested, Standing}
 
 -- by the lane of its socket and the poll that it holds
-pub record TellsOne {H Job : Type 0} (hub : Hub Job) (s : Setup) (before : List Said) (new : Server H Job) (c : ℕ) (lane : Option ℕ) (poll : Option (ℕ × ℕ)) (h : List ServerEvent) : Type 0 where
+pub record FlushesOne {H Job : Type 0} (hub : Hub Job) (s : Setup) (before : List Said) (new : Server H Job) (c : ℕ) (lane : Option ℕ) (poll : Option (ℕ × ℕ)) (h : List ServerEvent) : Type 0 where
   pub pieces : List (List LinkFrame)
   pub due : AreDueOn s c lane poll pieces h
   pub stands : Standing hub s settled before new (onto (telling_on s (moment h) c lane pieces h) h)
   pub rested : IsRested c (onto (telling_on s (moment h) c lane pieces h) h)
 
 -- the poll that is held
-pub record TellsPoll {H Job : Type 0} (hub : Hub Job) (s : Setup) (before : List Said) (new : Server H Job) (c : ℕ) (poll : ℕ × ℕ) (h : List ServerEvent) : Type 0 where
+pub record FlushesPoll {H Job : Type 0} (hub : Hub Job) (s : Setup) (before : List Said) (new : Server H Job) (c : ℕ) (poll : ℕ × ℕ) (h : List ServerEvent) : Type 0 where
   pub frames : List LinkFrame
   pub due : LendsUpTo s.wire (config_of c h) (history c h) 0 frames
   pub stands : Standing hub s settled before new (onto (telling_poll s (moment h) c poll frames h) h)
