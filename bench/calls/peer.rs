@@ -1,4 +1,4 @@
-//! The same as crates/calls_bench in plain Rust: the live calls and uploads in `BTreeMap`s by their numbers.
+//! The same as crates/measures/src/calls.rt in plain Rust: the live calls and uploads in `BTreeMap`s by their numbers.
 use std::collections::BTreeMap;
 use std::hint::black_box;
 

@@ -1,5 +1,5 @@
 #!/usr/bin/env python3
-"""Measures the table of own calls (crates/calls_bench) beside a plain Rust program over `BTreeMap` (peer.rs, built by rustc) that
+"""Measures the table of own calls (crates/measures) beside a plain Rust program over `BTreeMap` (peer.rs, built by rustc) that
 does the same, in one run. It is no test.
 
     bench/calls/run.py [--rounds N]
@@ -23,13 +23,13 @@ def main():
     words.add_argument("--rounds", type=int, default=5)
     asked = words.parse_args()
     os.environ["MALLOC_TRIM_THRESHOLD_"] = str(1 << 30)
-    ours = built("calls_bench")
+    ours = built("measures")
     with tempfile.TemporaryDirectory() as folder:
         theirs, empty = str(pathlib.Path(folder) / "peer"), str(pathlib.Path(folder) / "empty")
         subprocess.run(["rustc", "--edition", "2021", "-C", "opt-level=3", "-o", theirs, HERE / "peer.rs"], check=True)
         pathlib.Path(empty).write_bytes(b"")
         for uploads in ("0", "8"):
-            commands = [ours, uploads], [theirs, uploads]
+            commands = [ours, "calls", uploads], [theirs, uploads]
             answers = [output(command, empty) for command in commands]
             assert answers[0] == answers[1], answers
             count = int(answers[0].split()[1])

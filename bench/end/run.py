@@ -1,5 +1,5 @@
 #!/usr/bin/env python3
-"""Measures two ends in memory (crates/end_bench) beside the codec alone, in one run, and the memory of an end at rest. It is no test.
+"""Measures two ends in memory (crates/measures) beside the codec alone, in one run, and the memory of an end at rest. It is no test.
 
     bench/end/run.py [--rounds N] [--ends N]
 
@@ -30,7 +30,7 @@ MESSAGES = 64_000
 def codec_and_ends(program, empty, rounds):
     """Rates and the ends' own share, for each codec."""
     for codec in ("json", "pack"):
-        commands = [program, codec, "codec"], [program, codec]
+        commands = [program, "codec", codec], [program, "end", codec]
         assert all(int(output(command, empty)) == MESSAGES for command in commands)
         alone, ends = (seconds(command, empty, rounds) for command in commands)
         counts = [instructions(command, empty) for command in commands]
@@ -58,9 +58,9 @@ def asked_for(command):
 
 def memory(program, count):
     """The memory of one end at rest."""
-    resident = (peak([program, str(count)]) - peak([program, "0"])) / count
+    resident = (peak([program, "rest", str(count)]) - peak([program, "rest", "0"])) / count
     few = 100
-    asked = [asked_for([program, str(ends)]) for ends in (few, 2 * few)]
+    asked = [asked_for([program, "rest", str(ends)]) for ends in (few, 2 * few)]
     by_heap = f", asked for {(asked[1] - asked[0]) / few:.0f}" if all(asked) else ""
     print(f"an end at rest: {resident:.0f} bytes resident, over {count:,} ends{by_heap}")
 
@@ -70,7 +70,7 @@ def main():
     words.add_argument("--rounds", type=int, default=5)
     words.add_argument("--ends", type=int, default=10_000)
     asked = words.parse_args()
-    program = built("end_bench")
+    program = built("measures")
     with tempfile.TemporaryDirectory() as folder:
         empty = str(pathlib.Path(folder) / "empty")
         pathlib.Path(empty).write_bytes(b"")

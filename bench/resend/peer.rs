@@ -1,4 +1,4 @@
-//! The same as crates/resend_bench in plain Rust: a `VecDeque<Rc<[u8]>>` that holds the frames pushed past the greatest Ack.
+//! The same as crates/measures/src/resend.rt in plain Rust: a `VecDeque<Rc<[u8]>>` that holds the frames pushed past the greatest Ack.
 use std::collections::VecDeque;
 use std::hint::black_box;
 use std::rc::Rc;

@@ -1,5 +1,5 @@
 #!/usr/bin/env python3
-"""Measures the resend buffer (crates/resend_bench) beside a plain Rust program over `VecDeque<Rc<[u8]>>` (peer.rs, built by
+"""Measures the resend buffer (crates/measures) beside a plain Rust program over `VecDeque<Rc<[u8]>>` (peer.rs, built by
 rustc) that does the same, in one run. It is no test.
 
     bench/resend/run.py [--rounds N]
@@ -27,13 +27,13 @@ def main():
     words.add_argument("--rounds", type=int, default=5)
     asked = words.parse_args()
     os.environ["MALLOC_TRIM_THRESHOLD_"] = str(1 << 30)
-    ours = built("resend_bench")
+    ours = built("measures")
     with tempfile.TemporaryDirectory() as folder:
         theirs, empty = str(pathlib.Path(folder) / "peer"), str(pathlib.Path(folder) / "empty")
         subprocess.run(["rustc", "--edition", "2021", "-C", "opt-level=3", "-o", theirs, HERE / "peer.rs"], check=True)
         pathlib.Path(empty).write_bytes(b"")
         for way in ("made", "shared"):
-            commands = [ours, way], [theirs, way]
+            commands = [ours, "resend", way], [theirs, way]
             assert output(commands[0], empty) == output(commands[1], empty)
             mine, other = (seconds(command, empty, asked.rounds) for command in commands)
             counts = [instructions(command, empty) for command in commands]

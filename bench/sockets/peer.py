@@ -1,6 +1,6 @@
 #!/usr/bin/python3
 """Sends batches of a hundred messages of 100 bytes from a client to a server over the protocol of Python's `websockets` without IO (10.4, Debian's
-python3-websockets, whose masking is in C), as crates/socket_bench does. Its word is how many batches."""
+python3-websockets, whose masking is in C), as crates/measures/src/sockets.rt does. Its word is how many batches."""
 import sys
 
 from websockets.connection import Connection, Side

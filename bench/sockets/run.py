@@ -1,5 +1,5 @@
 #!/usr/bin/env python3
-"""Measures a WebSocket lane (crates/socket_bench) beside Python's `websockets` without IO (peer.py), in one run. It is no test.
+"""Measures a WebSocket lane (crates/measures) beside Python's `websockets` without IO (peer.py), in one run. It is no test.
 
     bench/sockets/run.py [--rounds N] [--batches N]
 
@@ -25,7 +25,7 @@ def main():
     with tempfile.TemporaryDirectory() as folder:
         empty = str(pathlib.Path(folder) / "empty")
         pathlib.Path(empty).write_bytes(b"")
-        commands = [built("socket_bench"), str(asked.batches)], ["/usr/bin/python3", str(HERE / "peer.py"), str(asked.batches)]
+        commands = [built("measures"), "socket", str(asked.batches)], ["/usr/bin/python3", str(HERE / "peer.py"), str(asked.batches)]
         answers = [output(command, empty) for command in commands]
         assert answers[0] == answers[1], answers
         mine, other = (seconds(command, empty, asked.rounds) for command in commands)

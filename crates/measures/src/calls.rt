@@ -1,15 +1,13 @@
-//! Begins and settles calls, as many as may live at a time: a program to measure `hi_calls` by. After a number each call has so many
-//! uploads, of which there may be fewer. `bench/calls/peer.rs` is the same in Rust.
-#![tactic(auto)]
+//! Begins and settles calls, as many as may live at a time: a measure of `hi_calls`. `bench/calls/peer.rs` is the same in Rust.
 
+use crate::length::Length;
 use hd_calls::{CallKind, MOST_LIVE, MOST_UPLOADS};
 use hi_calls::Calls;
 use hm_message::Message;
 use hv_value::{Items, Text};
 use std::alloc::Global;
-use std::{env, io};
 
-/// How often so many calls are begun and settled.
+/// How often so many calls are begun and settled in the whole.
 const ROUNDS: u32 = 1_000;
 
 /// Begins a call, and answers its id.
@@ -41,11 +39,11 @@ fn fill(alloc: Global, calls: &mut Calls, ids: &mut Vec<Text>, uploads: u32) -> 
 }
 
 /// How many calls were settled, and the sum of their numbers.
-fn run(alloc: Global, uploads: u32) -> Option<(u64, u64)> {
+fn run(alloc: Global, uploads: u32, rounds: u32) -> Option<(u64, u64)> {
     let mut calls = Calls::start(alloc, "").ok()?;
     let mut ids = Vec::new(alloc);
     let (mut count, mut sum): (u64, u64) = (0, 0);
-    for _ in 0..ROUNDS {
+    for _ in 0..rounds {
         let (many, more) = fill(alloc, &mut calls, &mut ids, uploads)?;
         count = count.saturating_add(many);
         sum = sum.wrapping_add(more);
@@ -53,19 +51,8 @@ fn run(alloc: Global, uploads: u32) -> Option<(u64, u64)> {
     Some((count, sum))
 }
 
-/// The number among the words, or 0.
-fn uploads(rt: &HostRuntime) -> io::Result<u32> {
-    for word in env::args(rt)?.skip(1) {
-        if let Ok(uploads) = word.parse::<u32>() {
-            return Ok(uploads);
-        }
-    }
-    Ok(0)
-}
-
-fn main(rt: HostRuntime) -> io::Result<()> {
-    match run(rt.alloc(), uploads(&rt)?) {
-        Some((count, sum)) => println!(rt; "calls {count} sum {sum}"),
-        None => println!(rt; "no answer"),
-    }
+/// How many calls were settled, and the sum of their numbers. Each has so many uploads.
+pub fn measured(alloc: Global, uploads: u32, length: Length) -> Option<String> {
+    let (count, sum) = run(alloc, uploads, length.of(ROUNDS))?;
+    format!(in alloc; "calls {count} sum {sum}").ok()
 }

@@ -1,21 +1,19 @@
-//! Gives rounds to live jobs of which one goes on and on and the others wait: a program to measure `hj_jobs` by. The number among the
-//! words says how many are live. It promises nothing of its own, so no edit of it must fail.
-#![tactic(auto)]
+//! Gives rounds to live jobs of which one goes on and on and the others wait: a measure of `hj_jobs`.
 
+use crate::length::Length;
 use hd_calls::{Act, Call, CallKind, Input, MOST_LIVE};
 use hj_jobs::{Hub, Jobs};
 use hv_value::{Items, Text, Texts};
 use std::alloc::{AllocError, Global};
-use std::{env, io};
 
-/// How many rounds are given.
+/// How many rounds are given in the whole.
 const ROUNDS: u32 = 300_000;
 
 /// A job that began at the moment 0 waits, and every other goes on.
 struct Lamps;
 
 impl Hub for Lamps {
-    ghost use Rattle.jobs_bench.specs.Lamps.{lamp_begin, lamp_step};
+    ghost use Rattle.measures.specs.Lamps.{lamp_begin, lamp_step};
 
     type Job = u64;
 
@@ -66,33 +64,22 @@ fn round(alloc: Global, jobs: &mut Jobs<Lamps>) -> Option<u64> {
     None
 }
 
-/// How many turns there were of so many jobs.
-fn run(alloc: Global, live: u64) -> Option<u64> {
+/// How many turns there were of so many jobs in so many rounds.
+fn run(alloc: Global, live: u64, rounds: u32) -> Option<u64> {
     let mut jobs = Jobs::start(alloc).ok()?;
     for _ in 1..live {
         begin(alloc, &mut jobs, 0)?;
     }
     begin(alloc, &mut jobs, 1)?;
     let mut turns: u64 = 0;
-    for _ in 0..ROUNDS {
+    for _ in 0..rounds {
         turns = turns.saturating_add(round(alloc, &mut jobs)?);
     }
     Some(turns)
 }
 
-/// The number among the words, or 1.
-fn live(rt: &HostRuntime) -> io::Result<u64> {
-    for word in env::args(rt)?.skip(1) {
-        if let Ok(live) = word.parse::<u64>() {
-            return Ok(live);
-        }
-    }
-    Ok(1)
-}
-
-fn main(rt: HostRuntime) -> io::Result<()> {
-    match run(rt.alloc(), live(&rt)?) {
-        Some(turns) => println!(rt; "turns {turns}"),
-        None => println!(rt; "no answer"),
-    }
+/// How many turns there were of so many live jobs.
+pub fn measured(alloc: Global, live: u64, length: Length) -> Option<String> {
+    let turns = run(alloc, live, length.of(ROUNDS))?;
+    format!(in alloc; "turns {turns}").ok()
 }

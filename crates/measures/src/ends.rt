@@ -1,23 +1,21 @@
-//! Sends calls of 200 bytes from one end to another in memory, with Acks back; after the word `codec` each call is only
-//! written and read; after a number that many ends are started and left at rest. A program to measure `he_end` by: it
-//! promises nothing of its own, so no edit of it must fail. The word `pack` has it speak MessagePack.
-#![tactic(auto)]
+//! Sends calls of 200 bytes from one end to another in memory, with Acks back, or writes and reads them by the codec alone: a measure of
+//! `he_end`. Or holds ends at rest.
 
 ghost use Rattle.std.specs.Prelude.{◌≡◌, true, IfSome};
 ghost use Rattle.hm_message.specs.Message.{is_sequenced, Fits};
 
+use crate::length::Length;
 use hd_delivery::{Got, Side};
 use he_end::{Config, End};
 use hm_codec::{read_message, write_message};
 use hm_message::{Codec, Message, Read};
 use hq_resend::Limits;
 use std::alloc::Global;
-use std::{env, io};
 
 /// How many calls are sent before an Ack.
 const BATCH: u32 = 64;
 
-/// How often so many are sent.
+/// How often so many are sent in the whole.
 const ROUNDS: u32 = 1_000;
 
 /// An end has fewer frames than this to say at once, and a frame gives fewer answers.
@@ -74,11 +72,11 @@ fn unframed(codec: Codec, bytes: &[u8]) -> Option<&[u8]> {
 }
 
 /// Writes the call and reads it again, and answers how often. `None` if it isn't read, or out of memory.
-fn by_codec(alloc: Global, codec: Codec, call: &Message) -> Option<u64>
+fn by_codec(alloc: Global, codec: Codec, call: &Message, rounds: u32) -> Option<u64>
     requires { Fits call.now }
 {
     let mut count: u64 = 0;
-    for _ in 0..ROUNDS * BATCH {
+    for _ in 0..rounds.saturating_mul(BATCH) {
         let mut bytes = Vec::new(alloc);
         write_message(alloc, codec, call, &mut bytes).ok()?;
         match read_message(alloc, codec, unframed(codec, &bytes)?) {
@@ -143,13 +141,13 @@ fn meet(alloc: Global, codec: Codec) -> Option<(End, End)> {
 }
 
 /// Sends the calls from a client to a server, and answers how many came.
-fn by_ends(alloc: Global, codec: Codec, call: &Message) -> Option<u64>
+fn by_ends(alloc: Global, codec: Codec, call: &Message, rounds: u32) -> Option<u64>
     requires sequenced { is_sequenced call.now ≡ true }
     requires fits { Fits call.now }
 {
     let (mut client, mut server) = meet(alloc, codec)?;
     let mut count: u64 = 0;
-    for _ in 0..ROUNDS {
+    for _ in 0..rounds {
         send(alloc, &mut client, call)?;
         count = count.saturating_add(carry(alloc, &mut client, &mut server)?);
         carry(alloc, &mut server, &mut client)?;
@@ -167,48 +165,24 @@ fn all_at_rest(alloc: Global, codec: Codec, count: u32) -> Option<Vec<End>> {
     Some(ends)
 }
 
-// ---- the words
+// ---- what is measured
 
-/// What the words ask for.
-#[derive(Clone, Copy)]
-struct Asked {
-    codec: Codec,
-    alone: bool,
-    at_rest: Option<u32>,
+/// How many calls the codec alone wrote and read.
+pub fn measured_codec(alloc: Global, codec: Codec, length: Length) -> Option<String> {
+    let call = call(alloc, codec)?;
+    let count = by_codec(alloc, codec, &call, length.of(ROUNDS))?;
+    format!(in alloc; "{count}").ok()
 }
 
-fn words(rt: &HostRuntime) -> io::Result<Asked> {
-    let mut asked = Asked {
-        codec: Codec::Json,
-        alone: false,
-        at_rest: None,
-    };
-    for word in env::args(rt)?.skip(1) {
-        match word.as_str() {
-            "pack" => asked.codec = Codec::Pack,
-            "codec" => asked.alone = true,
-            other => asked.at_rest = other.parse().ok(),
-        }
-    }
-    Ok(asked)
+/// How many calls came from one end to the other.
+pub fn measured(alloc: Global, codec: Codec, length: Length) -> Option<String> {
+    let call = call(alloc, codec)?;
+    let count = by_ends(alloc, codec, &call, length.of(ROUNDS))?;
+    format!(in alloc; "{count}").ok()
 }
 
-/// How many messages came, or how many ends there are.
-fn run(alloc: Global, asked: Asked) -> Option<u64> {
-    if let Some(count) = asked.at_rest {
-        return Some(all_at_rest(alloc, asked.codec, count)?.len() as u64);
-    }
-    let call = call(alloc, asked.codec)?;
-    if asked.alone {
-        by_codec(alloc, asked.codec, &call)
-    } else {
-        by_ends(alloc, asked.codec, &call)
-    }
-}
-
-fn main(rt: HostRuntime) -> io::Result<()> {
-    match run(rt.alloc(), words(&rt)?) {
-        Some(count) => println!(rt; "{count}"),
-        None => println!(rt; "no answer"),
-    }
+/// How many ends are at rest.
+pub fn measured_at_rest(alloc: Global, count: u32) -> Option<String> {
+    let ends = all_at_rest(alloc, Codec::Json, count)?;
+    format!(in alloc; "{}", ends.len()).ok()
 }

@@ -1,10 +1,9 @@
-//! Pushes, writes and acknowledges 200-byte frames, a full buffer at a time: a program to measure `hq_resend` by. Each frame
-//! is made, or, after the word `shared`, shares the bytes of one. `bench/resend/peer.rs` is the same in Rust.
-#![tactic(auto)]
+//! Pushes, writes and acknowledges 200-byte frames, a full buffer at a time: a measure of `hq_resend`. `bench/resend/peer.rs` is the same in
+//! Rust.
 
+use crate::length::Length;
 use hq_resend::{Frame, LEAST_FRAME, Limits, MOST_BYTES, Resend};
 use std::alloc::{AllocError, Global};
-use std::{env, io};
 
 /// How many frames are held.
 const HELD: usize = 1_024;
@@ -12,7 +11,7 @@ const HELD: usize = 1_024;
 /// How many bytes a frame has.
 const SIZE: usize = 200;
 
-/// How many times the buffer is filled.
+/// How many times the buffer is filled in the whole.
 const ROUNDS: u32 = 5_000;
 
 /// The next frame: with these bytes, or, if `shared`, with those of the frame.
@@ -49,12 +48,12 @@ fn write_all(resend: &mut Resend, mut sum: u64) -> u64 {
     sum
 }
 
-/// Fills, writes and acknowledges `ROUNDS` times.
-fn run(alloc: Global, limits: Limits, shared: bool) -> Result<(u64, u64), AllocError> {
+/// Fills, writes and acknowledges so many times.
+fn run(alloc: Global, limits: Limits, shared: bool, rounds: u32) -> Result<(u64, u64), AllocError> {
     let frame = Frame::of(alloc, &[b'a'; SIZE])?;
     let mut resend = Resend::start(alloc, limits, true)?;
     let mut sum = 0;
-    for _ in 0..ROUNDS {
+    for _ in 0..rounds {
         fill(alloc, &mut resend, &frame, shared)?;
         sum = write_all(&mut resend, sum);
         let most = resend.most_written();
@@ -65,13 +64,9 @@ fn run(alloc: Global, limits: Limits, shared: bool) -> Result<(u64, u64), AllocE
     Ok((resend.count_sent(), sum))
 }
 
-fn main(rt: HostRuntime) -> io::Result<()> {
-    let shared = env::args(&rt)?
-        .skip(1)
-        .any(|word| word.as_str() == "shared");
-    let Some(limits) = Limits::of(SIZE.max(LEAST_FRAME), HELD, MOST_BYTES) else {
-        return Ok(());
-    };
-    let (frames, sum) = run(rt.alloc(), limits, shared)?;
-    println!(rt; "frames {frames} sum {sum}")
+/// How many frames were sent, and a sum over them. If not `shared`, each frame is made.
+pub fn measured(alloc: Global, shared: bool, length: Length) -> Option<String> {
+    let limits = Limits::of(SIZE.max(LEAST_FRAME), HELD, MOST_BYTES)?;
+    let (frames, sum) = run(alloc, limits, shared, length.of(ROUNDS)).ok()?;
+    format!(in alloc; "frames {frames} sum {sum}").ok()
 }

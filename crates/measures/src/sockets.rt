@@ -1,10 +1,8 @@
-//! Sends messages of 100 bytes from a client's lane to a server's lane: a program to measure `hw_socket` by. Its word is how often a batch of
-//! them is sent. `bench/sockets/peer.py` does the same with Python's `websockets`.
-#![tactic(auto)]
+//! Sends messages of 100 bytes from a client's lane to a server's lane: a measure of `hw_socket`. `bench/sockets/peer.py` does the same with
+//! Python's `websockets`.
 
 use hw_socket::{SocketLane, SocketRead, SocketSide};
 use std::alloc::{AllocError, Global};
-use std::{env, io};
 
 /// How many messages are sent before their bytes are handed over.
 const BATCH: u32 = 100;
@@ -44,19 +42,8 @@ fn run(alloc: Global, batches: u32) -> Result<u64, AllocError> {
     Ok(sum)
 }
 
-/// The number among the words, or 0.
-fn batches(rt: &HostRuntime) -> io::Result<u32> {
-    for word in env::args(rt)?.skip(1) {
-        if let Ok(batches) = word.parse::<u32>() {
-            return Ok(batches);
-        }
-    }
-    Ok(0)
-}
-
-fn main(rt: HostRuntime) -> io::Result<()> {
-    match run(rt.alloc(), batches(&rt)?) {
-        Ok(sum) => println!(rt; "bytes {sum}"),
-        Err(_) => println!(rt; "no answer"),
-    }
+/// How many bytes of messages came in so many batches.
+pub fn measured(alloc: Global, batches: u32) -> Option<String> {
+    let sum = run(alloc, batches).ok()?;
+    format!(in alloc; "bytes {sum}").ok()
 }
