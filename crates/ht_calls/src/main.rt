@@ -10,37 +10,12 @@
 mod own_calls;
 mod report;
 mod script;
-mod stop;
 mod their_jobs;
 mod words;
 
 use script::Tables;
-use std::io::{self, BufRead, BufReader};
 use std::process::ExitCode;
 
-const OUT_OF_MEMORY: u8 = 7;
-
-const NO_INPUT: u8 = 3;
-
-/// Reads the script, and prints the answers.
-fn run(rt: &(impl Input + Print + AllocGlobal)) -> io::Result<()> {
-    let alloc = rt.alloc();
-    let mut tables = Tables::start(alloc)?;
-    for (place, line) in BufReader::new(alloc, rt.reader())?.lines(alloc).enumerate() {
-        let line = line?;
-        let answers = tables.carry_out(alloc, place, &line)?;
-        print!(rt; "{answers}")?;
-    }
-    Ok(())
-}
-
 fn main(rt: HostRuntime) -> ExitCode {
-    let Err(error) = run(&rt) else {
-        return ExitCode::SUCCESS;
-    };
-    if error.kind() != io::ErrorKind::OutOfMemory {
-        return ExitCode::from(NO_INPUT);
-    }
-    let _ = println!(rt; "no memory");
-    ExitCode::from(OUT_OF_MEMORY)
+    ht_kit::run_repeated(&rt, Tables::start(rt.alloc()))
 }

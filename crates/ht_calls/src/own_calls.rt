@@ -10,11 +10,12 @@
 //! An id is the rest of the line, and so is an error, which may be absent.
 
 use crate::report::push_message;
-use crate::stop::Stop;
-use crate::words::{count, first_word, kind, number, text, text_if_any, value, values};
+use crate::words::{text, text_if_any, value, values};
 use hd_calls::MOST_UPLOADS;
 use hi_calls::{CallError, Calls};
 use hm_message::Message;
+use ht_kit::{Stop, count_of_32_bits, first_word, number};
+use ht_words::call_kind;
 use std::alloc::Global;
 
 /// What the table answers.
@@ -65,11 +66,11 @@ fn refusal(alloc: Global, error: CallError) -> Result<String, Stop> {
 
 fn begin(alloc: Global, calls: &mut Calls, words: &str) -> Result<String, Stop> {
     let (word, words) = first_word(words);
-    let kind = kind(word)?;
+    let kind = call_kind(word)?;
     let (word, words) = first_word(words);
-    let uploads = count(word)?;
+    let uploads = count_of_32_bits(word)?;
     if uploads > MOST_UPLOADS {
-        return Err(Stop::NotAsked);
+        return Err(Stop::Failed("not asked"));
     }
     let (word, words) = first_word(words);
     let target = text(alloc, word)?;
@@ -125,7 +126,7 @@ fn upload_item(alloc: Global, calls: &Calls, words: &str) -> Result<String, Stop
     let (call, words) = first_word(words);
     let (place, word) = first_word(words);
     let value = value(alloc, word)?;
-    match calls.upload_item(alloc, number(call)?, count(place)?, value) {
+    match calls.upload_item(alloc, number(call)?, count_of_32_bits(place)?, value) {
         Ok(message) => said(alloc, &message),
         Err(error) => refusal(alloc, error),
     }
@@ -135,7 +136,7 @@ fn upload_end(alloc: Global, calls: &Calls, words: &str) -> Result<String, Stop>
     let (call, words) = first_word(words);
     let (place, words) = first_word(words);
     let error = text_if_any(alloc, words)?;
-    match calls.upload_end(alloc, number(call)?, count(place)?, error) {
+    match calls.upload_end(alloc, number(call)?, count_of_32_bits(place)?, error) {
         Ok(message) => said(alloc, &message),
         Err(error) => refusal(alloc, error),
     }
@@ -144,7 +145,7 @@ fn upload_end(alloc: Global, calls: &Calls, words: &str) -> Result<String, Stop>
 /// Ends an upload, if it is live.
 fn upload_ended(alloc: Global, calls: &mut Calls, words: &str) -> Result<String, Stop> {
     let (call, place) = first_word(words);
-    calls.upload_ended(number(call)?, count(place)?);
+    calls.upload_ended(number(call)?, count_of_32_bits(place)?);
     live(alloc, calls)
 }
 

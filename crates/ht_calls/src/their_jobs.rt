@@ -13,10 +13,11 @@
 //! job does.
 
 use crate::report::{kind_name, push_act, push_id};
-use crate::stop::Stop;
-use crate::words::{ending, first_word, ids, kind, number, text, text_if_any, value, values};
+use crate::words::{ending, ids, text, text_if_any, value, values};
 use hd_calls::{Call, CallKind, Input, UnknownId};
 use hj_jobs::{AcceptError, InputError, Jobs, Stepped};
+use ht_kit::{Stop, first_word, number};
+use ht_words::call_kind;
 use hub_calc::CalcHub;
 use hv_value::Text;
 use std::alloc::{AllocError, Global};
@@ -83,7 +84,7 @@ fn id_of(alloc: Global, kind: CallKind, word: &str) -> Result<Option<Text>, Stop
 
 fn call(alloc: Global, words: &str) -> Result<Call, Stop> {
     let (word, words) = first_word(words);
-    let kind = kind(word)?;
+    let kind = call_kind(word)?;
     let (word, words) = first_word(words);
     let id = id_of(alloc, kind, word)?;
     let (word, words) = first_word(words);

@@ -1,38 +1,9 @@
 //! The words of a script: numbers, values, kinds, and lists of them. A word that is none of what is wanted is refused.
 
-use crate::stop::Stop;
-use hd_calls::CallKind;
 use hm_message::Ending;
+use ht_kit::{Stop, first_word};
 use hv_value::{Items, Text, Texts, Value, Whole};
 use std::alloc::Global;
-
-/// The first word, and what comes after the space behind it.
-pub fn first_word(words: &str) -> (&str, &str) {
-    match words.split_once(' ') {
-        Some(parts) => parts,
-        None => (words, ""),
-    }
-}
-
-/// The number of a call or a job: decimal digits, at most 2^64-1.
-pub fn number(word: &str) -> Result<u64, Stop> {
-    word.parse::<u64>().ok().ok_or(Stop::Refused)
-}
-
-/// The place of an upload, or how many there are: decimal digits, at most 2^32-1.
-pub fn count(word: &str) -> Result<u32, Stop> {
-    word.parse::<u32>().ok().ok_or(Stop::Refused)
-}
-
-/// `notify`, `call` or `stream`.
-pub fn kind(word: &str) -> Result<CallKind, Stop> {
-    match word {
-        "notify" => Ok(CallKind::Notify),
-        "call" => Ok(CallKind::Call),
-        "stream" => Ok(CallKind::Stream),
-        _ => Err(Stop::Refused),
-    }
-}
 
 /// The text, which may be empty and have spaces.
 pub fn text(alloc: Global, words: &str) -> Result<Text, Stop> {

@@ -1,13 +1,12 @@
 //! What doors and dialers in memory are asked, and what they answer.
 
-ghost use Rattle.std.specs.Prelude.{◌≢◌, IfOk, IfSome, IsTrue};
+ghost use Rattle.std.specs.Prelude.{IfOk};
 ghost use Rattle.hw_lanes.specs.Replies.{IsReply};
-ghost use Rattle.hw_door.specs.Memory.{NeverFalls};
 
-use crate::stop::Stop;
-use crate::words::{first_word, number, numbers, shown};
-use hw_door::{Dialer, Door, Event, Given, Heard, MemoryDialer, MemoryDoor, Upgrade};
-use hw_lanes::{BodyKind, Method, Reply, Text8, Vec8};
+use ht_forms::{method, never_falls};
+use ht_kit::{Stop, as_text, first_word, number, numbers};
+use hw_door::{Dialer, Door, DoorError, Event, Given, Heard, MemoryDialer, MemoryDoor, Upgrade};
+use hw_lanes::{BodyKind, Reply, Vec8};
 use std::alloc::{AllocError, Global};
 
 /// How long a call of `next` may wait, which no form in memory does.
@@ -40,24 +39,6 @@ fn event_of(alloc: Global, kind: &str, lane: u64, rest: &str) -> Result<Event, S
     }
 }
 
-/// Whether the moments never fall.
-fn never_falls(heard: &[Heard]) -> bool
-    ensures { IsTrue result → NeverFalls 0 heard.now }
-{
-    let mut rest = heard;
-    let mut last = 0;
-    loop {
-        let [first, more @ ..] = rest else {
-            return true;
-        };
-        if first.now < last {
-            return false;
-        }
-        last = first.now;
-        rest = more;
-    }
-}
-
 /// A door at which this is heard, and that fails at the calls that the words number.
 pub fn start_door(alloc: Global, heard: Vec<Heard>, failing: &str) -> Result<MemoryDoor, Stop> {
     let failing = numbers(alloc, failing)?;
@@ -80,21 +61,19 @@ pub fn start_dialer(alloc: Global, heard: Vec<Heard>, failing: &str) -> Result<M
 pub fn ask_door(alloc: Global, door: &mut MemoryDoor, words: &str) -> Result<String, Stop> {
     let (word, rest) = first_word(words);
     match word {
-        "next" => told(alloc, &door.next(WAIT)?),
+        "next" => told(alloc, door.next(WAIT)),
         "given" => all_given(alloc, door.given()),
         "reply" => {
-            let lane = number(rest)?;
-            door.reply(lane, accepted(alloc)?)?;
-            done(alloc)
+            let (lane, reply) = (number(rest)?, accepted(alloc)?);
+            done(alloc, door.reply(lane, reply))
         }
         "send" => {
             let sent = sent_of(rest)?;
-            door.send(sent.lane, sent.bytes, sent.is_text)?;
-            done(alloc)
+            done(alloc, door.send(sent.lane, sent.bytes, sent.is_text))
         }
         "shut" => {
-            door.shut(number(rest)?)?;
-            done(alloc)
+            let lane = number(rest)?;
+            done(alloc, door.shut(lane))
         }
         _ => Err(Stop::Refused),
     }
@@ -104,25 +83,35 @@ pub fn ask_door(alloc: Global, door: &mut MemoryDoor, words: &str) -> Result<Str
 pub fn ask_dialer(alloc: Global, dialer: &mut MemoryDialer, words: &str) -> Result<String, Stop> {
     let (word, rest) = first_word(words);
     match word {
-        "next" => told(alloc, &dialer.next(WAIT)?),
+        "next" => told(alloc, dialer.next(WAIT)),
         "given" => all_given(alloc, dialer.given()),
         "ask" => ask(alloc, dialer, rest, None),
         "upgrade" => ask(alloc, dialer, rest, Some(upgrade())),
         "send" => {
             let sent = sent_of(rest)?;
-            dialer.send(sent.lane, sent.bytes, sent.is_text)?;
-            done(alloc)
+            done(alloc, dialer.send(sent.lane, sent.bytes, sent.is_text))
         }
         "shut" => {
-            dialer.shut(number(rest)?)?;
-            done(alloc)
+            let lane = number(rest)?;
+            done(alloc, dialer.shut(lane))
         }
         _ => Err(Stop::Refused),
     }
 }
 
-fn done(alloc: Global) -> Result<String, Stop> {
-    Ok(String::from_str(alloc, "done")?)
+fn done(alloc: Global, answer: Result<(), DoorError>) -> Result<String, Stop> {
+    match answer {
+        Ok(()) => ht_kit::told(alloc, "done"),
+        Err(error) => failed(alloc, error),
+    }
+}
+
+/// Why a call failed.
+fn failed(alloc: Global, error: DoorError) -> Result<String, Stop> {
+    match error {
+        DoorError::Failed => Ok(format!(in alloc; "{error}")?),
+        DoorError::NoMemory => Err(Stop::NoMemory),
+    }
 }
 
 fn ask(
@@ -135,18 +124,9 @@ fn ask(
     let Some(method) = method(word) else {
         return Err(Stop::Refused);
     };
-    let lane = dialer.ask(method, target, upgrade)?;
-    Ok(format!(in alloc; "lane {lane}")?)
-}
-
-fn method(word: &str) -> Option<Method>
-    ensures { IfSome result (λ method. method ≢ Method.Other) }
-{
-    match word {
-        "GET" => Some(Method::Get),
-        "POST" => Some(Method::Post),
-        "DELETE" => Some(Method::Delete),
-        _ => None,
+    match dialer.ask(method, target, upgrade) {
+        Ok(lane) => Ok(format!(in alloc; "lane {lane}")?),
+        Err(error) => failed(alloc, error),
     }
 }
 
@@ -188,16 +168,20 @@ fn accepted(alloc: Global) -> Result<Reply, Stop>
 }
 
 /// What was heard.
-fn told(alloc: Global, heard: &Heard) -> Result<String, Stop> {
-    let now = heard.now;
-    let event = event_told(alloc, &heard.event)?;
-    Ok(format!(in alloc; "{now} {event}")?)
+fn told(alloc: Global, heard: Result<Heard, DoorError>) -> Result<String, Stop> {
+    match heard {
+        Ok(Heard { now, event }) => {
+            let event = event_told(alloc, &event)?;
+            Ok(format!(in alloc; "{now} {event}")?)
+        }
+        Err(error) => failed(alloc, error),
+    }
 }
 
 fn event_told(alloc: Global, event: &Event) -> Result<String, AllocError> {
     match event {
         Event::Bytes { lane, bytes } => {
-            let text = shown(bytes.bytes());
+            let text = as_text(bytes.bytes());
             format!(in alloc; "bytes {lane} {text}")
         }
         Event::Response { lane, status, .. } => format!(in alloc; "response {lane} {status}"),
@@ -227,7 +211,7 @@ fn given_told(alloc: Global, given: &Given) -> Result<String, AllocError> {
         }
         Given::Bytes { lane, bytes, text } => {
             let kind = if *text { "text" } else { "octets" };
-            let words = shown(bytes.bytes());
+            let words = as_text(bytes.bytes());
             format!(in alloc; "bytes {lane} {kind} {words}")
         }
         Given::Shut { lane } => format!(in alloc; "shut {lane}"),
@@ -238,7 +222,7 @@ fn given_told(alloc: Global, given: &Given) -> Result<String, AllocError> {
             ..
         } => {
             let kind = if upgrade.is_some() { "upgrade" } else { "ask" };
-            let target = shown(target.bytes());
+            let target = as_text(target.bytes());
             format!(in alloc; "{kind} {lane} {target}")
         }
     }

@@ -18,50 +18,18 @@
 //! wires start MOMENTS FAILING BYTES CALLS    wires that poll these moments, with room for so many bytes and calls; their further actions
 //!                                    are `poll`, `accept`, `connect`, `read WIRE ROOM`, `write WIRE TEXT`, `shut WIRE`, `written WIRE`
 //! lots start DRAWS FAILING           lots that draw these bytes, each sixteen times; the further action is `draw`
-//! system                             two draws of the system's are compared
+//! system                             two draws of the system's were compared
 //! ```
 #![tactic(auto)]
 
 mod doors;
 mod lots;
 mod script;
-mod stop;
 mod wires;
-mod words;
 
 use script::Bench;
-use std::io::{self, BufRead, BufReader};
 use std::process::ExitCode;
-use std::random::RandomSource;
-
-const OUT_OF_MEMORY: u8 = 7;
-
-const NO_INPUT: u8 = 3;
-
-/// Reads the script, and prints the answers.
-fn run(rt: &(impl Input + Print + AllocGlobal + RandomSource)) -> io::Result<()> {
-    let alloc = rt.alloc();
-    let mut bench = Bench::start(alloc)?;
-    for line in BufReader::new(alloc, rt.reader())?.lines(alloc) {
-        let line = line?;
-        if line.as_str() == "system" {
-            let answer = lots::of_the_system(rt);
-            println!(rt; "{answer}")?;
-        } else {
-            let answer = bench.carry_out(&line)?;
-            println!(rt; "{answer}")?;
-        }
-    }
-    Ok(())
-}
 
 fn main(rt: HostRuntime) -> ExitCode {
-    let Err(error) = run(&rt) else {
-        return ExitCode::SUCCESS;
-    };
-    if error.kind() != io::ErrorKind::OutOfMemory {
-        return ExitCode::from(NO_INPUT);
-    }
-    let _ = println!(rt; "no memory");
-    ExitCode::from(OUT_OF_MEMORY)
+    ht_kit::run(&rt, Bench::start(rt.alloc(), lots::of_the_system(&rt)))
 }

@@ -1,8 +1,8 @@
 //! The lines of a script, and the forms in memory that they speak to.
 
-use crate::stop::Stop;
-use crate::words::first_word;
 use crate::{doors, lots, wires};
+use ht_forms::{Spelling, wire_of};
+use ht_kit::{Play, Stop, first_word};
 use hw_door::{Heard, MemoryDialer, MemoryDoor, MemoryLots, MemoryWire, MemoryWires};
 use std::alloc::{AllocError, Global};
 use std::mem;
@@ -11,6 +11,8 @@ use std::mem;
 #[derive(Drop)]
 pub struct Bench {
     alloc: Global,
+    /// What comes of two draws of the system.
+    system: &'static str,
     heard: Vec<Heard>,
     wires_to_give: Vec<MemoryWire>,
     door: MemoryDoor,
@@ -21,9 +23,10 @@ pub struct Bench {
 
 impl Bench {
     /// Forms that hear, give and draw nothing.
-    pub fn start(alloc: Global) -> Result<Bench, AllocError> {
+    pub fn start(alloc: Global, system: &'static str) -> Result<Bench, AllocError> {
         Ok(Bench {
             alloc,
+            system,
             heard: Vec::new(alloc),
             wires_to_give: Vec::new(alloc),
             door: MemoryDoor::start(Vec::new(alloc), Vec::new(alloc)),
@@ -40,27 +43,6 @@ impl Bench {
         })
     }
 
-    /// Carries out the action of a line, and answers what it answers.
-    pub fn carry_out(&mut self, line: &str) -> Result<String, AllocError> {
-        match self.act(line) {
-            Ok(answer) => Ok(answer),
-            Err(Stop::Failed) => String::from_str(self.alloc, "failed"),
-            Err(Stop::Outside(why)) => format!(in self.alloc; "{why}"),
-            Err(Stop::Refused) => format!(in self.alloc; "no action: {line}"),
-            Err(Stop::NoMemory) => Err(AllocError),
-        }
-    }
-
-    fn act(&mut self, line: &str) -> Result<String, Stop> {
-        let (word, rest) = first_word(line);
-        match word {
-            "note" => Ok(format!(in self.alloc; "note {rest}")?),
-            "heard" => self.add_heard(rest),
-            "wire" => self.add_wire(rest),
-            _ => self.ask(word, rest),
-        }
-    }
-
     fn add_heard(&mut self, words: &str) -> Result<String, Stop> {
         let heard = doors::heard_of(self.alloc, words)?;
         self.heard.push(heard)?;
@@ -68,7 +50,7 @@ impl Bench {
     }
 
     fn add_wire(&mut self, words: &str) -> Result<String, Stop> {
-        let wire = wires::wire_of(self.alloc, words)?;
+        let wire = wire_of(self.alloc, words, Spelling::Text)?;
         self.wires_to_give.push(wire)?;
         self.told("to be given")
     }
@@ -114,5 +96,17 @@ impl Bench {
     fn start_lots(&mut self, words: &str) -> Result<String, Stop> {
         self.lots = lots::start(self.alloc, words)?;
         self.told("lots")
+    }
+}
+
+impl Play for Bench {
+    fn carry_out(&mut self, line: &str) -> Result<String, Stop> {
+        let (word, rest) = first_word(line);
+        match word {
+            "heard" => self.add_heard(rest),
+            "wire" => self.add_wire(rest),
+            "system" => self.told(self.system),
+            _ => self.ask(word, rest),
+        }
     }
 }

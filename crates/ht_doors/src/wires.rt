@@ -1,76 +1,18 @@
 //! What wires in memory are asked, and what they answer.
 
-ghost use Rattle.std.specs.Prelude.{IsTrue};
-ghost use Rattle.hw_door.specs.Wires.{IsRising};
-
-use crate::stop::Stop;
-use crate::words::{count, first_word, number, numbers, shown};
-use hw_door::{MemoryWire, MemoryWires, WireGiven, WireRead, Wires};
-use hw_lanes::Vec8;
+use ht_forms::is_rising;
+use ht_kit::{Stop, as_text, count, first_word, number, numbers};
+use hw_door::{MemoryWire, MemoryWires, WireRead, Wires};
 use std::alloc::Global;
+
+/// The answer to a call that failed.
+const FAILED: Stop = Stop::Failed("failed");
 
 /// How long `poll` may wait, which no form in memory does.
 const WAIT: u64 = 100;
 
 /// The most bytes that are read at once.
 const MOST_READ: usize = 8;
-
-/// A wire to give, as words say it.
-pub fn wire_of(alloc: Global, words: &str) -> Result<MemoryWire, Stop> {
-    let (from, rest) = first_word(words);
-    let (reads, writes) = first_word(rest);
-    Ok(MemoryWire {
-        from: number(from)?,
-        reads: reads_of(alloc, reads)?,
-        writes: counts(alloc, writes)?,
-    })
-}
-
-fn reads_of(alloc: Global, word: &str) -> Result<Vec<WireGiven>, Stop> {
-    let mut reads = Vec::new(alloc);
-    if word != "-" {
-        for part in word.split(',') {
-            reads.push(read_of(alloc, part)?)?;
-        }
-    }
-    Ok(reads)
-}
-
-fn read_of(alloc: Global, part: &str) -> Result<WireGiven, Stop> {
-    match part {
-        "*" => Ok(WireGiven::NotYet),
-        "!" => Ok(WireGiven::Ended),
-        _ => Ok(WireGiven::Bytes(Vec8::of(alloc, part.as_bytes())?)),
-    }
-}
-
-fn counts(alloc: Global, word: &str) -> Result<Vec<usize>, Stop> {
-    let mut counts = Vec::new(alloc);
-    if word != "-" {
-        for part in word.split(',') {
-            counts.push(count(part)?)?;
-        }
-    }
-    Ok(counts)
-}
-
-/// Whether the moments never fall.
-fn is_rising(moments: &[u64]) -> bool
-    ensures { IsTrue result → IsRising 0 moments.now }
-{
-    let mut rest = moments;
-    let mut last = 0;
-    loop {
-        let [first, more @ ..] = rest else {
-            return true;
-        };
-        if *first < last {
-            return false;
-        }
-        last = *first;
-        rest = more;
-    }
-}
 
 /// Wires that give these, as the words say.
 pub fn start(alloc: Global, wires: Vec<MemoryWire>, words: &str) -> Result<MemoryWires, Stop> {
@@ -92,15 +34,15 @@ pub fn answer(alloc: Global, wires: &mut MemoryWires, words: &str) -> Result<Str
     let (word, rest) = first_word(words);
     match word {
         "poll" => {
-            let now = wires.poll(WAIT).ok().ok_or(Stop::Failed)?;
+            let now = wires.poll(WAIT).ok().ok_or(FAILED)?;
             Ok(format!(in alloc; "at {now}")?)
         }
-        "accept" => match wires.accept().ok().ok_or(Stop::Failed)? {
+        "accept" => match wires.accept().ok().ok_or(FAILED)? {
             Some(wire) => Ok(format!(in alloc; "wire {wire}")?),
             None => Ok(String::from_str(alloc, "none")?),
         },
         "connect" => {
-            let wire = wires.connect("example.org", 80).ok().ok_or(Stop::Failed)?;
+            let wire = wires.connect("example.org", 80).ok().ok_or(FAILED)?;
             Ok(format!(in alloc; "wire {wire}")?)
         }
         _ => answer_of_wire(alloc, wires, word, rest),
@@ -120,7 +62,7 @@ fn answer_of_wire(
         "read" => read(alloc, wires, wire, count(rest)?),
         "write" => {
             let written = wires.write(wire, rest.as_bytes());
-            let count = written.ok().ok_or(Stop::Failed)?;
+            let count = written.ok().ok_or(FAILED)?;
             Ok(format!(in alloc; "wrote {count}")?)
         }
         "shut" => {
@@ -128,7 +70,7 @@ fn answer_of_wire(
             Ok(String::from_str(alloc, "shut")?)
         }
         "written" => {
-            let text = shown(wires.written(wire));
+            let text = as_text(wires.written(wire));
             Ok(format!(in alloc; "written {text}")?)
         }
         _ => Err(Stop::Refused),
@@ -139,9 +81,9 @@ fn read(alloc: Global, wires: &mut MemoryWires, wire: u64, room: usize) -> Resul
     let mut space = [0; MOST_READ];
     let room = room.min(space.len());
     let buf = &mut space[..room];
-    match wires.read(wire, buf).ok().ok_or(Stop::Failed)? {
+    match wires.read(wire, buf).ok().ok_or(FAILED)? {
         WireRead::Some(count) => {
-            let text = shown(&buf[..count.min(buf.len())]);
+            let text = as_text(&buf[..count.min(buf.len())]);
             Ok(format!(in alloc; "read {text}")?)
         }
         WireRead::NotYet => Ok(String::from_str(alloc, "not yet")?),

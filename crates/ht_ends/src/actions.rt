@@ -18,15 +18,13 @@
 //! BYTES are `text TEXT`, in which `␞` is the byte 1E, or `hex DIGITS`. A REASON is `done`, `protocol`, `in-use`, `too-many`, `flood`,
 //! `slow` or `expired`.
 
-use crate::stop::Stop;
-use crate::words::{count, first_word, moment, reason, switch};
 use hd_delivery::{Reason, Side};
+use ht_kit::{Stop, count, first_word, number, switch};
+use ht_words::reason;
 
 /// What a line of a script asks for.
 #[derive(Clone, Copy)]
 pub enum Line<'a> {
-    /// This text is printed.
-    Note(&'a str),
     /// Two ends begin with these options.
     Begin(&'a str),
     /// The two ends that began last are to do this.
@@ -65,7 +63,6 @@ pub enum Action<'a> {
 pub fn parse(line: &str) -> Result<Line<'_>, Stop> {
     let (word, rest) = first_word(line);
     match word {
-        "note" => Ok(Line::Note(rest)),
         "begin" => Ok(Line::Begin(rest)),
         "share" => Ok(Line::Do(Step::Share(rest))),
         "c" => Ok(Line::Do(step_of(Side::Client, rest)?)),
@@ -84,9 +81,9 @@ fn step_of(side: Side, words: &str) -> Result<Step<'_>, Stop> {
 fn action_of(words: &str) -> Result<Action<'_>, Stop> {
     let (verb, rest) = first_word(words);
     match verb {
-        "attach" => Ok(Action::Attach(moment(rest)?)),
-        "detach" => Ok(Action::Detach(moment(rest)?)),
-        "tick" => Ok(Action::Tick(moment(rest)?)),
+        "attach" => Ok(Action::Attach(number(rest)?)),
+        "detach" => Ok(Action::Detach(number(rest)?)),
+        "tick" => Ok(Action::Tick(number(rest)?)),
         "close" => close(rest),
         "feed" => Ok(Action::Feed(rest)),
         "take" => Ok(Action::Take),

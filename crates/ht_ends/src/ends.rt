@@ -12,12 +12,13 @@ ghost use Rattle.he_end.specs.Calls.{IsSpelled};
 
 use crate::actions::{Action, Step};
 use crate::report::{attached, codec, next_words, room, sent, silence, stand};
-use crate::stop::Stop;
-use crate::words::{bytes, first_word, limits, message, shown, switch, version};
+use crate::words::{limits, message};
 use hd_delivery::Side;
 use he_end::{Config, End, Spelled, Steps, ends_deliver, spell};
 use hm_message::{Codec, Message};
 use hq_resend::Limits;
+use ht_kit::{Stop, bytes_of, first_word, shown, switch, told};
+use ht_words::version;
 use std::alloc::{AllocError, Global};
 use std::marker::Brand;
 use std::sync::ledger::{Blank, Ledger};
@@ -103,7 +104,7 @@ fn act(alloc: Global, end: &mut End, action: Action<'_>) -> Result<String, Stop>
             Some(words) => Ok(words),
             None => told(alloc, "waits"),
         },
-        Action::Hear(words) => hear(alloc, end, &bytes(alloc, words)?),
+        Action::Hear(words) => hear(alloc, end, &bytes_of(alloc, words)?),
         Action::Out => Ok(out(alloc, end)?),
         Action::Send(json) => send(alloc, end, json),
         Action::Stand => Ok(stand(alloc, end)?),
@@ -112,13 +113,9 @@ fn act(alloc: Global, end: &mut End, action: Action<'_>) -> Result<String, Stop>
     }
 }
 
-fn told(alloc: Global, words: &str) -> Result<String, Stop> {
-    Ok(String::from_str(alloc, words)?)
-}
-
 /// Gives an end these bytes, and tells how many it takes.
 fn feed(alloc: Global, end: &mut End, words: &str) -> Result<String, Stop> {
-    let piece = bytes(alloc, words)?;
+    let piece = bytes_of(alloc, words)?;
     let taken = end.feed(&piece);
     Ok(format!(in alloc; "took {taken}")?)
 }

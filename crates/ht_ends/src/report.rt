@@ -1,9 +1,9 @@
 //! What ends answer, in words.
 
-use crate::stop::Stop;
 use hd_delivery::Got;
 use he_end::{AttachError, End, NextError, SendError};
 use hm_message::Message;
+use ht_kit::Stop;
 use std::alloc::{AllocError, Global};
 
 /// What the next frame gives, unless it waits for one.

@@ -1,9 +1,9 @@
 //! What a front answers.
 
-use crate::stop::Stop;
-use crate::words::{drawn, first_word, method, number, shown, token, yes_or_no};
+use crate::words::{drawn, method, token, yes_or_no};
 use hd_server::Life;
 use hn_server_front::{Front, FrontError, Held, Made, Route};
+use ht_kit::{Stop, as_text, first_word, number};
 use hw_lanes::{Request, Text8, Vec8};
 use std::alloc::Global;
 
@@ -18,10 +18,10 @@ pub fn route(alloc: Global, front: &Front, words: &str) -> Result<String, Stop> 
         Route::Negotiate { asked: true } => Ok(format!(in alloc; "negotiate, to be resumed")?),
         Route::Negotiate { asked: false } => Ok(format!(in alloc; "negotiate")?),
         Route::Open => Ok(format!(in alloc; "open")?),
-        Route::Socket { token } => Ok(format!(in alloc; "socket {}", shown(token.bytes()))?),
-        Route::Poll { token } => Ok(format!(in alloc; "poll {}", shown(token.bytes()))?),
-        Route::Post { token } => Ok(format!(in alloc; "post {}", shown(token.bytes()))?),
-        Route::Delete { token } => Ok(format!(in alloc; "delete {}", shown(token.bytes()))?),
+        Route::Socket { token } => Ok(format!(in alloc; "socket {}", as_text(token.bytes()))?),
+        Route::Poll { token } => Ok(format!(in alloc; "poll {}", as_text(token.bytes()))?),
+        Route::Post { token } => Ok(format!(in alloc; "post {}", as_text(token.bytes()))?),
+        Route::Delete { token } => Ok(format!(in alloc; "delete {}", as_text(token.bytes()))?),
     }
 }
 
@@ -53,12 +53,26 @@ pub fn negotiate(alloc: Global, front: &mut Front, all: bool, words: &str) -> Re
     let asked = yes_or_no(asked)?;
     let bytes = drawn(bytes)?;
     let now = number(now)?;
-    let Made { conn, body } = if all {
-        front.negotiate(alloc, asked, bytes, now)?
+    let made = if all {
+        front.negotiate(alloc, asked, bytes, now)
     } else {
-        front.negotiate_sockets(alloc, asked, bytes, now)?
+        front.negotiate_sockets(alloc, asked, bytes, now)
     };
-    Ok(format!(in alloc; "made {conn} {}", shown(body.bytes()))?)
+    let Made { conn, body } = made.map_err(stop_of)?;
+    Ok(format!(in alloc; "made {conn} {}", as_text(body.bytes()))?)
+}
+
+/// A connection without a token.
+pub fn open(alloc: Global, front: &mut Front, words: &str) -> Result<String, Stop> {
+    let conn = front.open(number(words)?).map_err(stop_of)?;
+    Ok(format!(in alloc; "made {conn}")?)
+}
+
+fn stop_of(error: FrontError) -> Stop {
+    match error {
+        FrontError::Busy => Stop::Failed("busy"),
+        FrontError::NoMemory => Stop::NoMemory,
+    }
 }
 
 /// So many connections without a token, or as many as can be made: the number of the last, and how many.

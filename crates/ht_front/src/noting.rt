@@ -1,8 +1,7 @@
 //! What is noted of a front's connections.
 
-use crate::stop::Stop;
-use crate::words::{first_word, number};
 use hn_server_front::Front;
+use ht_kit::{Stop, first_word, number};
 
 /// Notes what the word says of the connection that the words name.
 pub fn note(front: &mut Front, what: &str, words: &str) -> Result<(), Stop> {

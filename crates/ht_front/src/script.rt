@@ -1,9 +1,8 @@
 //! The lines of a script, and the front that they speak to.
 
-use crate::stop::Stop;
-use crate::words::{first_word, number};
 use crate::{asking, noting};
 use hn_server_front::Front;
+use ht_kit::{Play, Stop, first_word, number};
 use std::alloc::{AllocError, Global};
 
 /// A front.
@@ -22,38 +21,9 @@ impl Bench {
         })
     }
 
-    /// Carries out the action of a line, and answers what it answers.
-    pub fn carry_out(&mut self, line: &str) -> Result<String, AllocError> {
-        match self.act(line) {
-            Ok(answer) => Ok(answer),
-            Err(Stop::Busy) => String::from_str(self.alloc, "busy"),
-            Err(Stop::Refused) => format!(in self.alloc; "no action: {line}"),
-            Err(Stop::NoMemory) => Err(AllocError),
-        }
-    }
-
-    fn act(&mut self, line: &str) -> Result<String, Stop> {
-        let (word, rest) = first_word(line);
-        match word {
-            "note" => Ok(format!(in self.alloc; "note {rest}")?),
-            "front" => self.start_anew(),
-            "negotiate" => asking::negotiate(self.alloc, &mut self.front, true, rest),
-            "sockets" => asking::negotiate(self.alloc, &mut self.front, false, rest),
-            "open" => self.open(rest),
-            "many" => asking::open_many(self.alloc, &mut self.front, rest),
-            "expired" => asking::expired(self.alloc, &mut self.front, rest),
-            _ => self.ask(word, rest),
-        }
-    }
-
     fn start_anew(&mut self) -> Result<String, Stop> {
         self.front = Front::start(self.alloc)?;
         Ok(String::from_str(self.alloc, "a front")?)
-    }
-
-    fn open(&mut self, words: &str) -> Result<String, Stop> {
-        let conn = self.front.open(number(words)?)?;
-        Ok(format!(in self.alloc; "made {conn}")?)
     }
 
     /// What changes no connection is asked, and the rest noted.
@@ -76,5 +46,20 @@ impl Bench {
     fn yes_or_no(&self, is_so: bool) -> Result<String, Stop> {
         let word = if is_so { "yes" } else { "no" };
         Ok(String::from_str(self.alloc, word)?)
+    }
+}
+
+impl Play for Bench {
+    fn carry_out(&mut self, line: &str) -> Result<String, Stop> {
+        let (word, rest) = first_word(line);
+        match word {
+            "front" => self.start_anew(),
+            "negotiate" => asking::negotiate(self.alloc, &mut self.front, true, rest),
+            "sockets" => asking::negotiate(self.alloc, &mut self.front, false, rest),
+            "open" => asking::open(self.alloc, &mut self.front, rest),
+            "many" => asking::open_many(self.alloc, &mut self.front, rest),
+            "expired" => asking::expired(self.alloc, &mut self.front, rest),
+            _ => self.ask(word, rest),
+        }
     }
 }

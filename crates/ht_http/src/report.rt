@@ -34,7 +34,7 @@ fn request_line(alloc: Global, request: &Request) -> Result<String, AllocError> 
     let length = request.body.bytes().len();
     let body = shown_front(alloc, request.body.bytes())?;
     format!(in alloc;
-        "request {method} [{path}] [{query}] {bearer} {upgrade} {shut} {length} [{body}]\n"
+        "request {method} [{path}] [{query}] {bearer} {upgrade} {shut} {length} [{body}]"
     )
 }
 
@@ -43,48 +43,42 @@ fn response_line(alloc: Global, response: &Response) -> Result<String, AllocErro
     let accept = text_or_dash(alloc, &response.accept)?;
     let length = response.body.bytes().len();
     let body = shown_front(alloc, response.body.bytes())?;
-    format!(in alloc; "response {status} {accept} {length} [{body}]\n")
+    format!(in alloc; "response {status} {accept} {length} [{body}]")
 }
 
 fn error_line(alloc: Global, error: HttpError) -> Result<String, AllocError> {
     match error {
-        HttpError::Refused(status) => format!(in alloc; "refused {status}\n"),
+        HttpError::Refused(status) => format!(in alloc; "refused {status}"),
         HttpError::NoMemory => Err(AllocError),
     }
 }
 
-/// What a lane of requests answered. `None` is no line if it is `quiet`.
+/// What a lane of requests answered, if anything.
 pub fn requested(
     alloc: Global,
     answer: Result<Option<Request>, HttpError>,
-    quiet: bool,
-) -> Result<String, AllocError> {
+) -> Result<Option<String>, AllocError> {
     match answer {
-        Ok(Some(request)) => request_line(alloc, &request),
-        Ok(None) => nothing(alloc, quiet),
-        Err(error) => error_line(alloc, error),
+        Ok(Some(request)) => Ok(Some(request_line(alloc, &request)?)),
+        Ok(None) => Ok(None),
+        Err(error) => Ok(Some(error_line(alloc, error)?)),
     }
 }
 
-/// What a lane of responses answered. `None` is no line if it is `quiet`.
+/// What a lane of responses answered, if anything.
 pub fn responded(
     alloc: Global,
     answer: Result<Option<Response>, HttpError>,
-    quiet: bool,
-) -> Result<String, AllocError> {
+) -> Result<Option<String>, AllocError> {
     match answer {
-        Ok(Some(response)) => response_line(alloc, &response),
-        Ok(None) => nothing(alloc, quiet),
-        Err(error) => error_line(alloc, error),
+        Ok(Some(response)) => Ok(Some(response_line(alloc, &response)?)),
+        Ok(None) => Ok(None),
+        Err(error) => Ok(Some(error_line(alloc, error)?)),
     }
-}
-
-fn nothing(alloc: Global, quiet: bool) -> Result<String, AllocError> {
-    String::from_str(alloc, if quiet { "" } else { "none\n" })
 }
 
 /// A word and bytes.
 pub fn line(alloc: Global, word: &str, bytes: &[u8]) -> Result<String, AllocError> {
     let text = shown(alloc, bytes)?;
-    format!(in alloc; "{word} [{text}]\n")
+    format!(in alloc; "{word} [{text}]")
 }

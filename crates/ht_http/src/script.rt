@@ -4,6 +4,7 @@ use crate::bytes::spelled;
 use crate::report::{line, requested, responded};
 use crate::writing::{ask, reply};
 use hh_http::{HttpLane, ResponseLane, accept_key};
+use ht_kit::{Play, Stop, first_word};
 use hw_lanes::query_value;
 use std::alloc::{AllocError, Global};
 
@@ -13,11 +14,6 @@ pub struct Bench {
     alloc: Global,
     requests: HttpLane,
     responses: ResponseLane,
-}
-
-/// The word before the first space, and what follows that.
-fn split_word(text: &str) -> (&str, &str) {
-    text.split_once(' ').unwrap_or((text, ""))
 }
 
 impl Bench {
@@ -30,26 +26,31 @@ impl Bench {
         })
     }
 
-    /// Carries out the action of a line, and answers what it answers.
-    pub fn carry_out(&mut self, text: &str) -> Result<String, AllocError> {
-        let (word, rest) = split_word(text);
+    fn act(&mut self, text: &str) -> Result<String, AllocError> {
+        let (word, rest) = first_word(text);
         match word {
-            "note" => format!(in self.alloc; "note {rest}\n"),
             "lanes" => self.anew(),
             "feed" => self.feed(rest),
             "drip" => self.drip(rest),
             "fill" => self.fill(rest),
-            "next" => requested(self.alloc, self.requests.next_request(), false),
+            "next" => line_or_none(
+                self.alloc,
+                requested(self.alloc, self.requests.next_request())?,
+            ),
             "rest" => line(self.alloc, "rest", self.requests.rest()),
-            _ => self.carry_out_more(word, rest),
+            _ => self.act_more(word, rest),
         }
     }
 
-    fn carry_out_more(&mut self, word: &str, rest: &str) -> Result<String, AllocError> {
+    /// What is asked of the lane of responses, or of no lane.
+    fn act_more(&mut self, word: &str, rest: &str) -> Result<String, AllocError> {
         match word {
             "hear" => self.hear(rest),
             "hear-drip" => self.hear_drip(rest),
-            "answer" => responded(self.alloc, self.responses.next_response(), false),
+            "answer" => line_or_none(
+                self.alloc,
+                responded(self.alloc, self.responses.next_response())?,
+            ),
             "after" => line(self.alloc, "after", self.responses.rest()),
             _ => write(self.alloc, word, rest),
         }
@@ -58,61 +59,76 @@ impl Bench {
     fn anew(&mut self) -> Result<String, AllocError> {
         self.requests = HttpLane::start(self.alloc)?;
         self.responses = ResponseLane::start(self.alloc)?;
-        String::from_str(self.alloc, "lanes\n")
+        String::from_str(self.alloc, "lanes")
     }
 
     fn feed(&mut self, rest: &str) -> Result<String, AllocError> {
         let bytes = spelled(self.alloc, rest)?;
         let count = self.requests.feed(&bytes);
-        format!(in self.alloc; "fed {count}\n")
+        format!(in self.alloc; "fed {count}")
     }
 
     fn hear(&mut self, rest: &str) -> Result<String, AllocError> {
         let bytes = spelled(self.alloc, rest)?;
         let count = self.responses.feed(&bytes);
-        format!(in self.alloc; "fed {count}\n")
+        format!(in self.alloc; "fed {count}")
     }
 
     /// Feeds pieces of as many bytes as the first word says, and looks for a request after each.
     fn drip(&mut self, rest: &str) -> Result<String, AllocError> {
-        let (size, rest) = split_word(rest);
+        let (size, rest) = first_word(rest);
         let bytes = spelled(self.alloc, rest)?;
         let mut answers = String::new(self.alloc);
         for piece in bytes.chunks(size.parse::<usize>().unwrap_or(1).max(1)) {
             self.requests.feed(piece);
-            let answer = requested(self.alloc, self.requests.next_request(), true)?;
-            answers.push_str(answer.as_str())?;
+            if let Some(answer) = requested(self.alloc, self.requests.next_request())? {
+                write!(answers, "{answer}\n")?;
+            }
         }
-        answers.push_str("dripped\n")?;
+        answers.push_str("dripped")?;
         Ok(answers)
     }
 
     fn hear_drip(&mut self, rest: &str) -> Result<String, AllocError> {
-        let (size, rest) = split_word(rest);
+        let (size, rest) = first_word(rest);
         let bytes = spelled(self.alloc, rest)?;
         let mut answers = String::new(self.alloc);
         for piece in bytes.chunks(size.parse::<usize>().unwrap_or(1).max(1)) {
             self.responses.feed(piece);
-            let answer = responded(self.alloc, self.responses.next_response(), true)?;
-            answers.push_str(answer.as_str())?;
+            if let Some(answer) = responded(self.alloc, self.responses.next_response())? {
+                write!(answers, "{answer}\n")?;
+            }
         }
-        answers.push_str("dripped\n")?;
+        answers.push_str("dripped")?;
         Ok(answers)
     }
 
     /// Feeds as many bytes as the first word says, each the first of those after it.
     fn fill(&mut self, rest: &str) -> Result<String, AllocError> {
-        let (count, rest) = split_word(rest);
+        let (count, rest) = first_word(rest);
         let byte = rest.as_bytes().first().copied().unwrap_or(b'x');
         let mut bytes = Vec::new(self.alloc);
         bytes.resize(count.parse::<usize>().unwrap_or(0), byte)?;
         let count = self.requests.feed(&bytes);
-        format!(in self.alloc; "fed {count}\n")
+        format!(in self.alloc; "fed {count}")
+    }
+}
+
+impl Play for Bench {
+    fn carry_out(&mut self, line: &str) -> Result<String, Stop> {
+        Ok(self.act(line)?)
+    }
+}
+
+fn line_or_none(alloc: Global, answer: Option<String>) -> Result<String, AllocError> {
+    match answer {
+        Some(line) => Ok(line),
+        None => String::from_str(alloc, "none"),
     }
 }
 
 fn refused(alloc: Global, word: &str) -> Result<String, AllocError> {
-    format!(in alloc; "no action {word}\n")
+    format!(in alloc; "no action {word}")
 }
 
 /// What is written, and what needs no lane.
@@ -131,8 +147,8 @@ fn write(alloc: Global, word: &str, rest: &str) -> Result<String, AllocError> {
 }
 
 fn write_reply_of(alloc: Global, rest: &str) -> Result<String, AllocError> {
-    let (status, rest) = split_word(rest);
-    let (kind, rest) = split_word(rest);
+    let (status, rest) = first_word(rest);
+    let (kind, rest) = first_word(rest);
     let bytes = spelled(alloc, rest)?;
     match reply(alloc, status, kind, &bytes)? {
         Some(text) => line(alloc, "reply", &text),
@@ -141,9 +157,9 @@ fn write_reply_of(alloc: Global, rest: &str) -> Result<String, AllocError> {
 }
 
 fn write_ask_of(alloc: Global, rest: &str) -> Result<String, AllocError> {
-    let (method, rest) = split_word(rest);
-    let (host, rest) = split_word(rest);
-    let (target, rest) = split_word(rest);
+    let (method, rest) = first_word(rest);
+    let (host, rest) = first_word(rest);
+    let (target, rest) = first_word(rest);
     match ask(alloc, method, host, target, rest.as_bytes())? {
         Some(text) => line(alloc, "ask", &text),
         None => refused(alloc, method),
@@ -151,11 +167,11 @@ fn write_ask_of(alloc: Global, rest: &str) -> Result<String, AllocError> {
 }
 
 fn value_of(alloc: Global, rest: &str) -> Result<String, AllocError> {
-    let (query, name) = split_word(rest);
+    let (query, name) = first_word(rest);
     let query = spelled(alloc, query)?;
     let name = spelled(alloc, name)?;
     match query_value(alloc, &query, &name)? {
         Some(value) => line(alloc, "value", value.bytes()),
-        None => String::from_str(alloc, "no value\n"),
+        None => String::from_str(alloc, "no value"),
     }
 }

@@ -1,9 +1,10 @@
 //! Replies and asks of a script.
-ghost use Rattle.std.specs.Prelude.{◌≢◌, IfSome};
+ghost use Rattle.std.specs.Prelude.{IfSome};
 ghost use Rattle.ht_http.specs.Plain.{IsPlain};
 
 use hh_http::{write_ask, write_reply};
-use hw_lanes::{BodyKind, Method, Reply, Text8, Vec8};
+use ht_forms::method;
+use hw_lanes::{BodyKind, Reply, Text8, Vec8};
 use std::alloc::{AllocError, Global};
 
 /// The status that the word names, if such a reply may have a body.
@@ -89,17 +90,6 @@ pub fn reply(
     match plain_status(status) {
         Some(status) => Ok(Some(plain(alloc, status, kind(kind_word), bytes)?)),
         None => Ok(None),
-    }
-}
-
-fn method(word: &str) -> Option<Method>
-    ensures { IfSome result (λ method. method ≢ Method.Other) }
-{
-    match word {
-        "GET" => Some(Method::Get),
-        "POST" => Some(Method::Post),
-        "DELETE" => Some(Method::Delete),
-        _ => None,
     }
 }
 

@@ -1,9 +1,9 @@
 //! A registry of groups and users, alone and with many members.
 
 use crate::report::push_numbers;
-use crate::stop::Stop;
-use crate::words::{first_word, name, number};
+use crate::words::name;
 use hg_groups::Registry;
+use ht_kit::{Stop, first_word, number};
 use hv_value::Text;
 use std::alloc::{AllocError, Global};
 

@@ -1,10 +1,11 @@
 //! The jobs of hubs: what each does at its turns.
 
 use crate::report::push_act;
-use crate::stop::Stop;
-use crate::words::{count, ending, first_word, kind, number, text, value};
+use crate::words::{ending, text, value};
 use hd_calls::{Act, Call, CallKind, Input};
 use hj_jobs::Hub;
+use ht_kit::{Stop, count_of_32_bits, first_word, number};
+use ht_words::call_kind;
 use hub_calc::{
     CalcHub, ClientHub, clients_answer, methods_do_their_work, nothing_is_handed_up, only_ask_asks,
     refusals_have_an_order, sums_add_up,
@@ -113,7 +114,7 @@ fn is_item(act: &Act, number: u64) -> bool {
 /// This many ids of uploads.
 fn ids(alloc: Global, word: &str) -> Result<Texts, Stop> {
     let mut ids = Vec::new(alloc);
-    for _ in 0..count(word)? {
+    for _ in 0..count_of_32_bits(word)? {
         ids.push(text(alloc, "7")?)?;
     }
     Ok(Texts::of(ids))
@@ -141,7 +142,7 @@ fn call(alloc: Global, words: &str) -> Result<Call, Stop> {
     let (word, rest) = first_word(words);
     let (target, rest) = first_word(rest);
     let (uploads, arguments) = first_word(rest);
-    let kind = kind(word)?;
+    let kind = call_kind(word)?;
     Ok(Call {
         id: id(alloc, kind)?,
         kind,

@@ -1,9 +1,9 @@
 //! A keeper in memory.
 
 use crate::report::push_text;
-use crate::stop::Stop;
-use crate::words::{count, first_word, numbers, text};
-use hk_keeper::{Keeper, MemoryKeeper, ask_all};
+use crate::words::text;
+use hk_keeper::{KeepError, Keeper, MemoryKeeper, ask_all};
+use ht_kit::{Stop, count_of_32_bits, first_word, numbers};
 use hv_value::{Text, Texts};
 use std::alloc::Global;
 
@@ -44,13 +44,14 @@ fn log(alloc: Global, keeper: &mut MemoryKeeper, words: &str) -> Result<String, 
     let (room, rest) = first_word(words);
     let (who, said) = first_word(rest);
     let (room, who, said) = (text(alloc, room)?, text(alloc, who)?, text(alloc, said)?);
-    keeper.log(alloc, &room, &who, &said)?;
+    keeper.log(alloc, &room, &who, &said).map_err(stop_of)?;
     Ok(String::from_str(alloc, "kept")?)
 }
 
 fn history(alloc: Global, keeper: &mut MemoryKeeper, words: &str) -> Result<String, Stop> {
     let (room, most) = first_word(words);
-    let texts = keeper.history(alloc, &text(alloc, room)?, count(most)?)?;
+    let (room, most) = (text(alloc, room)?, count_of_32_bits(most)?);
+    let texts = keeper.history(alloc, &room, most).map_err(stop_of)?;
     told(alloc, &texts)
 }
 
@@ -63,7 +64,8 @@ fn told(alloc: Global, texts: &Texts) -> Result<String, Stop> {
 }
 
 fn user(alloc: Global, keeper: &mut MemoryKeeper, token: &str) -> Result<String, Stop> {
-    let Some(name) = keeper.user_of(alloc, &text(alloc, token)?)? else {
+    let token = text(alloc, token)?;
+    let Some(name) = keeper.user_of(alloc, &token).map_err(stop_of)? else {
         return Ok(String::from_str(alloc, "nobody")?);
     };
     let mut told = String::new(alloc);
@@ -73,13 +75,14 @@ fn user(alloc: Global, keeper: &mut MemoryKeeper, token: &str) -> Result<String,
 
 fn add(alloc: Global, keeper: &mut MemoryKeeper, words: &str) -> Result<String, Stop> {
     let (token, name) = first_word(words);
-    let is_new = keeper.add_user(alloc, &text(alloc, token)?, &text(alloc, name)?)?;
+    let (token, name) = (text(alloc, token)?, text(alloc, name)?);
+    let is_new = keeper.add_user(alloc, &token, &name).map_err(stop_of)?;
     let answer = if is_new { "new" } else { "known" };
     Ok(String::from_str(alloc, answer)?)
 }
 
 fn rows(alloc: Global, keeper: &mut MemoryKeeper) -> Result<String, Stop> {
-    let rows = keeper.rows()?;
+    let rows = keeper.rows().map_err(stop_of)?;
     Ok(format!(in alloc; "{rows} rows")?)
 }
 
@@ -101,6 +104,13 @@ fn each(alloc: Global, keeper: &mut MemoryKeeper, words: &str) -> Result<String,
     let (room, said) = first_word(rest);
     let user = (text(alloc, token)?, text(alloc, name)?);
     let row = (text(alloc, room)?, text(alloc, said)?);
-    let texts = ask_all(keeper, alloc, &user, &row)?;
+    let texts = ask_all(keeper, alloc, &user, &row).map_err(stop_of)?;
     told(alloc, &texts)
+}
+
+fn stop_of(error: KeepError) -> Stop {
+    match error {
+        KeepError::Failed => Stop::Failed("failed"),
+        KeepError::NoMemory => Stop::NoMemory,
+    }
 }

@@ -1,10 +1,9 @@
 //! The lines of a script, and what they speak to.
 
 use crate::groups::Groups;
-use crate::stop::Stop;
-use crate::words::first_word;
 use crate::{hubs, keeper};
 use hk_keeper::MemoryKeeper;
+use ht_kit::{Play, Stop, first_word};
 use std::alloc::{AllocError, Global};
 
 /// A registry and a keeper. Hubs keep nothing.
@@ -24,27 +23,6 @@ impl Bench {
         })
     }
 
-    /// Carries out the action of a line, and answers what it answers.
-    pub fn carry_out(&mut self, line: &str) -> Result<String, AllocError> {
-        match self.act(line) {
-            Ok(answer) => Ok(answer),
-            Err(Stop::Failed) => String::from_str(self.alloc, "failed"),
-            Err(Stop::Refused) => format!(in self.alloc; "no action: {line}"),
-            Err(Stop::NoMemory) => Err(AllocError),
-        }
-    }
-
-    fn act(&mut self, line: &str) -> Result<String, Stop> {
-        let (word, rest) = first_word(line);
-        match word {
-            "note" => Ok(String::from_str(self.alloc, line)?),
-            "count" => hubs::count_numbers(self.alloc, rest),
-            "groups" => self.groups.ask(self.alloc, rest),
-            "keeper" => self.ask_keeper(rest),
-            _ => hubs::play(self.alloc, word, rest),
-        }
-    }
-
     /// Makes a new keeper, or asks the one that is there.
     fn ask_keeper(&mut self, words: &str) -> Result<String, Stop> {
         let (word, rest) = first_word(words);
@@ -53,5 +31,17 @@ impl Bench {
         }
         self.keeper = keeper::start(self.alloc, rest)?;
         Ok(String::from_str(self.alloc, "a keeper")?)
+    }
+}
+
+impl Play for Bench {
+    fn carry_out(&mut self, line: &str) -> Result<String, Stop> {
+        let (word, rest) = first_word(line);
+        match word {
+            "count" => hubs::count_numbers(self.alloc, rest),
+            "groups" => self.groups.ask(self.alloc, rest),
+            "keeper" => self.ask_keeper(rest),
+            _ => hubs::play(self.alloc, word, rest),
+        }
     }
 }

@@ -4,10 +4,9 @@
 //! the numbers that look random begin. The answer is `all alike`, or the first call at which they differ.
 
 use crate::plain::Plain;
-use crate::stop::Stop;
-use crate::words::{count, first_word, number, switch, told};
 use hd_delivery::MOST_FRAMING;
 use hq_resend::{Frame, Limits, Resend};
+use ht_kit::{Stop, count, first_word, number, switch, told};
 use std::alloc::{AllocError, Global};
 
 /// How many calls are made of each buffer.

@@ -17,13 +17,13 @@
 //! ```
 
 use crate::alike;
-use crate::stop::Stop;
-use crate::words::{count, first_word, limits, number, switch, told};
+use crate::words::limits;
 use hd_delivery::{MOST_FRAMING, MOST_MESSAGES, numbers_are_named};
 use hq_resend::{
     Beyond, Frame, Gap, Limits, PushError, Resend, buffer_is_within, intake_is_numbering,
     next_is_in_order,
 };
+use ht_kit::{Stop, count, first_word, number, switch, told};
 use std::alloc::{AllocError, Global};
 
 /// Of so many owners of a frame one is looked at.

@@ -8,9 +8,8 @@
 //! processed        how many messages were processed
 //! ```
 
-use crate::stop::Stop;
-use crate::words::{first_word, number, told};
 use hq_resend::Intake;
+use ht_kit::{Stop, first_word, number, told};
 use std::alloc::Global;
 
 /// Carries out an action, and answers what comes of it.

@@ -10,9 +10,7 @@
 //!
 //! What is read is a message in JSON, in which `␞` is the byte 1E, or `waits`.
 
-use crate::stop::Stop;
-use crate::words::{bytes, codec, first_word, shown, side, told};
-use hd_delivery::Side;
+use crate::words::{codec, side};
 use he_wire::{
     Handshake, HandshakeFault, LinkFault, answers_are_read, answers_are_spelled, bytes_are_read,
     has_wire, numbers_are_named, read_handshake, read_wire_message, reads_once, wire_is_faithful,
@@ -22,6 +20,7 @@ use hf_split::{Framing, Splitter};
 use hm_codec::{framing, write_message};
 use hm_message::{Codec, Read};
 use hs_shake::Shake;
+use ht_kit::{Stop, bytes_of, first_word, shown, told};
 use std::alloc::{AllocError, Global};
 
 /// The longest frame that is read here, in bytes.
@@ -64,7 +63,7 @@ fn fed(alloc: Global, framing: Framing, bytes: &[u8]) -> Result<Splitter, AllocE
 fn begin(alloc: Global, words: &str) -> Result<Link, Stop> {
     let (codec_word, rest) = first_word(words);
     let codec = codec(codec_word)?;
-    let bytes = bytes(alloc, rest)?;
+    let bytes = bytes_of(alloc, rest)?;
     Ok(Link {
         codec,
         splitter: fed(alloc, framing(codec), &bytes)?,
@@ -106,7 +105,7 @@ fn later(alloc: Global, link: &Link) -> Result<String, Stop> {
 fn first(alloc: Global, words: &str) -> Result<String, Stop> {
     let (side_word, rest) = first_word(words);
     let side = side(side_word)?;
-    let bytes = bytes(alloc, rest)?;
+    let bytes = bytes_of(alloc, rest)?;
     let splitter = fed(alloc, Framing::Record, &bytes)?;
     match read_handshake(alloc, side, &splitter) {
         Ok(None) => told(alloc, "waits"),

@@ -13,14 +13,14 @@
 //!
 //! A FAULT is `not-json`, `missing-protocol`, `wrong-error`, `unspoken`, `version NUMBER`, `refused TEXT` or `no-memory`.
 
-use crate::stop::Stop;
-use crate::words::{bytes, first_word, shake, shown, told};
+use crate::words::shake;
 use hm_message::{Codec, Field};
 use hs_shake::{
     MOST_HANDSHAKE, Shake, ShakeError, numbers_are_named, one_request_meaning,
     one_response_meaning, read_request, read_response, refusals_are_read, requests_are_read,
     response, response_is_read, texts_are_plain, texts_are_short, write_request, write_response,
 };
+use ht_kit::{Stop, bytes_of, first_word, shown, told};
 use hv_value::Text;
 use std::alloc::Global;
 
@@ -31,9 +31,9 @@ const BEFORE: &str = "before";
 pub fn answer(alloc: Global, words: &str) -> Result<String, Stop> {
     let (verb, rest) = first_word(words);
     match verb {
-        "request" => asked(alloc, &bytes(alloc, rest)?),
-        "refuse" => refused(alloc, &bytes(alloc, rest)?),
-        "response" => said(alloc, &bytes(alloc, rest)?),
+        "request" => asked(alloc, &bytes_of(alloc, rest)?),
+        "refuse" => refused(alloc, &bytes_of(alloc, rest)?),
+        "response" => said(alloc, &bytes_of(alloc, rest)?),
         "ask" => ask(alloc, shake(rest)?),
         "take" => take(alloc),
         "lend" => Ok(shown(alloc, response(None))?),

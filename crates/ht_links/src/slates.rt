@@ -12,11 +12,12 @@
 //! REASON `done`, `protocol`, `in-use`, `too-many`, `flood`, `slow` or `expired`. What stands on the slate is shown as text, in which `␞` is
 //! the byte 1E, or, in MessagePack, as hex digits. If nothing does, that is `nothing`.
 
-use crate::stop::Stop;
-use crate::words::{bytes, codec, first_word, number, reason, shake, shown, switch, told};
+use crate::words::{codec, shake};
 use he_wire::{Control, ControlBuffer, MOST_CONTROL, unframed_size};
 use hf_split::{Framing, GREATEST_LIMIT, wrap};
 use hm_message::Codec;
+use ht_kit::{Stop, bytes_of, first_word, number, shown, switch};
+use ht_words::reason;
 use std::alloc::{AllocError, Global};
 
 /// Carries out an action, and answers what comes of it.
@@ -37,7 +38,7 @@ pub fn answer(
             Ok(text_on(alloc, control_buffer)?)
         }
         "most" => Ok(format!(in alloc; "{MOST_CONTROL}")?),
-        "wrap" => wrapped(alloc, &bytes(alloc, rest)?),
+        "wrap" => wrapped(alloc, &bytes_of(alloc, rest)?),
         _ => Err(Stop::Refused),
     }
 }

@@ -5,8 +5,8 @@ ghost use Rattle.hm_message.specs.Message.{Fits};
 ghost use Rattle.hd_calls.specs.Hubs.{Invoked};
 ghost use Rattle.hp_peer.specs.Calling.{IsNotice};
 
-use crate::stop::Stop;
 use hm_message::{Headers, Message};
+use ht_kit::Stop;
 use hv_value::{Items, Text, Texts, Value};
 use std::alloc::Global;
 

@@ -4,9 +4,9 @@ ghost use Rattle.std.specs.Prelude.{◌≡◌, refl};
 ghost use Rattle.std.specs.Result.{result_err};
 ghost use Rattle.ht_machine.specs.Deals.{Delivers, Changes, codec_at, kept_in, taken, slowed};
 
-use crate::stop::Stop;
 use he_end::{SendError, Spelled};
 use hm_message::{Codec, Message};
+use ht_kit::Stop;
 use hub_machine::Members;
 use indexmap::IndexMap;
 use std::alloc::{AllocError, Global};

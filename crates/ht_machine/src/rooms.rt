@@ -22,14 +22,13 @@
 
 ghost use Rattle.std.specs.Prelude.{◌≡◌, ◌<◌};
 
-use crate::stop::Stop;
-use crate::words::{bytes, first_word, number, numbers};
 use hd_delivery::{Reason, State};
 use he_end::{Config, Steps};
 use hk_keeper::MemoryKeeper;
 use hm_message::Codec;
 use hp_peer::{Did, PeerError};
 use hq_resend::Limits;
+use ht_kit::{Stop, first_word, from_digits, number, numbers};
 use hub_machine::Machine;
 use hub_rooms::RoomsHub;
 use hv_value::Text;
@@ -161,7 +160,7 @@ impl Rooms {
     fn hear_bytes(&mut self, words: &str) -> Result<String, Stop> {
         let (conn, rest) = first_word(words);
         let (now, digits) = first_word(rest);
-        let bytes = bytes(self.alloc, digits)?;
+        let bytes = from_digits(self.alloc, digits)?;
         self.feed(number(conn)?, number(now)?, &bytes)
     }
 

@@ -4,8 +4,8 @@ use crate::notices::notice;
 use crate::room::Room;
 use crate::rooms::Rooms;
 use crate::sending::send;
-use crate::stop::Stop;
-use crate::words::{codec, conns, first_word, number};
+use crate::words::{codec, conns};
+use ht_kit::{Play, Stop, first_word, number};
 use std::alloc::{AllocError, Global};
 
 /// A room, and a machine.
@@ -24,27 +24,6 @@ impl Bench {
             room: Room::start(alloc),
             rooms: Rooms::start(alloc, 1, Vec::new(alloc))?,
         })
-    }
-
-    /// Carries out the action of a line, and answers what comes of it.
-    pub fn carry_out(&mut self, line: &str) -> Result<String, AllocError> {
-        match self.act(line) {
-            Ok(answer) => Ok(answer),
-            Err(Stop::Refused) => format!(in self.alloc; "no action: {line}"),
-            Err(Stop::NoMemory) => Err(AllocError),
-        }
-    }
-
-    fn act(&mut self, line: &str) -> Result<String, Stop> {
-        let (word, rest) = first_word(line);
-        match word {
-            "note" => Ok(format!(in self.alloc; "note {rest}")?),
-            "room" => self.start_anew(),
-            "member" => self.enter(rest),
-            "spread" => self.spread(rest),
-            "got" => self.got(rest),
-            verb => self.rooms.act(verb, rest),
-        }
     }
 
     fn start_anew(&mut self) -> Result<String, Stop> {
@@ -73,5 +52,18 @@ impl Bench {
     fn got(&self, words: &str) -> Result<String, Stop> {
         let conn = number(words)?;
         Ok(self.room.told(self.alloc, conn)?)
+    }
+}
+
+impl Play for Bench {
+    fn carry_out(&mut self, line: &str) -> Result<String, Stop> {
+        let (word, rest) = first_word(line);
+        match word {
+            "room" => self.start_anew(),
+            "member" => self.enter(rest),
+            "spread" => self.spread(rest),
+            "got" => self.got(rest),
+            verb => self.rooms.act(verb, rest),
+        }
     }
 }

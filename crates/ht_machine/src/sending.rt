@@ -9,9 +9,9 @@ ghost use Rattle.hub_machine.specs.Spreads.{codecs_among, is_spoken};
 ghost use Rattle.ht_machine.specs.Deals.{codec_at};
 
 use crate::room::Room;
-use crate::stop::Stop;
 use he_end::Steps;
 use hm_message::{Codec, Message};
+use ht_kit::Stop;
 use hub_machine::{Members, spread};
 use std::alloc::Global;
 use std::marker::Brand;

@@ -3,19 +3,9 @@
 ghost use Rattle.std.specs.Prelude.{IfOk, OnOk, nat_eq};
 ghost use Rattle.std.specs.List.{IsDistinct};
 
-use crate::stop::Stop;
 use hm_message::Codec;
+use ht_kit::{Stop, number};
 use std::alloc::Global;
-
-/// The word before the first space, and what follows that.
-pub fn first_word(words: &str) -> (&str, &str) {
-    words.split_once(' ').unwrap_or((words, ""))
-}
-
-/// Decimal digits of a number up to 2^64-1.
-pub fn number(word: &str) -> Result<u64, Stop> {
-    word.parse::<u64>().ok().ok_or(Stop::Refused)
-}
 
 /// `json` or `pack`, or `none`.
 pub fn codec(word: &str) -> Result<Option<Codec>, Stop> {
@@ -39,25 +29,6 @@ pub fn conns(alloc: Global, word: &str) -> Result<Vec<u64>, Stop>
         add(&mut conns, number(part)?)?;
     }
     Ok(conns)
-}
-
-/// Numbers with a comma between two, or none for `-`.
-pub fn numbers(alloc: Global, word: &str) -> Result<Vec<u64>, Stop> {
-    let mut numbers = Vec::new(alloc);
-    if word == "-" {
-        return Ok(numbers);
-    }
-    for part in word.split(',') {
-        numbers.push(number(part)?)?;
-    }
-    Ok(numbers)
-}
-
-/// The bytes of hexadecimal digits.
-pub fn bytes(alloc: Global, digits: &str) -> Result<Vec<u8>, Stop> {
-    hex::decode(alloc, digits.as_bytes())
-        .ok()
-        .ok_or(Stop::Refused)
 }
 
 /// One more, which is new.

@@ -1,12 +1,12 @@
 //! What a field's value is to a message. Where a function copies the value's parts and another takes them, both are to say the same.
 
 use crate::headers::pairs_words;
-use crate::stop::Stop;
 use crate::words::{texts_words, told};
 use hm_message::{
     headers_in, into_headers, into_items, into_text, into_texts, items_in, number_in, text_in,
     texts_in,
 };
+use ht_kit::Stop;
 use hv_value::Value;
 use std::alloc::{AllocError, Global};
 

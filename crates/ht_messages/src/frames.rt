@@ -1,11 +1,13 @@
 //! Frames of both codecs: what they say, and how their messages are written.
 
 use crate::questions::Written;
-use crate::stop::Stop;
-use crate::words::{bytes, shown, text};
+use crate::words::{shown, text};
 use hm_json::Refusal;
 use hm_message::{Codec, Message, Read};
 use hm_pack::PackRefusal;
+use ht_kit::{Stop, from_digits};
+use hv_json::JsonError;
+use hv_pack::PackError;
 use hv_value::Value;
 use json::Scratch;
 use std::alloc::Global;
@@ -31,7 +33,7 @@ pub fn read_again(
             Ok(alone)
         }
         Written::Pack(digits) => {
-            let frame = bytes(alloc, digits)?;
+            let frame = from_digits(alloc, digits)?;
             pack_words(alloc, hm_pack::read_message(alloc, &frame))
         }
     }
@@ -93,8 +95,14 @@ pub fn are_same(alloc: Global, pack: &str, json: &str) -> Result<bool, Stop> {
 
 fn message_of(alloc: Global, frame: Written<'_>) -> Result<Message, Stop> {
     let said = match frame {
-        Written::Json(words) => hm_json::read_message(alloc, text(alloc, words)?.as_bytes())?,
-        Written::Pack(digits) => hm_pack::read_message(alloc, &bytes(alloc, digits)?)?,
+        Written::Json(words) => {
+            let frame = text(alloc, words)?;
+            hm_json::read_message(alloc, frame.as_bytes()).map_err(of_json)?
+        }
+        Written::Pack(digits) => {
+            let frame = from_digits(alloc, digits)?;
+            hm_pack::read_message(alloc, &frame).map_err(of_pack)?
+        }
     };
     match said {
         Read::Message(message) => Ok(message),
@@ -105,14 +113,48 @@ fn message_of(alloc: Global, frame: Written<'_>) -> Result<Message, Stop> {
 /// A value, after which no byte is left.
 pub fn value_of(alloc: Global, value: Written<'_>) -> Result<Value, Stop> {
     match value {
-        Written::Json(words) => Ok(hv_json::read_value(alloc, text(alloc, words)?.as_bytes())?),
+        Written::Json(words) => {
+            let text = text(alloc, words)?;
+            hv_json::read_value(alloc, text.as_bytes()).map_err(of_json_value)
+        }
         Written::Pack(digits) => {
-            let bytes = bytes(alloc, digits)?;
-            let (value, end) = hv_pack::read_value(alloc, &bytes, 0)?;
+            let bytes = from_digits(alloc, digits)?;
+            let read = hv_pack::read_value(alloc, &bytes, 0);
+            let (value, end) = read.map_err(of_pack_value)?;
             if end < bytes.len() {
                 return Err(Stop::Refused);
             }
             Ok(value)
         }
+    }
+}
+
+// ---- why a line with a faulty frame or value isn't carried out
+
+fn of_json(refusal: Refusal) -> Stop {
+    match refusal {
+        Refusal::NoMemory => Stop::NoMemory,
+        _ => Stop::Refused,
+    }
+}
+
+fn of_pack(refusal: PackRefusal) -> Stop {
+    match refusal {
+        PackRefusal::NoMemory => Stop::NoMemory,
+        _ => Stop::Refused,
+    }
+}
+
+fn of_json_value(error: JsonError) -> Stop {
+    match error {
+        JsonError::NoMemory => Stop::NoMemory,
+        _ => Stop::Refused,
+    }
+}
+
+fn of_pack_value(error: PackError) -> Stop {
+    match error {
+        PackError::NoMemory => Stop::NoMemory,
+        _ => Stop::Refused,
     }
 }

@@ -1,9 +1,9 @@
 //! Headers, which are made of words `KEY=VALUE`.
 
 use crate::questions::Headed;
-use crate::stop::Stop;
 use crate::words::verdict;
 use hm_message::Headers;
+use ht_kit::Stop;
 use hv_value::Text;
 use std::alloc::{AllocError, Global};
 

@@ -12,36 +12,11 @@ mod headers;
 mod questions;
 mod samples;
 mod script;
-mod stop;
 mod words;
 
-use script::Play;
-use std::io::{self, BufRead, BufReader};
+use script::Bench;
 use std::process::ExitCode;
 
-const OUT_OF_MEMORY: u8 = 7;
-
-const NO_INPUT: u8 = 3;
-
-/// Reads the script, and prints the answers.
-fn run(rt: &(impl Input + Print + AllocGlobal)) -> io::Result<()> {
-    let alloc = rt.alloc();
-    let mut play = Play::start(alloc);
-    for line in BufReader::new(alloc, rt.reader())?.lines(alloc) {
-        let line = line?;
-        let answer = play.answer(alloc, &line)?;
-        println!(rt; "{answer}")?;
-    }
-    Ok(())
-}
-
 fn main(rt: HostRuntime) -> ExitCode {
-    let Err(error) = run(&rt) else {
-        return ExitCode::SUCCESS;
-    };
-    if error.kind() != io::ErrorKind::OutOfMemory {
-        return ExitCode::from(NO_INPUT);
-    }
-    let _ = println!(rt; "no memory");
-    ExitCode::from(OUT_OF_MEMORY)
+    ht_kit::run(&rt, Ok(Bench::start(rt.alloc())))
 }

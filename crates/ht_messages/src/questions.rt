@@ -1,7 +1,6 @@
 //! What a line asks, and what it is answered:
 //!
 //! ```text
-//! note TEXT                      is printed
 //! read FRAME                     what the frame says: its message, written again, or `Unknown NUMBER`; or why it is refused
 //! write CODEC FRAME              the message of the frame, written in this codec after the bytes `out: `
 //! same DIGITS TEXT               whether a frame in MessagePack and one in JSON say one message: `same` or `different`
@@ -20,15 +19,13 @@
 //! A CODEC is `json` or `pack`. A FRAME or VALUE is `json TEXT`, in which `␤` is a line feed, or `pack DIGITS`, the hexadecimal digits of
 //! MessagePack. PAIRS are words `KEY=VALUE`.
 
-use crate::stop::Stop;
-use crate::words::{codec, count, first_word, part, whole};
+use crate::words::{codec, part, whole};
 use hm_message::{Codec, Field};
+use ht_kit::{Stop, count, first_word};
 
 /// What a line of a script asks.
 #[derive(Clone, Copy)]
 pub enum Question<'a> {
-    /// This text is printed.
-    Note(&'a str),
     Read(Written<'a>),
     Write(Codec, Written<'a>),
     /// Whether these say the same.
@@ -69,7 +66,6 @@ pub enum Sampled<'a> {
 pub fn parse(line: &str) -> Result<Question<'_>, Stop> {
     let (word, rest) = first_word(line);
     match word {
-        "note" => Ok(Question::Note(rest)),
         "read" => Ok(Question::Read(written_of(rest)?)),
         "write" => write(rest),
         "same" => {

@@ -6,10 +6,10 @@
 
 use crate::headers::headers_of;
 use crate::questions::Sampled;
-use crate::stop::Stop;
 use crate::words::verdict;
 use hm_message::{Ending, Headers, Message};
-use hv_value::{Items, Text, Texts, Value};
+use ht_kit::Stop;
+use hv_value::{Items, Text, Texts, Value, ValueError};
 use std::alloc::{AllocError, Global};
 
 const ID: &str = "123";
@@ -131,5 +131,9 @@ fn nested(alloc: Global, levels: usize) -> Result<Value, Stop> {
 fn list_of(alloc: Global, value: Value) -> Result<Items, Stop> {
     let mut values = Vec::new(alloc);
     values.push(value)?;
-    Ok(Items::of(values)?)
+    match Items::of(values) {
+        Ok(items) => Ok(items),
+        Err(ValueError::TooDeep) => Err(Stop::Refused),
+        Err(ValueError::NoMemory) => Err(Stop::NoMemory),
+    }
 }

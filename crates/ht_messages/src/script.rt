@@ -5,38 +5,31 @@ use crate::frames::{are_same, read_again, value_of, write_in};
 use crate::headers::headers_words;
 use crate::questions::{Question, parse};
 use crate::samples::sample_words;
-use crate::stop::Stop;
 use crate::words::{told, verdict};
 use hm_message::{Field, Kind, image_is_its_image, kinds_have_numbers, values_are_trees};
+use ht_kit::{Play, Stop};
 use json::Scratch;
 use std::alloc::{AllocError, Global};
 
 /// What is kept from line to line.
 #[derive(Drop)]
-pub struct Play {
+pub struct Bench {
+    alloc: Global,
     scratch: Scratch,
 }
 
-impl Play {
+impl Bench {
     /// Before the first line.
-    pub fn start(alloc: Global) -> Play {
-        Play {
+    pub fn start(alloc: Global) -> Bench {
+        Bench {
+            alloc,
             scratch: Scratch::new(alloc),
         }
     }
 
-    /// Answers a line.
-    pub fn answer(&mut self, alloc: Global, line: &str) -> Result<String, AllocError> {
-        match self.answer_in_words(alloc, line) {
-            Ok(answer) => Ok(answer),
-            Err(Stop::Refused) => format!(in alloc; "no question: {line}"),
-            Err(Stop::NoMemory) => Err(AllocError),
-        }
-    }
-
-    fn answer_in_words(&mut self, alloc: Global, line: &str) -> Result<String, Stop> {
+    fn answer(&mut self, line: &str) -> Result<String, Stop> {
+        let alloc = self.alloc;
         match parse(line)? {
-            Question::Note(text) => Ok(format!(in alloc; "note {text}")?),
             Question::Read(frame) => read_again(alloc, &mut self.scratch, frame),
             Question::Write(codec, frame) => write_in(alloc, codec, frame),
             Question::Same { pack, json } => Ok(verdict(alloc, are_same(alloc, pack, json)?)?),
@@ -46,6 +39,15 @@ impl Play {
             Question::Kind(number) => Ok(kind_words(alloc, number)?),
             Question::Name(field) => Ok(name_words(alloc, field)?),
             Question::Laws => Ok(laws(alloc)?),
+        }
+    }
+}
+
+impl Play for Bench {
+    fn carry_out(&mut self, line: &str) -> Result<String, Stop> {
+        match self.answer(line) {
+            Err(Stop::Refused) => Ok(format!(in self.alloc; "no question: {line}")?),
+            answer => answer,
         }
     }
 }

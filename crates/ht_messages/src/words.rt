@@ -1,22 +1,12 @@
 //! The words of a script: numbers, names, texts and bytes. A word that is none of what is wanted is refused.
 
-use crate::stop::Stop;
 use hm_message::{Codec, Field};
+use ht_kit::{Stop, as_text};
 use hv_value::Text;
 use std::alloc::{AllocError, Global};
 
 /// What stands for a line feed in a text of a script.
 const MARK: char = '␤';
-
-/// The word before the first space, and what follows that.
-pub fn first_word(words: &str) -> (&str, &str) {
-    words.split_once(' ').unwrap_or((words, ""))
-}
-
-/// How many levels.
-pub fn count(word: &str) -> Result<usize, Stop> {
-    word.parse::<usize>().ok().ok_or(Stop::Refused)
-}
 
 /// A whole number of at most 128 bits.
 pub fn whole(word: &str) -> Result<i128, Stop> {
@@ -57,14 +47,9 @@ pub fn text(alloc: Global, words: &str) -> Result<String, AllocError> {
     words.replace(alloc, MARK, "\n")
 }
 
-/// The bytes of these hexadecimal digits.
-pub fn bytes(alloc: Global, digits: &str) -> Result<Vec<u8>, Stop> {
-    Ok(hex::decode(alloc, digits)?)
-}
-
 /// The bytes as text.
 pub fn shown(alloc: Global, bytes: &[u8]) -> Result<String, AllocError> {
-    told(alloc, std::str::from_utf8(bytes).unwrap_or("no text"))
+    told(alloc, as_text(bytes))
 }
 
 /// These words.

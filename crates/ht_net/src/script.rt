@@ -3,14 +3,14 @@
 ghost use Rattle.std.specs.Prelude.{◌≡◌, ◌==◌, IfOk, IsTrue};
 ghost use Rattle.std.specs.List.{list_any};
 ghost use Rattle.hw_lanes.specs.Replies.{IsReply, statuses};
-ghost use Rattle.hw_door.specs.Wires.{IsRising};
 
 use crate::named::NamedWires;
-use crate::stop::Stop;
 use crate::telling::told;
-use crate::words::{accept, body, bytes, count, counts, first_word, kind, number, numbers, shown};
-use hw_door::{Door, MemoryWire, MemoryWires, WireGiven};
-use hw_lanes::{Reply, Vec8};
+use crate::words::{accept, body, bytes, kind, shown};
+use ht_forms::{Spelling, is_rising, wire_of};
+use ht_kit::{Play, Stop, count, first_word, number, numbers};
+use hw_door::{Door, DoorError, MemoryWire, MemoryWires};
+use hw_lanes::Reply;
 use hw_net::NetDoor;
 use std::alloc::{AllocError, Global};
 use std::mem;
@@ -27,52 +27,6 @@ pub struct Bench {
     wires: Vec<MemoryWire>,
     names: Vec<Option<u64>>,
     door: NetDoor<NamedWires>,
-}
-
-/// Whether the moments never fall.
-fn is_rising(moments: &[u64]) -> bool
-    ensures { IsTrue result → IsRising 0 moments.now }
-{
-    let mut rest = moments;
-    let mut last = 0;
-    loop {
-        let [first, more @ ..] = rest else {
-            return true;
-        };
-        if *first < last {
-            return false;
-        }
-        last = *first;
-        rest = more;
-    }
-}
-
-fn wire_of(alloc: Global, words: &str) -> Result<MemoryWire, Stop> {
-    let (from, rest) = first_word(words);
-    let (reads, writes) = first_word(rest);
-    Ok(MemoryWire {
-        from: number(from)?,
-        reads: reads_of(alloc, reads)?,
-        writes: counts(alloc, writes)?,
-    })
-}
-
-fn reads_of(alloc: Global, word: &str) -> Result<Vec<WireGiven>, Stop> {
-    let mut reads = Vec::new(alloc);
-    if word != "-" {
-        for part in word.split(',') {
-            reads.push(read_of(alloc, part)?)?;
-        }
-    }
-    Ok(reads)
-}
-
-fn read_of(alloc: Global, part: &str) -> Result<WireGiven, Stop> {
-    match part {
-        "*" => Ok(WireGiven::NotYet),
-        "!" => Ok(WireGiven::Ended),
-        _ => Ok(WireGiven::Bytes(Vec8::from_vec(bytes(alloc, part)?))),
-    }
 }
 
 fn names_of(alloc: Global, word: &str) -> Result<Vec<Option<u64>>, Stop> {
@@ -136,6 +90,13 @@ fn said(alloc: Global, words: &str) -> Result<Reply, Stop> {
     })
 }
 
+fn stop_of(error: DoorError) -> Stop {
+    match error {
+        DoorError::Failed => Stop::Failed("failed"),
+        DoorError::NoMemory => Stop::NoMemory,
+    }
+}
+
 impl Bench {
     /// A door over no wires.
     pub fn start(alloc: Global) -> Result<Bench, AllocError> {
@@ -149,39 +110,12 @@ impl Bench {
         })
     }
 
-    /// Carries out the action of a line, and answers what it answers.
-    pub fn carry_out(&mut self, line: &str) -> Result<String, AllocError> {
-        match self.act(line) {
-            Ok(answer) => Ok(answer),
-            Err(Stop::Failed) => String::from_str(self.alloc, "failed"),
-            Err(Stop::Refused) => format!(in self.alloc; "no action: {line}"),
-            Err(Stop::NoMemory) => Err(AllocError),
-        }
-    }
-
-    fn act(&mut self, line: &str) -> Result<String, Stop> {
-        let (word, rest) = first_word(line);
-        match word {
-            "note" => Ok(format!(in self.alloc; "note {rest}")?),
-            "wire" => self.add_wire(rest),
-            "names" => self.give_names(rest),
-            "door" => self.start_door(rest),
-            "next" => self.next(rest),
-            "reply" => self.reply(rest),
-            "send" => self.send(rest),
-            "fill" => self.fill(rest),
-            "shut" => self.shut(rest),
-            "written" => self.written(rest),
-            _ => Err(Stop::Refused),
-        }
-    }
-
     fn told(&self, text: &str) -> Result<String, Stop> {
         Ok(String::from_str(self.alloc, text)?)
     }
 
     fn add_wire(&mut self, words: &str) -> Result<String, Stop> {
-        let wire = wire_of(self.alloc, words)?;
+        let wire = wire_of(self.alloc, words, Spelling::Digits)?;
         self.wires.push(wire)?;
         self.told("to be given")
     }
@@ -206,7 +140,7 @@ impl Bench {
     }
 
     fn next(&mut self, words: &str) -> Result<String, Stop> {
-        let heard = self.door.next(number(words)?)?;
+        let heard = self.door.next(number(words)?).map_err(stop_of)?;
         told(self.alloc, &heard)
     }
 
@@ -214,7 +148,7 @@ impl Bench {
         let (lane, rest) = first_word(words);
         let lane = number(lane)?;
         let reply = reply_of(self.alloc, rest)?;
-        self.door.reply(lane, reply)?;
+        self.door.reply(lane, reply).map_err(stop_of)?;
         self.told("replied")
     }
 
@@ -223,8 +157,7 @@ impl Bench {
         let (kind, word) = first_word(rest);
         let lane = number(lane)?;
         let bytes = bytes(self.alloc, word)?;
-        self.door.send(lane, &bytes, kind == "text")?;
-        self.told("sent")
+        self.send_bytes(lane, &bytes, kind == "text")
     }
 
     /// Sends this many bytes 0.
@@ -233,17 +166,39 @@ impl Bench {
         let lane = number(lane)?;
         let mut bytes = Vec::new(self.alloc);
         bytes.resize(count(word)?, 0)?;
-        self.door.send(lane, &bytes, false)?;
+        self.send_bytes(lane, &bytes, false)
+    }
+
+    fn send_bytes(&mut self, lane: u64, bytes: &[u8], is_text: bool) -> Result<String, Stop> {
+        self.door.send(lane, bytes, is_text).map_err(stop_of)?;
         self.told("sent")
     }
 
     fn shut(&mut self, words: &str) -> Result<String, Stop> {
-        self.door.shut(number(words)?)?;
+        self.door.shut(number(words)?).map_err(stop_of)?;
         self.told("shut")
     }
 
     fn written(&mut self, words: &str) -> Result<String, Stop> {
         let bytes = shown(self.alloc, self.door.wires().written(number(words)?))?;
         Ok(format!(in self.alloc; "written {bytes}")?)
+    }
+}
+
+impl Play for Bench {
+    fn carry_out(&mut self, line: &str) -> Result<String, Stop> {
+        let (word, rest) = first_word(line);
+        match word {
+            "wire" => self.add_wire(rest),
+            "names" => self.give_names(rest),
+            "door" => self.start_door(rest),
+            "next" => self.next(rest),
+            "reply" => self.reply(rest),
+            "send" => self.send(rest),
+            "fill" => self.fill(rest),
+            "shut" => self.shut(rest),
+            "written" => self.written(rest),
+            _ => Err(Stop::Refused),
+        }
     }
 }

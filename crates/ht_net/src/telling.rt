@@ -1,7 +1,7 @@
 //! What is heard, in words.
 
-use crate::stop::Stop;
 use crate::words::shown;
+use ht_kit::Stop;
 use hw_door::{Event, Heard};
 use hw_lanes::{Method, Request, Text8};
 use std::alloc::Global;

@@ -12,12 +12,12 @@
 
 use crate::asks::ask;
 use crate::party::Party;
-use crate::stop::Stop;
-use crate::words::{first_word, most, number, value};
+use crate::words::{most, value};
 use hd_calls::Input;
 use hf_split::{Framing, SEPARATOR, wrap};
 use hj_jobs::Hub;
 use hm_message::Ending;
+use ht_kit::{Stop, first_word, number};
 use hv_pack::write_value;
 use hv_value::Value;
 use std::alloc::Global;

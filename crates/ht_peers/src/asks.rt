@@ -13,11 +13,12 @@
 
 use crate::party::Party;
 use crate::report::push_refusal;
-use crate::stop::Stop;
-use crate::words::{count, first_word, kind, number, value, values};
+use crate::words::{value, values};
 use hd_calls::{CallKind, MOST_UPLOADS};
 use hj_jobs::Hub;
 use hp_peer::AskError;
+use ht_kit::{Stop, count_of_32_bits, first_word, number};
+use ht_words::call_kind;
 use hv_value::Text;
 use std::alloc::Global;
 
@@ -36,9 +37,9 @@ pub fn ask<H: Hub>(
         "upload" => call(alloc, party, CallKind::Call, 1, words, out),
         "with" => {
             let (word, words) = first_word(words);
-            let kind = kind(word)?;
+            let kind = call_kind(word)?;
             let (word, words) = first_word(words);
-            call(alloc, party, kind, count(word)?, words, out)
+            call(alloc, party, kind, count_of_32_bits(word)?, words, out)
         }
         _ => ask_more(alloc, party, verb, words, out),
     }
@@ -63,9 +64,23 @@ fn ask_more<H: Hub>(
         }
         "item-of" => {
             let (place, words) = first_word(words);
-            item(alloc, party, number(word)?, count(place)?, words, out)
+            item(
+                alloc,
+                party,
+                number(word)?,
+                count_of_32_bits(place)?,
+                words,
+                out,
+            )
         }
-        "done-of" => end(alloc, party, number(word)?, count(words)?, None, out),
+        "done-of" => end(
+            alloc,
+            party,
+            number(word)?,
+            count_of_32_bits(words)?,
+            None,
+            out,
+        ),
         _ => Err(Stop::Refused),
     }
 }

@@ -22,36 +22,11 @@ mod pair;
 mod party;
 mod report;
 mod script;
-mod stop;
 mod words;
 
-use script::Play;
-use std::io::{self, BufRead, BufReader};
+use script::Bench;
 use std::process::ExitCode;
 
-const OUT_OF_MEMORY: u8 = 7;
-
-const NO_INPUT: u8 = 3;
-
-/// Reads the scripts, and prints what comes of them.
-fn run(rt: &(impl Input + Print + AllocGlobal)) -> io::Result<()> {
-    let alloc = rt.alloc();
-    let mut play = Play::start();
-    for (place, line) in BufReader::new(alloc, rt.reader())?.lines(alloc).enumerate() {
-        let line = line?;
-        let answers = play.carry_out(alloc, place, &line)?;
-        print!(rt; "{answers}")?;
-    }
-    Ok(())
-}
-
 fn main(rt: HostRuntime) -> ExitCode {
-    let Err(error) = run(&rt) else {
-        return ExitCode::SUCCESS;
-    };
-    if error.kind() != io::ErrorKind::OutOfMemory {
-        return ExitCode::from(NO_INPUT);
-    }
-    let _ = println!(rt; "no memory");
-    ExitCode::from(OUT_OF_MEMORY)
+    ht_kit::run_repeated(&rt, Ok(Bench::start(rt.alloc())))
 }

@@ -13,12 +13,13 @@ ghost use Rattle.hs_shake.specs.Requests.{IsVersion};
 
 use crate::actions::act;
 use crate::party::Party;
-use crate::stop::Stop;
-use crate::words::{first_word, most, number};
+use crate::words::most;
 use hd_delivery::Side;
 use he_end::Config;
 use hm_message::Codec;
 use hq_resend::Limits;
+use ht_kit::{Stop, first_word, number, switch};
+use ht_words::version;
 use hub_calc::{CalcHub, ClientHub};
 use std::alloc::Global;
 
@@ -179,25 +180,6 @@ fn codec(word: &str) -> Result<Codec, Stop> {
     }
 }
 
-fn reconnect(word: &str) -> Result<bool, Stop> {
-    match word {
-        "on" => Ok(true),
-        "off" => Ok(false),
-        _ => Err(Stop::Refused),
-    }
-}
-
-fn version(word: &str) -> Result<u8, Stop>
-    ensures { IfOk result (λ version. IsVersion version) }
-{
-    match word {
-        "1" => Ok(1),
-        "2" => Ok(2),
-        "3" => Ok(3),
-        _ => Err(Stop::Refused),
-    }
-}
-
 fn limits(words: &str) -> Result<Limits, Stop> {
     let (count, words) = first_word(words);
     let (bytes, frame) = first_word(words);
@@ -215,7 +197,7 @@ fn config(options: &str) -> Result<Config, Stop>
     let (word, options) = first_word(options);
     let version = version(word)?;
     let (word, options) = first_word(options);
-    let reconnect = reconnect(word)?;
+    let reconnect = switch(word)?;
     let limits = limits(options)?;
     Ok(Config {
         codec,

@@ -1,10 +1,6 @@
 //! The events of a script.
 
-ghost use Rattle.std.specs.Prelude.{IsTrue};
-ghost use Rattle.hw_door.specs.Memory.{NeverFalls};
-
-use crate::stop::Stop;
-use crate::words::{bytes, first_word, number};
+use ht_kit::{Stop, first_word, from_digits, number};
 use hw_door::{Event, Heard};
 use hw_lanes::{Method, Request, Text8, Vec8};
 use std::alloc::Global;
@@ -36,7 +32,7 @@ fn event_of(alloc: Global, words: &str) -> Result<Event, Stop> {
             Ok(Event::Bytes { lane, bytes })
         }
         "bytes" => {
-            let bytes = Vec8::from_vec(bytes(alloc, rest)?);
+            let bytes = Vec8::from_vec(from_digits(alloc, rest)?);
             Ok(Event::Bytes { lane, bytes })
         }
         "lost" => Ok(Event::Lost { lane }),
@@ -106,23 +102,5 @@ fn add_word(alloc: Global, request: &mut Request, word: &str) -> Result<(), Stop
         }
         "" => Ok(()),
         _ => Err(Stop::Refused),
-    }
-}
-
-/// Whether the moments never fall.
-pub fn never_falls(heard: &[Heard]) -> bool
-    ensures { IsTrue result → NeverFalls 0 heard.now }
-{
-    let mut rest = heard;
-    let mut last = 0;
-    loop {
-        let [first, more @ ..] = rest else {
-            return true;
-        };
-        if first.now < last {
-            return false;
-        }
-        last = first.now;
-        rest = more;
     }
 }

@@ -1,10 +1,10 @@
 //! The lines of a script, and the server of which they speak.
 
-use crate::events::{heard_of, never_falls};
+use crate::events::heard_of;
 use crate::show::{all_given, all_said};
-use crate::stop::Stop;
-use crate::words::{first_word, number, numbers};
 use hk_keeper::MemoryKeeper;
+use ht_forms::never_falls;
+use ht_kit::{Play, Stop, first_word, number, numbers};
 use hub_rooms::RoomsHub;
 use hub_server::{ServeFault, Server, serve};
 use hv_value::Text;
@@ -34,27 +34,6 @@ impl Bench {
             lots: MemoryLots::start(Vec::new(alloc), Vec::new(alloc)),
             heard: Vec::new(alloc),
         })
-    }
-
-    /// Carries out the action of a line, and answers what comes of it.
-    pub fn carry_out(&mut self, line: &str) -> Result<String, AllocError> {
-        match self.act(line) {
-            Ok(answer) => Ok(answer),
-            Err(Stop::Refused) => format!(in self.alloc; "no action: {line}"),
-            Err(Stop::NoMemory) => Err(AllocError),
-        }
-    }
-
-    fn act(&mut self, line: &str) -> Result<String, Stop> {
-        let (word, rest) = first_word(line);
-        match word {
-            "note" => Ok(format!(in self.alloc; "note {rest}")?),
-            "server" => self.start_anew(rest),
-            "idle" => Ok(format!(in self.alloc; "{}", self.server.idle())?),
-            "hear" => self.hear(rest),
-            "serve" => self.serve(rest),
-            _ => self.step(line),
-        }
     }
 
     fn start_anew(&mut self, words: &str) -> Result<String, Stop> {
@@ -108,6 +87,19 @@ impl Bench {
             Ok(()) => Ok(format!(in alloc; "served: {given}")?),
             Err(ServeFault::Door) => Ok(format!(in alloc; "the door failed: {given}")?),
             Err(ServeFault::NoMemory) => Err(Stop::NoMemory),
+        }
+    }
+}
+
+impl Play for Bench {
+    fn carry_out(&mut self, line: &str) -> Result<String, Stop> {
+        let (word, rest) = first_word(line);
+        match word {
+            "server" => self.start_anew(rest),
+            "idle" => Ok(format!(in self.alloc; "{}", self.server.idle())?),
+            "hear" => self.hear(rest),
+            "serve" => self.serve(rest),
+            _ => self.step(line),
         }
     }
 }

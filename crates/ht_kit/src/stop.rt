@@ -1,14 +1,14 @@
-//! Why an action isn't carried out.
+//! Why a line isn't carried out.
 
-use hw_door::DoorError;
+use hex::FromHexError;
 use std::alloc::{AllocError, AllocFailed};
 
 #[derive(Clone, Copy, Debug, Drop, PartialEq, Eq)]
 pub enum Stop {
     /// The line is no action.
     Refused,
-    /// The call of the door failed.
-    Failed,
+    /// What the line asks failed, or may not be asked: this is the answer.
+    Failed(&'static str),
     NoMemory,
 }
 
@@ -24,11 +24,11 @@ impl<T: Drop> From<AllocFailed<T>> for Stop {
     }
 }
 
-impl From<DoorError> for Stop {
-    fn from(error: DoorError) -> Stop {
+impl From<FromHexError> for Stop {
+    fn from(error: FromHexError) -> Stop {
         match error {
-            DoorError::Failed => Stop::Failed,
-            DoorError::NoMemory => Stop::NoMemory,
+            FromHexError::OutOfMemory => Stop::NoMemory,
+            _ => Stop::Refused,
         }
     }
 }
