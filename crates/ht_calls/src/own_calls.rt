@@ -70,7 +70,7 @@ fn begin(alloc: Global, calls: &mut Calls, words: &str) -> Result<String, Stop> 
     let (word, words) = first_word(words);
     let uploads = count_of_32_bits(word)?;
     if uploads > MOST_UPLOADS {
-        return Err(Stop::Failed("not asked"));
+        return Err(Stop::NotAsked);
     }
     let (word, words) = first_word(words);
     let target = text(alloc, word)?;

@@ -5,9 +5,6 @@ use hw_door::{Lots, MemoryLots, RandLots};
 use std::alloc::Global;
 use std::random::RandomSource;
 
-/// The answer to a call that failed.
-const FAILED: Stop = Stop::Failed("failed");
-
 /// Lots as the words say: the byte of each draw, and the numbers of the calls that are to fail.
 pub fn start(alloc: Global, words: &str) -> Result<MemoryLots, Stop> {
     let (bytes, failing) = first_word(words);
@@ -21,7 +18,7 @@ pub fn start(alloc: Global, words: &str) -> Result<MemoryLots, Stop> {
 
 /// What a draw of the lots gives.
 pub fn draw(alloc: Global, lots: &mut MemoryLots) -> Result<String, Stop> {
-    let draw = lots.draw().ok().ok_or(FAILED)?;
+    let draw = lots.draw().ok().ok_or(Stop::Failed)?;
     let mut text = String::from_str(alloc, "draw")?;
     for byte in draw.iter() {
         write!(text, " {byte}")?;

@@ -5,9 +5,6 @@ use ht_kit::{Stop, as_text, count, first_word, number, numbers};
 use hw_door::{MemoryWire, MemoryWires, WireRead, Wires};
 use std::alloc::Global;
 
-/// The answer to a call that failed.
-const FAILED: Stop = Stop::Failed("failed");
-
 /// How long `poll` may wait, which no form in memory does.
 const WAIT: u64 = 100;
 
@@ -34,15 +31,15 @@ pub fn answer(alloc: Global, wires: &mut MemoryWires, words: &str) -> Result<Str
     let (word, rest) = first_word(words);
     match word {
         "poll" => {
-            let now = wires.poll(WAIT).ok().ok_or(FAILED)?;
+            let now = wires.poll(WAIT).ok().ok_or(Stop::Failed)?;
             Ok(format!(in alloc; "at {now}")?)
         }
-        "accept" => match wires.accept().ok().ok_or(FAILED)? {
+        "accept" => match wires.accept().ok().ok_or(Stop::Failed)? {
             Some(wire) => Ok(format!(in alloc; "wire {wire}")?),
             None => Ok(String::from_str(alloc, "none")?),
         },
         "connect" => {
-            let wire = wires.connect("example.org", 80).ok().ok_or(FAILED)?;
+            let wire = wires.connect("example.org", 80).ok().ok_or(Stop::Failed)?;
             Ok(format!(in alloc; "wire {wire}")?)
         }
         _ => answer_of_wire(alloc, wires, word, rest),
@@ -62,7 +59,7 @@ fn answer_of_wire(
         "read" => read(alloc, wires, wire, count(rest)?),
         "write" => {
             let written = wires.write(wire, rest.as_bytes());
-            let count = written.ok().ok_or(FAILED)?;
+            let count = written.ok().ok_or(Stop::Failed)?;
             Ok(format!(in alloc; "wrote {count}")?)
         }
         "shut" => {
@@ -81,7 +78,7 @@ fn read(alloc: Global, wires: &mut MemoryWires, wire: u64, room: usize) -> Resul
     let mut space = [0; MOST_READ];
     let room = room.min(space.len());
     let buf = &mut space[..room];
-    match wires.read(wire, buf).ok().ok_or(FAILED)? {
+    match wires.read(wire, buf).ok().ok_or(Stop::Failed)? {
         WireRead::Some(count) => {
             let text = as_text(&buf[..count.min(buf.len())]);
             Ok(format!(in alloc; "read {text}")?)

@@ -70,7 +70,7 @@ pub fn open(alloc: Global, front: &mut Front, words: &str) -> Result<String, Sto
 
 fn stop_of(error: FrontError) -> Stop {
     match error {
-        FrontError::Busy => Stop::Failed("busy"),
+        FrontError::Busy => Stop::Busy,
         FrontError::NoMemory => Stop::NoMemory,
     }
 }

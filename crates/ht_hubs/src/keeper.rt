@@ -110,7 +110,7 @@ fn each(alloc: Global, keeper: &mut MemoryKeeper, words: &str) -> Result<String,
 
 fn stop_of(error: KeepError) -> Stop {
     match error {
-        KeepError::Failed => Stop::Failed("failed"),
+        KeepError::Failed => Stop::Failed,
         KeepError::NoMemory => Stop::NoMemory,
     }
 }

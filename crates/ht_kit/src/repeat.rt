@@ -49,7 +49,9 @@ fn add_answer(
         Ok(answer) if answer.is_empty() => Ok(()),
         Ok(answer) => write!(answers, "{answer}\n"),
         Err(Stop::Refused) => refuse(line_number, answers),
-        Err(Stop::Failed(answer)) => write!(answers, "{answer}\n"),
+        Err(Stop::Failed) => answers.push_str("failed\n"),
+        Err(Stop::Busy) => answers.push_str("busy\n"),
+        Err(Stop::NotAsked) => answers.push_str("not asked\n"),
         Err(Stop::NoMemory) => Err(AllocError),
     }
 }

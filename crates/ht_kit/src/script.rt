@@ -69,7 +69,9 @@ fn answer_to(alloc: Global, bench: &mut impl Play, line: &str) -> Result<String,
     match bench.carry_out(line) {
         Ok(answer) => format!(in alloc; "{answer}\n"),
         Err(Stop::Refused) => format!(in alloc; "no action: {line}\n"),
-        Err(Stop::Failed(answer)) => format!(in alloc; "{answer}\n"),
+        Err(Stop::Failed) => String::from_str(alloc, "failed\n"),
+        Err(Stop::Busy) => String::from_str(alloc, "busy\n"),
+        Err(Stop::NotAsked) => String::from_str(alloc, "not asked\n"),
         Err(Stop::NoMemory) => Err(AllocError),
     }
 }

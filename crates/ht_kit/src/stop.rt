@@ -7,8 +7,12 @@ use std::alloc::{AllocError, AllocFailed};
 pub enum Stop {
     /// The line is no action.
     Refused,
-    /// What the line asks failed, or may not be asked: this is the answer.
-    Failed(&'static str),
+    /// What the line asks failed.
+    Failed,
+    /// There is no room for what the line asks.
+    Busy,
+    /// The line may not be asked of what is there.
+    NotAsked,
     NoMemory,
 }
 

@@ -104,11 +104,11 @@ impl Rooms {
             reconnect: number(version)? > 1,
             limits: Limits::of(MOST_FRAME, self.frames, MOST_BYTES).ok_or(Stop::Refused)?,
         };
+        let conn = number(conn)?;
         let who = Text::of(alloc, who)?;
         let user_name = Text::of(alloc, user)?;
         let user = if user == "-" { None } else { Some(&user_name) };
-        self.machine
-            .connect(alloc, number(conn)?, config, who, user)?;
+        self.machine.connect(alloc, conn, config, who, user)?;
         Ok(String::from_str(alloc, "a connection")?)
     }
 

@@ -92,7 +92,7 @@ fn said(alloc: Global, words: &str) -> Result<Reply, Stop> {
 
 fn stop_of(error: DoorError) -> Stop {
     match error {
-        DoorError::Failed => Stop::Failed("failed"),
+        DoorError::Failed => Stop::Failed,
         DoorError::NoMemory => Stop::NoMemory,
     }
 }
