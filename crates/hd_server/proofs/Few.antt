@@ -5,7 +5,7 @@ use Rattle.std.proofs.lemmas.Bool.{and_parts, or_parts, not-true, eqb-true, eq-e
 use Rattle.hd_server.specs.declared.vocabulary.Life.{Life}
 use Rattle.hd_server.specs.declared.vocabulary.Life.TheVariants.{Unknown, Fresh, Socket, Lost, Polling, Ending}
 use Rattle.hd_server.specs.Numbers.{most_live, lives_for}
-use Rattle.hd_server.specs.Lives.{ConnectionEvent, Negotiated, Opened, Socketed, Polled, Answered, LaneLost, Ended, Expired, LetGo, AreInOrder, made, negotiated_at, is_opened, socket_of, lost_at, poll_of, poll_ended, ended_at, ends_then, is_let_go, is_known, is_past, is_polling, past, standing, since, deadline, life_of, live, overdue, numbers_to, is_busy, last_moment}
+use Rattle.hd_server.specs.Lives.{ConnectionEvent, Negotiated, Opened, Socketed, Polled, Answered, LaneLost, Ended, Expired, LetGo, AreInOrder, made, negotiated_at, is_opened, socket_of, lost_at, poll_of, poll_ended, ended_at, ends_then, is_removed, is_known, is_past, is_polling, past, standing, since, deadline, life_of, live, overdue, numbers_to, is_busy, last_moment}
 use Rattle.hd_server.specs.Laws.{FewLive, LivesAreSettled}
 
 -- ---- numbers that pass a test
@@ -103,7 +103,7 @@ known_either false false l f e = e
 known_before : (c m now : ℕ) (h : List ConnectionEvent) → m ≤ now → is_known (life_of c now h) ≡ true → is_known (life_of c m h) ≡ true
 known_before c m now h l e = known_either (is_past m (deadline c h)) (is_past now (deadline c h)) (standing c h) (past_later (deadline c h) m now l) e
 
-let_go_unknown : (c now : ℕ) (h : List ConnectionEvent) → is_let_go c h ≡ true → life_of c now h ≡ Unknown
+let_go_unknown : (c now : ℕ) (h : List ConnectionEvent) → is_removed c h ≡ true → life_of c now h ≡ Unknown
 let_go_unknown c now h e = rw e refl
 
 -- ---- what a note of one connection changes
@@ -117,7 +117,7 @@ pub record IsSame (k : ℕ) (g h : List ConnectionEvent) : Type 0 where
   pub of_poll : poll_of k g ≡ poll_of k h
   pub of_reply : poll_ended k g ≡ poll_ended k h
   pub of_end : ended_at k g ≡ ended_at k h
-  pub of_leave : is_let_go k g ≡ is_let_go k h
+  pub of_leave : is_removed k g ≡ is_removed k h
 
 since_same : (k : ℕ) (g h : List ConnectionEvent) (l : Life) → IsSame k g h → since k l g ≡ since k l h
 since_same k g h Unknown s = refl
@@ -260,7 +260,7 @@ none_maps None e = refl
 none_maps (Some lane) e = absurd (cc)
 
 -- one that only polls, and whose end didn't begin, is known past its moment, unless it was let go
-only_polling : (c : ℕ) (h : List ConnectionEvent) → is_let_go c h ≡ false → ends_then c h ≡ true → standing c h ≡ Polling
+only_polling : (c : ℕ) (h : List ConnectionEvent) → is_removed c h ≡ false → ends_then c h ≡ true → standing c h ≡ Polling
 only_polling c h stays ends =
     let parts = and_parts _ _ ends in
     let polls = and_parts _ _ parts.0 in
@@ -272,21 +272,21 @@ only_polling c h stays ends =
 
 of_expired : (c m now : ℕ) (h : List ConnectionEvent) → is_past m (deadline c h) ≡ true
     → is_known (life_of c now (Expired c m ∷ h)) ≡ true → is_known (life_of c m h) ≡ true
-of_expired c m now h comes known = by (is_let_go c h) (ends_then c h) refl refl where
-  gone : is_let_go c (Expired c m ∷ h) ≡ true → is_known (life_of c m h) ≡ true
+of_expired c m now h comes known = by (is_removed c h) (ends_then c h) refl refl where
+  gone : is_removed c (Expired c m ∷ h) ≡ true → is_known (life_of c m h) ≡ true
   gone e = absurd (let z : false ≡ true = ap is_known (sym (let_go_unknown c now (Expired c m ∷ h) e)) ∙ known in cc)
 
-  by : (a b : Bool) → is_let_go c h ≡ a → ends_then c h ≡ b → is_known (life_of c m h) ≡ true
-  by true b e f = gone (or_right ((c == c) && not (ends_then c h)) (is_let_go c h) e)
+  by : (a b : Bool) → is_removed c h ≡ a → ends_then c h ≡ b → is_known (life_of c m h) ≡ true
+  by true b e f = gone (or_right ((c == c) && not (ends_then c h)) (is_removed c h) e)
   by false false e f =
       let its_own = and_from (c == c) (not (ends_then c h)) (eq-eqb c c refl) (not_from_false (ends_then c h) f) in
-      gone (or_left ((c == c) && not (ends_then c h)) (is_let_go c h) its_own)
+      gone (or_left ((c == c) && not (ends_then c h)) (is_removed c h) its_own)
   by false true e f = rw (comes, only_polling c h e f) refl
 
 of_gone : (k now c : ℕ) (h : List ConnectionEvent) → is_known (life_of k now (LetGo c ∷ h)) ≡ true → is_known (life_of k now h) ≡ true
 of_gone k now c h known = by (k == c) refl where
   by : (b : Bool) → (k == c) ≡ b → is_known (life_of k now h) ≡ true
-  by true e = absurd (let z : false ≡ true = ap is_known (sym (let_go_unknown k now (LetGo c ∷ h) (or_left (k == c) (is_let_go k h) e))) ∙ known in cc)
+  by true e = absurd (let z : false ≡ true = ap is_known (sym (let_go_unknown k now (LetGo c ∷ h) (or_left (k == c) (is_removed k h) e))) ∙ known in cc)
   by false e = another_known k now now (LetGo c) h e (omega arith) known
 
 of_first : (k m now c : ℕ) (h : List ConnectionEvent) (rest : List ℕ) → overdue m h ≡ c ∷ rest → m ≤ now

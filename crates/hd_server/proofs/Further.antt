@@ -15,11 +15,11 @@ use Rattle.hd_server.specs.Lives.{LetGo, Opened, made, is_resumable_promise, sta
 use Rattle.hd_server.specs.Texts.{token_of, negotiate_body}
 use Rattle.hd_server.specs.Table.{Outcome, Refusal, NewToken, PlainSocket, TokenSocket, FirstPoll, NextPoll, LastPoll, Posting, Deletion, asks_keeper, outcome}
 use Rattle.hd_server.specs.Machine.{MachineEvent, Does, Goes, Rounds, settings_of, connections}
-use Rattle.hd_server.specs.Doings.{ServerEvent, Hears, Notes, Works, Says, Learns, Draws, notes, work, hears, was_refused, wants_shut, history, config_of, has_peer, is_up, is_granted}
-use Rattle.hd_server.specs.Plans.{Setup, PendingRequest, onto, connecting, attaching, closing, dropping, letting_go, expiring, expiries, bare_reply, socket_reply, token_reply, shutting, replying, ending_poll, ending_held, learning, asks_lots, questions, standing_on, shutting_some, request_plan, conn_on, poller_on, losing, losing_lane, named_conn, facts, plan}
-use Rattle.hd_server.specs.Serves.{IsFed, silenced, ticking, ticks, telling, all_telling}
+use Rattle.hd_server.specs.Doings.{ServerEvent, Hears, Notes, Works, Says, Learns, Draws, notes, work, hears, was_refused, wants_shut, history, config_of, has_peer, is_up, may_resume}
+use Rattle.hd_server.specs.Plans.{Setup, PendingRequest, onto, connecting, attaching, closing, dropping, removing_conn, expiring, expiries, bare_reply, socket_reply, token_reply, shutting, replying, ending_poll, ending_held, learning, asks_lots, questions, standing_on, shutting_some, request_plan, conn_on, poller_on, losing, losing_lane, named_conn, facts, plan}
+use Rattle.hd_server.specs.Serves.{IsFed, silenced, ticking, ticks, flushing, all_flushing}
 use Rattle.hd_server.specs.Laws.{TurnsGoFurther}
-use Rattle.hd_server.proofs.Telling.{AllTell, telling_tells}
+use Rattle.hd_server.proofs.Flushing.{AllTell, telling_tells}
 
 -- ---- doings that hear nothing
 
@@ -74,7 +74,7 @@ hears_same (Says x ∷ new) h a = hears_same new h a.1
 
 -- ---- the parts of a turn
 
-letting : (c : ℕ) (h : List ServerEvent) → AreSilent (letting_go c h)
+letting : (c : ℕ) (h : List ServerEvent) → AreSilent (removing_conn c h)
 letting c h = join (dropping c h) (Notes (LetGo c) ∷ []) (either (has_peer c h) (Works (Goes c) ∷ []) [] (tt, tt) tt) (tt, tt)
 
 closes : (c : ℕ) (why : Reason) (h : List ServerEvent) → AreSilent (closing c why h)
@@ -128,7 +128,7 @@ first s o drawn c h NextPoll = ends_poll c o.now (poll_of c (notes h)) h
 first s o drawn c h LastPoll = (tt, tt)
 first s o drawn c h Posting = tt
 first s o drawn c h Deletion =
-    join (ending_held c o.now h ++ closing c _ h ++ letting_go c h) _
+    join (ending_held c o.now h ++ closing c _ h ++ removing_conn c h) _
     (join (ending_held c o.now h ++ closing c _ h) _ (join (ending_held c o.now h) _ (ends_poll c o.now (poll_of c (notes h)) h) (closes c _ h)) (letting c h))
     (replies o.lane (bare_reply 202) h)
 
@@ -139,7 +139,7 @@ last s o drawn c h Posting = replies o.lane (bare_reply 200) h
 last s o drawn c h out = tt
 
 loses : (c lane now : ℕ) (h : List ServerEvent) → AreSilent (losing c lane now h)
-loses c lane now h = either (is_granted c h) _ (letting_go c h) (tt, tt) (letting c h)
+loses c lane now h = either (may_resume c h) _ (removing_conn c h) (tt, tt) (letting c h)
 
 loses_lane : (a b : Option ℕ) (lane now : ℕ) (h : List ServerEvent) → AreSilent (losing_lane a b lane now h)
 loses_lane (Some c) b lane now h = (tt, loses c lane now h)
@@ -188,11 +188,11 @@ of_telling k (Notes note ∷ ds) a = (tt, of_telling k ds a.1)
 of_telling k (Works x ∷ ds) a = (tt, of_telling k ds a.1)
 of_telling k (Says x ∷ ds) a = (tt, of_telling k ds a.1)
 
-tells : (s : Setup) (now : ℕ) (cs : List ℕ) (all : List (List (List LinkFrame))) (h : List ServerEvent) → AreSilent (all_telling s now cs all h)
+tells : (s : Setup) (now : ℕ) (cs : List ℕ) (all : List (List (List LinkFrame))) (h : List ServerEvent) → AreSilent (all_flushing s now cs all h)
 tells s now [] all h = tt
 tells s now (c ∷ cs) [] h = tt
 tells s now (c ∷ cs) (p ∷ more) h =
-    join (telling s now c p h) _ (of_telling c (telling s now c p h) (telling_tells s now c (socket_of c (notes h)) p h)) (tells s now cs more h)
+    join (flushing s now c p h) _ (of_telling c (flushing s now c p h) (telling_tells s now c (socket_of c (notes h)) p h)) (tells s now cs more h)
 
 -- ---- the whole of it
 
@@ -213,7 +213,7 @@ turns_go_further hub s now e h after turn =
     let round : Follows turn.ticked (map Works turn.round ++ Works (Rounds now) ∷ turn.ticked)
     = record { new = map Works turn.round ++ Works (Rounds now) ∷ []; are = sym (append_assoc (map Works turn.round) (Works (Rounds now) ∷ []) turn.ticked); silent = join (map Works turn.round) (Works (Rounds now) ∷ []) (round_silent turn.round) (tt, tt) } in
     let stepped = is_next turn.ticked _ turn.stepped turn.has_stepped round in
-    let told = is_next turn.stepped _ after turn.tells (onto_follows (all_telling s now (connections (work turn.stepped)) turn.pieces turn.stepped) turn.stepped (tells s now (connections (work turn.stepped)) turn.pieces turn.stepped)) in
+    let told = is_next turn.stepped _ after turn.tells (onto_follows (all_flushing s now (connections (work turn.stepped)) turn.pieces turn.stepped) turn.stepped (tells s now (connections (work turn.stepped)) turn.pieces turn.stepped)) in
     let to_begun = further heard turn.asked turn.begun (further heard turn.expired turn.asked expired asked) begun in
     let to_handled = further heard turn.fed turn.handled (further heard turn.begun turn.fed to_begun food) handled in
     let to_stepped = further heard turn.ticked turn.stepped (further heard turn.handled turn.ticked to_handled ticked) stepped in

@@ -4,7 +4,7 @@ pub mod Members
 pub mod SocketAnswers
 pub mod Rows
 pub mod Tests
-pub mod Telling
+pub mod Flushing
 pub mod Further
 pub mod FurtherDoings
 pub mod OneSession
@@ -21,12 +21,12 @@ pub mod OrderlyExpiries
 pub mod Orderly
 pub mod RepliesSent
 pub mod RepliesLanes
-pub mod RepliesTold
+pub mod RepliesFlushed
 pub mod RepliesPlans
 pub mod RepliesTurns
 pub mod RepliesOwn
 pub mod RepliesPhases
-pub mod RepliesOwnTold
+pub mod RepliesOwnFlushed
 pub mod RepliesOwnPlans
 pub mod RepliesServed
 pub mod RepliesExpired

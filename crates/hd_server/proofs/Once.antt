@@ -6,9 +6,9 @@ use Rattle.std.proofs.lemmas.Bool.{or_parts, eqb-true, eq-eqb, lt-leb}
 use Rattle.hd_server.specs.declared.vocabulary.Life.{Life}
 use Rattle.hd_server.specs.declared.vocabulary.Life.TheVariants.{Unknown, Fresh, Socket, Lost, Polling, Ending}
 use Rattle.hd_server.specs.Numbers.{lives_for}
-use Rattle.hd_server.specs.Lives.{ConnectionEvent, Expired, deadline, ended_at, is_let_go, is_past, made, numbers_to, only_polls, since}
+use Rattle.hd_server.specs.Lives.{ConnectionEvent, Expired, deadline, ended_at, is_removed, is_past, made, numbers_to, only_polls, since}
 use Rattle.hd_server.specs.Laws.{MomentsComeOnce}
-use Rattle.hd_server.proofs.Telling.{is_in, AreApart, numbers_apart}
+use Rattle.hd_server.proofs.Flushing.{is_in, AreApart, numbers_apart}
 
 -- ---- of those that pass a test, the first doesn't pass any more
 
@@ -52,7 +52,7 @@ module _ (c now : ℕ) (h : List ConnectionEvent) where
   of_another k e = rw (e, since_other k _ e) refl
 
   -- its own moment is past no more: it is let go, or its token begins to end
-  own : (polls ended gone : Bool) → only_polls c h ≡ polls → is_some (ended_at c h) ≡ ended → is_let_go c h ≡ gone
+  own : (polls ended gone : Bool) → only_polls c h ≡ polls → is_some (ended_at c h) ≡ ended → is_removed c h ≡ gone
       → is_past now (deadline c (Expired c now ∷ h)) ≡ false
   own false ended gone e f g = rw (eq-eqb c c refl, e) refl
   own true true gone e f g = rw (eq-eqb c c refl, e, f) refl
@@ -62,6 +62,6 @@ module _ (c now : ℕ) (h : List ConnectionEvent) where
 pub moments_come_once : MomentsComeOnce
 moments_come_once c rest now h =
     first_goes (λ k. is_past now (deadline k h)) (λ k. is_past now (deadline k (Expired c now ∷ h))) c
-    (own c now h (only_polls c h) (is_some (ended_at c h)) (is_let_go c h) refl refl refl)
+    (own c now h (only_polls c h) (is_some (ended_at c h)) (is_removed c h) refl refl refl)
     (of_another c now h)
     (numbers_to (made h)) rest (numbers_apart (made h))

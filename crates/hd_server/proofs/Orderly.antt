@@ -4,7 +4,7 @@ use Rattle.std.specs.Prelude.{map}
 use Rattle.hd_calls.specs.Hubs.{Hub}
 use Rattle.hw_door.specs.declared.heard.Event.{Event}
 use Rattle.hw_door.specs.declared.heard.Heard.{Heard}
-use Rattle.hd_server.specs.Lives.{AreInOrder, made, is_let_go, last_moment}
+use Rattle.hd_server.specs.Lives.{AreInOrder, made, is_removed, last_moment}
 use Rattle.hd_server.specs.Machine.{MachineEvent, Rounds, Owed, NothingOwed, OwesDeed, OwesCall, owed, MayFollow, GoesOn}
 use Rattle.hd_server.specs.Doings.{ServerEvent, Hears, Works, notes, work, moment, has_peer}
 use Rattle.hd_server.specs.Plans.{Setup, plan}
@@ -35,7 +35,7 @@ pub record IsOrderly (h : List ServerEvent) : Type 0 where
   pub in_order : AreInOrder (notes h)
   pub not_later : last_moment (notes h) ≤ moment h
   pub peers : (c : ℕ) → has_peer c h ≡ true → Known c (notes h)
-  pub made_first : (c : ℕ) → made (notes h) < c → is_let_go c (notes h) ≡ false
+  pub made_first : (c : ℕ) → made (notes h) < c → is_removed c (notes h) ≡ false
 
 turn_settled : {Job : Type 0} → (hub : Hub Job) (s : Setup) (now : ℕ) (e : Event) (h after : List ServerEvent) → IsTurn hub s now e h after
     → moment h ≤ now → IsOrderly h → Settled now after

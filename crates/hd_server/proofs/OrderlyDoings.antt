@@ -4,10 +4,10 @@ use Rattle.std.specs.Prelude.{◌==◌, not, is_some, map, ◌&&◌, ◌||◌}
 use Rattle.std.proofs.lemmas.Bool.{eqb-true, eq-eqb}
 use Rattle.hw_lanes.specs.declared.http.Reply.{Reply}
 use Rattle.hd_calls.specs.Peers.{PeerEvent}
-use Rattle.hd_server.specs.Lives.{ConnectionEvent, Negotiated, Opened, Socketed, Polled, Answered, LaneLost, Ended, Expired, LetGo, AreInOrder, MayBeNoted, made, is_let_go, is_known, is_busy, standing, life_of, last_moment}
+use Rattle.hd_server.specs.Lives.{ConnectionEvent, Negotiated, Opened, Socketed, Polled, Answered, LaneLost, Ended, Expired, LetGo, AreInOrder, MayBeNoted, made, is_removed, is_known, is_busy, standing, life_of, last_moment}
 use Rattle.hd_server.specs.Machine.{Connects, Does, Rounds, Carries, Goes, settings_of, has_gone}
 use Rattle.hd_server.specs.Doings.{ServerEvent, Learns, Draws, Notes, Works, Says, notes, work, moment, user_of, wants_shut, was_refused, has_peer}
-use Rattle.hd_server.specs.Plans.{Setup, onto, connecting, peer_settings, letting_go, shutting, replying}
+use Rattle.hd_server.specs.Plans.{Setup, onto, connecting, peer_settings, removing_conn, shutting, replying}
 use Rattle.hd_server.proofs.OrderlyNotes.{subject, IsOf, NonePast, Known, within, none_past_still, another_stands, another_stays, life_of_known, still_socketed, still_polled, still_answered, still_lost, still_ended, once_opened, once_negotiated}
 
 -- what holds after the moments that have come are noted
@@ -16,7 +16,7 @@ pub record Settled (now : ℕ) (h : List ServerEvent) : Type 0 where
   pub not_later : last_moment (notes h) ≤ now
   pub is_now : moment h ≡ now
   pub peers : (c : ℕ) → has_peer c h ≡ true → Known c (notes h)
-  pub made_first : (c : ℕ) → made (notes h) < c → is_let_go c (notes h) ≡ false
+  pub made_first : (c : ℕ) → made (notes h) < c → is_removed c (notes h) ≡ false
   pub young : NonePast now (notes h)
 
 -- of others all stays
@@ -121,7 +121,7 @@ settled_still now g x a s = record {
   not_later = subst (λ n. last_moment n ≤ now) (sym a.same_notes) s.not_later;
   is_now = a.same_moment ∙ s.is_now;
   peers = λ c e. subst (Known c) (sym a.same_notes) (s.peers c (sym (a.same_peers c) ∙ e));
-  made_first = subst (λ n. (c : ℕ) → made n < c → is_let_go c n ≡ false) (sym a.same_notes) s.made_first;
+  made_first = subst (λ n. (c : ℕ) → made n < c → is_removed c n ≡ false) (sym a.same_notes) s.made_first;
   young = subst (NonePast now) (sym a.same_notes) s.young;
 }
 
@@ -185,7 +185,7 @@ module _ (now : ℕ) (n : ConnectionEvent) (g : List ServerEvent) (s : Settled n
   note_others : Others (subject n) g (Notes n ∷ g)
   note_others = record { stand = λ k e. another_stands k n (notes g) e; there = λ k e. refl }
 
-  settled_by : (has_peer (subject n) g ≡ true → Known (subject n) (n ∷ notes g)) → ((c : ℕ) → made (n ∷ notes g) < c → is_let_go c (n ∷ notes g) ≡ false)
+  settled_by : (has_peer (subject n) g ≡ true → Known (subject n) (n ∷ notes g)) → ((c : ℕ) → made (n ∷ notes g) < c → is_removed c (n ∷ notes g) ≡ false)
       → Settled now (Notes n ∷ g)
   settled_by own first =
       let moments = noted_now now n (notes g) of_now s.not_later in
@@ -265,7 +265,7 @@ module _ (now c : ℕ) (g : List ServerEvent) (s : Settled now g) (k : Known c (
     others = note_others now (LetGo c) g s tt tt;
   }
     where
-      by : (x : ℕ) → made (notes g) < x → (b : Bool) → (x == c) ≡ b → is_let_go x (LetGo c ∷ notes g) ≡ false
+      by : (x : ℕ) → made (notes g) < x → (b : Bool) → (x == c) ≡ b → is_removed x (LetGo c ∷ notes g) ≡ false
       by x over true e =
           let same : x ≡ c = eqb-true x c e in
           let was = within (notes g) s.in_order c k in
@@ -292,7 +292,7 @@ module _ (now c : ℕ) (g : List ServerEvent) (s : Settled now g) (k : Known c (
       by x true e = absurd (let z : false ≡ true = sym (and_false (is_some (settings_of x (work g)))) ∙ e in cc)
       by x false e = e
 
-  pub lets_go : (h : List ServerEvent) → has_peer c g ≡ has_peer c h → Parted now c g (onto (letting_go c h) g)
+  pub lets_go : (h : List ServerEvent) → has_peer c g ≡ has_peer c h → Parted now c g (onto (removing_conn c h) g)
   lets_go h same = by (has_peer c h) same where
     dropped : has_peer c (Works (Goes c) ∷ g) ≡ false
     dropped = rw (eq-eqb c c refl) (and_false (is_some (settings_of c (work g))))
@@ -337,10 +337,10 @@ connecting_notes c t reconnect h g =
 -- ---- a new connection
 
 module _ (now : ℕ) (g : List ServerEvent) (s : Settled now g) (room : is_busy now (notes g) ≡ false) where
-  never_gone : is_let_go (suc (made (notes g))) (notes g) ≡ false
+  never_gone : is_removed (suc (made (notes g))) (notes g) ≡ false
   never_gone = s.made_first (suc (made (notes g))) (omega arith)
 
-  fewer : (c : ℕ) → suc (made (notes g)) < c → is_let_go c (notes g) ≡ false
+  fewer : (c : ℕ) → suc (made (notes g)) < c → is_removed c (notes g) ≡ false
   fewer c over = s.made_first c (omega (arith, over))
 
   pub negotiating : (token : List ℕ) (reconnect : Bool) → Settled now (Notes (Negotiated (suc (made (notes g))) token reconnect now) ∷ g)

@@ -8,10 +8,10 @@ use Rattle.hd_delivery.specs.Histories.{Ticked, Silenced, present_link, is_silen
 use Rattle.hd_server.specs.Numbers.{held_for}
 use Rattle.hd_server.specs.Lives.{Answered, LaneLost, Ended, is_known, is_polling, ended_at, socket_of, poll_of, numbers_to}
 use Rattle.hd_server.specs.Machine.{connections, greatest, is_there}
-use Rattle.hd_server.specs.Doings.{ServerEvent, Notes, notes, work, history, config_of, has_peer, has_closed, is_granted}
-use Rattle.hd_server.specs.Plans.{Setup, onto, step, letting_go, losing, shutting, replying, bare_reply, frames_reply}
-use Rattle.hd_server.specs.Serves.{lending, writing, all_of, bytes_of, telling_socket, telling_poll, telling_poll_some, ending, telling_without, telling_on, telling, all_telling, silenced, ticking, ticks}
-use Rattle.hd_server.proofs.Telling.{is_in, AreApart, numbers_apart}
+use Rattle.hd_server.specs.Doings.{ServerEvent, Notes, notes, work, history, config_of, has_peer, has_closed, may_resume}
+use Rattle.hd_server.specs.Plans.{Setup, onto, step, removing_conn, losing, shutting, replying, bare_reply, frames_reply}
+use Rattle.hd_server.specs.Serves.{lending, writing, all_of, bytes_of, flushing_socket, flushing_poll, flushing_some_poll, ending, flushing_without, flushing_on, flushing, all_flushing, silenced, ticking, ticks}
+use Rattle.hd_server.proofs.Flushing.{is_in, AreApart, numbers_apart}
 use Rattle.hd_server.proofs.OrderlyNotes.{Known}
 use Rattle.hd_server.proofs.OrderlyDoings.{Settled, Parted, Lively, AreQuiet, quiet_both, quiet_lively, shutting_quiet, replying_quiet, either_way, in_turn, lively_same, lively_then, parted_of, parted_then, parted_quiet, answering, lane_losing, now_ending, lets_go}
 
@@ -39,7 +39,7 @@ fits_after now c h ds es a b g s k e =
     let x = a g s k in
     in_turn (Parted now c g) ds es g (parted_then now c g (onto ds g) (onto es (onto ds g)) x (b (onto ds g) x.settled x.known (x.stays ∙ e)))
 
-pub fits_leaving : (now c : ℕ) (h : List ServerEvent) → Fits now c h (letting_go c h)
+pub fits_leaving : (now c : ℕ) (h : List ServerEvent) → Fits now c h (removing_conn c h)
 fits_leaving now c h g s k e = lets_go now c g s k h e
 
 pub keeps_answer : (now c lane : ℕ) → Keeps now c (Notes (Answered c lane now) ∷ [])
@@ -56,7 +56,7 @@ keeps_none now c g s k = lively_same now c g s k
 
 pub fits_losing : (now c lane : ℕ) (h : List ServerEvent) → Fits now c h (losing c lane now h)
 fits_losing now c lane h =
-    either_way (Fits now c h) (is_granted c h) (Notes (LaneLost c lane now) ∷ []) (letting_go c h)
+    either_way (Fits now c h) (may_resume c h) (Notes (LaneLost c lane now) ∷ []) (removing_conn c h)
     (fits_kept now c h (Notes (LaneLost c lane now) ∷ []) (keeps_loss now c lane)) (fits_leaving now c h)
 
 -- ---- what is told
@@ -70,21 +70,21 @@ writing_quiet s c lane [] h = tt
 writing_quiet s c lane (p ∷ ps) h = (tt, writing_quiet s c lane ps h)
 
 module _ (s : Setup) (now c : ℕ) (h : List ServerEvent) where
-  on_socket : (lane : ℕ) (pieces : List (List LinkFrame)) → Fits now c h (telling_socket s c lane pieces h)
+  on_socket : (lane : ℕ) (pieces : List (List LinkFrame)) → Fits now c h (flushing_socket s c lane pieces h)
   on_socket lane pieces =
-      let last : List ServerEvent = if has_closed c h then shutting lane h ++ letting_go c h else [] in
+      let last : List ServerEvent = if has_closed c h then shutting lane h ++ removing_conn c h else [] in
       fits_after now c h (lending c (all_of pieces) ++ writing s c lane pieces h) last
       (keeps_quiet now c (lending c (all_of pieces) ++ writing s c lane pieces h)
       (quiet_both (lending c (all_of pieces)) (writing s c lane pieces h) (lending_quiet c (all_of pieces)) (writing_quiet s c lane pieces h)))
-      (either_way (Fits now c h) (has_closed c h) (shutting lane h ++ letting_go c h) []
-      (fits_after now c h (shutting lane h) (letting_go c h) (keeps_quiet now c (shutting lane h) (shutting_quiet lane h)) (fits_leaving now c h))
+      (either_way (Fits now c h) (has_closed c h) (shutting lane h ++ removing_conn c h) []
+      (fits_after now c h (shutting lane h) (removing_conn c h) (keeps_quiet now c (shutting lane h) (shutting_quiet lane h)) (fits_leaving now c h))
       (fits_kept now c h [] (keeps_none now c)))
 
-  on_poll : (poll : ℕ × ℕ) (fs : List LinkFrame) → Fits now c h (telling_poll s now c poll fs h)
+  on_poll : (poll : ℕ × ℕ) (fs : List LinkFrame) → Fits now c h (flushing_poll s now c poll fs h)
   on_poll poll [] =
       let answers : List ServerEvent = replying poll.0 (bare_reply 200) h ++ Notes (Answered c poll.0 now) ∷ [] in
-      either_way (Fits now c h) (has_closed c h) (replying poll.0 (bare_reply 204) h ++ letting_go c h) (if nat_le (poll.1 + held_for) now then answers else [])
-      (fits_after now c h (replying poll.0 (bare_reply 204) h) (letting_go c h)
+      either_way (Fits now c h) (has_closed c h) (replying poll.0 (bare_reply 204) h ++ removing_conn c h) (if nat_le (poll.1 + held_for) now then answers else [])
+      (fits_after now c h (replying poll.0 (bare_reply 204) h) (removing_conn c h)
       (keeps_quiet now c (replying poll.0 (bare_reply 204) h) (replying_quiet poll.0 (bare_reply 204) h)) (fits_leaving now c h))
       (either_way (Fits now c h) (nat_le (poll.1 + held_for) now) answers []
       (fits_kept now c h answers (keeps_both now c (replying poll.0 (bare_reply 200) h) (Notes (Answered c poll.0 now) ∷ [])
@@ -98,7 +98,7 @@ module _ (s : Setup) (now c : ℕ) (h : List ServerEvent) where
       (quiet_both (lending c (f ∷ fs)) reply (lending_quiet c (f ∷ fs)) (replying_quiet poll.0 (frames_reply (bytes_of s c (f ∷ fs) h)) h)))
       (keeps_answer now c poll.0))
 
-  on_some_poll : (o : Option (ℕ × ℕ)) (fs : List LinkFrame) → Fits now c h (telling_poll_some s now c o fs h)
+  on_some_poll : (o : Option (ℕ × ℕ)) (fs : List LinkFrame) → Fits now c h (flushing_some_poll s now c o fs h)
   on_some_poll None fs = fits_kept now c h [] (keeps_none now c)
   on_some_poll (Some poll) fs = on_poll poll fs
 
@@ -106,14 +106,14 @@ module _ (s : Setup) (now c : ℕ) (h : List ServerEvent) where
   on_ending =
       either_way (Keeps now c) (has_closed c h && not (is_some (ended_at c (notes h)))) (Notes (Ended c now) ∷ []) [] (keeps_end now c) (keeps_none now c)
 
-  without : (fs : List LinkFrame) → Fits now c h (telling_without s now c fs h)
+  without : (fs : List LinkFrame) → Fits now c h (flushing_without s now c fs h)
   without fs =
-      either_way (Fits now c h) (is_polling c (notes h)) (ending now c h ++ telling_poll_some s now c (poll_of c (notes h)) fs h)
-      (if has_closed c h then letting_go c h else [])
-      (fits_after now c h (ending now c h) (telling_poll_some s now c (poll_of c (notes h)) fs h) on_ending (on_some_poll (poll_of c (notes h)) fs))
-      (either_way (Fits now c h) (has_closed c h) (letting_go c h) [] (fits_leaving now c h) (fits_kept now c h [] (keeps_none now c)))
+      either_way (Fits now c h) (is_polling c (notes h)) (ending now c h ++ flushing_some_poll s now c (poll_of c (notes h)) fs h)
+      (if has_closed c h then removing_conn c h else [])
+      (fits_after now c h (ending now c h) (flushing_some_poll s now c (poll_of c (notes h)) fs h) on_ending (on_some_poll (poll_of c (notes h)) fs))
+      (either_way (Fits now c h) (has_closed c h) (removing_conn c h) [] (fits_leaving now c h) (fits_kept now c h [] (keeps_none now c)))
 
-  tells_on : (o : Option ℕ) (pieces : List (List LinkFrame)) → Fits now c h (telling_on s now c o pieces h)
+  tells_on : (o : Option ℕ) (pieces : List (List LinkFrame)) → Fits now c h (flushing_on s now c o pieces h)
   tells_on (Some lane) pieces = on_socket lane pieces
   tells_on None pieces = without (all_of pieces)
 
@@ -168,14 +168,14 @@ walk now h f fits (c ∷ cs) g apart ready s =
     (walk now h f fits cs (onto (f c) g) apart.1 (further_ready now c cs h g (onto (f c) g) apart.0 ready p) p.settled)
 
 walk_told : (s : Setup) (now : ℕ) (h : List ServerEvent) (cs : List ℕ) (all : List (List (List LinkFrame))) (g : List ServerEvent) → AreApart cs → Ready h g cs
-    → Settled now g → Settled now (onto (all_telling s now cs all h) g)
+    → Settled now g → Settled now (onto (all_flushing s now cs all h) g)
 walk_told s now h [] all g apart ready ok = ok
 walk_told s now h (c ∷ cs) [] g apart ready ok = ok
 walk_told s now h (c ∷ cs) (pieces ∷ more) g apart ready ok =
-    let words : List ServerEvent = telling s now c pieces h in
+    let words : List ServerEvent = flushing s now c pieces h in
     let first = first_ready c cs h g ready in
     let p = tells_on s now c h (socket_of c (notes h)) pieces g ok first.0 first.1 in
-    in_turn (Settled now) words (all_telling s now cs more h) g
+    in_turn (Settled now) words (all_flushing s now cs more h) g
     (walk_told s now h cs more (onto words g) apart.1 (further_ready now c cs h g (onto words g) apart.0 ready p) p.settled)
 
 -- ---- all connections
@@ -215,5 +215,5 @@ pub ticked_settled : (now : ℕ) (h : List ServerEvent) → Settled now h → Se
 ticked_settled now h s = walk now h (λ c. ticking now c h) (λ c. tick_fits now c h) (connections (work h)) h (all_apart h) (all_ready now h s) s
 
 pub told_settled : (s : Setup) (now : ℕ) (all : List (List (List LinkFrame))) (h : List ServerEvent) → Settled now h
-    → Settled now (onto (all_telling s now (connections (work h)) all h) h)
+    → Settled now (onto (all_flushing s now (connections (work h)) all h) h)
 told_settled s now all h ok = walk_told s now h (connections (work h)) all h (all_apart h) (all_ready now h ok) ok

@@ -6,11 +6,11 @@ use Rattle.std.proofs.lemmas.Bool.{eqb-true, eq-eqb, or_left, or_right}
 use Rattle.hd_delivery.specs.declared.vocabulary.Reason.TheVariants as reason
 use Rattle.hd_server.specs.declared.vocabulary.Life.{Life}
 use Rattle.hd_server.specs.declared.vocabulary.Life.TheVariants.{Unknown, Fresh, Socket, Lost, Polling, Ending}
-use Rattle.hd_server.specs.Lives.{Expired, AreInOrder, made, is_let_go, is_known, is_past, deadline, standing, last_moment, numbers_to, overdue}
+use Rattle.hd_server.specs.Lives.{Expired, AreInOrder, made, is_removed, is_known, is_past, deadline, standing, last_moment, numbers_to, overdue}
 use Rattle.hd_server.specs.Machine.{Goes, settings_of}
 use Rattle.hd_server.specs.Doings.{ServerEvent, Notes, Works, notes, work, moment, has_peer, is_up}
 use Rattle.hd_server.specs.Plans.{onto, closing, dropping, expiring, expiries}
-use Rattle.hd_server.proofs.Telling.{is_in, AreApart, numbers_apart}
+use Rattle.hd_server.proofs.Flushing.{is_in, AreApart, numbers_apart}
 use Rattle.hd_server.proofs.Once.{moments_come_once}
 use Rattle.hd_server.proofs.OrderlyNotes.{Known, first_within, none_past, another_stands, another_stays, polling_expires}
 use Rattle.hd_server.proofs.OrderlyDoings.{Settled, either_way, in_turn}
@@ -22,7 +22,7 @@ record Expires (now : ℕ) (h : List ServerEvent) (cs : List ℕ) (g : List Serv
   not_later : last_moment (notes g) ≤ now
   is_now : moment g ≡ now
   peers : (c : ℕ) → has_peer c g ≡ true → Known c (notes g)
-  made_first : (c : ℕ) → made (notes g) < c → is_let_go c (notes g) ≡ false
+  made_first : (c : ℕ) → made (notes g) < c → is_removed c (notes g) ≡ false
   left : overdue now (notes g) ≡ cs
   as_before : (k : ℕ) → is_in k cs ≡ true → (standing k (notes g) ≡ standing k (notes h)) × (has_peer k g ≡ has_peer k h)
 
@@ -48,13 +48,13 @@ module _ (now c : ℕ) (cs : List ℕ) (h g x : List ServerEvent) (out : is_in c
   peers_then k false f there =
       ap is_known (another_stands k (Expired c now) (notes x) f) ∙ subst (Known k) (sym l.same_notes) (e.peers k (sym (l.of_others k f) ∙ there))
 
-  gone_then : (k : ℕ) → made (notes x) < k → (b : Bool) → (k == c) ≡ b → is_let_go k (Expired c now ∷ notes x) ≡ false
+  gone_then : (k : ℕ) → made (notes x) < k → (b : Bool) → (k == c) ≡ b → is_removed k (Expired c now ∷ notes x) ≡ false
   gone_then k over true f =
       let same : k ≡ c = eqb-true k c f in
       let was = first_within c now cs (notes x) left_then in
       absurd (let no : ⊥ = omega (arith, over, same, was.1) in no)
   gone_then k over false f =
-      another_stays k (Expired c now) (notes x) f ∙ ap (is_let_go k) l.same_notes ∙ e.made_first k (subst (λ n. made n < k) l.same_notes over)
+      another_stays k (Expired c now) (notes x) f ∙ ap (is_removed k) l.same_notes ∙ e.made_first k (subst (λ n. made n < k) l.same_notes over)
 
   expire : Expires now h cs (Notes (Expired c now) ∷ x)
   expire = record {
@@ -131,7 +131,7 @@ module _ (now : ℕ) (h : List ServerEvent) where
       (all_expire cs (onto mine g) apart.1 (one_expires c cs g apart.0 e (standing c (notes h)) refl))
 
   pub expired_settled : AreInOrder (notes h) → last_moment (notes h) ≤ now → moment h ≡ now → ((c : ℕ) → has_peer c h ≡ true → Known c (notes h))
-      → ((c : ℕ) → made (notes h) < c → is_let_go c (notes h) ≡ false) → Settled now (onto (expiries now h) h)
+      → ((c : ℕ) → made (notes h) < c → is_removed c (notes h) ≡ false) → Settled now (onto (expiries now h) h)
   expired_settled order later is_now peers first =
       let begins : Expires now h (overdue now (notes h)) h = record {
         in_order = order;

@@ -6,8 +6,8 @@ use Rattle.hd_delivery.specs.Histories.{is_this, first_of}
 use Rattle.hd_server.specs.declared.vocabulary.Life.{Life}
 use Rattle.hd_server.specs.declared.vocabulary.Life.TheVariants.{Unknown, Fresh, Socket, Lost, Polling, Ending}
 use Rattle.hd_server.specs.Numbers.{lives_for}
-use Rattle.hd_server.specs.Lives.{ConnectionEvent, Negotiated, Opened, Socketed, Polled, Answered, LaneLost, Ended, Expired, LetGo, AreInOrder, made, negotiated_at, is_opened, socket_of, lost_at, poll_of, poll_ended, ended_at, is_let_go, is_known, is_past, past, standing, since, when, deadline, life_of, overdue, numbers_to}
-use Rattle.hd_server.proofs.Telling.{is_in}
+use Rattle.hd_server.specs.Lives.{ConnectionEvent, Negotiated, Opened, Socketed, Polled, Answered, LaneLost, Ended, Expired, LetGo, AreInOrder, made, negotiated_at, is_opened, socket_of, lost_at, poll_of, poll_ended, ended_at, is_removed, is_known, is_past, past, standing, since, when, deadline, life_of, overdue, numbers_to}
+use Rattle.hd_server.proofs.Flushing.{is_in}
 
 -- ---- a life by what it is read off
 
@@ -41,7 +41,7 @@ since_is c h Polling = refl
 since_is c h Ending = refl
 
 abbrev deadline_by : ℕ → List ConnectionEvent → Option ℕ
-deadline_by c h = ends_by (is_let_go c h) (ended_at c h) (socket_of c h) (lost_at c h) (poll_of c h) (poll_ended c h) (is_opened c h) (negotiated_at c h)
+deadline_by c h = ends_by (is_removed c h) (ended_at c h) (socket_of c h) (lost_at c h) (poll_of c h) (poll_ended c h) (is_opened c h) (negotiated_at c h)
 
 deadline_is : (c : ℕ) (h : List ConnectionEvent) → deadline c h ≡ deadline_by c h
 deadline_is c h = ap (λ o. option_map (λ moment. moment + lives_for) o) (since_is c h (standing c h))
@@ -181,14 +181,14 @@ module _ (now c : ℕ) (h : List ConnectionEvent) (u : is_past now (deadline c h
   of_token token reconnect =
       ap (is_past now) (deadline_is c (Negotiated c token reconnect now ∷ h))
       ∙ rw (eq-eqb c c refl)
-      (made_token now (is_let_go c h) (ended_at c h) (socket_of c h) (lost_at c h) (poll_of c h) (poll_ended c h) (is_opened c h) (negotiated_at c h)
+      (made_token now (is_removed c h) (ended_at c h) (socket_of c h) (lost_at c h) (poll_of c h) (poll_ended c h) (is_opened c h) (negotiated_at c h)
       before)
 
   of_opening : is_past now (deadline c (Opened c now ∷ h)) ≡ false
   of_opening =
       ap (is_past now) (deadline_is c (Opened c now ∷ h))
       ∙ rw (eq-eqb c c refl)
-      (opens now (is_let_go c h) (ended_at c h) (socket_of c h) (lost_at c h) (poll_of c h) (poll_ended c h) (is_opened c h) (negotiated_at c h)
+      (opens now (is_removed c h) (ended_at c h) (socket_of c h) (lost_at c h) (poll_of c h) (poll_ended c h) (is_opened c h) (negotiated_at c h)
       before)
 
 -- ---- notes of another
@@ -196,7 +196,7 @@ module _ (now c : ℕ) (h : List ConnectionEvent) (u : is_past now (deadline c h
 record Untouched (k : ℕ) (g h : List ConnectionEvent) : Type 0 where
   same_end : deadline_by k g ≡ deadline_by k h
   same_life : standing k g ≡ standing k h
-  same_leave : is_let_go k g ≡ is_let_go k h
+  same_leave : is_removed k g ≡ is_removed k h
 
 untouched : (k : ℕ) (n : ConnectionEvent) (h : List ConnectionEvent) → (k == subject n) ≡ false → Untouched k (n ∷ h) h
 untouched k (Negotiated c token reconnect now) h e = record { same_end = rw e refl; same_life = rw e refl; same_leave = refl }
@@ -212,7 +212,7 @@ untouched k (LetGo c) h e = record { same_end = rw e refl; same_life = rw e refl
 pub another_stands : (k : ℕ) (n : ConnectionEvent) (h : List ConnectionEvent) → (k == subject n) ≡ false → standing k (n ∷ h) ≡ standing k h
 another_stands k n h e = (untouched k n h e).same_life
 
-pub another_stays : (k : ℕ) (n : ConnectionEvent) (h : List ConnectionEvent) → (k == subject n) ≡ false → is_let_go k (n ∷ h) ≡ is_let_go k h
+pub another_stays : (k : ℕ) (n : ConnectionEvent) (h : List ConnectionEvent) → (k == subject n) ≡ false → is_removed k (n ∷ h) ≡ is_removed k h
 another_stays k n h e = (untouched k n h e).same_leave
 
 another_ends : (k : ℕ) (n : ConnectionEvent) (h : List ConnectionEvent) → (k == subject n) ≡ false → deadline k (n ∷ h) ≡ deadline k h
@@ -330,12 +330,12 @@ module _ (c : ℕ) (h : List ConnectionEvent) where
   pub polling_expires : (now : ℕ) → standing c h ≡ Polling → Known c (Expired c now ∷ h)
   polling_expires now e = rw (eq-eqb c c refl) (known_expired _ _ _ _ _ _ _ _ now e)
 
-  pub once_opened : (now : ℕ) → is_let_go c h ≡ false → Known c (Opened c now ∷ h)
+  pub once_opened : (now : ℕ) → is_removed c h ≡ false → Known c (Opened c now ∷ h)
   once_opened now e =
       rw (e, eq-eqb c c refl)
       (known_made (ended_at c h) (socket_of c h) (lost_at c h) (poll_of c h) (poll_ended c h) true (negotiated_at c h) refl)
 
-  pub once_negotiated : (token : List ℕ) (reconnect : Bool) (now : ℕ) → is_let_go c h ≡ false → Known c (Negotiated c token reconnect now ∷ h)
+  pub once_negotiated : (token : List ℕ) (reconnect : Bool) (now : ℕ) → is_removed c h ≡ false → Known c (Negotiated c token reconnect now ∷ h)
   once_negotiated token reconnect now e =
       rw (e, eq-eqb c c refl)
       (known_made (ended_at c h) (socket_of c h) (lost_at c h) (poll_of c h) (poll_ended c h) (is_opened c h) (Some now) (or_right (is_opened c h) true refl))
@@ -359,7 +359,7 @@ known_of_life c now h = by (is_past now (deadline c h)) where
 pub life_of_known : (c now : ℕ) (h : List ConnectionEvent) → NonePast now h → Known c h → is_known (life_of c now h) ≡ true
 life_of_known c now h none e = rw (none c) e
 
-pub gone_unknown : (c : ℕ) (h : List ConnectionEvent) → is_let_go c h ≡ true → Known c h → ⊥
+pub gone_unknown : (c : ℕ) (h : List ConnectionEvent) → is_removed c h ≡ true → Known c h → ⊥
 gone_unknown c h e known = absurd (let z : false ≡ true = rw (← known) (rw e refl) in cc)
 
 first_is_in : (p : ℕ → Bool) (xs : List ℕ) (c : ℕ) (rest : List ℕ) → filter p xs ≡ c ∷ rest → is_in c xs ≡ true
@@ -439,7 +439,7 @@ within (Expired c m ∷ h) (order, later, (rest, may)) k known =
     own_or k (Expired c m) h (omega arith) (first_within c m rest h may) (within h order k) known
 within (LetGo c ∷ h) (order, later, may) k known = by (k == c) refl (within h order k) where
   by : (b : Bool) → (k == c) ≡ b → (Known k h → IsWithin k h) → IsWithin k h
-  by true e further = absurd (gone_unknown k (LetGo c ∷ h) (or_left (k == c) (is_let_go k h) e) known)
+  by true e further = absurd (gone_unknown k (LetGo c ∷ h) (or_left (k == c) (is_removed k h) e) known)
   by false e further = further (ap is_known (sym (another_stands k (LetGo c) h e)) ∙ known)
 
 unknown_is : (l : Life) → is_known l ≡ false → l ≡ Unknown

@@ -17,9 +17,9 @@ use Rattle.hd_server.specs.Texts.{token_of, negotiate_body}
 use Rattle.hd_server.specs.Table.{Facts, Outcome, Refusal, NewToken, PlainSocket, TokenSocket, FirstPoll, NextPoll, LastPoll, Posting, Deletion, is_base, is_negotiate, is_socket, has_id, has_version, same_method, is_entry, is_unauthorized, is_keepers_fault, asks_keeper, socket_outcome, poll_outcome, post_outcome, delete_outcome, method_outcome, named_outcome, outcome}
 use Rattle.hd_server.specs.Machine.{connections, greatest, is_there}
 use Rattle.hd_server.specs.Doings.{ServerEvent, Notes, notes, work, is_up}
-use Rattle.hd_server.specs.Plans.{Setup, onto, step, connecting, attaching, closing, letting_go, bare_reply, socket_reply, token_reply, replying, ending_poll, ending_held, learning, asks_lots, questions, standing_on, shutting_some, request_plan, conn_on, poller_on, losing, losing_lane, named_conn, facts, plan}
+use Rattle.hd_server.specs.Plans.{Setup, onto, step, connecting, attaching, closing, removing_conn, bare_reply, socket_reply, token_reply, replying, ending_poll, ending_held, learning, asks_lots, questions, standing_on, shutting_some, request_plan, conn_on, poller_on, losing, losing_lane, named_conn, facts, plan}
 use Rattle.hd_server.specs.Serves.{IsFed}
-use Rattle.hd_server.proofs.Telling.{is_in}
+use Rattle.hd_server.proofs.Flushing.{is_in}
 use Rattle.hd_server.proofs.OrderlyNotes.{Known, known_of_life}
 use Rattle.hd_server.proofs.OrderlyDoings.{Settled, Parted, Lively, AreQuiet, quiet_both, quiet_settled, quiet_settled_after, quiet_notes_after, quiet_lively, shutting_quiet, replying_quiet, moves_quiet, either_way, in_turn, socketing, polling, answering, lane_losing, connects, connecting_notes, negotiating, opening, opened_known}
 use Rattle.hd_server.proofs.OrderlyEach.{Keeps, keeps_quiet, keeps_both, keeps_answer, keeps_none, fits_after, fits_leaving, fits_losing, passes}
@@ -166,15 +166,15 @@ closes : (c : ℕ) (why : Reason) (h : List ServerEvent) → AreQuiet (closing c
 closes c why h = either_way AreQuiet (is_up c h) _ [] (tt, tt) tt
 
 module _ (s : Setup) (now lane : ℕ) (r : Request) (drawn : Option (List ℕ)) (c : ℕ) (h : List ServerEvent) (ok : Settled now h) where
-  deletes : Known c (notes h) → Settled now (onto (ending_held c now h ++ closing c reason.Done h ++ letting_go c h ++ replying lane (bare_reply 202) h) h)
+  deletes : Known c (notes h) → Settled now (onto (ending_held c now h ++ closing c reason.Done h ++ removing_conn c h ++ replying lane (bare_reply 202) h) h)
   deletes k =
       let ended : List ServerEvent = ending_held c now h ++ closing c reason.Done h in
       let keeps : Keeps now c ended
       = keeps_both now c (ending_held c now h) (closing c reason.Done h) (poll_ends c now (poll_of c (notes h)) h)
       (keeps_quiet now c (closing c reason.Done h) (closes c reason.Done h)) in
-      let left : Parted now c h (onto (ended ++ letting_go c h) h) = fits_after now c h ended (letting_go c h) keeps (fits_leaving now c h) h ok k refl in
-      in_turn (Settled now) (ended ++ letting_go c h) (replying lane (bare_reply 202) h) h
-      (quiet_settled now (replying lane (bare_reply 202) h) (onto (ended ++ letting_go c h) h) (replying_quiet lane (bare_reply 202) h) left.settled)
+      let left : Parted now c h (onto (ended ++ removing_conn c h) h) = fits_after now c h ended (removing_conn c h) keeps (fits_leaving now c h) h ok k refl in
+      in_turn (Settled now) (ended ++ removing_conn c h) (replying lane (bare_reply 202) h) h
+      (quiet_settled now (replying lane (bare_reply 202) h) (onto (ended ++ removing_conn c h) h) (replying_quiet lane (bare_reply 202) h) left.settled)
 
   request_settled : (life : Life) (busy : Bool) → (is_known life ≡ true → Known c (notes h)) → (busy ≡ false → is_busy now (notes h) ≡ false)
       → (out : Outcome) → IsRight life busy out → (fed : List ServerEvent)

@@ -13,9 +13,9 @@ use Rattle.hd_server.specs.Table.{outcome}
 use Rattle.hd_server.specs.Machine.{Rounds, connections, has_gone, settings_of}
 use Rattle.hd_server.specs.Doings.{ServerEvent, Hears, Works, notes, work, moment, has_peer}
 use Rattle.hd_server.specs.Plans.{Setup, onto, expiries, questions, conn_on, poller_on, losing_lane, named_conn, facts, plan}
-use Rattle.hd_server.specs.Serves.{IsFed, IsFree, IsTurn, Serves, ticks, all_telling}
+use Rattle.hd_server.specs.Serves.{IsFed, IsFree, IsTurn, Serves, ticks, all_flushing}
 use Rattle.hd_server.specs.Laws.{EachRequestIsAnswered}
-use Rattle.hd_server.proofs.Telling.{is_in}
+use Rattle.hd_server.proofs.Flushing.{is_in}
 use Rattle.hd_server.proofs.OrderlyNotes.{Known, known_of_life, once_opened, within}
 use Rattle.hd_server.proofs.OrderlyDoings.{Settled, AreQuiet}
 use Rattle.hd_server.proofs.OrderlyExpiries.{expired_settled}
@@ -28,7 +28,7 @@ use Rattle.hd_server.proofs.RepliesTurns.{finds, there_of, expiries_calm, questi
 use Rattle.hd_server.proofs.RepliesOwn.{Alike, alike_same, own_alike, Own, quiet_onto}
 use Rattle.hd_server.proofs.RepliesPhases.{fresh_of, ending_of}
 use Rattle.hd_server.proofs.RepliesOwnPlans.{all_fed, loses_own, poll_loses_own, request_own}
-use Rattle.hd_server.proofs.RepliesOwnTold.{Both, done_alike}
+use Rattle.hd_server.proofs.RepliesOwnFlushed.{Both, done_alike}
 use Rattle.hd_server.proofs.RepliesExpired.{expired_both}
 use Rattle.hd_server.proofs.RepliesHandled.{Hearing, Needs, hearing_calm, heard_lanes, handled_lanes}
 use Rattle.hd_server.proofs.RepliesServed.{Sound, all_among, sound_after}
@@ -226,7 +226,7 @@ module _ {Job : Type 0} (hub : Hub Job) (s : Setup) (now : ℕ) (e : Event) (h a
       = subst (Seats None None) (sym turn.has_stepped)
       (less_seats None None begun (map Works turn.round ++ begun) (less_after (map Works turn.round) begun (works_less turn.round words))
       (less_seats None None turn.ticked begun (less_onto (Works (Rounds now) ∷ []) turn.ticked (tt, tt)) ticked)) in
-      let told : List ServerEvent = all_telling s now (connections (work turn.stepped)) turn.pieces turn.stepped in
+      let told : List ServerEvent = all_flushing s now (connections (work turn.stepped)) turn.pieces turn.stepped in
       subst (Seats None None) (sym turn.tells)
       (less_seats None None turn.stepped (onto told turn.stepped)
       (less_onto told turn.stepped (all_less s now (connections (work turn.stepped)) turn.pieces turn.stepped)) stepped)

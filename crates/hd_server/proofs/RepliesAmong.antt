@@ -3,8 +3,8 @@ use Rattle.std.proofs.Common.{◌≡◌, ℕ, ◌<◌, true, List}
 use Rattle.hd_server.specs.Lives.{numbers_to}
 use Rattle.hd_server.specs.Machine.{connections, greatest, is_there, settings_of}
 use Rattle.hd_server.specs.Doings.{ServerEvent, work, has_peer}
-use Rattle.hd_server.proofs.Telling.{is_in, in-filter, to_greatest, some_of}
-use Rattle.hd_server.proofs.Telling.{within as in_range}
+use Rattle.hd_server.proofs.Flushing.{is_in, in-filter, to_greatest, some_of}
+use Rattle.hd_server.proofs.Flushing.{within as in_range}
 use Rattle.std.proofs.lemmas.Bool.{and_parts}
 
 pub among_connections : (k : ℕ) (h : List ServerEvent) → 0 < k → has_peer k h ≡ true → is_in k (connections (work h)) ≡ true

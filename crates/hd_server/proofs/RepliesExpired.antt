@@ -11,13 +11,13 @@ use Rattle.hd_server.specs.Machine.{Goes}
 use Rattle.hd_server.specs.Doings.{ServerEvent, Notes, Works, notes, has_peer}
 use Rattle.hd_server.specs.Plans.{onto, closing, dropping, expiring, expiries}
 use Rattle.hd_server.proofs.Few.{standing_same}
-use Rattle.hd_server.proofs.Telling.{numbers_apart}
+use Rattle.hd_server.proofs.Flushing.{numbers_apart}
 use Rattle.hd_server.proofs.OrderlyNotes.{Known, gone_unknown, in_numbers}
 use Rattle.hd_server.proofs.OrderlyDoings.{in_turn, either_way}
 use Rattle.hd_server.proofs.OrderlyEach.{apart-filter, passes}
 use Rattle.hd_server.proofs.RepliesOwn.{Alike, alike_same, own_alike, quiet_onto}
 use Rattle.hd_server.proofs.RepliesPhases.{closing_quiet, each_own, expired_gone, expires_own, expiring_one, kept_in}
-use Rattle.hd_server.proofs.RepliesOwnTold.{Both, Done, done_alike}
+use Rattle.hd_server.proofs.RepliesOwnFlushed.{Both, Done, done_alike}
 
 -- one whose last poll ended holds none
 held_or_ended : (c : ℕ) (n : List ConnectionEvent) → is_some (poll_ended c n) ≡ true → poll_of c n ≡ None

@@ -10,7 +10,7 @@ use Rattle.hd_server.specs.declared.vocabulary.Said.TheVariants as say
 use Rattle.hd_server.specs.Lives.{Negotiated, Opened, Socketed, Answered, Ended, Expired, LetGo, poll_of}
 use Rattle.hd_server.specs.Machine.{Does, Rounds, Carries, Goes, settings_of, has_gone}
 use Rattle.hd_server.specs.Doings.{ServerEvent, Learns, Draws, Notes, Works, Says, notes, work, awaits_reply, wants_shut, was_refused, has_peer}
-use Rattle.hd_server.specs.Plans.{onto, dropping, letting_go, shutting}
+use Rattle.hd_server.specs.Plans.{onto, dropping, removing_conn, shutting}
 use Rattle.hd_server.specs.Laws.{AreAwaited}
 use Rattle.hd_server.proofs.OrderlyDoings.{either_way}
 
@@ -127,7 +127,7 @@ shutting_calm lane h = either_way AreCalm (was_refused lane h) [] _ tt (tt, tt)
 pub dropping_calm : (c : ℕ) (h : List ServerEvent) → AreCalm (dropping c h)
 dropping_calm c h = either_way AreCalm (has_peer c h) _ [] (tt, tt) tt
 
-pub letting_calm : (c : ℕ) (h : List ServerEvent) → AreCalm (letting_go c h)
+pub letting_calm : (c : ℕ) (h : List ServerEvent) → AreCalm (removing_conn c h)
 letting_calm c h = calm_both (dropping c h) _ (dropping_calm c h) (tt, tt)
 
 pub moves_calm : (c : ℕ) (ms : List PeerEvent) → AreCalm (map (λ m. Works (Does c m)) ms)

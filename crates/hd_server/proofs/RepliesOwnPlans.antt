@@ -8,12 +8,12 @@ use Rattle.hd_delivery.specs.Histories.{Detached, first_of}
 use Rattle.hd_calls.specs.Peers.{Settings}
 use Rattle.hd_server.specs.declared.vocabulary.Life.{Life}
 use Rattle.hd_server.specs.declared.vocabulary.Life.TheVariants.{Unknown, Fresh, Socket, Lost, Polling, Ending}
-use Rattle.hd_server.specs.Lives.{Negotiated, Opened, Socketed, Polled, Answered, LaneLost, ended_at, is_known, is_let_go, is_opened, is_polling, is_resumable_promise, lost_at, made, negotiated_at, poll_of, socket_of, standing, when}
+use Rattle.hd_server.specs.Lives.{Negotiated, Opened, Socketed, Polled, Answered, LaneLost, ended_at, is_known, is_removed, is_opened, is_polling, is_resumable_promise, lost_at, made, negotiated_at, poll_of, socket_of, standing, when}
 use Rattle.hd_server.specs.Texts.{token_of, negotiate_body}
 use Rattle.hd_server.specs.Table.{Outcome, Refusal, NewToken, PlainSocket, TokenSocket, FirstPoll, NextPoll, LastPoll, Posting, Deletion}
 use Rattle.hd_server.specs.Machine.{Connects, settings_of, has_gone}
-use Rattle.hd_server.specs.Doings.{ServerEvent, Notes, Works, notes, work, user_of, has_peer, is_granted}
-use Rattle.hd_server.specs.Plans.{Setup, onto, step, connecting, attaching, closing, letting_go, losing, peer_settings, bare_reply, socket_reply, token_reply, replying, ending_poll, ending_held, standing_on, shutting_some, request_plan}
+use Rattle.hd_server.specs.Doings.{ServerEvent, Notes, Works, notes, work, user_of, has_peer, may_resume}
+use Rattle.hd_server.specs.Plans.{Setup, onto, step, connecting, attaching, closing, removing_conn, losing, peer_settings, bare_reply, socket_reply, token_reply, replying, ending_poll, ending_held, standing_on, shutting_some, request_plan}
 use Rattle.hd_server.specs.Serves.{IsFed}
 use Rattle.hd_server.proofs.Few.{standing_same}
 use Rattle.hd_server.proofs.OrderlyNotes.{Known, still_polled, still_answered}
@@ -118,7 +118,7 @@ not_polling c h o known life e f g u = by (is_polling c (notes h)) refl where
   by false i = refl
   by true i =
       let none = o.no_socket known i in
-      absurd (polls_life (is_let_go c (notes h)) (ended_at c (notes h)) (socket_of c (notes h)) (lost_at c (notes h)) (is_polling c (notes h))
+      absurd (polls_life (is_removed c (notes h)) (ended_at c (notes h)) (socket_of c (notes h)) (lost_at c (notes h)) (is_polling c (notes h))
       (is_opened c (notes h) || is_some (negotiated_at c (notes h))) none.0 none.1 i life e f g u)
 
 shuts_some_quiet : (o : Option ℕ) (h : List ServerEvent) → AreQuiet (shutting_some o h)
@@ -161,7 +161,7 @@ ends_one c now (Some poll) h =
 -- ---- a lane that is lost
 
 losing_one : (c lane now : ℕ) (h : List ServerEvent) → AreOne c (losing c lane now h)
-losing_one c lane now h = either_way (AreOne c) (is_granted c h) (Notes (LaneLost c lane now) ∷ []) (letting_go c h) (refl, tt) (letting_one c h)
+losing_one c lane now h = either_way (AreOne c) (may_resume c h) (Notes (LaneLost c lane now) ∷ []) (removing_conn c h) (refl, tt) (letting_one c h)
 
 pub loses_own : (c lane now : ℕ) (h : List ServerEvent) → Known c (notes h) → c ≤ made (notes h) → ((k : ℕ) → Own k h)
     → (k : ℕ) → Own k (onto (step c (Detached now) ∷ losing c lane now h) h)
@@ -169,7 +169,7 @@ loses_own c lane now h known old all k =
     let x : List ServerEvent = step c (Detached now) ∷ h in
     let all_x = all_quiet (step c (Detached now) ∷ []) h (tt, tt) all in
     all_after c (losing c lane now h) x (losing_one c lane now h) all_x
-    (either_way (λ ds. Own c (onto ds x)) (is_granted c h) (Notes (LaneLost c lane now) ∷ []) (letting_go c h)
+    (either_way (λ ds. Own c (onto ds x)) (may_resume c h) (Notes (LaneLost c lane now) ∷ []) (removing_conn c h)
     (own_lost c x (all_x c) old known lane now) (let_go_own c h x (all_x c) old)) k
 
 pub poll_loses_own : (c lane now : ℕ) (h : List ServerEvent) → Known c (notes h) → c ≤ made (notes h) → ((k : ℕ) → Own k h)
@@ -290,10 +290,10 @@ module _ (s : Setup) (now lane : ℕ) (r : Request) (drawn : Option (List ℕ)) 
       let y : List ServerEvent = onto (closing c reason.Done h) x in
       let a = quiet_onto c (closing c reason.Done h) x (closing_quiet c reason.Done h) in
       let all_y = all_quiet (closing c reason.Done h) x (closing_quiet c reason.Done h) all_x in
-      let z : List ServerEvent = onto (letting_go c h) y in
-      let all_z = all_after c (letting_go c h) y (letting_one c h) all_y (let_go_own c h y (all_y c) (omega (arith, n.1, stays.more, a.more))) in
+      let z : List ServerEvent = onto (removing_conn c h) y in
+      let all_z = all_after c (removing_conn c h) y (letting_one c h) all_y (let_go_own c h y (all_y c) (omega (arith, n.1, stays.more, a.more))) in
       subst (Own k) (sym e)
-      (in_turn (Own k) (polls ++ closing c reason.Done h ++ letting_go c h) (replying lane (bare_reply 202) h) h
-      (in_turn (λ w. Own k (onto (replying lane (bare_reply 202) h) w)) (polls ++ closing c reason.Done h) (letting_go c h) h
-      (in_turn (λ w. Own k (onto (replying lane (bare_reply 202) h) (onto (letting_go c h) w))) polls (closing c reason.Done h) h
+      (in_turn (Own k) (polls ++ closing c reason.Done h ++ removing_conn c h) (replying lane (bare_reply 202) h) h
+      (in_turn (λ w. Own k (onto (replying lane (bare_reply 202) h) w)) (polls ++ closing c reason.Done h) (removing_conn c h) h
+      (in_turn (λ w. Own k (onto (replying lane (bare_reply 202) h) (onto (removing_conn c h) w))) polls (closing c reason.Done h) h
       (all_quiet (replying lane (bare_reply 202) h) z (replying_quiet lane (bare_reply 202) h) all_z k))))

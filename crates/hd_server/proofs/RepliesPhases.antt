@@ -10,13 +10,13 @@ use Rattle.hd_delivery.specs.Bytes.{Does as Step_of}
 use Rattle.hd_calls.specs.Peers.{PeerEvent, Plain, Settings}
 use Rattle.hd_server.specs.declared.vocabulary.Life.{Life}
 use Rattle.hd_server.specs.declared.vocabulary.Life.TheVariants.{Unknown, Fresh, Socket, Lost, Polling, Ending}
-use Rattle.hd_server.specs.Lives.{ConnectionEvent, LaneLost, Expired, LetGo, ended_at, is_known, is_let_go, is_opened, is_polling, lost_at, made, negotiated_at, socket_of, standing, when}
+use Rattle.hd_server.specs.Lives.{ConnectionEvent, LaneLost, Expired, LetGo, ended_at, is_known, is_removed, is_opened, is_polling, lost_at, made, negotiated_at, socket_of, standing, when}
 use Rattle.hd_server.specs.Machine.{Does, Goes, Rounds, Carries, connections, settings_of, has_gone, is_open_at}
-use Rattle.hd_server.specs.Doings.{ServerEvent, Learns, Draws, Notes, Works, Says, notes, work, peer, history, config_of, has_peer, has_closed, is_granted, is_up}
-use Rattle.hd_server.specs.Plans.{onto, step, closing, dropping, letting_go, expiring, losing, shutting}
+use Rattle.hd_server.specs.Doings.{ServerEvent, Learns, Draws, Notes, Works, Says, notes, work, peer, history, config_of, has_peer, has_closed, may_resume, is_up}
+use Rattle.hd_server.specs.Plans.{onto, step, closing, dropping, removing_conn, expiring, losing, shutting}
 use Rattle.hd_server.specs.Serves.{silenced, ticking, ticks}
 use Rattle.hd_server.proofs.Few.{standing_same}
-use Rattle.hd_server.proofs.Telling.{is_in, AreApart}
+use Rattle.hd_server.proofs.Flushing.{is_in, AreApart}
 use Rattle.hd_server.proofs.OrderlyNotes.{Known, gone_unknown}
 use Rattle.hd_server.proofs.OrderlyDoings.{IsQuiet, AreQuiet, in_turn, either_way, shutting_quiet}
 use Rattle.hd_server.proofs.OrderlyEach.{is_other, passes}
@@ -44,7 +44,7 @@ one_both c (x ∷ xs) ys a b = (a.0, one_both c xs ys a.1 b)
 dropping_one : (c : ℕ) (h : List ServerEvent) → AreOne c (dropping c h)
 dropping_one c h = either_way (AreOne c) (has_peer c h) _ [] (refl, tt) tt
 
-pub letting_one : (c : ℕ) (h : List ServerEvent) → AreOne c (letting_go c h)
+pub letting_one : (c : ℕ) (h : List ServerEvent) → AreOne c (removing_conn c h)
 letting_one c h = one_both c (dropping c h) (Notes (LetGo c) ∷ []) (dropping_one c h) (refl, tt)
 
 pub closing_quiet : (c : ℕ) (why : Reason) (h : List ServerEvent) → AreQuiet (closing c why h)
@@ -57,7 +57,7 @@ expiring_one now Polling c h =
 expiring_one now life c h = one_both c (dropping c h) (Notes (Expired c now) ∷ []) (dropping_one c h) (refl, tt)
 
 losing_one : (c lane now : ℕ) (h : List ServerEvent) → AreOne c (losing c lane now h)
-losing_one c lane now h = either_way (AreOne c) (is_granted c h) (Notes (LaneLost c lane now) ∷ []) (letting_go c h) (refl, tt) (letting_one c h)
+losing_one c lane now h = either_way (AreOne c) (may_resume c h) (Notes (LaneLost c lane now) ∷ []) (removing_conn c h) (refl, tt) (letting_one c h)
 
 silenced_one : (c : ℕ) (o : Option ℕ) (now : ℕ) (h : List ServerEvent) → AreOne c (silenced c o now h)
 silenced_one c None now h = (tt, tt)
@@ -95,13 +95,13 @@ module _ (P : ℕ → List ServerEvent → Type 0) (move : (k : ℕ) (g x : List
 
 -- ---- one that is let go
 
-pub let_go_own : (c : ℕ) (h g : List ServerEvent) → Own c g → c ≤ made (notes g) → Own c (onto (letting_go c h) g)
+pub let_go_own : (c : ℕ) (h g : List ServerEvent) → Own c g → c ≤ made (notes g) → Own c (onto (removing_conn c h) g)
 let_go_own c h g o old =
     either_way (λ ds. Own c (onto (ds ++ Notes (LetGo c) ∷ []) g)) (has_peer c h) (Works (Goes c) ∷ []) []
     (own_unknown c g o (Notes (LetGo c) ∷ Works (Goes c) ∷ g) gone old) (own_unknown c g o (Notes (LetGo c) ∷ g) gone old)
   where
     gone : Known c (LetGo c ∷ notes g) → ⊥
-    gone u = gone_unknown c (LetGo c ∷ notes g) (or_left (c == c) (is_let_go c (notes g)) (eq-eqb c c refl)) u
+    gone u = gone_unknown c (LetGo c ∷ notes g) (or_left (c == c) (is_removed c (notes g)) (eq-eqb c c refl)) u
 
 -- ---- what a life tells
 
@@ -153,18 +153,18 @@ goes_by true None None None false fresh f = absurd (f refl)
 
 module _ (c : ℕ) (n : List ConnectionEvent) where
   pub polls_of : standing c n ≡ Polling → (is_polling c n ≡ true) × (socket_of c n ≡ None) × (lost_at c n ≡ None) × (ended_at c n ≡ None)
-  polls_of e = polls_by (is_let_go c n) (ended_at c n) (socket_of c n) (lost_at c n) (is_polling c n) (is_opened c n || is_some (negotiated_at c n)) e
+  polls_of e = polls_by (is_removed c n) (ended_at c n) (socket_of c n) (lost_at c n) (is_polling c n) (is_opened c n || is_some (negotiated_at c n)) e
 
   pub fresh_of : standing c n ≡ Fresh → (is_polling c n ≡ false) × (socket_of c n ≡ None) × (lost_at c n ≡ None)
-  fresh_of e = fresh_by (is_let_go c n) (ended_at c n) (socket_of c n) (lost_at c n) (is_polling c n) (is_opened c n || is_some (negotiated_at c n)) e
+  fresh_of e = fresh_by (is_removed c n) (ended_at c n) (socket_of c n) (lost_at c n) (is_polling c n) (is_opened c n || is_some (negotiated_at c n)) e
 
   pub ending_of : standing c n ≡ Ending → is_some (ended_at c n) ≡ true
-  ending_of e = ending_by (is_let_go c n) (ended_at c n) (socket_of c n) (lost_at c n) (is_polling c n) (is_opened c n || is_some (negotiated_at c n)) e
+  ending_of e = ending_by (is_removed c n) (ended_at c n) (socket_of c n) (lost_at c n) (is_polling c n) (is_opened c n || is_some (negotiated_at c n)) e
 
-  pub expired_gone : (now : ℕ) → (standing c n ≡ Polling → ⊥) → is_let_go c (Expired c now ∷ n) ≡ true
+  pub expired_gone : (now : ℕ) → (standing c n ≡ Polling → ⊥) → is_removed c (Expired c now ∷ n) ≡ true
   expired_gone now f =
       rw (eq-eqb c c refl)
-      (goes_by (is_polling c n) (socket_of c n) (lost_at c n) (ended_at c n) (is_let_go c n) (is_opened c n || is_some (negotiated_at c n)) f)
+      (goes_by (is_polling c n) (socket_of c n) (lost_at c n) (ended_at c n) (is_removed c n) (is_opened c n || is_some (negotiated_at c n)) f)
 
 -- ---- moments that come
 
@@ -250,7 +250,7 @@ module _ (now : ℕ) (h : List ServerEvent) where
       lost_own c lane g a o u old =
           let later : c ≤ made (notes g) = omega (arith, old, a.more) in
           let still : Known c (notes g) = ap is_known (standing_same c (notes g) (notes h) a.same_notes) ∙ u in
-          either_way (λ ds. Own c (onto ds g)) (is_granted c h) (Notes (LaneLost c lane now) ∷ []) (letting_go c h)
+          either_way (λ ds. Own c (onto ds g)) (may_resume c h) (Notes (LaneLost c lane now) ∷ []) (removing_conn c h)
           (own_lost c g o later still lane now) (let_go_own c h g o later)
 
       silent : (c : ℕ) (s : Option ℕ) (g : List ServerEvent) → Alike c h g → Own c g → Known c (notes h) → c ≤ made (notes h) → Own c (onto (silenced c s now h) g)

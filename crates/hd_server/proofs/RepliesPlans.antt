@@ -16,12 +16,12 @@ use Rattle.hd_server.specs.Texts.{token_of, negotiate_body}
 use Rattle.hd_server.specs.Table.{Outcome, Refusal, NewToken, PlainSocket, TokenSocket, FirstPoll, NextPoll, LastPoll, Posting, Deletion, is_socket}
 use Rattle.hd_server.specs.Machine.{Connects, settings_of, has_gone}
 use Rattle.hd_server.specs.Doings.{ServerEvent, Notes, Works, Says, notes, work, awaits_reply, user_of, has_peer, is_up}
-use Rattle.hd_server.specs.Plans.{Setup, onto, connecting, attaching, closing, letting_go, peer_settings, bare_reply, socket_reply, token_reply, replying, ending_poll, ending_held, standing_on, shutting_some, request_plan}
+use Rattle.hd_server.specs.Plans.{Setup, onto, connecting, attaching, closing, removing_conn, peer_settings, bare_reply, socket_reply, token_reply, replying, ending_poll, ending_held, standing_on, shutting_some, request_plan}
 use Rattle.hd_server.specs.Serves.{IsFed}
 use Rattle.hd_server.proofs.OrderlyDoings.{in_turn, either_way}
 use Rattle.hd_server.proofs.RepliesSent.{IsSent, bare_sent, token_sent, socket_sent, plain_200, plain_202, plain_204}
 use Rattle.hd_server.proofs.RepliesLanes.{Held, Holds, Calm, calm_same, calm_then, calm_holds, AreCalm, calm_onto, calm_after, calm_both, shutting_calm, letting_calm, moves_calm, shutting_after, shutting_after_calm, replied}
-use Rattle.hd_server.proofs.RepliesTold.{answers_held}
+use Rattle.hd_server.proofs.RepliesFlushed.{answers_held}
 
 -- ---- single parts
 
@@ -221,15 +221,15 @@ module _ (s : Setup) (now lane : ℕ) (r : Request) (drawn : Option (List ℕ)) 
       (calm_holds (Some lane) None h fed (fed_calm now (Some (c, r.body)) h fed e) ok)
   request_holds Deletion right fed e =
       let polls : List ServerEvent = ending_held c now h in
-      let ends : List ServerEvent = closing c reason.Done h ++ letting_go c h in
-      let calm : AreCalm ends = calm_both (closing c reason.Done h) (letting_go c h) (closing_calm c reason.Done h) (letting_calm c h) in
+      let ends : List ServerEvent = closing c reason.Done h ++ removing_conn c h in
+      let calm : AreCalm ends = calm_both (closing c reason.Done h) (removing_conn c h) (closing_calm c reason.Done h) (letting_calm c h) in
       let ended : Holds (Some lane) None (onto polls h) = ends_holds (Some lane) c now (poll_of c (notes h)) h h ok refl (n.polls_there right) in
       let y : List ServerEvent = onto (closing c reason.Done h) (onto polls h) in
-      let z : List ServerEvent = onto (letting_go c h) y in
+      let z : List ServerEvent = onto (removing_conn c h) y in
       let at_y = calm_holds (Some lane) None (onto polls h) y (calm_onto (closing c reason.Done h) (onto polls h) (closing_calm c reason.Done h)) ended in
-      let at_z = calm_holds (Some lane) None y z (calm_onto (letting_go c h) y (letting_calm c h)) at_y in
+      let at_z = calm_holds (Some lane) None y z (calm_onto (removing_conn c h) y (letting_calm c h)) at_y in
       subst (Holds None None) (sym e)
-      (in_turn (Holds None None) (polls ++ closing c reason.Done h ++ letting_go c h) (replying lane (bare_reply 202) h) h
-      (in_turn (λ x. Holds None None (onto (replying lane (bare_reply 202) h) x)) (polls ++ closing c reason.Done h) (letting_go c h) h
-      (in_turn (λ x. Holds None None (onto (replying lane (bare_reply 202) h) (onto (letting_go c h) x))) polls (closing c reason.Done h) h
+      (in_turn (Holds None None) (polls ++ closing c reason.Done h ++ removing_conn c h) (replying lane (bare_reply 202) h) h
+      (in_turn (λ x. Holds None None (onto (replying lane (bare_reply 202) h) x)) (polls ++ closing c reason.Done h) (removing_conn c h) h
+      (in_turn (λ x. Holds None None (onto (replying lane (bare_reply 202) h) (onto (removing_conn c h) x))) polls (closing c reason.Done h) h
       (replies_now lane (bare_reply 202) h z (bare_sent 202 plain_202) at_z))))

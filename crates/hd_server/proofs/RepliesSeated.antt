@@ -15,14 +15,14 @@ use Rattle.hd_server.specs.Lives.{Negotiated, Opened, Socketed, Polled, Answered
 use Rattle.hd_server.specs.Texts.{token_of, negotiate_body}
 use Rattle.hd_server.specs.Table.{Outcome, Refusal, NewToken, PlainSocket, TokenSocket, FirstPoll, NextPoll, LastPoll, Posting, Deletion, outcome}
 use Rattle.hd_server.specs.Machine.{Connects, connections, settings_of, has_gone}
-use Rattle.hd_server.specs.Doings.{ServerEvent, Hears, Notes, Works, Says, notes, work, is_granted, is_upgraded, user_of, has_peer}
-use Rattle.hd_server.specs.Plans.{Setup, onto, step, connecting, attaching, closing, letting_go, losing, losing_lane, conn_on, poller_on, named_conn, facts, plan, peer_settings, bare_reply, socket_reply, token_reply, replying, ending_held, standing_on, shutting_some, request_plan}
+use Rattle.hd_server.specs.Doings.{ServerEvent, Hears, Notes, Works, Says, notes, work, may_resume, is_upgraded, user_of, has_peer}
+use Rattle.hd_server.specs.Plans.{Setup, onto, step, connecting, attaching, closing, removing_conn, losing, losing_lane, conn_on, poller_on, named_conn, facts, plan, peer_settings, bare_reply, socket_reply, token_reply, replying, ending_held, standing_on, shutting_some, request_plan}
 use Rattle.hd_server.specs.Serves.{IsFed, IsFree}
-use Rattle.hd_server.proofs.Telling.{is_in}
+use Rattle.hd_server.proofs.Flushing.{is_in}
 use Rattle.hd_server.proofs.OrderlyDoings.{AreQuiet, in_turn, either_way, quiet_notes, shutting_quiet}
 use Rattle.hd_server.proofs.RepliesSent.{IsSent, outcome_sent}
 use Rattle.hd_server.proofs.RepliesLanes.{shutting_after}
-use Rattle.hd_server.proofs.RepliesTold.{left_alone}
+use Rattle.hd_server.proofs.RepliesFlushed.{left_alone}
 use Rattle.hd_server.proofs.RepliesTurns.{finds, finds_none, on_this, there_of}
 use Rattle.hd_server.proofs.RepliesHandled.{Hearing}
 use Rattle.hd_server.proofs.RepliesSeats.{Seats, Less, less_same, less_then, less_seats, AreLess, less_onto, less_after, less_both, shuts_some_less, shut_after_less, replying_less, letting_less, closing_less, moves_less, losing_less, poll_ends_less, unasked, poll_seats, stand_seats}
@@ -154,9 +154,9 @@ module _ (s : Setup) (now lane : ℕ) (r : Request) (drawn : Option (List ℕ)) 
       let polls : List ServerEvent = ending_held c now h in
       let ends : List ServerEvent = polls ++ closing c reason.Done h in
       subst (Seats None None) (sym e)
-      (answers (ends ++ letting_go c h ++ replying lane (bare_reply 202) h)
-      (less_both (ends ++ letting_go c h) (replying lane (bare_reply 202) h)
-      (less_both ends (letting_go c h)
+      (answers (ends ++ removing_conn c h ++ replying lane (bare_reply 202) h)
+      (less_both (ends ++ removing_conn c h) (replying lane (bare_reply 202) h)
+      (less_both ends (removing_conn c h)
       (less_both polls (closing c reason.Done h) (poll_ends_less c now (poll_of c (notes h)) h) (closing_less c reason.Done h)) (letting_less c h))
       (replying_less lane (bare_reply 202) h refl)))
 
@@ -184,8 +184,8 @@ module _ (now lane : ℕ) (h : List ServerEvent) (among : (k : ℕ) → has_peer
       → socket_of c (notes (onto (losing c lane now h) (step c (Detached now) ∷ h))) ≡ Some lane → ⊥
   leaves_it c stands =
       let x : List ServerEvent = step c (Detached now) ∷ h in
-      either_way (λ ds. has_peer c (onto ds x) ≡ true → socket_of c (notes (onto ds x)) ≡ Some lane → ⊥) (is_granted c h)
-      (Notes (LaneLost c lane now) ∷ []) (letting_go c h)
+      either_way (λ ds. has_peer c (onto ds x) ≡ true → socket_of c (notes (onto ds x)) ≡ Some lane → ⊥) (may_resume c h)
+      (Notes (LaneLost c lane now) ∷ []) (removing_conn c h)
       (λ p i. absurd (let z : ◌≡◌ {A = Option ℕ} None (Some lane) = sym off ∙ i in cc))
       (λ p i. absurd (let z : false ≡ true = sym (left_alone c h x refl) ∙ p in cc))
     where

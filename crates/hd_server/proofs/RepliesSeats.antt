@@ -18,9 +18,9 @@ use Rattle.hd_server.specs.Numbers.{held_for}
 use Rattle.hd_server.specs.Lives.{Negotiated, Opened, Socketed, Polled, Answered, LaneLost, Ended, Expired, LetGo, is_polling, ended_at, standing, overdue, socket_of, poll_of}
 use Rattle.hd_server.specs.Table.{asks_keeper}
 use Rattle.hd_server.specs.Machine.{MachineEvent, Does, Rounds, Carries, Goes, connections}
-use Rattle.hd_server.specs.Doings.{ServerEvent, Learns, Draws, Notes, Works, Says, notes, work, history, config_of, is_upgraded, wants_shut, was_refused, is_up, is_granted, has_peer, has_closed}
-use Rattle.hd_server.specs.Plans.{Setup, onto, step, closing, dropping, letting_go, expiring, expiries, learning, asks_lots, questions, losing, shutting, shutting_some, replying, bare_reply, frames_reply, ending_poll}
-use Rattle.hd_server.specs.Serves.{lending, writing, all_of, bytes_of, telling_socket, telling_poll, telling_poll_some, ending, telling_without, telling_on, telling, all_telling, silenced, ticking, ticks}
+use Rattle.hd_server.specs.Doings.{ServerEvent, Learns, Draws, Notes, Works, Says, notes, work, history, config_of, is_upgraded, wants_shut, was_refused, is_up, may_resume, has_peer, has_closed}
+use Rattle.hd_server.specs.Plans.{Setup, onto, step, closing, dropping, removing_conn, expiring, expiries, learning, asks_lots, questions, losing, shutting, shutting_some, replying, bare_reply, frames_reply, ending_poll}
+use Rattle.hd_server.specs.Serves.{lending, writing, all_of, bytes_of, flushing_socket, flushing_poll, flushing_some_poll, ending, flushing_without, flushing_on, flushing, all_flushing, silenced, ticking, ticks}
 use Rattle.hd_server.proofs.OrderlyDoings.{AreQuiet, either_way}
 use Rattle.hd_server.proofs.RepliesLanes.{not_gone}
 
@@ -165,7 +165,7 @@ replying_less lane reply h e = (e, shut_after_less lane reply h)
 dropping_less : (c : ℕ) (h : List ServerEvent) → AreLess (dropping c h)
 dropping_less c h = either_way AreLess (has_peer c h) _ [] (tt, tt) tt
 
-pub letting_less : (c : ℕ) (h : List ServerEvent) → AreLess (letting_go c h)
+pub letting_less : (c : ℕ) (h : List ServerEvent) → AreLess (removing_conn c h)
 letting_less c h = less_both (dropping c h) _ (dropping_less c h) (tt, tt)
 
 pub closing_less : (c : ℕ) (why : Reason) (h : List ServerEvent) → AreLess (closing c why h)
@@ -176,7 +176,7 @@ moves_less c [] = tt
 moves_less c (m ∷ ms) = (tt, moves_less c ms)
 
 pub losing_less : (c lane now : ℕ) (h : List ServerEvent) → AreLess (losing c lane now h)
-losing_less c lane now h = either_way AreLess (is_granted c h) (Notes (LaneLost c lane now) ∷ []) (letting_go c h) (tt, tt) (letting_less c h)
+losing_less c lane now h = either_way AreLess (may_resume c h) (Notes (LaneLost c lane now) ∷ []) (removing_conn c h) (tt, tt) (letting_less c h)
 
 pub poll_ends_less : (c now : ℕ) (o : Option (ℕ × ℕ)) (h : List ServerEvent) → AreLess (ending_poll c now o h)
 poll_ends_less c now None h = tt
@@ -235,18 +235,18 @@ writing_less s c lane [] h = tt
 writing_less s c lane (p ∷ ps) h = (tt, writing_less s c lane ps h)
 
 module _ (s : Setup) (now c : ℕ) (h : List ServerEvent) where
-  on_socket : (lane : ℕ) (pieces : List (List LinkFrame)) → AreLess (telling_socket s c lane pieces h)
+  on_socket : (lane : ℕ) (pieces : List (List LinkFrame)) → AreLess (flushing_socket s c lane pieces h)
   on_socket lane pieces =
-      less_both (lending c (all_of pieces) ++ writing s c lane pieces h) (if has_closed c h then shutting lane h ++ letting_go c h else [])
+      less_both (lending c (all_of pieces) ++ writing s c lane pieces h) (if has_closed c h then shutting lane h ++ removing_conn c h else [])
       (less_both (lending c (all_of pieces)) (writing s c lane pieces h) (lending_less c (all_of pieces)) (writing_less s c lane pieces h))
-      (either_way AreLess (has_closed c h) (shutting lane h ++ letting_go c h) []
-      (less_both (shutting lane h) (letting_go c h) (shutting_less lane h) (letting_less c h)) tt)
+      (either_way AreLess (has_closed c h) (shutting lane h ++ removing_conn c h) []
+      (less_both (shutting lane h) (removing_conn c h) (shutting_less lane h) (letting_less c h)) tt)
 
-  on_poll : (poll : ℕ × ℕ) (fs : List LinkFrame) → AreLess (telling_poll s now c poll fs h)
+  on_poll : (poll : ℕ × ℕ) (fs : List LinkFrame) → AreLess (flushing_poll s now c poll fs h)
   on_poll poll [] =
       let answers : List ServerEvent = replying poll.0 (bare_reply 200) h ++ Notes (Answered c poll.0 now) ∷ [] in
-      either_way AreLess (has_closed c h) (replying poll.0 (bare_reply 204) h ++ letting_go c h) (if nat_le (poll.1 + held_for) now then answers else [])
-      (less_both (replying poll.0 (bare_reply 204) h) (letting_go c h) (replying_less poll.0 (bare_reply 204) h refl) (letting_less c h))
+      either_way AreLess (has_closed c h) (replying poll.0 (bare_reply 204) h ++ removing_conn c h) (if nat_le (poll.1 + held_for) now then answers else [])
+      (less_both (replying poll.0 (bare_reply 204) h) (removing_conn c h) (replying_less poll.0 (bare_reply 204) h refl) (letting_less c h))
       (either_way AreLess (nat_le (poll.1 + held_for) now) answers []
       (less_both (replying poll.0 (bare_reply 200) h) (Notes (Answered c poll.0 now) ∷ []) (replying_less poll.0 (bare_reply 200) h refl) (tt, tt)) tt)
   on_poll poll (f ∷ fs) =
@@ -254,28 +254,28 @@ module _ (s : Setup) (now c : ℕ) (h : List ServerEvent) where
       less_both (lending c (f ∷ fs) ++ replying poll.0 reply h) (Notes (Answered c poll.0 now) ∷ [])
       (less_both (lending c (f ∷ fs)) (replying poll.0 reply h) (lending_less c (f ∷ fs)) (replying_less poll.0 reply h refl)) (tt, tt)
 
-  on_some_poll : (o : Option (ℕ × ℕ)) (fs : List LinkFrame) → AreLess (telling_poll_some s now c o fs h)
+  on_some_poll : (o : Option (ℕ × ℕ)) (fs : List LinkFrame) → AreLess (flushing_some_poll s now c o fs h)
   on_some_poll None fs = tt
   on_some_poll (Some poll) fs = on_poll poll fs
 
-  without : (fs : List LinkFrame) → AreLess (telling_without s now c fs h)
+  without : (fs : List LinkFrame) → AreLess (flushing_without s now c fs h)
   without fs =
-      either_way AreLess (is_polling c (notes h)) (ending now c h ++ telling_poll_some s now c (poll_of c (notes h)) fs h)
-      (if has_closed c h then letting_go c h else [])
-      (less_both (ending now c h) (telling_poll_some s now c (poll_of c (notes h)) fs h)
+      either_way AreLess (is_polling c (notes h)) (ending now c h ++ flushing_some_poll s now c (poll_of c (notes h)) fs h)
+      (if has_closed c h then removing_conn c h else [])
+      (less_both (ending now c h) (flushing_some_poll s now c (poll_of c (notes h)) fs h)
       (either_way AreLess (has_closed c h && not (is_some (ended_at c (notes h)))) (Notes (Ended c now) ∷ []) [] (tt, tt) tt)
       (on_some_poll (poll_of c (notes h)) fs))
-      (either_way AreLess (has_closed c h) (letting_go c h) [] (letting_less c h) tt)
+      (either_way AreLess (has_closed c h) (removing_conn c h) [] (letting_less c h) tt)
 
-  tells_on : (o : Option ℕ) (pieces : List (List LinkFrame)) → AreLess (telling_on s now c o pieces h)
+  tells_on : (o : Option ℕ) (pieces : List (List LinkFrame)) → AreLess (flushing_on s now c o pieces h)
   tells_on (Some lane) pieces = on_socket lane pieces
   tells_on None pieces = without (all_of pieces)
 
-pub all_less : (s : Setup) (now : ℕ) (cs : List ℕ) (all : List (List (List LinkFrame))) (h : List ServerEvent) → AreLess (all_telling s now cs all h)
+pub all_less : (s : Setup) (now : ℕ) (cs : List ℕ) (all : List (List (List LinkFrame))) (h : List ServerEvent) → AreLess (all_flushing s now cs all h)
 all_less s now [] all h = tt
 all_less s now (c ∷ cs) [] h = tt
 all_less s now (c ∷ cs) (pieces ∷ more) h =
-    less_both (telling s now c pieces h) (all_telling s now cs more h) (tells_on s now c h (socket_of c (notes h)) pieces) (all_less s now cs more h)
+    less_both (flushing s now c pieces h) (all_flushing s now cs more h) (tells_on s now c h (socket_of c (notes h)) pieces) (all_less s now cs more h)
 
 -- ---- what brings one onto a lane
 

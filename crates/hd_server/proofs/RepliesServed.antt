@@ -8,17 +8,17 @@ use Rattle.hd_server.specs.Machine.{Rounds, connections}
 use Rattle.hd_server.specs.Doings.{ServerEvent, Works, notes, work, has_peer}
 use Rattle.hd_server.specs.Plans.{Setup, onto}
 use Rattle.hd_server.specs.Serves.{IsTurn, ticks}
-use Rattle.hd_server.proofs.Telling.{is_in}
+use Rattle.hd_server.proofs.Flushing.{is_in}
 use Rattle.hd_server.proofs.OrderlyNotes.{Known, within}
 use Rattle.hd_server.proofs.OrderlyDoings.{Settled, AreQuiet, quiet_settled_after}
 use Rattle.hd_server.proofs.OrderlyEach.{passes, all_apart, ticked_settled, told_settled}
 use Rattle.hd_server.proofs.Orderly.{IsOrderly, orderly_then, round_quiet}
 use Rattle.hd_server.proofs.RepliesLanes.{Holds, calm_holds, calm_onto, calm_after}
-use Rattle.hd_server.proofs.RepliesTold.{all_told}
+use Rattle.hd_server.proofs.RepliesFlushed.{all_told}
 use Rattle.hd_server.proofs.RepliesTurns.{works_calm, ticks_calm}
 use Rattle.hd_server.proofs.RepliesOwn.{Own, alike_same, own_alike, quiet_after}
 use Rattle.hd_server.proofs.RepliesPhases.{ticked_own}
-use Rattle.hd_server.proofs.RepliesOwnTold.{Done, done_still, told_own}
+use Rattle.hd_server.proofs.RepliesOwnFlushed.{Done, done_still, told_own}
 use Rattle.hd_server.proofs.RepliesAmong.{among_connections}
 
 -- what holds between events

@@ -13,10 +13,10 @@ use Rattle.hd_server.specs.declared.vocabulary.Life.TheVariants.{Polling}
 use Rattle.hd_server.specs.Lives.{LaneLost, standing, overdue, poll_of, socket_of}
 use Rattle.hd_server.specs.Table.{asks_keeper}
 use Rattle.hd_server.specs.Machine.{MachineEvent, Does, Rounds, Carries, connections}
-use Rattle.hd_server.specs.Doings.{ServerEvent, Hears, Notes, Works, notes, work, awaits_reply, history, config_of, has_peer, is_granted}
-use Rattle.hd_server.specs.Plans.{Setup, onto, step, closing, dropping, letting_go, expiring, expiries, losing, losing_lane, conn_on, poller_on, learning, asks_lots, questions, shutting}
+use Rattle.hd_server.specs.Doings.{ServerEvent, Hears, Notes, Works, notes, work, awaits_reply, history, config_of, has_peer, may_resume}
+use Rattle.hd_server.specs.Plans.{Setup, onto, step, closing, dropping, removing_conn, expiring, expiries, losing, losing_lane, conn_on, poller_on, learning, asks_lots, questions, shutting}
 use Rattle.hd_server.specs.Serves.{silenced, ticking, ticks}
-use Rattle.hd_server.proofs.Telling.{is_in}
+use Rattle.hd_server.proofs.Flushing.{is_in}
 use Rattle.hd_server.proofs.OrderlyDoings.{AreQuiet, in_turn, either_way}
 use Rattle.hd_server.proofs.OrderlyEach.{passes}
 use Rattle.hd_server.proofs.RepliesLanes.{Held, Holds, Calm, calm_same, calm_then, calm_holds, AreCalm, calm_onto, calm_both, shutting_calm, letting_calm, dropping_calm}
@@ -91,8 +91,8 @@ loss_calm c lane now g none = record { same_polls = λ k. by k (k == c) refl; fe
 
 losing_calm : (c lane now : ℕ) (h g : List ServerEvent) → ((t : ℕ) → poll_of c (notes g) ≡ Some (lane, t) → ⊥) → Calm g (onto (losing c lane now h) g)
 losing_calm c lane now h g none =
-    either_way (λ ds. Calm g (onto ds g)) (is_granted c h) (Notes (LaneLost c lane now) ∷ []) (letting_go c h)
-    (loss_calm c lane now g none) (calm_onto (letting_go c h) g (letting_calm c h))
+    either_way (λ ds. Calm g (onto ds g)) (may_resume c h) (Notes (LaneLost c lane now) ∷ []) (removing_conn c h)
+    (loss_calm c lane now g none) (calm_onto (removing_conn c h) g (letting_calm c h))
 
 -- the poll that is held on a lane is lost with it
 poll_lost : (c lane now since : ℕ) (g : List ServerEvent) → has_peer c g ≡ true → poll_of c (notes g) ≡ Some (lane, since)

@@ -153,5 +153,5 @@ abbrev pub has_closed : ℕ → List ServerEvent → Bool
 has_closed c h = is_closed (config_of c h) (history c h)
 
 -- its end may be resumed
-abbrev pub is_granted : ℕ → List ServerEvent → Bool
-is_granted c h = is_up c h && is_resumable (config_of c h) (history c h)
+abbrev pub may_resume : ℕ → List ServerEvent → Bool
+may_resume c h = is_up c h && is_resumable (config_of c h) (history c h)

@@ -103,11 +103,11 @@ abbrev pub ends_then : ℕ → List ConnectionEvent → Bool
 ends_then c h = only_polls c h && not (is_some (ended_at c h))
 
 -- whether nothing is known of it any more
-abbrev pub is_let_go : ℕ → List ConnectionEvent → Bool
-is_let_go c [] = false
-is_let_go c (LetGo k ∷ h) = (c == k) || is_let_go c h
-is_let_go c (Expired k now ∷ h) = ((c == k) && not (ends_then c h)) || is_let_go c h
-is_let_go c (_ ∷ h) = is_let_go c h
+abbrev pub is_removed : ℕ → List ConnectionEvent → Bool
+is_removed c [] = false
+is_removed c (LetGo k ∷ h) = (c == k) || is_removed c h
+is_removed c (Expired k now ∷ h) = ((c == k) && not (ends_then c h)) || is_removed c h
+is_removed c (_ ∷ h) = is_removed c h
 
 -- ---- lives
 
@@ -122,7 +122,7 @@ when false life = None
 -- its life but for moments: the first that applies
 abbrev pub standing : ℕ → List ConnectionEvent → Life
 standing c h = unwrap_or
-    (first_of (when (is_let_go c h) Unknown)
+    (first_of (when (is_removed c h) Unknown)
     (first_of (when (is_some (ended_at c h)) Ending)
     (first_of (option_map Socket (socket_of c h))
     (first_of (when (is_some (lost_at c h)) Lost)

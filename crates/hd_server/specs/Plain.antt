@@ -22,7 +22,7 @@ use Rattle.hd_server.specs.Lives.{socket_of, poll_of}
 use Rattle.hd_server.specs.Machine.{MachineEvent, Does, Rounds, Carries, Owed, NothingOwed, OwesDeed, OwesCall, owed, fates_of, turn_at, next_turn, moves, settings_of, connections}
 use Rattle.hd_server.specs.Doings.{ServerEvent, Hears, Works, notes, work, peer, history, config_of}
 use Rattle.hd_server.specs.Plans.{Setup, onto, expiries, questions, plan}
-use Rattle.hd_server.specs.Serves.{can_feed, next_piece, moving, ticks, all_telling}
+use Rattle.hd_server.specs.Serves.{can_feed, next_piece, moving, ticks, all_flushing}
 
 -- what is followed while there is a next
 abbrev pub followed : {A : Type 0} → (List A → List A) → Option A → List A → List A
@@ -170,7 +170,7 @@ turn hub s g h =
     let handled = onto p.last (fed_by g.now p.food (onto p.first asked)) in
     let ready = stepped hub g.now g.answers (onto (ticks g.now handled) handled) in
     let cs = connections (work ready) in
-    onto (all_telling s g.now cs (map (λ c. pieces_of s c ready) cs) ready) ready
+    onto (all_flushing s g.now cs (map (λ c. pieces_of s c ready) cs) ready) ready
 
 -- the history after these
 abbrev pub run : {Job : Type 0} → Hub Job → Setup → List Scene → List ServerEvent → List ServerEvent

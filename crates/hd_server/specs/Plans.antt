@@ -26,7 +26,7 @@ use Rattle.hd_server.specs.Lives.{ConnectionEvent, Negotiated, Opened, Socketed,
 use Rattle.hd_server.specs.Texts.{token_of, negotiate_body}
 use Rattle.hd_server.specs.Table.{Caller, Facts, Outcome, Refusal, NewToken, PlainSocket, TokenSocket, FirstPoll, NextPoll, LastPoll, Posting, Deletion, id_in, asks_keeper, caller_without, caller_told, outcome}
 use Rattle.hd_server.specs.Machine.{Connects, Does, Goes, settings_of, connections}
-use Rattle.hd_server.specs.Doings.{ServerEvent, Learns, Draws, Notes, Works, Says, notes, work, wants_shut, was_refused, user_of, history, config_for, has_peer, is_up, is_granted}
+use Rattle.hd_server.specs.Doings.{ServerEvent, Learns, Draws, Notes, Works, Says, notes, work, wants_shut, was_refused, user_of, history, config_for, has_peer, is_up, may_resume}
 
 -- how a server is begun: its base, how frames are written and read, and the limits of each end
 pub record Setup : Type 0 where
@@ -77,8 +77,8 @@ abbrev pub dropping : ℕ → List ServerEvent → List ServerEvent
 dropping c h = if has_peer c h then Works (Goes c) ∷ [] else []
 
 -- nothing is kept of it
-abbrev pub letting_go : ℕ → List ServerEvent → List ServerEvent
-letting_go c h = dropping c h ++ Notes (LetGo c) ∷ []
+abbrev pub removing_conn : ℕ → List ServerEvent → List ServerEvent
+removing_conn c h = dropping c h ++ Notes (LetGo c) ∷ []
 
 -- what a moment has ended: a connection that polls is closed, and of every other nothing is kept
 abbrev pub expiring : ℕ → Life → ℕ → List ServerEvent → List ServerEvent
@@ -132,9 +132,9 @@ conn_of_some (Some token) h = conn_with token h
 abbrev pub named_conn : Request → List ServerEvent → Option ℕ
 named_conn r h = conn_of_some (id_in r) (notes h)
 
-abbrev pub is_granted_some : Option ℕ → List ServerEvent → Bool
-is_granted_some None h = false
-is_granted_some (Some c) h = is_granted c h
+abbrev pub may_resume_some : Option ℕ → List ServerEvent → Bool
+may_resume_some None h = false
+may_resume_some (Some c) h = may_resume c h
 
 -- who asks, where the keeper was asked of this access token or of none
 abbrev pub caller_by : Option (List ℕ) → Option (List ℕ) → Option (Option (List ℕ)) → Caller
@@ -148,7 +148,7 @@ facts s now r name lots_failed h = record {
   busy = is_busy now (notes h);
   lots_failed = lots_failed;
   life = life_of_some (named_conn r h) now (notes h);
-  granted = is_granted_some (named_conn r h) h;
+  granted = may_resume_some (named_conn r h) h;
 }
 
 abbrev pub makes_token : Outcome → Bool
@@ -228,7 +228,7 @@ request_plan s o drawn c h Posting = record {
   last = replying o.lane (bare_reply 200) h;
 }
 request_plan s o drawn c h Deletion =
-    plan_of (ending_held c o.now h ++ closing c reason.Done h ++ letting_go c h ++ replying o.lane (bare_reply 202) h)
+    plan_of (ending_held c o.now h ++ closing c reason.Done h ++ removing_conn c h ++ replying o.lane (bare_reply 202) h)
 
 -- the connection that stands on a lane
 abbrev pub conn_on : ℕ → List ServerEvent → Option ℕ
@@ -240,7 +240,7 @@ poller_on lane h = find (λ c. is_this lane (option_map (λ poll. poll.0) (poll_
 
 -- a connection that may be resumed waits for its next link; of every other nothing is kept
 abbrev pub losing : ℕ → ℕ → ℕ → List ServerEvent → List ServerEvent
-losing c lane now h = if is_granted c h then Notes (LaneLost c lane now) ∷ [] else letting_go c h
+losing c lane now h = if may_resume c h then Notes (LaneLost c lane now) ∷ [] else removing_conn c h
 
 -- by who stands on the lane that is lost, and who polls there
 abbrev pub losing_lane : Option ℕ → Option ℕ → ℕ → ℕ → List ServerEvent → List ServerEvent

@@ -22,7 +22,7 @@ use Rattle.hd_server.specs.Numbers.{held_for, most_before_last}
 use Rattle.hd_server.specs.Lives.{Ended, Answered, socket_of, poll_of, is_polling, ended_at}
 use Rattle.hd_server.specs.Machine.{MachineEvent, Does, Rounds, settings_of, connections, ArePeers, IsRound}
 use Rattle.hd_server.specs.Doings.{ServerEvent, Hears, Notes, Works, Says, notes, work, moment, is_upgraded, awaits_reply, peer, history, config_of, has_closed}
-use Rattle.hd_server.specs.Plans.{Setup, onto, step, letting_go, losing, bare_reply, frames_reply, shutting, replying, expiries, questions, plan}
+use Rattle.hd_server.specs.Plans.{Setup, onto, step, removing_conn, losing, bare_reply, frames_reply, shutting, replying, expiries, questions, plan}
 
 -- ---- bytes that come
 
@@ -138,38 +138,38 @@ abbrev pub writing : Setup → ℕ → ℕ → List (List LinkFrame) → List Se
 writing s c lane pieces h = map (λ p. Says (say.Bytes lane (bytes_of s c p h) (is_text (config_of c h) (history c h)))) pieces
 
 -- on a socket; of an end that is closed nothing is kept, and its lane is shut
-abbrev pub telling_socket : Setup → ℕ → ℕ → List (List LinkFrame) → List ServerEvent → List ServerEvent
-telling_socket s c lane pieces h =
-    lending c (all_of pieces) ++ writing s c lane pieces h ++ (if has_closed c h then shutting lane h ++ letting_go c h else [])
+abbrev pub flushing_socket : Setup → ℕ → ℕ → List (List LinkFrame) → List ServerEvent → List ServerEvent
+flushing_socket s c lane pieces h =
+    lending c (all_of pieces) ++ writing s c lane pieces h ++ (if has_closed c h then shutting lane h ++ removing_conn c h else [])
 
 -- the poll that is held, by what is due
-abbrev pub telling_poll : Setup → ℕ → ℕ → ℕ × ℕ → List LinkFrame → List ServerEvent → List ServerEvent
-telling_poll s now c poll [] h =
-    if has_closed c h then replying poll.0 (bare_reply 204) h ++ letting_go c h
+abbrev pub flushing_poll : Setup → ℕ → ℕ → ℕ × ℕ → List LinkFrame → List ServerEvent → List ServerEvent
+flushing_poll s now c poll [] h =
+    if has_closed c h then replying poll.0 (bare_reply 204) h ++ removing_conn c h
     else (if nat_le (poll.1 + held_for) now then replying poll.0 (bare_reply 200) h ++ Notes (Answered c poll.0 now) ∷ [] else [])
-telling_poll s now c poll (f ∷ fs) h =
+flushing_poll s now c poll (f ∷ fs) h =
     lending c (f ∷ fs) ++ replying poll.0 (frames_reply (bytes_of s c (f ∷ fs) h)) h ++ Notes (Answered c poll.0 now) ∷ []
 
-abbrev pub telling_poll_some : Setup → ℕ → ℕ → Option (ℕ × ℕ) → List LinkFrame → List ServerEvent → List ServerEvent
-telling_poll_some s now c None fs h = []
-telling_poll_some s now c (Some poll) fs h = telling_poll s now c poll fs h
+abbrev pub flushing_some_poll : Setup → ℕ → ℕ → Option (ℕ × ℕ) → List LinkFrame → List ServerEvent → List ServerEvent
+flushing_some_poll s now c None fs h = []
+flushing_some_poll s now c (Some poll) fs h = flushing_poll s now c poll fs h
 
 -- a connection that polls and is closed begins to end
 abbrev pub ending : ℕ → ℕ → List ServerEvent → List ServerEvent
 ending now c h = if has_closed c h && not (is_some (ended_at c (notes h))) then Notes (Ended c now) ∷ [] else []
 
-abbrev pub telling_without : Setup → ℕ → ℕ → List LinkFrame → List ServerEvent → List ServerEvent
-telling_without s now c fs h =
-    if is_polling c (notes h) then ending now c h ++ telling_poll_some s now c (poll_of c (notes h)) fs h
-    else (if has_closed c h then letting_go c h else [])
+abbrev pub flushing_without : Setup → ℕ → ℕ → List LinkFrame → List ServerEvent → List ServerEvent
+flushing_without s now c fs h =
+    if is_polling c (notes h) then ending now c h ++ flushing_some_poll s now c (poll_of c (notes h)) fs h
+    else (if has_closed c h then removing_conn c h else [])
 
 -- what is said on a connection, by the lane of its socket, where these frames are due
-abbrev pub telling_on : Setup → ℕ → ℕ → Option ℕ → List (List LinkFrame) → List ServerEvent → List ServerEvent
-telling_on s now c (Some lane) pieces h = telling_socket s c lane pieces h
-telling_on s now c None pieces h = telling_without s now c (all_of pieces) h
+abbrev pub flushing_on : Setup → ℕ → ℕ → Option ℕ → List (List LinkFrame) → List ServerEvent → List ServerEvent
+flushing_on s now c (Some lane) pieces h = flushing_socket s c lane pieces h
+flushing_on s now c None pieces h = flushing_without s now c (all_of pieces) h
 
-abbrev pub telling : Setup → ℕ → ℕ → List (List LinkFrame) → List ServerEvent → List ServerEvent
-telling s now c pieces h = telling_on s now c (socket_of c (notes h)) pieces h
+abbrev pub flushing : Setup → ℕ → ℕ → List (List LinkFrame) → List ServerEvent → List ServerEvent
+flushing s now c pieces h = flushing_on s now c (socket_of c (notes h)) pieces h
 
 -- what is due on a connection, by the lane of its socket and the poll that it holds, cut into messages
 abbrev pub AreDueOn : Setup → ℕ → Option ℕ → Option (ℕ × ℕ) → List (List LinkFrame) → List ServerEvent → Type 0
@@ -187,9 +187,9 @@ AreAllDue s (c ∷ cs) (pieces ∷ more) h = AreDue s c pieces h × AreAllDue s 
 AreAllDue s _ _ h = ⊥
 
 -- what they say, one after the other. What one says changes nothing for the others
-abbrev pub all_telling : Setup → ℕ → List ℕ → List (List (List LinkFrame)) → List ServerEvent → List ServerEvent
-all_telling s now (c ∷ cs) (pieces ∷ more) h = telling s now c pieces h ++ all_telling s now cs more h
-all_telling s now _ _ h = []
+abbrev pub all_flushing : Setup → ℕ → List ℕ → List (List (List LinkFrame)) → List ServerEvent → List ServerEvent
+all_flushing s now (c ∷ cs) (pieces ∷ more) h = flushing s now c pieces h ++ all_flushing s now cs more h
+all_flushing s now _ _ h = []
 
 -- ---- one event
 
@@ -221,7 +221,7 @@ pub record IsTurn {Job : Type 0} (hub : Hub Job) (s : Setup) (now : ℕ) (heard 
   pub has_stepped : stepped ≡ map Works round ++ Works (Rounds now) ∷ ticked
   pub pieces : List (List (List LinkFrame))
   pub all_due : AreAllDue s (connections (work stepped)) pieces stepped
-  pub tells : after ≡ onto (all_telling s now (connections (work stepped)) pieces stepped) stepped
+  pub tells : after ≡ onto (all_flushing s now (connections (work stepped)) pieces stepped) stepped
   pub peers : ArePeers hub (work after)
 
 -- ---- events one after the other

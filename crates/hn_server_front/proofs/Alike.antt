@@ -5,7 +5,7 @@ use Rattle.hd_server.specs.declared.vocabulary.Life.{Life}
 use Rattle.hd_server.specs.declared.vocabulary.Life.TheVariants.{Unknown, Fresh, Socket, Lost, Polling, Ending}
 use Rattle.hd_delivery.specs.Histories.{is_this, first_of}
 use Rattle.hd_server.specs.Numbers.{most_connections}
-use Rattle.hd_server.specs.Lives.{ConnectionEvent, made, numbers_to, is_made, is_let_go, is_opened, negotiated_at, is_resumable_promise, socket_of, lost_at, poll_of, poll_ended, ended_at, conn_with, standing, since, when}
+use Rattle.hd_server.specs.Lives.{ConnectionEvent, made, numbers_to, is_made, is_removed, is_opened, negotiated_at, is_resumable_promise, socket_of, lost_at, poll_of, poll_ended, ended_at, conn_with, standing, since, when}
 use Rattle.hn_server_front.specs.declared.entry.Entry.{Entry}
 use Rattle.hn_server_front.specs.declared.front.Front.{Front}
 use Rattle.hn_server_front.specs.Entries.{token_told}
@@ -14,7 +14,7 @@ use Rattle.hn_server_front.specs.Stands.{IsEntryOf, IsUnborn, Stands, TokensAgre
 -- the same is read off
 pub record Alike (h g : List ConnectionEvent) : Type 0 where
   pub made_so : made h ≡ made g
-  pub held : (c : ℕ) → is_let_go c h ≡ is_let_go c g
+  pub held : (c : ℕ) → is_removed c h ≡ is_removed c g
   pub opened : (c : ℕ) → is_opened c h ≡ is_opened c g
   pub told : (c : ℕ) → negotiated_at c h ≡ negotiated_at c g
   pub promise : (c : ℕ) → is_resumable_promise c h ≡ is_resumable_promise c g
@@ -30,7 +30,7 @@ made_alike : (h g : List ConnectionEvent) → Alike h g → (c : ℕ) → is_mad
 made_alike h g a c = ap (λ n. nat_lt 0 c && nat_le c n) a.made_so
 
 there_alike : (h g : List ConnectionEvent) → Alike h g → (c : ℕ) → is_there c h ≡ is_there c g
-there_alike h g a c = ap (λ b. b && not (is_let_go c h)) (made_alike h g a c) ∙ ap (λ b. is_made c g && not b) (a.held c)
+there_alike h g a c = ap (λ b. b && not (is_removed c h)) (made_alike h g a c) ∙ ap (λ b. is_made c g && not b) (a.held c)
 
 -- eight that are the same make the same
 pub same_of_eight : {A B C D E F G H L : Type 0} (f : A → B → C → D → E → F → G → H → L)
@@ -49,7 +49,7 @@ standing_by held ended socket lost poll polled opened told = unwrap_or
 
 pub standing_alike : (h g : List ConnectionEvent) → Alike h g → (c : ℕ) → standing c h ≡ standing c g
 standing_alike h g a c =
-    same_of_eight standing_by (is_let_go c h) (is_let_go c g) (ended_at c h) (ended_at c g) (socket_of c h) (socket_of c g) (lost_at c h) (lost_at c g)
+    same_of_eight standing_by (is_removed c h) (is_removed c g) (ended_at c h) (ended_at c g) (socket_of c h) (socket_of c g) (lost_at c h) (lost_at c g)
     (poll_of c h) (poll_of c g) (poll_ended c h) (poll_ended c g) (is_opened c h) (is_opened c g) (negotiated_at c h) (negotiated_at c g)
     (a.held c) (a.ended c) (a.socket c) (a.lost c) (a.poll c) (a.polled c) (a.opened c) (a.told c)
 

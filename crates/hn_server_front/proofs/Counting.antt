@@ -5,7 +5,7 @@ use Rattle.std.proofs.lemmas.Bool.{and_from, or_cases, and_parts, or_left, or_ri
 use Rattle.std.proofs.lemmas.List.Elements.{filter-append}
 use Rattle.indexmap.specs.IndexMap.{index_map_len}
 use Rattle.hd_delivery.specs.Histories.{is_this}
-use Rattle.hd_server.specs.Lives.{ConnectionEvent, made, numbers_to, is_made, is_let_go, poll_of, since}
+use Rattle.hd_server.specs.Lives.{ConnectionEvent, made, numbers_to, is_made, is_removed, poll_of, since}
 use Rattle.hn_server_front.specs.declared.front.Front.{Front}
 use Rattle.hn_server_front.specs.declared.moments.Waiting.{Waiting}
 use Rattle.hn_server_front.specs.Moments.{IsInOrder, at, is_before, is_same, is_within}
@@ -230,23 +230,23 @@ module _ (n : ℕ) (ws : List Waiting) (s : ℕ → Option ℕ) (p : ℕ → Boo
 -- ---- in the words of the notes
 
 -- nothing ends the life of a connection that isn't there
-since_gone : (c : ℕ) (h : List ConnectionEvent) → is_let_go c h ≡ true → since_of c h ≡ None
+since_gone : (c : ℕ) (h : List ConnectionEvent) → is_removed c h ≡ true → since_of c h ≡ None
 since_gone c h e = rw e refl
 
 pub since_unborn : (c : ℕ) (h : List ConnectionEvent) → IsUnborn c h → since_of c h ≡ None
 since_unborn c h u = rw (u.held, u.ended, u.socket, u.lost, u.poll, u.polled, u.opened, u.told) refl
 
 pub since_is_there : (f : Front) (h : List ConnectionEvent) (c : ℕ) → Stands f h → is_some (since_of c h) ≡ true → is_there c h ≡ true
-since_is_there f h c stands e = and_from (is_made c h) (not (is_let_go c h))
+since_is_there f h c stands e = and_from (is_made c h) (not (is_removed c h))
     (true_from_ne_false (is_made c h) (λ x. no_moment (since_unborn c h (stands.unborn c x))))
-    (ap not (false_from_ne_true (is_let_go c h) (λ x. no_moment (since_gone c h x))))
+    (ap not (false_from_ne_true (is_removed c h) (λ x. no_moment (since_gone c h x))))
   where
     no_moment : since_of c h ≡ None → ⊥
     no_moment x = let z : false ≡ true = sym (ap (λ o. is_some o) x) ∙ e in cc
 
 pub there_within : (c : ℕ) (h : List ConnectionEvent) → is_there c h ≡ true → (0 < c) × (c ≤ made h)
 there_within c h e =
-    let made_so = (and_parts (is_made c h) (not (is_let_go c h)) e).0 in
+    let made_so = (and_parts (is_made c h) (not (is_removed c h)) e).0 in
     let parts = and_parts (nat_lt 0 c) (nat_le c (made h)) made_so in
     (ltb-true 0 c parts.0, leb-true c (made h) parts.1)
 

@@ -6,7 +6,7 @@ use Rattle.std.proofs.lemmas.List.Elements.{filter-append}
 use Rattle.hd_delivery.specs.Histories.{is_this}
 use Rattle.hd_server.specs.declared.vocabulary.Life.TheVariants.{Unknown}
 use Rattle.hd_server.specs.Numbers.{held_for, lives_for}
-use Rattle.hd_server.specs.Lives.{ConnectionEvent, Ended, Expired, LetGo, made, numbers_to, is_made, is_let_go, ended_at, only_polls, ends_then, deadline, is_past, overdue, standing, since, is_opened, negotiated_at, socket_of, lost_at, poll_of, poll_ended}
+use Rattle.hd_server.specs.Lives.{ConnectionEvent, Ended, Expired, LetGo, made, numbers_to, is_made, is_removed, ended_at, only_polls, ends_then, deadline, is_past, overdue, standing, since, is_opened, negotiated_at, socket_of, lost_at, poll_of, poll_ended}
 use Rattle.hn_server_front.specs.declared.front.Front.{Front}
 use Rattle.hn_server_front.specs.declared.moments.Waiting.{Waiting}
 use Rattle.hn_server_front.specs.Calls.{Expires, IsFirst, IsNoted, is_held_long}
@@ -78,7 +78,7 @@ past_is_due f h s now c e = go (since_of c h) refl (sym e)
 unborn_waits : (c : ℕ) (h : List ConnectionEvent) → IsUnborn c h → since_of c h ≡ None
 unborn_waits c h u =
     let life : standing c h ≡ Unknown =
-    same_of_eight standing_by (is_let_go c h) false (ended_at c h) None (socket_of c h) None (lost_at c h) None
+    same_of_eight standing_by (is_removed c h) false (ended_at c h) None (socket_of c h) None (lost_at c h) None
     (poll_of c h) None (poll_ended c h) None (is_opened c h) false (negotiated_at c h) None
     u.held u.ended u.socket u.lost u.poll u.polled u.opened u.told
     in
@@ -156,7 +156,7 @@ first_overdue f h s now c l =
     numbers_first (λ k. is_overdue now k h) c (made h) (ltb-true 0 c m.0) (leb-true c (made h) m.1) (least_is_past f h s now c l) below
 
 -- one that is let go waits for nothing
-held_waits : (c : ℕ) (h : List ConnectionEvent) → is_let_go c h ≡ true → since_of c h ≡ None
+held_waits : (c : ℕ) (h : List ConnectionEvent) → is_removed c h ≡ true → since_of c h ≡ None
 held_waits c h e =
     let life : standing c h ≡ Unknown =
     ap (λ b. standing_by b (ended_at c h) (socket_of c h) (lost_at c h) (poll_of c h) (poll_ended c h) (is_opened c h) (negotiated_at c h)) e
@@ -164,8 +164,8 @@ held_waits c h e =
     ap (λ life. since c life h) life
 
 pub least_is_there : (f : Front) (h : List ConnectionEvent) → Stands f h → (now c : ℕ) → IsLeast (due_of now f) (Some c) → is_there c h ≡ true
-least_is_there f h s now c l = and_from (is_made c h) (not (is_let_go c h)) (least_is_made f h s now c l)
-    (true_from_ne_false (not (is_let_go c h)) (λ e. elim (cases_Bool (is_let_go c h)) [
+least_is_there f h s now c l = and_from (is_made c h) (not (is_removed c h)) (least_is_made f h s now c l)
+    (true_from_ne_false (not (is_removed c h)) (λ e. elim (cases_Bool (is_removed c h)) [
       | inl g ↦ (let z : true ≡ false = sym (least_is_past f h s now c l) ∙ ap (λ o. is_after now o) (held_waits c h g) in cc)
       | inr g ↦ (let z : true ≡ false = sym (ap (λ b. not b) g) ∙ e in cc)
     ]))
@@ -192,8 +192,8 @@ ends_alike c now h e = record {
     here : (k : ℕ) → (k == c) ≡ true → ends_then k h ≡ true
     here k q = ap (λ j. ends_then j h) (eqb-true k c q) ∙ e
 
-    held : (k : ℕ) (b : Bool) → (k == c) ≡ b → is_let_go k h ≡ ((b && not (ends_then k h)) || is_let_go k h)
-    held k true q = sym (ap (λ t. not t || is_let_go k h) (here k q))
+    held : (k : ℕ) (b : Bool) → (k == c) ≡ b → is_removed k h ≡ ((b && not (ends_then k h)) || is_removed k h)
+    held k true q = sym (ap (λ t. not t || is_removed k h) (here k q))
     held k false q = refl
 
     ended : (k : ℕ) (b : Bool) → (k == c) ≡ b
@@ -223,8 +223,8 @@ goes_alike c now h e = record {
     here : (k : ℕ) → (k == c) ≡ true → ends_then k h ≡ false
     here k q = ap (λ j. ends_then j h) (eqb-true k c q) ∙ e
 
-    held : (k : ℕ) (b : Bool) → (k == c) ≡ b → (b || is_let_go k h) ≡ ((b && not (ends_then k h)) || is_let_go k h)
-    held k true q = sym (ap (λ t. not t || is_let_go k h) (here k q))
+    held : (k : ℕ) (b : Bool) → (k == c) ≡ b → (b || is_removed k h) ≡ ((b && not (ends_then k h)) || is_removed k h)
+    held k true q = sym (ap (λ t. not t || is_removed k h) (here k q))
     held k false q = refl
 
     ended : (k : ℕ) (b : Bool) → (k == c) ≡ b → ended_at k h ≡ (if b && ends_then k h then Some now else ended_at k h)

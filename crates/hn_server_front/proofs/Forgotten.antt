@@ -4,7 +4,7 @@ use Rattle.std.proofs.lemmas.Bool.{and_from, both_ways, and_parts, or_right, fal
 use Rattle.indexmap.specs.IndexMap.{index_map_len}
 use Rattle.hd_delivery.specs.Histories.{first_of}
 use Rattle.hd_server.specs.Numbers.{lives_for}
-use Rattle.hd_server.specs.Lives.{ConnectionEvent, made, is_made, is_let_go, is_known, is_opened, negotiated_at, is_past, deadline, life_of, live, past, standing, when, ended_at, socket_of, lost_at, is_polling}
+use Rattle.hd_server.specs.Lives.{ConnectionEvent, made, is_made, is_removed, is_known, is_opened, negotiated_at, is_past, deadline, life_of, live, past, standing, when, ended_at, socket_of, lost_at, is_polling}
 use Rattle.hd_server.specs.declared.vocabulary.Life.{Life}
 use Rattle.hd_server.specs.declared.vocabulary.Life.TheVariants.{Unknown, Fresh, Socket, Lost, Polling, Ending}
 use Rattle.hn_server_front.specs.declared.entry.Entry.{Entry}
@@ -52,13 +52,13 @@ known_by false None false true begun e = refl
 known_by false None false false true e = refl
 known_by false None false false false e = e
 
-standing_known : (c : ℕ) (h : List ConnectionEvent) → is_let_go c h ≡ false → (is_opened c h || is_some (negotiated_at c h)) ≡ true → is_known (standing c h) ≡ true
+standing_known : (c : ℕ) (h : List ConnectionEvent) → is_removed c h ≡ false → (is_opened c h || is_some (negotiated_at c h)) ≡ true → is_known (standing c h) ≡ true
 standing_known c h held begun =
     let has_begun : Bool = is_opened c h || is_some (negotiated_at c h) in
     ap (λ b. is_known (life_by b (is_some (ended_at c h)) (socket_of c h) (is_some (lost_at c h)) (is_polling c h) has_begun)) held
     ∙ known_by (is_some (ended_at c h)) (socket_of c h) (is_some (lost_at c h)) (is_polling c h) has_begun begun
 
-standing_gone : (c : ℕ) (h : List ConnectionEvent) → is_let_go c h ≡ true → standing c h ≡ Unknown
+standing_gone : (c : ℕ) (h : List ConnectionEvent) → is_removed c h ≡ true → standing c h ≡ Unknown
 standing_gone c h e = rw e refl
 
 begun_there : (f : Front) (h : List ConnectionEvent) (c : ℕ) → Stands f h → is_there c h ≡ true → (is_opened c h || is_some (negotiated_at c h)) ≡ true
@@ -106,7 +106,7 @@ each f h now stands c l m = elim (cases_Bool (is_there c h)) [ inl e ↦ there e
   where
     there : is_there c h ≡ true → known_or_forgotten now c h ≡ cond (is_there c h) 1 0
     there e =
-        let held : is_let_go c h ≡ false = not-true (is_let_go c h) (and_parts (is_made c h) (not (is_let_go c h)) e).1 in
+        let held : is_removed c h ≡ false = not-true (is_removed c h) (and_parts (is_made c h) (not (is_removed c h)) e).1 in
         let known = standing_known c h held (begun_there f h c stands e) in
         one_of_both (is_some (since_of c h)) (is_past now (deadline c h)) (is_known (life_of c now h))
         (λ u. has_moment now (since_of c h) (past_moment c now h known u))
@@ -116,8 +116,8 @@ each f h now stands c l m = elim (cases_Bool (is_there c h)) [ inl e ↦ there e
     away : is_there c h ≡ false → known_or_forgotten now c h ≡ cond (is_there c h) 1 0
     away e =
         let made_so : is_made c h ≡ true = and_from (nat_lt 0 c) (nat_le c (made h)) (lt-ltb 0 c l) (le-leb c (made h) m) in
-        let gone : is_let_go c h ≡ true =
-        true_from_ne_false (is_let_go c h) (λ x. both_ways (is_there c h) e (and_from (is_made c h) (not (is_let_go c h)) made_so (ap not x))) in
+        let gone : is_removed c h ≡ true =
+        true_from_ne_false (is_removed c h) (λ x. both_ways (is_there c h) e (and_from (is_made c h) (not (is_removed c h)) made_so (ap not x))) in
         let none : is_some (since_of c h) ≡ false =
         false_from_ne_true (is_some (since_of c h)) (λ x. both_ways (is_there c h) e (since_is_there f h c stands x)) in
         let unknown : is_known (life_of c now h) ≡ false = ap is_known (unpast (since_of c h) (standing c h) none ∙ standing_gone c h gone) in

@@ -10,7 +10,7 @@ use Rattle.hd_delivery.specs.Histories.{is_this}
 use Rattle.hd_server.specs.Numbers.{lives_for, most_connections, most_live}
 use Rattle.hd_server.specs.declared.vocabulary.Life.{Life}
 use Rattle.hd_server.specs.declared.vocabulary.Life.TheVariants.{Unknown, Fresh, Socket, Lost, Polling, Ending}
-use Rattle.hd_server.specs.Lives.{ConnectionEvent, Negotiated, Opened, made, numbers_to, is_made, is_let_go, is_opened, is_busy, is_known, is_past, negotiated_at, is_resumable_promise, socket_of, lost_at, poll_of, poll_ended, ended_at, conn_with, deadline, life_of, live, past, standing, since}
+use Rattle.hd_server.specs.Lives.{ConnectionEvent, Negotiated, Opened, made, numbers_to, is_made, is_removed, is_opened, is_busy, is_known, is_past, negotiated_at, is_resumable_promise, socket_of, lost_at, poll_of, poll_ended, ended_at, conn_with, deadline, life_of, live, past, standing, since}
 use Rattle.hn_server_front.specs.declared.entry.Entry.{Entry}
 use Rattle.hn_server_front.specs.declared.entry.Told.{Told}
 use Rattle.hn_server_front.specs.declared.front.Front.{Front}
@@ -77,7 +77,7 @@ roomier_stands old new h more s = record {
 -- the note makes the next connection and says nothing of any other
 pub record Begins (n : ConnectionEvent) (c : ℕ) (told : Option Told) (h : List ConnectionEvent) : Type 0 where
   pub next : made (n ∷ h) ≡ suc (made h)
-  pub held : (k : ℕ) → is_let_go k (n ∷ h) ≡ is_let_go k h
+  pub held : (k : ℕ) → is_removed k (n ∷ h) ≡ is_removed k h
   pub socket : (k : ℕ) → socket_of k (n ∷ h) ≡ socket_of k h
   pub lost : (k : ℕ) → lost_at k (n ∷ h) ≡ lost_at k h
   pub poll : (k : ℕ) → poll_of k (n ∷ h) ≡ poll_of k h
@@ -112,7 +112,7 @@ made_next n h e =
 
 there_else : (n : ConnectionEvent) (h : List ConnectionEvent) (told : Option Told) (k : ℕ) → Begins n (suc (made h)) told h → (k ≡ suc (made h) → ⊥)
     → is_there k (n ∷ h) ≡ is_there k h
-there_else n h told k b other = ap (λ x. x && not (is_let_go k (n ∷ h))) (made_else n h k b.next other) ∙ ap (λ x. is_made k h && not x) (b.held k)
+there_else n h told k b other = ap (λ x. x && not (is_removed k (n ∷ h))) (made_else n h k b.next other) ∙ ap (λ x. is_made k h && not x) (b.held k)
 
 standing_else : (n : ConnectionEvent) (h : List ConnectionEvent) (told : Option Told) (k : ℕ) → Begins n (suc (made h)) told h → (k ≡ suc (made h) → ⊥)
     → standing k (n ∷ h) ≡ standing k h
@@ -265,21 +265,21 @@ made_stands old mid new h n told s i = record {
     polls = e.polls ∙ i.polls
 
     away : is_there c h ≡ false
-    away = and_left (is_made c h) (not (is_let_go c h)) (not_made h)
+    away = and_left (is_made c h) (not (is_removed c h)) (not_made h)
 
     absent : entry_at mid c ≡ None
     absent = ap (λ es. get nat_eq es c) i.entries ∙ go (entry_at old c) (s.entries c)
       where
         go : (o : Option Entry) → IsEntryOf o c h → o ≡ None
         go None x = refl
-        go (Some x) r = absurd (let z : false ≡ true = sym away ∙ and_from (is_made c h) (not (is_let_go c h)) r.there (ap not r.held) in cc)
+        go (Some x) r = absurd (let z : false ≡ true = sym away ∙ and_from (is_made c h) (not (is_removed c h)) r.there (ap not r.held) in cc)
 
     grown : index_map_len new.entries ≡ suc (index_map_len old.entries)
     grown = e.size absent ∙ ap (λ es. suc (index_map_len es)) i.entries
 
     counted : length (filter (λ k. is_there k (n ∷ h)) (numbers_to (made (n ∷ h)))) ≡ suc (length (filter (λ k. is_there k h) (numbers_to (made h))))
     counted =
-        let there = and_from (is_made c (n ∷ h)) (not (is_let_go c (n ∷ h))) (made_next n h b.next) (ap not (b.held c ∙ unborn.held)) in
+        let there = and_from (is_made c (n ∷ h)) (not (is_removed c (n ∷ h))) (made_next n h b.next) (ap not (b.held c ∙ unborn.held)) in
         let last : ◌≡◌ {A = ℕ} (cond (is_there c (n ∷ h)) 1 0) 1 = ap (λ b. cond b 1 0) there in
         let before = count_alike (made h) (λ k. is_there k (n ∷ h)) (λ k. is_there k h) (λ k l m. there_else n h told k b (λ x. omega (arith, m, x))) in
         ap (λ m. count m (λ k. is_there k (n ∷ h))) b.next ∙ (let next = count_next (made h) (λ k. is_there k (n ∷ h)) in omega (arith, last, before, next))
@@ -334,7 +334,7 @@ made_stands old mid new h n told s i = record {
 
 -- ---- opened without a token
 
-kept_same : (n : ConnectionEvent) (h : List ConnectionEvent) → ((k : ℕ) → is_let_go k (n ∷ h) ≡ is_let_go k h) → (o : Option ℕ) → kept o (n ∷ h) ≡ kept o h
+kept_same : (n : ConnectionEvent) (h : List ConnectionEvent) → ((k : ℕ) → is_removed k (n ∷ h) ≡ is_removed k h) → (o : Option ℕ) → kept o (n ∷ h) ≡ kept o h
 kept_same n h same None = refl
 kept_same n h same (Some c) = ap (λ b. if b then None else Some c) (same c)
 

@@ -16,7 +16,7 @@ use Rattle.hd_delivery.specs.Histories.{is_this, first_of}
 use Rattle.hd_server.specs.declared.vocabulary.Life.{Life}
 use Rattle.hd_server.specs.declared.vocabulary.Life.TheVariants as lives
 use Rattle.hd_server.specs.Numbers.{held_for, lives_for, most_connections}
-use Rattle.hd_server.specs.Lives.{ConnectionEvent, LetGo, made, numbers_to, is_made, is_let_go, is_opened, negotiated_at, is_resumable_promise, socket_of, lost_at, poll_of, poll_ended, ended_at, conn_with, when, standing, since}
+use Rattle.hd_server.specs.Lives.{ConnectionEvent, LetGo, made, numbers_to, is_made, is_removed, is_opened, negotiated_at, is_resumable_promise, socket_of, lost_at, poll_of, poll_ended, ended_at, conn_with, when, standing, since}
 use Rattle.hn_server_front.specs.declared.entry.Entry.{Entry}
 use Rattle.hn_server_front.specs.declared.entry.EntryEvent.{EntryEvent}
 use Rattle.hn_server_front.specs.declared.entry.EntryEvent.TheVariants as noted
@@ -36,7 +36,7 @@ no_bool e = absurd (let z : false ≡ true = e in cc)
 -- it is the same of both lists
 pub record SameAt (c : ℕ) (g h : List ConnectionEvent) : Type 0 where
   pub there : is_made c g ≡ is_made c h
-  pub held : is_let_go c g ≡ is_let_go c h
+  pub held : is_removed c g ≡ is_removed c h
   pub opened : is_opened c g ≡ is_opened c h
   pub told : negotiated_at c g ≡ negotiated_at c h
   pub promise : is_resumable_promise c g ≡ is_resumable_promise c h
@@ -163,7 +163,7 @@ let_go_follows k h = record {
   tokens = λ c. refl;
   others = λ c ne. record {
     there = refl;
-    held = ap (λ (b : Bool). b || is_let_go c h) (ne_eqb c k ne);
+    held = ap (λ (b : Bool). b || is_removed c h) (ne_eqb c k ne);
     opened = refl;
     told = refl;
     promise = refl;
@@ -179,7 +179,7 @@ let_go_follows k h = record {
 -- ---- what follows from what is read off
 
 same_there : (c : ℕ) (g h : List ConnectionEvent) → SameAt c g h → is_there c g ≡ is_there c h
-same_there c g h s = ap (λ (b : Bool). b && not (is_let_go c g)) s.there ∙ ap (λ (b : Bool). is_made c h && not b) s.held
+same_there c g h s = ap (λ (b : Bool). b && not (is_removed c g)) s.there ∙ ap (λ (b : Bool). is_made c h && not b) s.held
 
 same_entry : (o : Option Entry) (c : ℕ) (g h : List ConnectionEvent) → SameAt c g h → IsEntryOf o c h → IsEntryOf o c g
 same_entry None c g h s e = same_there c g h s ∙ e
@@ -234,7 +234,7 @@ read_since held ended socket lost poll polled opened told = since_at (standing_a
 
 since_is : (c : ℕ) (h : List ConnectionEvent)
     → since_of c h ≡
-    read_since (is_let_go c h) (ended_at c h) (socket_of c h) (lost_at c h) (poll_of c h) (poll_ended c h) (is_opened c h) (negotiated_at c h)
+    read_since (is_removed c h) (ended_at c h) (socket_of c h) (lost_at c h) (poll_of c h) (poll_ended c h) (is_opened c h) (negotiated_at c h)
 since_is c h = by (standing c h)
   where
     by : (l : Life) → since c l h ≡ since_at l (negotiated_at c h) (lost_at c h) (poll_ended c h) (ended_at c h)
@@ -253,7 +253,7 @@ same_eight f a a' b b' c c' d d' e e' i i' j j' k k' p q r s t u v w = cc
 same_since : (c : ℕ) (g h : List ConnectionEvent) → SameAt c g h → since_of c g ≡ since_of c h
 same_since c g h s =
     since_is c g
-    ∙ (same_eight read_since (is_let_go c g) (is_let_go c h) (ended_at c g) (ended_at c h) (socket_of c g) (socket_of c h) (lost_at c g) (lost_at c h)
+    ∙ (same_eight read_since (is_removed c g) (is_removed c h) (ended_at c g) (ended_at c h) (socket_of c g) (socket_of c h) (lost_at c g) (lost_at c h)
     (poll_of c g) (poll_of c h) (poll_ended c g) (poll_ended c h) (is_opened c g) (is_opened c h) (negotiated_at c g) (negotiated_at c h)
     s.held s.ended s.socket s.lost s.poll s.polled s.opened s.told
     ∙ sym (since_is c h))
@@ -265,11 +265,11 @@ same_held : (c : ℕ) (g h : List ConnectionEvent) → SameAt c g h → held_sin
 same_held c g h s = ap (λ (b : Bool). held_by b (poll_of c g)) (same_there c g h s) ∙ ap (λ (o : Option (ℕ × ℕ)). held_by (is_there c h) o) s.poll
 
 -- one that is let go has no life
-gone_standing : (c : ℕ) (h : List ConnectionEvent) → is_let_go c h ≡ true → standing c h ≡ lives.Unknown
+gone_standing : (c : ℕ) (h : List ConnectionEvent) → is_removed c h ≡ true → standing c h ≡ lives.Unknown
 gone_standing c h e =
     ap (λ (b : Bool). standing_at b (ended_at c h) (socket_of c h) (lost_at c h) (poll_of c h) (poll_ended c h) (is_opened c h) (negotiated_at c h)) e
 
-gone_since : (c : ℕ) (h : List ConnectionEvent) → is_let_go c h ≡ true → since_of c h ≡ None
+gone_since : (c : ℕ) (h : List ConnectionEvent) → is_removed c h ≡ true → since_of c h ≡ None
 gone_since c h e = ap (λ (l : Life). since c l h) (gone_standing c h e)
 
 -- ---- one that was made, and is kept or let go
@@ -284,23 +284,23 @@ is_gone true true e g = refl
 is_gone true false e g = no_bool (sym g)
 is_gone false b e g = no_bool e
 
-gone_from_there : (c : ℕ) (h : List ConnectionEvent) → is_made c h ≡ true → is_there c h ≡ false → is_let_go c h ≡ true
-gone_from_there c h e g = is_gone (is_made c h) (is_let_go c h) e g
+gone_from_there : (c : ℕ) (h : List ConnectionEvent) → is_made c h ≡ true → is_there c h ≡ false → is_removed c h ≡ true
+gone_from_there c h e g = is_gone (is_made c h) (is_removed c h) e g
 
 there_from_kept : (e : Entry) (c : ℕ) (h : List ConnectionEvent) → Remembers e c h → is_there c h ≡ true
-there_from_kept e c h r = ap (λ (b : Bool). b && not (is_let_go c h)) r.there ∙ ap (λ (b : Bool). not b) r.held
+there_from_kept e c h r = ap (λ (b : Bool). b && not (is_removed c h)) r.there ∙ ap (λ (b : Bool). not b) r.held
 
-not_there : (c : ℕ) (h : List ConnectionEvent) → is_let_go c h ≡ true → is_there c h ≡ false
-not_there c h e = and_right (is_made c h) (not (is_let_go c h)) (ap (λ (b : Bool). not b) e)
+not_there : (c : ℕ) (h : List ConnectionEvent) → is_removed c h ≡ true → is_there c h ≡ false
+not_there c h e = and_right (is_made c h) (not (is_removed c h)) (ap (λ (b : Bool). not b) e)
 
-gone_held : (c : ℕ) (h : List ConnectionEvent) → is_let_go c h ≡ true → held_since c h ≡ None
+gone_held : (c : ℕ) (h : List ConnectionEvent) → is_removed c h ≡ true → held_since c h ≡ None
 gone_held c h e = ap (λ (b : Bool). held_by b (poll_of c h)) (not_there c h e)
 
 held_there : (e : Entry) (c : ℕ) (h : List ConnectionEvent) → Remembers e c h → held_since c h ≡ option_map (λ poll. poll.1) (poll_of c h)
 held_there e c h r = ap (λ (b : Bool). held_by b (poll_of c h)) (there_from_kept e c h r)
 
 -- what is kept of a connection is kept of its token
-kept_same : (o : Option ℕ) (g h : List ConnectionEvent) → ((c : ℕ) → o ≡ Some c → is_let_go c g ≡ is_let_go c h) → kept o h ≡ kept o g
+kept_same : (o : Option ℕ) (g h : List ConnectionEvent) → ((c : ℕ) → o ≡ Some c → is_removed c g ≡ is_removed c h) → kept o h ≡ kept o g
 kept_same None g h same = refl
 kept_same (Some c) g h same = ap (λ (b : Bool). if b then None else Some c) (sym (same c refl))
 
@@ -436,15 +436,15 @@ module _ (f n : Front) (k : ℕ) (g h : List ConnectionEvent) (z : Follows k g h
         | inr x ↦ sym (same_there c g h (z.others c x))
       ]
 
-      held_too : (c : ℕ) → is_let_go c g ≡ is_let_go c h
+      held_too : (c : ℕ) → is_removed c g ≡ is_removed c h
       held_too c = elim (cases_eq c k) [
-        | inl x ↦ ap (λ (i : ℕ). is_let_go i g) x ∙ (q.held ∙ (sym r.held ∙ ap (λ (i : ℕ). is_let_go i h) (sym x)))
+        | inl x ↦ ap (λ (i : ℕ). is_removed i g) x ∙ (q.held ∙ (sym r.held ∙ ap (λ (i : ℕ). is_removed i h) (sym x)))
         | inr x ↦ (z.others c x).held
       ]
 
 -- nothing changes where it was let go before
 pub stands_gone : (f : Front) (k : ℕ) (g h : List ConnectionEvent) → Follows k g h → Stands f h → entry_at f k ≡ None → is_made k h ≡ true
-    → (is_let_go k h ≡ true → is_let_go k g ≡ true) → Stands f g
+    → (is_removed k h ≡ true → is_removed k g ≡ true) → Stands f g
 stands_gone f k g h z s none there still =
     stands_after f f k g h z s there refl (λ c ne. refl)
     (subst (λ (o : Option Entry). IsEntryOf o k g) (sym none) (not_there k g gone_too))
@@ -453,10 +453,10 @@ stands_gone f k g h z s none there still =
     (same_lists since_too (since_listed f h s))
     (same_lists polled_too (held_listed f h s))
   where
-    gone : is_let_go k h ≡ true
+    gone : is_removed k h ≡ true
     gone = gone_from_there k h there (subst (λ (o : Option Entry). IsEntryOf o k h) none (s.entries k))
 
-    gone_too : is_let_go k g ≡ true
+    gone_too : is_removed k g ≡ true
     gone_too = still gone
 
     there_too : (c : ℕ) → is_there c h ≡ is_there c g
@@ -465,9 +465,9 @@ stands_gone f k g h z s none there still =
       | inr x ↦ sym (same_there c g h (z.others c x))
     ]
 
-    held_too : (c : ℕ) → is_let_go c g ≡ is_let_go c h
+    held_too : (c : ℕ) → is_removed c g ≡ is_removed c h
     held_too c = elim (cases_eq c k) [
-      | inl x ↦ ap (λ (i : ℕ). is_let_go i g) x ∙ (gone_too ∙ (sym gone ∙ ap (λ (i : ℕ). is_let_go i h) (sym x)))
+      | inl x ↦ ap (λ (i : ℕ). is_removed i g) x ∙ (gone_too ∙ (sym gone ∙ ap (λ (i : ℕ). is_removed i h) (sym x)))
       | inr x ↦ (z.others c x).held
     ]
 
@@ -483,7 +483,7 @@ stands_gone f k g h z s none there still =
       | inr x ↦ same_held c g h (z.others c x)
     ]
 
-pub still_gone : (k : ℕ) (n : EntryEvent) (h : List ConnectionEvent) → is_let_go k h ≡ true → is_let_go k (note_of k n ∷ h) ≡ true
+pub still_gone : (k : ℕ) (n : EntryEvent) (h : List ConnectionEvent) → is_removed k h ≡ true → is_removed k (note_of k n ∷ h) ≡ true
 still_gone k (noted.Socket lane now) h e = e
 still_gone k (noted.Poll lane now) h e = e
 still_gone k (noted.Answer lane now) h e = e
@@ -492,8 +492,8 @@ still_gone k (noted.End now) h e = e
 
 -- ---- nothing is kept of it any more
 
-pub let_go : (k : ℕ) (h : List ConnectionEvent) → is_let_go k (LetGo k ∷ h) ≡ true
-let_go k h = or_left (k == k) (is_let_go k h) (eq-eqb k k refl)
+pub let_go : (k : ℕ) (h : List ConnectionEvent) → is_removed k (LetGo k ∷ h) ≡ true
+let_go k h = or_left (k == k) (is_removed k h) (eq-eqb k k refl)
 
 -- the map of tokens loses its connection's token, if it had one
 pub tokens_without : (f : Front) (k : ℕ) (h : List ConnectionEvent) (e : Entry) → Stands f h → Remembers e k h

@@ -1,7 +1,7 @@
 -- What an entry remembers of a connection's notes.
 use Rattle.std.specs.Prelude.{◌≡◌, ℕ, Bool, true, false, ◌||◌, ◌==◌, List, [], ◌∷◌, Option, Some, None, is_some, option_map, if◌then◌else◌}
 use Rattle.hd_delivery.specs.Histories.{is_this}
-use Rattle.hd_server.specs.Lives.{ConnectionEvent, Negotiated, Socketed, Polled, Answered, LaneLost, Ended, negotiated_at, is_resumable_promise, is_opened, socket_of, lost_at, poll_of, poll_ended, ended_at, is_let_go, is_made}
+use Rattle.hd_server.specs.Lives.{ConnectionEvent, Negotiated, Socketed, Polled, Answered, LaneLost, Ended, negotiated_at, is_resumable_promise, is_opened, socket_of, lost_at, poll_of, poll_ended, ended_at, is_removed, is_made}
 use Rattle.hn_server_front.specs.declared.entry.Entry.{Entry}
 use Rattle.hn_server_front.specs.declared.entry.Held.{Held}
 use Rattle.hn_server_front.specs.declared.entry.Told.{Told}
@@ -39,7 +39,7 @@ held_as held = option_map (λ p. (p.lane, p.since)) held
 -- the entry is that of a connection that was made and isn't let go
 pub record Remembers (e : Entry) (c : ℕ) (h : List ConnectionEvent) : Type 0 where
   pub there : is_made c h ≡ true
-  pub held : is_let_go c h ≡ false
+  pub held : is_removed c h ≡ false
   pub begun : (is_opened c h || is_some (negotiated_at c h)) ≡ true
   pub told : moment_told e.told ≡ negotiated_at c h
   pub token : text_told e.told ≡ token_told c h

@@ -8,7 +8,7 @@ use Rattle.std.specs.Vec.{vec_capacity}
 use Rattle.hd_delivery.specs.Histories.{is_this}
 use Rattle.hd_server.specs.Numbers.{held_for, lives_for, most_connections}
 use Rattle.hd_server.specs.Texts.{token_of}
-use Rattle.hd_server.specs.Lives.{ConnectionEvent, made, numbers_to, is_made, is_let_go, is_opened, negotiated_at, is_resumable_promise, socket_of, lost_at, poll_of, poll_ended, ended_at, conn_with, standing, since}
+use Rattle.hd_server.specs.Lives.{ConnectionEvent, made, numbers_to, is_made, is_removed, is_opened, negotiated_at, is_resumable_promise, socket_of, lost_at, poll_of, poll_ended, ended_at, conn_with, standing, since}
 use Rattle.hn_server_front.specs.declared.entry.Entry.{Entry}
 use Rattle.hn_server_front.specs.declared.entry.Told.{Told}
 use Rattle.hn_server_front.specs.declared.front.Front.{Front}
@@ -18,7 +18,7 @@ use Rattle.hn_server_front.specs.Moments.{IsInOrder, is_within, waits_as}
 
 -- the connection was made and isn't let go
 abbrev pub is_there : ℕ → List ConnectionEvent → Bool
-is_there c h = is_made c h && not (is_let_go c h)
+is_there c h = is_made c h && not (is_removed c h)
 
 -- what is kept of a connection
 abbrev pub entry_at : Front → ℕ → Option Entry
@@ -36,7 +36,7 @@ conn_at f token = tree.get (slice_cmp nat_cmp) f.tokens token
 -- unless it is let go
 abbrev pub kept : Option ℕ → List ConnectionEvent → Option ℕ
 kept None h = None
-kept (Some c) h = if is_let_go c h then None else Some c
+kept (Some c) h = if is_removed c h then None else Some c
 
 -- from when on the life of a connection counts towards its end
 abbrev pub since_of : ℕ → List ConnectionEvent → Option ℕ
@@ -54,7 +54,7 @@ is_holding w h = is_this w.since (held_since w.conn h)
 
 -- nothing was noted of a number that no connection has
 pub record IsUnborn (c : ℕ) (h : List ConnectionEvent) : Type 0 where
-  pub held : is_let_go c h ≡ false
+  pub held : is_removed c h ≡ false
   pub opened : is_opened c h ≡ false
   pub told : negotiated_at c h ≡ None
   pub promise : is_resumable_promise c h ≡ false

@@ -5,7 +5,7 @@ use Rattle.hd_rooms.specs.declared.vocabulary.Asked.{Asked}
 use Rattle.hd_rooms.specs.Kept.{Content, KeeperDid}
 use Rattle.hd_rooms.specs.KeptLaws.{AnswersJoin}
 use Rattle.hd_server.specs.Machine.{MachineEvent}
-use Rattle.hub_machine.specs.Outside.{Outside, Goes, GoesWith, asks_in, spellings}
+use Rattle.hub_machine.specs.KeeperState.{KeeperState, HasAnswered, HasAnsweredDuring, asks_in, spellings}
 
 -- what was told before, with more and then with others
 told_more : (before : Option (List Asked)) (some others : List Asked)
@@ -24,7 +24,7 @@ keeper_same None = tt
 keeper_same (Some content) = refl
 
 -- the outside that goes on with some, and then with others, goes on with all of them
-goes_on : (a b c : Outside) (some others : List Asked) (m n : ℕ) → AnswersJoin → Goes a b some m → Goes b c others n → Goes a c (some ++ others) (n + m)
+goes_on : (a b c : KeeperState) (some others : List Asked) (m n : ℕ) → AnswersJoin → HasAnswered a b some m → HasAnswered b c others n → HasAnswered a c (some ++ others) (n + m)
 goes_on a b c some others m n law first then_goes = record {
   told = then_goes.told ∙ ap (option_map (λ known. known ++ others)) first.told ∙ told_more a.answers some others;
   kept = law.kept a.holds b.holds c.holds some others first.kept then_goes.kept;
@@ -32,7 +32,7 @@ goes_on a b c some others m n law first then_goes = record {
   spelled = let one = first.spelled in let two = then_goes.spelled in omega (arith, one, two);
 }
 
-pub goes_join : (a b c : Outside) (w r s : List MachineEvent) → AnswersJoin → GoesWith a b w r → GoesWith b c r s → GoesWith a c w s
+pub goes_join : (a b c : KeeperState) (w r s : List MachineEvent) → AnswersJoin → HasAnsweredDuring a b w r → HasAnsweredDuring b c r s → HasAnsweredDuring a c w s
 goes_join a b c w r s law first then_goes = record {
   asks = first.asks ++ then_goes.asks;
   are = then_goes.are ∙ ap (λ asks. asks ++ then_goes.asks) first.are ∙ append_assoc (asks_in w) first.asks then_goes.asks;
@@ -42,7 +42,7 @@ goes_join a b c w r s law first then_goes = record {
 }
 
 -- where nothing was asked and nothing spelled, it is as it was
-pub goes_same : (o : Outside) (w r : List MachineEvent) → asks_in r ≡ asks_in w → spellings r ≡ spellings w → GoesWith o o w r
+pub goes_same : (o : KeeperState) (w r : List MachineEvent) → asks_in r ≡ asks_in w → spellings r ≡ spellings w → HasAnsweredDuring o o w r
 goes_same o w r e f = record {
   asks = [];
   are = e ∙ sym (append-nil (asks_in w));

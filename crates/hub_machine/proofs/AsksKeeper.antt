@@ -21,7 +21,7 @@ use Rattle.hp_peer.specs.Stands.{OfEach}
 use Rattle.hub_machine.specs.declared.machine.Machine.{Machine}
 use Rattle.hub_machine.specs.Machines.{StandsMachine, peer_at, settings_there}
 use Rattle.hub_machine.specs.MachineView.{MachineView, StandsFor, machine_view, lists_after, moved, with_lists}
-use Rattle.hub_machine.specs.Outside.{GoesWith, Outside, spoken_at}
+use Rattle.hub_machine.specs.KeeperState.{HasAnsweredDuring, KeeperState, spoken_at}
 use Rattle.hub_machine.specs.Rounds.{IsCarried}
 use Rattle.hub_machine.specs.Carrying.{AnswersAt}
 use Rattle.hub_machine.specs.Spreads.{codecs_among}
@@ -53,7 +53,7 @@ who_is {H} {Job} hub m r c p who s there e tells =
 -- ---- what the keeper did
 
 -- It was asked once: its answer is right, what it keeps, tells and counts goes on by that, and nothing was spelled
-pub record WasAsked (before now : Outside) (ask : Asked) : Type 0 where
+pub record WasAsked (before now : KeeperState) (ask : Asked) : Type 0 where
   pub right : IfSome before.holds (λ kept. IsAnswer kept ask)
   pub kept : now.holds ≡ option_map (kept_after ask) before.holds
   pub told : Gains before.answers now.answers ask
@@ -71,14 +71,14 @@ free None P p = tt
 free (Some kept) P p = p kept
 
 -- the row was added
-pub was_logged : (before now : Outside) (room who words : List ℕ) → now.holds ≡ option_map (with_row room who words) before.holds
+pub was_logged : (before now : KeeperState) (room who words : List ℕ) → now.holds ≡ option_map (with_row room who words) before.holds
     → Gains before.answers now.answers (keeper.Log room who words true) → now.faults ≡ before.faults → now.spelled ≡ before.spelled
     → WasAsked before now (keeper.Log room who words true)
 was_logged before now room who words kept told counted unspelled =
     record { right = free before.holds _ (λ kept. tt); kept = kept; told = told; counted = counted; unspelled = unspelled }
 
 -- it wasn't, since the keeper failed
-pub was_unlogged : (before now : Outside) (room who words : List ℕ) (why : KeepError) → why ≡ keep.Failed → now.holds ≡ before.holds
+pub was_unlogged : (before now : KeeperState) (room who words : List ℕ) (why : KeepError) → why ≡ keep.Failed → now.holds ≡ before.holds
     → IsErrorNoted before.answers now.answers (keeper.Log room who words false) why → IsCaused before.faults now.faults why → now.spelled ≡ before.spelled
     → WasAsked before now (keeper.Log room who words false)
 was_unlogged before now room who words why is kept told counted unspelled = record {
@@ -90,7 +90,7 @@ was_unlogged before now room who words why is kept told counted unspelled = reco
 }
 
 -- the texts were given
-pub was_recalled : (before now : Outside) (room : List ℕ) (most : ℕ) (texts : List (List ℕ))
+pub was_recalled : (before now : KeeperState) (room : List ℕ) (most : ℕ) (texts : List (List ℕ))
     → IfSome before.holds (λ kept. texts ≡ recalled room most kept.rows) → now.holds ≡ before.holds
     → Gains before.answers now.answers (keeper.History room most (Some texts)) → now.faults ≡ before.faults
     → now.spelled ≡ before.spelled → WasAsked before now (keeper.History room most (Some texts))
@@ -98,7 +98,7 @@ was_recalled before now room most texts right kept told counted unspelled =
     record { right = right; kept = kept ∙ same_kept before.holds _ (λ kept. refl); told = told; counted = counted; unspelled = unspelled }
 
 -- they weren't, since the keeper failed
-pub was_unrecalled : (before now : Outside) (room : List ℕ) (most : ℕ) (why : KeepError) → why ≡ keep.Failed → now.holds ≡ before.holds
+pub was_unrecalled : (before now : KeeperState) (room : List ℕ) (most : ℕ) (why : KeepError) → why ≡ keep.Failed → now.holds ≡ before.holds
     → IsErrorNoted before.answers now.answers (keeper.History room most None) why → IsCaused before.faults now.faults why → now.spelled ≡ before.spelled
     → WasAsked before now (keeper.History room most None)
 was_unrecalled before now room most why is kept told counted unspelled = record {
@@ -118,8 +118,8 @@ did_one h k ask right e = subst (λ (o : Option Content). KeeperDid h (ask ∷ [
     go (Some kept) p = (p, refl)
 
 -- the ask was the deed's
-goes_asked : (before now : Outside) (r : List MachineEvent) (c j : ℕ) (d : Deed) (fates : List (ℕ × DeliveryOutcome)) (ask : Asked) → WasAsked before now ask
-    → GoesWith before now r (Carries c j d fates (Some ask) ∷ r)
+goes_asked : (before now : KeeperState) (r : List MachineEvent) (c j : ℕ) (d : Deed) (fates : List (ℕ × DeliveryOutcome)) (ask : Asked) → WasAsked before now ask
+    → HasAnsweredDuring before now r (Carries c j d fates (Some ask) ∷ r)
 goes_asked before now r c j d fates ask was = record {
   asks = ask ∷ [];
   are = refl;
@@ -140,7 +140,7 @@ abbrev pub IsTold : {H Job : Type 0} → Hub Job → Machine H Job → Machine H
 IsTold hub old new c j i = (a : MachineView) → AnswersAt (a.settings c) j i (a.moves c) → StandsFor hub old a → StandsFor hub new (moved c (Answers j i) a)
 
 -- no member is told, no list changes, and the job is told what the keeper answered
-carried_asking : {H Job : Type 0} (hub : Hub Job) (new old : Machine H Job) (before now : Outside) (r : List MachineEvent) (c j : ℕ) (d : Deed) (ask : Asked)
+carried_asking : {H Job : Type 0} (hub : Hub Job) (new old : Machine H Job) (before now : KeeperState) (r : List MachineEvent) (c j : ℕ) (d : Deed) (ask : Asked)
     → StandsMachine {H = H} hub old r → owed r ≡ OwesDeed c j d → is_there c r ≡ true → IsAskedFor d (who_of (settings_of c r)) (Some ask)
     → fates_of d r ≡ [] → lists_after d c (registry r) ≡ registry r → is_deed_answer (answer_to (Some ask)) ≡ true → WasAsked before now ask
     → IsTold {H = H} hub old new c j (answer_to (Some ask)) → IsCarried {H = H} hub new before now r c j d
@@ -154,7 +154,7 @@ carried_asking {H} {Job} hub new old before now r c j d ask s owes there is_aske
 }
 
 -- a line is logged, or the keeper fails in that
-pub log_carried : {H Job : Type 0} (hub : Hub Job) (new old : Machine H Job) (before now : Outside) (r : List MachineEvent) (c j : ℕ) (room who words : List ℕ)
+pub log_carried : {H Job : Type 0} (hub : Hub Job) (new old : Machine H Job) (before now : KeeperState) (r : List MachineEvent) (c j : ℕ) (room who words : List ℕ)
     (is_resumable : Bool) → StandsMachine {H = H} hub old r → owed r ≡ OwesDeed c j (Log room words) → is_there c r ≡ true → who ≡ who_of (settings_of c r)
     → WasAsked before now (keeper.Log room who words is_resumable) → IsTold {H = H} hub old new c j (answer_to (Some (keeper.Log room who words is_resumable)))
     → IsCarried {H = H} hub new before now r c j (Log room words)
@@ -167,7 +167,7 @@ log_carried {H} {Job} hub new old before now r c j room who words is_resumable s
     answers false = refl
 
 -- rows are given, or the keeper fails in that
-pub history_carried : {H Job : Type 0} (hub : Hub Job) (new old : Machine H Job) (before now : Outside) (r : List MachineEvent) (c j : ℕ) (room : List ℕ)
+pub history_carried : {H Job : Type 0} (hub : Hub Job) (new old : Machine H Job) (before now : KeeperState) (r : List MachineEvent) (c j : ℕ) (room : List ℕ)
     (most : ℕ) (texts : Option (List (List ℕ))) → StandsMachine {H = H} hub old r → owed r ≡ OwesDeed c j (History room most) → is_there c r ≡ true
     → WasAsked before now (keeper.History room most texts) → IsTold {H = H} hub old new c j (answer_to (Some (keeper.History room most texts)))
     → IsCarried {H = H} hub new before now r c j (History room most)

@@ -26,7 +26,7 @@ use Rattle.hg_groups.specs.Standing.{StandsRegistry}
 use Rattle.hub_machine.specs.declared.machine.Machine.{Machine}
 use Rattle.hub_machine.specs.Machines.{IsKeptAs, IsStranger, StandsMachine, idle_peer_at, peer_at, settings_there}
 use Rattle.hub_machine.specs.MachineView.{MachineView, AreSame, AreUp, StandsFor, machine_view, fates_in, is_up_in, lists_after, moved, told, with_lists, without_slow}
-use Rattle.hub_machine.specs.Outside.{Outside, GoesWith, asks_in, outside, spoken_at}
+use Rattle.hub_machine.specs.KeeperState.{KeeperState, HasAnsweredDuring, asks_in, keeper_state, spoken_at}
 use Rattle.hub_machine.specs.Rounds.{AtDeed, IsCarried}
 use Rattle.hub_machine.specs.Carrying.{AnswersAt}
 use Rattle.hub_machine.specs.Spreads.{codecs_among, is_listed}
@@ -355,7 +355,7 @@ told_none (Some known) = ap Some (sym (append-nil known))
 -- the keeper isn't asked, and no more is spelled than once for each codec among the members
 pub goes_alone : (holds : Option Content) (answers : Option (List Asked)) (faults before now : ℕ) (r : List MachineEvent) (c j : ℕ) (d : Deed)
     (fates : List (ℕ × DeliveryOutcome)) → now ≤ before + codecs_among (λ k. spoken_at k r) (map (λ f. f.0) fates)
-    → GoesWith (outside holds answers faults before) (outside holds answers faults now) r (Carries c j d fates None ∷ r)
+    → HasAnsweredDuring (keeper_state holds answers faults before) (keeper_state holds answers faults now) r (Carries c j d fates None ∷ r)
 goes_alone holds answers faults before now r c j d fates e = record {
   asks = [];
   are = sym (append-nil (asks_in r));
@@ -367,12 +367,12 @@ goes_alone holds answers faults before now r c j d fates e = record {
 -- ---- a deed by its name
 
 -- if the machine owed the deed at a connection that was there, the deed is carried out
-abbrev pub CarriesOut : {H Job : Type 0} → Hub Job → Machine H Job → Machine H Job → Outside → Outside → ℕ → ℕ → Deed → Type 0
+abbrev pub CarriesOut : {H Job : Type 0} → Hub Job → Machine H Job → Machine H Job → KeeperState → KeeperState → ℕ → ℕ → Deed → Type 0
 CarriesOut {H} hub old new before now conn job d =
     (r : List MachineEvent) (j : ℕ) → job ≡ suc j → owed r ≡ OwesDeed conn j d → is_there conn r ≡ true → StandsMachine {H = H} hub old r
     → IsCarried {H = H} hub new before now r conn j d
 
-pub named_so : {H Job : Type 0} (hub : Hub Job) (old new : Machine H Job) (before now : Outside) (conn job : ℕ) (d e : Deed) → d ≡ e
+pub named_so : {H Job : Type 0} (hub : Hub Job) (old new : Machine H Job) (before now : KeeperState) (conn job : ℕ) (d e : Deed) → d ≡ e
     → CarriesOut {H = H} hub old new before now conn job e → CarriesOut {H = H} hub old new before now conn job d
 named_so {H} hub old new before now conn job d e is f = subst (λ x. CarriesOut {H = H} hub old new before now conn job x) (sym is) f
 

@@ -31,7 +31,7 @@ use Rattle.hub_machine.specs.Calls.{ClosesOut}
 use Rattle.hub_machine.specs.Delivers.{ChangesAt, ClosesSlow, ClosesSlowAt, Delivers, HasClosedPeer, HasSent, HasSlowed, IsAnswered, Lead, LeadsBy}
 use Rattle.hub_machine.specs.Delivers.{codec_at, codec_of_peer}
 use Rattle.hub_machine.specs.Machines.{IsKeptAs, IsPeerOf, idle_peer_at, peer_at}
-use Rattle.hub_machine.specs.Outside.{spoken_to}
+use Rattle.hub_machine.specs.KeeperState.{spoken_to}
 use Rattle.hub_machine.specs.Spreads.{Delivering}
 use Rattle.hub_machine.proofs.Doing.{KeepsIdleSet, PutsPeer, awake_is, index_stays, is_awake, kept_stays, idle_peer_stays}
 use Rattle.hub_machine.proofs.Ends.{awake_now}

@@ -10,7 +10,7 @@ use Rattle.hub_machine.specs.declared.machine.Machine.{Machine}
 use Rattle.hub_machine.specs.MachineView.{AreUp, machine_view, is_up_in}
 use Rattle.hub_machine.specs.Delivers.{codec_at}
 use Rattle.hub_machine.specs.Machines.{StandsMachine, idle_peer_at, peer_at, settings_there}
-use Rattle.hub_machine.specs.Outside.{spoken_at, spoken_to}
+use Rattle.hub_machine.specs.KeeperState.{spoken_at, spoken_to}
 use Rattle.hub_machine.specs.Spreads.{codecs_among, is_in_codec, is_spoken, one_if}
 use Rattle.hub_machine.proofs.Carry.{up_settings}
 use Rattle.hub_machine.proofs.Deliver.{kept_codec}

@@ -11,7 +11,7 @@ use Rattle.hd_server.specs.Machine.{MachineEvent, Carries, Rounds, Owed, Nothing
 use Rattle.hd_server.specs.Machine.{fates_of, is_there, last_turn, may_turn, moves, owed, settings_of, turn_at, turn_with}
 use Rattle.hub_machine.specs.declared.machine.Machine.{Machine}
 use Rattle.hub_machine.specs.Machines.{StandsMachine}
-use Rattle.hub_machine.specs.Outside.{Outside, GoesWith}
+use Rattle.hub_machine.specs.KeeperState.{KeeperState, HasAnsweredDuring}
 use Rattle.hub_machine.specs.Rounds.{HasHandedUp, HasStepped, HasTurned, InRound, IsCarried, IsCountOfJobs, IsOfRound, Steps, has_turn}
 use Rattle.hub_machine.proofs.Carry.{deed_is_there}
 use Rattle.hub_machine.proofs.Asks.{goes_join, goes_same}
@@ -62,15 +62,15 @@ none_absent k r e = turnless (nat_le (last_turn r) k) (is_there k r) (is_some (t
 -- ---- the loop
 
 -- after so many deeds
-pub record HasPassed {H Job : Type 0} (hub : Hub Job) (new : Machine H Job) (before after : Outside) (now : ℕ) (w r : List MachineEvent) (c n : ℕ) : Type 0 where
+pub record HasPassed {H Job : Type 0} (hub : Hub Job) (new : Machine H Job) (before after : KeeperState) (now : ℕ) (w r : List MachineEvent) (c n : ℕ) : Type 0 where
   pub to : List MachineEvent
   pub stands : StandsMachine hub new to
   pub in_round : InRound now w to c
   pub far : n ≤ passed (moves c to)
   pub same_begun : begun (moves c to) ≡ begun (moves c r)
-  pub goes : GoesWith before after r to
+  pub goes : HasAnsweredDuring before after r to
 
-pub none_passed : {H Job : Type 0} (hub : Hub Job) (m : Machine H Job) (o : Outside) (now : ℕ) (w r : List MachineEvent) (c : ℕ)
+pub none_passed : {H Job : Type 0} (hub : Hub Job) (m : Machine H Job) (o : KeeperState) (now : ℕ) (w r : List MachineEvent) (c : ℕ)
     → StandsMachine {H = H} hub m r → InRound now w r c → HasPassed {H = H} hub m o o now w r c 0
 none_passed hub m o now w r c stands in_round = record {
   to = r;
@@ -86,12 +86,12 @@ abbrev pub StepsFrom : {H Job : Type 0} → Hub Job → Machine H Job → Machin
 StepsFrom {H} hub old new now w c found = (r : List MachineEvent) → StandsMachine {H = H} hub old r → InRound now w r c → Steps {H = H} hub new now w r c found
 
 -- a deed that a job of this number handed up was carried out
-abbrev pub CarriesOut : {H Job : Type 0} → Hub Job → Machine H Job → Machine H Job → Outside → Outside → ℕ → ℕ → Deed → Type 0
+abbrev pub CarriesOut : {H Job : Type 0} → Hub Job → Machine H Job → Machine H Job → KeeperState → KeeperState → ℕ → ℕ → Deed → Type 0
 CarriesOut {H} hub old new before after c number d = (r : List MachineEvent) (j : ℕ) → number ≡ suc j → owed r ≡ OwesDeed c j d → is_there c r ≡ true
     → StandsMachine {H = H} hub old r → IsCarried {H = H} hub new before after r c j d
 
 -- one more deed
-pub one_passed : {H Job : Type 0} (hub : Hub Job) (m s new : Machine H Job) (before mid after : Outside) (now : ℕ) (w r : List MachineEvent) (c n number : ℕ)
+pub one_passed : {H Job : Type 0} (hub : Hub Job) (m s new : Machine H Job) (before mid after : KeeperState) (now : ℕ) (w r : List MachineEvent) (c n number : ℕ)
     (d : Deed) (found : Option (ℕ × Deed)) → AnswersJoin → HasPassed {H = H} hub m before mid now w r c n → StepsFrom {H = H} hub m s now w c found
     → found ≡ Some (number, d) → CarriesOut {H = H} hub s new mid after c number d → HasPassed {H = H} hub new before after now w r c (n + 1)
 one_passed {H} hub m s new before mid after now w r c n number d found law p steps is carries = record {
@@ -116,7 +116,7 @@ one_passed {H} hub m s new before mid after now w r c n number d found law p ste
     alike = carried_alike c c up.job d (fates_of d up.after) carried.asked up.after
 
 -- no job handed up a deed
-pub stepped_past : {H Job : Type 0} (hub : Hub Job) (m new : Machine H Job) (before after : Outside) (now : ℕ) (w r : List MachineEvent) (c n : ℕ)
+pub stepped_past : {H Job : Type 0} (hub : Hub Job) (m new : Machine H Job) (before after : KeeperState) (now : ℕ) (w r : List MachineEvent) (c n : ℕ)
     (found : Option (ℕ × Deed)) → AnswersJoin → HasPassed {H = H} hub m before after now w r c n → StepsFrom {H = H} hub m new now w c found
     → found ≡ None → HasTurned {H = H} hub new before after now w r c
 stepped_past {H} hub m new before after now w r c n found law p steps is = record {
@@ -130,7 +130,7 @@ stepped_past {H} hub m new before after now w r c n found law p steps is = recor
     stepped = subst (λ f. Steps {H = H} hub new now w p.to c f) is (steps p.to p.stands p.in_round)
 
 -- as many deeds as there are jobs
-pub all_passed : {H Job : Type 0} (hub : Hub Job) (m : Machine H Job) (before after : Outside) (now : ℕ) (w r : List MachineEvent) (c n jobs : ℕ)
+pub all_passed : {H Job : Type 0} (hub : Hub Job) (m : Machine H Job) (before after : KeeperState) (now : ℕ) (w r : List MachineEvent) (c n jobs : ℕ)
     → InRound now w r c → IsCountOfJobs c r jobs → jobs ≤ n → HasPassed {H = H} hub m before after now w r c n
     → HasTurned {H = H} hub m before after now w r c
 all_passed hub m before after now w r c n jobs began count enough p = record {

@@ -9,7 +9,7 @@ use Rattle.hd_server.specs.Machine.{MachineEvent, Rounds, has_gone, next_turn, o
 use Rattle.hv_value.specs.SortedSet.{IsFirstPast}
 use Rattle.hub_machine.specs.declared.machine.Machine.{Machine}
 use Rattle.hub_machine.specs.Machines.{StandsMachine}
-use Rattle.hub_machine.specs.Outside.{Outside, GoesWith}
+use Rattle.hub_machine.specs.KeeperState.{KeeperState, HasAnsweredDuring}
 use Rattle.hub_machine.specs.Rounds.{HasRound, HasTurned, InRound, has_turn}
 use Rattle.hub_machine.specs.IdleSet.{is_awake_in}
 use Rattle.hub_machine.proofs.Asks.{goes_join, goes_same}
@@ -18,18 +18,18 @@ use Rattle.hub_machine.proofs.RoundTurned.{none_absent}
 use Rattle.hub_machine.proofs.AsleepHasNoTurn.{unlisted_turnless}
 
 -- the connections up to this one had their turns, after so many that were awake
-pub record HasGone {H Job : Type 0} (hub : Hub Job) (new : Machine H Job) (before after : Outside) (now : ℕ) (w : List MachineEvent)
+pub record HasGone {H Job : Type 0} (hub : Hub Job) (new : Machine H Job) (before after : KeeperState) (now : ℕ) (w : List MachineEvent)
     (passed : ℕ) : Type 0 where
   pub to : List MachineEvent
   pub stands : StandsMachine hub new to
   pub in_round : InRound now w to (suc passed)
-  pub goes : GoesWith before after w to
+  pub goes : HasAnsweredDuring before after w to
 
 -- no connection has the number 0
 none_first : (w : List MachineEvent) → settings_of 0 w ≡ None → has_turn 0 w ≡ false
 none_first w e = none_absent 0 w (ap (λ o. is_some o && not (has_gone 0 w)) e)
 
-pub none_gone : {H Job : Type 0} (hub : Hub Job) (m : Machine H Job) (o : Outside) (now : ℕ) (w : List MachineEvent)
+pub none_gone : {H Job : Type 0} (hub : Hub Job) (m : Machine H Job) (o : KeeperState) (now : ℕ) (w : List MachineEvent)
     → StandsMachine {H = H} hub m (Rounds now ∷ w) → HasGone {H = H} hub m o o now w 0
 none_gone hub m o now w stands = record {
   to = Rounds now ∷ w;
@@ -46,7 +46,7 @@ none_gone hub m o now w stands = record {
 }
 
 -- turns of a connection's jobs lead so from one machine to another
-abbrev pub TurnsFrom : {H Job : Type 0} → Hub Job → Machine H Job → Machine H Job → Outside → Outside → ℕ → List MachineEvent → ℕ → Type 0
+abbrev pub TurnsFrom : {H Job : Type 0} → Hub Job → Machine H Job → Machine H Job → KeeperState → KeeperState → ℕ → List MachineEvent → ℕ → Type 0
 TurnsFrom {H} hub old new before after now w c = (r : List MachineEvent) → StandsMachine {H = H} hub old r → InRound now w r c
     → HasTurned {H = H} hub new before after now w r c
 
@@ -62,7 +62,7 @@ by_first P k first before later = go (nat_le first k) refl
     go true e = later (leb-true first k e)
     go false e = before (leb-false first k e)
 
-module _ {H Job : Type 0} (hub : Hub Job) (tested : TurnsAreTested) (m : Machine H Job) (before mid : Outside) (now : ℕ) (w : List MachineEvent)
+module _ {H Job : Type 0} (hub : Hub Job) (tested : TurnsAreTested) (m : Machine H Job) (before mid : KeeperState) (now : ℕ) (w : List MachineEvent)
     (passed : ℕ) (p : HasGone {H = H} hub m before mid now w passed) where
   -- the round comes to the next connection that is awake: none between has a turn
   comes_to : (c : ℕ) → IsFirstPast passed m.idle_set.awake.numbers.items (Some c) → InRound now w p.to c
@@ -76,7 +76,7 @@ module _ {H Job : Type 0} (hub : Hub Job) (tested : TurnsAreTested) (m : Machine
   }
 
   -- one more connection's jobs had their turns
-  pub one_gone : (new : Machine H Job) (after : Outside) (c : ℕ) (next : Option ℕ) → AnswersJoin → IsNextAwake {H = H} hub m passed next → next ≡ Some c
+  pub one_gone : (new : Machine H Job) (after : KeeperState) (c : ℕ) (next : Option ℕ) → AnswersJoin → IsNextAwake {H = H} hub m passed next → next ≡ Some c
       → TurnsFrom {H = H} hub m new mid after now w c → HasGone {H = H} hub new before after now w c
   one_gone new after c next law is e turns = record {
     to = turned.to;
@@ -98,7 +98,7 @@ module _ {H Job : Type 0} (hub : Hub Job) (tested : TurnsAreTested) (m : Machine
       over = ap next_turn (sym are) ∙ none_next p.to none;
     };
     stands = subst (λ r. StandsMachine {H = H} hub m r) are p.stands;
-    goes = subst (λ r. GoesWith before mid w r) are p.goes;
+    goes = subst (λ r. HasAnsweredDuring before mid w r) are p.goes;
   }
     where
       are : p.to ≡ p.in_round.of_round.since ++ Rounds now ∷ w

@@ -11,7 +11,7 @@ use Rattle.hd_rooms.specs.declared.vocabulary.Asked.{Asked}
 use Rattle.hd_rooms.specs.Kept.{Content}
 use Rattle.hd_server.specs.Machine.{MachineEvent, notice, notice_of}
 use Rattle.hub_machine.specs.declared.machine.Machine.{Machine}
-use Rattle.hub_machine.specs.Outside.{outside}
+use Rattle.hub_machine.specs.KeeperState.{keeper_state}
 use Rattle.hub_machine.specs.Rounds.{IsCarried}
 
 -- a peer that was begun so may answer the deed of its job
@@ -26,9 +26,9 @@ NoticesOf d target arguments = (codec : Codec) → notice_of codec d ≡ Some (n
 -- it is carried out without the keeper, and nothing is spelled
 abbrev pub IsCarriedAlone : {H Job : Type 0} → Hub Job → Machine H Job → List MachineEvent → ℕ → ℕ → Deed → Type 0
 IsCarriedAlone hub new r c j d = (holds : Option Content) (answers : Option (List Asked)) (faults spelled : ℕ)
-    → IsCarried hub new (outside holds answers faults spelled) (outside holds answers faults spelled) r c j d
+    → IsCarried hub new (keeper_state holds answers faults spelled) (keeper_state holds answers faults spelled) r c j d
 
 -- it is carried out without the keeper, while this many messages were spelled before, and this many after it
 abbrev pub IsCarriedSpelling : {H Job : Type 0} → Hub Job → Machine H Job → ℕ → ℕ → List MachineEvent → ℕ → ℕ → Deed → Type 0
 IsCarriedSpelling hub new before now r c j d = (holds : Option Content) (answers : Option (List Asked)) (faults : ℕ)
-    → IsCarried hub new (outside holds answers faults before) (outside holds answers faults now) r c j d
+    → IsCarried hub new (keeper_state holds answers faults before) (keeper_state holds answers faults now) r c j d

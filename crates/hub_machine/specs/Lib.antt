@@ -4,7 +4,7 @@ pub mod Machines
 pub mod MachineView
 pub mod Sleeping
 pub mod Delivers
-pub mod Outside
+pub mod KeeperState
 pub mod Rounds
 pub mod Carrying
 pub mod Calls

@@ -12,7 +12,7 @@ use Rattle.hp_peer.specs.Stands.{OfEach, Stands}
 use Rattle.hub_machine.specs.declared.machine.Machine.{Machine}
 use Rattle.hub_machine.specs.Spreads.{is_listed}
 use Rattle.hub_machine.specs.Machines.{StandsMachine, is_awake_at}
-use Rattle.hub_machine.specs.Outside.{Outside, GoesWith}
+use Rattle.hub_machine.specs.KeeperState.{KeeperState, HasAnsweredDuring}
 
 -- numbers that rise
 abbrev pub AreRising : List ℕ → Type 0
@@ -59,11 +59,11 @@ pub record AtDeed (now : ℕ) (w r : List MachineEvent) (c j : ℕ) (d : Deed) :
   pub last : last_turn r ≡ c
 
 -- the deed is carried out
-pub record IsCarried {H Job : Type 0} (hub : Hub Job) (new : Machine H Job) (before now : Outside) (r : List MachineEvent) (c j : ℕ) (d : Deed) : Type 0 where
+pub record IsCarried {H Job : Type 0} (hub : Hub Job) (new : Machine H Job) (before now : KeeperState) (r : List MachineEvent) (c j : ℕ) (d : Deed) : Type 0 where
   pub asked : Option Asked
   pub is_asked : IsAskedFor d (who_of (settings_of c r)) asked
   pub stands : StandsMachine hub new (Carries c j d (fates_of d r) asked ∷ r)
-  pub goes : GoesWith before now r (Carries c j d (fates_of d r) asked ∷ r)
+  pub goes : HasAnsweredDuring before now r (Carries c j d (fates_of d r) asked ∷ r)
 
 -- jobs of this connection had turns, and none handed up a deed
 pub record HasStepped {H Job : Type 0} (hub : Hub Job) (new : Machine H Job) (now : ℕ) (w r : List MachineEvent) (c : ℕ) : Type 0 where
@@ -71,7 +71,7 @@ pub record HasStepped {H Job : Type 0} (hub : Hub Job) (new : Machine H Job) (no
   pub stands : StandsMachine hub new after
   pub in_round : InRound now w after (suc c)
   pub same_begun : begun (moves c after) ≡ begun (moves c r)
-  pub goes : (o : Outside) → GoesWith o o r after
+  pub goes : (o : KeeperState) → HasAnsweredDuring o o r after
 
 -- until one handed one up: its number, and what
 pub record HasHandedUp {H Job : Type 0} (hub : Hub Job) (new : Machine H Job) (now : ℕ) (w r : List MachineEvent) (c : ℕ) (number : ℕ) (d : Deed) : Type 0 where
@@ -82,22 +82,22 @@ pub record HasHandedUp {H Job : Type 0} (hub : Hub Job) (new : Machine H Job) (n
   pub at_deed : AtDeed now w after c job d
   pub further : passed (moves c r) < passed (moves c after)
   pub same_begun : begun (moves c after) ≡ begun (moves c r)
-  pub goes : (o : Outside) → GoesWith o o r after
+  pub goes : (o : KeeperState) → HasAnsweredDuring o o r after
 
 abbrev pub Steps : {H Job : Type 0} → Hub Job → Machine H Job → ℕ → List MachineEvent → List MachineEvent → ℕ → Option (ℕ × Deed) → Type 0
 Steps hub new now w r c None = HasStepped hub new now w r c
 Steps hub new now w r c (Some (number, d)) = HasHandedUp hub new now w r c number d
 
 -- all jobs of this connection had their turns
-pub record HasTurned {H Job : Type 0} (hub : Hub Job) (new : Machine H Job) (before after : Outside) (now : ℕ) (w r : List MachineEvent) (c : ℕ) : Type 0 where
+pub record HasTurned {H Job : Type 0} (hub : Hub Job) (new : Machine H Job) (before after : KeeperState) (now : ℕ) (w r : List MachineEvent) (c : ℕ) : Type 0 where
   pub to : List MachineEvent
   pub stands : StandsMachine hub new to
   pub in_round : InRound now w to (suc c)
-  pub goes : GoesWith before after r to
+  pub goes : HasAnsweredDuring before after r to
 
 -- a whole round, and what it asked of the keeper
-pub record HasRound {H Job : Type 0} (hub : Hub Job) (new : Machine H Job) (before after : Outside) (now : ℕ) (w : List MachineEvent) : Type 0 where
+pub record HasRound {H Job : Type 0} (hub : Hub Job) (new : Machine H Job) (before after : KeeperState) (now : ℕ) (w : List MachineEvent) : Type 0 where
   pub round : List MachineEvent
   pub is_round : IsRound now round w
   pub stands : StandsMachine hub new (round ++ Rounds now ∷ w)
-  pub goes : GoesWith before after w (round ++ Rounds now ∷ w)
+  pub goes : HasAnsweredDuring before after w (round ++ Rounds now ∷ w)

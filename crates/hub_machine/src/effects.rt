@@ -13,7 +13,7 @@ ghost use Rattle.hj_jobs.specs.Meaning.{meaning};
 ghost use Rattle.hub_machine.specs.Machines.{StandsMachine};
 ghost use Rattle.hub_machine.specs.MachineView.{MachineView, AreSame, AreUp, StandsFor, fates_in, moved, told};
 ghost use Rattle.hub_machine.specs.Delivers.{codec_at};
-ghost use Rattle.hub_machine.specs.Outside.{outside};
+ghost use Rattle.hub_machine.specs.KeeperState.{keeper_state};
 ghost use Rattle.hub_machine.specs.Rounds.{IsCarried};
 ghost use Rattle.hub_machine.specs.Carrying.{AnswersAt, IsCarriedAlone, IsCarriedSpelling, NoticesOf};
 ghost use Rattle.hub_machine.specs.Spreads.{codecs_among};
@@ -42,8 +42,8 @@ impl<H: Hub> Machine<H> {
     ) -> Result<(), AllocError>
         ensures { OnOk result ((r : List MachineEvent) (j : ℕ) → job ≡ suc j → owed r ≡ OwesDeed conn j deed → is_there conn r ≡ true →
             StandsMachine (meaning H.begin_of H.step_of) self.old r → IsCarried (meaning H.begin_of H.step_of) self.new
-            (outside (K.holds keeper.old) (K.answers keeper.old) (K.faults keeper.old) steps.old)
-            (outside (K.holds keeper.new) (K.answers keeper.new) (K.faults keeper.new) steps.new) r conn j deed) }
+            (keeper_state (K.holds keeper.old) (K.answers keeper.old) (K.faults keeper.old) steps.old)
+            (keeper_state (K.holds keeper.new) (K.answers keeper.new) (K.faults keeper.new) steps.new) r conn j deed) }
     {
         match deed {
             Deed::Join(group) => self.join(alloc, conn, job, &group),
@@ -140,8 +140,8 @@ impl<H: Hub> Machine<H> {
         ensures { OnOk result ((r : List MachineEvent) (j : ℕ) → job ≡ suc j → owed r ≡ OwesDeed conn j (deed.Log room.now text.now) → is_there conn r ≡ true →
             StandsMachine (meaning H.begin_of H.step_of) self.old r → (spelled : ℕ) →
             IsCarried (meaning H.begin_of H.step_of) self.new
-            (outside (K.holds keeper.old) (K.answers keeper.old) (K.faults keeper.old) spelled)
-            (outside (K.holds keeper.new) (K.answers keeper.new) (K.faults keeper.new) spelled) r conn j (deed.Log room.now text.now)) }
+            (keeper_state (K.holds keeper.old) (K.answers keeper.old) (K.faults keeper.old) spelled)
+            (keeper_state (K.holds keeper.new) (K.answers keeper.new) (K.faults keeper.new) spelled) r conn j (deed.Log room.now text.now)) }
     {
         let Some(peer) = self.peers.get(&conn) else {
             return Ok(());
@@ -172,8 +172,8 @@ impl<H: Hub> Machine<H> {
         ensures { OnOk result ((r : List MachineEvent) (j : ℕ) → job ≡ suc j → owed r ≡ OwesDeed conn j (deed.History room.now most) → is_there conn r ≡ true →
             StandsMachine (meaning H.begin_of H.step_of) self.old r → (spelled : ℕ) →
             IsCarried (meaning H.begin_of H.step_of) self.new
-            (outside (K.holds keeper.old) (K.answers keeper.old) (K.faults keeper.old) spelled)
-            (outside (K.holds keeper.new) (K.answers keeper.new) (K.faults keeper.new) spelled) r conn j (deed.History room.now most)) }
+            (keeper_state (K.holds keeper.old) (K.answers keeper.old) (K.faults keeper.old) spelled)
+            (keeper_state (K.holds keeper.new) (K.answers keeper.new) (K.faults keeper.new) spelled) r conn j (deed.History room.now most)) }
     {
         match keeper.history(alloc, room, most) {
             Ok(texts) => {

@@ -6,7 +6,7 @@ ghost use Rattle.std.specs.BTreeMap.{btree_map_len};
 ghost use Rattle.hd_server.specs.Machine.{first_turn, MachineEvent, Rounds};
 ghost use Rattle.hj_jobs.specs.Meaning.{meaning};
 ghost use Rattle.hub_machine.specs.Machines.{StandsMachine, idle_peer_at, peer_at};
-ghost use Rattle.hub_machine.specs.Outside.{outside};
+ghost use Rattle.hub_machine.specs.KeeperState.{keeper_state};
 ghost use Rattle.hub_machine.specs.Rounds.{AreNumbers, HasBegun, HasRound, HasTurned, InRound, IsCountOfJobs, Steps as StepsTo, has_turn};
 
 use crate::machine::Machine;
@@ -32,8 +32,8 @@ impl<H: Hub> Machine<H> {
         now: u64,
     ) -> Result<(), AllocError>
         ensures { OnOk result ((w : List MachineEvent) → StandsMachine (meaning H.begin_of H.step_of) self.old w → HasRound (meaning H.begin_of H.step_of) self.new
-            (outside (K.holds keeper.old) (K.answers keeper.old) (K.faults keeper.old) steps.old)
-            (outside (K.holds keeper.new) (K.answers keeper.new) (K.faults keeper.new) steps.new) now w) }
+            (keeper_state (K.holds keeper.old) (K.answers keeper.old) (K.faults keeper.old) steps.old)
+            (keeper_state (K.holds keeper.new) (K.answers keeper.new) (K.faults keeper.new) steps.new) now w) }
     {
         hd_rooms::answers_join();
         turns_are_tested();
@@ -110,8 +110,8 @@ impl<H: Hub> Machine<H> {
     ) -> Result<(), AllocError>
         ensures { OnOk result ((w r : List MachineEvent) → StandsMachine (meaning H.begin_of H.step_of) self.old r → InRound now w r conn →
             HasTurned (meaning H.begin_of H.step_of) self.new
-            (outside (K.holds keeper.old) (K.answers keeper.old) (K.faults keeper.old) steps.old)
-            (outside (K.holds keeper.new) (K.answers keeper.new) (K.faults keeper.new) steps.new) now w r conn) }
+            (keeper_state (K.holds keeper.old) (K.answers keeper.old) (K.faults keeper.old) steps.old)
+            (keeper_state (K.holds keeper.new) (K.answers keeper.new) (K.faults keeper.new) steps.new) now w r conn) }
     {
         // Each deed takes the round past one job more, so after as many deeds as there are jobs none is left.
         hd_rooms::answers_join();

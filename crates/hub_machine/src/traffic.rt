@@ -44,7 +44,7 @@ impl<H: Hub> Machine<H> {
     }
 
     /// Whether it is open, and kept when its link is lost.
-    pub fn is_granted(&self, conn: u64) -> bool
+    pub fn may_resume(&self, conn: u64) -> bool
         ensures there { OfConn (meaning H.begin_of H.step_of) self.now conn (λ w t h. result ≡ (not (is_shut t h) && is_resumable t.config (steps t h))) }
         ensures absent { peer_at self.now conn ≡ Absent → result ≡ false }
     {

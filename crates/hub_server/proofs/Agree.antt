@@ -14,11 +14,11 @@ use Rattle.hd_rooms.specs.Registry.{Lists, Pair, without}
 use Rattle.hg_groups.specs.Standing.{StandsRegistry}
 use Rattle.hd_server.specs.declared.vocabulary.Said.{Said}
 use Rattle.hd_server.specs.declared.vocabulary.Said.TheVariants as say
-use Rattle.hd_server.specs.Lives.{LaneLost, LetGo, ConnectionEvent, is_let_go, socket_of}
+use Rattle.hd_server.specs.Lives.{LaneLost, LetGo, ConnectionEvent, is_removed, socket_of}
 use Rattle.hd_server.specs.Machine.{Does, Goes, has_gone, is_open, is_open_at, joined, moves, of_open, registry, settings_of, user_pairs}
-use Rattle.hd_server.specs.Doings.{ServerEvent, Notes, Works, Says, notes, work, moment, said, user_of, config_of, has_peer, history, is_granted}
+use Rattle.hd_server.specs.Doings.{ServerEvent, Notes, Works, Says, notes, work, moment, said, user_of, config_of, has_peer, history, may_resume}
 use Rattle.hd_server.specs.Doings.{was_refused}
-use Rattle.hd_server.specs.Plans.{Setup, letting_go, losing, onto, shutting}
+use Rattle.hd_server.specs.Plans.{Setup, removing_conn, losing, onto, shutting}
 use Rattle.hd_server.specs.Serves.{silenced, ticking}
 use Rattle.hn_server_front.specs.Stands as front
 use Rattle.hub_machine.specs.declared.machine.Machine.{Machine}
@@ -126,9 +126,9 @@ machine_agrees {H} hub m g h x s = let r : SameButMoves g h = x.rest in record {
 
 caller_same : (c : ℕ) (g h : List ServerEvent) → SameButMoves g h → caller_of c g ≡ caller_of c h
 caller_same c g h r =
-    ap (λ (o : Option Settings). if is_some o || is_let_go c (notes g) then None else user_of c g) (r.settings c)
-    ∙ ap (λ (n : List ConnectionEvent). if is_some (settings_of c (work h)) || is_let_go c n then None else user_of c g) r.noted
-    ∙ ap (λ (user : Option (List ℕ)). if is_some (settings_of c (work h)) || is_let_go c (notes h) then None else user) (r.user c)
+    ap (λ (o : Option Settings). if is_some o || is_removed c (notes g) then None else user_of c g) (r.settings c)
+    ∙ ap (λ (n : List ConnectionEvent). if is_some (settings_of c (work h)) || is_removed c n then None else user_of c g) r.noted
+    ∙ ap (λ (user : Option (List ℕ)). if is_some (settings_of c (work h)) || is_removed c (notes h) then None else user) (r.user c)
 
 pub has_peer_same : (c : ℕ) (g h : List ServerEvent) → SameButMoves g h → has_peer c g ≡ has_peer c h
 has_peer_same c g h r =
@@ -207,12 +207,12 @@ ticking_parts now c h =
     parts_either c (is_some (present_link (history c h))) _ []
     (parts_either c (is_silence (config_of c h) now (history c h)) _ _ (silent (socket_of c (notes h))) (refl, tt)) tt
   where
-    goes : AreParts c (letting_go c h)
+    goes : AreParts c (removing_conn c h)
     goes = parts_join c (if has_peer c h then Works (Goes c) ∷ [] else []) (Notes (LetGo c) ∷ [])
         (parts_either c (has_peer c h) (Works (Goes c) ∷ []) [] (tt, tt) tt) (tt, tt)
 
     loses : (lane : ℕ) → AreParts c (losing c lane now h)
-    loses lane = parts_either c (is_granted c h) (Notes (LaneLost c lane now) ∷ []) (letting_go c h) (tt, tt) goes
+    loses lane = parts_either c (may_resume c h) (Notes (LaneLost c lane now) ∷ []) (removing_conn c h) (tt, tt) goes
 
     silent : (o : Option ℕ) → AreParts c (silenced c o now h)
     silent None = (refl, tt)

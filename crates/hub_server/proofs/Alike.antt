@@ -11,11 +11,11 @@ use Rattle.hd_rooms.specs.declared.vocabulary.Asked.{Asked}
 use Rattle.hw_door.specs.declared.heard.Event.{Event}
 use Rattle.hd_server.specs.declared.vocabulary.Said.{Said}
 use Rattle.hd_server.specs.Lives.{ConnectionEvent, Negotiated, Opened, Socketed, Polled, Answered, LaneLost, Ended, Expired, LetGo}
-use Rattle.hd_server.specs.Lives.{made, is_made, is_let_go, socket_of, lost_at, poll_of, poll_ended, ended_at, only_polls, ends_then}
+use Rattle.hd_server.specs.Lives.{made, is_made, is_removed, socket_of, lost_at, poll_of, poll_ended, ended_at, only_polls, ends_then}
 use Rattle.hd_server.specs.Machine.{Connects, Does, Goes, settings_of, has_gone, is_open_at, moves}
 use Rattle.hd_server.specs.Doings.{ServerEvent, Hears, Learns, Draws, Notes, Works, Says}
 use Rattle.hd_server.specs.Doings.{notes, work, moment, name_now, user_of, history, history_with, config_of, config_with, has_peer, is_up}
-use Rattle.hd_server.specs.Doings.{is_granted}
+use Rattle.hd_server.specs.Doings.{may_resume}
 use Rattle.hub_server.specs.Lanes.{Unsettled, is_at, poll_lane}
 use Rattle.hub_server.specs.Servers.{IsOrderly, IsRested, caller_of}
 use Rattle.hub_server.specs.Connections.{IsKnown}
@@ -26,7 +26,7 @@ pub record Alike (c : ℕ) (g h : List ServerEvent) : Type 0 where
   pub gone : has_gone c (work g) ≡ has_gone c (work h)
   pub moves : moves c (work g) ≡ moves c (work h)
   pub made : is_made c (notes g) ≡ is_made c (notes h)
-  pub let_go : is_let_go c (notes g) ≡ is_let_go c (notes h)
+  pub let_go : is_removed c (notes g) ≡ is_removed c (notes h)
   pub socket : socket_of c (notes g) ≡ socket_of c (notes h)
   pub lost : lost_at c (notes g) ≡ lost_at c (notes h)
   pub poll : poll_of c (notes g) ≡ poll_of c (notes h)
@@ -42,7 +42,7 @@ alike_noted c g h settings gone moved noted user = record {
   gone = gone;
   moves = moved;
   made = ap (is_made c) noted;
-  let_go = ap (is_let_go c) noted;
+  let_go = ap (is_removed c) noted;
   socket = ap (socket_of c) noted;
   lost = ap (lost_at c) noted;
   poll = ap (poll_of c) noted;
@@ -100,7 +100,7 @@ see settings gone moves made let_go socket lost poll polled ended user = record 
 }
 
 abbrev seen : ℕ → List ServerEvent → Seen
-seen c h = see (settings_of c (work h)) (has_gone c (work h)) (moves c (work h)) (is_made c (notes h)) (is_let_go c (notes h)) (socket_of c (notes h))
+seen c h = see (settings_of c (work h)) (has_gone c (work h)) (moves c (work h)) (is_made c (notes h)) (is_removed c (notes h)) (socket_of c (notes h))
     (lost_at c (notes h)) (poll_of c (notes h)) (poll_ended c (notes h)) (ended_at c (notes h)) (user_of c h)
 
 same_seen : (c : ℕ) (g h : List ServerEvent) → Alike c g h → seen c g ≡ seen c h
@@ -146,7 +146,7 @@ history_alike c g h x = ap past (same_seen c g h x)
 pub config_alike : (c : ℕ) (g h : List ServerEvent) → Alike c g h → config_of c g ≡ config_of c h
 config_alike c g h x = ap config (same_seen c g h x)
 
-pub granted_alike : (c : ℕ) (g h : List ServerEvent) → Alike c g h → is_granted c g ≡ is_granted c h
+pub granted_alike : (c : ℕ) (g h : List ServerEvent) → Alike c g h → may_resume c g ≡ may_resume c h
 granted_alike c g h x = ap (λ (y : Seen). up y && is_resumable (config y) (past y)) (same_seen c g h x)
 
 pub orderly_alike : (u : Unsettled) (c : ℕ) (g h : List ServerEvent) → Alike c g h → moment h ≤ moment g → IsOrderly u c h → IsOrderly u c g
@@ -239,9 +239,9 @@ made_other (Negotiated k token reconnect now) c h e is = ap (λ b. nat_lt 0 c &&
 made_other (Opened k now) c h e is = ap (λ b. nat_lt 0 c && b) (next_made c k (made h) e is)
 made_other _ c h e is = refl
 
-let_go_other : (n : ConnectionEvent) (c : ℕ) (h : List ConnectionEvent) → (c == about n) ≡ false → is_let_go c (n ∷ h) ≡ is_let_go c h
-let_go_other (Expired k now) c h e = ap (λ b. (b && not (ends_then c h)) || is_let_go c h) e
-let_go_other (LetGo k) c h e = ap (λ b. b || is_let_go c h) e
+let_go_other : (n : ConnectionEvent) (c : ℕ) (h : List ConnectionEvent) → (c == about n) ≡ false → is_removed c (n ∷ h) ≡ is_removed c h
+let_go_other (Expired k now) c h e = ap (λ b. (b && not (ends_then c h)) || is_removed c h) e
+let_go_other (LetGo k) c h e = ap (λ b. b || is_removed c h) e
 let_go_other _ c h e = refl
 
 socket_other : (n : ConnectionEvent) (c : ℕ) (h : List ConnectionEvent) → (c == about n) ≡ false → socket_of c (n ∷ h) ≡ socket_of c h

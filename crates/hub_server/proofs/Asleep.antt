@@ -13,8 +13,8 @@ use Rattle.hd_server.specs.Lives.{ended_at, is_polling, numbers_to, poll_of, soc
 use Rattle.hd_server.specs.Machine.{MachineEvent, greatest, is_there, moves}
 use Rattle.hd_server.specs.Doings.{ServerEvent, Notes, config_of, has_closed, has_peer, history, moment, notes, work}
 use Rattle.hd_server.specs.Lives.{Answered, Ended}
-use Rattle.hd_server.specs.Plans.{Setup, bare_reply, letting_go, replying, shutting}
-use Rattle.hd_server.specs.Serves.{AreAllDue, AreDueOn, all_telling, ending, telling, telling_on, telling_poll_some}
+use Rattle.hd_server.specs.Plans.{Setup, bare_reply, removing_conn, replying, shutting}
+use Rattle.hd_server.specs.Serves.{AreAllDue, AreDueOn, all_flushing, ending, flushing, flushing_on, flushing_some_poll}
 use Rattle.hp_peer.specs.declared.peer.Peer.{Peer}
 use Rattle.hub_machine.specs.declared.machine.Machine.{Machine}
 use Rattle.hub_machine.specs.declared.idle_set.IdlePeer.{IdlePeer}
@@ -88,7 +88,7 @@ awake_are {H} {Job} law hub m w conns s numbers =
 -- nothing is due on the connection, and nothing is said
 pub record IsMute (s : Setup) (c : ℕ) (h : List ServerEvent) : Type 0 where
   pub due : AreDueOn s c (socket_of c (notes h)) (poll_of c (notes h)) [] h
-  pub silent : telling s (moment h) c [] h ≡ []
+  pub silent : flushing s (moment h) c [] h ≡ []
   pub rested : IsRested c h
 
 neither : {A : Type 0} (b : Bool) (xs : List A) → b ≡ false → (if b then xs else []) ≡ []
@@ -124,10 +124,10 @@ mute_asleep s m c h z there held = record {
     due_by None (Some p) = inl none
     due_by None None = refl
 
-    poll_by : (p : Option (ℕ × ℕ)) → poll_of c (notes h) ≡ p → telling_poll_some s (moment h) c p [] h ≡ []
+    poll_by : (p : Option (ℕ × ℕ)) → poll_of c (notes h) ≡ p → flushing_some_poll s (moment h) c p [] h ≡ []
     poll_by None e = refl
     poll_by (Some p) e =
-        ap (λ (b : Bool). if b then replying p.0 (bare_reply 204) h ++ letting_go c h
+        ap (λ (b : Bool). if b then replying p.0 (bare_reply 204) h ++ removing_conn c h
         else (if nat_le (p.1 + held_for) (moment h) then replying p.0 (bare_reply 200) h ++ Notes (Answered c p.0 (moment h)) ∷ [] else [])) closed
         ∙ neither (nat_le (p.1 + held_for) (moment h)) (replying p.0 (bare_reply 200) h ++ Notes (Answered c p.0 (moment h)) ∷ []) (held p.0 p.1 e)
 
@@ -138,14 +138,14 @@ mute_asleep s m c h z there held = record {
     either true xs ys e f = e
     either false xs ys e f = f
 
-    silent_by : (o : Option ℕ) → telling_on s (moment h) c o [] h ≡ []
-    silent_by (Some lane) = neither (has_closed c h) (shutting lane h ++ letting_go c h) closed
+    silent_by : (o : Option ℕ) → flushing_on s (moment h) c o [] h ≡ []
+    silent_by (Some lane) = neither (has_closed c h) (shutting lane h ++ removing_conn c h) closed
     silent_by None =
-        either (is_polling c (notes h)) (ending (moment h) c h ++ telling_poll_some s (moment h) c (poll_of c (notes h)) [] h)
-        (if has_closed c h then letting_go c h else [])
-        (ap (λ (xs : List ServerEvent). xs ++ telling_poll_some s (moment h) c (poll_of c (notes h)) [] h) unending
+        either (is_polling c (notes h)) (ending (moment h) c h ++ flushing_some_poll s (moment h) c (poll_of c (notes h)) [] h)
+        (if has_closed c h then removing_conn c h else [])
+        (ap (λ (xs : List ServerEvent). xs ++ flushing_some_poll s (moment h) c (poll_of c (notes h)) [] h) unending
         ∙ poll_by (poll_of c (notes h)) refl)
-        (neither (has_closed c h) (letting_go c h) closed)
+        (neither (has_closed c h) (removing_conn c h) closed)
 
 -- of one that would be awake if its poll was held for as long as it may be
 pub not_held : {H Job : Type 0} (m : Machine H Job) (c : ℕ) (h : List ServerEvent) → IsAsleep {H = H} m c (work h) → (since : ℕ)
@@ -160,7 +160,7 @@ not_held m c h z since awake =
 pub record SaidByAll (s : Setup) (h : List ServerEvent) (all some : List ℕ) (pieces : List (List (List LinkFrame))) : Type 0 where
   pub whole : List (List (List LinkFrame))
   pub due : AreAllDue s all whole h
-  pub same : all_telling s (moment h) all whole h ≡ all_telling s (moment h) some pieces h
+  pub same : all_flushing s (moment h) all whole h ≡ all_flushing s (moment h) some pieces h
 
 pub said_by_all : (s : Setup) (h : List ServerEvent) (q p : ℕ → Bool) (cs : List ℕ) (pieces : List (List (List LinkFrame)))
     → ((k : ℕ) → p k ≡ true → q k ≡ true) → ((k : ℕ) → q k ≡ true → p k ≡ false → IsMute s k h) → AreAllDue s (filter p cs) pieces h
@@ -178,12 +178,12 @@ said_by_all s h q p (c ∷ cs) pieces among mute x =
     by true e true f (one ∷ more) y rest = let r = rest more y.1 in record {
       whole = one ∷ r.whole;
       due = (y.0, r.due);
-      same = ap (λ (xs : List ServerEvent). telling s (moment h) c one h ++ xs) r.same;
+      same = ap (λ (xs : List ServerEvent). flushing s (moment h) c one h ++ xs) r.same;
     }
     by true e false f pieces y rest = let r = rest pieces y in let silence : IsMute s c h = mute c e f in record {
       whole = [] ∷ r.whole;
       due = (silence.due, r.due);
-      same = ap (λ (xs : List ServerEvent). xs ++ all_telling s (moment h) (filter q cs) r.whole h) silence.silent ∙ r.same;
+      same = ap (λ (xs : List ServerEvent). xs ++ all_flushing s (moment h) (filter q cs) r.whole h) silence.silent ∙ r.same;
     }
     by false e true f pieces y rest = absurd (both_ways (q c) e (among c f))
     by false e false f pieces y rest = let r = rest pieces y in record { whole = r.whole; due = r.due; same = r.same }

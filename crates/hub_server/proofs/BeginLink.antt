@@ -15,7 +15,7 @@ use Rattle.hd_server.specs.declared.vocabulary.Said.{Said}
 use Rattle.hd_server.specs.Lives.{is_made, is_polling}
 use Rattle.hd_server.specs.Machine.{MachineEvent, Connects, Does, has_gone, is_open_at, moves, settings_of}
 use Rattle.hd_server.specs.Doings.{ServerEvent, Works, notes, work, moment, config_of, config_with}
-use Rattle.hd_server.specs.Doings.{has_peer, history, history_with, is_granted, is_up, peer, user_of}
+use Rattle.hd_server.specs.Doings.{has_peer, history, history_with, may_resume, is_up, peer, user_of}
 use Rattle.hd_server.specs.Plans.{Setup, connecting, onto, peer_settings, step}
 use Rattle.hub_machine.specs.declared.machine.Machine.{Machine}
 use Rattle.hub_server.specs.declared.server.Server.{Server}
@@ -138,7 +138,7 @@ attached {H} {Job} hub u old new k now h r ok closed plain s o there opens clock
 
 -- ---- one that may stand on a link
 
-granted_open : (k : ℕ) (h : List ServerEvent) → is_granted k h ≡ true → IsOpen k h
+granted_open : (k : ℕ) (h : List ServerEvent) → may_resume k h ≡ true → IsOpen k h
 granted_open k h e t is =
     let parts = and_parts (is_up k h) (is_resumable (config_of k h) (history k h)) e in
     let up = and_parts (not (has_gone k (work h))) (is_open_at (settings_of k (work h)) (moves k (work h))) parts.0 in
@@ -211,7 +211,7 @@ nothing (Some x) e = absurd (both_ways true e refl)
 
 pub granted_is : {H Job : Type 0} (hub : Hub Job) (m : Machine H Job) (k : ℕ) (h : List ServerEvent) (r : Bool)
     → OfConn {H = H} hub m k (λ w t h. r ≡ (not (is_shut t h) && is_resumable t.config (steps t h))) → (peer_at m k ≡ None → r ≡ false)
-    → StandsMachine {H = H} hub m (work h) → r ≡ is_granted k h
+    → StandsMachine {H = H} hub m (work h) → r ≡ may_resume k h
 granted_is {H} {Job} hub m k h r there absent s = go (has_peer k h) refl
   where
     of_settings : Option Settings → Bool
@@ -222,7 +222,7 @@ granted_is {H} {Job} hub m k h r there absent s = go (has_peer k h) refl
         (ap (λ o. is_open_at o (moves k (work h))) (nothing (settings_of k (work h)) e))
     down (inr e) = and_left (not (has_gone k (work h))) (is_open_at (settings_of k (work h)) (moves k (work h))) e
 
-    go : (b : Bool) → has_peer k h ≡ b → r ≡ is_granted k h
+    go : (b : Bool) → has_peer k h ≡ b → r ≡ may_resume k h
     go true e =
         let begun = settings_if k (work h) e in
         let t : Settings = begun.0 in

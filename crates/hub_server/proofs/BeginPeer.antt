@@ -20,7 +20,7 @@ use Rattle.hd_calls.specs.Hubs.{Hub}
 use Rattle.hd_calls.specs.Peers.{Settings, steps, waiting}
 use Rattle.hd_server.specs.declared.vocabulary.Said.{Said}
 use Rattle.hd_server.specs.Numbers.{most_frame, most_held, most_held_bytes}
-use Rattle.hd_server.specs.Lives.{socket_of, lost_at, poll_of, poll_ended, is_let_go, is_polling, made}
+use Rattle.hd_server.specs.Lives.{socket_of, lost_at, poll_of, poll_ended, is_removed, is_polling, made}
 use Rattle.hd_server.specs.Machine.{MachineEvent, Connects, has_gone, is_there, moves, settings_of}
 use Rattle.hd_server.specs.Doings.{ServerEvent, Works, notes, work, moment, config_of, has_peer, history, history_with, user_of}
 use Rattle.hd_server.specs.Plans.{Setup, connecting, onto, peer_settings}
@@ -65,7 +65,7 @@ fresh u k h known o e = go (settings_of k (work h)) refl
   where
     go : (x : Option Settings) → settings_of k (work h) ≡ x → settings_of k (work h) ≡ None
     go None f = f
-    go (Some t) f = absurd (both_ways (is_let_go k (notes h)) known.held (o.gone (ap (λ (x : Option Settings). is_some x) f) e))
+    go (Some t) f = absurd (both_ways (is_removed k (notes h)) known.held (o.gone (ap (λ (x : Option Settings). is_some x) f) e))
 
 -- nothing was noted of it but that it was made
 pub unused_parts : (s l : Option ℕ) (p : Option (ℕ × ℕ)) (e : Option ℕ) → (is_some s || is_some l || (is_some p || is_some e)) ≡ false
@@ -169,8 +169,8 @@ module _ {H Job : Type 0} (hub : Hub Job) (s : Setup) (before : List Said) (old 
       → get nat_cmp callers c ≡ caller_of c g
   caller_each callers updates c true e =
       ap (get nat_cmp callers) (eqb-true c k e) ∙ updates.1
-      ∙ sym (cond-true (is_some (settings_of k (work g)) || is_let_go k (notes h)) None user
-      (or_left (is_some (settings_of k (work g))) (is_let_go k (notes h)) begun_now))
+      ∙ sym (cond-true (is_some (settings_of k (work g)) || is_removed k (notes h)) None user
+      (or_left (is_some (settings_of k (work g))) (is_removed k (notes h)) begun_now))
       ∙ ap (λ n. caller_of n g) (sym (eqb-true c k e))
   caller_each callers updates c false e =
       updates.2 c (unsigned_tied k c ∙ turned c k e) ∙ st.callers c ∙ sym (caller_alike c g h (alike_connects c k t user h e))
@@ -213,8 +213,8 @@ module _ {H Job : Type 0} (hub : Hub Job) (s : Setup) (before : List Said) (old 
 
 -- by whom it is called
 called_by : (u : Unsettled) (k : ℕ) (h : List ServerEvent) → IsKnown k h → settings_of k (work h) ≡ None → caller_of k h ≡ user_of k h
-called_by u k h known new = cond-false (is_some (settings_of k (work h)) || is_let_go k (notes h)) None (user_of k h)
-    (or_from (is_some (settings_of k (work h))) (is_let_go k (notes h)) (ap (λ (x : Option Settings). is_some x) new) known.held)
+called_by u k h known new = cond-false (is_some (settings_of k (work h)) || is_removed k (notes h)) None (user_of k h)
+    (or_from (is_some (settings_of k (work h))) (is_removed k (notes h)) (ap (λ (x : Option Settings). is_some x) new) known.held)
 
 -- its settings
 as_begun : (s : Setup) (base : List ℕ) (k : ℕ) (resumable : Bool) (limits : Limits) (who : List ℕ) (name : Option (List ℕ)) → IsSetup s base

@@ -12,7 +12,7 @@ use Rattle.hd_calls.specs.Hubs.{Hub}
 use Rattle.hd_calls.specs.Peers.{Plain}
 use Rattle.hd_server.specs.declared.vocabulary.Said.{Said}
 use Rattle.hd_server.specs.declared.vocabulary.Said.TheVariants as say
-use Rattle.hd_server.specs.Lives.{ConnectionEvent, Socketed, socket_of, lost_at, poll_of, poll_ended, is_let_go, is_made, is_polling}
+use Rattle.hd_server.specs.Lives.{ConnectionEvent, Socketed, socket_of, lost_at, poll_of, poll_ended, is_removed, is_made, is_polling}
 use Rattle.hd_server.specs.Machine.{Does, settings_of}
 use Rattle.hd_server.specs.Doings.{ServerEvent, Notes, Says, notes, work, moment, awaits_reply, has_peer, history, is_upgraded, wants_shut}
 use Rattle.hd_server.specs.Plans.{PendingRequest, Setup, attaching, connecting, onto, replying, shutting, socket_reply, standing_on, step}
@@ -63,20 +63,20 @@ standing_list s o k resumable h n at now accept count when where_at upgrade =
 
 -- ---- the lane on which it stood
 
-lane_is : (o : Option ℕ) (k : ℕ) (n : List ConnectionEvent) → o ≡ calls.lane_of k n → is_made k n ≡ true → is_let_go k n ≡ false → o ≡ socket_of k n
+lane_is : (o : Option ℕ) (k : ℕ) (n : List ConnectionEvent) → o ≡ calls.lane_of k n → is_made k n ≡ true → is_removed k n ≡ false → o ≡ socket_of k n
 lane_is o k n e made held =
-    e ∙ cond-true (is_made k n && not (is_let_go k n)) (socket_of k n) None (and_from (is_made k n) (not (is_let_go k n)) made (ap not held))
+    e ∙ cond-true (is_made k n && not (is_removed k n)) (socket_of k n) None (and_from (is_made k n) (not (is_removed k n)) made (ap not held))
 
 pub cuts_socket : {H Job : Type 0} (k : ℕ) (n : List ConnectionEvent) (o : Option ℕ) (l : ℕ) (old mid : Server H Job) (lanes : BTreeMap ℕ Lane)
     → o ≡ calls.lane_of k n
-    → is_made k n ≡ true → is_let_go k n ≡ false → o ≡ Some l → Updates nat_cmp old.lanes lanes l None → mid ≡ record old { lanes = lanes }
+    → is_made k n ≡ true → is_removed k n ≡ false → o ≡ Some l → Updates nat_cmp old.lanes lanes l None → mid ≡ record old { lanes = lanes }
     → CutsLane {H = H} {Job = Job} (socket_of k n) old mid
 cuts_socket {H} {Job} k n o l old mid lanes e made held is updates same =
     subst (λ x. CutsLane {H = H} {Job = Job} x old mid) (sym is ∙ lane_is o k n e made held)
     (cut_some {H = H} {Job = Job} l old mid lanes updates same)
 
 pub cuts_unsocketed : {H Job : Type 0} (k : ℕ) (n : List ConnectionEvent) (o : Option ℕ) (old mid : Server H Job) → o ≡ calls.lane_of k n
-    → is_made k n ≡ true → is_let_go k n ≡ false → o ≡ None → mid ≡ old → CutsLane {H = H} {Job = Job} (socket_of k n) old mid
+    → is_made k n ≡ true → is_removed k n ≡ false → o ≡ None → mid ≡ old → CutsLane {H = H} {Job = Job} (socket_of k n) old mid
 cuts_unsocketed {H} {Job} k n o old mid e made held is same =
     subst (λ x. CutsLane {H = H} {Job = Job} x old mid) (sym is ∙ lane_is o k n e made held) (cut_none {H = H} {Job = Job} old mid same)
 

@@ -12,7 +12,7 @@ use Rattle.hd_delivery.specs.Histories.{is_closed, is_resumable, is_this, link_c
 use Rattle.hd_delivery.specs.Processes.{processes, next_frame, next_number, reads}
 use Rattle.hd_delivery.specs.Bytes.{Does as Step_of}
 use Rattle.hd_calls.specs.Peers.{PeerEvent, Plain, Settings, steps, waiting}
-use Rattle.hd_server.specs.Lives.{ended_at, is_let_go, is_made, is_polling, lost_at, socket_of}
+use Rattle.hd_server.specs.Lives.{ended_at, is_removed, is_made, is_polling, lost_at, socket_of}
 use Rattle.hd_server.specs.Machine.{MachineEvent, Does, has_gone, moves, settings_of}
 use Rattle.hd_server.specs.Doings.{ServerEvent, notes, work, moment, peer, history, history_with, config_of, config_with, has_peer}
 use Rattle.hd_server.specs.Plans.{onto, step}
@@ -240,8 +240,8 @@ orderly_by : (u : Unsettled) (c : ℕ) (g h : List ServerEvent) → settings_of 
     → IsOrderly u c h → IsOrderly u c g
 orderly_by u c g h same gone noted waits later left linked unlinked x = record {
   made = λ e. subst (λ n. is_made c n ≡ true) (sym noted) (x.made (sym (ap is_some same) ∙ e));
-  there = λ e. subst (λ n. is_let_go c n ≡ false) (sym noted) (x.there (sym there ∙ e));
-  gone = λ e f. subst (λ n. is_let_go c n ≡ true) (sym noted) (x.gone (sym (ap is_some same) ∙ e) (sym there ∙ f));
+  there = λ e. subst (λ n. is_removed c n ≡ false) (sym noted) (x.there (sym there ∙ e));
+  gone = λ e f. subst (λ n. is_removed c n ≡ true) (sym noted) (x.gone (sym (ap is_some same) ∙ e) (sym there ∙ f));
   one_way = subst (λ n. ((is_some (socket_of c n) || is_some (lost_at c n)) && is_polling c n) ≡ false) (sym noted) x.one_way;
   ended = λ e. subst (λ n. is_polling c n ≡ true) (sym noted) (x.ended (subst (λ n. is_some (ended_at c n) ≡ true) noted e));
   unused = λ e. subst (λ n. (is_some (socket_of c n) || is_some (lost_at c n) || is_polling c n) ≡ false) (sym noted)

@@ -9,7 +9,7 @@ use Rattle.hd_delivery.specs.declared.vocabulary.Reason.TheVariants as reason
 use Rattle.hd_server.specs.declared.vocabulary.Life.{Life}
 use Rattle.hd_server.specs.declared.vocabulary.Life.TheVariants.{Unknown, Fresh, Socket, Lost, Polling, Ending}
 use Rattle.hd_server.specs.Numbers.{lives_for}
-use Rattle.hd_server.specs.Lives.{ConnectionEvent, Expired, deadline, ended_at, ends_then, is_let_go, is_made, is_opened, is_past, is_polling, life_of, lost_at}
+use Rattle.hd_server.specs.Lives.{ConnectionEvent, Expired, deadline, ended_at, ends_then, is_removed, is_made, is_opened, is_past, is_polling, life_of, lost_at}
 use Rattle.hd_server.specs.Lives.{made, negotiated_at, numbers_to, only_polls, overdue, past, since, socket_of, standing, when}
 use Rattle.hd_server.specs.Machine.{Goes}
 use Rattle.hd_server.specs.Doings.{ServerEvent, Notes, Works, has_peer, is_up, notes}
@@ -29,7 +29,7 @@ life_by gone ended socket lost polls begun = unwrap_or
     (first_of (when lost Lost) (first_of (when polls Polling) (when begun Fresh)))))) Unknown
 
 pub standing_by : (c : ℕ) (n : List ConnectionEvent) → standing c n
-    ≡ life_by (is_let_go c n) (is_some (ended_at c n)) (socket_of c n) (is_some (lost_at c n)) (is_polling c n)
+    ≡ life_by (is_removed c n) (is_some (ended_at c n)) (socket_of c n) (is_some (lost_at c n)) (is_polling c n)
     (is_opened c n || is_some (negotiated_at c n))
 standing_by c n = refl
 
@@ -190,9 +190,9 @@ pub life_other : (now c k : ℕ) (life : Life) (of g : List ServerEvent) → (k 
     → standing k (notes (onto (expiring now life c of) g)) ≡ standing k (notes g)
 life_other now c k life of g e =
     ap (λ n. standing k n) (notes_expiring now life c of g)
-    ∙ ap (λ b. life_by (b || is_let_go k (notes g)) (is_some (ended_at k (Expired c now ∷ notes g))) (socket_of k (notes g))
+    ∙ ap (λ b. life_by (b || is_removed k (notes g)) (is_some (ended_at k (Expired c now ∷ notes g))) (socket_of k (notes g))
     (is_some (lost_at k (notes g)))
     (is_polling k (notes g)) (is_opened k (notes g) || is_some (negotiated_at k (notes g)))) (ap (λ (b : Bool). b && not (ends_then k (notes g))) e)
-    ∙ ap (λ o. life_by (is_let_go k (notes g)) (is_some o) (socket_of k (notes g)) (is_some (lost_at k (notes g)))
+    ∙ ap (λ o. life_by (is_removed k (notes g)) (is_some o) (socket_of k (notes g)) (is_some (lost_at k (notes g)))
     (is_polling k (notes g)) (is_opened k (notes g) || is_some (negotiated_at k (notes g))))
     (ap (λ (b : Bool). if b && (only_polls k (notes g) && not (is_some (ended_at k (notes g)))) then Some now else ended_at k (notes g)) e)

@@ -15,7 +15,7 @@ use Rattle.hd_calls.specs.Peers.{PeerEvent, Plain, Settings, is_shut}
 use Rattle.hd_server.specs.declared.vocabulary.Said.{Said}
 use Rattle.hd_server.specs.declared.vocabulary.Life.{Life}
 use Rattle.hd_server.specs.declared.vocabulary.Life.TheVariants.{Unknown, Fresh, Socket, Lost, Polling, Ending}
-use Rattle.hd_server.specs.Lives.{Expired, ended_at, ends_then, is_let_go, is_opened, is_polling, life_of, lost_at, negotiated_at, only_polls}
+use Rattle.hd_server.specs.Lives.{Expired, ended_at, ends_then, is_removed, is_opened, is_polling, life_of, lost_at, negotiated_at, only_polls}
 use Rattle.hd_server.specs.Lives.{overdue, past, socket_of, standing}
 use Rattle.hd_server.specs.Machine.{Does, Goes, has_gone, is_open_at, moves, settings_of}
 use Rattle.hd_server.specs.Doings.{ServerEvent, Notes, Works, has_peer, is_up, moment, notes, user_of, work}
@@ -105,9 +105,9 @@ standing_closes {H} {Job} hub s u before v m c why h st live closed absent = by 
 
 module _ {H Job : Type 0} (hub : Hub Job) (s : Setup) (u : Unsettled) (before : List Said) (v : Server H Job) (c : ℕ) (h : List ServerEvent)
     (st : Standing {H = H} hub s u before v h) (polls : standing c (notes h) ≡ Polling) where
-  only : OnlyPolls (is_let_go c (notes h)) (is_some (ended_at c (notes h))) (socket_of c (notes h)) (is_some (lost_at c (notes h)))
+  only : OnlyPolls (is_removed c (notes h)) (is_some (ended_at c (notes h))) (socket_of c (notes h)) (is_some (lost_at c (notes h)))
       (is_polling c (notes h))
-  only = polls_only (is_let_go c (notes h)) (is_some (ended_at c (notes h))) (socket_of c (notes h)) (is_some (lost_at c (notes h)))
+  only = polls_only (is_removed c (notes h)) (is_some (ended_at c (notes h))) (socket_of c (notes h)) (is_some (lost_at c (notes h)))
       (is_polling c (notes h))
       (is_opened c (notes h) || is_some (negotiated_at c (notes h))) polls
 
@@ -124,13 +124,13 @@ module _ {H Job : Type 0} (hub : Hub Job) (s : Setup) (u : Unsettled) (before : 
       (ap not only.lasts)
 
   -- it isn't let go
-  kept : (k : ℕ) → is_let_go k (notes after) ≡ is_let_go k (notes h)
+  kept : (k : ℕ) → is_removed k (notes after) ≡ is_removed k (notes h)
   kept k = by (k == c) refl
     where
-      by : (b : Bool) → (k == c) ≡ b → (((k == c) && not (ends_then k (notes h))) || is_let_go k (notes h)) ≡ is_let_go k (notes h)
-      by true e = ap (λ (b : Bool). b || is_let_go k (notes h))
+      by : (b : Bool) → (k == c) ≡ b → (((k == c) && not (ends_then k (notes h))) || is_removed k (notes h)) ≡ is_removed k (notes h)
+      by true e = ap (λ (b : Bool). b || is_removed k (notes h))
           (and_right (k == c) (not (ends_then k (notes h))) (ap not (ap (λ n. ends_then n (notes h)) (eqb-true k c e) ∙ ends)))
-      by false e = ap (λ (b : Bool). (b && not (ends_then k (notes h))) || is_let_go k (notes h)) e
+      by false e = ap (λ (b : Bool). (b && not (ends_then k (notes h))) || is_removed k (notes h)) e
 
   orderly_then : IsOrderly u c after
   orderly_then =
@@ -172,9 +172,9 @@ module _ {H Job : Type 0} (hub : Hub Job) (s : Setup) (u : Unsettled) (before : 
 -- ---- one of which nothing is kept
 
 module _ (c now : ℕ) (h : List ServerEvent) (ends : ends_then c (notes h) ≡ false) where
-  let_go_then : (g : List ServerEvent) → notes g ≡ notes h → is_let_go c (notes (Notes (Expired c now) ∷ g)) ≡ true
+  let_go_then : (g : List ServerEvent) → notes g ≡ notes h → is_removed c (notes (Notes (Expired c now) ∷ g)) ≡ true
   let_go_then g same =
-      or_left ((c == c) && not (ends_then c (notes g))) (is_let_go c (notes g))
+      or_left ((c == c) && not (ends_then c (notes g))) (is_removed c (notes g))
       (and_from (c == c) (not (ends_then c (notes g))) (eq-eqb c c refl) (ap not (ap (λ n. ends_then c n) same ∙ ends)))
 
   ended_same : (g : List ServerEvent) → notes g ≡ notes h → ended_at c (notes (Notes (Expired c now) ∷ g)) ≡ ended_at c (notes h)
@@ -183,10 +183,10 @@ module _ (c now : ℕ) (h : List ServerEvent) (ends : ends_then c (notes h) ≡ 
       ∙ passed_by {A = Option ℕ} ((c == c) && (only_polls c (notes h) && not (is_some (ended_at c (notes h))))) (Some now) (ended_at c (notes h))
       (and_right (c == c) (ends_then c (notes h)) ends)
 
-  none_calls : (g : List ServerEvent) → is_let_go c (notes g) ≡ true → caller_of c g ≡ None
+  none_calls : (g : List ServerEvent) → is_removed c (notes g) ≡ true → caller_of c g ≡ None
   none_calls g e =
-      chosen {A = Option (List ℕ)} (is_some (settings_of c (work g)) || is_let_go c (notes g)) None (user_of c g)
-      (or_right (is_some (settings_of c (work g))) (is_let_go c (notes g)) e)
+      chosen {A = Option (List ℕ)} (is_some (settings_of c (work g)) || is_removed c (notes g)) None (user_of c g)
+      (or_right (is_some (settings_of c (work g))) (is_removed c (notes g)) e)
 
   abbrev dropped : List ServerEvent
   dropped = Notes (Expired c now) ∷ Works (Goes c) ∷ h
@@ -361,9 +361,9 @@ module _ {H Job : Type 0} (hub : Hub Job) (s : Setup) (u : Unsettled) (before : 
       other : standing c (notes h) ≡ Polling → ⊥
       other e = lasts (life_is ∙ ap past e)
 
-      goes_now : GoesThen (is_let_go c (notes h)) (is_some (ended_at c (notes h))) (socket_of c (notes h)) (is_some (lost_at c (notes h)))
+      goes_now : GoesThen (is_removed c (notes h)) (is_some (ended_at c (notes h))) (socket_of c (notes h)) (is_some (lost_at c (notes h)))
           (is_polling c (notes h))
-      goes_now = goes_then c (moment h) (notes h) (is_let_go c (notes h)) (is_some (ended_at c (notes h))) (socket_of c (notes h))
+      goes_now = goes_then c (moment h) (notes h) (is_removed c (notes h)) (is_some (ended_at c (notes h))) (socket_of c (notes h))
           (is_some (lost_at c (notes h)))
           (is_polling c (notes h)) (is_opened c (notes h) || is_some (negotiated_at c (notes h))) is_overdue.come other
 

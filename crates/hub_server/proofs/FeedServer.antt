@@ -14,7 +14,7 @@ use Rattle.hd_delivery.specs.Bytes.{Wire, ByteStep, Bytes, Does as Step_of, in_f
 use Rattle.hd_calls.specs.Hubs.{Hub}
 use Rattle.hd_calls.specs.Peers.{PeerEvent, Plain, Reads, Handles, Settings, add, byte_steps, is_shut, reason_of, shuts, steps, waiting}
 use Rattle.hd_server.specs.declared.vocabulary.Said.{Said}
-use Rattle.hd_server.specs.Lives.{ended_at, is_let_go, is_made, is_polling, lost_at, socket_of}
+use Rattle.hd_server.specs.Lives.{ended_at, is_removed, is_made, is_polling, lost_at, socket_of}
 use Rattle.hd_server.specs.Machine.{Does, has_gone, moves, settings_of}
 use Rattle.hd_server.specs.Doings.{ServerEvent, notes, work, moment, said, peer, history, history_with, config_of, config_with, has_peer, user_of}
 use Rattle.hd_server.specs.Plans.{Setup}
@@ -134,9 +134,9 @@ module _ (c : ℕ) (h : List ServerEvent) where
 
   caller_moving : (k : ℕ) (ms : List PeerEvent) → caller_of k (moving c ms h) ≡ caller_of k h
   caller_moving k ms =
-      ap (λ o. if is_some o || is_let_go k (notes (moving c ms h)) then None else user_of k (moving c ms h)) (settings_moving k ms)
-      ∙ ap (λ n. if is_some (settings_of k (work h)) || is_let_go k n then None else user_of k (moving c ms h)) (notes_moving ms)
-      ∙ ap (λ o. if is_some (settings_of k (work h)) || is_let_go k (notes h) then None else o) (user_moving k ms)
+      ap (λ o. if is_some o || is_removed k (notes (moving c ms h)) then None else user_of k (moving c ms h)) (settings_moving k ms)
+      ∙ ap (λ n. if is_some (settings_of k (work h)) || is_removed k n then None else user_of k (moving c ms h)) (notes_moving ms)
+      ∙ ap (λ o. if is_some (settings_of k (work h)) || is_removed k (notes h) then None else o) (user_moving k ms)
 
 -- ---- the connection that is fed
 
@@ -182,8 +182,8 @@ module _ (law : MovesComeFirst) (u : Unsettled) (c : ℕ) (h : List ServerEvent)
   pub orderly_fed : IsOrderly u c g
   orderly_fed = record {
     made = λ e. subst (λ n. is_made c n ≡ true) (sym noted) (x.made (sym (ap is_some same) ∙ e));
-    there = λ e. subst (λ n. is_let_go c n ≡ false) (sym noted) (x.there (sym there ∙ e));
-    gone = λ e f. subst (λ n. is_let_go c n ≡ true) (sym noted) (x.gone (sym (ap is_some same) ∙ e) (sym there ∙ f));
+    there = λ e. subst (λ n. is_removed c n ≡ false) (sym noted) (x.there (sym there ∙ e));
+    gone = λ e f. subst (λ n. is_removed c n ≡ true) (sym noted) (x.gone (sym (ap is_some same) ∙ e) (sym there ∙ f));
     one_way = subst (λ n. ((is_some (socket_of c n) || is_some (lost_at c n)) && is_polling c n) ≡ false) (sym noted) x.one_way;
     ended = λ e. subst (λ n. is_polling c n ≡ true) (sym noted) (x.ended (subst (λ n. is_some (ended_at c n) ≡ true) noted e));
     unused = λ e. subst (λ n. (is_some (socket_of c n) || is_some (lost_at c n) || is_polling c n) ≡ false) (sym noted)

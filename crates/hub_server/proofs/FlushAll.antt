@@ -10,7 +10,7 @@ use Rattle.hd_server.specs.Lives.{numbers_to, poll_of, socket_of}
 use Rattle.hd_server.specs.Machine.{connections, greatest, is_there}
 use Rattle.hd_server.specs.Doings.{ServerEvent, has_peer, moment, notes, work}
 use Rattle.hd_server.specs.Plans.{Setup, onto}
-use Rattle.hd_server.specs.Serves.{AreAllDue, AreDue, all_telling, telling, telling_on}
+use Rattle.hd_server.specs.Serves.{AreAllDue, AreDue, all_flushing, flushing, flushing_on}
 use Rattle.hub_machine.specs.declared.machine.Machine.{Machine}
 use Rattle.hub_server.specs.declared.server.Server.{Server}
 use Rattle.hub_machine.specs.Laws.{ConnectionsAreNumbered}
@@ -43,13 +43,13 @@ first_below c k (d ∷ cs) r e = go (k == d) refl e (first_below d k cs r.1)
 
 told_last : (s : Setup) (now c : ℕ) (p : List (List LinkFrame)) (h : List ServerEvent) (cs : List ℕ) (all : List (List (List LinkFrame)))
     → AreAllDue s cs all h
-    → all_telling s now (cs ++ c ∷ []) (all ++ p ∷ []) h ≡ all_telling s now cs all h ++ telling s now c p h
-told_last s now c p h [] [] x = append-nil (telling s now c p h)
+    → all_flushing s now (cs ++ c ∷ []) (all ++ p ∷ []) h ≡ all_flushing s now cs all h ++ flushing s now c p h
+told_last s now c p h [] [] x = append-nil (flushing s now c p h)
 told_last s now c p h [] (q ∷ all) x = absurd x
 told_last s now c p h (k ∷ cs) [] x = absurd x
 told_last s now c p h (k ∷ cs) (q ∷ all) x =
-    ap (λ (xs : List ServerEvent). telling s now k q h ++ xs) (told_last s now c p h cs all x.1)
-    ∙ sym (append_assoc (telling s now k q h) (all_telling s now cs all h) (telling s now c p h))
+    ap (λ (xs : List ServerEvent). flushing s now k q h ++ xs) (told_last s now c p h cs all x.1)
+    ∙ sym (append_assoc (flushing s now k q h) (all_flushing s now cs all h) (flushing s now c p h))
 
 due_last : (s : Setup) (c : ℕ) (p : List (List LinkFrame)) (h : List ServerEvent) (cs : List ℕ) (all : List (List (List LinkFrame))) → AreAllDue s cs all h
     → AreDue s c p h
@@ -61,13 +61,13 @@ due_last s c p h (k ∷ cs) (q ∷ all) x y = (x.0, due_last s c p h cs all x.1 
 
 -- nothing is heard meanwhile
 all_unheard_then : (s : Setup) (now : ℕ) (cs : List ℕ) (all : List (List (List LinkFrame))) (h g : List ServerEvent)
-    → Unheard (onto (all_telling s now cs all h) g) g
+    → Unheard (onto (all_flushing s now cs all h) g) g
 all_unheard_then s now [] all h g = unheard_same g
 all_unheard_then s now (k ∷ cs) [] h g = unheard_same g
 all_unheard_then s now (k ∷ cs) (p ∷ all) h g =
-    let mine : List ServerEvent = telling s now k p h in
-    subst (λ f. Unheard f g) (sym (onto_append mine (all_telling s now cs all h) g))
-    (unheard_then (onto (all_telling s now cs all h) (onto mine g)) (onto mine g) g
+    let mine : List ServerEvent = flushing s now k p h in
+    subst (λ f. Unheard f g) (sym (onto_append mine (all_flushing s now cs all h) g))
+    (unheard_then (onto (all_flushing s now cs all h) (onto mine g)) (onto mine g) g
     (all_unheard_then s now cs all h (onto mine g)) (all_unheard k mine g (telling_tells s now k (socket_of k (notes h)) p h)))
 
 -- ---- the loop
@@ -81,9 +81,9 @@ pub record ToldSome {H Job : Type 0} (hub : Hub Job) (s : Setup) (before : List 
   pub rise : AreRising left
   pub below : (k c : ℕ) → is_listed k done ≡ true → is_listed c left ≡ true → k < c
   pub due : AreAllDue s done pieces h
-  pub stands : Standing hub s settled before v (onto (all_telling s (moment h) done pieces h) h)
-  pub rested : (k : ℕ) → is_listed k done ≡ true → IsRested k (onto (all_telling s (moment h) done pieces h) h)
-  pub others : (k : ℕ) → is_listed k done ≡ false → Alike k (onto (all_telling s (moment h) done pieces h) h) h
+  pub stands : Standing hub s settled before v (onto (all_flushing s (moment h) done pieces h) h)
+  pub rested : (k : ℕ) → is_listed k done ≡ true → IsRested k (onto (all_flushing s (moment h) done pieces h) h)
+  pub others : (k : ℕ) → is_listed k done ≡ false → Alike k (onto (all_flushing s (moment h) done pieces h) h) h
 
 pub none_told : {H Job : Type 0} (hub : Hub Job) (s : Setup) (u : Unsettled) (before : List Said) (v : Server H Job) (conns : List ℕ) (h : List ServerEvent)
     → AreRising conns → u ≡ settled → Standing {H = H} hub s u before v h → ToldSome {H = H} hub s before v conns conns h
@@ -114,61 +114,61 @@ module _ {H Job : Type 0} (hub : Hub Job) (s : Setup) (before : List Said) (old 
       go true e = absurd (let l : c < c = p.below c c e (ap (λ (b : Bool). b || is_listed c cs) (eq-eqb c c refl)) in omega (arith, l))
       go false e = e
 
-  alike : Alike c (onto (all_telling s (moment h) p.done p.pieces h) h) h
+  alike : Alike c (onto (all_flushing s (moment h) p.done p.pieces h) h) h
   alike = p.others c unlisted
 
-  unheard : Unheard (onto (all_telling s (moment h) p.done p.pieces h) h) h
+  unheard : Unheard (onto (all_flushing s (moment h) p.done p.pieces h) h) h
   unheard = all_unheard_then s (moment h) p.done p.pieces h h
 
-  told : FlushesOne {H = H} hub s before new c (socket_of c (notes (onto (all_telling s (moment h) p.done p.pieces h) h)))
-      (poll_of c (notes (onto (all_telling s (moment h) p.done p.pieces h) h))) (onto (all_telling s (moment h) p.done p.pieces h) h)
-  told = tells s settled before (onto (all_telling s (moment h) p.done p.pieces h) h) p.stands refl
-      (there_alike c (onto (all_telling s (moment h) p.done p.pieces h) h) h alike ∙ there)
+  told : FlushesOne {H = H} hub s before new c (socket_of c (notes (onto (all_flushing s (moment h) p.done p.pieces h) h)))
+      (poll_of c (notes (onto (all_flushing s (moment h) p.done p.pieces h) h))) (onto (all_flushing s (moment h) p.done p.pieces h) h)
+  told = tells s settled before (onto (all_flushing s (moment h) p.done p.pieces h) h) p.stands refl
+      (there_alike c (onto (all_flushing s (moment h) p.done p.pieces h) h) h alike ∙ there)
 
   -- what it says is what it would have said at first
-  mine_is : telling_on s (moment (onto (all_telling s (moment h) p.done p.pieces h) h)) c
-      (socket_of c (notes (onto (all_telling s (moment h) p.done p.pieces h) h)))
-      told.pieces (onto (all_telling s (moment h) p.done p.pieces h) h) ≡ telling s (moment h) c told.pieces h
+  mine_is : flushing_on s (moment (onto (all_flushing s (moment h) p.done p.pieces h) h)) c
+      (socket_of c (notes (onto (all_flushing s (moment h) p.done p.pieces h) h)))
+      told.pieces (onto (all_flushing s (moment h) p.done p.pieces h) h) ≡ flushing s (moment h) c told.pieces h
   mine_is =
-      ap (λ now. telling_on s now c (socket_of c (notes (onto (all_telling s (moment h) p.done p.pieces h) h))) told.pieces
-      (onto (all_telling s (moment h) p.done p.pieces h) h))
+      ap (λ now. flushing_on s now c (socket_of c (notes (onto (all_flushing s (moment h) p.done p.pieces h) h))) told.pieces
+      (onto (all_flushing s (moment h) p.done p.pieces h) h))
       unheard.clock
-      ∙ same_telling s (moment h) c (onto (all_telling s (moment h) p.done p.pieces h) h) h alike unheard told.pieces
+      ∙ same_telling s (moment h) c (onto (all_flushing s (moment h) p.done p.pieces h) h) h alike unheard told.pieces
 
-  after : onto (all_telling s (moment h) (p.done ++ c ∷ []) (p.pieces ++ told.pieces ∷ []) h) h
-      ≡ onto (telling s (moment h) c told.pieces h) (onto (all_telling s (moment h) p.done p.pieces h) h)
+  after : onto (all_flushing s (moment h) (p.done ++ c ∷ []) (p.pieces ++ told.pieces ∷ []) h) h
+      ≡ onto (flushing s (moment h) c told.pieces h) (onto (all_flushing s (moment h) p.done p.pieces h) h)
   after =
       ap (λ (xs : List ServerEvent). onto xs h) (told_last s (moment h) c told.pieces h p.done p.pieces p.due)
-      ∙ onto_append (all_telling s (moment h) p.done p.pieces h) (telling s (moment h) c told.pieces h) h
+      ∙ onto_append (all_flushing s (moment h) p.done p.pieces h) (flushing s (moment h) c told.pieces h) h
 
   -- for each other connection nothing has changed
   other : (k : ℕ) → (k == c) ≡ false
-      → Alike k (onto (telling s (moment h) c told.pieces h) (onto (all_telling s (moment h) p.done p.pieces h) h))
-      (onto (all_telling s (moment h) p.done p.pieces h) h)
-  other k e = all_alike k c (telling s (moment h) c told.pieces h) (onto (all_telling s (moment h) p.done p.pieces h) h) e
+      → Alike k (onto (flushing s (moment h) c told.pieces h) (onto (all_flushing s (moment h) p.done p.pieces h) h))
+      (onto (all_flushing s (moment h) p.done p.pieces h) h)
+  other k e = all_alike k c (flushing s (moment h) c told.pieces h) (onto (all_flushing s (moment h) p.done p.pieces h) h) e
       (telling_tells s (moment h) c (socket_of c (notes h)) told.pieces h)
 
   rested_each : (k : ℕ) (b : Bool) → (k == c) ≡ b → (is_listed k p.done || b) ≡ true
-      → IsRested k (onto (telling s (moment h) c told.pieces h) (onto (all_telling s (moment h) p.done p.pieces h) h))
+      → IsRested k (onto (flushing s (moment h) c told.pieces h) (onto (all_flushing s (moment h) p.done p.pieces h) h))
   rested_each k true e f =
-      subst (λ n. IsRested n (onto (telling s (moment h) c told.pieces h) (onto (all_telling s (moment h) p.done p.pieces h) h)))
+      subst (λ n. IsRested n (onto (flushing s (moment h) c told.pieces h) (onto (all_flushing s (moment h) p.done p.pieces h) h)))
       (sym (eqb-true k c e))
-      (subst (λ xs. IsRested c (onto xs (onto (all_telling s (moment h) p.done p.pieces h) h))) mine_is told.rested)
+      (subst (λ xs. IsRested c (onto xs (onto (all_flushing s (moment h) p.done p.pieces h) h))) mine_is told.rested)
   rested_each k false e f =
-      rested_alike k (onto (telling s (moment h) c told.pieces h) (onto (all_telling s (moment h) p.done p.pieces h) h))
-      (onto (all_telling s (moment h) p.done p.pieces h) h) (other k e) (p.rested k (left (is_listed k p.done) f))
+      rested_alike k (onto (flushing s (moment h) c told.pieces h) (onto (all_flushing s (moment h) p.done p.pieces h) h))
+      (onto (all_flushing s (moment h) p.done p.pieces h) h) (other k e) (p.rested k (left (is_listed k p.done) f))
     where
       left : (b : Bool) → (b || false) ≡ true → b ≡ true
       left true x = refl
       left false x = x
 
   others_each : (k : ℕ) (a b : Bool) → is_listed k p.done ≡ a → (k == c) ≡ b → (a || b) ≡ false
-      → Alike k (onto (telling s (moment h) c told.pieces h) (onto (all_telling s (moment h) p.done p.pieces h) h)) h
+      → Alike k (onto (flushing s (moment h) c told.pieces h) (onto (all_flushing s (moment h) p.done p.pieces h) h)) h
   others_each k true b e f x = absurd (true≢false x)
   others_each k false true e f x = absurd (true≢false x)
   others_each k false false e f x =
-      alike_trans k (onto (telling s (moment h) c told.pieces h) (onto (all_telling s (moment h) p.done p.pieces h) h))
-      (onto (all_telling s (moment h) p.done p.pieces h) h) h (other k f) (p.others k e)
+      alike_trans k (onto (flushing s (moment h) c told.pieces h) (onto (all_flushing s (moment h) p.done p.pieces h) h))
+      (onto (all_flushing s (moment h) p.done p.pieces h) h) h (other k f) (p.others k e)
 
   below_each : (k d : ℕ) (a b : Bool) → is_listed k p.done ≡ a → (k == c) ≡ b → (a || b) ≡ true → is_listed d cs ≡ true → k < d
   below_each k d true b e f x l = p.below k d e (later (d == c) l)
@@ -187,9 +187,9 @@ module _ {H Job : Type 0} (hub : Hub Job) (s : Setup) (before : List Said) (old 
     rise = rising_rest c cs p.rise;
     below = λ k d e f. below_each k d (is_listed k p.done) (k == c) refl refl (sym (listed_last k c p.done) ∙ e) f;
     due = due_last s c told.pieces h p.done p.pieces p.due
-        (same_due s (moment h) c (onto (all_telling s (moment h) p.done p.pieces h) h) h alike unheard told.pieces told.due);
+        (same_due s (moment h) c (onto (all_flushing s (moment h) p.done p.pieces h) h) h alike unheard told.pieces told.due);
     stands = subst (λ f. Standing {H = H} hub s settled before new f) (sym after)
-        (subst (λ xs. Standing {H = H} hub s settled before new (onto xs (onto (all_telling s (moment h) p.done p.pieces h) h))) mine_is told.stands);
+        (subst (λ xs. Standing {H = H} hub s settled before new (onto xs (onto (all_flushing s (moment h) p.done p.pieces h) h))) mine_is told.stands);
     rested = λ k e. subst (λ f. IsRested k f) (sym after) (rested_each k (k == c) refl (sym (listed_last k c p.done) ∙ e));
     others = λ k e. subst (λ f. Alike k f h) (sym after) (others_each k (is_listed k p.done) (k == c) refl refl (sym (listed_last k c p.done) ∙ e));
   }
@@ -240,10 +240,10 @@ all_told {H} {Job} law hub s before m v conns i h l stands numbers mute p = reco
     all = said_by_all s h (λ k. is_there k (work h)) (λ k. is_awake_at m k) (numbers_to (greatest (work h))) p.pieces
         (λ k. awake_there {H = H} {Job = Job} hub m (work h) k stands) mute (subst (λ cs. AreAllDue s cs p.pieces h) done_is p.due)
 
-    is : all_telling s (moment h) (connections (work h)) all.whole h ≡ all_telling s (moment h) p.done p.pieces h
-    is = all.same ∙ ap (λ cs. all_telling s (moment h) cs p.pieces h) (sym done_is)
+    is : all_flushing s (moment h) (connections (work h)) all.whole h ≡ all_flushing s (moment h) p.done p.pieces h
+    is = all.same ∙ ap (λ cs. all_flushing s (moment h) cs p.pieces h) (sym done_is)
 
-    go : (c : ℕ) (b : Bool) → is_listed c p.done ≡ b → IsRested c (onto (all_telling s (moment h) p.done p.pieces h) h)
+    go : (c : ℕ) (b : Bool) → is_listed c p.done ≡ b → IsRested c (onto (all_flushing s (moment h) p.done p.pieces h) h)
     go c true e = p.rested c e
-    go c false e = rested_alike c (onto (all_telling s (moment h) p.done p.pieces h) h) h (p.others c e)
+    go c false e = rested_alike c (onto (all_flushing s (moment h) p.done p.pieces h) h) h (p.others c e)
         (λ there. (mute c there (numbers.are c ∙ ap (is_listed c) (sym done_are) ∙ e)).rested there)

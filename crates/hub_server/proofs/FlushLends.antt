@@ -13,7 +13,7 @@ use Rattle.hd_delivery.specs.Bytes.{Does as Step_of}
 use Rattle.hd_calls.specs.Hubs.{Hub}
 use Rattle.hd_calls.specs.Peers.{PeerEvent, Plain, Settings}
 use Rattle.hd_server.specs.declared.vocabulary.Said.{Said}
-use Rattle.hd_server.specs.Lives.{ConnectionEvent, is_let_go, poll_of, socket_of}
+use Rattle.hd_server.specs.Lives.{ConnectionEvent, is_removed, poll_of, socket_of}
 use Rattle.hd_server.specs.Machine.{MachineEvent, Does, has_gone, settings_of}
 use Rattle.hd_server.specs.Doings.{ServerEvent, notes, work, moment, said, user_of, peer, config_of, config_with, has_closed, has_peer, history}
 use Rattle.hd_server.specs.Doings.{history_with}
@@ -126,9 +126,9 @@ work_lent c fs h =
 
 caller_lent : (c k : ℕ) (g h : List ServerEvent) → HasLent c g h → caller_of k g ≡ caller_of k h
 caller_lent c k g h x =
-    ap (λ (o : Option Settings). if is_some o || is_let_go k (notes g) then None else user_of k g) (x.settings k)
-    ∙ ap (λ (n : List ConnectionEvent). if is_some (settings_of k (work h)) || is_let_go k n then None else user_of k g) x.noted
-    ∙ ap (λ (user : Option (List ℕ)). if is_some (settings_of k (work h)) || is_let_go k (notes h) then None else user) (x.user k)
+    ap (λ (o : Option Settings). if is_some o || is_removed k (notes g) then None else user_of k g) (x.settings k)
+    ∙ ap (λ (n : List ConnectionEvent). if is_some (settings_of k (work h)) || is_removed k n then None else user_of k g) x.noted
+    ∙ ap (λ (user : Option (List ℕ)). if is_some (settings_of k (work h)) || is_removed k (notes h) then None else user) (x.user k)
 
 pub there_lent : (c k : ℕ) (g h : List ServerEvent) → HasLent c g h → has_peer k g ≡ has_peer k h
 there_lent c k g h x =

@@ -11,10 +11,10 @@ use Rattle.hd_delivery.specs.Frames.{LinkFrame}
 use Rattle.hd_calls.specs.Hubs.{Hub}
 use Rattle.hd_calls.specs.Peers.{is_shut, steps}
 use Rattle.hd_server.specs.declared.vocabulary.Said.{Said}
-use Rattle.hd_server.specs.Lives.{Ended, ended_at, is_let_go, is_polling, lost_at, poll_ended, poll_of, socket_of}
+use Rattle.hd_server.specs.Lives.{Ended, ended_at, is_removed, is_polling, lost_at, poll_ended, poll_of, socket_of}
 use Rattle.hd_server.specs.Doings.{ServerEvent, Notes, config_of, has_closed, has_peer, history, moment, notes}
-use Rattle.hd_server.specs.Plans.{Setup, letting_go, onto}
-use Rattle.hd_server.specs.Serves.{AreDueOn, LendsUpTo, all_of, ending, telling_on, telling_poll, telling_poll_some}
+use Rattle.hd_server.specs.Plans.{Setup, removing_conn, onto}
+use Rattle.hd_server.specs.Serves.{AreDueOn, LendsUpTo, all_of, ending, flushing_on, flushing_poll, flushing_some_poll}
 use Rattle.hn_server_front.specs.declared.entry.Held.{Held}
 use Rattle.hn_server_front.specs.declared.front.Front.{Front}
 use Rattle.hn_server_front.specs.Calls as calls
@@ -40,7 +40,7 @@ on_ok (Err e) P Q f p = tt
 -- ---- of a connection that is there a front tells what was noted
 
 there_noted : (c : ℕ) (h : List ServerEvent) → IsKnown c h → stands.is_there c (notes h) ≡ true
-there_noted c h k = ap (λ (b : Bool). b && not (is_let_go c (notes h))) k.made ∙ ap not k.held
+there_noted c h k = ap (λ (b : Bool). b && not (is_removed c (notes h))) k.made ∙ ap not k.held
 
 pub noted_known : {H Job : Type 0} (hub : Hub Job) (s : Setup) (u : Unsettled) (before : List Said) (v : Server H Job) (c : ℕ) (h : List ServerEvent)
     → Standing {H = H} hub s u before v h → has_peer c h ≡ true → stands.is_there c (notes h) ≡ true
@@ -162,7 +162,7 @@ module _ {H Job : Type 0} (hub : Hub Job) (s : Setup) (before : List Said) (v : 
     noted : poll_of c (notes g) ≡ poll_of c (notes h)
     stays : has_peer c g ≡ has_peer c h
     due : (fs : List LinkFrame) → LendsUpTo s.wire (config_of c g) (history c g) 0 fs → LendsUpTo s.wire (config_of c h) (history c h) 0 fs
-    same : (p : ℕ × ℕ) (fs : List LinkFrame) → telling_poll s (moment g) c p fs g ≡ telling_poll s (moment h) c p fs h
+    same : (p : ℕ × ℕ) (fs : List LinkFrame) → flushing_poll s (moment g) c p fs g ≡ flushing_poll s (moment h) c p fs h
 
   left : Left (onto (ending (moment h) c h) h)
   left = go (has_closed c h && not (is_some (ended_at c (notes h))))
@@ -170,24 +170,24 @@ module _ {H Job : Type 0} (hub : Hub Job) (s : Setup) (before : List Said) (v : 
       go : (b : Bool) → Left (onto (if b then Notes (Ended c (moment h)) ∷ [] else []) h)
       go true = record { noted = refl; stays = refl; due = λ fs d. d; same = λ p fs. same_poll p fs }
         where
-          same_poll : (p : ℕ × ℕ) (fs : List LinkFrame) → telling_poll s (moment h) c p fs (Notes (Ended c (moment h)) ∷ h) ≡ telling_poll s
+          same_poll : (p : ℕ × ℕ) (fs : List LinkFrame) → flushing_poll s (moment h) c p fs (Notes (Ended c (moment h)) ∷ h) ≡ flushing_poll s
               (moment h) c p fs h
           same_poll p [] = refl
           same_poll p (f ∷ fs) = refl
       go false = record { noted = refl; stays = refl; due = λ fs d. d; same = λ p fs. refl }
 
-  rested_polling : (pieces : List (List LinkFrame)) → IsRested c (onto (telling_on s (moment h) c None pieces h) h)
-  rested_polling pieces = λ at off. absurd (both_ways (is_polling c (notes (onto (telling_on s (moment h) c None pieces h) h))) off
-      (all_polls c c (telling_on s (moment h) c None pieces h) h (telling_tells s (moment h) c None pieces h) polls))
+  rested_polling : (pieces : List (List LinkFrame)) → IsRested c (onto (flushing_on s (moment h) c None pieces h) h)
+  rested_polling pieces = λ at off. absurd (both_ways (is_polling c (notes (onto (flushing_on s (moment h) c None pieces h) h))) off
+      (all_polls c c (flushing_on s (moment h) c None pieces h) h (telling_tells s (moment h) c None pieces h) polls))
 
   told_is : (o : Option (ℕ × ℕ)) (pieces : List (List LinkFrame)) → poll_of c (notes h) ≡ o
-      → onto (telling_on s (moment h) c None pieces h) h ≡ onto (telling_poll_some s (moment h) c o (all_of pieces) h)
+      → onto (flushing_on s (moment h) c None pieces h) h ≡ onto (flushing_some_poll s (moment h) c o (all_of pieces) h)
       (onto (ending (moment h) c h) h)
   told_is o pieces e =
-      ap (λ (b : Bool). onto (if b then ending (moment h) c h ++ telling_poll_some s (moment h) c (poll_of c (notes h)) (all_of pieces) h
-      else (if has_closed c h then letting_go c h else [])) h) polls
-      ∙ onto_append (ending (moment h) c h) (telling_poll_some s (moment h) c (poll_of c (notes h)) (all_of pieces) h) h
-      ∙ ap (λ (q : Option (ℕ × ℕ)). onto (telling_poll_some s (moment h) c q (all_of pieces) h) (onto (ending (moment h) c h) h)) e
+      ap (λ (b : Bool). onto (if b then ending (moment h) c h ++ flushing_some_poll s (moment h) c (poll_of c (notes h)) (all_of pieces) h
+      else (if has_closed c h then removing_conn c h else [])) h) polls
+      ∙ onto_append (ending (moment h) c h) (flushing_some_poll s (moment h) c (poll_of c (notes h)) (all_of pieces) h) h
+      ∙ ap (λ (q : Option (ℕ × ℕ)). onto (flushing_some_poll s (moment h) c q (all_of pieces) h) (onto (ending (moment h) c h) h)) e
 
   -- it holds no poll
   pub tells_nothing : (o : Option Held) → calls.OfEach v.front (λ n. held_as o ≡ calls.poll_held c n) → o ≡ None
@@ -220,7 +220,7 @@ module _ {H Job : Type 0} (hub : Hub Job) (s : Setup) (before : List Said) (v : 
             (subst (λ (fs : List LinkFrame). LendsUpTo s.wire (config_of c h) (history c h) 0 fs) (sym all) (left.due one.frames one.due));
         stands = subst (λ (k : List ServerEvent). Standing {H = H} hub s settled before new k)
             (sym (told_is (Some (held.lane, held.since)) (one.frames ∷ []) some
-            ∙ ap (λ (fs : List LinkFrame). onto (telling_poll s (moment h) c (held.lane, held.since) fs h) g) all))
+            ∙ ap (λ (fs : List LinkFrame). onto (flushing_poll s (moment h) c (held.lane, held.since) fs h) g) all))
             (subst (λ (xs : List ServerEvent). Standing {H = H} hub s settled before new (onto xs g))
             (left.same (held.lane, held.since) one.frames) one.stands);
         rested = rested_polling (one.frames ∷ []);
@@ -242,14 +242,14 @@ module _ {H Job : Type 0} (hub : Hub Job) (s : Setup) (u : Unsettled) (before : 
       go None e = refl
       go (Some p) e = absurd (true≢false e)
 
-  mute_is : (b : Bool) → has_closed c h ≡ b → onto (telling_on s (moment h) c None [] h) h ≡ onto (if b then letting_go c h else []) h
+  mute_is : (b : Bool) → has_closed c h ≡ b → onto (flushing_on s (moment h) c None [] h) h ≡ onto (if b then removing_conn c h else []) h
   mute_is b e =
-      ap (λ (z : Bool). onto (if z then ending (moment h) c h ++ telling_poll_some s (moment h) c (poll_of c (notes h)) [] h
-      else (if has_closed c h then letting_go c h else [])) h) mute
-      ∙ ap (λ (z : Bool). onto (if z then letting_go c h else []) h) e
+      ap (λ (z : Bool). onto (if z then ending (moment h) c h ++ flushing_some_poll s (moment h) c (poll_of c (notes h)) [] h
+      else (if has_closed c h then removing_conn c h else [])) h) mute
+      ∙ ap (λ (z : Bool). onto (if z then removing_conn c h else []) h) e
 
-  told_mute : (new : Server H Job) → Standing {H = H} hub s settled before new (onto (telling_on s (moment h) c None [] h) h)
-      → IsRested c (onto (telling_on s (moment h) c None [] h) h) → FlushesOne {H = H} hub s before new c (socket_of c (notes h))
+  told_mute : (new : Server H Job) → Standing {H = H} hub s settled before new (onto (flushing_on s (moment h) c None [] h) h)
+      → IsRested c (onto (flushing_on s (moment h) c None [] h) h) → FlushesOne {H = H} hub s before new c (socket_of c (notes h))
       (poll_of c (notes h)) h
   told_mute new stood rested =
       subst (λ (o : Option ℕ). FlushesOne {H = H} hub s before new c o (poll_of c (notes h)) h) (sym off) (record {
@@ -284,12 +284,12 @@ module _ {H Job : Type 0} (hub : Hub Job) (s : Setup) (u : Unsettled) (before : 
       (subst (λ g. IsRested c g) (sym (mute_is false shut)) (λ at quiet. up_there c h at shut))
 
   pub mute_closed : (new : Server H Job) → r ≡ true → OfEach {H = H} hub v (λ t w said g. IsKnown c g
-      → Frees {H = H} hub t w said new c g (onto (letting_go c g) g))
+      → Frees {H = H} hub t w said new c g (onto (removing_conn c g) g))
       → FlushesOne {H = H} hub s before new c (socket_of c (notes h)) (poll_of c (notes h)) h
   mute_closed new e frees =
       let shut : has_closed c h ≡ true = sym (closed_is {H = H} {Job = Job} hub s settled before v c h x there r of) ∙ e in
-      let freed : Frees {H = H} hub s settled before new c h (onto (letting_go c h) h) =
+      let freed : Frees {H = H} hub s settled before new c h (onto (removing_conn c h) h) =
       frees s settled before h x (is_one {H = H} {Job = Job} hub s settled before v c h x there).known in
       told_mute new (subst (λ g. Standing {H = H} hub s settled before new g) (sym (mute_is true shut)) freed.stands)
       (subst (λ g. IsRested c g) (sym (mute_is true shut))
-      (λ at. absurd (both_ways (has_peer c (onto (letting_go c h) h)) (gone_after c h h there) at)))
+      (λ at. absurd (both_ways (has_peer c (onto (removing_conn c h) h)) (gone_after c h h there) at)))

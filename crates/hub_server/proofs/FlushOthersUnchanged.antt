@@ -12,9 +12,9 @@ use Rattle.hd_server.specs.Numbers.{held_for}
 use Rattle.hd_server.specs.Lives.{Answered, Ended, LetGo, ended_at, is_polling, poll_ended, poll_of, socket_of}
 use Rattle.hd_server.specs.Machine.{Does, Goes}
 use Rattle.hd_server.specs.Doings.{ServerEvent, Notes, Works, Says, notes, moment, config_of, has_closed, has_peer, history, wants_shut, was_refused}
-use Rattle.hd_server.specs.Plans.{Setup, bare_reply, frames_reply, letting_go, onto, replying, shutting}
-use Rattle.hd_server.specs.Serves.{AreDueOn, LendsAll, LendsUpTo, all_of, bytes_of, ending, is_text, lending, telling, telling_on, telling_poll}
-use Rattle.hd_server.specs.Serves.{telling_poll_some, writing}
+use Rattle.hd_server.specs.Plans.{Setup, bare_reply, frames_reply, removing_conn, onto, replying, shutting}
+use Rattle.hd_server.specs.Serves.{AreDueOn, LendsAll, LendsUpTo, all_of, bytes_of, ending, is_text, lending, flushing, flushing_on, flushing_poll}
+use Rattle.hd_server.specs.Serves.{flushing_some_poll, writing}
 use Rattle.hub_server.proofs.Alike.{Alike, alike_refl, alike_trans, alike_does, alike_goes, alike_note, alike_says, config_alike, history_alike}
 use Rattle.hub_server.proofs.Alike.{there_alike}
 
@@ -49,7 +49,7 @@ writing_tells : (k : ℕ) (s : Setup) (lane : ℕ) (pieces : List (List LinkFram
 writing_tells k s lane [] h = tt
 writing_tells k s lane (p ∷ ps) h = (tt, writing_tells k s lane ps h)
 
-letting_tells : (k : ℕ) (h : List ServerEvent) → AllTell k (letting_go k h)
+letting_tells : (k : ℕ) (h : List ServerEvent) → AllTell k (removing_conn k h)
 letting_tells k h = join_tell k _ _ (either_tell k (has_peer k h) (Works (Goes k) ∷ []) [] (refl, tt) tt) (refl, tt)
 
 shutting_tells : (k lane : ℕ) (h : List ServerEvent) → AllTell k (shutting lane h)
@@ -62,7 +62,7 @@ replying_tells k lane reply h = (
       (shutting_tells k lane h) tt,
 )
 
-poll_tells : (s : Setup) (now k : ℕ) (p : ℕ × ℕ) (fs : List LinkFrame) (h : List ServerEvent) → AllTell k (telling_poll s now k p fs h)
+poll_tells : (s : Setup) (now k : ℕ) (p : ℕ × ℕ) (fs : List LinkFrame) (h : List ServerEvent) → AllTell k (flushing_poll s now k p fs h)
 poll_tells s now k p [] h =
     either_tell k (has_closed k h) _ _ (join_tell k (replying p.0 (bare_reply 204) h) _ (replying_tells k p.0 (bare_reply 204) h) (letting_tells k h))
     (either_tell k (nat_le (p.1 + held_for) now) _ [] (join_tell k (replying p.0 (bare_reply 200) h) (Notes (Answered k p.0 now) ∷ [])
@@ -71,22 +71,22 @@ poll_tells s now k p (f ∷ fs) h =
     join_tell k (lending k (f ∷ fs) ++ replying p.0 (frames_reply (bytes_of s k (f ∷ fs) h)) h) (Notes (Answered k p.0 now) ∷ [])
     (join_tell k (lending k (f ∷ fs)) _ (lending_tells k (f ∷ fs)) (replying_tells k p.0 (frames_reply (bytes_of s k (f ∷ fs) h)) h)) (refl, tt)
 
-some_poll_tells : (s : Setup) (now k : ℕ) (o : Option (ℕ × ℕ)) (fs : List LinkFrame) (h : List ServerEvent) → AllTell k (telling_poll_some s now k o fs h)
+some_poll_tells : (s : Setup) (now k : ℕ) (o : Option (ℕ × ℕ)) (fs : List LinkFrame) (h : List ServerEvent) → AllTell k (flushing_some_poll s now k o fs h)
 some_poll_tells s now k None fs h = tt
 some_poll_tells s now k (Some p) fs h = poll_tells s now k p fs h
 
 pub telling_tells : (s : Setup) (now k : ℕ) (o : Option ℕ) (pieces : List (List LinkFrame)) (h : List ServerEvent)
-    → AllTell k (telling_on s now k o pieces h)
+    → AllTell k (flushing_on s now k o pieces h)
 telling_tells s now k (Some lane) pieces h =
     join_tell k (lending k (all_of pieces) ++ writing s k lane pieces h) _
     (join_tell k (lending k (all_of pieces)) _ (lending_tells k (all_of pieces)) (writing_tells k s lane pieces h))
-    (either_tell k (has_closed k h) (shutting lane h ++ letting_go k h) [] (join_tell k (shutting lane h) _ (shutting_tells k lane h)
+    (either_tell k (has_closed k h) (shutting lane h ++ removing_conn k h) [] (join_tell k (shutting lane h) _ (shutting_tells k lane h)
     (letting_tells k h)) tt)
 telling_tells s now k None pieces h =
     either_tell k (is_polling k (notes h)) _ _
     (join_tell k (ending now k h) _ (either_tell k (has_closed k h && not (is_some (ended_at k (notes h)))) (Notes (Ended k now) ∷ []) []
     (refl, tt) tt) (some_poll_tells s now k (poll_of k (notes h)) (all_of pieces) h))
-    (either_tell k (has_closed k h) (letting_go k h) [] (letting_tells k h) tt)
+    (either_tell k (has_closed k h) (removing_conn k h) [] (letting_tells k h) tt)
 
 -- ---- of another connection all stays the same
 
@@ -158,7 +158,7 @@ all_polls c k (d ∷ ds) h t e = all_polls c k ds (d ∷ h) t.1 (one_polls c k d
 -- ---- what is said of a list that says the same
 
 module _ (s : Setup) (now c : ℕ) (g h : List ServerEvent) (alike : Alike c g h) (unheard : Unheard g h) where
-  same_letting : letting_go c g ≡ letting_go c h
+  same_letting : removing_conn c g ≡ removing_conn c h
   same_letting = ap (λ (b : Bool). (if b then Works (Goes c) ∷ [] else []) ++ Notes (LetGo c) ∷ []) (there_alike c g h alike)
 
   same_shutting : (lane : ℕ) → shutting lane g ≡ shutting lane h
@@ -198,55 +198,55 @@ module _ (s : Setup) (now c : ℕ) (g h : List ServerEvent) (alike : Alike c g h
       ap (λ (b : Bool). if b && not (is_some (ended_at c (notes g))) then Notes (Ended c now) ∷ [] else []) same_closed
       ∙ ap (λ (o : Option ℕ). if has_closed c h && not (is_some o) then Notes (Ended c now) ∷ [] else []) alike.ended
 
-  same_poll : (p : ℕ × ℕ) (fs : List LinkFrame) → telling_poll s now c p fs g ≡ telling_poll s now c p fs h
+  same_poll : (p : ℕ × ℕ) (fs : List LinkFrame) → flushing_poll s now c p fs g ≡ flushing_poll s now c p fs h
   same_poll p [] =
-      ap (λ (b : Bool). if b then replying p.0 (bare_reply 204) g ++ letting_go c g
+      ap (λ (b : Bool). if b then replying p.0 (bare_reply 204) g ++ removing_conn c g
       else (if nat_le (p.1 + held_for) now then replying p.0 (bare_reply 200) g ++ Notes (Answered c p.0 now) ∷ [] else [])) same_closed
-      ∙ ap (λ (xs : List ServerEvent). if has_closed c h then xs ++ letting_go c g
+      ∙ ap (λ (xs : List ServerEvent). if has_closed c h then xs ++ removing_conn c g
       else (if nat_le (p.1 + held_for) now then replying p.0 (bare_reply 200) g ++ Notes (Answered c p.0 now) ∷ [] else []))
       (same_replying p.0 (bare_reply 204))
       ∙ ap (λ (xs : List ServerEvent). if has_closed c h then replying p.0 (bare_reply 204) h ++ xs
       else (if nat_le (p.1 + held_for) now then replying p.0 (bare_reply 200) g ++ Notes (Answered c p.0 now) ∷ [] else [])) same_letting
-      ∙ ap (λ (xs : List ServerEvent). if has_closed c h then replying p.0 (bare_reply 204) h ++ letting_go c h
+      ∙ ap (λ (xs : List ServerEvent). if has_closed c h then replying p.0 (bare_reply 204) h ++ removing_conn c h
       else (if nat_le (p.1 + held_for) now then xs ++ Notes (Answered c p.0 now) ∷ [] else [])) (same_replying p.0 (bare_reply 200))
   same_poll p (f ∷ fs) =
       ap (λ (xs : List ServerEvent). lending c (f ∷ fs) ++ xs ++ Notes (Answered c p.0 now) ∷ [])
       (same_replying p.0 (frames_reply (bytes_of s c (f ∷ fs) g)))
       ∙ ap (λ (bytes : List ℕ). lending c (f ∷ fs) ++ replying p.0 (frames_reply bytes) h ++ Notes (Answered c p.0 now) ∷ []) (same_bytes (f ∷ fs))
 
-  same_poll_some : (o : Option (ℕ × ℕ)) (fs : List LinkFrame) → telling_poll_some s now c o fs g ≡ telling_poll_some s now c o fs h
+  same_poll_some : (o : Option (ℕ × ℕ)) (fs : List LinkFrame) → flushing_some_poll s now c o fs g ≡ flushing_some_poll s now c o fs h
   same_poll_some None fs = refl
   same_poll_some (Some p) fs = same_poll p fs
 
-  same_on : (o : Option ℕ) (pieces : List (List LinkFrame)) → telling_on s now c o pieces g ≡ telling_on s now c o pieces h
+  same_on : (o : Option ℕ) (pieces : List (List LinkFrame)) → flushing_on s now c o pieces g ≡ flushing_on s now c o pieces h
   same_on (Some lane) pieces =
-      ap (λ (xs : List ServerEvent). lending c (all_of pieces) ++ xs ++ (if has_closed c g then shutting lane g ++ letting_go c g else []))
+      ap (λ (xs : List ServerEvent). lending c (all_of pieces) ++ xs ++ (if has_closed c g then shutting lane g ++ removing_conn c g else []))
       (same_writing lane pieces)
-      ∙ ap (λ (b : Bool). lending c (all_of pieces) ++ writing s c lane pieces h ++ (if b then shutting lane g ++ letting_go c g else [])) same_closed
-      ∙ ap (λ (xs : List ServerEvent). lending c (all_of pieces) ++ writing s c lane pieces h ++ (if has_closed c h then xs ++ letting_go c g else []))
+      ∙ ap (λ (b : Bool). lending c (all_of pieces) ++ writing s c lane pieces h ++ (if b then shutting lane g ++ removing_conn c g else [])) same_closed
+      ∙ ap (λ (xs : List ServerEvent). lending c (all_of pieces) ++ writing s c lane pieces h ++ (if has_closed c h then xs ++ removing_conn c g else []))
       (same_shutting lane)
       ∙ ap (λ (xs : List ServerEvent). lending c (all_of pieces) ++ writing s c lane pieces h ++
       (if has_closed c h then shutting lane h ++ xs else [])) same_letting
   same_on None pieces =
-      ap (λ (b : Bool). if b then ending now c g ++ telling_poll_some s now c (poll_of c (notes g)) (all_of pieces) g
-      else (if has_closed c g then letting_go c g else [])) same_polling
-      ∙ ap (λ (xs : List ServerEvent). if is_polling c (notes h) then xs ++ telling_poll_some s now c (poll_of c (notes g)) (all_of pieces) g
-      else (if has_closed c g then letting_go c g else [])) same_ending
-      ∙ ap (λ (o : Option (ℕ × ℕ)). if is_polling c (notes h) then ending now c h ++ telling_poll_some s now c o (all_of pieces) g
-      else (if has_closed c g then letting_go c g else [])) alike.poll
+      ap (λ (b : Bool). if b then ending now c g ++ flushing_some_poll s now c (poll_of c (notes g)) (all_of pieces) g
+      else (if has_closed c g then removing_conn c g else [])) same_polling
+      ∙ ap (λ (xs : List ServerEvent). if is_polling c (notes h) then xs ++ flushing_some_poll s now c (poll_of c (notes g)) (all_of pieces) g
+      else (if has_closed c g then removing_conn c g else [])) same_ending
+      ∙ ap (λ (o : Option (ℕ × ℕ)). if is_polling c (notes h) then ending now c h ++ flushing_some_poll s now c o (all_of pieces) g
+      else (if has_closed c g then removing_conn c g else [])) alike.poll
       ∙ ap (λ (xs : List ServerEvent). if is_polling c (notes h) then ending now c h ++ xs
-      else (if has_closed c g then letting_go c g else [])) (same_poll_some (poll_of c (notes h)) (all_of pieces))
-      ∙ ap (λ (b : Bool). if is_polling c (notes h) then ending now c h ++ telling_poll_some s now c (poll_of c (notes h)) (all_of pieces) h
-      else (if b then letting_go c g else [])) same_closed
-      ∙ ap (λ (xs : List ServerEvent). if is_polling c (notes h) then ending now c h ++ telling_poll_some s now c (poll_of c (notes h)) (all_of pieces) h
+      else (if has_closed c g then removing_conn c g else [])) (same_poll_some (poll_of c (notes h)) (all_of pieces))
+      ∙ ap (λ (b : Bool). if is_polling c (notes h) then ending now c h ++ flushing_some_poll s now c (poll_of c (notes h)) (all_of pieces) h
+      else (if b then removing_conn c g else [])) same_closed
+      ∙ ap (λ (xs : List ServerEvent). if is_polling c (notes h) then ending now c h ++ flushing_some_poll s now c (poll_of c (notes h)) (all_of pieces) h
       else (if has_closed c h then xs else [])) same_letting
     where
       same_polling : is_polling c (notes g) ≡ is_polling c (notes h)
       same_polling = ap (λ (o : Option (ℕ × ℕ)). is_some o || is_some (poll_ended c (notes g))) alike.poll
           ∙ ap (λ (o : Option ℕ). is_some (poll_of c (notes h)) || is_some o) alike.polled
 
-  pub same_telling : (pieces : List (List LinkFrame)) → telling_on s now c (socket_of c (notes g)) pieces g ≡ telling s now c pieces h
-  same_telling pieces = ap (λ (o : Option ℕ). telling_on s now c o pieces g) alike.socket ∙ same_on (socket_of c (notes h)) pieces
+  pub same_telling : (pieces : List (List LinkFrame)) → flushing_on s now c (socket_of c (notes g)) pieces g ≡ flushing s now c pieces h
+  same_telling pieces = ap (λ (o : Option ℕ). flushing_on s now c o pieces g) alike.socket ∙ same_on (socket_of c (notes h)) pieces
 
   -- and the same is due there
   same_due_on : (o : Option ℕ) (poll : Option (ℕ × ℕ)) (pieces : List (List LinkFrame)) → AreDueOn s c o poll pieces g → AreDueOn s c o poll pieces h

@@ -13,8 +13,8 @@ use Rattle.hd_server.specs.declared.vocabulary.Said.{Said}
 use Rattle.hd_server.specs.Numbers.{held_for, most_before_last}
 use Rattle.hd_server.specs.Lives.{Answered, ConnectionEvent, poll_of, socket_of}
 use Rattle.hd_server.specs.Doings.{ServerEvent, Notes, config_of, has_closed, has_peer, history, moment, notes}
-use Rattle.hd_server.specs.Plans.{Setup, bare_reply, frames_reply, letting_go, onto, replying}
-use Rattle.hd_server.specs.Serves.{LendsUpTo, bytes_of, lending, telling_poll}
+use Rattle.hd_server.specs.Plans.{Setup, bare_reply, frames_reply, removing_conn, onto, replying}
+use Rattle.hd_server.specs.Serves.{LendsUpTo, bytes_of, lending, flushing_poll}
 use Rattle.hub_machine.specs.declared.machine.Machine.{Machine}
 use Rattle.hub_server.specs.declared.server.Server.{Server}
 use Rattle.hub_machine.specs.Machines.{OfConn, StandsMachine}
@@ -74,7 +74,7 @@ module _ {H Job : Type 0} (hub : Hub Job) (s : Setup) (u : Unsettled) (before : 
           let stood : Standing {H = H} hub s settled before new (Notes (Answered c lane (moment mid)) ∷ onto (replying lane reply mid) mid) =
           answers s settled before mid stands refl (mild.there ∙ there) (lane_of_poll c lane since (notes mid)
           (ap (poll_of c) mild.noted ∙ held)) in
-          let told : onto (telling_poll s (moment h) c (lane, since) (f ∷ fs) h) h ≡ Notes (Answered c lane (moment h)) ∷ onto
+          let told : onto (flushing_poll s (moment h) c (lane, since) (f ∷ fs) h) h ≡ Notes (Answered c lane (moment h)) ∷ onto
           (replying lane (frames_reply (bytes_of s c (f ∷ fs) h)) h) mid =
           onto_append (lending c (f ∷ fs) ++ replying lane (frames_reply (bytes_of s c (f ∷ fs) h)) h) (Notes (Answered c lane (moment h)) ∷ []) h
           ∙ ap (λ (g : List ServerEvent). Notes (Answered c lane (moment h)) ∷ g) (onto_append (lending c (f ∷ fs))
@@ -109,7 +109,7 @@ module _ {H Job : Type 0} (hub : Hub Job) (s : Setup) (u : Unsettled) (before : 
       → reply ≡ bare_reply 204
       → OfEach {H = H} hub (record v { machine = m }) (λ t w said g. w ≡ settled → (k : ℕ) → is_at lane k g ≡ true
       → Standing {H = H} hub t (lane_of (Some lane)) said mid (onto (replying lane reply g) g))
-      → OfEach {H = H} hub mid (λ t w said g. IsKnown c g → Frees {H = H} hub t w said new c g (onto (letting_go c g) g))
+      → OfEach {H = H} hub mid (λ t w said g. IsKnown c g → Frees {H = H} hub t w said new c g (onto (removing_conn c g) g))
       → FlushesPoll {H = H} hub s before new c (lane, since) h
   polls_closed r mid new reply e f shut is replies frees =
       let base : Standing {H = H} hub s settled before (record v { machine = m }) h = (bare_stands e).1 in
@@ -119,16 +119,16 @@ module _ {H Job : Type 0} (hub : Hub Job) (s : Setup) (u : Unsettled) (before : 
       let after : Standing {H = H} hub s (lane_of (Some lane)) before mid g = replies s settled before h base refl c on in
       let known : IsKnown c g = known_mild c g h mild (is_one {H = H} {Job = Job} hub s settled before
       (record v { machine = m }) c h base there).known in
-      let freed : Frees {H = H} hub s (lane_of (Some lane)) before new c g (onto (letting_go c g) g) = frees s
+      let freed : Frees {H = H} hub s (lane_of (Some lane)) before new c g (onto (removing_conn c g) g) = frees s
       (lane_of (Some lane)) before g after known in
       let still : is_at lane c g ≡ true = at_poll lane c g (mild.there ∙ there) (lane_of_poll c lane since (notes g)
       (ap (poll_of c) mild.noted ∙ held)) in
-      let told : onto (telling_poll s (moment h) c (lane, since) [] h) h ≡ onto (letting_go c g) g =
-      ap (λ (b : Bool). onto (if b then replying lane (bare_reply 204) h ++ letting_go c h
+      let told : onto (flushing_poll s (moment h) c (lane, since) [] h) h ≡ onto (removing_conn c g) g =
+      ap (λ (b : Bool). onto (if b then replying lane (bare_reply 204) h ++ removing_conn c h
       else (if nat_le (since + held_for) (moment h) then replying lane (bare_reply 200) h ++ Notes (Answered c lane (moment h)) ∷ [] else [])) h)
       (sym (closed_so r e shut) ∙ f)
-      ∙ onto_append (replying lane (bare_reply 204) h) (letting_go c h) h
-      ∙ ap (λ (q : Reply). onto (letting_go c h) (onto (replying lane q h) h)) (sym is)
+      ∙ onto_append (replying lane (bare_reply 204) h) (removing_conn c h) h
+      ∙ ap (λ (q : Reply). onto (removing_conn c h) (onto (replying lane q h) h)) (sym is)
       ∙ ap (λ (xs : List ServerEvent). onto xs g) (sym (letting_mild c g h mild)) in
       record {
         frames = [];
@@ -147,9 +147,9 @@ module _ {H Job : Type 0} (hub : Hub Job) (s : Setup) (u : Unsettled) (before : 
       answers s settled before h base refl there (lane_of_poll c lane since (notes h) held) in
       let clock : v.moment ≡ moment h = x.clock in
       let is_late : nat_le (since + held_for) (moment h) ≡ true = le-leb (since + held_for) (moment h) (omega (arith, by, long, some, clock)) in
-      let told : onto (telling_poll s (moment h) c (lane, since) [] h) h ≡ Notes (Answered c lane (moment h)) ∷ onto
+      let told : onto (flushing_poll s (moment h) c (lane, since) [] h) h ≡ Notes (Answered c lane (moment h)) ∷ onto
       (replying lane (bare_reply 200) h) h =
-      ap (λ (b : Bool). onto (if b then replying lane (bare_reply 204) h ++ letting_go c h
+      ap (λ (b : Bool). onto (if b then replying lane (bare_reply 204) h ++ removing_conn c h
       else (if nat_le (since + held_for) (moment h) then replying lane (bare_reply 200) h ++ Notes (Answered c lane (moment h)) ∷ [] else [])) h)
       (sym (closed_so r e shut) ∙ f)
       ∙ ap (λ (b : Bool). onto (if b then replying lane (bare_reply 200) h ++ Notes (Answered c lane (moment h)) ∷ [] else []) h) is_late
@@ -170,8 +170,8 @@ module _ {H Job : Type 0} (hub : Hub Job) (s : Setup) (u : Unsettled) (before : 
   polls_on r late rested e f shut by short rests =
       let base : Standing {H = H} hub s settled before (record v { machine = m }) h = (bare_stands e).1 in
       let clock : v.moment ≡ moment h = x.clock in
-      let told : onto (telling_poll s (moment h) c (lane, since) [] h) h ≡ h =
-      ap (λ (b : Bool). onto (if b then replying lane (bare_reply 204) h ++ letting_go c h
+      let told : onto (flushing_poll s (moment h) c (lane, since) [] h) h ≡ h =
+      ap (λ (b : Bool). onto (if b then replying lane (bare_reply 204) h ++ removing_conn c h
       else (if nat_le (since + held_for) (moment h) then replying lane (bare_reply 200) h ++ Notes (Answered c lane (moment h)) ∷ [] else [])) h)
       (sym (closed_so r e shut) ∙ f)
       ∙ ap (λ (b : Bool). onto (if b then replying lane (bare_reply 200) h ++ Notes (Answered c lane (moment h)) ∷ [] else []) h)

@@ -12,11 +12,11 @@ use Rattle.hd_calls.specs.Hubs.{Hub}
 use Rattle.hd_calls.specs.Peers.{PeerEvent, Settings, codec, is_shut, steps}
 use Rattle.hd_server.specs.declared.vocabulary.Said.{Said}
 use Rattle.hd_server.specs.declared.vocabulary.Said.TheVariants as say
-use Rattle.hd_server.specs.Lives.{LetGo, is_let_go, is_made}
+use Rattle.hd_server.specs.Lives.{LetGo, is_removed, is_made}
 use Rattle.hd_server.specs.Machine.{Goes, has_gone, is_open_at, moves, settings_of}
 use Rattle.hd_server.specs.Doings.{ServerEvent, Notes, Works, Says, config_of, config_with, has_closed, has_peer, history, history_with, is_up, moment}
 use Rattle.hd_server.specs.Doings.{notes, peer, wants_shut, was_refused, work}
-use Rattle.hd_server.specs.Plans.{Setup, letting_go, onto, replying, shutting}
+use Rattle.hd_server.specs.Plans.{Setup, removing_conn, onto, replying, shutting}
 use Rattle.hd_server.specs.Serves.{LendsAll, LendsUpTo, bytes_of, is_text, lending, writing}
 use Rattle.hub_machine.specs.declared.machine.Machine.{Machine}
 use Rattle.hub_server.specs.declared.server.Server.{Server}
@@ -102,10 +102,10 @@ replying_says lane reply h = either_says ((reply.status == 400) || (wants_shut l
 pub known_mild : (c : ℕ) (g h : List ServerEvent) → Mild c g h → IsKnown c h → IsKnown c g
 known_mild c g h x k = record {
   made = subst (λ n. is_made c n ≡ true) (sym x.noted) k.made;
-  held = subst (λ n. is_let_go c n ≡ false) (sym x.noted) k.held;
+  held = subst (λ n. is_removed c n ≡ false) (sym x.noted) k.held;
 }
 
-pub letting_mild : (c : ℕ) (g h : List ServerEvent) → Mild c g h → letting_go c g ≡ letting_go c h
+pub letting_mild : (c : ℕ) (g h : List ServerEvent) → Mild c g h → removing_conn c g ≡ removing_conn c h
 letting_mild c g h x = ap (λ (b : Bool). (if b then Works (Goes c) ∷ [] else []) ++ Notes (LetGo c) ∷ []) x.there
 
 pub shutting_mild : (c lane : ℕ) (g h : List ServerEvent) → Mild c g h → shutting lane g ≡ shutting lane h
@@ -129,7 +129,7 @@ up_there c g = go (settings_of c (work g)) (has_gone c (work g)) (peer c g)
     go (Some t) false ms e f = ap not f
 
 -- one of which nothing is kept is there no more
-pub gone_after : (c : ℕ) (g h : List ServerEvent) → has_peer c h ≡ true → has_peer c (onto (letting_go c h) g) ≡ false
+pub gone_after : (c : ℕ) (g h : List ServerEvent) → has_peer c h ≡ true → has_peer c (onto (removing_conn c h) g) ≡ false
 gone_after c g h there =
     subst (λ (b : Bool). has_peer c (onto ((if b then Works (Goes c) ∷ [] else []) ++ Notes (LetGo c) ∷ []) g) ≡ false) (sym there)
     (subst (λ (b : Bool). (is_some (settings_of c (work g)) && not (b || has_gone c (work g))) ≡ false) (sym (eq-eqb c c refl))

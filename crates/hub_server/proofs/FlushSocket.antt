@@ -14,8 +14,8 @@ use Rattle.hd_server.specs.declared.vocabulary.Said.TheVariants as say
 use Rattle.hd_server.specs.Lives.{poll_of, socket_of}
 use Rattle.hd_server.specs.Machine.{MachineEvent, moves, settings_of}
 use Rattle.hd_server.specs.Doings.{ServerEvent, Says, config_of, config_with, has_closed, has_peer, history, history_with, notes, was_refused, work}
-use Rattle.hd_server.specs.Plans.{Setup, letting_go, onto, shutting}
-use Rattle.hd_server.specs.Serves.{AreNonempty, LendsAll, all_of, bytes_of, is_text, lending, telling_socket, writing}
+use Rattle.hd_server.specs.Plans.{Setup, removing_conn, onto, shutting}
+use Rattle.hd_server.specs.Serves.{AreNonempty, LendsAll, all_of, bytes_of, is_text, lending, flushing_socket, writing}
 use Rattle.hub_machine.specs.declared.machine.Machine.{Machine}
 use Rattle.hub_server.specs.declared.server.Server.{Server}
 use Rattle.hub_machine.specs.Machines.{OfConn, StandsMachine}
@@ -169,23 +169,23 @@ module _ {H Job : Type 0} (hub : Hub Job) (s : Setup) (before : List Said) (v : 
       unclosed = sym mild.closed ∙ sym (closed_is {H = H} {Job = Job} hub s settled before v c
           (onto (lending c (all_of w.pieces) ++ writing s c lane w.pieces h) h) w.stands (mild.there ∙ there) r of) ∙ e
 
-      after : onto (telling_socket s c lane w.pieces h) h ≡ onto (lending c (all_of w.pieces) ++ writing s c lane w.pieces h) h
+      after : onto (flushing_socket s c lane w.pieces h) h ≡ onto (lending c (all_of w.pieces) ++ writing s c lane w.pieces h) h
       after =
           ap (λ (b : Bool). onto (lending c (all_of w.pieces) ++ writing s c lane w.pieces h ++
-          (if b then shutting lane h ++ letting_go c h else [])) h) unclosed
+          (if b then shutting lane h ++ removing_conn c h else [])) h) unclosed
           ∙ ap (λ (xs : List ServerEvent). onto xs h) (append-nil (lending c (all_of w.pieces) ++ writing s c lane w.pieces h))
 
   -- it is closed: its lane was shut, and nothing is kept of it
   pub tells_closed : (r : Bool) (mid new : Server H Job) → r ≡ true → OfConn {H = H} hub v.machine c (λ k t ms. r ≡ is_shut t ms)
       → OfEach {H = H} hub v (λ t u said g. (k : ℕ) → is_at lane k g ≡ true → Standing {H = H} hub t u said mid (onto (shutting lane g) g))
-      → OfEach {H = H} hub mid (λ t u said g. IsKnown c g → Frees {H = H} hub t u said new c g (onto (letting_go c g) g))
+      → OfEach {H = H} hub mid (λ t u said g. IsKnown c g → Frees {H = H} hub t u said new c g (onto (removing_conn c g) g))
       → FlushesOne {H = H} hub s before new c (Some lane) (poll_of c (notes h)) h
   tells_closed r mid new e of shuts frees = record {
     pieces = w.pieces;
     due = (w.some, w.due);
     stands = subst (λ g. Standing {H = H} hub s settled before new g) (sym after) freed.stands;
     rested = subst (λ g. IsRested c g) (sym after)
-        (λ at. absurd (both_ways (has_peer c (onto (letting_go c (onto (shutting lane base) base)) (onto (shutting lane base) base)))
+        (λ at. absurd (both_ways (has_peer c (onto (removing_conn c (onto (shutting lane base) base)) (onto (shutting lane base) base)))
         (gone_after c (onto (shutting lane base) base) (onto (shutting lane base) base) (both.there ∙ there)) at));
   }
     where
@@ -202,17 +202,17 @@ module _ {H Job : Type 0} (hub : Hub Job) (s : Setup) (before : List Said) (v : 
       closed = sym mild.closed ∙ sym (closed_is {H = H} {Job = Job} hub s settled before v c base w.stands (mild.there ∙ there) r of) ∙ e
 
       freed : Frees {H = H} hub s settled before new c (onto (shutting lane base) base)
-          (onto (letting_go c (onto (shutting lane base) base)) (onto (shutting lane base) base))
+          (onto (removing_conn c (onto (shutting lane base) base)) (onto (shutting lane base) base))
       freed = frees s settled before (onto (shutting lane base) base)
           (shuts s settled before base w.stands c (at_socket lane c base (mild.there ∙ there) (ap (socket_of c) mild.noted ∙ on)))
           (known_mild c (onto (shutting lane base) base) base shut (is_one {H = H} {Job = Job} hub s settled before v c base w.stands
           (mild.there ∙ there)).known)
 
-      after : onto (telling_socket s c lane w.pieces h) h ≡ onto (letting_go c (onto (shutting lane base) base)) (onto (shutting lane base) base)
+      after : onto (flushing_socket s c lane w.pieces h) h ≡ onto (removing_conn c (onto (shutting lane base) base)) (onto (shutting lane base) base)
       after =
           ap (λ (b : Bool). onto (lending c (all_of w.pieces) ++ writing s c lane w.pieces h ++
-          (if b then shutting lane h ++ letting_go c h else [])) h) closed
-          ∙ onto_append (lending c (all_of w.pieces) ++ writing s c lane w.pieces h) (shutting lane h ++ letting_go c h) h
-          ∙ onto_append (shutting lane h) (letting_go c h) base
-          ∙ ap (λ (xs : List ServerEvent). onto (letting_go c h) (onto xs base)) (sym (shutting_mild c lane base h mild))
+          (if b then shutting lane h ++ removing_conn c h else [])) h) closed
+          ∙ onto_append (lending c (all_of w.pieces) ++ writing s c lane w.pieces h) (shutting lane h ++ removing_conn c h) h
+          ∙ onto_append (shutting lane h) (removing_conn c h) base
+          ∙ ap (λ (xs : List ServerEvent). onto (removing_conn c h) (onto xs base)) (sym (shutting_mild c lane base h mild))
           ∙ ap (λ (xs : List ServerEvent). onto xs (onto (shutting lane base) base)) (sym (letting_mild c (onto (shutting lane base) base) h both))

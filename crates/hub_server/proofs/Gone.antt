@@ -4,7 +4,7 @@ use Rattle.std.specs.Prelude.{if◌then◌else◌, option_map}
 use Rattle.std.proofs.lemmas.Bool.{and_from, and_right, both_ways, cond-false, cond-true, eq-eqb, eqb-true, false_from_ne_true, or_cases, or_left}
 use Rattle.std.proofs.lemmas.Bool.{or_right}
 use Rattle.hd_delivery.specs.Histories.{is_this}
-use Rattle.hd_server.specs.Lives.{LetGo, is_let_go, is_polling, lost_at, poll_ended, poll_of, socket_of}
+use Rattle.hd_server.specs.Lives.{LetGo, is_removed, is_polling, lost_at, poll_ended, poll_of, socket_of}
 use Rattle.hd_server.specs.Machine.{Goes, has_gone, settings_of}
 use Rattle.hd_server.specs.Doings.{ServerEvent, Notes, Works, has_peer, moment, notes, said, user_of, work}
 use Rattle.hub_server.specs.declared.lane.Lane.{Lane}
@@ -63,7 +63,7 @@ used_there u c h known o e = go (has_peer c h) refl (is_some (settings_of c (wor
   where
     go : (b : Bool) → has_peer c h ≡ b → (s : Bool) → is_some (settings_of c (work h)) ≡ s → has_peer c h ≡ true
     go true p s q = p
-    go false p true q = absurd (both_ways (is_let_go c (notes h)) known.held (o.gone q p))
+    go false p true q = absurd (both_ways (is_removed c (notes h)) known.held (o.gone q p))
     go false p false q = absurd (both_ways _ (o.unused q) e)
 
 pub at_is_on : (u : Unsettled) (l c : ℕ) (h : List ServerEvent) → IsKnown c h → IsOrderly u c h → is_at l c h ≡ is_on l c h
@@ -144,11 +144,11 @@ pub record Freed (c : ℕ) (g h : List ServerEvent) : Type 0 where
   pub same_moment : moment g ≡ moment h
   pub same_words : said g ≡ said h
 
-let_go_now : (c : ℕ) (h : List ServerEvent) → is_let_go c (notes (Notes (LetGo c) ∷ h)) ≡ true
-let_go_now c h = or_left (c == c) (is_let_go c (notes h)) (eq-eqb c c refl)
+let_go_now : (c : ℕ) (h : List ServerEvent) → is_removed c (notes (Notes (LetGo c) ∷ h)) ≡ true
+let_go_now c h = or_left (c == c) (is_removed c (notes h)) (eq-eqb c c refl)
 
-none_calls : (c : ℕ) (h : List ServerEvent) → is_let_go c (notes h) ≡ true → caller_of c h ≡ None
-none_calls c h e = cond-true _ None (user_of c h) (or_right (is_some (settings_of c (work h))) (is_let_go c (notes h)) e)
+none_calls : (c : ℕ) (h : List ServerEvent) → is_removed c (notes h) ≡ true → caller_of c h ≡ None
+none_calls c h e = cond-true _ None (user_of c h) (or_right (is_some (settings_of c (work h))) (is_removed c (notes h)) e)
 
 gone_now : (c : ℕ) (h : List ServerEvent) → has_peer c (Notes (LetGo c) ∷ Works (Goes c) ∷ h) ≡ false
 gone_now c h = and_right (is_some (settings_of c (work h))) _ (ap (λ b. not (b || has_gone c (work h))) (eq-eqb c c refl))

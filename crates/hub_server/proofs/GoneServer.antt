@@ -17,9 +17,9 @@ use Rattle.hd_server.specs.declared.vocabulary.Said.{Said}
 use Rattle.hd_server.specs.declared.vocabulary.Said.TheVariants as say
 use Rattle.hd_server.specs.Lives.{Answered, LaneLost, LetGo, ConnectionEvent, is_made, is_polling, lost_at, poll_ended, poll_of, socket_of}
 use Rattle.hd_server.specs.Machine.{Goes, MachineEvent, has_gone, is_there, moves, settings_of}
-use Rattle.hd_server.specs.Doings.{ServerEvent, Notes, Says, Works, config_of, has_peer, history, is_granted, is_up, moment, notes, said, wants_shut}
+use Rattle.hd_server.specs.Doings.{ServerEvent, Notes, Says, Works, config_of, has_peer, history, may_resume, is_up, moment, notes, said, wants_shut}
 use Rattle.hd_server.specs.Doings.{was_refused, work}
-use Rattle.hd_server.specs.Plans.{Setup, closing, letting_go, onto, replying, shutting, step}
+use Rattle.hd_server.specs.Plans.{Setup, closing, removing_conn, onto, replying, shutting, step}
 use Rattle.hn_server_front.specs.Stands as front
 use Rattle.hub_server.specs.declared.lane.Lane.{Lane}
 use Rattle.hub_server.specs.declared.server.Server.{Server}
@@ -146,7 +146,7 @@ module _ {H Job : Type 0} (hub : Hub Job) (s : Setup) (u : Unsettled) (before : 
 
   pub lets_go : ((t : Settings) → settings_there c (work h) ≡ Some t → StandsMachine {H = H} hub new.machine (Goes c ∷ work h))
       → (settings_there c (work h) ≡ None → StandsMachine {H = H} hub new.machine (work h)) → front.Stands new.front (LetGo c ∷ notes h)
-      → Frees {H = H} hub s u before new c h (onto (letting_go c h) h)
+      → Frees {H = H} hub s u before new c h (onto (removing_conn c h) h)
   lets_go goes stays fronts = go (has_peer c h) refl
     where
       go : (b : Bool) → has_peer c h ≡ b
@@ -158,7 +158,7 @@ module _ {H Job : Type 0} (hub : Hub Job) (s : Setup) (u : Unsettled) (before : 
 
 module _ (c lane now : ℕ) (h : List ServerEvent) (o : IsOrderly (cut_of lane) c h) (there : has_peer c h ≡ true)
     (present : present_link (history c h) ≡ None)
-    (socket : socket_of c (notes h) ≡ Some lane) (granted : is_granted c h ≡ true) where
+    (socket : socket_of c (notes h) ≡ Some lane) (granted : may_resume c h ≡ true) where
   abbrev lost : List ServerEvent
   lost = Notes (LaneLost c lane now) ∷ h
 
@@ -250,7 +250,7 @@ module _ {H Job : Type 0} (hub : Hub Job) (s : Setup) (before : List Said) (old 
       (λ f. subst (λ n. get nat_cmp new.lanes n ≡ None) (sym (eqb-true l lane f)) own) (λ f. others l (unequal l lane f))
 
   pub loses : Standing {H = H} hub s (cut_of lane) before old h → present_link (history c h) ≡ None → socket_of c (notes h) ≡ Some lane
-      → is_granted c h ≡ true
+      → may_resume c h ≡ true
       → front.Stands new.front (LaneLost c lane (moment h) ∷ notes h)
       → Standing {H = H} hub s settled before new (Notes (LaneLost c lane (moment h)) ∷ h)
   loses stands present socket granted fronts =
@@ -427,12 +427,12 @@ held_lane u (Some x) l c h has at = (x, refl, has)
 
 -- what is kept of it is read after it is closed as before
 pub closing_then : (c : ℕ) (why : Reason) (h : List ServerEvent)
-    → onto (letting_go c (onto (closing c why h) h)) (onto (closing c why h) h) ≡ onto (closing c why h ++ letting_go c h) h
+    → onto (removing_conn c (onto (closing c why h) h)) (onto (closing c why h) h) ≡ onto (closing c why h ++ removing_conn c h) h
 closing_then c why h = go (is_up c h)
   where
     go : (b : Bool)
-        → onto (letting_go c (onto (if b then step c (Closed why false) ∷ [] else []) h)) (onto (if b then step c (Closed why false) ∷ [] else []) h)
-        ≡ onto ((if b then step c (Closed why false) ∷ [] else []) ++ letting_go c h) h
+        → onto (removing_conn c (onto (if b then step c (Closed why false) ∷ [] else []) h)) (onto (if b then step c (Closed why false) ∷ [] else []) h)
+        ≡ onto ((if b then step c (Closed why false) ∷ [] else []) ++ removing_conn c h) h
     go true = refl
     go false = refl
 

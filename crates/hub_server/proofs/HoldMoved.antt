@@ -6,7 +6,7 @@ use Rattle.std.proofs.lemmas.Bool.{and_from, both_ways, cond-true, cond-false, e
 use Rattle.hd_delivery.specs.Histories.{is_this}
 use Rattle.hd_calls.specs.Peers.{PeerEvent}
 use Rattle.hd_server.specs.declared.vocabulary.Said.TheVariants as say
-use Rattle.hd_server.specs.Lives.{ConnectionEvent, Answered, socket_of, lost_at, poll_of, is_let_go, is_made}
+use Rattle.hd_server.specs.Lives.{ConnectionEvent, Answered, socket_of, lost_at, poll_of, is_removed, is_made}
 use Rattle.hd_server.specs.Machine.{has_gone, settings_of}
 use Rattle.hd_server.specs.Doings.{ServerEvent, Notes, Says, notes, work, moment, awaits_reply, has_peer, wants_shut, was_refused}
 use Rattle.hd_server.specs.Plans.{bare_reply, ending_held, ending_poll, onto, replying}
@@ -67,7 +67,7 @@ come_moved at is_last g h x come = record {
 
 pub hold_moved : (k : ℕ) (g h : List ServerEvent) → IsMoved g h → CanHold k h → CanHold k g
 hold_moved k g h x can = record {
-  known = record { made = ap (is_made k) x.notes ∙ can.known.made; held = ap (is_let_go k) x.notes ∙ can.known.held };
+  known = record { made = ap (is_made k) x.notes ∙ can.known.made; held = ap (is_removed k) x.notes ∙ can.known.held };
   there = there_moved g h x k ∙ can.there;
   unsocketed = ap (socket_of k) x.notes ∙ can.unsocketed;
   unlost = ap (lost_at k) x.notes ∙ can.unlost;

@@ -11,7 +11,7 @@ use Rattle.hd_delivery.specs.Processes.{processes}
 use Rattle.hd_calls.specs.Hubs.{Hub}
 use Rattle.hd_calls.specs.Peers.{waiting}
 use Rattle.hd_server.specs.declared.vocabulary.Said.{Said}
-use Rattle.hd_server.specs.Lives.{ConnectionEvent, Polled, socket_of, lost_at, poll_of, is_let_go, is_made, is_polling}
+use Rattle.hd_server.specs.Lives.{ConnectionEvent, Polled, socket_of, lost_at, poll_of, is_removed, is_made, is_polling}
 use Rattle.hd_server.specs.Machine.{is_there, moves, settings_of}
 use Rattle.hd_server.specs.Doings.{ServerEvent, Notes, notes, work, moment, awaits_reply, config_with, has_peer, history, history_with, is_upgraded}
 use Rattle.hd_server.specs.Plans.{Setup}
@@ -46,7 +46,7 @@ no_some o n e f = both_ways (is_some o) (ap (λ (p : Option ℕ). is_some p) e) 
 -- a connection that polls, and stands on no socket, is in order whatever wasn't settled
 module _ (u v : Unsettled) (k : ℕ) (g h : List ServerEvent) (same : work g ≡ work h) (moments : moment g ≡ moment h)
     (made : is_made k (notes g) ≡ is_made k (notes h))
-    (let_go : is_let_go k (notes g) ≡ is_let_go k (notes h)) (socket : socket_of k (notes g) ≡ None) (lost : lost_at k (notes g) ≡ None)
+    (let_go : is_removed k (notes g) ≡ is_removed k (notes h)) (socket : socket_of k (notes g) ≡ None) (lost : lost_at k (notes g) ≡ None)
     (polling : is_polling k (notes g) ≡ true) (begun : is_some (settings_of k (work h)) ≡ true) (o : IsOrderly u k h) where
   unlost : is_some (lost_at k (notes g)) ≡ false
   unlost = ap (λ (p : Option ℕ). is_some p) lost
@@ -188,12 +188,12 @@ polled_stands {H} {Job} hub s u before old mid k at is_last h st is come can cut
 
 -- ---- the lane of the poll that it held
 
-held_lane : (r : Option Held) (k : ℕ) (n : List ConnectionEvent) → held_as r ≡ poll_held k n → is_made k n ≡ true → is_let_go k n ≡ false
+held_lane : (r : Option Held) (k : ℕ) (n : List ConnectionEvent) → held_as r ≡ poll_held k n → is_made k n ≡ true → is_removed k n ≡ false
     → option_map (λ (p : Held). p.lane) r ≡ poll_lane k n
 held_lane r k n e made held =
     lane_in r
     ∙ ap (λ (o : Option (ℕ × ℕ)). option_map (λ (p : ℕ × ℕ). p.0) o)
-    (e ∙ cond-true (is_made k n && not (is_let_go k n)) (poll_of k n) None (and_from (is_made k n) (not (is_let_go k n)) made (ap not held)))
+    (e ∙ cond-true (is_made k n && not (is_removed k n)) (poll_of k n) None (and_from (is_made k n) (not (is_removed k n)) made (ap not held)))
   where
     lane_in : (o : Option Held) → option_map (λ (p : Held). p.lane) o ≡ option_map (λ (p : ℕ × ℕ). p.0) (held_as o)
     lane_in None = refl
@@ -202,7 +202,7 @@ held_lane r k n e made held =
 -- there was one
 pub cuts_held : {H Job : Type 0} (k : ℕ) (n : List ConnectionEvent) (r : Option Held) (p : Held) (old mid : Server H Job) (lanes : BTreeMap ℕ Lane)
     → held_as r ≡ poll_held k n
-    → is_made k n ≡ true → is_let_go k n ≡ false → r ≡ Some p → Updates nat_cmp old.lanes lanes p.lane None → mid ≡ record old { lanes = lanes }
+    → is_made k n ≡ true → is_removed k n ≡ false → r ≡ Some p → Updates nat_cmp old.lanes lanes p.lane None → mid ≡ record old { lanes = lanes }
     → CutsLane {H = H} {Job = Job} (poll_lane k n) old mid
 cuts_held {H} {Job} k n r p old mid lanes e made held is updates same =
     let there : poll_lane k n ≡ Some p.lane = sym (held_lane r k n e made held) ∙ ap (λ (o : Option Held). option_map (λ (q : Held). q.lane) o) is in
@@ -210,7 +210,7 @@ cuts_held {H} {Job} k n r p old mid lanes e made held is updates same =
 
 -- there was none
 pub cuts_unheld : {H Job : Type 0} (k : ℕ) (n : List ConnectionEvent) (r : Option Held) (old mid : Server H Job) → held_as r ≡ poll_held k n
-    → is_made k n ≡ true → is_let_go k n ≡ false → r ≡ None → mid ≡ old → CutsLane {H = H} {Job = Job} (poll_lane k n) old mid
+    → is_made k n ≡ true → is_removed k n ≡ false → r ≡ None → mid ≡ old → CutsLane {H = H} {Job = Job} (poll_lane k n) old mid
 cuts_unheld {H} {Job} k n r old mid e made held is same =
     let there : poll_lane k n ≡ None = sym (held_lane r k n e made held) ∙ ap (λ (o : Option Held). option_map (λ (q : Held). q.lane) o) is in
     subst (λ o. CutsLane {H = H} {Job = Job} o old mid) (sym there) (cut_none {H = H} {Job = Job} old mid same)

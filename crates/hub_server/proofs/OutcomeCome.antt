@@ -10,7 +10,7 @@ use Rattle.hd_server.specs.declared.vocabulary.Said.TheVariants as say
 use Rattle.hd_server.specs.Lives.{Answered, LetGo, is_polling, poll_ended, poll_of, socket_of}
 use Rattle.hd_server.specs.Machine.{MachineEvent, Does, Goes, has_gone, is_open, is_there, settings_of}
 use Rattle.hd_server.specs.Doings.{ServerEvent, Notes, Says, Works, awaits_reply, has_peer, is_up, notes, wants_shut, was_refused, work}
-use Rattle.hd_server.specs.Plans.{Setup, PendingRequest, bare_reply, closing, ending_held, ending_poll, letting_go, onto, replying, shutting, shutting_some, standing_on, step}
+use Rattle.hd_server.specs.Plans.{Setup, PendingRequest, bare_reply, closing, ending_held, ending_poll, removing_conn, onto, replying, shutting, shutting_some, standing_on, step}
 use Rattle.hd_server.specs.Serves.{FeedsOne, moving}
 use Rattle.hub_server.specs.Lanes.{IsNobodys, is_at, poll_lane}
 use Rattle.hub_server.specs.Connections.{IsKnown}
@@ -159,7 +159,7 @@ ended_stays lane c now h nobody there = ended_either (λ (g : List ServerEvent).
 
 -- ---- the connection is closed and let go
 
-pub closed_stays : (lane c : ℕ) (why : Reason) (g h : List ServerEvent) → Stays lane (onto (closing c why g ++ letting_go c g) h) h
+pub closed_stays : (lane c : ℕ) (why : Reason) (g h : List ServerEvent) → Stays lane (onto (closing c why g ++ removing_conn c g) h) h
 closed_stays lane c why g h = go (is_up c g) (has_peer c g)
   where
     go : (a b : Bool)
@@ -172,18 +172,18 @@ closed_stays lane c why g h = go (is_up c g) (has_peer c g)
 
 -- the doings of its deletion, one after the other, are those of the plan
 pub deleted_so : (lane c now : ℕ) (why : Reason) (reply : Reply) (h : List ServerEvent)
-    → Stays lane (onto (closing c why (onto (ending_held c now h) h) ++ letting_go c (onto (ending_held c now h) h)) (onto (ending_held c now h) h)) h
-    → onto (replying lane reply (onto (closing c why (onto (ending_held c now h) h) ++ letting_go c (onto (ending_held c now h) h))
+    → Stays lane (onto (closing c why (onto (ending_held c now h) h) ++ removing_conn c (onto (ending_held c now h) h)) (onto (ending_held c now h) h)) h
+    → onto (replying lane reply (onto (closing c why (onto (ending_held c now h) h) ++ removing_conn c (onto (ending_held c now h) h))
     (onto (ending_held c now h) h)))
-    (onto (closing c why (onto (ending_held c now h) h) ++ letting_go c (onto (ending_held c now h) h)) (onto (ending_held c now h) h))
-    ≡ onto (ending_held c now h ++ closing c why h ++ letting_go c h ++ replying lane reply h) h
+    (onto (closing c why (onto (ending_held c now h) h) ++ removing_conn c (onto (ending_held c now h) h)) (onto (ending_held c now h) h))
+    ≡ onto (ending_held c now h ++ closing c why h ++ removing_conn c h ++ replying lane reply h) h
 deleted_so lane c now why reply h s =
     let ended : List ServerEvent = onto (ending_held c now h) h in
-    let gone : List ServerEvent = onto (closing c why ended ++ letting_go c ended) ended in
+    let gone : List ServerEvent = onto (closing c why ended ++ removing_conn c ended) ended in
     let closes : List ServerEvent = closing c why h in
-    let lets : List ServerEvent = letting_go c h in
+    let lets : List ServerEvent = removing_conn c h in
     let says : List ServerEvent = replying lane reply h in
-    let as_before : closing c why ended ++ letting_go c ended ≡ closes ++ lets =
+    let as_before : closing c why ended ++ removing_conn c ended ≡ closes ++ lets =
     ap (λ (w : List MachineEvent). (if is_open c w then step c (Closed why false) ∷ [] else [])
     ++ ((if is_there c w then Works (Goes c) ∷ [] else []) ++ Notes (LetGo c) ∷ [])) (ended_work c now h) in
     ap (λ (xs : List ServerEvent). onto xs gone) (replying_stays lane reply gone h s)

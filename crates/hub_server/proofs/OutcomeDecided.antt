@@ -16,7 +16,7 @@ use Rattle.hd_server.specs.Laws.{LivesAreSettled, LotsMatterToTokens, OutcomesSu
 use Rattle.hd_server.specs.Lives.{ConnectionEvent, conn_with, is_busy, is_known, is_made, known_conn, life, life_of, life_of_some}
 use Rattle.hd_server.specs.Table.{Facts, asks_keeper, id_in, is_entry, is_keepers_fault, is_unauthorized, outcome, socket_outcome}
 use Rattle.hd_server.specs.Doings.{ServerEvent, moment, name_now, notes}
-use Rattle.hd_server.specs.Plans.{PendingRequest, Setup, caller_by, conn_of_some, facts, is_granted_some, learning, named_conn, onto}
+use Rattle.hd_server.specs.Plans.{PendingRequest, Setup, caller_by, conn_of_some, facts, may_resume_some, learning, named_conn, onto}
 use Rattle.hn_server_front.specs.Calls as calls
 use Rattle.hn_server_front.specs.Routes.{RoutesTo, entry_outcome, facts_at, is_entry_at, known_conn_of_some, outcome_at, token_at}
 use Rattle.hn_server_front.specs.declared.route.Route.{Route}
@@ -24,7 +24,7 @@ use Rattle.hn_server_front.specs.declared.route.Route.TheVariants as route
 use Rattle.hub_server.specs.declared.server.Server.{Server}
 use Rattle.hub_server.specs.Lanes.{settled}
 use Rattle.hub_server.specs.Servers.{OfEach, Standing}
-use Rattle.hub_server.specs.Steps.{Handles, NoneOverdue, around}
+use Rattle.hub_server.specs.Steps.{Handles, NoneOverdue, outside}
 use Rattle.hub_server.specs.Requests.{CarriesOut, IsCaller, IsNamed, IsSeen, OfRequest, is_about_token, name_meant, text_asked}
 use Rattle.hub_server.proofs.OutcomeHandles.{decided, handled, known, learned_come, learned_moment, learned_none, learned_rested, learned_standing, name_learned, pending_request}
 use Rattle.hub_server.proofs.OutcomeTokens.{known_by}
@@ -123,7 +123,7 @@ for_conn {H} hub s before new o c d told failures told_now failures_now h Deleti
 
 module _ (s : Setup) (r : Request) (to : Route) (routed : RoutesTo s.base r to) (who : Caller) (name : Option (Option (List ℕ)))
     (is_who : who ≡ caller_by (asks_keeper s.base r) r.bearer name) (now : ℕ) (g : List ServerEvent) (named : Option ℕ)
-    (known_is : named ≡ known_conn_of_some (token_at to) now (notes g)) (resumable : Bool) (grants : resumable ≡ is_granted_some named g) where
+    (known_is : named ≡ known_conn_of_some (token_at to) now (notes g)) (resumable : Bool) (grants : resumable ≡ may_resume_some named g) where
   abbrev seen : Facts
   seen = facts s now r name false g
 
@@ -137,7 +137,7 @@ module _ (s : Setup) (r : Request) (to : Route) (routed : RoutesTo s.base r to) 
   decides out is =
       is
       ∙ routed.by_rows (facts_at r who resumable now (notes g))
-      ∙ by_grant to (facts_at r who false now (notes g)) resumable seen.granted (λ token e k. grants ∙ ap (λ (o : Option ℕ). is_granted_some o g) (named_is token e k))
+      ∙ by_grant to (facts_at r who false now (notes g)) resumable seen.granted (λ token e k. grants ∙ ap (λ (o : Option ℕ). may_resume_some o g) (named_is token e k))
       ∙ sym (routed.by_rows (facts_at r who seen.granted now (notes g)))
       ∙ ap (λ (w : Caller). outcome s.base r (facts_at r w seen.granted now (notes g))) is_who
 
@@ -162,7 +162,7 @@ module _ (s : Setup) (r : Request) (to : Route) (routed : RoutesTo s.base r to) 
           made = made_one;
           lives = ap (λ (o : Option ℕ). life_of_some o now (notes g)) is_one ∙ ap (λ (m : ℕ). life_of c m (notes g)) at
               ∙ law c (moment g) (notes g) made_one none;
-          grants = ap (λ (o : Option ℕ). is_granted_some o g) is_one;
+          grants = ap (λ (o : Option ℕ). may_resume_some o g) is_one;
         };
   }
 
@@ -175,7 +175,7 @@ module _ {H Job : Type 0} (hub : Hub Job) (old new : Server H Job) (lane : ℕ) 
     (called : IsCaller (text_asked (is_entry_at to) r.bearer) r.bearer who holds answers faults holds_now answers_now faults_now)
     (named : Option ℕ) (known_is : calls.OfEach old.front (λ n. named ≡ known_conn_of_some (token_at to) old.moment n))
     (made : calls.OfEach old.front (λ n. IfSome named (λ c. is_made c n ≡ true))) (conn : ℕ) (conn_is : conn ≡ unwrap_or named 0) (resumable : Bool)
-    (grants : OfEach {H = H} hub old (λ s u before h. resumable ≡ is_granted_some named h)) (out : Outcome)
+    (grants : OfEach {H = H} hub old (λ s u before h. resumable ≡ may_resume_some named h)) (out : Outcome)
     (by_rows : calls.OfEach old.front (λ n. (b : List ℕ) (q : Request) → RoutesTo b q to → out ≡ outcome b q (facts_at q who resumable old.moment n)))
   where
     pub handled_there : OfRequest {H = H} hub old lane r.shut (λ s before h. (o : PendingRequest) → o.now ≡ moment h → o.lane ≡ lane
@@ -183,7 +183,7 @@ module _ {H Job : Type 0} (hub : Hub Job) (old new : Server H Job) (lane : ℕ) 
         → IsSeen f conn out h
         → CarriesOut {H = H} hub s before new o conn told failures told_now failures_now h out)
         → OfRequest {H = H} hub old lane r.shut (λ s before h. name_now h ≡ None → Handles {H = H} hub s before new
-        (around holds answers faults told failures) (around holds_now answers_now faults_now told_now failures_now) (event.Request lane r) h)
+        (outside holds answers faults told failures) (outside holds_now answers_now faults_now told_now failures_now) (event.Request lane r) h)
     handled_there did s before h st rests come none unnamed =
         let based : base ≡ s.base = read ∙ sym (ap (λ (x : Setup). x.base) st.setup.usual) in
         let routed_so : RoutesTo s.base r to = subst (λ (b : List ℕ). RoutesTo b r to) based routed in
@@ -199,7 +199,7 @@ module _ {H Job : Type 0} (hub : Hub Job) (old new : Server H Job) (lane : ℕ) 
         let f : Facts = facts s (moment h) r name false g in
         let named_is : named ≡ known_conn_of_some (token_at to) (moment h) (notes g) =
         subst (λ (m : ℕ). named ≡ known_conn_of_some (token_at to) m (notes g)) now (known_is (notes g) st_g.front) in
-        let granted : resumable ≡ is_granted_some named g = grants s settled before g st_g in
+        let granted : resumable ≡ may_resume_some named g = grants s settled before g st_g in
         let is : out ≡ outcome s.base r f = decides s r to routed_so who name called_so.is (moment h) g named named_is resumable granted out
         (subst (λ (m : ℕ). out ≡ outcome s.base r (facts_at r who resumable m (notes g))) now (by_rows (notes g) st_g.front s.base r routed_so)) in
         let suits_so : Suits r f out = subst (Suits r f) (sym is) (suits s.base r f) in

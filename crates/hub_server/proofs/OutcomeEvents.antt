@@ -8,12 +8,12 @@ use Rattle.hd_server.specs.Plans.{Setup, conn_on, losing_lane, onto, poller_on}
 use Rattle.hub_server.specs.declared.server.Server.{Server}
 use Rattle.hub_server.specs.Lanes.{settled}
 use Rattle.hub_server.specs.Servers.{Standing}
-use Rattle.hub_server.specs.Steps.{Around, Handles}
+use Rattle.hub_server.specs.Steps.{Outside, Handles}
 use Rattle.hub_server.specs.Events.{HasHeardBytes}
 use Rattle.hub_server.proofs.StepMute.{fed_quiet, first_quiet, quiet_refl}
 use Rattle.hub_server.proofs.OutcomeHandles.{went_same}
 
-module _ {H Job : Type 0} (hub : Hub Job) (s : Setup) (before : List Said) (new : Server H Job) (at : Around) (h : List ServerEvent) where
+module _ {H Job : Type 0} (hub : Hub Job) (s : Setup) (before : List Said) (new : Server H Job) (at : Outside) (h : List ServerEvent) where
   -- bytes came
   pub heard_bytes : (lane : ℕ) (bytes : List ℕ) → HasHeardBytes {H = H} hub s settled before new lane bytes h
       → Handles {H = H} hub s before new at at (event.Bytes lane bytes) h

@@ -16,13 +16,13 @@ use Rattle.hd_server.specs.declared.vocabulary.Said.{Said}
 use Rattle.hd_server.specs.Laws.{LotsMatterToTokens}
 use Rattle.hd_server.specs.Lives.{is_busy, life_of_some}
 use Rattle.hd_server.specs.Table.{asks_keeper, id_in, outcome}
-use Rattle.hd_server.specs.Doings.{ServerEvent, Draws, Learns, asked, draws, is_granted, moment, name_now, notes}
-use Rattle.hd_server.specs.Plans.{PendingRequest, Setup, asks_lots, caller_by, conn_of_some, facts, is_granted_some, learning, makes_token, named_conn, onto, plan, questions, request_plan}
+use Rattle.hd_server.specs.Doings.{ServerEvent, Draws, Learns, asked, draws, may_resume, moment, name_now, notes}
+use Rattle.hd_server.specs.Plans.{PendingRequest, Setup, asks_lots, caller_by, conn_of_some, facts, may_resume_some, learning, makes_token, named_conn, onto, plan, questions, request_plan}
 use Rattle.hd_server.specs.Serves.{IsDraw}
 use Rattle.hub_server.specs.declared.server.Server.{Server}
 use Rattle.hub_server.specs.Lanes.{settled}
 use Rattle.hub_server.specs.Servers.{IsRested, Standing}
-use Rattle.hub_server.specs.Steps.{AddsAll, Around, CountsDraws, Follows, Handles, HasCome, NoneOverdue, Went, around}
+use Rattle.hub_server.specs.Steps.{AddsAll, Outside, CountsDraws, Follows, Handles, HasCome, NoneOverdue, OutsideFollows, outside}
 use Rattle.hub_server.specs.Requests.{CarriesOut, IsCaller, IsCarriedOut, MakesToken, asks_who, name_meant}
 use Rattle.hub_server.proofs.LaneKept.{standing_learns}
 use Rattle.hub_server.proofs.OntoAlike.{onto_append}
@@ -32,7 +32,7 @@ use Rattle.hub_server.proofs.OutcomeEntries.{same_draws}
 
 -- ---- nobody is asked
 
-pub went_same : (at : Around) (h after : List ServerEvent) → Quiet after h → Went at at h after
+pub went_same : (at : Outside) (h after : List ServerEvent) → Quiet after h → OutsideFollows at at h after
 went_same at h after quiet = record {
   asks = [];
   asked_are = quiet.asks ∙ sym (append-nil (asked h));
@@ -103,24 +103,24 @@ learned_asked (Some t) name h = refl
 -- ---- what the table looks at
 
 granted_learns : (o : Option ℕ) (text : Option (List ℕ)) (name : Option (Option (List ℕ))) (h : List ServerEvent)
-    → is_granted_some o (onto (learning text name) h) ≡ is_granted_some o h
+    → may_resume_some o (onto (learning text name) h) ≡ may_resume_some o h
 granted_learns None text name h = refl
-granted_learns (Some c) text name h = learned (λ (g : List ServerEvent). is_granted c g ≡ is_granted c h) text name h refl (λ t. refl)
+granted_learns (Some c) text name h = learned (λ (g : List ServerEvent). may_resume c g ≡ may_resume c h) text name h refl (λ t. refl)
 
-granted_draws : (o : Option ℕ) (drawn : Option (List ℕ)) (h : List ServerEvent) → is_granted_some o (Draws drawn ∷ h) ≡ is_granted_some o h
+granted_draws : (o : Option ℕ) (drawn : Option (List ℕ)) (h : List ServerEvent) → may_resume_some o (Draws drawn ∷ h) ≡ may_resume_some o h
 granted_draws None drawn h = refl
 granted_draws (Some c) drawn h = refl
 
 -- it looks at the notes and at what may be resumed
 facts_alike : (s : Setup) (now : ℕ) (r : Request) (name : Option (Option (List ℕ))) (failed : Bool) (g h : List ServerEvent) → notes g ≡ notes h
-    → is_granted_some (named_conn r h) g ≡ is_granted_some (named_conn r h) h → facts s now r name failed g ≡ facts s now r name failed h
+    → may_resume_some (named_conn r h) g ≡ may_resume_some (named_conn r h) h → facts s now r name failed g ≡ facts s now r name failed h
 facts_alike s now r name failed g h same granted =
     ap (λ n. record {
       caller = caller_by (asks_keeper s.base r) r.bearer name;
       busy = is_busy now n;
       lots_failed = failed;
       life = life_of_some (conn_of_some (id_in r) n) now n;
-      granted = is_granted_some (conn_of_some (id_in r) n) g;
+      granted = may_resume_some (conn_of_some (id_in r) n) g;
     }) same
     ∙ ap (λ (b : Bool). record {
       caller = caller_by (asks_keeper s.base r) r.bearer name;
@@ -153,8 +153,8 @@ module _ {H Job : Type 0} (hub : Hub Job) (s : Setup) (before : List Said) (new 
   decided g = outcome s.base r (facts s (moment h) r called.name false g)
 
   abbrev IsHandledNow : Type 0
-  IsHandledNow = Handles {H = H} hub s before new (around holds answers faults told failures)
-      (around holds_now answers_now faults_now told_now failures_now) (event.Request lane r) h
+  IsHandledNow = Handles {H = H} hub s before new (outside holds answers faults told failures)
+      (outside holds_now answers_now faults_now told_now failures_now) (event.Request lane r) h
 
   known_alike : (failed : Bool) → facts s (moment h) r called.name failed known ≡ facts s (moment h) r called.name failed h
   known_alike failed = facts_alike s (moment h) r called.name failed known h (learned_notes (asks_keeper s.base r) called.name h)

@@ -4,9 +4,9 @@ use Rattle.std.specs.Prelude.{◌&&◌, ◌||◌, unwrap_or}
 use Rattle.hd_delivery.specs.Histories.{first_of}
 use Rattle.hd_server.specs.declared.vocabulary.Life.{Life}
 use Rattle.hd_server.specs.declared.vocabulary.Life.TheVariants.{Unknown, Fresh, Socket, Lost, Polling, Ending}
-use Rattle.hd_server.specs.Lives.{ConnectionEvent, ended_at, is_let_go, is_made, is_opened, is_polling, lost_at, negotiated_at, socket_of, standing, when}
+use Rattle.hd_server.specs.Lives.{ConnectionEvent, ended_at, is_removed, is_made, is_opened, is_polling, lost_at, negotiated_at, socket_of, standing, when}
 use Rattle.hd_server.specs.Machine.{settings_of}
-use Rattle.hd_server.specs.Doings.{ServerEvent, has_peer, is_granted, notes, work}
+use Rattle.hd_server.specs.Doings.{ServerEvent, has_peer, may_resume, notes, work}
 use Rattle.hub_server.specs.Lanes.{Unsettled, settled}
 use Rattle.hub_server.specs.Servers.{IsOrderly, IsRested}
 use Rattle.hub_server.specs.Connections.{CanHold, CanStand}
@@ -33,11 +33,11 @@ read_off false false None false false true = (refl, refl, refl, refl)
 read_off false false None false false false = tt
 
 abbrev pub Reads : Life → ℕ → List ConnectionEvent → Type 0
-Reads l c n = ReadsAs l (is_let_go c n) (is_some (ended_at c n)) (socket_of c n) (is_some (lost_at c n)) (is_polling c n)
+Reads l c n = ReadsAs l (is_removed c n) (is_some (ended_at c n)) (socket_of c n) (is_some (lost_at c n)) (is_polling c n)
 
 pub reads : (c : ℕ) (n : List ConnectionEvent) (l : Life) → standing c n ≡ l → Reads l c n
 reads c n l e = subst (λ (x : Life). Reads x c n) e
-    (read_off (is_let_go c n) (is_some (ended_at c n)) (socket_of c n) (is_some (lost_at c n)) (is_polling c n)
+    (read_off (is_removed c n) (is_some (ended_at c n)) (socket_of c n) (is_some (lost_at c n)) (is_polling c n)
     (is_opened c n || is_some (negotiated_at c n)))
 
 -- ---- what holds of it then
@@ -85,7 +85,7 @@ none_used false false false false e f g i j = absurd (cc)
 
 module _ (u : Unsettled) (c : ℕ) (h : List ServerEvent) (o : IsOrderly u c h) where
   -- one that was used has a peer, unless it is let go
-  pub used_there : is_let_go c (notes h) ≡ false → (is_some (socket_of c (notes h)) || is_some (lost_at c (notes h)) || is_polling c (notes h)) ≡ true
+  pub used_there : is_removed c (notes h) ≡ false → (is_some (socket_of c (notes h)) || is_some (lost_at c (notes h)) || is_polling c (notes h)) ≡ true
       → has_peer c h ≡ true
   used_there held uses = begun (is_some (settings_of c (work h))) refl
     where
@@ -116,7 +116,7 @@ fresh_stands c h o made r = record {
 }
 
 pub socketed_stands : (u : Unsettled) (c lane : ℕ) (h : List ServerEvent) → IsOrderly u c h → is_made c (notes h) ≡ true → Reads (Socket lane) c (notes h)
-    → is_granted c h ≡ true → CanStand c h
+    → may_resume c h ≡ true → CanStand c h
 socketed_stands u c lane h o made r granted = record {
   known = record { made = made; held = r.0 };
   unpolled = right_of _ (is_polling c (notes h)) o.one_way
@@ -144,7 +144,7 @@ socketed_there u c lane h o r = used_there u c h o r.0
 
 -- ---- a poll may come for it
 
-polling_holds : (u : Unsettled) (c : ℕ) (h : List ServerEvent) → IsOrderly u c h → is_made c (notes h) ≡ true → is_let_go c (notes h) ≡ false
+polling_holds : (u : Unsettled) (c : ℕ) (h : List ServerEvent) → IsOrderly u c h → is_made c (notes h) ≡ true → is_removed c (notes h) ≡ false
     → is_polling c (notes h) ≡ true → CanHold c h
 polling_holds u c h o made held polls =
     let none = or_parts (is_some (socket_of c (notes h))) (is_some (lost_at c (notes h))) (left_of _ (is_polling c (notes h)) o.one_way polls) in
@@ -162,7 +162,7 @@ pub ending_holds : (u : Unsettled) (c : ℕ) (h : List ServerEvent) → IsOrderl
 ending_holds u c h o made r = polling_holds u c h o made r.0 (o.ended r.1)
 
 -- one of whose polls one is held has a peer
-pub held_there : (u : Unsettled) (c : ℕ) (h : List ServerEvent) → IsOrderly u c h → is_let_go c (notes h) ≡ false → is_polling c (notes h) ≡ true
+pub held_there : (u : Unsettled) (c : ℕ) (h : List ServerEvent) → IsOrderly u c h → is_removed c (notes h) ≡ false → is_polling c (notes h) ≡ true
     → has_peer c h ≡ true
 held_there u c h o held polls = used_there u c h o held
     (by_last (is_some (socket_of c (notes h))) (is_some (lost_at c (notes h))) (is_polling c (notes h)) polls)

@@ -7,7 +7,7 @@ use Rattle.std.proofs.lemmas.Bool.{and_from, and_parts, and_right, eqb-true, leb
 use Rattle.std.specs.Cmp.{unsigned_tied}
 use Rattle.hd_calls.specs.Hubs.{Hub}
 use Rattle.hd_server.specs.declared.vocabulary.Said.{Said}
-use Rattle.hd_server.specs.Lives.{ConnectionEvent, Answered, Ended, Expired, LaneLost, LetGo, Negotiated, Opened, Polled, Socketed, is_let_go, is_made, is_opened, made, negotiated_at, poll_ended}
+use Rattle.hd_server.specs.Lives.{ConnectionEvent, Answered, Ended, Expired, LaneLost, LetGo, Negotiated, Opened, Polled, Socketed, is_removed, is_made, is_opened, made, negotiated_at, poll_ended}
 use Rattle.hd_server.specs.Texts.{token_of}
 use Rattle.hd_server.specs.Machine.{has_gone, settings_of}
 use Rattle.hd_server.specs.Doings.{ServerEvent, Draws, Hears, Learns, Notes, Says, Works, name_now, notes, user_of, work}
@@ -84,7 +84,7 @@ lane_makes (Some told) u k now lane (Some x) h l =
 -- ---- who called
 
 caller_makes : (told : Option (List ℕ × Bool)) (k now c : ℕ) (h : List ServerEvent) → caller_of c (Notes (making told k now) ∷ h)
-    ≡ (if is_some (settings_of c (work h)) || is_let_go c (notes h) then None else (if c == k then name_now h else user_of c h))
+    ≡ (if is_some (settings_of c (work h)) || is_removed c (notes h) then None else (if c == k then name_now h else user_of c h))
 caller_makes None k now c h = refl
 caller_makes (Some told) k now c h = refl
 
@@ -115,16 +115,16 @@ either c k x y got e b f = e ∙ ap (λ (a : Bool). if a then x else y) f
 
 -- whose connection each is, if the next is whose the keeper says
 callers_make : (told : Option (List ℕ × Bool)) (now : ℕ) (h : List ServerEvent) → is_some (settings_of (suc (made (notes h))) (work h)) ≡ false
-    → is_let_go (suc (made (notes h))) (notes h) ≡ false → (c : ℕ) (was got : Option (List ℕ)) → was ≡ caller_of c h
+    → is_removed (suc (made (notes h))) (notes h) ≡ false → (c : ℕ) (was got : Option (List ℕ)) → was ≡ caller_of c h
     → got ≡ (if c == suc (made (notes h)) then name_now h else was) → got ≡ caller_of c (Notes (making told (suc (made (notes h))) now) ∷ h)
 callers_make told now h unbegun held c was got e f = go (c == suc (made (notes h))) refl
   where
     k : ℕ
     k = suc (made (notes h))
 
-    none : (n : ℕ) → n ≡ k → (is_some (settings_of n (work h)) || is_let_go n (notes h)) ≡ false
-    none n same = subst (λ (m : ℕ). (is_some (settings_of m (work h)) || is_let_go m (notes h)) ≡ false) (sym same)
-        (ap (λ (b : Bool). b || is_let_go k (notes h)) unbegun ∙ held)
+    none : (n : ℕ) → n ≡ k → (is_some (settings_of n (work h)) || is_removed n (notes h)) ≡ false
+    none n same = subst (λ (m : ℕ). (is_some (settings_of m (work h)) || is_removed m (notes h)) ≡ false) (sym same)
+        (ap (λ (b : Bool). b || is_removed k (notes h)) unbegun ∙ held)
 
     go : (b : Bool) → (c == k) ≡ b → got ≡ caller_of c (Notes (making told k now) ∷ h)
     go true same =
@@ -136,7 +136,7 @@ callers_make told now h unbegun held c was got e f = go (c == suc (made (notes h
         either c k (name_now h) was got f false other
         ∙ e
         ∙ sym (caller_makes told k now c h
-        ∙ ap (λ (b : Bool). if is_some (settings_of c (work h)) || is_let_go c (notes h) then None else (if b then name_now h else user_of c h))
+        ∙ ap (λ (b : Bool). if is_some (settings_of c (work h)) || is_removed c (notes h) then None else (if b then name_now h else user_of c h))
         other)
 
 -- ---- the server
@@ -207,7 +207,7 @@ unnamed hub s u before v h st none c = go (c == suc (made (notes h))) refl
     own : get nat_cmp v.callers k ≡ None
     own = st.callers k
         ∙ ap (λ (b : Bool). if b then None else user_of k h)
-        (ap (λ (b : Bool). b || is_let_go k (notes h)) (next_unbegun u h (st.orderly k)) ∙ unborn.held)
+        (ap (λ (b : Bool). b || is_removed k (notes h)) (next_unbegun u h (st.orderly k)) ∙ unborn.held)
         ∙ nobodys k h unborn.opened unborn.told
 
     go : (b : Bool) → (c == k) ≡ b → get nat_cmp v.callers c ≡ (if b then name_now h else get nat_cmp v.callers c)

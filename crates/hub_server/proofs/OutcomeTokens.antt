@@ -11,10 +11,10 @@ use Rattle.hd_server.specs.declared.vocabulary.Outcome.{Outcome}
 use Rattle.hd_server.specs.declared.vocabulary.Outcome.TheVariants.{Refusal, NewToken, PlainSocket, TokenSocket, FirstPoll, NextPoll, LastPoll, Posting, Deletion}
 use Rattle.hd_server.specs.declared.vocabulary.Said.{Said}
 use Rattle.hd_server.specs.Laws.{Suits}
-use Rattle.hd_server.specs.Lives.{ConnectionEvent, Polled, is_known, is_let_go, is_made, is_resumable_promise, socket_of}
+use Rattle.hd_server.specs.Lives.{ConnectionEvent, Polled, is_known, is_removed, is_made, is_resumable_promise, socket_of}
 use Rattle.hd_server.specs.Table.{Facts, delete_outcome, socket_outcome}
-use Rattle.hd_server.specs.Doings.{ServerEvent, Notes, has_peer, is_granted, moment, notes}
-use Rattle.hd_server.specs.Plans.{PendingRequest, Setup, bare_reply, closing, ending_held, letting_go, onto, replying, request_plan, shutting_some, standing_on}
+use Rattle.hd_server.specs.Doings.{ServerEvent, Notes, has_peer, may_resume, moment, notes}
+use Rattle.hd_server.specs.Plans.{PendingRequest, Setup, bare_reply, closing, ending_held, removing_conn, onto, replying, request_plan, shutting_some, standing_on}
 use Rattle.hd_server.specs.Serves.{FeedsOne}
 use Rattle.hn_server_front.specs.Stands as front
 use Rattle.hn_server_front.specs.Calls.{lane_of}
@@ -30,14 +30,14 @@ use Rattle.hub_server.proofs.OutcomeCome.{Stays, closed_stays, come_stays, delet
 -- ---- what the front tells
 
 -- one that isn't let go is there
-pub there_of : (c : ℕ) (n : List ConnectionEvent) → is_made c n ≡ true → is_let_go c n ≡ false → front.is_there c n ≡ true
-there_of c n made held = ap (λ (b : Bool). b && not (is_let_go c n)) made ∙ ap not held
+pub there_of : (c : ℕ) (n : List ConnectionEvent) → is_made c n ≡ true → is_removed c n ≡ false → front.is_there c n ≡ true
+there_of c n made held = ap (λ (b : Bool). b && not (is_removed c n)) made ∙ ap not held
 
 -- the lane of its socket
-pub lane_is : (c : ℕ) (n : List ConnectionEvent) (o : Option ℕ) → is_made c n ≡ true → is_let_go c n ≡ false → o ≡ lane_of c n → o ≡ socket_of c n
+pub lane_is : (c : ℕ) (n : List ConnectionEvent) (o : Option ℕ) → is_made c n ≡ true → is_removed c n ≡ false → o ≡ lane_of c n → o ≡ socket_of c n
 lane_is c n o made held e = e ∙ ap (λ (b : Bool). if b then socket_of c n else None) (there_of c n made held)
 
-pub promised_is : (c : ℕ) (n : List ConnectionEvent) (b : Bool) → is_made c n ≡ true → is_let_go c n ≡ false → b ≡ (front.is_there c n && is_resumable_promise c n)
+pub promised_is : (c : ℕ) (n : List ConnectionEvent) (b : Bool) → is_made c n ≡ true → is_removed c n ≡ false → b ≡ (front.is_there c n && is_resumable_promise c n)
     → b ≡ is_resumable_promise c n
 promised_is c n b made held e = e ∙ ap (λ (x : Bool). x && is_resumable_promise c n) (there_of c n made held)
 
@@ -192,28 +192,28 @@ module _ {H Job : Type 0} (hub : Hub Job) (s : Setup) (before : List Said) (new 
       (subst (λ (g : List ServerEvent). Standing {H = H} hub s settled before new g) (standing_on_shut s o c resumable lane h) st))
 
   pub erases : (lane : ℕ) (reply : Reply) → o.now ≡ moment h → o.lane ≡ lane → reply ≡ bare_reply 202
-      → Stays lane (onto (closing c reason.Done (onto (ending_held c (moment h) h) h) ++ letting_go c (onto (ending_held c (moment h) h) h))
+      → Stays lane (onto (closing c reason.Done (onto (ending_held c (moment h) h) h) ++ removing_conn c (onto (ending_held c (moment h) h) h))
       (onto (ending_held c (moment h) h) h)) h
       → Standing {H = H} hub s settled before new
       (onto (replying lane reply (onto (closing c reason.Done (onto (ending_held c (moment h) h) h)
-      ++ letting_go c (onto (ending_held c (moment h) h) h)) (onto (ending_held c (moment h) h) h)))
-      (onto (closing c reason.Done (onto (ending_held c (moment h) h) h) ++ letting_go c (onto (ending_held c (moment h) h) h))
+      ++ removing_conn c (onto (ending_held c (moment h) h) h)) (onto (ending_held c (moment h) h) h)))
+      (onto (closing c reason.Done (onto (ending_held c (moment h) h) h) ++ removing_conn c (onto (ending_held c (moment h) h) h))
       (onto (ending_held c (moment h) h) h)))
       → Erases {H = H} hub s before new o c h
   erases lane reply at on bare stays st =
-      let plan : ℕ → ℕ → Reply → List ServerEvent = λ m l r. ending_held c m h ++ closing c reason.Done h ++ letting_go c h ++ replying l r h in
+      let plan : ℕ → ℕ → Reply → List ServerEvent = λ m l r. ending_held c m h ++ closing c reason.Done h ++ removing_conn c h ++ replying l r h in
       subst (λ (m : ℕ). Standing {H = H} hub s settled before new (onto (plan m o.lane (bare_reply 202)) h)) (sym at)
       (subst (λ (l : ℕ). Standing {H = H} hub s settled before new (onto (plan (moment h) l (bare_reply 202)) h)) (sym on)
       (subst (λ (r : Reply). Standing {H = H} hub s settled before new (onto (plan (moment h) lane r) h)) bare
       (subst (λ (g : List ServerEvent). Standing {H = H} hub s settled before new g) (deleted_so lane c (moment h) reason.Done reply h stays) st)))
 
 -- the doings of a deletion leave the request's lane
-pub deletion_stays : (c lane : ℕ) (is_last : Bool) (h : List ServerEvent) → IsOrderly settled c h → is_let_go c (notes h) ≡ false → HasCome lane is_last h
-    → Stays lane (onto (closing c reason.Done (onto (ending_held c (moment h) h) h) ++ letting_go c (onto (ending_held c (moment h) h) h))
+pub deletion_stays : (c lane : ℕ) (is_last : Bool) (h : List ServerEvent) → IsOrderly settled c h → is_removed c (notes h) ≡ false → HasCome lane is_last h
+    → Stays lane (onto (closing c reason.Done (onto (ending_held c (moment h) h) h) ++ removing_conn c (onto (ending_held c (moment h) h) h))
     (onto (ending_held c (moment h) h) h)) h
 deletion_stays c lane is_last h o held come =
     let ended : List ServerEvent = onto (ending_held c (moment h) h) h in
-    stays_then lane (onto (closing c reason.Done ended ++ letting_go c ended) ended) ended h (closed_stays lane c reason.Done ended ended)
+    stays_then lane (onto (closing c reason.Done ended ++ removing_conn c ended) ended) ended h (closed_stays lane c reason.Done ended ended)
     (ended_stays lane c (moment h) h come.nobody (λ polls. held_there settled c h o held polls))
 
 -- ---- an older lane is shut
@@ -230,6 +230,6 @@ module _ (lane : ℕ) (older : Option ℕ) (h : List ServerEvent) where
   shut_moment now at = shut_either (λ (g : List ServerEvent). now ≡ moment g) older h at (λ l. at)
 
 -- a connection that stands on a socket has a peer
-pub on_socket_there : (c lane : ℕ) (h : List ServerEvent) → IsOrderly settled c h → is_let_go c (notes h) ≡ false → socket_of c (notes h) ≡ Some lane
+pub on_socket_there : (c lane : ℕ) (h : List ServerEvent) → IsOrderly settled c h → is_removed c (notes h) ≡ false → socket_of c (notes h) ≡ Some lane
     → has_peer c h ≡ true
 on_socket_there c lane h o held on = socketed_there settled c lane h o (held, on)

@@ -7,7 +7,7 @@ use Rattle.hd_delivery.specs.Histories.{is_this}
 use Rattle.hd_calls.specs.Hubs.{Hub}
 use Rattle.hd_rooms.specs.declared.vocabulary.Asked.{Asked}
 use Rattle.hd_server.specs.declared.vocabulary.Said.{Said}
-use Rattle.hd_server.specs.Lives.{is_let_go, socket_of}
+use Rattle.hd_server.specs.Lives.{is_removed, socket_of}
 use Rattle.hd_server.specs.Machine.{MachineEvent, Does, Rounds, Carries, IsRound, has_gone, settings_of}
 use Rattle.hd_server.specs.Doings.{ServerEvent, Works, notes, work, asked, said, moment, wants_shut, was_refused, user_of, peer, history, history_with}
 use Rattle.hd_server.specs.Doings.{config_of, has_peer}
@@ -17,7 +17,7 @@ use Rattle.hub_server.specs.declared.lane.Lane.{Lane}
 use Rattle.hub_machine.specs.declared.machine.Machine.{Machine}
 use Rattle.hub_server.specs.declared.server.Server.{Server}
 use Rattle.hub_machine.specs.Machines.{StandsMachine}
-use Rattle.hub_machine.specs.Outside.{Outside, asks_in}
+use Rattle.hub_machine.specs.KeeperState.{KeeperState, asks_in}
 use Rattle.hub_machine.specs.Rounds.{HasRound}
 use Rattle.hub_server.specs.Lanes.{IsLane, Unsettled, is_at, is_taken, poll_lane}
 use Rattle.hub_server.specs.Servers.{IsOrderly, Standing, caller_of}
@@ -152,9 +152,9 @@ lane_same u (Some x) lane g h a is = record {
 
 caller_same : (c : ℕ) (g h : List ServerEvent) → Whirls g h → caller_of c g ≡ caller_of c h
 caller_same c g h a =
-    ap (λ s. if is_some s || is_let_go c (notes g) then None else user_of c g) (a.settings c)
-    ∙ ap (λ n. if is_some (settings_of c (work h)) || is_let_go c n then None else user_of c g) a.noted
-    ∙ ap (λ (o : Option (List ℕ)). if is_some (settings_of c (work h)) || is_let_go c (notes h) then None else o) (a.user c)
+    ap (λ s. if is_some s || is_removed c (notes g) then None else user_of c g) (a.settings c)
+    ∙ ap (λ n. if is_some (settings_of c (work h)) || is_removed c n then None else user_of c g) a.noted
+    ∙ ap (λ (o : Option (List ℕ)). if is_some (settings_of c (work h)) || is_removed c (notes h) then None else o) (a.user c)
 
 same_moment : (m n : ℕ) → m ≡ n → n ≤ m
 same_moment m n e = omega (arith, e)
@@ -196,7 +196,7 @@ asks_same now round asks h e = asked_all round (Works (Rounds (moment h)) ∷ h)
     (append_cancel_left (asks_in (work h)) (asks_in round) asks (sym (asks_all round (Rounds now ∷ work h)) ∙ e))
 
 rounded_now : {H Job : Type 0} (hub : Hub Job) (s : Setup) (u : Unsettled) (before : List Said) (v : Server H Job) (m : Machine H Job)
-    (o p : Outside) (h : List ServerEvent) → HasRound {H = H} hub m o p (moment h) (work h) → Standing {H = H} hub s u before v h
+    (o p : KeeperState) (h : List ServerEvent) → HasRound {H = H} hub m o p (moment h) (work h) → Standing {H = H} hub s u before v h
     → IsRounded {H = H} hub s u before (record v { machine = m }) o.holds o.answers o.faults p.holds p.answers p.faults h
 rounded_now {H} {Job} hub s u before v m o p h has x = record {
   on = record {
@@ -214,7 +214,7 @@ rounded_now {H} {Job} hub s u before v m o p h has x = record {
 
 -- the whole round, and what it asked of the keeper
 pub rounded : {H Job : Type 0} (hub : Hub Job) (s : Setup) (u : Unsettled) (before : List Said) (v : Server H Job) (m : Machine H Job)
-    (o p : Outside) (h : List ServerEvent) → HasRound {H = H} hub m o p v.moment (work h) → Standing {H = H} hub s u before v h
+    (o p : KeeperState) (h : List ServerEvent) → HasRound {H = H} hub m o p v.moment (work h) → Standing {H = H} hub s u before v h
     → IsRounded {H = H} hub s u before (record v { machine = m }) o.holds o.answers o.faults p.holds p.answers p.faults h
 rounded {H} {Job} hub s u before v m o p h has x =
     rounded_now {H = H} hub s u before v m o p h (subst (λ now. HasRound {H = H} hub m o p now (work h)) x.clock has) x

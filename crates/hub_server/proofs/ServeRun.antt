@@ -24,7 +24,7 @@ use Rattle.hub_server.specs.declared.serving.ServeFault.{ServeFault}
 use Rattle.hub_server.specs.declared.serving.ServeFault.TheVariants as fault
 use Rattle.hub_server.specs.Serving.{AreTurns, AtEnd, GivesAll, GivesMore, HasEnded, HasServed, IfMemoryEnds, IsCausedBy, IsGiven, TellsMore, cause_of}
 use Rattle.hub_server.specs.Words.{AreReplies}
-use Rattle.hub_server.specs.Steps.{Around, HasTurn, StandsServer}
+use Rattle.hub_server.specs.Steps.{Outside, HasTurn, StandsServer}
 use Rattle.hub_server.proofs.ServeMoment.{turn_moment}
 use Rattle.hub_server.proofs.ServeWent.{went_none, went_then}
 
@@ -216,7 +216,7 @@ serves_then {Job} hub s cut P Q R S fs vs more on h (e ∷ es) (w ∷ ws) given 
 -- ---- one turn
 
 -- nothing was heard
-pub served_nothing : {H Job : Type 0} (hub : Hub Job) (x : Server H Job) (at : Around) (a b : Option Told) (first last : ℕ) (why : ServeFault) → b ≡ a → last ≡ first
+pub served_nothing : {H Job : Type 0} (hub : Hub Job) (x : Server H Job) (at : Outside) (a b : Option Told) (first last : ℕ) (why : ServeFault) → b ≡ a → last ≡ first
     → HasServed {H = H} hub x x at at a b first last 1 (Some why)
 served_nothing {H} hub x at a b first last why same still = record {
   heard = [];
@@ -227,7 +227,7 @@ served_nothing {H} hub x at a b first last why same still = record {
   serves = λ s h stands before. (refl, record { stands = stands; went = went_none at h; timely = subst (λ n. moment h ≤ n) (sym still) before });
 }
 
-module _ {H Job : Type 0} (hub : Hub Job) (old new : Server H Job) (at since : Around) (a b c : Option Told) (first last wait : ℕ) (e : Heard) where
+module _ {H Job : Type 0} (hub : Hub Job) (old new : Server H Job) (at since : Outside) (a b c : Option Told) (first last wait : ℕ) (e : Heard) where
   -- memory ran out before anything was said
   pub served_ended : b ≡ option_map (with_heard wait e) a → (first ≤ e.now) × (last ≡ e.now) → new.is_ended ≡ true
       → ((s : Setup) (h : List ServerEvent) → StandsServer {H = H} hub s old h → wait ≡ wait_for h)
@@ -313,7 +313,7 @@ ended_as None P Q h f x = x
 ended_as (Some fault.Door) P Q h f x = x
 ended_as (Some fault.NoMemory) P Q h f x = f x
 
-pub served_then : {H Job : Type 0} (hub : Hub Job) (x y z : Server H Job) (at mid since : Around) (a b c : Option Told)
+pub served_then : {H Job : Type 0} (hub : Hub Job) (x y z : Server H Job) (at mid since : Outside) (a b c : Option Told)
     (first then_at last n turns : ℕ) (why : Option ServeFault)
     → AnswersJoin → (is_some why ≡ false → turns ≡ n + 1) → n + 1 ≤ turns
     → HasServed {H = H} hub x y at mid a b first then_at n None → HasServed {H = H} hub y z mid since b c then_at last 1 why
@@ -341,7 +341,7 @@ served_then {H} hub x y z at mid since a b c first then_at last n turns why join
 }
 
 -- before the first turn
-pub served_none : {H Job : Type 0} (hub : Hub Job) (x : Server H Job) (at : Around) (a : Option Told) (first : ℕ)
+pub served_none : {H Job : Type 0} (hub : Hub Job) (x : Server H Job) (at : Outside) (a : Option Told) (first : ℕ)
     → HasServed {H = H} hub x x at at a a first first 0 None
 served_none {H} hub x at a first = record {
   heard = [];
@@ -354,20 +354,20 @@ served_none {H} hub x at a first = record {
 
 -- ---- the same in other words
 
-pub served_count : {H Job : Type 0} {hub : Hub Job} {x y : Server H Job} {at since : Around} {a b : Option Told}
+pub served_count : {H Job : Type 0} {hub : Hub Job} {x y : Server H Job} {at since : Outside} {a b : Option Told}
     {first last : ℕ} {why : Option ServeFault} (n turns : ℕ) → n ≡ turns
     → HasServed {H = H} {Job = Job} hub x y at since a b first last n why → HasServed {H = H} {Job = Job} hub x y at since a b first last turns why
 served_count {H} {Job} {hub} {x} {y} {at} {since} {a} {b} {first} {last} {why} n turns same f =
     subst (λ k. HasServed {H = H} {Job = Job} hub x y at since a b first last k why) same f
 
 -- after whatever fault, and after this one
-pub err_served : {H Job A : Type 0} {hub : Hub Job} {x y : Server H Job} {at since : Around} {a b : Option Told} {first last turns : ℕ}
+pub err_served : {H Job A : Type 0} {hub : Hub Job} {x y : Server H Job} {at since : Outside} {a b : Option Told} {first last turns : ℕ}
     (r : Result A ServeFault) → IsErr r → ((why : ServeFault) → HasServed {H = H} {Job = Job} hub x y at since a b first last turns (Some why))
     → HasServed {H = H} {Job = Job} hub x y at since a b first last turns (result_err r)
 err_served (Ok x) err f = absurd (let z : false ≡ true = err in cc)
 err_served (Err why) err f = f why
 
-pub same_served : {H Job A : Type 0} {hub : Hub Job} {x y : Server H Job} {at since : Around} {a b : Option Told} {first last turns : ℕ}
+pub same_served : {H Job A : Type 0} {hub : Hub Job} {x y : Server H Job} {at since : Outside} {a b : Option Told} {first last turns : ℕ}
     (r : Result A ServeFault) (why : ServeFault) → IsErrAnd r (λ e. e ≡ why) → HasServed {H = H} {Job = Job} hub x y at since a b first last turns (Some why)
     → HasServed {H = H} {Job = Job} hub x y at since a b first last turns (result_err r)
 same_served {H} {Job} {A} {hub} {x} {y} {at} {since} {a} {b} {first} {last} {turns} r why err f =

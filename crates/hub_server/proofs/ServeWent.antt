@@ -6,7 +6,7 @@ use Rattle.hd_rooms.specs.declared.vocabulary.Asked.{Asked}
 use Rattle.hd_rooms.specs.Kept.{Content, KeeperDid}
 use Rattle.hd_rooms.specs.KeptLaws.{AnswersJoin}
 use Rattle.hd_server.specs.Doings.{ServerEvent, asked, draws}
-use Rattle.hub_server.specs.Steps.{AddsAll, Around, CountsDraws, Went}
+use Rattle.hub_server.specs.Steps.{AddsAll, Outside, CountsDraws, OutsideFollows}
 
 told_none : {A : Type 0} (o : Option (List A)) → o ≡ option_map (λ (known : List A). known ++ []) o
 told_none None = refl
@@ -37,7 +37,7 @@ draws_then k m n [] ys x y = subst (λ i. CountsDraws i ys n) x y
 draws_then k m n (d ∷ xs) ys x y = (x.0, x.1, draws_then x.0 m n xs ys x.2 y)
 
 -- nothing was asked
-pub went_none : (a : Around) (h : List ServerEvent) → Went a a h h
+pub went_none : (a : Outside) (h : List ServerEvent) → OutsideFollows a a h h
 went_none a h = record {
   asks = [];
   asked_are = sym (append-nil (asked h));
@@ -50,7 +50,7 @@ went_none a h = record {
   failed = refl;
 }
 
-pub went_then : AnswersJoin → (a b c : Around) (h mid after : List ServerEvent) → Went a b h mid → Went b c mid after → Went a c h after
+pub went_then : AnswersJoin → (a b c : Outside) (h mid after : List ServerEvent) → OutsideFollows a b h mid → OutsideFollows b c mid after → OutsideFollows a c h after
 went_then join a b c h mid after x y = record {
   asks = x.asks ++ y.asks;
   asked_are = y.asked_are ∙ ap (λ l. l ++ y.asks) x.asked_are ∙ append_assoc (asked h) x.asks y.asks;

@@ -11,7 +11,7 @@ use Rattle.hd_calls.specs.Peers.{Plain}
 use Rattle.hd_server.specs.declared.vocabulary.Life.{Life}
 use Rattle.hd_server.specs.declared.vocabulary.Life.TheVariants.{Unknown, Fresh, Socket, Lost, Polling, Ending}
 use Rattle.hd_server.specs.Lives.{ConnectionEvent, Negotiated, Opened, Socketed, Polled, Answered, LaneLost, Ended, Expired, LetGo}
-use Rattle.hd_server.specs.Lives.{is_let_go, is_opened, is_polling, ended_at, lost_at, negotiated_at, overdue, socket_of, standing, when}
+use Rattle.hd_server.specs.Lives.{is_removed, is_opened, is_polling, ended_at, lost_at, negotiated_at, overdue, socket_of, standing, when}
 use Rattle.hd_server.specs.Machine.{Connects, Does, Goes, Rounds, Carries, has_gone, settings_of}
 use Rattle.hd_server.specs.Doings.{ServerEvent, Hears, Learns, Draws, Notes, Works, Says}
 use Rattle.hd_server.specs.Doings.{notes, work, awaits_reply, has_peer, is_up, name_now, wants_shut, was_refused}
@@ -168,7 +168,7 @@ pick false false None false false true e = absurd (both_ways false refl (ap poll
 pick false false None false false false e = absurd (both_ways false refl (ap polls e))
 
 polls_then : (c : ℕ) (n : List ConnectionEvent) → standing c n ≡ Polling → is_polling c n ≡ true
-polls_then c n e = pick (is_let_go c n) (is_some (ended_at c n)) (socket_of c n) (is_some (lost_at c n)) (is_polling c n)
+polls_then c n e = pick (is_removed c n) (is_some (ended_at c n)) (socket_of c n) (is_some (lost_at c n)) (is_polling c n)
     (is_opened c n || is_some (negotiated_at c n)) e
 
 -- one or two doings that don't concern a connection

@@ -19,12 +19,12 @@ use Rattle.hd_server.specs.declared.vocabulary.Outcome.TheVariants.{Refusal, New
 use Rattle.hd_server.specs.Table.{outcome}
 use Rattle.hd_server.specs.Machine.{MachineEvent, Does, Goes, Connects, Rounds, Carries, settings_of, connections}
 use Rattle.hd_server.specs.Doings.{ServerEvent, Hears, Notes, Works, Says, Learns, Draws, notes, work, moment, asked, draws}
-use Rattle.hd_server.specs.Doings.{was_refused, wants_shut, history, config_of, has_closed, has_peer, is_up, is_granted}
-use Rattle.hd_server.specs.Plans.{Plan, Setup, PendingRequest, onto, connecting, attaching, closing, dropping, letting_go, expiring, expiries, bare_reply}
+use Rattle.hd_server.specs.Doings.{was_refused, wants_shut, history, config_of, has_closed, has_peer, is_up, may_resume}
+use Rattle.hd_server.specs.Plans.{Plan, Setup, PendingRequest, onto, connecting, attaching, closing, dropping, removing_conn, expiring, expiries, bare_reply}
 use Rattle.hd_server.specs.Plans.{frames_reply, socket_reply, token_reply, shutting, replying, ending_poll, ending_held, standing_on, shutting_some}
 use Rattle.hd_server.specs.Plans.{request_plan, conn_on, poller_on, losing, losing_lane, named_conn, facts, plan}
-use Rattle.hd_server.specs.Serves.{IsFed, silenced, ticking, ticks, lending, writing, all_of, bytes_of, telling_poll, telling_poll_some, ending}
-use Rattle.hd_server.specs.Serves.{telling_on, telling, all_telling}
+use Rattle.hd_server.specs.Serves.{IsFed, silenced, ticking, ticks, lending, writing, all_of, bytes_of, flushing_poll, flushing_some_poll, ending}
+use Rattle.hd_server.specs.Serves.{flushing_on, flushing, all_flushing}
 use Rattle.hub_server.specs.Steps.{Follows}
 
 -- ---- doings that ask nothing
@@ -55,7 +55,7 @@ each f (c ∷ cs) a = join (f c) (flat_map f cs) (a c) (each f cs a)
 
 -- ---- the parts of a turn
 
-letting : (c : ℕ) (h : List ServerEvent) → AreMute (letting_go c h)
+letting : (c : ℕ) (h : List ServerEvent) → AreMute (removing_conn c h)
 letting c h = join (dropping c h) (Notes (LetGo c) ∷ []) (either (has_peer c h) (Works (Goes c) ∷ []) [] (tt, tt) tt) (tt, tt)
 
 closes : (c : ℕ) (why : Reason) (h : List ServerEvent) → AreMute (closing c why h)
@@ -100,7 +100,7 @@ first s o drawn c h NextPoll = ends_poll c o.now (poll_of c (notes h)) h
 first s o drawn c h LastPoll = (tt, tt)
 first s o drawn c h Posting = tt
 first s o drawn c h Deletion =
-    join (ending_held c o.now h ++ closing c _ h ++ letting_go c h) _
+    join (ending_held c o.now h ++ closing c _ h ++ removing_conn c h) _
     (join (ending_held c o.now h ++ closing c _ h) _ (join (ending_held c o.now h) _ (ends_poll c o.now (poll_of c (notes h)) h) (closes c _ h)) (letting c h))
     (replies o.lane (bare_reply 202) h)
 
@@ -111,7 +111,7 @@ last s o drawn c h Posting = replies o.lane (bare_reply 200) h
 last s o drawn c h out = tt
 
 loses : (c lane now : ℕ) (h : List ServerEvent) → AreMute (losing c lane now h)
-loses c lane now h = either (is_granted c h) _ (letting_go c h) (tt, tt) (letting c h)
+loses c lane now h = either (may_resume c h) _ (removing_conn c h) (tt, tt) (letting c h)
 
 loses_lane : (a b : Option ℕ) (lane now : ℕ) (h : List ServerEvent) → AreMute (losing_lane a b lane now h)
 loses_lane (Some c) b lane now h = (tt, loses c lane now h)
@@ -147,7 +147,7 @@ writing_tells : (k : ℕ) (s : Setup) (lane : ℕ) (pieces : List (List LinkFram
 writing_tells k s lane [] h = tt
 writing_tells k s lane (p ∷ ps) h = (tt, writing_tells k s lane ps h)
 
-poll_tells : (s : Setup) (now k : ℕ) (p : ℕ × ℕ) (fs : List LinkFrame) (h : List ServerEvent) → AreMute (telling_poll s now k p fs h)
+poll_tells : (s : Setup) (now k : ℕ) (p : ℕ × ℕ) (fs : List LinkFrame) (h : List ServerEvent) → AreMute (flushing_poll s now k p fs h)
 poll_tells s now k p [] h =
     either (has_closed k h) _ _ (join (replying p.0 (bare_reply 204) h) _ (replies p.0 (bare_reply 204) h) (letting k h))
     (either (nat_le (p.1 + held_for) now) _ [] (join (replying p.0 (bare_reply 200) h) (Notes (Answered k p.0 now) ∷ []) (replies p.0 (bare_reply 200) h) (tt, tt)) tt)
@@ -155,25 +155,25 @@ poll_tells s now k p (f ∷ fs) h =
     join (lending k (f ∷ fs) ++ replying p.0 (frames_reply (bytes_of s k (f ∷ fs) h)) h) (Notes (Answered k p.0 now) ∷ [])
     (join (lending k (f ∷ fs)) _ (lending_tells k (f ∷ fs)) (replies p.0 (frames_reply (bytes_of s k (f ∷ fs) h)) h)) (tt, tt)
 
-some_poll_tells : (s : Setup) (now k : ℕ) (o : Option (ℕ × ℕ)) (fs : List LinkFrame) (h : List ServerEvent) → AreMute (telling_poll_some s now k o fs h)
+some_poll_tells : (s : Setup) (now k : ℕ) (o : Option (ℕ × ℕ)) (fs : List LinkFrame) (h : List ServerEvent) → AreMute (flushing_some_poll s now k o fs h)
 some_poll_tells s now k None fs h = tt
 some_poll_tells s now k (Some p) fs h = poll_tells s now k p fs h
 
-telling_tells : (s : Setup) (now k : ℕ) (o : Option ℕ) (pieces : List (List LinkFrame)) (h : List ServerEvent) → AreMute (telling_on s now k o pieces h)
+telling_tells : (s : Setup) (now k : ℕ) (o : Option ℕ) (pieces : List (List LinkFrame)) (h : List ServerEvent) → AreMute (flushing_on s now k o pieces h)
 telling_tells s now k (Some lane) pieces h =
     join (lending k (all_of pieces) ++ writing s k lane pieces h) _
     (join (lending k (all_of pieces)) _ (lending_tells k (all_of pieces)) (writing_tells k s lane pieces h))
-    (either (has_closed k h) (shutting lane h ++ letting_go k h) [] (join (shutting lane h) _ (shuts lane h) (letting k h)) tt)
+    (either (has_closed k h) (shutting lane h ++ removing_conn k h) [] (join (shutting lane h) _ (shuts lane h) (letting k h)) tt)
 telling_tells s now k None pieces h =
     either (is_polling k (notes h)) _ _
     (join (ending now k h) _ (either (has_closed k h && not (is_some (ended_at k (notes h)))) (Notes (Ended k now) ∷ []) [] (tt, tt) tt) (some_poll_tells s now k (poll_of k (notes h)) (all_of pieces) h))
-    (either (has_closed k h) (letting_go k h) [] (letting k h) tt)
+    (either (has_closed k h) (removing_conn k h) [] (letting k h) tt)
 
-tells : (s : Setup) (now : ℕ) (cs : List ℕ) (all : List (List (List LinkFrame))) (h : List ServerEvent) → AreMute (all_telling s now cs all h)
+tells : (s : Setup) (now : ℕ) (cs : List ℕ) (all : List (List (List LinkFrame))) (h : List ServerEvent) → AreMute (all_flushing s now cs all h)
 tells s now [] all h = tt
 tells s now (c ∷ cs) [] h = tt
 tells s now (c ∷ cs) (p ∷ more) h =
-    join (telling s now c p h) _ (telling_tells s now c (socket_of c (notes h)) p h) (tells s now cs more h)
+    join (flushing s now c p h) _ (telling_tells s now c (socket_of c (notes h)) p h) (tells s now cs more h)
 
 -- ---- what they leave
 
@@ -234,8 +234,8 @@ follows_quiet s e name drawn now h after f =
     (quiet_trans (onto p.last f.fed) f.fed h (last_quiet s now e name drawn h f.fed)
     (quiet_trans f.fed (onto p.first h) h (fed_quiet (moment h) p.food (onto p.first h) f.fed f.feeds) (first_quiet s now e name drawn h h)))
 
-pub tells_quiet : (s : Setup) (now : ℕ) (cs : List ℕ) (all : List (List (List LinkFrame))) (h g : List ServerEvent) → Quiet (onto (all_telling s now cs all h) g) g
-tells_quiet s now cs all h g = onto_quiet (all_telling s now cs all h) g (tells s now cs all h)
+pub tells_quiet : (s : Setup) (now : ℕ) (cs : List ℕ) (all : List (List (List LinkFrame))) (h g : List ServerEvent) → Quiet (onto (all_flushing s now cs all h) g) g
+tells_quiet s now cs all h g = onto_quiet (all_flushing s now cs all h) g (tells s now cs all h)
 
 -- ---- rounds
 

@@ -17,11 +17,11 @@ use Rattle.hd_server.specs.Table.{asks_keeper}
 use Rattle.hd_server.specs.Machine.{MachineEvent, Rounds, IsRound, connections}
 use Rattle.hd_server.specs.Doings.{ServerEvent, Hears, Draws, Works, work, moment, asked, awaits_reply, said, wants_shut, was_refused}
 use Rattle.hd_server.specs.Plans.{Setup, asks_lots, learning, onto, plan, questions}
-use Rattle.hd_server.specs.Serves.{IsFed, IsFree, all_telling, ticks}
+use Rattle.hd_server.specs.Serves.{IsFed, IsFree, all_flushing, ticks}
 use Rattle.hub_server.specs.declared.server.Server.{Server}
 use Rattle.hub_server.specs.Lanes.{lane_of, settled}
 use Rattle.hub_server.specs.Servers.{IsRested, Standing}
-use Rattle.hub_server.specs.Steps.{AddsAll, Around, CanHandle, CountsDraws, Follows, Handles, HasTurn, IsHandled, IsRounded, IsFlushed, NoneOverdue}
+use Rattle.hub_server.specs.Steps.{AddsAll, Outside, CanHandle, CountsDraws, Follows, Handles, HasTurn, IsHandled, IsRounded, IsFlushed, NoneOverdue}
 use Rattle.hub_server.specs.Steps.{TurnsTo, expired_by, lost_in}
 use Rattle.hub_server.proofs.StepHears.{nobody_comes}
 use Rattle.hub_server.proofs.StepExpired.{expiries_rest, expiries_wane, nobody_wanes}
@@ -115,7 +115,7 @@ ticked h = onto (ticks (moment h) h) h
 abbrev pub rounded : List MachineEvent → List ServerEvent → List ServerEvent
 rounded round h = map Works round ++ Works (Rounds (moment h)) ∷ h
 
-pub turns_to : {H Job : Type 0} (hub : Hub Job) (s : Setup) (before : List Said) (v w x : Server H Job) (at mid since : Around) (now : ℕ) (e : Event)
+pub turns_to : {H Job : Type 0} (hub : Hub Job) (s : Setup) (before : List Said) (v w x : Server H Job) (at mid since : Outside) (now : ℕ) (e : Event)
     (h : List ServerEvent)
     (handled : Handles {H = H} hub s before v at mid e (expired_by (Hears now e ∷ h)))
     (turned : IsRounded {H = H} hub s settled before w mid.holds mid.answers mid.faults since.holds since.answers since.faults (ticked handled.after))
@@ -135,7 +135,7 @@ turns_to {H} hub s before v w x at mid since now e h handled turned told drawn f
     let r : List ServerEvent = rounded round t in
     let at_r : moment r ≡ now = round_at round (Works (Rounds (moment t)) ∷ t) ∙ at_t in
     let tells = tells_quiet s (moment r) (connections (work r)) told.pieces r r in
-    let after : List ServerEvent = onto (all_telling s (moment r) (connections (work r)) told.pieces r) r in
+    let after : List ServerEvent = onto (all_flushing s (moment r) (connections (work r)) told.pieces r) r in
     record {
       after = after;
       turn = record {
@@ -160,7 +160,7 @@ turns_to {H} hub s before v w x at mid since now e h handled turned told drawn f
         has_stepped = ap (λ n. map Works round ++ Works (Rounds n) ∷ t) at_t;
         pieces = told.pieces;
         all_due = told.all_due;
-        tells = ap (λ n. onto (all_telling s n (connections (work r)) told.pieces r) r) at_r;
+        tells = ap (λ n. onto (all_flushing s n (connections (work r)) told.pieces r) r) at_r;
         peers = told.stands.machine.peers;
       };
       stands = told.stands;
@@ -185,7 +185,7 @@ turns_to {H} hub s before v w x at mid since now e h handled turned told drawn f
 
 -- ---- one part after the other
 
-module _ {H Job : Type 0} (hub : Hub Job) (s : Setup) (before : List Said) (v1 v2 v3 v4 v5 x : Server H Job) (at mid since : Around) (now : ℕ)
+module _ {H Job : Type 0} (hub : Hub Job) (s : Setup) (before : List Said) (v1 v2 v3 v4 v5 x : Server H Job) (at mid since : Outside) (now : ℕ)
     (e : Event)
     (h : List ServerEvent) (drawn : since.drawn ≡ mid.drawn) (failures : since.failures ≡ mid.failures) (join : AnswersJoin)
     (tell : (g : List ServerEvent) → Standing {H = H} hub s settled before v5 g → IsFlushed {H = H} hub s before x g) where
@@ -220,7 +220,7 @@ module _ {H Job : Type 0} (hub : Hub Job) (s : Setup) (before : List Said) (v1 v
 
 -- ---- between events
 
-pub has_turn : {H Job : Type 0} (hub : Hub Job) (s : Setup) (w x : Server H Job) (at since : Around) (e : Heard) (h : List ServerEvent) (words : List Said)
+pub has_turn : {H Job : Type 0} (hub : Hub Job) (s : Setup) (w x : Server H Job) (at since : Outside) (e : Heard) (h : List ServerEvent) (words : List Said)
     → TurnsTo {H = H} hub s (said h) w at since e h → words ≡ w.words → x ≡ record w { is_ended = false; words = [] }
     → HasTurn {H = H} hub s x at since e h words
 has_turn {H} hub s w x at since e h words turned same is =

@@ -9,8 +9,8 @@ use Rattle.hd_calls.specs.Peers.{Plain}
 use Rattle.hd_server.specs.declared.vocabulary.Said.TheVariants as say
 use Rattle.hd_server.specs.Lives.{Expired, LaneLost, LetGo, socket_of}
 use Rattle.hd_server.specs.Machine.{Does, Goes}
-use Rattle.hd_server.specs.Doings.{ServerEvent, Notes, Works, Says, notes, moment, config_of, has_peer, history, is_granted, was_refused}
-use Rattle.hd_server.specs.Plans.{dropping, letting_go, losing, onto, shutting, step}
+use Rattle.hd_server.specs.Doings.{ServerEvent, Notes, Works, Says, notes, moment, config_of, has_peer, history, may_resume, was_refused}
+use Rattle.hd_server.specs.Plans.{dropping, removing_conn, losing, onto, shutting, step}
 use Rattle.hd_server.specs.Serves.{silenced, ticking}
 use Rattle.hub_server.proofs.Alike.{Alike, alike_refl, alike_trans, alike_does, alike_goes, alike_note, alike_says, config_alike, granted_alike}
 use Rattle.hub_server.proofs.Alike.{history_alike, there_alike}
@@ -76,16 +76,16 @@ pub apart_closing : (c : ℕ) (why : Reason) (b : Bool) (h : List ServerEvent) �
 apart_closing c why true h = apart_step c (Closed why false) h
 apart_closing c why false h = apart_same c h
 
-pub apart_letting_go : (c : ℕ) (of h : List ServerEvent) → Apart c (onto (letting_go c of) h) h
+pub apart_letting_go : (c : ℕ) (of h : List ServerEvent) → Apart c (onto (removing_conn c of) h) h
 apart_letting_go c of h =
     apart_parts c (dropping c of) (Notes (LetGo c) ∷ []) h (apart_dropping c (has_peer c of) h) (apart_freed c (onto (dropping c of) h))
 
 -- ---- ticks
 
 apart_losing : (c lane now : ℕ) (of h : List ServerEvent) → Apart c (onto (losing c lane now of) h) h
-apart_losing c lane now of h = by (is_granted c of)
+apart_losing c lane now of h = by (may_resume c of)
   where
-    by : (b : Bool) → Apart c (onto (if b then Notes (LaneLost c lane now) ∷ [] else letting_go c of) h) h
+    by : (b : Bool) → Apart c (onto (if b then Notes (LaneLost c lane now) ∷ [] else removing_conn c of) h) h
     by true = apart_lost c lane now h
     by false = apart_letting_go c of h
 
@@ -119,10 +119,10 @@ silenced_same : (c now : ℕ) (g h : List ServerEvent) → Alike c g h → ((lan
     → silenced c o now g ≡ silenced c o now h
 silenced_same c now g h a lanes None = refl
 silenced_same c now g h a lanes (Some lane) =
-    ap (λ (b : Bool). step c (Silenced now) ∷ (if b then Notes (LaneLost c lane now) ∷ [] else letting_go c g) ++ shutting lane g)
+    ap (λ (b : Bool). step c (Silenced now) ∷ (if b then Notes (LaneLost c lane now) ∷ [] else removing_conn c g) ++ shutting lane g)
     (granted_alike c g h a)
     ∙ ap (λ (b : Bool). step c (Silenced now)
-    ∷ (if is_granted c h then Notes (LaneLost c lane now) ∷ []
+    ∷ (if may_resume c h then Notes (LaneLost c lane now) ∷ []
     else ((if b then Works (Goes c) ∷ [] else []) ++ Notes (LetGo c) ∷ [])) ++ shutting lane g)
     (there_alike c g h a)
     ∙ ap (λ (b : Bool). step c (Silenced now) ∷ losing c lane now h ++ (if b then [] else Says (say.Shut lane) ∷ []))

@@ -13,8 +13,8 @@ use Rattle.hd_calls.specs.Peers.{Plain, steps}
 use Rattle.hd_server.specs.declared.vocabulary.Said.{Said}
 use Rattle.hd_server.specs.Lives.{LaneLost, is_made, is_polling, lost_at, poll_ended, poll_of, socket_of}
 use Rattle.hd_server.specs.Machine.{Does, settings_of}
-use Rattle.hd_server.specs.Doings.{ServerEvent, Notes, notes, work, moment, peer, has_peer, history, is_granted}
-use Rattle.hd_server.specs.Plans.{Setup, conn_on, letting_go, losing, losing_lane, onto, poller_on, step}
+use Rattle.hd_server.specs.Doings.{ServerEvent, Notes, notes, work, moment, peer, has_peer, history, may_resume}
+use Rattle.hd_server.specs.Plans.{Setup, conn_on, removing_conn, losing, losing_lane, onto, poller_on, step}
 use Rattle.hn_server_front.specs.declared.front.Front.{Front}
 use Rattle.hn_server_front.specs.Stands as front
 use Rattle.hub_server.specs.declared.lane.Lane.{Lane}
@@ -297,16 +297,16 @@ module _ {H Job : Type 0} (law : ConnectionsAreFound) (hub : Hub Job) (s : Setup
                 (subst (λ y. of.moment y ≤ moment h) t.history_is (let o = st.orderly c in o.timely)))
 
         -- its end is off its link, and waits for the next or nothing is kept of it
-        pub lost_socket : (granted : Bool) → OfEach {H = H} hub v (λ s u before h. granted ≡ is_granted c h) → (after : Server H Job)
+        pub lost_socket : (granted : Bool) → OfEach {H = H} hub v (λ s u before h. granted ≡ may_resume c h) → (after : Server H Job)
             → OfEach {H = H} hub (record v { machine = m }) (λ s u before h. u ≡ cut_of lane → has_peer c h ≡ true
-            → present_link (history c h) ≡ None → socket_of c (notes h) ≡ Some lane → granted ≡ is_granted c h
+            → present_link (history c h) ≡ None → socket_of c (notes h) ≡ Some lane → granted ≡ may_resume c h
             → Standing {H = H} hub s settled before after (onto (losing c lane (moment h) h) h))
             → Standing {H = H} hub s settled before after (onto (losing_lane (conn_on lane h) (poller_on lane h) lane (moment h) h) h)
         lost_socket granted told after lost =
             subst (λ xs. Standing {H = H} hub s settled before after (onto xs h))
             (sym (ap (λ o. losing_lane o (poller_on lane h) lane (moment h) h) stands_one))
             (subst (λ (b : Bool). Standing {H = H} hub s settled before after
-            (onto (if b then Notes (LaneLost c lane (moment h)) ∷ [] else letting_go c h) mid))
+            (onto (if b then Notes (LaneLost c lane (moment h)) ∷ [] else removing_conn c h) mid))
             (off_granted c (moment h) h)
             (lost s (cut_of lane) before mid (standing_detached {H = H} hub s before v m c lane h st socket detached) refl there
             (off_off c (moment h) h there) socket (told s (lane_of (Some lane)) before h st ∙ sym (off_granted c (moment h) h))))

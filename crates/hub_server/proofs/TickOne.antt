@@ -10,10 +10,10 @@ use Rattle.hd_calls.specs.Hubs.{Hub}
 use Rattle.hd_calls.specs.Peers.{Plain, steps}
 use Rattle.hd_server.specs.declared.vocabulary.Said.{Said}
 use Rattle.hd_server.specs.declared.vocabulary.Said.TheVariants as say
-use Rattle.hd_server.specs.Lives.{LaneLost, is_let_go, is_made, socket_of}
+use Rattle.hd_server.specs.Lives.{LaneLost, is_removed, is_made, socket_of}
 use Rattle.hd_server.specs.Machine.{Does}
-use Rattle.hd_server.specs.Doings.{ServerEvent, Notes, Says, notes, work, moment, peer, config_of, has_peer, history, is_granted, was_refused}
-use Rattle.hd_server.specs.Plans.{Setup, letting_go, losing, onto, shutting, step}
+use Rattle.hd_server.specs.Doings.{ServerEvent, Notes, Says, notes, work, moment, peer, config_of, has_peer, history, may_resume, was_refused}
+use Rattle.hd_server.specs.Plans.{Setup, removing_conn, losing, onto, shutting, step}
 use Rattle.hd_server.specs.Serves.{silenced, ticking}
 use Rattle.hn_server_front.specs.Calls as front
 use Rattle.hub_machine.specs.declared.machine.Machine.{Machine}
@@ -34,7 +34,7 @@ use Rattle.hub_server.proofs.TickSteps.{standing_steps}
 pub lane_here : (u : Unsettled) (c : ℕ) (h : List ServerEvent) → IsOrderly u c h → has_peer c h ≡ true → front.lane_of c (notes h) ≡ socket_of c (notes h)
 lane_here u c h o there =
     let t = begun_here c h there in
-    chosen {A = Option ℕ} (is_made c (notes h) && not (is_let_go c (notes h))) (socket_of c (notes h)) None
+    chosen {A = Option ℕ} (is_made c (notes h) && not (is_removed c (notes h))) (socket_of c (notes h)) None
     (and_from _ _ (o.made (ap is_some t.begun)) (ap not (o.there there)))
 
 -- ---- the end of a lane
@@ -113,11 +113,11 @@ module _ {H Job : Type 0} (hub : Hub Job) (s : Setup) (u : Unsettled) (before : 
         (standing_mute {H = H} hub s u before v new c h st socket (machine_at true mute))
 
     module _ (sound : u ≡ settled) (mute : silent ≡ true) (lane : ℕ) (at : Some lane ≡ front.lane_of c (notes h)) (granted : Bool)
-        (told : OfEach {H = H} hub v (λ s u before h. granted ≡ is_granted c h)) (shuts : Bool)
+        (told : OfEach {H = H} hub v (λ s u before h. granted ≡ may_resume c h)) (shuts : Bool)
         (may : OfEach {H = H} hub (record v { machine = new }) (λ s u before h. (c : ℕ) → is_at lane c h ≡ true → shuts ≡ not (was_refused lane h)))
         (after : Server H Job)
         (lost : OfEach {H = H} hub (record v { machine = new }) (λ s u before h. u ≡ cut_of lane → has_peer c h ≡ true
-        → present_link (history c h) ≡ None → socket_of c (notes h) ≡ Some lane → granted ≡ is_granted c h
+        → present_link (history c h) ≡ None → socket_of c (notes h) ≡ Some lane → granted ≡ may_resume c h
         → Standing {H = H} hub s settled before after (onto (losing c lane (moment h) h) h))) where
       socket : socket_of c (notes h) ≡ Some lane
       socket = sym (at ∙ lane_here u c h (st.orderly c) there)
@@ -133,7 +133,7 @@ module _ {H Job : Type 0} (hub : Hub Job) (s : Setup) (u : Unsettled) (before : 
       gone : Standing {H = H} hub s settled before after (onto (losing c lane (moment h) h) mid)
       gone =
           subst (λ (b : Bool). Standing {H = H} hub s settled before after
-          (onto (if b then Notes (LaneLost c lane (moment h)) ∷ [] else letting_go c h) mid))
+          (onto (if b then Notes (LaneLost c lane (moment h)) ∷ [] else removing_conn c h) mid))
           (silent_granted c (moment h) h)
           (lost s (cut_of lane) before mid silent_stands refl there (silent_off c (moment h) h there) socket
           (told s u before h st ∙ sym (silent_granted c (moment h) h)))

@@ -12,7 +12,7 @@ use Rattle.hd_calls.specs.Peers.{PeerEvent, Plain, Settings, steps}
 use Rattle.hd_server.specs.declared.vocabulary.Said.{Said}
 use Rattle.hd_server.specs.Lives.{socket_of}
 use Rattle.hd_server.specs.Machine.{Does, has_gone, is_open_at, moves, settings_of}
-use Rattle.hd_server.specs.Doings.{ServerEvent, notes, work, moment, peer, config_of, config_with, has_peer, history, history_with, is_granted}
+use Rattle.hd_server.specs.Doings.{ServerEvent, notes, work, moment, peer, config_of, config_with, has_peer, history, history_with, may_resume}
 use Rattle.hd_server.specs.Plans.{Setup, step}
 use Rattle.hub_machine.specs.declared.machine.Machine.{Machine}
 use Rattle.hub_server.specs.declared.server.Server.{Server}
@@ -112,12 +112,12 @@ granted_off here None now ms = refl
 granted_off here (Some t) now ms = granted_by here (is_resumable t.config (steps t ms)) (is_closed t.config (steps t ms))
 
 -- the loss of its link doesn't change that
-pub silent_granted : (c now : ℕ) (h : List ServerEvent) → is_granted c (step c (Silenced now) ∷ h) ≡ is_granted c h
+pub silent_granted : (c now : ℕ) (h : List ServerEvent) → may_resume c (step c (Silenced now) ∷ h) ≡ may_resume c h
 silent_granted c now h =
     ap (granted_with (not (has_gone c (work h))) (settings_of c (work h))) (moves_own c (Plain (Step_of (Silenced now))) (work h))
     ∙ granted_silent (not (has_gone c (work h))) (settings_of c (work h)) now (moves c (work h))
 
-pub off_granted : (c now : ℕ) (h : List ServerEvent) → is_granted c (step c (Detached now) ∷ h) ≡ is_granted c h
+pub off_granted : (c now : ℕ) (h : List ServerEvent) → may_resume c (step c (Detached now) ∷ h) ≡ may_resume c h
 off_granted c now h =
     ap (granted_with (not (has_gone c (work h))) (settings_of c (work h))) (moves_own c (Plain (Step_of (Detached now))) (work h))
     ∙ granted_off (not (has_gone c (work h))) (settings_of c (work h)) now (moves c (work h))

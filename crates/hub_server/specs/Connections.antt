@@ -5,8 +5,8 @@ use Rattle.std.specs.BTreeMap.{get}
 use Rattle.hd_delivery.specs.Histories.{is_this}
 use Rattle.hd_calls.specs.Hubs.{Hub}
 use Rattle.hd_server.specs.declared.vocabulary.Said.{Said}
-use Rattle.hd_server.specs.Lives.{is_let_go, is_made, is_polling, lost_at, socket_of}
-use Rattle.hd_server.specs.Doings.{ServerEvent, notes, moment, has_peer, is_granted}
+use Rattle.hd_server.specs.Lives.{is_removed, is_made, is_polling, lost_at, socket_of}
+use Rattle.hd_server.specs.Doings.{ServerEvent, notes, moment, has_peer, may_resume}
 use Rattle.hd_server.specs.Plans.{Setup}
 use Rattle.hd_server.specs.Serves.{FeedsOne}
 use Rattle.hub_server.specs.declared.server.Server.{Server}
@@ -16,13 +16,13 @@ use Rattle.hub_server.specs.Servers.{Standing}
 -- it was made, and isn't let go
 pub record IsKnown (c : ℕ) (h : List ServerEvent) : Type 0 where
   pub made : is_made c (notes h) ≡ true
-  pub held : is_let_go c (notes h) ≡ false
+  pub held : is_removed c (notes h) ≡ false
 
 -- it may stand on a socket: it doesn't poll, and its end may be resumed, or it has none yet
 pub record CanStand (c : ℕ) (h : List ServerEvent) : Type 0 where
   pub known : IsKnown c h
   pub unpolled : is_polling c (notes h) ≡ false
-  pub granted : has_peer c h ≡ true → is_granted c h ≡ true
+  pub granted : has_peer c h ≡ true → may_resume c h ≡ true
 
 -- a poll may come for it: it has a peer, and stood on no socket
 pub record CanHold (c : ℕ) (h : List ServerEvent) : Type 0 where

@@ -5,7 +5,7 @@ use Rattle.hd_calls.specs.Hubs.{Hub}
 use Rattle.hd_server.specs.declared.vocabulary.Said.{Said}
 use Rattle.hd_server.specs.Doings.{ServerEvent, moment, history, config_of}
 use Rattle.hd_server.specs.Plans.{Setup, onto}
-use Rattle.hd_server.specs.Serves.{AreDueOn, AreNonempty, LendsAll, LendsUpTo, all_of, lending, telling_on, telling_poll, writing}
+use Rattle.hd_server.specs.Serves.{AreDueOn, AreNonempty, LendsAll, LendsUpTo, all_of, lending, flushing_on, flushing_poll, writing}
 use Rattle.hub_server.specs.declared.server.Server.{Server}
 use Rattle.hub_server.specs.Lanes.{Unsettled, settled}
 use Rattle.hub_server.specs.Servers.{IsRested, Standing}
@@ -14,14 +14,14 @@ use Rattle.hub_server.specs.Servers.{IsRested, Standing}
 pub record FlushesOne {H Job : Type 0} (hub : Hub Job) (s : Setup) (before : List Said) (new : Server H Job) (c : ℕ) (lane : Option ℕ) (poll : Option (ℕ × ℕ)) (h : List ServerEvent) : Type 0 where
   pub pieces : List (List LinkFrame)
   pub due : AreDueOn s c lane poll pieces h
-  pub stands : Standing hub s settled before new (onto (telling_on s (moment h) c lane pieces h) h)
-  pub rested : IsRested c (onto (telling_on s (moment h) c lane pieces h) h)
+  pub stands : Standing hub s settled before new (onto (flushing_on s (moment h) c lane pieces h) h)
+  pub rested : IsRested c (onto (flushing_on s (moment h) c lane pieces h) h)
 
 -- the poll that is held
 pub record FlushesPoll {H Job : Type 0} (hub : Hub Job) (s : Setup) (before : List Said) (new : Server H Job) (c : ℕ) (poll : ℕ × ℕ) (h : List ServerEvent) : Type 0 where
   pub frames : List LinkFrame
   pub due : LendsUpTo s.wire (config_of c h) (history c h) 0 frames
-  pub stands : Standing hub s settled before new (onto (telling_poll s (moment h) c poll frames h) h)
+  pub stands : Standing hub s settled before new (onto (flushing_poll s (moment h) c poll frames h) h)
 
 -- what is written on a socket
 pub record Writes {H Job : Type 0} (hub : Hub Job) (s : Setup) (u : Unsettled) (before : List Said) (new : Server H Job) (c lane : ℕ) (h : List ServerEvent) : Type 0 where

@@ -12,7 +12,7 @@ use Rattle.hd_server.specs.declared.vocabulary.Caller.TheVariants.{Named}
 use Rattle.hd_server.specs.declared.vocabulary.Outcome.{Outcome}
 use Rattle.hd_server.specs.declared.vocabulary.Outcome.TheVariants.{Refusal, NewToken, PlainSocket, TokenSocket, Deletion}
 use Rattle.hd_server.specs.Table.{Facts, text_in}
-use Rattle.hd_server.specs.Doings.{ServerEvent, Draws, is_granted, notes, moment}
+use Rattle.hd_server.specs.Doings.{ServerEvent, Draws, may_resume, notes, moment}
 use Rattle.hd_server.specs.Plans.{PendingRequest, Setup, bare_reply, caller_by, onto, request_plan}
 use Rattle.hd_server.specs.Serves.{IsDraw}
 use Rattle.hub_server.specs.declared.server.Server.{Server}
@@ -69,7 +69,7 @@ is_about_token _ = true
 pub record IsNamed (f : Facts) (c : ℕ) (h : List ServerEvent) : Type 0 where
   pub made : is_made c (notes h) ≡ true
   pub lives : f.life ≡ standing c (notes h)
-  pub grants : f.granted ≡ is_granted c h
+  pub grants : f.granted ≡ may_resume c h
 
 -- what the table looked at is so
 pub record IsSeen (f : Facts) (c : ℕ) (out : Outcome) (h : List ServerEvent) : Type 0 where

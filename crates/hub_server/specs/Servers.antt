@@ -10,7 +10,7 @@ use Rattle.hd_calls.specs.Hubs.{Hub}
 use Rattle.hd_calls.specs.Peers.{Settings, waiting}
 use Rattle.hd_server.specs.declared.vocabulary.Said.{Said}
 use Rattle.hd_server.specs.Numbers.{most_frame}
-use Rattle.hd_server.specs.Lives.{ended_at, is_let_go, is_made, is_polling, lost_at, socket_of}
+use Rattle.hd_server.specs.Lives.{ended_at, is_removed, is_made, is_polling, lost_at, socket_of}
 use Rattle.hd_server.specs.Machine.{settings_of}
 use Rattle.hd_server.specs.Doings.{ServerEvent, notes, work, moment, said, user_of, peer, history, config_for, config_of, has_peer, is_up}
 use Rattle.hd_server.specs.Plans.{Setup, usual_setup}
@@ -24,8 +24,8 @@ use Rattle.hub_server.specs.Lanes.{IsLane, Unsettled}
 -- what holds of each connection of a server, after each of its doings
 pub record IsOrderly (u : Unsettled) (c : ℕ) (h : List ServerEvent) : Type 0 where
   pub made : is_some (settings_of c (work h)) ≡ true → is_made c (notes h) ≡ true
-  pub there : has_peer c h ≡ true → is_let_go c (notes h) ≡ false
-  pub gone : is_some (settings_of c (work h)) ≡ true → has_peer c h ≡ false → is_let_go c (notes h) ≡ true
+  pub there : has_peer c h ≡ true → is_removed c (notes h) ≡ false
+  pub gone : is_some (settings_of c (work h)) ≡ true → has_peer c h ≡ false → is_removed c (notes h) ≡ true
   pub one_way : ((is_some (socket_of c (notes h)) || is_some (lost_at c (notes h))) && is_polling c (notes h)) ≡ false
   pub ended : is_some (ended_at c (notes h)) ≡ true → is_polling c (notes h) ≡ true
   pub unused : is_some (settings_of c (work h)) ≡ false → (is_some (socket_of c (notes h)) || is_some (lost_at c (notes h)) || is_polling c (notes h)) ≡ false
@@ -44,7 +44,7 @@ IsRested c h = has_peer c h ≡ true → is_polling c (notes h) ≡ false → is
 
 -- whose connection it is, until it has a peer or is let go
 abbrev pub caller_of : ℕ → List ServerEvent → Option (List ℕ)
-caller_of c h = if is_some (settings_of c (work h)) || is_let_go c (notes h) then None else user_of c h
+caller_of c h = if is_some (settings_of c (work h)) || is_removed c (notes h) then None else user_of c h
 
 -- ---- the server
 

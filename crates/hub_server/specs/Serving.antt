@@ -15,7 +15,7 @@ use Rattle.hd_server.specs.Serving.{ServesOn, given_as}
 use Rattle.hub_server.specs.declared.server.Server.{Server}
 use Rattle.hub_server.specs.declared.serving.ServeFault.{ServeFault}
 use Rattle.hub_server.specs.declared.serving.ServeFault.TheVariants as fault
-use Rattle.hub_server.specs.Steps.{Around, StandsServer, Went}
+use Rattle.hub_server.specs.Steps.{Outside, StandsServer, OutsideFollows}
 
 -- ---- faults
 
@@ -57,16 +57,16 @@ pub record GivesAll (before now : Option Told) (words : List Said) (ok : Bool) :
 -- ---- a whole run
 
 -- at its end the server stands for this, and what is around it went on so
-pub record AtEnd {H Job : Type 0} (hub : Hub Job) (s : Setup) (new : Server H Job) (at since : Around) (last : ℕ) (h after : List ServerEvent) : Type 0 where
+pub record AtEnd {H Job : Type 0} (hub : Hub Job) (s : Setup) (new : Server H Job) (at since : Outside) (last : ℕ) (h after : List ServerEvent) : Type 0 where
   pub stands : StandsServer hub s new after
-  pub went : Went at since h after
+  pub went : OutsideFollows at since h after
   pub timely : moment after ≤ last
 
 -- memory ran out in the middle of an event, before which what is around it had gone on so
-pub record HasEnded {H Job : Type 0} (new : Server H Job) (at : Around) (last : ℕ) (h after : List ServerEvent) : Type 0 where
+pub record HasEnded {H Job : Type 0} (new : Server H Job) (at : Outside) (last : ℕ) (h after : List ServerEvent) : Type 0 where
   pub ended : new.is_ended ≡ true
-  pub until : Around
-  pub went : Went at until h after
+  pub until : Outside
+  pub went : OutsideFollows at until h after
   pub timely : moment after ≤ last
 
 -- how many events were heard: as many as turns, or no more if a fault came before
@@ -82,7 +82,7 @@ IfMemoryEnds None Ended after = ⊥
 
 -- These were heard, and this given, until all turns were done, or a fault came. For all doings for which the server stood, it was given as the
 -- server does. After a fault the last event may be answered in part; and only if memory ran out may it be done in part.
-pub record HasServed {H Job : Type 0} (hub : Hub Job) (old new : Server H Job) (at since : Around) (before now : Option Told) (first last turns : ℕ) (why : Option ServeFault) : Type 0 where
+pub record HasServed {H Job : Type 0} (hub : Hub Job) (old new : Server H Job) (at since : Outside) (before now : Option Told) (first last turns : ℕ) (why : Option ServeFault) : Type 0 where
   pub heard : List Heard
   pub waits : List ℕ
   pub given : List Given

@@ -12,7 +12,7 @@ use Rattle.hd_server.specs.Machine.{MachineEvent, Rounds, IsRound, connections}
 use Rattle.hd_server.specs.Lives.{overdue}
 use Rattle.hd_server.specs.Doings.{ServerEvent, Works, notes, work, moment, asked, draws, said, name_now, awaits_reply, wants_shut, was_refused}
 use Rattle.hd_server.specs.Plans.{Plan, Setup, expiries, onto, plan, questions}
-use Rattle.hd_server.specs.Serves.{AreAllDue, IsDraw, IsFed, IsTurn, all_telling}
+use Rattle.hd_server.specs.Serves.{AreAllDue, IsDraw, IsFed, IsTurn, all_flushing}
 use Rattle.hub_server.specs.declared.server.Server.{Server}
 use Rattle.hub_server.specs.Lanes.{IsNobodys, Unsettled, settled}
 use Rattle.hub_server.specs.Servers.{IsRested, Standing}
@@ -20,15 +20,15 @@ use Rattle.hub_server.specs.Servers.{IsRested, Standing}
 -- ---- what is around
 
 -- what a keeper and lots tell of themselves
-pub record Around : Type 0 where
+pub record Outside : Type 0 where
   pub holds : Option Content
   pub answers : Option (List Asked)
   pub faults : ℕ
   pub drawn : Option (List (Option (List ℕ)))
   pub failures : ℕ
 
-abbrev pub around : Option Content → Option (List Asked) → ℕ → Option (List (Option (List ℕ))) → ℕ → Around
-around holds answers faults drawn failures = record { holds = holds; answers = answers; faults = faults; drawn = drawn; failures = failures }
+abbrev pub outside : Option Content → Option (List Asked) → ℕ → Option (List (Option (List ℕ))) → ℕ → Outside
+outside holds answers faults drawn failures = record { holds = holds; answers = answers; faults = faults; drawn = drawn; failures = failures }
 
 -- the count of failures rises with each draw that fails, and with nothing else
 abbrev pub CountsDraws : ℕ → List (Option (List ℕ)) → ℕ → Type 0
@@ -42,7 +42,7 @@ AddsAll None (Some now) xs = ⊥
 AddsAll (Some before) (Some now) xs = now ≡ before ++ xs
 
 -- the keeper and the lots were asked what the doings tell, in order, and answered so
-pub record Went (before now : Around) (h after : List ServerEvent) : Type 0 where
+pub record OutsideFollows (before now : Outside) (h after : List ServerEvent) : Type 0 where
   pub asks : List Asked
   pub asked_are : asked after ≡ asked h ++ asks
   pub told : now.answers ≡ option_map (λ (known : List Asked). known ++ asks) before.answers
@@ -78,11 +78,11 @@ pub record IsHandled (s : Setup) (e : Event) (h after : List ServerEvent) : Type
   pub follows : Follows (plan s (moment h) e name drawn (onto (questions s (moment h) e name drawn h) h)) (onto (questions s (moment h) e name drawn h) h) after
 
 -- after the event was handled, nobody is on a lane on which a request could come
-pub record Handles {H Job : Type 0} (hub : Hub Job) (s : Setup) (before : List Said) (new : Server H Job) (at since : Around) (e : Event) (h : List ServerEvent) : Type 0 where
+pub record Handles {H Job : Type 0} (hub : Hub Job) (s : Setup) (before : List Said) (new : Server H Job) (at since : Outside) (e : Event) (h : List ServerEvent) : Type 0 where
   pub after : List ServerEvent
   pub is_handled : IsHandled s e h after
   pub stands : Standing hub s settled before new after
-  pub went : Went at since h after
+  pub went : OutsideFollows at since h after
 
 -- nothing is overdue at the moment
 abbrev pub NoneOverdue : List ServerEvent → Type 0
@@ -120,17 +120,17 @@ pub record IsRounded {H Job : Type 0} (hub : Hub Job) (s : Setup) (u : Unsettled
 pub record IsFlushed {H Job : Type 0} (hub : Hub Job) (s : Setup) (before : List Said) (new : Server H Job) (h : List ServerEvent) : Type 0 where
   pub pieces : List (List (List LinkFrame))
   pub all_due : AreAllDue s (connections (work h)) pieces h
-  pub stands : Standing hub s settled before new (onto (all_telling s (moment h) (connections (work h)) pieces h) h)
-  pub rested : (c : ℕ) → IsRested c (onto (all_telling s (moment h) (connections (work h)) pieces h) h)
+  pub stands : Standing hub s settled before new (onto (all_flushing s (moment h) (connections (work h)) pieces h) h)
+  pub rested : (c : ℕ) → IsRested c (onto (all_flushing s (moment h) (connections (work h)) pieces h) h)
 
 -- ---- a whole turn
 
-pub record TurnsTo {H Job : Type 0} (hub : Hub Job) (s : Setup) (before : List Said) (new : Server H Job) (at since : Around) (e : Heard) (h : List ServerEvent) : Type 0 where
+pub record TurnsTo {H Job : Type 0} (hub : Hub Job) (s : Setup) (before : List Said) (new : Server H Job) (at since : Outside) (e : Heard) (h : List ServerEvent) : Type 0 where
   pub after : List ServerEvent
   pub turn : IsTurn hub s e.now e.event h after
   pub stands : Standing hub s settled before new after
   pub rested : (c : ℕ) → IsRested c after
-  pub went : Went at since h after
+  pub went : OutsideFollows at since h after
 
 -- between events
 pub record StandsServer {H Job : Type 0} (hub : Hub Job) (s : Setup) (v : Server H Job) (h : List ServerEvent) : Type 0 where
@@ -139,9 +139,9 @@ pub record StandsServer {H Job : Type 0} (hub : Hub Job) (s : Setup) (v : Server
   pub rested : (c : ℕ) → IsRested c h
 
 -- the server did its turn, said these words, and asked what it tells
-pub record HasTurn {H Job : Type 0} (hub : Hub Job) (s : Setup) (new : Server H Job) (at since : Around) (e : Heard) (h : List ServerEvent) (words : List Said) : Type 0 where
+pub record HasTurn {H Job : Type 0} (hub : Hub Job) (s : Setup) (new : Server H Job) (at since : Outside) (e : Heard) (h : List ServerEvent) (words : List Said) : Type 0 where
   pub after : List ServerEvent
   pub turn : IsTurn hub s e.now e.event h after
   pub stands : StandsServer hub s new after
   pub tells : said after ≡ said h ++ words
-  pub went : Went at since h after
+  pub went : OutsideFollows at since h after

@@ -4,9 +4,9 @@ ghost use Rattle.std.specs.Prelude.{◌≡◌, ℕ, true, false, List, ◌∷◌
 ghost use Rattle.hw_lanes.specs.Replies.{IsReply};
 ghost use Rattle.hd_delivery.specs.declared.vocabulary.Reason.TheVariants as reason;
 ghost use Rattle.hd_server.specs.declared.vocabulary.Outcome.TheVariants.{FirstPoll, NextPoll};
-ghost use Rattle.hd_server.specs.Doings.{ServerEvent, Notes, has_peer, history, is_granted, moment, notes};
+ghost use Rattle.hd_server.specs.Doings.{ServerEvent, Notes, has_peer, history, may_resume, moment, notes};
 ghost use Rattle.hd_server.specs.Lives as note;
-ghost use Rattle.hd_server.specs.Plans.{PendingRequest as OccasionMeant, Setup, closing, connecting, ending_held, letting_go, losing, onto, replying, request_plan, standing_on};
+ghost use Rattle.hd_server.specs.Plans.{PendingRequest as OccasionMeant, Setup, closing, connecting, ending_held, removing_conn, losing, onto, replying, request_plan, standing_on};
 ghost use Rattle.hj_jobs.specs.Meaning.{meaning};
 ghost use Rattle.hub_server.specs.Lanes.{conn_of, cut_of, is_at, lane_of, poll_lane, settled};
 ghost use Rattle.hd_server.specs.Numbers.{most_frame, most_held, most_held_bytes};
@@ -31,10 +31,10 @@ use std::alloc::{AllocError, Global};
 
 impl<H: Hub> Server<H> {
     /// Whether the connection's end may be resumed.
-    pub(crate) fn is_granted(&self, conn: u64) -> bool
-        ensures { OfEach (meaning H.begin_of H.step_of) self.now (λ s u before h. result ≡ is_granted conn h) }
+    pub(crate) fn may_resume(&self, conn: u64) -> bool
+        ensures { OfEach (meaning H.begin_of H.step_of) self.now (λ s u before h. result ≡ may_resume conn h) }
     {
-        self.machine.is_granted(conn)
+        self.machine.may_resume(conn)
     }
 
     // ---- sockets
@@ -226,7 +226,7 @@ impl<H: Hub> Server<H> {
     /// The connection's own side closes it, since it is deleted, and nothing is kept of it.
     pub(crate) fn close_done(&mut self, conn: u64)
         ensures closed { OfEach (meaning H.begin_of H.step_of) self.old (λ s u before h. IsKnown conn h →
-            Standing (meaning H.begin_of H.step_of) s u before self.new (onto (closing conn reason.Done h ++ letting_go conn h) h)) }
+            Standing (meaning H.begin_of H.step_of) s u before self.new (onto (closing conn reason.Done h ++ removing_conn conn h) h)) }
     {
         self.machine.close(conn, Reason::Done);
         self.remove_conn(conn);
@@ -235,7 +235,7 @@ impl<H: Hub> Server<H> {
     /// Nothing is kept of the connection.
     pub(crate) fn remove_conn(&mut self, conn: u64)
         ensures gone { OfEach (meaning H.begin_of H.step_of) self.old (λ s u before h. IsKnown conn h →
-            Frees (meaning H.begin_of H.step_of) s u before self.new conn h (onto (letting_go conn h) h)) }
+            Frees (meaning H.begin_of H.step_of) s u before self.new conn h (onto (removing_conn conn h) h)) }
     {
         self.detach_lanes(conn);
         self.callers.remove(&conn);
@@ -258,7 +258,7 @@ impl<H: Hub> Server<H> {
     /// The connection has lost this lane. One that may be resumed waits for its next link; of every other nothing is kept.
     pub(crate) fn lose(&mut self, conn: u64, lane: u64, granted: bool)
         ensures lost { OfEach (meaning H.begin_of H.step_of) self.old (λ s u before h. u ≡ cut_of lane → has_peer conn h ≡ true → present_link (history conn h) ≡ Absent →
-            note.socket_of conn (notes h) ≡ Given lane → granted ≡ is_granted conn h →
+            note.socket_of conn (notes h) ≡ Given lane → granted ≡ may_resume conn h →
             Standing (meaning H.begin_of H.step_of) s settled before self.new (onto (losing conn lane (moment h) h) h)) }
     {
         if granted {

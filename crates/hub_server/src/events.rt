@@ -8,7 +8,7 @@ ghost use Rattle.hd_server.specs.Serves.{IsFed};
 ghost use Rattle.hj_jobs.specs.Meaning.{meaning};
 ghost use Rattle.hub_server.specs.Lanes.{lane_of, settled};
 ghost use Rattle.hub_server.specs.Servers.{IsRested, OfEach, Standing};
-ghost use Rattle.hub_server.specs.Steps.{CanHandle, Handles, NoneOverdue, around, expired_by, lost_in};
+ghost use Rattle.hub_server.specs.Steps.{CanHandle, Handles, NoneOverdue, outside, expired_by, lost_in};
 ghost use Rattle.hub_server.specs.Events.{Expires, HasHeardBytes};
 ghost use Rattle.hd_server.specs.declared.vocabulary.Said.{Said as SaidMeant};
 ghost use Rattle.hd_server.specs.Plans.{Setup};
@@ -33,8 +33,8 @@ impl<H: Hub> Server<H> {
     ) -> Result<(), AllocError>
         ensures { OnOk result ((s : Setup) (before : List SaidMeant) (h : List ServerEvent) → Standing (meaning H.begin_of H.step_of) s (lane_of (lost_in event)) before self.old h →
             ((c : ℕ) → IsRested c h) → CanHandle event h → NoneOverdue h → Handles (meaning H.begin_of H.step_of) s before self.new
-            (around (K.holds keeper.old) (K.answers keeper.old) (K.faults keeper.old) (L.drawn lots.old) (L.faults lots.old))
-            (around (K.holds keeper.new) (K.answers keeper.new) (K.faults keeper.new) (L.drawn lots.new) (L.faults lots.new))
+            (outside (K.holds keeper.old) (K.answers keeper.old) (K.faults keeper.old) (L.drawn lots.old) (L.faults lots.old))
+            (outside (K.holds keeper.new) (K.answers keeper.new) (K.faults keeper.new) (L.drawn lots.new) (L.faults lots.new))
             event h) }
     {
         match event {
@@ -93,7 +93,7 @@ impl<H: Hub> Server<H> {
             self.lanes.remove(&lane);
             return;
         }
-        let granted = self.is_granted(kept.conn);
+        let granted = self.may_resume(kept.conn);
         self.machine.detach(kept.conn, self.moment);
         self.lose(kept.conn, lane, granted);
     }

@@ -47,7 +47,7 @@ impl<H: Hub> Server<H> {
         if !self.machine.is_attached(conn) {
             return Ok(());
         }
-        let granted = self.is_granted(conn);
+        let granted = self.may_resume(conn);
         if !self.machine.tick(conn, self.moment) {
             return Ok(());
         }

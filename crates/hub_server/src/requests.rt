@@ -5,13 +5,13 @@ ghost use Rattle.hw_lanes.specs.Replies.{IsReply};
 ghost use Rattle.hd_server.specs.Doings.{moment, name_now, notes};
 ghost use Rattle.hd_server.specs.Laws.{Suits};
 ghost use Rattle.hd_server.specs.Lives.{is_busy};
-ghost use Rattle.hd_server.specs.Plans.{PendingRequest as OccasionMeant, bare_reply, is_granted_some, onto, replying};
+ghost use Rattle.hd_server.specs.Plans.{PendingRequest as OccasionMeant, bare_reply, may_resume_some, onto, replying};
 ghost use Rattle.hd_server.specs.declared.vocabulary.Outcome.TheVariants.{Posting};
 ghost use Rattle.hd_server.specs.Table.{Facts};
 ghost use Rattle.hw_door.specs.declared.heard.Event.TheVariants as event;
 ghost use Rattle.hj_jobs.specs.Meaning.{meaning};
 ghost use Rattle.hub_server.specs.Servers.{OfEach, Standing};
-ghost use Rattle.hub_server.specs.Steps.{HasCome, Handles, around};
+ghost use Rattle.hub_server.specs.Steps.{HasCome, Handles, outside};
 ghost use Rattle.hub_server.specs.Connections.{CanHold, CanStand, IsKnown};
 ghost use Rattle.hub_server.specs.Requests.{CanBeSaid, CarriesOut, Erases, IsCaller, IsCarriedOut, IsSeen, MakesToken, OfRequest, OpensTo, StandsOver, name_meant, text_asked};
 
@@ -52,8 +52,8 @@ impl<H: Hub> Server<H> {
     ) -> Result<(), AllocError>
         ensures handled { OnOk result (OfRequest (meaning H.begin_of H.step_of) self.old lane request.shut (λ s before h. name_now h ≡ NoName →
             Handles (meaning H.begin_of H.step_of) s before self.new
-            (around (K.holds keeper.old) (K.answers keeper.old) (K.faults keeper.old) (L.drawn lots.old) (L.faults lots.old))
-            (around (K.holds keeper.new) (K.answers keeper.new) (K.faults keeper.new) (L.drawn lots.new) (L.faults lots.new))
+            (outside (K.holds keeper.old) (K.answers keeper.old) (K.faults keeper.old) (L.drawn lots.old) (L.faults lots.old))
+            (outside (K.holds keeper.new) (K.answers keeper.new) (K.faults keeper.new) (L.drawn lots.new) (L.faults lots.new))
             (event.Request lane request) h)) }
     {
         hd_server::outcomes_suit();
@@ -63,7 +63,7 @@ impl<H: Hub> Server<H> {
         let route = self.front.route(alloc, base, &request)?;
         let caller = caller_of(alloc, keeper, request.bearer.as_ref(), route.is_entry())?;
         let named = self.front.named(&route, self.moment);
-        let resumable = self.may_resume(named);
+        let resumable = self.may_resume_named(named);
         let outcome = self.front.outcome(&route, &caller, resumable, self.moment);
         let at = PendingRequest {
             lane,
@@ -78,11 +78,11 @@ impl<H: Hub> Server<H> {
     }
 
     /// Whether the end of the connection that is named may be resumed.
-    fn may_resume(&self, named: Option<u64>) -> bool
-        ensures { OfEach (meaning H.begin_of H.step_of) self.now (λ s u before h. result ≡ is_granted_some named h) }
+    fn may_resume_named(&self, named: Option<u64>) -> bool
+        ensures { OfEach (meaning H.begin_of H.step_of) self.now (λ s u before h. result ≡ may_resume_some named h) }
     {
         match named {
-            Some(conn) => self.is_granted(conn),
+            Some(conn) => self.may_resume(conn),
             None => false,
         }
     }

@@ -2,7 +2,7 @@
 
 ghost use Rattle.std.specs.Prelude.{◌≡◌, ◌<◌, ◌∷◌, ℕ, List, [], true, is_err, IfOk, OnOk, OnErr};
 ghost use Rattle.hw_lanes.specs.Replies.{IsReply};
-ghost use Rattle.hd_server.specs.Doings.{Hears, ServerEvent, has_peer, has_closed, history, is_granted, is_up, moment, name_now, notes, work};
+ghost use Rattle.hd_server.specs.Doings.{Hears, ServerEvent, has_peer, has_closed, history, may_resume, is_up, moment, name_now, notes, work};
 ghost use Rattle.hd_server.specs.Plans.{Setup};
 ghost use Rattle.hd_server.specs.Serves.{IsTurn, MayBeHeard};
 ghost use Rattle.hd_server.specs.Serving.{is_idle};
@@ -11,7 +11,7 @@ ghost use Rattle.hub_server.specs.Lanes.{lane_of, settled};
 ghost use Rattle.hub_server.specs.Words.{AreReplies};
 ghost use Rattle.hub_server.specs.Servers.{IsRested, IsSetup, OfEach, Standing};
 ghost use Rattle.hd_server.specs.declared.vocabulary.Said.{Said as SaidMeant};
-ghost use Rattle.hub_server.specs.Steps.{HasTurn, IsRounded, StandsServer, TurnsTo, around, lost_in};
+ghost use Rattle.hub_server.specs.Steps.{HasTurn, IsRounded, StandsServer, TurnsTo, outside, lost_in};
 
 use crate::lane::Lane;
 use crate::words::Words;
@@ -78,8 +78,8 @@ impl<H: Hub> Server<H> {
     ) -> Result<Vec<Said>, AllocError>
         ensures turn { IfOk result (λ words. (s : Setup) (h : List ServerEvent) → StandsServer (meaning H.begin_of H.step_of) s self.old h → MayBeHeard heard h →
             HasTurn (meaning H.begin_of H.step_of) s self.new
-            (around (K.holds keeper.old) (K.answers keeper.old) (K.faults keeper.old) (L.drawn lots.old) (L.faults lots.old))
-            (around (K.holds keeper.new) (K.answers keeper.new) (K.faults keeper.new) (L.drawn lots.new) (L.faults lots.new))
+            (outside (K.holds keeper.old) (K.answers keeper.old) (K.faults keeper.old) (L.drawn lots.old) (L.faults lots.old))
+            (outside (K.holds keeper.new) (K.answers keeper.new) (K.faults keeper.new) (L.drawn lots.new) (L.faults lots.new))
             heard h words.items) }
         ensures replies { IfOk result (λ words. AreReplies words.items) }
         ensures ended { OnErr result (self.new.is_ended ≡ true) }
@@ -119,8 +119,8 @@ impl<H: Hub> Server<H> {
     ) -> Result<(), AllocError>
         ensures turn { OnOk result ((s : Setup) (before : List SaidMeant) (h : List ServerEvent) → Standing (meaning H.begin_of H.step_of) s settled before self.old h → ((c : ℕ) → IsRested c h) → MayBeHeard heard h →
             TurnsTo (meaning H.begin_of H.step_of) s before self.new
-            (around (K.holds keeper.old) (K.answers keeper.old) (K.faults keeper.old) (L.drawn lots.old) (L.faults lots.old))
-            (around (K.holds keeper.new) (K.answers keeper.new) (K.faults keeper.new) (L.drawn lots.new) (L.faults lots.new))
+            (outside (K.holds keeper.old) (K.answers keeper.old) (K.faults keeper.old) (L.drawn lots.old) (L.faults lots.old))
+            (outside (K.holds keeper.new) (K.answers keeper.new) (K.faults keeper.new) (L.drawn lots.new) (L.faults lots.new))
             heard h) }
     {
         hd_rooms::answers_join();

@@ -3,7 +3,7 @@
 ghost use Rattle.std.specs.Prelude.{◌≡◌, ◌==◌, ◌∷◌, [], true, false, is_ok};
 ghost use Rattle.std.specs.Result.{result_err};
 ghost use Rattle.hj_jobs.specs.Meaning.{meaning};
-ghost use Rattle.hub_server.specs.Steps.{around};
+ghost use Rattle.hub_server.specs.Steps.{outside};
 ghost use Rattle.hub_server.specs.Serving.{GivesAll, HasServed, IsCausedBy, cause_of};
 ghost use Rattle.hub_server.specs.declared.serving.ServeFault.TheVariants as fault;
 ghost use Rattle.hub_server.specs.Words.{AreReplies};
@@ -60,8 +60,8 @@ pub fn serve<D: Door, H: Hub, K: Keeper, L: Lots>(
     turns: u64,
 ) -> Result<(), ServeFault>
     ensures served { HasServed (meaning H.begin_of H.step_of) server.old server.new
-        (around (K.holds keeper.old) (K.answers keeper.old) (K.faults keeper.old) (L.drawn lots.old) (L.faults lots.old))
-        (around (K.holds keeper.new) (K.answers keeper.new) (K.faults keeper.new) (L.drawn lots.new) (L.faults lots.new))
+        (outside (K.holds keeper.old) (K.answers keeper.old) (K.faults keeper.old) (L.drawn lots.old) (L.faults lots.old))
+        (outside (K.holds keeper.new) (K.answers keeper.new) (K.faults keeper.new) (L.drawn lots.new) (L.faults lots.new))
         (D.told door.old) (D.told door.new) (D.moment door.old) (D.moment door.new) turns (result_err result) }
     ensures ended { server.old.is_ended ≡ true → (is_ok result ≡ (turns == 0)) × (server.new.is_ended ≡ true) }
     ensures cause { IsCausedBy (D.faults door.old) (D.faults door.new) result }
@@ -83,8 +83,8 @@ fn turn<D: Door, H: Hub, K: Keeper, L: Lots>(
     lots: &mut L,
 ) -> Result<(), ServeFault>
     ensures served { HasServed (meaning H.begin_of H.step_of) server.old server.new
-        (around (K.holds keeper.old) (K.answers keeper.old) (K.faults keeper.old) (L.drawn lots.old) (L.faults lots.old))
-        (around (K.holds keeper.new) (K.answers keeper.new) (K.faults keeper.new) (L.drawn lots.new) (L.faults lots.new))
+        (outside (K.holds keeper.old) (K.answers keeper.old) (K.faults keeper.old) (L.drawn lots.old) (L.faults lots.old))
+        (outside (K.holds keeper.new) (K.answers keeper.new) (K.faults keeper.new) (L.drawn lots.new) (L.faults lots.new))
         (D.told door.old) (D.told door.new) (D.moment door.old) (D.moment door.new) 1 (result_err result) }
     ensures ended { server.old.is_ended ≡ true → (is_ok result ≡ false) × (server.new.is_ended ≡ true) }
     ensures cause { IsCausedBy (D.faults door.old) (D.faults door.new) result }

@@ -20,7 +20,7 @@ use Rattle.sr_script.specs.Script.{IsRefusedAt}
 use Rattle.sr_script.specs.Laws.{LongIsRefusedByItsFront}
 use Rattle.sr_soak.specs.declared.totals.Totals.{Totals}
 use Rattle.sr_soak.specs.Soaks.{IsSoak, soak_line}
-use Rattle.sr_app.specs.Run.{soaking, IsReplayed, IsRefused, IsTextAnswer, AnswersWith, Answered, ReadsBounded, Ends, replaying, meaning_of, outside_of, code_of, status_of}
+use Rattle.sr_app.specs.Run.{soaking, IsReplayed, IsRefused, IsTextAnswer, AnswersWith, Answered, ReadsBounded, Ends, replaying, meaning_of, input_output, code_of, status_of}
 use Rattle.sr_app.proofs.Told.{bytes_of, consumed_nothing, appended_nothing, text_is_told, whole_is_told}
 
 -- ---- statuses, their codes, and how tasks stop
@@ -158,7 +158,7 @@ unserved result own same (inr more) (inr is) = apart result own KeeperFault same
 
 -- the source failed before the script was whole
 pub replay_unread : (input left held : Option (List ℕ)) (faults faults' sink : ℕ) → Rose faults faults' → ReadsBounded input left
-    → Ends replaying ReadFault (outside_of input faults held sink) (outside_of left faults' held sink)
+    → Ends replaying ReadFault (input_output input faults held sink) (input_output left faults' held sink)
 replay_unread input left held faults faults' sink rose reads = record {
   done = λ is. cc;
   usage = λ is. cc;
@@ -172,7 +172,7 @@ replay_unread input left held faults faults' sink rose reads = record {
 
 -- memory ran out before a byte was written
 pub replay_forgone : (input left held : Option (List ℕ)) (faults faults' sink sink' : ℕ) → ReadsBounded input left
-    → Ends replaying NoMemory (outside_of input faults held sink) (outside_of left faults' held sink')
+    → Ends replaying NoMemory (input_output input faults held sink) (input_output left faults' held sink')
 replay_forgone input left held faults faults' sink sink' reads = record {
   done = λ is. cc;
   usage = λ is. cc;
@@ -192,7 +192,7 @@ pub record IsWritten (input left : Option (List ℕ)) (text : List ℕ) : Type 0
 
 written_part : LongIsRefusedByItsFront → (input left before now : Option (List ℕ)) (faults faults' sink sink' : ℕ) (text answer : List ℕ) (status result : Status)
     → IsWritten input left text → AnswersWith status text answer → Rose sink sink' → (n : ℕ) → Appends before now (take n answer) → result ≡ WriteFault
-    → Ends replaying result (outside_of input faults before sink) (outside_of left faults' now sink')
+    → Ends replaying result (input_output input faults before sink) (input_output left faults' now sink')
 written_part law input left before now faults faults' sink sink' text answer status result w answers rose n part fault = record {
   done = λ is. absurd (apart result WriteFault Done fault (inr (omega arith)) is);
   usage = apart result WriteFault Usage fault (inr (omega arith));
@@ -206,7 +206,7 @@ written_part law input left before now faults faults' sink sink' text answer sta
 
 written_report : LongIsRefusedByItsFront → (input left before now : Option (List ℕ)) (faults faults' sink sink' : ℕ) (text answer : List ℕ) (result : Status)
     → IsWritten input left text → IsReplayed text answer → Appends before now answer → result ≡ Done
-    → Ends replaying result (outside_of input faults before sink) (outside_of left faults' now sink')
+    → Ends replaying result (input_output input faults before sink) (input_output left faults' now sink')
 written_report law input left before now faults faults' sink sink' text answer result w answers whole same = record {
   done = λ is. writes_report input left before now text answer w.read w.ended answers whole;
   usage = apart result Done Usage same (inl (omega arith));
@@ -220,7 +220,7 @@ written_report law input left before now faults faults' sink sink' text answer r
 
 written_refusal : LongIsRefusedByItsFront → (input left before now : Option (List ℕ)) (faults faults' sink sink' : ℕ) (text answer : List ℕ) (result : Status)
     → IsWritten input left text → IsRefused text answer → Appends before now answer → result ≡ Refused
-    → Ends replaying result (outside_of input faults before sink) (outside_of left faults' now sink')
+    → Ends replaying result (input_output input faults before sink) (input_output left faults' now sink')
 written_refusal law input left before now faults faults' sink sink' text answer result w answers whole same = record {
   done = λ is. absurd (apart result Refused Done same (inr (omega arith)) is);
   usage = apart result Refused Usage same (inr (omega arith));
@@ -235,7 +235,7 @@ written_refusal law input left before now faults faults' sink sink' text answer 
 written_by : LongIsRefusedByItsFront → (input left before now : Option (List ℕ)) (faults faults' sink sink' : ℕ) (text answer : List ℕ) (status result : Status)
     → IsWritten input left text → AnswersWith status text answer → (result ≡ status → Appends before now answer)
     → (result ≡ WriteFault → Rose sink sink' × ((n : ℕ) × Appends before now (take n answer))) → (result ≡ status) ⊎ (result ≡ WriteFault)
-    → Ends replaying result (outside_of input faults before sink) (outside_of left faults' now sink')
+    → Ends replaying result (input_output input faults before sink) (input_output left faults' now sink')
 written_by law input left before now faults faults' sink sink' text answer status result w answers whole part (inr fault) =
     written_part law input left before now faults faults' sink sink' text answer status result w answers (part fault).0 (part fault).1.0 (part fault).1.1 fault
 written_by law input left before now faults faults' sink sink' text answer Done result w answers whole part (inl same) =
@@ -250,16 +250,16 @@ written_by law input left before now faults faults' sink sink' text answer Keepe
 written_by law input left before now faults faults' sink sink' text answer NoMemory result w answers whole part (inl same) = absurd answers
 
 pub replay_written : LongIsRefusedByItsFront → (input left before now : Option (List ℕ)) (faults faults' sink sink' : ℕ) (text : List ℕ) (result : Status)
-    → IsWritten input left text → Answered text result before now sink sink' → Ends replaying result (outside_of input faults before sink) (outside_of left faults' now sink')
+    → IsWritten input left text → Answered text result before now sink sink' → Ends replaying result (input_output input faults before sink) (input_output left faults' now sink')
 replay_written law input left before now faults faults' sink sink' text result w a =
     written_by law input left before now faults faults' sink sink' text a.answer a.status result w a.answers a.whole a.part a.either
 
 -- an answer was written, or memory ran out before
 pub replay_ends : LongIsRefusedByItsFront → (input left before now : Option (List ℕ)) (faults faults' sink sink' : ℕ) (text : List ℕ) (result : Status)
     → IsWritten input left text → ((result ≡ NoMemory → ⊥) → Answered text result before now sink sink') → (result ≡ NoMemory → now ≡ before)
-    → Ends replaying result (outside_of input faults before sink) (outside_of left faults' now sink')
+    → Ends replaying result (input_output input faults before sink) (input_output left faults' now sink')
 replay_ends law input left before now faults faults' sink sink' text NoMemory w a same =
-    subst (λ held. Ends replaying NoMemory (outside_of input faults before sink) (outside_of left faults' held sink')) (sym (same refl))
+    subst (λ held. Ends replaying NoMemory (input_output input faults before sink) (input_output left faults' held sink')) (sym (same refl))
     (replay_forgone input left before faults faults' sink sink' w.reads)
 replay_ends law input left before now faults faults' sink sink' text Done w a same = replay_written law input left before now faults faults' sink sink' text Done w (a (λ is. cc))
 replay_ends law input left before now faults faults' sink sink' text Usage w a same = replay_written law input left before now faults faults' sink sink' text Usage w (a (λ is. cc))
@@ -298,7 +298,7 @@ reads_nothing waits (Serve asked) input = refl
 -- ---- how a soak ends, whatever the input is
 
 pub soak_done : (seed steps : ℕ) (totals : Totals) (input before now : Option (List ℕ)) (faults sink sink' : ℕ) (result : Status) → IsSoak seed steps totals
-    → Appends before now (soak_line seed steps totals) → result ≡ Done → Ends (soaking seed steps) result (outside_of input faults before sink) (outside_of input faults now sink')
+    → Appends before now (soak_line seed steps totals) → result ≡ Done → Ends (soaking seed steps) result (input_output input faults before sink) (input_output input faults now sink')
 soak_done seed steps totals input before now faults sink sink' result is whole same = record {
   done = λ same. (tt, (bytes_of input, soak_line seed steps totals, text_is_told input, record { totals = totals; is_soak = is; line_is = refl }, whole));
   usage = apart result Done Usage same (inl (omega arith));
@@ -312,7 +312,7 @@ soak_done seed steps totals input before now faults sink sink' result is whole s
 
 pub soak_part : (seed steps : ℕ) (totals : Totals) (input before now : Option (List ℕ)) (faults sink sink' : ℕ) (result : Status) → IsSoak seed steps totals
     → Rose sink sink' → (n : ℕ) → Appends before now (take n (soak_line seed steps totals)) → result ≡ WriteFault
-    → Ends (soaking seed steps) result (outside_of input faults before sink) (outside_of input faults now sink')
+    → Ends (soaking seed steps) result (input_output input faults before sink) (input_output input faults now sink')
 soak_part seed steps totals input before now faults sink sink' result is rose n part same = record {
   done = λ other. absurd (apart result WriteFault Done same (inr (omega arith)) other);
   usage = apart result WriteFault Usage same (inr (omega arith));
@@ -326,7 +326,7 @@ soak_part seed steps totals input before now faults sink sink' result is rose n 
 }
 
 pub soak_forgone : (seed steps : ℕ) (input before now : Option (List ℕ)) (faults sink sink' : ℕ) (result : Status) → now ≡ before → result ≡ NoMemory
-    → Ends (soaking seed steps) result (outside_of input faults before sink) (outside_of input faults now sink')
+    → Ends (soaking seed steps) result (input_output input faults before sink) (input_output input faults now sink')
 soak_forgone seed steps input before now faults sink sink' result kept same = record {
   done = λ other. absurd (apart result NoMemory Done same (inr (omega arith)) other);
   usage = apart result NoMemory Usage same (inr (omega arith));

@@ -197,18 +197,18 @@ pub record Answered (text : List ℕ) (result : Status) (before now : Option (Li
   pub either : (result ≡ status) ⊎ (result ≡ WriteFault)
 
 -- What the source has left and the sink holds, where they tell it, and how often each has failed.
-pub record Outside : Type 0 where
+pub record InputOutput : Type 0 where
   pub left : Option (List ℕ)
   pub source_faults : ℕ
   pub holds : Option (List ℕ)
   pub sink_faults : ℕ
 
-abbrev pub outside_of : Option (List ℕ) → ℕ → Option (List ℕ) → ℕ → Outside
-outside_of left source_faults holds sink_faults =
+abbrev pub input_output : Option (List ℕ) → ℕ → Option (List ℕ) → ℕ → InputOutput
+input_output left source_faults holds sink_faults =
     record { left = left; source_faults = source_faults; holds = holds; sink_faults = sink_faults }
 
 -- What a command of this meaning did that ended with this status.
-pub record Ends (m : Meaning) (status : Status) (before now : Outside) : Type 0 where
+pub record Ends (m : Meaning) (status : Status) (before now : InputOutput) : Type 0 where
   pub done : status ≡ Done → m.leaves now.left × Writes m.done before.left before.holds now.holds
   pub usage : status ≢ Usage
   pub refused : status ≡ Refused → Writes m.refused before.left before.holds now.holds
@@ -221,7 +221,7 @@ pub record Ends (m : Meaning) (status : Status) (before now : Outside) : Type 0 
   pub reads : m.reads before.left now.left
 
 -- No fault is passed over: a count of faults rises only if the status tells of that fault.
-pub record TellsFaults (status : Status) (before now : Outside) : Type 0 where
+pub record TellsFaults (status : Status) (before now : InputOutput) : Type 0 where
   pub source : status ≢ ReadFault → now.source_faults ≡ before.source_faults
   pub sink : status ≢ WriteFault → now.sink_faults ≡ before.sink_faults
 
@@ -256,6 +256,6 @@ status_of_end (Ok done) = Done
 status_of_end (Err error) = status_of_error error
 
 -- what serving did that ended with this status
-abbrev pub EndsServing : Serving → Status → serve.Outside → serve.Outside → Type 0
+abbrev pub EndsServing : Serving → Status → serve.InputOutput → serve.InputOutput → Type 0
 EndsServing asked status before now =
     (result : Result Unit ServeError) × (status ≡ status_of_end result) × serve.Ends asked.base asked.turns before now result

@@ -8,9 +8,9 @@ ghost use Rattle.sr_check.specs.Stream.{IsTouchedByBytesAlone, most_piece};
 ghost use Rattle.sr_words.specs.Words.{Asks, IsNoCommand};
 ghost use Rattle.sr_words.specs.declared.commands.Command.TheVariants.{Serve};
 ghost use Rattle.sr_words.specs.declared.serving.Serving.{Serving};
-ghost use Rattle.hub_server.specs.Steps.{around};
-ghost use Rattle.sr_serve.specs.Serving.{outside, serving_line};
-ghost use Rattle.sr_app.specs.Run.{Answered, AsksFor, Ends, EndsServing, ReadsBounded, ReadsNothing, ServesNothing, TellsFaults, WritesOnce, WritesPartFor, code_of, doing, meaning_of, outside_of, replaying, soaking, usage_line};
+ghost use Rattle.hub_server.specs.Steps.{outside};
+ghost use Rattle.sr_serve.specs.Serving.{environment, serving_line};
+ghost use Rattle.sr_app.specs.Run.{Answered, AsksFor, Ends, EndsServing, ReadsBounded, ReadsNothing, ServesNothing, TellsFaults, WritesOnce, WritesPartFor, code_of, doing, meaning_of, input_output, replaying, soaking, usage_line};
 ghost use Rattle.sr_script.specs.Script.{most_script, refusal_line};
 
 use hf_split::empty_waits;
@@ -143,11 +143,11 @@ fn answer<K: Sink>(alloc: Global, text: &[u8], out: &mut K) -> Status
 /// Replays the script that the input holds.
 fn run_replay<S: Source, K: Sink>(alloc: Global, input: &mut S, out: &mut K) -> Status
     ensures ends { Ends replaying result
-        (outside_of (S.left input.old) (S.faults input.old) (K.holds out.old) (K.faults out.old))
-        (outside_of (S.left input.new) (S.faults input.new) (K.holds out.new) (K.faults out.new)) }
+        (input_output (S.left input.old) (S.faults input.old) (K.holds out.old) (K.faults out.old))
+        (input_output (S.left input.new) (S.faults input.new) (K.holds out.new) (K.faults out.new)) }
     ensures faults { TellsFaults result
-        (outside_of (S.left input.old) (S.faults input.old) (K.holds out.old) (K.faults out.old))
-        (outside_of (S.left input.new) (S.faults input.new) (K.holds out.new) (K.faults out.new)) }
+        (input_output (S.left input.old) (S.faults input.old) (K.holds out.old) (K.faults out.old))
+        (input_output (S.left input.new) (S.faults input.new) (K.holds out.new) (K.faults out.new)) }
     ensures touched { result ≢ Status.WriteFault → IsTouchedByBytesAlone K.holds out.old out.new }
     ensures untouched { (result ≡ Status.ReadFault) ⊎ (result ≡ Status.NoMemory) → out.new ≡ out.old }
 {
@@ -162,7 +162,7 @@ fn run_replay<S: Source, K: Sink>(alloc: Global, input: &mut S, out: &mut K) -> 
 /// Soaks, and writes the one line of that.
 fn run_soak<K: Sink>(alloc: Global, seed: u64, steps: u32, out: &mut K) -> Status
     ensures ends { (left : Option (List ℕ)) (faults : ℕ) → Ends (soaking seed steps) result
-        (outside_of left faults (K.holds out.old) (K.faults out.old)) (outside_of left faults (K.holds out.new) (K.faults out.new)) }
+        (input_output left faults (K.holds out.old) (K.faults out.old)) (input_output left faults (K.holds out.new) (K.faults out.new)) }
     ensures unfailed { result ≢ Status.WriteFault → K.faults out.new ≡ K.faults out.old }
     ensures touched { result ≢ Status.WriteFault → IsTouchedByBytesAlone K.holds out.old out.new }
     ensures no_memory { result ≡ Status.NoMemory → out.new ≡ out.old }
@@ -194,11 +194,11 @@ impl From<Stop> for Status {
 /// Does a task over the frames that the input holds.
 fn run_task<S: Source, K: Sink>(alloc: Global, task: Task, input: &mut S, out: &mut K) -> Status
     ensures ends { Ends (doing task) result
-        (outside_of (S.left input.old) (S.faults input.old) (K.holds out.old) (K.faults out.old))
-        (outside_of (S.left input.new) (S.faults input.new) (K.holds out.new) (K.faults out.new)) }
+        (input_output (S.left input.old) (S.faults input.old) (K.holds out.old) (K.faults out.old))
+        (input_output (S.left input.new) (S.faults input.new) (K.holds out.new) (K.faults out.new)) }
     ensures faults { TellsFaults result
-        (outside_of (S.left input.old) (S.faults input.old) (K.holds out.old) (K.faults out.old))
-        (outside_of (S.left input.new) (S.faults input.new) (K.holds out.new) (K.faults out.new)) }
+        (input_output (S.left input.old) (S.faults input.old) (K.holds out.old) (K.faults out.old))
+        (input_output (S.left input.new) (S.faults input.new) (K.holds out.new) (K.faults out.new)) }
     ensures touched { result ≢ Status.WriteFault → IsTouchedByBytesAlone K.holds out.old out.new }
 {
     match task.run(alloc, input, out) {
@@ -233,10 +233,10 @@ fn run_serve<K: Sink, D: Door, R: Keeper, L: Lots>(
     lots: &mut L,
 ) -> Status
     ensures serves { EndsServing serving result
-        (outside (K.holds out.old) (K.faults out.old) (D.told door.old) (D.moment door.old) (D.faults door.old)
-        (around (R.holds keeper.old) (R.answers keeper.old) (R.faults keeper.old) (L.drawn lots.old) (L.faults lots.old)))
-        (outside (K.holds out.new) (K.faults out.new) (D.told door.new) (D.moment door.new) (D.faults door.new)
-        (around (R.holds keeper.new) (R.answers keeper.new) (R.faults keeper.new) (L.drawn lots.new) (L.faults lots.new))) }
+        (environment (K.holds out.old) (K.faults out.old) (D.told door.old) (D.moment door.old) (D.faults door.old)
+        (outside (R.holds keeper.old) (R.answers keeper.old) (R.faults keeper.old) (L.drawn lots.old) (L.faults lots.old)))
+        (environment (K.holds out.new) (K.faults out.new) (D.told door.new) (D.moment door.new) (D.faults door.new)
+        (outside (R.holds keeper.new) (R.answers keeper.new) (R.faults keeper.new) (L.drawn lots.new) (L.faults lots.new))) }
     ensures unwritten { result ≡ Status.KeeperFault → out.new ≡ out.old }
     ensures unheard { (result ≡ Status.KeeperFault) ⊎ (result ≡ Status.WriteFault) → (door.new ≡ door.old) × (lots.new ≡ lots.old) }
     ensures no_memory { result ≡ Status.NoMemory
@@ -259,19 +259,19 @@ fn carry_out<S: Source, K: Sink, D: Door, R: Keeper, L: Lots>(
     lots: &mut L,
 ) -> Status
     ensures ends { Ends (meaning_of command) result
-        (outside_of (S.left input.old) (S.faults input.old) (K.holds out.old) (K.faults out.old))
-        (outside_of (S.left input.new) (S.faults input.new) (K.holds out.new) (K.faults out.new)) }
+        (input_output (S.left input.old) (S.faults input.old) (K.holds out.old) (K.faults out.old))
+        (input_output (S.left input.new) (S.faults input.new) (K.holds out.new) (K.faults out.new)) }
     ensures faults { TellsFaults result
-        (outside_of (S.left input.old) (S.faults input.old) (K.holds out.old) (K.faults out.old))
-        (outside_of (S.left input.new) (S.faults input.new) (K.holds out.new) (K.faults out.new)) }
+        (input_output (S.left input.old) (S.faults input.old) (K.holds out.old) (K.faults out.old))
+        (input_output (S.left input.new) (S.faults input.new) (K.holds out.new) (K.faults out.new)) }
     ensures touched { result ≢ Status.WriteFault → IsTouchedByBytesAlone K.holds out.old out.new }
     ensures untouched { WritesOnce command → (result ≡ Status.ReadFault) ⊎ (result ≡ Status.NoMemory) → out.new ≡ out.old }
     ensures unread { ReadsNothing command → input.new ≡ input.old }
     ensures serves { (serving : Serving) → command ≡ Serve serving → EndsServing serving result
-        (outside (K.holds out.old) (K.faults out.old) (D.told door.old) (D.moment door.old) (D.faults door.old)
-        (around (R.holds keeper.old) (R.answers keeper.old) (R.faults keeper.old) (L.drawn lots.old) (L.faults lots.old)))
-        (outside (K.holds out.new) (K.faults out.new) (D.told door.new) (D.moment door.new) (D.faults door.new)
-        (around (R.holds keeper.new) (R.answers keeper.new) (R.faults keeper.new) (L.drawn lots.new) (L.faults lots.new))) }
+        (environment (K.holds out.old) (K.faults out.old) (D.told door.old) (D.moment door.old) (D.faults door.old)
+        (outside (R.holds keeper.old) (R.answers keeper.old) (R.faults keeper.old) (L.drawn lots.old) (L.faults lots.old)))
+        (environment (K.holds out.new) (K.faults out.new) (D.told door.new) (D.moment door.new) (D.faults door.new)
+        (outside (R.holds keeper.new) (R.answers keeper.new) (R.faults keeper.new) (L.drawn lots.new) (L.faults lots.new))) }
     ensures unwritten { result ≡ Status.KeeperFault → out.new ≡ out.old }
     ensures unheard { ServesNothing command ⊎ (result ≡ Status.KeeperFault) ⊎ (result ≡ Status.WriteFault)
         → (door.new ≡ door.old) × (lots.new ≡ lots.old) }
@@ -332,10 +332,10 @@ pub fn run<S: Source, K: Sink, D: Door, R: Keeper, L: Lots>(
     // What `serve` did, by its status: so 5 comes only if the door's count rose, and 6 only if the keeper's did at the first question.
     ensures serves { (serving : Serving) → Asks words.now (Serve serving) → (status : Status) × (result ≡ code_of status)
         × EndsServing serving status
-        (outside (K.holds out.old) (K.faults out.old) (D.told door.old) (D.moment door.old) (D.faults door.old)
-        (around (R.holds keeper.old) (R.answers keeper.old) (R.faults keeper.old) (L.drawn lots.old) (L.faults lots.old)))
-        (outside (K.holds out.new) (K.faults out.new) (D.told door.new) (D.moment door.new) (D.faults door.new)
-        (around (R.holds keeper.new) (R.answers keeper.new) (R.faults keeper.new) (L.drawn lots.new) (L.faults lots.new))) }
+        (environment (K.holds out.old) (K.faults out.old) (D.told door.old) (D.moment door.old) (D.faults door.old)
+        (outside (R.holds keeper.old) (R.answers keeper.old) (R.faults keeper.old) (L.drawn lots.old) (L.faults lots.old)))
+        (environment (K.holds out.new) (K.faults out.new) (D.told door.new) (D.moment door.new) (D.faults door.new)
+        (outside (R.holds keeper.new) (R.answers keeper.new) (R.faults keeper.new) (L.drawn lots.new) (L.faults lots.new))) }
     ensures serve_fault { (result ≡ 5) ⊎ (result ≡ 6) → (serving : Serving) × Asks words.now (Serve serving) }
     ensures door_unfailed { result ≢ 5 → D.faults door.new ≡ D.faults door.old }
     ensures unwritten { result ≡ 6 → out.new ≡ out.old }

@@ -17,13 +17,13 @@ use Rattle.hub_server.specs.Servers.{IsSetup}
 use Rattle.hub_server.specs.declared.serving.ServeFault.{ServeFault}
 use Rattle.hub_server.specs.declared.serving.ServeFault.TheVariants as fault
 use Rattle.hub_server.specs.Serving.{AtEnd, HasEnded, HasServed, IfMemoryEnds, IsCausedBy}
-use Rattle.hub_server.specs.Steps.{Around, StandsServer, around}
+use Rattle.hub_server.specs.Steps.{Outside, StandsServer, outside}
 use Rattle.sr_serve.specs.declared.serving.ServeError.{ServeError}
 use Rattle.sr_serve.specs.declared.serving.ServeError.TheVariants as end
-use Rattle.sr_serve.specs.Serving.{Ends, IsCut, IsServed, Outside, Serves, counted, error_of_server, serving_line}
+use Rattle.sr_serve.specs.Serving.{Ends, IsCut, IsServed, Environment, Serves, counted, error_of_server, serving_line}
 use Rattle.sr_serve.proofs.Sided.{Leads, are_sides, served_on}
 
-at_end : ServersArePeers ServeJob → HoldsOverBytes → {H : Type 0} (s : Setup) (server : Server H ServeJob) (at since : Around) (last : ℕ)
+at_end : ServersArePeers ServeJob → HoldsOverBytes → {H : Type 0} (s : Setup) (server : Server H ServeJob) (at since : Outside) (last : ℕ)
     → Leads serve_hub s (AtEnd serve_hub s server at since last []) (IsServed at since last)
 at_end peers delivers s server at since last es h serves end = record {
   went = end.went;
@@ -31,7 +31,7 @@ at_end peers delivers s server at since last es h serves end = record {
   sides = are_sides peers delivers serve_hub s es h serves;
 }
 
-cut_off : ServersArePeers ServeJob → HoldsOverBytes → {H : Type 0} (s : Setup) (server : Server H ServeJob) (at : Around) (last : ℕ) (why : Option ServeFault)
+cut_off : ServersArePeers ServeJob → HoldsOverBytes → {H : Type 0} (s : Setup) (server : Server H ServeJob) (at : Outside) (last : ℕ) (why : Option ServeFault)
     → Leads serve_hub s (IfMemoryEnds why (HasEnded server at last [])) (IfMemoryEnds why (IsCut at last))
 cut_off peers delivers s server at last None es h serves end = end
 cut_off peers delivers s server at last (Some fault.Door) es h serves end = end
@@ -41,7 +41,7 @@ cut_off peers delivers s server at last (Some fault.NoMemory) es h serves end = 
 }
 
 -- the line was written, and a server that did nothing before served
-pub serves_by : ServersArePeers ServeJob → HoldsOverBytes → {H : Type 0} (base : List ℕ) (turns rows : ℕ) (why : Option ServeFault) (before now : Outside) (at : Around)
+pub serves_by : ServersArePeers ServeJob → HoldsOverBytes → {H : Type 0} (base : List ℕ) (turns rows : ℕ) (why : Option ServeFault) (before now : Environment) (at : Outside)
     (server after : Server H ServeJob) → IfSome before.kept.holds (λ content. rows ≡ row_count content.rows)
     → Appends before.holds now.holds (serving_line rows) → at ≡ counted rows before.kept
     → ((s : Setup) → IsSetup s base → StandsServer serve_hub s server [])
@@ -65,12 +65,12 @@ serves_by peers delivers base turns rows why before now at server after are_rows
 pub counted_by : (rows : ℕ) (holds holds' : Option Content) (answers answers' : Option (List Asked)) (faults faults' : ℕ)
     (drawn : Option (List (Option (List ℕ)))) (failures : ℕ) → holds' ≡ holds
     → answers' ≡ option_map (λ (asks : List Asked). asks ++ ask.Rows (Some rows) ∷ []) answers → faults' ≡ faults
-    → around holds' answers' faults' drawn failures ≡ counted rows (around holds answers faults drawn failures)
+    → outside holds' answers' faults' drawn failures ≡ counted rows (outside holds answers faults drawn failures)
 counted_by rows holds holds' answers answers' faults faults' drawn failures same_holds same_answers same_faults =
     rw (same_holds, same_answers, same_faults) refl
 
 -- the server ended before its turns were done
-pub serving_failed : (base : List ℕ) (turns : ℕ) (before now : Outside) (why : ServeFault) → Serves base turns (Some why) before now
+pub serving_failed : (base : List ℕ) (turns : ℕ) (before now : Environment) (why : ServeFault) → Serves base turns (Some why) before now
     → now.sink_faults ≡ before.sink_faults → IsCausedBy {T = Unit} before.door_faults now.door_faults (Err why) → Ends base turns before now (Err (error_of_server why))
 serving_failed base turns before now fault.Door serves whole cause = (serves, whole, cause.1)
 serving_failed base turns before now fault.NoMemory serves whole cause = (inr serves, whole, cause)

@@ -19,7 +19,7 @@ use Rattle.hub_server.specs.declared.serving.ServeFault.{ServeFault}
 use Rattle.hub_server.specs.declared.serving.ServeFault.TheVariants as fault
 use Rattle.hub_server.specs.Servers.{IsSetup}
 use Rattle.hub_server.specs.Serving.{AreTurns, IfMemoryEnds, TellsMore}
-use Rattle.hub_server.specs.Steps.{Around, Went}
+use Rattle.hub_server.specs.Steps.{Outside, OutsideFollows}
 use Rattle.sr_serve.specs.declared.serving.ServeError.{ServeError}
 use Rattle.sr_serve.specs.declared.serving.ServeError.TheVariants as end
 use Rattle.sr_serve.specs.Sides.{AreSides}
@@ -31,38 +31,38 @@ serving_line rows = codes "serving " ++ decimal rows ++ codes "\n"
 -- ---- what is outside
 
 -- what the output, the door, the keeper and the lots tell of themselves
-pub record Outside : Type 0 where
+pub record Environment : Type 0 where
   pub holds : Option (List ℕ)
   pub sink_faults : ℕ
   pub told : Option Told
   pub heard_at : ℕ
   pub door_faults : ℕ
-  pub kept : Around
+  pub kept : Outside
 
-abbrev pub outside : Option (List ℕ) → ℕ → Option Told → ℕ → ℕ → Around → Outside
-outside holds sink_faults told heard_at door_faults kept =
+abbrev pub environment : Option (List ℕ) → ℕ → Option Told → ℕ → ℕ → Outside → Environment
+environment holds sink_faults told heard_at door_faults kept =
     record { holds = holds; sink_faults = sink_faults; told = told; heard_at = heard_at; door_faults = door_faults; kept = kept }
 
 -- the keeper was asked how many rows there are, and answered this
-abbrev pub counted : ℕ → Around → Around
+abbrev pub counted : ℕ → Outside → Outside
 counted rows a = record a { answers = option_map (λ (asks : List Asked). asks ++ ask.Rows (Some rows) ∷ []) a.answers }
 
 -- ---- what is served
 
 -- all was answered: the keeper and the lots went on as this history tells, each connection is a side that delivers
-pub record IsServed (at since : Around) (last : ℕ) (h : List ServerEvent) : Type 0 where
-  pub went : Went at since [] h
+pub record IsServed (at since : Outside) (last : ℕ) (h : List ServerEvent) : Type 0 where
+  pub went : OutsideFollows at since [] h
   pub timely : moment h ≤ last
   pub sides : AreSides serve_hub h
 
 -- memory ran out in the middle of an event: so it was at some moment before, and what was asked and drawn since isn't told
-pub record IsCut (at : Around) (last : ℕ) (h : List ServerEvent) : Type 0 where
-  pub until : Around
+pub record IsCut (at : Outside) (last : ℕ) (h : List ServerEvent) : Type 0 where
+  pub until : Outside
   pub served : IsServed at until last h
 
 -- The line of the rows was written. A server of this base heard these, each after its wait, and gave this: all of its turns, or as many as
 -- there were until this fault
-pub record Serves (base : List ℕ) (turns : ℕ) (why : Option ServeFault) (before now : Outside) : Type 0 where
+pub record Serves (base : List ℕ) (turns : ℕ) (why : Option ServeFault) (before now : Environment) : Type 0 where
   pub rows : ℕ
   pub are_rows : IfSome before.kept.holds (λ content. rows ≡ row_count content.rows)
   pub line : Appends before.holds now.holds (serving_line rows)
@@ -75,7 +75,7 @@ pub record Serves (base : List ℕ) (turns : ℕ) (why : Option ServeFault) (bef
       (IsServed (counted rows before.kept) now.kept now.heard_at) (IfMemoryEnds why (IsCut (counted rows before.kept) now.heard_at)) [] heard waits given
 
 -- a first part of the line of the rows was written
-pub record BreaksOff (before now : Outside) : Type 0 where
+pub record BreaksOff (before now : Environment) : Type 0 where
   pub rows : ℕ
   pub are_rows : IfSome before.kept.holds (λ content. rows ≡ row_count content.rows)
   pub n : ℕ
@@ -83,18 +83,18 @@ pub record BreaksOff (before now : Outside) : Type 0 where
   pub kept : now.kept ≡ counted rows before.kept
 
 -- nothing was written or heard
-pub record IsUntouched (before now : Outside) : Type 0 where
+pub record IsUntouched (before now : Environment) : Type 0 where
   pub holds : now.holds ≡ before.holds
   pub told : now.told ≡ before.told
   pub heard_at : now.heard_at ≡ before.heard_at
 
 -- the keeper wasn't asked, or it was asked for its rows and told how many there are
-abbrev pub IsAskedAtMost : Around → Around → Type 0
+abbrev pub IsAskedAtMost : Outside → Outside → Type 0
 IsAskedAtMost before now =
     (now ≡ before) ⊎ ((rows : ℕ) × IfSome before.holds (λ content. rows ≡ row_count content.rows) × (now ≡ counted rows before))
 
 -- the keeper was asked for its rows and failed, and nothing else was asked or drawn
-pub record HasFailed (before now : Around) : Type 0 where
+pub record HasFailed (before now : Outside) : Type 0 where
   pub holds : now.holds ≡ before.holds
   pub answers : now.answers ≡ option_map (λ (asks : List Asked). asks ++ ask.Rows None ∷ []) before.answers
   pub rose : Rose before.faults now.faults
@@ -102,14 +102,14 @@ pub record HasFailed (before now : Around) : Type 0 where
   pub failures : now.failures ≡ before.failures
 
 -- no fault of the output, or of the door
-abbrev pub IsWhole : Outside → Outside → Type 0
+abbrev pub IsWhole : Environment → Environment → Type 0
 IsWhole before now = now.sink_faults ≡ before.sink_faults
 
-abbrev pub IsHeard : Outside → Outside → Type 0
+abbrev pub IsHeard : Environment → Environment → Type 0
 IsHeard before now = now.door_faults ≡ before.door_faults
 
 -- by how it ended. The output's and the door's counts of faults rise only in the call that the answer tells of
-abbrev pub Ends : List ℕ → ℕ → Outside → Outside → Result Unit ServeError → Type 0
+abbrev pub Ends : List ℕ → ℕ → Environment → Environment → Result Unit ServeError → Type 0
 Ends base turns before now (Ok done) = Serves base turns None before now × IsWhole before now × IsHeard before now
 Ends base turns before now (Err end.Door) = Serves base turns (Some fault.Door) before now × IsWhole before now × Rose before.door_faults now.door_faults
 Ends base turns before now (Err end.Keeper) =

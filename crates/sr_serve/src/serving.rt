@@ -3,8 +3,8 @@
 ghost use Rattle.std.specs.Prelude.{◌≡◌, ◌≢◌, ◌⊎◌, ◌∷◌, [], ℕ, IfOk, IfErr, OnOk, Err, is_ok, take};
 ghost use Rattle.std.specs.Io.KnownBytes.{Appends};
 ghost use Rattle.hd_facts.specs.Counts.{Rose};
-ghost use Rattle.hub_server.specs.Steps.{around};
-ghost use Rattle.sr_serve.specs.Serving.{Ends, outside, serving_line, error_of_keeper, error_of_server};
+ghost use Rattle.hub_server.specs.Steps.{outside};
+ghost use Rattle.sr_serve.specs.Serving.{Ends, environment, serving_line, error_of_keeper, error_of_server};
 ghost use Rattle.sr_serve.specs.declared.serving.ServeError.TheVariants as end;
 
 use hk_keeper::{KeepError, Keeper};
@@ -96,10 +96,10 @@ pub fn serve_hub<K: Sink, D: Door, R: Keeper, L: Lots>(
     lots: &mut L,
 ) -> Result<(), ServeError>
     ensures ends { Ends base turns
-        (outside (K.holds out.old) (K.faults out.old) (D.told door.old) (D.moment door.old) (D.faults door.old)
-        (around (R.holds keeper.old) (R.answers keeper.old) (R.faults keeper.old) (L.drawn lots.old) (L.faults lots.old)))
-        (outside (K.holds out.new) (K.faults out.new) (D.told door.new) (D.moment door.new) (D.faults door.new)
-        (around (R.holds keeper.new) (R.answers keeper.new) (R.faults keeper.new) (L.drawn lots.new) (L.faults lots.new)))
+        (environment (K.holds out.old) (K.faults out.old) (D.told door.old) (D.moment door.old) (D.faults door.old)
+        (outside (R.holds keeper.old) (R.answers keeper.old) (R.faults keeper.old) (L.drawn lots.old) (L.faults lots.old)))
+        (environment (K.holds out.new) (K.faults out.new) (D.told door.new) (D.moment door.new) (D.faults door.new)
+        (outside (R.holds keeper.new) (R.answers keeper.new) (R.faults keeper.new) (L.drawn lots.new) (L.faults lots.new)))
         result }
     ensures unwritten { result ≡ Err end.Keeper → out.new ≡ out.old }
     ensures no_memory { result ≡ Err end.NoMemory → (out.new ≡ out.old) ⊎ ((rows : ℕ) × Appends (K.holds out.old) (K.holds out.new) (serving_line rows)) }

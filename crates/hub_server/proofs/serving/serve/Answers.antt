@@ -1,7 +1,7 @@
 use Rattle.std.proofs.Common.{◌≡◌, ◌+◌, true, false, Some, None, arith, refl, sym, ◌∙◌}
 use Rattle.std.proofs.lemmas.Bool.{eq-eqb, ne_eqb}
 use Rattle.hj_jobs.specs.Meaning.{meaning}
-use Rattle.hub_server.specs.Steps.{around}
+use Rattle.hub_server.specs.Steps.{outside}
 use Rattle.hub_server.proofs.ServeRun.{caused_same, served_count, served_none, served_then, same_served, unok}
 use Rattle.hub_server.proofs.serving.serve.Goals as goal
 
@@ -9,7 +9,7 @@ pub loop-turn-init : goal.loop-turn-init
 loop-turn-init g c = record {
   served =
       served_none {H = g.row.H.Denot} {Job = g.row.H-Job.Denot} (meaning g.H.Hub.begin_of g.H.Hub.step_of) c.args.server.now
-      (around (g.K.Keeper.holds c.args.keeper.now) (g.K.Keeper.answers c.args.keeper.now) (g.K.Keeper.faults c.args.keeper.now)
+      (outside (g.K.Keeper.holds c.args.keeper.now) (g.K.Keeper.answers c.args.keeper.now) (g.K.Keeper.faults c.args.keeper.now)
       (g.L.Lots.drawn c.args.lots.now) (g.L.Lots.faults c.args.lots.now))
       (g.D.Door.told c.args.door.now) (g.D.Door.moment c.args.door.now);
   ended = λ e. (refl, e);
@@ -51,9 +51,9 @@ returns-clause-served g c =
     let end = c.loop-turn.auto._turn-end in
     let same : c.loop-turn._turn ≡ c.args.turns = omega (arith, test, end) in
     served_count
-    {at = around (g.K.Keeper.holds c.args.keeper.now) (g.K.Keeper.answers c.args.keeper.now) (g.K.Keeper.faults c.args.keeper.now)
+    {at = outside (g.K.Keeper.holds c.args.keeper.now) (g.K.Keeper.answers c.args.keeper.now) (g.K.Keeper.faults c.args.keeper.now)
     (g.L.Lots.drawn c.args.lots.now) (g.L.Lots.faults c.args.lots.now)}
-    {since = around (g.K.Keeper.holds c.loop-turn.keeper) (g.K.Keeper.answers c.loop-turn.keeper) (g.K.Keeper.faults c.loop-turn.keeper)
+    {since = outside (g.K.Keeper.holds c.loop-turn.keeper) (g.K.Keeper.answers c.loop-turn.keeper) (g.K.Keeper.faults c.loop-turn.keeper)
     (g.L.Lots.drawn c.loop-turn.lots) (g.L.Lots.faults c.loop-turn.lots)}
     c.loop-turn._turn c.args.turns same c.loop-turn.invariant.served
 

@@ -5,7 +5,7 @@ use Rattle.hd_server.specs.Serving.{is_idle}
 use Rattle.hj_jobs.specs.Meaning.{meaning}
 use Rattle.hub_server.specs.declared.serving.ServeFault.TheVariants as fault
 use Rattle.hub_server.specs.Serving.{IsCausedBy}
-use Rattle.hub_server.specs.Steps.{around}
+use Rattle.hub_server.specs.Steps.{outside}
 use Rattle.hub_server.proofs.ServeRun.{caused_door, caused_memory, err_served, same_served, served_answer, served_ended, served_nothing, unok}
 use Rattle.hub_server.proofs.serving.turn.Goals.{then-idle, else-idle}
 use Rattle.hub_server.proofs.serving.turn.Goals as goal
@@ -14,7 +14,7 @@ pub returns-in_err-heard-clause-served : goal.returns-in_err-heard-clause-served
 returns-in_err-heard-clause-served g c =
     err_served c.from_residual.result c.from_residual.ensures.0
     (λ why. served_nothing {H = g.row.H.Denot} {Job = g.row.H-Job.Denot} (meaning g.H.Hub.begin_of g.H.Hub.step_of) c.args.server.now
-    (around (g.K.Keeper.holds c.args.keeper.now) (g.K.Keeper.answers c.args.keeper.now) (g.K.Keeper.faults c.args.keeper.now)
+    (outside (g.K.Keeper.holds c.args.keeper.now) (g.K.Keeper.answers c.args.keeper.now) (g.K.Keeper.faults c.args.keeper.now)
     (g.L.Lots.drawn c.args.lots.now) (g.L.Lots.faults c.args.lots.now))
     (g.D.Door.told c.args.door.now) (g.D.Door.told c.next.new.self) (g.D.Door.moment c.args.door.now) (g.D.Door.moment c.next.new.self) why
     c.in_err-heard.ensures.heard c.in_err-heard.ensures.later)
@@ -31,9 +31,9 @@ pub returns-in_err-words-clause-served : goal.returns-in_err-words-clause-served
 returns-in_err-words-clause-served g c =
     same_served c.from_residual-in_err-words.result fault.NoMemory c.from_residual-in_err-words.ensures.1
     (served_ended {H = g.row.H.Denot} {Job = g.row.H-Job.Denot} (meaning g.H.Hub.begin_of g.H.Hub.step_of) c.args.server.now c.step.new.self
-    (around (g.K.Keeper.holds c.args.keeper.now) (g.K.Keeper.answers c.args.keeper.now) (g.K.Keeper.faults c.args.keeper.now)
+    (outside (g.K.Keeper.holds c.args.keeper.now) (g.K.Keeper.answers c.args.keeper.now) (g.K.Keeper.faults c.args.keeper.now)
     (g.L.Lots.drawn c.args.lots.now) (g.L.Lots.faults c.args.lots.now))
-    (around (g.K.Keeper.holds c.step.new.keeper) (g.K.Keeper.answers c.step.new.keeper) (g.K.Keeper.faults c.step.new.keeper)
+    (outside (g.K.Keeper.holds c.step.new.keeper) (g.K.Keeper.answers c.step.new.keeper) (g.K.Keeper.faults c.step.new.keeper)
     (g.L.Lots.drawn c.step.new.lots) (g.L.Lots.faults c.step.new.lots))
     (g.D.Door.told c.args.door.now) (g.D.Door.told c.next.new.self) (g.D.Door.told c.next.new.self) (g.D.Door.moment c.args.door.now)
     (g.D.Door.moment c.next.new.self) c.if-idle.wait c.in_ok-heard.heard c.in_ok-heard.ensures.heard c.in_ok-heard.ensures.later
@@ -55,9 +55,9 @@ returns-in_err-words-clause-cause g c =
 pub returns-clause-served : goal.returns-clause-served
 returns-clause-served g c =
     served_answer {H = g.row.H.Denot} {Job = g.row.H-Job.Denot} (meaning g.H.Hub.begin_of g.H.Hub.step_of) c.args.server.now c.step.new.self
-    (around (g.K.Keeper.holds c.args.keeper.now) (g.K.Keeper.answers c.args.keeper.now) (g.K.Keeper.faults c.args.keeper.now)
+    (outside (g.K.Keeper.holds c.args.keeper.now) (g.K.Keeper.answers c.args.keeper.now) (g.K.Keeper.faults c.args.keeper.now)
     (g.L.Lots.drawn c.args.lots.now) (g.L.Lots.faults c.args.lots.now))
-    (around (g.K.Keeper.holds c.step.new.keeper) (g.K.Keeper.answers c.step.new.keeper) (g.K.Keeper.faults c.step.new.keeper)
+    (outside (g.K.Keeper.holds c.step.new.keeper) (g.K.Keeper.answers c.step.new.keeper) (g.K.Keeper.faults c.step.new.keeper)
     (g.L.Lots.drawn c.step.new.lots) (g.L.Lots.faults c.step.new.lots))
     (g.D.Door.told c.args.door.now) (g.D.Door.told c.next.new.self) (g.D.Door.told c.give_all.new.door) (g.D.Door.moment c.args.door.now)
     (g.D.Door.moment c.give_all.new.door) c.if-idle.wait c.in_ok-heard.heard c.give_all.result c.in_ok-words.words.items

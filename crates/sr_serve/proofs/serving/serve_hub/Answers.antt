@@ -1,8 +1,8 @@
 use Rattle.std.proofs.Common.{◌≡◌, ◌∙◌, sym, refl, inl, inr, ⊎_elim, ap, Some, None, Err}
 use Rattle.std.proofs.lemmas.Result.{err_from_is_err_and}
-use Rattle.hub_server.specs.Steps.{around}
+use Rattle.hub_server.specs.Steps.{outside}
 use Rattle.sr_serve.specs.declared.serving.ServeError.TheVariants as end
-use Rattle.sr_serve.specs.Serving.{error_of_server, outside}
+use Rattle.sr_serve.specs.Serving.{error_of_server, environment}
 use Rattle.sr_serve.proofs.Served.{counted_by, not_keeper, not_write, serves_by, serving_failed}
 use Rattle.sr_serve.proofs.serving.serve_hub.Goals as goal
 

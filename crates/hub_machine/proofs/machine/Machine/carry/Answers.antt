@@ -1,5 +1,5 @@
 use Rattle.hj_jobs.specs.Meaning.{meaning}
-use Rattle.hub_machine.specs.Outside.{outside}
+use Rattle.hub_machine.specs.KeeperState.{keeper_state}
 use Rattle.hub_machine.proofs.Carry.{named_so, on_ok}
 use Rattle.hub_machine.proofs.machine.Machine.carry.Goals as goal
 
@@ -9,9 +9,9 @@ returns-in-Log g c =
     let holds = g.K.Keeper.holds c.args.keeper.now in
     let answers = g.K.Keeper.answers c.args.keeper.now in
     let faults = g.K.Keeper.faults c.args.keeper.now in
-    let before = outside holds answers faults c.args.steps.now in
+    let before = keeper_state holds answers faults c.args.steps.now in
     let keeper = c.log.new.keeper in
-    let now = outside (g.K.Keeper.holds keeper) (g.K.Keeper.answers keeper) (g.K.Keeper.faults keeper) c.args.steps.now in
+    let now = keeper_state (g.K.Keeper.holds keeper) (g.K.Keeper.answers keeper) (g.K.Keeper.faults keeper) c.args.steps.now in
     on_ok c.log.result c.log.ensures (λ f.
     named_so {H = g.row.H.Denot} hub c.args.self.now c.log.new.self before now c.args.conn c.args.job c.args.deed _ c.in-Log.is
     (λ r j number owes there s. f r j number owes there s c.args.steps.now))
@@ -22,7 +22,7 @@ returns-in-Join g c =
     let holds = g.K.Keeper.holds c.args.keeper.now in
     let answers = g.K.Keeper.answers c.args.keeper.now in
     let faults = g.K.Keeper.faults c.args.keeper.now in
-    let before = outside holds answers faults c.args.steps.now in
+    let before = keeper_state holds answers faults c.args.steps.now in
     on_ok c.join.result c.join.ensures (λ f.
     named_so {H = g.row.H.Denot} hub c.args.self.now c.join.new.self before before c.args.conn c.args.job c.args.deed _ c.in-Join.is
     (λ r j number owes there s. f r j number owes there s holds answers faults c.args.steps.now))
@@ -33,8 +33,8 @@ returns-in-Post g c =
     let holds = g.K.Keeper.holds c.args.keeper.now in
     let answers = g.K.Keeper.answers c.args.keeper.now in
     let faults = g.K.Keeper.faults c.args.keeper.now in
-    let before = outside holds answers faults c.args.steps.now in
-    let now = outside holds answers faults c.post.new.steps in
+    let before = keeper_state holds answers faults c.args.steps.now in
+    let now = keeper_state holds answers faults c.post.new.steps in
     on_ok c.post.result c.post.ensures (λ f.
     named_so {H = g.row.H.Denot} hub c.args.self.now c.post.new.self before now c.args.conn c.args.job c.args.deed _ c.in-Post.is
     (λ r j number owes there s. f r j number owes there s holds answers faults))
@@ -45,8 +45,8 @@ returns-in-Tell g c =
     let holds = g.K.Keeper.holds c.args.keeper.now in
     let answers = g.K.Keeper.answers c.args.keeper.now in
     let faults = g.K.Keeper.faults c.args.keeper.now in
-    let before = outside holds answers faults c.args.steps.now in
-    let now = outside holds answers faults c.tell.new.steps in
+    let before = keeper_state holds answers faults c.args.steps.now in
+    let now = keeper_state holds answers faults c.tell.new.steps in
     on_ok c.tell.result c.tell.ensures (λ f.
     named_so {H = g.row.H.Denot} hub c.args.self.now c.tell.new.self before now c.args.conn c.args.job c.args.deed _ c.in-Tell.is
     (λ r j number owes there s. f r j number owes there s holds answers faults))
@@ -57,7 +57,7 @@ returns-in-Leave g c =
     let holds = g.K.Keeper.holds c.args.keeper.now in
     let answers = g.K.Keeper.answers c.args.keeper.now in
     let faults = g.K.Keeper.faults c.args.keeper.now in
-    let before = outside holds answers faults c.args.steps.now in
+    let before = keeper_state holds answers faults c.args.steps.now in
     named_so {H = g.row.H.Denot} hub c.args.self.now c.leave.new.self before before c.args.conn c.args.job c.args.deed _ c.in-Leave.is
     (λ r j number owes there s. c.leave.ensures r j number owes there s holds answers faults c.args.steps.now)
 
@@ -67,9 +67,9 @@ returns-in-History g c =
     let holds = g.K.Keeper.holds c.args.keeper.now in
     let answers = g.K.Keeper.answers c.args.keeper.now in
     let faults = g.K.Keeper.faults c.args.keeper.now in
-    let before = outside holds answers faults c.args.steps.now in
+    let before = keeper_state holds answers faults c.args.steps.now in
     let keeper = c.history.new.keeper in
-    let now = outside (g.K.Keeper.holds keeper) (g.K.Keeper.answers keeper) (g.K.Keeper.faults keeper) c.args.steps.now in
+    let now = keeper_state (g.K.Keeper.holds keeper) (g.K.Keeper.answers keeper) (g.K.Keeper.faults keeper) c.args.steps.now in
     on_ok c.history.result c.history.ensures (λ f.
     named_so {H = g.row.H.Denot} hub c.args.self.now c.history.new.self before now c.args.conn c.args.job c.args.deed _ c.in-History.is
     (λ r j number owes there s. f r j number owes there s c.args.steps.now))

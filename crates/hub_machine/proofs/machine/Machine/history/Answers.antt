@@ -1,15 +1,15 @@
 use Rattle.std.proofs.Common.{Some, None, refl, subst}
 use Rattle.hd_calls.specs.declared.vocabulary.Input.TheVariants.{Done}
 use Rattle.hj_jobs.specs.Meaning.{meaning}
-use Rattle.hub_machine.specs.Outside.{Outside, outside}
+use Rattle.hub_machine.specs.KeeperState.{KeeperState, keeper_state}
 use Rattle.hub_machine.proofs.AsksKeeper.{IsTold, history_carried, was_recalled, was_unrecalled}
 use Rattle.hub_machine.proofs.machine.Machine.history.Goals as goal
 
 pub returns-in_ok-rows-in-Ok : goal.returns-in_ok-rows-in-Ok
 returns-in_ok-rows-in-Ok g c r j number owes there s spelled =
     let hub = meaning g.H.Hub.begin_of g.H.Hub.step_of in
-    let before : Outside = outside (g.K.Keeper.holds c.args.keeper.now) (g.K.Keeper.answers c.args.keeper.now) (g.K.Keeper.faults c.args.keeper.now) spelled in
-    let now : Outside = outside (g.K.Keeper.holds c.history.new.self) (g.K.Keeper.answers c.history.new.self) (g.K.Keeper.faults c.history.new.self) spelled in
+    let before : KeeperState = keeper_state (g.K.Keeper.holds c.args.keeper.now) (g.K.Keeper.answers c.args.keeper.now) (g.K.Keeper.faults c.args.keeper.now) spelled in
+    let now : KeeperState = keeper_state (g.K.Keeper.holds c.history.new.self) (g.K.Keeper.answers c.history.new.self) (g.K.Keeper.faults c.history.new.self) spelled in
     history_carried {H = g.row.H.Denot} {Job = g.row.H-Job.Denot} hub c.answer.new.self c.args.self.now before now r c.args.conn j
     c.args.room.now c.args.most (Some c.in-Ok.texts) s owes there
     (was_recalled before now c.args.room.now c.args.most c.in-Ok.texts c.in-Ok.ensures.last c.in-Ok.ensures.unchanged c.in-Ok.ensures.noted
@@ -20,8 +20,8 @@ returns-in_ok-rows-in-Ok g c r j number owes there s spelled =
 pub returns-in-Err-Failed : goal.returns-in-Err-Failed
 returns-in-Err-Failed g c r j number owes there s spelled =
     let hub = meaning g.H.Hub.begin_of g.H.Hub.step_of in
-    let before : Outside = outside (g.K.Keeper.holds c.args.keeper.now) (g.K.Keeper.answers c.args.keeper.now) (g.K.Keeper.faults c.args.keeper.now) spelled in
-    let now : Outside = outside (g.K.Keeper.holds c.history.new.self) (g.K.Keeper.answers c.history.new.self) (g.K.Keeper.faults c.history.new.self) spelled in
+    let before : KeeperState = keeper_state (g.K.Keeper.holds c.args.keeper.now) (g.K.Keeper.answers c.args.keeper.now) (g.K.Keeper.faults c.args.keeper.now) spelled in
+    let now : KeeperState = keeper_state (g.K.Keeper.holds c.history.new.self) (g.K.Keeper.answers c.history.new.self) (g.K.Keeper.faults c.history.new.self) spelled in
     history_carried {H = g.row.H.Denot} {Job = g.row.H-Job.Denot} hub c.answer-in-Err-Failed.new.self c.args.self.now before now r c.args.conn j
     c.args.room.now c.args.most None s owes there
     (was_unrecalled before now c.args.room.now c.args.most c.in-Err-Failed.field-0 c.in-Err-Failed.field-0-is

@@ -1,6 +1,6 @@
 use Rattle.std.proofs.Common.{true, false, refl}
 use Rattle.hj_jobs.specs.Meaning.{meaning}
-use Rattle.hub_machine.specs.Outside.{Outside, outside}
+use Rattle.hub_machine.specs.KeeperState.{KeeperState, keeper_state}
 use Rattle.hub_machine.proofs.AsksKeeper.{has_its_peer, log_carried, was_logged, was_unlogged, who_is}
 use Rattle.hub_machine.proofs.machine.Machine.log.Goals as goal
 
@@ -12,8 +12,8 @@ returns-in_default g c r j number owes there s spelled =
 pub returns-in-Ok : goal.returns-in-Ok
 returns-in-Ok g c r j number owes there s spelled =
     let hub = meaning g.H.Hub.begin_of g.H.Hub.step_of in
-    let before : Outside = outside (g.K.Keeper.holds c.args.keeper.now) (g.K.Keeper.answers c.args.keeper.now) (g.K.Keeper.faults c.args.keeper.now) spelled in
-    let now : Outside = outside (g.K.Keeper.holds c.log.new.self) (g.K.Keeper.answers c.log.new.self) (g.K.Keeper.faults c.log.new.self) spelled in
+    let before : KeeperState = keeper_state (g.K.Keeper.holds c.args.keeper.now) (g.K.Keeper.answers c.args.keeper.now) (g.K.Keeper.faults c.args.keeper.now) spelled in
+    let now : KeeperState = keeper_state (g.K.Keeper.holds c.log.new.self) (g.K.Keeper.answers c.log.new.self) (g.K.Keeper.faults c.log.new.self) spelled in
     log_carried {H = g.row.H.Denot} {Job = g.row.H-Job.Denot} hub c.answer.new.self c.args.self.now before now r c.args.conn j
     c.args.room.now c.who.result.now c.args.text.now true s owes there
     (who_is {H = g.row.H.Denot} {Job = g.row.H-Job.Denot} hub c.args.self.now r c.args.conn c.in-Some.peer.now c.who.result.now s there
@@ -24,8 +24,8 @@ returns-in-Ok g c r j number owes there s spelled =
 pub returns-in-Err-Failed : goal.returns-in-Err-Failed
 returns-in-Err-Failed g c r j number owes there s spelled =
     let hub = meaning g.H.Hub.begin_of g.H.Hub.step_of in
-    let before : Outside = outside (g.K.Keeper.holds c.args.keeper.now) (g.K.Keeper.answers c.args.keeper.now) (g.K.Keeper.faults c.args.keeper.now) spelled in
-    let now : Outside = outside (g.K.Keeper.holds c.log.new.self) (g.K.Keeper.answers c.log.new.self) (g.K.Keeper.faults c.log.new.self) spelled in
+    let before : KeeperState = keeper_state (g.K.Keeper.holds c.args.keeper.now) (g.K.Keeper.answers c.args.keeper.now) (g.K.Keeper.faults c.args.keeper.now) spelled in
+    let now : KeeperState = keeper_state (g.K.Keeper.holds c.log.new.self) (g.K.Keeper.answers c.log.new.self) (g.K.Keeper.faults c.log.new.self) spelled in
     log_carried {H = g.row.H.Denot} {Job = g.row.H-Job.Denot} hub c.answer-in-Err-Failed.new.self c.args.self.now before now r c.args.conn j
     c.args.room.now c.who.result.now c.args.text.now false s owes there
     (who_is {H = g.row.H.Denot} {Job = g.row.H-Job.Denot} hub c.args.self.now r c.args.conn c.in-Some.peer.now c.who.result.now s there

@@ -2,7 +2,7 @@ use Rattle.std.proofs.Common.{◌++◌, refl}
 use Rattle.std.proofs.lemmas.Result.{on_ok_weaker}
 use Rattle.hd_delivery.specs.declared.vocabulary.Reason.TheVariants as reason
 use Rattle.hd_server.specs.Doings.{moment}
-use Rattle.hd_server.specs.Plans.{closing, ending_held, letting_go, onto}
+use Rattle.hd_server.specs.Plans.{closing, ending_held, removing_conn, onto}
 use Rattle.hj_jobs.specs.Meaning.{meaning}
 use Rattle.hub_server.specs.Lanes.{settled}
 use Rattle.hub_server.proofs.OutcomeCome.{come_stays, ended_known}
@@ -16,7 +16,7 @@ returns g c = record {
       let conn = c.args.conn in
       let lane = c.args.at.lane in
       let ended = onto (ending_held conn (moment h) h) h in
-      let gone = onto (closing conn reason.Done ended ++ letting_go conn ended) ended in
+      let gone = onto (closing conn reason.Done ended ++ removing_conn conn ended) ended in
       let stays = deletion_stays conn lane c.args.at.is_last h (st.orderly conn) known.held come in
       erases {H = g.row.H.Denot} {Job = g.row.H-Job.Denot} hub s before c.reply.new.self o conn h lane c.bare.result at on c.bare.ensures stays
       (f s settled before gone

@@ -2,7 +2,7 @@ use Rattle.std.proofs.Common.{◌≡◌, ◌∷◌, [], not, is_some, sym, ap, s
 use Rattle.std.proofs.Common.{Some as Given, None as Absent}
 use Rattle.std.specs.Prelude.{option_map}
 use Rattle.std.proofs.lemmas.Bool.{and_from, cond-true, not_from_false, or_left}
-use Rattle.hd_server.specs.Lives.{Answered, is_let_go, is_made, is_polling, lost_at, poll_ended, poll_of, socket_of}
+use Rattle.hd_server.specs.Lives.{Answered, is_removed, is_made, is_polling, lost_at, poll_ended, poll_of, socket_of}
 use Rattle.hd_server.specs.Doings.{Notes, moment, notes}
 use Rattle.hd_server.specs.Plans.{bare_reply, ending_poll, onto, replying}
 use Rattle.hj_jobs.specs.Meaning.{meaning}
@@ -20,8 +20,8 @@ returns-in-Some g c = record {
       let hub = meaning g.H.Hub.begin_of g.H.Hub.step_of in
       let conn = c.args.conn in
       let lane = c.in-Some.held.lane in
-      let there = and_from (is_made conn (notes h)) (not (is_let_go conn (notes h))) known.made
-      (not_from_false (is_let_go conn (notes h)) known.held) in
+      let there = and_from (is_made conn (notes h)) (not (is_removed conn (notes h))) known.made
+      (not_from_false (is_removed conn (notes h)) known.held) in
       let poll : poll_of conn (notes h) ≡ Given (lane, c.in-Some.held.since) =
       sym (cond-true (is_there conn (notes h)) (poll_of conn (notes h)) Absent there) ∙ sym (c.held.ensures (notes h) stands.front)
       ∙ ap held_as c.in-Some.is in

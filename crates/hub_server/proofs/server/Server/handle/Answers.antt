@@ -3,7 +3,7 @@ use Rattle.std.proofs.lemmas.Result.{on_ok_weaker}
 use Rattle.hj_jobs.specs.Meaning.{meaning}
 use Rattle.hub_server.specs.Lanes.{lane_of, settled}
 use Rattle.hub_server.specs.Servers.{Standing}
-use Rattle.hub_server.specs.Steps.{Handles, around, lost_in}
+use Rattle.hub_server.specs.Steps.{Handles, outside, lost_in}
 use Rattle.hub_server.specs.Events.{HasHeardBytes}
 use Rattle.hub_server.proofs.OutcomeEvents.{heard_bytes, heard_nothing, heard_refusal, heard_response, heard_upgrade, lost_lane}
 use Rattle.hub_server.proofs.server.Server.handle.Goals as goal
@@ -11,7 +11,7 @@ use Rattle.hub_server.proofs.server.Server.handle.Goals as goal
 pub returns-in-Bytes : goal.returns-in-Bytes
 returns-in-Bytes g c =
     let hub = meaning g.H.Hub.begin_of g.H.Hub.step_of in
-    let at = around (g.K.Keeper.holds c.args.keeper.now) (g.K.Keeper.answers c.args.keeper.now) (g.K.Keeper.faults c.args.keeper.now)
+    let at = outside (g.K.Keeper.holds c.args.keeper.now) (g.K.Keeper.answers c.args.keeper.now) (g.K.Keeper.faults c.args.keeper.now)
     (g.L.Lots.drawn c.args.lots.now) (g.L.Lots.faults c.args.lots.now) in
     on_ok_weaker c.on_bytes.result (λ f s before h st rests can none.
     subst (λ e. Handles {H = g.row.H.Denot} {Job = g.row.H-Job.Denot} hub s before c.on_bytes.new.self at at e h) (sym c.in-Bytes.is)
@@ -24,7 +24,7 @@ returns-in-Bytes g c =
 pub returns-in-Lost : goal.returns-in-Lost
 returns-in-Lost g c s before h st rests can none =
     let hub = meaning g.H.Hub.begin_of g.H.Hub.step_of in
-    let at = around (g.K.Keeper.holds c.args.keeper.now) (g.K.Keeper.answers c.args.keeper.now) (g.K.Keeper.faults c.args.keeper.now)
+    let at = outside (g.K.Keeper.holds c.args.keeper.now) (g.K.Keeper.answers c.args.keeper.now) (g.K.Keeper.faults c.args.keeper.now)
     (g.L.Lots.drawn c.args.lots.now) (g.L.Lots.faults c.args.lots.now) in
     subst (λ e. Handles {H = g.row.H.Denot} {Job = g.row.H-Job.Denot} hub s before c.on_loss.new.self at at e h) (sym c.in-Lost.is)
     (lost_lane {H = g.row.H.Denot} {Job = g.row.H-Job.Denot} hub s before c.on_loss.new.self at h c.in-Lost.lane
@@ -34,7 +34,7 @@ returns-in-Lost g c s before h st rests can none =
 pub returns-in-Refused : goal.returns-in-Refused
 returns-in-Refused g c s before h st rests can none =
     let hub = meaning g.H.Hub.begin_of g.H.Hub.step_of in
-    let at = around (g.K.Keeper.holds c.args.keeper.now) (g.K.Keeper.answers c.args.keeper.now) (g.K.Keeper.faults c.args.keeper.now)
+    let at = outside (g.K.Keeper.holds c.args.keeper.now) (g.K.Keeper.answers c.args.keeper.now) (g.K.Keeper.faults c.args.keeper.now)
     (g.L.Lots.drawn c.args.lots.now) (g.L.Lots.faults c.args.lots.now) in
     subst (λ e. Handles {H = g.row.H.Denot} {Job = g.row.H-Job.Denot} hub s before c.args.self.now at at e h) (sym c.in-Refused.is)
     (heard_refusal {H = g.row.H.Denot} {Job = g.row.H-Job.Denot} hub s before c.args.self.now at
@@ -44,7 +44,7 @@ returns-in-Refused g c s before h st rests can none =
 pub returns-in-Response : goal.returns-in-Response
 returns-in-Response g c s before h st rests can none =
     let hub = meaning g.H.Hub.begin_of g.H.Hub.step_of in
-    let at = around (g.K.Keeper.holds c.args.keeper.now) (g.K.Keeper.answers c.args.keeper.now) (g.K.Keeper.faults c.args.keeper.now)
+    let at = outside (g.K.Keeper.holds c.args.keeper.now) (g.K.Keeper.answers c.args.keeper.now) (g.K.Keeper.faults c.args.keeper.now)
     (g.L.Lots.drawn c.args.lots.now) (g.L.Lots.faults c.args.lots.now) in
     subst (λ e. Handles {H = g.row.H.Denot} {Job = g.row.H-Job.Denot} hub s before c.args.self.now at at e h) (sym c.in-Response.is)
     (heard_response {H = g.row.H.Denot} {Job = g.row.H-Job.Denot} hub s before c.args.self.now at
@@ -55,7 +55,7 @@ returns-in-Response g c s before h st rests can none =
 pub returns-in-Upgraded : goal.returns-in-Upgraded
 returns-in-Upgraded g c s before h st rests can none =
     let hub = meaning g.H.Hub.begin_of g.H.Hub.step_of in
-    let at = around (g.K.Keeper.holds c.args.keeper.now) (g.K.Keeper.answers c.args.keeper.now) (g.K.Keeper.faults c.args.keeper.now)
+    let at = outside (g.K.Keeper.holds c.args.keeper.now) (g.K.Keeper.answers c.args.keeper.now) (g.K.Keeper.faults c.args.keeper.now)
     (g.L.Lots.drawn c.args.lots.now) (g.L.Lots.faults c.args.lots.now) in
     subst (λ e. Handles {H = g.row.H.Denot} {Job = g.row.H-Job.Denot} hub s before c.args.self.now at at e h) (sym c.in-Upgraded.is)
     (heard_upgrade {H = g.row.H.Denot} {Job = g.row.H-Job.Denot} hub s before c.args.self.now at
@@ -65,7 +65,7 @@ returns-in-Upgraded g c s before h st rests can none =
 pub returns : goal.returns
 returns g c s before h st rests can none =
     let hub = meaning g.H.Hub.begin_of g.H.Hub.step_of in
-    let at = around (g.K.Keeper.holds c.args.keeper.now) (g.K.Keeper.answers c.args.keeper.now) (g.K.Keeper.faults c.args.keeper.now)
+    let at = outside (g.K.Keeper.holds c.args.keeper.now) (g.K.Keeper.answers c.args.keeper.now) (g.K.Keeper.faults c.args.keeper.now)
     (g.L.Lots.drawn c.args.lots.now) (g.L.Lots.faults c.args.lots.now) in
     subst (λ e. Handles {H = g.row.H.Denot} {Job = g.row.H-Job.Denot} hub s before c.args.self.now at at e h) (sym c.in-Quiet.is)
     (heard_nothing {H = g.row.H.Denot} {Job = g.row.H-Job.Denot} hub s before c.args.self.now at

@@ -4,8 +4,8 @@ use Rattle.std.specs.Cmp.{unsigned_tied}
 use Rattle.hd_delivery.specs.Histories.{is_this}
 use Rattle.hd_server.specs.Machine.{settings_of}
 use Rattle.hd_server.specs.Lives.{LaneLost, socket_of}
-use Rattle.hd_server.specs.Doings.{Notes, has_peer, is_granted, moment, notes, work}
-use Rattle.hd_server.specs.Plans.{letting_go, onto}
+use Rattle.hd_server.specs.Doings.{Notes, has_peer, may_resume, moment, notes, work}
+use Rattle.hd_server.specs.Plans.{removing_conn, onto}
 use Rattle.hj_jobs.specs.Meaning.{meaning}
 use Rattle.hn_server_front.specs.Stands as front
 use Rattle.hub_server.specs.declared.server.Server.{Server}
@@ -29,10 +29,10 @@ returns-then-granted g c = record {
         words = c.args.self.now.words;
         is_ended = c.args.self.now.is_ended;
       } in
-      let held : is_granted c.args.conn h ≡ true = sym granted ∙ c.if-granted.true in
+      let held : may_resume c.args.conn h ≡ true = sym granted ∙ c.if-granted.true in
       let o = stands.orderly c.args.conn in
       subst (λ b. Standing {H = g.row.H.Denot} hub s settled before new
-      (onto (if b then Notes (LaneLost c.args.conn c.args.lane (moment h)) ∷ [] else letting_go c.args.conn h) h)) (sym held)
+      (onto (if b then Notes (LaneLost c.args.conn c.args.lane (moment h)) ∷ [] else removing_conn c.args.conn h) h)) (sym held)
       (loses {H = g.row.H.Denot} {Job = g.row.H-Job.Denot} hub s before c.args.self.now new
       c.args.conn c.args.lane h refl refl refl refl refl c.remove.ensures.updates.1
       (λ l e. c.remove.ensures.updates.2 l (unsigned_tied c.args.lane l ∙ e)) there
@@ -45,10 +45,10 @@ pub returns-else-granted : goal.returns-else-granted
 returns-else-granted g c = record {
   lost = λ s u before h stands is there present socket granted.
       let hub = meaning g.H.Hub.begin_of g.H.Hub.step_of in
-      let held : is_granted c.args.conn h ≡ false = sym granted ∙ c.if-granted.false in
+      let held : may_resume c.args.conn h ≡ false = sym granted ∙ c.if-granted.false in
       let o = stands.orderly c.args.conn in
       subst (λ b. Standing {H = g.row.H.Denot} hub s settled before c.remove_conn.new.self
-      (onto (if b then Notes (LaneLost c.args.conn c.args.lane (moment h)) ∷ [] else letting_go c.args.conn h) h)) (sym held)
+      (onto (if b then Notes (LaneLost c.args.conn c.args.lane (moment h)) ∷ [] else removing_conn c.args.conn h) h)) (sym held)
       ((c.remove_conn.ensures.gone s u before h stands
       (record { made = o.made (and_parts (is_some (settings_of c.args.conn (work h))) _ there).0; held = o.there there })).freed c.args.lane (inr is)
       (and_from (has_peer c.args.conn h) (is_on c.args.lane c.args.conn h) there

@@ -1,7 +1,8 @@
-use Rattle.std.proofs.Common.{sym, ap, ◌∙◌}
-use Rattle.hd_server.specs.Plans.{is_granted_some}
+use Rattle.hj_jobs.specs.Meaning.{meaning}
+use Rattle.hub_server.proofs.BeginLink.{granted_is}
 use Rattle.hub_server.proofs.server.Server.may_resume.Goals as goal
 
-pub returns-in-Some : goal.returns-in-Some
-returns-in-Some g c = λ s u before h st.
-    c.is_granted.ensures s u before h st ∙ ap (λ named. is_granted_some named h) (sym c.in-Some.is)
+pub returns : goal.returns
+returns g c = λ s u before h st. granted_is {H = g.row.H.Denot} {Job = g.row.H-Job.Denot}
+    (meaning g.H.Hub.begin_of g.H.Hub.step_of) c.args.self.now.machine
+    c.args.conn h c.may_resume.result c.may_resume.ensures.there c.may_resume.ensures.absent st.machine

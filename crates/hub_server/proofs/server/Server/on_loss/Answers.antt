@@ -30,4 +30,4 @@ returns g c = λ s u before h st is.
     lost_socket {H = g.row.H.Denot} c.connections_are_found.ensures (meaning g.H.Hub.begin_of g.H.Hub.step_of) s before c.args.self.now c.args.lane h
     (subst (λ w. Standing {H = g.row.H.Denot} (meaning g.H.Hub.begin_of g.H.Hub.step_of) s w before c.args.self.now h) is st)
     c.in-Some.kept (sym c.get.ensures.value ∙ sym c.copied.ensures ∙ c.in-Some.is) c.if-kept.false c.detach.new.self c.detach.ensures.left
-    c.is_granted-granted.result c.is_granted-granted.ensures c.lose.new.self c.lose.ensures.lost
+    c.may_resume-granted.result c.may_resume-granted.ensures c.lose.new.self c.lose.ensures.lost

@@ -34,7 +34,7 @@ returns g c =
           (g.K.Keeper.holds was) (g.K.Keeper.holds now) (g.K.Keeper.answers was) (g.K.Keeper.answers now)
           (g.K.Keeper.faults was) (g.K.Keeper.faults now) (g.L.Lots.drawn c.args.lots.now) (g.L.Lots.drawn c.carry_out.new.lots)
           (g.L.Lots.faults c.args.lots.now) (g.L.Lots.faults c.carry_out.new.lots) called
-          c.named-named.result c.named-named.ensures.known c.named-named.ensures.made c.unwrap_or.result c.unwrap_or.ensures c.may_resume-resumable.result c.may_resume-resumable.ensures c.outcome-outcome.result c.outcome-outcome.ensures.by_rows
+          c.named-named.result c.named-named.ensures.known c.named-named.ensures.made c.unwrap_or.result c.unwrap_or.ensures c.may_resume_named-resumable.result c.may_resume_named-resumable.ensures c.outcome-outcome.result c.outcome-outcome.ensures.by_rows
           (λ s before h st rests come none o at on up body is seen suits view.
           f s before h st rests come none o at on up body (is ∙ sym c.name_in.ensures) seen suits view)) c.carry_out.ensures.done;
     }

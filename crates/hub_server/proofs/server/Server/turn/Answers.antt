@@ -1,7 +1,7 @@
 use Rattle.std.proofs.Common.{refl}
 use Rattle.hj_jobs.specs.Meaning.{meaning}
 use Rattle.hub_server.specs.Lanes.{lane_of, settled}
-use Rattle.hub_server.specs.Steps.{around, lost_in}
+use Rattle.hub_server.specs.Steps.{outside, lost_in}
 use Rattle.hub_server.proofs.StepWent.{can_handle, turns_through}
 use Rattle.hub_server.proofs.server.Server.turn.Goals as goal
 
@@ -11,11 +11,11 @@ returns g c = record {
       let hub = meaning g.H.Hub.begin_of g.H.Hub.step_of in
       turns_through {H = g.row.H.Denot} {Job = g.row.H-Job.Denot} hub s before c.hear.new.self c.expire.new.self c.handle.new.self c.tick_all.new.self
       c.round.new.self c.flush_all.new.self
-      (around (g.K.Keeper.holds c.args.keeper.now) (g.K.Keeper.answers c.args.keeper.now) (g.K.Keeper.faults c.args.keeper.now)
+      (outside (g.K.Keeper.holds c.args.keeper.now) (g.K.Keeper.answers c.args.keeper.now) (g.K.Keeper.faults c.args.keeper.now)
       (g.L.Lots.drawn c.args.lots.now) (g.L.Lots.faults c.args.lots.now))
-      (around (g.K.Keeper.holds c.handle.new.keeper) (g.K.Keeper.answers c.handle.new.keeper) (g.K.Keeper.faults c.handle.new.keeper)
+      (outside (g.K.Keeper.holds c.handle.new.keeper) (g.K.Keeper.answers c.handle.new.keeper) (g.K.Keeper.faults c.handle.new.keeper)
       (g.L.Lots.drawn c.handle.new.lots) (g.L.Lots.faults c.handle.new.lots))
-      (around (g.K.Keeper.holds c.round.new.keeper) (g.K.Keeper.answers c.round.new.keeper) (g.K.Keeper.faults c.round.new.keeper)
+      (outside (g.K.Keeper.holds c.round.new.keeper) (g.K.Keeper.answers c.round.new.keeper) (g.K.Keeper.faults c.round.new.keeper)
       (g.L.Lots.drawn c.handle.new.lots) (g.L.Lots.faults c.handle.new.lots))
       c.args.heard.now c.args.heard.event h refl refl c.answers_join.ensures
       (λ f x. c.in_ok-flush_all.ensures s settled before f x refl)

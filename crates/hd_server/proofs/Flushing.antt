@@ -14,8 +14,8 @@ use Rattle.hd_server.specs.Numbers.{held_for}
 use Rattle.hd_server.specs.Lives.{Negotiated, Opened, Socketed, Polled, Answered, LaneLost, Ended, Expired, LetGo, socket_of, poll_of, is_polling, ended_at, numbers_to}
 use Rattle.hd_server.specs.Machine.{MachineEvent, Does, Goes, Connects, Rounds, Carries, moves, settings_of, has_gone, is_there, connections, greatest}
 use Rattle.hd_server.specs.Doings.{ServerEvent, Hears, Learns, Draws, Notes, Works, Says, notes, work, wants_shut, was_refused, peer, history_with, history, config_with, config_of, has_peer, has_closed}
-use Rattle.hd_server.specs.Plans.{Setup, onto, step, dropping, letting_go, shutting, replying, bare_reply, frames_reply}
-use Rattle.hd_server.specs.Serves.{lending, writing, all_of, bytes_of, is_text, telling_socket, telling_poll, telling_poll_some, ending, telling_on, telling, all_telling, AreDueOn, AreDue, AreAllDue, LendsAll, LendsUpTo}
+use Rattle.hd_server.specs.Plans.{Setup, onto, step, dropping, removing_conn, shutting, replying, bare_reply, frames_reply}
+use Rattle.hd_server.specs.Serves.{lending, writing, all_of, bytes_of, is_text, flushing_socket, flushing_poll, flushing_some_poll, ending, flushing_on, flushing, all_flushing, AreDueOn, AreDue, AreAllDue, LendsAll, LendsUpTo}
 use Rattle.hd_server.specs.Laws.{NothingIsLeft}
 
 -- a connection is one of these
@@ -58,7 +58,7 @@ writing_tells : (k : ℕ) (s : Setup) (lane : ℕ) (pieces : List (List LinkFram
 writing_tells k s lane [] h = tt
 writing_tells k s lane (p ∷ ps) h = (tt, writing_tells k s lane ps h)
 
-letting_tells : (k : ℕ) (h : List ServerEvent) → AllTell k (letting_go k h)
+letting_tells : (k : ℕ) (h : List ServerEvent) → AllTell k (removing_conn k h)
 letting_tells k h = join_tell k _ _ (either_tell k (has_peer k h) (Works (Goes k) ∷ []) [] (refl, tt) tt) (refl, tt)
 
 shutting_tells : (k lane : ℕ) (h : List ServerEvent) → AllTell k (shutting lane h)
@@ -67,7 +67,7 @@ shutting_tells k lane h = either_tell k (was_refused lane h) [] (Says (say.Shut 
 replying_tells : (k lane : ℕ) (reply : Reply) (h : List ServerEvent) → AllTell k (replying lane reply h)
 replying_tells k lane reply h = (tt, either_tell k ((reply.status == 400) || (wants_shut lane h && not (reply.status == 101))) (shutting lane h) [] (shutting_tells k lane h) tt)
 
-poll_tells : (s : Setup) (now k : ℕ) (p : ℕ × ℕ) (fs : List LinkFrame) (h : List ServerEvent) → AllTell k (telling_poll s now k p fs h)
+poll_tells : (s : Setup) (now k : ℕ) (p : ℕ × ℕ) (fs : List LinkFrame) (h : List ServerEvent) → AllTell k (flushing_poll s now k p fs h)
 poll_tells s now k p [] h =
     either_tell k (has_closed k h) _ _ (join_tell k (replying p.0 (bare_reply 204) h) _ (replying_tells k p.0 (bare_reply 204) h) (letting_tells k h))
     (either_tell k (nat_le (p.1 + held_for) now) _ [] (join_tell k (replying p.0 (bare_reply 200) h) (Notes (Answered k p.0 now) ∷ []) (replying_tells k p.0 (bare_reply 200) h) (refl, tt)) tt)
@@ -75,19 +75,19 @@ poll_tells s now k p (f ∷ fs) h =
     join_tell k (lending k (f ∷ fs) ++ replying p.0 (frames_reply (bytes_of s k (f ∷ fs) h)) h) (Notes (Answered k p.0 now) ∷ [])
     (join_tell k (lending k (f ∷ fs)) _ (lending_tells k (f ∷ fs)) (replying_tells k p.0 (frames_reply (bytes_of s k (f ∷ fs) h)) h)) (refl, tt)
 
-some_poll_tells : (s : Setup) (now k : ℕ) (o : Option (ℕ × ℕ)) (fs : List LinkFrame) (h : List ServerEvent) → AllTell k (telling_poll_some s now k o fs h)
+some_poll_tells : (s : Setup) (now k : ℕ) (o : Option (ℕ × ℕ)) (fs : List LinkFrame) (h : List ServerEvent) → AllTell k (flushing_some_poll s now k o fs h)
 some_poll_tells s now k None fs h = tt
 some_poll_tells s now k (Some p) fs h = poll_tells s now k p fs h
 
-pub telling_tells : (s : Setup) (now k : ℕ) (o : Option ℕ) (pieces : List (List LinkFrame)) (h : List ServerEvent) → AllTell k (telling_on s now k o pieces h)
+pub telling_tells : (s : Setup) (now k : ℕ) (o : Option ℕ) (pieces : List (List LinkFrame)) (h : List ServerEvent) → AllTell k (flushing_on s now k o pieces h)
 telling_tells s now k (Some lane) pieces h =
     join_tell k (lending k (all_of pieces) ++ writing s k lane pieces h) _
     (join_tell k (lending k (all_of pieces)) _ (lending_tells k (all_of pieces)) (writing_tells k s lane pieces h))
-    (either_tell k (has_closed k h) (shutting lane h ++ letting_go k h) [] (join_tell k (shutting lane h) _ (shutting_tells k lane h) (letting_tells k h)) tt)
+    (either_tell k (has_closed k h) (shutting lane h ++ removing_conn k h) [] (join_tell k (shutting lane h) _ (shutting_tells k lane h) (letting_tells k h)) tt)
 telling_tells s now k None pieces h =
     either_tell k (is_polling k (notes h)) _ _
     (join_tell k (ending now k h) _ (either_tell k (has_closed k h && not (is_some (ended_at k (notes h)))) (Notes (Ended k now) ∷ []) [] (refl, tt) tt) (some_poll_tells s now k (poll_of k (notes h)) (all_of pieces) h))
-    (either_tell k (has_closed k h) (letting_go k h) [] (letting_tells k h) tt)
+    (either_tell k (has_closed k h) (removing_conn k h) [] (letting_tells k h) tt)
 
 -- ---- of another connection all stays the same
 
@@ -167,25 +167,25 @@ onto_append [] ys h = refl
 onto_append (x ∷ xs) ys h = onto_append xs ys (x ∷ h)
 
 -- what all these say leaves another as it is, and drops nothing of what stays
-rest_kept : (s : Setup) (now c : ℕ) (cs : List ℕ) (all : List (List (List LinkFrame))) (h g : List ServerEvent) → Kept c g (onto (all_telling s now cs all h) g)
+rest_kept : (s : Setup) (now c : ℕ) (cs : List ℕ) (all : List (List (List LinkFrame))) (h g : List ServerEvent) → Kept c g (onto (all_flushing s now cs all h) g)
 rest_kept s now c [] all h g = record { kept_settings = refl; kept_gone = λ e. e; kept_socket = refl }
 rest_kept s now c (k ∷ cs) [] h g = record { kept_settings = refl; kept_gone = λ e. e; kept_socket = refl }
 rest_kept s now c (k ∷ cs) (p ∷ more) h g =
-    let mine = telling s now k p h in
+    let mine = flushing s now k p h in
     let x = all_kept c k mine g (telling_tells s now k (socket_of k (notes h)) p h) in
     let y = rest_kept s now c cs more h (onto mine g) in
-    subst (λ z. Kept c g z) (sym (onto_append mine (all_telling s now cs more h) g))
+    subst (λ z. Kept c g z) (sym (onto_append mine (all_flushing s now cs more h) g))
     (record { kept_settings = y.kept_settings ∙ x.kept_settings; kept_gone = λ e. y.kept_gone (x.kept_gone e); kept_socket = y.kept_socket ∙ x.kept_socket })
 
 rest_same : (s : Setup) (now c : ℕ) (cs : List ℕ) (all : List (List (List LinkFrame))) (h g : List ServerEvent) → is_in c cs ≡ false
-    → Same c g (onto (all_telling s now cs all h) g)
+    → Same c g (onto (all_flushing s now cs all h) g)
 rest_same s now c [] all h g n = same_itself c g
 rest_same s now c (k ∷ cs) [] h g n = same_itself c g
 rest_same s now c (k ∷ cs) (p ∷ more) h g n =
     let parts = or_parts (c == k) (is_in c cs) n in
-    let mine = telling s now k p h in
-    subst (λ z. Same c g z) (sym (onto_append mine (all_telling s now cs more h) g))
-    (same_then c g (onto mine g) (onto (all_telling s now cs more h) (onto mine g))
+    let mine = flushing s now k p h in
+    subst (λ z. Same c g z) (sym (onto_append mine (all_flushing s now cs more h) g))
+    (same_then c g (onto mine g) (onto (all_flushing s now cs more h) (onto mine g))
     (all_same c k mine g parts.0 (telling_tells s now k (socket_of k (notes h)) p h)) (rest_same s now c cs more h (onto mine g) parts.1))
 
 -- what is due looks at the settings and the moves alone
@@ -315,7 +315,7 @@ IsDone c x = (has_gone c (work x) ≡ true) ⊎ ((due (config_of c x) (history c
 
 -- the connection's own words, said after those of others
 own_tells : (s : Setup) (c lane : ℕ) (t : Settings) (pieces : List (List LinkFrame)) (h g : List ServerEvent) → Same c h g → settings_of c (work h) ≡ Some t
-    → has_peer c h ≡ true → LendsAll (config_of c h) (history c h) (all_of pieces) → IsDone c (onto (telling_socket s c lane pieces h) g)
+    → has_peer c h ≡ true → LendsAll (config_of c h) (history c h) (all_of pieces) → IsDone c (onto (flushing_socket s c lane pieces h) g)
 own_tells s c lane t pieces h g same e there l = by (has_closed c h) where
   begun : settings_of c (work g) ≡ Some t
   begun = same.same_settings ∙ e
@@ -338,9 +338,9 @@ own_tells s c lane t pieces h g same e there l = by (has_closed c h) where
   gone_by true x f = ap (λ y. y || has_gone c (work x)) (eq-eqb c c refl)
   gone_by false x f = absurd (cc)
 
-  by : (b : Bool) → IsDone c (onto (lending c (all_of pieces) ++ writing s c lane pieces h ++ (if b then shutting lane h ++ letting_go c h else [])) g)
-  by true = inl (ap (λ x. has_gone c (work x)) (onto_append (lending c (all_of pieces) ++ writing s c lane pieces h) (shutting lane h ++ letting_go c h) g
-      ∙ onto_append (shutting lane h) (letting_go c h) (onto (lending c (all_of pieces) ++ writing s c lane pieces h) g))
+  by : (b : Bool) → IsDone c (onto (lending c (all_of pieces) ++ writing s c lane pieces h ++ (if b then shutting lane h ++ removing_conn c h else [])) g)
+  by true = inl (ap (λ x. has_gone c (work x)) (onto_append (lending c (all_of pieces) ++ writing s c lane pieces h) (shutting lane h ++ removing_conn c h) g
+      ∙ onto_append (shutting lane h) (removing_conn c h) (onto (lending c (all_of pieces) ++ writing s c lane pieces h) g))
       ∙ gone_by (has_peer c h) (onto (shutting lane h) (onto (lending c (all_of pieces) ++ writing s c lane pieces h) g)) there)
   by false = inr (inl (due_by_work c (work (onto (lending c (all_of pieces) ++ writing s c lane pieces h) g)) (work (onto (lending c (all_of pieces) ++ writing s c lane pieces h ++ []) g))
       (ap work (onto_append (lending c (all_of pieces) ++ writing s c lane pieces h) [] g)) base))
@@ -438,10 +438,10 @@ lending_unpolled : (c : ℕ) (fs : List LinkFrame) → AllAre IsUnpolled (lendin
 lending_unpolled c [] = tt
 lending_unpolled c (f ∷ fs) = (tt, lending_unpolled c fs)
 
-empty_still : (s : Setup) (now c : ℕ) (poll : ℕ × ℕ) (h : List ServerEvent) → AllAre IsStill (telling_poll s now c poll [] h)
+empty_still : (s : Setup) (now c : ℕ) (poll : ℕ × ℕ) (h : List ServerEvent) → AllAre IsStill (flushing_poll s now c poll [] h)
 empty_still s now c poll h =
     either_all IsStill (has_closed c h) _ _
-    (join_all IsStill (replying poll.0 (bare_reply 204) h) (letting_go c h) (replying_all IsStill poll.0 (bare_reply 204) h tt tt)
+    (join_all IsStill (replying poll.0 (bare_reply 204) h) (removing_conn c h) (replying_all IsStill poll.0 (bare_reply 204) h tt tt)
     (join_all IsStill (dropping c h) (Notes (LetGo c) ∷ []) (either_all IsStill (has_peer c h) (Works (Goes c) ∷ []) [] (tt, tt) tt) (tt, tt)))
     (either_all IsStill (nat_le (poll.1 + held_for) now) _ []
     (join_all IsStill (replying poll.0 (bare_reply 200) h) (Notes (Answered c poll.0 now) ∷ []) (replying_all IsStill poll.0 (bare_reply 200) h tt tt) (tt, tt)) tt)
@@ -449,12 +449,12 @@ empty_still s now c poll h =
 -- a poll that is held, by what is due
 held_tells : (s : Setup) (now c : ℕ) (poll : ℕ × ℕ) (fs : List LinkFrame) (h g : List ServerEvent) → Same c h g → socket_of c (notes h) ≡ None
     → poll_of c (notes h) ≡ Some poll → LendsUpTo s.wire (config_of c h) (history c h) 0 fs
-    → IsDone c (onto (ending now c h ++ telling_poll s now c poll fs h) g)
+    → IsDone c (onto (ending now c h ++ flushing_poll s now c poll fs h) g)
 held_tells s now c poll [] h g same sock held l =
-    let words : List ServerEvent = ending now c h ++ telling_poll s now c poll [] h in
+    let words : List ServerEvent = ending now c h ++ flushing_poll s now c poll [] h in
     let nothing : due (config_of c h) (history c h) ≡ None = ⊎_elim (λ e. e) (λ over. absurd (let no : ⊥ = omega (arith, over) in no)) l in
-    let all_still = join_all IsStill (ending now c h) (telling_poll s now c poll [] h) (ending_all IsStill now c h tt) (empty_still s now c poll h) in
-    let all_tell = join_tell c (ending now c h) (telling_poll s now c poll [] h)
+    let all_still = join_all IsStill (ending now c h) (flushing_poll s now c poll [] h) (ending_all IsStill now c h tt) (empty_still s now c poll h) in
+    let all_tell = join_tell c (ending now c h) (flushing_poll s now c poll [] h)
     (either_tell c (has_closed c h && not (is_some (ended_at c (notes h)))) (Notes (Ended c now) ∷ []) [] (refl, tt) tt) (poll_tells s now c poll [] h) in
     inr (inl (due_of c h (onto words g) ((all_kept c c words g all_tell).kept_settings ∙ same.same_settings) (still_moves c words g all_still ∙ same.same_moves) nothing))
 held_tells s now c poll (f ∷ fs) h g same sock held l =
@@ -479,22 +479,22 @@ held_tells s now c poll (f ∷ fs) h g same sock held l =
     inr (inr (rw (no_socket, no_poll) refl))
 
 by_poll : (s : Setup) (now c : ℕ) (pieces : List (List LinkFrame)) (h g : List ServerEvent) (o : Option (ℕ × ℕ)) → o ≡ poll_of c (notes h)
-    → Same c h g → socket_of c (notes h) ≡ None → AreDueOn s c None o pieces h → IsDone c (onto (telling_on s now c None pieces h) g)
+    → Same c h g → socket_of c (notes h) ≡ None → AreDueOn s c None o pieces h → IsDone c (onto (flushing_on s now c None pieces h) g)
 by_poll s now c pieces h g None e same sock d =
-    let words : List ServerEvent = telling_on s now c None pieces h in
+    let words : List ServerEvent = flushing_on s now c None pieces h in
     let tells : AllTell c words = telling_tells s now c None pieces h in
     let no_socket : socket_of c (notes (onto words g)) ≡ None = (all_kept c c words g tells).kept_socket ∙ same.same_socket ∙ sock in
     let no_poll : poll_of c (notes (onto words g)) ≡ None = stays_none c c words g tells (same.same_poll ∙ sym e) in
     inr (inr (rw (no_socket, no_poll) refl))
 by_poll s now c pieces h g (Some poll) e same sock d =
-    let is : telling_on s now c None pieces h ≡ ending now c h ++ telling_poll s now c poll (all_of pieces) h = rw (← e) refl in
+    let is : flushing_on s now c None pieces h ≡ ending now c h ++ flushing_poll s now c poll (all_of pieces) h = rw (← e) refl in
     subst (λ x. IsDone c (onto x g)) (sym is) (held_tells s now c poll (all_of pieces) h g same sock (sym e) d)
 
 -- ---- with a socket or without
 
 with_any : (s : Setup) (now c : ℕ) (t : Settings) (pieces : List (List LinkFrame)) (h g : List ServerEvent) (o : Option ℕ) → o ≡ socket_of c (notes h)
     → Same c h g → settings_of c (work h) ≡ Some t → has_peer c h ≡ true → AreDueOn s c o (poll_of c (notes h)) pieces h
-    → IsDone c (onto (telling_on s now c o pieces h) g)
+    → IsDone c (onto (flushing_on s now c o pieces h) g)
 with_any s now c t pieces h g (Some lane) e same te there d = own_tells s c lane t pieces h g same te there d.1
 with_any s now c t pieces h g None e same te there d = by_poll s now c pieces h g (poll_of c (notes h)) refl same (sym e) d
 
@@ -504,27 +504,27 @@ out_of_reach c h g same e = ap (λ o. is_some o || is_some (poll_of c (notes g))
 -- among all that are told
 walk : (s : Setup) (now c : ℕ) (t : Settings) (cs : List ℕ) (all : List (List (List LinkFrame))) (h g : List ServerEvent) → AreAllDue s cs all h → AreApart cs
     → is_in c cs ≡ true → Same c h g → settings_of c (work h) ≡ Some t → has_peer c h ≡ true
-    → IsDone c (onto (all_telling s now cs all h) g)
+    → IsDone c (onto (all_flushing s now cs all h) g)
 walk s now c t [] all h g d apart i same te there = absurd (cc)
 walk s now c t (k ∷ cs) [] h g d apart i same te there = absurd d
 walk s now c t (k ∷ cs) (p ∷ more) h g d apart i same te there =
-    subst (λ z. IsDone c z) (sym (onto_append (telling s now k p h) (all_telling s now cs more h) g))
-    (by (c == k) refl i (λ f j. walk s now c t cs more h (onto (telling s now k p h) g) d.1 apart.1 j
-    (same_then c h g (onto (telling s now k p h) g) same (all_same c k (telling s now k p h) g f (telling_tells s now k (socket_of k (notes h)) p h))) te there)) where
+    subst (λ z. IsDone c z) (sym (onto_append (flushing s now k p h) (all_flushing s now cs more h) g))
+    (by (c == k) refl i (λ f j. walk s now c t cs more h (onto (flushing s now k p h) g) d.1 apart.1 j
+    (same_then c h g (onto (flushing s now k p h) g) same (all_same c k (flushing s now k p h) g f (telling_tells s now k (socket_of k (notes h)) p h))) te there)) where
       by : (b : Bool) → (c == k) ≡ b → (b || is_in c cs) ≡ true
-          → ((c == k) ≡ false → is_in c cs ≡ true → IsDone c (onto (all_telling s now cs more h) (onto (telling s now k p h) g)))
-          → IsDone c (onto (all_telling s now cs more h) (onto (telling s now k p h) g))
+          → ((c == k) ≡ false → is_in c cs ≡ true → IsDone c (onto (all_flushing s now cs more h) (onto (flushing s now k p h) g)))
+          → IsDone c (onto (all_flushing s now cs more h) (onto (flushing s now k p h) g))
       by true f j go =
           let is : k ≡ c = sym (eqb-true c k f) in
           let out : is_in c cs ≡ false = subst (λ x. is_in x cs ≡ false) is apart.0 in
           let mine : AreDue s c p h = subst (λ x. AreDue s x p h) is d.0 in
-          let own : IsDone c (onto (telling s now c p h) g) = with_any s now c t p h g (socket_of c (notes h)) refl same te there mine in
-          let now_k : IsDone c (onto (telling s now k p h) g) = subst (λ x. IsDone c (onto (telling s now x p h) g)) (sym is) own in
+          let own : IsDone c (onto (flushing s now c p h) g) = with_any s now c t p h g (socket_of c (notes h)) refl same te there mine in
+          let now_k : IsDone c (onto (flushing s now k p h) g) = subst (λ x. IsDone c (onto (flushing s now x p h) g)) (sym is) own in
           ⊎_elim
-          (λ e. inl ((rest_kept s now c cs more h (onto (telling s now k p h) g)).kept_gone e))
+          (λ e. inl ((rest_kept s now c cs more h (onto (flushing s now k p h) g)).kept_gone e))
           (λ rest. inr (⊎_elim
-          (λ e. inl (due_same c (onto (telling s now k p h) g) (onto (all_telling s now cs more h) (onto (telling s now k p h) g)) (rest_same s now c cs more h (onto (telling s now k p h) g) out) e))
-          (λ e. inr (out_of_reach c (onto (telling s now k p h) g) (onto (all_telling s now cs more h) (onto (telling s now k p h) g)) (rest_same s now c cs more h (onto (telling s now k p h) g) out) e))
+          (λ e. inl (due_same c (onto (flushing s now k p h) g) (onto (all_flushing s now cs more h) (onto (flushing s now k p h) g)) (rest_same s now c cs more h (onto (flushing s now k p h) g) out) e))
+          (λ e. inr (out_of_reach c (onto (flushing s now k p h) g) (onto (all_flushing s now cs more h) (onto (flushing s now k p h) g)) (rest_same s now c cs more h (onto (flushing s now k p h) g) out) e))
           rest))
           now_k
       by false f j go = go f j
@@ -535,7 +535,7 @@ not_gone_before false b f e = refl
 
 -- one that is there after all was told was there before
 all_told : (s : Setup) (now c : ℕ) (all : List (List (List LinkFrame))) (h after : List ServerEvent) → AreAllDue s (connections (work h)) all h
-    → after ≡ onto (all_telling s now (connections (work h)) all h) h → 0 < c → has_peer c after ≡ true → reaches c after ≡ true
+    → after ≡ onto (all_flushing s now (connections (work h)) all h) h → 0 < c → has_peer c after ≡ true → reaches c after ≡ true
     → due (config_of c after) (history c after) ≡ None
 all_told s now c all h after d is positive there reached =
     let kept = subst (λ z. Kept c h z) (sym is) (rest_kept s now c (connections (work h)) all h h) in

@@ -8,13 +8,13 @@ use Rattle.hd_delivery.specs.Histories.{Lent, is_this}
 use Rattle.hd_delivery.specs.Bytes.{Does as Step_of}
 use Rattle.hd_calls.specs.Peers.{Plain}
 use Rattle.hd_server.specs.Numbers.{held_for}
-use Rattle.hd_server.specs.Lives.{Answered, Ended, LetGo, ended_at, is_known, is_let_go, is_polling, made, poll_ended, poll_of, socket_of}
+use Rattle.hd_server.specs.Lives.{Answered, Ended, LetGo, ended_at, is_known, is_removed, is_polling, made, poll_ended, poll_of, socket_of}
 use Rattle.hd_server.specs.Machine.{Does, Goes}
 use Rattle.hd_server.specs.Doings.{ServerEvent, Notes, Works, Says, notes, has_peer, has_closed}
-use Rattle.hd_server.specs.Plans.{Setup, onto, letting_go, shutting, replying, bare_reply, frames_reply}
-use Rattle.hd_server.specs.Serves.{AreAllDue, lending, writing, all_of, bytes_of, telling_socket, telling_poll, telling_poll_some, ending, telling_without, telling_on, telling, all_telling}
+use Rattle.hd_server.specs.Plans.{Setup, onto, removing_conn, shutting, replying, bare_reply, frames_reply}
+use Rattle.hd_server.specs.Serves.{AreAllDue, lending, writing, all_of, bytes_of, flushing_socket, flushing_poll, flushing_some_poll, ending, flushing_without, flushing_on, flushing, all_flushing}
 use Rattle.hd_server.proofs.Few.{standing_same}
-use Rattle.hd_server.proofs.Telling.{is_in, AreApart, Tells, AllTell, telling_tells}
+use Rattle.hd_server.proofs.Flushing.{is_in, AreApart, Tells, AllTell, telling_tells}
 use Rattle.hd_server.proofs.OrderlyNotes.{Known, gone_unknown, still_ended}
 use Rattle.hd_server.proofs.OrderlyDoings.{AreQuiet, quiet_both, in_turn, either_way, shutting_quiet, replying_quiet}
 use Rattle.hd_server.proofs.OrderlyEach.{is_other, lending_quiet, writing_quiet}
@@ -40,18 +40,18 @@ done_stands k g o s u e =
     let none = (o.no_socket u (o.ended_polls u e)).0 in
     absurd (let z : true ≡ false = sym s ∙ ap is_some none in cc)
 
-done_gone : (c : ℕ) (h g : List ServerEvent) → Done c (onto (letting_go c h) g)
+done_gone : (c : ℕ) (h g : List ServerEvent) → Done c (onto (removing_conn c h) g)
 done_gone c h g =
     either_way (λ ds. Done c (onto (ds ++ Notes (LetGo c) ∷ []) g)) (has_peer c h) (Works (Goes c) ∷ []) []
     (λ u e. absurd (gone u)) (λ u e. absurd (gone u))
   where
     gone : Known c (LetGo c ∷ notes g) → ⊥
-    gone u = gone_unknown c (LetGo c ∷ notes g) (or_left (c == c) (is_let_go c (notes g)) (eq-eqb c c refl)) u
+    gone u = gone_unknown c (LetGo c ∷ notes g) (or_left (c == c) (is_removed c (notes g)) (eq-eqb c c refl)) u
 
 abbrev pub Both : ℕ → List ServerEvent → Type 0
 Both c g = Own c g × Done c g
 
-both_gone : (c : ℕ) (h g : List ServerEvent) → Own c g → c ≤ made (notes g) → Both c (onto (letting_go c h) g)
+both_gone : (c : ℕ) (h g : List ServerEvent) → Own c g → c ≤ made (notes g) → Both c (onto (removing_conn c h) g)
 both_gone c h g o old = (let_go_own c h g o old, done_gone c h g)
 
 -- the poll that it holds is answered
@@ -74,7 +74,7 @@ module _ (s : Setup) (now c : ℕ) (h : List ServerEvent) (known : Known c (note
     open_done open_is u e =
         absurd (let z : true ≡ false = sym (own.ended_closed known (sym (ap is_some a.same_notes.of_end) ∙ e)) ∙ open_is in cc)
 
-    on_socket : (lane : ℕ) (pieces : List (List LinkFrame)) → socket_of c (notes h) ≡ Some lane → Both c (onto (telling_socket s c lane pieces h) g)
+    on_socket : (lane : ℕ) (pieces : List (List LinkFrame)) → socket_of c (notes h) ≡ Some lane → Both c (onto (flushing_socket s c lane pieces h) g)
     on_socket lane pieces e =
         let words : List ServerEvent = lending c (all_of pieces) ++ writing s c lane pieces h in
         let q : AreQuiet words
@@ -82,9 +82,9 @@ module _ (s : Setup) (now c : ℕ) (h : List ServerEvent) (known : Known c (note
         let y : List ServerEvent = onto words g in
         let b = quiet_onto c words g q in
         let own_y : Own c y = own_alike c g y b o in
-        in_turn (Both c) words (if has_closed c h then shutting lane h ++ letting_go c h else []) g
-        (either_way (λ ds. Both c (onto ds y)) (has_closed c h) (shutting lane h ++ letting_go c h) []
-        (in_turn (Both c) (shutting lane h) (letting_go c h) y
+        in_turn (Both c) words (if has_closed c h then shutting lane h ++ removing_conn c h else []) g
+        (either_way (λ ds. Both c (onto ds y)) (has_closed c h) (shutting lane h ++ removing_conn c h) []
+        (in_turn (Both c) (shutting lane h) (removing_conn c h) y
         (let d = quiet_onto c (shutting lane h) y (shutting_quiet lane h) in
         both_gone c h (onto (shutting lane h) y) (own_alike c y (onto (shutting lane h) y) d own_y) (omega (arith, old_now, b.more, d.more))))
         (own_y, done_stands c y own_y (ap is_some (b.same_notes.of_socket ∙ a.same_notes.of_socket ∙ e))))
@@ -102,16 +102,16 @@ module _ (s : Setup) (now c : ℕ) (h : List ServerEvent) (known : Known c (note
           λ v e. answered_none c now poll y (b.same_notes.of_poll ∙ held),
         )
 
-    leaves_it : (ds : List ServerEvent) → AreQuiet ds → Both c (onto (ds ++ letting_go c h) g)
+    leaves_it : (ds : List ServerEvent) → AreQuiet ds → Both c (onto (ds ++ removing_conn c h) g)
     leaves_it ds q =
         let y : List ServerEvent = onto ds g in
         let b = quiet_onto c ds g q in
-        in_turn (Both c) ds (letting_go c h) g (both_gone c h y (own_alike c g y b o) (omega (arith, later, b.more)))
+        in_turn (Both c) ds (removing_conn c h) g (both_gone c h y (own_alike c g y b o) (omega (arith, later, b.more)))
 
-    on_poll : (fs : List LinkFrame) → Both c (onto (telling_poll s now c poll fs h) g)
+    on_poll : (fs : List LinkFrame) → Both c (onto (flushing_poll s now c poll fs h) g)
     on_poll [] = by (has_closed c h) refl where
       by : (b : Bool) → has_closed c h ≡ b
-          → Both c (onto (if b then replying poll.0 (bare_reply 204) h ++ letting_go c h
+          → Both c (onto (if b then replying poll.0 (bare_reply 204) h ++ removing_conn c h
           else (if nat_le (poll.1 + held_for) now then replying poll.0 (bare_reply 200) h ++ Notes (Answered c poll.0 now) ∷ [] else [])) g)
       by true e = leaves_it (replying poll.0 (bare_reply 204) h) (replying_quiet poll.0 (bare_reply 204) h)
       by false e =
@@ -125,14 +125,14 @@ module _ (s : Setup) (now c : ℕ) (h : List ServerEvent) (known : Known c (note
 
   some_poll : (p : Option (ℕ × ℕ)) (fs : List LinkFrame) (g : List ServerEvent) → Own c g → Known c (notes g) → c ≤ made (notes g)
       → poll_of c (notes g) ≡ p → (has_closed c h ≡ false → Done c g)
-      → Both c (onto (telling_poll_some s now c p fs h) g)
+      → Both c (onto (flushing_some_poll s now c p fs h) g)
   some_poll None fs g o u later held d = (o, λ v e. held)
   some_poll (Some poll) fs g o u later held d = on_poll poll g o u later held d fs
 
-  without : (fs : List LinkFrame) (g : List ServerEvent) → Alike c h g → Own c g → Both c (onto (telling_without s now c fs h) g)
+  without : (fs : List LinkFrame) (g : List ServerEvent) → Alike c h g → Own c g → Both c (onto (flushing_without s now c fs h) g)
   without fs g a o = by (is_polling c (notes h)) refl where
     polls : List ServerEvent
-    polls = telling_poll_some s now c (poll_of c (notes h)) fs h
+    polls = flushing_some_poll s now c (poll_of c (notes h)) fs h
 
     polls_now : (b : Bool) → is_polling c (notes h) ≡ b → is_polling c (notes g) ≡ b
     polls_now b e = ap (λ p. is_some p || is_some (poll_ended c (notes g))) a.same_notes.of_poll
@@ -150,15 +150,15 @@ module _ (s : Setup) (now c : ℕ) (h : List ServerEvent) (known : Known c (note
         some_poll (poll_of c (notes h)) fs g o (known_now g a o) (old_now g a o) a.same_notes.of_poll (λ i. open_done g a o i)
 
     by : (b : Bool) → is_polling c (notes h) ≡ b
-        → Both c (onto (if b then ending now c h ++ telling_poll_some s now c (poll_of c (notes h)) fs h
-        else (if has_closed c h then letting_go c h else [])) g)
+        → Both c (onto (if b then ending now c h ++ flushing_some_poll s now c (poll_of c (notes h)) fs h
+        else (if has_closed c h then removing_conn c h else [])) g)
     by true e = in_turn (Both c) (ending now c h) polls g (ends e (has_closed c h && not (is_some (ended_at c (notes h)))) refl)
     by false e =
-        either_way (λ ds. Both c (onto ds g)) (has_closed c h) (letting_go c h) [] (both_gone c h g o (old_now g a o))
+        either_way (λ ds. Both c (onto ds g)) (has_closed c h) (removing_conn c h) [] (both_gone c h g o (old_now g a o))
         (o, done_still c g (polls_now false e))
 
   tells_own : (w : Option ℕ) (pieces : List (List LinkFrame)) (g : List ServerEvent) → socket_of c (notes h) ≡ w → Alike c h g → Own c g
-      → Both c (onto (telling_on s now c w pieces h) g)
+      → Both c (onto (flushing_on s now c w pieces h) g)
   tells_own (Some lane) pieces g e a o = on_socket g a o lane pieces e
   tells_own None pieces g e a o = without (all_of pieces) g a o
 
@@ -180,33 +180,33 @@ tells_one c (d ∷ ds) a = (tell_is_one c d a.0, tells_one c ds a.1)
 module _ (s : Setup) (now : ℕ) (h : List ServerEvent) (own : (k : ℕ) → Own k h) where
   pub told_own : (cs : List ℕ) (all : List (List (List LinkFrame))) (g : List ServerEvent) → AreAllDue s cs all h → AreApart cs
       → ((c : ℕ) → is_in c cs ≡ true → Known c (notes h) × (c ≤ made (notes h))) → ((k : ℕ) → is_in k cs ≡ true → Alike k h g)
-      → ((k : ℕ) → Own k g) → ((k : ℕ) → is_in k cs ≡ false → Done k g) → (k : ℕ) → Both k (onto (all_telling s now cs all h) g)
+      → ((k : ℕ) → Own k g) → ((k : ℕ) → is_in k cs ≡ false → Done k g) → (k : ℕ) → Both k (onto (all_flushing s now cs all h) g)
   told_own [] all g due apart known alike mine done k = (mine k, done k refl)
   told_own (c ∷ cs) [] g due apart known alike mine done k = absurd due
   told_own (c ∷ cs) (pieces ∷ more) g due apart known alike mine done k =
-      let words : List ServerEvent = telling s now c pieces h in
+      let words : List ServerEvent = flushing s now c pieces h in
       let x : List ServerEvent = onto words g in
-      in_turn (Both k) words (all_telling s now cs more h) g
+      in_turn (Both k) words (all_flushing s now cs more h) g
       (told_own cs more x due.1 apart.1 (λ j i. known j (or_right (j == c) (is_in j cs) i))
       (λ j i. alike_then j h g x (alike j (or_right (j == c) (is_in j cs) i)) (others j (is_other c j cs apart.0 i)))
       (λ j. its_own j (j == c) refl) (λ j out. its_done j (j == c) refl out) k)
     where
-      others : (j : ℕ) → (j == c) ≡ false → Alike j g (onto (telling s now c pieces h) g)
+      others : (j : ℕ) → (j == c) ≡ false → Alike j g (onto (flushing s now c pieces h) g)
       others j e =
-          others_alike c j (telling s now c pieces h) g e
-          (tells_one c (telling s now c pieces h) (telling_tells s now c (socket_of c (notes h)) pieces h))
+          others_alike c j (flushing s now c pieces h) g e
+          (tells_one c (flushing s now c pieces h) (telling_tells s now c (socket_of c (notes h)) pieces h))
 
-      mine_now : Both c (onto (telling s now c pieces h) g)
+      mine_now : Both c (onto (flushing s now c pieces h) g)
       mine_now =
           let here = or_left (c == c) (is_in c cs) (eq-eqb c c refl) in
           let was = known c here in
           tells_own s now c h was.0 was.1 (own c) (socket_of c (notes h)) pieces g refl (alike c here) (mine c)
 
-      its_own : (j : ℕ) (b : Bool) → (j == c) ≡ b → Own j (onto (telling s now c pieces h) g)
-      its_own j false e = own_alike j g (onto (telling s now c pieces h) g) (others j e) (mine j)
-      its_own j true e = subst (λ i. Own i (onto (telling s now c pieces h) g)) (sym (eqb-true j c e)) mine_now.0
+      its_own : (j : ℕ) (b : Bool) → (j == c) ≡ b → Own j (onto (flushing s now c pieces h) g)
+      its_own j false e = own_alike j g (onto (flushing s now c pieces h) g) (others j e) (mine j)
+      its_own j true e = subst (λ i. Own i (onto (flushing s now c pieces h) g)) (sym (eqb-true j c e)) mine_now.0
 
-      its_done : (j : ℕ) (b : Bool) → (j == c) ≡ b → is_in j cs ≡ false → Done j (onto (telling s now c pieces h) g)
+      its_done : (j : ℕ) (b : Bool) → (j == c) ≡ b → is_in j cs ≡ false → Done j (onto (flushing s now c pieces h) g)
       its_done j false e out =
-          done_alike j g (onto (telling s now c pieces h) g) (others j e) (done j (ap (λ b. b || is_in j cs) e ∙ out))
-      its_done j true e out = subst (λ i. Done i (onto (telling s now c pieces h) g)) (sym (eqb-true j c e)) mine_now.1
+          done_alike j g (onto (flushing s now c pieces h) g) (others j e) (done j (ap (λ b. b || is_in j cs) e ∙ out))
+      its_done j true e out = subst (λ i. Done i (onto (flushing s now c pieces h) g)) (sym (eqb-true j c e)) mine_now.1

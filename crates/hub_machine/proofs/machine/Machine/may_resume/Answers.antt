@@ -6,7 +6,7 @@ use Rattle.hd_server.specs.Machine.{moves}
 use Rattle.hj_jobs.specs.Meaning.{meaning}
 use Rattle.hub_machine.proofs.Lags.{lags}
 use Rattle.hub_machine.proofs.Looked.{end_looked, is_shut_by, open_then, shut_then}
-use Rattle.hub_machine.proofs.machine.Machine.is_granted.Goals as goal
+use Rattle.hub_machine.proofs.machine.Machine.may_resume.Goals as goal
 
 pub returns-then-ne-clause-there : goal.returns-then-ne-clause-there
 returns-then-ne-clause-there g c w t s there =

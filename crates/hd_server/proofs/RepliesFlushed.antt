@@ -10,9 +10,9 @@ use Rattle.hd_server.specs.Numbers.{held_for}
 use Rattle.hd_server.specs.Lives.{Answered, Ended, LetGo, is_polling, ended_at, socket_of, poll_of}
 use Rattle.hd_server.specs.Machine.{Goes, settings_of, has_gone}
 use Rattle.hd_server.specs.Doings.{ServerEvent, Notes, Works, Says, notes, work, has_peer, has_closed}
-use Rattle.hd_server.specs.Plans.{Setup, onto, letting_go, shutting, replying, bare_reply, frames_reply}
-use Rattle.hd_server.specs.Serves.{lending, writing, all_of, bytes_of, telling_socket, telling_poll, telling_poll_some, ending, telling_without, telling_on, telling, all_telling}
-use Rattle.hd_server.proofs.Telling.{is_in, AreApart, Same, all_same, telling_tells}
+use Rattle.hd_server.specs.Plans.{Setup, onto, removing_conn, shutting, replying, bare_reply, frames_reply}
+use Rattle.hd_server.specs.Serves.{lending, writing, all_of, bytes_of, flushing_socket, flushing_poll, flushing_some_poll, ending, flushing_without, flushing_on, flushing, all_flushing}
+use Rattle.hd_server.proofs.Flushing.{is_in, AreApart, Same, all_same, telling_tells}
 use Rattle.hd_server.proofs.OrderlyDoings.{in_turn, either_way}
 use Rattle.hd_server.proofs.OrderlyEach.{is_other}
 use Rattle.hd_server.proofs.RepliesSent.{bare_sent, frames_sent, plain_200, plain_204}
@@ -24,7 +24,7 @@ and_false : (b : Bool) → (b && false) ≡ false
 and_false true = refl
 and_false false = refl
 
-pub left_alone : (c : ℕ) (h g : List ServerEvent) → has_peer c g ≡ has_peer c h → has_peer c (onto (letting_go c h) g) ≡ false
+pub left_alone : (c : ℕ) (h g : List ServerEvent) → has_peer c g ≡ has_peer c h → has_peer c (onto (removing_conn c h) g) ≡ false
 left_alone c h g same = by (has_peer c h) same where
   by : (b : Bool) → has_peer c g ≡ b → has_peer c (onto ((if b then Works (Goes c) ∷ [] else []) ++ Notes (LetGo c) ∷ []) g) ≡ false
   by true e = rw (eq-eqb c c refl) (and_false (is_some (settings_of c (work g))))
@@ -48,14 +48,14 @@ answers_held asks c poll now h g ok there mine reply sent =
 -- the poll is answered, and the connection goes
 answers_leaving : (asks : Option ℕ) (c : ℕ) (poll : ℕ × ℕ) (h g : List ServerEvent) → Holds asks None g → has_peer c g ≡ true → has_peer c h ≡ true
     → poll_of c (notes g) ≡ Some poll → (reply : Reply) → IsReply reply
-    → Holds asks None (onto (replying poll.0 reply h ++ letting_go c h) g)
+    → Holds asks None (onto (replying poll.0 reply h ++ removing_conn c h) g)
 answers_leaving asks c poll h g ok there was mine reply sent =
     let x : List ServerEvent = Says (say.Reply poll.0 reply) ∷ g in
     let y : List ServerEvent = onto (shutting_after poll.0 reply h) x in
     let to_y = calm_onto (shutting_after poll.0 reply h) x (shutting_after_calm poll.0 reply h) in
-    let to_z = calm_onto (letting_go c h) y (letting_calm c h) in
-    in_turn (Holds asks None) (replying poll.0 reply h) (letting_go c h) g
-    (parted asks None g ok c poll.0 poll.1 there mine refl reply sent (onto (letting_go c h) y) (calm_then x y (onto (letting_go c h) y) to_y to_z)
+    let to_z = calm_onto (removing_conn c h) y (letting_calm c h) in
+    in_turn (Holds asks None) (replying poll.0 reply h) (removing_conn c h) g
+    (parted asks None g ok c poll.0 poll.1 there mine refl reply sent (onto (removing_conn c h) y) (calm_then x y (onto (removing_conn c h) y) to_y to_z)
     (left_alone c h y (shut_peer c poll.0 reply h x ∙ there ∙ sym was)))
 
 -- ---- what one connection says
@@ -73,18 +73,18 @@ writing_calm s c lane [] h = tt
 writing_calm s c lane (p ∷ ps) h = (tt, writing_calm s c lane ps h)
 
 module _ (s : Setup) (now c : ℕ) (h : List ServerEvent) (was : has_peer c h ≡ true) where
-  on_socket : (lane : ℕ) (pieces : List (List LinkFrame)) → AreCalm (telling_socket s c lane pieces h)
+  on_socket : (lane : ℕ) (pieces : List (List LinkFrame)) → AreCalm (flushing_socket s c lane pieces h)
   on_socket lane pieces =
-      calm_both (lending c (all_of pieces) ++ writing s c lane pieces h) (if has_closed c h then shutting lane h ++ letting_go c h else [])
+      calm_both (lending c (all_of pieces) ++ writing s c lane pieces h) (if has_closed c h then shutting lane h ++ removing_conn c h else [])
       (calm_both (lending c (all_of pieces)) (writing s c lane pieces h) (lending_calm c (all_of pieces)) (writing_calm s c lane pieces h))
-      (either_way AreCalm (has_closed c h) (shutting lane h ++ letting_go c h) []
-      (calm_both (shutting lane h) (letting_go c h) (shutting_calm lane h) (letting_calm c h)) tt)
+      (either_way AreCalm (has_closed c h) (shutting lane h ++ removing_conn c h) []
+      (calm_both (shutting lane h) (removing_conn c h) (shutting_calm lane h) (letting_calm c h)) tt)
 
   on_poll : (poll : ℕ × ℕ) (fs : List LinkFrame) (g : List ServerEvent) → Holds None None g → has_peer c g ≡ true → poll_of c (notes g) ≡ Some poll
-      → Holds None None (onto (telling_poll s now c poll fs h) g)
+      → Holds None None (onto (flushing_poll s now c poll fs h) g)
   on_poll poll [] g ok there mine =
       let answers : List ServerEvent = replying poll.0 (bare_reply 200) h ++ Notes (Answered c poll.0 now) ∷ [] in
-      either_way (λ ds. Holds None None (onto ds g)) (has_closed c h) (replying poll.0 (bare_reply 204) h ++ letting_go c h)
+      either_way (λ ds. Holds None None (onto ds g)) (has_closed c h) (replying poll.0 (bare_reply 204) h ++ removing_conn c h)
       (if nat_le (poll.1 + held_for) now then answers else [])
       (answers_leaving None c poll h g ok there was mine (bare_reply 204) (bare_sent 204 plain_204))
       (either_way (λ ds. Holds None None (onto ds g)) (nat_le (poll.1 + held_for) now) answers []
@@ -106,30 +106,30 @@ module _ (s : Setup) (now c : ℕ) (h : List ServerEvent) (was : has_peer c h �
       apart_again (d ∷ xs) ys x p = apart_again xs ys (d ∷ x) p
 
   on_some_poll : (o : Option (ℕ × ℕ)) (fs : List LinkFrame) (g : List ServerEvent) → Holds None None g → has_peer c g ≡ true → poll_of c (notes g) ≡ o
-      → Holds None None (onto (telling_poll_some s now c o fs h) g)
+      → Holds None None (onto (flushing_some_poll s now c o fs h) g)
   on_some_poll None fs g ok there mine = ok
   on_some_poll (Some poll) fs g ok there mine = on_poll poll fs g ok there mine
 
   without : (fs : List LinkFrame) (g : List ServerEvent) → Holds None None g → has_peer c g ≡ true → poll_of c (notes g) ≡ poll_of c (notes h)
-      → Holds None None (onto (telling_without s now c fs h) g)
+      → Holds None None (onto (flushing_without s now c fs h) g)
   without fs g ok there mine =
-      let polls : List ServerEvent = telling_poll_some s now c (poll_of c (notes h)) fs h in
+      let polls : List ServerEvent = flushing_some_poll s now c (poll_of c (notes h)) fs h in
       let ends : Bool = has_closed c h && not (is_some (ended_at c (notes h))) in
       either_way (λ ds. Holds None None (onto ds g)) (is_polling c (notes h)) (ending now c h ++ polls)
-      (if has_closed c h then letting_go c h else [])
+      (if has_closed c h then removing_conn c h else [])
       (in_turn (Holds None None) (ending now c h) polls g
       (either_way (λ ds. Holds None None (onto polls (onto ds g))) ends (Notes (Ended c now) ∷ []) []
       (on_some_poll (poll_of c (notes h)) fs (Notes (Ended c now) ∷ g)
       (calm_holds None None g (Notes (Ended c now) ∷ g) (calm_onto (Notes (Ended c now) ∷ []) g (tt, tt)) ok) there mine)
       (on_some_poll (poll_of c (notes h)) fs g ok there mine)))
-      (either_way (λ ds. Holds None None (onto ds g)) (has_closed c h) (letting_go c h) []
-      (calm_holds None None g (onto (letting_go c h) g) (calm_onto (letting_go c h) g (letting_calm c h)) ok) ok)
+      (either_way (λ ds. Holds None None (onto ds g)) (has_closed c h) (removing_conn c h) []
+      (calm_holds None None g (onto (removing_conn c h) g) (calm_onto (removing_conn c h) g (letting_calm c h)) ok) ok)
 
   tells_on : (o : Option ℕ) (pieces : List (List LinkFrame)) (g : List ServerEvent) → Holds None None g → has_peer c g ≡ true
-      → poll_of c (notes g) ≡ poll_of c (notes h) → Holds None None (onto (telling_on s now c o pieces h) g)
+      → poll_of c (notes g) ≡ poll_of c (notes h) → Holds None None (onto (flushing_on s now c o pieces h) g)
   tells_on (Some lane) pieces g ok there mine =
-      calm_holds None None g (onto (telling_socket s c lane pieces h) g)
-      (calm_onto (telling_socket s c lane pieces h) g (on_socket lane pieces)) ok
+      calm_holds None None g (onto (flushing_socket s c lane pieces h) g)
+      (calm_onto (flushing_socket s c lane pieces h) g (on_socket lane pieces)) ok
   tells_on None pieces g ok there mine = without (all_of pieces) g ok there mine
 
 -- ---- one after the other
@@ -142,21 +142,21 @@ same_peer : (k : ℕ) (g x : List ServerEvent) → Same k g x → has_peer k x �
 same_peer k g x a = ap (λ o. is_some o && not (has_gone k (work x))) a.same_settings ∙ ap (λ b. is_some (settings_of k (work g)) && not b) a.same_gone
 
 further_waiting : (s : Setup) (now c : ℕ) (cs : List ℕ) (pieces : List (List LinkFrame)) (h g : List ServerEvent) → is_in c cs ≡ false → Waiting h g (c ∷ cs)
-    → Waiting h (onto (telling s now c pieces h) g) cs
+    → Waiting h (onto (flushing s now c pieces h) g) cs
 further_waiting s now c cs pieces h g out ready k i =
-    let words : List ServerEvent = telling s now c pieces h in
+    let words : List ServerEvent = flushing s now c pieces h in
     let other = is_other c k cs out i in
     let was = ready k (or_right (k == c) (is_in k cs) i) in
     let same = all_same k c words g other (telling_tells s now c (socket_of c (notes h)) pieces h) in
     (was.0, same_peer k g (onto words g) same ∙ was.1, same.same_poll ∙ was.2)
 
 pub all_told : (s : Setup) (now : ℕ) (h : List ServerEvent) (cs : List ℕ) (all : List (List (List LinkFrame))) (g : List ServerEvent) → AreApart cs
-    → Waiting h g cs → Holds None None g → Holds None None (onto (all_telling s now cs all h) g)
+    → Waiting h g cs → Holds None None g → Holds None None (onto (all_flushing s now cs all h) g)
 all_told s now h [] all g apart ready ok = ok
 all_told s now h (c ∷ cs) [] g apart ready ok = ok
 all_told s now h (c ∷ cs) (pieces ∷ more) g apart ready ok =
-    let words : List ServerEvent = telling s now c pieces h in
+    let words : List ServerEvent = flushing s now c pieces h in
     let first = ready c (or_left (c == c) (is_in c cs) (eq-eqb c c refl)) in
-    in_turn (Holds None None) words (all_telling s now cs more h) g
+    in_turn (Holds None None) words (all_flushing s now cs more h) g
     (all_told s now h cs more (onto words g) apart.1 (further_waiting s now c cs pieces h g apart.0 ready)
     (tells_on s now c h first.0 (socket_of c (notes h)) pieces g ok first.1 first.2))

@@ -10,17 +10,17 @@ use Rattle.he_end.specs.Stands.{is_client}
 use Rattle.hub_machine.specs.Spreads.{codecs_among}
 
 -- what a keeper tells of itself, and how many messages were spelled
-pub record Outside : Type 0 where
+pub record KeeperState : Type 0 where
   pub holds : Option Content
   pub answers : Option (List Asked)
   pub faults : ℕ
   pub spelled : ℕ
 
-abbrev pub outside : Option Content → Option (List Asked) → ℕ → ℕ → Outside
-outside holds answers faults spelled = record { holds = holds; answers = answers; faults = faults; spelled = spelled }
+abbrev pub keeper_state : Option Content → Option (List Asked) → ℕ → ℕ → KeeperState
+keeper_state holds answers faults spelled = record { holds = holds; answers = answers; faults = faults; spelled = spelled }
 
 -- the keeper answered this, the first first, and this many messages were spelled at most
-pub record Goes (before now : Outside) (asks : List Asked) (most : ℕ) : Type 0 where
+pub record HasAnswered (before now : KeeperState) (asks : List Asked) (most : ℕ) : Type 0 where
   pub told : now.answers ≡ option_map (λ (known : List Asked). known ++ asks) before.answers
   pub kept : KeeperDid before.holds asks now.holds
   pub counted : CountsFaults before.faults asks now.faults
@@ -48,9 +48,9 @@ spellings (Carries c j d fates asked ∷ w) = codecs_among (λ k. spoken_at k w)
 spellings (_ ∷ w) = spellings w
 
 -- so the outside went on while happenings did
-pub record GoesWith (before now : Outside) (w after : List MachineEvent) : Type 0 where
+pub record HasAnsweredDuring (before now : KeeperState) (w after : List MachineEvent) : Type 0 where
   pub asks : List Asked
   pub are : asks_in after ≡ asks_in w ++ asks
   pub most : ℕ
   pub count : spellings after ≡ most + spellings w
-  pub goes : Goes before now asks most
+  pub goes : HasAnswered before now asks most
