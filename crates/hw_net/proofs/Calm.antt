@@ -133,13 +133,13 @@ live-turns (Ok heard) a b now before after buf first_look live h = λ first read
 live-turns (Err why) a b now before after buf first_look live h = h
 
 -- the turn of the lane of a place
-pub turns-here : {E : Type 0} (r : Result (Option Event) E) (a b : Option (List Answer)) (now place : ℕ) (lanes after : List Lane) (lane next : Lane) (buf : List ℕ) (first_look : FirstRead) → place < length lanes →
-    get_or lanes place lane ≡ lane → after ≡ set lanes place next →
+pub turns-here : {E : Type 0} (r : Result (Option Event) E) (a b : Option (List Answer)) (now index : ℕ) (lanes after : List Lane) (lane next : Lane) (buf : List ℕ) (first_look : FirstRead) → index < length lanes →
+    get_or lanes index lane ≡ lane → after ≡ set lanes index next →
     IfOk r (λ heard. (first : List Answer) → ReadsFirst lane first buf first_look → (answers : List Answer) × Tells a b answers × Listens now lane next (first ++ answers) heard) →
-    IfOk r (λ heard. (first : List Answer) → ReadsFirstAt place lanes first buf first_look → (answers : List Answer) × Tells a b answers
-    × DoesHere place (λ before after said. Listens now before after (first ++ said) heard) lanes after answers)
-turns-here (Ok heard) a b now place lanes after lane next buf first_look within found order h = λ first reads_first.
-    let same : reads_first.0 ≡ lane = sym reads_first.1 ∙ get_or_default lanes place reads_first.0 lane within ∙ found in
+    IfOk r (λ heard. (first : List Answer) → ReadsFirstAt index lanes first buf first_look → (answers : List Answer) × Tells a b answers
+    × DoesHere index (λ before after said. Listens now before after (first ++ said) heard) lanes after answers)
+turns-here (Ok heard) a b now index lanes after lane next buf first_look within found order h = λ first reads_first.
+    let same : reads_first.0 ≡ lane = sym reads_first.1 ∙ get_or_default lanes index reads_first.0 lane within ∙ found in
     let k = h first (subst (λ (l : Lane). ReadsFirst l first buf first_look) same reads_first.2) in
     (k.0, k.1, record { lane = lane; next = next; at = found; order = order; does = k.2 })
-turns-here (Err why) a b now place lanes after lane next buf first_look within found order h = h
+turns-here (Err why) a b now index lanes after lane next buf first_look within found order h = h

@@ -23,29 +23,29 @@ nowhere wire Does (lane ∷ lanes) h = go (lane.wire == wire) h (nowhere wire Do
   go false h k = (lanes, refl, k (omega (arith, h)))
 
 -- the lane at the first place that has the number
-pub at-first : (wire : ℕ) (Does : Lane → Lane → List Answer → Type 0) (lanes : List Lane) (place : ℕ) (at next : Lane) (answers : List Answer) →
-    position_or_len (is_of wire) lanes ≡ place → place < length lanes → get_or lanes place at ≡ at → Does at next answers → AtLane wire Does lanes (set lanes place next) answers
-at-first wire Does [] place at next answers e lt same does = absurd (omega (arith, lt))
+pub at-first : (wire : ℕ) (Does : Lane → Lane → List Answer → Type 0) (lanes : List Lane) (index : ℕ) (at next : Lane) (answers : List Answer) →
+    position_or_len (is_of wire) lanes ≡ index → index < length lanes → get_or lanes index at ≡ at → Does at next answers → AtLane wire Does lanes (set lanes index next) answers
+at-first wire Does [] index at next answers e lt same does = absurd (omega (arith, lt))
 at-first wire Does (lane ∷ lanes) zero at next answers e lt same does = go (lane.wire == wire) e where
   go : (b : Bool) → cond (not b) (1 + position_or_len (is_of wire) lanes) 0 ≡ 0
       → Chooses b ((to : Lane) × (next ∷ lanes ≡ to ∷ lanes) × Does lane to answers) ((rest : List Lane) × (next ∷ lanes ≡ lane ∷ rest) × AtLane wire Does lanes rest answers)
   go true e = (next, refl, subst (λ (l : Lane). Does l next answers) (sym same) does)
   go false e = absurd (omega (arith, e))
-at-first wire Does (lane ∷ lanes) (suc place) at next answers e lt same does = go (lane.wire == wire) e (at-first wire Does lanes place at next answers) where
-  go : (b : Bool) → cond (not b) (1 + position_or_len (is_of wire) lanes) 0 ≡ suc place
-      → (position_or_len (is_of wire) lanes ≡ place → place < length lanes → get_or lanes place at ≡ at → Does at next answers → AtLane wire Does lanes (set lanes place next) answers)
-      → Chooses b ((to : Lane) × (lane ∷ set lanes place next ≡ to ∷ lanes) × Does lane to answers)
-      ((rest : List Lane) × (lane ∷ set lanes place next ≡ lane ∷ rest) × AtLane wire Does lanes rest answers)
+at-first wire Does (lane ∷ lanes) (suc index) at next answers e lt same does = go (lane.wire == wire) e (at-first wire Does lanes index at next answers) where
+  go : (b : Bool) → cond (not b) (1 + position_or_len (is_of wire) lanes) 0 ≡ suc index
+      → (position_or_len (is_of wire) lanes ≡ index → index < length lanes → get_or lanes index at ≡ at → Does at next answers → AtLane wire Does lanes (set lanes index next) answers)
+      → Chooses b ((to : Lane) × (lane ∷ set lanes index next ≡ to ∷ lanes) × Does lane to answers)
+      ((rest : List Lane) × (lane ∷ set lanes index next ≡ lane ∷ rest) × AtLane wire Does lanes rest answers)
   go true e k = absurd (omega (arith, e))
-  go false e k = (set lanes place next, refl, k (omega (arith, e)) (omega (arith, lt)) same does)
+  go false e k = (set lanes index next, refl, k (omega (arith, e)) (omega (arith, lt)) same does)
 
 -- a search that found nothing, and one that found this place
 pub is-nowhere : (wire : ℕ) (lanes : List Lane) → position (is_of wire) lanes ≡ None → length lanes ≤ position_or_len (is_of wire) lanes
 is-nowhere wire lanes e = grind (arith, e)
 
-pub is-at : (wire : ℕ) (lanes : List Lane) (place : ℕ) → position (is_of wire) lanes ≡ Some place
-    → (position_or_len (is_of wire) lanes ≡ place) × (place < length lanes)
-is-at wire lanes place e = (grind (arith, e), grind (arith, e))
+pub is-at : (wire : ℕ) (lanes : List Lane) (index : ℕ) → position (is_of wire) lanes ≡ Some index
+    → (position_or_len (is_of wire) lanes ≡ index) × (index < length lanes)
+is-at wire lanes index e = (grind (arith, e), grind (arith, e))
 
 -- nothing is done where no lane is found
 pub does-nothing : (told : Option (List Answer)) (wire from from_after named named_after moment moment_after : ℕ) (Does : Lane → Lane → List Answer → Type 0) (lanes : List Lane) →
@@ -56,12 +56,12 @@ does-nothing told wire from from_after named named_after moment moment_after Doe
     ([], tells-none told, (nowhere wire Does lanes (is-nowhere wire lanes e), f, n, m))
 
 -- what is done by the lane that is found
-pub does-at : (a b : Option (List Answer)) (wire from from_after named named_after moment moment_after : ℕ) (Does : Lane → Lane → List Answer → Type 0) (lanes after : List Lane) (place : ℕ) →
-    position (is_of wire) lanes ≡ Some place → ((answers : List Answer) × Tells a b answers × DoesHere place Does lanes after answers) → from_after ≡ from → named_after ≡ named → moment_after ≡ moment →
+pub does-at : (a b : Option (List Answer)) (wire from from_after named named_after moment moment_after : ℕ) (Does : Lane → Lane → List Answer → Type 0) (lanes after : List Lane) (index : ℕ) →
+    position (is_of wire) lanes ≡ Some index → ((answers : List Answer) × Tells a b answers × DoesHere index Does lanes after answers) → from_after ≡ from → named_after ≡ named → moment_after ≡ moment →
     (answers : List Answer) × Tells a b answers
     × DoesAt wire Does (record { lanes = lanes; from = from; named = named; moment = moment }) (record { lanes = after; from = from_after; named = named_after; moment = moment_after }) answers
-does-at a b wire from from_after named named_after moment moment_after Does lanes after place e h f n m =
-    let found = is-at wire lanes place e in
+does-at a b wire from from_after named named_after moment moment_after Does lanes after index e h f n m =
+    let found = is-at wire lanes index e in
     let d = h.2 in
-    let here = at-first wire Does lanes place d.lane d.next h.0 found.0 found.1 d.at d.does in
+    let here = at-first wire Does lanes index d.lane d.next h.0 found.0 found.1 d.at d.does in
     (h.0, h.1, (subst (λ (l : List Lane). AtLane wire Does lanes l h.0) (sym d.order) here, f, n, m))

@@ -14,13 +14,13 @@ at-most-one true = omega arith
 at-most-one false = omega arith
 
 -- a lane that stands somewhere is counted
-pub at-counted : (lanes : List Lane) (place : ℕ) (lane : Lane) → place < length lanes → get_or lanes place lane ≡ lane → Has lane (tally_of lanes)
-at-counted [] place lane lt same = absurd (omega (arith, lt))
+pub at-counted : (lanes : List Lane) (index : ℕ) (lane : Lane) → index < length lanes → get_or lanes index lane ≡ lane → Has lane (tally_of lanes)
+at-counted [] index lane lt same = absurd (omega (arith, lt))
 at-counted (first ∷ lanes) zero lane lt same =
     subst (λ (l : Lane). Has l (with_lane first (tally_of lanes))) same
     (record { over = omega arith; awake = omega arith; writers = omega arith })
-at-counted (first ∷ lanes) (suc place) lane lt same =
-    let h = at-counted lanes place lane (omega (arith, lt)) same in
+at-counted (first ∷ lanes) (suc index) lane lt same =
+    let h = at-counted lanes index lane (omega (arith, lt)) same in
     record { over = omega (arith, h.over); awake = omega (arith, h.awake); writers = omega (arith, h.writers) }
 
 -- no kind has more than there are lanes
@@ -65,22 +65,22 @@ tally-same : (a b : Tally) → a.over ≡ b.over → a.awake ≡ b.awake → a.w
 tally-same a b o w l = ap (λ n. make n a.awake a.writers) o ∙ ap (λ n. make b.over n a.writers) w ∙ ap (λ n. make b.over b.awake n) l
 
 -- one lane is changed at its place
-swapped : (lanes : List Lane) (place : ℕ) (lane next : Lane) → place < length lanes → get_or lanes place lane ≡ lane → with_lane lane (tally_of (set lanes place next)) ≡ with_lane next (tally_of lanes)
-swapped [] place lane next lt same = absurd (omega (arith, lt))
+swapped : (lanes : List Lane) (index : ℕ) (lane next : Lane) → index < length lanes → get_or lanes index lane ≡ lane → with_lane lane (tally_of (set lanes index next)) ≡ with_lane next (tally_of lanes)
+swapped [] index lane next lt same = absurd (omega (arith, lt))
 swapped (first ∷ lanes) zero lane next lt same =
     subst (λ (l : Lane). with_lane l (with_lane next (tally_of lanes)) ≡ with_lane next (with_lane first (tally_of lanes))) same
     (tally-same _ _ (omega arith) (omega arith) (omega arith))
-swapped (first ∷ lanes) (suc place) lane next lt same =
-    let h = swapped lanes place lane next (omega (arith, lt)) same in
+swapped (first ∷ lanes) (suc index) lane next lt same =
+    let h = swapped lanes index lane next (omega (arith, lt)) same in
     tally-same _ _ (omega (arith, ap (λ (t : Tally). t.over) h)) (omega (arith, ap (λ (t : Tally). t.awake) h)) (omega (arith, ap (λ (t : Tally). t.writers) h))
 
 -- a lane is taken out, changed and put in again
-pub put-again : (lanes : List Lane) (place : ℕ) (lane next : Lane) (tally rest after : Tally) → place < length lanes → get_or lanes place lane ≡ lane → tally ≡ tally_of lanes → tally ≡ with_lane lane rest →
-    after ≡ with_lane next rest → after ≡ tally_of (set lanes place next)
-put-again lanes place lane next tally rest after lt same is out put =
-    let h = swapped lanes place lane next lt same in
+pub put-again : (lanes : List Lane) (index : ℕ) (lane next : Lane) (tally rest after : Tally) → index < length lanes → get_or lanes index lane ≡ lane → tally ≡ tally_of lanes → tally ≡ with_lane lane rest →
+    after ≡ with_lane next rest → after ≡ tally_of (set lanes index next)
+put-again lanes index lane next tally rest after lt same is out put =
+    let h = swapped lanes index lane next lt same in
     let e : with_lane lane rest ≡ tally_of lanes = sym out ∙ is in
-    put ∙ tally-same (with_lane next rest) (tally_of (set lanes place next))
+    put ∙ tally-same (with_lane next rest) (tally_of (set lanes index next))
     (omega (arith, ap (λ (t : Tally). t.over) h, ap (λ (t : Tally). t.over) e))
     (omega (arith, ap (λ (t : Tally). t.awake) h, ap (λ (t : Tally). t.awake) e))
     (omega (arith, ap (λ (t : Tally). t.writers) h, ap (λ (t : Tally). t.writers) e))

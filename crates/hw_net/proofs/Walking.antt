@@ -94,11 +94,11 @@ more-from now told begin count all cur lane next answers more mid heard within i
           let rest : drop (i + 1) (set cur i next) ≡ drop (i + 1) all = drop-set-lt (i + 1) cur i next (omega arith) ∙ sym (cc tails) in
           subst (λ n. drop n (set cur i next) ≡ drop n all) (sym e) rest
 
-pub walk-more : (now : ℕ) (told : Option Event) (begin place : ℕ) (all cur : List Lane) (lane next : Lane) (answers more : List Answer) (mid heard : Option Event) → begin ≤ place →
-    place < length all → place < length cur → get_or cur place lane ≡ lane → Walks now told begin place all cur answers mid → Turns now mid lane next more heard →
-    Walks now told begin (place + 1) all (set cur place next) (answers ++ more) heard
-walk-more now told begin place all cur lane next answers more mid heard le within inside same w turn =
-    go (place - begin) place (omega (arith, le)) within inside same w where
+pub walk-more : (now : ℕ) (told : Option Event) (begin index : ℕ) (all cur : List Lane) (lane next : Lane) (answers more : List Answer) (mid heard : Option Event) → begin ≤ index →
+    index < length all → index < length cur → get_or cur index lane ≡ lane → Walks now told begin index all cur answers mid → Turns now mid lane next more heard →
+    Walks now told begin (index + 1) all (set cur index next) (answers ++ more) heard
+walk-more now told begin index all cur lane next answers more mid heard le within inside same w turn =
+    go (index - begin) index (omega (arith, le)) within inside same w where
       go : (count at : ℕ) → at ≡ begin + count → at < length all → at < length cur → get_or cur at lane ≡ lane → Walks now told begin at all cur answers mid →
           Walks now told begin (at + 1) all (set cur at next) (answers ++ more) heard
       go count at e within inside same w =
@@ -112,42 +112,42 @@ walk-more now told begin place all cur lane next answers more mid heard le withi
           (subst (λ n. Walks now told begin (begin + (count + 1)) all (set cur n next) (answers ++ more) heard) (sym e) done)
 
 -- the same of calls on wires, the first of which looks at the lane
-pub walks-after-look : (a b c d : Option (List Answer)) (now : ℕ) (heard : Option Event) (begin place : ℕ) (all cur after : List Lane) (buf : List ℕ) (first_look : FirstRead) → begin ≤ place → place < length all → place < length cur →
-    ((answers : List Answer) × Tells a b answers × Walks now None begin place all cur answers None) →
-    ((answers : List Answer) × Tells b c answers × ReadsFirstAt place cur answers buf first_look) →
-    ((first : List Answer) → ReadsFirstAt place cur first buf first_look
-    → (answers : List Answer) × Tells c d answers × DoesHere place (λ lane next said. Listens now lane next (first ++ said) heard) cur after answers) →
-    (answers : List Answer) × Tells a d answers × Walks now None begin (place + 1) all after answers heard
-walks-after-look a b c d now heard begin place all cur after buf first_look le within inside h look turn =
+pub walks-after-look : (a b c d : Option (List Answer)) (now : ℕ) (heard : Option Event) (begin index : ℕ) (all cur after : List Lane) (buf : List ℕ) (first_look : FirstRead) → begin ≤ index → index < length all → index < length cur →
+    ((answers : List Answer) × Tells a b answers × Walks now None begin index all cur answers None) →
+    ((answers : List Answer) × Tells b c answers × ReadsFirstAt index cur answers buf first_look) →
+    ((first : List Answer) → ReadsFirstAt index cur first buf first_look
+    → (answers : List Answer) × Tells c d answers × DoesHere index (λ lane next said. Listens now lane next (first ++ said) heard) cur after answers) →
+    (answers : List Answer) × Tells a d answers × Walks now None begin (index + 1) all after answers heard
+walks-after-look a b c d now heard begin index all cur after buf first_look le within inside h look turn =
     let k = turn look.0 look.2 in
-    let walked = walk-more now None begin place all cur k.2.lane k.2.next h.0 (look.0 ++ k.0) None heard le within inside k.2.at h.2 k.2.does in (
+    let walked = walk-more now None begin index all cur k.2.lane k.2.next h.0 (look.0 ++ k.0) None heard le within inside k.2.at h.2 k.2.does in (
       h.0 ++ (look.0 ++ k.0),
       tells-more a b d h.0 (look.0 ++ k.0) h.1 (tells-more b c d look.0 k.0 look.1 k.1),
-      subst (λ (l : List Lane). Walks now None begin (place + 1) all l (h.0 ++ (look.0 ++ k.0)) heard) (sym k.2.order) walked,
+      subst (λ (l : List Lane). Walks now None begin (index + 1) all l (h.0 ++ (look.0 ++ k.0)) heard) (sym k.2.order) walked,
     )
 
 -- one that gave nothing was the lane's turn
-pub walks-still : (a b c : Option (List Answer)) (now : ℕ) (begin place : ℕ) (all cur : List Lane) (buf : List ℕ) (first_look : FirstRead) → begin ≤ place → place < length all → place < length cur →
+pub walks-still : (a b c : Option (List Answer)) (now : ℕ) (begin index : ℕ) (all cur : List Lane) (buf : List ℕ) (first_look : FirstRead) → begin ≤ index → index < length all → index < length cur →
     ((lane : Lane) (first : List Answer) → ReadsFirst lane first buf NothingRead → Listens now lane lane first None) → first_look ≡ NothingRead →
-    ((answers : List Answer) × Tells a b answers × Walks now None begin place all cur answers None) →
-    ((answers : List Answer) × Tells b c answers × ReadsFirstAt place cur answers buf first_look) →
-    (answers : List Answer) × Tells a c answers × Walks now None begin (place + 1) all cur answers None
-walks-still a b c now begin place all cur buf first_look le within inside listens still h look =
+    ((answers : List Answer) × Tells a b answers × Walks now None begin index all cur answers None) →
+    ((answers : List Answer) × Tells b c answers × ReadsFirstAt index cur answers buf first_look) →
+    (answers : List Answer) × Tells a c answers × Walks now None begin (index + 1) all cur answers None
+walks-still a b c now begin index all cur buf first_look le within inside listens still h look =
     let lane = look.2.0 in
     let turn = listens lane look.0 (subst (λ x. ReadsFirst lane look.0 buf x) still look.2.2) in
-    let walked = walk-more now None begin place all cur lane lane h.0 look.0 None None le within inside look.2.1 h.2 turn in
-    let same : set cur place lane ≡ cur = ap (λ (l : Lane). set cur place l) (sym look.2.1) ∙ set-get_or cur place lane in
-    (h.0 ++ look.0, tells-more a b c h.0 look.0 h.1 look.1, subst (λ (l : List Lane). Walks now None begin (place + 1) all l (h.0 ++ look.0) None) same walked)
+    let walked = walk-more now None begin index all cur lane lane h.0 look.0 None None le within inside look.2.1 h.2 turn in
+    let same : set cur index lane ≡ cur = ap (λ (l : Lane). set cur index l) (sym look.2.1) ∙ set-get_or cur index lane in
+    (h.0 ++ look.0, tells-more a b c h.0 look.0 h.1 look.1, subst (λ (l : List Lane). Walks now None begin (index + 1) all l (h.0 ++ look.0) None) same walked)
 
 -- and of lanes that write what waits
-pub speaks-here : (a b c : Option (List Answer)) (begin place : ℕ) (all cur after : List Lane) → begin ≤ place → place < length all → place < length cur →
-    ((answers : List Answer) × Tells a b answers × Speak begin place all cur answers) → ((answers : List Answer) × Tells b c answers × DoesHere place Says cur after answers) →
-    (answers : List Answer) × Tells a c answers × Speak begin (place + 1) all after answers
-speaks-here a b c begin place all cur after le within inside h k = (
+pub speaks-here : (a b c : Option (List Answer)) (begin index : ℕ) (all cur after : List Lane) → begin ≤ index → index < length all → index < length cur →
+    ((answers : List Answer) × Tells a b answers × Speak begin index all cur answers) → ((answers : List Answer) × Tells b c answers × DoesHere index Says cur after answers) →
+    (answers : List Answer) × Tells a c answers × Speak begin (index + 1) all after answers
+speaks-here a b c begin index all cur after le within inside h k = (
   h.0 ++ k.0,
   tells-more a b c h.0 k.0 h.1 k.1,
-  λ now told. subst (λ (l : List Lane). Walks now (Some told) begin (place + 1) all l (h.0 ++ k.0) (Some told)) (sym k.2.order)
-      (walk-more now (Some told) begin place all cur k.2.lane k.2.next h.0 k.0 (Some told) (Some told) le within inside k.2.at (h.2 now told) (refl, k.2.does)),
+  λ now told. subst (λ (l : List Lane). Walks now (Some told) begin (index + 1) all l (h.0 ++ k.0) (Some told)) (sym k.2.order)
+      (walk-more now (Some told) begin index all cur k.2.lane k.2.next h.0 k.0 (Some told) (Some told) le within inside k.2.at (h.2 now told) (refl, k.2.does)),
 )
 
 -- two parts of the places, one after the other
@@ -208,28 +208,28 @@ pub same-length : (a b : List Lane) → wires_of a ≡ wires_of b → length a �
 same-length a b e = sym (length-map a (λ (l : Lane). l.wire)) ∙ ap length e ∙ length-map b (λ (l : Lane). l.wire)
 
 -- the lanes from a place on take their turns, and then those before it
-pub hears-walks : (now from place : ℕ) (all cur after : List Lane) (first last : List Answer) (told heard : Option Event) → place ≡ place_of_first from all → length cur ≡ length all →
-    Walks now None place (length all) all cur first told → Walks now told 0 place cur after last heard → HearsAll now from all after (first ++ last) heard
-hears-walks now from place all cur after first last told heard here same w v =
-    let rest : (l : List Lane) → length l ≡ length all → between place (length all) l ≡ drop place l = λ l e. take_all (length all - place) (drop place l) (omega (arith, e, length-drop place l)) in
-    let turned : TurnAll now None (drop place all) (drop place cur) first told =
-    subst (λ (l : List Lane). TurnAll now None l (drop place cur) first told) (rest all refl)
-    (subst (λ (l : List Lane). TurnAll now None (between place (length all) all) l first told) (rest cur same) w.turns) in
-    let less : place - 0 ≡ place = omega arith in
-    let early : (l : List Lane) → between 0 place l ≡ take place l = λ l. ap (λ n. take n l) less in
-    let turned_last : TurnAll now told (take place all) (take place after) last heard =
-    subst (λ (l : List Lane). TurnAll now told l (take place after) last heard) (early cur ∙ w.front)
-    (subst (λ (l : List Lane). TurnAll now told (between 0 place cur) l last heard) (early after) v.turns) in
+pub hears-walks : (now from index : ℕ) (all cur after : List Lane) (first last : List Answer) (told heard : Option Event) → index ≡ place_of_first from all → length cur ≡ length all →
+    Walks now None index (length all) all cur first told → Walks now told 0 index cur after last heard → HearsAll now from all after (first ++ last) heard
+hears-walks now from index all cur after first last told heard here same w v =
+    let rest : (l : List Lane) → length l ≡ length all → between index (length all) l ≡ drop index l = λ l e. take_all (length all - index) (drop index l) (omega (arith, e, length-drop index l)) in
+    let turned : TurnAll now None (drop index all) (drop index cur) first told =
+    subst (λ (l : List Lane). TurnAll now None l (drop index cur) first told) (rest all refl)
+    (subst (λ (l : List Lane). TurnAll now None (between index (length all) all) l first told) (rest cur same) w.turns) in
+    let less : index - 0 ≡ index = omega arith in
+    let early : (l : List Lane) → between 0 index l ≡ take index l = λ l. ap (λ n. take n l) less in
+    let turned_last : TurnAll now told (take index all) (take index after) last heard =
+    subst (λ (l : List Lane). TurnAll now told l (take index after) last heard) (early cur ∙ w.front)
+    (subst (λ (l : List Lane). TurnAll now told (between 0 index cur) l last heard) (early after) v.turns) in
     record {
-      first = drop place after;
-      last = take place after;
+      first = drop index after;
+      last = take index after;
       told = told;
       answers_first = first;
       answers_last = last;
       all = refl;
-      order = sym (take-append-drop place after);
-      turns_first = subst (λ n. TurnAll now None (drop n all) (drop place after) first told) here (subst (λ (l : List Lane). TurnAll now None (drop place all) l first told) (sym v.back) turned);
-      turns_last = subst (λ n. TurnAll now told (take n all) (take place after) last heard) here turned_last;
+      order = sym (take-append-drop index after);
+      turns_first = subst (λ n. TurnAll now None (drop n all) (drop index after) first told) here (subst (λ (l : List Lane). TurnAll now None (drop index all) l first told) (sym v.back) turned);
+      turns_last = subst (λ n. TurnAll now told (take n all) (take index after) last heard) here turned_last;
     }
 
 -- ---- lanes on which nothing waits
@@ -307,26 +307,26 @@ walks-speak a b c now begin mid end all cur after heard le lt h k = (
 )
 
 -- the lanes from a place on take their turns, and then those before it
-pub hears-both : (a b c : Option (List Answer)) (now from place : ℕ) (all cur after : List Lane) (told heard : Option Event) → place ≡ place_of_first from all → length cur ≡ length all →
-    ((answers : List Answer) × Tells a b answers × Walks now None place (length all) all cur answers told) → ((answers : List Answer) × Tells b c answers × Walks now told 0 place cur after answers heard) →
+pub hears-both : (a b c : Option (List Answer)) (now from index : ℕ) (all cur after : List Lane) (told heard : Option Event) → index ≡ place_of_first from all → length cur ≡ length all →
+    ((answers : List Answer) × Tells a b answers × Walks now None index (length all) all cur answers told) → ((answers : List Answer) × Tells b c answers × Walks now told 0 index cur after answers heard) →
     (answers : List Answer) × Tells a c answers × HearsAll now from all after answers heard
-hears-both a b c now from place all cur after told heard here same h k =
-    (h.0 ++ k.0, tells-more a b c h.0 k.0 h.1 k.1, hears-walks now from place all cur after h.0 k.0 told heard here same h.2 k.2)
+hears-both a b c now from index all cur after told heard here same h k =
+    (h.0 ++ k.0, tells-more a b c h.0 k.0 h.1 k.1, hears-walks now from index all cur after h.0 k.0 told heard here same h.2 k.2)
 
 -- the same of a second part that may be out of memory
-pub hears-or-fails : {E : Type 0} (a b c : Option (List Answer)) (now from place : ℕ) (all cur after : List Lane) (r : Result (Option Event) E) → place ≡ place_of_first from all → length cur ≡ length all →
-    ((answers : List Answer) × Tells a b answers × Walks now None place (length all) all cur answers None) →
-    IfOk r (λ heard. (answers : List Answer) × Tells b c answers × Walks now None 0 place cur after answers heard) →
+pub hears-or-fails : {E : Type 0} (a b c : Option (List Answer)) (now from index : ℕ) (all cur after : List Lane) (r : Result (Option Event) E) → index ≡ place_of_first from all → length cur ≡ length all →
+    ((answers : List Answer) × Tells a b answers × Walks now None index (length all) all cur answers None) →
+    IfOk r (λ heard. (answers : List Answer) × Tells b c answers × Walks now None 0 index cur after answers heard) →
     IfOk r (λ heard. (answers : List Answer) × Tells a c answers × HearsAll now from all after answers heard)
-hears-or-fails a b c now from place all cur after (Ok heard) here same h k = hears-both a b c now from place all cur after None heard here same h k
-hears-or-fails a b c now from place all cur after (Err why) here same h k = k
+hears-or-fails a b c now from index all cur after (Ok heard) here same h k = hears-both a b c now from index all cur after None heard here same h k
+hears-or-fails a b c now from index all cur after (Err why) here same h k = k
 
 -- a lane on which nothing waits, where it stands
-pub says-nothing : (lanes : List Lane) (place : ℕ) (lane : Lane) → get_or lanes place lane ≡ lane → has_unwritten lane ≡ false → DoesHere place Says lanes lanes []
-says-nothing lanes place lane found e = record {
+pub says-nothing : (lanes : List Lane) (index : ℕ) (lane : Lane) → get_or lanes index lane ≡ lane → has_unwritten lane ≡ false → DoesHere index Says lanes lanes []
+says-nothing lanes index lane found e = record {
   lane = lane;
   next = lane;
   at = found;
-  order = sym (ap (λ (l : Lane). set lanes place l) (sym found) ∙ set-get_or lanes place lane);
+  order = sym (ap (λ (l : Lane). set lanes index l) (sym found) ∙ set-get_or lanes index lane);
   does = silent lane e;
 }

@@ -30,8 +30,8 @@ ReadsFirst lane answers buf (Read read) =
 
 -- the same of the lane of this place
 abbrev pub ReadsFirstAt : ℕ → List Lane → List Answer → List ℕ → FirstRead → Type 0
-ReadsFirstAt place lanes answers buf first_look =
-    (lane : Lane) × (slice_index_or lanes place lane ≡ lane) × ReadsFirst lane answers buf first_look
+ReadsFirstAt index lanes answers buf first_look =
+    (lane : Lane) × (slice_index_or lanes index lane ≡ lane) × ReadsFirst lane answers buf first_look
 
 -- no more bytes were read than the buffer has
 abbrev pub IsWithin : FirstRead → Type 0

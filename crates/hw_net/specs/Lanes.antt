@@ -7,9 +7,9 @@ pub record LanesState : Type 0 where
   pub items : List Lane
 
 -- the lane of this place does this, and the others stay as they are
-pub record DoesHere (place : ℕ) (Does : Lane → Lane → List Answer → Type 0) (before after : List Lane) (answers : List Answer) : Type 0 where
+pub record DoesHere (index : ℕ) (Does : Lane → Lane → List Answer → Type 0) (before after : List Lane) (answers : List Answer) : Type 0 where
   pub lane : Lane
   pub next : Lane
-  pub at : slice_index_or before place lane ≡ lane
-  pub order : after ≡ slice_set before place next
+  pub at : slice_index_or before index lane ≡ lane
+  pub order : after ≡ slice_set before index next
   pub does : Does lane next answers

@@ -294,11 +294,11 @@ impl<W: Wires + Drop> Door for NetDoor<W> {
         ensures bound { W.wires self.new.wires ≡ W.wires self.old.wires }
         ensures unchanged { OnErr result ((state_of self.new ≡ state_of self.old) × (W.told self.new.wires ≡ W.told self.old.wires)) }
     {
-        let Some(place) = self.lanes.place_of(lane) else {
+        let Some(index) = self.lanes.index_of(lane) else {
             return Ok(());
         };
         let now = self.moment;
-        self.lanes.reply(place, &mut self.wires, &reply, now)?;
+        self.lanes.reply(index, &mut self.wires, &reply, now)?;
         Ok(())
     }
 
@@ -312,10 +312,10 @@ impl<W: Wires + Drop> Door for NetDoor<W> {
         ensures bound { W.wires self.new.wires ≡ W.wires self.old.wires }
         ensures unchanged { OnErr result ((state_of self.new ≡ state_of self.old) × (W.told self.new.wires ≡ W.told self.old.wires)) }
     {
-        let Some(place) = self.lanes.place_of(lane) else {
+        let Some(index) = self.lanes.index_of(lane) else {
             return Ok(());
         };
-        self.lanes.send(place, &mut self.wires, bytes, text)?;
+        self.lanes.send(index, &mut self.wires, bytes, text)?;
         Ok(())
     }
 
@@ -329,10 +329,10 @@ impl<W: Wires + Drop> Door for NetDoor<W> {
         ensures bound { W.wires self.new.wires ≡ W.wires self.old.wires }
         ensures unchanged { OnErr result ((state_of self.new ≡ state_of self.old) × (W.told self.new.wires ≡ W.told self.old.wires)) }
     {
-        let Some(place) = self.lanes.place_of(lane) else {
+        let Some(index) = self.lanes.index_of(lane) else {
             return Ok(());
         };
-        self.lanes.shut(place, &mut self.wires)?;
+        self.lanes.shut(index, &mut self.wires)?;
         Ok(())
     }
 }

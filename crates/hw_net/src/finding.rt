@@ -1,7 +1,7 @@
 //! Where a lane stands among lanes whose numbers rise.
 
 ghost use Rattle.std.specs.Prelude.{◌≡◌, ◌==◌, ℕ, position};
-ghost use Rattle.hw_net.specs.Door.{place_of_first};
+ghost use Rattle.hw_net.specs.Door.{index_of_first};
 ghost use Rattle.hw_net.specs.Lane.{Lane, wires_of};
 ghost use Rattle.hw_net.specs.Rising.{Rise};
 

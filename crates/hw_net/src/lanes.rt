@@ -5,7 +5,7 @@ ghost use Rattle.std.specs.Prelude.{◌≡◌, ◌<◌, ◌==◌, ◌++◌, ◌�
 ghost use Rattle.std.specs.List.{list_any};
 ghost use Rattle.hw_lanes.specs.Replies.{IsReply};
 ghost use Rattle.hw_door.specs.Traffic.{Answer};
-ghost use Rattle.hw_net.specs.Door.{kept, place_of_first};
+ghost use Rattle.hw_net.specs.Door.{kept, index_of_first};
 ghost use Rattle.hw_net.specs.FirstReads.{ReadsFirstAt, IsWithin};
 ghost use Rattle.hw_net.specs.Lane.{Lane, is_awake, wires_of};
 ghost use Rattle.hw_net.specs.Lanes.{DoesHere};
@@ -15,7 +15,7 @@ ghost use Rattle.hw_net.specs.Tally.{tally_of};
 ghost use Rattle.hw_net.specs.Told.{Tells};
 ghost use Rattle.hw_net.specs.Turn.{Listens, Replies, Sends, Shuts};
 
-use crate::finding::{place_of, place_of_first};
+use crate::finding::{index_of, index_of_first};
 use crate::first_read::FirstRead;
 use crate::lane::NetLane;
 use crate::limits::PIECE;
@@ -90,14 +90,14 @@ impl Lanes {
         ensures added { OnOk result (self.new.items ≡ self.old.items ++ lane ∷ []) }
         ensures unchanged { OnErr result (self.new.items ≡ self.old.items) }
     {
-        let place = self.items.len();
+        let index = self.items.len();
         self.items.push(lane)?;
-        self.tally.enter(&self.items[place]);
+        self.tally.enter(&self.items[index]);
         Ok(())
     }
 
     /// Where the lane of this number is.
-    pub fn place_of(&self, wire: u64) -> Option<usize>
+    pub fn index_of(&self, wire: u64) -> Option<usize>
         requires { Rise (wires_of self.now.items) }
         ensures { result ≡ position (λ (lane : Lane). lane.wire == wire) self.now.items }
     {
@@ -105,7 +105,7 @@ impl Lanes {
     }
 
     /// How many lanes come last in the search that begins at this number.
-    pub fn place_of_first(&self, from: u64) -> usize
+    pub fn index_of_first(&self, from: u64) -> usize
         requires { Rise (wires_of self.now.items) }
         ensures { result ≡ place_of_first from self.now.items }
     {
@@ -113,37 +113,37 @@ impl Lanes {
     }
 
     /// Reads the wire of the lane of this place, if nothing else is known to be done there before more bytes come.
-    pub fn read_first<W: Wires>(&self, place: usize, wires: &mut W, buf: &mut [u8]) -> FirstRead
+    pub fn read_first<W: Wires>(&self, index: usize, wires: &mut W, buf: &mut [u8]) -> FirstRead
         requires buffer { length buf.old ≡ PIECE }
-        requires place { place < length self.now.items }
+        requires index { index < length self.now.items }
         ensures reads_first { (answers : List Answer) × Tells (W.told wires.old) (W.told wires.new) answers
-            × ReadsFirstAt place self.now.items answers buf.new result }
+            × ReadsFirstAt index self.now.items answers buf.new result }
         ensures count { IsWithin result }
         ensures wires { W.wires wires.new ≡ W.wires wires.old }
     {
-        self.items[place].read_first(wires, buf)
+        self.items[index].read_first(wires, buf)
     }
 
     /// A turn of the lane of this place, after this first look at it.
     pub fn turn<W: Wires>(
         &mut self,
-        place: usize,
+        index: usize,
         first_look: FirstRead,
         wires: &mut W,
         buf: &mut [u8],
         now: u64,
     ) -> Result<Option<Event>, AllocError>
         requires buffer { length buf.old ≡ PIECE }
-        requires place { place < length self.old.items }
+        requires index { index < length self.old.items }
         requires count { IsWithin first_look }
-        ensures turned { IfOk result (λ heard. (first : List Answer) → ReadsFirstAt place self.old.items first buf.old first_look
+        ensures turned { IfOk result (λ heard. (first : List Answer) → ReadsFirstAt index self.old.items first buf.old first_look
             → (answers : List Answer) × Tells (W.told wires.old) (W.told wires.new) answers
-            × DoesHere place (λ before after said. Listens now before after (first ++ said) heard)
+            × DoesHere index (λ before after said. Listens now before after (first ++ said) heard)
             self.old.items self.new.items answers) }
         ensures wires { W.wires wires.new ≡ W.wires wires.old }
         ensures lanes { wires_of self.new.items ≡ wires_of self.old.items }
     {
-        let lane = &mut self.items[place];
+        let lane = &mut self.items[index];
         self.tally.leave(lane);
         let heard = lane.turn(first_look, wires, buf, now);
         self.tally.enter(lane);
@@ -151,17 +151,17 @@ impl Lanes {
     }
 
     /// The lane of this place writes what waits.
-    pub fn say<W: Wires>(&mut self, place: usize, wires: &mut W)
-        requires { place < length self.old.items }
+    pub fn say<W: Wires>(&mut self, index: usize, wires: &mut W)
+        requires { index < length self.old.items }
         ensures said { (answers : List Answer) × Tells (W.told wires.old) (W.told wires.new) answers
-            × DoesHere place Says self.old.items self.new.items answers }
+            × DoesHere index Says self.old.items self.new.items answers }
         ensures wires { W.wires wires.new ≡ W.wires wires.old }
         ensures lanes { wires_of self.new.items ≡ wires_of self.old.items }
     {
-        if !self.items[place].has_unwritten() {
+        if !self.items[index].has_unwritten() {
             return;
         }
-        let lane = &mut self.items[place];
+        let lane = &mut self.items[index];
         self.tally.leave(lane);
         lane.say(wires);
         self.tally.enter(lane);
@@ -170,21 +170,21 @@ impl Lanes {
     /// Replies on the lane of this place.
     pub fn reply<W: Wires>(
         &mut self,
-        place: usize,
+        index: usize,
         wires: &mut W,
         reply: &Reply,
         now: u64,
     ) -> Result<(), AllocError>
         requires reply { IsReply reply.now }
-        requires place { place < length self.old.items }
+        requires index { index < length self.old.items }
         ensures replied { OnOk result ((answers : List Answer)
             × Tells (W.told wires.old) (W.told wires.new) answers
-            × DoesHere place (Replies now reply.now) self.old.items self.new.items answers) }
+            × DoesHere index (Replies now reply.now) self.old.items self.new.items answers) }
         ensures unchanged { OnErr result ((self.new.items ≡ self.old.items) × (W.told wires.new ≡ W.told wires.old)) }
         ensures wires { W.wires wires.new ≡ W.wires wires.old }
         ensures lanes { wires_of self.new.items ≡ wires_of self.old.items }
     {
-        let lane = &mut self.items[place];
+        let lane = &mut self.items[index];
         self.tally.leave(lane);
         let replied = lane.reply(wires, reply, now);
         self.tally.enter(lane);
@@ -194,20 +194,20 @@ impl Lanes {
     /// Sends a message on the lane of this place.
     pub fn send<W: Wires>(
         &mut self,
-        place: usize,
+        index: usize,
         wires: &mut W,
         bytes: &[u8],
         text: bool,
     ) -> Result<(), AllocError>
-        requires { place < length self.old.items }
+        requires { index < length self.old.items }
         ensures sent { OnOk result ((answers : List Answer)
             × Tells (W.told wires.old) (W.told wires.new) answers
-            × DoesHere place (Sends bytes.now text) self.old.items self.new.items answers) }
+            × DoesHere index (Sends bytes.now text) self.old.items self.new.items answers) }
         ensures unchanged { OnErr result ((self.new.items ≡ self.old.items) × (W.told wires.new ≡ W.told wires.old)) }
         ensures wires { W.wires wires.new ≡ W.wires wires.old }
         ensures lanes { wires_of self.new.items ≡ wires_of self.old.items }
     {
-        let lane = &mut self.items[place];
+        let lane = &mut self.items[index];
         self.tally.leave(lane);
         let sent = lane.send(wires, bytes, text);
         self.tally.enter(lane);
@@ -215,16 +215,16 @@ impl Lanes {
     }
 
     /// Ends the lane of this place, once what waits is written.
-    pub fn shut<W: Wires>(&mut self, place: usize, wires: &mut W) -> Result<(), AllocError>
-        requires { place < length self.old.items }
+    pub fn shut<W: Wires>(&mut self, index: usize, wires: &mut W) -> Result<(), AllocError>
+        requires { index < length self.old.items }
         ensures shut { OnOk result ((answers : List Answer)
             × Tells (W.told wires.old) (W.told wires.new) answers
-            × DoesHere place Shuts self.old.items self.new.items answers) }
+            × DoesHere index Shuts self.old.items self.new.items answers) }
         ensures unchanged { OnErr result ((self.new.items ≡ self.old.items) × (W.told wires.new ≡ W.told wires.old)) }
         ensures wires { W.wires wires.new ≡ W.wires wires.old }
         ensures lanes { wires_of self.new.items ≡ wires_of self.old.items }
     {
-        let lane = &mut self.items[place];
+        let lane = &mut self.items[index];
         self.tally.leave(lane);
         let ended = lane.shut(wires);
         self.tally.enter(lane);

@@ -43,15 +43,15 @@ fn turn_until<W: Wires>(
     ensures wires { W.wires wires.new ≡ W.wires wires.old }
     ensures lanes { wires_of lanes.new.items ≡ wires_of lanes.old.items }
 {
-    for place in begin..end {
-        let first_look = lanes.read_first(place, wires, buf);
+    for index in begin..end {
+        let first_look = lanes.read_first(index, wires, buf);
         if first_look == FirstRead::NothingRead {
             continue;
         }
-        if let Some(event) = lanes.turn(place, first_look, wires, buf, now)? {
+        if let Some(event) = lanes.turn(index, first_look, wires, buf, now)? {
             return Ok(Some(Found {
                 event,
-                next: place + 1,
+                next: index + 1,
             }));
         }
     }
@@ -70,8 +70,8 @@ fn say_all<W: Wires>(lanes: &mut Lanes, begin: usize, end: usize, wires: &mut W)
     if !lanes.has_writers() {
         return;
     }
-    for place in begin..end {
-        lanes.say(place, wires);
+    for index in begin..end {
+        lanes.say(index, wires);
     }
 }
 
@@ -114,12 +114,12 @@ pub fn turn_from<W: Wires>(
     ensures wires { W.wires wires.new ≡ W.wires wires.old }
     ensures lanes { wires_of lanes.new.items ≡ wires_of lanes.old.items }
 {
-    let place = lanes.place_of_first(from);
+    let index = lanes.index_of_first(from);
     let end = lanes.len();
     let mut buf = [0; PIECE];
-    let Some(event) = turn_all(lanes, place, end, wires, &mut buf, now)? else {
-        return turn_all(lanes, 0, place, wires, &mut buf, now);
+    let Some(event) = turn_all(lanes, index, end, wires, &mut buf, now)? else {
+        return turn_all(lanes, 0, index, wires, &mut buf, now);
     };
-    say_all(lanes, 0, place, wires);
+    say_all(lanes, 0, index, wires);
     Ok(Some(event))
 }

@@ -12,14 +12,14 @@ returns-then-not-has_writers-clause-said g c =
     let none : ltb 0 (tally_of c.args.lanes.now.items).writers ≡ false = search rules in
     ([], tells-none (g.W.Wires.told c.args.wires.now), silent-walk c.args.begin c.args.end c.args.lanes.now.items none)
 
-pub loop-place-preserved : goal.loop-place-preserved
-loop-place-preserved g c =
+pub loop-index-preserved : goal.loop-index-preserved
+loop-index-preserved g c =
     let told = g.W.Wires.told in
-    let within : c.loop-place.place < length c.args.lanes.now.items = search rules in
-    let same = same-length c.loop-place.lanes.items c.args.lanes.now.items c.loop-place.invariant.3 in
-    let inside : c.loop-place.place < length c.loop-place.lanes.items = omega (arith, within, same) in (
-      speaks-here (told c.args.wires.now) (told c.loop-place.wires) (told c.say.new.wires) c.args.begin c.loop-place.place c.args.lanes.now.items c.loop-place.lanes.items c.say.new.self.items
-          c.loop-place.invariant.1 within inside c.loop-place.invariant.0 c.say.ensures.said,
+    let within : c.loop-index.index < length c.args.lanes.now.items = search rules in
+    let same = same-length c.loop-index.lanes.items c.args.lanes.now.items c.loop-index.invariant.3 in
+    let inside : c.loop-index.index < length c.loop-index.lanes.items = omega (arith, within, same) in (
+      speaks-here (told c.args.wires.now) (told c.loop-index.wires) (told c.say.new.wires) c.args.begin c.loop-index.index c.args.lanes.now.items c.loop-index.lanes.items c.say.new.self.items
+          c.loop-index.invariant.1 within inside c.loop-index.invariant.0 c.say.ensures.said,
       search rules,
       search rules,
       search rules,
@@ -28,6 +28,6 @@ loop-place-preserved g c =
 pub returns-clause-said : goal.returns-clause-said
 returns-clause-said g c =
     let told = g.W.Wires.told in
-    let at_end : c.loop-place.place ≡ c.args.end = search rules in
-    subst (λ n. (answers : List Answer) × Tells (told c.args.wires.now) (told c.loop-place.wires) answers
-    × Speak c.args.begin n c.args.lanes.now.items c.loop-place.lanes.items answers) at_end c.loop-place.invariant.0
+    let at_end : c.loop-index.index ≡ c.args.end = search rules in
+    subst (λ n. (answers : List Answer) × Tells (told c.args.wires.now) (told c.loop-index.wires) answers
+    × Speak c.args.begin n c.args.lanes.now.items c.loop-index.lanes.items answers) at_end c.loop-index.invariant.0

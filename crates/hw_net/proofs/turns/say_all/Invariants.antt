@@ -5,10 +5,10 @@ use Rattle.hw_net.specs.Told.{Tells}
 use Rattle.hw_net.specs.Walks.{Speak}
 use Rattle.hw_net.proofs.turns.say_all.Given as goal
 
-abbrev pub invariant-loop-place : goal.invariant-loop-place
-invariant-loop-place g l =
+abbrev pub invariant-loop-index : goal.invariant-loop-index
+invariant-loop-index g l =
     ((answers : List Answer) × Tells (g.W.Wires.told l.initial.wires) (g.W.Wires.told l.wires) answers
-    × Speak l.begin l.place l.initial.lanes.items l.lanes.items answers)
-    × (l.begin ≤ l.place)
+    × Speak l.begin l.index l.initial.lanes.items l.lanes.items answers)
+    × (l.begin ≤ l.index)
     × (g.W.Wires.wires l.wires ≡ g.W.Wires.wires l.initial.wires)
     × (wires_of l.lanes.items ≡ wires_of l.initial.lanes.items)

@@ -5,11 +5,11 @@ use Rattle.hw_net.specs.Told.{Tells}
 use Rattle.hw_net.specs.Walks.{Walks}
 use Rattle.hw_net.proofs.turns.turn_until.Given as goal
 
-abbrev pub invariant-loop-place : goal.invariant-loop-place
-invariant-loop-place g l =
+abbrev pub invariant-loop-index : goal.invariant-loop-index
+invariant-loop-index g l =
     ((answers : List Answer) × Tells (g.W.Wires.told l.initial.wires) (g.W.Wires.told l.wires) answers
-    × Walks l.now None l.begin l.place l.initial.lanes.items l.lanes.items answers None)
-    × (l.begin ≤ l.place)
+    × Walks l.now None l.begin l.index l.initial.lanes.items l.lanes.items answers None)
+    × (l.begin ≤ l.index)
     × (length l.buf ≡ 4096)
     × (g.W.Wires.wires l.wires ≡ g.W.Wires.wires l.initial.wires)
     × (wires_of l.lanes.items ≡ wires_of l.initial.lanes.items)

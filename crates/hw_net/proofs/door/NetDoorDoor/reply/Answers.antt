@@ -10,5 +10,5 @@ returns-in_default-clause-replied g c =
 pub returns-clause-replied : goal.returns-clause-replied
 returns-clause-replied g c =
     let told = g.W.Wires.told in
-    does-at (told c.args.self.now.wires) (told c.reply.new.wires) c.args.lane c.args.self.now.from _ c.args.self.now.named _ c.args.self.now.moment _ (Replies c.args.self.now.moment c.args.reply) c.args.self.now.lanes.items c.reply.new.self.items c.in-Some.place
+    does-at (told c.args.self.now.wires) (told c.reply.new.wires) c.args.lane c.args.self.now.from _ c.args.self.now.named _ c.args.self.now.moment _ (Replies c.args.self.now.moment c.args.reply) c.args.self.now.lanes.items c.reply.new.self.items c.in-Some.index
     (search rules) (search rules) (search rules) (search rules) (search rules)

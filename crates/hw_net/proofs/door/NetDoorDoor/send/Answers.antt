@@ -10,5 +10,5 @@ returns-in_default-clause-sent g c =
 pub returns-clause-sent : goal.returns-clause-sent
 returns-clause-sent g c =
     let told = g.W.Wires.told in
-    does-at (told c.args.self.now.wires) (told c.send.new.wires) c.args.lane c.args.self.now.from _ c.args.self.now.named _ c.args.self.now.moment _ (Sends c.args.bytes.now c.args.text) c.args.self.now.lanes.items c.send.new.self.items c.in-Some.place
+    does-at (told c.args.self.now.wires) (told c.send.new.wires) c.args.lane c.args.self.now.from _ c.args.self.now.named _ c.args.self.now.moment _ (Sends c.args.bytes.now c.args.text) c.args.self.now.lanes.items c.send.new.self.items c.in-Some.index
     (search rules) (search rules) (search rules) (search rules) (search rules)

@@ -10,5 +10,5 @@ returns-in_default-clause-shut g c =
 pub returns-clause-shut : goal.returns-clause-shut
 returns-clause-shut g c =
     let told = g.W.Wires.told in
-    does-at (told c.args.self.now.wires) (told c.shut.new.wires) c.args.lane c.args.self.now.from _ c.args.self.now.named _ c.args.self.now.moment _ Shuts c.args.self.now.lanes.items c.shut.new.self.items c.in-Some.place
+    does-at (told c.args.self.now.wires) (told c.shut.new.wires) c.args.lane c.args.self.now.from _ c.args.self.now.named _ c.args.self.now.moment _ Shuts c.args.self.now.lanes.items c.shut.new.self.items c.in-Some.index
     (search rules) (search rules) (search rules) (search rules) (search rules)

@@ -5,9 +5,9 @@ use Rattle.hw_net.proofs.lanes.Lanes.reply.Goals as goal
 
 pub leave-requires : goal.leave-requires
 leave-requires g c =
-    let found : get_or c.self.inside.items.items c.args.place c.index_mut-lane.result.now ≡ c.index_mut-lane.result.now = search rules in
-    let within : c.args.place < length c.self.inside.items.items = search rules in
-    rw c.self.invariant (at-counted c.self.inside.items.items c.args.place c.index_mut-lane.result.now within found)
+    let found : get_or c.self.inside.items.items c.args.index c.index_mut-lane.result.now ≡ c.index_mut-lane.result.now = search rules in
+    let within : c.args.index < length c.self.inside.items.items = search rules in
+    rw c.self.invariant (at-counted c.self.inside.items.items c.args.index c.index_mut-lane.result.now within found)
 
 pub enter-requires : goal.enter-requires
 enter-requires g c =
@@ -16,11 +16,11 @@ enter-requires g c =
 
 pub invariant_of-self : goal.invariant_of-self
 invariant_of-self g c =
-    let found : get_or c.self.inside.items.items c.args.place c.index_mut-lane.result.now ≡ c.index_mut-lane.result.now = search rules in
-    let within : c.args.place < length c.self.inside.items.items = search rules in
-    put-again c.self.inside.items.items c.args.place c.index_mut-lane.result.now c.reply-replied.new.self c.self.inside.tally c.leave.new.self c.enter.new.self within found
+    let found : get_or c.self.inside.items.items c.args.index c.index_mut-lane.result.now ≡ c.index_mut-lane.result.now = search rules in
+    let within : c.args.index < length c.self.inside.items.items = search rules in
+    put-again c.self.inside.items.items c.args.index c.index_mut-lane.result.now c.reply-replied.new.self c.self.inside.tally c.leave.new.self c.enter.new.self within found
     c.self.invariant c.leave.ensures c.enter.ensures
 
 pub returns-clause-lanes : goal.returns-clause-lanes
 returns-clause-lanes g c =
-    wires-kept c.self.inside.items.items c.args.place c.index_mut-lane.result.now c.reply-replied.new.self (search rules) ∙ search rules
+    wires-kept c.self.inside.items.items c.args.index c.index_mut-lane.result.now c.reply-replied.new.self (search rules) ∙ search rules

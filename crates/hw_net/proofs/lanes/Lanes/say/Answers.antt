@@ -7,9 +7,9 @@ use Rattle.hw_net.proofs.lanes.Lanes.say.Goals as goal
 
 pub leave-requires : goal.leave-requires
 leave-requires g c =
-    let found : get_or c.self.inside.items.items c.args.place c.index_mut-lane.result.now ≡ c.index_mut-lane.result.now = search rules in
-    let within : c.args.place < length c.self.inside.items.items = search rules in
-    rw c.self.invariant (at-counted c.self.inside.items.items c.args.place c.index_mut-lane.result.now within found)
+    let found : get_or c.self.inside.items.items c.args.index c.index_mut-lane.result.now ≡ c.index_mut-lane.result.now = search rules in
+    let within : c.args.index < length c.self.inside.items.items = search rules in
+    rw c.self.invariant (at-counted c.self.inside.items.items c.args.index c.index_mut-lane.result.now within found)
 
 pub enter-requires : goal.enter-requires
 enter-requires g c =
@@ -18,17 +18,17 @@ enter-requires g c =
 
 pub invariant_of-self : goal.invariant_of-self
 invariant_of-self g c =
-    let found : get_or c.self.inside.items.items c.args.place c.index_mut-lane.result.now ≡ c.index_mut-lane.result.now = search rules in
-    let within : c.args.place < length c.self.inside.items.items = search rules in
-    put-again c.self.inside.items.items c.args.place c.index_mut-lane.result.now c.say.new.self c.self.inside.tally c.leave.new.self c.enter.new.self within found
+    let found : get_or c.self.inside.items.items c.args.index c.index_mut-lane.result.now ≡ c.index_mut-lane.result.now = search rules in
+    let within : c.args.index < length c.self.inside.items.items = search rules in
+    put-again c.self.inside.items.items c.args.index c.index_mut-lane.result.now c.say.new.self c.self.inside.tally c.leave.new.self c.enter.new.self within found
     c.self.invariant c.leave.ensures c.enter.ensures
 
 pub returns-clause-lanes : goal.returns-clause-lanes
 returns-clause-lanes g c =
-    wires-kept c.self.inside.items.items c.args.place c.index_mut-lane.result.now c.say.new.self (search rules) ∙ search rules
+    wires-kept c.self.inside.items.items c.args.index c.index_mut-lane.result.now c.say.new.self (search rules) ∙ search rules
 
 pub returns-then-not-has_unwritten-clause-said : goal.returns-then-not-has_unwritten-clause-said
 returns-then-not-has_unwritten-clause-said g c =
     let lanes = c.args.self.now.items in
     let lane = c.index.result.now in
-    ([], tells-none (g.W.Wires.told c.args.wires.now), says-nothing lanes c.args.place lane (search rules) (search rules))
+    ([], tells-none (g.W.Wires.told c.args.wires.now), says-nothing lanes c.args.index lane (search rules) (search rules))

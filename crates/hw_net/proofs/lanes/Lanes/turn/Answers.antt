@@ -6,9 +6,9 @@ use Rattle.hw_net.proofs.lanes.Lanes.turn.Goals as goal
 
 pub leave-requires : goal.leave-requires
 leave-requires g c =
-    let found : get_or c.self.inside.items.items c.args.place c.index_mut-lane.result.now ≡ c.index_mut-lane.result.now = search rules in
-    let within : c.args.place < length c.self.inside.items.items = search rules in
-    rw c.self.invariant (at-counted c.self.inside.items.items c.args.place c.index_mut-lane.result.now within found)
+    let found : get_or c.self.inside.items.items c.args.index c.index_mut-lane.result.now ≡ c.index_mut-lane.result.now = search rules in
+    let within : c.args.index < length c.self.inside.items.items = search rules in
+    rw c.self.invariant (at-counted c.self.inside.items.items c.args.index c.index_mut-lane.result.now within found)
 
 pub enter-requires : goal.enter-requires
 enter-requires g c =
@@ -17,19 +17,19 @@ enter-requires g c =
 
 pub invariant_of-self : goal.invariant_of-self
 invariant_of-self g c =
-    let found : get_or c.self.inside.items.items c.args.place c.index_mut-lane.result.now ≡ c.index_mut-lane.result.now = search rules in
-    let within : c.args.place < length c.self.inside.items.items = search rules in
-    put-again c.self.inside.items.items c.args.place c.index_mut-lane.result.now c.turn-heard.new.self c.self.inside.tally c.leave.new.self c.enter.new.self within found
+    let found : get_or c.self.inside.items.items c.args.index c.index_mut-lane.result.now ≡ c.index_mut-lane.result.now = search rules in
+    let within : c.args.index < length c.self.inside.items.items = search rules in
+    put-again c.self.inside.items.items c.args.index c.index_mut-lane.result.now c.turn-heard.new.self c.self.inside.tally c.leave.new.self c.enter.new.self within found
     c.self.invariant c.leave.ensures c.enter.ensures
 
 pub returns-clause-lanes : goal.returns-clause-lanes
 returns-clause-lanes g c =
-    wires-kept c.self.inside.items.items c.args.place c.index_mut-lane.result.now c.turn-heard.new.self (search rules) ∙ search rules
+    wires-kept c.self.inside.items.items c.args.index c.index_mut-lane.result.now c.turn-heard.new.self (search rules) ∙ search rules
 
 pub returns-clause-turned : goal.returns-clause-turned
 returns-clause-turned g c =
     let told = g.W.Wires.told in
-    let found : get_or c.args.self.now.items c.args.place c.index_mut-lane.result.now ≡ c.index_mut-lane.result.now = search rules in
-    let within : c.args.place < length c.args.self.now.items = search rules in
-    turns-here c.turn-heard.result (told c.args.wires.now) (told c.turn-heard.new.wires) c.args.now c.args.place c.args.self.now.items _ c.index_mut-lane.result.now c.turn-heard.new.self c.args.buf.now c.args.first_look
+    let found : get_or c.args.self.now.items c.args.index c.index_mut-lane.result.now ≡ c.index_mut-lane.result.now = search rules in
+    let within : c.args.index < length c.args.self.now.items = search rules in
+    turns-here c.turn-heard.result (told c.args.wires.now) (told c.turn-heard.new.wires) c.args.now c.args.index c.args.self.now.items _ c.index_mut-lane.result.now c.turn-heard.new.self c.args.buf.now c.args.first_look
     within found (search rules) c.turn-heard.ensures.turned
