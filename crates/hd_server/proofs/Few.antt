@@ -5,7 +5,7 @@ use Rattle.std.proofs.lemmas.Bool.{and_parts, or_parts, not-true, eqb-true, eq-e
 use Rattle.hd_server.specs.declared.vocabulary.Life.{Life}
 use Rattle.hd_server.specs.declared.vocabulary.Life.TheVariants.{Unknown, Fresh, Socket, Lost, Polling, Ending}
 use Rattle.hd_server.specs.Numbers.{most_live, lives_for}
-use Rattle.hd_server.specs.Lives.{ConnectionEvent, Negotiated, Opened, Socketed, Polled, Answered, LaneLost, Ended, Expired, LetGo, AreInOrder, made, negotiated_at, is_opened, socket_of, lost_at, poll_of, poll_ended, ended_at, ends_then, is_removed, is_known, is_past, is_polling, past, standing, since, deadline, life_of, live, overdue, numbers_to, is_busy, last_moment}
+use Rattle.hd_server.specs.Lives.{ConnectionEvent, Negotiated, Opened, Socketed, Polled, Answered, LaneLost, Ended, Expired, Removed, AreInOrder, made, negotiated_at, is_opened, socket_of, lost_at, poll_of, poll_ended, ended_at, ends_then, is_removed, is_known, is_past, is_polling, past, standing, since, deadline, life_of, live, overdue, numbers_to, is_busy, last_moment}
 use Rattle.hd_server.specs.Laws.{FewLive, LivesAreSettled}
 
 -- ---- numbers that pass a test
@@ -147,7 +147,7 @@ conn_of (Answered c lane now) = c
 conn_of (LaneLost c lane now) = c
 conn_of (Ended c now) = c
 conn_of (Expired c now) = c
-conn_of (LetGo c) = c
+conn_of (Removed c) = c
 
 pub same_of_another : (k : ℕ) (n : ConnectionEvent) (h : List ConnectionEvent) → (k == conn_of n) ≡ false → IsSame k (n ∷ h) h
 same_of_another k (Negotiated c token reconnect now) h e = record {
@@ -230,7 +230,7 @@ same_of_another k (Expired c now) h e = record {
   of_end = rw e refl;
   of_leave = rw e refl;
 }
-same_of_another k (LetGo c) h e = record {
+same_of_another k (Removed c) h e = record {
   of_token = refl;
   of_opening = refl;
   of_socket = refl;
@@ -283,11 +283,11 @@ of_expired c m now h comes known = by (is_removed c h) (ends_then c h) refl refl
       gone (or_left ((c == c) && not (ends_then c h)) (is_removed c h) its_own)
   by false true e f = rw (comes, only_polling c h e f) refl
 
-of_gone : (k now c : ℕ) (h : List ConnectionEvent) → is_known (life_of k now (LetGo c ∷ h)) ≡ true → is_known (life_of k now h) ≡ true
+of_gone : (k now c : ℕ) (h : List ConnectionEvent) → is_known (life_of k now (Removed c ∷ h)) ≡ true → is_known (life_of k now h) ≡ true
 of_gone k now c h known = by (k == c) refl where
   by : (b : Bool) → (k == c) ≡ b → is_known (life_of k now h) ≡ true
-  by true e = absurd (let z : false ≡ true = ap is_known (sym (let_go_unknown k now (LetGo c ∷ h) (or_left (k == c) (is_removed k h) e))) ∙ known in cc)
-  by false e = another_known k now now (LetGo c) h e (omega arith) known
+  by true e = absurd (let z : false ≡ true = ap is_known (sym (let_go_unknown k now (Removed c ∷ h) (or_left (k == c) (is_removed k h) e))) ∙ known in cc)
+  by false e = another_known k now now (Removed c) h e (omega arith) known
 
 of_first : (k m now c : ℕ) (h : List ConnectionEvent) (rest : List ℕ) → overdue m h ≡ c ∷ rest → m ≤ now
     → is_known (life_of k now (Expired c m ∷ h)) ≡ true → is_known (life_of k m h) ≡ true
@@ -335,8 +335,8 @@ all_few (Ended c m ∷ h) (order, later, may) now l =
     trans (fewer_live m now (Ended c m ∷ h) h refl (λ k. of_known k m now (Ended c m) h may l)) (all_few h order m later)
 all_few (Expired c m ∷ h) (order, later, (rest, is)) now l =
     trans (fewer_live m now (Expired c m ∷ h) h refl (λ k. of_first k m now c h rest is l)) (all_few h order m later)
-all_few (LetGo c ∷ h) (order, later, may) now l =
-    trans (fewer_live now now (LetGo c ∷ h) h refl (λ k. of_gone k now c h)) (all_few h order now l)
+all_few (Removed c ∷ h) (order, later, may) now l =
+    trans (fewer_live now now (Removed c ∷ h) h refl (λ k. of_gone k now c h)) (all_few h order now l)
 
 pub few_live : FewLive
 few_live now h order l = all_few h order now l

@@ -11,7 +11,7 @@ use Rattle.hd_delivery.specs.Bytes.{Does as Step_of}
 use Rattle.hd_calls.specs.Peers.{PeerEvent, Plain, Settings}
 use Rattle.hd_server.specs.declared.vocabulary.Said.TheVariants as say
 use Rattle.hd_server.specs.Numbers.{held_for}
-use Rattle.hd_server.specs.Lives.{Negotiated, Opened, Socketed, Polled, Answered, LaneLost, Ended, Expired, LetGo, socket_of, poll_of, is_polling, ended_at, numbers_to}
+use Rattle.hd_server.specs.Lives.{Negotiated, Opened, Socketed, Polled, Answered, LaneLost, Ended, Expired, Removed, socket_of, poll_of, is_polling, ended_at, numbers_to}
 use Rattle.hd_server.specs.Machine.{MachineEvent, Does, Goes, Connects, Rounds, Carries, moves, settings_of, has_gone, is_there, connections, greatest}
 use Rattle.hd_server.specs.Doings.{ServerEvent, Hears, Learns, Draws, Notes, Works, Says, notes, work, wants_shut, was_refused, peer, history_with, history, config_with, config_of, has_peer, has_closed}
 use Rattle.hd_server.specs.Plans.{Setup, onto, step, dropping, removing_conn, shutting, replying, bare_reply, frames_reply}
@@ -34,7 +34,7 @@ Tells k (Works (Does c (Plain (Step_of (Lent f))))) = c ≡ k
 Tells k (Works (Goes c)) = c ≡ k
 Tells k (Notes (Answered c lane now)) = c ≡ k
 Tells k (Notes (Ended c now)) = c ≡ k
-Tells k (Notes (LetGo c)) = c ≡ k
+Tells k (Notes (Removed c)) = c ≡ k
 Tells k (Says x) = Unit {0}
 Tells k _ = ⊥
 
@@ -79,12 +79,12 @@ some_poll_tells : (s : Setup) (now k : ℕ) (o : Option (ℕ × ℕ)) (fs : List
 some_poll_tells s now k None fs h = tt
 some_poll_tells s now k (Some p) fs h = poll_tells s now k p fs h
 
-pub telling_tells : (s : Setup) (now k : ℕ) (o : Option ℕ) (pieces : List (List LinkFrame)) (h : List ServerEvent) → AllTell k (flushing_on s now k o pieces h)
-telling_tells s now k (Some lane) pieces h =
+pub flushing_tells : (s : Setup) (now k : ℕ) (o : Option ℕ) (pieces : List (List LinkFrame)) (h : List ServerEvent) → AllTell k (flushing_on s now k o pieces h)
+flushing_tells s now k (Some lane) pieces h =
     join_tell k (lending k (all_of pieces) ++ writing s k lane pieces h) _
     (join_tell k (lending k (all_of pieces)) _ (lending_tells k (all_of pieces)) (writing_tells k s lane pieces h))
     (either_tell k (has_closed k h) (shutting lane h ++ removing_conn k h) [] (join_tell k (shutting lane h) _ (shutting_tells k lane h) (letting_tells k h)) tt)
-telling_tells s now k None pieces h =
+flushing_tells s now k None pieces h =
     either_tell k (is_polling k (notes h)) _ _
     (join_tell k (ending now k h) _ (either_tell k (has_closed k h && not (is_some (ended_at k (notes h)))) (Notes (Ended k now) ∷ []) [] (refl, tt) tt) (some_poll_tells s now k (poll_of k (notes h)) (all_of pieces) h))
     (either_tell k (has_closed k h) (removing_conn k h) [] (letting_tells k h) tt)
@@ -127,7 +127,7 @@ one_same c k (Notes (Answered x lane now)) h n e =
       same_poll = ap (λ b. if b && is_this lane (option_map (λ poll. poll.0) (poll_of c (notes h))) then None else poll_of c (notes h)) other;
     }
 one_same c k (Notes (Ended x now)) h n e = record { same_moves = refl; same_settings = refl; same_gone = refl; same_socket = refl; same_poll = refl }
-one_same c k (Notes (LetGo x)) h n e = record { same_moves = refl; same_settings = refl; same_gone = refl; same_socket = refl; same_poll = refl }
+one_same c k (Notes (Removed x)) h n e = record { same_moves = refl; same_settings = refl; same_gone = refl; same_socket = refl; same_poll = refl }
 one_same c k (Says x) h n e = record { same_moves = refl; same_settings = refl; same_gone = refl; same_socket = refl; same_poll = refl }
 one_same c k d h n e = absurd e
 
@@ -151,7 +151,7 @@ one_kept c k (Works (Does x (Plain (Step_of (Lent f))))) h e = record { kept_set
 one_kept c k (Works (Goes x)) h e = record { kept_settings = refl; kept_gone = λ g. or_right (c == x) (has_gone c (work h)) g; kept_socket = refl }
 one_kept c k (Notes (Answered x lane now)) h e = record { kept_settings = refl; kept_gone = λ g. g; kept_socket = refl }
 one_kept c k (Notes (Ended x now)) h e = record { kept_settings = refl; kept_gone = λ g. g; kept_socket = refl }
-one_kept c k (Notes (LetGo x)) h e = record { kept_settings = refl; kept_gone = λ g. g; kept_socket = refl }
+one_kept c k (Notes (Removed x)) h e = record { kept_settings = refl; kept_gone = λ g. g; kept_socket = refl }
 one_kept c k (Says x) h e = record { kept_settings = refl; kept_gone = λ g. g; kept_socket = refl }
 one_kept c k d h e = absurd e
 
@@ -172,7 +172,7 @@ rest_kept s now c [] all h g = record { kept_settings = refl; kept_gone = λ e. 
 rest_kept s now c (k ∷ cs) [] h g = record { kept_settings = refl; kept_gone = λ e. e; kept_socket = refl }
 rest_kept s now c (k ∷ cs) (p ∷ more) h g =
     let mine = flushing s now k p h in
-    let x = all_kept c k mine g (telling_tells s now k (socket_of k (notes h)) p h) in
+    let x = all_kept c k mine g (flushing_tells s now k (socket_of k (notes h)) p h) in
     let y = rest_kept s now c cs more h (onto mine g) in
     subst (λ z. Kept c g z) (sym (onto_append mine (all_flushing s now cs more h) g))
     (record { kept_settings = y.kept_settings ∙ x.kept_settings; kept_gone = λ e. y.kept_gone (x.kept_gone e); kept_socket = y.kept_socket ∙ x.kept_socket })
@@ -186,7 +186,7 @@ rest_same s now c (k ∷ cs) (p ∷ more) h g n =
     let mine = flushing s now k p h in
     subst (λ z. Same c g z) (sym (onto_append mine (all_flushing s now cs more h) g))
     (same_then c g (onto mine g) (onto (all_flushing s now cs more h) (onto mine g))
-    (all_same c k mine g parts.0 (telling_tells s now k (socket_of k (notes h)) p h)) (rest_same s now c cs more h (onto mine g) parts.1))
+    (all_same c k mine g parts.0 (flushing_tells s now k (socket_of k (notes h)) p h)) (rest_same s now c cs more h (onto mine g) parts.1))
 
 -- what is due looks at the settings and the moves alone
 due_of : (c : ℕ) (h g : List ServerEvent) → settings_of c (work g) ≡ settings_of c (work h) → moves c (work g) ≡ moves c (work h)
@@ -334,7 +334,7 @@ own_tells s c lane t pieces h g same e there l = by (has_closed c h) where
       (ap work (onto_append (lending c (all_of pieces)) (writing s c lane pieces h) g) ∙ written_work s c lane pieces h (onto (lending c (all_of pieces)) g))
       (own_lends c t (all_of pieces) g begun lends)
 
-  gone_by : (b : Bool) (x : List ServerEvent) → b ≡ true → has_gone c (work (onto ((if b then Works (Goes c) ∷ [] else []) ++ Notes (LetGo c) ∷ []) x)) ≡ true
+  gone_by : (b : Bool) (x : List ServerEvent) → b ≡ true → has_gone c (work (onto ((if b then Works (Goes c) ∷ [] else []) ++ Notes (Removed c) ∷ []) x)) ≡ true
   gone_by true x f = ap (λ y. y || has_gone c (work x)) (eq-eqb c c refl)
   gone_by false x f = absurd (cc)
 
@@ -394,7 +394,7 @@ unpolled c (Notes (Polled k lane now) ∷ ds) g a = absurd a.0
 unpolled c (Notes (Answered k lane now) ∷ ds) g a = absurd a.0
 unpolled c (Notes (LaneLost k lane now) ∷ ds) g a = absurd a.0
 unpolled c (Notes (Expired k now) ∷ ds) g a = absurd a.0
-unpolled c (Notes (LetGo k) ∷ ds) g a = absurd a.0
+unpolled c (Notes (Removed k) ∷ ds) g a = absurd a.0
 unpolled c (Works x ∷ ds) g a = unpolled c ds (Works x ∷ g) a.1
 unpolled c (Says x ∷ ds) g a = unpolled c ds (Says x ∷ g) a.1
 unpolled c (Hears now event ∷ ds) g a = unpolled c ds (Hears now event ∷ g) a.1
@@ -411,7 +411,7 @@ stays_none c k [] g a e = e
 stays_none c k (Notes (Answered x lane now) ∷ ds) g a e =
     stays_none c k ds (Notes (Answered x lane now) ∷ g) a.1 (none_held ((c == x) && is_this lane (option_map (λ poll. poll.0) (poll_of c (notes g)))) (poll_of c (notes g)) e)
 stays_none c k (Notes (Ended x now) ∷ ds) g a e = stays_none c k ds (Notes (Ended x now) ∷ g) a.1 e
-stays_none c k (Notes (LetGo x) ∷ ds) g a e = stays_none c k ds (Notes (LetGo x) ∷ g) a.1 e
+stays_none c k (Notes (Removed x) ∷ ds) g a e = stays_none c k ds (Notes (Removed x) ∷ g) a.1 e
 stays_none c k (Notes (Negotiated x token reconnect now) ∷ ds) g a e = absurd a.0
 stays_none c k (Notes (Opened x now) ∷ ds) g a e = absurd a.0
 stays_none c k (Notes (Socketed x lane now) ∷ ds) g a e = absurd a.0
@@ -442,7 +442,7 @@ empty_still : (s : Setup) (now c : ℕ) (poll : ℕ × ℕ) (h : List ServerEven
 empty_still s now c poll h =
     either_all IsStill (has_closed c h) _ _
     (join_all IsStill (replying poll.0 (bare_reply 204) h) (removing_conn c h) (replying_all IsStill poll.0 (bare_reply 204) h tt tt)
-    (join_all IsStill (dropping c h) (Notes (LetGo c) ∷ []) (either_all IsStill (has_peer c h) (Works (Goes c) ∷ []) [] (tt, tt) tt) (tt, tt)))
+    (join_all IsStill (dropping c h) (Notes (Removed c) ∷ []) (either_all IsStill (has_peer c h) (Works (Goes c) ∷ []) [] (tt, tt) tt) (tt, tt)))
     (either_all IsStill (nat_le (poll.1 + held_for) now) _ []
     (join_all IsStill (replying poll.0 (bare_reply 200) h) (Notes (Answered c poll.0 now) ∷ []) (replying_all IsStill poll.0 (bare_reply 200) h tt tt) (tt, tt)) tt)
 
@@ -482,7 +482,7 @@ by_poll : (s : Setup) (now c : ℕ) (pieces : List (List LinkFrame)) (h g : List
     → Same c h g → socket_of c (notes h) ≡ None → AreDueOn s c None o pieces h → IsDone c (onto (flushing_on s now c None pieces h) g)
 by_poll s now c pieces h g None e same sock d =
     let words : List ServerEvent = flushing_on s now c None pieces h in
-    let tells : AllTell c words = telling_tells s now c None pieces h in
+    let tells : AllTell c words = flushing_tells s now c None pieces h in
     let no_socket : socket_of c (notes (onto words g)) ≡ None = (all_kept c c words g tells).kept_socket ∙ same.same_socket ∙ sock in
     let no_poll : poll_of c (notes (onto words g)) ≡ None = stays_none c c words g tells (same.same_poll ∙ sym e) in
     inr (inr (rw (no_socket, no_poll) refl))
@@ -510,7 +510,7 @@ walk s now c t (k ∷ cs) [] h g d apart i same te there = absurd d
 walk s now c t (k ∷ cs) (p ∷ more) h g d apart i same te there =
     subst (λ z. IsDone c z) (sym (onto_append (flushing s now k p h) (all_flushing s now cs more h) g))
     (by (c == k) refl i (λ f j. walk s now c t cs more h (onto (flushing s now k p h) g) d.1 apart.1 j
-    (same_then c h g (onto (flushing s now k p h) g) same (all_same c k (flushing s now k p h) g f (telling_tells s now k (socket_of k (notes h)) p h))) te there)) where
+    (same_then c h g (onto (flushing s now k p h) g) same (all_same c k (flushing s now k p h) g f (flushing_tells s now k (socket_of k (notes h)) p h))) te there)) where
       by : (b : Bool) → (c == k) ≡ b → (b || is_in c cs) ≡ true
           → ((c == k) ≡ false → is_in c cs ≡ true → IsDone c (onto (all_flushing s now cs more h) (onto (flushing s now k p h) g)))
           → IsDone c (onto (all_flushing s now cs more h) (onto (flushing s now k p h) g))

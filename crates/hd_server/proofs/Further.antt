@@ -11,7 +11,7 @@ use Rattle.hw_door.specs.declared.heard.Event.{Event}
 use Rattle.hw_door.specs.declared.heard.Event.TheVariants as event
 use Rattle.hd_server.specs.declared.vocabulary.Life.{Life}
 use Rattle.hd_server.specs.declared.vocabulary.Life.TheVariants.{Polling}
-use Rattle.hd_server.specs.Lives.{LetGo, Opened, made, is_resumable_promise, standing, socket_of, poll_of, overdue}
+use Rattle.hd_server.specs.Lives.{Removed, Opened, made, is_resumable_promise, standing, socket_of, poll_of, overdue}
 use Rattle.hd_server.specs.Texts.{token_of, negotiate_body}
 use Rattle.hd_server.specs.Table.{Outcome, Refusal, NewToken, PlainSocket, TokenSocket, FirstPoll, NextPoll, LastPoll, Posting, Deletion, asks_keeper, outcome}
 use Rattle.hd_server.specs.Machine.{MachineEvent, Does, Goes, Rounds, settings_of, connections}
@@ -19,7 +19,7 @@ use Rattle.hd_server.specs.Doings.{ServerEvent, Hears, Notes, Works, Says, Learn
 use Rattle.hd_server.specs.Plans.{Setup, PendingRequest, onto, connecting, attaching, closing, dropping, removing_conn, expiring, expiries, bare_reply, socket_reply, token_reply, shutting, replying, ending_poll, ending_held, learning, asks_lots, questions, standing_on, shutting_some, request_plan, conn_on, poller_on, losing, losing_lane, named_conn, facts, plan}
 use Rattle.hd_server.specs.Serves.{IsFed, silenced, ticking, ticks, flushing, all_flushing}
 use Rattle.hd_server.specs.Laws.{TurnsGoFurther}
-use Rattle.hd_server.proofs.Flushing.{AllTell, telling_tells}
+use Rattle.hd_server.proofs.Flushing.{AllTell, flushing_tells}
 
 -- ---- doings that hear nothing
 
@@ -75,7 +75,7 @@ hears_same (Says x ∷ new) h a = hears_same new h a.1
 -- ---- the parts of a turn
 
 letting : (c : ℕ) (h : List ServerEvent) → AreSilent (removing_conn c h)
-letting c h = join (dropping c h) (Notes (LetGo c) ∷ []) (either (has_peer c h) (Works (Goes c) ∷ []) [] (tt, tt) tt) (tt, tt)
+letting c h = join (dropping c h) (Notes (Removed c) ∷ []) (either (has_peer c h) (Works (Goes c) ∷ []) [] (tt, tt) tt) (tt, tt)
 
 closes : (c : ℕ) (why : Reason) (h : List ServerEvent) → AreSilent (closing c why h)
 closes c why h = either (is_up c h) _ [] (tt, tt) tt
@@ -179,20 +179,20 @@ round_silent : (xs : List MachineEvent) → AreSilent (map Works xs)
 round_silent [] = tt
 round_silent (x ∷ xs) = (tt, round_silent xs)
 
-of_telling : (k : ℕ) (ds : List ServerEvent) → AllTell k ds → AreSilent ds
-of_telling k [] a = tt
-of_telling k (Hears now event ∷ ds) a = absurd a.0
-of_telling k (Learns asked ∷ ds) a = (tt, of_telling k ds a.1)
-of_telling k (Draws drawn ∷ ds) a = (tt, of_telling k ds a.1)
-of_telling k (Notes note ∷ ds) a = (tt, of_telling k ds a.1)
-of_telling k (Works x ∷ ds) a = (tt, of_telling k ds a.1)
-of_telling k (Says x ∷ ds) a = (tt, of_telling k ds a.1)
+of_flushing : (k : ℕ) (ds : List ServerEvent) → AllTell k ds → AreSilent ds
+of_flushing k [] a = tt
+of_flushing k (Hears now event ∷ ds) a = absurd a.0
+of_flushing k (Learns asked ∷ ds) a = (tt, of_flushing k ds a.1)
+of_flushing k (Draws drawn ∷ ds) a = (tt, of_flushing k ds a.1)
+of_flushing k (Notes note ∷ ds) a = (tt, of_flushing k ds a.1)
+of_flushing k (Works x ∷ ds) a = (tt, of_flushing k ds a.1)
+of_flushing k (Says x ∷ ds) a = (tt, of_flushing k ds a.1)
 
 tells : (s : Setup) (now : ℕ) (cs : List ℕ) (all : List (List (List LinkFrame))) (h : List ServerEvent) → AreSilent (all_flushing s now cs all h)
 tells s now [] all h = tt
 tells s now (c ∷ cs) [] h = tt
 tells s now (c ∷ cs) (p ∷ more) h =
-    join (flushing s now c p h) _ (of_telling c (flushing s now c p h) (telling_tells s now c (socket_of c (notes h)) p h)) (tells s now cs more h)
+    join (flushing s now c p h) _ (of_flushing c (flushing s now c p h) (flushing_tells s now c (socket_of c (notes h)) p h)) (tells s now cs more h)
 
 -- ---- the whole of it
 

@@ -4,7 +4,7 @@ use Rattle.std.specs.Prelude.{◌==◌, not, is_some, map, ◌&&◌, ◌||◌}
 use Rattle.std.proofs.lemmas.Bool.{eqb-true, eq-eqb}
 use Rattle.hw_lanes.specs.declared.http.Reply.{Reply}
 use Rattle.hd_calls.specs.Peers.{PeerEvent}
-use Rattle.hd_server.specs.Lives.{ConnectionEvent, Negotiated, Opened, Socketed, Polled, Answered, LaneLost, Ended, Expired, LetGo, AreInOrder, MayBeNoted, made, is_removed, is_known, is_busy, standing, life_of, last_moment}
+use Rattle.hd_server.specs.Lives.{ConnectionEvent, Negotiated, Opened, Socketed, Polled, Answered, LaneLost, Ended, Expired, Removed, AreInOrder, MayBeNoted, made, is_removed, is_known, is_busy, standing, life_of, last_moment}
 use Rattle.hd_server.specs.Machine.{Connects, Does, Rounds, Carries, Goes, settings_of, has_gone}
 use Rattle.hd_server.specs.Doings.{ServerEvent, Learns, Draws, Notes, Works, Says, notes, work, moment, user_of, wants_shut, was_refused, has_peer}
 use Rattle.hd_server.specs.Plans.{Setup, onto, connecting, peer_settings, removing_conn, shutting, replying}
@@ -179,7 +179,7 @@ noted_now now (Answered c lane m) h e l = (omega (arith, e, l), omega (arith, e)
 noted_now now (LaneLost c lane m) h e l = (omega (arith, e, l), omega (arith, e))
 noted_now now (Ended c m) h e l = (omega (arith, e, l), omega (arith, e))
 noted_now now (Expired c m) h e l = absurd e
-noted_now now (LetGo c) h e l = (omega arith, l)
+noted_now now (Removed c) h e l = (omega arith, l)
 
 module _ (now : ℕ) (n : ConnectionEvent) (g : List ServerEvent) (s : Settled now g) (of_now : IsOf now n) (may : MayBeNoted n (notes g)) where
   note_others : Others (subject n) g (Notes n ∷ g)
@@ -259,18 +259,18 @@ module _ (now c : ℕ) (g : List ServerEvent) (s : Settled now g) (k : Known c (
       }
 
   -- one that has no peer is let go
-  note_leave : has_peer c g ≡ false → Parted now c g (Notes (LetGo c) ∷ g)
+  note_leave : has_peer c g ≡ false → Parted now c g (Notes (Removed c) ∷ g)
   note_leave none = record {
-    settled = settled_by now (LetGo c) g s tt tt (λ e. absurd (let z : false ≡ true = sym none ∙ e in cc)) (λ x over. by x over (x == c) refl);
-    others = note_others now (LetGo c) g s tt tt;
+    settled = settled_by now (Removed c) g s tt tt (λ e. absurd (let z : false ≡ true = sym none ∙ e in cc)) (λ x over. by x over (x == c) refl);
+    others = note_others now (Removed c) g s tt tt;
   }
     where
-      by : (x : ℕ) → made (notes g) < x → (b : Bool) → (x == c) ≡ b → is_removed x (LetGo c ∷ notes g) ≡ false
+      by : (x : ℕ) → made (notes g) < x → (b : Bool) → (x == c) ≡ b → is_removed x (Removed c ∷ notes g) ≡ false
       by x over true e =
           let same : x ≡ c = eqb-true x c e in
           let was = within (notes g) s.in_order c k in
           absurd (let no : ⊥ = omega (arith, over, same, was.1) in no)
-      by x over false e = another_stays x (LetGo c) (notes g) e ∙ s.made_first x over
+      by x over false e = another_stays x (Removed c) (notes g) e ∙ s.made_first x over
 
 and_false : (b : Bool) → (b && false) ≡ false
 and_false true = refl
@@ -297,7 +297,7 @@ module _ (now c : ℕ) (g : List ServerEvent) (s : Settled now g) (k : Known c (
     dropped : has_peer c (Works (Goes c) ∷ g) ≡ false
     dropped = rw (eq-eqb c c refl) (and_false (is_some (settings_of c (work g))))
 
-    by : (b : Bool) → has_peer c g ≡ b → Parted now c g (onto ((if b then Works (Goes c) ∷ [] else []) ++ Notes (LetGo c) ∷ []) g)
+    by : (b : Bool) → has_peer c g ≡ b → Parted now c g (onto ((if b then Works (Goes c) ∷ [] else []) ++ Notes (Removed c) ∷ []) g)
     by true e =
         let left = note_leave now c (Works (Goes c) ∷ g) goes k dropped in
         record {

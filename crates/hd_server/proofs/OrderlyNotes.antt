@@ -6,7 +6,7 @@ use Rattle.hd_delivery.specs.Histories.{is_this, first_of}
 use Rattle.hd_server.specs.declared.vocabulary.Life.{Life}
 use Rattle.hd_server.specs.declared.vocabulary.Life.TheVariants.{Unknown, Fresh, Socket, Lost, Polling, Ending}
 use Rattle.hd_server.specs.Numbers.{lives_for}
-use Rattle.hd_server.specs.Lives.{ConnectionEvent, Negotiated, Opened, Socketed, Polled, Answered, LaneLost, Ended, Expired, LetGo, AreInOrder, made, negotiated_at, is_opened, socket_of, lost_at, poll_of, poll_ended, ended_at, is_removed, is_known, is_past, past, standing, since, when, deadline, life_of, overdue, numbers_to}
+use Rattle.hd_server.specs.Lives.{ConnectionEvent, Negotiated, Opened, Socketed, Polled, Answered, LaneLost, Ended, Expired, Removed, AreInOrder, made, negotiated_at, is_opened, socket_of, lost_at, poll_of, poll_ended, ended_at, is_removed, is_known, is_past, past, standing, since, when, deadline, life_of, overdue, numbers_to}
 use Rattle.hd_server.proofs.Flushing.{is_in}
 
 -- ---- a life by what it is read off
@@ -131,7 +131,7 @@ subject (Answered c lane now) = c
 subject (LaneLost c lane now) = c
 subject (Ended c now) = c
 subject (Expired c now) = c
-subject (LetGo c) = c
+subject (Removed c) = c
 
 -- a note of this moment, but that a moment has come
 abbrev pub IsOf : ℕ → ConnectionEvent → Type 0
@@ -143,7 +143,7 @@ IsOf now (Answered c lane m) = m ≡ now
 IsOf now (LaneLost c lane m) = m ≡ now
 IsOf now (Ended c m) = m ≡ now
 IsOf now (Expired c m) = ⊥
-IsOf now (LetGo c) = Unit {0}
+IsOf now (Removed c) = Unit {0}
 
 -- nothing is past yet
 abbrev pub NonePast : ℕ → List ConnectionEvent → Type 0
@@ -174,7 +174,7 @@ module _ (now c : ℕ) (h : List ConnectionEvent) (u : is_past now (deadline c h
   of_end : is_past now (deadline c (Ended c now ∷ h)) ≡ false
   of_end = ap (is_past now) (deadline_is c (Ended c now ∷ h)) ∙ rw (eq-eqb c c refl) (ends now _ _ _ _ _ _ _ _ before)
 
-  of_leave : is_past now (deadline c (LetGo c ∷ h)) ≡ false
+  of_leave : is_past now (deadline c (Removed c ∷ h)) ≡ false
   of_leave = rw (eq-eqb c c refl) refl
 
   of_token : (token : List ℕ) (reconnect : Bool) → is_past now (deadline c (Negotiated c token reconnect now ∷ h)) ≡ false
@@ -207,7 +207,7 @@ untouched k (Answered c lane now) h e = record { same_end = rw e refl; same_life
 untouched k (LaneLost c lane now) h e = record { same_end = rw e refl; same_life = rw e refl; same_leave = refl }
 untouched k (Ended c now) h e = record { same_end = rw e refl; same_life = rw e refl; same_leave = refl }
 untouched k (Expired c now) h e = record { same_end = rw e refl; same_life = rw e refl; same_leave = rw e refl }
-untouched k (LetGo c) h e = record { same_end = rw e refl; same_life = rw e refl; same_leave = rw e refl }
+untouched k (Removed c) h e = record { same_end = rw e refl; same_life = rw e refl; same_leave = rw e refl }
 
 pub another_stands : (k : ℕ) (n : ConnectionEvent) (h : List ConnectionEvent) → (k == subject n) ≡ false → standing k (n ∷ h) ≡ standing k h
 another_stands k n h e = (untouched k n h e).same_life
@@ -229,7 +229,7 @@ own_young now (Answered c lane m) h e u = subst (λ x. is_past now (deadline c (
 own_young now (LaneLost c lane m) h e u = subst (λ x. is_past now (deadline c (LaneLost c lane x ∷ h)) ≡ false) (sym e) (of_loss now c h u lane)
 own_young now (Ended c m) h e u = subst (λ x. is_past now (deadline c (Ended c x ∷ h)) ≡ false) (sym e) (of_end now c h u)
 own_young now (Expired c m) h e u = absurd e
-own_young now (LetGo c) h e u = of_leave now c h u
+own_young now (Removed c) h e u = of_leave now c h u
 
 pub none_past_still : (now : ℕ) (n : ConnectionEvent) (h : List ConnectionEvent) → IsOf now n → NonePast now h → NonePast now (n ∷ h)
 none_past_still now n h e none k = by (k == subject n) refl where
@@ -437,10 +437,10 @@ within (Ended c m ∷ h) (order, later, may) k known =
     own_or k (Ended c m) h (omega arith) (within h order c (known_of_life c m h may)) (within h order k) known
 within (Expired c m ∷ h) (order, later, (rest, may)) k known =
     own_or k (Expired c m) h (omega arith) (first_within c m rest h may) (within h order k) known
-within (LetGo c ∷ h) (order, later, may) k known = by (k == c) refl (within h order k) where
+within (Removed c ∷ h) (order, later, may) k known = by (k == c) refl (within h order k) where
   by : (b : Bool) → (k == c) ≡ b → (Known k h → IsWithin k h) → IsWithin k h
-  by true e further = absurd (gone_unknown k (LetGo c ∷ h) (or_left (k == c) (is_removed k h) e) known)
-  by false e further = further (ap is_known (sym (another_stands k (LetGo c) h e)) ∙ known)
+  by true e further = absurd (gone_unknown k (Removed c ∷ h) (or_left (k == c) (is_removed k h) e) known)
+  by false e further = further (ap is_known (sym (another_stands k (Removed c) h e)) ∙ known)
 
 unknown_is : (l : Life) → is_known l ≡ false → l ≡ Unknown
 unknown_is Unknown e = refl

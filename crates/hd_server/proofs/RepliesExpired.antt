@@ -6,7 +6,7 @@ use Rattle.hd_delivery.specs.Histories.{is_this}
 use Rattle.hd_server.specs.declared.vocabulary.Life.{Life}
 use Rattle.hd_server.specs.declared.vocabulary.Life.TheVariants.{Unknown, Fresh, Socket, Lost, Polling, Ending}
 use Rattle.hd_server.specs.Numbers.{lives_for}
-use Rattle.hd_server.specs.Lives.{ConnectionEvent, Negotiated, Opened, Socketed, Polled, Answered, LaneLost, Ended, Expired, LetGo, deadline, is_past, made, numbers_to, overdue, poll_ended, poll_of, since, standing}
+use Rattle.hd_server.specs.Lives.{ConnectionEvent, Negotiated, Opened, Socketed, Polled, Answered, LaneLost, Ended, Expired, Removed, deadline, is_past, made, numbers_to, overdue, poll_ended, poll_of, since, standing}
 use Rattle.hd_server.specs.Machine.{Goes}
 use Rattle.hd_server.specs.Doings.{ServerEvent, Notes, Works, notes, has_peer}
 use Rattle.hd_server.specs.Plans.{onto, closing, dropping, expiring, expiries}
@@ -42,7 +42,7 @@ held_or_ended c (Opened k now ∷ n) e = held_or_ended c n e
 held_or_ended c (Socketed k lane now ∷ n) e = held_or_ended c n e
 held_or_ended c (Ended k now ∷ n) e = held_or_ended c n e
 held_or_ended c (Expired k now ∷ n) e = held_or_ended c n e
-held_or_ended c (LetGo k ∷ n) e = held_or_ended c n e
+held_or_ended c (Removed k ∷ n) e = held_or_ended c n e
 
 past_ended : (c now : ℕ) (n : List ConnectionEvent) → standing c n ≡ Polling → is_past now (deadline c n) ≡ true → is_some (poll_ended c n) ≡ true
 past_ended c now n e past =

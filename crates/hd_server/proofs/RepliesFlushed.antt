@@ -7,12 +7,12 @@ use Rattle.hw_lanes.specs.Replies.{IsReply}
 use Rattle.hd_delivery.specs.Frames.{LinkFrame}
 use Rattle.hd_server.specs.declared.vocabulary.Said.TheVariants as say
 use Rattle.hd_server.specs.Numbers.{held_for}
-use Rattle.hd_server.specs.Lives.{Answered, Ended, LetGo, is_polling, ended_at, socket_of, poll_of}
+use Rattle.hd_server.specs.Lives.{Answered, Ended, Removed, is_polling, ended_at, socket_of, poll_of}
 use Rattle.hd_server.specs.Machine.{Goes, settings_of, has_gone}
 use Rattle.hd_server.specs.Doings.{ServerEvent, Notes, Works, Says, notes, work, has_peer, has_closed}
 use Rattle.hd_server.specs.Plans.{Setup, onto, removing_conn, shutting, replying, bare_reply, frames_reply}
 use Rattle.hd_server.specs.Serves.{lending, writing, all_of, bytes_of, flushing_socket, flushing_poll, flushing_some_poll, ending, flushing_without, flushing_on, flushing, all_flushing}
-use Rattle.hd_server.proofs.Flushing.{is_in, AreApart, Same, all_same, telling_tells}
+use Rattle.hd_server.proofs.Flushing.{is_in, AreApart, Same, all_same, flushing_tells}
 use Rattle.hd_server.proofs.OrderlyDoings.{in_turn, either_way}
 use Rattle.hd_server.proofs.OrderlyEach.{is_other}
 use Rattle.hd_server.proofs.RepliesSent.{bare_sent, frames_sent, plain_200, plain_204}
@@ -26,7 +26,7 @@ and_false false = refl
 
 pub left_alone : (c : ℕ) (h g : List ServerEvent) → has_peer c g ≡ has_peer c h → has_peer c (onto (removing_conn c h) g) ≡ false
 left_alone c h g same = by (has_peer c h) same where
-  by : (b : Bool) → has_peer c g ≡ b → has_peer c (onto ((if b then Works (Goes c) ∷ [] else []) ++ Notes (LetGo c) ∷ []) g) ≡ false
+  by : (b : Bool) → has_peer c g ≡ b → has_peer c (onto ((if b then Works (Goes c) ∷ [] else []) ++ Notes (Removed c) ∷ []) g) ≡ false
   by true e = rw (eq-eqb c c refl) (and_false (is_some (settings_of c (work g))))
   by false e = e
 
@@ -147,7 +147,7 @@ further_waiting s now c cs pieces h g out ready k i =
     let words : List ServerEvent = flushing s now c pieces h in
     let other = is_other c k cs out i in
     let was = ready k (or_right (k == c) (is_in k cs) i) in
-    let same = all_same k c words g other (telling_tells s now c (socket_of c (notes h)) pieces h) in
+    let same = all_same k c words g other (flushing_tells s now c (socket_of c (notes h)) pieces h) in
     (was.0, same_peer k g (onto words g) same ∙ was.1, same.same_poll ∙ was.2)
 
 pub all_told : (s : Setup) (now : ℕ) (h : List ServerEvent) (cs : List ℕ) (all : List (List (List LinkFrame))) (g : List ServerEvent) → AreApart cs

@@ -7,7 +7,7 @@ use Rattle.hw_lanes.specs.Replies.{IsReply}
 use Rattle.hd_delivery.specs.Histories.{is_this}
 use Rattle.hd_calls.specs.Peers.{PeerEvent}
 use Rattle.hd_server.specs.declared.vocabulary.Said.TheVariants as say
-use Rattle.hd_server.specs.Lives.{Negotiated, Opened, Socketed, Answered, Ended, Expired, LetGo, poll_of}
+use Rattle.hd_server.specs.Lives.{Negotiated, Opened, Socketed, Answered, Ended, Expired, Removed, poll_of}
 use Rattle.hd_server.specs.Machine.{Does, Rounds, Carries, Goes, settings_of, has_gone}
 use Rattle.hd_server.specs.Doings.{ServerEvent, Learns, Draws, Notes, Works, Says, notes, work, awaits_reply, wants_shut, was_refused, has_peer}
 use Rattle.hd_server.specs.Plans.{onto, dropping, removing_conn, shutting}
@@ -74,7 +74,7 @@ IsCalm (Notes (Opened c now)) = Unit {0}
 IsCalm (Notes (Socketed c lane now)) = Unit {0}
 IsCalm (Notes (Ended c now)) = Unit {0}
 IsCalm (Notes (Expired c now)) = Unit {0}
-IsCalm (Notes (LetGo c)) = Unit {0}
+IsCalm (Notes (Removed c)) = Unit {0}
 IsCalm _ = ⊥
 
 abbrev pub AreCalm : List ServerEvent → Type 0
@@ -106,7 +106,7 @@ one_calm (Notes (Opened c now)) g e = record { same_polls = λ c. refl; fewer = 
 one_calm (Notes (Socketed c lane now)) g e = record { same_polls = λ c. refl; fewer = λ c p e f. f; same_waits = λ lane. refl; told_still = λ t. t }
 one_calm (Notes (Ended c now)) g e = record { same_polls = λ c. refl; fewer = λ c p e f. f; same_waits = λ lane. refl; told_still = λ t. t }
 one_calm (Notes (Expired c now)) g e = record { same_polls = λ c. refl; fewer = λ c p e f. f; same_waits = λ lane. refl; told_still = λ t. t }
-one_calm (Notes (LetGo c)) g e = record { same_polls = λ c. refl; fewer = λ c p e f. f; same_waits = λ lane. refl; told_still = λ t. t }
+one_calm (Notes (Removed c)) g e = record { same_polls = λ c. refl; fewer = λ c p e f. f; same_waits = λ lane. refl; told_still = λ t. t }
 one_calm d g e = absurd e
 
 pub calm_onto : (ds g : List ServerEvent) → AreCalm ds → Calm g (onto ds g)

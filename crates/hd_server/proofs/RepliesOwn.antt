@@ -12,7 +12,7 @@ use Rattle.hd_calls.specs.Hubs.{Invoked}
 use Rattle.hd_delivery.specs.declared.vocabulary.Reason.TheVariants.{Slow}
 use Rattle.hd_calls.specs.Peers.{PeerEvent, Settings, Answers, Calls, Plain, add, byte_steps, codec, step_of, steps}
 use Rattle.hd_calls.specs.Peers as peers
-use Rattle.hd_server.specs.Lives.{ConnectionEvent, Negotiated, Opened, Socketed, Polled, Answered, LaneLost, Ended, Expired, LetGo, made, is_known, is_polling, socket_of, lost_at, poll_of, poll_ended, ended_at}
+use Rattle.hd_server.specs.Lives.{ConnectionEvent, Negotiated, Opened, Socketed, Polled, Answered, LaneLost, Ended, Expired, Removed, made, is_known, is_polling, socket_of, lost_at, poll_of, poll_ended, ended_at}
 use Rattle.hd_server.specs.Machine.{Connects, Does, Rounds, Carries, Goes, DeliveryOutcome, Got, TooSlow, PassedOver, settings_of, has_gone, is_there, with_fate, outcome_in, notifies, notice_of, answer_to}
 use Rattle.hd_server.specs.Doings.{ServerEvent, Hears, Learns, Draws, Notes, Works, Says, notes, work, peer, history_with, config_with, has_peer, has_closed}
 use Rattle.hd_server.specs.Plans.{onto}
@@ -176,7 +176,7 @@ more_made (Answered c lane m) h = omega arith
 more_made (LaneLost c lane m) h = omega arith
 more_made (Ended c m) h = omega arith
 more_made (Expired c m) h = omega arith
-more_made (LetGo c) h = omega arith
+more_made (Removed c) h = omega arith
 
 one_alike : (c k : ℕ) (d : ServerEvent) (g : List ServerEvent) → (k == c) ≡ false → IsOne c d → Alike k g (d ∷ g)
 one_alike c k (Works (Goes x)) g n e =

@@ -8,13 +8,13 @@ use Rattle.hd_delivery.specs.Histories.{Lent, is_this}
 use Rattle.hd_delivery.specs.Bytes.{Does as Step_of}
 use Rattle.hd_calls.specs.Peers.{Plain}
 use Rattle.hd_server.specs.Numbers.{held_for}
-use Rattle.hd_server.specs.Lives.{Answered, Ended, LetGo, ended_at, is_known, is_removed, is_polling, made, poll_ended, poll_of, socket_of}
+use Rattle.hd_server.specs.Lives.{Answered, Ended, Removed, ended_at, is_known, is_removed, is_polling, made, poll_ended, poll_of, socket_of}
 use Rattle.hd_server.specs.Machine.{Does, Goes}
 use Rattle.hd_server.specs.Doings.{ServerEvent, Notes, Works, Says, notes, has_peer, has_closed}
 use Rattle.hd_server.specs.Plans.{Setup, onto, removing_conn, shutting, replying, bare_reply, frames_reply}
 use Rattle.hd_server.specs.Serves.{AreAllDue, lending, writing, all_of, bytes_of, flushing_socket, flushing_poll, flushing_some_poll, ending, flushing_without, flushing_on, flushing, all_flushing}
 use Rattle.hd_server.proofs.Few.{standing_same}
-use Rattle.hd_server.proofs.Flushing.{is_in, AreApart, Tells, AllTell, telling_tells}
+use Rattle.hd_server.proofs.Flushing.{is_in, AreApart, Tells, AllTell, flushing_tells}
 use Rattle.hd_server.proofs.OrderlyNotes.{Known, gone_unknown, still_ended}
 use Rattle.hd_server.proofs.OrderlyDoings.{AreQuiet, quiet_both, in_turn, either_way, shutting_quiet, replying_quiet}
 use Rattle.hd_server.proofs.OrderlyEach.{is_other, lending_quiet, writing_quiet}
@@ -42,11 +42,11 @@ done_stands k g o s u e =
 
 done_gone : (c : ℕ) (h g : List ServerEvent) → Done c (onto (removing_conn c h) g)
 done_gone c h g =
-    either_way (λ ds. Done c (onto (ds ++ Notes (LetGo c) ∷ []) g)) (has_peer c h) (Works (Goes c) ∷ []) []
+    either_way (λ ds. Done c (onto (ds ++ Notes (Removed c) ∷ []) g)) (has_peer c h) (Works (Goes c) ∷ []) []
     (λ u e. absurd (gone u)) (λ u e. absurd (gone u))
   where
-    gone : Known c (LetGo c ∷ notes g) → ⊥
-    gone u = gone_unknown c (LetGo c ∷ notes g) (or_left (c == c) (is_removed c (notes g)) (eq-eqb c c refl)) u
+    gone : Known c (Removed c ∷ notes g) → ⊥
+    gone u = gone_unknown c (Removed c ∷ notes g) (or_left (c == c) (is_removed c (notes g)) (eq-eqb c c refl)) u
 
 abbrev pub Both : ℕ → List ServerEvent → Type 0
 Both c g = Own c g × Done c g
@@ -169,7 +169,7 @@ tell_is_one c (Works (Does k (Plain (Step_of (Lent f))))) e = tt
 tell_is_one c (Works (Goes k)) e = e
 tell_is_one c (Notes (Answered k lane now)) e = e
 tell_is_one c (Notes (Ended k now)) e = e
-tell_is_one c (Notes (LetGo k)) e = e
+tell_is_one c (Notes (Removed k)) e = e
 tell_is_one c (Says x) e = tt
 tell_is_one c d e = absurd e
 
@@ -194,7 +194,7 @@ module _ (s : Setup) (now : ℕ) (h : List ServerEvent) (own : (k : ℕ) → Own
       others : (j : ℕ) → (j == c) ≡ false → Alike j g (onto (flushing s now c pieces h) g)
       others j e =
           others_alike c j (flushing s now c pieces h) g e
-          (tells_one c (flushing s now c pieces h) (telling_tells s now c (socket_of c (notes h)) pieces h))
+          (tells_one c (flushing s now c pieces h) (flushing_tells s now c (socket_of c (notes h)) pieces h))
 
       mine_now : Both c (onto (flushing s now c pieces h) g)
       mine_now =

@@ -10,7 +10,7 @@ use Rattle.hd_delivery.specs.Bytes.{Does as Step_of}
 use Rattle.hd_calls.specs.Peers.{PeerEvent, Plain, Settings}
 use Rattle.hd_server.specs.declared.vocabulary.Life.{Life}
 use Rattle.hd_server.specs.declared.vocabulary.Life.TheVariants.{Unknown, Fresh, Socket, Lost, Polling, Ending}
-use Rattle.hd_server.specs.Lives.{ConnectionEvent, LaneLost, Expired, LetGo, ended_at, is_known, is_removed, is_opened, is_polling, lost_at, made, negotiated_at, socket_of, standing, when}
+use Rattle.hd_server.specs.Lives.{ConnectionEvent, LaneLost, Expired, Removed, ended_at, is_known, is_removed, is_opened, is_polling, lost_at, made, negotiated_at, socket_of, standing, when}
 use Rattle.hd_server.specs.Machine.{Does, Goes, Rounds, Carries, connections, settings_of, has_gone, is_open_at}
 use Rattle.hd_server.specs.Doings.{ServerEvent, Learns, Draws, Notes, Works, Says, notes, work, peer, history, config_of, has_peer, has_closed, may_resume, is_up}
 use Rattle.hd_server.specs.Plans.{onto, step, closing, dropping, removing_conn, expiring, losing, shutting}
@@ -45,7 +45,7 @@ dropping_one : (c : ℕ) (h : List ServerEvent) → AreOne c (dropping c h)
 dropping_one c h = either_way (AreOne c) (has_peer c h) _ [] (refl, tt) tt
 
 pub letting_one : (c : ℕ) (h : List ServerEvent) → AreOne c (removing_conn c h)
-letting_one c h = one_both c (dropping c h) (Notes (LetGo c) ∷ []) (dropping_one c h) (refl, tt)
+letting_one c h = one_both c (dropping c h) (Notes (Removed c) ∷ []) (dropping_one c h) (refl, tt)
 
 pub closing_quiet : (c : ℕ) (why : Reason) (h : List ServerEvent) → AreQuiet (closing c why h)
 closing_quiet c why h = either_way AreQuiet (is_up c h) _ [] (tt, tt) tt
@@ -97,11 +97,11 @@ module _ (P : ℕ → List ServerEvent → Type 0) (move : (k : ℕ) (g x : List
 
 pub let_go_own : (c : ℕ) (h g : List ServerEvent) → Own c g → c ≤ made (notes g) → Own c (onto (removing_conn c h) g)
 let_go_own c h g o old =
-    either_way (λ ds. Own c (onto (ds ++ Notes (LetGo c) ∷ []) g)) (has_peer c h) (Works (Goes c) ∷ []) []
-    (own_unknown c g o (Notes (LetGo c) ∷ Works (Goes c) ∷ g) gone old) (own_unknown c g o (Notes (LetGo c) ∷ g) gone old)
+    either_way (λ ds. Own c (onto (ds ++ Notes (Removed c) ∷ []) g)) (has_peer c h) (Works (Goes c) ∷ []) []
+    (own_unknown c g o (Notes (Removed c) ∷ Works (Goes c) ∷ g) gone old) (own_unknown c g o (Notes (Removed c) ∷ g) gone old)
   where
-    gone : Known c (LetGo c ∷ notes g) → ⊥
-    gone u = gone_unknown c (LetGo c ∷ notes g) (or_left (c == c) (is_removed c (notes g)) (eq-eqb c c refl)) u
+    gone : Known c (Removed c ∷ notes g) → ⊥
+    gone u = gone_unknown c (Removed c ∷ notes g) (or_left (c == c) (is_removed c (notes g)) (eq-eqb c c refl)) u
 
 -- ---- what a life tells
 

@@ -15,7 +15,7 @@ use Rattle.hd_server.specs.declared.vocabulary.Life.{Life}
 use Rattle.hd_server.specs.declared.vocabulary.Life.TheVariants.{Polling}
 use Rattle.hd_server.specs.declared.vocabulary.Said.TheVariants as say
 use Rattle.hd_server.specs.Numbers.{held_for}
-use Rattle.hd_server.specs.Lives.{Negotiated, Opened, Socketed, Polled, Answered, LaneLost, Ended, Expired, LetGo, is_polling, ended_at, standing, overdue, socket_of, poll_of}
+use Rattle.hd_server.specs.Lives.{Negotiated, Opened, Socketed, Polled, Answered, LaneLost, Ended, Expired, Removed, is_polling, ended_at, standing, overdue, socket_of, poll_of}
 use Rattle.hd_server.specs.Table.{asks_keeper}
 use Rattle.hd_server.specs.Machine.{MachineEvent, Does, Rounds, Carries, Goes, connections}
 use Rattle.hd_server.specs.Doings.{ServerEvent, Learns, Draws, Notes, Works, Says, notes, work, history, config_of, is_upgraded, wants_shut, was_refused, is_up, may_resume, has_peer, has_closed}
@@ -77,7 +77,7 @@ IsLess (Notes (Answered c lane now)) = Unit {0}
 IsLess (Notes (LaneLost c lane now)) = Unit {0}
 IsLess (Notes (Ended c now)) = Unit {0}
 IsLess (Notes (Expired c now)) = Unit {0}
-IsLess (Notes (LetGo c)) = Unit {0}
+IsLess (Notes (Removed c)) = Unit {0}
 IsLess _ = ⊥
 
 abbrev pub AreLess : List ServerEvent → Type 0
@@ -125,7 +125,7 @@ one_less (Notes (LaneLost k lane now)) g e = record {
 }
 one_less (Notes (Ended c now)) g e = record { socket = λ c l p f. (p, f); poll = λ c l t p f. (p, f); same = λ l. refl }
 one_less (Notes (Expired c now)) g e = record { socket = λ c l p f. (p, f); poll = λ c l t p f. (p, f); same = λ l. refl }
-one_less (Notes (LetGo c)) g e = record { socket = λ c l p f. (p, f); poll = λ c l t p f. (p, f); same = λ l. refl }
+one_less (Notes (Removed c)) g e = record { socket = λ c l p f. (p, f); poll = λ c l t p f. (p, f); same = λ l. refl }
 one_less d g e = absurd e
 
 pub less_onto : (ds g : List ServerEvent) → AreLess ds → Less g (onto ds g)

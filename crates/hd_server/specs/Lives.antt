@@ -8,7 +8,7 @@ use Rattle.hd_server.specs.declared.vocabulary.Life.TheVariants.{Unknown, Fresh,
 use Rattle.hd_server.specs.Numbers.{most_live, most_connections, lives_for}
 
 -- Connections are numbered from 1, each by the note that makes it. A connection comes to its end by one of four notes: `Ended`, by its own
--- side or the other's while it polls; `Expired`, by its moment, which is the same if it only polls, and else the last of it; `LetGo`, for good
+-- side or the other's while it polls; `Expired`, by its moment, which is the same if it only polls, and else the last of it; `Removed`, for good
 pub data ConnectionEvent : Type 0 where
   Negotiated : (conn : ℕ) → (token : List ℕ) → (reconnect : Bool) → (now : ℕ) → ConnectionEvent
   Opened : (conn now : ℕ) → ConnectionEvent  -- without a token
@@ -18,7 +18,7 @@ pub data ConnectionEvent : Type 0 where
   LaneLost : (conn lane now : ℕ) → ConnectionEvent
   Ended : (conn now : ℕ) → ConnectionEvent
   Expired : (conn now : ℕ) → ConnectionEvent
-  LetGo : (conn : ℕ) → ConnectionEvent
+  Removed : (conn : ℕ) → ConnectionEvent
 
 -- ---- what is read off
 
@@ -105,7 +105,7 @@ ends_then c h = only_polls c h && not (is_some (ended_at c h))
 -- whether nothing is known of it any more
 abbrev pub is_removed : ℕ → List ConnectionEvent → Bool
 is_removed c [] = false
-is_removed c (LetGo k ∷ h) = (c == k) || is_removed c h
+is_removed c (Removed k ∷ h) = (c == k) || is_removed c h
 is_removed c (Expired k now ∷ h) = ((c == k) && not (ends_then c h)) || is_removed c h
 is_removed c (_ ∷ h) = is_removed c h
 
@@ -203,7 +203,7 @@ moment_of (Answered c lane now) = Some now
 moment_of (LaneLost c lane now) = Some now
 moment_of (Ended c now) = Some now
 moment_of (Expired c now) = Some now
-moment_of (LetGo c) = None
+moment_of (Removed c) = None
 
 abbrev pub last_moment : List ConnectionEvent → ℕ
 last_moment [] = 0
@@ -220,7 +220,7 @@ MayBeNoted (Answered c lane now) h = is_known (life_of c now h) ≡ true
 MayBeNoted (LaneLost c lane now) h = is_known (life_of c now h) ≡ true
 MayBeNoted (Ended c now) h = is_known (life_of c now h) ≡ true
 MayBeNoted (Expired c now) h = (rest : List ℕ) × (overdue now h ≡ c ∷ rest)
-MayBeNoted (LetGo c) h = Unit {0}
+MayBeNoted (Removed c) h = Unit {0}
 
 -- moments never fall, and each note is one that may come next
 abbrev pub AreInOrder : List ConnectionEvent → Type 0

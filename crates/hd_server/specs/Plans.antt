@@ -22,7 +22,7 @@ use Rattle.hd_server.specs.declared.vocabulary.Life.{Life}
 use Rattle.hd_server.specs.declared.vocabulary.Life.TheVariants.{Polling}
 use Rattle.hd_server.specs.declared.vocabulary.Said.TheVariants as say
 use Rattle.hd_server.specs.Numbers.{most_frame, most_held, most_held_bytes}
-use Rattle.hd_server.specs.Lives.{ConnectionEvent, Negotiated, Opened, Socketed, Polled, Answered, LaneLost, Expired, LetGo, made, conn_with, is_resumable_promise, socket_of, poll_of, standing, life_of_some, is_busy, overdue}
+use Rattle.hd_server.specs.Lives.{ConnectionEvent, Negotiated, Opened, Socketed, Polled, Answered, LaneLost, Expired, Removed, made, conn_with, is_resumable_promise, socket_of, poll_of, standing, life_of_some, is_busy, overdue}
 use Rattle.hd_server.specs.Texts.{token_of, negotiate_body}
 use Rattle.hd_server.specs.Table.{Caller, Facts, Outcome, Refusal, NewToken, PlainSocket, TokenSocket, FirstPoll, NextPoll, LastPoll, Posting, Deletion, id_in, asks_keeper, caller_without, caller_told, outcome}
 use Rattle.hd_server.specs.Machine.{Connects, Does, Goes, settings_of, connections}
@@ -78,7 +78,7 @@ dropping c h = if has_peer c h then Works (Goes c) ∷ [] else []
 
 -- nothing is kept of it
 abbrev pub removing_conn : ℕ → List ServerEvent → List ServerEvent
-removing_conn c h = dropping c h ++ Notes (LetGo c) ∷ []
+removing_conn c h = dropping c h ++ Notes (Removed c) ∷ []
 
 -- what a moment has ended: a connection that polls is closed, and of every other nothing is kept
 abbrev pub expiring : ℕ → Life → ℕ → List ServerEvent → List ServerEvent

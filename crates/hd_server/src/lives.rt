@@ -2,7 +2,7 @@
 
 ghost use Rattle.std.specs.Prelude.{◌≡◌, true, false, Some, None, [], ◌∷◌, ◌++◌, codes, length};
 ghost use Rattle.hd_server.specs.declared.vocabulary.Life.TheVariants.{Unknown, Fresh, Socket, Lost, Polling, Ending};
-ghost use Rattle.hd_server.specs.Lives.{Answered, Ended, Expired, LaneLost, LetGo, Negotiated, Polled, Socketed, is_made, known_conn, life, live, made, overdue};
+ghost use Rattle.hd_server.specs.Lives.{Answered, Ended, Expired, LaneLost, Removed, Negotiated, Polled, Socketed, is_made, known_conn, life, live, made, overdue};
 ghost use Rattle.hd_server.specs.LivesExamples.{first_token, held, moved, plain, polled, sixteen_zeros, told};
 ghost use Rattle.hd_server.specs.Texts.{body_with, negotiate_body, sockets_body, sockets_body_with, token_of};
 
@@ -15,7 +15,7 @@ pub fn fresh_tokens()
     ensures not_before { overdue 30999 told ≡ [] }
     ensures once { overdue 31000 (Expired 1 31000 ∷ told) ≡ [] }
     ensures other { life (codes "AAAAAAAAAAAAAAAAAAAAAAAAAAAAAAAC") 1000 told ≡ Unknown }
-    ensures deleted { life first_token 1000 (LetGo 1 ∷ told) ≡ Unknown }
+    ensures deleted { life first_token 1000 (Removed 1 ∷ told) ≡ Unknown }
 {}
 
 /// On a socket no moment counts. The loss of an older lane changes nothing; after that of the present one it is lost, for 30,000 ms.
@@ -25,7 +25,7 @@ pub fn sockets()
     ensures lost { life first_token 34999 (LaneLost 1 5 5000 ∷ moved) ≡ Lost }
     ensures lost_too_long { life first_token 35000 (LaneLost 1 5 5000 ∷ moved) ≡ Unknown }
     ensures resumed { life first_token 900000 (Socketed 1 6 34999 ∷ LaneLost 1 5 5000 ∷ moved) ≡ Socket 6 }
-    ensures let_go { life first_token 5000 (LetGo 1 ∷ moved) ≡ Unknown }
+    ensures removed { life first_token 5000 (Removed 1 ∷ moved) ≡ Unknown }
 {}
 
 /// While a poll is held no moment counts; after the last one ended it polls for 30,000 ms. Then it is ending, though nobody noted that
@@ -52,7 +52,7 @@ pub fn known_tokens()
     ensures past { known_conn first_token 31000 told ≡ None }
     ensures ending { known_conn first_token 69999 (Expired 1 40000 ∷ polled) ≡ Some 1 }
     ensures ended { known_conn first_token 70000 (Expired 1 40000 ∷ polled) ≡ None }
-    ensures let_go { known_conn first_token 5000 (LetGo 1 ∷ moved) ≡ None }
+    ensures removed { known_conn first_token 5000 (Removed 1 ∷ moved) ≡ None }
     ensures other { known_conn (codes "AAAAAAAAAAAAAAAAAAAAAAAAAAAAAAAC") 1000 told ≡ None }
 {}
 
@@ -63,10 +63,10 @@ pub fn connections()
     ensures last { is_made 2 plain ≡ true }
     ensures none { is_made 0 plain ≡ false }
     ensures next { is_made 3 plain ≡ false }
-    ensures gone { is_made 2 (LetGo 2 ∷ plain) ≡ true }
+    ensures gone { is_made 2 (Removed 2 ∷ plain) ≡ true }
     ensures live { live 30999 plain ≡ 1 ∷ 2 ∷ [] }
     ensures first_is_past { live 31000 plain ≡ 2 ∷ [] }
-    ensures second_is_gone { live 30999 (LetGo 2 ∷ plain) ≡ 1 ∷ [] }
+    ensures second_is_gone { live 30999 (Removed 2 ∷ plain) ≡ 1 ∷ [] }
 {}
 
 /// The token of connection 1 with 16 zero bytes, of connection 2^64 - 1 with 16 bytes of 255, and the bodies that tell a token.

@@ -6,7 +6,7 @@ use Rattle.std.proofs.lemmas.List.Elements.{filter-append}
 use Rattle.hd_delivery.specs.Histories.{is_this}
 use Rattle.hd_server.specs.declared.vocabulary.Life.TheVariants.{Unknown}
 use Rattle.hd_server.specs.Numbers.{held_for, lives_for}
-use Rattle.hd_server.specs.Lives.{ConnectionEvent, Ended, Expired, LetGo, made, numbers_to, is_made, is_removed, ended_at, only_polls, ends_then, deadline, is_past, overdue, standing, since, is_opened, negotiated_at, socket_of, lost_at, poll_of, poll_ended}
+use Rattle.hd_server.specs.Lives.{ConnectionEvent, Ended, Expired, Removed, made, numbers_to, is_made, is_removed, ended_at, only_polls, ends_then, deadline, is_past, overdue, standing, since, is_opened, negotiated_at, socket_of, lost_at, poll_of, poll_ended}
 use Rattle.hn_server_front.specs.declared.front.Front.{Front}
 use Rattle.hn_server_front.specs.declared.moments.Waiting.{Waiting}
 use Rattle.hn_server_front.specs.Calls.{Expires, IsFirst, IsNoted, is_held_long}
@@ -204,7 +204,7 @@ ends_alike c now h e = record {
     ended k false q = refl
 
 -- and every other is let go by it
-pub goes_alike : (c now : ℕ) (h : List ConnectionEvent) → ends_then c h ≡ false → Alike (LetGo c ∷ h) (Expired c now ∷ h)
+pub goes_alike : (c now : ℕ) (h : List ConnectionEvent) → ends_then c h ≡ false → Alike (Removed c ∷ h) (Expired c now ∷ h)
 goes_alike c now h e = record {
   made_so = refl;
   held = λ k. held k (k == c) refl;
@@ -245,11 +245,11 @@ expired_ends f new h s now c r l e t n =
     (first_overdue f h s now c m, stands_alike new (Ended c now ∷ h) (Expired c now ∷ h) (ends_alike c now h p.1) ((n h s).0 (least_is_made f h s now c m)))
 
 pub expired_goes : (f new : Front) (h : List ConnectionEvent) → Stands f h → (now c : ℕ) (r : Option ℕ) → IsLeast (due_of now f) r → r ≡ Some c
-    → (is_there c h && ends_then c h) ≡ false → IsNoted f new c (LetGo c) → Expires new h now (Some c)
+    → (is_there c h && ends_then c h) ≡ false → IsNoted f new c (Removed c) → Expires new h now (Some c)
 expired_goes f new h s now c r l e t n =
     let m = subst (λ r. IsLeast (due_of now f) r) e l in
     let p : ends_then c h ≡ false = sym (ap (λ b. b && ends_then c h) (least_is_there f h s now c m)) ∙ t in
-    (first_overdue f h s now c m, stands_alike new (LetGo c ∷ h) (Expired c now ∷ h) (goes_alike c now h p) ((n h s).0 (least_is_made f h s now c m)))
+    (first_overdue f h s now c m, stands_alike new (Removed c ∷ h) (Expired c now ∷ h) (goes_alike c now h p) ((n h s).0 (least_is_made f h s now c m)))
 
 pub least_is_first : (f : Front) (h : List ConnectionEvent) → Stands f h → (now : ℕ) (r : Option ℕ) → IsLeast (due_of now f) r → IsFirst r (overdue now h)
 least_is_first f h s now None l = none_overdue f h s now l

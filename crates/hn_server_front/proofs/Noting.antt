@@ -16,7 +16,7 @@ use Rattle.hd_delivery.specs.Histories.{is_this, first_of}
 use Rattle.hd_server.specs.declared.vocabulary.Life.{Life}
 use Rattle.hd_server.specs.declared.vocabulary.Life.TheVariants as lives
 use Rattle.hd_server.specs.Numbers.{held_for, lives_for, most_connections}
-use Rattle.hd_server.specs.Lives.{ConnectionEvent, LetGo, made, numbers_to, is_made, is_removed, is_opened, negotiated_at, is_resumable_promise, socket_of, lost_at, poll_of, poll_ended, ended_at, conn_with, when, standing, since}
+use Rattle.hd_server.specs.Lives.{ConnectionEvent, Removed, made, numbers_to, is_made, is_removed, is_opened, negotiated_at, is_resumable_promise, socket_of, lost_at, poll_of, poll_ended, ended_at, conn_with, when, standing, since}
 use Rattle.hn_server_front.specs.declared.entry.Entry.{Entry}
 use Rattle.hn_server_front.specs.declared.entry.EntryEvent.{EntryEvent}
 use Rattle.hn_server_front.specs.declared.entry.EntryEvent.TheVariants as noted
@@ -156,7 +156,7 @@ noted_follows k n h = record {
     tokens (noted.Loss lane now) c = refl
     tokens (noted.End now) c = refl
 
-pub let_go_follows : (k : ℕ) (h : List ConnectionEvent) → Follows k (LetGo k ∷ h) h
+pub let_go_follows : (k : ℕ) (h : List ConnectionEvent) → Follows k (Removed k ∷ h) h
 let_go_follows k h = record {
   made_same = refl;
   conns = λ token. refl;
@@ -492,25 +492,25 @@ still_gone k (noted.End now) h e = e
 
 -- ---- nothing is kept of it any more
 
-pub let_go : (k : ℕ) (h : List ConnectionEvent) → is_removed k (LetGo k ∷ h) ≡ true
-let_go k h = or_left (k == k) (is_removed k h) (eq-eqb k k refl)
+pub removed : (k : ℕ) (h : List ConnectionEvent) → is_removed k (Removed k ∷ h) ≡ true
+removed k h = or_left (k == k) (is_removed k h) (eq-eqb k k refl)
 
 -- the map of tokens loses its connection's token, if it had one
 pub tokens_without : (f : Front) (k : ℕ) (h : List ConnectionEvent) (e : Entry) → Stands f h → Remembers e k h
     → (own : List ℕ) → text_told e.told ≡ Some own → (token : List ℕ)
-    → cond (is_at (slice_cmp nat_cmp own) token) None (conn_at f token) ≡ kept (conn_with token h) (LetGo k ∷ h)
+    → cond (is_at (slice_cmp nat_cmp own) token) None (conn_at f token) ≡ kept (conn_with token h) (Removed k ∷ h)
 tokens_without f k h e s r own is token = go (is_at (slice_cmp nat_cmp own) token) refl
   where
     told : token_told k h ≡ Some own
     told = sym r.token ∙ is
 
-    go : (b : Bool) → is_at (slice_cmp nat_cmp own) token ≡ b → cond b None (conn_at f token) ≡ kept (conn_with token h) (LetGo k ∷ h)
+    go : (b : Bool) → is_at (slice_cmp nat_cmp own) token ≡ b → cond b None (conn_at f token) ≡ kept (conn_with token h) (Removed k ∷ h)
     go true x =
         let same : own ≡ token = (bytes_eq-Decides own token).0 (sym (is_eq-slice_cmp own token) ∙ x) in
-        sym (ap (λ (t : List ℕ). kept (conn_with t h) (LetGo k ∷ h)) (sym same)
-        ∙ (ap (λ (o : Option ℕ). kept o (LetGo k ∷ h)) (s.agree.told k own told)
-        ∙ ap (λ (b : Bool). if b then None else Some k) (let_go k h)))
-    go false x = s.tokens token ∙ kept_same (conn_with token h) (LetGo k ∷ h) h (λ c at. ((let_go_follows k h).others c (λ q. apart c at q)).held)
+        sym (ap (λ (t : List ℕ). kept (conn_with t h) (Removed k ∷ h)) (sym same)
+        ∙ (ap (λ (o : Option ℕ). kept o (Removed k ∷ h)) (s.agree.told k own told)
+        ∙ ap (λ (b : Bool). if b then None else Some k) (removed k h)))
+    go false x = s.tokens token ∙ kept_same (conn_with token h) (Removed k ∷ h) h (λ c at. ((let_go_follows k h).others c (λ q. apart c at q)).held)
       where
         apart : (c : ℕ) → conn_with token h ≡ Some c → c ≡ k → ⊥
         apart c at q =
@@ -519,9 +519,9 @@ tokens_without f k h e s r own is token = go (is_at (slice_cmp nat_cmp own) toke
             no_bool (sym x ∙ (is_eq-slice_cmp own token ∙ (bytes_eq-Decides own token).1 same))
 
 pub tokens_with : (f : Front) (k : ℕ) (h : List ConnectionEvent) (e : Entry) → Stands f h → Remembers e k h
-    → text_told e.told ≡ None → (token : List ℕ) → conn_at f token ≡ kept (conn_with token h) (LetGo k ∷ h)
+    → text_told e.told ≡ None → (token : List ℕ) → conn_at f token ≡ kept (conn_with token h) (Removed k ∷ h)
 tokens_with f k h e s r is token =
-    s.tokens token ∙ kept_same (conn_with token h) (LetGo k ∷ h) h (λ c at. ((let_go_follows k h).others c (λ q. apart c at q)).held)
+    s.tokens token ∙ kept_same (conn_with token h) (Removed k ∷ h) h (λ c at. ((let_go_follows k h).others c (λ q. apart c at q)).held)
   where
     apart : (c : ℕ) → conn_with token h ≡ Some c → c ≡ k → ⊥
     apart c at q =
@@ -530,29 +530,29 @@ tokens_with f k h e s r is token =
 
 pub stands_without : (f n : Front) (k : ℕ) (h : List ConnectionEvent) (e : Entry) → Stands f h → Remembers e k h → n.made ≡ f.made
     → ((c : ℕ) → entry_at n c ≡ cond (nat_eq k c) None (entry_at f c)) → index_map_len n.entries + 1 ≡ index_map_len f.entries
-    → ((token : List ℕ) → conn_at n token ≡ kept (conn_with token h) (LetGo k ∷ h))
+    → ((token : List ℕ) → conn_at n token ≡ kept (conn_with token h) (Removed k ∷ h))
     → (before : Option ℕ) → before ≡ since_of k h → Changes f.moments n.moments k before None
     → (held_before : Option ℕ) → held_before ≡ option_map (λ poll. poll.1) (poll_of k h) → Changes f.polls n.polls k held_before None
-    → Stands n (LetGo k ∷ h)
+    → Stands n (Removed k ∷ h)
 stands_without f n k h e s r made_so entries size tokens before b ch held_before hb held =
-    let g : List ConnectionEvent = LetGo k ∷ h in
+    let g : List ConnectionEvent = Removed k ∷ h in
     let others = (let_go_follows k h).others in
     let fewer : index_map_len n.entries ≤ index_map_len f.entries = omega (arith, size) in
     let number = made_number k h r.there in
-    let count = count_without (made h) k (λ c. is_there c h) (λ c. is_there c (LetGo k ∷ h)) number.0 number.1 (there_from_kept e k h r)
-    (not_there k (LetGo k ∷ h) (let_go k h)) (λ c ne. sym (same_there c (LetGo k ∷ h) h ((let_go_follows k h).others c ne))) in
+    let count = count_without (made h) k (λ c. is_there c h) (λ c. is_there c (Removed k ∷ h)) number.0 number.1 (there_from_kept e k h r)
+    (not_there k (Removed k ∷ h) (removed k h)) (λ c ne. sym (same_there c (Removed k ∷ h) h ((let_go_follows k h).others c ne))) in
     let had = s.size in
-    stands_after f n k (LetGo k ∷ h) h (let_go_follows k h) s r.there made_so
+    stands_after f n k (Removed k ∷ h) h (let_go_follows k h) s r.there made_so
     (λ c ne. entries c ∙ ap (λ (t : Bool). cond t None (entry_at f c)) (ne_eqb k c (λ x. ne (sym x))))
-    (subst (λ (o : Option Entry). IsEntryOf o k (LetGo k ∷ h)) (sym (entries k ∙ ap (λ (t : Bool). cond t None (entry_at f k)) (eq-eqb k k refl)))
-    (not_there k (LetGo k ∷ h) (let_go k h)))
+    (subst (λ (o : Option Entry). IsEntryOf o k (Removed k ∷ h)) (sym (entries k ∙ ap (λ (t : Bool). cond t None (entry_at f k)) (eq-eqb k k refl)))
+    (not_there k (Removed k ∷ h) (removed k h)))
     (omega (arith, size, had, count))
     tokens
     (changed_lists f.moments n.moments k before None
-    (λ c x. same_since c g h (others c x)) b (sym (gone_since k g (let_go k h)))
+    (λ c x. same_since c g h (others c x)) b (sym (gone_since k g (removed k h)))
     (λ none. waiting_fewer f h k s (there_from_kept e k h r) none) fewer ch (since_listed f h s))
     (changed_lists f.polls n.polls k held_before None
-    (λ c x. same_held c g h (others c x)) (hb ∙ sym (held_there e k h r)) (sym (gone_held k g (let_go k h)))
+    (λ c x. same_held c g h (others c x)) (hb ∙ sym (held_there e k h r)) (sym (gone_held k g (removed k h)))
     (λ none. polling_fewer f h k s (there_from_kept e k h r) none) fewer held (held_listed f h s))
 
 -- the same is kept, in a map with another room

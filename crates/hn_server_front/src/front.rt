@@ -3,7 +3,7 @@
 ghost use Rattle.std.specs.Prelude.{◌≡◌, ◌↔◌, ℕ, ◌+◌, ◌≤◌, ◌&&◌, suc, [], true, false, nat_le, Err, IfOk, IfErr, IfSome, OnOk, OnErr, length, is_some};
 ghost use Rattle.indexmap.specs.IndexMap.{index_map_len};
 ghost use Rattle.hd_server.specs.Numbers.{most_connections, most_live};
-ghost use Rattle.hd_server.specs.Lives.{Answered, Ended, LaneLost, LetGo, ConnectionEvent, Polled, Socketed};
+ghost use Rattle.hd_server.specs.Lives.{Answered, Ended, LaneLost, Removed, ConnectionEvent, Polled, Socketed};
 ghost use Rattle.hd_server.specs.Lives.{ended_at, ends_then, is_busy, is_made, is_polling, is_resumable_promise, known_conn, life, life_of, live, overdue};
 ghost use Rattle.hn_server_front.specs.Calls.{Expires, IsFirst, IsNoted, OfEach, Opens, Stays, Tells, is_held_long, lane_of, poll_held};
 ghost use Rattle.hn_server_front.specs.Moments.{at, is_within};
@@ -249,7 +249,7 @@ impl Front {
 
     /// It is let go.
     pub fn closed(&mut self, conn: u64)
-        ensures { IsNoted self.old self.new conn (LetGo conn) }
+        ensures { IsNoted self.old self.new conn (Removed conn) }
     {
         self.forget(conn);
     }
@@ -385,7 +385,7 @@ impl Front {
 
     /// Nothing is kept of a connection any more.
     fn forget(&mut self, conn: u64)
-        ensures { IsNoted self.old self.new conn (LetGo conn) }
+        ensures { IsNoted self.old self.new conn (Removed conn) }
     {
         let Some(entry) = self.entries.swap_remove(&conn) else {
             return;

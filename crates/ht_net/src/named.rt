@@ -1,7 +1,7 @@
 //! Wires in memory that name one of them after each poll, as a script says.
 
 ghost use Rattle.std.specs.Prelude.{◌≡◌};
-ghost use Rattle.hw_door.specs.Ledger.{told_by};
+ghost use Rattle.hw_door.specs.Ledger.{trace_of};
 
 use hw_door::{MemoryWires, WireRead, Wires};
 use hw_io::Failed;
@@ -32,7 +32,7 @@ impl NamedWires {
 }
 
 impl Wires for NamedWires {
-    ghost told = { λ w. told_by w.wires.ledger };
+    ghost trace = { λ w. trace_of w.wires.ledger };
 
     ghost moment = { λ w. w.wires.moment };
 

@@ -102,9 +102,9 @@ module _ (law : FatesAreRefusals) (d : Deed) (target : List ℕ) (arguments : Li
   h = a.moves c
 
   -- by its fate, where that is known
-  told_by : (f : DeliveryOutcome) → fate_of t h (read_as t h target arguments) ≡ f → ChangesAt c a mid → mid.moves c ≡ with_fate d (Some t) (Some f) h
+  trace_of : (f : DeliveryOutcome) → fate_of t h (read_as t h target arguments) ≡ f → ChangesAt c a mid → mid.moves c ≡ with_fate d (Some t) (Some f) h
       → mid.lists ≡ without_slow ((c, f) ∷ []) a.lists → IsTold d target arguments c a mid
-  told_by f e at moves lists =
+  trace_of f e at moves lists =
       let is : f ≡ fate_at (a.settings c) h target arguments = sym (ap (λ o. fate_at o h target arguments) there ∙ e) in
       record {
         at = at;
@@ -119,14 +119,14 @@ module _ (law : FatesAreRefusals) (d : Deed) (target : List ℕ) (arguments : Li
 
   -- it isn't asked before it has shaken hands
   told_unasked : is_shaken (steps t h) ≡ false → mid ≡ a → IsTold d target arguments c a mid
-  told_unasked e same = told_by PassedOver (unasked_passed t h target arguments e) (unchanged c a mid same)
+  told_unasked e same = trace_of PassedOver (unasked_passed t h target arguments e) (unchanged c a mid same)
       (ap (λ (x : MachineView). x.moves c) same) (ap (λ (x : MachineView). x.lists) same)
 
   -- it was sent
   told_sent : HasSent c (said target arguments) None a mid → IsTold d target arguments c a mid
   told_sent s =
       let sent = as_answered None mid s in
-      told_by Got (sent_got law t h target arguments fits up (mid.moves c) sent) s.at
+      trace_of Got (sent_got law t h target arguments fits up (mid.moves c) sent) s.at
       (sent.is ∙ ap (λ call. Calls None 0 (heard t h call) ∷ h) (is_call target arguments sent.call sent.notice)
       ∙ ap (λ call. notifies call h) (sym (notices (codec t h)))) s.lists
 
@@ -135,7 +135,7 @@ module _ (law : FatesAreRefusals) (d : Deed) (target : List ℕ) (arguments : Li
       → HasSent c (said target arguments) (Some why) a mid → IsTold d target arguments c a mid
   told_refused why memory passed s =
       let refused = as_answered (Some why) mid s in
-      told_by PassedOver (unsent_by law t h target arguments fits up why refused.0 memory ∙ passed) s.at refused.1 s.lists
+      trace_of PassedOver (unsent_by law t h target arguments fits up why refused.0 memory ∙ passed) s.at refused.1 s.lists
 
   -- it was refused for want of room, and the connection closed
   told_full : (held bytes size : ℕ) (b : MachineView) → HasSent c (said target arguments) (Some (send.Full held bytes size)) a b → HasSlowed c b mid
@@ -143,7 +143,7 @@ module _ (law : FatesAreRefusals) (d : Deed) (target : List ℕ) (arguments : Li
   told_full held bytes size b s slow =
       let refused = as_answered (Some (send.Full held bytes size)) b s in
       let open_still : is_up_in b c ≡ true = (λ i. is_open_at (s.at.settings c i) (refused.1 i)) ∙ ap (λ o. is_open_at o h) there ∙ ap not up in
-      told_by TooSlow (unsent_by law t h target arguments fits up (send.Full held bytes size) refused.0 (λ e. absurd (cc)))
+      trace_of TooSlow (unsent_by law t h target arguments fits up (send.Full held bytes size) refused.0 (λ e. absurd (cc)))
       (both_change c a b mid s.at slow.at)
       (slow.closed open_still ∙ ap (λ x. Plain (Step_of (Closed Slow false)) ∷ x) refused.1)
       (slowed_lists c b mid slow open_still ∙ ap (λ l. gone l c) s.lists)

@@ -14,7 +14,7 @@ use Rattle.hd_rooms.specs.Registry.{Lists, Pair, without}
 use Rattle.hg_groups.specs.Standing.{StandsRegistry}
 use Rattle.hd_server.specs.declared.vocabulary.Said.{Said}
 use Rattle.hd_server.specs.declared.vocabulary.Said.TheVariants as say
-use Rattle.hd_server.specs.Lives.{LaneLost, LetGo, ConnectionEvent, is_removed, socket_of}
+use Rattle.hd_server.specs.Lives.{LaneLost, Removed, ConnectionEvent, is_removed, socket_of}
 use Rattle.hd_server.specs.Machine.{Does, Goes, has_gone, is_open, is_open_at, joined, moves, of_open, registry, settings_of, user_pairs}
 use Rattle.hd_server.specs.Doings.{ServerEvent, Notes, Works, Says, notes, work, moment, said, user_of, config_of, has_peer, history, may_resume}
 use Rattle.hd_server.specs.Doings.{was_refused}
@@ -173,7 +173,7 @@ abbrev pub IsPart : ℕ → ServerEvent → Type 0
 IsPart c (Works (Does k m)) = k ≡ c
 IsPart c (Works (Goes k)) = Unit {0}
 IsPart c (Notes (LaneLost k lane now)) = Unit {0}
-IsPart c (Notes (LetGo k)) = Unit {0}
+IsPart c (Notes (Removed k)) = Unit {0}
 IsPart c (Says (say.Shut lane)) = Unit {0}
 IsPart c _ = ⊥
 
@@ -208,7 +208,7 @@ ticking_parts now c h =
     (parts_either c (is_silence (config_of c h) now (history c h)) _ _ (silent (socket_of c (notes h))) (refl, tt)) tt
   where
     goes : AreParts c (removing_conn c h)
-    goes = parts_join c (if has_peer c h then Works (Goes c) ∷ [] else []) (Notes (LetGo c) ∷ [])
+    goes = parts_join c (if has_peer c h then Works (Goes c) ∷ [] else []) (Notes (Removed c) ∷ [])
         (parts_either c (has_peer c h) (Works (Goes c) ∷ []) [] (tt, tt) tt) (tt, tt)
 
     loses : (lane : ℕ) → AreParts c (losing c lane now h)
@@ -266,13 +266,13 @@ agree_on c (Notes (LaneLost k lane now)) g h p x = let r : SameButMoves g h = x.
   };
   moved = x.moved;
 }
-agree_on c (Notes (LetGo k)) g h p x = let r : SameButMoves g h = x.rest in record {
+agree_on c (Notes (Removed k)) g h p x = let r : SameButMoves g h = x.rest in record {
   rest = record {
     settings = r.settings;
     gone = r.gone;
     joins = r.joins;
     users = r.users;
-    noted = ap (λ (n : List ConnectionEvent). LetGo k ∷ n) r.noted;
+    noted = ap (λ (n : List ConnectionEvent). Removed k ∷ n) r.noted;
     clock = r.clock;
     words = r.words;
     user = r.user;
@@ -354,7 +354,7 @@ agree_swap c k (Notes (LaneLost j lane now)) m h e p = record {
   };
   moved = λ i. refl;
 }
-agree_swap c k (Notes (LetGo j)) m h e p = record {
+agree_swap c k (Notes (Removed j)) m h e p = record {
   rest = record {
     settings = λ i. refl;
     gone = λ i. refl;

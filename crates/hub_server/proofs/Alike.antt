@@ -10,7 +10,7 @@ use Rattle.hd_calls.specs.Peers.{PeerEvent, Settings, waiting}
 use Rattle.hd_rooms.specs.declared.vocabulary.Asked.{Asked}
 use Rattle.hw_door.specs.declared.heard.Event.{Event}
 use Rattle.hd_server.specs.declared.vocabulary.Said.{Said}
-use Rattle.hd_server.specs.Lives.{ConnectionEvent, Negotiated, Opened, Socketed, Polled, Answered, LaneLost, Ended, Expired, LetGo}
+use Rattle.hd_server.specs.Lives.{ConnectionEvent, Negotiated, Opened, Socketed, Polled, Answered, LaneLost, Ended, Expired, Removed}
 use Rattle.hd_server.specs.Lives.{made, is_made, is_removed, socket_of, lost_at, poll_of, poll_ended, ended_at, only_polls, ends_then}
 use Rattle.hd_server.specs.Machine.{Connects, Does, Goes, settings_of, has_gone, is_open_at, moves}
 use Rattle.hd_server.specs.Doings.{ServerEvent, Hears, Learns, Draws, Notes, Works, Says}
@@ -26,7 +26,7 @@ pub record Alike (c : ℕ) (g h : List ServerEvent) : Type 0 where
   pub gone : has_gone c (work g) ≡ has_gone c (work h)
   pub moves : moves c (work g) ≡ moves c (work h)
   pub made : is_made c (notes g) ≡ is_made c (notes h)
-  pub let_go : is_removed c (notes g) ≡ is_removed c (notes h)
+  pub removed : is_removed c (notes g) ≡ is_removed c (notes h)
   pub socket : socket_of c (notes g) ≡ socket_of c (notes h)
   pub lost : lost_at c (notes g) ≡ lost_at c (notes h)
   pub poll : poll_of c (notes g) ≡ poll_of c (notes h)
@@ -42,7 +42,7 @@ alike_noted c g h settings gone moved noted user = record {
   gone = gone;
   moves = moved;
   made = ap (is_made c) noted;
-  let_go = ap (is_removed c) noted;
+  removed = ap (is_removed c) noted;
   socket = ap (socket_of c) noted;
   lost = ap (lost_at c) noted;
   poll = ap (poll_of c) noted;
@@ -60,7 +60,7 @@ alike_trans c f g h x y = record {
   gone = x.gone ∙ y.gone;
   moves = x.moves ∙ y.moves;
   made = x.made ∙ y.made;
-  let_go = x.let_go ∙ y.let_go;
+  removed = x.removed ∙ y.removed;
   socket = x.socket ∙ y.socket;
   lost = x.lost ∙ y.lost;
   poll = x.poll ∙ y.poll;
@@ -76,7 +76,7 @@ record Seen : Type 0 where
   gone : Bool
   moves : List PeerEvent
   made : Bool
-  let_go : Bool
+  removed : Bool
   socket : Option ℕ
   lost : Option ℕ
   poll : Option (ℕ × ℕ)
@@ -85,12 +85,12 @@ record Seen : Type 0 where
   user : Option (List ℕ)
 
 abbrev see : Option Settings → Bool → List PeerEvent → Bool → Bool → Option ℕ → Option ℕ → Option (ℕ × ℕ) → Option ℕ → Option ℕ → Option (List ℕ) → Seen
-see settings gone moves made let_go socket lost poll polled ended user = record {
+see settings gone moves made removed socket lost poll polled ended user = record {
   settings = settings;
   gone = gone;
   moves = moves;
   made = made;
-  let_go = let_go;
+  removed = removed;
   socket = socket;
   lost = lost;
   poll = poll;
@@ -105,7 +105,7 @@ seen c h = see (settings_of c (work h)) (has_gone c (work h)) (moves c (work h))
 
 same_seen : (c : ℕ) (g h : List ServerEvent) → Alike c g h → seen c g ≡ seen c h
 same_seen c g h x =
-    λ i. see (x.settings i) (x.gone i) (x.moves i) (x.made i) (x.let_go i) (x.socket i) (x.lost i) (x.poll i) (x.polled i) (x.ended i) (x.user i)
+    λ i. see (x.settings i) (x.gone i) (x.moves i) (x.made i) (x.removed i) (x.socket i) (x.lost i) (x.poll i) (x.polled i) (x.ended i) (x.user i)
 
 abbrev there : Seen → Bool
 there x = is_some x.settings && not x.gone
@@ -135,7 +135,7 @@ at_alike lane c g h x =
     ap (λ (y : Seen). there y && (is_this lane y.socket || is_this lane (option_map (λ (poll : ℕ × ℕ). poll.0) y.poll))) (same_seen c g h x)
 
 pub caller_alike : (c : ℕ) (g h : List ServerEvent) → Alike c g h → caller_of c g ≡ caller_of c h
-caller_alike c g h x = ap (λ (y : Seen). if is_some y.settings || y.let_go then None else y.user) (same_seen c g h x)
+caller_alike c g h x = ap (λ (y : Seen). if is_some y.settings || y.removed then None else y.user) (same_seen c g h x)
 
 pub up_alike : (c : ℕ) (g h : List ServerEvent) → Alike c g h → is_up c g ≡ is_up c h
 up_alike c g h x = ap up (same_seen c g h x)
@@ -154,8 +154,8 @@ orderly_alike u c g h x later o =
     let e = sym (same_seen c g h x) in
     record {
       made = subst (λ (y : Seen). is_some y.settings ≡ true → y.made ≡ true) e o.made;
-      there = subst (λ (y : Seen). there y ≡ true → y.let_go ≡ false) e o.there;
-      gone = subst (λ (y : Seen). is_some y.settings ≡ true → there y ≡ false → y.let_go ≡ true) e o.gone;
+      there = subst (λ (y : Seen). there y ≡ true → y.removed ≡ false) e o.there;
+      gone = subst (λ (y : Seen). is_some y.settings ≡ true → there y ≡ false → y.removed ≡ true) e o.gone;
       one_way = subst (λ (y : Seen). (placed y && polling y) ≡ false) e o.one_way;
       ended = subst (λ (y : Seen). is_some y.ended ≡ true → polling y ≡ true) e o.ended;
       unused = subst (λ (y : Seen). is_some y.settings ≡ false → (is_some y.socket || is_some y.lost || polling y) ≡ false) e o.unused;
@@ -176,7 +176,7 @@ pub rested_alike : (c : ℕ) (g h : List ServerEvent) → Alike c g h → IsRest
 rested_alike c g h x = subst (λ (y : Seen). there y ≡ true → polling y ≡ false → up y ≡ true) (sym (same_seen c g h x))
 
 pub known_alike : (c : ℕ) (g h : List ServerEvent) → Alike c g h → IsKnown c h → IsKnown c g
-known_alike c g h x k = record { made = x.made ∙ k.made; held = x.let_go ∙ k.held }
+known_alike c g h x k = record { made = x.made ∙ k.made; held = x.removed ∙ k.held }
 
 -- ---- doings of no connection
 
@@ -204,7 +204,7 @@ about (Answered c lane now) = c
 about (LaneLost c lane now) = c
 about (Ended c now) = c
 about (Expired c now) = c
-about (LetGo c) = c
+about (Removed c) = c
 
 -- a connection that is made has the next number
 abbrev pub IsNumbered : ConnectionEvent → List ConnectionEvent → Type 0
@@ -241,7 +241,7 @@ made_other _ c h e is = refl
 
 let_go_other : (n : ConnectionEvent) (c : ℕ) (h : List ConnectionEvent) → (c == about n) ≡ false → is_removed c (n ∷ h) ≡ is_removed c h
 let_go_other (Expired k now) c h e = ap (λ b. (b && not (ends_then c h)) || is_removed c h) e
-let_go_other (LetGo k) c h e = ap (λ b. b || is_removed c h) e
+let_go_other (Removed k) c h e = ap (λ b. b || is_removed c h) e
 let_go_other _ c h e = refl
 
 socket_other : (n : ConnectionEvent) (c : ℕ) (h : List ConnectionEvent) → (c == about n) ≡ false → socket_of c (n ∷ h) ≡ socket_of c h
@@ -282,7 +282,7 @@ alike_note n c h e is = record {
   gone = refl;
   moves = refl;
   made = made_other n c (notes h) e is;
-  let_go = let_go_other n c (notes h) e;
+  removed = let_go_other n c (notes h) e;
   socket = socket_other n c (notes h) e;
   lost = lost_other n c (notes h) e;
   poll = poll_other n c (notes h) e;

@@ -26,7 +26,7 @@ use Rattle.hub_server.proofs.Asleep.{IsMute, SaidByAll, awake_are, awake_there, 
 use Rattle.hub_server.proofs.OntoAlike.{onto_append}
 use Rattle.hub_server.proofs.Listed.{listed_last}
 use Rattle.hub_server.proofs.Rising.{left_at, rising_rest}
-use Rattle.hub_server.proofs.FlushOthersUnchanged.{Unheard, all_alike, all_unheard, same_due, same_telling, telling_tells, unheard_same, unheard_then}
+use Rattle.hub_server.proofs.FlushOthersUnchanged.{Unheard, all_alike, all_unheard, same_due, same_flushing, flushing_tells, unheard_same, unheard_then}
 
 -- ---- lists of connections
 
@@ -68,7 +68,7 @@ all_unheard_then s now (k ∷ cs) (p ∷ all) h g =
     let mine : List ServerEvent = flushing s now k p h in
     subst (λ f. Unheard f g) (sym (onto_append mine (all_flushing s now cs all h) g))
     (unheard_then (onto (all_flushing s now cs all h) (onto mine g)) (onto mine g) g
-    (all_unheard_then s now cs all h (onto mine g)) (all_unheard k mine g (telling_tells s now k (socket_of k (notes h)) p h)))
+    (all_unheard_then s now cs all h (onto mine g)) (all_unheard k mine g (flushing_tells s now k (socket_of k (notes h)) p h)))
 
 -- ---- the loop
 
@@ -133,7 +133,7 @@ module _ {H Job : Type 0} (hub : Hub Job) (s : Setup) (before : List Said) (old 
       ap (λ now. flushing_on s now c (socket_of c (notes (onto (all_flushing s (moment h) p.done p.pieces h) h))) told.pieces
       (onto (all_flushing s (moment h) p.done p.pieces h) h))
       unheard.clock
-      ∙ same_telling s (moment h) c (onto (all_flushing s (moment h) p.done p.pieces h) h) h alike unheard told.pieces
+      ∙ same_flushing s (moment h) c (onto (all_flushing s (moment h) p.done p.pieces h) h) h alike unheard told.pieces
 
   after : onto (all_flushing s (moment h) (p.done ++ c ∷ []) (p.pieces ++ told.pieces ∷ []) h) h
       ≡ onto (flushing s (moment h) c told.pieces h) (onto (all_flushing s (moment h) p.done p.pieces h) h)
@@ -146,7 +146,7 @@ module _ {H Job : Type 0} (hub : Hub Job) (s : Setup) (before : List Said) (old 
       → Alike k (onto (flushing s (moment h) c told.pieces h) (onto (all_flushing s (moment h) p.done p.pieces h) h))
       (onto (all_flushing s (moment h) p.done p.pieces h) h)
   other k e = all_alike k c (flushing s (moment h) c told.pieces h) (onto (all_flushing s (moment h) p.done p.pieces h) h) e
-      (telling_tells s (moment h) c (socket_of c (notes h)) told.pieces h)
+      (flushing_tells s (moment h) c (socket_of c (notes h)) told.pieces h)
 
   rested_each : (k : ℕ) (b : Bool) → (k == c) ≡ b → (is_listed k p.done || b) ≡ true
       → IsRested k (onto (flushing s (moment h) c told.pieces h) (onto (all_flushing s (moment h) p.done p.pieces h) h))

@@ -30,7 +30,7 @@ use Rattle.hub_server.specs.Flushes.{FlushesOne, FlushesPoll}
 use Rattle.hub_server.proofs.LaneKept.{lane_kept, same_lane_note}
 use Rattle.hub_server.proofs.OntoAlike.{onto_append}
 use Rattle.hub_server.proofs.FlushSaid.{closed_is, gone_after, is_one, standing_rests, up_there}
-use Rattle.hub_server.proofs.FlushOthersUnchanged.{all_polls, telling_tells}
+use Rattle.hub_server.proofs.FlushOthersUnchanged.{all_polls, flushing_tells}
 
 -- of what holds once all is well something else follows
 pub on_ok : {A E : Type 0} (r : Result A E) (P Q : Type 0) → (P → Q) → OnOk r P → OnOk r Q
@@ -178,7 +178,7 @@ module _ {H Job : Type 0} (hub : Hub Job) (s : Setup) (before : List Said) (v : 
 
   rested_polling : (pieces : List (List LinkFrame)) → IsRested c (onto (flushing_on s (moment h) c None pieces h) h)
   rested_polling pieces = λ at off. absurd (both_ways (is_polling c (notes (onto (flushing_on s (moment h) c None pieces h) h))) off
-      (all_polls c c (flushing_on s (moment h) c None pieces h) h (telling_tells s (moment h) c None pieces h) polls))
+      (all_polls c c (flushing_on s (moment h) c None pieces h) h (flushing_tells s (moment h) c None pieces h) polls))
 
   told_is : (o : Option (ℕ × ℕ)) (pieces : List (List LinkFrame)) → poll_of c (notes h) ≡ o
       → onto (flushing_on s (moment h) c None pieces h) h ≡ onto (flushing_some_poll s (moment h) c o (all_of pieces) h)

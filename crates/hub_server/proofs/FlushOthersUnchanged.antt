@@ -9,7 +9,7 @@ use Rattle.hd_delivery.specs.Bytes.{Does as Step_of, spelling_of}
 use Rattle.hd_calls.specs.Peers.{Plain}
 use Rattle.hd_server.specs.declared.vocabulary.Said.TheVariants as say
 use Rattle.hd_server.specs.Numbers.{held_for}
-use Rattle.hd_server.specs.Lives.{Answered, Ended, LetGo, ended_at, is_polling, poll_ended, poll_of, socket_of}
+use Rattle.hd_server.specs.Lives.{Answered, Ended, Removed, ended_at, is_polling, poll_ended, poll_of, socket_of}
 use Rattle.hd_server.specs.Machine.{Does, Goes}
 use Rattle.hd_server.specs.Doings.{ServerEvent, Notes, Works, Says, notes, moment, config_of, has_closed, has_peer, history, wants_shut, was_refused}
 use Rattle.hd_server.specs.Plans.{Setup, bare_reply, frames_reply, removing_conn, onto, replying, shutting}
@@ -25,7 +25,7 @@ Tells k (Works (Does c (Plain (Step_of (Lent f))))) = c ≡ k
 Tells k (Works (Goes c)) = c ≡ k
 Tells k (Notes (Answered c lane now)) = c ≡ k
 Tells k (Notes (Ended c now)) = c ≡ k
-Tells k (Notes (LetGo c)) = c ≡ k
+Tells k (Notes (Removed c)) = c ≡ k
 Tells k (Says x) = Unit {0}
 Tells k _ = ⊥
 
@@ -75,14 +75,14 @@ some_poll_tells : (s : Setup) (now k : ℕ) (o : Option (ℕ × ℕ)) (fs : List
 some_poll_tells s now k None fs h = tt
 some_poll_tells s now k (Some p) fs h = poll_tells s now k p fs h
 
-pub telling_tells : (s : Setup) (now k : ℕ) (o : Option ℕ) (pieces : List (List LinkFrame)) (h : List ServerEvent)
+pub flushing_tells : (s : Setup) (now k : ℕ) (o : Option ℕ) (pieces : List (List LinkFrame)) (h : List ServerEvent)
     → AllTell k (flushing_on s now k o pieces h)
-telling_tells s now k (Some lane) pieces h =
+flushing_tells s now k (Some lane) pieces h =
     join_tell k (lending k (all_of pieces) ++ writing s k lane pieces h) _
     (join_tell k (lending k (all_of pieces)) _ (lending_tells k (all_of pieces)) (writing_tells k s lane pieces h))
     (either_tell k (has_closed k h) (shutting lane h ++ removing_conn k h) [] (join_tell k (shutting lane h) _ (shutting_tells k lane h)
     (letting_tells k h)) tt)
-telling_tells s now k None pieces h =
+flushing_tells s now k None pieces h =
     either_tell k (is_polling k (notes h)) _ _
     (join_tell k (ending now k h) _ (either_tell k (has_closed k h && not (is_some (ended_at k (notes h)))) (Notes (Ended k now) ∷ []) []
     (refl, tt) tt) (some_poll_tells s now k (poll_of k (notes h)) (all_of pieces) h))
@@ -95,7 +95,7 @@ one_alike c k (Works (Does x (Plain (Step_of (Lent f))))) h n e = alike_does c x
 one_alike c k (Works (Goes x)) h n e = alike_goes c x h (ap (λ y. c == y) e ∙ n)
 one_alike c k (Notes (Answered x lane now)) h n e = alike_note (Answered x lane now) c h (ap (λ y. c == y) e ∙ n) tt
 one_alike c k (Notes (Ended x now)) h n e = alike_note (Ended x now) c h (ap (λ y. c == y) e ∙ n) tt
-one_alike c k (Notes (LetGo x)) h n e = alike_note (LetGo x) c h (ap (λ y. c == y) e ∙ n) tt
+one_alike c k (Notes (Removed x)) h n e = alike_note (Removed x) c h (ap (λ y. c == y) e ∙ n) tt
 one_alike c k (Says x) h n e = alike_says x c h
 one_alike c k d h n e = absurd e
 
@@ -126,7 +126,7 @@ one_unheard k (Works (Does x (Plain (Step_of (Lent f))))) h e = record { clock =
 one_unheard k (Works (Goes x)) h e = record { clock = refl; shut = λ lane. refl; refused = λ lane. refl }
 one_unheard k (Notes (Answered x lane now)) h e = record { clock = refl; shut = λ lane. refl; refused = λ lane. refl }
 one_unheard k (Notes (Ended x now)) h e = record { clock = refl; shut = λ lane. refl; refused = λ lane. refl }
-one_unheard k (Notes (LetGo x)) h e = record { clock = refl; shut = λ lane. refl; refused = λ lane. refl }
+one_unheard k (Notes (Removed x)) h e = record { clock = refl; shut = λ lane. refl; refused = λ lane. refl }
 one_unheard k (Says x) h e = record { clock = refl; shut = λ lane. refl; refused = λ lane. refl }
 one_unheard k d h e = absurd e
 
@@ -147,7 +147,7 @@ one_polls c k (Works (Goes x)) h t e = e
 one_polls c k (Notes (Answered x lane now)) h t e =
     ends_poll ((c == x) && is_this lane (option_map (λ (p : ℕ × ℕ). p.0) (poll_of c (notes h)))) (poll_of c (notes h)) now (poll_ended c (notes h)) e
 one_polls c k (Notes (Ended x now)) h t e = e
-one_polls c k (Notes (LetGo x)) h t e = e
+one_polls c k (Notes (Removed x)) h t e = e
 one_polls c k (Says x) h t e = e
 one_polls c k d h t e = absurd t
 
@@ -159,7 +159,7 @@ all_polls c k (d ∷ ds) h t e = all_polls c k ds (d ∷ h) t.1 (one_polls c k d
 
 module _ (s : Setup) (now c : ℕ) (g h : List ServerEvent) (alike : Alike c g h) (unheard : Unheard g h) where
   same_letting : removing_conn c g ≡ removing_conn c h
-  same_letting = ap (λ (b : Bool). (if b then Works (Goes c) ∷ [] else []) ++ Notes (LetGo c) ∷ []) (there_alike c g h alike)
+  same_letting = ap (λ (b : Bool). (if b then Works (Goes c) ∷ [] else []) ++ Notes (Removed c) ∷ []) (there_alike c g h alike)
 
   same_shutting : (lane : ℕ) → shutting lane g ≡ shutting lane h
   same_shutting lane = ap (λ (b : Bool). if b then [] else Says (say.Shut lane) ∷ []) (unheard.refused lane)
@@ -245,8 +245,8 @@ module _ (s : Setup) (now c : ℕ) (g h : List ServerEvent) (alike : Alike c g h
       same_polling = ap (λ (o : Option (ℕ × ℕ)). is_some o || is_some (poll_ended c (notes g))) alike.poll
           ∙ ap (λ (o : Option ℕ). is_some (poll_of c (notes h)) || is_some o) alike.polled
 
-  pub same_telling : (pieces : List (List LinkFrame)) → flushing_on s now c (socket_of c (notes g)) pieces g ≡ flushing s now c pieces h
-  same_telling pieces = ap (λ (o : Option ℕ). flushing_on s now c o pieces g) alike.socket ∙ same_on (socket_of c (notes h)) pieces
+  pub same_flushing : (pieces : List (List LinkFrame)) → flushing_on s now c (socket_of c (notes g)) pieces g ≡ flushing s now c pieces h
+  same_flushing pieces = ap (λ (o : Option ℕ). flushing_on s now c o pieces g) alike.socket ∙ same_on (socket_of c (notes h)) pieces
 
   -- and the same is due there
   same_due_on : (o : Option ℕ) (poll : Option (ℕ × ℕ)) (pieces : List (List LinkFrame)) → AreDueOn s c o poll pieces g → AreDueOn s c o poll pieces h

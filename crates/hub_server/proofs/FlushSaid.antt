@@ -12,7 +12,7 @@ use Rattle.hd_calls.specs.Hubs.{Hub}
 use Rattle.hd_calls.specs.Peers.{PeerEvent, Settings, codec, is_shut, steps}
 use Rattle.hd_server.specs.declared.vocabulary.Said.{Said}
 use Rattle.hd_server.specs.declared.vocabulary.Said.TheVariants as say
-use Rattle.hd_server.specs.Lives.{LetGo, is_removed, is_made}
+use Rattle.hd_server.specs.Lives.{Removed, is_removed, is_made}
 use Rattle.hd_server.specs.Machine.{Goes, has_gone, is_open_at, moves, settings_of}
 use Rattle.hd_server.specs.Doings.{ServerEvent, Notes, Works, Says, config_of, config_with, has_closed, has_peer, history, history_with, is_up, moment}
 use Rattle.hd_server.specs.Doings.{notes, peer, wants_shut, was_refused, work}
@@ -106,7 +106,7 @@ known_mild c g h x k = record {
 }
 
 pub letting_mild : (c : ℕ) (g h : List ServerEvent) → Mild c g h → removing_conn c g ≡ removing_conn c h
-letting_mild c g h x = ap (λ (b : Bool). (if b then Works (Goes c) ∷ [] else []) ++ Notes (LetGo c) ∷ []) x.there
+letting_mild c g h x = ap (λ (b : Bool). (if b then Works (Goes c) ∷ [] else []) ++ Notes (Removed c) ∷ []) x.there
 
 pub shutting_mild : (c lane : ℕ) (g h : List ServerEvent) → Mild c g h → shutting lane g ≡ shutting lane h
 shutting_mild c lane g h x = ap (λ (b : Bool). if b then [] else Says (say.Shut lane) ∷ []) (x.refused lane)
@@ -131,7 +131,7 @@ up_there c g = go (settings_of c (work g)) (has_gone c (work g)) (peer c g)
 -- one of which nothing is kept is there no more
 pub gone_after : (c : ℕ) (g h : List ServerEvent) → has_peer c h ≡ true → has_peer c (onto (removing_conn c h) g) ≡ false
 gone_after c g h there =
-    subst (λ (b : Bool). has_peer c (onto ((if b then Works (Goes c) ∷ [] else []) ++ Notes (LetGo c) ∷ []) g) ≡ false) (sym there)
+    subst (λ (b : Bool). has_peer c (onto ((if b then Works (Goes c) ∷ [] else []) ++ Notes (Removed c) ∷ []) g) ≡ false) (sym there)
     (subst (λ (b : Bool). (is_some (settings_of c (work g)) && not (b || has_gone c (work g))) ≡ false) (sym (eq-eqb c c refl))
     (none (is_some (settings_of c (work g)))))
   where

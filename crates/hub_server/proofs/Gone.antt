@@ -4,7 +4,7 @@ use Rattle.std.specs.Prelude.{if◌then◌else◌, option_map}
 use Rattle.std.proofs.lemmas.Bool.{and_from, and_right, both_ways, cond-false, cond-true, eq-eqb, eqb-true, false_from_ne_true, or_cases, or_left}
 use Rattle.std.proofs.lemmas.Bool.{or_right}
 use Rattle.hd_delivery.specs.Histories.{is_this}
-use Rattle.hd_server.specs.Lives.{LetGo, is_removed, is_polling, lost_at, poll_ended, poll_of, socket_of}
+use Rattle.hd_server.specs.Lives.{Removed, is_removed, is_polling, lost_at, poll_ended, poll_of, socket_of}
 use Rattle.hd_server.specs.Machine.{Goes, has_gone, settings_of}
 use Rattle.hd_server.specs.Doings.{ServerEvent, Notes, Works, has_peer, moment, notes, said, user_of, work}
 use Rattle.hub_server.specs.declared.lane.Lane.{Lane}
@@ -144,21 +144,21 @@ pub record Freed (c : ℕ) (g h : List ServerEvent) : Type 0 where
   pub same_moment : moment g ≡ moment h
   pub same_words : said g ≡ said h
 
-let_go_now : (c : ℕ) (h : List ServerEvent) → is_removed c (notes (Notes (LetGo c) ∷ h)) ≡ true
+let_go_now : (c : ℕ) (h : List ServerEvent) → is_removed c (notes (Notes (Removed c) ∷ h)) ≡ true
 let_go_now c h = or_left (c == c) (is_removed c (notes h)) (eq-eqb c c refl)
 
 none_calls : (c : ℕ) (h : List ServerEvent) → is_removed c (notes h) ≡ true → caller_of c h ≡ None
 none_calls c h e = cond-true _ None (user_of c h) (or_right (is_some (settings_of c (work h))) (is_removed c (notes h)) e)
 
-gone_now : (c : ℕ) (h : List ServerEvent) → has_peer c (Notes (LetGo c) ∷ Works (Goes c) ∷ h) ≡ false
+gone_now : (c : ℕ) (h : List ServerEvent) → has_peer c (Notes (Removed c) ∷ Works (Goes c) ∷ h) ≡ false
 gone_now c h = and_right (is_some (settings_of c (work h))) _ (ap (λ b. not (b || has_gone c (work h))) (eq-eqb c c refl))
 
-pub freed_there : (c : ℕ) (h : List ServerEvent) → Freed c (Notes (LetGo c) ∷ Works (Goes c) ∷ h) h
+pub freed_there : (c : ℕ) (h : List ServerEvent) → Freed c (Notes (Removed c) ∷ Works (Goes c) ∷ h) h
 freed_there c h = record {
-  others = λ k e. alike_trans k (Notes (LetGo c) ∷ Works (Goes c) ∷ h) (Works (Goes c) ∷ h) h
-      (alike_note (LetGo c) k (Works (Goes c) ∷ h) e tt) (alike_goes k c h e);
-  lanes = λ l. same_lane_trans l (Notes (LetGo c) ∷ Works (Goes c) ∷ h) (Works (Goes c) ∷ h) h
-      (same_lane_note l (LetGo c) (Works (Goes c) ∷ h)) (same_lane_works l (Goes c) h);
+  others = λ k e. alike_trans k (Notes (Removed c) ∷ Works (Goes c) ∷ h) (Works (Goes c) ∷ h) h
+      (alike_note (Removed c) k (Works (Goes c) ∷ h) e tt) (alike_goes k c h e);
+  lanes = λ l. same_lane_trans l (Notes (Removed c) ∷ Works (Goes c) ∷ h) (Works (Goes c) ∷ h) h
+      (same_lane_note l (Removed c) (Works (Goes c) ∷ h)) (same_lane_works l (Goes c) h);
   sockets = λ k. refl;
   absent = gone_now c h;
   orderly = λ u v o. record {
@@ -177,16 +177,16 @@ freed_there c h = record {
     handled = o.handled;
     taken = o.taken;
   };
-  uncalled = none_calls c (Notes (LetGo c) ∷ Works (Goes c) ∷ h) (let_go_now c h);
+  uncalled = none_calls c (Notes (Removed c) ∷ Works (Goes c) ∷ h) (let_go_now c h);
   begun = λ k. refl;
   same_moment = refl;
   same_words = refl;
 }
 
-pub freed_absent : (c : ℕ) (h : List ServerEvent) → has_peer c h ≡ false → Freed c (Notes (LetGo c) ∷ h) h
+pub freed_absent : (c : ℕ) (h : List ServerEvent) → has_peer c h ≡ false → Freed c (Notes (Removed c) ∷ h) h
 freed_absent c h none = record {
-  others = λ k e. alike_note (LetGo c) k h e tt;
-  lanes = λ l. same_lane_note l (LetGo c) h;
+  others = λ k e. alike_note (Removed c) k h e tt;
+  lanes = λ l. same_lane_note l (Removed c) h;
   sockets = λ k. refl;
   absent = none;
   orderly = λ u v o. record {
@@ -205,7 +205,7 @@ freed_absent c h none = record {
     handled = o.handled;
     taken = o.taken;
   };
-  uncalled = none_calls c (Notes (LetGo c) ∷ h) (let_go_now c h);
+  uncalled = none_calls c (Notes (Removed c) ∷ h) (let_go_now c h);
   begun = λ k. refl;
   same_moment = refl;
   same_words = refl;

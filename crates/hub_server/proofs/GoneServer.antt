@@ -15,7 +15,7 @@ use Rattle.hd_calls.specs.Hubs.{Hub}
 use Rattle.hd_calls.specs.Peers.{Settings}
 use Rattle.hd_server.specs.declared.vocabulary.Said.{Said}
 use Rattle.hd_server.specs.declared.vocabulary.Said.TheVariants as say
-use Rattle.hd_server.specs.Lives.{Answered, LaneLost, LetGo, ConnectionEvent, is_made, is_polling, lost_at, poll_ended, poll_of, socket_of}
+use Rattle.hd_server.specs.Lives.{Answered, LaneLost, Removed, ConnectionEvent, is_made, is_polling, lost_at, poll_ended, poll_of, socket_of}
 use Rattle.hd_server.specs.Machine.{Goes, MachineEvent, has_gone, is_there, moves, settings_of}
 use Rattle.hd_server.specs.Doings.{ServerEvent, Notes, Says, Works, config_of, has_peer, history, may_resume, is_up, moment, notes, said, wants_shut}
 use Rattle.hd_server.specs.Doings.{was_refused, work}
@@ -145,14 +145,14 @@ module _ {H Job : Type 0} (hub : Hub Job) (s : Setup) (u : Unsettled) (before : 
   }
 
   pub lets_go : ((t : Settings) → settings_there c (work h) ≡ Some t → StandsMachine {H = H} hub new.machine (Goes c ∷ work h))
-      → (settings_there c (work h) ≡ None → StandsMachine {H = H} hub new.machine (work h)) → front.Stands new.front (LetGo c ∷ notes h)
+      → (settings_there c (work h) ≡ None → StandsMachine {H = H} hub new.machine (work h)) → front.Stands new.front (Removed c ∷ notes h)
       → Frees {H = H} hub s u before new c h (onto (removing_conn c h) h)
   lets_go goes stays fronts = go (has_peer c h) refl
     where
       go : (b : Bool) → has_peer c h ≡ b
-          → Frees {H = H} hub s u before new c h (onto ((if b then Works (Goes c) ∷ [] else []) ++ Notes (LetGo c) ∷ []) h)
-      go true e = let t = there_settings c (work h) e in frees (Notes (LetGo c) ∷ Works (Goes c) ∷ h) (freed_there c h) (goes t.0 t.1) fronts
-      go false e = frees (Notes (LetGo c) ∷ h) (freed_absent c h e) (stays (absent_settings c (work h) e)) fronts
+          → Frees {H = H} hub s u before new c h (onto ((if b then Works (Goes c) ∷ [] else []) ++ Notes (Removed c) ∷ []) h)
+      go true e = let t = there_settings c (work h) e in frees (Notes (Removed c) ∷ Works (Goes c) ∷ h) (freed_there c h) (goes t.0 t.1) fronts
+      go false e = frees (Notes (Removed c) ∷ h) (freed_absent c h e) (stays (absent_settings c (work h) e)) fronts
 
 -- ---- one that lost its lane
 

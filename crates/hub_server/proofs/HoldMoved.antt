@@ -134,7 +134,7 @@ module _ (k at : ℕ) (is_last : Bool) (now : ℕ) (h mid : List ServerEvent) (p
       nobody = λ c. nobody c (c == k) refl;
     };
     can = record {
-      known = record { made = (same k).made ∙ can.known.made; held = (same k).let_go ∙ can.known.held };
+      known = record { made = (same k).made ∙ can.known.made; held = (same k).removed ∙ can.known.held };
       there = there;
       unsocketed = unsocketed;
       unlost = (same k).lost ∙ can.unlost;

@@ -46,7 +46,7 @@ no_some o n e f = both_ways (is_some o) (ap (λ (p : Option ℕ). is_some p) e) 
 -- a connection that polls, and stands on no socket, is in order whatever wasn't settled
 module _ (u v : Unsettled) (k : ℕ) (g h : List ServerEvent) (same : work g ≡ work h) (moments : moment g ≡ moment h)
     (made : is_made k (notes g) ≡ is_made k (notes h))
-    (let_go : is_removed k (notes g) ≡ is_removed k (notes h)) (socket : socket_of k (notes g) ≡ None) (lost : lost_at k (notes g) ≡ None)
+    (removed : is_removed k (notes g) ≡ is_removed k (notes h)) (socket : socket_of k (notes g) ≡ None) (lost : lost_at k (notes g) ≡ None)
     (polling : is_polling k (notes g) ≡ true) (begun : is_some (settings_of k (work h)) ≡ true) (o : IsOrderly u k h) where
   unlost : is_some (lost_at k (notes g)) ≡ false
   unlost = ap (λ (p : Option ℕ). is_some p) lost
@@ -54,8 +54,8 @@ module _ (u v : Unsettled) (k : ℕ) (g h : List ServerEvent) (same : work g ≡
   pub polls_orderly : IsOrderly v k g
   polls_orderly = record {
     made = λ e. made ∙ o.made begun;
-    there = λ e. let_go ∙ o.there (subst (λ w. is_there k w ≡ true) same e);
-    gone = λ e f. let_go ∙ o.gone begun (subst (λ w. is_there k w ≡ false) same f);
+    there = λ e. removed ∙ o.there (subst (λ w. is_there k w ≡ true) same e);
+    gone = λ e f. removed ∙ o.gone begun (subst (λ w. is_there k w ≡ false) same f);
     one_way = and_left (is_some (socket_of k (notes g)) || is_some (lost_at k (notes g))) (is_polling k (notes g))
         (or_from (is_some (socket_of k (notes g))) (is_some (lost_at k (notes g))) (ap (λ (p : Option ℕ). is_some p) socket) unlost);
     ended = λ e. polling;

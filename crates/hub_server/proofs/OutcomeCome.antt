@@ -7,7 +7,7 @@ use Rattle.hd_delivery.specs.declared.vocabulary.Reason.{Reason}
 use Rattle.hd_delivery.specs.Histories.{Closed, is_this}
 use Rattle.hd_calls.specs.Peers.{PeerEvent}
 use Rattle.hd_server.specs.declared.vocabulary.Said.TheVariants as say
-use Rattle.hd_server.specs.Lives.{Answered, LetGo, is_polling, poll_ended, poll_of, socket_of}
+use Rattle.hd_server.specs.Lives.{Answered, Removed, is_polling, poll_ended, poll_of, socket_of}
 use Rattle.hd_server.specs.Machine.{MachineEvent, Does, Goes, has_gone, is_open, is_there, settings_of}
 use Rattle.hd_server.specs.Doings.{ServerEvent, Notes, Says, Works, awaits_reply, has_peer, is_up, notes, wants_shut, was_refused, work}
 use Rattle.hd_server.specs.Plans.{Setup, PendingRequest, bare_reply, closing, ending_held, ending_poll, removing_conn, onto, replying, shutting, shutting_some, standing_on, step}
@@ -59,7 +59,7 @@ replying_stays lane reply g h s =
 stays_does : (lane k : ℕ) (m : PeerEvent) (h : List ServerEvent) → Stays lane (Works (Does k m) ∷ h) h
 stays_does lane k m h = record { awaits = refl; shut = refl; refused = refl; nobody = λ n. n }
 
-stays_lets : (lane k : ℕ) (h : List ServerEvent) → Stays lane (Notes (LetGo k) ∷ h) h
+stays_lets : (lane k : ℕ) (h : List ServerEvent) → Stays lane (Notes (Removed k) ∷ h) h
 stays_lets lane k h = record { awaits = refl; shut = refl; refused = refl; nobody = λ n. n }
 
 pub stays_shut : (lane k : ℕ) (h : List ServerEvent) → Stays lane (Says (say.Shut k) ∷ h) h
@@ -163,7 +163,7 @@ pub closed_stays : (lane c : ℕ) (why : Reason) (g h : List ServerEvent) → St
 closed_stays lane c why g h = go (is_up c g) (has_peer c g)
   where
     go : (a b : Bool)
-        → Stays lane (onto ((if a then step c (Closed why false) ∷ [] else []) ++ ((if b then Works (Goes c) ∷ [] else []) ++ Notes (LetGo c) ∷ []))
+        → Stays lane (onto ((if a then step c (Closed why false) ∷ [] else []) ++ ((if b then Works (Goes c) ∷ [] else []) ++ Notes (Removed c) ∷ []))
         h) h
     go true true = stays_then lane _ _ h (stays_lets lane c _) (stays_then lane _ _ h (stays_goes lane c _) (stays_does lane c _ h))
     go true false = stays_then lane _ _ h (stays_lets lane c _) (stays_does lane c _ h)
@@ -185,7 +185,7 @@ deleted_so lane c now why reply h s =
     let says : List ServerEvent = replying lane reply h in
     let as_before : closing c why ended ++ removing_conn c ended ≡ closes ++ lets =
     ap (λ (w : List MachineEvent). (if is_open c w then step c (Closed why false) ∷ [] else [])
-    ++ ((if is_there c w then Works (Goes c) ∷ [] else []) ++ Notes (LetGo c) ∷ [])) (ended_work c now h) in
+    ++ ((if is_there c w then Works (Goes c) ∷ [] else []) ++ Notes (Removed c) ∷ [])) (ended_work c now h) in
     ap (λ (xs : List ServerEvent). onto xs gone) (replying_stays lane reply gone h s)
     ∙ ap (λ (xs : List ServerEvent). onto says (onto xs ended)) as_before
     ∙ ap (λ (g : List ServerEvent). onto says g) (onto_append closes lets ended)

@@ -7,7 +7,7 @@ use Rattle.std.proofs.lemmas.Bool.{and_from, and_parts, and_right, eqb-true, leb
 use Rattle.std.specs.Cmp.{unsigned_tied}
 use Rattle.hd_calls.specs.Hubs.{Hub}
 use Rattle.hd_server.specs.declared.vocabulary.Said.{Said}
-use Rattle.hd_server.specs.Lives.{ConnectionEvent, Answered, Ended, Expired, LaneLost, LetGo, Negotiated, Opened, Polled, Socketed, is_removed, is_made, is_opened, made, negotiated_at, poll_ended}
+use Rattle.hd_server.specs.Lives.{ConnectionEvent, Answered, Ended, Expired, LaneLost, Removed, Negotiated, Opened, Polled, Socketed, is_removed, is_made, is_opened, made, negotiated_at, poll_ended}
 use Rattle.hd_server.specs.Texts.{token_of}
 use Rattle.hd_server.specs.Machine.{has_gone, settings_of}
 use Rattle.hd_server.specs.Doings.{ServerEvent, Draws, Hears, Learns, Notes, Says, Works, name_now, notes, user_of, work}
@@ -185,7 +185,7 @@ nobodys c (Notes (Answered k lane now) ∷ h) o n = nobodys c h o n
 nobodys c (Notes (LaneLost k lane now) ∷ h) o n = nobodys c h o n
 nobodys c (Notes (Ended k now) ∷ h) o n = nobodys c h o n
 nobodys c (Notes (Expired k now) ∷ h) o n = nobodys c h o n
-nobodys c (Notes (LetGo k) ∷ h) o n = nobodys c h o n
+nobodys c (Notes (Removed k) ∷ h) o n = nobodys c h o n
 nobodys c (Hears now event ∷ h) o n = nobodys c h o n
 nobodys c (Learns asked ∷ h) o n = nobodys c h o n
 nobodys c (Draws drawn ∷ h) o n = nobodys c h o n

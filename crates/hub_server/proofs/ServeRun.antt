@@ -12,7 +12,7 @@ use Rattle.hw_door.specs.declared.heard.Given.{Given}
 use Rattle.hw_door.specs.declared.heard.Heard.{Heard}
 use Rattle.hw_door.specs.declared.error.DoorError.{DoorError}
 use Rattle.hw_door.specs.declared.error.DoorError.TheVariants as door
-use Rattle.hw_door.specs.Calls.{IsCaused, Told, with_heard}
+use Rattle.hw_door.specs.Calls.{IsCaused, Trace, with_heard}
 use Rattle.hd_server.specs.declared.vocabulary.Said.{Said}
 use Rattle.hd_server.specs.declared.vocabulary.Said.TheVariants as say
 use Rattle.hd_server.specs.Doings.{ServerEvent, moment}
@@ -71,14 +71,14 @@ later_replies (say.Bytes lane bytes text) words x = x
 later_replies (say.Shut lane) words x = x
 
 -- the door took nothing of these words
-pub gives_none : (before now : Option Told) (word : Said) (words : List Said) → now ≡ before → GivesAll before now (word ∷ words) false
-gives_none before now word words same = record { given = []; told = more before now same; all = (given_as word, (map given_as words, refl)) }
+pub gives_none : (before now : Option Trace) (word : Said) (words : List Said) → now ≡ before → GivesAll before now (word ∷ words) false
+gives_none before now word words same = record { given = []; trace = more before now same; all = (given_as word, (map given_as words, refl)) }
   where
-    more : (before now : Option Told) → now ≡ before → GivesMore before now []
+    more : (before now : Option Trace) → now ≡ before → GivesMore before now []
     more None now e = subst (λ o. GivesMore None o []) (sym e) tt
     more (Some b) now e = subst (λ o. GivesMore (Some b) o []) (sym e) (refl, refl, sym (append-nil b.given))
 
-more_then : (a b c : Option Told) (gs ks : List Given) → GivesMore a b gs → GivesMore b c ks → GivesMore a c (gs ++ ks)
+more_then : (a b c : Option Trace) (gs ks : List Given) → GivesMore a b gs → GivesMore b c ks → GivesMore a c (gs ++ ks)
 more_then None None None gs ks x y = tt
 more_then None None (Some c) gs ks x y = absurd y
 more_then None (Some b) c gs ks x y = absurd x
@@ -92,18 +92,18 @@ map_append [] ys = refl
 map_append (x ∷ xs) ys = ap (λ l. given_as x ∷ l) (map_append xs ys)
 
 -- nothing is given of no words
-pub gives_start : (o : Option Told) → GivesAll o o [] true
-gives_start o = record { given = []; told = none o; all = refl }
+pub gives_start : (o : Option Trace) → GivesAll o o [] true
+gives_start o = record { given = []; trace = none o; all = refl }
   where
-    none : (o : Option Told) → GivesMore o o []
+    none : (o : Option Trace) → GivesMore o o []
     none None = tt
     none (Some t) = (refl, refl, sym (append-nil t.given))
 
 -- all of these words are given after all of those
-pub gives_more : (a b c : Option Told) (xs ys : List Said) → GivesAll a b xs true → GivesAll b c ys true → GivesAll a c (xs ++ ys) true
+pub gives_more : (a b c : Option Trace) (xs ys : List Said) → GivesAll a b xs true → GivesAll b c ys true → GivesAll a c (xs ++ ys) true
 gives_more a b c xs ys x y = record {
   given = x.given ++ y.given;
-  told = more_then a b c x.given y.given x.told y.told;
+  trace = more_then a b c x.given y.given x.trace y.trace;
   all = ap (λ l. l ++ y.given) x.all ∙ ap (λ l. map given_as xs ++ l) y.all ∙ sym (map_append xs ys);
 }
 
@@ -114,11 +114,11 @@ begins xs ys mx my mr p next e f =
     ∙ ap (λ l. xs ++ l) (sym (append_assoc (ys ++ next ∷ []) p mr)) ∙ ap (λ l. xs ++ (l ++ mr)) f ∙ ap (λ l. l ++ (my ++ mr)) e
 
 -- not all of these words are given after all of those, and so nothing of the rest
-pub gives_short : (a b c : Option Told) (xs ys rest : List Said) → GivesAll a b xs true → GivesAll b c ys false
+pub gives_short : (a b c : Option Trace) (xs ys rest : List Said) → GivesAll a b xs true → GivesAll b c ys false
     → GivesAll a c (xs ++ (ys ++ rest)) false
 gives_short a b c xs ys rest x y = record {
   given = x.given ++ y.given;
-  told = more_then a b c x.given y.given x.told y.told;
+  trace = more_then a b c x.given y.given x.trace y.trace;
   all = (
     y.all.0,
     (
@@ -132,28 +132,28 @@ gives_short a b c xs ys rest x y = record {
 -- ---- what was heard
 
 -- it was heard, and this was given
-pub tells_answer : (a b c : Option Told) (e : Heard) (wait : ℕ) (gs : List Given) → b ≡ option_map (with_heard wait e) a → GivesMore b c gs
+pub tells_answer : (a b c : Option Trace) (e : Heard) (wait : ℕ) (gs : List Given) → b ≡ option_map (with_heard wait e) a → GivesMore b c gs
     → TellsMore a c (e ∷ []) (wait ∷ []) gs
 tells_answer None b c e wait gs heard more = go c (subst (λ o. GivesMore o c gs) heard more)
   where
-    go : (c : Option Told) → GivesMore None c gs → TellsMore None c (e ∷ []) (wait ∷ []) gs
+    go : (c : Option Trace) → GivesMore None c gs → TellsMore None c (e ∷ []) (wait ∷ []) gs
     go None x = tt
     go (Some c) x = absurd x
 tells_answer (Some a) b c e wait gs heard more = go c (subst (λ o. GivesMore o c gs) heard more)
   where
-    go : (c : Option Told) → GivesMore (Some (with_heard wait e a)) c gs → TellsMore (Some a) c (e ∷ []) (wait ∷ []) gs
+    go : (c : Option Trace) → GivesMore (Some (with_heard wait e a)) c gs → TellsMore (Some a) c (e ∷ []) (wait ∷ []) gs
     go None x = absurd x
     go (Some c) x = (x.0, x.1, x.2)
 
-more_none : (o : Option Told) → GivesMore o o []
+more_none : (o : Option Trace) → GivesMore o o []
 more_none None = tt
 more_none (Some t) = (refl, refl, sym (append-nil t.given))
 
-tells_none : (o : Option Told) → TellsMore o o [] [] []
+tells_none : (o : Option Trace) → TellsMore o o [] [] []
 tells_none None = tt
 tells_none (Some t) = (sym (append-nil t.heard), sym (append-nil t.waits), sym (append-nil t.given))
 
-tells_then : (a b c : Option Told) (es fs : List Heard) (ws vs : List ℕ) (gs ks : List Given) → TellsMore a b es ws gs → TellsMore b c fs vs ks
+tells_then : (a b c : Option Trace) (es fs : List Heard) (ws vs : List ℕ) (gs ks : List Given) → TellsMore a b es ws gs → TellsMore b c fs vs ks
     → TellsMore a c (es ++ fs) (ws ++ vs) (gs ++ ks)
 tells_then None None None es fs ws vs gs ks x y = tt
 tells_then None None (Some c) es fs ws vs gs ks x y = absurd y
@@ -216,18 +216,18 @@ serves_then {Job} hub s cut P Q R S fs vs more on h (e ∷ es) (w ∷ ws) given 
 -- ---- one turn
 
 -- nothing was heard
-pub served_nothing : {H Job : Type 0} (hub : Hub Job) (x : Server H Job) (at : Outside) (a b : Option Told) (first last : ℕ) (why : ServeFault) → b ≡ a → last ≡ first
+pub served_nothing : {H Job : Type 0} (hub : Hub Job) (x : Server H Job) (at : Outside) (a b : Option Trace) (first last : ℕ) (why : ServeFault) → b ≡ a → last ≡ first
     → HasServed {H = H} hub x x at at a b first last 1 (Some why)
 served_nothing {H} hub x at a b first last why same still = record {
   heard = [];
   waits = [];
   given = [];
-  told = subst (λ o. TellsMore a o [] [] []) (sym same) (tells_none a);
+  trace = subst (λ o. TellsMore a o [] [] []) (sym same) (tells_none a);
   count = omega arith;
   serves = λ s h stands before. (refl, record { stands = stands; went = went_none at h; timely = subst (λ n. moment h ≤ n) (sym still) before });
 }
 
-module _ {H Job : Type 0} (hub : Hub Job) (old new : Server H Job) (at since : Outside) (a b c : Option Told) (first last wait : ℕ) (e : Heard) where
+module _ {H Job : Type 0} (hub : Hub Job) (old new : Server H Job) (at since : Outside) (a b c : Option Trace) (first last wait : ℕ) (e : Heard) where
   -- memory ran out before anything was said
   pub served_ended : b ≡ option_map (with_heard wait e) a → (first ≤ e.now) × (last ≡ e.now) → new.is_ended ≡ true
       → ((s : Setup) (h : List ServerEvent) → StandsServer {H = H} hub s old h → wait ≡ wait_for h)
@@ -236,7 +236,7 @@ module _ {H Job : Type 0} (hub : Hub Job) (old new : Server H Job) (at since : O
     heard = e ∷ [];
     waits = wait ∷ [];
     given = [];
-    told = tells_answer a b b e wait [] heard (more_none b);
+    trace = tells_answer a b b e wait [] heard (more_none b);
     count = omega arith;
     serves = λ s h stands before. (
       waited s h stands,
@@ -268,7 +268,7 @@ module _ {H Job : Type 0} (hub : Hub Job) (old new : Server H Job) (at since : O
     heard = e ∷ [];
     waits = wait ∷ [];
     given = gives.given;
-    told = tells_answer a b c e wait gives.given heard gives.told;
+    trace = tells_answer a b c e wait gives.given heard gives.trace;
     count = count r;
     serves = λ s h stands before. (
       waited s h stands,
@@ -313,7 +313,7 @@ ended_as None P Q h f x = x
 ended_as (Some fault.Door) P Q h f x = x
 ended_as (Some fault.NoMemory) P Q h f x = f x
 
-pub served_then : {H Job : Type 0} (hub : Hub Job) (x y z : Server H Job) (at mid since : Outside) (a b c : Option Told)
+pub served_then : {H Job : Type 0} (hub : Hub Job) (x y z : Server H Job) (at mid since : Outside) (a b c : Option Trace)
     (first then_at last n turns : ℕ) (why : Option ServeFault)
     → AnswersJoin → (is_some why ≡ false → turns ≡ n + 1) → n + 1 ≤ turns
     → HasServed {H = H} hub x y at mid a b first then_at n None → HasServed {H = H} hub y z mid since b c then_at last 1 why
@@ -322,7 +322,7 @@ served_then {H} hub x y z at mid since a b c first then_at last n turns why join
   heard = f.heard ++ g.heard;
   waits = f.waits ++ g.waits;
   given = f.given ++ g.given;
-  told = tells_then a b c f.heard g.heard f.waits g.waits f.given g.given f.told g.told;
+  trace = tells_then a b c f.heard g.heard f.waits g.waits f.given g.given f.trace g.trace;
   count = turns_then why n turns f.heard g.heard f.count g.count whole few;
   serves = λ s h stands before.
       serves_then hub s (is_some why) (AtEnd {H = H} hub s y at mid then_at h) (IfMemoryEnds None (HasEnded {H = H} y at then_at h))
@@ -341,33 +341,33 @@ served_then {H} hub x y z at mid since a b c first then_at last n turns why join
 }
 
 -- before the first turn
-pub served_none : {H Job : Type 0} (hub : Hub Job) (x : Server H Job) (at : Outside) (a : Option Told) (first : ℕ)
+pub served_none : {H Job : Type 0} (hub : Hub Job) (x : Server H Job) (at : Outside) (a : Option Trace) (first : ℕ)
     → HasServed {H = H} hub x x at at a a first first 0 None
 served_none {H} hub x at a first = record {
   heard = [];
   waits = [];
   given = [];
-  told = tells_none a;
+  trace = tells_none a;
   count = refl;
   serves = λ s h stands before. (refl, record { stands = stands; went = went_none at h; timely = before });
 }
 
 -- ---- the same in other words
 
-pub served_count : {H Job : Type 0} {hub : Hub Job} {x y : Server H Job} {at since : Outside} {a b : Option Told}
+pub served_count : {H Job : Type 0} {hub : Hub Job} {x y : Server H Job} {at since : Outside} {a b : Option Trace}
     {first last : ℕ} {why : Option ServeFault} (n turns : ℕ) → n ≡ turns
     → HasServed {H = H} {Job = Job} hub x y at since a b first last n why → HasServed {H = H} {Job = Job} hub x y at since a b first last turns why
 served_count {H} {Job} {hub} {x} {y} {at} {since} {a} {b} {first} {last} {why} n turns same f =
     subst (λ k. HasServed {H = H} {Job = Job} hub x y at since a b first last k why) same f
 
 -- after whatever fault, and after this one
-pub err_served : {H Job A : Type 0} {hub : Hub Job} {x y : Server H Job} {at since : Outside} {a b : Option Told} {first last turns : ℕ}
+pub err_served : {H Job A : Type 0} {hub : Hub Job} {x y : Server H Job} {at since : Outside} {a b : Option Trace} {first last turns : ℕ}
     (r : Result A ServeFault) → IsErr r → ((why : ServeFault) → HasServed {H = H} {Job = Job} hub x y at since a b first last turns (Some why))
     → HasServed {H = H} {Job = Job} hub x y at since a b first last turns (result_err r)
 err_served (Ok x) err f = absurd (let z : false ≡ true = err in cc)
 err_served (Err why) err f = f why
 
-pub same_served : {H Job A : Type 0} {hub : Hub Job} {x y : Server H Job} {at since : Outside} {a b : Option Told} {first last turns : ℕ}
+pub same_served : {H Job A : Type 0} {hub : Hub Job} {x y : Server H Job} {at since : Outside} {a b : Option Trace} {first last turns : ℕ}
     (r : Result A ServeFault) (why : ServeFault) → IsErrAnd r (λ e. e ≡ why) → HasServed {H = H} {Job = Job} hub x y at since a b first last turns (Some why)
     → HasServed {H = H} {Job = Job} hub x y at since a b first last turns (result_err r)
 same_served {H} {Job} {A} {hub} {x} {y} {at} {since} {a} {b} {first} {last} {turns} r why err f =

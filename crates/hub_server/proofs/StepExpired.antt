@@ -10,7 +10,7 @@ use Rattle.hd_delivery.specs.Bytes.{Does as Step_of}
 use Rattle.hd_calls.specs.Peers.{Plain}
 use Rattle.hd_server.specs.declared.vocabulary.Life.{Life}
 use Rattle.hd_server.specs.declared.vocabulary.Life.TheVariants.{Unknown, Fresh, Socket, Lost, Polling, Ending}
-use Rattle.hd_server.specs.Lives.{ConnectionEvent, Negotiated, Opened, Socketed, Polled, Answered, LaneLost, Ended, Expired, LetGo}
+use Rattle.hd_server.specs.Lives.{ConnectionEvent, Negotiated, Opened, Socketed, Polled, Answered, LaneLost, Ended, Expired, Removed}
 use Rattle.hd_server.specs.Lives.{is_removed, is_opened, is_polling, ended_at, lost_at, negotiated_at, overdue, socket_of, standing, when}
 use Rattle.hd_server.specs.Machine.{Connects, Does, Goes, Rounds, Carries, has_gone, settings_of}
 use Rattle.hd_server.specs.Doings.{ServerEvent, Hears, Learns, Draws, Notes, Works, Says}
@@ -107,7 +107,7 @@ one_wanes (Notes (Polled c lane now)) h a = absurd a
 one_wanes (Notes (Answered c lane now)) h a = absurd a
 one_wanes (Notes (LaneLost c lane now)) h a = absurd a
 one_wanes (Notes (Ended c now)) h a = absurd a
-one_wanes (Notes (LetGo c)) h a = absurd a
+one_wanes (Notes (Removed c)) h a = absurd a
 one_wanes (Notes (Expired c now)) h a = record {
   waits = λ lane. refl;
   shut = λ lane. refl;

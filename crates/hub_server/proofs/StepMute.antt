@@ -12,7 +12,7 @@ use Rattle.hw_door.specs.declared.heard.Event.TheVariants as event
 use Rattle.hd_server.specs.declared.vocabulary.Life.{Life}
 use Rattle.hd_server.specs.declared.vocabulary.Life.TheVariants.{Polling}
 use Rattle.hd_server.specs.Numbers.{held_for}
-use Rattle.hd_server.specs.Lives.{Answered, Ended, LetGo, Opened, made, is_resumable_promise, standing, socket_of, poll_of, is_polling, ended_at, overdue}
+use Rattle.hd_server.specs.Lives.{Answered, Ended, Removed, Opened, made, is_resumable_promise, standing, socket_of, poll_of, is_polling, ended_at, overdue}
 use Rattle.hd_server.specs.Texts.{token_of, negotiate_body}
 use Rattle.hd_server.specs.declared.vocabulary.Outcome.{Outcome}
 use Rattle.hd_server.specs.declared.vocabulary.Outcome.TheVariants.{Refusal, NewToken, PlainSocket, TokenSocket, FirstPoll, NextPoll, LastPoll, Posting, Deletion}
@@ -56,7 +56,7 @@ each f (c ∷ cs) a = join (f c) (flat_map f cs) (a c) (each f cs a)
 -- ---- the parts of a turn
 
 letting : (c : ℕ) (h : List ServerEvent) → AreMute (removing_conn c h)
-letting c h = join (dropping c h) (Notes (LetGo c) ∷ []) (either (has_peer c h) (Works (Goes c) ∷ []) [] (tt, tt) tt) (tt, tt)
+letting c h = join (dropping c h) (Notes (Removed c) ∷ []) (either (has_peer c h) (Works (Goes c) ∷ []) [] (tt, tt) tt) (tt, tt)
 
 closes : (c : ℕ) (why : Reason) (h : List ServerEvent) → AreMute (closing c why h)
 closes c why h = either (is_up c h) _ [] (tt, tt) tt
@@ -159,12 +159,12 @@ some_poll_tells : (s : Setup) (now k : ℕ) (o : Option (ℕ × ℕ)) (fs : List
 some_poll_tells s now k None fs h = tt
 some_poll_tells s now k (Some p) fs h = poll_tells s now k p fs h
 
-telling_tells : (s : Setup) (now k : ℕ) (o : Option ℕ) (pieces : List (List LinkFrame)) (h : List ServerEvent) → AreMute (flushing_on s now k o pieces h)
-telling_tells s now k (Some lane) pieces h =
+flushing_tells : (s : Setup) (now k : ℕ) (o : Option ℕ) (pieces : List (List LinkFrame)) (h : List ServerEvent) → AreMute (flushing_on s now k o pieces h)
+flushing_tells s now k (Some lane) pieces h =
     join (lending k (all_of pieces) ++ writing s k lane pieces h) _
     (join (lending k (all_of pieces)) _ (lending_tells k (all_of pieces)) (writing_tells k s lane pieces h))
     (either (has_closed k h) (shutting lane h ++ removing_conn k h) [] (join (shutting lane h) _ (shuts lane h) (letting k h)) tt)
-telling_tells s now k None pieces h =
+flushing_tells s now k None pieces h =
     either (is_polling k (notes h)) _ _
     (join (ending now k h) _ (either (has_closed k h && not (is_some (ended_at k (notes h)))) (Notes (Ended k now) ∷ []) [] (tt, tt) tt) (some_poll_tells s now k (poll_of k (notes h)) (all_of pieces) h))
     (either (has_closed k h) (removing_conn k h) [] (letting k h) tt)
@@ -173,7 +173,7 @@ tells : (s : Setup) (now : ℕ) (cs : List ℕ) (all : List (List (List LinkFram
 tells s now [] all h = tt
 tells s now (c ∷ cs) [] h = tt
 tells s now (c ∷ cs) (p ∷ more) h =
-    join (flushing s now c p h) _ (telling_tells s now c (socket_of c (notes h)) p h) (tells s now cs more h)
+    join (flushing s now c p h) _ (flushing_tells s now c (socket_of c (notes h)) p h) (tells s now cs more h)
 
 -- ---- what they leave
 

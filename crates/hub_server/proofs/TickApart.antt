@@ -7,7 +7,7 @@ use Rattle.hd_delivery.specs.Histories.{EndEvent, Closed, Silenced, Ticked, is_s
 use Rattle.hd_delivery.specs.Bytes.{Does as Step_of}
 use Rattle.hd_calls.specs.Peers.{Plain}
 use Rattle.hd_server.specs.declared.vocabulary.Said.TheVariants as say
-use Rattle.hd_server.specs.Lives.{Expired, LaneLost, LetGo, socket_of}
+use Rattle.hd_server.specs.Lives.{Expired, LaneLost, Removed, socket_of}
 use Rattle.hd_server.specs.Machine.{Does, Goes}
 use Rattle.hd_server.specs.Doings.{ServerEvent, Notes, Works, Says, notes, moment, config_of, has_peer, history, may_resume, was_refused}
 use Rattle.hd_server.specs.Plans.{dropping, removing_conn, losing, onto, shutting, step}
@@ -49,8 +49,8 @@ apart_lost c lane now h = record {
   same_moment = refl;
 }
 
-pub apart_freed : (c : ℕ) (h : List ServerEvent) → Apart c (Notes (LetGo c) ∷ h) h
-apart_freed c h = record { others = λ k e. alike_note (LetGo c) k h e tt; lanes = λ l. same_lane_note l (LetGo c) h; same_moment = refl }
+pub apart_freed : (c : ℕ) (h : List ServerEvent) → Apart c (Notes (Removed c) ∷ h) h
+apart_freed c h = record { others = λ k e. alike_note (Removed c) k h e tt; lanes = λ l. same_lane_note l (Removed c) h; same_moment = refl }
 
 pub apart_expired : (c now : ℕ) (h : List ServerEvent) → Apart c (Notes (Expired c now) ∷ h) h
 apart_expired c now h = record {
@@ -76,9 +76,9 @@ pub apart_closing : (c : ℕ) (why : Reason) (b : Bool) (h : List ServerEvent) �
 apart_closing c why true h = apart_step c (Closed why false) h
 apart_closing c why false h = apart_same c h
 
-pub apart_letting_go : (c : ℕ) (of h : List ServerEvent) → Apart c (onto (removing_conn c of) h) h
-apart_letting_go c of h =
-    apart_parts c (dropping c of) (Notes (LetGo c) ∷ []) h (apart_dropping c (has_peer c of) h) (apart_freed c (onto (dropping c of) h))
+pub apart_removing_conn : (c : ℕ) (of h : List ServerEvent) → Apart c (onto (removing_conn c of) h) h
+apart_removing_conn c of h =
+    apart_parts c (dropping c of) (Notes (Removed c) ∷ []) h (apart_dropping c (has_peer c of) h) (apart_freed c (onto (dropping c of) h))
 
 -- ---- ticks
 
@@ -87,7 +87,7 @@ apart_losing c lane now of h = by (may_resume c of)
   where
     by : (b : Bool) → Apart c (onto (if b then Notes (LaneLost c lane now) ∷ [] else removing_conn c of) h) h
     by true = apart_lost c lane now h
-    by false = apart_letting_go c of h
+    by false = apart_removing_conn c of h
 
 apart_shutting : (c lane : ℕ) (of h : List ServerEvent) → Apart c (onto (shutting lane of) h) h
 apart_shutting c lane of h = by (was_refused lane of)
@@ -123,7 +123,7 @@ silenced_same c now g h a lanes (Some lane) =
     (granted_alike c g h a)
     ∙ ap (λ (b : Bool). step c (Silenced now)
     ∷ (if may_resume c h then Notes (LaneLost c lane now) ∷ []
-    else ((if b then Works (Goes c) ∷ [] else []) ++ Notes (LetGo c) ∷ [])) ++ shutting lane g)
+    else ((if b then Works (Goes c) ∷ [] else []) ++ Notes (Removed c) ∷ [])) ++ shutting lane g)
     (there_alike c g h a)
     ∙ ap (λ (b : Bool). step c (Silenced now) ∷ losing c lane now h ++ (if b then [] else Says (say.Shut lane) ∷ []))
     (let l = lanes lane in l.refused)

@@ -7,7 +7,7 @@ use Rattle.hw_door.specs.declared.error.DoorError.{DoorError}
 use Rattle.hw_door.specs.declared.error.DoorError.TheVariants as door
 use Rattle.hw_door.specs.declared.heard.Given.{Given}
 use Rattle.hw_door.specs.declared.heard.Heard.{Heard}
-use Rattle.hw_door.specs.Calls.{Told}
+use Rattle.hw_door.specs.Calls.{Trace}
 use Rattle.hd_server.specs.declared.vocabulary.Said.{Said}
 use Rattle.hd_server.specs.Doings.{ServerEvent, moment}
 use Rattle.hd_server.specs.Plans.{Setup}
@@ -32,13 +32,13 @@ IsCausedBy before now (Err fault.NoMemory) = now ≡ before
 -- ---- what a door tells
 
 -- it was given this too
-abbrev pub GivesMore : Option Told → Option Told → List Given → Type 0
+abbrev pub GivesMore : Option Trace → Option Trace → List Given → Type 0
 GivesMore None None given = Unit {0}
 GivesMore (Some before) (Some now) given = (now.heard ≡ before.heard) × (now.waits ≡ before.waits) × (now.given ≡ before.given ++ given)
 GivesMore _ _ given = ⊥
 
 -- these were heard too, each after its wait, and this was given
-abbrev pub TellsMore : Option Told → Option Told → List Heard → List ℕ → List Given → Type 0
+abbrev pub TellsMore : Option Trace → Option Trace → List Heard → List ℕ → List Given → Type 0
 TellsMore None None heard waits given = Unit {0}
 TellsMore (Some before) (Some now) heard waits given =
     (now.heard ≡ before.heard ++ heard) × (now.waits ≡ before.waits ++ waits) × (now.given ≡ before.given ++ given)
@@ -49,9 +49,9 @@ abbrev pub IsGiven : Bool → List Given → List Given → Type 0
 IsGiven true given whole = given ≡ whole
 IsGiven false given whole = (next : Given) × IsPrefix (given ++ next ∷ []) whole
 
-pub record GivesAll (before now : Option Told) (words : List Said) (ok : Bool) : Type 0 where
+pub record GivesAll (before now : Option Trace) (words : List Said) (ok : Bool) : Type 0 where
   pub given : List Given
-  pub told : GivesMore before now given
+  pub trace : GivesMore before now given
   pub all : IsGiven ok given (map given_as words)
 
 -- ---- a whole run
@@ -82,11 +82,11 @@ IfMemoryEnds None Ended after = ⊥
 
 -- These were heard, and this given, until all turns were done, or a fault came. For all doings for which the server stood, it was given as the
 -- server does. After a fault the last event may be answered in part; and only if memory ran out may it be done in part.
-pub record HasServed {H Job : Type 0} (hub : Hub Job) (old new : Server H Job) (at since : Outside) (before now : Option Told) (first last turns : ℕ) (why : Option ServeFault) : Type 0 where
+pub record HasServed {H Job : Type 0} (hub : Hub Job) (old new : Server H Job) (at since : Outside) (before now : Option Trace) (first last turns : ℕ) (why : Option ServeFault) : Type 0 where
   pub heard : List Heard
   pub waits : List ℕ
   pub given : List Given
-  pub told : TellsMore before now heard waits given
+  pub trace : TellsMore before now heard waits given
   pub count : AreTurns why turns (length heard)
   pub serves : (s : Setup) (h : List ServerEvent) → StandsServer hub s old h → moment h ≤ first
       → ServesOn hub s (is_some why) (AtEnd hub s new at since last h) (IfMemoryEnds why (HasEnded new at last h)) h heard waits given

@@ -62,7 +62,7 @@ pub fn serve<D: Door, H: Hub, K: Keeper, L: Lots>(
     ensures served { HasServed (meaning H.begin_of H.step_of) server.old server.new
         (outside (K.holds keeper.old) (K.answers keeper.old) (K.faults keeper.old) (L.drawn lots.old) (L.faults lots.old))
         (outside (K.holds keeper.new) (K.answers keeper.new) (K.faults keeper.new) (L.drawn lots.new) (L.faults lots.new))
-        (D.told door.old) (D.told door.new) (D.moment door.old) (D.moment door.new) turns (result_err result) }
+        (D.trace door.old) (D.trace door.new) (D.moment door.old) (D.moment door.new) turns (result_err result) }
     ensures ended { server.old.is_ended ≡ true → (is_ok result ≡ (turns == 0)) × (server.new.is_ended ≡ true) }
     ensures cause { IsCausedBy (D.faults door.old) (D.faults door.new) result }
 {
@@ -85,7 +85,7 @@ fn turn<D: Door, H: Hub, K: Keeper, L: Lots>(
     ensures served { HasServed (meaning H.begin_of H.step_of) server.old server.new
         (outside (K.holds keeper.old) (K.answers keeper.old) (K.faults keeper.old) (L.drawn lots.old) (L.faults lots.old))
         (outside (K.holds keeper.new) (K.answers keeper.new) (K.faults keeper.new) (L.drawn lots.new) (L.faults lots.new))
-        (D.told door.old) (D.told door.new) (D.moment door.old) (D.moment door.new) 1 (result_err result) }
+        (D.trace door.old) (D.trace door.new) (D.moment door.old) (D.moment door.new) 1 (result_err result) }
     ensures ended { server.old.is_ended ≡ true → (is_ok result ≡ false) × (server.new.is_ended ≡ true) }
     ensures cause { IsCausedBy (D.faults door.old) (D.faults door.new) result }
 {
@@ -98,7 +98,7 @@ fn turn<D: Door, H: Hub, K: Keeper, L: Lots>(
 /// The door is given all that is said, in order.
 fn give_all<D: Door>(door: &mut D, words: Vec<Said>) -> Result<(), ServeFault>
     requires { AreReplies words.items }
-    ensures given { GivesAll (D.told door.old) (D.told door.new) words.items (is_ok result) }
+    ensures given { GivesAll (D.trace door.old) (D.trace door.new) words.items (is_ok result) }
     ensures others_unchanged { D.moment door.new ≡ D.moment door.old }
     ensures cause { IsCausedBy (D.faults door.old) (D.faults door.new) result }
 {
@@ -111,7 +111,7 @@ fn give_all<D: Door>(door: &mut D, words: Vec<Said>) -> Result<(), ServeFault>
 /// The door is given this to say.
 fn give<D: Door>(door: &mut D, word: Said) -> Result<(), ServeFault>
     requires { AreReplies (word ∷ []) }
-    ensures given { GivesAll (D.told door.old) (D.told door.new) (word ∷ []) (is_ok result) }
+    ensures given { GivesAll (D.trace door.old) (D.trace door.new) (word ∷ []) (is_ok result) }
     ensures others_unchanged { D.moment door.new ≡ D.moment door.old }
     ensures cause { IsCausedBy (D.faults door.old) (D.faults door.new) result }
 {

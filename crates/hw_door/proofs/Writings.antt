@@ -40,8 +40,8 @@ written_more wire (was_shut at ∷ answers) one = written_more wire answers one
 -- an answer that wrote nothing
 pub told_unwritten : (wires : List WireLeft) (answers : List Answer) (one : Answer) → ((wire : ℕ) → written_on wire (one ∷ []) ≡ []) →
     WritesAreTold wires answers → WritesAreTold wires (answers ++ one ∷ [])
-told_unwritten wires answers one p told =
-    λ wire. told wire ∙ sym (written_more wire answers one
+told_unwritten wires answers one p trace =
+    λ wire. trace wire ∙ sym (written_more wire answers one
     ∙ ap (λ (ws : List ℕ). written_on wire answers ++ ws) (p wire) ∙ append-nil (written_on wire answers))
 
 abbrev nothing : List ℕ
@@ -68,14 +68,14 @@ note_unwritten (note.WasShut at) wire = refl
 
 told_if : (room : Bool) (one : Answer) (ledger : LedgerState) (wires : List WireLeft) → ((wire : ℕ) → written_on wire (one ∷ []) ≡ []) →
     WritesAreTold wires ledger.answers → WritesAreTold wires (if room then with_answer one ledger else record ledger { is_full = true }).answers
-told_if true one ledger wires p told = told_unwritten wires ledger.answers one p told
-told_if false one ledger wires p told = told
+told_if true one ledger wires p trace = told_unwritten wires ledger.answers one p trace
+told_if false one ledger wires p trace = trace
 
 -- a note of no bytes, or none, as there is no room
 pub told_still : (one : WireCall) (ledger : LedgerState) (wires : List WireLeft) → WritesAreTold wires ledger.answers →
     WritesAreTold wires (after_telling (answer_of one []) ledger).answers
-told_still one ledger wires told =
-    told_if (has_room (size_of (answer_of one [])) ledger) (answer_of one []) ledger wires (note_unwritten one) told
+told_still one ledger wires trace =
+    told_if (has_room (size_of (answer_of one [])) ledger) (answer_of one []) ledger wires (note_unwritten one) trace
 
 left_if : (full : Bool) (one : Answer) (ledger : LedgerState) (room : ℕ) → ledger.bytes_left ≤ room →
     (if full then with_answer one ledger else record ledger { is_full = true }).bytes_left ≤ room
@@ -105,7 +105,7 @@ same_written (x ∷ wires) (suc place) change p (suc wire) = same_written wires 
 
 pub told_changed : (wires : List WireLeft) (answers : List Answer) (place : ℕ) (change : WireLeft → WireLeft) →
     ((left : WireLeft) → (change left).written ≡ left.written) → WritesAreTold wires answers → WritesAreTold (at_wire place change wires) answers
-told_changed wires answers place change p told = λ wire. same_written wires place change p wire ∙ told wire
+told_changed wires answers place change p trace = λ wire. same_written wires place change p wire ∙ trace wire
 
 there_written : (wires : List WireLeft) (place : ℕ) (bytes : List ℕ) → place < length wires →
     written_of (slice_get (at_wire place (with_written bytes) wires) place) ≡ written_of (slice_get wires place) ++ bytes
@@ -124,7 +124,7 @@ else_written (x ∷ wires) (suc place) change (suc wire) p = else_written wires 
 -- what is written on one wire, and told
 pub told_written : (wires : List WireLeft) (answers : List Answer) (place : ℕ) (bytes : List ℕ) → place < length wires →
     WritesAreTold wires answers → WritesAreTold (at_wire place (with_written bytes) wires) (answers ++ bytes_out place bytes ∷ [])
-told_written wires answers place bytes p told =
+told_written wires answers place bytes p trace =
     λ wire. at_last wire (eqb_tells place wire) ∙ sym (written_more wire answers (bytes_out place bytes))
   where
     at_last : (wire : ℕ) → ((eqb place wire ≡ true) × (place ≡ wire)) ⊎ ((eqb place wire ≡ false) × (place ≢ wire)) →
@@ -133,10 +133,10 @@ told_written wires answers place bytes p told =
         ap (λ (w : ℕ). written_of (slice_get (at_wire place (with_written bytes) wires) w)) (sym q.1)
         ∙ there_written wires place bytes p
         ∙ ap (λ (w : ℕ). written_of (slice_get wires w) ++ bytes) q.1
-        ∙ ap (λ (ws : List ℕ). ws ++ bytes) (told wire)
+        ∙ ap (λ (ws : List ℕ). ws ++ bytes) (trace wire)
         ∙ ap (λ (ws : List ℕ). written_on wire answers ++ ws) (sym (append-nil bytes))
         ∙ ap (λ (b : Bool). written_on wire answers ++ (if b then bytes ++ [] else [])) (sym q.0)
     at_last wire (inr q) =
         else_written wires place (with_written bytes) wire q.1
-        ∙ told wire ∙ sym (append-nil (written_on wire answers))
+        ∙ trace wire ∙ sym (append-nil (written_on wire answers))
         ∙ ap (λ (b : Bool). written_on wire answers ++ (if b then bytes ++ [] else [])) (sym q.0)

@@ -34,31 +34,31 @@ Adds (Some before) (Some now) one = now ≡ before ++ one ∷ []
 -- ---- what doors and dialers tell
 
 -- what was heard, how long each time it was to wait at most, what was given to be said, and which of that was said, all in order
-pub record Told : Type 0 where
+pub record Trace : Type 0 where
   pub heard : List Heard
   pub waits : List ℕ
   pub given : List Given
   pub said : List Given
 
 -- this was heard too, with this wait
-abbrev pub with_heard : ℕ → Heard → Told → Told
-with_heard wait heard told = record told { heard = told.heard ++ heard ∷ []; waits = told.waits ++ wait ∷ [] }
+abbrev pub with_heard : ℕ → Heard → Trace → Trace
+with_heard wait heard trace = record trace { heard = trace.heard ++ heard ∷ []; waits = trace.waits ++ wait ∷ [] }
 
 -- this was given too, and said
-abbrev pub with_said : Given → Told → Told
-with_said given told = record told { given = told.given ++ given ∷ []; said = told.said ++ given ∷ [] }
+abbrev pub with_said : Given → Trace → Trace
+with_said given trace = record trace { given = trace.given ++ given ∷ []; said = trace.said ++ given ∷ [] }
 
 -- this was given too, and not said, as its lane is broken
-abbrev pub with_unsaid : Given → Told → Told
-with_unsaid given told = record told { given = told.given ++ given ∷ [] }
+abbrev pub with_unsaid : Given → Trace → Trace
+with_unsaid given trace = record trace { given = trace.given ++ given ∷ [] }
 
 -- what a call of `next` adds: at Ok what was heard, and nothing after an error
-abbrev pub Hears : Option Told → Option Told → ℕ → Result Heard DoorError → Type 0
+abbrev pub Hears : Option Trace → Option Trace → ℕ → Result Heard DoorError → Type 0
 Hears before now wait (Ok heard) = now ≡ option_map (with_heard wait heard) before
 Hears before now wait (Err why) = now ≡ before
 
 -- what a call that is given something adds: at Ok that, said or not, and nothing after an error
-abbrev pub Says : {T : Type 0} → Option Told → Option Told → (T → Given) → Result T DoorError → Type 0
+abbrev pub Says : {T : Type 0} → Option Trace → Option Trace → (T → Given) → Result T DoorError → Type 0
 Says before now given (Ok answer) =
     (now ≡ option_map (with_said (given answer)) before) ⊎ (now ≡ option_map (with_unsaid (given answer)) before)
 Says before now given (Err why) = now ≡ before

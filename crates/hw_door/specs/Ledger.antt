@@ -67,5 +67,5 @@ after_telling answer ledger =
     if has_room (size_of answer) ledger then with_answer answer ledger else record ledger { is_full = true }
 
 -- what is told
-abbrev pub told_by : LedgerState → Option (List Answer)
-told_by ledger = if ledger.is_full then None else Some ledger.answers
+abbrev pub trace_of : LedgerState → Option (List Answer)
+trace_of ledger = if ledger.is_full then None else Some ledger.answers

@@ -7,13 +7,13 @@ use Rattle.hw_door.specs.declared.heard.Given.{Given}
 use Rattle.hw_door.specs.declared.heard.Given.TheVariants as given
 use Rattle.hw_door.specs.declared.error.DoorError.{DoorError}
 use Rattle.hw_door.specs.declared.error.DoorError.TheVariants.{Failed, NoMemory}
-use Rattle.hw_door.specs.Calls.{Told, with_heard, with_said, is_failing}
+use Rattle.hw_door.specs.Calls.{Trace, with_heard, with_said, is_failing}
 
 -- what is left to be heard, what it tells, the moment heard last, the numbers of the calls that are to fail, the number of the next
 -- call, and the count of faults
 pub record MemoryScript : Type 0 where
   pub left : List Heard
-  pub told : Told
+  pub trace : Trace
   pub moment : ℕ
   pub failing : List ℕ
   pub calls : ℕ
@@ -28,7 +28,7 @@ NeverFalls moment (heard ∷ more) = (moment ≤ heard.now) × NeverFalls heard.
 abbrev pub script_of : List Heard → List ℕ → MemoryScript
 script_of heard failing = record {
   left = heard;
-  told = record { heard = []; waits = []; given = []; said = [] };
+  trace = record { heard = []; waits = []; given = []; said = [] };
   moment = 0;
   failing = failing;
   calls = 0;
@@ -58,7 +58,7 @@ after_error NoMemory script = script
 abbrev pub after_next : ℕ → Result Heard DoorError → MemoryScript → MemoryScript
 after_next wait (Ok heard) script = record script {
   left = drop 1 script.left;
-  told = with_heard wait heard script.told;
+  trace = with_heard wait heard script.trace;
   moment = heard.now;
   calls = one_more script.calls;
 }
@@ -66,7 +66,7 @@ after_next wait (Err why) script = after_error why script
 
 -- after a call that was given this to say, with this result
 abbrev pub after_saying : {T : Type 0} → (T → Given) → Result T DoorError → MemoryScript → MemoryScript
-after_saying given (Ok answer) script = record script { told = with_said (given answer) script.told; calls = one_more script.calls }
+after_saying given (Ok answer) script = record script { trace = with_said (given answer) script.trace; calls = one_more script.calls }
 after_saying given (Err why) script = after_error why script
 
 -- it asks
@@ -78,4 +78,4 @@ is_ask (given.Shut lane) = false
 
 -- how often it was asked
 abbrev pub asks_of : MemoryScript → ℕ
-asks_of script = count_by is_ask script.told.given
+asks_of script = count_by is_ask script.trace.given

@@ -61,14 +61,14 @@ impl MemoryDialer {
 
     /// Lends what it was given to say, in order.
     pub fn given(&self) -> &[Given]
-        ensures { result.now ≡ self.now.told.given }
+        ensures { result.now ≡ self.now.trace.given }
     {
         self.script.given()
     }
 }
 
 impl Dialer for MemoryDialer {
-    ghost told = { λ d. Some d.told };
+    ghost trace = { λ d. Some d.trace };
 
     ghost moment = { λ d. d.moment };
 
@@ -84,7 +84,7 @@ impl Dialer for MemoryDialer {
         upgrade: Option<Upgrade>,
     ) -> Result<u64, DoorError>
         requires { method ≢ Method.Other }
-        ensures given { Says (Some self.old.told) (Some self.new.told) (λ lane. say.Ask lane method target.now upgrade) result }
+        ensures given { Says (Some self.old.trace) (Some self.new.trace) (λ lane. say.Ask lane method target.now upgrade) result }
         ensures fresh { IsNewLane (asks_of self.old + 1) (asks_of self.new + 1) result }
         ensures others_unchanged { self.new.moment ≡ self.old.moment }
         ensures cause { HasFaultCause self.old.faults self.new.faults result }
@@ -106,7 +106,7 @@ impl Dialer for MemoryDialer {
     /// Gives what is heard next, and once nothing is left `Quiet` at the moment heard last. It fails exactly at the calls that are to
     /// fail.
     fn next(&mut self, wait: u64) -> Result<Heard, DoorError>
-        ensures heard { Hears (Some self.old.told) (Some self.new.told) wait result }
+        ensures heard { Hears (Some self.old.trace) (Some self.new.trace) wait result }
         ensures later { IsLater self.old.moment self.new.moment result }
         ensures lanes { asks_of self.new + 1 ≡ asks_of self.old + 1 }
         ensures cause { HasFaultCause self.old.faults self.new.faults result }
@@ -119,7 +119,7 @@ impl Dialer for MemoryDialer {
 
     /// Keeps a copy of the message. It fails exactly at the calls that are to fail.
     fn send(&mut self, lane: u64, bytes: &[u8], text: bool) -> Result<(), DoorError>
-        ensures given { Says (Some self.old.told) (Some self.new.told) (λ done. say.Bytes lane bytes.now text) result }
+        ensures given { Says (Some self.old.trace) (Some self.new.trace) (λ done. say.Bytes lane bytes.now text) result }
         ensures others_unchanged { self.new.moment ≡ self.old.moment }
         ensures lanes { asks_of self.new + 1 ≡ asks_of self.old + 1 }
         ensures cause { HasFaultCause self.old.faults self.new.faults result }
@@ -132,7 +132,7 @@ impl Dialer for MemoryDialer {
 
     /// Keeps that the lane was shut. It fails exactly at the calls that are to fail.
     fn shut(&mut self, lane: u64) -> Result<(), DoorError>
-        ensures given { Says (Some self.old.told) (Some self.new.told) (λ done. say.Shut lane) result }
+        ensures given { Says (Some self.old.trace) (Some self.new.trace) (λ done. say.Shut lane) result }
         ensures others_unchanged { self.new.moment ≡ self.old.moment }
         ensures lanes { asks_of self.new + 1 ≡ asks_of self.old + 1 }
         ensures cause { HasFaultCause self.old.faults self.new.faults result }

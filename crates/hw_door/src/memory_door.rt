@@ -45,14 +45,14 @@ impl MemoryDoor {
 
     /// Lends what it was given to say, in order.
     pub fn given(&self) -> &[Given]
-        ensures { result.now ≡ self.now.told.given }
+        ensures { result.now ≡ self.now.trace.given }
     {
         self.script.given()
     }
 }
 
 impl Door for MemoryDoor {
-    ghost told = { λ d. Some d.told };
+    ghost trace = { λ d. Some d.trace };
 
     ghost moment = { λ d. d.moment };
 
@@ -61,7 +61,7 @@ impl Door for MemoryDoor {
     /// Gives what is heard next, and once nothing is left `Quiet` at the moment heard last. It fails exactly at the calls that are to
     /// fail.
     fn next(&mut self, wait: u64) -> Result<Heard, DoorError>
-        ensures heard { Hears (Some self.old.told) (Some self.new.told) wait result }
+        ensures heard { Hears (Some self.old.trace) (Some self.new.trace) wait result }
         ensures later { IsLater self.old.moment self.new.moment result }
         ensures cause { HasFaultCause self.old.faults self.new.faults result }
         ensures gives { IfOk result (λ heard. heard ≡ next_of self.old.left self.old.moment) }
@@ -74,7 +74,7 @@ impl Door for MemoryDoor {
     /// Keeps the reply. It fails exactly at the calls that are to fail.
     fn reply(&mut self, lane: u64, reply: Reply) -> Result<(), DoorError>
         requires { IsReply reply }
-        ensures given { Says (Some self.old.told) (Some self.new.told) (λ done. say.Reply lane reply) result }
+        ensures given { Says (Some self.old.trace) (Some self.new.trace) (λ done. say.Reply lane reply) result }
         ensures others_unchanged { self.new.moment ≡ self.old.moment }
         ensures cause { HasFaultCause self.old.faults self.new.faults result }
         ensures fails { FailsIf (ScriptFails self.old) result }
@@ -85,7 +85,7 @@ impl Door for MemoryDoor {
 
     /// Keeps a copy of the message. It fails exactly at the calls that are to fail.
     fn send(&mut self, lane: u64, bytes: &[u8], text: bool) -> Result<(), DoorError>
-        ensures given { Says (Some self.old.told) (Some self.new.told) (λ done. say.Bytes lane bytes.now text) result }
+        ensures given { Says (Some self.old.trace) (Some self.new.trace) (λ done. say.Bytes lane bytes.now text) result }
         ensures others_unchanged { self.new.moment ≡ self.old.moment }
         ensures cause { HasFaultCause self.old.faults self.new.faults result }
         ensures fails { FailsIf (ScriptFails self.old) result }
@@ -97,7 +97,7 @@ impl Door for MemoryDoor {
 
     /// Keeps that the lane was shut. It fails exactly at the calls that are to fail.
     fn shut(&mut self, lane: u64) -> Result<(), DoorError>
-        ensures given { Says (Some self.old.told) (Some self.new.told) (λ done. say.Shut lane) result }
+        ensures given { Says (Some self.old.trace) (Some self.new.trace) (λ done. say.Shut lane) result }
         ensures others_unchanged { self.new.moment ≡ self.old.moment }
         ensures cause { HasFaultCause self.old.faults self.new.faults result }
         ensures fails { FailsIf (ScriptFails self.old) result }

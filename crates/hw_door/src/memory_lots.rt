@@ -87,7 +87,7 @@ impl Lots for MemoryLots {
 
     /// Gives the next draw. It fails at the calls that are to fail, once all draws were given, and once the lots are spent.
     fn draw(&mut self) -> Result<[u8; 16], Failed>
-        ensures told { Adds (drawn_by self.old) (drawn_by self.new) (result_ok result) }
+        ensures trace { Adds (drawn_by self.old) (drawn_by self.new) (result_ok result) }
         ensures cause { HasCause self.old.faults self.new.faults result }
         ensures draw { result_ok result ≡ next_draw self.old }
         ensures after { self.new ≡ lots_after result self.old }

@@ -3,7 +3,7 @@
 ghost use Rattle.std.specs.Prelude.{◌≡◌, ◌+◌, ◌≤◌, ℕ, List, [], ◌∷◌, take, length, IfOk, Ok, slice_get, true};
 ghost use Rattle.hd_facts.specs.Counts.{HasCause, one_more};
 ghost use Rattle.hw_door.specs.Calls.{Adds};
-ghost use Rattle.hw_door.specs.Ledger.{after_telling, answer_of, bytes_of, told_by};
+ghost use Rattle.hw_door.specs.Ledger.{after_telling, answer_of, bytes_of, trace_of};
 ghost use Rattle.hw_door.specs.Traffic.{CountsWithin, IsPolled, IsNewWire, poll_answer, accept_answer, connect_answer, read_answer, write_answer, accepted_wire, connected_wire, count_of, poll_failed, accept_failed, connect_failed, read_failed, write_failed, was_shut, written_on};
 ghost use Rattle.hw_door.specs.Wires.{WiresState, IsRising, wires_of, written_of, is_to_fail, poll_next, accept_next, connect_next, read_next, write_next, answered, after_call, after_shut};
 
@@ -103,7 +103,7 @@ impl MemoryWires {
     /// Lends what was written on a wire, in order: nothing if there is no such wire.
     pub fn written(&self, wire: u64) -> &[u8]
         ensures left { result.now ≡ written_of (slice_get self.now.wires wire) }
-        ensures told { result.now ≡ written_on wire self.now.ledger.answers }
+        ensures trace { result.now ≡ written_on wire self.now.ledger.answers }
     {
         self.lines.written(wire)
     }
@@ -142,7 +142,7 @@ impl MemoryWires {
 }
 
 impl Wires for MemoryWires {
-    ghost told = { λ w. told_by w.ledger };
+    ghost trace = { λ w. trace_of w.ledger };
 
     ghost moment = { λ w. w.moment };
 
@@ -154,7 +154,7 @@ impl Wires for MemoryWires {
     fn poll(&mut self, wait: u64) -> Result<u64, Failed>
         ensures later { IsPolled self.old.moment self.new.moment result }
         ensures wires { self.new.given ≡ self.old.given }
-        ensures told { Adds (told_by self.old.ledger) (told_by self.new.ledger) (poll_answer result) }
+        ensures trace { Adds (trace_of self.old.ledger) (trace_of self.new.ledger) (poll_answer result) }
         ensures cause { HasCause self.old.faults self.new.faults result }
         ensures answers { poll_answer result ≡ answered poll_failed (poll_next self.old) self.old }
         ensures after { self.new ≡ after_call (poll_next self.old) self.old }
@@ -174,7 +174,7 @@ impl Wires for MemoryWires {
     fn accept(&mut self) -> Result<Option<u64>, Failed>
         ensures fresh { IsNewWire self.old.given self.new.given (accepted_wire result) }
         ensures others_unchanged { self.new.moment ≡ self.old.moment }
-        ensures told { Adds (told_by self.old.ledger) (told_by self.new.ledger) (accept_answer result) }
+        ensures trace { Adds (trace_of self.old.ledger) (trace_of self.new.ledger) (accept_answer result) }
         ensures cause { HasCause self.old.faults self.new.faults result }
         ensures answers { accept_answer result ≡ answered accept_failed (accept_next self.old) self.old }
         ensures after { self.new ≡ after_call (accept_next self.old) self.old }
@@ -194,7 +194,7 @@ impl Wires for MemoryWires {
     fn connect(&mut self, host: &str, port: u16) -> Result<u64, Failed>
         ensures fresh { IsNewWire self.old.given self.new.given (connected_wire result) }
         ensures others_unchanged { self.new.moment ≡ self.old.moment }
-        ensures told { Adds (told_by self.old.ledger) (told_by self.new.ledger) (connect_answer result) }
+        ensures trace { Adds (trace_of self.old.ledger) (trace_of self.new.ledger) (connect_answer result) }
         ensures cause { HasCause self.old.faults self.new.faults result }
         ensures answers { connect_answer result ≡ answered connect_failed (connect_next self.old) self.old }
         ensures after { self.new ≡ after_call (connect_next self.old) self.old }
@@ -219,7 +219,7 @@ impl Wires for MemoryWires {
         ensures count { IfOk result (λ read. CountsWithin read (length buf.new)) }
         ensures wires { self.new.given ≡ self.old.given }
         ensures others_unchanged { self.new.moment ≡ self.old.moment }
-        ensures told { Adds (told_by self.old.ledger) (told_by self.new.ledger) (read_answer wire buf.new result) }
+        ensures trace { Adds (trace_of self.old.ledger) (trace_of self.new.ledger) (read_answer wire buf.new result) }
         ensures cause { HasCause self.old.faults self.new.faults result }
         ensures answers { read_answer wire buf.new result ≡ answered (read_failed wire) (read_next wire (length buf.old) self.old) self.old }
         ensures after { self.new ≡ after_call (read_next wire (length buf.old) self.old) self.old }
@@ -247,7 +247,7 @@ impl Wires for MemoryWires {
         ensures count { IfOk result (λ count. count ≤ length bytes.now) }
         ensures wires { self.new.given ≡ self.old.given }
         ensures others_unchanged { self.new.moment ≡ self.old.moment }
-        ensures told { Adds (told_by self.old.ledger) (told_by self.new.ledger) (write_answer wire bytes.now result) }
+        ensures trace { Adds (trace_of self.old.ledger) (trace_of self.new.ledger) (write_answer wire bytes.now result) }
         ensures cause { HasCause self.old.faults self.new.faults result }
         ensures answers { write_answer wire bytes.now result ≡ answered (write_failed wire) (write_next wire bytes.now self.old) self.old }
         ensures after { self.new ≡ after_call (write_next wire bytes.now self.old) self.old }
@@ -273,7 +273,7 @@ impl Wires for MemoryWires {
     fn shut(&mut self, wire: u64)
         ensures wires { self.new.given ≡ self.old.given }
         ensures others_unchanged { self.new.moment ≡ self.old.moment }
-        ensures told { Adds (told_by self.old.ledger) (told_by self.new.ledger) (was_shut wire) }
+        ensures trace { Adds (trace_of self.old.ledger) (trace_of self.new.ledger) (was_shut wire) }
         ensures unfailed { self.new.faults ≡ self.old.faults }
         ensures after { self.new ≡ after_shut wire self.old }
     {

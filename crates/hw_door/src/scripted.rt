@@ -35,7 +35,7 @@ impl Model for Scripted {
 
     ghost view = { λ s. record {
       left = s.left.items;
-      told = record {
+      trace = record {
         heard = s.heard.items;
         waits = s.waits.items;
         given = s.given.items;
@@ -70,7 +70,7 @@ impl Scripted {
 
     /// Lends what it was given to say, in order.
     pub fn given(&self) -> &[Given]
-        ensures { result.now ≡ self.now.told.given }
+        ensures { result.now ≡ self.now.trace.given }
     {
         self.given.as_slice()
     }
@@ -112,7 +112,7 @@ impl Scripted {
 
     /// Keeps what is heard, and the wait for it, or neither.
     fn keep(&mut self, heard: Heard, wait: u64) -> Result<(), AllocError>
-        ensures ok { OnOk result (self.new ≡ record self.old { told = with_heard wait heard self.old.told }) }
+        ensures ok { OnOk result (self.new ≡ record self.old { trace = with_heard wait heard self.old.trace }) }
         ensures err { OnErr result (self.new ≡ self.old) }
     {
         self.heard.reserve(1)?;
@@ -149,7 +149,7 @@ impl Scripted {
         ensures gives { IfOk result (λ heard. heard ≡ next_of self.old.left self.old.moment) }
         ensures fails { FailsIf (ScriptFails self.old) result }
         ensures after { self.new ≡ after_next wait result self.old }
-        ensures heard { Hears (Some self.old.told) (Some self.new.told) wait result }
+        ensures heard { Hears (Some self.old.trace) (Some self.new.trace) wait result }
         ensures later { IsLater self.old.moment self.new.moment result }
         ensures cause { HasFaultCause self.old.faults self.new.faults result }
     {
@@ -165,7 +165,7 @@ impl Scripted {
     pub fn say(&mut self, given: Given) -> Result<(), DoorError>
         ensures fails { FailsIf (ScriptFails self.old) result }
         ensures after { self.new ≡ after_saying (λ done. given) result self.old }
-        ensures given { Says (Some self.old.told) (Some self.new.told) (λ done. given) result }
+        ensures given { Says (Some self.old.trace) (Some self.new.trace) (λ done. given) result }
         ensures cause { HasFaultCause self.old.faults self.new.faults result }
     {
         if self.is_to_fail() {

@@ -5,7 +5,7 @@ ghost use Rattle.std.specs.Result.{result_ok};
 ghost use Rattle.hd_facts.specs.Counts.{HasCause};
 ghost use Rattle.hw_lanes.specs.Replies.{IsReply};
 ghost use Rattle.hw_door.specs.declared.heard.Given.TheVariants as say;
-ghost use Rattle.hw_door.specs.Calls.{Told, Adds, HasFaultCause, Hears, Says, IsLater, IsNewLane};
+ghost use Rattle.hw_door.specs.Calls.{Trace, Adds, HasFaultCause, Hears, Says, IsLater, IsNewLane};
 
 use crate::error::DoorError;
 use crate::heard::{Heard, Upgrade};
@@ -24,22 +24,22 @@ pub trait Lots {
 
     /// Draws sixteen bytes.
     ///
-    /// `told`: what it gave stands last in what is told, if anything still is. `cause`: the call fails only if the count of faults rose
+    /// `trace`: what it gave stands last in what is told, if anything still is. `cause`: the call fails only if the count of faults rose
     /// in it, and at Ok the count is as it was.
     fn draw(&mut self) -> Result<[u8; 16], Failed>
-        ensures told { Adds (drawn self.old) (drawn self.new) (result_ok result) }
+        ensures trace { Adds (drawn self.old) (drawn self.new) (result_ok result) }
         ensures cause { HasCause (faults self.old) (faults self.new) result };
 }
 
 /// What a server hears through, and says through.
 ///
-/// An implementation tells by `told` what was heard and what it was given to say, or `None` if nobody can know it, as at a socket; by
+/// An implementation tells by `trace` what was heard and what it was given to say, or `None` if nobody can know it, as at a socket; by
 /// `moment` the moment of what was heard last, 0 before the first; and by `faults` how often it has failed, as [`Lots`] do.
 ///
 /// In each call, `cause` says that it fails only if the count of faults rose in it. After an error the moment and what it tells are as
 /// before; out of memory the count is as before too.
 pub trait Door {
-    ghost told: { Self → Option Told } = { λ _. None };
+    ghost trace: { Self → Option Trace } = { λ _. None };
 
     ghost moment: { Self → ℕ };
 
@@ -47,26 +47,26 @@ pub trait Door {
 
     /// Hears what happens next, and waits for that at most `wait` milliseconds. Its moment is never before that of what was heard last.
     fn next(&mut self, wait: u64) -> Result<Heard, DoorError>
-        ensures heard { Hears (told self.old) (told self.new) wait result }
+        ensures heard { Hears (trace self.old) (trace self.new) wait result }
         ensures later { IsLater (moment self.old) (moment self.new) result }
         ensures cause { HasFaultCause (faults self.old) (faults self.new) result };
 
     /// Replies to the request that the lane waits for. On a lane that is broken this is Ok, and nothing is said.
     fn reply(&mut self, lane: u64, reply: Reply) -> Result<(), DoorError>
         requires { IsReply reply }
-        ensures given { Says (told self.old) (told self.new) (λ done. say.Reply lane reply) result }
+        ensures given { Says (trace self.old) (trace self.new) (λ done. say.Reply lane reply) result }
         ensures others_unchanged { moment self.new ≡ moment self.old }
         ensures cause { HasFaultCause (faults self.old) (faults self.new) result };
 
     /// Sends one message, a text or not, on a lane that is a WebSocket. On a lane that is broken this is Ok, and nothing is said.
     fn send(&mut self, lane: u64, bytes: &[u8], text: bool) -> Result<(), DoorError>
-        ensures given { Says (told self.old) (told self.new) (λ done. say.Bytes lane bytes.now text) result }
+        ensures given { Says (trace self.old) (trace self.new) (λ done. say.Bytes lane bytes.now text) result }
         ensures others_unchanged { moment self.new ≡ moment self.old }
         ensures cause { HasFaultCause (faults self.old) (faults self.new) result };
 
     /// Ends the lane, once what it was given before is said.
     fn shut(&mut self, lane: u64) -> Result<(), DoorError>
-        ensures given { Says (told self.old) (told self.new) (λ done. say.Shut lane) result }
+        ensures given { Says (trace self.old) (trace self.new) (λ done. say.Shut lane) result }
         ensures others_unchanged { moment self.new ≡ moment self.old }
         ensures cause { HasFaultCause (faults self.old) (faults self.new) result };
 }
@@ -76,7 +76,7 @@ pub trait Door {
 /// It tells what a [`Door`] tells, its asks among what it was given; and by `lanes` a bound below which each lane lies that it answered.
 /// `cause`, and what is as before after an error, are as at a [`Door`].
 pub trait Dialer {
-    ghost told: { Self → Option Told } = { λ _. None };
+    ghost trace: { Self → Option Trace } = { λ _. None };
 
     ghost moment: { Self → ℕ };
 
@@ -93,28 +93,28 @@ pub trait Dialer {
         upgrade: Option<Upgrade>,
     ) -> Result<u64, DoorError>
         requires { method ≢ Method.Other }
-        ensures given { Says (told self.old) (told self.new) (λ lane. say.Ask lane method target.now upgrade) result }
+        ensures given { Says (trace self.old) (trace self.new) (λ lane. say.Ask lane method target.now upgrade) result }
         ensures fresh { IsNewLane (lanes self.old) (lanes self.new) result }
         ensures others_unchanged { moment self.new ≡ moment self.old }
         ensures cause { HasFaultCause (faults self.old) (faults self.new) result };
 
     /// Hears what happens next, and waits for that at most `wait` milliseconds. Its moment is never before that of what was heard last.
     fn next(&mut self, wait: u64) -> Result<Heard, DoorError>
-        ensures heard { Hears (told self.old) (told self.new) wait result }
+        ensures heard { Hears (trace self.old) (trace self.new) wait result }
         ensures later { IsLater (moment self.old) (moment self.new) result }
         ensures lanes { lanes self.new ≡ lanes self.old }
         ensures cause { HasFaultCause (faults self.old) (faults self.new) result };
 
     /// Sends one message, a text or not, on a lane that is a WebSocket. On a lane that is broken this is Ok, and nothing is said.
     fn send(&mut self, lane: u64, bytes: &[u8], text: bool) -> Result<(), DoorError>
-        ensures given { Says (told self.old) (told self.new) (λ done. say.Bytes lane bytes.now text) result }
+        ensures given { Says (trace self.old) (trace self.new) (λ done. say.Bytes lane bytes.now text) result }
         ensures others_unchanged { moment self.new ≡ moment self.old }
         ensures lanes { lanes self.new ≡ lanes self.old }
         ensures cause { HasFaultCause (faults self.old) (faults self.new) result };
 
     /// Ends the lane, once what it was given before is said.
     fn shut(&mut self, lane: u64) -> Result<(), DoorError>
-        ensures given { Says (told self.old) (told self.new) (λ done. say.Shut lane) result }
+        ensures given { Says (trace self.old) (trace self.new) (λ done. say.Shut lane) result }
         ensures others_unchanged { moment self.new ≡ moment self.old }
         ensures lanes { lanes self.new ≡ lanes self.old }
         ensures cause { HasFaultCause (faults self.old) (faults self.new) result };

@@ -20,14 +20,14 @@ pub enum WireRead {
 
 /// Connections as streams of bytes, each by its number, which are read and written without waiting. Only `poll` waits.
 ///
-/// An implementation tells by `told` what its calls answered, in order, or `None` if nobody can know it, as at sockets; by `moment` the
+/// An implementation tells by `trace` what its calls answered, in order, or `None` if nobody can know it, as at sockets; by `moment` the
 /// moment polled last, 0 before the first; by `wires` a bound below which each number lies that it answered; and by `faults` how often
 /// it has failed. That count never falls. It holds 64 bits and stays at 2^64 - 1, and a further failure there counts as a rise.
 ///
-/// In each call, `told` says that its answer stands last in what is told, if anything still is, and `cause` that it fails only if the
+/// In each call, `trace` says that its answer stands last in what is told, if anything still is, and `cause` that it fails only if the
 /// count of faults rose in it, and at Ok the count is as it was.
 pub trait Wires {
-    ghost told: { Self → Option (List Answer) } = { λ _. None };
+    ghost trace: { Self → Option (List Answer) } = { λ _. None };
 
     ghost moment: { Self → ℕ };
 
@@ -40,21 +40,21 @@ pub trait Wires {
     fn poll(&mut self, wait: u64) -> Result<u64, Failed>
         ensures later { IsPolled (moment self.old) (moment self.new) result }
         ensures wires { wires self.new ≡ wires self.old }
-        ensures told { Adds (told self.old) (told self.new) (poll_answer result) }
+        ensures trace { Adds (trace self.old) (trace self.new) (poll_answer result) }
         ensures cause { HasCause (faults self.old) (faults self.new) result };
 
     /// Takes a connection that came, if there is one, and answers its number: one that was never answered before.
     fn accept(&mut self) -> Result<Option<u64>, Failed>
         ensures fresh { IsNewWire (wires self.old) (wires self.new) (accepted_wire result) }
         ensures others_unchanged { moment self.new ≡ moment self.old }
-        ensures told { Adds (told self.old) (told self.new) (accept_answer result) }
+        ensures trace { Adds (trace self.old) (trace self.new) (accept_answer result) }
         ensures cause { HasCause (faults self.old) (faults self.new) result };
 
     /// Begins a connection, and answers its number: one that was never answered before. It may not be there yet, or never come to be.
     fn connect(&mut self, host: &str, port: u16) -> Result<u64, Failed>
         ensures fresh { IsNewWire (wires self.old) (wires self.new) (connected_wire result) }
         ensures others_unchanged { moment self.new ≡ moment self.old }
-        ensures told { Adds (told self.old) (told self.new) (connect_answer result) }
+        ensures trace { Adds (trace self.old) (trace self.new) (connect_answer result) }
         ensures cause { HasCause (faults self.old) (faults self.new) result };
 
     /// Reads what has come, at most what `buf` has room for.
@@ -62,7 +62,7 @@ pub trait Wires {
         ensures count { IfOk result (λ r. CountsWithin r (length buf.new)) }
         ensures wires { wires self.new ≡ wires self.old }
         ensures others_unchanged { moment self.new ≡ moment self.old }
-        ensures told { Adds (told self.old) (told self.new) (read_answer wire buf.new result) }
+        ensures trace { Adds (trace self.old) (trace self.new) (read_answer wire buf.new result) }
         ensures cause { HasCause (faults self.old) (faults self.new) result };
 
     /// Writes as many of the first bytes as the wire takes now, and answers how many.
@@ -70,14 +70,14 @@ pub trait Wires {
         ensures count { IfOk result (λ count. count ≤ length bytes.now) }
         ensures wires { wires self.new ≡ wires self.old }
         ensures others_unchanged { moment self.new ≡ moment self.old }
-        ensures told { Adds (told self.old) (told self.new) (write_answer wire bytes.now result) }
+        ensures trace { Adds (trace self.old) (trace self.new) (write_answer wire bytes.now result) }
         ensures cause { HasCause (faults self.old) (faults self.new) result };
 
     /// Ends the wire.
     fn shut(&mut self, wire: u64)
         ensures wires { wires self.new ≡ wires self.old }
         ensures others_unchanged { moment self.new ≡ moment self.old }
-        ensures told { Adds (told self.old) (told self.new) (was_shut wire) }
+        ensures trace { Adds (trace self.old) (trace self.new) (was_shut wire) }
         ensures unfailed { faults self.new ≡ faults self.old };
 
     /// A wire on which a read may give something: the first after that of this number, in an order of the wires that goes round. It is a

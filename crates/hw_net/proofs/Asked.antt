@@ -21,7 +21,7 @@ use Rattle.hw_net.specs.Lane.{Lane, waits, after_end, after_reply, owes, is_live
 use Rattle.hw_net.specs.Saying.{Writes, WritesOut, SpeaksAs, Says, SaysAt, SaysMore, must_end, is_too_much}
 use Rattle.hw_net.specs.Sessions as session
 use Rattle.hw_net.specs.Sessions.{Call, Session, answers_in, answers_of, request_on, requests_on, HeardRequests, RequestsAreAsked, RefusalsAreDeserved}
-use Rattle.hw_net.specs.Told.{Reads, Gives, Chooses, bytes_of}
+use Rattle.hw_net.specs.Trace.{Reads, Gives, Chooses, bytes_of}
 use Rattle.hw_net.specs.Turn.{Hears, Falls, Passes, Settles, Loses, LosesAt, TurnsLive, TurnsAt, Listens, Replies, PutsAt, Sends, Shuts}
 use Rattle.hw_net.proofs.Moves.{ActsAt, has-of}
 use Rattle.hw_net.proofs.Owning.{is_on}
@@ -130,8 +130,8 @@ shut-heard (Socket websocket_state) bytes requests h = h
 falls-silent : (before after : Lane) (answers : List Answer) (heard : Option Event) → Falls before after answers heard → Silent before after answers
 falls-silent before after answers heard h = protocol-silent before after answers (λ wire. none-of wire (was_shut before.wire ∷ []) answers h.0 refl) (ap (λ (l : Lane). l.protocol) h.2)
 
-passes-silent : (before becomes after : Lane) (answers : List Answer) (told heard : Option Event) → becomes.protocol ≡ before.protocol → Passes becomes after answers told heard → Silent before after answers
-passes-silent before becomes after answers told heard e h = protocol-silent before after answers (λ wire. none-of wire [] answers h.0 refl) (ap (λ (l : Lane). l.protocol) h.2 ∙ e)
+passes-silent : (before becomes after : Lane) (answers : List Answer) (trace heard : Option Event) → becomes.protocol ≡ before.protocol → Passes becomes after answers trace heard → Silent before after answers
+passes-silent before becomes after answers trace heard e h = protocol-silent before after answers (λ wire. none-of wire [] answers h.0 refl) (ap (λ (l : Lane). l.protocol) h.2 ∙ e)
 
 pub settles-silent : (now : ℕ) (before after : Lane) (answers : List Answer) (what : Input) (heard : Option Event) → Settles now before after answers what heard → Silent before after answers
 settles-silent now before after answers input.Nothing heard h = go (is_overdue now before) h where
@@ -148,23 +148,23 @@ settles-silent now before after answers input.Gone heard h =
 -- the requests that are heard
 abbrev pub requests_in : ℕ → Option Event → List Request
 requests_in wire None = []
-requests_in wire (Some told) = request_on wire told
+requests_in wire (Some trace) = request_on wire trace
 
-told-request : (wire : ℕ) (request : Request) → request_on wire (event.Request wire request) ≡ request ∷ []
-told-request wire request = ap (λ b. if b then request ∷ [] else []) (same wire)
+trace-request : (wire : ℕ) (request : Request) → request_on wire (event.Request wire request) ≡ request ∷ []
+trace-request wire request = ap (λ b. if b then request ∷ [] else []) (same wire)
 
 pub settles-requests : (now : ℕ) (before after : Lane) (answers : List Answer) (what : Input) (heard : Option Event) → Settles now before after answers what heard → requests_in before.wire heard ≡ requests_of what
 settles-requests now before after answers input.Nothing heard h = go (is_overdue now before) h where
   go : (b : Bool) → Chooses b (Falls before after answers heard) (Passes before after answers None heard) → requests_in before.wire heard ≡ []
   go true h = ap (λ o. requests_in before.wire o) h.1
   go false h = ap (λ o. requests_in before.wire o) h.1
-settles-requests now before after answers (input.Request request) heard h = ap (λ o. requests_in before.wire o) h.1 ∙ told-request before.wire request
+settles-requests now before after answers (input.Request request) heard h = ap (λ o. requests_in before.wire o) h.1 ∙ trace-request before.wire request
 settles-requests now before after answers (input.Refused status) heard h = ap (λ o. requests_in before.wire o) h.1
 settles-requests now before after answers (input.Message bytes) heard h = ap (λ o. requests_in before.wire o) h.1
 settles-requests now before after answers input.Broken heard h = ap (λ o. requests_in before.wire o) h.1
 settles-requests now before after answers input.Gone heard h = ap (λ o. requests_in before.wire o) h.1
 
-pub loses-requests : (wire : ℕ) (told : Option Event) (before after : Lane) (heard : Option Event) → Loses told before after heard → requests_in wire heard ≡ requests_in wire told
+pub loses-requests : (wire : ℕ) (trace : Option Event) (before after : Lane) (heard : Option Event) → Loses trace before after heard → requests_in wire heard ≡ requests_in wire trace
 loses-requests wire (Some here) before after heard h = ap (λ o. requests_in wire o) h.0
 loses-requests wire None before after heard h = go before.stage h where
   go : (s : Stage) → LosesAt s before after heard → requests_in wire heard ≡ []
@@ -173,7 +173,7 @@ loses-requests wire None before after heard h = go before.stage h where
   go Closing h = ap (λ o. requests_in wire o) h.0
   go Over h = ap (λ o. requests_in wire o) h.0
 
-loses-protocol : (told : Option Event) (before after : Lane) (heard : Option Event) → Loses told before after heard → after.protocol ≡ before.protocol
+loses-protocol : (trace : Option Event) (before after : Lane) (heard : Option Event) → Loses trace before after heard → after.protocol ≡ before.protocol
 loses-protocol (Some here) before after heard h = ap (λ (l : Lane). l.protocol) h.1
 loses-protocol None before after heard h = go before.stage h where
   go : (s : Stage) → LosesAt s before after heard → after.protocol ≡ before.protocol
@@ -200,15 +200,15 @@ live-reads wire answers read shut written all e f =
 
 live-asked : (now : ℕ) (x y : Lane) (mine : List Answer) (own : Option Event) → TurnsLive now x y mine own → Asked x y mine (requests_in x.wire own)
 live-asked now x y mine own h bytes requests k =
-    let settled = settles-silent now (record x { protocol = h.protocol }) h.settled h.shut h.input h.told h.settles in
+    let settled = settles-silent now (record x { protocol = h.protocol }) h.settled h.shut h.input h.trace h.settles in
     let said = says-silent h.settled h.said h.written h.says in
     let news_are : requests_in x.wire own ≡ requests_of h.input =
-    loses-requests x.wire h.told h.said y own h.loses ∙ settles-requests now (record x { protocol = h.protocol }) h.settled h.shut h.input h.told h.settles in
+    loses-requests x.wire h.trace h.said y own h.loses ∙ settles-requests now (record x { protocol = h.protocol }) h.settled h.shut h.input h.trace h.settles in
     let reads = live-reads x.wire mine h.read h.shut h.written h.all (settled.0 x.wire) (said.0 x.wire) in
     let heard = hears-asked x.wire x.protocol h.protocol h.read h.input bytes requests h.hears k in
     let all = bytes ++ read_on x.wire h.read in
     let most = requests ++ requests_of h.input in
-    let at_end : HeardIn all most y.protocol = subst (λ (t : Protocol). HeardIn all most t) (sym (loses-protocol h.told h.said y own h.loses)) (said.1 all most (settled.1 all most heard)) in
+    let at_end : HeardIn all most y.protocol = subst (λ (t : Protocol). HeardIn all most t) (sym (loses-protocol h.trace h.said y own h.loses)) (said.1 all most (settled.1 all most heard)) in
     subst (λ (l : List ℕ). HeardIn (bytes ++ l) (requests ++ requests_in x.wire own) y.protocol) (sym reads) (subst (λ (l : List Request). HeardIn all (requests ++ l) y.protocol) (sym news_are) at_end)
 
 listens-asked : (now : ℕ) (x y : Lane) (mine : List Answer) (own : Option Event) → Listens now x y mine own → Asked x y mine (requests_in x.wire own)
@@ -221,7 +221,7 @@ listens-asked now x y mine own h = go x.stage h where
 
 pub heard-requests : (wire : ℕ) (own : Option Event) (what : Event) → IsHeard wire own what → request_on wire what ≡ requests_in wire own
 heard-requests wire None what h = unrequested wire what h
-heard-requests wire (Some told) what h = ap (λ v. request_on wire v) h
+heard-requests wire (Some trace) what h = ap (λ v. request_on wire v) h
 
 heeds-asked : (now : ℕ) (what : Event) (x y : Lane) (mine : List Answer) → Heeds now what x y mine → Asked x y mine (request_on x.wire what)
 heeds-asked now what x y mine (inl h) = subst (λ (l : List Request). Asked x y mine l) (sym (heard-requests x.wire h.0 what h.2)) (listens-asked now x y mine h.0 h.1)
@@ -350,7 +350,7 @@ settles-status now before after answers (input.Message bytes) heard h = ap (λ o
 settles-status now before after answers input.Broken heard h = ap (λ o. status_in o) h.1
 settles-status now before after answers input.Gone heard h = ap (λ o. status_in o) h.1
 
-loses-status : (told : Option Event) (before after : Lane) (heard : Option Event) → Loses told before after heard → status_in heard ≡ status_in told
+loses-status : (trace : Option Event) (before after : Lane) (heard : Option Event) → Loses trace before after heard → status_in heard ≡ status_in trace
 loses-status (Some here) before after heard h = ap (λ o. status_in o) h.0
 loses-status None before after heard h = go before.stage h where
   go : (s : Stage) → LosesAt s before after heard → status_in heard ≡ None
@@ -365,25 +365,25 @@ Deserves bytes requests status = (rest : List ℕ) × Asks bytes requests rest �
 
 hears-refused : (wire : ℕ) (before after : Protocol) (answers : List Answer) (what : Input) (status : ℕ) (bytes : List ℕ) (requests : List Request) → status_of what ≡ Some status → Hears wire before after answers what →
     HeardIn bytes requests before → Deserves (bytes ++ read_on wire answers) requests status
-hears-refused wire (Http before) (Http after) answers (input.Refused told) status bytes requests e h k =
-    let same_status : told ≡ status = cc e in (
+hears-refused wire (Http before) (Http after) answers (input.Refused trace) status bytes requests e h k =
+    let same_status : trace ≡ status = cc e in (
       after.lane.held,
       subst (λ (l : List ℕ). Asks (bytes ++ l) requests after.lane.held) (sym (gives-bytes wire _ answers h.got h.read))
           (subst (λ (l : List Request). Asks (bytes ++ bytes_of h.got) l after.lane.held) (append-nil requests) (h.asks bytes requests k)),
       subst (λ n. Refuses request_grammar after.lane.held n) same_status h.is_input.3,
     )
-hears-refused wire (Socket before) (Socket after) answers (input.Refused told) status bytes requests e h k = absurd h.is_input
-hears-refused wire (Http before) (Socket after) answers (input.Refused told) status bytes requests e h k = absurd h
-hears-refused wire (Socket before) (Http after) answers (input.Refused told) status bytes requests e h k = absurd h
+hears-refused wire (Socket before) (Socket after) answers (input.Refused trace) status bytes requests e h k = absurd h.is_input
+hears-refused wire (Http before) (Socket after) answers (input.Refused trace) status bytes requests e h k = absurd h
+hears-refused wire (Socket before) (Http after) answers (input.Refused trace) status bytes requests e h k = absurd h
 hears-refused wire before after answers _ status bytes requests e h k = absurd (cc e)
 
 live-refused : (now : ℕ) (x y : Lane) (mine : List Answer) (own : Option Event) (status : ℕ) (bytes : List ℕ) (requests : List Request) → TurnsLive now x y mine own → status_in own ≡ Some status →
     HeardIn bytes requests x.protocol → Deserves (bytes ++ read_on x.wire mine) requests status
 live-refused now x y mine own status bytes requests h e k =
-    let settled = settles-silent now (record x { protocol = h.protocol }) h.settled h.shut h.input h.told h.settles in
+    let settled = settles-silent now (record x { protocol = h.protocol }) h.settled h.shut h.input h.trace h.settles in
     let said = says-silent h.settled h.said h.written h.says in
     let news_is : status_of h.input ≡ Some status =
-    sym (settles-status now (record x { protocol = h.protocol }) h.settled h.shut h.input h.told h.settles) ∙ sym (loses-status h.told h.said y own h.loses) ∙ e in
+    sym (settles-status now (record x { protocol = h.protocol }) h.settled h.shut h.input h.trace h.settles) ∙ sym (loses-status h.trace h.said y own h.loses) ∙ e in
     let reads = live-reads x.wire mine h.read h.shut h.written h.all (settled.0 x.wire) (said.0 x.wire) in
     subst (λ (l : List ℕ). Deserves (bytes ++ l) requests status) (sym reads) (hears-refused x.wire x.protocol h.protocol h.read h.input status bytes requests news_is h.hears k)
 
@@ -407,7 +407,7 @@ heeds-refused : (now : ℕ) (what : Event) (x y : Lane) (mine : List Answer) (st
 heeds-refused now what x y mine status bytes requests (inl h) e k = go h.0 h.1 h.2 where
   go : (own : Option Event) → Listens now x y mine own → IsHeard x.wire own what → Deserves (bytes ++ read_on x.wire mine) requests status
   go None l is = absurd (off-and-on (is_on x.wire what) is (ap (λ v. is_on x.wire v) e ∙ is-refused x.wire status))
-  go (Some told) l is = listens-refused now x y mine (Some told) status bytes requests l (ap (λ v. status_in (Some v)) (sym is ∙ e)) k
+  go (Some trace) l is = listens-refused now x y mine (Some trace) status bytes requests l (ap (λ v. status_in (Some v)) (sym is ∙ e)) k
 heeds-refused now what x y mine status bytes requests (inr h) e k = absurd (off-and-on (is_on x.wire what) h.1 (ap (λ v. is_on x.wire v) e ∙ is-refused x.wire status))
 
 pub refusals-are-deserved : RefusalsAreDeserved

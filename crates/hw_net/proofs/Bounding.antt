@@ -15,7 +15,7 @@ use Rattle.hw_net.specs.Bounds.{has_wire, IsWithin, AreWithin, NextIsWithin, Rep
 use Rattle.hw_net.specs.Door.{HearsAll}
 use Rattle.hw_net.specs.Lane.{Lane, waits, frames_of, after_end, owes, is_live, after_reply, protocol_after_shut}
 use Rattle.hw_net.specs.Saying.{WritesOut, Says, SaysAt, SaysMore, must_end, is_too_much}
-use Rattle.hw_net.specs.Told.{Chooses}
+use Rattle.hw_net.specs.Trace.{Chooses}
 use Rattle.hw_net.specs.Turn.{Turns, TurnsAt, TurnAll, Loses, LosesAt, Replies, PutsAt, Puts, Sends, Shuts, AtLane}
 
 never : true ≡ false → ⊥
@@ -72,7 +72,7 @@ more-within before after answers h = go (is_too_much (length (waits before))) h 
 
 -- ---- hearing
 
-loses-within : (told : Option Event) (before after : Lane) (heard : Option Event) → Loses told before after heard → IsWithin before → IsWithin after
+loses-within : (trace : Option Event) (before after : Lane) (heard : Option Event) → Loses trace before after heard → IsWithin before → IsWithin after
 loses-within (Some event) before after heard h k = same-within before after h.1 k
 loses-within None before after heard h k = go before.stage h where
   go : (s : Stage) → LosesAt s before after heard → IsWithin after
@@ -81,19 +81,19 @@ loses-within None before after heard h k = go before.stage h where
   go Closing h = same-within before after h.1 k
   go Over h = same-within before after h.1 k
 
-turn-within : (now : ℕ) (told : Option Event) (before after : Lane) (answers : List Answer) (heard : Option Event) → Turns now told before after answers heard → IsWithin after
+turn-within : (now : ℕ) (trace : Option Event) (before after : Lane) (answers : List Answer) (heard : Option Event) → Turns now trace before after answers heard → IsWithin after
 turn-within now (Some event) before after answers heard h = says-within before after answers h.1
 turn-within now None before after answers heard h = go before.stage refl h where
   go : (s : Stage) → before.stage ≡ s → TurnsAt s now before after answers heard → IsWithin after
-  go Live e h = loses-within h.told h.said after heard h.loses (says-within h.settled h.said h.written h.says)
+  go Live e h = loses-within h.trace h.said after heard h.loses (says-within h.settled h.said h.written h.says)
   go Lost e h = shut-within after (ap (λ (l : Lane). has_wire l.stage) h.2)
   go Closing e h = says-within before after answers h.1
   go Over e h = shut-within after (ap (λ (l : Lane). has_wire l.stage) h.2 ∙ ap has_wire e)
 
-turns-within : (now : ℕ) (told : Option Event) (lanes after : List Lane) (answers : List Answer) (heard : Option Event) → TurnAll now told lanes after answers heard → AreWithin after
-turns-within now told [] after answers heard h = subst (λ (l : List Lane). AreWithin l) (sym h.0) tt
-turns-within now told (lane ∷ lanes) after answers heard h =
-    subst (λ (l : List Lane). AreWithin l) (sym h.5) (turn-within now told lane h.1 h.3 h.0 h.7, turns-within now h.0 lanes h.2 h.4 heard h.8)
+turns-within : (now : ℕ) (trace : Option Event) (lanes after : List Lane) (answers : List Answer) (heard : Option Event) → TurnAll now trace lanes after answers heard → AreWithin after
+turns-within now trace [] after answers heard h = subst (λ (l : List Lane). AreWithin l) (sym h.0) tt
+turns-within now trace (lane ∷ lanes) after answers heard h =
+    subst (λ (l : List Lane). AreWithin l) (sym h.5) (turn-within now trace lane h.1 h.3 h.0 h.7, turns-within now h.0 lanes h.2 h.4 heard h.8)
 
 both-within : (xs ys : List Lane) → AreWithin xs → AreWithin ys → AreWithin (xs ++ ys)
 both-within [] ys h k = k
@@ -102,10 +102,10 @@ both-within (x ∷ xs) ys h k = (h.0, both-within xs ys h.1 k)
 all-within : (now from : ℕ) (before after : List Lane) (answers : List Answer) (heard : Option Event) → HearsAll now from before after answers heard → AreWithin after
 all-within now from before after answers heard h =
     subst (λ (l : List Lane). AreWithin l) (sym h.order)
-    (both-within h.last h.first (turns-within now h.told _ h.last h.answers_last heard h.turns_last) (turns-within now None _ h.first h.answers_first h.told h.turns_first))
+    (both-within h.last h.first (turns-within now h.trace _ h.last h.answers_last heard h.turns_last) (turns-within now None _ h.first h.answers_first h.trace h.turns_first))
 
 pub next-within : NextIsWithin
-next-within before after answers heard h = all-within heard.now h.begin _ after.lanes h.turns h.told h.hears
+next-within before after answers heard h = all-within heard.now h.begin _ after.lanes h.turns h.trace h.hears
 
 -- ---- saying
 

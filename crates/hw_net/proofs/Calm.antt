@@ -21,7 +21,7 @@ use Rattle.hw_net.specs.Lanes.{DoesHere}
 use Rattle.hw_net.specs.Saying.{Says}
 use Rattle.hw_net.specs.Tally.{has_unwritten, has_unwritten_by}
 use Rattle.hw_net.specs.WebSocketState.{WebSocketState, HearsWebSocket, ReadsInto, Finds, IsCalm, room_of}
-use Rattle.hw_net.specs.Told.{Chooses, Reads, Gives, Tells}
+use Rattle.hw_net.specs.Trace.{Chooses, Reads, Gives, Tells}
 use Rattle.hw_net.specs.Turn.{Hears, Settles, Passes, Falls, Loses, LosesAt, TurnsLive, TurnsAt, Listens}
 use Rattle.hw_net.proofs.WebSocketFacts.{room-wants_read, input-of}
 use Rattle.hw_net.proofs.Telling.{tells-none}
@@ -93,7 +93,7 @@ calm-listens now lane first buf h =
       protocol = lane.protocol;
       settled = lane;
       said = lane;
-      told = None;
+      trace = None;
       read = first;
       shut = [];
       written = [];
@@ -115,13 +115,13 @@ looked (Ok heard) before mid after count buf got e fed f same = λ wire answer c
 looked (Err why) before mid after count buf got e fed f same = f
 
 -- nothing more is told after a look that read the wire
-pub after-first_look : {E : Type 0} (r : Result Input E) (told : Option (List Answer)) (before : Lane) (protocol : Protocol) (buf : List ℕ) (first_look : FirstRead) (got : Option ℕ) → first_look ≡ Read got →
+pub after-first_look : {E : Type 0} (r : Result Input E) (trace : Option (List Answer)) (before : Lane) (protocol : Protocol) (buf : List ℕ) (first_look : FirstRead) (got : Option ℕ) → first_look ≡ Read got →
     IfOk r (λ heard. (first : List Answer) → ReadsFirst before first buf (Read got) → Hears before.wire before.protocol protocol first heard) →
-    IfOk r (λ heard. (first : List Answer) → ReadsFirst before first buf first_look → (answers : List Answer) × Tells told told answers × Hears before.wire before.protocol protocol (first ++ answers) heard)
-after-first_look (Ok heard) told before protocol buf first_look got e h = λ first reads_first.
+    IfOk r (λ heard. (first : List Answer) → ReadsFirst before first buf first_look → (answers : List Answer) × Tells trace trace answers × Hears before.wire before.protocol protocol (first ++ answers) heard)
+after-first_look (Ok heard) trace before protocol buf first_look got e h = λ first reads_first.
     let k = h first (subst (λ x. ReadsFirst before first buf x) e reads_first) in
-    ([], tells-none told, subst (λ (l : List Answer). Hears before.wire before.protocol protocol l heard) (sym (append-nil first)) k)
-after-first_look (Err why) told before protocol buf first_look got e h = h
+    ([], tells-none trace, subst (λ (l : List Answer). Hears before.wire before.protocol protocol l heard) (sym (append-nil first)) k)
+after-first_look (Err why) trace before protocol buf first_look got e h = h
 
 -- the turn of a live lane
 pub live-turns : {E : Type 0} (r : Result (Option Event) E) (a b : Option (List Answer)) (now : ℕ) (before after : Lane) (buf : List ℕ) (first_look : FirstRead) → before.stage ≡ Live →

@@ -18,7 +18,7 @@ use Rattle.hw_net.specs.Lane.{Lane, waits, is_live, is_busy, owes, is_overdue, a
 use Rattle.hw_net.specs.Saying.{WritesOut, Says, SaysAt, SaysMore, must_end, is_too_much}
 use Rattle.hw_net.specs.Sessions as session
 use Rattle.hw_net.specs.Sessions.{Call, Session, answers_in, answers_of, is_about, are_about, was_shut_in, came_in, is_end_on, is_done_on, LanesHaveWires, WiresAreShutOnce, WiresAreShutForACause}
-use Rattle.hw_net.specs.Told.{Chooses}
+use Rattle.hw_net.specs.Trace.{Chooses}
 use Rattle.hw_net.specs.Turn.{Falls, Passes, Settles, Loses, LosesAt, TurnsLive, TurnsAt, Listens, Replies, Puts, PutsAt, Sends, Shuts}
 use Rattle.hw_net.proofs.Ends.{Ends, writes-end, more-end, hears-unshut, writes-unshut, one-shut}
 use Rattle.hw_net.proofs.Moves.{Has, Without, has-of, contains-of}
@@ -186,48 +186,48 @@ more-close x y mine has h = by-ends x.wire x.stage y.stage mine (more-end x y mi
 
 abbrev ends_in : ℕ → Option Event → Bool
 ends_in wire None = false
-ends_in wire (Some told) = is_end_on wire told
+ends_in wire (Some trace) = is_end_on wire trace
 
 -- what the input comes to: the wire is shut, and the lane is over; or it isn't, and the lane has its wire
 abbrev Settled : ℕ → Stage → List Answer → Option Event → Type 0
-Settled wire after shut told =
-    ((shut ≡ was_shut wire ∷ []) × (after ≡ Over) × (ends_in wire told ≡ true))
-    ⊎ ((shut ≡ []) × (has_wire after ≡ true) × (is_done after ≡ true → ends_in wire told ≡ true))
+Settled wire after shut trace =
+    ((shut ≡ was_shut wire ∷ []) × (after ≡ Over) × (ends_in wire trace ≡ true))
+    ⊎ ((shut ≡ []) × (has_wire after ≡ true) × (is_done after ≡ true → ends_in wire trace ≡ true))
 
-falls-settled : (x after : Lane) (shut : List Answer) (told : Option Event) → Falls x after shut told → Settled x.wire after.stage shut told
-falls-settled x after shut told h = inl (h.0, ap (λ (l : Lane). l.stage) h.2, ap (λ o. ends_in x.wire o) h.1 ∙ same x.wire)
+falls-settled : (x after : Lane) (shut : List Answer) (trace : Option Event) → Falls x after shut trace → Settled x.wire after.stage shut trace
+falls-settled x after shut trace h = inl (h.0, ap (λ (l : Lane). l.stage) h.2, ap (λ o. ends_in x.wire o) h.1 ∙ same x.wire)
 
-passes-settled : (wire : ℕ) (mid after : Lane) (shut : List Answer) (told heard : Option Event) → has_wire mid.stage ≡ true → (is_done mid.stage ≡ true → ends_in wire told ≡ true) → Passes mid after shut told heard →
+passes-settled : (wire : ℕ) (mid after : Lane) (shut : List Answer) (trace heard : Option Event) → has_wire mid.stage ≡ true → (is_done mid.stage ≡ true → ends_in wire trace ≡ true) → Passes mid after shut trace heard →
     Settled wire after.stage shut heard
-passes-settled wire mid after shut told heard has done h = inr (
+passes-settled wire mid after shut trace heard has done h = inr (
   h.0,
   ap (λ (l : Lane). has_wire l.stage) h.2 ∙ has,
   λ d. ap (λ o. ends_in wire o) h.1 ∙ done (sym (ap (λ (l : Lane). is_done l.stage) h.2) ∙ d),
 )
 
-settles-settled : (now : ℕ) (x after : Lane) (shut : List Answer) (what : Input) (told : Option Event) → x.stage ≡ Live → Settles now x after shut what told → Settled x.wire after.stage shut told
-settles-settled now x after shut what told live s = go what s where
+settles-settled : (now : ℕ) (x after : Lane) (shut : List Answer) (what : Input) (trace : Option Event) → x.stage ≡ Live → Settles now x after shut what trace → Settled x.wire after.stage shut trace
+settles-settled now x after shut what trace live s = go what s where
   has : has_wire x.stage ≡ true
   has = ap has_wire live
 
   undone : {A : Type 0} → is_done x.stage ≡ true → A
   undone d = absurd (cc (sym (ap is_done live) ∙ d))
 
-  nothing : (b : Bool) → Chooses b (Falls x after shut told) (Passes x after shut None told) → Settled x.wire after.stage shut told
-  nothing true f = falls-settled x after shut told f
-  nothing false f = passes-settled x.wire x after shut None told has (λ d. undone d) f
+  nothing : (b : Bool) → Chooses b (Falls x after shut trace) (Passes x after shut None trace) → Settled x.wire after.stage shut trace
+  nothing true f = falls-settled x after shut trace f
+  nothing false f = passes-settled x.wire x after shut None trace has (λ d. undone d) f
 
-  go : (what : Input) → Settles now x after shut what told → Settled x.wire after.stage shut told
+  go : (what : Input) → Settles now x after shut what trace → Settled x.wire after.stage shut trace
   go input.Nothing s = nothing (is_overdue now x) s
-  go (input.Request request) s = passes-settled x.wire x after shut _ told has (λ d. undone d) s
-  go (input.Refused status) s = passes-settled x.wire _ after shut _ told refl (λ d. same x.wire) s
-  go (input.Message bytes) s = passes-settled x.wire x after shut _ told has (λ d. undone d) s
-  go input.Broken s = falls-settled x after shut told s
-  go input.Gone s = passes-settled x.wire _ after shut _ told refl (λ d. same x.wire) s
+  go (input.Request request) s = passes-settled x.wire x after shut _ trace has (λ d. undone d) s
+  go (input.Refused status) s = passes-settled x.wire _ after shut _ trace refl (λ d. same x.wire) s
+  go (input.Message bytes) s = passes-settled x.wire x after shut _ trace has (λ d. undone d) s
+  go input.Broken s = falls-settled x after shut trace s
+  go input.Gone s = passes-settled x.wire _ after shut _ trace refl (λ d. same x.wire) s
 
 -- the loss of a lane whose wire was shut is heard
-loses-close : (wire : ℕ) (told : Option Event) (said y : Lane) (own : Option Event) → said.wire ≡ wire → Loses told said y own →
-    (has_wire y.stage ≡ has_wire said.stage) × (is_done y.stage ≡ true → (is_done said.stage ≡ true) ⊎ (ends_in wire own ≡ true)) × (ends_in wire told ≡ true → ends_in wire own ≡ true)
+loses-close : (wire : ℕ) (trace : Option Event) (said y : Lane) (own : Option Event) → said.wire ≡ wire → Loses trace said y own →
+    (has_wire y.stage ≡ has_wire said.stage) × (is_done y.stage ≡ true → (is_done said.stage ≡ true) ⊎ (ends_in wire own ≡ true)) × (ends_in wire trace ≡ true → ends_in wire own ≡ true)
 loses-close wire (Some here) said y own e h =
     (ap (λ (l : Lane). has_wire l.stage) h.1, λ d. inl (sym (ap (λ (l : Lane). is_done l.stage) h.1) ∙ d), λ t. ap (λ o. ends_in wire o) h.0 ∙ t)
 loses-close wire None said y own e h = go said.stage refl h where
@@ -245,7 +245,7 @@ loses-close wire None said y own e h = go said.stage refl h where
   go Over s h = stays h.1
 
 live-close : (now : ℕ) (x y : Lane) (mine : List Answer) (own : Option Event) → x.stage ≡ Live → TurnsLive now x y mine own → Closes x.wire x.stage y.stage mine (ends_in x.wire own)
-live-close now x y mine own live h = go (settles-settled now mid h.settled h.shut h.input h.told live h.settles) where
+live-close now x y mine own live h = go (settles-settled now mid h.settled h.shut h.input h.trace live h.settles) where
   mid : Lane
   mid = record x { protocol = h.protocol }
 
@@ -256,13 +256,13 @@ live-close now x y mine own live h = go (settles-settled now mid h.settled h.shu
   unread = hears-unshut x.wire x.wire x.protocol h.protocol h.read h.input h.hears
 
   kept : h.settled.wire ≡ x.wire
-  kept = (settles-keeps now (record x { protocol = h.protocol }) h.settled h.shut h.input h.told h.settles).0.0
+  kept = (settles-keeps now (record x { protocol = h.protocol }) h.settled h.shut h.input h.trace h.settles).0.0
 
   said : Closes x.wire h.settled.stage h.said.stage h.written false
   said = subst (λ n. Closes n h.settled.stage h.said.stage h.written false) kept (says-close h.settled h.said h.written h.says)
 
-  lost : (has_wire y.stage ≡ has_wire h.said.stage) × (is_done y.stage ≡ true → (is_done h.said.stage ≡ true) ⊎ (ends_in x.wire own ≡ true)) × (ends_in x.wire h.told ≡ true → ends_in x.wire own ≡ true)
-  lost = loses-close x.wire h.told h.said y own ((says-keeps h.settled h.said h.written h.says).0 ∙ kept) h.loses
+  lost : (has_wire y.stage ≡ has_wire h.said.stage) × (is_done y.stage ≡ true → (is_done h.said.stage ≡ true) ⊎ (ends_in x.wire own ≡ true)) × (ends_in x.wire h.trace ≡ true → ends_in x.wire own ≡ true)
+  lost = loses-close x.wire h.trace h.said y own ((says-keeps h.settled h.said h.written h.says).0 ∙ kept) h.loses
 
   has : has_wire x.stage ≡ true
   has = ap has_wire live
@@ -277,7 +277,7 @@ live-close now x y mine own live h = go (settles-settled now mid h.settled h.shu
   lasts : (rest : List Answer) → mine ≡ h.read ++ rest → ShutLast x.wire rest → ShutLast x.wire mine
   lasts rest e l = subst (λ (k : List Answer). ShutLast x.wire k) (sym e) (last-append x.wire h.read rest (unshut-last x.wire h.read unread) l (λ s. absurd (cc (sym unread ∙ s))))
 
-  go : Settled x.wire h.settled.stage h.shut h.told → Closes x.wire x.stage y.stage mine (ends_in x.wire own)
+  go : Settled x.wire h.settled.stage h.shut h.trace → Closes x.wire x.stage y.stage mine (ends_in x.wire own)
   go (inl s) =
       let silent : h.written ≡ [] = said.none (ap has_wire s.1) in
       let all : mine ≡ h.read ++ was_shut x.wire ∷ [] = ended (was_shut x.wire ∷ []) (ap (λ l. l ++ h.written) s.0 ∙ ap (λ l. was_shut x.wire ∷ l) silent) in
@@ -344,7 +344,7 @@ unended wire event.Quiet h = refl
 
 heard-ends : (wire : ℕ) (own : Option Event) (what : Event) → IsHeard wire own what → is_end_on wire what ≡ ends_in wire own
 heard-ends wire None what h = unended wire what h
-heard-ends wire (Some told) what h = ap (λ v. is_end_on wire v) h
+heard-ends wire (Some trace) what h = ap (λ v. is_end_on wire v) h
 
 heeds-close : (now : ℕ) (what : Event) (x y : Lane) (mine : List Answer) → Heeds now what x y mine → Closes x.wire x.stage y.stage mine (is_end_on x.wire what)
 heeds-close now what x y mine (inl h) = subst (λ b. Closes x.wire x.stage y.stage mine b) (sym (heard-ends x.wire h.0 what h.2)) (listens-close now x y mine h.0 h.1)

@@ -18,7 +18,7 @@ use Rattle.hw_net.specs.Lane.{Lane, waits, is_live, is_busy, owes, is_overdue, a
 use Rattle.hw_net.specs.Saying.{WritesOut, Says, SaysAt, SaysMore, is_too_much}
 use Rattle.hw_net.specs.Sessions as session
 use Rattle.hw_net.specs.Sessions.{Call, Session, requests_on, replies_on, request_on, refusal_on, RequestsWaitForReplies}
-use Rattle.hw_net.specs.Told.{Chooses}
+use Rattle.hw_net.specs.Trace.{Chooses}
 use Rattle.hw_net.specs.Turn.{Hears, Falls, Passes, Settles, Loses, LosesAt, TurnsLive, TurnsAt, Listens, Replies, PutsAt, Sends, Shuts}
 use Rattle.hw_net.proofs.Asked.{requests_in, settles-requests, loses-requests, heard-requests, requests_by, requests-more}
 use Rattle.hw_net.proofs.Ends.{more-end, writes-end, speaks-busy, replied-owes, Ends}
@@ -86,7 +86,7 @@ more-live x y answers h = ends-lives x.wire x y answers (more-end x y answers h)
 lives-on : (x y z : Lane) → Lives x y → Lives y z → Lives x z
 lives-on x y z f g live = let a = g live in let b = f a.0 in (b.0, a.1 ∙ b.1)
 
-loses-live : (told : Option Event) (x y : Lane) (heard : Option Event) → Loses told x y heard → Lives x y
+loses-live : (trace : Option Event) (x y : Lane) (heard : Option Event) → Loses trace x y heard → Lives x y
 loses-live (Some here) x y heard h = same-lives x y h.1
 loses-live None x y heard h = go x.stage h where
   go : (s : Stage) → LosesAt s x y heard → Lives x y
@@ -154,10 +154,10 @@ even-on x y z requests replies f l n m k live =
 live-even : (now : ℕ) (x y : Lane) (mine : List Answer) (own : Option Event) → TurnsLive now x y mine own → StaysEven x y (length (requests_in x.wire own)) (length (refusals_in x.wire own))
 live-even now x y mine own h =
     let mid = record x { protocol = h.protocol } in
-    let requests : requests_in x.wire own ≡ requests_of h.input = loses-requests x.wire h.told h.said y own h.loses ∙ settles-requests now mid h.settled h.shut h.input h.told h.settles in
-    let refusals : refusals_in x.wire own ≡ refusals_of h.input = loses-refusals x.wire h.told h.said y own h.loses ∙ settles-refusals now mid h.settled h.shut h.input h.told h.settles in
-    let at_end = even-on x h.settled y (length (requests_of h.input)) (length (refusals_of h.input)) (settles-even now x h.protocol h.settled h.read h.shut h.input h.told h.hears h.settles)
-    (lives-on h.settled h.said y (says-live h.settled h.said h.written h.says) (loses-live h.told h.said y own h.loses)) in
+    let requests : requests_in x.wire own ≡ requests_of h.input = loses-requests x.wire h.trace h.said y own h.loses ∙ settles-requests now mid h.settled h.shut h.input h.trace h.settles in
+    let refusals : refusals_in x.wire own ≡ refusals_of h.input = loses-refusals x.wire h.trace h.said y own h.loses ∙ settles-refusals now mid h.settled h.shut h.input h.trace h.settles in
+    let at_end = even-on x h.settled y (length (requests_of h.input)) (length (refusals_of h.input)) (settles-even now x h.protocol h.settled h.read h.shut h.input h.trace h.hears h.settles)
+    (lives-on h.settled h.said y (says-live h.settled h.said h.written h.says) (loses-live h.trace h.said y own h.loses)) in
     subst (λ (l : List Request). StaysEven x y (length l) (length (refusals_in x.wire own))) (sym requests)
     (subst (λ (l : List Reply). StaysEven x y (length (requests_of h.input)) (length l)) (sym refusals) at_end)
 
@@ -268,10 +268,10 @@ abbrev IsFree : Lane → Type 0
 IsFree x = (is_live x.stage ≡ true) × (is_busy x.protocol ≡ false)
 
 hears-free : (wire : ℕ) (before after : Protocol) (answers : List Answer) (what : Input) (request : Request) → Hears wire before after answers what → requests_of what ≡ request ∷ [] → is_busy before ≡ false
-hears-free wire (Http before) (Http after) answers (input.Request told) request h e = h.is_input.1
-hears-free wire (Socket before) (Socket after) answers (input.Request told) request h e = refl
-hears-free wire (Http before) (Socket after) answers (input.Request told) request h e = absurd h
-hears-free wire (Socket before) (Http after) answers (input.Request told) request h e = absurd h
+hears-free wire (Http before) (Http after) answers (input.Request trace) request h e = h.is_input.1
+hears-free wire (Socket before) (Socket after) answers (input.Request trace) request h e = refl
+hears-free wire (Http before) (Socket after) answers (input.Request trace) request h e = absurd h
+hears-free wire (Socket before) (Http after) answers (input.Request trace) request h e = absurd h
 hears-free wire before after answers _ request h e = absurd (cc e)
 
 listens-free : (now : ℕ) (x y : Lane) (mine : List Answer) (own : Option Event) (request : Request) → Listens now x y mine own → requests_in x.wire own ≡ request ∷ [] → IsFree x
@@ -283,7 +283,7 @@ listens-free now x y mine own request h e = go x.stage refl h where
   go Live f h = (
     ap is_live f,
     hears-free x.wire x.protocol h.protocol h.read h.input request h.hears
-        (sym (loses-requests x.wire h.told h.said y own h.loses ∙ settles-requests now (record x { protocol = h.protocol }) h.settled h.shut h.input h.told h.settles) ∙ e),
+        (sym (loses-requests x.wire h.trace h.said y own h.loses ∙ settles-requests now (record x { protocol = h.protocol }) h.settled h.shut h.input h.trace h.settles) ∙ e),
   )
   go Lost f h = never (ap (λ o. requests_in x.wire o) h.1)
   go Closing f h = never (ap (λ o. requests_in x.wire o) h.0)
@@ -298,9 +298,9 @@ requests-wait what answers calls bound now h lane request e =
     let m = mover what answers calls bound now h lane (ap (λ v. is_on lane v) e ∙ same lane) in
     let x = m.0 in
     let even = each-before AreEven new-even step-even (session.heard what answers) calls bound now h x m.2 in
-    let told : request_on x.wire what.event ≡ request ∷ [] =
+    let trace : request_on x.wire what.event ≡ request ∷ [] =
     ap (λ v. request_on x.wire v) e ∙ ap (λ n. if lane == n then request ∷ [] else []) m.4 ∙ ap (λ b. if b then request ∷ [] else []) (same lane) in
-    let free = heeds-free what.now what.event x m.1 _ request m.5 told in
+    let free = heeds-free what.now what.event x m.1 _ request m.5 trace in
     let count : busy_count x.protocol ≡ 0 = ap (λ b. if b then 1 else 0) free.1 in
     let here : length (requests_on x.wire calls) ≡ length (replies_on x.wire calls) + busy_count x.protocol = even.1 free.0 in
     let at_wire : length (replies_on x.wire calls) ≡ length (requests_on x.wire calls) = omega (arith, count, here) in

@@ -15,7 +15,7 @@ use Rattle.hw_net.specs.HttpState.{HttpStateView}
 use Rattle.hw_net.specs.Lane.{Lane, waits, is_live, is_busy, owes, is_overdue, after_end, after_reply, protocol_after_shut, protocol_after_reply, new_socket, rest_of}
 use Rattle.hw_net.specs.Saying.{Writes, WritesOut, SpeaksAs, Says, SaysAt, SaysMore, must_end, is_too_much}
 use Rattle.hw_net.specs.Sessions.{was_shut_in, is_request_on}
-use Rattle.hw_net.specs.Told.{Reads, Gives, Chooses}
+use Rattle.hw_net.specs.Trace.{Reads, Gives, Chooses}
 use Rattle.hw_net.specs.Turn.{Hears, Falls, Passes, Settles, Loses, LosesAt, TurnsLive, TurnsAt, Listens, Replies, PutsAt, Sends, Shuts}
 use Rattle.hw_net.proofs.Owning.{settles-keeps}
 use Rattle.hw_net.proofs.Shares.{shut-append, same}
@@ -137,7 +137,7 @@ is_request _ = false
 
 abbrev pub is_request_in : ℕ → Option Event → Bool
 is_request_in wire None = false
-is_request_in wire (Some told) = is_request_on wire told
+is_request_in wire (Some trace) = is_request_on wire trace
 
 -- what is heard of a lane that was live, before it writes
 abbrev pub Settled : Lane → Protocol → Lane → List Answer → Bool → Type 0
@@ -149,9 +149,9 @@ falls-owes : (before websocket_state after : Lane) (answers : List Answer) (hear
 falls-owes before websocket_state after answers heard busy e h =
     ap owes h.2 ∙ ap (λ b. not b && busy) (sym (ap (λ l. was_shut_in before.wire l) h.0 ∙ ap (λ n. was_shut_in before.wire (was_shut n ∷ [])) e ∙ one-shut before.wire))
 
-passes-owes : (wire : ℕ) (becomes after : Lane) (answers : List Answer) (told heard : Option Event) (owed : Bool) → Passes becomes after answers told heard → owes becomes ≡ owed →
+passes-owes : (wire : ℕ) (becomes after : Lane) (answers : List Answer) (trace heard : Option Event) (owed : Bool) → Passes becomes after answers trace heard → owes becomes ≡ owed →
     owes after ≡ (not (was_shut_in wire answers) && owed)
-passes-owes wire becomes after answers told heard owed h e = ap owes h.2 ∙ e ∙ ap (λ l. not (was_shut_in wire l) && owed) (sym h.0)
+passes-owes wire becomes after answers trace heard owed h e = ap owes h.2 ∙ e ∙ ap (λ l. not (was_shut_in wire l) && owed) (sym h.0)
 
 settles-owes : (now : ℕ) (x : Lane) (protocol : Protocol) (after : Lane) (read answers : List Answer) (what : Input) (heard : Option Event) → x.stage ≡ Live → Hears x.wire x.protocol protocol read what →
     Settles now (record x { protocol = protocol }) after answers what heard → owes after ≡ (not (was_shut_in x.wire answers) && (is_request what || is_busy x.protocol))
@@ -184,21 +184,21 @@ settles-owes now x protocol after read answers what heard live h s = go x.protoc
   go (Http old) (Socket new) what h s = absurd h
   go (Socket old) (Http new) what h s = absurd h
 
-told-is-request : (wire : ℕ) (told : Option Event) (here : Event) (b : Bool) → told ≡ Some here → is_request_on wire here ≡ b → is_request_in wire told ≡ b
-told-is-request wire told here b e f = ap (λ o. is_request_in wire o) e ∙ f
+trace-is-request : (wire : ℕ) (trace : Option Event) (here : Event) (b : Bool) → trace ≡ Some here → is_request_on wire here ≡ b → is_request_in wire trace ≡ b
+trace-is-request wire trace here b e f = ap (λ o. is_request_in wire o) e ∙ f
 
 pub settles-request : (now : ℕ) (before after : Lane) (answers : List Answer) (what : Input) (heard : Option Event) → Settles now before after answers what heard → is_request_in before.wire heard ≡ is_request what
 settles-request now before after answers input.Nothing heard h = go (is_overdue now before) h where
   go : (b : Bool) → Chooses b (Falls before after answers heard) (Passes before after answers None heard) → is_request_in before.wire heard ≡ false
   go true h = ap (λ o. is_request_in before.wire o) h.1
   go false h = ap (λ o. is_request_in before.wire o) h.1
-settles-request now before after answers (input.Request request) heard h = told-is-request before.wire heard _ true h.1 (same before.wire)
+settles-request now before after answers (input.Request request) heard h = trace-is-request before.wire heard _ true h.1 (same before.wire)
 settles-request now before after answers (input.Refused status) heard h = ap (λ o. is_request_in before.wire o) h.1
 settles-request now before after answers (input.Message bytes) heard h = ap (λ o. is_request_in before.wire o) h.1
 settles-request now before after answers input.Broken heard h = ap (λ o. is_request_in before.wire o) h.1
 settles-request now before after answers input.Gone heard h = ap (λ o. is_request_in before.wire o) h.1
 
-pub loses-request : (wire : ℕ) (told : Option Event) (before after : Lane) (heard : Option Event) → Loses told before after heard → is_request_in wire heard ≡ is_request_in wire told
+pub loses-request : (wire : ℕ) (trace : Option Event) (before after : Lane) (heard : Option Event) → Loses trace before after heard → is_request_in wire heard ≡ is_request_in wire trace
 loses-request wire (Some here) before after heard h = ap (λ o. is_request_in wire o) h.0
 loses-request wire None before after heard h = go before.stage h where
   go : (s : Stage) → LosesAt s before after heard → is_request_in wire heard ≡ false
@@ -207,7 +207,7 @@ loses-request wire None before after heard h = go before.stage h where
   go Closing h = ap (λ o. is_request_in wire o) h.0
   go Over h = ap (λ o. is_request_in wire o) h.0
 
-loses-owes : (told : Option Event) (before after : Lane) (heard : Option Event) → Loses told before after heard → owes after ≡ owes before
+loses-owes : (trace : Option Event) (before after : Lane) (heard : Option Event) → Loses trace before after heard → owes after ≡ owes before
 loses-owes (Some here) before after heard h = ap owes h.1
 loses-owes None before after heard h = go before.stage refl h where
   go : (s : Stage) → before.stage ≡ s → LosesAt s before after heard → owes after ≡ owes before
@@ -232,14 +232,14 @@ live-owes : (now : ℕ) (x y : Lane) (mine : List Answer) (own : Option Event) �
     owes y ≡ (not (was_shut_in x.wire mine) && (is_request_in x.wire own || is_busy x.protocol))
 live-owes now x y mine own live h =
     let w = x.wire in
-    let kept = settles-keeps now (record x { protocol = h.protocol }) h.settled h.shut h.input h.told h.settles in
+    let kept = settles-keeps now (record x { protocol = h.protocol }) h.settled h.shut h.input h.trace h.settles in
     let requested : is_request_in w own ≡ is_request h.input =
-    loses-request w h.told h.said y own h.loses ∙ settles-request now (record x { protocol = h.protocol }) h.settled h.shut h.input h.told h.settles in
+    loses-request w h.trace h.said y own h.loses ∙ settles-request now (record x { protocol = h.protocol }) h.settled h.shut h.input h.trace h.settles in
     let q = is_request h.input || is_busy x.protocol in
     let wrote : owes h.said ≡ (not (was_shut_in w h.written) && owes h.settled) =
     subst (λ n. owes h.said ≡ (not (was_shut_in n h.written) && owes h.settled)) kept.0.0 (says-owes h.settled h.said h.written h.says) in
-    loses-owes h.told h.said y own h.loses ∙ wrote
-    ∙ ap (λ b. not (was_shut_in w h.written) && b) (settles-owes now x h.protocol h.settled h.read h.shut h.input h.told live h.hears h.settles)
+    loses-owes h.trace h.said y own h.loses ∙ wrote
+    ∙ ap (λ b. not (was_shut_in w h.written) && b) (settles-owes now x h.protocol h.settled h.read h.shut h.input h.trace live h.hears h.settles)
     ∙ thrice (was_shut_in w h.read) (was_shut_in w h.shut) (was_shut_in w h.written) q (hears-unshut w w x.protocol h.protocol h.read h.input h.hears)
     ∙ ap (λ b. not b && q) (sym (live-shuts w mine h.read h.shut h.written h.all))
     ∙ ap (λ b. not (was_shut_in w mine) && (b || is_busy x.protocol)) (sym requested)
@@ -269,7 +269,7 @@ listens-owes now x y mine own h = go x.stage refl h where
 
 heard-request : (wire : ℕ) (own : Option Event) (what : Event) → IsHeard wire own what → is_request_on wire what ≡ is_request_in wire own
 heard-request wire None what h = not-request wire what h
-heard-request wire (Some told) what h = ap (λ v. is_request_on wire v) h
+heard-request wire (Some trace) what h = ap (λ v. is_request_on wire v) h
 
 pub heeds-owes : (now : ℕ) (what : Event) (x y : Lane) (mine : List Answer) → Heeds now what x y mine → OwesAfter x y mine (is_request_on x.wire what)
 heeds-owes now what x y mine (inl h) = subst (λ b. OwesAfter x y mine b) (sym (heard-request x.wire h.0 what h.2)) (listens-owes now x y mine h.0 h.1)

@@ -7,7 +7,7 @@ use Rattle.std.specs.Ordering.{nat_cmp, ordering_index}
 use Rattle.std.proofs.lemmas.Cmp.{ranked}
 use Rattle.std.proofs.lemmas.List.Sums.{position_or_len_is}
 use Rattle.std.proofs.lemmas.Bool.Decides.{nat_tests}
-use Rattle.hw_net.specs.Door.{place_of_first}
+use Rattle.hw_net.specs.Door.{index_of_first}
 use Rattle.hw_net.specs.Lane.{Lane, wires_of}
 use Rattle.hw_net.specs.Rising.{IsRising}
 
@@ -74,7 +74,7 @@ parted from bound lanes h i j d le within low =
     grind (arith, nat_tests, low)
 
 -- the lanes of lower numbers come first
-pub first-from : (from : ℕ) (lanes : List Lane) (at : ℕ) → at ≤ length lanes → IsPartitionPoint (λ l. is_low from l ≡ true) (λ l. is_low from l ≡ false) lanes at → at ≡ place_of_first from lanes
+pub first-from : (from : ℕ) (lanes : List Lane) (at : ℕ) → at ≤ length lanes → IsPartitionPoint (λ l. is_low from l ≡ true) (λ l. is_low from l ≡ false) lanes at → at ≡ index_of_first from lanes
 first-from from [] at within s = omega (arith, within)
 first-from from (first ∷ lanes) at within s =
     let all = first ∷ lanes in

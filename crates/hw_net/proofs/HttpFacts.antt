@@ -8,7 +8,7 @@ use Rattle.hw_door.specs.Traffic.{Answer}
 use Rattle.hw_net.specs.declared.input.Input.{Input}
 use Rattle.hw_net.specs.declared.input.Input.TheVariants as input
 use Rattle.hw_net.specs.Input.{is_nothing}
-use Rattle.hw_net.specs.Told.{bytes_of, IsAsked, Tells}
+use Rattle.hw_net.specs.Trace.{bytes_of, IsAsked, Tells}
 use Rattle.hw_net.specs.HttpState.{HttpStateView, IsHttpState, HearsHttp, ReadsInto, Finds, IsInput, requests_of, room_of}
 
 -- what a look adds to the requests that were heard

@@ -18,7 +18,7 @@ use Rattle.hw_net.specs.Lane.{Lane, waits, is_live, owes, is_overdue, after_end,
 use Rattle.hw_net.specs.Saying.{Writes, WritesOut, Says, SaysAt, SaysMore, must_end, is_too_much}
 use Rattle.hw_net.specs.Sessions as session
 use Rattle.hw_net.specs.Sessions.{Call, Session, Does, answers_in, answers_of, broke_in, IsGone, IsSpoiled, IsLostRightly, LossesHaveCauses}
-use Rattle.hw_net.specs.Told.{Reads, Gives, Chooses}
+use Rattle.hw_net.specs.Trace.{Reads, Gives, Chooses}
 use Rattle.hw_net.specs.Turn.{Hears, Falls, Passes, Settles, Loses, LosesAt, TurnsLive, TurnsAt, Listens, Replies, Puts, PutsAt, Sends, Shuts}
 use Rattle.hw_net.proofs.Asked.{Silent, gives-bytes, live-reads, settles-silent, says-silent}
 use Rattle.hw_net.proofs.Closings.{or-true, replied-stage, put-stage, live-has, owes-live}
@@ -100,16 +100,16 @@ more-break x y mine has h = go (is_too_much (length (waits x))) refl h where
 -- ---- turns
 
 -- a lane that settled has its wire, or it is over
-settled-unlost : (now : ℕ) (x after : Lane) (shut : List Answer) (what : Input) (told : Option Event) → x.stage ≡ Live → Settles now x after shut what told → is_lost after.stage ≡ false
-settled-unlost now x after shut what told live s = go what s where
+settled-unlost : (now : ℕ) (x after : Lane) (shut : List Answer) (what : Input) (trace : Option Event) → x.stage ≡ Live → Settles now x after shut what trace → is_lost after.stage ≡ false
+settled-unlost now x after shut what trace live s = go what s where
   same-stage : (mid : Lane) → after ≡ mid → is_lost mid.stage ≡ false → is_lost after.stage ≡ false
   same-stage mid e f = ap (λ (l : Lane). is_lost l.stage) e ∙ f
 
-  nothing : (b : Bool) → Chooses b (Falls x after shut told) (Passes x after shut None told) → is_lost after.stage ≡ false
+  nothing : (b : Bool) → Chooses b (Falls x after shut trace) (Passes x after shut None trace) → is_lost after.stage ≡ false
   nothing true f = same-stage _ f.2 refl
   nothing false f = same-stage x f.2 (ap is_lost live)
 
-  go : (what : Input) → Settles now x after shut what told → is_lost after.stage ≡ false
+  go : (what : Input) → Settles now x after shut what trace → is_lost after.stage ≡ false
   go input.Nothing s = nothing (is_overdue now x) s
   go (input.Request request) s = same-stage x s.2 (ap is_lost live)
   go (input.Refused status) s = same-stage _ s.2 refl
@@ -131,16 +131,16 @@ broke-read a b c d e f = sym e ∙ ap (λ k. k || (b || c)) f
 said-cause : (now : ℕ) (x y : Lane) (mine : List Answer) (own : Option Event) → x.stage ≡ Live → (h : TurnsLive now x y mine own) → h.said.stage ≡ Lost → Cause x.wire mine h.said
 said-cause now x y mine own live h lost = go (says-break h.settled h.said h.written h.says lost) where
   kept : h.settled.wire ≡ x.wire
-  kept = (settles-keeps now (record x { protocol = h.protocol }) h.settled h.shut h.input h.told h.settles).0.0
+  kept = (settles-keeps now (record x { protocol = h.protocol }) h.settled h.shut h.input h.trace h.settles).0.0
 
   go : Cause h.settled.wire h.written h.said ⊎ (h.said ≡ h.settled) → Cause x.wire mine h.said
   go (inl (inl e)) = inl (broke-written (broke_in x.wire h.read) (broke_in x.wire h.shut) (broke_in x.wire h.written) (broke_in x.wire mine)
       (live-broke x.wire mine h.read h.shut h.written h.all) (subst (λ n. broke_in n h.written ≡ true) kept e))
   go (inl (inr e)) = inr e
-  go (inr e) = unlost h.said.stage h.settled.stage (ap (λ (l : Lane). l.stage) e) (settled-unlost now (record x { protocol = h.protocol }) h.settled h.shut h.input h.told live h.settles) lost
+  go (inr e) = unlost h.said.stage h.settled.stage (ap (λ (l : Lane). l.stage) e) (settled-unlost now (record x { protocol = h.protocol }) h.settled h.shut h.input h.trace live h.settles) lost
 
 live-breaks : (now : ℕ) (x y : Lane) (mine : List Answer) (own : Option Event) → x.stage ≡ Live → TurnsLive now x y mine own → y.stage ≡ Lost → Cause x.wire mine y
-live-breaks now x y mine own live h lost = go h.told h.loses where
+live-breaks now x y mine own live h lost = go h.trace h.loses where
   by : y ≡ h.said → Cause x.wire mine y
   by e = subst (λ (l : Lane). Cause x.wire mine l) (sym e) (said-cause now x y mine own live h (sym (ap (λ (l : Lane). l.stage) e) ∙ lost))
 
@@ -150,7 +150,7 @@ live-breaks now x y mine own live h lost = go h.told h.loses where
   at Closing k = by k.1
   at Over k = by k.1
 
-  go : (told : Option Event) → Loses told h.said y own → Cause x.wire mine y
+  go : (trace : Option Event) → Loses trace h.said y own → Cause x.wire mine y
   go (Some here) k = by k.1
   go None k = at h.said.stage k
 
@@ -270,18 +270,18 @@ ShowsOf wire old mine y now =
     (broke_in wire mine ≡ true) ⊎ ((is_overdue now y ≡ true) ⊎ ((is_too_much (length (waits y)) ≡ true) ⊎ (IsGone (read_on wire mine) old ⊎ IsSpoiled old)))
 
 -- the loss is that of the input
-input-shows : (now wire : ℕ) (x : Lane) (protocol : Protocol) (after y : Lane) (mine read shut : List Answer) (what : Input) (told : Option Event) → is_loss told ≡ true → Hears wire x.protocol protocol read what →
-    Settles now (record x { protocol = protocol }) after shut what told → (broke_in wire read ≡ true → broke_in wire mine ≡ true) → read_on wire mine ≡ read_on wire read → (after.stage ≡ Over → y ≡ after) →
+input-shows : (now wire : ℕ) (x : Lane) (protocol : Protocol) (after y : Lane) (mine read shut : List Answer) (what : Input) (trace : Option Event) → is_loss trace ≡ true → Hears wire x.protocol protocol read what →
+    Settles now (record x { protocol = protocol }) after shut what trace → (broke_in wire read ≡ true → broke_in wire mine ≡ true) → read_on wire mine ≡ read_on wire read → (after.stage ≡ Over → y ≡ after) →
     ShowsOf wire x.protocol mine y now
-input-shows now wire x protocol after y mine read shut what told loss h s broke same_read last = go x.protocol protocol what h s where
-  never : {A : Type 0} (o : Option Event) → told ≡ o → is_loss o ≡ false → A
+input-shows now wire x protocol after y mine read shut what trace loss h s broke same_read last = go x.protocol protocol what h s where
+  never : {A : Type 0} (o : Option Event) → trace ≡ o → is_loss o ≡ false → A
   never o e f = absurd (cc (sym f ∙ sym (ap is_loss e) ∙ loss))
 
-  nothing : (old new : Protocol) (b : Bool) → is_overdue now (record x { protocol = new }) ≡ b → Chooses b (Falls (record x { protocol = new }) after shut told) (Passes (record x { protocol = new }) after shut None told) → ShowsOf wire old mine y now
+  nothing : (old new : Protocol) (b : Bool) → is_overdue now (record x { protocol = new }) ≡ b → Chooses b (Falls (record x { protocol = new }) after shut trace) (Passes (record x { protocol = new }) after shut None trace) → ShowsOf wire old mine y now
   nothing old new true e f = inr (inl (ap (λ (l : Lane). is_overdue now l) (last (ap (λ (l : Lane). l.stage) f.2) ∙ f.2) ∙ e))
   nothing old new false e f = never None f.1 refl
 
-  go : (old new : Protocol) (what : Input) → Hears wire old new read what → Settles now (record x { protocol = new }) after shut what told → ShowsOf wire old mine y now
+  go : (old new : Protocol) (what : Input) → Hears wire old new read what → Settles now (record x { protocol = new }) after shut what trace → ShowsOf wire old mine y now
   go old new input.Nothing h s = nothing old new (is_overdue now (record x { protocol = new })) refl s
   go old new (input.Request request) h s = never _ s.1 refl
   go old new (input.Refused status) h s = never _ s.1 refl
@@ -306,9 +306,9 @@ input-shows now wire x protocol after y mine read shut what told loss h s broke 
   go (Socket old) (Http new) input.Gone h s = absurd h
 
 live-shows : (now : ℕ) (x y : Lane) (mine : List Answer) (own : Option Event) → x.stage ≡ Live → is_loss own ≡ true → TurnsLive now x y mine own → ShowsOf x.wire x.protocol mine y now
-live-shows now x y mine own live loss h = go h.told refl h.loses where
+live-shows now x y mine own live loss h = go h.trace refl h.loses where
   settled : Silent (record x { protocol = h.protocol }) h.settled h.shut
-  settled = settles-silent now (record x { protocol = h.protocol }) h.settled h.shut h.input h.told h.settles
+  settled = settles-silent now (record x { protocol = h.protocol }) h.settled h.shut h.input h.trace h.settles
 
   said : Silent h.settled h.said h.written
   said = says-silent h.settled h.said h.written h.says
@@ -326,9 +326,9 @@ live-shows now x y mine own live loss h = go h.told refl h.loses where
   at Closing e k = never k.0
   at Over e k = never k.0
 
-  go : (told : Option Event) → h.told ≡ told → Loses told h.said y own → ShowsOf x.wire x.protocol mine y now
+  go : (trace : Option Event) → h.trace ≡ trace → Loses trace h.said y own → ShowsOf x.wire x.protocol mine y now
   go (Some here) e k =
-      input-shows now x.wire x h.protocol h.settled y mine h.read h.shut h.input h.told (ap is_loss (e ∙ sym k.0) ∙ loss) h.hears h.settles
+      input-shows now x.wire x h.protocol h.settled y mine h.read h.shut h.input h.trace (ap is_loss (e ∙ sym k.0) ∙ loss) h.hears h.settles
       (broke-read (broke_in x.wire h.read) (broke_in x.wire h.shut) (broke_in x.wire h.written) (broke_in x.wire mine) (live-broke x.wire mine h.read h.shut h.written h.all))
       (live-reads x.wire mine h.read h.shut h.written h.all (settled.0 x.wire) (said.0 x.wire))
       (λ o. over-said h.settled h.said y h.written o h.says k.1)
@@ -353,7 +353,7 @@ heeds-loss : (now : ℕ) (what : Event) (x y : Lane) (mine : List Answer) → wh
 heeds-loss now what x y mine e (inl h) = go h.0 h.1 h.2 where
   go : (own : Option Event) → Listens now x y mine own → IsHeard x.wire own what → Heard-loss now x y mine
   go None l is = absurd (off-and-on (is_on x.wire what) is (ap (λ v. is_on x.wire v) e ∙ same x.wire))
-  go (Some told) l is = listens-loss now x y mine (Some told) (ap (λ v. is_loss (Some v)) (sym is ∙ e)) l
+  go (Some trace) l is = listens-loss now x y mine (Some trace) (ap (λ v. is_loss (Some v)) (sym is ∙ e)) l
 heeds-loss now what x y mine e (inr h) = absurd (off-and-on (is_on x.wire what) h.1 (ap (λ v. is_on x.wire v) e ∙ same x.wire))
 
 -- a lane that is no WebSocket isn't gone or spoiled

@@ -4,10 +4,10 @@ use Rattle.std.proofs.lemmas.List.{map-append}
 use Rattle.hw_door.specs.declared.heard.Event.{Event}
 use Rattle.hw_door.specs.declared.heard.Event.TheVariants as event
 use Rattle.hw_door.specs.Traffic.{Answer}
-use Rattle.hw_net.specs.Door.{HearsAll, kept, place_of_first}
+use Rattle.hw_net.specs.Door.{HearsAll, kept, index_of_first}
 use Rattle.hw_net.specs.Lane.{Lane, wires_of, is_over}
 use Rattle.hw_net.specs.Rising.{IsRising}
-use Rattle.hw_net.specs.Told.{Chooses}
+use Rattle.hw_net.specs.Trace.{Chooses}
 use Rattle.hw_net.specs.Turn.{Listens, Turns, TurnAll, AtLane}
 use Rattle.hw_net.specs.Saying.{Says}
 use Rattle.hw_net.proofs.Owning.{is_on, IsOn, Keeps, listens-keeps, turns-keeps}
@@ -159,7 +159,7 @@ IsOff wire (Some heard) = is_on wire heard ≡ false
 -- what a lane hears is what is heard, and if it hears nothing, nothing is heard on it
 abbrev pub Fits : ℕ → Option Event → Option Event → Type 0
 Fits wire None heard = IsOff wire heard
-Fits wire (Some told) heard = heard ≡ Some told
+Fits wire (Some trace) heard = heard ≡ Some trace
 
 -- a turn in a call in which this is heard: the lane listened, or it only wrote
 abbrev pub Turned : ℕ → Option Event → Lane → Lane → List Answer → Type 0
@@ -178,49 +178,49 @@ off-other v w event.Quiet h k = refl
 
 pub off-if : (v w : ℕ) (heard : Option Event) → IsOn v heard → (v == w) ≡ false → IsOff w heard
 off-if v w None h k = tt
-off-if v w (Some told) h k = off-other v w told h k
+off-if v w (Some trace) h k = off-other v w trace h k
 
-keep : (now : ℕ) (told : Event) (lanes after : List Lane) (answers : List Answer) (heard : Option Event) → TurnAll now (Some told) lanes after answers heard → heard ≡ Some told
-keep now told [] after answers heard h = h.2
-keep now told (lane ∷ lanes) after answers heard h =
-    keep now told lanes h.2 h.4 heard (subst (λ (o : Option Event). TurnAll now o lanes h.2 h.4 heard) h.7.0 h.8)
+keep : (now : ℕ) (trace : Event) (lanes after : List Lane) (answers : List Answer) (heard : Option Event) → TurnAll now (Some trace) lanes after answers heard → heard ≡ Some trace
+keep now trace [] after answers heard h = h.2
+keep now trace (lane ∷ lanes) after answers heard h =
+    keep now trace lanes h.2 h.4 heard (subst (λ (o : Option Event). TurnAll now o lanes h.2 h.4 heard) h.7.0 h.8)
 
-off-answers : (now : ℕ) (told : Option Event) (lanes after : List Lane) (answers : List Answer) (heard : Option Event) (wire : ℕ) → TurnAll now told lanes after answers heard → Without wire lanes → share wire answers ≡ []
-off-answers now told [] after answers heard wire h off = ap (λ l. share wire l) h.1
-off-answers now told (lane ∷ lanes) after answers heard wire h off =
+off-answers : (now : ℕ) (trace : Option Event) (lanes after : List Lane) (answers : List Answer) (heard : Option Event) (wire : ℕ) → TurnAll now trace lanes after answers heard → Without wire lanes → share wire answers ≡ []
+off-answers now trace [] after answers heard wire h off = ap (λ l. share wire l) h.1
+off-answers now trace (lane ∷ lanes) after answers heard wire h off =
     ap (λ l. share wire l) h.6 ∙ share-append wire h.3 h.4
-    ∙ ap (λ l. l ++ share wire h.4) (off-share lane.wire wire h.3 (off lane (inl refl)) (turns-keeps now told lane h.1 h.3 h.0 h.7).1)
+    ∙ ap (λ l. l ++ share wire h.4) (off-share lane.wire wire h.3 (off lane (inl refl)) (turns-keeps now trace lane h.1 h.3 h.0 h.7).1)
     ∙ off-answers now h.0 lanes h.2 h.4 heard wire h.8 (λ x has. off x (inr has))
 
-off-event : (now : ℕ) (told : Option Event) (lanes after : List Lane) (answers : List Answer) (heard : Option Event) (wire : ℕ) → TurnAll now told lanes after answers heard → Without wire lanes → IsOff wire told → IsOff wire heard
-off-event now told [] after answers heard wire h off is = subst (λ (o : Option Event). IsOff wire o) (sym h.2) is
-off-event now (Some told) (lane ∷ lanes) after answers heard wire h off is =
-    subst (λ (o : Option Event). IsOff wire o) (sym (keep now told (lane ∷ lanes) after answers heard h)) is
+off-event : (now : ℕ) (trace : Option Event) (lanes after : List Lane) (answers : List Answer) (heard : Option Event) (wire : ℕ) → TurnAll now trace lanes after answers heard → Without wire lanes → IsOff wire trace → IsOff wire heard
+off-event now trace [] after answers heard wire h off is = subst (λ (o : Option Event). IsOff wire o) (sym h.2) is
+off-event now (Some trace) (lane ∷ lanes) after answers heard wire h off is =
+    subst (λ (o : Option Event). IsOff wire o) (sym (keep now trace (lane ∷ lanes) after answers heard h)) is
 off-event now None (lane ∷ lanes) after answers heard wire h off is =
     off-event now h.0 lanes h.2 h.4 heard wire h.8 (λ x has. off x (inr has)) (off-if lane.wire wire h.0 (listens-keeps now lane h.1 h.3 h.0 h.7).1 (off lane (inl refl)))
 
-first-turn : (now : ℕ) (told mid heard : Option Event) (lane next : Lane) (lanes rest : List Lane) (mine more : List Answer) → Turns now told lane next mine mid → TurnAll now mid lanes rest more heard →
-    Without lane.wire lanes → IsOff lane.wire told → Turned now heard lane next mine
+first-turn : (now : ℕ) (trace mid heard : Option Event) (lane next : Lane) (lanes rest : List Lane) (mine more : List Answer) → Turns now trace lane next mine mid → TurnAll now mid lanes rest more heard →
+    Without lane.wire lanes → IsOff lane.wire trace → Turned now heard lane next mine
 first-turn now None None heard lane next lanes rest mine more one all off is = inl (None, one, off-event now None lanes rest more heard lane.wire all off tt)
 first-turn now None (Some mid) heard lane next lanes rest mine more one all off is = inl (Some mid, one, keep now mid lanes rest more heard all)
-first-turn now (Some told) mid heard lane next lanes rest mine more one all off is =
-    inr (one.1, subst (λ (o : Option Event). IsOff lane.wire o) (sym (keep now told lanes rest more heard (subst (λ (o : Option Event). TurnAll now o lanes rest more heard) one.0 all))) is)
+first-turn now (Some trace) mid heard lane next lanes rest mine more one all off is =
+    inr (one.1, subst (λ (o : Option Event). IsOff lane.wire o) (sym (keep now trace lanes rest more heard (subst (λ (o : Option Event). TurnAll now o lanes rest more heard) one.0 all))) is)
 
-mid-off : (now : ℕ) (told mid : Option Event) (lane next : Lane) (lanes : List Lane) (mine : List Answer) → Turns now told lane next mine mid → Without lane.wire lanes → ((z : Lane) → Has (lane ∷ lanes) z → IsOff z.wire told) →
+mid-off : (now : ℕ) (trace mid : Option Event) (lane next : Lane) (lanes : List Lane) (mine : List Answer) → Turns now trace lane next mine mid → Without lane.wire lanes → ((z : Lane) → Has (lane ∷ lanes) z → IsOff z.wire trace) →
     (z : Lane) → Has lanes z → IsOff z.wire mid
 mid-off now None mid lane next lanes mine one off is z has = off-if lane.wire z.wire mid (listens-keeps now lane next mine mid one).1 (turned z.wire lane.wire (off z has))
-mid-off now (Some told) mid lane next lanes mine one off is z has = subst (λ (o : Option Event). IsOff z.wire o) (sym one.0) (is z (inr has))
+mid-off now (Some trace) mid lane next lanes mine one off is z has = subst (λ (o : Option Event). IsOff z.wire o) (sym one.0) (is z (inr has))
 
 -- a lane's turn, and its share of what the wires answered
 abbrev pub TurnedIn : ℕ → Option Event → List Answer → Lane → Lane → Type 0
 TurnedIn now heard answers x y = Turned now heard x y (share x.wire answers)
 
-pub turned-in : (now : ℕ) (told heard : Option Event) (lanes after : List Lane) (answers : List Answer) → TurnAll now told lanes after answers heard → AreDistinct lanes → ((z : Lane) → Has lanes z → IsOff z.wire told) →
+pub turned-in : (now : ℕ) (trace heard : Option Event) (lanes after : List Lane) (answers : List Answer) → TurnAll now trace lanes after answers heard → AreDistinct lanes → ((z : Lane) → Has lanes z → IsOff z.wire trace) →
     (x y : Lane) → Pair lanes after x y → TurnedIn now heard answers x y
-turned-in now told heard [] after answers h distinct is x y p = absurd p
-turned-in now told heard (lane ∷ lanes) after answers h distinct is x y p = go (subst (λ (l : List Lane). Pair (lane ∷ lanes) l x y) h.5 p) (turned-in now h.0 heard lanes h.2 h.4 h.8 distinct.1 (mid-off now told h.0 lane h.1 lanes h.3 h.7 distinct.0 is) x y) where
+turned-in now trace heard [] after answers h distinct is x y p = absurd p
+turned-in now trace heard (lane ∷ lanes) after answers h distinct is x y p = go (subst (λ (l : List Lane). Pair (lane ∷ lanes) l x y) h.5 p) (turned-in now h.0 heard lanes h.2 h.4 h.8 distinct.1 (mid-off now trace h.0 lane h.1 lanes h.3 h.7 distinct.0 is) x y) where
   own : AreOwn lane.wire h.3
-  own = (turns-keeps now told lane h.1 h.3 h.0 h.7).1
+  own = (turns-keeps now trace lane h.1 h.3 h.0 h.7).1
 
   shares : (wire : ℕ) → share wire answers ≡ share wire h.3 ++ share wire h.4
   shares wire = ap (λ l. share wire l) h.6 ∙ share-append wire h.3 h.4
@@ -229,7 +229,7 @@ turned-in now told heard (lane ∷ lanes) after answers h distinct is x y p = go
   mine = shares lane.wire ∙ ap (λ l. l ++ share lane.wire h.4) (own-share lane.wire h.3 own) ∙ ap (λ l. h.3 ++ l) (off-answers now h.0 lanes h.2 h.4 heard lane.wire h.8 distinct.0) ∙ append-nil h.3
 
   here : TurnedIn now heard answers lane h.1
-  here = subst (λ (l : List Answer). Turned now heard lane h.1 l) (sym mine) (first-turn now told h.0 heard lane h.1 lanes h.2 h.3 h.4 h.7 h.8 distinct.0 (is lane (inl refl)))
+  here = subst (λ (l : List Answer). Turned now heard lane h.1 l) (sym mine) (first-turn now trace h.0 heard lane h.1 lanes h.2 h.3 h.4 h.7 h.8 distinct.0 (is lane (inl refl)))
 
   go : ((lane ≡ x) × (h.1 ≡ y)) ⊎ Pair lanes h.2 x y → (Pair lanes h.2 x y → TurnedIn now heard h.4 x y) → TurnedIn now heard answers x y
   go (inl e) again = subst (λ (l : Lane). TurnedIn now heard answers x l) e.1 (subst (λ (l : Lane). TurnedIn now heard answers l h.1) e.0 here)
@@ -237,31 +237,31 @@ turned-in now told heard (lane ∷ lanes) after answers h distinct is x y p = go
     rest : share x.wire answers ≡ share x.wire h.4
     rest = shares x.wire ∙ ap (λ l. l ++ share x.wire h.4) (off-share lane.wire x.wire h.3 (turned x.wire lane.wire (distinct.0 x (pair-first lanes h.2 x y q))) own)
 
-pub turn-back : (now : ℕ) (told heard : Option Event) (lanes after : List Lane) (answers : List Answer) → TurnAll now told lanes after answers heard → (y : Lane) → Has after y → (x : Lane) × Pair lanes after x y
-turn-back now told heard [] after answers h y has = absurd (subst (λ (l : List Lane). Has l y) h.0 has)
-turn-back now told heard (lane ∷ lanes) after answers h y has = go (subst (λ (l : List Lane). Has l y) h.5 has) (turn-back now h.0 heard lanes h.2 h.4 h.8 y) where
+pub turn-back : (now : ℕ) (trace heard : Option Event) (lanes after : List Lane) (answers : List Answer) → TurnAll now trace lanes after answers heard → (y : Lane) → Has after y → (x : Lane) × Pair lanes after x y
+turn-back now trace heard [] after answers h y has = absurd (subst (λ (l : List Lane). Has l y) h.0 has)
+turn-back now trace heard (lane ∷ lanes) after answers h y has = go (subst (λ (l : List Lane). Has l y) h.5 has) (turn-back now h.0 heard lanes h.2 h.4 h.8 y) where
   go : (h.1 ≡ y) ⊎ Has h.2 y → (Has h.2 y → (x : Lane) × Pair lanes h.2 x y) → (x : Lane) × Pair (lane ∷ lanes) after x y
   go (inl e) again = (lane, subst (λ (l : List Lane). Pair (lane ∷ lanes) l lane y) (sym h.5) (inl (refl, e)))
   go (inr k) again = let p = again k in (p.0, subst (λ (l : List Lane). Pair (lane ∷ lanes) l p.0 y) (sym h.5) (inr p.1))
 
-pub turn-on : (now : ℕ) (told heard : Option Event) (lanes after : List Lane) (answers : List Answer) → TurnAll now told lanes after answers heard → (x : Lane) → Has lanes x → (y : Lane) × Pair lanes after x y
-turn-on now told heard [] after answers h x has = absurd has
-turn-on now told heard (lane ∷ lanes) after answers h x has = go has (turn-on now h.0 heard lanes h.2 h.4 h.8 x) where
+pub turn-on : (now : ℕ) (trace heard : Option Event) (lanes after : List Lane) (answers : List Answer) → TurnAll now trace lanes after answers heard → (x : Lane) → Has lanes x → (y : Lane) × Pair lanes after x y
+turn-on now trace heard [] after answers h x has = absurd has
+turn-on now trace heard (lane ∷ lanes) after answers h x has = go has (turn-on now h.0 heard lanes h.2 h.4 h.8 x) where
   go : (lane ≡ x) ⊎ Has lanes x → (Has lanes x → (y : Lane) × Pair lanes h.2 x y) → (y : Lane) × Pair (lane ∷ lanes) after x y
   go (inl e) again = (h.1, subst (λ (l : List Lane). Pair (lane ∷ lanes) l x h.1) (sym h.5) (inl (e, refl)))
   go (inr k) again = let p = again k in (p.0, subst (λ (l : List Lane). Pair (lane ∷ lanes) l x p.0) (sym h.5) (inr p.1))
 
-wires-turn : (now : ℕ) (told heard : Option Event) (lanes after : List Lane) (answers : List Answer) → TurnAll now told lanes after answers heard → wires_of after ≡ wires_of lanes
-wires-turn now told heard [] after answers h = ap wires_of h.0
-wires-turn now told heard (lane ∷ lanes) after answers h =
-    ap wires_of h.5 ∙ ap (λ l. h.1.wire ∷ l) (wires-turn now h.0 heard lanes h.2 h.4 h.8) ∙ ap (λ n. n ∷ wires_of lanes) (turns-keeps now told lane h.1 h.3 h.0 h.7).0
+wires-turn : (now : ℕ) (trace heard : Option Event) (lanes after : List Lane) (answers : List Answer) → TurnAll now trace lanes after answers heard → wires_of after ≡ wires_of lanes
+wires-turn now trace heard [] after answers h = ap wires_of h.0
+wires-turn now trace heard (lane ∷ lanes) after answers h =
+    ap wires_of h.5 ∙ ap (λ l. h.1.wire ∷ l) (wires-turn now h.0 heard lanes h.2 h.4 h.8) ∙ ap (λ n. n ∷ wires_of lanes) (turns-keeps now trace lane h.1 h.3 h.0 h.7).0
 
-turns-joined : (now : ℕ) (told mid heard : Option Event) (xs xs_after ys ys_after : List Lane) (a b : List Answer) → TurnAll now told xs xs_after a mid → TurnAll now mid ys ys_after b heard →
-    TurnAll now told (xs ++ ys) (xs_after ++ ys_after) (a ++ b) heard
-turns-joined now told mid heard [] xs_after ys ys_after a b h k =
-    subst (λ (l : List Lane). TurnAll now told ys (l ++ ys_after) (a ++ b) heard) (sym h.0)
-    (subst (λ (l : List Answer). TurnAll now told ys ys_after (l ++ b) heard) (sym h.1) (subst (λ (o : Option Event). TurnAll now o ys ys_after b heard) h.2 k))
-turns-joined now told mid heard (x ∷ xs) xs_after ys ys_after a b h k = (
+turns-joined : (now : ℕ) (trace mid heard : Option Event) (xs xs_after ys ys_after : List Lane) (a b : List Answer) → TurnAll now trace xs xs_after a mid → TurnAll now mid ys ys_after b heard →
+    TurnAll now trace (xs ++ ys) (xs_after ++ ys_after) (a ++ b) heard
+turns-joined now trace mid heard [] xs_after ys ys_after a b h k =
+    subst (λ (l : List Lane). TurnAll now trace ys (l ++ ys_after) (a ++ b) heard) (sym h.0)
+    (subst (λ (l : List Answer). TurnAll now trace ys ys_after (l ++ b) heard) (sym h.1) (subst (λ (o : Option Event). TurnAll now o ys ys_after b heard) h.2 k))
+turns-joined now trace mid heard (x ∷ xs) xs_after ys ys_after a b h k = (
   h.0,
   h.1,
   h.2 ++ ys_after,
@@ -295,32 +295,32 @@ turned-sweeps now lanes turning after turned_after answers heard all distinct wa
   );
 }
 
-parted-sweeps : (now : ℕ) (lanes front back after last first : List Lane) (answers a b : List Answer) (told heard : Option Event) → lanes ≡ front ++ back → after ≡ last ++ first → answers ≡ a ++ b →
-    TurnAll now None back first a told → TurnAll now told front last b heard → AreDistinct lanes → Sweeps now lanes after answers heard
-parted-sweeps now lanes front back after last first answers a b told heard whole order all h k distinct =
+parted-sweeps : (now : ℕ) (lanes front back after last first : List Lane) (answers a b : List Answer) (trace heard : Option Event) → lanes ≡ front ++ back → after ≡ last ++ first → answers ≡ a ++ b →
+    TurnAll now None back first a trace → TurnAll now trace front last b heard → AreDistinct lanes → Sweeps now lanes after answers heard
+parted-sweeps now lanes front back after last first answers a b trace heard whole order all h k distinct =
     turned-sweeps now lanes (back ++ front) after (first ++ last) answers heard
-    (subst (λ (l : List Answer). TurnAll now None (back ++ front) (first ++ last) l heard) (sym all) (turns-joined now None told heard back first front last a b h k))
+    (subst (λ (l : List Answer). TurnAll now None (back ++ front) (first ++ last) l heard) (sym all) (turns-joined now None trace heard back first front last a b h k))
     (distinct-rotated front back (subst (λ (l : List Lane). AreDistinct l) whole distinct))
     (λ x has. subst (λ (l : List Lane). Has l x) (sym whole) (has-rotated back front x has))
     (λ x has. has-rotated front back x (subst (λ (l : List Lane). Has l x) whole has))
     (λ y has. has-rotated last first y (subst (λ (l : List Lane). Has l y) order has))
     (λ y has. subst (λ (l : List Lane). Has l y) (sym order) (has-rotated first last y has))
 
-parted-wires : (now : ℕ) (lanes front back after last first : List Lane) (a b : List Answer) (told heard : Option Event) → lanes ≡ front ++ back → after ≡ last ++ first →
-    TurnAll now None back first a told → TurnAll now told front last b heard → wires_of after ≡ wires_of lanes
-parted-wires now lanes front back after last first a b told heard whole order h k =
-    ap wires_of order ∙ map-append (λ (l : Lane). l.wire) last first ∙ ap (λ l. l ++ wires_of first) (wires-turn now told heard front last b k)
-    ∙ ap (λ l. wires_of front ++ l) (wires-turn now None told back first a h) ∙ sym (map-append (λ (l : Lane). l.wire) front back) ∙ ap wires_of (sym whole)
+parted-wires : (now : ℕ) (lanes front back after last first : List Lane) (a b : List Answer) (trace heard : Option Event) → lanes ≡ front ++ back → after ≡ last ++ first →
+    TurnAll now None back first a trace → TurnAll now trace front last b heard → wires_of after ≡ wires_of lanes
+parted-wires now lanes front back after last first a b trace heard whole order h k =
+    ap wires_of order ∙ map-append (λ (l : Lane). l.wire) last first ∙ ap (λ l. l ++ wires_of first) (wires-turn now trace heard front last b k)
+    ∙ ap (λ l. wires_of front ++ l) (wires-turn now None trace back first a h) ∙ sym (map-append (λ (l : Lane). l.wire) front back) ∙ ap wires_of (sym whole)
 
 pub hears-wires : (now from : ℕ) (lanes after : List Lane) (answers : List Answer) (heard : Option Event) → HearsAll now from lanes after answers heard → wires_of after ≡ wires_of lanes
 hears-wires now from lanes after answers heard h =
-    parted-wires now lanes (take (place_of_first from lanes) lanes) (drop (place_of_first from lanes) lanes) after h.last h.first h.answers_first h.answers_last h.told heard
-    (sym (take-append-drop (place_of_first from lanes) lanes)) h.order h.turns_first h.turns_last
+    parted-wires now lanes (take (index_of_first from lanes) lanes) (drop (index_of_first from lanes) lanes) after h.last h.first h.answers_first h.answers_last h.trace heard
+    (sym (take-append-drop (index_of_first from lanes) lanes)) h.order h.turns_first h.turns_last
 
 pub sweeps : (now from : ℕ) (lanes after : List Lane) (answers : List Answer) (heard : Option Event) → HearsAll now from lanes after answers heard → AreDistinct lanes → Sweeps now lanes after answers heard
 sweeps now from lanes after answers heard h distinct =
-    parted-sweeps now lanes (take (place_of_first from lanes) lanes) (drop (place_of_first from lanes) lanes) after h.last h.first answers h.answers_first h.answers_last h.told heard
-    (sym (take-append-drop (place_of_first from lanes) lanes)) h.order h.all h.turns_first h.turns_last distinct
+    parted-sweeps now lanes (take (index_of_first from lanes) lanes) (drop (index_of_first from lanes) lanes) after h.last h.first answers h.answers_first h.answers_last h.trace heard
+    (sym (take-append-drop (index_of_first from lanes) lanes)) h.order h.all h.turns_first h.turns_last distinct
 
 -- ---- the other calls
 

@@ -12,7 +12,7 @@ use Rattle.hw_net.specs.Lane.{Lane, wires_of, waits, is_over, is_live, owes, aft
 use Rattle.hw_net.specs.Numbers.{NumbersRise, RepliesKeepNumbers, SendsKeepNumbers, ShutsKeepNumbers}
 use Rattle.hw_net.specs.Rising.{IsRising}
 use Rattle.hw_net.specs.Saying.{WritesOut, SaysMore, is_too_much}
-use Rattle.hw_net.specs.Told.{Chooses}
+use Rattle.hw_net.specs.Trace.{Chooses}
 use Rattle.hw_net.specs.Turn.{Replies, PutsAt, Sends, Shuts, AtLane}
 use Rattle.hh_http.specs.Texts.{reply_text}
 

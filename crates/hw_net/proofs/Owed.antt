@@ -6,7 +6,7 @@ use Rattle.hw_net.specs.Door.{new_lane}
 use Rattle.hw_net.specs.Lane.{Lane, owes}
 use Rattle.hw_net.specs.Sessions as session
 use Rattle.hw_net.specs.Sessions.{Call, answers_in, is_owed_on, is_request_on, was_shut_in, refusal_on, replies_on}
-use Rattle.hw_net.specs.Told.{Chooses}
+use Rattle.hw_net.specs.Trace.{Chooses}
 use Rattle.hw_net.specs.Turn.{Replies, Sends, Shuts}
 use Rattle.hw_net.proofs.Ends.{heeds-owes, replies-owe, sends-owe, shuts-owe}
 use Rattle.hw_net.proofs.Moves.{ActsAt}

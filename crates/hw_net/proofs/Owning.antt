@@ -13,7 +13,7 @@ use Rattle.hw_net.specs.declared.protocol.Stage.TheVariants.{Live, Lost, Closing
 use Rattle.hw_net.specs.Lane.{Lane, waits, after_end, after_reply, owes, is_live, is_overdue, protocol_after_shut}
 use Rattle.hw_net.specs.Saying.{Writes, WritesOut, Says, SaysAt, SaysMore, must_end, is_too_much}
 use Rattle.hw_net.specs.Sessions.{is_about}
-use Rattle.hw_net.specs.Told.{Reads, Gives, Chooses}
+use Rattle.hw_net.specs.Trace.{Reads, Gives, Chooses}
 use Rattle.hw_net.specs.Turn.{Hears, Falls, Passes, Settles, Loses, LosesAt, TurnsLive, TurnsAt, Listens, Turns, Replies, Puts, Sends, Shuts}
 use Rattle.hw_net.proofs.Numbering.{reply-wire, send-wire, shut-wire, replied-wire, put-wire}
 use Rattle.hw_net.proofs.Shares.{AreOwn, own-append, same}
@@ -114,10 +114,10 @@ falls-keeps : (before after : Lane) (answers : List Answer) (heard : Option Even
 falls-keeps before after answers heard h =
     ((ap (λ (l : Lane). l.wire) h.2, to-own before.wire (was_shut before.wire ∷ []) answers h.0 (own-shut before.wire)), on-own before.wire heard (event.Lost before.wire) (same before.wire) h.1)
 
-passes-keeps : (before becomes after : Lane) (answers : List Answer) (told : Event) (heard : Option Event) → becomes.wire ≡ before.wire → is_on before.wire told ≡ true →
-    Passes becomes after answers (Some told) heard → Settled before after answers heard
-passes-keeps before becomes after answers told heard e is h =
-    ((ap (λ (l : Lane). l.wire) h.2 ∙ e, to-own before.wire [] answers h.0 tt), on-own before.wire heard told is h.1)
+passes-keeps : (before becomes after : Lane) (answers : List Answer) (trace : Event) (heard : Option Event) → becomes.wire ≡ before.wire → is_on before.wire trace ≡ true →
+    Passes becomes after answers (Some trace) heard → Settled before after answers heard
+passes-keeps before becomes after answers trace heard e is h =
+    ((ap (λ (l : Lane). l.wire) h.2 ∙ e, to-own before.wire [] answers h.0 tt), on-own before.wire heard trace is h.1)
 
 pub settles-keeps : (now : ℕ) (before after : Lane) (answers : List Answer) (heard_news : Input) (heard : Option Event) → Settles now before after answers heard_news heard → Settled before after answers heard
 settles-keeps now before after answers input.Nothing heard h = go (is_overdue now before) h where
@@ -130,7 +130,7 @@ settles-keeps now before after answers (input.Message bytes) heard h = passes-ke
 settles-keeps now before after answers input.Broken heard h = falls-keeps before after answers heard h
 settles-keeps now before after answers input.Gone heard h = passes-keeps before _ after answers (event.Lost before.wire) heard refl (same before.wire) h
 
-loses-keeps : (wire : ℕ) (told : Option Event) (before after : Lane) (heard : Option Event) → before.wire ≡ wire → IsOn wire told → Loses told before after heard →
+loses-keeps : (wire : ℕ) (trace : Option Event) (before after : Lane) (heard : Option Event) → before.wire ≡ wire → IsOn wire trace → Loses trace before after heard →
     (after.wire ≡ before.wire) × IsOn wire heard
 loses-keeps wire (Some here) before after heard e is h = (wire-of before after h.1, on-own wire heard here is h.0)
 loses-keeps wire None before after heard e is h = go before.stage h where
@@ -142,10 +142,10 @@ loses-keeps wire None before after heard e is h = go before.stage h where
 
 live-keeps : (now : ℕ) (before after : Lane) (answers : List Answer) (heard : Option Event) → TurnsLive now before after answers heard → Settled before after answers heard
 live-keeps now before after answers heard h =
-    let settled = settles-keeps now (record before { protocol = h.protocol }) h.settled h.shut h.input h.told h.settles in
+    let settled = settles-keeps now (record before { protocol = h.protocol }) h.settled h.shut h.input h.trace h.settles in
     let said = says-keeps h.settled h.said h.written h.says in
     let wrote : AreOwn before.wire h.written = subst (λ n. AreOwn n h.written) settled.0.0 said.1 in
-    let loses = loses-keeps before.wire h.told h.said after heard (said.0 ∙ settled.0.0) settled.1 h.loses in (
+    let loses = loses-keeps before.wire h.trace h.said after heard (said.0 ∙ settled.0.0) settled.1 h.loses in (
       (
         loses.0 ∙ said.0 ∙ settled.0.0,
         to-own before.wire (h.read ++ (h.shut ++ h.written)) answers h.all
@@ -162,9 +162,9 @@ listens-keeps now before after answers heard h = go before.stage h where
   go Closing h = (says-keeps before after answers h.1, subst (λ (o : Option Event). IsOn before.wire o) (sym h.0) tt)
   go Over h = (still-keeps before after answers h.0 h.2, subst (λ (o : Option Event). IsOn before.wire o) (sym h.1) tt)
 
-pub turns-keeps : (now : ℕ) (told : Option Event) (before after : Lane) (answers : List Answer) (heard : Option Event) → Turns now told before after answers heard → Keeps before after answers
+pub turns-keeps : (now : ℕ) (trace : Option Event) (before after : Lane) (answers : List Answer) (heard : Option Event) → Turns now trace before after answers heard → Keeps before after answers
 turns-keeps now None before after answers heard h = (listens-keeps now before after answers heard h).0
-turns-keeps now (Some told) before after answers heard h = says-keeps before after answers h.1
+turns-keeps now (Some trace) before after answers heard h = says-keeps before after answers h.1
 
 -- ---- saying
 

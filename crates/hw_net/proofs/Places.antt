@@ -5,7 +5,7 @@ use Rattle.hw_door.specs.Traffic.{Answer}
 use Rattle.hw_net.specs.Door.{DoesAt}
 use Rattle.hw_net.specs.Lane.{Lane}
 use Rattle.hw_net.specs.Lanes.{DoesHere}
-use Rattle.hw_net.specs.Told.{Tells, Chooses}
+use Rattle.hw_net.specs.Trace.{Tells, Chooses}
 use Rattle.hw_net.specs.Turn.{AtLane}
 use Rattle.hw_net.proofs.Telling.{tells-none}
 
@@ -48,12 +48,12 @@ pub is-at : (wire : ℕ) (lanes : List Lane) (index : ℕ) → position (is_of w
 is-at wire lanes index e = (grind (arith, e), grind (arith, e))
 
 -- nothing is done where no lane is found
-pub does-nothing : (told : Option (List Answer)) (wire from from_after named named_after moment moment_after : ℕ) (Does : Lane → Lane → List Answer → Type 0) (lanes : List Lane) →
+pub does-nothing : (trace : Option (List Answer)) (wire from from_after named named_after moment moment_after : ℕ) (Does : Lane → Lane → List Answer → Type 0) (lanes : List Lane) →
     position (is_of wire) lanes ≡ None → from_after ≡ from → named_after ≡ named → moment_after ≡ moment →
-    (answers : List Answer) × Tells told told answers
+    (answers : List Answer) × Tells trace trace answers
     × DoesAt wire Does (record { lanes = lanes; from = from; named = named; moment = moment }) (record { lanes = lanes; from = from_after; named = named_after; moment = moment_after }) answers
-does-nothing told wire from from_after named named_after moment moment_after Does lanes e f n m =
-    ([], tells-none told, (nowhere wire Does lanes (is-nowhere wire lanes e), f, n, m))
+does-nothing trace wire from from_after named named_after moment moment_after Does lanes e f n m =
+    ([], tells-none trace, (nowhere wire Does lanes (is-nowhere wire lanes e), f, n, m))
 
 -- what is done by the lane that is found
 pub does-at : (a b : Option (List Answer)) (wire from from_after named named_after moment moment_after : ℕ) (Does : Lane → Lane → List Answer → Type 0) (lanes after : List Lane) (index : ℕ) →

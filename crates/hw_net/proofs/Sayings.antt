@@ -3,7 +3,7 @@ use Rattle.std.proofs.Common.{◌≡◌, ◌≢◌, ℕ, List, [], ◌∷◌, �
 use Rattle.hw_door.specs.declared.heard.Event.{Event}
 use Rattle.hw_door.specs.Traffic.{Answer, was_shut}
 use Rattle.hw_net.specs.declared.input.Input.{Input}
-use Rattle.hw_net.specs.Told.{Tells}
+use Rattle.hw_net.specs.Trace.{Tells}
 use Rattle.hw_net.specs.Lane.{Lane, waits, after_end}
 use Rattle.hw_net.specs.Saying.{Writes, WritesOut, Says, IsLaneStill, must_end}
 use Rattle.hw_net.specs.Turn.{Hears, Settles, Loses, TurnsLive}
@@ -16,9 +16,9 @@ pub said-ended : (a b c : Option (List Answer)) (before mid : Lane) (whole : Boo
     (answers : List Answer) × Tells a c answers × WritesOut before (record mid { stage = after_end mid.stage }) answers
 said-ended a b c before mid whole h still same must shut =
     let ends : must_end before.stage (length (waits mid)) whole ≡ true = subst (λ s. must_end s (length (waits mid)) whole ≡ true) same must in
-    let told : Tells a c (h.0 ++ was_shut mid.wire ∷ []) = tells-more a b c h.0 (was_shut mid.wire ∷ []) h.1 shut in (
+    let trace : Tells a c (h.0 ++ was_shut mid.wire ∷ []) = tells-more a b c h.0 (was_shut mid.wire ∷ []) h.1 shut in (
       h.0 ++ was_shut before.wire ∷ [],
-      subst (λ w. Tells a c (h.0 ++ was_shut w ∷ [])) still.wire told,
+      subst (λ w. Tells a c (h.0 ++ was_shut w ∷ [])) still.wire trace,
       record {
         sent = h.0;
         is_whole = whole;
@@ -47,11 +47,11 @@ done-both a b c wire out more left rest first whole h e none k =
     (h.0 ++ k.0, tells-more a b c h.0 k.0 h.1 k.1, writes-both wire out more h.0 k.0 left whole gone k.2)
 
 -- a live lane heard an input after a first look at it, whose answers come before; it was settled, and it wrote what waited
-pub turned-after : (a b c d : Option (List Answer)) (now : ℕ) (before heard settled said after : Lane) (input : Input) (told event : Option Event) (first : List Answer) →
+pub turned-after : (a b c d : Option (List Answer)) (now : ℕ) (before heard settled said after : Lane) (input : Input) (trace event : Option Event) (first : List Answer) →
     ((answers : List Answer) × Tells a b answers × Hears before.wire before.protocol heard.protocol (first ++ answers) input) → heard ≡ record before { protocol = heard.protocol } →
-    ((answers : List Answer) × Tells b c answers × Settles now heard settled answers input told) → ((answers : List Answer) × Tells c d answers × Says settled said answers) →
-    Loses told said after event → (answers : List Answer) × Tells a d answers × TurnsLive now before after (first ++ answers) event
-turned-after a b c d now before heard settled said after input told event first h e s w l = (
+    ((answers : List Answer) × Tells b c answers × Settles now heard settled answers input trace) → ((answers : List Answer) × Tells c d answers × Says settled said answers) →
+    Loses trace said after event → (answers : List Answer) × Tells a d answers × TurnsLive now before after (first ++ answers) event
+turned-after a b c d now before heard settled said after input trace event first h e s w l = (
   h.0 ++ (s.0 ++ w.0),
   tells-more a b d h.0 (s.0 ++ w.0) h.1 (tells-more b c d s.0 w.0 s.1 w.1),
   record {
@@ -59,13 +59,13 @@ turned-after a b c d now before heard settled said after input told event first 
     protocol = heard.protocol;
     settled = settled;
     said = said;
-    told = told;
+    trace = trace;
     read = first ++ h.0;
     shut = s.0;
     written = w.0;
     all = sym (append_assoc first h.0 (s.0 ++ w.0));
     hears = h.2;
-    settles = subst (λ (x : Lane). Settles now x settled s.0 input told) e s.2;
+    settles = subst (λ (x : Lane). Settles now x settled s.0 input trace) e s.2;
     says = w.2;
     loses = l;
   },

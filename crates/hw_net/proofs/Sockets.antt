@@ -28,7 +28,7 @@ use Rattle.hw_net.specs.Saying.{WritesOut, SpeaksAs, Says, SaysAt, SaysMore, mus
 use Rattle.hw_net.specs.Sessions as session
 use Rattle.hw_net.specs.Sessions.{Call, Session, answers_in, answers_of, requests_on, replies_on, texts_of, message_on, messages_on, IsCarried, CarriesSocket, SocketsAreCarried}
 use Rattle.hw_net.specs.WebSocketState.{WebSocketState, Gets}
-use Rattle.hw_net.specs.Told.{Chooses, bytes_of}
+use Rattle.hw_net.specs.Trace.{Chooses, bytes_of}
 use Rattle.hw_net.specs.Turn.{Hears, Falls, Passes, Settles, Loses, LosesAt, TurnsLive, TurnsAt, Listens, Replies, Puts, PutsAt, Sends, Shuts}
 use Rattle.hw_net.proofs.Asked.{HeardIn, IsAsked, step-asked, new-asked, requests_by, requests-more, requests_in, settles-requests, loses-requests, heard-requests, gives-bytes, live-reads, settles-silent, says-silent, read-more, replies-silent, sends-silent, shuts-silent}
 use Rattle.hw_net.proofs.Counting.{Lives, more-live, writes-live}
@@ -232,7 +232,7 @@ messages_of _ = []
 
 abbrev messages_in : ℕ → Option Event → List (List ℕ)
 messages_in wire None = []
-messages_in wire (Some told) = message_on wire told
+messages_in wire (Some trace) = message_on wire trace
 
 settles-messages : (now : ℕ) (before after : Lane) (answers : List Answer) (what : Input) (heard : Option Event) → Settles now before after answers what heard → messages_in before.wire heard ≡ messages_of what
 settles-messages now before after answers input.Nothing heard h = go (is_overdue now before) h where
@@ -245,7 +245,7 @@ settles-messages now before after answers (input.Message bytes) heard h = ap (λ
 settles-messages now before after answers input.Broken heard h = ap (λ o. messages_in before.wire o) h.1
 settles-messages now before after answers input.Gone heard h = ap (λ o. messages_in before.wire o) h.1
 
-loses-messages : (wire : ℕ) (told : Option Event) (before after : Lane) (heard : Option Event) → Loses told before after heard → messages_in wire heard ≡ messages_in wire told
+loses-messages : (wire : ℕ) (trace : Option Event) (before after : Lane) (heard : Option Event) → Loses trace before after heard → messages_in wire heard ≡ messages_in wire trace
 loses-messages wire (Some here) before after heard h = ap (λ o. messages_in wire o) h.0
 loses-messages wire None before after heard h = go before.stage h where
   go : (s : Stage) → LosesAt s before after heard → messages_in wire heard ≡ []
@@ -256,7 +256,7 @@ loses-messages wire None before after heard h = go before.stage h where
 
 heard-messages : (wire : ℕ) (own : Option Event) (what : Event) → IsHeard wire own what → message_on wire what ≡ messages_in wire own
 heard-messages wire None what h = unheard wire what h
-heard-messages wire (Some told) what h = ap (λ v. message_on wire v) h
+heard-messages wire (Some trace) what h = ap (λ v. message_on wire v) h
 
 -- a lane is borne also with no more requests, messages and replies
 padded : (from written : List ℕ) (requests : List Request) (messages : List (List ℕ)) (replies : List Reply) (more_requests : List Request) (more_replies : List Reply) (lane : Lane) → more_requests ≡ [] → more_replies ≡ [] →
@@ -348,7 +348,7 @@ settles-borne now x protocol after reads answers what heard from written request
   go (Http old) (Socket new) what h s k = absurd h
   go (Socket old) (Http new) what h s k = absurd h
 
-loses-borne : (told : Option Event) (before after : Lane) (heard : Option Event) (from written : List ℕ) (requests : List Request) (messages : List (List ℕ)) (replies : List Reply) → Loses told before after heard →
+loses-borne : (trace : Option Event) (before after : Lane) (heard : Option Event) (from written : List ℕ) (requests : List Request) (messages : List (List ℕ)) (replies : List Reply) → Loses trace before after heard →
     IsBorne from written requests messages replies before → IsBorne from written requests messages replies after
 loses-borne (Some here) before after heard from written requests messages replies h b = becomes from written requests messages replies after before h.1 b
 loses-borne None before after heard from written requests messages replies h b = go before.stage h where
@@ -375,24 +375,24 @@ live-bears : (now : ℕ) (x y : Lane) (mine : List Answer) (own : Option Event) 
 live-bears now x y mine own live h from written requests messages replies b =
     let mid = record x { protocol = h.protocol } in
     let w = x.wire in
-    let kept = settles-keeps now mid h.settled h.shut h.input h.told h.settles in
-    let silent = settles-silent now mid h.settled h.shut h.input h.told h.settles in
+    let kept = settles-keeps now mid h.settled h.shut h.input h.trace h.settles in
+    let silent = settles-silent now mid h.settled h.shut h.input h.trace h.settles in
     let quiet = says-silent h.settled h.said h.written h.says in
     let reads : read_on w mine ≡ read_on w h.read = live-reads w mine h.read h.shut h.written h.all (silent.0 w) (quiet.0 w) in
     let writes : written_on w mine ≡ written_on h.settled.wire h.written =
-    live-written w mine h.read h.shut h.written h.all (hears-unwritten w w x.protocol h.protocol h.read h.input h.hears) (settles-unwritten w now mid h.settled h.shut h.input h.told h.settles)
+    live-written w mine h.read h.shut h.written h.all (hears-unwritten w w x.protocol h.protocol h.read h.input h.hears) (settles-unwritten w now mid h.settled h.shut h.input h.trace h.settles)
     ∙ ap (λ n. written_on n h.written) (sym kept.0.0) in
-    let asked : requests_in w own ≡ requests_of h.input = loses-requests w h.told h.said y own h.loses ∙ settles-requests now mid h.settled h.shut h.input h.told h.settles in
-    let told : messages_in w own ≡ messages_of h.input = loses-messages w h.told h.said y own h.loses ∙ settles-messages now mid h.settled h.shut h.input h.told h.settles in
-    let refused : refusals_in w own ≡ refusals_of h.input = loses-refusals w h.told h.said y own h.loses ∙ settles-refusals now mid h.settled h.shut h.input h.told h.settles in
+    let asked : requests_in w own ≡ requests_of h.input = loses-requests w h.trace h.said y own h.loses ∙ settles-requests now mid h.settled h.shut h.input h.trace h.settles in
+    let trace : messages_in w own ≡ messages_of h.input = loses-messages w h.trace h.said y own h.loses ∙ settles-messages now mid h.settled h.shut h.input h.trace h.settles in
+    let refused : refusals_in w own ≡ refusals_of h.input = loses-refusals w h.trace h.said y own h.loses ∙ settles-refusals now mid h.settled h.shut h.input h.trace h.settles in
     let bytes = from ++ read_on w h.read in
-    let settled = settles-borne now x h.protocol h.settled h.read h.shut h.input h.told from written requests messages replies live h.hears h.settles b in
+    let settled = settles-borne now x h.protocol h.settled h.read h.shut h.input h.trace from written requests messages replies live h.hears h.settles b in
     let said = says-glide h.settled h.said h.written h.says bytes written (requests ++ requests_of h.input) (messages ++ messages_of h.input) (replies ++ refusals_of h.input) settled in
-    let lost = loses-borne h.told h.said y own bytes (written ++ written_on h.settled.wire h.written) (requests ++ requests_of h.input) (messages ++ messages_of h.input) (replies ++ refusals_of h.input) h.loses said in
+    let lost = loses-borne h.trace h.said y own bytes (written ++ written_on h.settled.wire h.written) (requests ++ requests_of h.input) (messages ++ messages_of h.input) (replies ++ refusals_of h.input) h.loses said in
     subst (λ (l : List ℕ). IsBorne (from ++ l) (written ++ written_on w mine) (requests ++ requests_in w own) (messages ++ messages_in w own) (replies ++ refusals_in w own) y) (sym reads)
     (subst (λ (l : List ℕ). IsBorne bytes (written ++ l) (requests ++ requests_in w own) (messages ++ messages_in w own) (replies ++ refusals_in w own) y) (sym writes)
     (subst (λ (l : List Request). IsBorne bytes (written ++ written_on h.settled.wire h.written) (requests ++ l) (messages ++ messages_in w own) (replies ++ refusals_in w own) y) (sym asked)
-    (subst (λ (l : List (List ℕ)). IsBorne bytes (written ++ written_on h.settled.wire h.written) (requests ++ requests_of h.input) (messages ++ l) (replies ++ refusals_in w own) y) (sym told)
+    (subst (λ (l : List (List ℕ)). IsBorne bytes (written ++ written_on h.settled.wire h.written) (requests ++ requests_of h.input) (messages ++ l) (replies ++ refusals_in w own) y) (sym trace)
     (subst (λ (l : List Reply). IsBorne bytes (written ++ written_on h.settled.wire h.written) (requests ++ requests_of h.input) (messages ++ messages_of h.input) (replies ++ l) y) (sym refused) lost))))
 
 listens-bear : (now : ℕ) (x y : Lane) (mine : List Answer) (own : Option Event) → Listens now x y mine own → Bears x y mine (requests_in x.wire own) (messages_in x.wire own) (refusals_in x.wire own)

@@ -6,7 +6,7 @@ use Rattle.hw_door.specs.declared.heard.Event.{Event}
 use Rattle.hw_door.specs.Traffic.{Answer, polled, accepted}
 use Rattle.hw_net.specs.Door.{HearsAll, HearsTurns, HearsNext, IsNumbered, KeepsLanes, kept, with_accepted, new_lane}
 use Rattle.hw_net.specs.Lane.{Lane, wires_of}
-use Rattle.hw_net.specs.Told.{Tells}
+use Rattle.hw_net.specs.Trace.{Tells}
 
 -- one lane may change in its place, if its number stays
 pub wires-kept : (cur : List Lane) (i : ℕ) (lane next : Lane) → next.wire ≡ (get_or cur i lane).wire → wires_of (set cur i next) ≡ wires_of cur
@@ -32,7 +32,7 @@ hears-next a b c d now from before after_from named after_named lanes kept_lanes
         wire = q.0;
         turns = h.0;
         begin = h.2.1;
-        told = h.2.0;
+        trace = h.2.0;
         all = refl;
         moment = p.2;
         begins = h.2.2;

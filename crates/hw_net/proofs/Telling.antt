@@ -3,7 +3,7 @@ use Rattle.std.proofs.Common.{List, [], ◌∷◌, ◌++◌, Option, None, Some,
 use Rattle.std.proofs.lemmas.List.{append-nil}
 use Rattle.hw_door.specs.Calls.{Adds}
 use Rattle.hw_door.specs.Traffic.{Answer}
-use Rattle.hw_net.specs.Told.{Tells}
+use Rattle.hw_net.specs.Trace.{Tells}
 
 pub adds-tells : (a b : Option (List Answer)) (x : Answer) → Adds a b x → Tells a b (x ∷ [])
 adds-tells None None x h = tt

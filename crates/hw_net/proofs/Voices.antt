@@ -20,7 +20,7 @@ use Rattle.hw_net.specs.Saying.{Writes, WritesOut, SpeaksAs, Says, SaysAt, SaysM
 use Rattle.hw_net.specs.Sessions as session
 use Rattle.hw_net.specs.Sessions.{Call, Session, answers_in, answers_of, refusal_on, replies_on, texts_of, WroteReplies, RepliesAreWritten}
 use Rattle.hw_net.specs.WebSocketState.{WebSocketState, Gets}
-use Rattle.hw_net.specs.Told.{Reads, Gives, Chooses, bytes_of}
+use Rattle.hw_net.specs.Trace.{Reads, Gives, Chooses, bytes_of}
 use Rattle.hw_net.specs.Turn.{Hears, Falls, Passes, Settles, Loses, LosesAt, TurnsLive, TurnsAt, Listens, Replies, Puts, PutsAt, Sends, Shuts}
 use Rattle.hw_net.proofs.Appends.{Grows, grows-none, grows-on, takes-grows, feeds-grows, shut-grows, says-grows}
 use Rattle.hw_net.proofs.Ends.{dead}
@@ -210,7 +210,7 @@ settles-voiced now x protocol after read answers what heard written replies h s 
   go (Http old) (Socket new) what h s v = absurd h
   go (Socket old) (Http new) what h s v = absurd h
 
-loses-voiced : (told : Option Event) (before after : Lane) (heard : Option Event) (written : List ℕ) (replies : List Reply) → Loses told before after heard → IsVoiced written replies before → IsVoiced written replies after
+loses-voiced : (trace : Option Event) (before after : Lane) (heard : Option Event) (written : List ℕ) (replies : List Reply) → Loses trace before after heard → IsVoiced written replies before → IsVoiced written replies after
 loses-voiced (Some here) before after heard written replies h v = becomes written replies after before h.1 v
 loses-voiced None before after heard written replies h v = go before.stage h where
   go : (s : Stage) → LosesAt s before after heard → IsVoiced written replies after
@@ -222,7 +222,7 @@ loses-voiced None before after heard written replies h v = go before.stage h whe
 -- the door's own replies that are heard
 abbrev pub refusals_in : ℕ → Option Event → List Reply
 refusals_in wire None = []
-refusals_in wire (Some told) = refusal_on wire told
+refusals_in wire (Some trace) = refusal_on wire trace
 
 pub settles-refusals : (now : ℕ) (before after : Lane) (answers : List Answer) (what : Input) (heard : Option Event) → Settles now before after answers what heard → refusals_in before.wire heard ≡ refusals_of what
 settles-refusals now before after answers input.Nothing heard h = go (is_overdue now before) h where
@@ -236,7 +236,7 @@ settles-refusals now before after answers (input.Message bytes) heard h = ap (λ
 settles-refusals now before after answers input.Broken heard h = ap (λ o. refusals_in before.wire o) h.1
 settles-refusals now before after answers input.Gone heard h = ap (λ o. refusals_in before.wire o) h.1
 
-pub loses-refusals : (wire : ℕ) (told : Option Event) (before after : Lane) (heard : Option Event) → Loses told before after heard → refusals_in wire heard ≡ refusals_in wire told
+pub loses-refusals : (wire : ℕ) (trace : Option Event) (before after : Lane) (heard : Option Event) → Loses trace before after heard → refusals_in wire heard ≡ refusals_in wire trace
 loses-refusals wire (Some here) before after heard h = ap (λ o. refusals_in wire o) h.0
 loses-refusals wire None before after heard h = go before.stage h where
   go : (s : Stage) → LosesAt s before after heard → refusals_in wire heard ≡ []
@@ -262,20 +262,20 @@ live-says : (now : ℕ) (x y : Lane) (mine : List Answer) (own : Option Event) �
 live-says now x y mine own h written replies v =
     let mid = record x { protocol = h.protocol } in
     let w = x.wire in
-    let kept = settles-keeps now mid h.settled h.shut h.input h.told h.settles in
-    let refused : refusals_in w own ≡ refusals_of h.input = loses-refusals w h.told h.said y own h.loses ∙ settles-refusals now mid h.settled h.shut h.input h.told h.settles in
+    let kept = settles-keeps now mid h.settled h.shut h.input h.trace h.settles in
+    let refused : refusals_in w own ≡ refusals_of h.input = loses-refusals w h.trace h.said y own h.loses ∙ settles-refusals now mid h.settled h.shut h.input h.trace h.settles in
     let wrote_is : written_on w mine ≡ written_on h.settled.wire h.written =
-    live-written w mine h.read h.shut h.written h.all (hears-unwritten w w x.protocol h.protocol h.read h.input h.hears) (settles-unwritten w now mid h.settled h.shut h.input h.told h.settles)
+    live-written w mine h.read h.shut h.written h.all (hears-unwritten w w x.protocol h.protocol h.read h.input h.hears) (settles-unwritten w now mid h.settled h.shut h.input h.trace h.settles)
     ∙ ap (λ n. written_on n h.written) (sym kept.0.0) in
     let more = replies ++ refusals_of h.input in
-    let settled = settles-voiced now x h.protocol h.settled h.read h.shut h.input h.told written replies h.hears h.settles v in
+    let settled = settles-voiced now x h.protocol h.settled h.read h.shut h.input h.trace written replies h.hears h.settles v in
     let said = says-pour h.settled h.said h.written h.says written more settled in
-    let lost = loses-voiced h.told h.said y own (written ++ written_on h.settled.wire h.written) more h.loses said in
+    let lost = loses-voiced h.trace h.said y own (written ++ written_on h.settled.wire h.written) more h.loses said in
     subst (λ (l : List ℕ). IsVoiced (written ++ l) (replies ++ refusals_in w own) y) (sym wrote_is)
     (subst (λ (r : List Reply). IsVoiced (written ++ written_on h.settled.wire h.written) (replies ++ r) y) (sym refused) lost)
 
-passes-pour : (x mid y : Lane) (mine : List Answer) (told heard : Option Event) → waits mid ≡ waits x → mid.protocol ≡ x.protocol → Passes mid y mine told heard → Pours x y mine
-passes-pour x mid y mine told heard e f h = still-pours x y mine (ap (λ l. written_on x.wire l) h.0) (ap waits h.2 ∙ e) (ap (λ (l : Lane). l.protocol) h.2 ∙ f)
+passes-pour : (x mid y : Lane) (mine : List Answer) (trace heard : Option Event) → waits mid ≡ waits x → mid.protocol ≡ x.protocol → Passes mid y mine trace heard → Pours x y mine
+passes-pour x mid y mine trace heard e f h = still-pours x y mine (ap (λ l. written_on x.wire l) h.0) (ap waits h.2 ∙ e) (ap (λ (l : Lane). l.protocol) h.2 ∙ f)
 
 listens-say : (now : ℕ) (x y : Lane) (mine : List Answer) (own : Option Event) → Listens now x y mine own → SaysIn x y mine (refusals_in x.wire own)
 listens-say now x y mine own h = go x.stage h where
@@ -287,7 +287,7 @@ listens-say now x y mine own h = go x.stage h where
 
 pub heard-refusals : (wire : ℕ) (own : Option Event) (what : Event) → IsHeard wire own what → refusal_on wire what ≡ refusals_in wire own
 heard-refusals wire None what h = unrefused wire what h
-heard-refusals wire (Some told) what h = ap (λ v. refusal_on wire v) h
+heard-refusals wire (Some trace) what h = ap (λ v. refusal_on wire v) h
 
 heeds-say : (now : ℕ) (what : Event) (x y : Lane) (mine : List Answer) → Heeds now what x y mine → SaysIn x y mine (refusal_on x.wire what)
 heeds-say now what x y mine (inl h) = subst (λ (l : List Reply). SaysIn x y mine l) (sym (heard-refusals x.wire h.0 what h.2)) (listens-say now x y mine h.0 h.1)

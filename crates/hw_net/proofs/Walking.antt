@@ -11,13 +11,13 @@ use Rattle.hw_net.specs.declared.protocol.Protocol.{Protocol}
 use Rattle.hw_net.specs.declared.protocol.Protocol.TheVariants.{Http, Socket}
 use Rattle.hw_net.specs.declared.protocol.Stage.{Stage}
 use Rattle.hw_net.specs.declared.protocol.Stage.TheVariants.{Live, Lost, Closing, Over}
-use Rattle.hw_net.specs.Door.{HearsAll, place_of_first}
+use Rattle.hw_net.specs.Door.{HearsAll, index_of_first}
 use Rattle.hw_net.specs.FirstReads.{ReadsFirst, ReadsFirstAt}
 use Rattle.hw_net.specs.Lane.{Lane, waits, wires_of}
 use Rattle.hw_net.specs.Lanes.{DoesHere}
 use Rattle.hw_net.specs.Saying.{WritesOut, Says, SaysAt, SpeaksAs, must_end}
 use Rattle.hw_net.specs.Tally.{has_unwritten, has_unwritten_by, tally_of}
-use Rattle.hw_net.specs.Told.{Tells}
+use Rattle.hw_net.specs.Trace.{Tells}
 use Rattle.hw_net.specs.Turn.{Listens, Turns, TurnAll}
 use Rattle.hw_net.specs.Walks.{Walks, Speak, between}
 use Rattle.hw_net.proofs.Telling.{tells-more}
@@ -25,13 +25,13 @@ use Rattle.hw_net.proofs.Telling.{tells-more}
 -- ---- turns
 
 -- the lanes after others
-turns-append : (now : ℕ) (told : Option Event) (xs xs' ys ys' : List Lane) (first more : List Answer) (mid heard : Option Event) → TurnAll now told xs xs' first mid →
-    TurnAll now mid ys ys' more heard → TurnAll now told (xs ++ ys) (xs' ++ ys') (first ++ more) heard
-turns-append now told [] xs' ys ys' first more mid heard h k =
-    let at : TurnAll now told ys ys' more heard = subst (λ m. TurnAll now m ys ys' more heard) h.2 k in
-    subst (λ (l : List Lane). TurnAll now told ys (l ++ ys') (first ++ more) heard) (sym h.0)
-    (subst (λ (l : List Answer). TurnAll now told ys ys' (l ++ more) heard) (sym h.1) at)
-turns-append now told (x ∷ xs) xs' ys ys' first more mid heard h k = (
+turns-append : (now : ℕ) (trace : Option Event) (xs xs' ys ys' : List Lane) (first more : List Answer) (mid heard : Option Event) → TurnAll now trace xs xs' first mid →
+    TurnAll now mid ys ys' more heard → TurnAll now trace (xs ++ ys) (xs' ++ ys') (first ++ more) heard
+turns-append now trace [] xs' ys ys' first more mid heard h k =
+    let at : TurnAll now trace ys ys' more heard = subst (λ m. TurnAll now m ys ys' more heard) h.2 k in
+    subst (λ (l : List Lane). TurnAll now trace ys (l ++ ys') (first ++ more) heard) (sym h.0)
+    (subst (λ (l : List Answer). TurnAll now trace ys ys' (l ++ more) heard) (sym h.1) at)
+turns-append now trace (x ∷ xs) xs' ys ys' first more mid heard h k = (
   h.0,
   h.1,
   h.2 ++ ys',
@@ -44,10 +44,10 @@ turns-append now told (x ∷ xs) xs' ys ys' first more mid heard h k = (
 )
 
 -- one lane more
-turn-more : (now : ℕ) (told : Option Event) (lanes : List Lane) (after : List Lane) (answers : List Answer) (mid : Option Event) (lane next : Lane) (more : List Answer) (heard : Option Event) →
-    TurnAll now told lanes after answers mid → Turns now mid lane next more heard → TurnAll now told (lanes ++ lane ∷ []) (after ++ next ∷ []) (answers ++ more) heard
-turn-more now told lanes after answers mid lane next more heard all one =
-    turns-append now told lanes after (lane ∷ []) (next ∷ []) answers more mid heard all (heard, next, [], more, [], refl, sym (append-nil more), one, (refl, refl, refl))
+turn-more : (now : ℕ) (trace : Option Event) (lanes : List Lane) (after : List Lane) (answers : List Answer) (mid : Option Event) (lane next : Lane) (more : List Answer) (heard : Option Event) →
+    TurnAll now trace lanes after answers mid → Turns now mid lane next more heard → TurnAll now trace (lanes ++ lane ∷ []) (after ++ next ∷ []) (answers ++ more) heard
+turn-more now trace lanes after answers mid lane next more heard all one =
+    turns-append now trace lanes after (lane ∷ []) (next ∷ []) answers more mid heard all (heard, next, [], more, [], refl, sym (append-nil more), one, (refl, refl, refl))
 
 -- ---- places
 
@@ -56,17 +56,17 @@ cut : (begin count : ℕ) (lanes : List Lane) → between begin (begin + count) 
 cut begin count lanes = ap (λ n. take n (drop begin lanes)) (omega arith)
 
 -- none of them
-pub no-walk : (now : ℕ) (told : Option Event) (begin : ℕ) (lanes : List Lane) → Walks now told begin begin lanes lanes [] told
-no-walk now told begin lanes =
+pub no-walk : (now : ℕ) (trace : Option Event) (begin : ℕ) (lanes : List Lane) → Walks now trace begin begin lanes lanes [] trace
+no-walk now trace begin lanes =
     let zero_is : begin - begin ≡ 0 = omega arith in
     let none : between begin begin lanes ≡ [] = ap (λ n. take n (drop begin lanes)) zero_is in
-    record { front = refl; back = refl; turns = subst (λ (l : List Lane). TurnAll now told l l [] told) (sym none) (refl, refl, refl) }
+    record { front = refl; back = refl; turns = subst (λ (l : List Lane). TurnAll now trace l l [] trace) (sym none) (refl, refl, refl) }
 
 -- one lane more takes its turn where it stands
-more-from : (now : ℕ) (told : Option Event) (begin count : ℕ) (all cur : List Lane) (lane next : Lane) (answers more : List Answer) (mid heard : Option Event) →
-    begin + count < length all → begin + count < length cur → get_or cur (begin + count) lane ≡ lane → Walks now told begin (begin + count) all cur answers mid →
-    Turns now mid lane next more heard → Walks now told begin (begin + (count + 1)) all (set cur (begin + count) next) (answers ++ more) heard
-more-from now told begin count all cur lane next answers more mid heard within inside same w turn =
+more-from : (now : ℕ) (trace : Option Event) (begin count : ℕ) (all cur : List Lane) (lane next : Lane) (answers more : List Answer) (mid heard : Option Event) →
+    begin + count < length all → begin + count < length cur → get_or cur (begin + count) lane ≡ lane → Walks now trace begin (begin + count) all cur answers mid →
+    Turns now mid lane next more heard → Walks now trace begin (begin + (count + 1)) all (set cur (begin + count) next) (answers ++ more) heard
+more-from now trace begin count all cur lane next answers more mid heard within inside same w turn =
     let xs = drop begin all in
     let ys = drop begin cur in
     let short : count < length xs = omega (arith, within, length-drop begin all) in
@@ -81,12 +81,12 @@ more-from now told begin count all cur lane next answers more mid heard within i
     let after : between begin (begin + (count + 1)) (set cur (begin + count) next) ≡ between begin (begin + count) cur ++ next ∷ [] =
     cut begin (count + 1) (set cur (begin + count) next) ∙ ap (λ (l : List Lane). take (count + 1) l) (drop-set-add begin cur count next) ∙ take_more_set ys count next thin
     ∙ ap (λ (l : List Lane). l ++ next ∷ []) (sym (cut begin count cur)) in
-    let one = turn-more now told (between begin (begin + count) all) (between begin (begin + count) cur) answers mid lane next more heard w.turns turn in
+    let one = turn-more now trace (between begin (begin + count) all) (between begin (begin + count) cur) answers mid lane next more heard w.turns turn in
     record {
       front = take-set-le begin cur (begin + count) next (omega arith) ∙ w.front;
       back = back all cur (begin + count) (begin + (count + 1)) lane next within inside w.back (omega arith);
-      turns = subst (λ (l : List Lane). TurnAll now told l (between begin (begin + (count + 1)) (set cur (begin + count) next)) (answers ++ more) heard) (sym before)
-          (subst (λ (l : List Lane). TurnAll now told (between begin (begin + count) all ++ lane ∷ []) l (answers ++ more) heard) (sym after) one);
+      turns = subst (λ (l : List Lane). TurnAll now trace l (between begin (begin + (count + 1)) (set cur (begin + count) next)) (answers ++ more) heard) (sym before)
+          (subst (λ (l : List Lane). TurnAll now trace (between begin (begin + count) all ++ lane ∷ []) l (answers ++ more) heard) (sym after) one);
     } where
       back : (all cur : List Lane) (i j : ℕ) (lane next : Lane) → i < length all → i < length cur → drop i cur ≡ drop i all → j ≡ i + 1 → drop j (set cur i next) ≡ drop j all
       back all cur i j lane next within inside same e =
@@ -94,22 +94,22 @@ more-from now told begin count all cur lane next answers more mid heard within i
           let rest : drop (i + 1) (set cur i next) ≡ drop (i + 1) all = drop-set-lt (i + 1) cur i next (omega arith) ∙ sym (cc tails) in
           subst (λ n. drop n (set cur i next) ≡ drop n all) (sym e) rest
 
-pub walk-more : (now : ℕ) (told : Option Event) (begin index : ℕ) (all cur : List Lane) (lane next : Lane) (answers more : List Answer) (mid heard : Option Event) → begin ≤ index →
-    index < length all → index < length cur → get_or cur index lane ≡ lane → Walks now told begin index all cur answers mid → Turns now mid lane next more heard →
-    Walks now told begin (index + 1) all (set cur index next) (answers ++ more) heard
-walk-more now told begin index all cur lane next answers more mid heard le within inside same w turn =
+pub walk-more : (now : ℕ) (trace : Option Event) (begin index : ℕ) (all cur : List Lane) (lane next : Lane) (answers more : List Answer) (mid heard : Option Event) → begin ≤ index →
+    index < length all → index < length cur → get_or cur index lane ≡ lane → Walks now trace begin index all cur answers mid → Turns now mid lane next more heard →
+    Walks now trace begin (index + 1) all (set cur index next) (answers ++ more) heard
+walk-more now trace begin index all cur lane next answers more mid heard le within inside same w turn =
     go (index - begin) index (omega (arith, le)) within inside same w where
-      go : (count at : ℕ) → at ≡ begin + count → at < length all → at < length cur → get_or cur at lane ≡ lane → Walks now told begin at all cur answers mid →
-          Walks now told begin (at + 1) all (set cur at next) (answers ++ more) heard
+      go : (count at : ℕ) → at ≡ begin + count → at < length all → at < length cur → get_or cur at lane ≡ lane → Walks now trace begin at all cur answers mid →
+          Walks now trace begin (at + 1) all (set cur at next) (answers ++ more) heard
       go count at e within inside same w =
           let next_at : begin + (count + 1) ≡ at + 1 = omega (arith, e) in
           let within' = subst (λ n. n < length all) e within in
           let inside' = subst (λ n. n < length cur) e inside in
           let same' = subst (λ n. get_or cur n lane ≡ lane) e same in
-          let w' = subst (λ n. Walks now told begin n all cur answers mid) e w in
-          let done = more-from now told begin count all cur lane next answers more mid heard within' inside' same' w' turn in
-          subst (λ n. Walks now told begin n all (set cur at next) (answers ++ more) heard) next_at
-          (subst (λ n. Walks now told begin (begin + (count + 1)) all (set cur n next) (answers ++ more) heard) (sym e) done)
+          let w' = subst (λ n. Walks now trace begin n all cur answers mid) e w in
+          let done = more-from now trace begin count all cur lane next answers more mid heard within' inside' same' w' turn in
+          subst (λ n. Walks now trace begin n all (set cur at next) (answers ++ more) heard) next_at
+          (subst (λ n. Walks now trace begin (begin + (count + 1)) all (set cur n next) (answers ++ more) heard) (sym e) done)
 
 -- the same of calls on wires, the first of which looks at the lane
 pub walks-after-look : (a b c d : Option (List Answer)) (now : ℕ) (heard : Option Event) (begin index : ℕ) (all cur after : List Lane) (buf : List ℕ) (first_look : FirstRead) → begin ≤ index → index < length all → index < length cur →
@@ -146,8 +146,8 @@ pub speaks-here : (a b c : Option (List Answer)) (begin index : ℕ) (all cur af
 speaks-here a b c begin index all cur after le within inside h k = (
   h.0 ++ k.0,
   tells-more a b c h.0 k.0 h.1 k.1,
-  λ now told. subst (λ (l : List Lane). Walks now (Some told) begin (index + 1) all l (h.0 ++ k.0) (Some told)) (sym k.2.order)
-      (walk-more now (Some told) begin index all cur k.2.lane k.2.next h.0 k.0 (Some told) (Some told) le within inside k.2.at (h.2 now told) (refl, k.2.does)),
+  λ now trace. subst (λ (l : List Lane). Walks now (Some trace) begin (index + 1) all l (h.0 ++ k.0) (Some trace)) (sym k.2.order)
+      (walk-more now (Some trace) begin index all cur k.2.lane k.2.next h.0 k.0 (Some trace) (Some trace) le within inside k.2.at (h.2 now trace) (refl, k.2.does)),
 )
 
 -- two parts of the places, one after the other
@@ -187,19 +187,19 @@ later begin end a b le same = go (end - begin) end (omega (arith, le)) where
 sooner : (begin end : ℕ) (a b : List Lane) → begin ≤ end → take end a ≡ take end b → take begin a ≡ take begin b
 sooner begin end a b le same = sym (take-take begin end a le) ∙ ap (λ (l : List Lane). take begin l) same ∙ take-take begin end b le
 
-pub walks-on : (now : ℕ) (told heard last : Option Event) (begin mid end : ℕ) (all cur after : List Lane) (first more : List Answer) → begin ≤ mid → mid ≤ end →
-    Walks now told begin mid all cur first heard → Walks now heard mid end cur after more last → Walks now told begin end all after (first ++ more) last
-walks-on now told heard last begin mid end all cur after first more le lt w v =
+pub walks-on : (now : ℕ) (trace heard last : Option Event) (begin mid end : ℕ) (all cur after : List Lane) (first more : List Answer) → begin ≤ mid → mid ≤ end →
+    Walks now trace begin mid all cur first heard → Walks now heard mid end cur after more last → Walks now trace begin end all after (first ++ more) last
+walks-on now trace heard last begin mid end all cur after first more le lt w v =
     let start : between begin mid cur ≡ between begin mid after = same-before begin mid cur after le (sym v.front) in
     let rest : between mid end cur ≡ between mid end all = same-after mid end cur all w.back in
-    let one : TurnAll now told (between begin mid all) (between begin mid after) first heard = subst (λ (l : List Lane). TurnAll now told (between begin mid all) l first heard) start w.turns in
+    let one : TurnAll now trace (between begin mid all) (between begin mid after) first heard = subst (λ (l : List Lane). TurnAll now trace (between begin mid all) l first heard) start w.turns in
     let two : TurnAll now heard (between mid end all) (between mid end after) more last = subst (λ (l : List Lane). TurnAll now heard l (between mid end after) more last) rest v.turns in
-    let both = turns-append now told (between begin mid all) (between begin mid after) (between mid end all) (between mid end after) first more heard last one two in
+    let both = turns-append now trace (between begin mid all) (between begin mid after) (between mid end all) (between mid end after) first more heard last one two in
     record {
       front = sooner begin mid after cur le v.front ∙ w.front;
       back = v.back ∙ later mid end cur all lt w.back;
-      turns = subst (λ (l : List Lane). TurnAll now told l (between begin end after) (first ++ more) last) (sym (split begin mid end all le lt))
-          (subst (λ (l : List Lane). TurnAll now told (between begin mid all ++ between mid end all) l (first ++ more) last) (sym (split begin mid end after le lt)) both);
+      turns = subst (λ (l : List Lane). TurnAll now trace l (between begin end after) (first ++ more) last) (sym (split begin mid end all le lt))
+          (subst (λ (l : List Lane). TurnAll now trace (between begin mid all ++ between mid end all) l (first ++ more) last) (sym (split begin mid end after le lt)) both);
     }
 
 -- ---- the walk of a call
@@ -208,28 +208,28 @@ pub same-length : (a b : List Lane) → wires_of a ≡ wires_of b → length a �
 same-length a b e = sym (length-map a (λ (l : Lane). l.wire)) ∙ ap length e ∙ length-map b (λ (l : Lane). l.wire)
 
 -- the lanes from a place on take their turns, and then those before it
-pub hears-walks : (now from index : ℕ) (all cur after : List Lane) (first last : List Answer) (told heard : Option Event) → index ≡ place_of_first from all → length cur ≡ length all →
-    Walks now None index (length all) all cur first told → Walks now told 0 index cur after last heard → HearsAll now from all after (first ++ last) heard
-hears-walks now from index all cur after first last told heard here same w v =
+pub hears-walks : (now from index : ℕ) (all cur after : List Lane) (first last : List Answer) (trace heard : Option Event) → index ≡ index_of_first from all → length cur ≡ length all →
+    Walks now None index (length all) all cur first trace → Walks now trace 0 index cur after last heard → HearsAll now from all after (first ++ last) heard
+hears-walks now from index all cur after first last trace heard here same w v =
     let rest : (l : List Lane) → length l ≡ length all → between index (length all) l ≡ drop index l = λ l e. take_all (length all - index) (drop index l) (omega (arith, e, length-drop index l)) in
-    let turned : TurnAll now None (drop index all) (drop index cur) first told =
-    subst (λ (l : List Lane). TurnAll now None l (drop index cur) first told) (rest all refl)
-    (subst (λ (l : List Lane). TurnAll now None (between index (length all) all) l first told) (rest cur same) w.turns) in
+    let turned : TurnAll now None (drop index all) (drop index cur) first trace =
+    subst (λ (l : List Lane). TurnAll now None l (drop index cur) first trace) (rest all refl)
+    (subst (λ (l : List Lane). TurnAll now None (between index (length all) all) l first trace) (rest cur same) w.turns) in
     let less : index - 0 ≡ index = omega arith in
     let early : (l : List Lane) → between 0 index l ≡ take index l = λ l. ap (λ n. take n l) less in
-    let turned_last : TurnAll now told (take index all) (take index after) last heard =
-    subst (λ (l : List Lane). TurnAll now told l (take index after) last heard) (early cur ∙ w.front)
-    (subst (λ (l : List Lane). TurnAll now told (between 0 index cur) l last heard) (early after) v.turns) in
+    let turned_last : TurnAll now trace (take index all) (take index after) last heard =
+    subst (λ (l : List Lane). TurnAll now trace l (take index after) last heard) (early cur ∙ w.front)
+    (subst (λ (l : List Lane). TurnAll now trace (between 0 index cur) l last heard) (early after) v.turns) in
     record {
       first = drop index after;
       last = take index after;
-      told = told;
+      trace = trace;
       answers_first = first;
       answers_last = last;
       all = refl;
       order = sym (take-append-drop index after);
-      turns_first = subst (λ n. TurnAll now None (drop n all) (drop index after) first told) here (subst (λ (l : List Lane). TurnAll now None (drop index all) l first told) (sym v.back) turned);
-      turns_last = subst (λ n. TurnAll now told (take n all) (take index after) last heard) here turned_last;
+      turns_first = subst (λ n. TurnAll now None (drop n all) (drop index after) first trace) here (subst (λ (l : List Lane). TurnAll now None (drop index all) l first trace) (sym v.back) turned);
+      turns_last = subst (λ n. TurnAll now trace (take n all) (take index after) last heard) here turned_last;
     }
 
 -- ---- lanes on which nothing waits
@@ -272,11 +272,11 @@ nothing-unwritten true h = absurd (omega (arith, h))
 nothing-unwritten false h = refl
 
 -- lanes of which none lags take their turns and stay as they are
-silent-turns : (now : ℕ) (told : Event) (lanes : List Lane) → (tally_of lanes).writers ≤ 0 → TurnAll now (Some told) lanes lanes [] (Some told)
-silent-turns now told [] h = (refl, refl, refl)
-silent-turns now told (lane ∷ lanes) h =
+silent-turns : (now : ℕ) (trace : Event) (lanes : List Lane) → (tally_of lanes).writers ≤ 0 → TurnAll now (Some trace) lanes lanes [] (Some trace)
+silent-turns now trace [] h = (refl, refl, refl)
+silent-turns now trace (lane ∷ lanes) h =
     let lane_is : has_unwritten lane ≡ false = nothing-unwritten (has_unwritten lane) (omega (arith, h)) in
-    (Some told, lane, lanes, [], [], refl, refl, (refl, silent lane lane_is), silent-turns now told lanes (omega (arith, h)))
+    (Some trace, lane, lanes, [], [], refl, refl, (refl, silent lane lane_is), silent-turns now trace lanes (omega (arith, h)))
 
 fewer-after : (n : ℕ) (lanes : List Lane) → (tally_of (drop n lanes)).writers ≤ (tally_of lanes).writers
 fewer-after zero lanes = omega arith
@@ -289,10 +289,10 @@ fewer-before (suc n) [] = omega arith
 fewer-before (suc n) (lane ∷ lanes) = omega (arith, fewer-before n lanes)
 
 pub silent-walk : (begin end : ℕ) (lanes : List Lane) → ltb 0 (tally_of lanes).writers ≡ false → Speak begin end lanes lanes []
-silent-walk begin end lanes e now told =
+silent-walk begin end lanes e now trace =
     let none : (tally_of lanes).writers ≡ 0 = nothing-waits (tally_of lanes).writers e in
     let few : (tally_of (between begin end lanes)).writers ≤ 0 = omega (arith, none, fewer-after begin lanes, fewer-before (end - begin) (drop begin lanes)) in
-    record { front = refl; back = refl; turns = silent-turns now told (between begin end lanes) few }
+    record { front = refl; back = refl; turns = silent-turns now trace (between begin end lanes) few }
 
 -- ---- parts of a call on wires, put together
 
@@ -307,14 +307,14 @@ walks-speak a b c now begin mid end all cur after heard le lt h k = (
 )
 
 -- the lanes from a place on take their turns, and then those before it
-pub hears-both : (a b c : Option (List Answer)) (now from index : ℕ) (all cur after : List Lane) (told heard : Option Event) → index ≡ place_of_first from all → length cur ≡ length all →
-    ((answers : List Answer) × Tells a b answers × Walks now None index (length all) all cur answers told) → ((answers : List Answer) × Tells b c answers × Walks now told 0 index cur after answers heard) →
+pub hears-both : (a b c : Option (List Answer)) (now from index : ℕ) (all cur after : List Lane) (trace heard : Option Event) → index ≡ index_of_first from all → length cur ≡ length all →
+    ((answers : List Answer) × Tells a b answers × Walks now None index (length all) all cur answers trace) → ((answers : List Answer) × Tells b c answers × Walks now trace 0 index cur after answers heard) →
     (answers : List Answer) × Tells a c answers × HearsAll now from all after answers heard
-hears-both a b c now from index all cur after told heard here same h k =
-    (h.0 ++ k.0, tells-more a b c h.0 k.0 h.1 k.1, hears-walks now from index all cur after h.0 k.0 told heard here same h.2 k.2)
+hears-both a b c now from index all cur after trace heard here same h k =
+    (h.0 ++ k.0, tells-more a b c h.0 k.0 h.1 k.1, hears-walks now from index all cur after h.0 k.0 trace heard here same h.2 k.2)
 
 -- the same of a second part that may be out of memory
-pub hears-or-fails : {E : Type 0} (a b c : Option (List Answer)) (now from index : ℕ) (all cur after : List Lane) (r : Result (Option Event) E) → index ≡ place_of_first from all → length cur ≡ length all →
+pub hears-or-fails : {E : Type 0} (a b c : Option (List Answer)) (now from index : ℕ) (all cur after : List Lane) (r : Result (Option Event) E) → index ≡ index_of_first from all → length cur ≡ length all →
     ((answers : List Answer) × Tells a b answers × Walks now None index (length all) all cur answers None) →
     IfOk r (λ heard. (answers : List Answer) × Tells b c answers × Walks now None 0 index cur after answers heard) →
     IfOk r (λ heard. (answers : List Answer) × Tells a c answers × HearsAll now from all after answers heard)

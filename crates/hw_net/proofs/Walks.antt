@@ -10,7 +10,7 @@ use Rattle.hw_net.specs.Lane.{Lane, wires_of, refusal_of}
 use Rattle.hw_net.specs.Rising.{IsRising}
 use Rattle.hw_net.specs.Saying.{Says}
 use Rattle.hw_net.specs.Sessions.{Call, heard, replied, sent, shut, Does, Session, answers_in, answers_of, request_on, requests_on, message_on, messages_on, is_request_on, is_owed_on, refusal_on, replies_on, was_shut_in, came_in}
-use Rattle.hw_net.specs.Told.{Chooses}
+use Rattle.hw_net.specs.Trace.{Chooses}
 use Rattle.hw_net.specs.Turn.{Listens, Replies, Sends, Shuts}
 use Rattle.hw_net.proofs.Moves.{Has, Without, IsOff, Fits, Turned, TurnedIn, Sweeps, sweeps, hears-wires, EachKeeps, ActsAt, Spreads, spreads, has-part, has-kept, rising-distinct, rising-without}
 use Rattle.hw_net.proofs.Numbering.{numbers-rise, replies-keep, sends-keep, shuts-keep}
@@ -20,7 +20,7 @@ use Rattle.hw_net.proofs.Shares.{share, share-append, came-append, equal, same}
 -- what a lane hears is the event, and if it hears nothing, the event isn't on it
 abbrev pub IsHeard : ℕ → Option Event → Event → Type 0
 IsHeard wire None what = is_on wire what ≡ false
-IsHeard wire (Some told) what = what ≡ told
+IsHeard wire (Some trace) what = what ≡ trace
 
 -- a lane's part of a `next`: it listened, or it only wrote
 abbrev pub Heeds : ℕ → Event → Lane → Lane → List Answer → Type 0
@@ -71,16 +71,16 @@ pub record Steps (call : Call) (bound bound_after : ℕ) (before after : DoorSta
 
 -- ---- the steps of `next`
 
-off-event : (wire : ℕ) (told : Option Event) → IsOff wire told → is_on wire (unwrap_or told event.Quiet) ≡ false
+off-event : (wire : ℕ) (trace : Option Event) → IsOff wire trace → is_on wire (unwrap_or trace event.Quiet) ≡ false
 off-event wire None h = refl
 off-event wire (Some one) h = h
 
-heeds : (now : ℕ) (told : Option Event) (what : Event) (x y : Lane) (mine : List Answer) → what ≡ unwrap_or told event.Quiet → Turned now told x y mine → Heeds now what x y mine
-heeds now told what x y mine e (inl t) = inl (t.0, t.1, go t.0 t.2) where
-  go : (own : Option Event) → Fits x.wire own told → IsHeard x.wire own what
-  go None f = ap (λ v. is_on x.wire v) e ∙ off-event x.wire told f
+heeds : (now : ℕ) (trace : Option Event) (what : Event) (x y : Lane) (mine : List Answer) → what ≡ unwrap_or trace event.Quiet → Turned now trace x y mine → Heeds now what x y mine
+heeds now trace what x y mine e (inl t) = inl (t.0, t.1, go t.0 t.2) where
+  go : (own : Option Event) → Fits x.wire own trace → IsHeard x.wire own what
+  go None f = ap (λ v. is_on x.wire v) e ∙ off-event x.wire trace f
   go (Some one) f = e ∙ ap (λ (o : Option Event). unwrap_or o event.Quiet) f
-heeds now told what x y mine e (inr t) = inr (t.0, ap (λ v. is_on x.wire v) e ∙ off-event x.wire told t.1)
+heeds now trace what x y mine e (inr t) = inr (t.0, ap (λ v. is_on x.wire v) e ∙ off-event x.wire trace t.1)
 
 share-rest : (wire now : ℕ) (came : Option ℕ) (turns answers : List Answer) → answers ≡ polled now ∷ accepted came ∷ turns → share wire answers ≡ share wire turns
 share-rest wire now came turns answers e = ap (λ l. share wire l) e
@@ -118,7 +118,7 @@ numbered-rises bound bound_after (Some wire) n = omega (arith, n.0, n.1)
 
 next-with : (what : Heard) (answers : List Answer) (bound bound_after : ℕ) (before after : DoorState) (h : HearsNext before after answers what) → IsNumbered bound bound_after h.wire →
     IsRising 0 bound_after (wires_of after.lanes) → IsRising 0 bound_after (wires_of (with_accepted what.now h.wire (kept before.lanes))) →
-    Sweeps what.now (with_accepted what.now h.wire (kept before.lanes)) after.lanes h.turns h.told → Steps (heard what answers) bound bound_after before after
+    Sweeps what.now (with_accepted what.now h.wire (kept before.lanes)) after.lanes h.turns h.trace → Steps (heard what answers) bound bound_after before after
 next-with what answers bound bound_after before after h numbered risen rises sweep = record {
   lanes = with_accepted what.now h.wire (kept before.lanes);
   were = λ x has. with-were what.now bound bound_after h.wire before.lanes x numbered has;
@@ -129,11 +129,11 @@ next-with what answers bound bound_after before after h numbered risen rises swe
   back = λ y has. let p = sweep.back y has in (p.0, p.1, moved p.0 y p.2);
   on = λ x has. let p = sweep.on x has in (p.0, p.1, moved x p.0 p.2);
   off = λ wire without. let p = sweep.off wire without in
-      (share-rest wire h.now h.wire h.turns answers h.all ∙ p.0, ap (λ v. is_on wire v) h.event_is ∙ off-event wire h.told p.1);
+      (share-rest wire h.now h.wire h.turns answers h.all ∙ p.0, ap (λ v. is_on wire v) h.event_is ∙ off-event wire h.trace p.1);
 } where
-  moved : (x y : Lane) → TurnedIn what.now h.told h.turns x y → Moves (heard what answers) x y
-  moved x y t = heeds what.now h.told what.event x y (share x.wire answers) h.event_is
-      (subst (λ (l : List Answer). Turned what.now h.told x y l) (sym (share-rest x.wire h.now h.wire h.turns answers h.all)) t)
+  moved : (x y : Lane) → TurnedIn what.now h.trace h.turns x y → Moves (heard what answers) x y
+  moved x y t = heeds what.now h.trace what.event x y (share x.wire answers) h.event_is
+      (subst (λ (l : List Answer). Turned what.now h.trace x y l) (sym (share-rest x.wire h.now h.wire h.turns answers h.all)) t)
 
 next-steps : (what : Heard) (answers : List Answer) (bound bound_after : ℕ) (before after : DoorState) → Does (heard what answers) bound bound_after before after → IsRising 0 bound (wires_of before.lanes) →
     Steps (heard what answers) bound bound_after before after
@@ -141,13 +141,13 @@ next-steps what answers bound bound_after before after d rise =
     let h = d.0 in
     let keeps = d.1 in
     let lanes = with_accepted what.now h.wire (kept before.lanes) in
-    let same : wires_of after.lanes ≡ wires_of lanes = hears-wires what.now h.begin lanes after.lanes h.turns h.told h.hears in
+    let same : wires_of after.lanes ≡ wires_of lanes = hears-wires what.now h.begin lanes after.lanes h.turns h.trace h.hears in
     let came : keeps.0 ≡ h.wire = same-came keeps.0 h.wire (append_cancel_left (wires_of (kept before.lanes)) (option_to_list keeps.0) (option_to_list h.wire)
     (sym keeps.1 ∙ same ∙ wires-with what.now h.wire (kept before.lanes))) in
     let risen = numbers-rise bound bound_after before.lanes after.lanes rise keeps in
     let rises = subst (λ (l : List ℕ). IsRising 0 bound_after l) same risen in
     next-with what answers bound bound_after before after h (subst (λ (o : Option ℕ). IsNumbered bound bound_after o) came keeps.2) risen rises
-    (sweeps what.now h.begin lanes after.lanes h.turns h.told h.hears (rising-distinct 0 bound_after lanes rises))
+    (sweeps what.now h.begin lanes after.lanes h.turns h.trace h.hears (rising-distinct 0 bound_after lanes rises))
 
 -- ---- the steps of the other calls
 

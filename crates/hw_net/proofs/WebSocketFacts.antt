@@ -5,7 +5,7 @@ use Rattle.hw_socket.specs.Reading.{Feeds}
 use Rattle.hw_net.specs.declared.limits.TheConstants.{PIECE}
 use Rattle.hw_net.specs.declared.input.Input.{Input}
 use Rattle.hw_net.specs.declared.input.Input.TheVariants as input
-use Rattle.hw_net.specs.Told.{Tells, Reads}
+use Rattle.hw_net.specs.Trace.{Tells, Reads}
 use Rattle.hw_net.specs.WebSocketState.{WebSocketState, HearsWebSocket, ReadsInto, Finds, IsInput, room_of}
 
 pub room-wants_read : (before : WebSocketState) → before.wants_read ≡ true → room_of before ≡ PIECE

@@ -2,7 +2,7 @@
 use Rattle.std.proofs.Common.{◌≡◌, ◌≢◌, ◌<◌, ◌≤◌, ℕ, List, [], ◌∷◌, ◌++◌, Bool, true, false, refl, sym, ap, ◌∙◌, append_assoc, length, take, drop, arith, Option, subst, length-take}
 use Rattle.std.proofs.lemmas.List.{append-nil, take-append-drop}
 use Rattle.hw_door.specs.Calls.{Adds}
-use Rattle.hw_net.specs.Told.{Tells}
+use Rattle.hw_net.specs.Trace.{Tells}
 use Rattle.hw_net.proofs.Telling.{tells-one-more}
 use Rattle.hw_door.specs.Traffic.{Answer, polled, poll_failed, accepted, accept_failed, connected, connect_failed, bytes_in, not_yet, ended, read_failed, bytes_out, write_failed, was_shut}
 use Rattle.hw_net.specs.Saying.{Writes}
@@ -40,20 +40,20 @@ stop-empty a b wire waits rest h e =
 
 pub stop-zero : (a b c : Option (List Answer)) (wire count : ℕ) (waits rest sent : List ℕ) → HasWritten a b wire waits rest → rest ≢ [] → count ≡ 0 →
     Adds b c (bytes_out wire (take count sent)) → HasDone a c wire waits rest true
-stop-zero a b c wire count waits rest sent h some zero told =
-    let added : Adds b c (bytes_out wire []) = subst (λ n. Adds b c (bytes_out wire (take n sent))) zero told in
+stop-zero a b c wire count waits rest sent h some zero trace =
+    let added : Adds b c (bytes_out wire []) = subst (λ n. Adds b c (bytes_out wire (take n sent))) zero trace in
     (h.0 ++ bytes_out wire [] ∷ [], tells-one-more a b c h.0 (bytes_out wire []) h.1 added, h.2 (bytes_out wire [] ∷ []) rest true (refl, some, refl, refl))
 
 pub stop-failed : (a b c : Option (List Answer)) (wire : ℕ) (waits rest : List ℕ) → HasWritten a b wire waits rest → rest ≢ [] → Adds b c (write_failed wire) → HasDone a c wire waits rest false
-stop-failed a b c wire waits rest h some told =
-    (h.0 ++ write_failed wire ∷ [], tells-one-more a b c h.0 (write_failed wire) h.1 told, h.2 (write_failed wire ∷ []) rest false (refl, some, refl, refl))
+stop-failed a b c wire waits rest h some trace =
+    (h.0 ++ write_failed wire ∷ [], tells-one-more a b c h.0 (write_failed wire) h.1 trace, h.2 (write_failed wire ∷ []) rest false (refl, some, refl, refl))
 
 pub go-on : (a b c : Option (List Answer)) (wire count : ℕ) (waits rest sent left : List ℕ) → HasWritten a b wire waits rest → sent ≡ rest → count ≢ 0 → count ≤ length sent →
     Adds b c (bytes_out wire (take count sent)) → left ≡ drop count rest → HasWritten a c wire waits left
-go-on a b c wire count waits rest sent left h same some within told drops =
+go-on a b c wire count waits rest sent left h same some within trace drops =
     let taken = take count rest in
     let size : 0 < length taken = omega (arith, length-take count rest, ap (λ (l : List ℕ). length l) same) in
-    let added : Adds b c (bytes_out wire taken) = subst (λ (l : List ℕ). Adds b c (bytes_out wire (take count l))) same told in
+    let added : Adds b c (bytes_out wire taken) = subst (λ (l : List ℕ). Adds b c (bytes_out wire (take count l))) same trace in
     let now : Continues wire waits h.0 (taken ++ drop count rest) = rw (take-append-drop count rest) h.2 in
     let later : Continues wire waits (h.0 ++ bytes_out wire taken ∷ []) (drop count rest) = continues-more wire waits h.0 taken (drop count rest) size now in (
       h.0 ++ bytes_out wire taken ∷ [],

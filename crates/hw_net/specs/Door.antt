@@ -53,8 +53,8 @@ KeepsLanes bound bound_after before after =
     (wire : Option ℕ) × (wires_of after ≡ wires_of (kept before) ++ option_to_list wire) × IsNumbered bound bound_after wire
 
 -- how many lanes come last in the search: those before the first that has the number or a greater one
-abbrev pub place_of_first : ℕ → List Lane → ℕ
-place_of_first from lanes = unwrap_or (position (λ (lane : Lane). nat_le from lane.wire) lanes) (length lanes)
+abbrev pub index_of_first : ℕ → List Lane → ℕ
+index_of_first from lanes = unwrap_or (position (λ (lane : Lane). nat_le from lane.wire) lanes) (length lanes)
 
 -- the lane of an event
 abbrev pub lane_of : Event → ℕ
@@ -77,19 +77,19 @@ next_from from (Some heard) = min (lane_of heard + 1) (2 ^ 64 - 1)
 
 -- the same after a search: one that began with a named lane leaves it
 abbrev pub from_after : ℕ → ℕ → Option Event → ℕ
-from_after named from told = if named == 0 then next_from from told else from
+from_after named from trace = if named == 0 then next_from from trace else from
 
 -- the lanes take their turns at this moment, those from this number on first, and this is heard, if anything is
 pub record HearsAll (now : ℕ) (from : ℕ) (before after : List Lane) (answers : List Answer) (heard : Option Event) : Type 0 where
   pub first : List Lane
   pub last : List Lane
-  pub told : Option Event
+  pub trace : Option Event
   pub answers_first : List Answer
   pub answers_last : List Answer
   pub all : answers ≡ answers_first ++ answers_last
   pub order : after ≡ last ++ first
-  pub turns_first : TurnAll now None (drop (place_of_first from before) before) first answers_first told
-  pub turns_last : TurnAll now told (take (place_of_first from before) before) last answers_last heard
+  pub turns_first : TurnAll now None (drop (index_of_first from before) before) first answers_first trace
+  pub turns_last : TurnAll now trace (take (index_of_first from before) before) last answers_last heard
 
 -- One `next`: one poll, one accept, and then a turn of each lane, from the one whose turn it is, or from any other. Nothing is heard only if
 -- each lane was listened to and gave nothing.
@@ -98,13 +98,13 @@ pub record HearsNext (before after : DoorState) (answers : List Answer) (heard :
   pub wire : Option ℕ
   pub turns : List Answer
   pub begin : ℕ
-  pub told : Option Event
+  pub trace : Option Event
   pub all : answers ≡ polled now ∷ accepted wire ∷ turns
   pub moment : heard.now ≡ max now before.moment
   pub begins : Begins before begin after.named
-  pub hears : HearsAll heard.now begin (with_accepted heard.now wire (kept before.lanes)) after.lanes turns told
-  pub event_is : heard.event ≡ unwrap_or told event.Quiet
-  pub from : after.from ≡ from_after after.named before.from told
+  pub hears : HearsAll heard.now begin (with_accepted heard.now wire (kept before.lanes)) after.lanes turns trace
+  pub event_is : heard.event ≡ unwrap_or trace event.Quiet
+  pub from : after.from ≡ from_after after.named before.from trace
   pub later : after.moment ≡ heard.now
 
 -- a call of `next` that fails: poll failed, or accept after it
@@ -119,5 +119,5 @@ DoesAt lane Does before after answers =
 -- the turns of all lanes, which end with this event
 abbrev pub HearsTurns : ℕ → DoorState → DoorState → List Answer → Event → Type 0
 HearsTurns now before after answers heard =
-    (told : Option Event) × (begin : ℕ) × Begins before begin after.named × HearsAll now begin before.lanes after.lanes answers told
-    × (heard ≡ unwrap_or told event.Quiet) × (after.from ≡ from_after after.named before.from told) × (after.moment ≡ before.moment)
+    (trace : Option Event) × (begin : ℕ) × Begins before begin after.named × HearsAll now begin before.lanes after.lanes answers trace
+    × (heard ≡ unwrap_or trace event.Quiet) × (after.from ≡ from_after after.named before.from trace) × (after.moment ≡ before.moment)

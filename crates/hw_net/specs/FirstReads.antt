@@ -9,7 +9,7 @@ use Rattle.hw_net.specs.declared.protocol.Protocol.TheVariants.{Http, Socket}
 use Rattle.hw_net.specs.declared.protocol.Stage.TheVariants.{Live}
 use Rattle.hw_net.specs.Lane.{Lane}
 use Rattle.hw_net.specs.WebSocketState.{IsCalm}
-use Rattle.hw_net.specs.Told.{Reads}
+use Rattle.hw_net.specs.Trace.{Reads}
 
 abbrev pub IsCalmProtocol : Protocol → Type 0
 IsCalmProtocol (Http http_state) = ⊥

@@ -9,7 +9,7 @@ use Rattle.hw_door.specs.Traffic.{Answer}
 use Rattle.hw_net.specs.declared.limits.TheConstants.{PIECE}
 use Rattle.hw_net.specs.declared.input.Input.{Input}
 use Rattle.hw_net.specs.declared.input.Input.TheVariants as input
-use Rattle.hw_net.specs.Told.{Gives, IsAsked, bytes_of}
+use Rattle.hw_net.specs.Trace.{Gives, IsAsked, bytes_of}
 
 pub record HttpStateView : Type 0 where
   -- the bytes held, and what was made of them

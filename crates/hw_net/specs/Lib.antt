@@ -1,5 +1,5 @@
 pub mod Limits
-pub mod Told
+pub mod Trace
 pub mod Input
 pub mod HttpState
 pub mod WebSocketState

@@ -15,7 +15,7 @@ use Rattle.hw_net.specs.declared.protocol.Protocol.{Protocol}
 use Rattle.hw_net.specs.declared.protocol.Protocol.TheVariants.{Http, Socket}
 use Rattle.hw_net.specs.declared.protocol.Stage.{Stage}
 use Rattle.hw_net.specs.declared.protocol.Stage.TheVariants.{Live, Lost, Closing, Over}
-use Rattle.hw_net.specs.Told.{Chooses}
+use Rattle.hw_net.specs.Trace.{Chooses}
 use Rattle.hw_net.specs.HttpState.{HearsHttp}
 use Rattle.hw_net.specs.WebSocketState.{HearsWebSocket}
 use Rattle.hw_net.specs.Lane.{Lane, is_live, owes, is_overdue, refusal_of, protocol_after_shut, after_reply}
@@ -42,7 +42,7 @@ Falls before after answers heard =
 
 -- nothing is done on the wire, and this is heard
 abbrev pub Passes : Lane → Lane → List Answer → Option Event → Option Event → Type 0
-Passes becomes after answers told heard = (answers ≡ []) × (heard ≡ told) × (after ≡ becomes)
+Passes becomes after answers trace heard = (answers ≡ []) × (heard ≡ trace) × (after ≡ becomes)
 
 -- The event that is heard of the input. A lane that has waited for too long is lost, what is no request is answered, and a WebSocket that is
 -- gone says so.
@@ -64,7 +64,7 @@ LosesAt _ before after heard = (heard ≡ None) × (after ≡ before)
 
 abbrev pub Loses : Option Event → Lane → Lane → Option Event → Type 0
 Loses None before after heard = LosesAt before.stage before after heard
-Loses (Some told) before after heard = (heard ≡ Some told) × (after ≡ before)
+Loses (Some trace) before after heard = (heard ≡ Some trace) × (after ≡ before)
 
 -- One turn of a live lane: it hears an input, which becomes the event, and then it writes what waits.
 pub record TurnsLive (now : ℕ) (before after : Lane) (answers : List Answer) (heard : Option Event) : Type 0 where
@@ -72,15 +72,15 @@ pub record TurnsLive (now : ℕ) (before after : Lane) (answers : List Answer) (
   pub protocol : Protocol
   pub settled : Lane
   pub said : Lane
-  pub told : Option Event
+  pub trace : Option Event
   pub read : List Answer
   pub shut : List Answer
   pub written : List Answer
   pub all : answers ≡ read ++ (shut ++ written)
   pub hears : Hears before.wire before.protocol protocol read input
-  pub settles : Settles now (record before { protocol = protocol }) settled shut input told
+  pub settles : Settles now (record before { protocol = protocol }) settled shut input trace
   pub says : Says settled said written
-  pub loses : Loses told said after heard
+  pub loses : Loses trace said after heard
 
 abbrev pub TurnsAt : Stage → ℕ → Lane → Lane → List Answer → Option Event → Type 0
 TurnsAt Live now before after answers heard = TurnsLive now before after answers heard
@@ -95,14 +95,14 @@ Listens now before after answers heard = TurnsAt before.stage now before after a
 -- a lane's turn in a call in which this was heard: once something was, it only writes
 abbrev pub Turns : ℕ → Option Event → Lane → Lane → List Answer → Option Event → Type 0
 Turns now None before after answers heard = Listens now before after answers heard
-Turns now (Some told) before after answers heard = (heard ≡ Some told) × Says before after answers
+Turns now (Some trace) before after answers heard = (heard ≡ Some trace) × Says before after answers
 
 -- the turns of lanes, the first first
 abbrev pub TurnAll : ℕ → Option Event → List Lane → List Lane → List Answer → Option Event → Type 0
-TurnAll now told [] after answers heard = (after ≡ []) × (answers ≡ []) × (heard ≡ told)
-TurnAll now told (lane ∷ lanes) after answers heard =
+TurnAll now trace [] after answers heard = (after ≡ []) × (answers ≡ []) × (heard ≡ trace)
+TurnAll now trace (lane ∷ lanes) after answers heard =
     (mid : Option Event) × (next : Lane) × (rest : List Lane) × (first : List Answer) × (more : List Answer)
-    × (after ≡ next ∷ rest) × (answers ≡ first ++ more) × Turns now told lane next first mid × TurnAll now mid lanes rest more heard
+    × (after ≡ next ∷ rest) × (answers ≡ first ++ more) × Turns now trace lane next first mid × TurnAll now mid lanes rest more heard
 
 -- ---- saying
 

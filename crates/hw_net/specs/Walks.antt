@@ -10,11 +10,11 @@ abbrev pub between : ℕ → ℕ → List Lane → List Lane
 between begin end lanes = take (end - begin) (drop begin lanes)
 
 -- in a call in which this was heard the lanes of these places take their turns, and the others stay as they are
-pub record Walks (now : ℕ) (told : Option Event) (begin end : ℕ) (before after : List Lane) (answers : List Answer) (heard : Option Event) : Type 0 where
+pub record Walks (now : ℕ) (trace : Option Event) (begin end : ℕ) (before after : List Lane) (answers : List Answer) (heard : Option Event) : Type 0 where
   pub front : take begin after ≡ take begin before
   pub back : drop end after ≡ drop end before
-  pub turns : TurnAll now told (between begin end before) (between begin end after) answers heard
+  pub turns : TurnAll now trace (between begin end before) (between begin end after) answers heard
 
 -- the lanes of these places write what waits: so they do in any call in which something was heard
 abbrev pub Speak : ℕ → ℕ → List Lane → List Lane → List Answer → Type 0
-Speak begin end before after answers = (now : ℕ) (told : Event) → Walks now (Some told) begin end before after answers (Some told)
+Speak begin end before after answers = (now : ℕ) (trace : Event) → Walks now (Some trace) begin end before after answers (Some trace)

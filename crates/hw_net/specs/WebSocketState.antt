@@ -9,7 +9,7 @@ use Rattle.hw_socket.specs.declared.vocabulary.SocketRead.TheVariants as read
 use Rattle.hw_net.specs.declared.limits.TheConstants.{PIECE}
 use Rattle.hw_net.specs.declared.input.Input.{Input}
 use Rattle.hw_net.specs.declared.input.Input.TheVariants as input
-use Rattle.hw_net.specs.Told.{Gives, IsAsked, bytes_of}
+use Rattle.hw_net.specs.Trace.{Gives, IsAsked, bytes_of}
 
 pub record WebSocketState : Type 0 where
   -- the WebSocket, with the bytes that it was fed and hasn't taken

@@ -10,7 +10,7 @@ ghost use Rattle.hw_door.specs.Traffic.{Answer, polled, poll_failed, accepted, a
 ghost use Rattle.hw_net.specs.Door.{HearsNext, HearsAll, FailsNext, IsNumbered, KeepsLanes, DoesAt, HearsTurns, Begins, state_of, kept, with_accepted, next_from, from_after};
 ghost use Rattle.hw_net.specs.Lane.{is_awake, wires_of};
 ghost use Rattle.hw_net.specs.Rising.{IsRising};
-ghost use Rattle.hw_net.specs.Told.{Tells};
+ghost use Rattle.hw_net.specs.Trace.{Tells};
 ghost use Rattle.hw_net.specs.Turn.{Replies, Sends, Shuts};
 
 use crate::lane::NetLane;
@@ -122,9 +122,9 @@ impl<W: Wires + Drop> NetDoor<W> {
 
     /// Waits for something to come, and answers the moment then.
     fn poll(&mut self, wait: u64) -> Result<u64, DoorError>
-        ensures polled { IfOk result (λ now. (moment : ℕ) × Tells (W.told self.old.wires) (W.told self.new.wires) (polled moment ∷ []) × (now ≡ max moment self.old.moment)) }
+        ensures polled { IfOk result (λ now. (moment : ℕ) × Tells (W.trace self.old.wires) (W.trace self.new.wires) (polled moment ∷ []) × (now ≡ max moment self.old.moment)) }
         ensures failed { IfErr result (λ e. (e ≡ DoorError.Failed) × Rose (W.faults self.old.wires) (W.faults self.new.wires)
-            × Tells (W.told self.old.wires) (W.told self.new.wires) (poll_failed ∷ [])) }
+            × Tells (W.trace self.old.wires) (W.trace self.new.wires) (poll_failed ∷ [])) }
         ensures unfailed { OnOk result (W.faults self.new.wires ≡ W.faults self.old.wires) }
         ensures others_unchanged { self.new ≡ record self.old { wires = self.new.wires; faults = self.new.faults } }
         ensures cause { HasFaultCause self.old.faults self.new.faults result }
@@ -139,10 +139,10 @@ impl<W: Wires + Drop> NetDoor<W> {
 
     /// Takes the connection that came, if one did.
     fn accept(&mut self, now: u64) -> Result<(), DoorError>
-        ensures accepted { OnOk result ((wire : Option ℕ) × Tells (W.told self.old.wires) (W.told self.new.wires) (accepted wire ∷ [])
+        ensures accepted { OnOk result ((wire : Option ℕ) × Tells (W.trace self.old.wires) (W.trace self.new.wires) (accepted wire ∷ [])
             × (self.new.lanes.items ≡ with_accepted now wire self.old.lanes.items) × IsNumbered (W.wires self.old.wires) (W.wires self.new.wires) wire) }
         ensures failed { result ≡ Err DoorError.Failed → Rose (W.faults self.old.wires) (W.faults self.new.wires)
-            × Tells (W.told self.old.wires) (W.told self.new.wires) (accept_failed ∷ []) }
+            × Tells (W.trace self.old.wires) (W.trace self.new.wires) (accept_failed ∷ []) }
         ensures from { self.new.from ≡ self.old.from }
         ensures named { self.new.named ≡ self.old.named }
         ensures moment { self.new.moment ≡ self.old.moment }
@@ -216,7 +216,7 @@ impl<W: Wires + Drop> NetDoor<W> {
 
     /// A turn of each lane, from the one whose turn it is, or from a named one.
     fn hear(&mut self, now: u64) -> Result<Event, AllocError>
-        ensures hears { IfOk result (λ event. (answers : List Answer) × Tells (W.told self.old.wires) (W.told self.new.wires) answers
+        ensures hears { IfOk result (λ event. (answers : List Answer) × Tells (W.trace self.old.wires) (W.trace self.new.wires) answers
             × HearsTurns now (state_of self.old) (state_of self.new) answers event) }
         ensures moment { self.new.moment ≡ self.old.moment }
         ensures faults { self.new.faults ≡ self.old.faults }
@@ -233,8 +233,8 @@ impl<W: Wires + Drop> NetDoor<W> {
 
     /// A turn of each lane, those from this number on first.
     fn turn_from(&mut self, begin: u64, now: u64) -> Result<Option<Event>, AllocError>
-        ensures hears { IfOk result (λ told. (answers : List Answer) × Tells (W.told self.old.wires) (W.told self.new.wires) answers
-            × HearsAll now begin self.old.lanes.items self.new.lanes.items answers told) }
+        ensures hears { IfOk result (λ trace. (answers : List Answer) × Tells (W.trace self.old.wires) (W.trace self.new.wires) answers
+            × HearsAll now begin self.old.lanes.items self.new.lanes.items answers trace) }
         ensures others_unchanged { self.new ≡ record self.old { wires = self.new.wires; lanes = self.new.lanes } }
         ensures lanes { wires_of self.new.lanes.items ≡ wires_of self.old.lanes.items }
         ensures bound { W.wires self.new.wires ≡ W.wires self.old.wires }
@@ -268,10 +268,10 @@ impl<W: Wires + Drop> Door for NetDoor<W> {
         ensures heard { Hears None None wait result }
         ensures later { IsLater self.old.moment self.new.moment result }
         ensures cause { HasFaultCause self.old.faults self.new.faults result }
-        ensures hears { IfOk result (λ heard. (answers : List Answer) × Tells (W.told self.old.wires) (W.told self.new.wires) answers
+        ensures hears { IfOk result (λ heard. (answers : List Answer) × Tells (W.trace self.old.wires) (W.trace self.new.wires) answers
             × HearsNext (state_of self.old) (state_of self.new) answers heard) }
         ensures fails { result ≡ Err DoorError.Failed → Rose (W.faults self.old.wires) (W.faults self.new.wires)
-            × ((answers : List Answer) × Tells (W.told self.old.wires) (W.told self.new.wires) answers × FailsNext answers) }
+            × ((answers : List Answer) × Tells (W.trace self.old.wires) (W.trace self.new.wires) answers × FailsNext answers) }
         ensures fallen { result ≡ Err DoorError.Failed → state_of self.new ≡ record (state_of self.old) { lanes = kept self.old.lanes.items } }
         ensures lanes { KeepsLanes (W.wires self.old.wires) (W.wires self.new.wires) self.old.lanes.items self.new.lanes.items }
     {
@@ -288,11 +288,11 @@ impl<W: Wires + Drop> Door for NetDoor<W> {
         ensures given { Says None None (λ done. say.Reply lane reply) result }
         ensures others_unchanged { self.new.moment ≡ self.old.moment }
         ensures cause { HasFaultCause self.old.faults self.new.faults result }
-        ensures replied { OnOk result ((answers : List Answer) × Tells (W.told self.old.wires) (W.told self.new.wires) answers
+        ensures replied { OnOk result ((answers : List Answer) × Tells (W.trace self.old.wires) (W.trace self.new.wires) answers
             × DoesAt lane (Replies self.old.moment reply) (state_of self.old) (state_of self.new) answers) }
         ensures memory { IfErr result (λ e. e ≡ DoorError.NoMemory) }
         ensures bound { W.wires self.new.wires ≡ W.wires self.old.wires }
-        ensures unchanged { OnErr result ((state_of self.new ≡ state_of self.old) × (W.told self.new.wires ≡ W.told self.old.wires)) }
+        ensures unchanged { OnErr result ((state_of self.new ≡ state_of self.old) × (W.trace self.new.wires ≡ W.trace self.old.wires)) }
     {
         let Some(index) = self.lanes.index_of(lane) else {
             return Ok(());
@@ -306,11 +306,11 @@ impl<W: Wires + Drop> Door for NetDoor<W> {
         ensures given { Says None None (λ done. say.Bytes lane bytes.now text) result }
         ensures others_unchanged { self.new.moment ≡ self.old.moment }
         ensures cause { HasFaultCause self.old.faults self.new.faults result }
-        ensures sent { OnOk result ((answers : List Answer) × Tells (W.told self.old.wires) (W.told self.new.wires) answers
+        ensures sent { OnOk result ((answers : List Answer) × Tells (W.trace self.old.wires) (W.trace self.new.wires) answers
             × DoesAt lane (Sends bytes.now text) (state_of self.old) (state_of self.new) answers) }
         ensures memory { IfErr result (λ e. e ≡ DoorError.NoMemory) }
         ensures bound { W.wires self.new.wires ≡ W.wires self.old.wires }
-        ensures unchanged { OnErr result ((state_of self.new ≡ state_of self.old) × (W.told self.new.wires ≡ W.told self.old.wires)) }
+        ensures unchanged { OnErr result ((state_of self.new ≡ state_of self.old) × (W.trace self.new.wires ≡ W.trace self.old.wires)) }
     {
         let Some(index) = self.lanes.index_of(lane) else {
             return Ok(());
@@ -323,11 +323,11 @@ impl<W: Wires + Drop> Door for NetDoor<W> {
         ensures given { Says None None (λ done. say.Shut lane) result }
         ensures others_unchanged { self.new.moment ≡ self.old.moment }
         ensures cause { HasFaultCause self.old.faults self.new.faults result }
-        ensures shut { OnOk result ((answers : List Answer) × Tells (W.told self.old.wires) (W.told self.new.wires) answers
+        ensures shut { OnOk result ((answers : List Answer) × Tells (W.trace self.old.wires) (W.trace self.new.wires) answers
             × DoesAt lane Shuts (state_of self.old) (state_of self.new) answers) }
         ensures memory { IfErr result (λ e. e ≡ DoorError.NoMemory) }
         ensures bound { W.wires self.new.wires ≡ W.wires self.old.wires }
-        ensures unchanged { OnErr result ((state_of self.new ≡ state_of self.old) × (W.told self.new.wires ≡ W.told self.old.wires)) }
+        ensures unchanged { OnErr result ((state_of self.new ≡ state_of self.old) × (W.trace self.new.wires ≡ W.trace self.old.wires)) }
     {
         let Some(index) = self.lanes.index_of(lane) else {
             return Ok(());

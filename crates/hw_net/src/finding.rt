@@ -16,9 +16,9 @@ pub fn place_of(lanes: &[NetLane], wire: u64) -> Option<usize>
 }
 
 /// How many lanes come last in the search that begins at this number: those of lower numbers, or all if there are no others.
-pub fn place_of_first(lanes: &[NetLane], from: u64) -> usize
+pub fn index_of_first(lanes: &[NetLane], from: u64) -> usize
     requires { Rise (wires_of lanes.now) }
-    ensures { result ≡ place_of_first from lanes.now }
+    ensures { result ≡ index_of_first from lanes.now }
 {
     lanes.partition_point(|lane| lane.wire() < from)
 }

@@ -6,7 +6,7 @@ ghost use Rattle.hh_http.specs.Asks.{Asks};
 ghost use Rattle.hh_http.specs.Lane.{at_start, room};
 ghost use Rattle.hw_door.specs.Traffic.{Answer};
 ghost use Rattle.hw_net.specs.HttpState.{HearsHttp, ReadsInto, Finds, room_of, requests_of, is_awake};
-ghost use Rattle.hw_net.specs.Told.{Tells};
+ghost use Rattle.hw_net.specs.Trace.{Tells};
 
 use crate::input::{Input, is_nothing};
 use crate::limits::PIECE;
@@ -68,7 +68,7 @@ impl HttpState {
         buf: &mut [u8],
     ) -> Result<Input, AllocError>
         requires { length buf.old ≡ PIECE }
-        ensures heard { IfOk result (λ input. (answers : List Answer) × Tells (W.told wires.old) (W.told wires.new) answers
+        ensures heard { IfOk result (λ input. (answers : List Answer) × Tells (W.trace wires.old) (W.trace wires.new) answers
             × HearsHttp wire self.old self.new answers input) }
         ensures wires { W.wires wires.new ≡ W.wires wires.old }
     {
@@ -86,7 +86,7 @@ impl HttpState {
         buf: &mut [u8],
     ) -> Result<Input, AllocError>
         requires { length buf.old ≡ PIECE }
-        ensures heard { IfOk result (λ input. (answers : List Answer) × Tells (W.told wires.old) (W.told wires.new) answers
+        ensures heard { IfOk result (λ input. (answers : List Answer) × Tells (W.trace wires.old) (W.trace wires.new) answers
             × HearsHttp wire self.old self.new answers input) }
         ensures wires { W.wires wires.new ≡ W.wires wires.old }
     {
@@ -99,7 +99,7 @@ impl HttpState {
     /// Reads what has come, if there is room. The answer is false if the wire broke.
     fn read<W: Wires>(&mut self, wires: &mut W, wire: u64, buf: &mut [u8]) -> bool
         requires { length buf.old ≡ PIECE }
-        ensures read { (answers : List Answer) × Tells (W.told wires.old) (W.told wires.new) answers
+        ensures read { (answers : List Answer) × Tells (W.trace wires.old) (W.trace wires.new) answers
             × ReadsInto wire self.old self.new answers result }
         ensures wires { W.wires wires.new ≡ W.wires wires.old }
     {

@@ -9,7 +9,7 @@ ghost use Rattle.hw_net.specs.FirstReads.{ReadsFirst, IsCalmLane, IsWithin};
 ghost use Rattle.hw_net.specs.Lane.{waits, frames_of, is_over, is_awake, is_overdue, owes, refusal_of, after_end, after_reply, protocol_after_shut, protocol_after_reply, new_socket, rest_of};
 ghost use Rattle.hw_net.specs.Saying.{Writes, WritesOut, Says, SaysMore, SpeaksAs, IsLaneStill, must_end};
 ghost use Rattle.hw_net.specs.Tally.{has_unwritten};
-ghost use Rattle.hw_net.specs.Told.{Tells};
+ghost use Rattle.hw_net.specs.Trace.{Tells};
 ghost use Rattle.hw_net.specs.Turn.{Hears, Settles, IsRightInput, TurnsLive, Listens, Loses, LosesAt, Replies, Puts, Sends, Shuts};
 
 use crate::first_read::FirstRead;
@@ -143,7 +143,7 @@ impl NetLane {
     /// Reads the wire, if nothing else is known to be done before more bytes come.
     pub fn read_first<W: Wires>(&self, wires: &mut W, buf: &mut [u8]) -> FirstRead
         requires { length buf.old ≡ PIECE }
-        ensures reads_first { (answers : List Answer) × Tells (W.told wires.old) (W.told wires.new) answers
+        ensures reads_first { (answers : List Answer) × Tells (W.trace wires.old) (W.trace wires.new) answers
             × ReadsFirst self.now answers buf.new result }
         ensures count { IsWithin result }
         ensures wires { W.wires wires.new ≡ W.wires wires.old }
@@ -168,7 +168,7 @@ impl NetLane {
         requires buffer { length buf.old ≡ PIECE }
         requires count { IsWithin first_look }
         ensures turned { IfOk result (λ heard. (first : List Answer) → ReadsFirst self.old first buf.old first_look
-            → (answers : List Answer) × Tells (W.told wires.old) (W.told wires.new) answers × Listens now self.old self.new (first ++ answers) heard) }
+            → (answers : List Answer) × Tells (W.trace wires.old) (W.trace wires.new) answers × Listens now self.old self.new (first ++ answers) heard) }
         ensures wires { W.wires wires.new ≡ W.wires wires.old }
         ensures lane { self.new.wire ≡ self.old.wire }
     {
@@ -194,7 +194,7 @@ impl NetLane {
         requires count { IsWithin first_look }
         requires live { self.old.stage ≡ Stage.Live }
         ensures turned { IfOk result (λ heard. (first : List Answer) → ReadsFirst self.old first buf.old first_look
-            → (answers : List Answer) × Tells (W.told wires.old) (W.told wires.new) answers × TurnsLive now self.old self.new (first ++ answers) heard) }
+            → (answers : List Answer) × Tells (W.trace wires.old) (W.trace wires.new) answers × TurnsLive now self.old self.new (first ++ answers) heard) }
         ensures wires { W.wires wires.new ≡ W.wires wires.old }
         ensures lane { self.new.wire ≡ self.old.wire }
     {
@@ -214,7 +214,7 @@ impl NetLane {
         requires buffer { length buf.old ≡ PIECE }
         requires count { IsWithin first_look }
         ensures heard { IfOk result (λ input. (first : List Answer) → ReadsFirst self.old first buf.old first_look
-            → (answers : List Answer) × Tells (W.told wires.old) (W.told wires.new) answers
+            → (answers : List Answer) × Tells (W.trace wires.old) (W.trace wires.new) answers
             × Hears self.old.wire self.old.protocol self.new.protocol (first ++ answers) input) }
         ensures right { IfOk result (IsRightInput self.new.protocol) }
         ensures others_unchanged { self.new ≡ record self.old { protocol = self.new.protocol } }
@@ -267,7 +267,7 @@ impl NetLane {
 
     fn hear<W: Wires>(&mut self, wires: &mut W, buf: &mut [u8]) -> Result<Input, AllocError>
         requires { length buf.old ≡ PIECE }
-        ensures heard { IfOk result (λ input. (answers : List Answer) × Tells (W.told wires.old) (W.told wires.new) answers
+        ensures heard { IfOk result (λ input. (answers : List Answer) × Tells (W.trace wires.old) (W.trace wires.new) answers
             × Hears self.old.wire self.old.protocol self.new.protocol answers input) }
         ensures others_unchanged { self.new ≡ record self.old { protocol = self.new.protocol } }
         ensures wires { W.wires wires.new ≡ W.wires wires.old }
@@ -287,7 +287,7 @@ impl NetLane {
     ) -> Result<Option<Event>, AllocError>
         requires live { self.old.stage ≡ Stage.Live }
         requires right { IsRightInput self.old.protocol input }
-        ensures settled { IfOk result (λ heard. (answers : List Answer) × Tells (W.told wires.old) (W.told wires.new) answers
+        ensures settled { IfOk result (λ heard. (answers : List Answer) × Tells (W.trace wires.old) (W.trace wires.new) answers
             × Settles now self.old self.new answers input heard) }
         ensures wires { W.wires wires.new ≡ W.wires wires.old }
         ensures lane { self.new.wire ≡ self.old.wire }
@@ -315,7 +315,7 @@ impl NetLane {
     /// A lane that has waited for a request for too long is lost.
     fn expire<W: Wires>(&mut self, wires: &mut W, now: u64) -> Option<Event>
         requires { self.old.stage ≡ Stage.Live }
-        ensures settled { (answers : List Answer) × Tells (W.told wires.old) (W.told wires.new) answers
+        ensures settled { (answers : List Answer) × Tells (W.trace wires.old) (W.trace wires.new) answers
             × Settles now self.old self.new answers Input.Nothing result }
         ensures wires { W.wires wires.new ≡ W.wires wires.old }
         ensures lane { self.new.wire ≡ self.old.wire }
@@ -371,7 +371,7 @@ impl NetLane {
 
     /// Shuts the wire, and what waits is dropped. A lane that was heard until now is lost.
     fn end<W: Wires>(&mut self, wires: &mut W)
-        ensures shut { Tells (W.told wires.old) (W.told wires.new) (was_shut self.old.wire ∷ []) }
+        ensures shut { Tells (W.trace wires.old) (W.trace wires.new) (was_shut self.old.wire ∷ []) }
         ensures ended { self.new ≡ record self.old { stage = after_end self.old.stage } }
         ensures wires { W.wires wires.new ≡ W.wires wires.old }
     {
@@ -387,7 +387,7 @@ impl NetLane {
     /// Writes what waits, as far as the wire takes it. The lane ends if the wire fails, if too much still waits, and if the lane only
     /// waited for this.
     pub fn say<W: Wires>(&mut self, wires: &mut W)
-        ensures said { (answers : List Answer) × Tells (W.told wires.old) (W.told wires.new) answers × Says self.old self.new answers }
+        ensures said { (answers : List Answer) × Tells (W.trace wires.old) (W.trace wires.new) answers × Says self.old self.new answers }
         ensures wires { W.wires wires.new ≡ W.wires wires.old }
         ensures lane { self.new.wire ≡ self.old.wire }
     {
@@ -400,7 +400,7 @@ impl NetLane {
     }
 
     fn write_out<W: Wires>(&mut self, wires: &mut W)
-        ensures said { (answers : List Answer) × Tells (W.told wires.old) (W.told wires.new) answers × WritesOut self.old self.new answers }
+        ensures said { (answers : List Answer) × Tells (W.trace wires.old) (W.trace wires.new) answers × WritesOut self.old self.new answers }
         ensures wires { W.wires wires.new ≡ W.wires wires.old }
         ensures lane { self.new.wire ≡ self.old.wire }
     {
@@ -413,7 +413,7 @@ impl NetLane {
 
     /// Writes what waits. The answer is false if the wire failed.
     fn write<W: Wires>(&mut self, wires: &mut W) -> bool
-        ensures written { (answers : List Answer) × Tells (W.told wires.old) (W.told wires.new) answers
+        ensures written { (answers : List Answer) × Tells (W.trace wires.old) (W.trace wires.new) answers
             × Writes self.old.wire (waits self.old) answers (waits self.new) result }
         ensures others_unchanged { IsLaneStill self.old self.new }
         ensures stage { self.new.stage ≡ self.old.stage }
@@ -430,7 +430,7 @@ impl NetLane {
 
     /// Writes what a WebSocket has to write. The answer is false if the wire failed.
     fn write_frames<W: Wires>(&mut self, wires: &mut W) -> bool
-        ensures written { (answers : List Answer) × Tells (W.told wires.old) (W.told wires.new) answers
+        ensures written { (answers : List Answer) × Tells (W.trace wires.old) (W.trace wires.new) answers
             × Writes self.old.wire (frames_of self.old.protocol) answers (frames_of self.new.protocol) result }
         ensures protocol { SpeaksAs self.old.protocol self.new.protocol }
         ensures others_unchanged { self.new ≡ record self.old { protocol = self.new.protocol } }
@@ -444,7 +444,7 @@ impl NetLane {
 
     /// After something more waits: if that is too much, the lane ends, and nothing of it is written.
     fn say_more<W: Wires>(&mut self, wires: &mut W)
-        ensures said { (answers : List Answer) × Tells (W.told wires.old) (W.told wires.new) answers × SaysMore self.old self.new answers }
+        ensures said { (answers : List Answer) × Tells (W.trace wires.old) (W.trace wires.new) answers × SaysMore self.old self.new answers }
         ensures wires { W.wires wires.new ≡ W.wires wires.old }
         ensures lane { self.new.wire ≡ self.old.wire }
     {
@@ -463,9 +463,9 @@ impl NetLane {
         now: u64,
     ) -> Result<(), AllocError>
         requires { IsReply reply.now }
-        ensures replied { OnOk result ((answers : List Answer) × Tells (W.told wires.old) (W.told wires.new) answers
+        ensures replied { OnOk result ((answers : List Answer) × Tells (W.trace wires.old) (W.trace wires.new) answers
             × Replies now reply.now self.old self.new answers) }
-        ensures unchanged { OnErr result ((self.new ≡ self.old) × (W.told wires.new ≡ W.told wires.old)) }
+        ensures unchanged { OnErr result ((self.new ≡ self.old) × (W.trace wires.new ≡ W.trace wires.old)) }
         ensures wires { W.wires wires.new ≡ W.wires wires.old }
         ensures lane { self.new.wire ≡ self.old.wire }
     {
@@ -533,9 +533,9 @@ impl NetLane {
         bytes: &[u8],
         text: bool,
     ) -> Result<(), AllocError>
-        ensures sent { OnOk result ((answers : List Answer) × Tells (W.told wires.old) (W.told wires.new) answers
+        ensures sent { OnOk result ((answers : List Answer) × Tells (W.trace wires.old) (W.trace wires.new) answers
             × Sends bytes.now text self.old self.new answers) }
-        ensures unchanged { OnErr result ((self.new ≡ self.old) × (W.told wires.new ≡ W.told wires.old)) }
+        ensures unchanged { OnErr result ((self.new ≡ self.old) × (W.trace wires.new ≡ W.trace wires.old)) }
         ensures wires { W.wires wires.new ≡ W.wires wires.old }
         ensures lane { self.new.wire ≡ self.old.wire }
     {
@@ -562,9 +562,9 @@ impl NetLane {
 
     /// Ends the lane, once what waits is written.
     pub fn shut<W: Wires>(&mut self, wires: &mut W) -> Result<(), AllocError>
-        ensures shut { OnOk result ((answers : List Answer) × Tells (W.told wires.old) (W.told wires.new) answers
+        ensures shut { OnOk result ((answers : List Answer) × Tells (W.trace wires.old) (W.trace wires.new) answers
             × Shuts self.old self.new answers) }
-        ensures unchanged { OnErr result ((self.new ≡ self.old) × (W.told wires.new ≡ W.told wires.old)) }
+        ensures unchanged { OnErr result ((self.new ≡ self.old) × (W.trace wires.new ≡ W.trace wires.old)) }
         ensures wires { W.wires wires.new ≡ W.wires wires.old }
         ensures lane { self.new.wire ≡ self.old.wire }
     {

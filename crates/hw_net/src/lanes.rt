@@ -12,7 +12,7 @@ ghost use Rattle.hw_net.specs.Lanes.{DoesHere};
 ghost use Rattle.hw_net.specs.Rising.{Rise};
 ghost use Rattle.hw_net.specs.Saying.{Says};
 ghost use Rattle.hw_net.specs.Tally.{tally_of};
-ghost use Rattle.hw_net.specs.Told.{Tells};
+ghost use Rattle.hw_net.specs.Trace.{Tells};
 ghost use Rattle.hw_net.specs.Turn.{Listens, Replies, Sends, Shuts};
 
 use crate::finding::{index_of, index_of_first};
@@ -107,16 +107,16 @@ impl Lanes {
     /// How many lanes come last in the search that begins at this number.
     pub fn index_of_first(&self, from: u64) -> usize
         requires { Rise (wires_of self.now.items) }
-        ensures { result ≡ place_of_first from self.now.items }
+        ensures { result ≡ index_of_first from self.now.items }
     {
-        place_of_first(&self.items, from)
+        index_of_first(&self.items, from)
     }
 
     /// Reads the wire of the lane of this place, if nothing else is known to be done there before more bytes come.
     pub fn read_first<W: Wires>(&self, index: usize, wires: &mut W, buf: &mut [u8]) -> FirstRead
         requires buffer { length buf.old ≡ PIECE }
         requires index { index < length self.now.items }
-        ensures reads_first { (answers : List Answer) × Tells (W.told wires.old) (W.told wires.new) answers
+        ensures reads_first { (answers : List Answer) × Tells (W.trace wires.old) (W.trace wires.new) answers
             × ReadsFirstAt index self.now.items answers buf.new result }
         ensures count { IsWithin result }
         ensures wires { W.wires wires.new ≡ W.wires wires.old }
@@ -137,7 +137,7 @@ impl Lanes {
         requires index { index < length self.old.items }
         requires count { IsWithin first_look }
         ensures turned { IfOk result (λ heard. (first : List Answer) → ReadsFirstAt index self.old.items first buf.old first_look
-            → (answers : List Answer) × Tells (W.told wires.old) (W.told wires.new) answers
+            → (answers : List Answer) × Tells (W.trace wires.old) (W.trace wires.new) answers
             × DoesHere index (λ before after said. Listens now before after (first ++ said) heard)
             self.old.items self.new.items answers) }
         ensures wires { W.wires wires.new ≡ W.wires wires.old }
@@ -153,7 +153,7 @@ impl Lanes {
     /// The lane of this place writes what waits.
     pub fn say<W: Wires>(&mut self, index: usize, wires: &mut W)
         requires { index < length self.old.items }
-        ensures said { (answers : List Answer) × Tells (W.told wires.old) (W.told wires.new) answers
+        ensures said { (answers : List Answer) × Tells (W.trace wires.old) (W.trace wires.new) answers
             × DoesHere index Says self.old.items self.new.items answers }
         ensures wires { W.wires wires.new ≡ W.wires wires.old }
         ensures lanes { wires_of self.new.items ≡ wires_of self.old.items }
@@ -178,9 +178,9 @@ impl Lanes {
         requires reply { IsReply reply.now }
         requires index { index < length self.old.items }
         ensures replied { OnOk result ((answers : List Answer)
-            × Tells (W.told wires.old) (W.told wires.new) answers
+            × Tells (W.trace wires.old) (W.trace wires.new) answers
             × DoesHere index (Replies now reply.now) self.old.items self.new.items answers) }
-        ensures unchanged { OnErr result ((self.new.items ≡ self.old.items) × (W.told wires.new ≡ W.told wires.old)) }
+        ensures unchanged { OnErr result ((self.new.items ≡ self.old.items) × (W.trace wires.new ≡ W.trace wires.old)) }
         ensures wires { W.wires wires.new ≡ W.wires wires.old }
         ensures lanes { wires_of self.new.items ≡ wires_of self.old.items }
     {
@@ -201,9 +201,9 @@ impl Lanes {
     ) -> Result<(), AllocError>
         requires { index < length self.old.items }
         ensures sent { OnOk result ((answers : List Answer)
-            × Tells (W.told wires.old) (W.told wires.new) answers
+            × Tells (W.trace wires.old) (W.trace wires.new) answers
             × DoesHere index (Sends bytes.now text) self.old.items self.new.items answers) }
-        ensures unchanged { OnErr result ((self.new.items ≡ self.old.items) × (W.told wires.new ≡ W.told wires.old)) }
+        ensures unchanged { OnErr result ((self.new.items ≡ self.old.items) × (W.trace wires.new ≡ W.trace wires.old)) }
         ensures wires { W.wires wires.new ≡ W.wires wires.old }
         ensures lanes { wires_of self.new.items ≡ wires_of self.old.items }
     {
@@ -218,9 +218,9 @@ impl Lanes {
     pub fn shut<W: Wires>(&mut self, index: usize, wires: &mut W) -> Result<(), AllocError>
         requires { index < length self.old.items }
         ensures shut { OnOk result ((answers : List Answer)
-            × Tells (W.told wires.old) (W.told wires.new) answers
+            × Tells (W.trace wires.old) (W.trace wires.new) answers
             × DoesHere index Shuts self.old.items self.new.items answers) }
-        ensures unchanged { OnErr result ((self.new.items ≡ self.old.items) × (W.told wires.new ≡ W.told wires.old)) }
+        ensures unchanged { OnErr result ((self.new.items ≡ self.old.items) × (W.trace wires.new ≡ W.trace wires.old)) }
         ensures wires { W.wires wires.new ≡ W.wires wires.old }
         ensures lanes { wires_of self.new.items ≡ wires_of self.old.items }
     {

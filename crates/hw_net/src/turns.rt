@@ -5,7 +5,7 @@ ghost use Rattle.hw_door.specs.Traffic.{Answer};
 ghost use Rattle.hw_net.specs.Door.{HearsAll};
 ghost use Rattle.hw_net.specs.Lane.{wires_of};
 ghost use Rattle.hw_net.specs.Rising.{Rise};
-ghost use Rattle.hw_net.specs.Told.{Tells};
+ghost use Rattle.hw_net.specs.Trace.{Tells};
 ghost use Rattle.hw_net.specs.Walks.{Walks, Speak};
 
 use crate::first_read::FirstRead;
@@ -34,10 +34,10 @@ fn turn_until<W: Wires>(
     requires order { begin ≤ end }
     requires places { end ≤ length lanes.old.items }
     ensures found { IfOk result (λ found. IfSome found (λ at. (begin ≤ at.next) × (at.next ≤ end)
-        × ((answers : List Answer) × Tells (W.told wires.old) (W.told wires.new) answers
+        × ((answers : List Answer) × Tells (W.trace wires.old) (W.trace wires.new) answers
         × Walks now None begin at.next lanes.old.items lanes.new.items answers (Some at.event)))) }
     ensures quiet { IfOk result (λ found. IfNone found ((answers : List Answer)
-        × Tells (W.told wires.old) (W.told wires.new) answers
+        × Tells (W.trace wires.old) (W.trace wires.new) answers
         × Walks now None begin end lanes.old.items lanes.new.items answers None)) }
     ensures buffer { length buf.new ≡ PIECE }
     ensures wires { W.wires wires.new ≡ W.wires wires.old }
@@ -62,7 +62,7 @@ fn turn_until<W: Wires>(
 fn say_all<W: Wires>(lanes: &mut Lanes, begin: usize, end: usize, wires: &mut W)
     requires order { begin ≤ end }
     requires places { end ≤ length lanes.old.items }
-    ensures said { (answers : List Answer) × Tells (W.told wires.old) (W.told wires.new) answers
+    ensures said { (answers : List Answer) × Tells (W.trace wires.old) (W.trace wires.new) answers
         × Speak begin end lanes.old.items lanes.new.items answers }
     ensures wires { W.wires wires.new ≡ W.wires wires.old }
     ensures lanes { wires_of lanes.new.items ≡ wires_of lanes.old.items }
@@ -88,7 +88,7 @@ fn turn_all<W: Wires>(
     requires order { begin ≤ end }
     requires places { end ≤ length lanes.old.items }
     ensures turned { IfOk result (λ heard. (answers : List Answer)
-        × Tells (W.told wires.old) (W.told wires.new) answers
+        × Tells (W.trace wires.old) (W.trace wires.new) answers
         × Walks now None begin end lanes.old.items lanes.new.items answers heard) }
     ensures buffer { length buf.new ≡ PIECE }
     ensures wires { W.wires wires.new ≡ W.wires wires.old }
@@ -109,8 +109,8 @@ pub fn turn_from<W: Wires>(
     now: u64,
 ) -> Result<Option<Event>, AllocError>
     requires { Rise (wires_of lanes.old.items) }
-    ensures hears { IfOk result (λ told. (answers : List Answer) × Tells (W.told wires.old) (W.told wires.new) answers
-        × HearsAll now from lanes.old.items lanes.new.items answers told) }
+    ensures hears { IfOk result (λ trace. (answers : List Answer) × Tells (W.trace wires.old) (W.trace wires.new) answers
+        × HearsAll now from lanes.old.items lanes.new.items answers trace) }
     ensures wires { W.wires wires.new ≡ W.wires wires.old }
     ensures lanes { wires_of lanes.new.items ≡ wires_of lanes.old.items }
 {

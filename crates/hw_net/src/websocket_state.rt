@@ -8,7 +8,7 @@ ghost use Rattle.hw_socket.specs.Sending.{after_shut};
 ghost use Rattle.hw_net.specs.declared.limits.TheConstants.{PIECE};
 ghost use Rattle.hw_net.specs.Saying.{Writes};
 ghost use Rattle.hw_net.specs.WebSocketState.{HearsWebSocket, ReadsInto, Finds, IsCalm};
-ghost use Rattle.hw_net.specs.Told.{Tells, Reads};
+ghost use Rattle.hw_net.specs.Trace.{Tells, Reads};
 ghost use Rattle.hw_net.specs.Turn.{IsRightInput};
 
 use crate::input::Input;
@@ -68,7 +68,7 @@ impl WebSocketState {
         buf: &mut [u8],
     ) -> Result<Input, AllocError>
         requires { length buf.old ≡ PIECE }
-        ensures heard { IfOk result (λ input. (answers : List Answer) × Tells (W.told wires.old) (W.told wires.new) answers
+        ensures heard { IfOk result (λ input. (answers : List Answer) × Tells (W.trace wires.old) (W.trace wires.new) answers
             × HearsWebSocket wire self.old self.new answers input) }
         ensures wires { W.wires wires.new ≡ W.wires wires.old }
     {
@@ -86,7 +86,7 @@ impl WebSocketState {
         buf: &mut [u8],
     ) -> Result<bool, AllocError>
         requires { length buf.old ≡ PIECE }
-        ensures read { IfOk result (λ is_whole. (answers : List Answer) × Tells (W.told wires.old) (W.told wires.new) answers
+        ensures read { IfOk result (λ is_whole. (answers : List Answer) × Tells (W.trace wires.old) (W.trace wires.new) answers
             × ReadsInto wire self.old self.new answers is_whole) }
         ensures wires { W.wires wires.new ≡ W.wires wires.old }
     {
@@ -154,7 +154,7 @@ impl WebSocketState {
 
     /// Writes what is to be written, as far as the wire takes it. The answer is false if the wire failed.
     pub fn write<W: Wires>(&mut self, wires: &mut W, wire: u64) -> bool
-        ensures writes { (answers : List Answer) × Tells (W.told wires.old) (W.told wires.new) answers
+        ensures writes { (answers : List Answer) × Tells (W.trace wires.old) (W.trace wires.new) answers
             × Writes wire self.old.lane.out.bytes answers self.new.lane.out.bytes result }
         ensures others_unchanged { self.new ≡ record self.old { lane = record self.old.lane { out = record self.old.lane.out { bytes = self.new.lane.out.bytes } } } }
         ensures wires { W.wires wires.new ≡ W.wires wires.old }

@@ -3,14 +3,14 @@
 ghost use Rattle.std.specs.Prelude.{◌≡◌, List};
 ghost use Rattle.hw_door.specs.Traffic.{Answer};
 ghost use Rattle.hw_net.specs.Saying.{Writes};
-ghost use Rattle.hw_net.specs.Told.{Tells};
+ghost use Rattle.hw_net.specs.Trace.{Tells};
 
 use hw_door::Wires;
 use hw_socket::SocketLane;
 
 /// Writes the bytes until none are left, the wire takes none, or it fails. What it took is dropped. The answer is false if it failed.
 pub fn write_bytes<W: Wires>(wires: &mut W, wire: u64, bytes: &mut Vec<u8>) -> bool
-    ensures writes { (answers : List Answer) × Tells (W.told wires.old) (W.told wires.new) answers
+    ensures writes { (answers : List Answer) × Tells (W.trace wires.old) (W.trace wires.new) answers
         × Writes wire bytes.old.items answers bytes.new.items result }
     ensures wires { W.wires wires.new ≡ W.wires wires.old }
 {
@@ -28,7 +28,7 @@ pub fn write_bytes<W: Wires>(wires: &mut W, wire: u64, bytes: &mut Vec<u8>) -> b
 
 /// The same of what a WebSocket has to write.
 pub fn write_frames<W: Wires>(wires: &mut W, wire: u64, lane: &mut SocketLane) -> bool
-    ensures writes { (answers : List Answer) × Tells (W.told wires.old) (W.told wires.new) answers
+    ensures writes { (answers : List Answer) × Tells (W.trace wires.old) (W.trace wires.new) answers
         × Writes wire lane.old.out.bytes answers lane.new.out.bytes result }
     ensures others_unchanged { lane.new ≡ record lane.old { out = record lane.old.out { bytes = lane.new.out.bytes } } }
     ensures wires { W.wires wires.new ≡ W.wires wires.old }

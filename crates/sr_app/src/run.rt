@@ -233,9 +233,9 @@ fn run_serve<K: Sink, D: Door, R: Keeper, L: Lots>(
     lots: &mut L,
 ) -> Status
     ensures serves { EndsServing serving result
-        (environment (K.holds out.old) (K.faults out.old) (D.told door.old) (D.moment door.old) (D.faults door.old)
+        (environment (K.holds out.old) (K.faults out.old) (D.trace door.old) (D.moment door.old) (D.faults door.old)
         (outside (R.holds keeper.old) (R.answers keeper.old) (R.faults keeper.old) (L.drawn lots.old) (L.faults lots.old)))
-        (environment (K.holds out.new) (K.faults out.new) (D.told door.new) (D.moment door.new) (D.faults door.new)
+        (environment (K.holds out.new) (K.faults out.new) (D.trace door.new) (D.moment door.new) (D.faults door.new)
         (outside (R.holds keeper.new) (R.answers keeper.new) (R.faults keeper.new) (L.drawn lots.new) (L.faults lots.new))) }
     ensures unwritten { result ≡ Status.KeeperFault → out.new ≡ out.old }
     ensures unheard { (result ≡ Status.KeeperFault) ⊎ (result ≡ Status.WriteFault) → (door.new ≡ door.old) × (lots.new ≡ lots.old) }
@@ -268,9 +268,9 @@ fn carry_out<S: Source, K: Sink, D: Door, R: Keeper, L: Lots>(
     ensures untouched { WritesOnce command → (result ≡ Status.ReadFault) ⊎ (result ≡ Status.NoMemory) → out.new ≡ out.old }
     ensures unread { ReadsNothing command → input.new ≡ input.old }
     ensures serves { (serving : Serving) → command ≡ Serve serving → EndsServing serving result
-        (environment (K.holds out.old) (K.faults out.old) (D.told door.old) (D.moment door.old) (D.faults door.old)
+        (environment (K.holds out.old) (K.faults out.old) (D.trace door.old) (D.moment door.old) (D.faults door.old)
         (outside (R.holds keeper.old) (R.answers keeper.old) (R.faults keeper.old) (L.drawn lots.old) (L.faults lots.old)))
-        (environment (K.holds out.new) (K.faults out.new) (D.told door.new) (D.moment door.new) (D.faults door.new)
+        (environment (K.holds out.new) (K.faults out.new) (D.trace door.new) (D.moment door.new) (D.faults door.new)
         (outside (R.holds keeper.new) (R.answers keeper.new) (R.faults keeper.new) (L.drawn lots.new) (L.faults lots.new))) }
     ensures unwritten { result ≡ Status.KeeperFault → out.new ≡ out.old }
     ensures unheard { ServesNothing command ⊎ (result ≡ Status.KeeperFault) ⊎ (result ≡ Status.WriteFault)
@@ -332,9 +332,9 @@ pub fn run<S: Source, K: Sink, D: Door, R: Keeper, L: Lots>(
     // What `serve` did, by its status: so 5 comes only if the door's count rose, and 6 only if the keeper's did at the first question.
     ensures serves { (serving : Serving) → Asks words.now (Serve serving) → (status : Status) × (result ≡ code_of status)
         × EndsServing serving status
-        (environment (K.holds out.old) (K.faults out.old) (D.told door.old) (D.moment door.old) (D.faults door.old)
+        (environment (K.holds out.old) (K.faults out.old) (D.trace door.old) (D.moment door.old) (D.faults door.old)
         (outside (R.holds keeper.old) (R.answers keeper.old) (R.faults keeper.old) (L.drawn lots.old) (L.faults lots.old)))
-        (environment (K.holds out.new) (K.faults out.new) (D.told door.new) (D.moment door.new) (D.faults door.new)
+        (environment (K.holds out.new) (K.faults out.new) (D.trace door.new) (D.moment door.new) (D.faults door.new)
         (outside (R.holds keeper.new) (R.answers keeper.new) (R.faults keeper.new) (L.drawn lots.new) (L.faults lots.new))) }
     ensures serve_fault { (result ≡ 5) ⊎ (result ≡ 6) → (serving : Serving) × Asks words.now (Serve serving) }
     ensures door_unfailed { result ≢ 5 → D.faults door.new ≡ D.faults door.old }

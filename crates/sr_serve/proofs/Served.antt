@@ -45,7 +45,7 @@ pub serves_by : ServersArePeers ServeJob → HoldsOverBytes → {H : Type 0} (ba
     (server after : Server H ServeJob) → IfSome before.kept.holds (λ content. rows ≡ row_count content.rows)
     → Appends before.holds now.holds (serving_line rows) → at ≡ counted rows before.kept
     → ((s : Setup) → IsSetup s base → StandsServer serve_hub s server [])
-    → HasServed serve_hub server after at now.kept before.told now.told before.heard_at now.heard_at turns why
+    → HasServed serve_hub server after at now.kept before.trace now.trace before.heard_at now.heard_at turns why
     → Serves base turns why before now
 serves_by peers delivers base turns rows why before now at server after are_rows line same stands has = record {
   rows = rows;
@@ -54,7 +54,7 @@ serves_by peers delivers base turns rows why before now at server after are_rows
   heard = has.heard;
   waits = has.waits;
   given = has.given;
-  told = has.told;
+  trace = has.trace;
   count = has.count;
   serves = λ s setup. subst (λ a. ServesOn serve_hub s (is_some why) (IsServed a now.kept now.heard_at) (IfMemoryEnds why (IsCut a now.heard_at)) [] has.heard has.waits has.given) same
       (served_on serve_hub s (is_some why) _ _ _ _ (at_end peers delivers s after at now.kept now.heard_at) (cut_off peers delivers s after at now.heard_at why)

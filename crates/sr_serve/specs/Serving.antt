@@ -10,7 +10,7 @@ use Rattle.hk_keeper.specs.declared.keeper.KeepError.{KeepError}
 use Rattle.hk_keeper.specs.declared.keeper.KeepError.TheVariants as keep
 use Rattle.hw_door.specs.declared.heard.Given.{Given}
 use Rattle.hw_door.specs.declared.heard.Heard.{Heard}
-use Rattle.hw_door.specs.Calls.{Told}
+use Rattle.hw_door.specs.Calls.{Trace}
 use Rattle.hd_server.specs.Doings.{ServerEvent, moment}
 use Rattle.hd_server.specs.Plans.{Setup}
 use Rattle.hd_server.specs.Serving.{ServesOn}
@@ -34,14 +34,14 @@ serving_line rows = codes "serving " ++ decimal rows ++ codes "\n"
 pub record Environment : Type 0 where
   pub holds : Option (List ℕ)
   pub sink_faults : ℕ
-  pub told : Option Told
+  pub trace : Option Trace
   pub heard_at : ℕ
   pub door_faults : ℕ
   pub kept : Outside
 
-abbrev pub environment : Option (List ℕ) → ℕ → Option Told → ℕ → ℕ → Outside → Environment
-environment holds sink_faults told heard_at door_faults kept =
-    record { holds = holds; sink_faults = sink_faults; told = told; heard_at = heard_at; door_faults = door_faults; kept = kept }
+abbrev pub environment : Option (List ℕ) → ℕ → Option Trace → ℕ → ℕ → Outside → Environment
+environment holds sink_faults trace heard_at door_faults kept =
+    record { holds = holds; sink_faults = sink_faults; trace = trace; heard_at = heard_at; door_faults = door_faults; kept = kept }
 
 -- the keeper was asked how many rows there are, and answered this
 abbrev pub counted : ℕ → Outside → Outside
@@ -69,7 +69,7 @@ pub record Serves (base : List ℕ) (turns : ℕ) (why : Option ServeFault) (bef
   pub heard : List Heard
   pub waits : List ℕ
   pub given : List Given
-  pub told : TellsMore before.told now.told heard waits given
+  pub trace : TellsMore before.trace now.trace heard waits given
   pub count : AreTurns why turns (length heard)
   pub serves : (s : Setup) → IsSetup s base → ServesOn serve_hub s (is_some why)
       (IsServed (counted rows before.kept) now.kept now.heard_at) (IfMemoryEnds why (IsCut (counted rows before.kept) now.heard_at)) [] heard waits given
@@ -85,7 +85,7 @@ pub record BreaksOff (before now : Environment) : Type 0 where
 -- nothing was written or heard
 pub record IsUntouched (before now : Environment) : Type 0 where
   pub holds : now.holds ≡ before.holds
-  pub told : now.told ≡ before.told
+  pub trace : now.trace ≡ before.trace
   pub heard_at : now.heard_at ≡ before.heard_at
 
 -- the keeper wasn't asked, or it was asked for its rows and told how many there are

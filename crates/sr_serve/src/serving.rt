@@ -96,9 +96,9 @@ pub fn serve_hub<K: Sink, D: Door, R: Keeper, L: Lots>(
     lots: &mut L,
 ) -> Result<(), ServeError>
     ensures ends { Ends base turns
-        (environment (K.holds out.old) (K.faults out.old) (D.told door.old) (D.moment door.old) (D.faults door.old)
+        (environment (K.holds out.old) (K.faults out.old) (D.trace door.old) (D.moment door.old) (D.faults door.old)
         (outside (R.holds keeper.old) (R.answers keeper.old) (R.faults keeper.old) (L.drawn lots.old) (L.faults lots.old)))
-        (environment (K.holds out.new) (K.faults out.new) (D.told door.new) (D.moment door.new) (D.faults door.new)
+        (environment (K.holds out.new) (K.faults out.new) (D.trace door.new) (D.moment door.new) (D.faults door.new)
         (outside (R.holds keeper.new) (R.answers keeper.new) (R.faults keeper.new) (L.drawn lots.new) (L.faults lots.new)))
         result }
     ensures unwritten { result ≡ Err end.Keeper → out.new ≡ out.old }

@@ -11,7 +11,7 @@ pub loop-word-init : goal.loop-word-init
 loop-word-init g c = record {
   are = c.into_iter-word-iterator.ensures.into_iter_gives.0;
   replies = subst AreReplies (sym c.into_iter-word-iterator.ensures.into_iter_gives.0) c.requires;
-  given = gives_start (g.D.Door.told c.args.door.now);
+  given = gives_start (g.D.Door.trace c.args.door.now);
   still = refl;
   unfailed = refl;
 }
@@ -27,7 +27,7 @@ loop-word-preserved g c = record {
       ∙ ap (λ l. c.loop-word.yielded ++ l) (sym c.in-Some.ensures.steps.0) ∙ c.loop-word.invariant.are;
   replies = later_replies c.in-Some.word (into_iter_items c.next.new.self) (subst AreReplies c.in-Some.ensures.steps.0 c.loop-word.invariant.replies);
   given =
-      gives_more (g.D.Door.told c.args.door.now) (g.D.Door.told c.loop-word.door) (g.D.Door.told c.give.new.door) c.loop-word.yielded
+      gives_more (g.D.Door.trace c.args.door.now) (g.D.Door.trace c.loop-word.door) (g.D.Door.trace c.give.new.door) c.loop-word.yielded
       (c.in-Some.word ∷ [])
       c.loop-word.invariant.given c.in_ok-give.ensures.given;
   still = c.in_ok-give.ensures.others_unchanged ∙ c.loop-word.invariant.still;
@@ -36,11 +36,11 @@ loop-word-preserved g c = record {
 
 pub returns-in_err-give-clause-given : goal.returns-in_err-give-clause-given
 returns-in_err-give-clause-given g c =
-    subst (λ ok. GivesAll (g.D.Door.told c.args.door.now) (g.D.Door.told c.give.new.door) c.args.words.items ok)
+    subst (λ ok. GivesAll (g.D.Door.trace c.args.door.now) (g.D.Door.trace c.give.new.door) c.args.words.items ok)
     (sym (unok c.from_residual.result c.from_residual.ensures.0))
-    (subst (λ l. GivesAll (g.D.Door.told c.args.door.now) (g.D.Door.told c.give.new.door) l _)
+    (subst (λ l. GivesAll (g.D.Door.trace c.args.door.now) (g.D.Door.trace c.give.new.door) l _)
     (ap (λ l. c.loop-word.yielded ++ l) (sym c.in-Some.ensures.steps.0) ∙ c.loop-word.invariant.are)
-    (gives_short (g.D.Door.told c.args.door.now) (g.D.Door.told c.loop-word.door) (g.D.Door.told c.give.new.door) c.loop-word.yielded
+    (gives_short (g.D.Door.trace c.args.door.now) (g.D.Door.trace c.loop-word.door) (g.D.Door.trace c.give.new.door) c.loop-word.yielded
     (c.in-Some.word ∷ [])
     (into_iter_items c.next.new.self) c.loop-word.invariant.given c.in_err-give.ensures.given))
 
@@ -55,7 +55,7 @@ returns-in_err-give-clause-cause g c =
 pub returns-clause-given : goal.returns-clause-given
 returns-clause-given g c =
     let all : c.loop-word.yielded ≡ c.args.words.items = grind (arith, common_steps) in
-    subst (λ l. GivesAll (g.D.Door.told c.args.door.now) (g.D.Door.told c.loop-word.door) l true) all c.loop-word.invariant.given
+    subst (λ l. GivesAll (g.D.Door.trace c.args.door.now) (g.D.Door.trace c.loop-word.door) l true) all c.loop-word.invariant.given
 
 pub returns-clause-others_unchanged : goal.returns-clause-others_unchanged
 returns-clause-others_unchanged g c = c.loop-word.invariant.still

@@ -11,7 +11,7 @@ loop-turn-init g c = record {
       served_none {H = g.row.H.Denot} {Job = g.row.H-Job.Denot} (meaning g.H.Hub.begin_of g.H.Hub.step_of) c.args.server.now
       (outside (g.K.Keeper.holds c.args.keeper.now) (g.K.Keeper.answers c.args.keeper.now) (g.K.Keeper.faults c.args.keeper.now)
       (g.L.Lots.drawn c.args.lots.now) (g.L.Lots.faults c.args.lots.now))
-      (g.D.Door.told c.args.door.now) (g.D.Door.moment c.args.door.now);
+      (g.D.Door.trace c.args.door.now) (g.D.Door.moment c.args.door.now);
   ended = λ e. (refl, e);
   unfailed = refl;
 }

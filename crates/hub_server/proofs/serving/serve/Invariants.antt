@@ -10,7 +10,7 @@ invariant-loop-turn g l = record {
       (outside (g.K.Keeper.holds l.fn.keeper) (g.K.Keeper.answers l.fn.keeper) (g.K.Keeper.faults l.fn.keeper) (g.L.Lots.drawn l.fn.lots)
       (g.L.Lots.faults l.fn.lots))
       (outside (g.K.Keeper.holds l.keeper) (g.K.Keeper.answers l.keeper) (g.K.Keeper.faults l.keeper) (g.L.Lots.drawn l.lots) (g.L.Lots.faults l.lots))
-      (g.D.Door.told l.fn.door) (g.D.Door.told l.door) (g.D.Door.moment l.fn.door) (g.D.Door.moment l.door) l._turn None;
+      (g.D.Door.trace l.fn.door) (g.D.Door.trace l.door) (g.D.Door.moment l.fn.door) (g.D.Door.moment l.door) l._turn None;
   ended : l.fn.server.is_ended ≡ true → (l._turn ≡ 0) × (l.server.is_ended ≡ true);
   unfailed : g.D.Door.faults l.door ≡ g.D.Door.faults l.fn.door;
 }

@@ -16,7 +16,7 @@ returns-in_err-heard-clause-served g c =
     (λ why. served_nothing {H = g.row.H.Denot} {Job = g.row.H-Job.Denot} (meaning g.H.Hub.begin_of g.H.Hub.step_of) c.args.server.now
     (outside (g.K.Keeper.holds c.args.keeper.now) (g.K.Keeper.answers c.args.keeper.now) (g.K.Keeper.faults c.args.keeper.now)
     (g.L.Lots.drawn c.args.lots.now) (g.L.Lots.faults c.args.lots.now))
-    (g.D.Door.told c.args.door.now) (g.D.Door.told c.next.new.self) (g.D.Door.moment c.args.door.now) (g.D.Door.moment c.next.new.self) why
+    (g.D.Door.trace c.args.door.now) (g.D.Door.trace c.next.new.self) (g.D.Door.moment c.args.door.now) (g.D.Door.moment c.next.new.self) why
     c.in_err-heard.ensures.heard c.in_err-heard.ensures.later)
 
 pub returns-in_err-heard-clause-ended : goal.returns-in_err-heard-clause-ended
@@ -35,7 +35,7 @@ returns-in_err-words-clause-served g c =
     (g.L.Lots.drawn c.args.lots.now) (g.L.Lots.faults c.args.lots.now))
     (outside (g.K.Keeper.holds c.step.new.keeper) (g.K.Keeper.answers c.step.new.keeper) (g.K.Keeper.faults c.step.new.keeper)
     (g.L.Lots.drawn c.step.new.lots) (g.L.Lots.faults c.step.new.lots))
-    (g.D.Door.told c.args.door.now) (g.D.Door.told c.next.new.self) (g.D.Door.told c.next.new.self) (g.D.Door.moment c.args.door.now)
+    (g.D.Door.trace c.args.door.now) (g.D.Door.trace c.next.new.self) (g.D.Door.trace c.next.new.self) (g.D.Door.moment c.args.door.now)
     (g.D.Door.moment c.next.new.self) c.if-idle.wait c.in_ok-heard.heard c.in_ok-heard.ensures.heard c.in_ok-heard.ensures.later
     c.in_err-words.ensures.ended
     (λ s h stands. elim c.if-idle.branch [
@@ -59,7 +59,7 @@ returns-clause-served g c =
     (g.L.Lots.drawn c.args.lots.now) (g.L.Lots.faults c.args.lots.now))
     (outside (g.K.Keeper.holds c.step.new.keeper) (g.K.Keeper.answers c.step.new.keeper) (g.K.Keeper.faults c.step.new.keeper)
     (g.L.Lots.drawn c.step.new.lots) (g.L.Lots.faults c.step.new.lots))
-    (g.D.Door.told c.args.door.now) (g.D.Door.told c.next.new.self) (g.D.Door.told c.give_all.new.door) (g.D.Door.moment c.args.door.now)
+    (g.D.Door.trace c.args.door.now) (g.D.Door.trace c.next.new.self) (g.D.Door.trace c.give_all.new.door) (g.D.Door.moment c.args.door.now)
     (g.D.Door.moment c.give_all.new.door) c.if-idle.wait c.in_ok-heard.heard c.give_all.result c.in_ok-words.words.items
     c.in_ok-heard.ensures.heard (c.in_ok-heard.ensures.later.0, c.give_all.ensures.others_unchanged ∙ c.in_ok-heard.ensures.later.1)
     c.in_ok-words.ensures.turn

@@ -3,7 +3,7 @@ use Rattle.hw_net.proofs.turns.turn_all.Goals as goal
 
 pub returns-clause-turned : goal.returns-clause-turned
 returns-clause-turned g c =
-    let told = g.W.Wires.told in
+    let trace = g.W.Wires.trace in
     let found = rw c.in-Some.is at c.in_ok-found.ensures.found in
-    walks-speak (told c.args.wires.now) (told c.turn_until.new.wires) (told c.say_all.new.wires) c.args.now c.args.begin c.in-Some.found.next c.args.end c.args.lanes.now.items
+    walks-speak (trace c.args.wires.now) (trace c.turn_until.new.wires) (trace c.say_all.new.wires) c.args.now c.args.begin c.in-Some.found.next c.args.end c.args.lanes.now.items
     c.turn_until.new.lanes.items c.say_all.new.lanes.items c.in-Some.found.event found.0 found.1 found.2 c.say_all.ensures.said

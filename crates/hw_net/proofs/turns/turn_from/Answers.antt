@@ -1,32 +1,32 @@
 use Rattle.std.proofs.Common.{rules, ◌≡◌, List, None, Some, length, subst}
 use Rattle.hw_door.specs.Traffic.{Answer}
-use Rattle.hw_net.specs.Told.{Tells}
+use Rattle.hw_net.specs.Trace.{Tells}
 use Rattle.hw_net.specs.Walks.{Walks}
 use Rattle.hw_net.proofs.Walking.{hears-both, hears-or-fails, same-length}
 use Rattle.hw_net.proofs.turns.turn_from.Goals as goal
 
 pub returns-in_default-clause-hears : goal.returns-in_default-clause-hears
 returns-in_default-clause-hears g c =
-    let told = g.W.Wires.told in
+    let trace = g.W.Wires.trace in
     let all = c.args.lanes.now.items in
     let cur = c.turn_all.new.lanes.items in
     let none : c.in_ok-event.field-0 ≡ None = search rules in
     let end_is : c.len-end.result ≡ length all = search rules in
-    let walked = subst (λ n. (answers : List Answer) × Tells (told c.args.wires.now) (told c.turn_all.new.wires) answers × Walks c.args.now None c.index_of_first-index.result n all cur answers None) end_is
+    let walked = subst (λ n. (answers : List Answer) × Tells (trace c.args.wires.now) (trace c.turn_all.new.wires) answers × Walks c.args.now None c.index_of_first-index.result n all cur answers None) end_is
     (rw none at c.in_ok-event.ensures.turned) in
-    hears-or-fails (told c.args.wires.now) (told c.turn_all.new.wires) (told c.turn_all-in_default.new.wires) c.args.now c.args.from c.index_of_first-index.result all cur
+    hears-or-fails (trace c.args.wires.now) (trace c.turn_all.new.wires) (trace c.turn_all-in_default.new.wires) c.args.now c.args.from c.index_of_first-index.result all cur
     c.turn_all-in_default.new.lanes.items c.turn_all-in_default.result c.index_of_first-index.ensures (same-length cur all c.turn_all.ensures.lanes) walked c.turn_all-in_default.ensures.turned
 
 pub returns-clause-hears : goal.returns-clause-hears
 returns-clause-hears g c =
-    let told = g.W.Wires.told in
+    let trace = g.W.Wires.trace in
     let all = c.args.lanes.now.items in
     let cur = c.turn_all.new.lanes.items in
     let end_is : c.len-end.result ≡ length all = search rules in
-    let walked = subst (λ n. (answers : List Answer) × Tells (told c.args.wires.now) (told c.turn_all.new.wires) answers
+    let walked = subst (λ n. (answers : List Answer) × Tells (trace c.args.wires.now) (trace c.turn_all.new.wires) answers
     × Walks c.args.now None c.index_of_first-index.result n all cur answers (Some c.in-Some.event)) end_is
     (rw c.in-Some.is at c.in_ok-event.ensures.turned) in
     let said = c.say_all.ensures.said in
-    hears-both (told c.args.wires.now) (told c.turn_all.new.wires) (told c.say_all.new.wires) c.args.now c.args.from c.index_of_first-index.result all cur
+    hears-both (trace c.args.wires.now) (trace c.turn_all.new.wires) (trace c.say_all.new.wires) c.args.now c.args.from c.index_of_first-index.result all cur
     c.say_all.new.lanes.items (Some c.in-Some.event) (Some c.in-Some.event) c.index_of_first-index.ensures (same-length cur all c.turn_all.ensures.lanes) walked
     (said.0, said.1, said.2 c.args.now c.in-Some.event)

@@ -5,25 +5,25 @@ use Rattle.hw_net.proofs.turns.turn_until.Goals as goal
 
 pub returns-in-Some-clause-found : goal.returns-in-Some-clause-found
 returns-in-Some-clause-found g c =
-    let told = g.W.Wires.told in
+    let trace = g.W.Wires.trace in
     let within : c.loop-index.index < length c.args.lanes.now.items = search rules in
     let same = same-length c.loop-index.lanes.items c.args.lanes.now.items c.loop-index.invariant.4 in
     let inside : c.loop-index.index < length c.loop-index.lanes.items = omega (arith, within, same) in (
       search rules,
       search rules,
-      walks-after-look (told c.args.wires.now) (told c.loop-index.wires) (told c.read_first-first_look.new.wires) (told c.turn.new.wires) c.args.now (Some c.in-Some.event) c.args.begin c.loop-index.index
+      walks-after-look (trace c.args.wires.now) (trace c.loop-index.wires) (trace c.read_first-first_look.new.wires) (trace c.turn.new.wires) c.args.now (Some c.in-Some.event) c.args.begin c.loop-index.index
           c.args.lanes.now.items c.loop-index.lanes.items c.turn.new.self.items c.read_first-first_look.new.buf c.read_first-first_look.result c.loop-index.invariant.1 within inside c.loop-index.invariant.0
           c.read_first-first_look.ensures.reads_first (rw c.in-Some.is at c.in_ok-event.ensures.turned),
     )
 
 pub loop-index-preserved : goal.loop-index-preserved
 loop-index-preserved g c =
-    let told = g.W.Wires.told in
+    let trace = g.W.Wires.trace in
     let within : c.loop-index.index < length c.args.lanes.now.items = search rules in
     let same = same-length c.loop-index.lanes.items c.args.lanes.now.items c.loop-index.invariant.4 in
     let inside : c.loop-index.index < length c.loop-index.lanes.items = omega (arith, within, same) in
     let none : c.in_ok-event.field-0 ≡ None = search rules in (
-      walks-after-look (told c.args.wires.now) (told c.loop-index.wires) (told c.read_first-first_look.new.wires) (told c.turn.new.wires) c.args.now None c.args.begin c.loop-index.index
+      walks-after-look (trace c.args.wires.now) (trace c.loop-index.wires) (trace c.read_first-first_look.new.wires) (trace c.turn.new.wires) c.args.now None c.args.begin c.loop-index.index
           c.args.lanes.now.items c.loop-index.lanes.items c.turn.new.self.items c.read_first-first_look.new.buf c.read_first-first_look.result c.loop-index.invariant.1 within inside c.loop-index.invariant.0
           c.read_first-first_look.ensures.reads_first (rw none at c.in_ok-event.ensures.turned),
       search rules,
@@ -34,11 +34,11 @@ loop-index-preserved g c =
 
 pub loop-index-preserved-then-eq : goal.loop-index-preserved-then-eq
 loop-index-preserved-then-eq g c =
-    let told = g.W.Wires.told in
+    let trace = g.W.Wires.trace in
     let within : c.loop-index.index < length c.args.lanes.now.items = search rules in
     let same = same-length c.loop-index.lanes.items c.args.lanes.now.items c.loop-index.invariant.4 in
     let inside : c.loop-index.index < length c.loop-index.lanes.items = omega (arith, within, same) in (
-      walks-still (told c.args.wires.now) (told c.loop-index.wires) (told c.read_first-first_look.new.wires) c.args.now c.args.begin c.loop-index.index
+      walks-still (trace c.args.wires.now) (trace c.loop-index.wires) (trace c.read_first-first_look.new.wires) c.args.now c.args.begin c.loop-index.index
           c.args.lanes.now.items c.loop-index.lanes.items c.read_first-first_look.new.buf c.read_first-first_look.result c.loop-index.invariant.1 within inside
           (λ lane first reads_first. calm-listens c.args.now lane first c.read_first-first_look.new.buf reads_first) (search rules) c.loop-index.invariant.0 c.read_first-first_look.ensures.reads_first,
       search rules,

@@ -1,12 +1,12 @@
 use Rattle.std.proofs.Common.{◌≡◌, List, length}
 use Rattle.hw_door.specs.Traffic.{Answer}
-use Rattle.hw_net.specs.Told.{Tells}
+use Rattle.hw_net.specs.Trace.{Tells}
 use Rattle.hw_net.proofs.Writings.{Continues}
 use Rattle.hw_net.proofs.writing.write_bytes.Given as goal
 
 abbrev pub invariant-loop-wires : goal.invariant-loop-wires
 invariant-loop-wires g l =
-    ((answers : List Answer) × Tells (g.W.Wires.told l.initial.wires) (g.W.Wires.told l.wires) answers
+    ((answers : List Answer) × Tells (g.W.Wires.trace l.initial.wires) (g.W.Wires.trace l.wires) answers
     × Continues l.wire l.initial.bytes.items answers l.bytes.items)
     × (g.W.Wires.wires l.wires ≡ g.W.Wires.wires l.initial.wires)
 

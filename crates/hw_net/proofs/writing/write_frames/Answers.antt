@@ -4,29 +4,29 @@ use Rattle.hw_net.proofs.writing.write_frames.Goals as goal
 
 pub returns-in-Ok-eq0-clause-writes : goal.returns-in-Ok-eq0-clause-writes
 returns-in-Ok-eq0-clause-writes g c =
-    let told = g.W.Wires.told in
+    let trace = g.W.Wires.trace in
     let some : c.loop-wires.lane.out.bytes ≢ [] = search rules in
-    stop-zero (told c.args.wires.now) (told c.loop-wires.wires) (told c.write.new.self) c.args.wire c.in-Ok-eq0.field-0 c.args.lane.now.out.bytes c.loop-wires.lane.out.bytes c.out-in-loop-wires.result.now c.loop-wires.invariant.0 some
-    (search rules) (rw c.in-Ok-eq0.field-0-is at c.in-Ok-eq0.ensures.told)
+    stop-zero (trace c.args.wires.now) (trace c.loop-wires.wires) (trace c.write.new.self) c.args.wire c.in-Ok-eq0.field-0 c.args.lane.now.out.bytes c.loop-wires.lane.out.bytes c.out-in-loop-wires.result.now c.loop-wires.invariant.0 some
+    (search rules) (rw c.in-Ok-eq0.field-0-is at c.in-Ok-eq0.ensures.trace)
 
 pub loop-wires-preserved : goal.loop-wires-preserved
 loop-wires-preserved g c =
-    let told = g.W.Wires.told in (
-      go-on (told c.args.wires.now) (told c.loop-wires.wires) (told c.write.new.self) c.args.wire c.in-Ok.count c.args.lane.now.out.bytes c.loop-wires.lane.out.bytes c.out-in-loop-wires.result.now
-          c.drop_out.new.self.out.bytes c.loop-wires.invariant.0 (search rules) (search rules) (search rules) c.in-Ok.ensures.told (search rules),
+    let trace = g.W.Wires.trace in (
+      go-on (trace c.args.wires.now) (trace c.loop-wires.wires) (trace c.write.new.self) c.args.wire c.in-Ok.count c.args.lane.now.out.bytes c.loop-wires.lane.out.bytes c.out-in-loop-wires.result.now
+          c.drop_out.new.self.out.bytes c.loop-wires.invariant.0 (search rules) (search rules) (search rules) c.in-Ok.ensures.trace (search rules),
       search rules,
       search rules,
     )
 
 pub returns-in-Err-clause-writes : goal.returns-in-Err-clause-writes
 returns-in-Err-clause-writes g c =
-    let told = g.W.Wires.told in
+    let trace = g.W.Wires.trace in
     let some : c.loop-wires.lane.out.bytes ≢ [] = search rules in
-    stop-failed (told c.args.wires.now) (told c.loop-wires.wires) (told c.write.new.self) c.args.wire c.args.lane.now.out.bytes c.loop-wires.lane.out.bytes c.loop-wires.invariant.0 some c.in-Err.ensures.told
+    stop-failed (trace c.args.wires.now) (trace c.loop-wires.wires) (trace c.write.new.self) c.args.wire c.args.lane.now.out.bytes c.loop-wires.lane.out.bytes c.loop-wires.invariant.0 some c.in-Err.ensures.trace
 
 pub returns-clause-writes : goal.returns-clause-writes
 returns-clause-writes g c =
-    let told = g.W.Wires.told in
+    let trace = g.W.Wires.trace in
     let zero : length c.loop-wires.lane.out.bytes ≡ 0 = search rules in
     let none : c.loop-wires.lane.out.bytes ≡ [] = none-left c.loop-wires.lane.out.bytes zero in
-    stop-empty (told c.args.wires.now) (told c.loop-wires.wires) c.args.wire c.args.lane.now.out.bytes c.loop-wires.lane.out.bytes c.loop-wires.invariant.0 none
+    stop-empty (trace c.args.wires.now) (trace c.loop-wires.wires) c.args.wire c.args.lane.now.out.bytes c.loop-wires.lane.out.bytes c.loop-wires.invariant.0 none

@@ -1,12 +1,12 @@
 use Rattle.std.proofs.Common.{◌≡◌, List, length}
 use Rattle.hw_door.specs.Traffic.{Answer}
-use Rattle.hw_net.specs.Told.{Tells}
+use Rattle.hw_net.specs.Trace.{Tells}
 use Rattle.hw_net.proofs.Writings.{Continues}
 use Rattle.hw_net.proofs.writing.write_frames.Given as goal
 
 abbrev pub invariant-loop-wires : goal.invariant-loop-wires
 invariant-loop-wires g l =
-    ((answers : List Answer) × Tells (g.W.Wires.told l.initial.wires) (g.W.Wires.told l.wires) answers
+    ((answers : List Answer) × Tells (g.W.Wires.trace l.initial.wires) (g.W.Wires.trace l.wires) answers
     × Continues l.wire l.initial.lane.out.bytes answers l.lane.out.bytes)
     × (g.W.Wires.wires l.wires ≡ g.W.Wires.wires l.initial.wires)
     × (l.lane ≡ record l.initial.lane { out = record l.initial.lane.out { bytes = l.lane.out.bytes } })

@@ -17,7 +17,7 @@ returns-in_err-tell_rows-clause-ends g c =
     (record { rows = c.in_ok-rows.rows; are_rows = rows.count; n = part.1.0; part = part.1.1; kept = kept }, refl, part.0)))
     (λ memory. rw memory (
       inl (
-        record { holds = ap g.K.Sink.holds (line.untouched (ap Err memory)); told = refl; heard_at = refl },
+        record { holds = ap g.K.Sink.holds (line.untouched (ap Err memory)); trace = refl; heard_at = refl },
         inr (c.in_ok-rows.rows, rows.count, kept),
       ),
       ap g.K.Sink.faults (line.untouched (ap Err memory)),

@@ -1,8 +1,8 @@
 use Rattle.std.proofs.Common.{◌≡◌, true, ◌∷◌, sym, ap, refl, subst, ◌∙◌}
-use Rattle.hd_server.specs.Lives.{LetGo, is_made}
+use Rattle.hd_server.specs.Lives.{Removed, is_made}
 use Rattle.hn_server_front.specs.Entries.{Remembers, text_told}
 use Rattle.hn_server_front.specs.Stands.{IsEntryOf}
-use Rattle.hn_server_front.proofs.Noting.{let_go, let_go_follows, no_bool, stands_gone, stands_same, stands_without, tokens_with, tokens_without}
+use Rattle.hn_server_front.proofs.Noting.{removed, let_go_follows, no_bool, stands_gone, stands_same, stands_without, tokens_with, tokens_without}
 use Rattle.hn_server_front.proofs.front.Front.forget.Goals as goal
 
 pub returns-in_default : goal.returns-in_default
@@ -10,8 +10,8 @@ returns-in_default c = λ h s.
     let f = c.args.self.now in
     let k = c.args.conn in
     let none = sym c.in_default.ensures.value in
-    let gone = λ (there : is_made k h ≡ true). stands_gone f k (LetGo k ∷ h) h (let_go_follows k h) s none there (λ _. let_go k h) in (
-      (λ there. stands_same f _ (LetGo k ∷ h) refl c.in_default.ensures.unchanged refl refl refl (gone there)),
+    let gone = λ (there : is_made k h ≡ true). stands_gone f k (Removed k ∷ h) h (let_go_follows k h) s none there (λ _. removed k h) in (
+      (λ there. stands_same f _ (Removed k ∷ h) refl c.in_default.ensures.unchanged refl refl refl (gone there)),
       (λ unmade. stands_same f _ h refl c.in_default.ensures.unchanged refl refl refl s),
     )
 

@@ -23,7 +23,7 @@ returns-in_default g c =
       made = on_ok_weaker c.reply.result (λ f s before h st rests come none o at on named room.
           token_refused {H = g.row.H.Denot} {Job = g.row.H-Job.Denot} hub s before c.reply.new.self o h c.args.reconnect
           (g.L.Lots.drawn c.args.lots.now) (g.L.Lots.drawn c.draw.new.self) (g.L.Lots.faults c.args.lots.now) (g.L.Lots.faults c.draw.new.self)
-          c.args.at.lane c.bare.result on c.bare.ensures c.in_default.ensures.told c.in_default.ensures.cause.later c.in_default.ensures.cause.failed
+          c.args.at.lane c.bare.result on c.bare.ensures c.in_default.ensures.trace c.in_default.ensures.cause.later c.in_default.ensures.cause.failed
           (f s settled before (Draws None ∷ h) (standing_draws {H = g.row.H.Denot} {Job = g.row.H-Job.Denot} hub s settled before c.args.self.now
           None h st)
           (record { waits = come.waits; last = come.last; unrefused = come.unrefused; nobody = come.nobody }))) c.reply.ensures.said;
@@ -72,7 +72,7 @@ returns g c =
           ] in
           token_made {H = g.row.H.Denot} {Job = g.row.H-Job.Denot} hub s before c.reply-2.new.self o h c.args.reconnect
           (g.L.Lots.drawn c.args.lots.now) (g.L.Lots.drawn c.draw.new.self) (g.L.Lots.faults c.args.lots.now) (g.L.Lots.faults c.draw.new.self)
-          c.args.at.lane bytes told_now.body at on sixteen c.in-Ok.ensures.told c.in-Ok.ensures.cause.unfailed
+          c.args.at.lane bytes told_now.body at on sixteen c.in-Ok.ensures.trace c.in-Ok.ensures.cause.unfailed
           (tells.body ∙ ap (λ (n : ℕ). negotiate_body n (token_of bytes n) c.args.reconnect) tells.next)
           (f s settled before (Notes note ∷ drew) stands
           (come_made (Some (token_of bytes k, c.args.reconnect)) k (moment h) c.args.at.lane c.args.at.is_last drew

@@ -12,5 +12,5 @@ invariant_of-self c =
 pub returns : goal.returns
 returns c =
     let appended : c.extend_from_slice.new.self.items ≡ c.self.inside.bytes.items ++ c.args.bytes.now = search rules in
-    let told = one_answer_more c.self.inside.notes.items c.args.note c.self.inside.bytes.items c.args.bytes.now c.self.invariant.0 c.requires.count in
-    rw (← c.self.view_is, c.push_reserved.ensures.items, appended, size_told c.args.note c.args.bytes.now c.requires.count) (rw told (grind (arith, common_steps)))
+    let trace = one_answer_more c.self.inside.notes.items c.args.note c.self.inside.bytes.items c.args.bytes.now c.self.invariant.0 c.requires.count in
+    rw (← c.self.view_is, c.push_reserved.ensures.items, appended, size_told c.args.note c.args.bytes.now c.requires.count) (rw trace (grind (arith, common_steps)))

@@ -1,28 +1,28 @@
 use Rattle.std.proofs.Common.{rules, ◌∷◌, [], refl, inr}
 use Rattle.hw_door.specs.Traffic.{polled, accept_failed}
-use Rattle.hw_net.specs.Told.{Tells}
+use Rattle.hw_net.specs.Trace.{Tells}
 use Rattle.hw_net.proofs.Sweeps.{hears-next, keeps-accepted}
 use Rattle.hw_net.proofs.Telling.{tells-more}
 use Rattle.hw_net.proofs.door.NetDoorDoor.next.Goals as goal
 
 pub returns-clause-hears : goal.returns-clause-hears
 returns-clause-hears g c =
-    let told = g.W.Wires.told in
+    let trace = g.W.Wires.trace in
     let q = c.in_ok-accept.ensures.accepted in
-    rw (← c.self.view_is) at (hears-next (told c.args.self.now.wires) (told c.poll.new.self.wires) (told c.accept.new.self.wires) (told c.hear.new.self.wires) c.in_ok-now.now c.args.self.now.from c.args.self.now.moment
+    rw (← c.self.view_is) at (hears-next (trace c.args.self.now.wires) (trace c.poll.new.self.wires) (trace c.accept.new.self.wires) (trace c.hear.new.self.wires) c.in_ok-now.now c.args.self.now.from c.args.self.now.moment
     c.hear.new.self.from c.args.self.now.named c.hear.new.self.named c.args.self.now.lanes.items c.poll.new.self.lanes.items c.accept.new.self.lanes.items c.hear.new.self.lanes.items c.in_ok-event.event
     (search rules) (search rules) (q.0, q.1, q.2) (search rules))
 
 pub returns-in_err-accept-clause-fails : goal.returns-in_err-accept-clause-fails
 returns-in_err-accept-clause-fails g c = λ e.
-    let told = g.W.Wires.told in
+    let trace = g.W.Wires.trace in
     let p = c.in_ok-now.ensures.polled in
     let f = c.in_err-accept.ensures.failed (search rules) in
-    let first : Tells (told c.args.self.now.wires) (told c.poll.new.self.wires) (polled p.0 ∷ []) = search rules in (
+    let first : Tells (trace c.args.self.now.wires) (trace c.poll.new.self.wires) (polled p.0 ∷ []) = search rules in (
       search rules,
       (
         polled p.0 ∷ accept_failed ∷ [],
-        tells-more (told c.args.self.now.wires) (told c.poll.new.self.wires) (told c.accept.new.self.wires) (polled p.0 ∷ []) (accept_failed ∷ []) first f.1,
+        tells-more (trace c.args.self.now.wires) (trace c.poll.new.self.wires) (trace c.accept.new.self.wires) (polled p.0 ∷ []) (accept_failed ∷ []) first f.1,
         inr (p.0, refl),
       ),
     )

@@ -5,10 +5,10 @@ use Rattle.hw_net.proofs.door.NetDoorDoor.reply.Goals as goal
 
 pub returns-in_default-clause-replied : goal.returns-in_default-clause-replied
 returns-in_default-clause-replied g c =
-    does-nothing (g.W.Wires.told c.args.self.now.wires) c.args.lane c.args.self.now.from _ c.args.self.now.named _ c.args.self.now.moment _ (Replies c.args.self.now.moment c.args.reply) c.args.self.now.lanes.items (search rules) (search rules) (search rules) (search rules)
+    does-nothing (g.W.Wires.trace c.args.self.now.wires) c.args.lane c.args.self.now.from _ c.args.self.now.named _ c.args.self.now.moment _ (Replies c.args.self.now.moment c.args.reply) c.args.self.now.lanes.items (search rules) (search rules) (search rules) (search rules)
 
 pub returns-clause-replied : goal.returns-clause-replied
 returns-clause-replied g c =
-    let told = g.W.Wires.told in
-    does-at (told c.args.self.now.wires) (told c.reply.new.wires) c.args.lane c.args.self.now.from _ c.args.self.now.named _ c.args.self.now.moment _ (Replies c.args.self.now.moment c.args.reply) c.args.self.now.lanes.items c.reply.new.self.items c.in-Some.index
+    let trace = g.W.Wires.trace in
+    does-at (trace c.args.self.now.wires) (trace c.reply.new.wires) c.args.lane c.args.self.now.from _ c.args.self.now.named _ c.args.self.now.moment _ (Replies c.args.self.now.moment c.args.reply) c.args.self.now.lanes.items c.reply.new.self.items c.in-Some.index
     (search rules) (search rules) (search rules) (search rules) (search rules)

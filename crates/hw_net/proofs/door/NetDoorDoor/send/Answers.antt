@@ -5,10 +5,10 @@ use Rattle.hw_net.proofs.door.NetDoorDoor.send.Goals as goal
 
 pub returns-in_default-clause-sent : goal.returns-in_default-clause-sent
 returns-in_default-clause-sent g c =
-    does-nothing (g.W.Wires.told c.args.self.now.wires) c.args.lane c.args.self.now.from _ c.args.self.now.named _ c.args.self.now.moment _ (Sends c.args.bytes.now c.args.text) c.args.self.now.lanes.items (search rules) (search rules) (search rules) (search rules)
+    does-nothing (g.W.Wires.trace c.args.self.now.wires) c.args.lane c.args.self.now.from _ c.args.self.now.named _ c.args.self.now.moment _ (Sends c.args.bytes.now c.args.text) c.args.self.now.lanes.items (search rules) (search rules) (search rules) (search rules)
 
 pub returns-clause-sent : goal.returns-clause-sent
 returns-clause-sent g c =
-    let told = g.W.Wires.told in
-    does-at (told c.args.self.now.wires) (told c.send.new.wires) c.args.lane c.args.self.now.from _ c.args.self.now.named _ c.args.self.now.moment _ (Sends c.args.bytes.now c.args.text) c.args.self.now.lanes.items c.send.new.self.items c.in-Some.index
+    let trace = g.W.Wires.trace in
+    does-at (trace c.args.self.now.wires) (trace c.send.new.wires) c.args.lane c.args.self.now.from _ c.args.self.now.named _ c.args.self.now.moment _ (Sends c.args.bytes.now c.args.text) c.args.self.now.lanes.items c.send.new.self.items c.in-Some.index
     (search rules) (search rules) (search rules) (search rules) (search rules)

@@ -11,10 +11,10 @@ pub returns-in-NothingRead-clause-heard : goal.returns-in-NothingRead-clause-hea
 returns-in-NothingRead-clause-heard g c = λ first reads_first.
     let lane = c.args.self.now in (
       [],
-      tells-none (g.W.Wires.told c.args.wires.now),
+      tells-none (g.W.Wires.trace c.args.wires.now),
       subst (λ (l : List Answer). Hears lane.wire lane.protocol lane.protocol l Nothing) (sym (append-nil first)) (calm-input lane first c.args.buf.now (search rules)),
     )
 
 pub returns-in-Read-clause-heard : goal.returns-in-Read-clause-heard
 returns-in-Read-clause-heard g c =
-    after-first_look c.hear_after.result (g.W.Wires.told c.args.wires.now) c.args.self.now c.hear_after.new.self.protocol c.args.buf.now c.args.first_look c.in-Read.read (search rules) c.hear_after.ensures.heard
+    after-first_look c.hear_after.result (g.W.Wires.trace c.args.wires.now) c.args.self.now c.hear_after.new.self.protocol c.args.buf.now c.args.first_look c.in-Read.read (search rules) c.hear_after.ensures.heard

@@ -28,8 +28,8 @@ returns-clause-lanes g c =
 
 pub returns-clause-turned : goal.returns-clause-turned
 returns-clause-turned g c =
-    let told = g.W.Wires.told in
+    let trace = g.W.Wires.trace in
     let found : get_or c.args.self.now.items c.args.index c.index_mut-lane.result.now ≡ c.index_mut-lane.result.now = search rules in
     let within : c.args.index < length c.args.self.now.items = search rules in
-    turns-here c.turn-heard.result (told c.args.wires.now) (told c.turn-heard.new.wires) c.args.now c.args.index c.args.self.now.items _ c.index_mut-lane.result.now c.turn-heard.new.self c.args.buf.now c.args.first_look
+    turns-here c.turn-heard.result (trace c.args.wires.now) (trace c.turn-heard.new.wires) c.args.now c.args.index c.args.self.now.items _ c.index_mut-lane.result.now c.turn-heard.new.self c.args.buf.now c.args.first_look
     within found (search rules) c.turn-heard.ensures.turned

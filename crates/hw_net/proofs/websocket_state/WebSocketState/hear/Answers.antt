@@ -4,7 +4,7 @@ use Rattle.hw_net.proofs.websocket_state.WebSocketState.hear.Goals as goal
 
 pub returns-clause-heard : goal.returns-clause-heard
 returns-clause-heard g c =
-    let told = g.W.Wires.told in
+    let trace = g.W.Wires.trace in
     let whole : c.in_ok-read.field-0 ≡ true = search rules in
-    websocket_state-hears (told c.args.wires.now) (told c.read.new.wires) c.args.wire c.args.self.now c.read.new.self c.look.new.self c.in_ok-read.field-0 c.look.result whole
+    websocket_state-hears (trace c.args.wires.now) (trace c.read.new.wires) c.args.wire c.args.self.now c.read.new.self c.look.new.self c.in_ok-read.field-0 c.look.result whole
     c.in_ok-read.ensures.read c.look.ensures.found c.look.ensures.whole

@@ -4,6 +4,6 @@ use Rattle.hw_net.proofs.websocket_state.WebSocketState.read.Goals as goal
 
 pub returns-clause-read : goal.returns-clause-read
 returns-clause-read g c =
-    let told = g.W.Wires.told in
-    websocket_state-reads (told c.args.wires.now) (told c.read_piece.new.wires) c.args.wire _ c.args.self.now c.take.new.self (take c.in-Some.count c.read_piece.new.buf)
+    let trace = g.W.Wires.trace in
+    websocket_state-reads (trace c.args.wires.now) (trace c.read_piece.new.wires) c.args.wire _ c.args.self.now c.take.new.self (take c.in-Some.count c.read_piece.new.buf)
     (search rules) (search rules) c.in-Some.ensures.read c.in_ok-take.ensures.fed c.in_ok-take.ensures.whole

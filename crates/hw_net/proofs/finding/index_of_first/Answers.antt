@@ -2,7 +2,7 @@ use Rattle.std.proofs.Common.{rules, ltb}
 use Rattle.std.proofs.lemmas.List.Sorted.{IsPartitionPoint-from_clause}
 use Rattle.hw_net.specs.Lane.{Lane}
 use Rattle.hw_net.proofs.Findings.{parted, first-from}
-use Rattle.hw_net.proofs.finding.place_of_first.Goals as goal
+use Rattle.hw_net.proofs.finding.index_of_first.Goals as goal
 
 pub returns : goal.returns
 returns c =
