@@ -103,8 +103,8 @@ known_either false false l f e = e
 known_before : (c m now : ℕ) (h : List ConnectionEvent) → m ≤ now → is_known (life_of c now h) ≡ true → is_known (life_of c m h) ≡ true
 known_before c m now h l e = known_either (is_past m (deadline c h)) (is_past now (deadline c h)) (standing c h) (past_later (deadline c h) m now l) e
 
-let_go_unknown : (c now : ℕ) (h : List ConnectionEvent) → is_removed c h ≡ true → life_of c now h ≡ Unknown
-let_go_unknown c now h e = rw e refl
+removed_unknown : (c now : ℕ) (h : List ConnectionEvent) → is_removed c h ≡ true → life_of c now h ≡ Unknown
+removed_unknown c now h e = rw e refl
 
 -- ---- what a note of one connection changes
 
@@ -274,7 +274,7 @@ of_expired : (c m now : ℕ) (h : List ConnectionEvent) → is_past m (deadline 
     → is_known (life_of c now (Expired c m ∷ h)) ≡ true → is_known (life_of c m h) ≡ true
 of_expired c m now h comes known = by (is_removed c h) (ends_then c h) refl refl where
   gone : is_removed c (Expired c m ∷ h) ≡ true → is_known (life_of c m h) ≡ true
-  gone e = absurd (let z : false ≡ true = ap is_known (sym (let_go_unknown c now (Expired c m ∷ h) e)) ∙ known in cc)
+  gone e = absurd (let z : false ≡ true = ap is_known (sym (removed_unknown c now (Expired c m ∷ h) e)) ∙ known in cc)
 
   by : (a b : Bool) → is_removed c h ≡ a → ends_then c h ≡ b → is_known (life_of c m h) ≡ true
   by true b e f = gone (or_right ((c == c) && not (ends_then c h)) (is_removed c h) e)
@@ -286,7 +286,7 @@ of_expired c m now h comes known = by (is_removed c h) (ends_then c h) refl refl
 of_gone : (k now c : ℕ) (h : List ConnectionEvent) → is_known (life_of k now (Removed c ∷ h)) ≡ true → is_known (life_of k now h) ≡ true
 of_gone k now c h known = by (k == c) refl where
   by : (b : Bool) → (k == c) ≡ b → is_known (life_of k now h) ≡ true
-  by true e = absurd (let z : false ≡ true = ap is_known (sym (let_go_unknown k now (Removed c ∷ h) (or_left (k == c) (is_removed k h) e))) ∙ known in cc)
+  by true e = absurd (let z : false ≡ true = ap is_known (sym (removed_unknown k now (Removed c ∷ h) (or_left (k == c) (is_removed k h) e))) ∙ known in cc)
   by false e = another_known k now now (Removed c) h e (omega arith) known
 
 of_first : (k m now c : ℕ) (h : List ConnectionEvent) (rest : List ℕ) → overdue m h ≡ c ∷ rest → m ≤ now

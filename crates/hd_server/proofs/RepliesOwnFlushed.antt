@@ -19,7 +19,7 @@ use Rattle.hd_server.proofs.OrderlyNotes.{Known, gone_unknown, still_ended}
 use Rattle.hd_server.proofs.OrderlyDoings.{AreQuiet, quiet_both, in_turn, either_way, shutting_quiet, replying_quiet}
 use Rattle.hd_server.proofs.OrderlyEach.{is_other, lending_quiet, writing_quiet}
 use Rattle.hd_server.proofs.RepliesOwn.{Alike, alike_then, AreOne, IsOne, others_alike, quiet_onto, known_alike, own_alike, Own, own_answered, own_ended}
-use Rattle.hd_server.proofs.RepliesPhases.{let_go_own}
+use Rattle.hd_server.proofs.RepliesPhases.{removed_own}
 
 -- one that ends holds no poll
 abbrev pub Done : ℕ → List ServerEvent → Type 0
@@ -52,7 +52,7 @@ abbrev pub Both : ℕ → List ServerEvent → Type 0
 Both c g = Own c g × Done c g
 
 both_gone : (c : ℕ) (h g : List ServerEvent) → Own c g → c ≤ made (notes g) → Both c (onto (removing_conn c h) g)
-both_gone c h g o old = (let_go_own c h g o old, done_gone c h g)
+both_gone c h g o old = (removed_own c h g o old, done_gone c h g)
 
 -- the poll that it holds is answered
 answered_none : (c now : ℕ) (poll : ℕ × ℕ) (y : List ServerEvent) → poll_of c (notes y) ≡ Some poll → poll_of c (Answered c poll.0 now ∷ notes y) ≡ None

@@ -20,7 +20,7 @@ use Rattle.hd_server.proofs.OrderlyNotes.{Known, still_polled, still_answered}
 use Rattle.hd_server.proofs.OrderlyDoings.{AreQuiet, in_turn, either_way, replying_quiet, shutting_quiet, moves_quiet}
 use Rattle.hd_server.proofs.RepliesSent.{IsSent}
 use Rattle.hd_server.proofs.RepliesOwn.{Alike, AreOne, others_alike, quiet_onto, quiet_after, peer_alike, own_alike, Own, own_opened, own_negotiated, own_connects, own_socketed, own_polled, own_answered, own_lost}
-use Rattle.hd_server.proofs.RepliesPhases.{quiet_one, one_both, letting_one, let_go_own, polls_of, fresh_of, ending_of, closing_quiet}
+use Rattle.hd_server.proofs.RepliesPhases.{quiet_one, one_both, letting_one, removed_own, polls_of, fresh_of, ending_of, closing_quiet}
 
 -- a part of one connection, after which each holds what it held
 all_after : (c : ℕ) (ds g : List ServerEvent) → AreOne c ds → ((k : ℕ) → Own k g) → Own c (onto ds g) → (k : ℕ) → Own k (onto ds g)
@@ -170,7 +170,7 @@ loses_own c lane now h known old all k =
     let all_x = all_quiet (step c (Detached now) ∷ []) h (tt, tt) all in
     all_after c (losing c lane now h) x (losing_one c lane now h) all_x
     (either_way (λ ds. Own c (onto ds x)) (may_resume c h) (Notes (LaneLost c lane now) ∷ []) (removing_conn c h)
-    (own_lost c x (all_x c) old known lane now) (let_go_own c h x (all_x c) old)) k
+    (own_lost c x (all_x c) old known lane now) (removed_own c h x (all_x c) old)) k
 
 pub poll_loses_own : (c lane now : ℕ) (h : List ServerEvent) → Known c (notes h) → c ≤ made (notes h) → ((k : ℕ) → Own k h)
     → (k : ℕ) → Own k (Notes (LaneLost c lane now) ∷ h)
@@ -291,7 +291,7 @@ module _ (s : Setup) (now lane : ℕ) (r : Request) (drawn : Option (List ℕ)) 
       let a = quiet_onto c (closing c reason.Done h) x (closing_quiet c reason.Done h) in
       let all_y = all_quiet (closing c reason.Done h) x (closing_quiet c reason.Done h) all_x in
       let z : List ServerEvent = onto (removing_conn c h) y in
-      let all_z = all_after c (removing_conn c h) y (letting_one c h) all_y (let_go_own c h y (all_y c) (omega (arith, n.1, stays.more, a.more))) in
+      let all_z = all_after c (removing_conn c h) y (letting_one c h) all_y (removed_own c h y (all_y c) (omega (arith, n.1, stays.more, a.more))) in
       subst (Own k) (sym e)
       (in_turn (Own k) (polls ++ closing c reason.Done h ++ removing_conn c h) (replying lane (bare_reply 202) h) h
       (in_turn (λ w. Own k (onto (replying lane (bare_reply 202) h) w)) (polls ++ closing c reason.Done h) (removing_conn c h) h

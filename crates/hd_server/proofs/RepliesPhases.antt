@@ -95,8 +95,8 @@ module _ (P : ℕ → List ServerEvent → Type 0) (move : (k : ℕ) (g x : List
 
 -- ---- one that is let go
 
-pub let_go_own : (c : ℕ) (h g : List ServerEvent) → Own c g → c ≤ made (notes g) → Own c (onto (removing_conn c h) g)
-let_go_own c h g o old =
+pub removed_own : (c : ℕ) (h g : List ServerEvent) → Own c g → c ≤ made (notes g) → Own c (onto (removing_conn c h) g)
+removed_own c h g o old =
     either_way (λ ds. Own c (onto (ds ++ Notes (Removed c) ∷ []) g)) (has_peer c h) (Works (Goes c) ∷ []) []
     (own_unknown c g o (Notes (Removed c) ∷ Works (Goes c) ∷ g) gone old) (own_unknown c g o (Notes (Removed c) ∷ g) gone old)
   where
@@ -251,7 +251,7 @@ module _ (now : ℕ) (h : List ServerEvent) where
           let later : c ≤ made (notes g) = omega (arith, old, a.more) in
           let still : Known c (notes g) = ap is_known (standing_same c (notes g) (notes h) a.same_notes) ∙ u in
           either_way (λ ds. Own c (onto ds g)) (may_resume c h) (Notes (LaneLost c lane now) ∷ []) (removing_conn c h)
-          (own_lost c g o later still lane now) (let_go_own c h g o later)
+          (own_lost c g o later still lane now) (removed_own c h g o later)
 
       silent : (c : ℕ) (s : Option ℕ) (g : List ServerEvent) → Alike c h g → Own c g → Known c (notes h) → c ≤ made (notes h) → Own c (onto (silenced c s now h) g)
       silent c None g a o u old = own_alike c g (step c (Silenced now) ∷ g) (quiet_onto c (step c (Silenced now) ∷ []) g (tt, tt)) o

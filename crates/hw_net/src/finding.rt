@@ -8,7 +8,7 @@ ghost use Rattle.hw_net.specs.Rising.{Rise};
 use crate::lane::NetLane;
 
 /// Where the lane of this number is.
-pub fn place_of(lanes: &[NetLane], wire: u64) -> Option<usize>
+pub fn index_of(lanes: &[NetLane], wire: u64) -> Option<usize>
     requires { Rise (wires_of lanes.now) }
     ensures { result ≡ position (λ (lane : Lane). lane.wire == wire) lanes.now }
 {

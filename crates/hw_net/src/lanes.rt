@@ -101,7 +101,7 @@ impl Lanes {
         requires { Rise (wires_of self.now.items) }
         ensures { result ≡ position (λ (lane : Lane). lane.wire == wire) self.now.items }
     {
-        place_of(&self.items, wire)
+        index_of(&self.items, wire)
     }
 
     /// How many lanes come last in the search that begins at this number.

@@ -2,7 +2,7 @@ use Rattle.std.proofs.Common.{rules, ◌∙◌}
 use Rattle.std.proofs.lemmas.List.Sorted.{answers_always}
 use Rattle.hw_net.specs.Lane.{Lane}
 use Rattle.hw_net.proofs.Findings.{found}
-use Rattle.hw_net.proofs.finding.place_of.Goals as goal
+use Rattle.hw_net.proofs.finding.index_of.Goals as goal
 
 pub returns : goal.returns
 returns c =
