@@ -6,7 +6,7 @@ use Rattle.std.proofs.lemmas.List.{append-nil}
 use Rattle.std.proofs.lemmas.Str.{IsUtf8-from_is_utf8, is_utf8-from_IsUtf8}
 use Rattle.hd_rooms.specs.declared.vocabulary.Asked.{Asked}
 use Rattle.hd_rooms.specs.declared.vocabulary.Asked.TheVariants as keeper
-use Rattle.hd_rooms.specs.Kept.{Content, CountsFault, CountsFaults, IsAnswer, KeeperDid}
+use Rattle.hd_rooms.specs.Kept.{Content, CountsFault, IsAnswer, KeeperDid}
 use Rattle.hk_keeper.specs.Calls.{Gains}
 use Rattle.hd_server.specs.declared.vocabulary.Caller.{Caller}
 use Rattle.hd_server.specs.Table.{caller_told, caller_without, text_in}

@@ -14,7 +14,7 @@ use Rattle.hd_server.specs.declared.vocabulary.Outcome.TheVariants.{Refusal, New
 use Rattle.hd_server.specs.declared.vocabulary.Said.{Said}
 use Rattle.hd_server.specs.Laws.{LivesAreSettled, LotsMatterToTokens, OutcomesSuit, Suits}
 use Rattle.hd_server.specs.Lives.{ConnectionEvent, conn_with, is_busy, is_known, is_made, known_conn, life, life_of, life_of_some}
-use Rattle.hd_server.specs.Table.{Facts, asks_keeper, id_in, is_entry, is_keepers_fault, is_unauthorized, outcome, socket_outcome}
+use Rattle.hd_server.specs.Table.{Facts, asks_keeper, id_in, is_keepers_fault, is_unauthorized, outcome, socket_outcome}
 use Rattle.hd_server.specs.Doings.{ServerEvent, moment, name_now, notes}
 use Rattle.hd_server.specs.Plans.{PendingRequest, Setup, caller_by, conn_of_some, facts, may_resume_some, learning, named_conn, onto}
 use Rattle.hn_server_front.specs.Calls as calls
@@ -25,8 +25,8 @@ use Rattle.hub_server.specs.declared.server.Server.{Server}
 use Rattle.hub_server.specs.Lanes.{settled}
 use Rattle.hub_server.specs.Servers.{OfEach, Standing}
 use Rattle.hub_server.specs.Steps.{Handles, NoneOverdue, outside}
-use Rattle.hub_server.specs.Requests.{CarriesOut, IsCaller, IsNamed, IsSeen, OfRequest, is_about_token, name_meant, text_asked}
-use Rattle.hub_server.proofs.OutcomeHandles.{decided, handled, known, learned_come, learned_moment, learned_none, learned_rested, learned_standing, name_learned, pending_request}
+use Rattle.hub_server.specs.Requests.{CarriesOut, IsCaller, IsSeen, OfRequest, is_about_token, name_meant, text_asked}
+use Rattle.hub_server.proofs.OutcomeHandles.{handled, known, learned_come, learned_moment, learned_none, learned_rested, learned_standing, name_learned, pending_request}
 use Rattle.hub_server.proofs.OutcomeTokens.{known_by}
 
 -- ---- a route that names a token

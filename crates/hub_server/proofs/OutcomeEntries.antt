@@ -1,5 +1,5 @@
 -- Requests that make a connection: what is drawn, and what is told.
-use Rattle.std.proofs.Common.{◌≡◌, ◌≤◌, ℕ, suc, Bool, true, false, List, [], ◌∷◌, length, Option, Some, None, refl, sym, ap, subst}
+use Rattle.std.proofs.Common.{◌≡◌, ◌≤◌, ℕ, suc, Bool, false, List, [], ◌∷◌, length, Option, Some, None, refl, sym, subst}
 use Rattle.std.proofs.lemmas.List.{append-nil}
 use Rattle.hd_facts.specs.Counts.{Rose}
 use Rattle.hw_lanes.specs.declared.http.Reply.{Reply}

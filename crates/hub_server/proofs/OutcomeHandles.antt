@@ -1,5 +1,5 @@
 -- A request is handled: where it leads, who is asked, and what is done.
-use Rattle.std.proofs.Common.{◌≡◌, ℕ, Bool, true, false, List, [], ◌∷◌, ◌++◌, Option, Some, None, IfSome, refl, sym, ap, subst, ◌∙◌}
+use Rattle.std.proofs.Common.{◌≡◌, ℕ, Bool, true, false, List, [], ◌∷◌, ◌++◌, Option, Some, None, refl, sym, ap, subst, ◌∙◌}
 use Rattle.std.specs.Prelude.{is_some, not, unwrap_or, if◌then◌else◌}
 use Rattle.std.proofs.lemmas.List.{append-nil}
 use Rattle.hw_lanes.specs.declared.http.Request.{Request}
@@ -9,7 +9,6 @@ use Rattle.hd_rooms.specs.declared.vocabulary.Asked.TheVariants as keeper
 use Rattle.hd_rooms.specs.Kept.{Content}
 use Rattle.hw_door.specs.declared.heard.Event.TheVariants as event
 use Rattle.hd_server.specs.declared.vocabulary.Caller.{Caller}
-use Rattle.hd_server.specs.declared.vocabulary.Life.{Life}
 use Rattle.hd_server.specs.declared.vocabulary.Outcome.{Outcome}
 use Rattle.hd_server.specs.declared.vocabulary.Outcome.TheVariants.{Refusal, NewToken, PlainSocket, TokenSocket, FirstPoll, NextPoll, LastPoll, Posting, Deletion}
 use Rattle.hd_server.specs.declared.vocabulary.Said.{Said}
@@ -17,7 +16,7 @@ use Rattle.hd_server.specs.Laws.{LotsMatterToTokens}
 use Rattle.hd_server.specs.Lives.{is_busy, life_of_some}
 use Rattle.hd_server.specs.Table.{asks_keeper, id_in, outcome}
 use Rattle.hd_server.specs.Doings.{ServerEvent, Draws, Learns, asked, draws, may_resume, moment, name_now, notes}
-use Rattle.hd_server.specs.Plans.{PendingRequest, Setup, asks_lots, caller_by, conn_of_some, facts, may_resume_some, learning, makes_token, named_conn, onto, plan, questions, request_plan}
+use Rattle.hd_server.specs.Plans.{PendingRequest, Setup, caller_by, conn_of_some, facts, may_resume_some, learning, makes_token, named_conn, onto, plan, questions, request_plan}
 use Rattle.hd_server.specs.Serves.{IsDraw}
 use Rattle.hub_server.specs.declared.server.Server.{Server}
 use Rattle.hub_server.specs.Lanes.{settled}

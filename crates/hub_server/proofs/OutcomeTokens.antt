@@ -13,7 +13,7 @@ use Rattle.hd_server.specs.declared.vocabulary.Said.{Said}
 use Rattle.hd_server.specs.Laws.{Suits}
 use Rattle.hd_server.specs.Lives.{ConnectionEvent, Polled, is_known, is_removed, is_made, is_resumable_promise, socket_of}
 use Rattle.hd_server.specs.Table.{Facts, delete_outcome, socket_outcome}
-use Rattle.hd_server.specs.Doings.{ServerEvent, Notes, has_peer, may_resume, moment, notes}
+use Rattle.hd_server.specs.Doings.{ServerEvent, Notes, has_peer, moment, notes}
 use Rattle.hd_server.specs.Plans.{PendingRequest, Setup, bare_reply, closing, ending_held, removing_conn, onto, replying, request_plan, shutting_some, standing_on}
 use Rattle.hd_server.specs.Serves.{FeedsOne}
 use Rattle.hn_server_front.specs.Stands as front
@@ -23,7 +23,7 @@ use Rattle.hub_server.specs.Lanes.{settled}
 use Rattle.hub_server.specs.Servers.{IsOrderly, IsRested, Standing}
 use Rattle.hub_server.specs.Connections.{CanHold, CanStand, IsKnown}
 use Rattle.hub_server.specs.Steps.{Follows, HasCome}
-use Rattle.hub_server.specs.Requests.{CanBeSaid, IsCarriedOut, IsNamed, IsSeen, Erases, OpensTo, StandsOver, is_about_token}
+use Rattle.hub_server.specs.Requests.{CanBeSaid, IsCarriedOut, IsNamed, Erases, OpensTo, StandsOver, is_about_token}
 use Rattle.hub_server.proofs.OutcomeLives.{Reads, ending_holds, fresh_lacks, fresh_stands, held_there, lost_stands, poller_holds, reads, socketed_stands, socketed_there}
 use Rattle.hub_server.proofs.OutcomeCome.{Stays, closed_stays, come_stays, deleted_so, ended_stays, replying_stays, shut_either, standing_on_shut, stays_fed, stays_shut, stays_then}
 
