@@ -110,11 +110,11 @@ class Forwarder:
 class Browser:
     """Chromium without a window. Commands and events are JSON texts, each ended by a zero byte."""
 
-    def __init__(self, program, folder):
+    def __init__(self, program, folder, *options):
         inward, self.commands = (high(end) for end in os.pipe())
         self.events, outward = (high(end) for end in os.pipe())
         words = [program, "--headless", "--remote-debugging-pipe", "--disable-gpu", "--no-first-run", "--hide-scrollbars"]
-        words += [f"--user-data-dir={folder}", "about:blank"]
+        words += [*options, f"--user-data-dir={folder}", "about:blank"]
         if os.geteuid() == 0:
             words.insert(1, "--no-sandbox")  # which Chromium wants of root
         # The browser reads commands at 3 and writes events at 4.
