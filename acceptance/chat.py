@@ -3,7 +3,7 @@
 
     acceptance/chat.py [PROGRAM] [--frames] [--picture FILE] [--random SEED]
 
-PROGRAM is bin/sr by default, which proves and builds the program if it has to. Needs chromium and nginx (both are Debian packages);
+PROGRAM is bin/sr by default, and so the release if nothing newer was built. Needs chromium and nginx (both are Debian packages);
 where one of them isn't installed it says so and ends with status 0. `--frames` prints each frame that went over the WebSockets,
 `--picture` keeps a picture of the page, `--random` cuts at random while both pages make calls. It isn't part of the gate.
 

@@ -1,7 +1,7 @@
 #!/usr/bin/env python3
 """Has clients in other languages hold a session with the program's server.
 
-    acceptance/clients.py [PROGRAM]      PROGRAM is bin/sr by default, which proves and builds the program if it has to
+    acceptance/clients.py [PROGRAM]      PROGRAM is bin/sr by default, and so the release if nothing newer was built
 
 Each client of acceptance/clients/ that can run here gets a server of its own on a free port, and has to print what stands in
 clients/session.txt, which was written by hand. Beside that each exchange that docs/clients.md shows is done again, byte for byte. A

@@ -18,11 +18,11 @@ import tempfile
 BIN = pathlib.Path(__file__).resolve().parent.parent / "bin"
 CRATES = """# a remark
 lowest:
+sr_app: below
 below: lowest memchr  # another
 beside: lowest
-sr_app: below
 """
-LINES = ["lowest:", "below: lowest memchr", "sr_app: below"]  # of those that are summed up
+LINES = ["lowest:", "sr_app: below", "below: lowest memchr"]  # of those that are summed up
 SCRIPT = '#!/bin/sh\ncat\necho "{}: $*"\nexit 7\n'
 # In place of bin/build.py: what it builds is a program, or it fails.
 BUILDS = f"#!/bin/sh\nmkdir -p crates/sr_app/out\ncat >crates/sr_app/out/sr_app <<'END'\n{SCRIPT.format('built anew')}END\nchmod +x crates/sr_app/out/sr_app\n"

@@ -1,7 +1,7 @@
 #!/usr/bin/env python3
 """Runs the rows of acceptance/*.toml against the built program, byte for byte, some side by side.
 
-    acceptance/run.py [PROGRAM]      PROGRAM is bin/sr by default, which proves and builds the program if it has to
+    acceptance/run.py [PROGRAM]      PROGRAM is bin/sr by default, and so the release if nothing newer was built
 
 A row has a name, the words of the command line, the input, the output that is wanted and the exit status. An input or an
 output is one piece or a list of them, one after the other. A piece is a text, in which the sign ␞ stands for the record
