@@ -26,7 +26,7 @@ from collections import deque
 HERE = pathlib.Path(__file__).resolve().parent
 sys.path.insert(0, str(HERE / "clients"))
 from chat import Browser, Page, Trial, free_port, posts_of, wait_for_port  # noqa: E402
-from raw import HOST, KEY, TIMEOUT, Hub  # noqa: E402
+from raw import HOST, KEY, TIMEOUT, Ended, Hub  # noqa: E402
 from serving import Serving  # noqa: E402
 
 EXAMPLES = HERE.parent / "examples"
@@ -165,8 +165,9 @@ def ask_for_socket(target):
 
 
 def try_limit(trial, door):
-    got, seconds = statuses(door, "127.0.2.1", 20, lambda client: client.ask("POST", NEGOTIATE))
-    trial.check("of 20 negotiates of one address 5 are let in at once, others answered 429", is_limited(got, seconds, 200), (got, seconds))
+    for address, target in ("127.0.2.1", NEGOTIATE), ("127.0.2.8", f"{NEGOTIATE}&id=nobody"):
+        got, seconds = statuses(door, address, 20, lambda client: client.ask("POST", target))
+        trial.check(f"of 20 negotiates at {target} 5 are let in at once, others answered 429", is_limited(got, seconds, 200), (got, seconds))
     trial.check("another address isn't held up", Client(door, "127.0.2.2").negotiate() == 200)
     time.sleep(1.2)
     trial.check("nor is the first one a second later", Client(door, "127.0.2.1").negotiate() == 200)
@@ -286,7 +287,7 @@ def main():
         folder.chmod(0o755)  # nginx's processes are another user
         try:
             try_all(trial, folder, program, browser, len(words) == len(sys.argv) - 1)
-        except (OSError, RuntimeError, subprocess.SubprocessError) as why:
+        except (OSError, RuntimeError, ValueError, Ended, subprocess.SubprocessError) as why:
             trial.check("the trial comes to its end", False, why)
     print(f"{trial.passed} passed, {trial.failed} failed")
     return 1 if trial.failed or not trial.passed else 0
