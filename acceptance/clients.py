@@ -4,24 +4,24 @@
     acceptance/clients.py [PROGRAM]      PROGRAM is bin/sr by default, and so the release if nothing newer was built
 
 Each client of acceptance/clients/ that can run here gets a server of its own on a free port, and has to print what stands in
-clients/session.txt, which was written by hand. Beside that each exchange that docs/clients.md shows is done again, byte for byte. A
-client whose library isn't installed is skipped with a word.
+clients/session.txt, which was written by hand. Beside that each exchange that docs/clients.md and docs/microsoft-clients.md show is done
+again, byte for byte (clients/page.py). What needs a library or a program that isn't installed is skipped with a word.
 
 The last line is 'N passed, N failed, N skipped'; the status is 0 if none failed."""
 import concurrent.futures
 import difflib
-import os
 import pathlib
 import subprocess
 import sys
 
 HERE = pathlib.Path(__file__).resolve().parent
 sys.path.insert(0, str(HERE / "clients"))
+from fronts import NODE  # noqa: E402
+from page import results  # noqa: E402
 from serving import Serving  # noqa: E402
 
 CLIENTS = HERE / "clients"
-# Where Debian's node-ws is, behind what the caller names.
-NODE = {**os.environ, "NODE_PATH": os.pathsep.join(filter(None, [os.environ.get("NODE_PATH"), "/usr/share/nodejs"]))}
+PAGES = [HERE.parent / "docs" / name for name in ("clients.md", "microsoft-clients.md")]
 SECONDS = 120
 
 
@@ -51,25 +51,24 @@ def wanted():
     return [line for line in lines if line and not line.startswith("#")]
 
 
-def session(program, client):
-    """Runs a client against a fresh server. Answers what is wrong with what it prints, line by line."""
+def session(program, name, client):
+    """Runs a client against a fresh server: its name, what is wrong with what it prints, line by line, and why it is skipped if it is."""
+    if not client:
+        return [(name, [], "it isn't installed")]
     with Serving(program) as server:
         try:
             done = subprocess.run([*client, server.base], env=NODE, capture_output=True, text=True, timeout=SECONDS)
         except subprocess.TimeoutExpired as late:
-            return [f"it didn't end in {SECONDS} s", *(late.stdout or b"").decode().splitlines()[-3:]]
+            return [(name, [f"it didn't end in {SECONDS} s", *(late.stdout or b"").decode().splitlines()[-3:]], None)]
         got = [line.rstrip() for line in done.stdout.splitlines()]
         wrong = list(difflib.unified_diff(wanted(), got, "session.txt", "printed", lineterm="", n=1))
         if done.returncode != 0:
             wrong += [f"status {done.returncode}", *done.stderr.splitlines()[-5:]]
-        return wrong + server.complaints()
+        return [(name, wrong + server.complaints(), None)]
 
 
-def page(program):
-    """Does the exchanges of docs/clients.md again. Answers what is wrong with them, in lines."""
-    command = [sys.executable, CLIENTS / "page.py", program]
-    done = subprocess.run(command, capture_output=True, text=True)
-    return [] if done.returncode == 0 else (done.stdout + done.stderr).splitlines()
+def page(program, path):
+    return list(results(program, path))
 
 
 def main():
@@ -78,18 +77,14 @@ def main():
         ("a client in Python, with websockets 10.4 (python3-websockets)", python_client()),
         ("a client in JavaScript, with Node and ws 8.11 (nodejs, node-ws)", node_client()),
     ]
-    skipped = [name for name, client in clients if not client]
     with concurrent.futures.ThreadPoolExecutor() as lanes:
-        running = [(name, lanes.submit(session, program, client)) for name, client in clients if client]
-        running.append(("the exchanges of docs/clients.md", lanes.submit(page, program)))
-    failed = 0
-    for name, ended in running:
-        wrong = ended.result()
-        failed += bool(wrong)
-        print(f"{'FAILED' if wrong else 'passed'} {name}", *wrong, sep="\n    ")
-    for name in skipped:
-        print(f"skipped {name}: it isn't installed")
-    print(f"{len(running) - failed} passed, {failed} failed, {len(skipped)} skipped")
+        running = [lanes.submit(session, program, *client) for client in clients]
+        running += [lanes.submit(page, program, path) for path in PAGES]
+    told = [one for ended in running for one in ended.result()]
+    for name, wrong, missing in told:
+        print(f"skipped {name}: {missing}" if missing else f"{'FAILED' if wrong else 'passed'} {name}", *wrong, sep="\n    ")
+    failed, skipped = sum(bool(wrong) for _, wrong, _ in told), sum(bool(missing) for _, _, missing in told)
+    print(f"{len(told) - failed - skipped} passed, {failed} failed, {skipped} skipped")
     return 1 if failed else 0
 
 

@@ -7,6 +7,7 @@ import time
 from hostile_http import LATE, NEGOTIATE, SILENCE
 from raw import BINARY, PING, PONG, Hub, Raw, frame, record
 
+EARLY = 5  # seconds before the end of a half minute, of which a busy machine may need some
 JSON = '{"protocol":"json","version":1}'
 PACK = '{"protocol":"messagepack","version":1}'
 SLOW = '{"type":1,"invocationId":"%d","target":"Slow","arguments":[1000000,0]}'
@@ -190,6 +191,15 @@ def lost_and_late(port):
     return str(Hub(port, target).status)
 
 
+def lost_and_back(port):
+    """A kept connection whose socket is lost can go on shortly before that."""
+    target, hub = kept(port)
+    hub.drop()
+    time.sleep(SILENCE - EARLY)
+    hub = Hub(port, target)
+    return f"{hub.status} {hub.hear()}"
+
+
 def only_listens(port):
     """A kept client that says nothing: it is pinged, and its socket closed for lost. It may come back."""
     began = time.monotonic()
@@ -280,6 +290,7 @@ HUB_CASES = [
 
 SLOW_HUB_CASES = [
     ("a kept connection that doesn't come back", "404", lost_and_late),
+    ("a kept connection that comes back after 25 s", '101 {"sequenceId":1,"type":9}', lost_and_back),
     ("a token that isn't used", "404", unused),
     ("a client that only listens", '{"type":6}, closed 1000, on time, 101 {"sequenceId":1,"type":9}', only_listens),
     ("a client that polls once", '200 {"error":"Connection expired.","type":7}, 204, 404', polls_once),

@@ -1,151 +1,133 @@
 #!/usr/bin/env python3
-"""Does again what docs/clients.md shows, against the program: each line that begins with `>` is sent, each with `<` has to come.
+"""Does again what a page of docs/ shows, against the program: each line that begins with `>` is sent, each with `<` has to come.
 
-    page.py PROGRAM
+    page.py PROGRAM PAGE
 
 Blocks are marked behind their three ticks:
 
-    requests         HTTP: a request, and its reply. `TOKEN` stands for the token that the block's negotiate told; `..` for any body
-    exchange         a socket after a negotiate with reconnect; `-- the socket is lost` drops it and opens another
-    exchange plain   a socket without a negotiate
-    exchange calls   the same, after a handshake in JSON, version 1
-    messages         by twos, a message in JSON and in MessagePack, which `sr convert` has to make of each other
+    requests             HTTP: a request, and its reply. Header fields stand in lines of their own below either. `TOKEN` stands for the token
+                         that the block's negotiate told, and `..` for any body. Of a reply each field of `Access-Control` has to be shown
+    exchange             a socket after a negotiate with reconnect
+    exchange negotiated  a socket after a negotiate without
+    exchange plain       a socket without a negotiate
+    exchange calls       the same, after a handshake in JSON, version 1
+    exchange .. pack     the same in MessagePack: each frame behind the handshake is shown by its bytes, as is such a body of a request
+    refused              frames, each of which is said on a connection of its own and ends it with `Protocol error.`
+    messages             by twos, a message in JSON and in MessagePack, which `sr convert` has to make of each other
+    fields CLIENT        the header fields of a client, and with the word `socket` those of its upgrades, for all blocks `by CLIENT`
+    nginx, proxy         the text of a front, for all blocks `behind nginx` or `behind proxy` (fronts.py)
 
-Lines that are sent one after the other go out in one message. Each block has a server of its own."""
-import json
+In an exchange `--` begins what is done or seen beside frames (`Exchange.ACTS`). A line with `# N from A to B` stands for as many, each with
+one number for N; LONG is 30,000 letters. What is sent in lines that stand together goes out in one message, but `by` a client, which sends
+each frame in one of its own. Each block has a server of its own.
+
+Each block is told in a line. The last line is 'N passed, N failed, N skipped'; the status is 0 if none failed."""
 import pathlib
 import subprocess
 import sys
-import time
 
-from raw import TEXT, Ended, Hub, Raw, frame, record
+from exchanges import exchange, refused
+from fronts import FRONTS
+from raw import Ended, record
+from requested import Client, requests
 from serving import Serving
-
-PAGE = pathlib.Path(__file__).resolve().parent.parent.parent / "docs" / "clients.md"
-SHOWN_RECORD = "␞"
-NEGOTIATE = "/hub/negotiate?negotiateVersion=1&useStatefulReconnect=true"
-PAUSE = 0.3  # seconds without a socket, in which the calls go on
+from shown import Wrong, compare
 
 
-def blocks():
-    """The marked blocks: each with the words of its mark, and its lines by their numbers."""
+class Block:
+    """A block of a page: the words of its mark, and its lines by their numbers."""
+
+    def __init__(self, words, lines):
+        self.kind, *rest = words
+        self.lines = lines
+        self.client = self.front = None
+        self.words = []
+        while rest:
+            word = rest.pop(0)
+            if word == "by":
+                self.client = rest.pop(0)
+            elif word == "behind":
+                self.front = rest.pop(0)
+            else:
+                self.words.append(word)
+        self.name = f"line {lines[0][0] if lines else 0}, {' '.join(words)}"
+
+    def text(self):
+        return "\n".join(line for _, line in self.lines)
+
+
+def blocks(path):
     words, lines = None, []
-    for number, line in enumerate(PAGE.read_text().splitlines(), 1):
+    for number, line in enumerate(path.read_text().splitlines(), 1):
         if line.startswith("```") and words is None:
             words = line[3:].split() or ["text"]
         elif line.startswith("```"):
-            yield words, lines
+            yield Block(words, lines)
             words, lines = None, []
         elif words is not None:
             lines.append((number, line))
 
 
-class Wrong(Exception):
-    pass
+class Page:
+    def __init__(self, path):
+        self.path = path
+        self.blocks = list(blocks(path))
 
+    def fields(self, *words):
+        """The header fields of a client's requests, or of its upgrades."""
+        found = [block for block in self.blocks if block.kind == "fields" and block.words == list(words)]
+        return found[0].text().splitlines() if found else []
 
-def compare(number, wanted, got):
-    if got != wanted:
-        raise Wrong(f"line {number}: wanted {wanted}\n    came   {got}")
-
-
-def without_remark(line):
-    return line.split("   #")[0].rstrip()
-
-
-class Exchange:
-    def __init__(self, port, words):
-        self.port = port
-        self.target = "/hub"
-        self.unsent = b""
-        if len(words) == 1:
-            _, body = Raw(port).http("POST", NEGOTIATE)
-            self.target += "?id=" + json.loads(body)["connectionToken"]
-        self.hub = Hub(port, self.target)
-        if "calls" in words:
-            compare(0, "{}", self.hub.shake())
-
-    def do(self, number, line):
-        sign, text = line[:2], without_remark(line[2:])
-        if sign == "> ":
-            self.unsent += record(text)
-            return
-        if self.unsent:
-            self.hub.send(frame(TEXT, self.unsent))
-            self.unsent = b""
-        if sign == "< ":
-            compare(number, text, self.hub.hear())
-        elif "lost" in line:
-            self.hub.drop()
-            time.sleep(PAUSE)
-            self.hub = Hub(self.port, self.target)
-            compare(number, 101, self.hub.status)
-        else:
-            compare(number, text.removeprefix(" ").removeprefix("closed with "), self.hub.hear().removeprefix("closed "))
-            compare(number, "ended", self.hub.end())
-
-
-def exchange(server, words, lines):
-    link = Exchange(server.port, words)
-    for number, line in lines:
-        link.do(number, line)
-
-
-class Requests:
-    def __init__(self, port):
-        self.port = port
-        self.token = "TOKEN"
-
-    def ask(self, line):
-        """A request's reply, as the page writes it."""
-        method, target, *rest = line.replace("TOKEN", self.token).split(" ", 2)
-        if rest == ["Upgrade: websocket"]:
-            return str(Raw(self.port).upgrade(target))
-        body = rest[0].replace(SHOWN_RECORD, "\x1e").encode() if rest else None
-        status, body = Raw(self.port).http(method, target, body)
-        if b'"connectionToken"' in body:
-            self.token = json.loads(body)["connectionToken"]
-        return f"{status} {body.decode()}".replace("\x1e", SHOWN_RECORD).replace(self.token, "TOKEN").rstrip()
-
-
-def requests(server, _, lines):
-    client = Requests(server.port)
-    for (_, asked), (number, wanted) in zip(lines[::2], lines[1::2]):
-        got = client.ask(without_remark(asked[2:]))
-        compare(number, without_remark(wanted[2:]).replace("..", got[4:]), got)
+    def front(self, kind):
+        """The text of a front."""
+        (found,) = [block for block in self.blocks if block.kind == kind]
+        return found.text()
 
 
 def converted(program, source, target, data):
     return subprocess.run([program, "convert", source, target], input=data, capture_output=True).stdout
 
 
-def messages(server, _, lines):
-    for (number, text), (_, digits) in zip(lines[::2], lines[1::2]):
+def messages(_, block, program):
+    for (number, text), (_, digits) in zip(block.lines[::2], block.lines[1::2]):
         json_frame, pack_frame = record(text), bytes.fromhex(digits)
-        compare(number, pack_frame.hex(" "), converted(server.program, "json", "pack", json_frame).hex(" "))
-        compare(number, text, converted(server.program, "pack", "json", pack_frame).decode().rstrip("\x1e"))
+        compare(number, pack_frame.hex(" "), converted(program, "json", "pack", json_frame).hex(" "))
+        compare(number, text, converted(program, "pack", "json", pack_frame).decode().rstrip("\x1e"))
 
 
-KINDS = {"exchange": exchange, "requests": requests, "messages": messages}
+KINDS = {"exchange": exchange, "requests": requests, "refused": refused, "messages": messages}
+
+
+def tried(program, page, block):
+    """What is wrong with a block, in lines."""
+    with Serving(program) as server:
+        try:
+            if block.front:
+                with FRONTS[block.front](page.front(block.front), server.port) as front:
+                    KINDS[block.kind](Client(page, block, front.port), block, program)
+            else:
+                KINDS[block.kind](Client(page, block, server.port), block, program)
+        except (Wrong, Ended, OSError, ValueError, LookupError) as wrong:
+            return [str(wrong) or repr(wrong), *server.complaints()]
+        return server.complaints()
+
+
+def results(program, path):
+    """Each block that is carried out: its name, what is wrong with it, and why it is skipped if it is."""
+    page = Page(path)
+    for block in page.blocks:
+        if block.kind in KINDS:
+            missing = block.front and FRONTS[block.front].missing()
+            yield f"{path.name}, {block.name}", [] if missing else tried(program, page, block), missing
 
 
 def main():
-    done = failed = 0
-    for words, lines in blocks():
-        if words[0] not in KINDS:
-            continue
-        done += 1
-        with Serving(sys.argv[1]) as server:
-            try:
-                KINDS[words[0]](server, words, lines)
-            except (Wrong, Ended, OSError, ValueError) as wrong:
-                failed += 1
-                print(f"{PAGE.name}, the block at line {lines[0][0]}: {wrong or repr(wrong)}")
-            for complaint in server.complaints():
-                failed += 1
-                print(complaint)
-    print(f"{done} blocks, {failed} failures")
-    return 1 if failed or not done else 0
+    passed = failed = skipped = 0
+    for name, wrong, missing in results(sys.argv[1], pathlib.Path(sys.argv[2])):
+        skipped, failed, passed = skipped + bool(missing), failed + bool(wrong), passed + (not wrong and not missing)
+        print(f"skipped {name}: {missing}" if missing else f"FAILED {name}" if wrong else f"passed {name}", *wrong, sep="\n    ")
+    print(f"{passed} passed, {failed} failed, {skipped} skipped")
+    return 1 if failed or not passed else 0
 
 
 if __name__ == "__main__":

@@ -41,6 +41,7 @@ class Raw:
     def __init__(self, port, timeout=TIMEOUT):
         self.socket = socket.create_connection((HOST, port), timeout=timeout)
         self.socket.setsockopt(socket.IPPROTO_TCP, socket.TCP_NODELAY, 1)
+        self.host = f"{HOST}:{port}"
         self.rest = b""
 
     def send(self, data):
@@ -83,7 +84,7 @@ class Raw:
     # HTTP
 
     def ask(self, method, target, body=None, fields=()):
-        lines = [f"{method} {target} HTTP/1.1", f"Host: {HOST}", *fields]
+        lines = [f"{method} {target} HTTP/1.1", f"Host: {self.host}", *fields]
         if body is not None:
             lines.append(f"Content-Length: {len(body)}")
         self.send("\r\n".join([*lines, "", ""]).encode() + (body or b""))
@@ -104,9 +105,12 @@ class Raw:
 
     # WebSockets
 
-    def upgrade(self, target, version=13, key=KEY):
-        fields = ["Connection: Upgrade", "Upgrade: websocket", f"Sec-WebSocket-Version: {version}", f"Sec-WebSocket-Key: {key}"]
-        self.ask("GET", target, fields=fields)
+    def ask_upgrade(self, target, version=13, key=KEY, fields=()):
+        asked = ["Connection: Upgrade", "Upgrade: websocket", f"Sec-WebSocket-Version: {version}", f"Sec-WebSocket-Key: {key}"]
+        self.ask("GET", target, fields=[*asked, *fields])
+
+    def upgrade(self, target, **words):
+        self.ask_upgrade(target, **words)
         status, fields, _ = self.reply()
         if status == 101 and fields.get("sec-websocket-accept") != ACCEPTED:
             raise ValueError(f"accepted by {fields}")
@@ -139,10 +143,10 @@ def record(text):
 class Hub(Raw):
     """A socket of the hub, whose frames are JSON. They are read one by one, in whatever messages they came."""
 
-    def __init__(self, port, target="/hub", timeout=TIMEOUT):
+    def __init__(self, port, target="/hub", timeout=TIMEOUT, fields=()):
         super().__init__(port, timeout)
         self.frames = deque()
-        self.status = self.upgrade(target)
+        self.status = self.upgrade(target, fields=fields)
 
     def say(self, *texts):
         self.send(frame(TEXT, b"".join(map(record, texts))))
@@ -157,8 +161,12 @@ class Hub(Raw):
             opcode, payload = self.read_frame()
             if opcode == CLOSE:
                 return f"closed {int.from_bytes(payload[:2], 'big')}"
-            self.frames.extend(part.decode() for part in payload.split(RECORD)[:-1])
+            self.frames.extend(self.cut(payload))
         return self.frames.popleft()
+
+    def cut(self, payload):
+        """The frames of a message, which are whole."""
+        return [part.decode() for part in payload.split(RECORD)[:-1]]
 
     def call(self, target, *arguments):
         """Calls a method on a plain connection and answers its completion. Nothing but Pings may come meanwhile."""

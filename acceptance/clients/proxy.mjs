@@ -1,0 +1,16 @@
+// What a development server, such as Vite's, makes of its option `proxy`, over the library that these use: Debian's node-http-proxy 1.18.
+//
+//     NODE_PATH=/usr/share/nodejs node proxy.mjs PORT 'PATH: OPTIONS, ..'
+import http from "node:http";
+import { createRequire } from "node:module";
+
+const { createProxyServer } = createRequire(import.meta.url)("http-proxy");
+
+const [port, text] = process.argv.slice(2);
+const shown = new Function(`return { ${text} }`)();
+const rules = Object.entries(shown).map(([path, options]) => ({ path, proxy: createProxyServer(options) }));
+const proxyOf = ({ url }) => rules.find(({ path }) => url.startsWith(path)).proxy;
+
+const server = http.createServer((request, reply) => proxyOf(request).web(request, reply));
+server.on("upgrade", (request, socket, head) => proxyOf(request).ws(request, socket, head));
+server.listen(Number(port), "127.0.0.1");
