@@ -9,7 +9,7 @@ from shown import HEX, Wrong, compare, without_remark
 
 NEGOTIATE = "/hub/negotiate?negotiateVersion=1"
 RECONNECT = "&useStatefulReconnect=true"
-PAUSE = 0.3  # seconds without a socket, in which the calls go on
+PAUSE = 0.3  # seconds in which the server goes on by itself
 LONG = "x" * 30_000
 COUNTED = re.compile(r"N from (\d+) to (\d+)")
 # A Close with the error `Protocol error.`, as HubProtocol.md spells one in either codec.
@@ -84,11 +84,14 @@ class Exchange:
 
     def end(self):
         """Sends the rest. Nothing may have come that isn't shown."""
-        self.send()
+        if self.unsent:
+            self.send()
+            time.sleep(PAUSE)
         if self.hub.open:
             self.hub.send(frame(PING))
-            opcode, payload = (TEXT, self.hub.frames) if self.hub.frames else self.hub.read_frame()
-            compare(0, (PONG, b""), (opcode, payload))
+            came = (TEXT, self.hub.frames) if self.hub.frames else self.hub.read_frame()
+            if came != (PONG, b""):
+                raise Wrong(f"at the end: wanted nothing more\n        came   {came[1]}")
 
     # What is done or seen beside frames
 

@@ -89,4 +89,4 @@ class Proxy(Front):
         return ["node", HERE / "proxy.mjs", str(self.port), self.text]
 
 
-FRONTS = {"nginx": Nginx, "proxy": Proxy}
+FRONTS = {"nginx": Nginx, "closed": Nginx, "proxy": Proxy}

@@ -16,6 +16,7 @@ Blocks are marked behind their three ticks:
     messages             by twos, a message in JSON and in MessagePack, which `sr convert` has to make of each other
     fields CLIENT        the header fields of a client, and with the word `socket` those of its upgrades, for all blocks `by CLIENT`
     nginx, proxy         the text of a front, for all blocks `behind nginx` or `behind proxy` (fronts.py)
+    closed               what stands before nginx's `proxy_pass` for all blocks `behind closed`
 
 In an exchange `--` begins what is done or seen beside frames (`Exchange.ACTS`). A line with `# N from A to B` stands for as many, each with
 one number for N; LONG is 30,000 letters. What is sent in lines that stand together goes out in one message, but `by` a client, which sends
@@ -27,11 +28,13 @@ import subprocess
 import sys
 
 from exchanges import exchange, refused
-from fronts import FRONTS
+from fronts import FRONTS, put_once
 from raw import Ended, record
 from requested import Client, requests
 from serving import Serving
 from shown import Wrong, compare
+
+PASSES = "proxy_pass"
 
 
 class Block:
@@ -78,10 +81,15 @@ class Page:
         found = [block for block in self.blocks if block.kind == "fields" and block.words == list(words)]
         return found[0].text().splitlines() if found else []
 
-    def front(self, kind):
-        """The text of a front."""
+    def text(self, kind):
         (found,) = [block for block in self.blocks if block.kind == kind]
         return found.text()
+
+    def front(self, kind):
+        """The text of a front."""
+        if kind == "closed":
+            return put_once(self.text("nginx"), PASSES, f"{self.text('closed')}\n{PASSES}")
+        return self.text(kind)
 
 
 def converted(program, source, target, data):

@@ -8,9 +8,12 @@ const { createProxyServer } = createRequire(import.meta.url)("http-proxy");
 
 const [port, text] = process.argv.slice(2);
 const shown = new Function(`return { ${text} }`)();
-const rules = Object.entries(shown).map(([path, options]) => ({ path, proxy: createProxyServer(options) }));
-const proxyOf = ({ url }) => rules.find(({ path }) => url.startsWith(path)).proxy;
+const rules = Object.entries(shown).map(([path, options]) => ({ path, ws: options.ws, proxy: createProxyServer(options) }));
+const ruleOf = ({ url }) => rules.find(({ path }) => url.startsWith(path));
 
-const server = http.createServer((request, reply) => proxyOf(request).web(request, reply));
-server.on("upgrade", (request, socket, head) => proxyOf(request).ws(request, socket, head));
+const server = http.createServer((request, reply) => ruleOf(request).proxy.web(request, reply));
+server.on("upgrade", (request, socket, head) => {
+  const { ws, proxy } = ruleOf(request);
+  ws ? proxy.ws(request, socket, head) : socket.destroy();
+});
 server.listen(Number(port), "127.0.0.1");
