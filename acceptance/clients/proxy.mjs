@@ -11,9 +11,12 @@ const shown = new Function(`return { ${text} }`)();
 const rules = Object.entries(shown).map(([path, options]) => ({ path, ws: options.ws, proxy: createProxyServer(options) }));
 const ruleOf = ({ url }) => rules.find(({ path }) => url.startsWith(path));
 
-const server = http.createServer((request, reply) => ruleOf(request).proxy.web(request, reply));
+const server = http.createServer((request, reply) => {
+  const rule = ruleOf(request);
+  rule ? rule.proxy.web(request, reply) : reply.setHeader("Content-Type", "text/html").end(); // a page of the server's own
+});
 server.on("upgrade", (request, socket, head) => {
-  const { ws, proxy } = ruleOf(request);
-  ws ? proxy.ws(request, socket, head) : socket.destroy();
+  const rule = ruleOf(request);
+  rule?.ws ? rule.proxy.ws(request, socket, head) : socket.destroy();
 });
 server.listen(Number(port), "127.0.0.1");
