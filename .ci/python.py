@@ -11,6 +11,7 @@ TOP = pathlib.Path(__file__).resolve().parent.parent
 VERSION = (3, 9)
 # What these programs might reach for, with the version that brought it: modules, functions, and parameters of functions.
 NEWER = {
+    "TemporaryDirectory(ignore_cleanup_errors=)": "3.10",
     "aiter": "3.10",
     "anext": "3.10",
     "batched": "3.12",
