@@ -1,5 +1,5 @@
 -- What `clap` makes of the words after a command's name, and the commands that this crate gives it.
-use Rattle.std.specs.Prelude.{◌≡◌, ◌<◌, ◌^◌, ℕ, [], true, Some, None, Option, List}
+use Rattle.std.specs.Prelude.{◌≡◌, ◌<◌, ◌^◌, ℕ, [], true, Some, List}
 use Rattle.std.specs.Str.Parse.{IsNumeral, digits_value, without_leading_plus}
 use Rattle.clap.specs.Words.{App, Row, Rule, Text, new_app, new_rule, fault_of, first_of, matches_of}
 use Rattle.clap.specs.declared.builder.action.ArgAction.TheVariants.{Set}
@@ -35,11 +35,6 @@ pub record IsNumber (bits : ℕ) (text : Text) (n : ℕ) : Type 0 where
 -- these rows give the argument `id` a text that is this number
 abbrev pub SaysNumber : Text → ℕ → List Row → Type 0
 SaysNumber id n rows = (text : Text) × ((first_of id rows ≡ Some text) × IsNumber 64 text n)
-
--- an option's text says this value, or the option has no text and the value is the usual one
-abbrev pub SaysOr : {A : Type 0} → (Text → A → Type 0) → A → Option Text → A → Type 0
-SaysOr Says usual (Some text) value = Says text value
-SaysOr Says usual None value = value ≡ usual
 
 -- the text is the value itself
 abbrev pub IsItself : Text → Text → Type 0

@@ -2,9 +2,7 @@
 use Rattle.std.specs.Prelude.{◌≡◌, ◌≢◌, ◌≤◌, ℕ, List, [], ◌∷◌, Some, None, map, codes, String, string_bytes}
 use Rattle.std.specs.Net.Grammar.{IsIpText}
 use Rattle.std.specs.declared.alloc.Global.{Global}
-use Rattle.std.specs.declared.net.ip_addr.IpAddr.{IpAddr}
-use Rattle.std.specs.declared.net.ip_addr.IpAddr.TheVariants.{V4}
-use Rattle.clap.specs.Words.{App, Row, Text, first_of, matches_of, with_rule}
+use Rattle.clap.specs.Words.{App, Row, Text, matches_of, with_rule}
 use Rattle.hd_facts.specs.Unique.{IsTheOne}
 use Rattle.hm_message.specs.declared.message.Codec.{Codec}
 use Rattle.hm_message.specs.declared.message.Codec.TheVariants.{Json, Pack}
@@ -12,7 +10,8 @@ use Rattle.sr_words.specs.declared.commands.Command.{Command}
 use Rattle.sr_words.specs.declared.commands.Command.TheVariants.{Replay, Soak, Check, Convert, Serve}
 use Rattle.sr_words.specs.declared.serving.Serving.{Serving}
 use Rattle.sr_words.specs.declared.serving.Settings.{Settings}
-use Rattle.sr_words.specs.Clap.{Gives, IsItself, IsNumber, SaysNumber, SaysOr, Takes, bare_app, optional, required}
+use Rattle.sr_words.specs.Clap.{Gives, IsItself, IsNumber, SaysNumber, Takes, bare_app, required}
+use Rattle.sr_words.specs.Options.{Choice, SayAll, choice, names_of, with_options}
 
 abbrev pub codec_name : Codec → Text
 codec_name Json = codes "json"
@@ -22,18 +21,14 @@ codec_name Pack = codes "pack"
 abbrev pub most_steps : ℕ
 most_steps = 100000
 
--- what holds of a server if no option says otherwise
-abbrev pub default_port : ℕ
-default_port = 8080
-
-abbrev pub default_base : Text
-default_base = codes "/hub"
-
-abbrev pub default_turns : ℕ
-default_turns = 18446744073709551615
-
-abbrev pub loopback : IpAddr
-loopback = V4 (record { octets = 127 ∷ 0 ∷ 0 ∷ 1 ∷ [] })
+-- the options of `serve`: each with its name, its text if none is given, what a text says, and what it is of a server
+abbrev pub serve_options : List (Choice Serving)
+serve_options =
+    choice (codes "port") (codes "8080") (IsNumber 16) (λ serving. serving.port)
+    ∷ choice (codes "base") (codes "/hub") IsItself (λ serving. serving.base)
+    ∷ choice (codes "turns") (codes "18446744073709551615") (IsNumber 64) (λ serving. serving.turns)
+    ∷ choice (codes "listen") (codes "127.0.0.1") IsIpText (λ serving. serving.listen)
+    ∷ []
 
 -- what clap is told of the words after each name
 abbrev pub replay_app : App
@@ -49,15 +44,11 @@ abbrev pub convert_app : App
 convert_app = with_rule (with_rule (bare_app (codes "convert")) (required (codes "from"))) (required (codes "to"))
 
 abbrev pub serve_app : App
-serve_app = with_rule (with_rule (with_rule (with_rule (bare_app (codes "serve"))
-    (optional (codes "port"))) (optional (codes "base"))) (optional (codes "turns"))) (optional (codes "listen"))
+serve_app = with_options (bare_app (codes "serve")) (names_of serve_options)
 
--- what these rows give the four options says this, each by itself
-pub record SaysServing (rows : List Row) (serving : Serving) : Type 0 where
-  pub port_is : SaysOr (IsNumber 16) default_port (first_of (codes "port") rows) serving.port
-  pub base_is : SaysOr IsItself default_base (first_of (codes "base") rows) serving.base
-  pub turns_are : SaysOr (IsNumber 64) default_turns (first_of (codes "turns") rows) serving.turns
-  pub listen_is : SaysOr IsIpText loopback (first_of (codes "listen") rows) serving.listen
+-- what these rows give the options of `serve` says this
+abbrev pub SaysServing : List Row → Serving → Type 0
+SaysServing = SayAll serve_options
 
 -- the command of this name, with these words after it, asks for this
 abbrev pub AsksAfter : Text → List Text → Command → Type 0

@@ -7,12 +7,13 @@
 
 mod commands;
 mod error;
+mod reading;
 mod serving;
 mod words;
 
 pub use commands::Command;
 pub use error::WordsError;
-pub use serving::{DEFAULT_BASE, DEFAULT_PORT, DEFAULT_TURNS, LOOPBACK, Serving, Settings};
+pub use serving::{Serving, Settings};
 pub use words::{MOST_STEPS, parse, settings};
 
 #[cfg(test)]

@@ -1,29 +1,42 @@
-//! The options of `serve`: what each says, and what holds if it is not given. This file sees the text of each option,
-//! and doesn't know how clap found it.
+//! What `serve` is asked for, and its options, each by its name and what it says if the words give it no value.
 
-ghost use Rattle.std.specs.Prelude.{◌≡◌, ℕ, IfOk, IfErr, option_map};
-ghost use Rattle.std.specs.Net.Grammar.{IsIpText};
-ghost use Rattle.std.specs.declared.net.ip_addr.IpAddr.{IpAddr};
-ghost use Rattle.sr_words.specs.Clap.{IsItself, IsNumber, SaysOr};
-ghost use Rattle.sr_words.specs.Words.{default_base, default_port, default_turns, loopback};
-
-use crate::error::WordsError;
 use hv_value::Text;
-use std::alloc::{AllocError, Global};
 use std::fmt;
-use std::net::{IpAddr, Ipv4Addr};
+use std::net::IpAddr;
 
-/// The port, if no option names one.
-pub const DEFAULT_PORT: u16 = 8080;
+/// An option `--NAME VALUE` that may be absent.
+pub(crate) struct Choice {
+    pub(crate) name: &'static str,
+    /// The value if the words give none.
+    pub(crate) usual: &'static str,
+}
 
-/// The path under which the hub stands, if no option names one.
-pub const DEFAULT_BASE: &str = "/hub";
+/// The port. 0 asks the system for a free one.
+pub(crate) const PORT: Choice = Choice {
+    name: "port",
+    usual: "8080",
+};
 
-/// How many turns a server makes, if no option limits them: more than any server comes to.
-pub const DEFAULT_TURNS: u64 = u64::MAX;
+/// The path under which the hub stands.
+pub(crate) const BASE: Choice = Choice {
+    name: "base",
+    usual: "/hub",
+};
 
-/// The address at which a server listens, if no option names one: 127.0.0.1, which only this machine reaches.
-pub const LOOPBACK: IpAddr = IpAddr::V4(Ipv4Addr::LOCALHOST);
+/// How many turns a server makes; as a rule more than any comes to.
+pub(crate) const TURNS: Choice = Choice {
+    name: "turns",
+    usual: "18446744073709551615",
+};
+
+/// The address; as a rule that which only this machine reaches.
+pub(crate) const LISTEN: Choice = Choice {
+    name: "listen",
+    usual: "127.0.0.1",
+};
+
+/// All options of `serve`.
+pub(crate) const SERVE_OPTIONS: &[Choice] = &[PORT, BASE, TURNS, LISTEN];
 
 /// What `serve` is asked for.
 #[derive(Drop, PartialEq, Eq)]
@@ -57,62 +70,4 @@ pub struct Settings {
     pub port: Option<u16>,
     pub base: Option<Text>,
     pub listen: Option<IpAddr>,
-}
-
-/// What `--port` says: a number up to 65,535, which may have a plus and zeros before it. `NoCommand` if its text is no
-/// such number.
-pub fn port(text: Option<&str>) -> Result<u16, WordsError>
-    ensures said { IfOk result (SaysOr (IsNumber 16) default_port (option_map (λ s. s.now) text.entry)) }
-    ensures none { IfErr result (λ e. (e ≡ WordsError.NoCommand)
-        × ((port : ℕ) → SaysOr (IsNumber 16) default_port (option_map (λ s. s.now) text.entry) port → ⊥)) }
-{
-    let Some(text) = text else {
-        return Ok(DEFAULT_PORT);
-    };
-    match text.parse::<u16>() {
-        Ok(port) => Ok(port),
-        Err(_) => Err(WordsError::NoCommand),
-    }
-}
-
-/// What `--base` says, which is the text itself.
-pub fn base(alloc: Global, text: Option<&str>) -> Result<Text, AllocError>
-    ensures { IfOk result (SaysOr IsItself default_base (option_map (λ s. s.now) text.entry)) }
-{
-    let Some(text) = text else {
-        return Text::of(alloc, DEFAULT_BASE);
-    };
-    Text::of(alloc, text)
-}
-
-/// What `--turns` says: a number of 64 bits, which may have a plus and zeros before it. `NoCommand` if its text is no
-/// such number.
-pub fn turns(text: Option<&str>) -> Result<u64, WordsError>
-    ensures said { IfOk result (SaysOr (IsNumber 64) default_turns (option_map (λ s. s.now) text.entry)) }
-    ensures none { IfErr result (λ e. (e ≡ WordsError.NoCommand)
-        × ((turns : ℕ) → SaysOr (IsNumber 64) default_turns (option_map (λ s. s.now) text.entry) turns → ⊥)) }
-{
-    let Some(text) = text else {
-        return Ok(DEFAULT_TURNS);
-    };
-    match text.parse::<u64>() {
-        Ok(turns) => Ok(turns),
-        Err(_) => Err(WordsError::NoCommand),
-    }
-}
-
-/// What `--listen` says: an IP address of either version, without brackets. `NoCommand` if its text is no address, also
-/// if it is a host's name.
-pub fn address(text: Option<&str>) -> Result<IpAddr, WordsError>
-    ensures said { IfOk result (SaysOr IsIpText loopback (option_map (λ s. s.now) text.entry)) }
-    ensures none { IfErr result (λ e. (e ≡ WordsError.NoCommand)
-        × ((address : IpAddr) → SaysOr IsIpText loopback (option_map (λ s. s.now) text.entry) address → ⊥)) }
-{
-    let Some(text) = text else {
-        return Ok(LOOPBACK);
-    };
-    match text.parse::<IpAddr>() {
-        Ok(address) => Ok(address),
-        Err(_) => Err(WordsError::NoCommand),
-    }
 }

@@ -11,6 +11,8 @@ const JSON: Codec = Codec::Json;
 
 const PACK: Codec = Codec::Pack;
 
+const LOOPBACK: IpAddr = IpAddr::V4(Ipv4Addr::LOCALHOST);
+
 const NONE: Result<Command, WordsError> = Err(WordsError::NoCommand);
 
 /// Numbers are what `u64::from_str` of Rust's standard library takes.

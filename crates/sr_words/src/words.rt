@@ -1,16 +1,18 @@
 //! What the words of a command line ask for, command by command.
 
-ghost use Rattle.std.specs.Prelude.{◌≡◌, ℕ, Err, IfOk, IfErr, Some, true, false, codes};
+ghost use Rattle.std.specs.Prelude.{◌≡◌, ℕ, Err, IfOk, IfErr, Some, map, true, false, codes};
 ghost use Rattle.clap.specs.Words.{app_of, rule_of, first_of, found_of, is_simple_and_free, matches_of, rows_of};
 ghost use Rattle.hd_facts.specs.Unique.{IsTheOne};
 ghost use Rattle.sr_words.specs.Clap.{SaysNumber, Takes, bare_app, optional, required};
+ghost use Rattle.sr_words.specs.Options.{text_of, with_options};
 ghost use Rattle.sr_words.specs.Words.{AreSettings, Asks, AsksAfter, AsksNothingAfter, IsNoCommand, SaysServing, check_app, codec_name, convert_app, replay_app, serve_app, soak_app, texts};
 ghost use Rattle.hm_message.specs.declared.message.Codec.{Codec};
 ghost use Rattle.sr_words.specs.declared.serving.Serving.{Serving};
 
 use crate::commands::Command;
 use crate::error::WordsError;
-use crate::serving::{Serving, Settings, address, base, port, turns};
+use crate::reading::{address, base, number, port};
+use crate::serving::{BASE, Choice, LISTEN, PORT, SERVE_OPTIONS, Serving, Settings, TURNS};
 use clap::{Arg, ArgAction, ArgMatches};
 use hm_message::Codec;
 use std::alloc::{AllocError, Global};
@@ -39,6 +41,21 @@ fn optional<'a>(alloc: Global, name: &'a str) -> Arg<'a>
     ensures local { result.global ≡ false }
 {
     Arg::new(alloc, name).long(name).action(ArgAction::Set)
+}
+
+/// The command with these options.
+fn with_options<'a>(
+    alloc: Global,
+    command: clap::Command<'a>,
+    options: &'a [Choice],
+) -> Result<clap::Command<'a>, AllocError>
+    ensures { IfOk result (λ c. app_of c ≡ with_options (app_of command.entry) (map (λ o. o.name.now) options.now)) }
+{
+    let mut command = command;
+    for option in options {
+        command = command.arg(optional(alloc, option.name))?;
+    }
+    Ok(command)
 }
 
 /// What clap makes of these words.
@@ -103,8 +120,8 @@ fn check_words(alloc: Global, words: &[String]) -> Result<Command, WordsError>
 /// The most steps of a soak.
 pub const MOST_STEPS: u64 = 100_000;
 
-/// The number that this argument says, as Rust reads a `u64`.
-fn number(matches: &ArgMatches, id: &str) -> Result<u64, WordsError>
+/// The number that this argument says.
+fn number_of(matches: &ArgMatches, id: &str) -> Result<u64, WordsError>
     ensures said { IfOk result (λ n. SaysNumber id.now n (rows_of (found_of matches.now))) }
     ensures none { IfErr result (λ e. (e ≡ WordsError.NoCommand)
         × ((n : ℕ) → SaysNumber id.now n (rows_of (found_of matches.now)) → ⊥)) }
@@ -112,10 +129,7 @@ fn number(matches: &ArgMatches, id: &str) -> Result<u64, WordsError>
     let Some(text) = matches.get_str(id) else {
         return Err(WordsError::NoCommand);
     };
-    match text.parse::<u64>() {
-        Ok(n) => Ok(n),
-        Err(_) => Err(WordsError::NoCommand),
-    }
+    number(text)
 }
 
 /// The command `soak SEED STEPS`.
@@ -132,8 +146,8 @@ fn soak_words(alloc: Global, words: &[String]) -> Result<Command, WordsError>
     ensures no_command { result ≡ Err WordsError.NoCommand → AsksNothingAfter (codes "soak") (texts words.now) }
 {
     let matches = matches_in(soak_command(alloc)?, words)?;
-    let seed = number(&matches, "seed")?;
-    let steps = number(&matches, "steps")?;
+    let seed = number_of(&matches, "seed")?;
+    let steps = number_of(&matches, "steps")?;
     if steps > MOST_STEPS {
         return Err(WordsError::NoCommand);
     }
@@ -165,14 +179,18 @@ fn convert_words(alloc: Global, words: &[String]) -> Result<Command, WordsError>
     Ok(Command::Convert { from, to })
 }
 
-/// The command `serve` with its four options.
+/// The command `serve` with its options.
 fn serve_command<'a>(alloc: Global) -> Result<clap::Command<'a>, AllocError>
     ensures { IfOk result (λ command. app_of command ≡ serve_app) }
 {
-    let command = bare(alloc, "serve").arg(optional(alloc, "port"))?;
-    let command = command.arg(optional(alloc, "base"))?;
-    let command = command.arg(optional(alloc, "turns"))?;
-    command.arg(optional(alloc, "listen"))
+    with_options(alloc, bare(alloc, "serve"), SERVE_OPTIONS)
+}
+
+/// The text of this option, or its usual one.
+fn text<'a>(matches: &ArgMatches<'a>, option: &Choice) -> &'a str
+    ensures { result.now ≡ text_of option.now.name.now option.now.usual.now (rows_of (found_of matches.now)) }
+{
+    matches.get_str(option.name).unwrap_or(option.usual)
 }
 
 /// What the options that clap found ask of a server.
@@ -181,10 +199,10 @@ fn serving(alloc: Global, matches: &ArgMatches) -> Result<Serving, WordsError>
     ensures none { result ≡ Err WordsError.NoCommand
         → (serving : Serving) → SaysServing (rows_of (found_of matches.now)) serving → ⊥ }
 {
-    let port = port(matches.get_str("port"))?;
-    let base = base(alloc, matches.get_str("base"))?;
-    let turns = turns(matches.get_str("turns"))?;
-    let listen = address(matches.get_str("listen"))?;
+    let port = port(text(matches, &PORT))?;
+    let base = base(alloc, text(matches, &BASE))?;
+    let turns = number(text(matches, &TURNS))?;
+    let listen = address(text(matches, &LISTEN))?;
     Ok(Serving {
         port,
         base,

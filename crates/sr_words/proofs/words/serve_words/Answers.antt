@@ -1,11 +1,13 @@
-use Rattle.std.proofs.Common.{◌≡◌, ◌∙◌, List, ap, codes, refl, subst}
+use Rattle.std.proofs.Common.{◌≡◌, ◌∙◌, Err, List, Result, ap, codes, refl, subst, sym}
+use Rattle.std.proofs.lemmas.Result.{err_from_is_err_and}
 use Rattle.clap.specs.Words.{App, Row, Text, matches_of}
 use Rattle.sr_words.specs.declared.commands.Command.{Command}
 use Rattle.sr_words.specs.declared.commands.Command.TheVariants.{Replay, Soak, Check, Convert, Serve}
+use Rattle.sr_words.specs.declared.error.WordsError.{WordsError}
 use Rattle.sr_words.specs.declared.serving.Serving.{Serving}
 use Rattle.hd_facts.specs.Unique.{IsTheOne}
 use Rattle.sr_words.specs.Clap.{Takes}
-use Rattle.sr_words.specs.Words.{AsksAfter, SaysServing, serve_app, texts}
+use Rattle.sr_words.specs.Words.{AsksAfter, AsksNothingAfter, SaysServing, serve_app, texts}
 use Rattle.sr_words.proofs.Names.{apart, same_serving}
 use Rattle.sr_words.proofs.words.serve_words.Goals as goal
 
@@ -19,6 +21,30 @@ the_one rest serving takes says = record { holds = (refl, takes, says); only = o
     only (Check codec) asks = absurd (apart (codes "serve") (codes "check") refl asks.0)
     only (Convert from to) asks = absurd (apart (codes "serve") (codes "convert") refl asks.0)
     only (Serve other) asks = ap Serve (same_serving (matches_of serve_app rest) other serving asks.2 says)
+
+-- the rows that clap found for the words say what its rows for them say
+says_too : (own : App) (words : List Text) (rows : List Row) (serving : Serving) → own ≡ serve_app → rows ≡ matches_of own words
+    → SaysServing (matches_of serve_app words) serving → SaysServing rows serving
+says_too own words rows serving same found says =
+    subst (λ rows. SaysServing rows serving) (sym (found ∙ ap (λ app. matches_of app words) same)) says
+
+-- the name asks for no other command
+nothing : (rest : List Text) → ((serving : Serving) → SaysServing (matches_of serve_app rest) serving → ⊥) → AsksNothingAfter (codes "serve") rest
+nothing rest none Replay asks = apart (codes "serve") (codes "replay") refl asks.0
+nothing rest none (Soak seed steps) asks = apart (codes "serve") (codes "soak") refl asks.0
+nothing rest none (Check codec) asks = apart (codes "serve") (codes "check") refl asks.0
+nothing rest none (Convert from to) asks = apart (codes "serve") (codes "convert") refl asks.0
+nothing rest none (Serve serving) asks = none serving asks.2
+
+inside : {a b : WordsError} → ◌≡◌ {A = Result Command WordsError} (Err a) (Err b) → a ≡ b
+inside e = cc
+
+pub returns-in_err-serving-clause-no_command : goal.returns-in_err-serving-clause-no_command
+returns-in_err-serving-clause-no_command c =
+    let p = err_from_is_err_and c.from_residual-in_err-serving.result c.from_residual-in_err-serving.ensures.1 in
+    λ is. nothing (texts c.args.words.now) (λ serving says.
+    c.in_err-serving.ensures.none (ap Err (inside (ap Err (sym p.2) ∙ (sym p.1 ∙ is)))) serving
+    (says_too _ (texts c.args.words.now) _ serving c.in_ok-serve_command.ensures c.in_ok-matches.ensures.rows says))
 
 pub returns-clause-ok : goal.returns-clause-ok
 returns-clause-ok c =
