@@ -3,9 +3,10 @@
 
     acceptance/run.py [PROGRAM]      PROGRAM is bin/sr by default, and so the release if nothing newer was built
 
-A row has a name, the words of the command line, the input, the output that is wanted and the exit status. An input or an
-output is one piece or a list of them, one after the other. A piece is a text, in which the sign ␞ stands for the record
-separator (the byte 1E), or one of these:
+A row has a name, the words of the command line (with quotes as in a shell), the input, the output that is wanted and the
+exit status, and it may have an error, with which standard error is to begin. An input or an output is one piece or a list of
+them, one after the other. A piece is a text, in which the sign ␞ stands for the record separator (the byte 1E), or one of
+these:
 
     { named = "opening" }                         a text of the file's table `pieces`
     { text = "s read 1\\n", times = 117 }          a text, so many times
@@ -16,6 +17,7 @@ The last line is 'N passed, N failed'; the status is 0 if none failed."""
 import concurrent.futures
 import os
 import pathlib
+import shlex
 import subprocess
 import sys
 
@@ -53,15 +55,17 @@ def shown(data, other):
 
 def faults(program, row, named):
     """What is wrong with what the program does at a row, in lines."""
-    want = bytes_of(row["output"], named)
+    want, error = bytes_of(row["output"], named), row.get("error", "").encode()
     try:
-        run = subprocess.run([program, *row["words"].split()], input=bytes_of(row["input"], named), capture_output=True, timeout=SECONDS)
+        run = subprocess.run([program, *shlex.split(row["words"])], input=bytes_of(row["input"], named), capture_output=True, timeout=SECONDS)
     except subprocess.TimeoutExpired:
         return [f"it didn't end in {SECONDS} s"]
-    if (run.stdout, run.returncode) == (want, row["status"]):
-        return []
-    lines = [f"want {row['status']} {shown(want, run.stdout)}", f"got  {run.returncode} {shown(run.stdout, want)}"]
-    return lines + [f"standard error {run.stderr[:SHOWN]!r}"]
+    lines = []
+    if (run.stdout, run.returncode) != (want, row["status"]):
+        lines += [f"want {row['status']} {shown(want, run.stdout)}", f"got  {run.returncode} {shown(run.stdout, want)}"]
+    if lines or not run.stderr.startswith(error):
+        lines += [f"want standard error {error!r}", f"got  standard error {run.stderr[:SHOWN]!r}"]
+    return lines
 
 
 def main():

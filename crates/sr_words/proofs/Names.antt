@@ -39,5 +39,5 @@ same_number id rows m n x y =
 -- rows ask for one server
 pub same_serving : (rows : List Row) (a b : Serving) → SaysServing rows a → SaysServing rows b → a ≡ b
 same_serving rows a b x y =
-    let same = agree serve_options rows a b (one_number 16, (λ text s t is is_too. is ∙ sym is_too, (one_number 64, (IsIpText_unique, tt)))) x y in
+    let same = agree serve_options rows a b (one_number 16, (λ text s t is is_too. is.1 ∙ sym is_too.1, (one_number 64, (IsIpText_unique, tt)))) x y in
     λ i. record { port = same.0 i; base = same.1.0 i; turns = same.1.1.0 i; listen = same.1.1.1.0 i }

@@ -35,7 +35,3 @@ pub record IsNumber (bits : ℕ) (text : Text) (n : ℕ) : Type 0 where
 -- these rows give the argument `id` a text that is this number
 abbrev pub SaysNumber : Text → ℕ → List Row → Type 0
 SaysNumber id n rows = (text : Text) × ((first_of id rows ≡ Some text) × IsNumber 64 text n)
-
--- the text is the value itself
-abbrev pub IsItself : Text → Text → Type 0
-IsItself text value = value ≡ text

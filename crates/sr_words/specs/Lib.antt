@@ -1,3 +1,4 @@
+pub mod Base
 pub mod Clap
 pub mod Options
 pub mod Words

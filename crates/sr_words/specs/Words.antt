@@ -10,7 +10,8 @@ use Rattle.sr_words.specs.declared.commands.Command.{Command}
 use Rattle.sr_words.specs.declared.commands.Command.TheVariants.{Replay, Soak, Check, Convert, Serve}
 use Rattle.sr_words.specs.declared.serving.Serving.{Serving}
 use Rattle.sr_words.specs.declared.serving.Settings.{Settings}
-use Rattle.sr_words.specs.Clap.{Gives, IsItself, IsNumber, SaysNumber, Takes, bare_app, required}
+use Rattle.sr_words.specs.Base.{IsBase}
+use Rattle.sr_words.specs.Clap.{Gives, IsNumber, SaysNumber, Takes, bare_app, required}
 use Rattle.sr_words.specs.Options.{Choice, SayAll, choice, names_of, with_options}
 
 abbrev pub codec_name : Codec → Text
@@ -25,7 +26,7 @@ most_steps = 100000
 abbrev pub serve_options : List (Choice Serving)
 serve_options =
     choice (codes "port") (codes "8080") (IsNumber 16) (λ serving. serving.port)
-    ∷ choice (codes "base") (codes "/hub") IsItself (λ serving. serving.base)
+    ∷ choice (codes "base") (codes "/hub") IsBase (λ serving. serving.base)
     ∷ choice (codes "turns") (codes "18446744073709551615") (IsNumber 64) (λ serving. serving.turns)
     ∷ choice (codes "listen") (codes "127.0.0.1") IsIpText (λ serving. serving.listen)
     ∷ []

@@ -1,13 +1,15 @@
 //! What the text of an option or an argument says. This file doesn't know how `clap` found it.
 
-ghost use Rattle.std.specs.Prelude.{◌≡◌, ℕ, IfOk, IfErr};
+ghost use Rattle.std.specs.Prelude.{◌≡◌, ◌↔◌, ℕ, List, Err, IfOk, IfErr, IsTrue};
+ghost use Rattle.std.specs.List.{list_all};
 ghost use Rattle.std.specs.Net.Grammar.{IsIpText};
 ghost use Rattle.std.specs.declared.net.ip_addr.IpAddr.{IpAddr};
-ghost use Rattle.sr_words.specs.Clap.{IsItself, IsNumber};
+ghost use Rattle.sr_words.specs.Base.{IsBase, IsPath, is_path_byte};
+ghost use Rattle.sr_words.specs.Clap.{IsNumber};
 
 use crate::error::WordsError;
 use hv_value::Text;
-use std::alloc::{AllocError, Global};
+use std::alloc::Global;
 use std::net::IpAddr;
 
 /// The port that a text says: a number up to 65,535, which may have a plus and zeros before it.
@@ -34,11 +36,39 @@ pub(crate) fn number(text: &str) -> Result<u64, WordsError>
     }
 }
 
-/// The base that a text says, which is the text itself.
-pub(crate) fn base(alloc: Global, text: &str) -> Result<Text, AllocError>
-    ensures { IfOk result (IsItself text.now) }
+/// Whether a path may have this byte as it stands.
+fn is_path_byte(byte: u8) -> bool
+    ensures { result ≡ is_path_byte byte }
 {
-    Text::of(alloc, text)
+    byte > b' ' && byte < 0x7F && !b"\"#<>?\\^`{|}".contains(&byte)
+}
+
+/// Whether each of these bytes may stand in a path.
+fn has_path_bytes(text: &[u8]) -> bool
+    ensures { result ≡ list_all is_path_byte text.now }
+{
+    text.iter().all(|&byte| is_path_byte(byte))
+}
+
+/// Whether this is a path from the root that doesn't end with a slash.
+fn is_path(text: &[u8]) -> bool
+    ensures { IsTrue result ↔ IsPath text.now }
+{
+    text.first().copied() == Some(b'/')
+        && text.last().copied() != Some(b'/')
+        && has_path_bytes(text)
+}
+
+/// The base that a text says, which is the text itself: it begins with a slash, ends with none, and has only bytes that
+/// the path of a request's target may have (RFC 9112, section 3.2, and RFC 3986, section 3.3) or brackets.
+pub(crate) fn base(alloc: Global, text: &str) -> Result<Text, WordsError>
+    ensures said { IfOk result (IsBase text.now) }
+    ensures none { result ≡ Err WordsError.NoCommand → (base : List ℕ) → IsBase text.now base → ⊥ }
+{
+    if !is_path(text.as_bytes()) {
+        return Err(WordsError::NoCommand);
+    }
+    Ok(Text::of(alloc, text)?)
 }
 
 /// The IP address of either version that a text says, without brackets. A host's name is none.

@@ -43,7 +43,7 @@ pub(crate) const SERVE_OPTIONS: &[Choice] = &[PORT, BASE, TURNS, LISTEN];
 pub struct Serving {
     /// The port at which the server listens. 0 asks the system for a free one.
     pub port: u16,
-    /// The path under which the hub stands. Any text is taken, the empty one too.
+    /// The path under which the hub stands. It begins with a slash and doesn't end with one.
     pub base: Text,
     /// The server makes at most this many turns.
     pub turns: u64,

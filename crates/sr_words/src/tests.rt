@@ -153,11 +153,11 @@ fn asked(alloc: Global, wanted: Option<Served>) -> Result<Result<Command, WordsE
 #[test]
 fn serve_asks(rt: HostRuntime) -> Result<(), Fail> {
     let all: &[&str] = &[
-        "serve", "--listen", "::1", "--turns", "7", "--base", "/", "--port", "1",
+        "serve", "--listen", "::1", "--turns", "7", "--base", "/a", "--port", "1",
     ];
     let everything = Some(Served {
         port: 1,
-        base: "/",
+        base: "/a",
         turns: 7,
         listen: V6_LOOPBACK,
     });
@@ -180,9 +180,9 @@ fn serve_asks(rt: HostRuntime) -> Result<(), Fail> {
         (&["serve", "-p", "1"], None),
         (&["serve", "--por", "1"], None),
         (&["serve", "--base", "/calc"], under("/calc")),
-        (&["serve", "--base", ""], under("")),
-        (&["serve", "--base="], under("")),
-        (&["serve", "--base=a=b"], under("a=b")),
+        (&["serve", "--base", ""], None),
+        (&["serve", "--base="], None),
+        (&["serve", "--base=a=b"], None),
         (&["serve", "--base"], None),
         (
             &["serve", "--turns", "18446744073709551615"],
