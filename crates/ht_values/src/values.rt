@@ -1,136 +1,68 @@
-//! Tests of `hv_value`.
-use crate::make::{int, list, nested, text};
-use hv_value::{Blob, Items, Texts, Value, ValueError, Whole};
-use std::test::Fail;
+//! Values themselves, whatever codec carries them.
 
-#[test]
-fn whole_numbers(rt: HostRuntime) -> Result<(), Fail> {
-    let cases: [(i128, bool); 6] = [
-        (-9_223_372_036_854_775_809, false),
-        (-9_223_372_036_854_775_808, true),
-        (0, true),
-        (18_446_744_073_709_551_615, true),
-        (18_446_744_073_709_551_616, false),
-        (170_141_183_460_469_231_731_687_303_715_884_105_727, false),
-    ];
-    for (n, is_whole) in cases {
-        let wanted = if is_whole { Some(n) } else { None };
-        assert_eq!(rt; Whole::of(n).map(|w| w.get()), wanted);
+use crate::words::whole_number;
+use ht_kit::{Stop, first_word, number, told};
+use hv_value::{Items, Text, Value, ValueError, Whole};
+use std::alloc::{AllocError, Global};
+
+/// The number, if a value can be it.
+pub fn whole_words(alloc: Global, word: &str) -> Result<String, Stop> {
+    match Whole::of(whole_number(word)?) {
+        Some(whole) => Ok(format!(in alloc; "{}", whole.get())?),
+        None => told(alloc, "none"),
     }
-    assert_eq!(rt; Whole::from(u64::MAX).get(), 18_446_744_073_709_551_615);
-    assert_eq!(rt; Whole::from(i64::MIN).get(), -9_223_372_036_854_775_808);
-    Ok(())
 }
 
-#[test]
-fn texts_and_bytes(rt: HostRuntime) -> Result<(), Fail> {
-    let one = text(&rt, "grüße")?;
-    assert_eq!(rt; one.as_str(), "grüße");
-    assert!(rt; one.copy()? == one);
-    assert!(rt; one != text(&rt, "grüsse")?);
-
-    let bytes = Blob::of(rt.alloc(), b"\x00\xff")?;
-    assert_eq!(rt; bytes.bytes(), b"\x00\xff".as_slice());
-    assert!(rt; bytes.copy()? == bytes);
-    assert!(rt; bytes != Blob::of(rt.alloc(), b"\x00")?);
-
-    let mut strings = Vec::new(rt.alloc());
-    strings.push(one)?;
-    strings.push(text(&rt, "")?)?;
-    let texts = Texts::of(strings);
-    assert_eq!(rt; texts.texts().len(), 2);
-    let copy = texts.copy()?;
-    assert!(rt; copy == texts);
-    assert!(rt; copy != Texts::of(Vec::new(rt.alloc())));
-    Ok(())
-}
-
-/// The vectors of RFC 4648, section 10.
-#[test]
-fn base64_of_bytes(rt: HostRuntime) -> Result<(), Fail> {
-    let cases: [(&[u8], &str); 7] = [
-        (b"", ""),
-        (b"f", "Zg=="),
-        (b"fo", "Zm8="),
-        (b"foo", "Zm9v"),
-        (b"foob", "Zm9vYg=="),
-        (b"fooba", "Zm9vYmE="),
-        (b"foobar", "Zm9vYmFy"),
-    ];
-    for (bytes, encoded) in cases {
-        let value = Value::Bytes(Blob::of(rt.alloc(), bytes)?);
-        let image = value.json_image()?;
-        assert!(rt; image == Value::Text(text(&rt, encoded)?));
-        assert!(rt; image != value);
-    }
-    Ok(())
-}
-
-/// Pairs in no order, twice: a few of them, and more than are put in one by one.
-#[test]
-fn maps(rt: HostRuntime) -> Result<(), Fail> {
-    for more in [0u8, 20] {
-        let mut pairs = Vec::new(rt.alloc());
-        for n in 0..more {
-            let key = [b'z', b'z' - n];
-            let key = std::str::from_utf8(&key).ok().ok_or("a text")?;
-            pairs.push((text(&rt, key)?, int(7)?))?;
-        }
-        for (key, n) in [("b", 1), ("é", 2), ("a", 3), ("b", 4), ("", 5), ("Z", 6)] {
-            pairs.push((text(&rt, key)?, int(n)?))?;
-        }
-        let Value::Map(map) = Value::map_from(pairs).ok().ok_or("a map")? else {
-            return Err("a map".into());
-        };
-        assert!(rt; map.copy()? == map);
-        let wanted = [("", 5), ("Z", 6), ("a", 3), ("b", 4)];
-        let count = wanted.len() + usize::from(more) + 1;
-        assert_eq!(rt; map.pairs().len(), count);
-        let found = map.into_pairs();
-        for (i, (key, n)) in wanted.into_iter().enumerate() {
-            let pair = found.get(i).ok_or("a pair")?;
-            assert_eq!(rt; pair.0.as_str(), key);
-            assert!(rt; pair.1 == int(n)?);
-        }
-        let last = found.last().ok_or("a pair")?;
-        assert_eq!(rt; last.0.as_str(), "é");
-    }
-    Ok(())
-}
-
-#[test]
-fn depths(rt: HostRuntime) -> Result<(), Fail> {
-    let empty = Items::of(Vec::new(rt.alloc())).ok().ok_or("a list")?;
-    assert_eq!(rt; empty.values().len(), 0);
-    assert!(rt; empty.copy()? == empty);
-    assert_eq!(rt; Value::List(empty).depth(), 1);
-    let no_pairs = Value::map_from(Vec::new(rt.alloc())).ok().ok_or("a map")?;
-    assert_eq!(rt; no_pairs.depth(), 1);
-    assert_eq!(rt; int(7)?.depth(), 0);
-
-    let deepest = nested(&rt, 64)?;
-    assert_eq!(rt; deepest.depth(), 64);
-    assert!(rt; deepest.json_image()? == deepest);
-    assert!(rt; deepest != nested(&rt, 63)?);
-
-    let mut values = Vec::new(rt.alloc());
-    values.push(deepest.copy()?)?;
-    let error = Items::of(values).err().ok_or("an error")?;
-    assert_eq!(rt; error, ValueError::TooDeep);
-    assert_eq!(rt;
-        format!(in rt.alloc(); "{error}")?.as_str(),
-        "a value nests deeper than 64 levels"
-    );
-    let mut pairs = Vec::new(rt.alloc());
-    pairs.push((text(&rt, "key")?, deepest))?;
-    pairs.push((text(&rt, "key")?, Value::Null))?;
-    assert_eq!(rt; Value::map_from(pairs).err(), Some(ValueError::TooDeep));
-
-    let mut values = Vec::new(rt.alloc());
-    values.push(int(1)?)?;
-    let Value::List(items) = list(values)? else {
-        return Err("a list".into());
+/// The number of a type of the language.
+pub fn from_words(alloc: Global, words: &str) -> Result<String, Stop> {
+    let (kind, word) = first_word(words);
+    let whole = match kind {
+        "u64" => Whole::from(number(word)?),
+        "i64" => Whole::from(word.parse::<i64>().ok().ok_or(Stop::Refused)?),
+        _ => return Err(Stop::Refused),
     };
-    assert_eq!(rt; items.into_values().len(), 1);
-    Ok(())
+    Ok(format!(in alloc; "{}", whole.get())?)
+}
+
+/// Whether copies of a value and of what it is made of are the same.
+pub fn is_copied(value: &Value) -> Result<bool, AllocError> {
+    Ok(value.copy()? == *value && is_content_copied(value)?)
+}
+
+fn is_content_copied(value: &Value) -> Result<bool, AllocError> {
+    match value {
+        Value::Text(text) => Ok(text.copy()? == *text),
+        Value::Bytes(bytes) => Ok(bytes.copy()? == *bytes),
+        Value::List(items) => Ok(items.copy()? == *items),
+        Value::Map(entries) => Ok(entries.copy()? == *entries),
+        _ => Ok(true),
+    }
+}
+
+/// How many values are in a list of this one, or why there is no list.
+pub fn list_words(alloc: Global, value: Value) -> Result<String, Stop> {
+    let mut values = Vec::new(alloc);
+    values.push(value)?;
+    match Items::of(values) {
+        Ok(items) => Ok(format!(in alloc; "{}", items.into_values().len())?),
+        Err(error) => refusal_words(alloc, error),
+    }
+}
+
+/// How deep a map nests in which the value is replaced, or why there is no map.
+pub fn map_words(alloc: Global, value: Value) -> Result<String, Stop> {
+    let mut pairs = Vec::new(alloc);
+    pairs.push((Text::of(alloc, "key")?, value))?;
+    pairs.push((Text::of(alloc, "key")?, Value::Null))?;
+    match Value::map_from(pairs) {
+        Ok(map) => Ok(format!(in alloc; "{}", map.depth())?),
+        Err(error) => refusal_words(alloc, error),
+    }
+}
+
+fn refusal_words(alloc: Global, error: ValueError) -> Result<String, Stop> {
+    match error {
+        ValueError::NoMemory => Err(Stop::NoMemory),
+        ValueError::TooDeep => Ok(format!(in alloc; "{error}")?),
+    }
 }
