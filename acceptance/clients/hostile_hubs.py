@@ -11,6 +11,11 @@ EARLY = 5  # seconds before the end of a half minute, of which a busy machine ma
 JSON = '{"protocol":"json","version":1}'
 PACK = '{"protocol":"messagepack","version":1}'
 SLOW = '{"type":1,"invocationId":"%d","target":"Slow","arguments":[1000000,0]}'
+WHOLE_REPLY = (
+    '200 application/json 2 True {"availableTransports":[{"transferFormats":["Text","Binary"],"transport":"WebSockets"},'
+    '{"transferFormats":["Text","Binary"],"transport":"LongPolling"}],"connectionId":N,"connectionToken":TOKEN,"negotiateVersion":1,'
+    '"useStatefulReconnect":true}'
+)
 
 
 def said(*texts, handshake=JSON):
@@ -242,6 +247,33 @@ def polls_on(port):
     return f"{replaced}, {status} {body.decode().strip(chr(30))} {'on time' if on_time else f'after {took:.1f} s'}"
 
 
+def used_late(port):
+    """A token that is used a second before its half minute is over."""
+    target = negotiated(port, "&useStatefulReconnect=true")
+    time.sleep(SILENCE - 1)
+    hub = Hub(port, target)
+    return f"{hub.status} {hub.shake(2)}"
+
+
+def refused_upgrade(port):
+    """A lane whose upgrade is refused speaks HTTP on, and the frame that comes then is no request."""
+    hub = Hub(port, "/hub?id=" + "A" * 31 + "B")
+    hub.say(JSON)
+    return f"{hub.status}, {hub.reply()[0]}, {hub.end()}"
+
+
+def whole_reply(port):
+    """All bytes with which a negotiate is answered, but for its token and its number."""
+    lane = Raw(port)
+    lane.ask("POST", NEGOTIATE + "&useStatefulReconnect=true")
+    status, fields, body = lane.reply()
+    told = json.loads(body)
+    number, token = told["connectionId"], told["connectionToken"]
+    fits = len(body) == 272 + len(number) and number.isdigit() and len(token) == 32
+    text = body.decode().replace(f'"{number}"', "N").replace(f'"{token}"', "TOKEN")
+    return f"{status} {fields['content-type']} {len(fields)} {fits} {text}"
+
+
 def unused(port):
     target = negotiated(port)
     time.sleep(SILENCE + LATE)
@@ -285,6 +317,8 @@ HUB_CASES = [
     ("a socket that takes over", "closed 1000, 101, 409, 5", taken_over),
     ("a client that acknowledges late", 'waits, True, {"invocationId":"1","type":3}', acknowledges_late),
     ("a member that never acknowledges", "1, " + closed_for("Too slow."), never_acknowledges),
+    ("a token that nobody has", "404, 400, ended", refused_upgrade),
+    ("a negotiate's whole reply", WHOLE_REPLY, whole_reply),
     ("a client that never polls", "[200, 404], " + closed_for("Too many calls.").removesuffix(" closed 1000") + ", 204", never_polls),
 ]
 
@@ -292,6 +326,7 @@ SLOW_HUB_CASES = [
     ("a kept connection that doesn't come back", "404", lost_and_late),
     ("a kept connection that comes back after 25 s", '101 {"sequenceId":1,"type":9}', lost_and_back),
     ("a token that isn't used", "404", unused),
+    ("a token that is used late", "101 {}", used_late),
     ("a client that only listens", '{"type":6}, closed 1000, on time, 101 {"sequenceId":1,"type":9}', only_listens),
     ("a client that polls once", '200 {"error":"Connection expired.","type":7}, 204, 404', polls_once),
     ("a client that only polls", '204, 200 {"type":6} on time', polls_on),

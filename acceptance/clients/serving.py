@@ -19,14 +19,14 @@ def free_port():
 class Serving:
     """The program while it serves. What it writes on standard error, and that it ends before it is told to, are complaints."""
 
-    def __init__(self, program):
-        self.program = program
+    def __init__(self, program, *options):
+        self.program, self.options = program, options
 
     def __enter__(self):
         self.port = free_port()
         self.base = f"http://{HOST}:{self.port}/hub"
         self.errors = tempfile.TemporaryFile()
-        command = [self.program, "serve", "--port", str(self.port), "--turns", str(TURNS)]
+        command = [self.program, "serve", "--port", str(self.port), "--turns", str(TURNS), *self.options]
         self.process = subprocess.Popen(command, stdout=subprocess.PIPE, stderr=self.errors)
         ready, _, _ = select.select([self.process.stdout], [], [], START)
         line = self.process.stdout.readline() if ready else b""

@@ -4,7 +4,7 @@ use crate::serving::Serving;
 use hm_message::Codec;
 
 /// What the words of a command line ask for.
-#[derive(Drop, Debug, PartialEq, Eq)]
+#[derive(Drop, PartialEq, Eq)]
 pub enum Command {
     /// To replay a script.
     Replay,

@@ -15,6 +15,3 @@ pub use commands::Command;
 pub use error::WordsError;
 pub use serving::{Serving, Settings};
 pub use words::{MOST_STEPS, parse, settings};
-
-#[cfg(test)]
-mod tests;

@@ -1,7 +1,6 @@
 //! What `serve` is asked for, and its options, each by its name and what it says if the words give it no value.
 
 use hv_value::Text;
-use std::fmt;
 use std::net::IpAddr;
 
 /// An option `--NAME VALUE` that may be absent.
@@ -49,18 +48,6 @@ pub struct Serving {
     pub turns: u64,
     /// The address at which the server listens.
     pub listen: IpAddr,
-}
-
-/// By hand, because `Text` has no `Debug`.
-impl fmt::Debug for Serving {
-    fn fmt<W: fmt::Write>(&self, f: &mut fmt::Formatter<W>) -> fmt::Result {
-        f.debug_struct("Serving")
-            .field("port", &self.port)
-            .field("base", &self.base.as_str())
-            .field("turns", &self.turns)
-            .field("listen", &self.listen)
-            .finish()
-    }
 }
 
 /// What has to be known before the objects are made that a command runs over. Each is `None` for a command other than
