@@ -1,4 +1,6 @@
 """A server of the program for one test, on a free port of this machine."""
+import contextlib
+import random
 import select
 import socket
 import subprocess
@@ -6,14 +8,18 @@ import sys
 import tempfile
 
 HOST = "127.0.0.1"
+PORTS = range(10_000, 32_768)  # Linux gives connections those from 32,768 on
 START = 60  # seconds until it serves
 TURNS = 50_000_000  # it ends by itself some day, should the test be killed
 
 
 def free_port():
-    with socket.socket() as found:
-        found.bind((HOST, 0))
-        return found.getsockname()[1]
+    """A port that nobody has. Connections are given none of PORTS, so that none takes it before the program listens there."""
+    while True:
+        port = random.choice(PORTS)
+        with contextlib.suppress(OSError), socket.socket() as found:
+            found.bind((HOST, port))
+            return port
 
 
 class Serving:
