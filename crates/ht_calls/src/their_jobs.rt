@@ -13,11 +13,11 @@
 //! job does.
 
 use crate::report::{kind_name, push_act, push_id};
-use crate::words::{ending, ids, text, text_if_any, value, values};
+use crate::words::{ids, text, text_if_any, value, values};
 use hd_calls::{Call, CallKind, Input, UnknownId};
 use hj_jobs::{AcceptError, InputError, Jobs, Stepped};
 use ht_kit::{Stop, first_word, number};
-use ht_words::call_kind;
+use ht_words::{call_kind, ending};
 use hub_calc::CalcHub;
 use hv_value::Text;
 use std::alloc::{AllocError, Global};
@@ -166,7 +166,7 @@ fn answered(alloc: Global, answered: Result<(), UnknownId>) -> Result<String, St
 
 fn answer_ask(alloc: Global, jobs: &mut Jobs<CalcHub>, words: &str) -> Result<String, Stop> {
     let (job, words) = first_word(words);
-    let ending = ending(alloc, words)?;
+    let ending = ending(alloc, words, value)?;
     answered(alloc, jobs.answer(number(job)?, Input::Asked(ending)))
 }
 

@@ -1,7 +1,6 @@
 //! The words of a script: numbers, values, kinds, and lists of them. A word that is none of what is wanted is refused.
 
-use hm_message::Ending;
-use ht_kit::{Stop, first_word};
+use ht_kit::Stop;
 use hv_value::{Items, Text, Texts, Value, Whole};
 use std::alloc::Global;
 
@@ -51,15 +50,4 @@ pub fn ids(alloc: Global, word: &str) -> Result<Texts, Stop> {
         }
     }
     Ok(Texts::of(ids))
-}
-
-/// `void`, `result VALUE` or `error TEXT`.
-pub fn ending(alloc: Global, words: &str) -> Result<Ending, Stop> {
-    let (word, rest) = first_word(words);
-    match word {
-        "void" => Ok(Ending::Void),
-        "result" => Ok(Ending::Result(value(alloc, rest)?)),
-        "error" => Ok(Ending::Error(text(alloc, rest)?)),
-        _ => Err(Stop::Refused),
-    }
 }

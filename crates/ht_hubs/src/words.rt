@@ -1,7 +1,6 @@
 //! The words of a script. A word that is none of what is wanted is refused.
 
-use hm_message::Ending;
-use ht_kit::{Stop, first_word};
+use ht_kit::Stop;
 use hv_value::{Text, Value, Whole};
 use std::alloc::Global;
 
@@ -23,15 +22,5 @@ pub fn value(alloc: Global, word: &str) -> Result<Value, Stop> {
     match word.parse::<i128>() {
         Ok(number) => Ok(Value::Int(Whole::of(number).ok_or(Stop::Refused)?)),
         Err(_) => Ok(Value::Text(name(alloc, word)?)),
-    }
-}
-
-pub fn ending(alloc: Global, words: &str) -> Result<Ending, Stop> {
-    let (word, rest) = first_word(words);
-    match word {
-        "void" => Ok(Ending::Void),
-        "result" => Ok(Ending::Result(value(alloc, rest)?)),
-        "error" => Ok(Ending::Error(text(alloc, rest)?)),
-        _ => Err(Stop::Refused),
     }
 }

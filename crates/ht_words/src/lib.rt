@@ -7,7 +7,10 @@ ghost use Rattle.hs_shake.specs.Requests.{IsVersion};
 
 use hd_calls::CallKind;
 use hd_delivery::Reason;
-use ht_kit::Stop;
+use hm_message::Ending;
+use ht_kit::{Stop, first_word};
+use hv_value::{Text, Value};
+use std::alloc::Global;
 
 /// `1`, `2` or `3`: a version of the protocol.
 pub fn version(word: &str) -> Result<u8, Stop>
@@ -41,6 +44,23 @@ pub fn call_kind(word: &str) -> Result<CallKind, Stop> {
         "notify" => Ok(CallKind::Notify),
         "call" => Ok(CallKind::Call),
         "stream" => Ok(CallKind::Stream),
+        _ => Err(Stop::Refused),
+    }
+}
+
+/// `void`, `result VALUE` or `error TEXT`: how a call ends. The words of a value are each program's own.
+pub fn ending<F: FnOnce(Global, &str) -> Result<Value, Stop>>(
+    alloc: Global,
+    words: &str,
+    value: F,
+) -> Result<Ending, Stop>
+    requires { F.IsAlwaysCallable value }
+{
+    let (word, rest) = first_word(words);
+    match word {
+        "void" => Ok(Ending::Void),
+        "result" => Ok(Ending::Result(value(alloc, rest)?)),
+        "error" => Ok(Ending::Error(Text::of(alloc, rest)?)),
         _ => Err(Stop::Refused),
     }
 }
