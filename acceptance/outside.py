@@ -10,11 +10,13 @@ import os
 import pathlib
 import re
 import resource
+import select
 import signal
 import socket
 import subprocess
 import sys
 import tempfile
+import time
 import tty
 
 HERE = pathlib.Path(__file__).resolve().parent
@@ -25,6 +27,7 @@ from serving import Serving  # noqa: E402
 SECONDS = 120
 USUAL_PORT = 8080
 LITTLE_MEMORY = 1 << 20  # bytes; a script may have as many
+FEW_DESCRIPTORS = 40
 # Two messages, of which the server reads the first alone and then the rest.
 SCRIPT = b"""open
 accept 0
@@ -169,6 +172,29 @@ def longest_soak(program):
     return status, bool(re.fullmatch(LONGEST_SOAK, written))
 
 
+def are_shut(connections, count):
+    """Whether so many of these are shut by their peer, within some seconds."""
+    until = time.monotonic() + 5
+    while time.monotonic() < until:
+        ready, _, _ = select.select(connections, [], [], 0.1)
+        if len([it for it in ready if it.recv(1, socket.MSG_PEEK) == NOTHING]) >= count:
+            return True
+    return False
+
+
+def few_descriptors(program):
+    """Whether of twice as many connections as a server has descriptors the half is shut at once, and how it answers when all are gone."""
+    with Serving(program) as server, contextlib.ExitStack() as opened:
+        resource.prlimit(server.process.pid, resource.RLIMIT_NOFILE, (FEW_DESCRIPTORS, FEW_DESCRIPTORS))
+        there = [socket.create_connection(("127.0.0.1", server.port)) for _ in range(2 * FEW_DESCRIPTORS)]
+        for connection in there:
+            opened.enter_context(connection)
+        half = are_shut(there, FEW_DESCRIPTORS)
+        opened.close()
+        time.sleep(0.5)  # until the server has seen it
+        return half, Raw(server.port).http("POST", "/hub/negotiate?negotiateVersion=1")[0]
+
+
 def another_base(program):
     """The path of the hub is that of `--base`, and no other."""
     with Serving(program, "--base", "/calc/v1") as server:
@@ -203,6 +229,7 @@ CASES = {
     "a port that is taken, at all addresses": of_port("0.0.0.0", "serve --listen 0.0.0.0 --port PORT", (5, SERVES, True)),
     "a port that is taken, in IPv6": of_port("::1", "serve --listen ::1 --port PORT", (5, SERVES, True)),
     "a port that is taken, and no turn": of_port("127.0.0.1", "serve --port PORT --turns 0", (0, SERVES, False)),
+    "few descriptors": (few_descriptors, (True, 200)),
     "another base": (another_base, [200, 404, 404]),
 }
 

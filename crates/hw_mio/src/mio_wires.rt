@@ -24,7 +24,8 @@ use std::time::{Duration, Instant};
 /// Wires over the TCP sockets of the system. All memory is taken when they are made: no call takes more.
 ///
 /// A wire's number is below 2^62. At most [`SLOTS`](crate::SLOTS) wires are up at once, and 2^48 are made in all. Past either,
-/// `accept` answers `None`, as it does if the system has no descriptor or memory for one more, and `connect` fails.
+/// `accept` answers `None`, as it does if the system has no descriptor or memory for one more, and `connect` fails. A connection for
+/// which the system has no descriptor is accepted and shut at once, by a descriptor that is kept in reserve for this.
 ///
 /// `poll` waits for an event of a socket. What an event told stays known until a call on that wire would wait, or a read gives less than
 /// its buffer has room for, and `poll` doesn't tell it again: a caller that leaves bytes unread hands in a `wait` of 0. A wire of which an
@@ -217,12 +218,26 @@ impl<'a, R: Net + Clock> MioWires<'a, R> {
             }
             Err(error) => {
                 let refusal = refusal_of(&error);
+                if refusal == Refusal::NoRoom && self.turn_away() {
+                    return Ok(None);
+                }
                 self.incoming = self.incoming.after_refusal(refusal, self.moment);
                 if refusal == Refusal::Broken {
                     return Err(error);
                 }
                 Ok(None)
             }
+        }
+    }
+
+    /// Shuts the connection that waits longest, for which the system has no descriptor. The answer is whether it could.
+    fn turn_away(&mut self) -> bool
+        ensures others_unchanged { IsStill self.old self.new }
+        ensures wires { wires_bound self.new ≡ wires_bound self.old }
+    {
+        match &mut self.opened {
+            Ok(opened) => opened.turn_away(),
+            Err(_) => false,
         }
     }
 

@@ -2,7 +2,7 @@
 
 use crate::limits::SLOTS;
 use mio::net::TcpListener;
-use mio::{Interest, Poll, Token};
+use mio::{Interest, Poll, Registry, Token};
 use std::io;
 use std::net::{Net, SocketAddr};
 use std::rt::Clock;
@@ -16,6 +16,8 @@ pub const LISTENER: Token = Token(SLOTS);
 pub struct Opened {
     pub poll: Poll,
     pub listener: Option<TcpListener>,
+    // A descriptor in reserve: a second one of the poll, since no other costs the system less. Nothing is done with it.
+    reserve: Option<Registry>,
     pub start: Instant,
 }
 
@@ -34,10 +36,25 @@ impl Opened {
 
     /// Listens nowhere.
     pub fn dialing<R: Net + Clock>(rt: &R) -> io::Result<Opened> {
+        let poll = Poll::new(rt)?;
+        let reserve = poll.registry().try_clone().ok();
         Ok(Opened {
-            poll: Poll::new(rt)?,
+            poll,
             listener: None,
+            reserve,
             start: Instant::now(rt)?,
         })
+    }
+
+    /// Accepts the connection that waits longest and shuts it at once, by the descriptor in reserve, so that its peer isn't left
+    /// without a word where the system has no descriptor for it. The answer is whether it did.
+    pub fn turn_away(&mut self) -> bool {
+        self.reserve = None;
+        let is_away = match &self.listener {
+            Some(listener) => listener.accept().is_ok(),
+            None => false,
+        };
+        self.reserve = self.poll.registry().try_clone().ok();
+        is_away
     }
 }
