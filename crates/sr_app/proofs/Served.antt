@@ -16,7 +16,7 @@ use Rattle.sr_app.proofs.Told.{bytes_of, appended_nothing, text_is_told}
 
 -- ---- what was written
 
-ends_by : (asked : Serving) (b n : serve.InputOutput) (input : Option (List ℕ)) (faults : ℕ) (result : Result Unit ServeError)
+ends_by : (asked : Serving) (b n : serve.Environment) (input : Option (List ℕ)) (faults : ℕ) (result : Result Unit ServeError)
     → serve.Ends asked.base asked.turns b n result
     → Ends serving (status_of_end result) (input_output input faults b.holds b.sink_faults) (input_output input faults n.holds n.sink_faults)
 ends_by asked b n input faults (Ok done) ends = record {
@@ -82,7 +82,7 @@ ends_by asked b n input faults (Err end.NoMemory) (inr some, whole, heard) = rec
   reads = refl;
 }
 
-pub serving_ends : (asked : Serving) (status : Status) (b n : serve.InputOutput) (input : Option (List ℕ)) (faults : ℕ) → EndsServing asked status b n
+pub serving_ends : (asked : Serving) (status : Status) (b n : serve.Environment) (input : Option (List ℕ)) (faults : ℕ) → EndsServing asked status b n
     → Ends serving status (input_output input faults b.holds b.sink_faults) (input_output input faults n.holds n.sink_faults)
 serving_ends asked status b n input faults ends =
     subst (λ s. Ends serving s (input_output input faults b.holds b.sink_faults) (input_output input faults n.holds n.sink_faults)) (sym ends.1)
@@ -90,7 +90,7 @@ serving_ends asked status b n input faults ends =
 
 -- ---- faults
 
-sink_kept : (asked : Serving) (b n : serve.InputOutput) (result : Result Unit ServeError) → serve.Ends asked.base asked.turns b n result
+sink_kept : (asked : Serving) (b n : serve.Environment) (result : Result Unit ServeError) → serve.Ends asked.base asked.turns b n result
     → (status_of_end result ≡ WriteFault → ⊥) → n.sink_faults ≡ b.sink_faults
 sink_kept asked b n (Ok done) ends differ = ends.1
 sink_kept asked b n (Err end.Door) ends differ = ends.1
@@ -98,7 +98,7 @@ sink_kept asked b n (Err end.Keeper) ends differ = ends.1
 sink_kept asked b n (Err end.Write) ends differ = absurd (differ refl)
 sink_kept asked b n (Err end.NoMemory) ends differ = ends.1
 
-door_kept : (asked : Serving) (b n : serve.InputOutput) (result : Result Unit ServeError) → serve.Ends asked.base asked.turns b n result
+door_kept : (asked : Serving) (b n : serve.Environment) (result : Result Unit ServeError) → serve.Ends asked.base asked.turns b n result
     → (status_of_end result ≡ DoorFault → ⊥) → n.door_faults ≡ b.door_faults
 door_kept asked b n (Ok done) ends differ = ends.2
 door_kept asked b n (Err end.Door) ends differ = absurd (differ refl)
@@ -106,11 +106,11 @@ door_kept asked b n (Err end.Keeper) ends differ = ends.2
 door_kept asked b n (Err end.Write) ends differ = ends.1
 door_kept asked b n (Err end.NoMemory) ends differ = ends.2
 
-pub serving_sink_kept : (asked : Serving) (status : Status) (b n : serve.InputOutput) → EndsServing asked status b n
+pub serving_sink_kept : (asked : Serving) (status : Status) (b n : serve.Environment) → EndsServing asked status b n
     → (status ≡ WriteFault → ⊥) → n.sink_faults ≡ b.sink_faults
 serving_sink_kept asked status b n ends differ = sink_kept asked b n ends.0 ends.2 (λ is. differ (ends.1 ∙ is))
 
-pub serving_door_kept : (asked : Serving) (status : Status) (b n : serve.InputOutput) → EndsServing asked status b n
+pub serving_door_kept : (asked : Serving) (status : Status) (b n : serve.Environment) → EndsServing asked status b n
     → (status ≡ DoorFault → ⊥) → n.door_faults ≡ b.door_faults
 serving_door_kept asked status b n ends differ = door_kept asked b n ends.0 ends.2 (λ is. differ (ends.1 ∙ is))
 
@@ -119,7 +119,7 @@ serving_door_kept asked status b n ends differ = door_kept asked b n ends.0 ends
 line_is_some : (rows : ℕ) → serving_line rows ≡ [] → ⊥
 line_is_some rows none = cc
 
-touched_by : {K : Type 0} (holds : K → Option (List ℕ)) (old new : K) (asked : Serving) (b n : serve.InputOutput) (result : Result Unit ServeError)
+touched_by : {K : Type 0} (holds : K → Option (List ℕ)) (old new : K) (asked : Serving) (b n : serve.Environment) (result : Result Unit ServeError)
     → b.holds ≡ holds old → n.holds ≡ holds new → serve.Ends asked.base asked.turns b n result
     → (status_of_end result ≡ KeeperFault → new ≡ old)
     → (status_of_end result ≡ NoMemory → (new ≡ old) ⊎ ((rows : ℕ) × Appends (holds old) (holds new) (serving_line rows)))
@@ -133,7 +133,7 @@ touched_by holds old new asked b n (Err end.Write) before now ends keeper memory
 touched_by holds old new asked b n (Err end.NoMemory) before now ends keeper memory differ =
     ⊎_elim (λ same. inl same) (λ some. inr (serving_line some.0, line_is_some some.0, some.1)) (memory refl)
 
-pub serving_touches : {K : Type 0} (holds : K → Option (List ℕ)) (old new : K) (asked : Serving) (status : Status) (b n : serve.InputOutput)
+pub serving_touches : {K : Type 0} (holds : K → Option (List ℕ)) (old new : K) (asked : Serving) (status : Status) (b n : serve.Environment)
     → b.holds ≡ holds old → n.holds ≡ holds new → EndsServing asked status b n → (status ≡ KeeperFault → new ≡ old)
     → (status ≡ NoMemory → (new ≡ old) ⊎ ((rows : ℕ) × Appends (holds old) (holds new) (serving_line rows)))
     → (status ≡ WriteFault → ⊥) → IsTouchedByBytesAlone holds old new
