@@ -3,7 +3,7 @@
 
     acceptance/origins.py [PROGRAM]
 
-PROGRAM is bin/sr by default, which proves and builds the program if it has to. Needs chromium, nginx, and node with http-proxy (all are
+PROGRAM is bin/sr by default, and so the release if nothing newer was built. Needs chromium, nginx, and node with http-proxy (all are
 Debian packages); where one of them isn't installed it says so and ends with status 0. It isn't part of the gate.
 
 A page asks as Microsoft's client for JavaScript does: by `fetch` with that client's options and headers, and by a WebSocket. It comes from

@@ -1,7 +1,7 @@
 #!/usr/bin/env python3
 """Runs the program where what is outside of it fails or is held by another: its input, its output, its port, its memory.
 
-    acceptance/outside.py [PROGRAM]      PROGRAM is bin/sr by default, which proves and builds the program if it has to
+    acceptance/outside.py [PROGRAM]      PROGRAM is bin/sr by default, and so the release if nothing newer was built
 
 What has to come is by the table of exit statuses in docs/protocol.md, and, of sessions and soaks, what replay.toml and soak.toml have.
 The last line is 'N passed, N failed'; the status is 0 if none failed."""
