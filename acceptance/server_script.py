@@ -14,6 +14,9 @@ import committed
 from server_model import Server, compact, token_of
 
 
+# the most bytes that an end of a server may hold
+MOST_RESEND_BYTES = 524288
+
 SESSIONS = 150
 STEPS = 60
 
@@ -31,6 +34,9 @@ def notify(target, *arguments): return compact({"type": 1, "target": target, "ar
 
 
 def ended(number, **ending): return compact({"type": 3, "invocationId": str(number), **ending}) + "|"
+
+
+def acked(number): return compact({"type": 8, "sequenceId": number}) + "|"
 
 
 def body(conn, token, reconnect):
@@ -51,6 +57,9 @@ def rows():
     posted = notify("Posted", "r", "1", "hi")
     slow = "x" * 30000
     seq = '{"sequenceId":1,"type":9}|'
+    posted_slow = notify("Posted", "s", "1", slow)
+    all_held = "\n".join(f"""0 text 1 {notify("Post", "s", slow)} => -
+0 quiet => text 4 {posted_slow}""" for _held in range(MOST_RESEND_BYTES // len(posted_slow)))
     return f"""
 note a room
 server - - - => a server
@@ -138,6 +147,36 @@ server - - - => a server
 0 {socket(5, token_of(0, 3))} => reply 5 404 None
 0 text 1 {call(9, "History", "r", 10)} => -
 0 quiet => text 1 {ended(9, result=["hi"])}
+note ends that hold one message, and go on once it is acknowledged
+resend 1 32773 => so much
+server - - - => a server
+0 request 1 {RECONNECT} => {token}
+0 {socket(2, FIRST)} => reply 2 101 None accept k
+0 text 2 {SHAKE_2} => text 2 {{}}|
+0 text 2 {call(1, "Join", "r")}{call(2, "Leave", "r")} => text 2 {acked(2)}
+0 quiet => text 2 {ended(1)}
+0 quiet => -
+0 lost 2 => -
+0 {socket(3, FIRST)} => reply 3 101 None accept k; text 3 {seq}{acked(2)}{ended(1)}
+0 text 3 {{"sequenceId":3,"type":9}}|{acked(1)} => text 3 {ended(2)}
+note an end that holds as many bytes as there may be, before it is too slow
+resend 65536 {MOST_RESEND_BYTES} => so much
+server - - - => a server
+0 request 1 GET /hub upgrade=k => reply 1 101 None accept k
+0 text 1 {SHAKE} => text 1 {{}}|
+0 request 2 {RECONNECT} => reply 2 200 Json {body(2, token_of(0, 2), True)}
+0 {socket(4, token_of(0, 2))} => reply 4 101 None accept k
+0 text 4 {SHAKE_2}{notify("Join", "s")} => text 4 {{}}|{acked(1)}
+0 quiet => -
+{all_held}
+0 text 1 {notify("Post", "s", slow)} => -
+0 quiet => text 4 {compact({"type": 7, "error": "Too slow."})}|; shut 4
+note what an end can't hold
+resend 0 32773 => out of range
+resend 65537 32773 => out of range
+resend 1 32772 => out of range
+resend 1 {MOST_RESEND_BYTES + 1} => out of range
+resend 1024 100000 => so much
 note who calls
 server 1 0 Ann,Bob => a server
 0 request 1 GET /hub upgrade=k bearer=Eve => reply 1 401 None

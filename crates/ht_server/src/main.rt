@@ -8,6 +8,7 @@
 //! server KEEPER LOTS USERS         a server at `/hub`, whose keeper and lots fail at these of their calls; the n-th draw is sixteen times
 //!                                  the byte n. Numbers have a comma between two, and are none if they are `-`; so it is of users, whose
 //!                                  names are their access tokens
+//! resend COUNT BYTES              an end of each server that begins after it holds so much, if that is in range
 //! NOW request LANE METHOD TARGET WORDS    a request; its words are `bearer=TOKEN`, `upgrade=KEY`, `shut` and `body=TEXT`
 //! NOW text LANE TEXT               a message; each `|` of its text stands for a separator
 //! NOW bytes LANE DIGITS            a message of these bytes

@@ -4,9 +4,9 @@ use crate::events::heard_of;
 use crate::show::{all_given, all_said};
 use hk_keeper::MemoryKeeper;
 use ht_forms::never_falls;
-use ht_kit::{Play, Stop, first_word, number, numbers};
+use ht_kit::{Play, Stop, count, first_word, number, numbers};
 use hub_rooms::RoomsHub;
-use hub_server::{ServeFault, Server, serve};
+use hub_server::{ResendLimits, ServeFault, Server, serve};
 use hv_value::Text;
 use hw_door::{Heard, MemoryDoor, MemoryLots};
 use std::alloc::{AllocError, Global};
@@ -16,6 +16,8 @@ use std::mem;
 #[derive(Drop)]
 pub struct Bench {
     alloc: Global,
+    /// How much an end of the next server holds.
+    resend: ResendLimits,
     server: Server<RoomsHub>,
     hub: RoomsHub,
     keeper: MemoryKeeper,
@@ -26,9 +28,11 @@ pub struct Bench {
 impl Bench {
     /// A server without users, whose keeper and lots never fail.
     pub fn start(alloc: Global) -> Result<Bench, AllocError> {
+        let resend = ResendLimits::usual();
         Ok(Bench {
             alloc,
-            server: Server::start(alloc, Text::of(alloc, "/hub")?)?,
+            resend,
+            server: Server::start(alloc, Text::of(alloc, "/hub")?, resend)?,
             hub: RoomsHub,
             keeper: MemoryKeeper::start(alloc, Vec::new(alloc), Vec::new(alloc))?,
             lots: MemoryLots::start(Vec::new(alloc), Vec::new(alloc)),
@@ -40,10 +44,22 @@ impl Bench {
         let alloc = self.alloc;
         let (keeper, rest) = first_word(words);
         let (lots, users) = first_word(rest);
-        self.server = Server::start(alloc, Text::of(alloc, "/hub")?)?;
+        self.server = Server::start(alloc, Text::of(alloc, "/hub")?, self.resend)?;
         self.keeper = MemoryKeeper::start(alloc, users_of(alloc, users)?, numbers(alloc, keeper)?)?;
         self.lots = MemoryLots::start(draws(alloc)?, numbers(alloc, lots)?);
         Ok(String::from_str(alloc, "a server")?)
+    }
+
+    fn resend(&mut self, words: &str) -> Result<String, Stop> {
+        let (messages, bytes) = first_word(words);
+        let answer = match ResendLimits::of(count(messages)?, count(bytes)?) {
+            Some(resend) => {
+                self.resend = resend;
+                "so much"
+            }
+            None => "out of range",
+        };
+        Ok(String::from_str(self.alloc, answer)?)
     }
 
     /// The server hears an event, and says something.
@@ -96,6 +112,7 @@ impl Play for Bench {
         let (word, rest) = first_word(line);
         match word {
             "server" => self.start_anew(rest),
+            "resend" => self.resend(rest),
             "idle" => Ok(format!(in self.alloc; "{}", self.server.idle())?),
             "hear" => self.hear(rest),
             "serve" => self.serve(rest),

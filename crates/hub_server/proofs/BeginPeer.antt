@@ -19,7 +19,6 @@ use Rattle.he_wire.specs.Wires.{IsHouseWire}
 use Rattle.hd_calls.specs.Hubs.{Hub}
 use Rattle.hd_calls.specs.Peers.{Settings, steps, waiting}
 use Rattle.hd_server.specs.declared.vocabulary.Said.{Said}
-use Rattle.hd_server.specs.Numbers.{most_frame, most_held, most_held_bytes}
 use Rattle.hd_server.specs.Lives.{socket_of, lost_at, poll_of, poll_ended, is_removed, is_polling, made}
 use Rattle.hd_server.specs.Machine.{MachineEvent, Connects, has_gone, is_there, moves, settings_of}
 use Rattle.hd_server.specs.Doings.{ServerEvent, Works, notes, work, moment, config_of, has_peer, history, history_with, user_of}
@@ -29,6 +28,7 @@ use Rattle.hub_machine.specs.declared.machine.Machine.{Machine}
 use Rattle.hub_server.specs.declared.server.Server.{Server}
 use Rattle.hub_machine.specs.Machines.{IsStranger, StandsMachine, peer_at, settings_there}
 use Rattle.hub_server.specs.Lanes.{Unsettled, conn_of, is_at, poll_lane, settled}
+use Rattle.hub_server.specs.Resend.{ResendLimits, limits_with}
 use Rattle.hub_server.specs.Servers.{IsBegunBy, IsOrderly, IsSetup, Standing, caller_of}
 use Rattle.hub_server.specs.Connections.{IsKnown}
 use Rattle.hub_server.proofs.Alike.{alike_connects, caller_alike, orderly_alike}
@@ -217,12 +217,12 @@ called_by u k h known new = cond-false (is_some (settings_of k (work h)) || is_r
     (or_from (is_some (settings_of k (work h))) (is_removed k (notes h)) (ap (λ (x : Option Settings). is_some x) new) known.held)
 
 -- its settings
-as_begun : (s : Setup) (base : List ℕ) (k : ℕ) (resumable : Bool) (limits : Limits) (who : List ℕ) (name : Option (List ℕ)) → IsSetup s base
-    → limits ≡ record { frame = most_frame; count = most_held; bytes = most_held_bytes } → who ≡ unwrap_or name (decimal k)
+as_begun : (s : Setup) (base : List ℕ) (resend : ResendLimits) (k : ℕ) (resumable : Bool) (limits : Limits) (who : List ℕ) (name : Option (List ℕ)) → IsSetup s base resend
+    → limits ≡ limits_with resend → who ≡ unwrap_or name (decimal k)
     → settings side.Server (record { codec = Json; version = 1; reconnect = resumable; limits = limits }) s.wire who ≡ peer_settings s k name resumable
-as_begun s base k resumable limits who name setup few called =
+as_begun s base resend k resumable limits who name setup few called =
     ap (λ x. settings side.Server (record { codec = Json; version = 1; reconnect = resumable; limits = x }) s.wire who)
-    (few ∙ sym (ap (λ (x : Setup). x.limits) setup.usual))
+    (few ∙ sym (ap (λ (x : Setup). x.limits) setup.given))
     ∙ ap (λ x. settings side.Server (record { codec = Json; version = 1; reconnect = resumable; limits = s.limits }) s.wire x) called
 
 -- it gets one now
@@ -230,7 +230,7 @@ pub connected : {H Job : Type 0} (hub : Hub Job) (s : Setup) (u : Unsettled) (be
     (h : List ServerEvent)
     → Standing {H = H} hub s u before old h → u ≡ settled → IsKnown k h → is_some (peer_at old.machine k) ≡ false
     → (callers : BTreeMap ℕ (List ℕ)) → Updates nat_cmp old.callers callers k None
-    → (limits : Limits) → limits ≡ record { frame = most_frame; count = most_held; bytes = most_held_bytes }
+    → (limits : Limits) → limits ≡ limits_with old.resend
     → (user : Option (List ℕ)) → user ≡ get nat_cmp old.callers k → (who : List ℕ) → who ≡ unwrap_or user (decimal k)
     → (machine : Machine H Job) → ((w : List MachineEvent) (wire : Wire) → IsHouseWire limits.frame wire → 0 < k → settings_of k w ≡ None
     → StandsMachine {H = H} hub old.machine w
@@ -245,7 +245,7 @@ connected {H} {Job} hub s u before old k resumable h st is known none callers up
     let positive : 0 < k = ltb-true 0 k (and_parts (nat_lt 0 k) (nat_le k (made (notes h))) known.made).0 in
     let begun : StandsMachine {H = H} hub machine (Connects k (peer_settings s k (user_of k h) resumable) (user_of k h) ∷ work h) =
     subst (λ o. StandsMachine {H = H} hub machine (Connects k (peer_settings s k o resumable) o ∷ work h)) same
-    (subst (λ x. StandsMachine {H = H} hub machine (Connects k x user ∷ work h)) (as_begun s old.base k resumable limits who user st.setup few named)
+    (subst (λ x. StandsMachine {H = H} hub machine (Connects k x user ∷ work h)) (as_begun s old.base old.resend k resumable limits who user st.setup few named)
     (stands (work h) s.wire house positive new st.machine)) in
     subst (λ x. Standing {H = H} hub s (conn_of k) before (record old { callers = callers; machine = machine }) x)
     (sym (connecting_fresh s k resumable h new))

@@ -25,13 +25,14 @@ use Rattle.hub_machine.specs.declared.machine.Machine.{Machine}
 use Rattle.hub_server.specs.declared.server.Server.{Server}
 use Rattle.hub_machine.specs.Machines.{StandsMachine}
 use Rattle.hub_server.specs.Lanes.{conn_of, is_at, poll_lane, settled}
-use Rattle.hub_server.specs.Servers.{IsOrderly, IsSetup, Standing}
+use Rattle.hub_server.specs.Servers.{IsOrderly, Standing}
 use Rattle.hub_server.proofs.Alike.{Alike, alike_does, alike_note, alike_says, alike_trans, orderly_alike}
 use Rattle.hub_server.proofs.BeginLink.{IsLinked, IsReady, linked}
 use Rattle.hub_server.proofs.HoldLanes.{Goes_over, IsOf, goes_over}
 use Rattle.hub_server.proofs.HoldPolls.{CutsLane, begun_of, cut_none, cut_some, not_later}
 use Rattle.hub_server.proofs.LaneKept.{lane_wider, orderly_wider, same_lane_note, same_lane_reply, same_lane_trans, same_lane_works}
 use Rattle.hub_server.proofs.OntoAlike.{onto_append}
+use Rattle.hub_server.proofs.SameSetup.{same_setup}
 
 -- ---- the list of what is done
 
@@ -190,7 +191,7 @@ module _ {H Job : Type 0} (hub : Hub Job) (s : Setup) (before : List Said) (v : 
       → (words : List Said) → words ≡ mid.words ++ say.Reply at (socket_reply (Some accept)) ∷ []
       → Standing {H = H} hub s settled before (record mid { front = f; lanes = lanes; words = words }) g
   stands_now machine stands mid cut f noted lanes enters words says = record {
-    setup = subst (λ b. IsSetup s b) (sym cut.base) st.setup;
+    setup = same_setup s cut.base cut.resend st.setup;
     machine = subst (λ m. StandsMachine {H = H} hub m (work g)) (sym cut.machine) stands;
     front = subst (λ x. front.Stands f (Socketed k at x ∷ notes h)) (cut.clock ∙ st.clock)
         ((noted (notes h) (subst (λ x. front.Stands x (notes h)) (sym cut.front) st.front)).0 ready.made);

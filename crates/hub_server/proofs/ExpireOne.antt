@@ -29,7 +29,7 @@ use Rattle.hub_server.specs.Connections.{HasLeft, IsKnown}
 use Rattle.hub_server.specs.Events.{ExpiresFirst}
 use Rattle.hub_machine.specs.Machines.{OfConn, StandsMachine, peer_at, settings_there}
 use Rattle.hub_server.specs.Lanes.{Unsettled}
-use Rattle.hub_server.specs.Servers.{IsOrderly, IsSetup, Standing, caller_of}
+use Rattle.hub_server.specs.Servers.{IsOrderly, Standing, caller_of}
 use Rattle.hub_server.proofs.Alike.{alike_goes, alike_note, alike_trans, at_alike, caller_alike, orderly_alike}
 use Rattle.hub_server.proofs.Calm.{orderly_closed}
 use Rattle.hub_server.proofs.Gone.{Freed, at_is_on, is_on, lane_left}
@@ -38,6 +38,7 @@ use Rattle.hub_server.proofs.LaneKept.{lane_kept, same_lane_note, same_lane_tran
 use Rattle.hub_server.proofs.ExpireNotes.{GoesThen, IsOverdue, OnlyPolls, first_overdue, goes_then, life_then, past_polling, polls_only}
 use Rattle.hub_server.proofs.TickSteps.{begun_here, chosen, passed_by, standing_steps}
 use Rattle.hub_server.proofs.HoldLanes.{turned}
+use Rattle.hub_server.proofs.SameSetup.{same_setup}
 
 -- ---- one that is closed
 
@@ -263,7 +264,7 @@ pub standing_goes : {H Job : Type 0} (hub : Hub Job) (s : Setup) (u : Unsettled)
     → (f : Front) → front.Stands f (notes g) → (callers : BTreeMap ℕ (List ℕ)) → Updates nat_cmp mid.callers callers c None
     → Standing {H = H} hub s u before (record mid { machine = m; front = f; callers = callers }) g
 standing_goes {H} hub s u before v mid c h g st freed known left m machine f stands callers updates = record {
-  setup = subst (λ b. IsSetup s b) (sym left.base) st.setup;
+  setup = same_setup s left.base left.resend st.setup;
   machine = machine;
   front = stands;
   callers = λ k. called k (k == c) refl;

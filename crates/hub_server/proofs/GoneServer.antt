@@ -29,11 +29,12 @@ use Rattle.hp_peer.specs.declared.peer.Peer.{Peer}
 use Rattle.hub_machine.specs.declared.machine.Machine.{Machine}
 use Rattle.hub_machine.specs.declared.idle_set.IdlePeer.{IdlePeer}
 use Rattle.hub_machine.specs.Machines.{IsKeptAs, StandsMachine, idle_peer_at, peer_at, settings_there}
-use Rattle.hub_server.specs.Servers.{IsOrderly, IsSetup, Standing, caller_of}
+use Rattle.hub_server.specs.Servers.{IsOrderly, Standing, caller_of}
 use Rattle.hub_server.proofs.Alike.{Alike, alike_note, alike_says, at_alike, caller_alike, orderly_alike}
 use Rattle.hub_server.proofs.LaneKept.{SameLane, lane_kept, lane_wider, orderly_wider, same_lane_note, same_lane_reply, standing_shuts}
 use Rattle.hub_server.proofs.Gone.{Freed, alone, at_is_on, freed_absent, freed_there, held_some, is_on, lane_left, last_of_three, middle_of_three}
 use Rattle.hub_server.proofs.Gone.{orderly_off, unequal}
+use Rattle.hub_server.proofs.SameSetup.{same_setup}
 
 -- ---- who has a peer
 
@@ -73,7 +74,7 @@ or_none false = refl
 -- ---- a connection has left its lanes
 
 module _ {H Job : Type 0} (hub : Hub Job) (s : Setup) (u v : Unsettled) (before : List Said) (old new : Server H Job) (c : ℕ) (g h : List ServerEvent)
-    (stands : Standing {H = H} hub s u before old h) (base : new.base ≡ old.base) (clock : new.moment ≡ old.moment)
+    (stands : Standing {H = H} hub s u before old h) (base : new.base ≡ old.base) (resend : new.resend ≡ old.resend) (clock : new.moment ≡ old.moment)
     (words : new.words ≡ old.words) where
   pub left_standing : StandsMachine {H = H} hub new.machine (work g) → front.Stands new.front (notes g)
       → ((k : ℕ) → get nat_cmp new.callers k ≡ caller_of k g)
@@ -84,7 +85,7 @@ module _ {H Job : Type 0} (hub : Hub Job) (s : Setup) (u v : Unsettled) (before 
       → ((k : ℕ) → settings_of k (work g) ≡ settings_of k (work h)) → IsOrderly v c g → ((k : ℕ) → (k == c) ≡ false → IsOrderly v k h)
       → moment g ≡ moment h → said g ≡ said h → Standing {H = H} hub s v before new g
   left_standing machine fronts callers others same off sockets wider lanes begun own rest at says = record {
-    setup = subst (λ b. IsSetup s b) (sym base) stands.setup;
+    setup = same_setup s base resend stands.setup;
     machine = machine;
     front = fronts;
     callers = callers;
@@ -118,14 +119,14 @@ joins_none u lane k (inr e) f = subst (λ x. is_this k x.conn ≡ true) e f
 
 module _ {H Job : Type 0} (hub : Hub Job) (s : Setup) (u : Unsettled) (before : List Said) (old new : Server H Job) (c : ℕ) (h : List ServerEvent)
     (stands : Standing {H = H} hub s u before old h) (known : IsKnown c h)
-    (base : new.base ≡ old.base) (clock : new.moment ≡ old.moment) (words : new.words ≡ old.words)
+    (base : new.base ≡ old.base) (resend : new.resend ≡ old.resend) (clock : new.moment ≡ old.moment) (words : new.words ≡ old.words)
     (lanes : (l : ℕ) → get nat_cmp new.lanes l ≡ (if is_on l c h then None else get nat_cmp old.lanes l))
     (uncalled : get nat_cmp new.callers c ≡ None) (called : (k : ℕ) → (c == k) ≡ false → get nat_cmp new.callers k ≡ get nat_cmp old.callers k) where
   freed_standing : (v : Unsettled) (g : List ServerEvent) → Freed c g h → StandsMachine {H = H} hub new.machine (work g) → front.Stands new.front (notes g)
       → ((l : ℕ) → is_at l c h ≡ false → is_this l u.lane ≡ true → is_this l v.lane ≡ true) → ((k : ℕ) → (k == c) ≡ false → IsOrderly v k h)
       → Standing {H = H} hub s v before new g
   freed_standing v g f machine fronts wider rest =
-      left_standing {H = H} {Job = Job} hub s u v before old new c g h stands base clock words machine fronts (λ k. callers k (k == c) refl)
+      left_standing {H = H} {Job = Job} hub s u v before old new c g h stands base resend clock words machine fronts (λ k. callers k (k == c) refl)
       f.others f.lanes (λ l. and_left (has_peer c g) (is_on l c g) f.absent) (λ l e k. ap (λ o. is_this l o) (f.sockets k)) wider
       (λ l. lanes l ∙ sym (ap (λ b. if b then None else get nat_cmp old.lanes l) (at_is_on u l c h known (stands.orderly c))))
       f.begun (f.orderly u v (stands.orderly c)) rest f.same_moment f.same_words
@@ -242,7 +243,7 @@ removed u l lane true old new e own others = own (sym e)
 removed u l lane false old new e own others = others (sym e)
 
 module _ {H Job : Type 0} (hub : Hub Job) (s : Setup) (before : List Said) (old new : Server H Job) (c lane : ℕ) (h : List ServerEvent)
-    (base : new.base ≡ old.base) (clock : new.moment ≡ old.moment) (words : new.words ≡ old.words) (machine : new.machine ≡ old.machine)
+    (base : new.base ≡ old.base) (resend : new.resend ≡ old.resend) (clock : new.moment ≡ old.moment) (words : new.words ≡ old.words) (machine : new.machine ≡ old.machine)
     (callers : new.callers ≡ old.callers) (own : get nat_cmp new.lanes lane ≡ None)
     (others : (l : ℕ) → (lane == l) ≡ false → get nat_cmp new.lanes l ≡ get nat_cmp old.lanes l) (there : has_peer c h ≡ true) where
   lanes_now : (l : ℕ) → is_at l c h ≡ (l == lane) → get nat_cmp new.lanes l ≡ (if is_at l c h then None else get nat_cmp old.lanes l)
@@ -258,7 +259,7 @@ module _ {H Job : Type 0} (hub : Hub Job) (s : Setup) (before : List Said) (old 
       let o = stands.orderly c in
       let g : List ServerEvent = Notes (LaneLost c lane now) ∷ h in
       let at = lost_at_lane c lane now h o there present socket granted in
-      left_standing {H = H} {Job = Job} hub s (cut_of lane) settled before old new c g h stands base clock words
+      left_standing {H = H} {Job = Job} hub s (cut_of lane) settled before old new c g h stands base resend clock words
       (subst (λ m. StandsMachine {H = H} hub m (work h)) (sym machine) stands.machine) fronts
       (λ k. ap (λ m. get nat_cmp m k) callers ∙ stands.callers k)
       (λ k e. alike_note (LaneLost c lane now) k h e tt) (λ l. same_lane_note l (LaneLost c lane now) h)
@@ -333,7 +334,7 @@ module _ (c lane now : ℕ) (h : List ServerEvent) (o : IsOrderly (lane_of (Some
       (on_no_socket l) (ap (λ x. is_this l (option_map (λ p. p.0) x)) none_now))
 
 module _ {H Job : Type 0} (hub : Hub Job) (s : Setup) (before : List Said) (old new : Server H Job) (c lane : ℕ) (h : List ServerEvent)
-    (base : new.base ≡ old.base) (clock : new.moment ≡ old.moment) (words : new.words ≡ old.words) (machine : new.machine ≡ old.machine)
+    (base : new.base ≡ old.base) (resend : new.resend ≡ old.resend) (clock : new.moment ≡ old.moment) (words : new.words ≡ old.words) (machine : new.machine ≡ old.machine)
     (callers : new.callers ≡ old.callers) (own : get nat_cmp new.lanes lane ≡ None)
     (others : (l : ℕ) → (lane == l) ≡ false → get nat_cmp new.lanes l ≡ get nat_cmp old.lanes l) (there : has_peer c h ≡ true) where
   pub answers : (now : ℕ) → Standing {H = H} hub s (lane_of (Some lane)) before old h → poll_lane c (notes h) ≡ Some lane
@@ -342,13 +343,13 @@ module _ {H Job : Type 0} (hub : Hub Job) (s : Setup) (before : List Said) (old 
       let o = stands.orderly c in
       let g : List ServerEvent = Notes (Answered c lane now) ∷ h in
       let at = answered_at_lane c lane now h o there poll in
-      left_standing {H = H} {Job = Job} hub s (lane_of (Some lane)) settled before old new c g h stands base clock words
+      left_standing {H = H} {Job = Job} hub s (lane_of (Some lane)) settled before old new c g h stands base resend clock words
       (subst (λ m. StandsMachine {H = H} hub m (work h)) (sym machine) stands.machine) fronts
       (λ k. ap (λ m. get nat_cmp m k) callers ∙ stands.callers k)
       (λ k e. alike_note (Answered c lane now) k h e tt) (λ l. same_lane_note l (Answered c lane now) h)
       (answered_off c lane now h o there poll) (λ l e k. refl)
       (λ l e f. absurd (both_ways (l == lane) (sym (at l) ∙ e) f))
-      (λ l. lanes_now {H = H} {Job = Job} hub s before old new c lane h base clock words machine callers own others there l (at l)) (λ k. refl)
+      (λ l. lanes_now {H = H} {Job = Job} hub s before old new c lane h base resend clock words machine callers own others there l (at l)) (λ k. refl)
       (answered_orderly c lane now h o there poll)
       (λ k e. orderly_wider (lane_of (Some lane)) settled k h (λ x. x) (λ l x. x) (stands.orderly k))
       refl refl
@@ -453,21 +454,21 @@ on_ok (Err e) f p = p
 -- the poll that is held ends with this reply
 pub answers_reply : {H Job : Type 0} (hub : Hub Job) (s : Setup) (before : List Said) (old new : Server H Job) (c lane : ℕ) (reply : Reply)
     (h : List ServerEvent)
-    → new.base ≡ old.base → new.moment ≡ old.moment → new.words ≡ old.words → new.machine ≡ old.machine → new.callers ≡ old.callers
+    → new.base ≡ old.base → new.resend ≡ old.resend → new.moment ≡ old.moment → new.words ≡ old.words → new.machine ≡ old.machine → new.callers ≡ old.callers
     → get nat_cmp new.lanes lane ≡ None → ((l : ℕ) → (lane == l) ≡ false → get nat_cmp new.lanes l ≡ get nat_cmp old.lanes l)
     → has_peer c h ≡ true → poll_lane c (notes h) ≡ Some lane
     → ((n : List ConnectionEvent) → front.Stands old.front n → is_made c n ≡ true → front.Stands new.front (Answered c lane old.moment ∷ n))
     → Standing {H = H} hub s (lane_of (Some lane)) before old (onto (replying lane reply h) h)
     → Standing {H = H} hub s settled before new (Notes (Answered c lane (moment h)) ∷ onto (replying lane reply h) h)
-answers_reply {H} {Job} hub s before old new c lane reply h base clock words machine callers own others there poll noted =
+answers_reply {H} {Job} hub s before old new c lane reply h base resend clock words machine callers own others there poll noted =
     replying_both (λ x. Standing {H = H} hub s (lane_of (Some lane)) before old x → Standing {H = H} hub s settled before new
     (Notes (Answered c lane (moment h)) ∷ x))
     lane reply h
-    (λ m. answers {H = H} {Job = Job} hub s before old new c lane (Says (say.Reply lane reply) ∷ h) base clock words machine callers own others there
+    (λ m. answers {H = H} {Job = Job} hub s before old new c lane (Says (say.Reply lane reply) ∷ h) base resend clock words machine callers own others there
     (moment h) m poll
     (subst (λ n. front.Stands new.front (Answered c lane n ∷ notes h)) m.clock
     (noted (notes h) m.front ((m.orderly c).made (and_parts (is_some (settings_of c (work h))) _ there).0))))
-    (λ m. answers {H = H} {Job = Job} hub s before old new c lane (Says (say.Shut lane) ∷ Says (say.Reply lane reply) ∷ h) base clock words machine
+    (λ m. answers {H = H} {Job = Job} hub s before old new c lane (Says (say.Shut lane) ∷ Says (say.Reply lane reply) ∷ h) base resend clock words machine
     callers own others
     there (moment h) m poll
     (subst (λ n. front.Stands new.front (Answered c lane n ∷ notes h)) m.clock

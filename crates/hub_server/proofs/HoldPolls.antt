@@ -24,12 +24,13 @@ use Rattle.hub_server.specs.declared.lane.Lane.{Lane}
 use Rattle.hub_server.specs.declared.server.Server.{Server}
 use Rattle.hub_machine.specs.Machines.{StandsMachine}
 use Rattle.hub_server.specs.Lanes.{IsLane, Unsettled, is_at, poll_lane, settled}
-use Rattle.hub_server.specs.Servers.{IsOrderly, IsSetup, Standing}
+use Rattle.hub_server.specs.Servers.{IsOrderly, Standing}
 use Rattle.hub_server.specs.Steps.{HasCome}
 use Rattle.hub_server.specs.Connections.{CanHold}
 use Rattle.hub_server.proofs.Alike.{alike_note, orderly_alike}
 use Rattle.hub_server.proofs.HoldLanes.{Goes_over, HasCut, cuts, cuts_none, goes_over}
 use Rattle.hub_server.proofs.LaneKept.{same_lane_note}
+use Rattle.hub_server.proofs.SameSetup.{same_setup}
 
 pub not_later : (n : ℕ) → n ≤ n
 not_later n = omega (arith)
@@ -115,6 +116,7 @@ polls_over k at now h there socket =
 -- all but its lanes is as it was, of which the older one is cut
 pub record CutsLane {H Job : Type 0} (older : Option ℕ) (old mid : Server H Job) : Type 0 where
   pub base : mid.base ≡ old.base
+  pub resend : mid.resend ≡ old.resend
   pub machine : mid.machine ≡ old.machine
   pub front : mid.front ≡ old.front
   pub callers : mid.callers ≡ old.callers
@@ -127,6 +129,7 @@ pub cut_some : {H Job : Type 0} (l : ℕ) (old mid : Server H Job) (lanes : BTre
     → CutsLane {H = H} {Job = Job} (Some l) old mid
 cut_some {H} {Job} l old mid lanes updates same = subst (λ m. CutsLane {H = H} {Job = Job} (Some l) old m) (sym same) (record {
   base = refl;
+  resend = refl;
   machine = refl;
   front = refl;
   callers = refl;
@@ -138,6 +141,7 @@ cut_some {H} {Job} l old mid lanes updates same = subst (λ m. CutsLane {H = H} 
 pub cut_none : {H Job : Type 0} (old mid : Server H Job) → mid ≡ old → CutsLane {H = H} {Job = Job} None old mid
 cut_none {H} {Job} old mid same = subst (λ m. CutsLane {H = H} {Job = Job} None old m) (sym same) (record {
   base = refl;
+  resend = refl;
   machine = refl;
   front = refl;
   callers = refl;
@@ -154,7 +158,7 @@ pub polled_stands : {H Job : Type 0} (hub : Hub Job) (s : Setup) (u : Unsettled)
     → Standing {H = H} hub s u before (record mid { front = f; lanes = lanes }) (Notes (Polled k at (moment h)) ∷ h)
 polled_stands {H} {Job} hub s u before old mid k at is_last h st is come can cut f noted lanes enters =
     subst (λ w. Standing {H = H} hub s w before (record mid { front = f; lanes = lanes }) g) (sym is) (record {
-      setup = subst (λ b. IsSetup s b) (sym cut.base) st.setup;
+      setup = same_setup s cut.base cut.resend st.setup;
       machine = subst (λ m. StandsMachine {H = H} hub m (work h)) (sym cut.machine) st.machine;
       front = subst (λ n. front.Stands f (Polled k at n ∷ notes h)) (cut.clock ∙ st.clock)
           ((noted (notes h) (subst (λ x. front.Stands x (notes h)) (sym cut.front) st.front)).0 can.known.made);

@@ -6,6 +6,7 @@ pub mod Asleep
 pub mod TickAsleep
 pub mod WakePollers
 pub mod LaneKept
+pub mod SameSetup
 pub mod Calm
 pub mod RoundReadsNothing
 pub mod RoundKeepsServer

@@ -185,7 +185,7 @@ module _ {H Job : Type 0} (hub : Hub Job) (old new : Server H Job) (lane : ℕ) 
         → OfRequest {H = H} hub old lane r.shut (λ s before h. name_now h ≡ None → Handles {H = H} hub s before new
         (outside holds answers faults told failures) (outside holds_now answers_now faults_now told_now failures_now) (event.Request lane r) h)
     handled_there did s before h st rests come none unnamed =
-        let based : base ≡ s.base = read ∙ sym (ap (λ (x : Setup). x.base) st.setup.usual) in
+        let based : base ≡ s.base = read ∙ sym (ap (λ (x : Setup). x.base) st.setup.given) in
         let routed_so : RoutesTo s.base r to = subst (λ (b : List ℕ). RoutesTo b r to) based routed in
         let asks : text_asked (is_entry_at to) r.bearer ≡ asks_keeper s.base r = ap (λ (b : Bool). text_asked b r.bearer) (sym routed_so.entry) in
         let called_so : IsCaller (asks_keeper s.base r) r.bearer who holds answers faults holds_now answers_now faults_now =

@@ -19,10 +19,11 @@ use Rattle.hub_machine.specs.Machines.{StandsMachine}
 use Rattle.hub_server.specs.declared.lane.Lane.{Lane}
 use Rattle.hub_server.specs.declared.server.Server.{Server}
 use Rattle.hub_server.specs.Lanes.{IsLane, Unsettled, settled}
-use Rattle.hub_server.specs.Servers.{IsOrderly, IsSetup, Standing, caller_of}
+use Rattle.hub_server.specs.Servers.{IsOrderly, Standing, caller_of}
 use Rattle.hub_server.specs.Connections.{CanStand}
 use Rattle.hub_server.specs.Steps.{HasCome}
 use Rattle.hub_server.proofs.HoldLanes.{turned}
+use Rattle.hub_server.proofs.SameSetup.{same_setup}
 
 -- with a token and what was granted with it, or without
 abbrev pub making : Option (List ℕ × Bool) → ℕ → ℕ → ConnectionEvent
@@ -144,11 +145,11 @@ callers_make told now h unbegun held c was got e f = go (c == suc (made (notes h
 pub standing_makes : {H Job : Type 0} (hub : Hub Job) (s : Setup) (u : Unsettled) (before : List Said) (v w : Server H Job)
     (told : Option (List ℕ × Bool))
     (now : ℕ) (h : List ServerEvent) → front.Stands w.front (making told (suc (made (notes h))) now ∷ notes h)
-    → w.base ≡ v.base → w.machine ≡ v.machine → w.lanes ≡ v.lanes → w.moment ≡ v.moment → w.words ≡ v.words
+    → w.base ≡ v.base → w.resend ≡ v.resend → w.machine ≡ v.machine → w.lanes ≡ v.lanes → w.moment ≡ v.moment → w.words ≡ v.words
     → ((c : ℕ) → get nat_cmp w.callers c ≡ (if c == suc (made (notes h)) then name_now h else get nat_cmp v.callers c))
     → Standing {H = H} hub s u before v h → Standing {H = H} hub s u before w (Notes (making told (suc (made (notes h))) now) ∷ h)
-standing_makes {H} {Job} hub s u before v w told now h in_front base machine lanes clock words callers st = record {
-  setup = subst (λ b. IsSetup s b) (sym base) st.setup;
+standing_makes {H} {Job} hub s u before v w told now h in_front base resend machine lanes clock words callers st = record {
+  setup = same_setup s base resend st.setup;
   machine = subst (λ m. StandsMachine {H = H} hub m (work h)) (sym machine) st.machine;
   front = in_front;
   callers = λ c. callers_make told now h (next_unbegun u h (st.orderly (suc (made (notes h)))))
@@ -250,14 +251,14 @@ module _ {H Job : Type 0} (hub : Hub Job) (s : Setup) (before : List Said) (v : 
         → name_now h ≡ Some name
         → Standing {H = H} hub s settled before (record v { front = f; callers = callers }) (Notes (making told (suc (made (notes h))) now) ∷ h)
     stands_named callers name updates is =
-        standing_makes {H = H} hub s settled before v (record v { front = f; callers = callers }) told now h in_front refl refl refl refl refl
+        standing_makes {H = H} hub s settled before v (record v { front = f; callers = callers }) told now h in_front refl refl refl refl refl refl
         (named v.callers callers (suc (made (notes h))) name (name_now h) updates is) st
 
     -- or none
     pub stands_unnamed : name_now h ≡ None → Standing {H = H} hub s settled before (record v { front = f })
         (Notes (making told (suc (made (notes h))) now) ∷ h)
     stands_unnamed none =
-        standing_makes {H = H} hub s settled before v (record v { front = f }) told now h in_front refl refl refl refl refl
+        standing_makes {H = H} hub s settled before v (record v { front = f }) told now h in_front refl refl refl refl refl refl
         (unnamed {H = H} hub s settled before v h st none) st
 
 -- a front that noted nothing stands for what it stood for

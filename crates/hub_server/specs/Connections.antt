@@ -34,6 +34,7 @@ pub record CanHold (c : ℕ) (h : List ServerEvent) : Type 0 where
 -- the lanes of a server but those on which a connection stands or polls
 pub record HasLeft {H Job : Type 0} (c : ℕ) (old new : Server H Job) (h : List ServerEvent) : Type 0 where
   pub base : new.base ≡ old.base
+  pub resend : new.resend ≡ old.resend
   pub machine : new.machine ≡ old.machine
   pub front : new.front ≡ old.front
   pub callers : new.callers ≡ old.callers

@@ -1,5 +1,6 @@
 pub mod Words
 pub mod Lanes
+pub mod Resend
 pub mod Servers
 pub mod Steps
 pub mod Requests

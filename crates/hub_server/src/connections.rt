@@ -9,7 +9,6 @@ ghost use Rattle.hd_server.specs.Lives as note;
 ghost use Rattle.hd_server.specs.Plans.{PendingRequest as OccasionMeant, Setup, closing, connecting, ending_held, removing_conn, losing, onto, replying, request_plan, standing_on};
 ghost use Rattle.hj_jobs.specs.Meaning.{meaning};
 ghost use Rattle.hub_server.specs.Lanes.{conn_of, cut_of, is_at, lane_of, poll_lane, settled};
-ghost use Rattle.hd_server.specs.Numbers.{most_frame, most_held, most_held_bytes};
 ghost use Rattle.hd_delivery.specs.Histories.{present_link};
 ghost use Rattle.hub_server.specs.Servers.{OfEach, Standing};
 ghost use Rattle.hub_server.specs.Steps.{Follows, HasCome};
@@ -20,11 +19,9 @@ use crate::lane::Lane;
 use crate::requests::{PendingRequest, bare};
 use crate::server::Server;
 use hd_delivery::Reason;
-use hd_server::{MOST_FRAME, MOST_HELD, MOST_HELD_BYTES};
 use he_end::Config;
 use hj_jobs::Hub;
 use hm_message::Codec;
-use hq_resend::Limits;
 use hv_value::Text;
 use hw_lanes::{BodyKind, Reply, Text8, Vec8};
 use std::alloc::{AllocError, Global};
@@ -90,7 +87,7 @@ impl<H: Hub> Server<H> {
             codec: Codec::Json,
             version: 1,
             reconnect: resumable,
-            limits: limits(),
+            limits: self.resend.limits(),
         };
         self.machine
             .connect(alloc, conn, config, who, user.as_ref())?;
@@ -268,14 +265,6 @@ impl<H: Hub> Server<H> {
             self.remove_conn(conn);
         }
     }
-}
-
-/// The limits of each end.
-fn limits() -> Limits
-    ensures { result ≡ record { frame = most_frame; count = most_held; bytes = most_held_bytes } }
-{
-    hd_server::numbers_are_named();
-    Limits::of(MOST_FRAME, MOST_HELD, MOST_HELD_BYTES).unwrap()
 }
 
 /// The name under which hubs know a connection: its user's or, without one, its number.

@@ -1,7 +1,7 @@
 //! A server of hubs: what it does and says at each event that it hears, through any door.
 //!
 //! ```text
-//! let mut server = Server::start(alloc, base)?;                            // no connections yet; `base` is a path, such as `/hub`
+//! let mut server = Server::start(alloc, base, ResendLimits::usual())?;     // no connections yet; `base` is a path, such as `/hub`
 //! let said = server.step(alloc, heard, &hub, &mut keeper, &mut lots)?;     // an event is heard, and this is said of it
 //! serve(alloc, &mut server, &hub, &mut door, &mut keeper, &mut lots, 1000)?;   // the same for a thousand events of a door
 //! ```
@@ -21,9 +21,11 @@ mod events;
 mod flush;
 mod lane;
 mod requests;
+mod resend;
 mod server;
 mod serving;
 mod words;
 
+pub use resend::{MOST_RESEND_BYTES, ResendLimits};
 pub use server::Server;
 pub use serving::{ServeFault, serve};

@@ -14,6 +14,7 @@ ghost use Rattle.hd_server.specs.declared.vocabulary.Said.{Said as SaidMeant};
 ghost use Rattle.hub_server.specs.Steps.{HasTurn, IsRounded, StandsServer, TurnsTo, outside, lost_in};
 
 use crate::lane::Lane;
+use crate::resend::ResendLimits;
 use crate::words::Words;
 use hd_server::Said;
 use he_end::Steps;
@@ -28,10 +29,11 @@ use std::collections::BTreeMap;
 use std::marker::Brand;
 use std::sync::ledger::{Blank, Ledger};
 
-/// A server of hubs at a base, such as `/hub`: its connections with their tokens, their peers and their groups. Moments are in milliseconds.
+/// A server of hubs at a base, such as `/hub`, whose ends hold so much: its connections with their tokens, their peers and their groups. Moments are in milliseconds.
 #[derive(Drop)]
 pub struct Server<H: Hub> {
     pub(crate) base: Text,
+    pub(crate) resend: ResendLimits,
     pub(crate) machine: Machine<H>,
     pub(crate) front: Front,
     /// Whose connections those are that have no peer yet.
@@ -48,11 +50,16 @@ pub struct Server<H: Hub> {
 
 impl<H: Hub> Server<H> {
     /// A server without connections.
-    pub fn start(alloc: Global, base: Text) -> Result<Server<H>, AllocError>
-        ensures { IfOk result (λ server. (s : Setup) → IsSetup s base → StandsServer (meaning H.begin_of H.step_of) s server []) }
+    pub fn start(
+        alloc: Global,
+        base: Text,
+        resend: ResendLimits,
+    ) -> Result<Server<H>, AllocError>
+        ensures { IfOk result (λ server. (s : Setup) → IsSetup s base resend → StandsServer (meaning H.begin_of H.step_of) s server []) }
     {
         Ok(Server {
             base,
+            resend,
             machine: Machine::start(alloc)?,
             front: Front::start(alloc)?,
             callers: BTreeMap::new(alloc),

@@ -15,6 +15,7 @@ ghost use Rattle.sr_script.specs.Script.{most_script, refusal_line};
 
 use hf_split::empty_waits;
 use hk_keeper::Keeper;
+use hub_server::ResendLimits;
 use hw_door::{Door, Lots};
 use hw_io::{Failed, Sink, Source};
 use sr_check::{Stop, Task};
@@ -242,7 +243,17 @@ fn run_serve<K: Sink, D: Door, R: Keeper, L: Lots>(
     ensures no_memory { result ≡ Status.NoMemory
         → (out.new ≡ out.old) ⊎ ((rows : ℕ) × Appends (K.holds out.old) (K.holds out.new) (serving_line rows)) }
 {
-    match serve_hub(alloc, serving.base, serving.turns, out, door, keeper, lots) {
+    let resend = ResendLimits::usual();
+    match serve_hub(
+        alloc,
+        serving.base,
+        resend,
+        serving.turns,
+        out,
+        door,
+        keeper,
+        lots,
+    ) {
         Ok(()) => Status::Done,
         Err(error) => Status::from(error),
     }

@@ -9,7 +9,7 @@ ghost use Rattle.sr_serve.specs.declared.serving.ServeError.TheVariants as end;
 
 use hk_keeper::{KeepError, Keeper};
 use hub_demo::{ServeHub, ServeJob};
-use hub_server::{ServeFault, Server, serve};
+use hub_server::{ResendLimits, ServeFault, Server, serve};
 use hv_value::Text;
 use hw_door::{Door, Lots};
 use hw_io::{Failed, Sink};
@@ -79,7 +79,8 @@ fn tell_rows<K: Sink>(alloc: Global, rows: u64, out: &mut K) -> Result<(), Serve
 }
 
 /// Serves the calculator and rooms below `base` for `turns` events, each of which is awaited for 100 milliseconds at most, or not at all
-/// while a job is due. First it asks the keeper how many rows there are and writes the line `serving R`.
+/// while a job is due. `resend` says how much the ends of its connections hold. First it asks the keeper how many rows there are and writes
+/// the line `serving R`.
 ///
 /// # Errors
 ///
@@ -89,13 +90,14 @@ fn tell_rows<K: Sink>(alloc: Global, rows: u64, out: &mut K) -> Result<(), Serve
 pub fn serve_hub<K: Sink, D: Door, R: Keeper, L: Lots>(
     alloc: Global,
     base: Text,
+    resend: ResendLimits,
     turns: u64,
     out: &mut K,
     door: &mut D,
     keeper: &mut R,
     lots: &mut L,
 ) -> Result<(), ServeError>
-    ensures ends { Ends base turns
+    ensures ends { Ends base resend turns
         (environment (K.holds out.old) (K.faults out.old) (D.trace door.old) (D.moment door.old) (D.faults door.old)
         (outside (R.holds keeper.old) (R.answers keeper.old) (R.faults keeper.old) (L.drawn lots.old) (L.faults lots.old)))
         (environment (K.holds out.new) (K.faults out.new) (D.trace door.new) (D.moment door.new) (D.faults door.new)
@@ -108,7 +110,7 @@ pub fn serve_hub<K: Sink, D: Door, R: Keeper, L: Lots>(
     hd_server::servers_are_peers::<ServeJob>();
     hd_delivery::delivery_over_bytes();
     let rows = keeper.rows()?;
-    let mut server = Server::start(alloc, base)?;
+    let mut server = Server::start(alloc, base, resend)?;
     tell_rows(alloc, rows, out)?;
     serve(
         alloc,

@@ -22,6 +22,7 @@ returns g c = record {
       (ap (λ x. is_this c.args.lane x) poll ∙ eq-eqb c.args.lane c.args.lane refl)) in
       let new : Server g.row.H.Denot g.row.H-Job.Denot = record {
         base = c.reply_held.new.self.base;
+        resend = c.reply_held.new.self.resend;
         machine = c.reply_held.new.self.machine;
         front = c.answered.new.self;
         callers = c.reply_held.new.self.callers;
@@ -33,7 +34,7 @@ returns g c = record {
       subst (λ x. Standing {H = g.row.H.Denot} hub s x before new
       (Notes (Answered c.args.conn c.args.lane (moment h)) ∷ onto (replying c.args.lane c.args.reply h) h)) (sym is)
       (answers_reply {H = g.row.H.Denot} {Job = g.row.H-Job.Denot} hub s before c.reply_held.new.self new c.args.conn c.args.lane c.args.reply h
-      refl refl refl refl refl c.remove.ensures.updates.1 (λ l e. c.remove.ensures.updates.2 l (unsigned_tied c.args.lane l ∙ e)) there poll
+      refl refl refl refl refl refl c.remove.ensures.updates.1 (λ l e. c.remove.ensures.updates.2 l (unsigned_tied c.args.lane l ∙ e)) there poll
       (λ n f made. (c.answered.ensures n f).0 made)
       (c.in_ok-reply_held.ensures.said s u before h stands is c.args.conn at));
 }

@@ -21,6 +21,7 @@ returns-then-granted g c = record {
       let hub = meaning g.H.Hub.begin_of g.H.Hub.step_of in
       let new : Server g.row.H.Denot g.row.H-Job.Denot = record {
         base = c.args.self.now.base;
+        resend = c.args.self.now.resend;
         machine = c.args.self.now.machine;
         front = c.lost.new.self;
         callers = c.args.self.now.callers;
@@ -34,7 +35,7 @@ returns-then-granted g c = record {
       subst (λ b. Standing {H = g.row.H.Denot} hub s settled before new
       (onto (if b then Notes (LaneLost c.args.conn c.args.lane (moment h)) ∷ [] else removing_conn c.args.conn h) h)) (sym held)
       (loses {H = g.row.H.Denot} {Job = g.row.H-Job.Denot} hub s before c.args.self.now new
-      c.args.conn c.args.lane h refl refl refl refl refl c.remove.ensures.updates.1
+      c.args.conn c.args.lane h refl refl refl refl refl refl c.remove.ensures.updates.1
       (λ l e. c.remove.ensures.updates.2 l (unsigned_tied c.args.lane l ∙ e)) there
       (subst (λ x. Standing {H = g.row.H.Denot} hub s x before c.args.self.now h) is stands) present socket held
       (subst (λ n. front.Stands c.lost.new.self (LaneLost c.args.conn c.args.lane n ∷ notes h)) stands.clock

@@ -17,6 +17,7 @@ returns g c = record {
       lets_go {H = g.row.H.Denot} {Job = g.row.H-Job.Denot} hub s u before c.args.self.now
       (record {
         base = c.detach_lanes.new.self.base;
+        resend = c.detach_lanes.new.self.resend;
         machine = c.remove_conn.new.self;
         front = c.closed.new.self;
         callers = c.remove.new.self;
@@ -25,7 +26,7 @@ returns g c = record {
         words = c.detach_lanes.new.self.words;
         is_ended = c.detach_lanes.new.self.is_ended;
       })
-      c.args.conn h stands known left.base left.clock left.words left.lanes
+      c.args.conn h stands known left.base left.resend left.clock left.words left.lanes
       c.remove.ensures.updates.1 (λ k e. c.remove.ensures.updates.2 k (unsigned_tied c.args.conn k ∙ e) ∙ ap (λ m. get nat_cmp m k) left.callers)
       (λ t there. c.remove_conn.ensures.gone (work h) t
       (subst (λ m. StandsMachine {H = g.row.H.Denot} hub m (work h)) (sym left.machine) stands.machine) there)
