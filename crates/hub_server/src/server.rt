@@ -50,11 +50,7 @@ pub struct Server<H: Hub> {
 
 impl<H: Hub> Server<H> {
     /// A server without connections.
-    pub fn start(
-        alloc: Global,
-        base: Text,
-        resend: ResendLimits,
-    ) -> Result<Server<H>, AllocError>
+    pub fn start(alloc: Global, base: Text, resend: ResendLimits) -> Result<Server<H>, AllocError>
         ensures { IfOk result (λ server. (s : Setup) → IsSetup s base resend → StandsServer (meaning H.begin_of H.step_of) s server []) }
     {
         Ok(Server {
