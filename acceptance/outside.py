@@ -21,7 +21,7 @@ import tty
 
 HERE = pathlib.Path(__file__).resolve().parent
 sys.path.insert(0, str(HERE / "clients"))
-from raw import Raw  # noqa: E402
+from raw import Ended, Raw  # noqa: E402
 from serving import Serving  # noqa: E402
 
 SECONDS = 120
@@ -182,6 +182,18 @@ def are_shut(connections, count):
     return False
 
 
+def answer_at_last(port):
+    """The status of a negotiate, which may be turned away until the server has seen that others are gone."""
+    until = time.monotonic() + 5
+    while True:
+        try:
+            return Raw(port).http("POST", "/hub/negotiate?negotiateVersion=1")[0]
+        except (Ended, OSError):
+            if time.monotonic() > until:
+                raise
+            time.sleep(0.1)
+
+
 def few_descriptors(program):
     """Whether of twice as many connections as a server has descriptors the half is shut at once, and how it answers when all are gone."""
     with Serving(program) as server, contextlib.ExitStack() as opened:
@@ -191,8 +203,7 @@ def few_descriptors(program):
             opened.enter_context(connection)
         half = are_shut(there, FEW_DESCRIPTORS)
         opened.close()
-        time.sleep(0.5)  # until the server has seen it
-        return half, Raw(server.port).http("POST", "/hub/negotiate?negotiateVersion=1")[0]
+        return half, answer_at_last(server.port)
 
 
 def another_base(program):
