@@ -32,8 +32,6 @@ mod ready_set;
 mod refusal;
 mod slot;
 mod table;
-#[cfg(test)]
-mod tests;
 
 pub use limits::SLOTS;
 pub use mio_wires::MioWires;
