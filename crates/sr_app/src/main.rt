@@ -4,7 +4,7 @@
 mod run;
 
 use crate::run::{Status, run};
-use hk_keeper::MemoryKeeper;
+use hk_latest::LatestKeeper;
 use hw_door::{Door, MemoryDoor, RandLots};
 use hw_io::{StdSink, StdSource};
 use hw_mio::MioWires;
@@ -41,12 +41,12 @@ fn run_at(rt: &HostRuntime, words: &[String], address: SocketAddr) -> Result<u8,
     Ok(status)
 }
 
-/// Runs a command over this door, a keeper in memory that nobody has an access token for, and the lots of the system.
+/// Runs a command over this door, a keeper of the latest rows, which knows nobody, and the lots of the system.
 fn run_over<D: Door>(rt: &HostRuntime, words: &[String], door: &mut D) -> Result<u8, AllocError> {
     let alloc = rt.alloc();
     let mut input = StdSource::new(rt.stdin());
     let mut out = StdSink::new(rt.stdout());
-    let mut keeper = MemoryKeeper::start(alloc, Vec::new(alloc), Vec::new(alloc))?;
+    let mut keeper = LatestKeeper::start(alloc);
     let mut lots = RandLots::new(rt);
     Ok(run(
         alloc,
