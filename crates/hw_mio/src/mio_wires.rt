@@ -124,6 +124,12 @@ impl<'a, R: Net + Clock> MioWires<'a, R> {
         }
     }
 
+    /// Where it listens: with the port that the system gave, if it was asked for any. `None` if it listens nowhere.
+    pub fn address(&self) -> Option<SocketAddr> {
+        let listener = self.opened.as_ref().ok()?.listener.as_ref()?;
+        listener.local_addr().ok()
+    }
+
     /// Fails this call.
     fn fail(&mut self) -> Failed
         ensures others_unchanged { self.new ≡ record self.old { faults = self.new.faults } }

@@ -5,6 +5,7 @@ mod run;
 
 use crate::run::{Status, run};
 use hk_latest::LatestKeeper;
+use hv_value::Text;
 use hw_door::{Door, MemoryDoor, RandLots};
 use hw_io::{StdSink, StdSource};
 use hw_mio::MioWires;
@@ -25,13 +26,20 @@ fn words(rt: &HostRuntime) -> Result<Vec<String>, AllocError> {
     }
 }
 
-/// Runs `serve` over the sockets of this address. If these can't be had, the reason is written on standard error.
-fn run_at(rt: &HostRuntime, words: &[String], address: SocketAddr) -> Result<u8, AllocError> {
+/// Runs `serve` over the sockets of this address, with its hub at this path. Where it listens is written on standard error or, if the
+/// port can't be had, the reason.
+fn run_at(
+    rt: &HostRuntime,
+    words: &[String],
+    address: SocketAddr,
+    base: &Text,
+) -> Result<u8, AllocError> {
     let alloc = rt.alloc();
-    let mut door = NetDoor::start(
-        alloc,
-        MioWires::listen(rt, alloc, address.ip(), address.port())?,
-    );
+    let wires = MioWires::listen(rt, alloc, address.ip(), address.port())?;
+    if let Some(address) = wires.address() {
+        let _ = eprintln!(rt; "sr: listening on http://{address}{}", base.as_str());
+    }
+    let mut door = NetDoor::start(alloc, wires);
     let status = run_over(rt, words, &mut door)?;
     if status == Status::DoorFault.code()
         && let Some(why) = door.wires().start_error()
@@ -67,10 +75,10 @@ fn run_words(rt: &HostRuntime) -> Result<u8, AllocError> {
         Ok(
             Settings {
                 port: Some(port),
+                base: Some(base),
                 listen: Some(ip),
-                ..
             },
-        ) => run_at(rt, &words, SocketAddr::new(ip, port)),
+        ) => run_at(rt, &words, SocketAddr::new(ip, port), &base),
         Err(WordsError::NoMemory) => Err(AllocError),
         _ => run_over(
             rt,
