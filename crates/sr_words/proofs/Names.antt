@@ -7,8 +7,10 @@ use Rattle.clap.specs.Words.{Row, Text}
 use Rattle.std.specs.Str.Parse.{digits_value, without_leading_plus}
 use Rattle.hm_message.specs.declared.message.Codec.{Codec}
 use Rattle.hm_message.specs.declared.message.Codec.TheVariants.{Json, Pack}
+use Rattle.sr_words.specs.declared.serving.Resend.{Resend}
 use Rattle.sr_words.specs.declared.serving.Serving.{Serving}
 use Rattle.sr_words.specs.Clap.{IsNumber, SaysNumber}
+use Rattle.sr_words.specs.Resends.{IsResend}
 use Rattle.sr_words.specs.Words.{SaysServing, codec_name, serve_options}
 use Rattle.sr_words.proofs.Options.{agree}
 
@@ -36,8 +38,19 @@ same_number id rows m n x y =
     let same : x.0 ≡ y.0 = inside (sym x.1.0 ∙ y.1.0) in
     sym x.1.1.value ∙ ap (λ text. digits_value 10 (without_leading_plus text)) same ∙ y.1.1.value
 
+-- two texts say one of how much is kept
+same_resend : (texts : Text × Text) (a b : Resend) → IsResend texts a → IsResend texts b → a ≡ b
+same_resend texts a b x y =
+    let count : a.count ≡ b.count = one_number 64 texts.0 a.count b.count x.count_is y.count_is in
+    let bytes : a.bytes ≡ b.bytes = one_number 64 texts.1 a.bytes b.bytes x.bytes_are y.bytes_are in
+    λ i. record { count = count i; bytes = bytes i }
+
 -- rows ask for one server
 pub same_serving : (rows : List Row) (a b : Serving) → SaysServing rows a → SaysServing rows b → a ≡ b
+unfolding SaysServing
 same_serving rows a b x y =
-    let same = agree serve_options rows a b (one_number 16, (λ text s t is is_too. is.1 ∙ sym is_too.1, (one_number 64, (IsIpText_unique, tt)))) x y in
-    λ i. record { port = same.0 i; base = same.1.0 i; turns = same.1.1.0 i; listen = same.1.1.1.0 i }
+    let same = agree serve_options rows a b (
+      λ rows. one_number 16 _,
+      (λ rows s t is is_too. is.1 ∙ sym is_too.1, (λ rows. one_number 64 _, (λ rows. IsIpText_unique _, (λ rows. same_resend _, tt)))),
+    ) x y in
+    λ i. record { port = same.0 i; base = same.1.0 i; turns = same.1.1.0 i; listen = same.1.1.1.0 i; resend = same.1.1.1.1.0 i }

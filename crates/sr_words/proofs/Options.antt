@@ -1,13 +1,13 @@
--- Of any list of options whose texts say one value each: rows ask for one whole.
+-- Of any list of options of which rows say one value each: they ask for one whole.
 use Rattle.std.proofs.Common.{◌≡◌, List, [], ◌∷◌}
-use Rattle.clap.specs.Words.{Row, Text}
-use Rattle.sr_words.specs.Options.{Choice, SayAll, text_of}
+use Rattle.clap.specs.Words.{Row}
+use Rattle.sr_words.specs.Options.{Choice, SayAll}
 
--- a text of each option says one value
+-- rows say one value of each option
 abbrev pub AreSingle : {Whole : Type 0} → List (Choice Whole) → Type 0
 AreSingle [] = Unit {0}
 AreSingle (option ∷ rest) =
-    ((text : Text) (a b : option.Value) → option.Says text a → option.Says text b → a ≡ b) × AreSingle rest
+    ((rows : List Row) (a b : option.Value) → option.Says rows a → option.Says rows b → a ≡ b) × AreSingle rest
 
 -- two wholes have the same part for each option
 abbrev pub AgreeOn : {Whole : Type 0} → List (Choice Whole) → Whole → Whole → Type 0
@@ -18,4 +18,4 @@ pub agree : {Whole : Type 0} (options : List (Choice Whole)) (rows : List Row) (
     → SayAll options rows a → SayAll options rows b → AgreeOn options a b
 agree [] rows a b single x y = tt
 agree (option ∷ rest) rows a b single x y =
-    (single.0 (text_of option.name option.usual rows) (option.part a) (option.part b) x.0 y.0, agree rest rows a b single.1 x.1 y.1)
+    (single.0 rows (option.part a) (option.part b) x.0 y.0, agree rest rows a b single.1 x.1 y.1)

@@ -14,9 +14,13 @@ bare_app name = let new = new_app name in record new {
 abbrev pub required : Text → Rule
 required id = record (new_rule id) { required = true; action = Some Set }
 
--- an option `--NAME VALUE` that may be absent
-abbrev pub optional : Text → Rule
-optional name = record (new_rule name) { long = Some name; action = Some Set }
+-- an option `--NAME VALUE ..` of so many values, which may be absent
+abbrev pub optional : Text → ℕ → Rule
+optional name values = record (new_rule name) {
+  long = Some name;
+  action = Some Set;
+  range = Some (record { start_inclusive = values; end_inclusive = values });
+}
 
 -- no step of clap's parse of the words fails
 abbrev pub Takes : App → List Text → Type 0

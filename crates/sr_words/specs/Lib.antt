@@ -1,5 +1,6 @@
 pub mod Base
 pub mod Clap
 pub mod Options
+pub mod Resends
 pub mod Words
 pub mod Errors

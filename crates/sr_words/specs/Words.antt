@@ -12,7 +12,8 @@ use Rattle.sr_words.specs.declared.serving.Serving.{Serving}
 use Rattle.sr_words.specs.declared.serving.Settings.{Settings}
 use Rattle.sr_words.specs.Base.{IsBase}
 use Rattle.sr_words.specs.Clap.{Gives, IsNumber, SaysNumber, Takes, bare_app, required}
-use Rattle.sr_words.specs.Options.{Choice, SayAll, choice, names_of, with_options}
+use Rattle.sr_words.specs.Options.{Choice, SayAll, choice, choice_of_two, told_of, with_options}
+use Rattle.sr_words.specs.Resends.{IsResend}
 
 abbrev pub codec_name : Codec → Text
 codec_name Json = codes "json"
@@ -29,6 +30,7 @@ serve_options =
     ∷ choice (codes "base") (codes "/hub") IsBase (λ serving. serving.base)
     ∷ choice (codes "turns") (codes "18446744073709551615") (IsNumber 64) (λ serving. serving.turns)
     ∷ choice (codes "listen") (codes "127.0.0.1") IsIpText (λ serving. serving.listen)
+    ∷ choice_of_two (codes "resend") (codes "1024", codes "100000") IsResend (λ serving. serving.resend)
     ∷ []
 
 -- what clap is told of the words after each name
@@ -44,11 +46,11 @@ check_app = with_rule (bare_app (codes "check")) (required (codes "codec"))
 abbrev pub convert_app : App
 convert_app = with_rule (with_rule (bare_app (codes "convert")) (required (codes "from"))) (required (codes "to"))
 
-abbrev pub serve_app : App
-serve_app = with_options (bare_app (codes "serve")) (names_of serve_options)
+unfoldable pub serve_app : App
+serve_app = with_options (bare_app (codes "serve")) (told_of serve_options)
 
 -- what these rows give the options of `serve` says this
-abbrev pub SaysServing : List Row → Serving → Type 0
+unfoldable pub SaysServing : List Row → Serving → Type 0
 SaysServing = SayAll serve_options
 
 -- the command of this name, with these words after it, asks for this

@@ -1,41 +1,55 @@
-//! What `serve` is asked for, and its options, each by its name and what it says if the words give it no value.
+//! What `serve` is asked for, and which options it has.
 
+use hd_delivery::MOST_FRAMING;
+use hd_server::MOST_FRAME;
 use hv_value::Text;
 use std::net::IpAddr;
 
-/// An option `--NAME VALUE` that may be absent.
+/// An option `--NAME VALUE ..` that may be absent.
 pub(crate) struct Choice {
     pub(crate) name: &'static str,
-    /// The value if the words give none.
-    pub(crate) usual: &'static str,
+    /// How many values it takes.
+    pub(crate) values: usize,
 }
 
-/// The port. 0 asks the system for a free one.
-pub(crate) const PORT: Choice = Choice {
-    name: "port",
-    usual: "8080",
-};
+/// The options of `serve`.
+pub(crate) const SERVE_OPTIONS: &[Choice] = &[
+    Choice {
+        name: "port",
+        values: 1,
+    },
+    Choice {
+        name: "base",
+        values: 1,
+    },
+    Choice {
+        name: "turns",
+        values: 1,
+    },
+    Choice {
+        name: "listen",
+        values: 1,
+    },
+    Choice {
+        name: "resend",
+        values: 2,
+    },
+];
 
-/// The path under which the hub stands.
-pub(crate) const BASE: Choice = Choice {
-    name: "base",
-    usual: "/hub",
-};
+/// The fewest bytes that the ends of a resumable connection may be told to keep: those of the longest frame.
+pub const LEAST_RESEND_BYTES: usize = MOST_FRAME + MOST_FRAMING;
 
-/// How many turns a server makes; as a rule more than any comes to.
-pub(crate) const TURNS: Choice = Choice {
-    name: "turns",
-    usual: "18446744073709551615",
-};
+/// The most bytes that they may be told to keep: half of what may wait on a lane to be written.
+pub const MOST_RESEND_BYTES: usize = 524_288;
 
-/// The address; as a rule that which only this machine reaches.
-pub(crate) const LISTEN: Choice = Choice {
-    name: "listen",
-    usual: "127.0.0.1",
-};
-
-/// All options of `serve`.
-pub(crate) const SERVE_OPTIONS: &[Choice] = &[PORT, BASE, TURNS, LISTEN];
+/// How much each end of a resumable connection keeps until it is acknowledged.
+#[derive(Clone, Copy, Debug, PartialEq, Eq)]
+pub struct Resend {
+    /// How many messages: from 1 to [`MOST_COUNT`](hd_delivery::MOST_COUNT).
+    pub count: usize,
+    /// How many bytes of framed messages: from [`LEAST_RESEND_BYTES`] to [`MOST_RESEND_BYTES`].
+    pub bytes: usize,
+}
 
 /// What `serve` is asked for.
 #[derive(Drop, PartialEq, Eq)]
@@ -48,6 +62,8 @@ pub struct Serving {
     pub turns: u64,
     /// The address at which the server listens.
     pub listen: IpAddr,
+    /// How much each end of a resumable connection keeps.
+    pub resend: Resend,
 }
 
 /// What has to be known before the objects are made that a command runs over. Each is `None` for a command other than

@@ -4,15 +4,15 @@ ghost use Rattle.std.specs.Prelude.{◌≡◌, ℕ, Err, IfOk, IfErr, Some, map,
 ghost use Rattle.clap.specs.Words.{app_of, rule_of, first_of, found_of, is_simple_and_free, matches_of, rows_of};
 ghost use Rattle.hd_facts.specs.Unique.{IsTheOne};
 ghost use Rattle.sr_words.specs.Clap.{SaysNumber, Takes, bare_app, optional, required};
-ghost use Rattle.sr_words.specs.Options.{text_of, with_options};
+ghost use Rattle.sr_words.specs.Options.{text_of, texts_of, with_options};
 ghost use Rattle.sr_words.specs.Words.{AreSettings, Asks, AsksAfter, AsksNothingAfter, IsNoCommand, SaysServing, check_app, codec_name, convert_app, replay_app, serve_app, soak_app, texts};
 ghost use Rattle.hm_message.specs.declared.message.Codec.{Codec};
 ghost use Rattle.sr_words.specs.declared.serving.Serving.{Serving};
 
 use crate::commands::Command;
 use crate::error::WordsError;
-use crate::reading::{address, base, number, port};
-use crate::serving::{BASE, Choice, LISTEN, PORT, SERVE_OPTIONS, Serving, Settings, TURNS};
+use crate::reading::{address, base, number, port, resend};
+use crate::serving::{Choice, SERVE_OPTIONS, Serving, Settings};
 use clap::{Arg, ArgAction, ArgMatches};
 use hm_message::Codec;
 use std::alloc::{AllocError, Global};
@@ -35,12 +35,15 @@ fn required<'a>(alloc: Global, id: &'a str) -> Arg<'a>
     Arg::new(alloc, id).required(true).action(ArgAction::Set)
 }
 
-/// An option `--NAME VALUE` that may be absent.
-fn optional<'a>(alloc: Global, name: &'a str) -> Arg<'a>
-    ensures rule { rule_of result ≡ optional name.now }
+/// An option `--NAME VALUE ..` of so many values, which may be absent.
+fn optional<'a>(alloc: Global, name: &'a str, values: usize) -> Arg<'a>
+    ensures rule { rule_of result ≡ optional name.now values }
     ensures local { result.global ≡ false }
 {
-    Arg::new(alloc, name).long(name).action(ArgAction::Set)
+    Arg::new(alloc, name)
+        .long(name)
+        .action(ArgAction::Set)
+        .num_args(values)
 }
 
 /// The command with these options.
@@ -49,11 +52,11 @@ fn with_options<'a>(
     command: clap::Command<'a>,
     options: &'a [Choice],
 ) -> Result<clap::Command<'a>, AllocError>
-    ensures { IfOk result (λ c. app_of c ≡ with_options (app_of command.entry) (map (λ o. o.name.now) options.now)) }
+    ensures { IfOk result (λ c. app_of c ≡ with_options (app_of command.entry) (map (λ o. (o.name.now, o.values)) options.now)) }
 {
     let mut command = command;
     for option in options {
-        command = command.arg(optional(alloc, option.name))?;
+        command = command.arg(optional(alloc, option.name, option.values))?;
     }
     Ok(command)
 }
@@ -180,34 +183,52 @@ fn convert_words(alloc: Global, words: &[String]) -> Result<Command, WordsError>
 }
 
 /// The command `serve` with its options.
+#[tactic(auto, unfolding(crate::specs::Words::serve_app))]
 fn serve_command<'a>(alloc: Global) -> Result<clap::Command<'a>, AllocError>
     ensures { IfOk result (λ command. app_of command ≡ serve_app) }
 {
     with_options(alloc, bare(alloc, "serve"), SERVE_OPTIONS)
 }
 
-/// The text of this option, or its usual one.
-fn text<'a>(matches: &ArgMatches<'a>, option: &Choice) -> &'a str
-    ensures { result.now ≡ text_of option.now.name.now option.now.usual.now (rows_of (found_of matches.now)) }
+/// The text of the option of this name, or its usual one.
+fn text<'a>(matches: &ArgMatches<'a>, name: &str, usual: &'a str) -> &'a str
+    ensures { result.now ≡ text_of name.now usual.now (rows_of (found_of matches.now)) }
 {
-    matches.get_str(option.name).unwrap_or(option.usual)
+    matches.get_str(name).unwrap_or(usual)
+}
+
+/// The two texts of the option of this name, or its usual ones.
+fn texts<'a>(matches: &ArgMatches<'a>, name: &str, usual: (&'a str, &'a str)) -> (&'a str, &'a str)
+    ensures { (result.0.now, result.1.now)
+        ≡ texts_of name.now (usual.entry.0.now, usual.entry.1.now) (rows_of (found_of matches.now)) }
+{
+    let Some(texts) = matches.get_strs(name) else {
+        return usual;
+    };
+    if texts.len() != 2 {
+        return usual;
+    }
+    (texts[0], texts[1])
 }
 
 /// What the options that clap found ask of a server.
+#[tactic(auto, unfolding(crate::specs::Words::SaysServing))]
 fn serving(alloc: Global, matches: &ArgMatches) -> Result<Serving, WordsError>
     ensures said { IfOk result (SaysServing (rows_of (found_of matches.now))) }
     ensures none { result ≡ Err WordsError.NoCommand
         → (serving : Serving) → SaysServing (rows_of (found_of matches.now)) serving → ⊥ }
 {
-    let port = port(text(matches, &PORT))?;
-    let base = base(alloc, text(matches, &BASE))?;
-    let turns = number(text(matches, &TURNS))?;
-    let listen = address(text(matches, &LISTEN))?;
+    let port = port(text(matches, "port", "8080"))?;
+    let base = base(alloc, text(matches, "base", "/hub"))?;
+    let turns = number(text(matches, "turns", "18446744073709551615"))?;
+    let listen = address(text(matches, "listen", "127.0.0.1"))?;
+    let resend = resend(texts(matches, "resend", ("1024", "100000")))?;
     Ok(Serving {
         port,
         base,
         turns,
         listen,
+        resend,
     })
 }
 

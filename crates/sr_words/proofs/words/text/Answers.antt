@@ -9,7 +9,7 @@ now_too None usual = refl
 
 pub returns : goal.returns
 returns c =
-    let name = c.args.option.now.name.now in
+    let name = c.args.name.now in
     ap (λ s. s.now) c.unwrap_or.ensures
-    ∙ (now_too c.get_str.result c.args.option.now.usual
-    ∙ ap (λ text. unwrap_or text c.args.option.now.usual.now) (c.get_str.ensures ∙ first_value-rows (found_of c.args.matches.now) name))
+    ∙ (now_too c.get_str.result c.args.usual
+    ∙ ap (λ text. unwrap_or text c.args.usual.now) (c.get_str.ensures ∙ first_value-rows (found_of c.args.matches.now) name))

@@ -8,12 +8,12 @@ use Rattle.sr_words.proofs.words.with_options.Goals as goal
 
 -- the options that are left make the same of the command with the next one
 step : (options : List Choice) (i : ℕ) (d : Choice) (before after all : App) → i < length options
-    → after ≡ with_rule before (optional (get_or options i d).name.now)
-    → with_options before (map (λ o. o.name.now) (drop i options)) ≡ all
-    → with_options after (map (λ o. o.name.now) (drop (i + 1) options)) ≡ all
+    → after ≡ with_rule before (optional (get_or options i d).name.now (get_or options i d).values)
+    → with_options before (map (λ o. (o.name.now, o.values)) (drop i options)) ≡ all
+    → with_options after (map (λ o. (o.name.now, o.values)) (drop (i + 1) options)) ≡ all
 step options i d before after all lt next left =
-    ap (λ app. with_options app (map (λ o. o.name.now) (drop (i + 1) options))) next
-    ∙ (sym (at_drop_more (λ rest. with_options before (map (λ o. o.name.now) rest)) options i d lt) ∙ left)
+    ap (λ app. with_options app (map (λ o. (o.name.now, o.values)) (drop (i + 1) options))) next
+    ∙ (sym (at_drop_more (λ rest. with_options before (map (λ o. (o.name.now, o.values)) rest)) options i d lt) ∙ left)
 
 pub loop-option-preserved : goal.loop-option-preserved
 loop-option-preserved c = step c.args.options.now c.loop-option.option-index _ (app_of c.loop-option.command) _ _ c.loop-option-test.true
@@ -22,5 +22,5 @@ loop-option-preserved c = step c.args.options.now c.loop-option.option-index _ (
 
 pub returns : goal.returns
 returns c =
-    sym (at_drop_all (λ rest. with_options (app_of c.loop-option.command) (map (λ o. o.name.now) rest)) c.args.options.now c.loop-option.option-index c.loop-option-test.false)
+    sym (at_drop_all (λ rest. with_options (app_of c.loop-option.command) (map (λ o. (o.name.now, o.values)) rest)) c.args.options.now c.loop-option.option-index c.loop-option-test.false)
     ∙ c.loop-option.invariant
