@@ -20,7 +20,6 @@ use Rattle.sr_words.specs.declared.commands.Command.{Command}
 use Rattle.sr_words.specs.declared.commands.Command.TheVariants.{Replay, Soak, Check, Convert, Serve}
 use Rattle.sr_words.specs.declared.serving.Serving.{Serving}
 use Rattle.sr_words.specs.Words.{Asks, IsNoCommand}
-use Rattle.hub_server.specs.Resend.{usual_resend}
 use Rattle.sr_serve.specs.declared.serving.ServeError.{ServeError}
 use Rattle.sr_serve.specs.declared.serving.ServeError.TheVariants as end
 use Rattle.sr_serve.specs.Serving.{serving_line}
@@ -259,4 +258,4 @@ status_of_end (Err error) = status_of_error error
 -- what serving did that ended with this status
 abbrev pub EndsServing : Serving → Status → serve.Environment → serve.Environment → Type 0
 EndsServing asked status before now =
-    (result : Result Unit ServeError) × (status ≡ status_of_end result) × serve.Ends asked.base usual_resend asked.turns before now result
+    (result : Result Unit ServeError) × (status ≡ status_of_end result) × serve.Ends asked.base asked.resend asked.turns before now result

@@ -15,7 +15,6 @@ ghost use Rattle.sr_script.specs.Script.{most_script, refusal_line};
 
 use hf_split::empty_waits;
 use hk_keeper::Keeper;
-use hub_server::ResendLimits;
 use hw_door::{Door, Lots};
 use hw_io::{Failed, Sink, Source};
 use sr_check::{Stop, Task};
@@ -243,11 +242,10 @@ fn run_serve<K: Sink, D: Door, R: Keeper, L: Lots>(
     ensures no_memory { result ≡ Status.NoMemory
         → (out.new ≡ out.old) ⊎ ((rows : ℕ) × Appends (K.holds out.old) (K.holds out.new) (serving_line rows)) }
 {
-    let resend = ResendLimits::usual();
     match serve_hub(
         alloc,
         serving.base,
-        resend,
+        serving.resend,
         serving.turns,
         out,
         door,

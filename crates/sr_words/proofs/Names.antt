@@ -7,7 +7,7 @@ use Rattle.clap.specs.Words.{Row, Text}
 use Rattle.std.specs.Str.Parse.{digits_value, without_leading_plus}
 use Rattle.hm_message.specs.declared.message.Codec.{Codec}
 use Rattle.hm_message.specs.declared.message.Codec.TheVariants.{Json, Pack}
-use Rattle.sr_words.specs.declared.serving.Resend.{Resend}
+use Rattle.hub_server.specs.Resend.{ResendLimits}
 use Rattle.sr_words.specs.declared.serving.Serving.{Serving}
 use Rattle.sr_words.specs.Clap.{IsNumber, SaysNumber}
 use Rattle.sr_words.specs.Resends.{IsResend}
@@ -39,7 +39,7 @@ same_number id rows m n x y =
     sym x.1.1.value ∙ ap (λ text. digits_value 10 (without_leading_plus text)) same ∙ y.1.1.value
 
 -- two texts say one of how much is kept
-same_resend : (texts : Text × Text) (a b : Resend) → IsResend texts a → IsResend texts b → a ≡ b
+same_resend : (texts : Text × Text) (a b : ResendLimits) → IsResend texts a → IsResend texts b → a ≡ b
 same_resend texts a b x y =
     let count : a.count ≡ b.count = one_number 64 texts.0 a.count b.count x.count_is y.count_is in
     let bytes : a.bytes ≡ b.bytes = one_number 64 texts.1 a.bytes b.bytes x.bytes_are y.bytes_are in

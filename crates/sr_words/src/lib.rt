@@ -13,5 +13,5 @@ mod words;
 
 pub use commands::Command;
 pub use error::WordsError;
-pub use serving::{LEAST_RESEND_BYTES, MOST_RESEND_BYTES, Resend, Serving, Settings};
+pub use serving::{Serving, Settings};
 pub use words::{MOST_STEPS, parse, settings};

@@ -6,12 +6,11 @@ ghost use Rattle.std.specs.Net.Grammar.{IsIpText};
 ghost use Rattle.std.specs.declared.net.ip_addr.IpAddr.{IpAddr};
 ghost use Rattle.sr_words.specs.Base.{IsBase, IsPath, is_path_byte};
 ghost use Rattle.sr_words.specs.Clap.{IsNumber};
-ghost use Rattle.sr_words.specs.Resends.{AreInRange, IsResend};
-ghost use Rattle.sr_words.specs.declared.serving.Resend.{Resend};
+ghost use Rattle.hub_server.specs.Resend.{ResendLimits as LimitsMeant};
+ghost use Rattle.sr_words.specs.Resends.{IsResend};
 
 use crate::error::WordsError;
-use crate::serving::{LEAST_RESEND_BYTES, MOST_RESEND_BYTES, Resend};
-use hd_delivery::MOST_COUNT;
+use hub_server::ResendLimits;
 use hv_value::Text;
 use std::alloc::Global;
 use std::net::IpAddr;
@@ -87,23 +86,17 @@ pub(crate) fn address(text: &str) -> Result<IpAddr, WordsError>
     }
 }
 
-/// Whether an end can keep so many messages and bytes.
-fn are_in_range(count: usize, bytes: usize) -> bool
-    ensures { IsTrue result ↔ AreInRange count bytes }
-{
-    1 <= count && count <= MOST_COUNT && LEAST_RESEND_BYTES <= bytes && bytes <= MOST_RESEND_BYTES
-}
-
-/// How much an end is to keep by two texts: so many messages, and so many bytes.
-pub(crate) fn resend(texts: (&str, &str)) -> Result<Resend, WordsError>
+/// How much the end of each connection is to hold by two texts: so many messages, and so many bytes. `NoCommand` if one is no
+/// number, or an end can't hold so little or so much.
+pub(crate) fn resend(texts: (&str, &str)) -> Result<ResendLimits, WordsError>
     ensures said { IfOk result (IsResend (texts.entry.0.now, texts.entry.1.now)) }
     ensures none { result ≡ Err WordsError.NoCommand
-        → (resend : Resend) → IsResend (texts.entry.0.now, texts.entry.1.now) resend → ⊥ }
+        → (resend : LimitsMeant) → IsResend (texts.entry.0.now, texts.entry.1.now) resend → ⊥ }
 {
     let count = number(texts.0)? as usize;
     let bytes = number(texts.1)? as usize;
-    if !are_in_range(count, bytes) {
-        return Err(WordsError::NoCommand);
+    match ResendLimits::of(count, bytes) {
+        Some(resend) => Ok(resend),
+        None => Err(WordsError::NoCommand),
     }
-    Ok(Resend { count, bytes })
 }

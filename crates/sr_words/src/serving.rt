@@ -1,7 +1,6 @@
 //! What `serve` is asked for, and which options it has.
 
-use hd_delivery::MOST_FRAMING;
-use hd_server::MOST_FRAME;
+use hub_server::ResendLimits;
 use hv_value::Text;
 use std::net::IpAddr;
 
@@ -36,21 +35,6 @@ pub(crate) const SERVE_OPTIONS: &[Choice] = &[
     },
 ];
 
-/// The fewest bytes that the ends of a resumable connection may be told to keep: those of the longest frame.
-pub const LEAST_RESEND_BYTES: usize = MOST_FRAME + MOST_FRAMING;
-
-/// The most bytes that they may be told to keep: half of what may wait on a lane to be written.
-pub const MOST_RESEND_BYTES: usize = 524_288;
-
-/// How much each end of a resumable connection keeps until it is acknowledged.
-#[derive(Clone, Copy, Debug, PartialEq, Eq)]
-pub struct Resend {
-    /// How many messages: from 1 to [`MOST_COUNT`](hd_delivery::MOST_COUNT).
-    pub count: usize,
-    /// How many bytes of framed messages: from [`LEAST_RESEND_BYTES`] to [`MOST_RESEND_BYTES`].
-    pub bytes: usize,
-}
-
 /// What `serve` is asked for.
 #[derive(Drop, PartialEq, Eq)]
 pub struct Serving {
@@ -62,8 +46,8 @@ pub struct Serving {
     pub turns: u64,
     /// The address at which the server listens.
     pub listen: IpAddr,
-    /// How much each end of a resumable connection keeps.
-    pub resend: Resend,
+    /// How much the end of each connection holds.
+    pub resend: ResendLimits,
 }
 
 /// What has to be known before the objects are made that a command runs over. Each is `None` for a command other than
