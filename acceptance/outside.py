@@ -57,6 +57,7 @@ LINES = b'0 message {"type":6}\n11 message {"type":6}\n'
 SOAKED = b"seed 1 actions 1 calls 1 endings 1 live 0 links 2\n"
 LONGEST_SOAK = rb"seed 18446744073709551615 actions 100000 calls (\d+) endings \1 live 0 links (\d+)\n"
 SERVES = b"serving 0\n"
+BASE_SAID = "/chat/hub"
 USAGE = b"usage: sr replay, soak, serve, client, check or convert\n"
 NOTHING = b""
 
@@ -206,6 +207,16 @@ def few_descriptors(program):
         return half, answer_at_last(server.port)
 
 
+def says_where(words, address):
+    """Whether a server of these words says on standard error alone that it listens at this address, and that is all."""
+
+    def case(program):
+        status, output, error = run(program, f"serve --port 0 --turns 0 {words}")
+        return status, output, re.fullmatch(rf"sr: listening on http://{re.escape(address)}:[1-9]\d*{BASE_SAID}\n", error.decode()) is not None
+
+    return case
+
+
 def another_base(program):
     """The path of the hub is that of `--base`, and no other."""
     with Serving(program, "--base", "/calc/v1") as server:
@@ -240,6 +251,9 @@ CASES = {
     "a port that is taken, at all addresses": of_port("0.0.0.0", "serve --listen 0.0.0.0 --port PORT", (5, SERVES, True)),
     "a port that is taken, in IPv6": of_port("::1", "serve --listen ::1 --port PORT", (5, SERVES, True)),
     "a port that is taken, and no turn": of_port("127.0.0.1", "serve --port PORT --turns 0", (0, SERVES, False)),
+    "where it listens": (says_where("--base /chat/hub", "127.0.0.1"), (0, SERVES, True)),
+    "where it listens, at all addresses": (says_where("--base /chat/hub --listen 0.0.0.0", "0.0.0.0"), (0, SERVES, True)),
+    "where it listens, in IPv6": (says_where("--base /chat/hub --listen ::1", "[::1]"), (0, SERVES, True)),
     "few descriptors": (few_descriptors, (True, 200)),
     "another base": (another_base, [200, 404, 404]),
 }

@@ -23,7 +23,7 @@ def free_port():
 
 
 class Serving:
-    """The program while it serves. What it writes on standard error, and that it ends before it is told to, are complaints."""
+    """The program while it serves. What it writes on standard error but where it listens, and that it ends before it is told to, are complaints."""
 
     def __init__(self, program, *options):
         self.program, self.options = program, options
@@ -49,6 +49,8 @@ class Serving:
         status = self.process.poll()
         self.errors.seek(0)
         written = self.errors.read().decode(errors="replace").splitlines()[:20]
+        listening = f"sr: listening on {self.base}"
+        written = written[1:] if written[:1] == [listening] else [f"it didn't begin with {listening!r}", *written]
         return written if status is None else [f"the server ended with {status}", *written]
 
     def memory(self):
