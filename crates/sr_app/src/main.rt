@@ -10,7 +10,7 @@ use hw_door::{Door, MemoryDoor, RandLots};
 use hw_io::{StdSink, StdSource};
 use hw_mio::MioWires;
 use hw_net::NetDoor;
-use sr_words::{Settings, WordsError, settings};
+use sr_words::{Settings, WordsError, complaint, settings};
 use std::alloc::AllocError;
 use std::net::SocketAddr;
 use std::process::ExitCode;
@@ -67,6 +67,13 @@ fn run_over<D: Door>(rt: &HostRuntime, words: &[String], door: &mut D) -> Result
     ))
 }
 
+/// Writes on standard error what is wrong with the words, which are no command.
+fn complain(rt: &HostRuntime, words: &[String]) -> Result<(), AllocError> {
+    let complaint = complaint(rt.alloc(), words)?;
+    let _ = eprintln!(rt; "sr: {complaint}");
+    Ok(())
+}
+
 /// Makes the door that the words ask for: sockets for `serve`, and for every other command one at which nothing is heard.
 fn run_words(rt: &HostRuntime) -> Result<u8, AllocError> {
     let alloc = rt.alloc();
@@ -79,13 +86,23 @@ fn run_words(rt: &HostRuntime) -> Result<u8, AllocError> {
                 listen: Some(ip),
             },
         ) => run_at(rt, &words, SocketAddr::new(ip, port), &base),
+        Ok(_) => run_unheard(rt, &words),
+        Err(WordsError::NoCommand) => {
+            complain(rt, &words)?;
+            run_unheard(rt, &words)
+        }
         Err(WordsError::NoMemory) => Err(AllocError),
-        _ => run_over(
-            rt,
-            &words,
-            &mut MemoryDoor::start(Vec::new(alloc), Vec::new(alloc)),
-        ),
     }
+}
+
+/// Runs a command over a door at which nothing is heard.
+fn run_unheard(rt: &HostRuntime, words: &[String]) -> Result<u8, AllocError> {
+    let alloc = rt.alloc();
+    run_over(
+        rt,
+        words,
+        &mut MemoryDoor::start(Vec::new(alloc), Vec::new(alloc)),
+    )
 }
 
 fn main(rt: HostRuntime) -> ExitCode {

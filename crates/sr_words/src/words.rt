@@ -62,7 +62,7 @@ fn with_options<'a>(
 }
 
 /// What clap makes of these words.
-fn matches_in<'a>(
+pub(crate) fn matches_in<'a>(
     command: clap::Command<'a>,
     words: &'a [String],
 ) -> Result<ArgMatches<'a>, WordsError>
@@ -184,21 +184,25 @@ fn convert_words(alloc: Global, words: &[String]) -> Result<Command, WordsError>
 
 /// The command `serve` with its options.
 #[tactic(auto, unfolding(crate::specs::Words::serve_app))]
-fn serve_command<'a>(alloc: Global) -> Result<clap::Command<'a>, AllocError>
+pub(crate) fn serve_command<'a>(alloc: Global) -> Result<clap::Command<'a>, AllocError>
     ensures { IfOk result (λ command. app_of command ≡ serve_app) }
 {
     with_options(alloc, bare(alloc, "serve"), SERVE_OPTIONS)
 }
 
 /// The text of the option of this name, or its usual one.
-fn text<'a>(matches: &ArgMatches<'a>, name: &str, usual: &'a str) -> &'a str
+pub(crate) fn text<'a>(matches: &ArgMatches<'a>, name: &str, usual: &'a str) -> &'a str
     ensures { result.now ≡ text_of name.now usual.now (rows_of (found_of matches.now)) }
 {
     matches.get_str(name).unwrap_or(usual)
 }
 
 /// The two texts of the option of this name, or its usual ones.
-fn texts<'a>(matches: &ArgMatches<'a>, name: &str, usual: (&'a str, &'a str)) -> (&'a str, &'a str)
+pub(crate) fn texts<'a>(
+    matches: &ArgMatches<'a>,
+    name: &str,
+    usual: (&'a str, &'a str),
+) -> (&'a str, &'a str)
     ensures { (result.0.now, result.1.now)
         ≡ texts_of name.now (usual.entry.0.now, usual.entry.1.now) (rows_of (found_of matches.now)) }
 {
