@@ -16,7 +16,7 @@ use ht_kit::{Play, Stop, told};
 use hw_door::Wires;
 use hw_mio::MioWires;
 use std::alloc::{AllocError, Global};
-use std::net::{IpAddr, Ipv4Addr, TcpListener};
+use std::net::{IpAddr, Ipv4Addr};
 
 const HERE: IpAddr = IpAddr::V4(Ipv4Addr::LOCALHOST);
 
@@ -51,14 +51,21 @@ impl<'a> Bench<'a> {
     }
 
     fn listen(&mut self) -> Result<String, Stop> {
-        self.port = free_port(self.rt)?;
-        self.far = listening(self.rt, self.alloc, self.port)?;
         self.near = dialing(self.rt, self.alloc)?;
         self.peers = Peers::start(self.alloc);
-        match self.far.wires.start_error() {
-            None => told(self.alloc, "listens"),
-            Some(_) => Err(Stop::Busy),
+        for place in 0..PORTS {
+            if self.listen_at(FIRST_PORT.saturating_add(place))? {
+                return told(self.alloc, "listens");
+            }
         }
+        Err(Stop::Busy)
+    }
+
+    /// Whether the far wires can listen at this port.
+    fn listen_at(&mut self, port: u16) -> Result<bool, Stop> {
+        self.far = listening(self.rt, self.alloc, port)?;
+        self.port = port;
+        Ok(self.far.wires.start_error().is_none())
     }
 
     /// Whether wires that listen at the port of the far ones fail.
@@ -88,17 +95,6 @@ fn listening(
     port: u16,
 ) -> Result<Side<MioWires<'_, HostRuntime>>, AllocError> {
     Ok(Side::start(alloc, MioWires::listen(rt, alloc, HERE, port)?))
-}
-
-/// The first port at which nobody listens.
-fn free_port(rt: &HostRuntime) -> Result<u16, Stop> {
-    for place in 0..PORTS {
-        let port = FIRST_PORT.saturating_add(place);
-        if TcpListener::bind(rt, (HERE, port)).is_ok() {
-            return Ok(port);
-        }
-    }
-    Err(Stop::Busy)
 }
 
 /// Whether each call of wires fails that couldn't be started.
