@@ -1,12 +1,13 @@
 -- A command with any options is one of which clap says what it makes of all words.
-use Rattle.std.proofs.Common.{◌≡◌, ◌∙◌, ◌++◌, ℕ, List, [], ◌∷◌, ap, map, refl, sym, true, false}
+use Rattle.std.proofs.Common.{◌≡◌, ◌∙◌, ◌++◌, ℕ, List, [], ◌∷◌, ap, codes, map, refl, sym, true, false}
 use Rattle.std.proofs.lemmas.List.{append-nil, append_assoc}
 use Rattle.std.specs.List.{list_all, list_any}
 use Rattle.clap.specs.Simple.{filled_from}
 use Rattle.clap.specs.Walk.{Rule, Text, is_early_multiple}
 use Rattle.clap.specs.Words.{App, is_simple_and_free}
 use Rattle.sr_words.specs.Clap.{bare_app, optional}
-use Rattle.sr_words.specs.Options.{Told, with_options}
+use Rattle.sr_words.specs.Options.{Told, told_of, with_options}
+use Rattle.sr_words.specs.Words.{serve_app, serve_options}
 
 abbrev rules_of : List Told → List Rule
 rules_of options = map (λ option. optional option.0 option.1) options
@@ -41,3 +42,7 @@ pub simple_and_free : (name : Text) (options : List Told) → is_simple_and_free
 simple_and_free name options =
     ap is_simple_and_free (adds_rules (bare_app name) options)
     ∙ rw (simple options, simple_filled 1 options, free_filled 1 options, none_early _ 1 options) refl
+
+pub serve_is_simple : is_simple_and_free serve_app ≡ true
+unfolding serve_app
+serve_is_simple = simple_and_free (codes "serve") (told_of serve_options)

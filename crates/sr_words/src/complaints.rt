@@ -26,10 +26,10 @@ pub fn complaint(alloc: Global, words: &[String]) -> Result<String, AllocError> 
         return format!(in alloc; "serve has no option {option}; it takes {form}");
     }
     match refused_option(alloc, rest) {
-        Some(option) => format!(in alloc;
+        Ok(Some(option)) => format!(in alloc;
             "serve doesn't take what --{option} says; it takes {form}"
         ),
-        None => format!(in alloc; "serve doesn't take these words; it takes {form}"),
+        _ => format!(in alloc; "serve doesn't take these words; it takes {form}"),
     }
 }
 
@@ -73,16 +73,16 @@ fn is_option(text: &str) -> bool {
     false
 }
 
-/// The first option of `serve` that says what it may not say.
-fn refused_option(alloc: Global, words: &[String]) -> Option<&'static str> {
-    let matches = matches_in(serve_command(alloc).ok()?, words).ok()?;
-    if port(text(&matches, "port", "8080")) == Err(WordsError::NoCommand) {
-        return Some("port");
+/// The first option of `serve` that says what it may not say. `NoCommand` if the words aren't options and their texts at all.
+fn refused_option(alloc: Global, words: &[String]) -> Result<Option<&'static str>, WordsError> {
+    let matches = matches_in(serve_command(alloc)?, words)?;
+    if port(text(&matches, "port", "8080")).is_err() {
+        return Ok(Some("port"));
     }
-    if base(alloc, text(&matches, "base", "/hub")).err() == Some(WordsError::NoCommand) {
-        return Some("base");
+    if base(alloc, text(&matches, "base", "/hub")).is_err() {
+        return Ok(Some("base"));
     }
-    refused_later(&matches)
+    Ok(refused_later(&matches))
 }
 
 fn refused_later(matches: &ArgMatches) -> Option<&'static str> {

@@ -1,4 +1,4 @@
-use Rattle.std.proofs.Common.{◌≡◌, ◌∙◌, Err, List, Result, ap, codes, refl, subst, sym, true}
+use Rattle.std.proofs.Common.{◌≡◌, ◌∙◌, Err, List, Result, ap, codes, refl, subst, sym}
 use Rattle.std.proofs.lemmas.Result.{err_from_is_err_and}
 use Rattle.clap.specs.Words.{App, Row, Text, is_simple_and_free, matches_of}
 use Rattle.sr_words.specs.declared.commands.Command.{Command}
@@ -7,10 +7,9 @@ use Rattle.sr_words.specs.declared.error.WordsError.{WordsError}
 use Rattle.sr_words.specs.declared.serving.Serving.{Serving}
 use Rattle.hd_facts.specs.Unique.{IsTheOne}
 use Rattle.sr_words.specs.Clap.{Takes}
-use Rattle.sr_words.specs.Words.{AsksAfter, AsksNothingAfter, SaysServing, serve_app, serve_options, texts}
-use Rattle.sr_words.specs.Options.{told_of}
+use Rattle.sr_words.specs.Words.{AsksAfter, AsksNothingAfter, SaysServing, serve_app, texts}
 use Rattle.sr_words.proofs.Names.{apart, same_serving}
-use Rattle.sr_words.proofs.Simple.{simple_and_free}
+use Rattle.sr_words.proofs.Simple.{serve_is_simple}
 use Rattle.sr_words.proofs.words.serve_words.Goals as goal
 
 the_one : (rest : List Text) (serving : Serving) → Takes serve_app rest → SaysServing (matches_of serve_app rest) serving
@@ -40,10 +39,6 @@ nothing rest none (Serve serving) asks = none serving asks.2
 
 inside : {a b : WordsError} → ◌≡◌ {A = Result Command WordsError} (Err a) (Err b) → a ≡ b
 inside e = cc
-
-serve_is_simple : is_simple_and_free serve_app ≡ true
-unfolding serve_app
-serve_is_simple = simple_and_free (codes "serve") (told_of serve_options)
 
 pub matches_in-requires : goal.matches_in-requires
 matches_in-requires c = ap is_simple_and_free c.in_ok-serve_command.ensures ∙ serve_is_simple
