@@ -79,20 +79,25 @@ fn run_words(rt: &HostRuntime) -> Result<u8, AllocError> {
     let alloc = rt.alloc();
     let words = words(rt)?;
     match settings(alloc, &words) {
-        Ok(
-            Settings {
-                port: Some(port),
-                base: Some(base),
-                listen: Some(ip),
-            },
-        ) => run_at(rt, &words, SocketAddr::new(ip, port), &base),
-        Ok(_) => run_unheard(rt, &words),
+        Ok(settings) => run_settings(rt, &words, &settings),
         Err(WordsError::NoCommand) => {
             complain(rt, &words)?;
             run_unheard(rt, &words)
         }
         Err(WordsError::NoMemory) => Err(AllocError),
     }
+}
+
+/// Runs a command with these settings, which only `serve` has.
+fn run_settings(rt: &HostRuntime, words: &[String], settings: &Settings) -> Result<u8, AllocError> {
+    let (Some(port), Some(base), Some(ip)) = (
+        settings.port,
+        settings.base.as_ref(),
+        settings.listen,
+    ) else {
+        return run_unheard(rt, words);
+    };
+    run_at(rt, words, SocketAddr::new(ip, port), base)
 }
 
 /// Runs a command over a door at which nothing is heard.
