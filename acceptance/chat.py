@@ -535,7 +535,7 @@ def main():
         return 0
     program = programs[0] if programs else str(TOP / "bin" / "sr")
     # The first call of bin/sr may prove and build, and has no time limit for that.
-    subprocess.run([program], stdin=subprocess.DEVNULL, stdout=subprocess.DEVNULL)
+    subprocess.run([program, "check", "json"], stdin=subprocess.DEVNULL, stdout=subprocess.DEVNULL)
     trial = Trial()
     wire = []
     with tempfile.TemporaryDirectory(prefix="chat-") as name, contextlib.ExitStack() as stack:

@@ -71,7 +71,7 @@ def faults(program, row, named):
 def main():
     program = sys.argv[1] if len(sys.argv) > 1 else str(HERE.parent / "bin" / "sr")
     # The first call of bin/sr may prove and build, and has no time limit for that.
-    subprocess.run([program], stdin=subprocess.DEVNULL, stdout=subprocess.DEVNULL)
+    subprocess.run([program, "check", "json"], stdin=subprocess.DEVNULL, stdout=subprocess.DEVNULL)
     tables = [rows.read(path) for path in sorted(HERE.glob("*.toml"))]
     listed = [(row, table.get("pieces", {})) for table in tables for row in table["row"]]
     failed = 0
