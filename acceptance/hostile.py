@@ -5,7 +5,7 @@
 
 What has to come is by RFC 9112 and RFC 9110 (requests), RFC 6455 (WebSockets) and the limits of docs/clients.md. All cases meet one
 server, one after the other; those that wait for half a minute run beside the others. At the end it must still serve a good client, have
-written nothing on standard error, and hold at most MOST_GROWTH more memory than at its start. (A build with a sanitizer keeps what it
+written on standard error where it listens alone, and hold at most MOST_GROWTH more memory than at its start. (A build with a sanitizer keeps what it
 freed: ASAN_OPTIONS=quarantine_size_mb=1.) The last line is 'N passed, N failed'; the status is 0 if none failed."""
 import json
 import pathlib
@@ -78,7 +78,7 @@ def all_cases(server, word):
     for thread in slow:
         thread.join()
     tally.one(server, "a good client, at the end", "5, closed 1000, ended", good_client)
-    tally.tell("the server runs, and wrote nothing on standard error", [], server.complaints())
+    tally.tell("the server runs, and wrote on standard error where it listens alone", [], server.complaints())
     growth = (server.memory() or 0) - (before or 0)
     tally.tell(f"at most {MOST_GROWTH} KiB more memory ({growth} KiB)", True, growth <= MOST_GROWTH)
     print(f"{tally.passed} passed, {tally.failed} failed")

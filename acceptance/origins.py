@@ -151,7 +151,7 @@ def main():
         finally:
             browser.stop()
             shutil.rmtree(folder, ignore_errors=True)
-        visits.trial.check("the server runs, and wrote nothing on standard error", not server.complaints(), server.complaints())
+        visits.trial.check("the server runs, and wrote on standard error where it listens alone", not server.complaints(), server.complaints())
     print(f"{visits.trial.passed} passed, {visits.trial.failed} failed")
     return 1 if visits.trial.failed else 0
 
