@@ -46,7 +46,8 @@ CUT_RESPONSE = re.compile(
 
 
 class Refused(Exception):
-    pass
+    def __init__(self, status, field=None):
+        super().__init__(f"refused {status}" + (f" [{field}]" if field else ""))
 
 
 # ---- what fields say
@@ -73,6 +74,12 @@ def length_of(fields):
     return None if len(numbers) > 1 else (numbers or {0}).pop()
 
 
+def check_host(minor, fields):
+    """RFC 9112, section 3.2, says so of HTTP/1.1; HTTP/1.0 knew no such field, but two of them mean nothing there either."""
+    if [key for key, _ in fields].count(b"host") not in ({b"0": (0, 1), b"1": (1,)}[minor]):
+        raise Refused(400)
+
+
 def check_body(fields, length):
     if first(fields, b"transfer-encoding") is not None:
         raise Refused(411)
@@ -85,14 +92,16 @@ def accept_of(key):
 
 
 def upgrade_of(method, fields):
-    if method != b"GET" or b"websocket" not in elements(fields, b"upgrade"):
+    if method != b"GET" or b"websocket" not in elements(fields, b"upgrade") or b"upgrade" not in elements(fields, b"connection"):
         return None
+    if first(fields, b"sec-websocket-version") != b"13":
+        raise Refused(400, "Sec-WebSocket-Version: 13")
     key = first(fields, b"sec-websocket-key")
     try:
         nonce = base64.b64decode(key or b"", validate=True)
     except ValueError:
         raise Refused(400) from None
-    if first(fields, b"sec-websocket-version") != b"13" or len(nonce) != 16 or base64.b64encode(nonce) != key:
+    if len(nonce) != 16 or base64.b64encode(nonce) != key:
         raise Refused(400)
     return accept_of(key)
 
@@ -121,7 +130,7 @@ def bearer_of(fields, query):
 class Lane:
     def __init__(self, whole, cut, read):
         self.whole, self.cut, self.read = whole, cut, read
-        self.held, self.want, self.spent, self.ended = b"", 0, None, False
+        self.held, self.want, self.spent, self.ended, self.due = b"", 0, None, False, False
 
     def feed(self, piece):
         room = 0 if self.spent else max(MOST_HEAD, self.want) - len(self.held)
@@ -131,14 +140,18 @@ class Lane:
 
     def next(self):
         if self.spent:
-            return f"refused {self.spent}"
+            return self.spent
         if self.ended:
             return None
         try:
             return self.find()
         except Refused as refused:
-            self.spent = refused.args[0]
-            return f"refused {self.spent}"
+            self.spent = str(refused)
+            return self.spent
+
+    def take_continue(self):
+        due, self.due = self.due, False
+        return due
 
     def find(self):
         head = self.whole.match(self.held)
@@ -149,12 +162,13 @@ class Lane:
             raise Refused(431)
         if head is None:
             return None
-        length, ended, line = self.read(head)
-        self.want = head.end() + length
+        length, ended, expects, line = self.read(head)
+        just_read, self.want = self.want == 0, head.end() + length
         if len(self.held) < self.want:
+            self.due = expects if just_read else self.due
             return None
         body = self.held[head.end() : self.want]
-        self.held, self.want, self.ended = self.held[self.want :], 0, ended
+        self.held, self.want, self.ended, self.due = self.held[self.want :], 0, ended, False
         return line + f"{len(body)} [{shown(body[:64])}]"
 
 
@@ -165,16 +179,18 @@ def read_request(head):
     except UnicodeDecodeError:
         raise Refused(400) from None
     fields = fields_of(text)
+    upgrade = upgrade_of(method, fields)
     length = length_of(fields)
     if length is None:
         raise Refused(400)
-    upgrade = upgrade_of(method, fields)
+    check_host(minor, fields)
     check_body(fields, length)
+    expects = minor == b"1" and b"100-continue" in elements(fields, b"expect")
     path, _, query = target.partition(b"?")
     word = {b"GET": "Get", b"POST": "Post", b"DELETE": "Delete"}.get(method, "Other")
     shut = "shut" if minor == b"0" or b"close" in elements(fields, b"connection") else "open"
     bearer = dash(bearer_of(fields, query))
-    return length, upgrade is not None, f"request {word} [{shown(path)}] [{shown(query)}] {bearer} {dash(upgrade)} {shut} "
+    return length, upgrade is not None, expects, f"request {word} [{shown(path)}] [{shown(query)}] {bearer} {dash(upgrade)} {shut} "
 
 
 def read_response(head):
@@ -185,23 +201,35 @@ def read_response(head):
         raise Refused(400)
     check_body(fields, length)
     status = int(digits)
-    return length, status == 101, f"response {status} {dash(first(fields, b'sec-websocket-accept'))} "
+    return length, status == 101, False, f"response {status} {dash(first(fields, b'sec-websocket-accept'))} "
 
 
 # ---- what is written
 
-def reply_of(status, kind, bytes_):
+FIELDS = {"-": b"", "allow-post": b"Allow: POST\r\n", "allow-all": b"Allow: GET, POST, DELETE\r\n",
+          "bearer": b"WWW-Authenticate: Bearer\r\n", "version": b"Sec-WebSocket-Version: 13\r\n"}
+
+
+def reply_of(status, kind, field, close, bytes_):
     phrase = "Payload Too Large" if status == 413 else http.HTTPStatus(status).phrase
     text = f"HTTP/1.1 {status} {phrase}\r\n".encode()
     if status == 101:
         return text + b"Upgrade: websocket\r\nConnection: Upgrade\r\nSec-WebSocket-Accept: " + bytes_ + b"\r\n\r\n"
-    if status == 204:
-        return text + b"\r\n"
-    text += f"Content-Length: {len(bytes_)}\r\n".encode()
+    text += FIELDS[field]
+    if status != 204:
+        text += f"Content-Length: {len(bytes_)}\r\n".encode()
     types = {"json": b"application/json", "octets": b"application/octet-stream"}
     if bytes_ and kind in types:
         text += b"Content-Type: " + types[kind] + b"\r\n"
+    if close == "close":
+        text += b"Connection: close\r\n"
     return text + b"\r\n" + bytes_
+
+
+def continue_of():
+    status = http.HTTPStatus.CONTINUE
+    text = f"HTTP/1.1 {status.value} {status.phrase}\r\n\r\n".encode()
+    return f"continue [{shown(text)}]"
 
 
 def ask_of(method, host, target, key):
@@ -239,6 +267,8 @@ def drip(lane, size, bytes_):
         answer = lane.next()
         if answer:
             yield answer
+        if lane.take_continue():
+            yield continue_of()
     yield "dripped"
 
 
@@ -265,10 +295,11 @@ class Bench:
             size, _, text = rest.partition(" ")
             yield from drip(lane, int(size), spelled(text))
         elif word in ("next", "answer"): yield lane.next() or "none"
+        elif word == "continue": yield continue_of() if lane.take_continue() else "nothing due"
         elif word in ("rest", "after"): yield f"{word} [{shown(lane.held)}]"
         elif word == "reply":
-            status, kind, text = (rest + "  ").split(" ", 2)
-            yield f"reply [{shown(reply_of(int(status), kind, spelled(text.rstrip(' '))))}]"
+            status, kind, field, close, text = (rest + " ").split(" ", 4)
+            yield f"reply [{shown(reply_of(int(status), kind, field, close, spelled(text.rstrip(' '))))}]"
         elif word == "ask":
             method, host, target, key = (rest + " ").split(" ", 3)
             yield f"ask [{shown(ask_of(method, host, target, key.rstrip(' ')))}]"
@@ -286,8 +317,9 @@ def answers(script):
 
 # ---- the cases
 
-GET = r"GET /hub HTTP/1.1\r\n"
-SOCKET = GET + r"Host: a\r\nUpgrade: websocket\r\nConnection: Upgrade\r\n"
+HOST = r"Host: a\r\n"
+GET = r"GET /hub HTTP/1.1\r\n" + HOST
+SOCKET = GET + r"Upgrade: websocket\r\nConnection: Upgrade\r\n"
 KEY = r"Sec-WebSocket-Key: dGhlIHNhbXBsZSBub25jZQ==\r\n"
 
 
@@ -301,8 +333,8 @@ def asked(note, *texts):
     yield "next"
 
 
-def with_fields(note, *fields, method="GET", target="/hub", version="1.1", body=""):
-    lines = "".join(field + r"\r\n" for field in fields)
+def with_fields(note, *fields, method="GET", target="/hub", version="1.1", body="", host=HOST):
+    lines = host + "".join(field + r"\r\n" for field in fields)
     return asked(note, rf"{method} {target} HTTP/{version}\r\n" + lines + r"\r\n" + body)
 
 
@@ -322,20 +354,20 @@ def heads():
         yield f"feed {shown(text[place:])}"
         yield "next"
     for count in (100, 101):
-        yield from with_fields(f"{count} headers", *[f"A{n}: b" for n in range(count)])
-    yield from with_fields("a browser", "Host: example.org", "Connection: keep-alive", *[f"X-Header-Number-{n}: {'v' * 50}" for n in range(38)])
+        yield from with_fields(f"{count} headers", *[f"A{n}: b" for n in range(1, count)])
+    yield from with_fields("a browser", "Connection: keep-alive", *[f"X-Header-Number-{n}: {'v' * 50}" for n in range(38)])
     yield from asked("line feeds alone, and blank lines before", r"\r\n\nGET / HTTP/1.1\nHost: a\n\n")
-    yield from asked("three in one piece", GET + r"\r\n" + r"DELETE /x HTTP/1.1\r\n\r\n" + r"PUT /y?z HTTP/1.1\r\n\r\n")
+    yield from asked("three in one piece", GET + r"\r\n" + r"DELETE /x HTTP/1.1\r\n" + HOST + r"\r\nPUT /y?z HTTP/1.1\r\n" + HOST + r"\r\n")
     yield "next"
-    for note, text in (("a byte of no token", r"GE\x00"), ("no version", r"GET / HTTQ"), ("a control byte in a target", r"GET /\x01 HTTP/1.1\r\n\r\n"),
-                       ("a target that is no UTF-8", r"GET /\xff HTTP/1.1\r\n\r\n"), ("a header without a colon", r"GET / HTTP/1.1\r\nHost\r\n\r\n"),
-                       ("HTTP/2.0", r"GET / HTTP/2.0\r\n\r\n"), ("a target in UTF-8", r"GET /\xc3\xa9?\xc3\xa9 HTTP/1.1\r\n\r\n")):
+    for note, text in (("a byte of no token", r"GE\x00"), ("no version", r"GET / HTTQ"), ("a control byte in a target", r"GET /\x01 HTTP/1.1\r\nHost: a\r\n\r\n"),
+                       ("a target that is no UTF-8", r"GET /\xff HTTP/1.1\r\nHost: a\r\n\r\n"), ("a header without a colon", r"GET / HTTP/1.1\r\nHost: a\r\nAccept\r\n\r\n"),
+                       ("HTTP/2.0", r"GET / HTTP/2.0\r\nHost: a\r\n\r\n"), ("a target in UTF-8", r"GET /\xc3\xa9?\xc3\xa9 HTTP/1.1\r\nHost: a\r\n\r\n")):
         yield from asked(note, text)
     for last in (r"\r\n\r\n", r"\r\n\r"):
         yield f"note a head that ends with its byte {16_384 if last.endswith('n') else 16_385}"
         yield "lanes"
-        yield r"feed GET / HTTP/1.1\r\nA: "
-        yield f"fill {16_384 - 19 - (4 if last.endswith('n') else 3)} x"
+        yield r"feed GET / HTTP/1.1\r\nHost: a\r\nA: "
+        yield f"fill {16_384 - 28 - (4 if last.endswith('n') else 3)} x"
         yield "next"
         yield f"feed {last}"
         yield "next"
@@ -357,7 +389,7 @@ def lengths():
         yield from with_fields(f"lengths: {note}", *[f"Content-Length: {value}" for value in values], method="POST", body="abcdef")
     yield "note 1,048,576 bytes"
     yield "lanes"
-    yield r"feed POST /up HTTP/1.1\r\nContent-Length: 1048576\r\n\r\n"
+    yield r"feed POST /up HTTP/1.1\r\nHost: a\r\nContent-Length: 1048576\r\n\r\n"
     yield "next"
     yield "fill 600000 a"
     yield "next"
@@ -370,19 +402,85 @@ def lengths():
         yield from with_fields(" and ".join(fields), *fields, method="POST", body="abc")
 
 
+def hosts():
+    for note, host, version in (("no Host", "", "1.1"), ("two Hosts", HOST * 2, "1.1"), ("two Hosts that differ", HOST + r"host: b\r\n", "1.1"),
+                                ("an empty Host", r"HOST:\r\n", "1.1"), ("three Hosts", HOST * 3, "1.1"), ("no Host in HTTP/1.0", "", "1.0"),
+                                ("a Host in HTTP/1.0", HOST, "1.0"), ("two Hosts in HTTP/1.0", HOST * 2, "1.0")):
+        yield from with_fields(note, version=version, host=host)
+    yield from with_fields("no Host, and X-Host", "X-Host: a", host="")
+    yield from with_fields("two Hosts, and a length past the limit", "Content-Length: 1048577", method="POST", host=HOST * 2)
+    yield from with_fields("no Host, and a coding", "Transfer-Encoding: chunked", method="POST", host="")
+    yield from with_fields("no Host, and lengths that are no number", "Content-Length: x", method="POST", host="")
+    yield from with_fields("no Host, and no version", "Upgrade: websocket", "Connection: Upgrade", host="")
+    yield from with_fields("a length that is no number, and no version", "Upgrade: websocket", "Connection: Upgrade", "Content-Length: x")
+
+
+def continues():
+    head = r"POST /hub HTTP/1.1\r\n" + HOST + r"Content-Length: 3\r\nExpect: 100-continue\r\n\r\n"
+    for size in (1, 7, 1000):
+        yield f"note requests that expect a 100, in pieces of {size}"
+        yield "lanes"
+        yield f"drip {size} {head}abc{head}def{GET}\\r\\n"
+        yield "next"
+    for note, fields in (("none is expected", ()), ("in any case", ("eXPECT: 100-Continue",)), ("another", ("Expect: 200-ok",)), ("more than that", ("Expect: 100-continued",)),
+                         ("in a list", ("Expect: other ,100-continue",)), ("in a second field", ("Expect: other", "Expect: 100-continue"))):
+        yield f"note a body that is awaited: {note}"
+        yield "lanes"
+        yield r"feed POST /hub HTTP/1.1\r\n" + HOST + r"Content-Length: 3\r\n" + "".join(rf"{field}\r\n" for field in fields)
+        yield "next"
+        yield "continue"
+        yield r"feed \r\na"
+        yield "next"
+        yield "continue"
+        yield "continue"
+        yield "feed b"
+        yield "next"
+        yield "continue"
+        yield "feed c"
+        yield "next"
+        yield "continue"
+    for note, text in (("HTTP/1.0", head.replace("HTTP/1.1", "HTTP/1.0") + "a"), ("no body", head.replace("h: 3", "h: 0")), ("a whole body", head + "abc"),
+                       ("a body that is too long", head.replace("h: 3", "h: 1048577")), ("no Host", head.replace(HOST, "")),
+                       ("a socket", SOCKET + KEY + r"Sec-WebSocket-Version: 13\r\nExpect: 100-continue\r\nContent-Length: 2\r\n\r\na"),
+                       ("a body that is whole before it was asked", head + "a")):
+        yield f"note expected with {note}"
+        yield "lanes"
+        yield f"feed {text}"
+        yield "next"
+        if note.endswith("asked"):
+            yield "feed bc"
+            yield "next"
+        yield "continue"
+    yield "note the next request expects one too"
+    yield "lanes"
+    yield f"feed {head}abc{head}d"
+    for _ in range(2):
+        yield "next"
+        yield "continue"
+    yield "feed ef"
+    yield "next"
+    yield "continue"
+
+
 def upgrades():
     yield from asked("an upgrade, and bytes after it", SOCKET + KEY + r"Sec-WebSocket-Version: 13\r\n\r\n\x81\x00")
     yield "rest"
     yield "feed more"
     yield "next"
     yield "rest"
+    no_connection = SOCKET.replace(r"Connection: Upgrade\r\n", "")
     for note, head in (("version 8", SOCKET + KEY + r"Sec-WebSocket-Version: 8\r\n\r\n"), ("no version", SOCKET + KEY + r"\r\n"),
+                       ("two versions", SOCKET + KEY + r"Sec-WebSocket-Version: 8\r\nSec-WebSocket-Version: 13\r\n\r\n"),
+                       ("neither version nor key", SOCKET + r"\r\n"), ("version 8 with a length past the limit", SOCKET + KEY + r"Sec-WebSocket-Version: 8\r\nContent-Length: 1048577\r\n\r\n"),
+                       ("no Connection", no_connection + KEY + r"Sec-WebSocket-Version: 13\r\n\r\n"), ("no Connection, version or key", no_connection + r"\r\n"),
+                       ("another Connection", no_connection + r"Connection: keep-alive\r\n" + KEY + r"Sec-WebSocket-Version: 13\r\n\r\n"),
+                       ("a list of Connection", no_connection + r"Connection: keep-alive, UPGRADE \r\n" + KEY + r"Sec-WebSocket-Version: 13\r\n\r\n"),
                        ("no key", SOCKET + r"Sec-WebSocket-Version: 13\r\n\r\n"),
                        ("a key of 15 bytes", SOCKET + r"Sec-WebSocket-Key: dGhlIHNhbXBsZSBub25j\r\nSec-WebSocket-Version: 13\r\n\r\n"),
                        ("a key of 17 bytes", SOCKET + r"Sec-WebSocket-Key: dGhlIHNhbXBsZSBub25jZWU=\r\nSec-WebSocket-Version: 13\r\n\r\n"),
                        ("a key that is no base64", SOCKET + r"Sec-WebSocket-Key: dGhlIHNhbXBsZSBub25jZ!==\r\nSec-WebSocket-Version: 13\r\n\r\n"),
-                       ("h2c", GET + r"Upgrade: h2c\r\n\r\n"), ("h2c and WebSocket", GET + r"Upgrade: h2c,\x09WebSocket \r\n" + KEY + r"Sec-WebSocket-Version: 13\r\n\r\n"),
-                       ("two headers", GET + r"Upgrade: h2c\r\nUpgrade: websocket\r\n" + KEY + r"Sec-WebSocket-Version: 13\r\n\r\n"),
+                       ("h2c", GET + r"Connection: Upgrade\r\nUpgrade: h2c\r\n\r\n"), ("h2c and WebSocket", GET + r"Connection: upgrade\r\nUpgrade: h2c,\x09WebSocket \r\n" + KEY + r"Sec-WebSocket-Version: 13\r\n\r\n"),
+                       ("two headers", GET + r"Connection: close\r\nUpgrade: h2c\r\nConnection: Upgrade\r\nUpgrade: websocket\r\n" + KEY + r"Sec-WebSocket-Version: 13\r\n\r\n"),
                        ("a post", SOCKET.replace("GET", "POST") + r"\r\n"), ("websockets", SOCKET.replace("websocket", "websockets") + r"\r\n"),
                        ("an upgrade with a length", SOCKET + KEY + r"Sec-WebSocket-Version: 13\r\nContent-Length: 2\r\n\r\nabc"),
                        ("a bad upgrade that is coded", SOCKET + r"Transfer-Encoding: chunked\r\n\r\n"),
@@ -414,13 +512,20 @@ def tokens():
 
 def texts():
     for status in (200, 202, 400, 401, 404, 405, 409, 411, 413, 431, 500, 503):
-        yield f"reply {status} none"
-        yield f"reply {status} json {{}}"
-    yield r"reply 200 octets \x00\x01\xff"
-    yield "reply 200 octets"
-    yield "reply 200 none text"
-    yield "reply 204 none"
-    yield "reply 101 none s3pPLMBiTxaQ9kYGzzhZRbK+xOo="
+        yield f"reply {status} none - open"
+        yield f"reply {status} json - open {{}}"
+    yield r"reply 200 octets - open \x00\x01\xff"
+    yield "reply 200 octets - open"
+    yield "reply 200 none - open text"
+    yield "reply 204 none - open"
+    yield "reply 101 none - open s3pPLMBiTxaQ9kYGzzhZRbK+xOo="
+    for field in FIELDS:
+        for close in ("open", "close"):
+            yield f"reply 405 none {field} {close}"
+            yield f"reply 401 json {field} {close} {{}}"
+            yield f"reply 204 none {field} {close}"
+            yield f"reply 101 none {field} {close} s3pPLMBiTxaQ9kYGzzhZRbK+xOo="
+    yield "reply 200 octets - close text"
     yield "ask GET example.org /hub?id=1"
     yield "ask POST example.org:5000 /hub/negotiate?negotiateVersion=1"
     yield "ask DELETE example.org /hub?id=1"
@@ -435,7 +540,8 @@ def responses():
     for note, text in (("a body to come", r"HTTP/1.1 200 OK\r\ncontent-length: 3\r\n\r\na"), ("a switch", r"HTTP/1.1 101 Switching Protocols\r\nSec-WebSocket-Accept: s3p\r\n\r\n\x81\x00"),
                        ("bad lengths", r"HTTP/1.1 200 OK\r\nContent-Length: 1\r\nContent-Length: 2\r\n\r\n"), ("chunked", r"HTTP/1.1 200 OK\r\nTransfer-Encoding: chunked\r\n\r\n"),
                        ("too long", r"HTTP/1.1 200 OK\r\nContent-Length: 1048577\r\n\r\n"), ("a request", r"GET / HTTP/1.1\r\n\r\n"), ("two digits", r"HTTP/1.1 20 OK\r\n\r\n"),
-                       ("no phrase", r"HTTP/1.0 500 \r\n\r\n"), ("a bad upgrade", r"HTTP/1.1 200 OK\r\nUpgrade: websocket\r\n\r\n")):
+                       ("no phrase", r"HTTP/1.0 500 \r\n\r\n"), ("a bad upgrade", r"HTTP/1.1 200 OK\r\nUpgrade: websocket\r\nConnection: Upgrade\r\n\r\n"),
+                       ("two Hosts, and one that expects", r"HTTP/1.1 200 OK\r\nHost: a\r\nHost: b\r\nExpect: 100-continue\r\nContent-Length: 1\r\n\r\n")):
         yield f"note {note}"
         yield "lanes"
         yield f"hear {text}"
@@ -451,7 +557,7 @@ def responses():
 
 
 def cases():
-    return "".join(line + "\n" for part in (heads, lengths, upgrades, tokens, texts, responses) for line in part())
+    return "".join(line + "\n" for part in (heads, lengths, hosts, upgrades, continues, tokens, texts, responses) for line in part())
 
 
 def made():

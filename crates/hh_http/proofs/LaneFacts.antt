@@ -1,10 +1,11 @@
 -- Messages of one kind at the front of the bytes that a lane holds.
-use Rattle.std.proofs.Common.{◌≡◌, ◌<◌, ◌≤◌, ◌+◌, ◌-◌, ◌⊎◌, ℕ, Bool, true, false, List, [], ◌∷◌, ◌++◌, length, drop, Option, None, Some, Result, Ok, Err, refl, sym, ap, ◌∙◌, arith, inl, inr, subst, append_assoc, length-append, length-take, length-drop}
+use Rattle.std.proofs.Common.{◌≡◌, ◌<◌, ◌≤◌, ◌+◌, ◌-◌, ◌⊎◌, ℕ, zero, suc, Bool, true, false, List, [], ◌∷◌, ◌++◌, length, drop, Option, None, Some, Result, Ok, Err, refl, sym, ap, ◌∙◌, arith, inl, inr, subst, append_assoc, length-append, length-take, length-drop}
 use Rattle.std.specs.Prelude.{slice_range, IfOk, IfSome, if◌then◌else◌}
 use Rattle.std.proofs.Math.Seq.{drop-append_seam}
 use Rattle.httparse.proofs.RunLemmas.{drop_split}
 use Rattle.hh_http.specs.Lane.{Lane}
-use Rattle.hh_http.specs.Messages.{Grammar, IsGrammar, HasHead, Begins, Series, IsHeadAt, IsKept, WaitsForBody, Answers, Repeats, Rests}
+use Rattle.hh_http.specs.Messages.{due_after, Grammar, IsGrammar, HasHead, Begins, Series, IsHeadAt, IsKept, WaitsForBody, Answers, Repeats, Rests}
+use Rattle.hw_lanes.specs.declared.http.Refusal.{Refusal}
 use Rattle.hh_http.specs.declared.error.HttpError.{HttpError}
 use Rattle.hh_http.specs.declared.message.Head.{Head}
 
@@ -18,8 +19,8 @@ tail-is g laws held h tail has = ap (drop (length (g.print h))) (laws.printed he
 
 -- the head that a lane keeps is still the one that its bytes begin with
 pub head-grows : {M : Type 0} (g : Grammar M) → IsGrammar g → (held more : List ℕ) (head : Head M) → IsHeadAt g held head → IsHeadAt g (held ++ more) head
-head-grows g laws held more head (h, tail, n, has, says, start, end) =
-    (h, tail ++ more, n, (laws.grows held more h tail has.0, has.1), says, start, end)
+head-grows g laws held more head (h, tail, n, has, says, start, end, expects) =
+    (h, tail ++ more, n, (laws.grows held more h tail has.0, has.1), says, start, end, expects)
 
 pub kept-grows : {M : Type 0} (g : Grammar M) → IsGrammar g → (held more : List ℕ) (head : Option (Head M)) → IsKept g held head → IsKept g (held ++ more) head
 kept-grows g laws held more None kept = kept
@@ -33,7 +34,7 @@ kept-extended g laws held more next head false is kept = rw is kept
 
 pub begins-of : {M : Type 0} (g : Grammar M) → IsGrammar g → (held : List ℕ) (head : Head M) (body : List ℕ) (m : M) (after : List ℕ) → IsHeadAt g held head → head.end ≤ length held
     → body ≡ slice_range held head.start head.end → after ≡ drop head.end held → m ≡ g.with_body head.message body → Begins g held m after
-begins-of g laws held head body m after (h, tail, n, has, says, start, end) inside is rest whole =
+begins-of g laws held head body m after (h, tail, n, has, says, start, end, expects) inside is rest whole =
     let size : length body ≡ n = rw (is, end) (slice-size held head.start n (omega (arith, end))) in
     let split : drop head.start held ≡ slice_range held head.start head.end ++ drop head.end held = drop_split held head.start head.end (omega (arith, end)) in
     let given : g.body m ≡ body = ap g.body whole ∙ laws.bodied head.message body in
@@ -47,10 +48,15 @@ begins-of g laws held head body m after (h, tail, n, has, says, start, end) insi
       tail-at ∙ ap (λ b. b ++ after) (sym given),
     )
 
-pub waits-from : {M : Type 0} (g : Grammar M) → IsGrammar g → (held : List ℕ) (head : Head M) → IsHeadAt g held head → length held < head.end → WaitsForBody g held head.end
-waits-from g laws held head (h, tail, n, has, says, start, end) short =
+pub waits-from : {M : Type 0} (g : Grammar M) → IsGrammar g → (held : List ℕ) (head : Head M) → IsHeadAt g held head → length held < head.end → WaitsForBody g held head.end head.expects
+waits-from g laws held head (h, tail, n, has, says, start, end, expects) short =
     let whole : length held ≡ length (g.print h) + length tail = ap length (laws.printed held h tail has.0) ∙ length-append (g.print h) tail in
-    (h, tail, head.message, n, has, says, omega (arith, whole, start, end), end ∙ ap (λ k. k + n) start)
+    (h, tail, head.message, n, has, says, omega (arith, whole, start, end), end ∙ ap (λ k. k + n) start, expects)
+
+-- a head that was read before leaves what is due as it was
+pub due-kept : (want n : ℕ) (expects due : Bool) → n < want → due ≡ due_after want expects due
+due-kept zero n expects due short = absurd (omega (arith, short))
+due-kept (suc want) n expects due short = refl
 
 -- ---- messages one after the other
 
@@ -72,9 +78,9 @@ pub series-fed : {M : Type 0} (g : Grammar M) → IsGrammar g → (lane next : L
     → (bytes : List ℕ) (ms : List M) → Series g bytes ms lane.held → Series g (bytes ++ piece) ms next.held
 series-fed g laws lane next piece e bytes ms series = rw e (series-append g laws bytes piece ms lane.held series)
 
-spent-case : (spent : Option ℕ) → (spent ≡ None) ⊎ ((status : ℕ) × (spent ≡ Some status))
+spent-case : (spent : Option Refusal) → (spent ≡ None) ⊎ ((refusal : Refusal) × (spent ≡ Some refusal))
 spent-case None = inl refl
-spent-case (Some status) = inr (status, refl)
+spent-case (Some refusal) = inr (refusal, refl)
 
 ended-case : (ended : Bool) → (ended ≡ false) ⊎ (ended ≡ true)
 ended-case false = inl refl

@@ -10,11 +10,15 @@ use Rattle.std.proofs.lemmas.Bool.Decides.{nat_tests}
 use Rattle.http1.specs.Fields.{Header, known_fields, content_length, is_named, is_number, is_number_of, values_named}
 use Rattle.http1.specs.declared.fields.KnownFields.{KnownFields}
 use Rattle.http1.specs.declared.fields.ContentLength.TheVariants as Length
-use Rattle.hh_http.specs.Heads.{first_named, agree, repeats, is_digits, number_of, lengths}
+use Rattle.hh_http.specs.Heads.{first_named, agree, repeats, is_digits, number_of, lengths, hosts}
 
 pub known-length : (fields : List Header) (k : KnownFields) → k ≡ known_fields fields → k.content_length ≡ content_length (lengths fields)
 unfolding known_fields
 known-length fields k e = rw e refl
+
+pub known-hosts : (fields : List Header) (k : KnownFields) → k ≡ known_fields fields → k.hosts ≡ min (hosts fields) 2
+unfolding known_fields
+known-hosts fields k e = rw e refl
 
 number_parts : (e : List ℕ) → is_number e ≡ true → (is_digits e ≡ true) × (digits_value 10 e < 2 ^ 64)
 number_parts e h =

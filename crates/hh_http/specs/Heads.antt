@@ -1,6 +1,6 @@
 -- What the fields of a head say (RFC 9110, sections 5 and 8.6; RFC 6455, section 4.2). A field is a name and a value without the
 -- blanks around it; names are compared without regard to case.
-use Rattle.std.specs.Prelude.{◌≡◌, ◌≢◌, ◌⊎◌, ◌&&◌, ◌||◌, ◌==◌, ℕ, Bool, true, List, [], ◌∷◌, take, drop, length, map, nat_lt, Option, None, Some, is_some, option_and_then, IsTrue, IsFalse, if◌then◌else◌, codes, bytes_eq}
+use Rattle.std.specs.Prelude.{◌≡◌, ◌≢◌, ◌⊎◌, ◌&&◌, ◌||◌, ◌==◌, ℕ, Bool, true, List, [], ◌∷◌, take, drop, length, map, nat_lt, Option, None, Some, is_some, option_and_then, IsTrue, IsFalse, if◌then◌else◌, codes, bytes_eq, count_by}
 use Rattle.std.specs.List.{list_all}
 use Rattle.std.specs.Char.{is_ascii_digit}
 use Rattle.std.specs.Str.Parse.{digits_value}
@@ -12,7 +12,9 @@ use Rattle.form_urlencoded.specs.Form.{split_once}
 use Rattle.websocket.specs.Handshake.{IsValidKey, accept_key_of}
 use Rattle.hw_lanes.specs.Query.{query_value_of}
 use Rattle.hw_lanes.specs.declared.http.Method.{Method}
+use Rattle.hw_lanes.specs.declared.http.Refusal.{Refusal}
 use Rattle.hw_lanes.specs.declared.http.Method.TheVariants.{Get, Post, Delete, Other}
+use Rattle.hh_http.specs.Refusals.{only_status, other_version}
 
 -- the names and the values of a head's fields
 abbrev pub names_and_values : List Field → List Header
@@ -54,6 +56,16 @@ body_length fields = number_of (lengths fields)
 -- there is a `Transfer-Encoding`
 abbrev pub is_coded : List Header → Bool
 is_coded fields = is_some (first_named (codes "transfer-encoding") fields)
+
+-- ---- who is asked
+
+-- how many `Host` there are
+abbrev pub hosts : List Header → ℕ
+hosts fields = count_by (is_named (codes "host")) fields
+
+-- HTTP/1.1 has one `Host`, and HTTP/1.0 one or none (RFC 9112, section 3.2)
+abbrev pub are_hosts_right : ℕ → List Header → Bool
+are_hosts_right minor fields = (hosts fields == 1) || ((hosts fields == 0) && (minor == 0))
 
 -- ---- the target
 
@@ -97,12 +109,18 @@ bearer_of fields query =
 abbrev pub is_shut : ℕ → List Header → Bool
 is_shut minor fields = (minor == 0) || has_option (codes "close") (elements_named (codes "connection") fields)
 
+-- the body is sent once a 100 came: HTTP/1.1, and `Expect` lists `100-continue` (RFC 9110, section 10.1.1)
+abbrev pub expects_continue : ℕ → List Header → Bool
+expects_continue minor fields = (minor == 1) && has_option (codes "100-continue") (elements_named (codes "expect") fields)
+
 -- ---- WebSockets
 
--- a GET whose `Upgrade` lists `websocket`
+-- a GET whose `Upgrade` lists `websocket`, and whose `Connection` lists `upgrade` (RFC 9110, section 7.8)
 abbrev pub asks_upgrade : List ℕ → List Header → Bool
 asks_upgrade method fields =
-    bytes_eq method (codes "GET") && has_option (codes "websocket") (elements_named (codes "upgrade") fields)
+    bytes_eq method (codes "GET")
+    && (has_option (codes "websocket") (elements_named (codes "upgrade") fields)
+    && has_option (codes "upgrade") (elements_named (codes "connection") fields))
 
 -- the head asks for no WebSocket, or for one whose key this text accepts
 abbrev pub Upgrades : List ℕ → List Header → Option (List ℕ) → Type 0
@@ -113,9 +131,10 @@ Upgrades method fields (Some accept) =
     × ((key : List ℕ) × (first_named (codes "sec-websocket-key") fields ≡ Some key) × IsValidKey key
     × (accept ≡ accept_key_of key))
 
--- the head asks for a WebSocket, but not of version 13 or with no valid key
-abbrev pub HasBadUpgrade : List ℕ → List Header → Type 0
-HasBadUpgrade method fields =
+-- the head asks for a WebSocket, and is refused for the first of these: it isn't of version 13, or has no valid key
+abbrev pub RefusesUpgrade : List ℕ → List Header → Refusal → Type 0
+RefusesUpgrade method fields refusal =
     IsTrue (asks_upgrade method fields)
-    × ((first_named (codes "sec-websocket-version") fields ≢ Some (codes "13"))
-    ⊎ ((key : List ℕ) → first_named (codes "sec-websocket-key") fields ≡ Some key → ¬ (IsValidKey key)))
+    × (((refusal ≡ other_version) × (first_named (codes "sec-websocket-version") fields ≢ Some (codes "13")))
+    ⊎ ((refusal ≡ only_status 400) × (first_named (codes "sec-websocket-version") fields ≡ Some (codes "13"))
+    × ((key : List ℕ) → first_named (codes "sec-websocket-key") fields ≡ Some key → ¬ (IsValidKey key))))

@@ -3,6 +3,7 @@ pub mod Heads
 pub mod Lane
 pub mod Lawful
 pub mod Messages
+pub mod Refusals
 pub mod Responses
 pub mod Texts
 pub mod Limits

@@ -1,15 +1,17 @@
 -- Messages of one kind, each a head and a body: what the requests and the responses of a connection have in common.
-use Rattle.std.specs.Prelude.{◌≡◌, ◌<◌, ◌≤◌, ◌+◌, ◌⊎◌, ⊤, ℕ, Bool, List, [], ◌∷◌, ◌++◌, length, Option, None, Some, Result, Ok, Err, IsTrue}
+use Rattle.std.specs.Prelude.{◌≡◌, ◌<◌, ◌≤◌, ◌+◌, ◌⊎◌, ⊤, ℕ, zero, suc, Bool, false, List, [], ◌∷◌, ◌++◌, length, Option, None, Some, Result, Ok, Err, IsTrue}
 use Rattle.hh_http.specs.declared.error.HttpError.{HttpError}
 use Rattle.hh_http.specs.declared.error.HttpError.TheVariants.{Refused, NoMemory}
 use Rattle.hh_http.specs.declared.message.Head.{Head}
 use Rattle.hh_http.specs.declared.limits.TheConstants.{MOST_HEAD, MOST_BODY, MOST_HEADERS}
+use Rattle.hw_lanes.specs.declared.http.Refusal.{Refusal}
 use Rattle.hh_http.specs.Lane.{Lane, room_for}
+use Rattle.hh_http.specs.Refusals.{only_status}
 
--- the first of these holds of an answer, the second of the status of a refusal
-abbrev pub Decides : {A : Type 0} → (A → Type 0) → (ℕ → Type 0) → Result A HttpError → Type 0
+-- the first of these holds of an answer, the second of a refusal
+abbrev pub Decides : {A : Type 0} → (A → Type 0) → (Refusal → Type 0) → Result A HttpError → Type 0
 Decides Takes Refuses (Ok a) = Takes a
-Decides Takes Refuses (Err (Refused status)) = Refuses status
+Decides Takes Refuses (Err (Refused refusal)) = Refuses refusal
 Decides Takes Refuses (Err NoMemory) = ⊤
 
 -- A kind of messages.
@@ -32,8 +34,10 @@ pub record Grammar (M : Type 0) : Type 1 where
   pub Exceeds : ℕ → List ℕ → Type 0
   -- a head is taken: this is its message but for the body, which has this length
   pub Says : Parts → M → ℕ → Type 0
-  -- a head is refused with this status
-  pub Breaks : Parts → ℕ → Type 0
+  -- a head is refused in this way
+  pub Breaks : Parts → Refusal → Type 0
+  -- its body is sent once a 100 came
+  pub expects : Parts → Bool
   -- the body of a message
   pub body : M → List ℕ
   -- a message with this body
@@ -54,6 +58,11 @@ pub record IsGrammar {M : Type 0} (g : Grammar M) : Type 0 where
   pub says : (h : g.Parts) (m : M) (n : ℕ) (body : List ℕ) → g.Says h m n → g.Says h (g.with_body m body) n
   -- that is within the limit
   pub short : (h : g.Parts) (m : M) (n : ℕ) → g.Says h m n → n ≤ MOST_BODY
+
+-- whether a 100 is due while a body is awaited: once the head was just read, if it expects one; and later as before
+abbrev pub due_after : ℕ → Bool → Bool → Bool
+due_after zero expects due = expects
+due_after (suc want) expects due = due
 
 module _ {M : Type 0} (g : Grammar M) where
   -- ---- messages
@@ -76,22 +85,22 @@ module _ {M : Type 0} (g : Grammar M) where
   abbrev pub WaitsForHead : List ℕ → Type 0
   WaitsForHead bytes = g.HasNone bytes × g.MayBecome bytes × (length bytes < MOST_HEAD)
 
-  -- a message of this length has begun, and its body isn't whole
-  abbrev pub WaitsForBody : List ℕ → ℕ → Type 0
-  WaitsForBody bytes want =
+  -- a message of this length has begun, which expects a 100 or doesn't, and its body isn't whole
+  abbrev pub WaitsForBody : List ℕ → ℕ → Bool → Type 0
+  WaitsForBody bytes want expects =
       (h : g.Parts) × (tail : List ℕ) × (m : M) × (n : ℕ) × HasHead bytes h tail × g.Says h m n
-      × (length tail < n) × (want ≡ length (g.print h) + n)
+      × (length tail < n) × (want ≡ length (g.print h) + n) × (expects ≡ g.expects h)
 
   -- the bytes begin with a head that is refused
-  abbrev pub RefusesHead : List ℕ → ℕ → Type 0
-  RefusesHead bytes status = (h : g.Parts) × (tail : List ℕ) × HasHead bytes h tail × g.Breaks h status
+  abbrev pub RefusesHead : List ℕ → Refusal → Type 0
+  RefusesHead bytes refusal = (h : g.Parts) × (tail : List ℕ) × HasHead bytes h tail × g.Breaks h refusal
 
   -- why bytes are refused; 431 is for a head that is too long or has too many headers (RFC 6585, section 5)
-  abbrev pub Refuses : List ℕ → ℕ → Type 0
-  Refuses bytes status =
-      ((status ≡ 431) × ((g.HasNone bytes × (MOST_HEAD ≤ length bytes)) ⊎ g.Exceeds MOST_HEADERS bytes))
-      ⊎ ((status ≡ 400) × g.NeverHas bytes)
-      ⊎ RefusesHead bytes status
+  abbrev pub Refuses : List ℕ → Refusal → Type 0
+  Refuses bytes refusal =
+      ((refusal ≡ only_status 431) × ((g.HasNone bytes × (MOST_HEAD ≤ length bytes)) ⊎ g.Exceeds MOST_HEADERS bytes))
+      ⊎ ((refusal ≡ only_status 400) × g.NeverHas bytes)
+      ⊎ RefusesHead bytes refusal
 
   -- ---- what is read of a head
 
@@ -99,7 +108,7 @@ module _ {M : Type 0} (g : Grammar M) where
   abbrev pub IsHeadAt : List ℕ → Head M → Type 0
   IsHeadAt bytes head =
       (h : g.Parts) × (tail : List ℕ) × (n : ℕ) × HasHead bytes h tail × g.Says h head.message n
-      × (head.start ≡ length (g.print h)) × (head.end ≡ head.start + n)
+      × (head.start ≡ length (g.print h)) × (head.end ≡ head.start + n) × (head.expects ≡ g.expects h)
 
   -- what a head that was parsed comes to
   abbrev pub Judges : List ℕ → Result (Head M) HttpError → Type 0
@@ -109,7 +118,7 @@ module _ {M : Type 0} (g : Grammar M) where
   abbrev pub Reads : List ℕ → Result (Option (Head M)) HttpError → Type 0
   Reads bytes (Ok None) = WaitsForHead bytes
   Reads bytes (Ok (Some head)) = IsHeadAt bytes head
-  Reads bytes (Err (Refused status)) = Refuses bytes status
+  Reads bytes (Err (Refused refusal)) = Refuses bytes refusal
   Reads bytes (Err NoMemory) = ⊤
 
   -- ---- lanes
@@ -118,10 +127,12 @@ module _ {M : Type 0} (g : Grammar M) where
   abbrev pub Answers : Lane → Lane → Result (Option M) HttpError → Type 0
   Answers lane next (Ok (Some m)) =
       Begins lane.held m next.held × (next.want ≡ 0) × (next.spent ≡ None) × (next.ended ≡ g.is_last m)
+      × (next.due ≡ false)
   Answers lane next (Ok None) =
-      (next ≡ record lane { want = next.want })
-      × ((WaitsForHead lane.held × (next.want ≡ 0)) ⊎ WaitsForBody lane.held next.want)
-  Answers lane next (Err (Refused status)) = Refuses lane.held status × (next ≡ record lane { spent = Some status })
+      (next ≡ record lane { want = next.want; due = next.due })
+      × ((WaitsForHead lane.held × (next.want ≡ 0) × (next.due ≡ lane.due))
+      ⊎ ((expects : Bool) × WaitsForBody lane.held next.want expects × (next.due ≡ due_after lane.want expects lane.due)))
+  Answers lane next (Err (Refused refusal)) = Refuses lane.held refusal × (next ≡ record lane { spent = Some refusal })
   Answers lane next (Err NoMemory) = next ≡ lane
 
   -- the head that is kept is the one that the bytes held begin with
@@ -131,7 +142,8 @@ module _ {M : Type 0} (g : Grammar M) where
 
 -- a spent lane answers the same again
 abbrev pub Repeats : {M : Type 0} → Lane → Lane → Result (Option M) HttpError → Type 0
-Repeats lane next result = (status : ℕ) → lane.spent ≡ Some status → (result ≡ Err (Refused status)) × (next ≡ lane)
+Repeats lane next result =
+    (refusal : Refusal) → lane.spent ≡ Some refusal → (result ≡ Err (Refused refusal)) × (next ≡ lane)
 
 -- a lane at its end has no more messages
 abbrev pub Rests : {M : Type 0} → Lane → Lane → Result (Option M) HttpError → Type 0

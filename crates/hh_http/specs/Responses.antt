@@ -1,8 +1,10 @@
 -- The responses of a list of bytes, by the grammar of heads (RFC 9112) and by what their fields say.
-use Rattle.std.specs.Prelude.{◌≡◌, ◌⊎◌, ◌==◌, ℕ, List, length, Result, IsFalse, codes}
+use Rattle.std.specs.Prelude.{◌≡◌, ◌⊎◌, ◌==◌, ℕ, List, false, length, Result, IsFalse, codes}
 use Rattle.httparse.specs.Grammar.{ResponseHead, print_response, ReadsResponse, HasNoResponse, NeverHasResponse, MayBecomeResponse, status_code}
 use Rattle.httparse.specs.Spans.{ResponseExceeds}
 use Rattle.http1.specs.Fields.{Header}
+use Rattle.hw_lanes.specs.declared.http.Refusal.{Refusal}
+use Rattle.hh_http.specs.Refusals.{only_status}
 use Rattle.hh_http.specs.Heads.{names_and_values, first_named, agree, lengths}
 use Rattle.hh_http.specs.Asks.{HasBody, RefusesBody}
 use Rattle.hh_http.specs.Messages.{Grammar, Series, Decides}
@@ -20,8 +22,9 @@ abbrev pub Says : ResponseHead → Response → ℕ → Type 0
 Says h r n = NamesBy (status_code h) (names_and_values h.fields) r × HasBody (names_and_values h.fields) n
 
 -- why a head is refused, the first that holds: its lengths are no one number, or its body is in a transfer coding or too long
-abbrev pub RefusesBy : List Header → ℕ → Type 0
-RefusesBy fields status = ((status ≡ 400) × IsFalse (agree (lengths fields))) ⊎ RefusesBody fields status
+abbrev pub RefusesBy : List Header → Refusal → Type 0
+RefusesBy fields refusal =
+    ((refusal ≡ only_status 400) × IsFalse (agree (lengths fields))) ⊎ RefusesBody fields refusal
 
 -- ---- responses
 
@@ -38,7 +41,8 @@ response_grammar =
       MayBecome = MayBecomeResponse;
       Exceeds = ResponseExceeds;
       Says = Says;
-      Breaks = λ h status. RefusesBy (names_and_values h.fields) status;
+      Breaks = λ h refusal. RefusesBy (names_and_values h.fields) refusal;
+      expects = λ h. false;
       body = λ r. r.body;
       with_body = λ r body. record r { body = body };
       is_last = λ r. r.status == SWITCHING;

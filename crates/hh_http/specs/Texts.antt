@@ -1,5 +1,5 @@
 -- Replies and asks as they are written (RFC 9112, sections 3 to 6; RFC 6455, section 4).
-use Rattle.std.specs.Prelude.{◌==◌, ℕ, List, [], ◌∷◌, ◌++◌, length, Option, None, Some, unwrap_or, if◌then◌else◌, codes, decimal}
+use Rattle.std.specs.Prelude.{◌==◌, ℕ, Bool, List, [], ◌∷◌, ◌++◌, length, Option, None, Some, unwrap_or, if◌then◌else◌, codes, decimal}
 use Rattle.http.specs.StatusCode.{reason_phrase}
 use Rattle.base64.specs.GeneralPurpose.{encode_of}
 use Rattle.base64.specs.Engines.{standard}
@@ -8,6 +8,8 @@ use Rattle.hw_lanes.specs.declared.http.BodyKind.TheVariants as kind
 use Rattle.hw_lanes.specs.declared.http.Method.{Method}
 use Rattle.hw_lanes.specs.declared.http.Method.TheVariants as method
 use Rattle.hw_lanes.specs.declared.http.Reply.{Reply}
+use Rattle.hw_lanes.specs.declared.http.ReplyField.{ReplyField}
+use Rattle.hw_lanes.specs.declared.http.ReplyField.TheVariants as field
 
 -- ---- replies
 
@@ -32,16 +34,36 @@ abbrev pub body_lines : BodyKind → List ℕ → List ℕ
 body_lines k body =
     codes "Content-Length: " ++ (decimal (length body) ++ (codes "\r\n" ++ type_line k body))
 
+-- what would not be refused (RFC 9110, sections 10.2.1 and 11.6.1; RFC 6455, section 4.4)
+abbrev pub field_line : Option ReplyField → List ℕ
+field_line None = []
+field_line (Some field.AllowPost) = codes "Allow: POST\r\n"
+field_line (Some field.AllowGetPostDelete) = codes "Allow: GET, POST, DELETE\r\n"
+field_line (Some field.AuthenticateBearer) = codes "WWW-Authenticate: Bearer\r\n"
+field_line (Some field.WebSocketVersion) = codes "Sec-WebSocket-Version: 13\r\n"
+
+-- the connection ends after this reply (RFC 9112, section 9.6)
+abbrev pub close_line : Bool → List ℕ
+close_line close = if close then codes "Connection: close\r\n" else []
+
+-- the lines of a body, of which a 204 has none (RFC 9110, section 8.6)
+abbrev pub content_lines : Reply → List ℕ
+content_lines r = if r.status == 204 then [] else body_lines r.kind r.body
+
 -- the lines of a reply that accepts a key, or of another
 abbrev pub reply_lines : Option (List ℕ) → Reply → List ℕ
 reply_lines (Some accept) r =
     codes "Upgrade: websocket\r\nConnection: Upgrade\r\nSec-WebSocket-Accept: " ++ (accept ++ codes "\r\n")
-reply_lines None r = if r.status == 204 then [] else body_lines r.kind r.body
+reply_lines None r = field_line r.field ++ (content_lines r ++ close_line r.close)
 
 -- a reply
 abbrev pub reply_text : Reply → List ℕ
 reply_text r =
     status_line r.status ++ (reply_lines r.accept r ++ (codes "\r\n" ++ r.body))
+
+-- a request whose head came is not refused by it, and its body may be sent (RFC 9110, section 15.2.1)
+abbrev pub continue_text : List ℕ
+continue_text = codes "HTTP/1.1 100 Continue\r\n\r\n"
 
 -- ---- asks
 

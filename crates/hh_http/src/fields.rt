@@ -5,8 +5,8 @@ ghost use Rattle.std.specs.List.{list_all};
 ghost use Rattle.std.specs.Str.Parse.{digits_value};
 ghost use Rattle.httparse.specs.Grammar.{skip_ows, trim_ows};
 ghost use Rattle.httparse.specs.Spans.{IsHeaderWithin, header_bytes};
-ghost use Rattle.http1.specs.Fields.{elements, elements_named, has_option};
-ghost use Rattle.hh_http.specs.Heads.{first_named, is_digits, repeats, agree, lengths, number_of};
+ghost use Rattle.http1.specs.Fields.{content_length, elements, elements_named, has_option};
+ghost use Rattle.hh_http.specs.Heads.{first_named, is_digits, repeats, agree, lengths, number_of, hosts};
 
 use http1::fields::{ContentLength, KnownFields};
 use http1::text::eq_ignore_case;
@@ -166,16 +166,31 @@ fn lengths_agree(held: &[u8], headers: &[HeaderSpan]) -> bool
     }
 }
 
-/// The length of the body, or `u64::MAX` if it is more, or `None` if the values of `Content-Length` aren't digits of one number.
-pub(crate) fn stated_length(held: &[u8], headers: &[HeaderSpan]) -> Option<u64>
+/// What the fields say in sum, found in one pass: their lengths, and up to two `Host`.
+pub(crate) fn known_fields(held: &[u8], headers: &[HeaderSpan]) -> KnownFields
     requires { All (IsHeaderWithin (length held.now)) headers.now }
+    ensures lengths { result.content_length
+        ≡ content_length (lengths (map (header_bytes held.now) headers.now)) }
+    ensures hosts { result.hosts ≡ min (hosts (map (header_bytes held.now) headers.now)) 2 }
+{
+    KnownFields::from_spans(held, headers)
+}
+
+/// The length of the body, or `u64::MAX` if it is more, or `None` if the values of `Content-Length` aren't digits of one number.
+pub(crate) fn stated_length(
+    held: &[u8],
+    headers: &[HeaderSpan],
+    summed: ContentLength,
+) -> Option<u64>
+    requires spans { All (IsHeaderWithin (length held.now)) headers.now }
+    requires summed { summed ≡ content_length (lengths (map (header_bytes held.now) headers.now)) }
     ensures stated { IfSome result (λ n. n ≡ min
         (number_of (lengths (map (header_bytes held.now) headers.now))) (2 ^ 64 - 1)) }
     ensures agree { IfSome result (λ n.
         IsTrue (agree (lengths (map (header_bytes held.now) headers.now)))) }
     ensures bad { IfNone result (IsFalse (agree (lengths (map (header_bytes held.now) headers.now)))) }
 {
-    match KnownFields::from_spans(held, headers).content_length {
+    match summed {
         ContentLength::Absent => Some(0),
         ContentLength::Value(n) => Some(n),
         ContentLength::Invalid => lengths_agree(held, headers).then_some(u64::MAX),

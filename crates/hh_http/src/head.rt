@@ -1,11 +1,12 @@
 //! A request's head: what it says, or why it is refused.
-ghost use Rattle.std.specs.Prelude.{◌≡◌, ◌+◌, ◌-◌, ◌^◌, ◌<◌, ◌↔◌, min, length, map, option_map, All, IfOk, IsTrue, Some, codes};
+ghost use Rattle.std.specs.Prelude.{◌≡◌, ◌+◌, ◌-◌, ◌^◌, ◌<◌, ◌↔◌, min, length, map, option_map, All, IfOk, IsTrue, Some, List, codes};
 ghost use Rattle.httparse.specs.Spans.{IsHeaderWithin, IsRequestWithin, IsRequestOf, header_bytes, span_bytes};
-ghost use Rattle.hh_http.specs.Heads.{first_named, agree, lengths, number_of, token_of, bearer_of, method_of, path_of, query_of};
+ghost use Rattle.hh_http.specs.Heads.{first_named, agree, lengths, number_of, hosts, are_hosts_right, asks_upgrade, expects_continue, token_of, bearer_of, method_of, path_of, query_of};
+ghost use Rattle.http1.specs.Fields.{Header};
 ghost use Rattle.hh_http.specs.Asks.{Upgrading, Allows, Checks, NamesBy, request_grammar};
 
-use crate::error::HttpError;
-use crate::fields::{first_named, lists, stated_length};
+use crate::error::{HttpError, only_status, other_version};
+use crate::fields::{first_named, known_fields, lists, stated_length};
 use crate::limits::MOST_BODY;
 use crate::message::{Head, Message};
 use http1::text::eq_ignore_case;
@@ -81,6 +82,16 @@ fn is_thirteen(version: Option<&[u8]>) -> bool
     }
 }
 
+/// Whether the head asks for a WebSocket.
+fn asks_upgrade(held: &[u8], name: &[u8], headers: &[HeaderSpan]) -> bool
+    requires { All (IsHeaderWithin (length held.now)) headers.now }
+    ensures { result ≡ asks_upgrade name.now (map (header_bytes held.now) headers.now) }
+{
+    name == b"GET".as_slice()
+        && lists(held, headers, b"upgrade", b"websocket")
+        && lists(held, headers, b"connection", b"upgrade")
+}
+
 /// The text that accepts the key of a head that asks for a WebSocket, or `None` if it asks for none.
 fn upgrade(
     alloc: Global,
@@ -91,18 +102,18 @@ fn upgrade(
     requires { All (IsHeaderWithin (length held.now)) headers.now }
     ensures { Upgrading name.now (map (header_bytes held.now) headers.now) result }
 {
-    if name != b"GET".as_slice() || !lists(held, headers, b"upgrade", b"websocket") {
+    if !asks_upgrade(held, name, headers) {
         return Ok(None);
     }
     if !is_thirteen(first_named(held, headers, b"sec-websocket-version")) {
-        return Err(HttpError::Refused(400));
+        return Err(HttpError::Refused(other_version()));
     }
     let Some(key) = first_named(held, headers, b"sec-websocket-key") else {
-        return Err(HttpError::Refused(400));
+        return Err(HttpError::Refused(only_status(400)));
     };
     match accept_key(key) {
         Ok(accept) => Ok(Some(Text8::of(alloc, &accept)?)),
-        Err(_) => Err(HttpError::Refused(400)),
+        Err(_) => Err(HttpError::Refused(only_status(400))),
     }
 }
 
@@ -119,12 +130,19 @@ pub(crate) fn allowed_length(
     ensures { Allows (map (header_bytes held.now) headers.now) result }
 {
     if first_named(held, headers, b"transfer-encoding").is_some() {
-        return Err(HttpError::Refused(411));
+        return Err(HttpError::Refused(only_status(411)));
     }
     if stated > MOST_BODY as u64 {
-        return Err(HttpError::Refused(413));
+        return Err(HttpError::Refused(only_status(413)));
     }
     Ok(stated as usize)
+}
+
+/// Whether HTTP/1.`minor` has `count` fields `Host`, where two stand for more.
+fn are_hosts_right(minor: u8, count: u8) -> bool
+    ensures { (fields : List Header) → count ≡ min (hosts fields) 2 → result ≡ are_hosts_right minor fields }
+{
+    count == 1 || count == 0 && minor == 0
 }
 
 /// The text that accepts the key, if the head asks for a WebSocket, and the length of the body; or why the head is refused.
@@ -132,20 +150,33 @@ fn check(
     alloc: Global,
     held: &[u8],
     name: &[u8],
+    minor: u8,
     headers: &[HeaderSpan],
 ) -> Result<(Option<Text8>, usize), HttpError>
     requires { All (IsHeaderWithin (length held.now)) headers.now }
-    ensures { Checks name.now (map (header_bytes held.now) headers.now) result }
+    ensures { Checks name.now minor (map (header_bytes held.now) headers.now) result }
 {
-    let Some(stated) = stated_length(held, headers) else {
-        return Err(HttpError::Refused(400));
-    };
     let accept = upgrade(alloc, held, name, headers)?;
+    let known = known_fields(held, headers);
+    let Some(stated) = stated_length(held, headers, known.content_length) else {
+        return Err(HttpError::Refused(only_status(400)));
+    };
+    if !are_hosts_right(minor, known.hosts) {
+        return Err(HttpError::Refused(only_status(400)));
+    }
     match allowed_length(held, headers, stated) {
         Ok(length) => Ok((accept, length)),
-        Err(HttpError::Refused(status)) => Err(HttpError::Refused(status)),
+        Err(HttpError::Refused(refusal)) => Err(HttpError::Refused(refusal)),
         Err(HttpError::NoMemory) => Err(HttpError::NoMemory),
     }
+}
+
+/// Whether the body is sent once a 100 came.
+fn expects_continue(held: &[u8], minor: u8, headers: &[HeaderSpan]) -> bool
+    requires { All (IsHeaderWithin (length held.now)) headers.now }
+    ensures { result ≡ expects_continue minor (map (header_bytes held.now) headers.now) }
+{
+    minor == 1 && lists(held, headers, b"expect", b"100-continue")
 }
 
 /// The request of a head, without its body.
@@ -194,12 +225,14 @@ impl Message for Request {
         headers: &[HeaderSpan],
     ) -> Result<Head<Request>, HttpError> {
         let headers = &headers[..spans.headers];
-        let (accept, length) = check(alloc, held, spans.method.of(held), headers)?;
+        let (accept, length) = check(alloc, held, spans.method.of(held), spans.version, headers)?;
+        let expects = expects_continue(held, spans.version, headers);
         let message = request(alloc, held, spans, headers, accept)?;
         Ok(Head {
             message,
             start: spans.len,
             end: spans.len + length,
+            expects,
         })
     }
 

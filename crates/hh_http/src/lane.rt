@@ -78,6 +78,17 @@ impl HttpLane {
         self.lane.go_on();
     }
 
+    /// Whether the request whose head was read waits for a 100, which [`write_continue`](crate::write_continue) writes: once for each
+    /// that expects one (RFC 9110, section 10.1.1), and only after [`next_request`](HttpLane::next_request) answered `None` since its body
+    /// isn't whole. Ask right after each `None`, since nothing is due any more once a later call hands the request out; and write the text
+    /// before anything else. It takes no memory.
+    pub fn take_continue(&mut self) -> bool
+        ensures due { result ≡ self.old.due }
+        ensures taken { self.new ≡ record self.old { due = false } }
+    {
+        self.lane.take_continue()
+    }
+
     /// The bytes that were fed and are not part of a request that was handed out.
     pub fn rest(&self) -> &[u8]
         ensures { result.now ≡ self.now.held }

@@ -4,7 +4,7 @@ ghost use Rattle.httparse.specs.Outcome.{IfComplete, OnPartial, OnInvalid, OnToo
 ghost use Rattle.httparse.specs.declared.spans.HeaderSpan.{HeaderSpan as HeaderMeant};
 ghost use Rattle.hh_http.specs.Messages.{Grammar, IsGrammar, Judges, Reads};
 
-use crate::error::HttpError;
+use crate::error::{HttpError, only_status};
 use crate::limits::{MOST_HEAD, MOST_HEADERS};
 use httparse::spans::{EMPTY_HEADER_SPAN, HeaderSpan};
 use httparse::{Error, Status};
@@ -18,6 +18,8 @@ pub(crate) struct Head<M> {
     pub(crate) message: M,
     pub(crate) start: usize,
     pub(crate) end: usize,
+    /// The body is sent once a 100 came.
+    pub(crate) expects: bool,
 }
 
 /// A kind of messages. Its grammar says which bytes begin with one, and what it then is.
@@ -70,17 +72,17 @@ pub(crate) fn read_head<M: Message>(
     match M::parse(held, &mut headers) {
         Ok(Status::Complete(spans)) => match M::judge(alloc, held, spans, &headers) {
             Ok(head) => Ok(Some(head)),
-            Err(HttpError::Refused(status)) => Err(HttpError::Refused(status)),
+            Err(HttpError::Refused(refusal)) => Err(HttpError::Refused(refusal)),
             Err(HttpError::NoMemory) => Err(HttpError::NoMemory),
         },
         Ok(Status::Partial) => {
             if held.len() < MOST_HEAD {
                 Ok(None)
             } else {
-                Err(HttpError::Refused(431))
+                Err(HttpError::Refused(only_status(431)))
             }
         }
-        Err(Error::TooManyHeaders) => Err(HttpError::Refused(431)),
-        Err(_) => Err(HttpError::Refused(400)),
+        Err(Error::TooManyHeaders) => Err(HttpError::Refused(only_status(431))),
+        Err(_) => Err(HttpError::Refused(only_status(400))),
     }
 }

@@ -7,6 +7,7 @@ use crate::body::take_body;
 use crate::error::HttpError;
 use crate::limits::MOST_HEAD;
 use crate::message::{Head, Message, read_head};
+use hw_lanes::Refusal;
 use std::alloc::{AllocError, Global};
 use std::marker::Model;
 
@@ -17,8 +18,10 @@ pub(crate) struct MessageLane<M: Message> {
     held: Vec<u8>,
     // The head that the bytes held begin with, if its body was not whole when it was last looked at.
     head: Option<Head<M>>,
-    spent: Option<u16>,
+    spent: Option<Refusal>,
     ended: bool,
+    // A 100 is to be written for the message whose head is kept.
+    due: bool,
 }
 
 impl<M: Message> Model for MessageLane<M> {
@@ -30,7 +33,7 @@ impl<M: Message> Model for MessageLane<M> {
 
     ghost coded = { lane_code };
 
-    ghost view = { λ a. record { held = a.held.items; want = want_of a.head; spent = a.spent; ended = a.ended } };
+    ghost view = { λ a. record { held = a.held.items; want = want_of a.head; spent = a.spent; ended = a.ended; due = a.due } };
 
     ghost invariant = { λ a. IsLane M.grammar a.held.items (vec_capacity a.held) a.head };
 }
@@ -46,6 +49,7 @@ impl<M: Message> MessageLane<M> {
             head: None,
             spent: None,
             ended: false,
+            due: false,
         })
     }
 
@@ -112,6 +116,16 @@ impl<M: Message> MessageLane<M> {
         self.ended = false;
     }
 
+    /// Whether a 100 is due, which the caller then has taken. It takes no memory.
+    pub(crate) fn take_continue(&mut self) -> bool
+        ensures due { result ≡ self.old.due }
+        ensures taken { self.new ≡ record self.old { due = false } }
+    {
+        let due = self.due;
+        self.due = false;
+        due
+    }
+
     /// The bytes that were fed and are not part of a message that was handed out.
     pub(crate) fn rest(&self) -> &[u8]
         ensures { result.now ≡ self.now.held }
@@ -125,8 +139,8 @@ impl<M: Message> MessageLane<M> {
         ensures rests { Rests self.old self.new result }
         ensures within { IsWithin self.new }
     {
-        if let Some(status) = self.spent {
-            return Err(HttpError::Refused(status));
+        if let Some(refusal) = self.spent {
+            return Err(HttpError::Refused(refusal));
         }
         if self.ended {
             return Ok(None);
@@ -147,6 +161,7 @@ impl<M: Message> MessageLane<M> {
             Ok(Some(body)) => {
                 let message = head.message.with_body(body);
                 self.ended = message.is_last();
+                self.due = false;
                 Ok(Some(message))
             }
             Ok(None) => {
@@ -170,19 +185,19 @@ impl<M: Message> MessageLane<M> {
         match read_head::<M>(self.alloc, &self.held) {
             Ok(Some(head)) => self.accept(head),
             Ok(None) => Ok(None),
-            Err(HttpError::Refused(status)) => self.refuse(status),
+            Err(HttpError::Refused(refusal)) => self.refuse(refusal),
             Err(HttpError::NoMemory) => Err(HttpError::NoMemory),
         }
     }
 
     // The lane is spent.
-    fn refuse(&mut self, status: u16) -> Result<Option<M>, HttpError>
-        ensures refused { result ≡ Err (HttpError.Refused status) }
-        ensures spent { self.new ≡ record self.old { spent = Some status } }
+    fn refuse(&mut self, refusal: Refusal) -> Result<Option<M>, HttpError>
+        ensures refused { result ≡ Err (HttpError.Refused refusal) }
+        ensures spent { self.new ≡ record self.old { spent = Some refusal } }
         ensures within { IsWithin self.new }
     {
-        self.spent = Some(status);
-        Err(HttpError::Refused(status))
+        self.spent = Some(refusal);
+        Err(HttpError::Refused(refusal))
     }
 
     // The head was just read: it is kept if the body is still to come.
@@ -199,11 +214,13 @@ impl<M: Message> MessageLane<M> {
                 self.head = None;
                 let message = head.message.with_body(body);
                 self.ended = message.is_last();
+                self.due = false;
                 Ok(Some(message))
             }
             None => {
                 let more = head.end.saturating_sub(self.held.len());
                 self.held.reserve(more)?;
+                self.due = head.expects;
                 self.head = Some(head);
                 Ok(None)
             }

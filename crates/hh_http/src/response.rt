@@ -3,8 +3,8 @@ ghost use Rattle.std.specs.Prelude.{length, map, option_map, All, IfOk};
 ghost use Rattle.httparse.specs.Spans.{IsHeaderWithin, IsResponseWithin, IsResponseOf, header_bytes};
 ghost use Rattle.hh_http.specs.Responses.{NamesBy, Measures, response_grammar};
 
-use crate::error::HttpError;
-use crate::fields::{first_named, stated_length};
+use crate::error::{HttpError, only_status};
+use crate::fields::{first_named, known_fields, stated_length};
 use crate::head::allowed_length;
 use crate::message::{Head, Message};
 use httparse::spans::{HeaderSpan, ResponseSpans, parse_response};
@@ -28,9 +28,10 @@ fn body_length(held: &[u8], headers: &[HeaderSpan]) -> Result<usize, HttpError>
     requires { All (IsHeaderWithin (length held.now)) headers.now }
     ensures { Measures (map (header_bytes held.now) headers.now) result }
 {
-    match stated_length(held, headers) {
+    let known = known_fields(held, headers);
+    match stated_length(held, headers, known.content_length) {
         Some(length) => allowed_length(held, headers, length),
-        None => Err(HttpError::Refused(400)),
+        None => Err(HttpError::Refused(only_status(400))),
     }
 }
 
@@ -81,6 +82,7 @@ impl Message for Response {
             message,
             start: spans.len,
             end: spans.len + length,
+            expects: false,
         })
     }
 

@@ -2,11 +2,11 @@
 ghost use Rattle.std.specs.Prelude.{◌≡◌, ◌≢◌, ◌++◌, [], OnOk, OnErr, IfOk, length, string_bytes, codes};
 ghost use Rattle.http.specs.StatusCode.{IsStatusCode};
 ghost use Rattle.hw_lanes.specs.Replies.{IsReply};
-ghost use Rattle.hh_http.specs.Texts.{phrase_of, status_line, type_line, body_lines, reply_lines, reply_text, method_name, no_body_line, base64_of, key_lines, request_line, host_line, ask_text};
+ghost use Rattle.hh_http.specs.Texts.{phrase_of, status_line, type_line, body_lines, field_line, close_line, content_lines, reply_lines, reply_text, continue_text, method_name, no_body_line, base64_of, key_lines, request_line, host_line, ask_text};
 
 use base64::engine::general_purpose::STANDARD;
 use http::StatusCode;
-use hw_lanes::{BodyKind, Method, Reply};
+use hw_lanes::{BodyKind, Method, Reply, ReplyField};
 use std::alloc::{AllocError, Global};
 
 fn phrase_of_code(code: StatusCode) -> &'static str
@@ -68,17 +68,43 @@ fn body_lines(alloc: Global, reply: &Reply) -> Result<String, AllocError>
     format!(in alloc; "Content-Length: {length}\r\n{kind}")
 }
 
+fn field_line(field: Option<ReplyField>) -> &'static str
+    ensures { result.now ≡ field_line field }
+{
+    match field {
+        None => "",
+        Some(ReplyField::AllowPost) => "Allow: POST\r\n",
+        Some(ReplyField::AllowGetPostDelete) => "Allow: GET, POST, DELETE\r\n",
+        Some(ReplyField::AuthenticateBearer) => "WWW-Authenticate: Bearer\r\n",
+        Some(ReplyField::WebSocketVersion) => "Sec-WebSocket-Version: 13\r\n",
+    }
+}
+
+fn close_line(close: bool) -> &'static str
+    ensures { result.now ≡ close_line close }
+{
+    if close { "Connection: close\r\n" } else { "" }
+}
+
+fn put_content(reply: &Reply, out: &mut Vec<u8>) -> Result<(), AllocError>
+    ensures { OnOk result (out.new.items ≡ out.old.items ++ content_lines reply.now) }
+{
+    if reply.status == 204 {
+        return Ok(());
+    }
+    let lines = body_lines(*out.allocator(), reply)?;
+    out.extend_from_slice(lines.as_bytes())
+}
+
 fn put_lines(reply: &Reply, out: &mut Vec<u8>) -> Result<(), AllocError>
     ensures { OnOk result (out.new.items ≡ out.old.items ++ reply_lines reply.now.accept reply.now) }
 {
     if let Some(accept) = &reply.accept {
         return put_accept(accept.bytes(), out);
     }
-    if reply.status == 204 {
-        return Ok(());
-    }
-    let lines = body_lines(*out.allocator(), reply)?;
-    out.extend_from_slice(lines.as_bytes())
+    out.extend_from_slice(field_line(reply.field).as_bytes())?;
+    put_content(reply, out)?;
+    out.extend_from_slice(close_line(reply.close).as_bytes())
 }
 
 fn reply_text(alloc: Global, reply: &Reply) -> Result<Vec<u8>, AllocError>
@@ -92,8 +118,9 @@ fn reply_text(alloc: Global, reply: &Reply) -> Result<Vec<u8>, AllocError>
     Ok(text)
 }
 
-/// Appends a reply (RFC 9112, sections 4 to 6). A 101 accepts a WebSocket's key; a 204 has no lines; any other says the length of its
-/// body, and its kind if it is not empty. When out of memory `out` is as before.
+/// Appends a reply (RFC 9112, sections 4 to 6). A 101 accepts a WebSocket's key, and says no more. Any other has the reply's field, says
+/// the length of its body, and its kind if it is not empty, unless it is a 204, and last that the connection ends (RFC 9112, section 9.6).
+/// When out of memory `out` is as before.
 pub fn write_reply(reply: &Reply, out: &mut Vec<u8>) -> Result<(), AllocError>
     requires { IsReply reply.now }
     ensures ok { OnOk result (out.new.items ≡ out.old.items ++ reply_text reply.now) }
@@ -101,6 +128,15 @@ pub fn write_reply(reply: &Reply, out: &mut Vec<u8>) -> Result<(), AllocError>
 {
     let text = reply_text(*out.allocator(), reply)?;
     out.extend_from_slice(&text)
+}
+
+/// Appends the text of a 100, after which the peer sends the body of its request (RFC 9110, section 15.2.1). When out of memory `out` is
+/// as before.
+pub fn write_continue(out: &mut Vec<u8>) -> Result<(), AllocError>
+    ensures ok { OnOk result (out.new.items ≡ out.old.items ++ continue_text) }
+    ensures err { OnErr result (out.new.items ≡ out.old.items) }
+{
+    out.extend_from_slice(b"HTTP/1.1 100 Continue\r\n\r\n")
 }
 
 fn method_name(method: Method) -> &'static str

@@ -2,7 +2,7 @@
 
 use crate::bytes::{shown, shown_front};
 use hh_http::{HttpError, Response};
-use hw_lanes::{Method, Request, Text8};
+use hw_lanes::{Method, Refusal, ReplyField, Request, Text8};
 use std::alloc::{AllocError, Global};
 
 fn text_or_dash(alloc: Global, text: &Option<Text8>) -> Result<String, AllocError> {
@@ -46,9 +46,29 @@ fn response_line(alloc: Global, response: &Response) -> Result<String, AllocErro
     format!(in alloc; "response {status} {accept} {length} [{body}]")
 }
 
+fn field_text(field: ReplyField) -> &'static str {
+    match field {
+        ReplyField::AllowPost => "Allow: POST",
+        ReplyField::AllowGetPostDelete => "Allow: GET, POST, DELETE",
+        ReplyField::AuthenticateBearer => "WWW-Authenticate: Bearer",
+        ReplyField::WebSocketVersion => "Sec-WebSocket-Version: 13",
+    }
+}
+
+fn refusal_line(alloc: Global, refusal: Refusal) -> Result<String, AllocError> {
+    let status = refusal.status;
+    match refusal.field {
+        Some(field) => {
+            let field = field_text(field);
+            format!(in alloc; "refused {status} [{field}]")
+        }
+        None => format!(in alloc; "refused {status}"),
+    }
+}
+
 fn error_line(alloc: Global, error: HttpError) -> Result<String, AllocError> {
     match error {
-        HttpError::Refused(status) => format!(in alloc; "refused {status}"),
+        HttpError::Refused(refusal) => refusal_line(alloc, refusal),
         HttpError::NoMemory => Err(AllocError),
     }
 }

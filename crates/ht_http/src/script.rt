@@ -2,7 +2,7 @@
 
 use crate::bytes::spelled;
 use crate::report::{line, requested, responded};
-use crate::writing::{ask, reply};
+use crate::writing::{ask, continue_line, head, reply};
 use hh_http::{HttpLane, ResponseLane, accept_key};
 use ht_kit::{Play, Stop, first_word};
 use hw_lanes::query_value;
@@ -37,6 +37,7 @@ impl Bench {
                 self.alloc,
                 requested(self.alloc, self.requests.next_request())?,
             ),
+            "continue" => continue_line(self.alloc, self.requests.take_continue()),
             "rest" => line(self.alloc, "rest", self.requests.rest()),
             _ => self.act_more(word, rest),
         }
@@ -74,7 +75,7 @@ impl Bench {
         format!(in self.alloc; "fed {count}")
     }
 
-    /// Feeds pieces of as many bytes as the first word says, and looks for a request after each.
+    /// Feeds pieces of as many bytes as the first word says, and looks for a request and for a 100 that is due after each.
     fn drip(&mut self, rest: &str) -> Result<String, AllocError> {
         let (size, rest) = first_word(rest);
         let bytes = spelled(self.alloc, rest)?;
@@ -83,6 +84,10 @@ impl Bench {
             self.requests.feed(piece);
             if let Some(answer) = requested(self.alloc, self.requests.next_request())? {
                 write!(answers, "{answer}\n")?;
+            }
+            if self.requests.take_continue() {
+                let due = continue_line(self.alloc, true)?;
+                write!(answers, "{due}\n")?;
             }
         }
         answers.push_str("dripped")?;
@@ -149,8 +154,10 @@ fn write(alloc: Global, word: &str, rest: &str) -> Result<String, AllocError> {
 fn write_reply_of(alloc: Global, rest: &str) -> Result<String, AllocError> {
     let (status, rest) = first_word(rest);
     let (kind, rest) = first_word(rest);
+    let (field, rest) = first_word(rest);
+    let (end, rest) = first_word(rest);
     let bytes = spelled(alloc, rest)?;
-    match reply(alloc, status, kind, &bytes)? {
+    match reply(alloc, status, kind, head(field, end), &bytes)? {
         Some(text) => line(alloc, "reply", &text),
         None => refused(alloc, status),
     }

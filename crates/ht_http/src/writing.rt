@@ -2,9 +2,10 @@
 ghost use Rattle.std.specs.Prelude.{IfSome};
 ghost use Rattle.ht_http.specs.Plain.{IsPlain};
 
-use hh_http::{write_ask, write_reply};
+use crate::report::line;
+use hh_http::{write_ask, write_continue, write_reply};
 use ht_forms::method;
-use hw_lanes::{BodyKind, Reply, Text8, Vec8};
+use hw_lanes::{BodyKind, Reply, ReplyField, Text8, Vec8};
 use std::alloc::{AllocError, Global};
 
 /// The status that the word names, if such a reply may have a body.
@@ -36,7 +37,35 @@ fn kind(word: &str) -> BodyKind {
     }
 }
 
-fn plain(alloc: Global, status: u16, kind: BodyKind, body: &[u8]) -> Result<Vec<u8>, AllocError>
+/// What a reply's head says beside its body.
+#[derive(Clone, Copy)]
+pub struct ReplyHead {
+    field: Option<ReplyField>,
+    close: bool,
+}
+
+/// The head with the field and the end that the words name.
+pub fn head(field: &str, end: &str) -> ReplyHead {
+    let field = match field {
+        "allow-post" => Some(ReplyField::AllowPost),
+        "allow-all" => Some(ReplyField::AllowGetPostDelete),
+        "bearer" => Some(ReplyField::AuthenticateBearer),
+        "version" => Some(ReplyField::WebSocketVersion),
+        _ => None,
+    };
+    ReplyHead {
+        field,
+        close: end == "close",
+    }
+}
+
+fn plain(
+    alloc: Global,
+    status: u16,
+    kind: BodyKind,
+    head: ReplyHead,
+    body: &[u8],
+) -> Result<Vec<u8>, AllocError>
     requires { IsPlain status }
 {
     let reply = Reply {
@@ -44,30 +73,36 @@ fn plain(alloc: Global, status: u16, kind: BodyKind, body: &[u8]) -> Result<Vec<
         kind,
         body: Vec8::of(alloc, body)?,
         accept: None,
+        field: head.field,
+        close: head.close,
     };
     let mut out = Vec::new(alloc);
     write_reply(&reply, &mut out)?;
     Ok(out)
 }
 
-fn no_content(alloc: Global) -> Result<Vec<u8>, AllocError> {
+fn no_content(alloc: Global, head: ReplyHead) -> Result<Vec<u8>, AllocError> {
     let reply = Reply {
         status: 204,
         kind: BodyKind::None,
         body: Vec8::from_vec(Vec::new(alloc)),
         accept: None,
+        field: head.field,
+        close: head.close,
     };
     let mut out = Vec::new(alloc);
     write_reply(&reply, &mut out)?;
     Ok(out)
 }
 
-fn accepting(alloc: Global, accept: &[u8]) -> Result<Vec<u8>, AllocError> {
+fn accepting(alloc: Global, head: ReplyHead, accept: &[u8]) -> Result<Vec<u8>, AllocError> {
     let reply = Reply {
         status: 101,
         kind: BodyKind::None,
         body: Vec8::from_vec(Vec::new(alloc)),
         accept: Some(Text8::of(alloc, accept)?),
+        field: head.field,
+        close: head.close,
     };
     let mut out = Vec::new(alloc);
     write_reply(&reply, &mut out)?;
@@ -79,18 +114,29 @@ pub fn reply(
     alloc: Global,
     status: &str,
     kind_word: &str,
+    head: ReplyHead,
     bytes: &[u8],
 ) -> Result<Option<Vec<u8>>, AllocError> {
     if status == "101" {
-        return Ok(Some(accepting(alloc, bytes)?));
+        return Ok(Some(accepting(alloc, head, bytes)?));
     }
     if status == "204" {
-        return Ok(Some(no_content(alloc)?));
+        return Ok(Some(no_content(alloc, head)?));
     }
     match plain_status(status) {
-        Some(status) => Ok(Some(plain(alloc, status, kind(kind_word), bytes)?)),
+        Some(status) => Ok(Some(plain(alloc, status, kind(kind_word), head, bytes)?)),
         None => Ok(None),
     }
+}
+
+/// The text of a 100, if one is due.
+pub fn continue_line(alloc: Global, due: bool) -> Result<String, AllocError> {
+    if !due {
+        return String::from_str(alloc, "nothing due");
+    }
+    let mut out = Vec::new(alloc);
+    write_continue(&mut out)?;
+    line(alloc, "continue", &out)
 }
 
 /// The key of these bytes, of which the first sixteen count.

@@ -68,6 +68,26 @@ pub enum BodyKind {
     Octets,
 }
 
+/// A field of a refusal's head that says what would not be refused.
+#[derive(Clone, Copy, Debug, PartialEq, Eq)]
+pub enum ReplyField {
+    /// `Allow: POST` (RFC 9110, section 10.2.1).
+    AllowPost,
+    /// `Allow: GET, POST, DELETE`.
+    AllowGetPostDelete,
+    /// `WWW-Authenticate: Bearer` (RFC 9110, section 11.6.1; RFC 6750, section 3).
+    AuthenticateBearer,
+    /// `Sec-WebSocket-Version: 13` (RFC 6455, section 4.4).
+    WebSocketVersion,
+}
+
+/// How a request is refused.
+#[derive(Clone, Copy, Debug, PartialEq, Eq)]
+pub struct Refusal {
+    pub status: u16,
+    pub field: Option<ReplyField>,
+}
+
 /// A reply to a request.
 #[derive(Drop, PartialEq, Eq)]
 pub struct Reply {
@@ -76,4 +96,7 @@ pub struct Reply {
     pub body: Vec8,
     /// The text of `Sec-WebSocket-Accept`, at 101.
     pub accept: Option<Text8>,
+    pub field: Option<ReplyField>,
+    /// The connection ends after this reply, and its head says so (`Connection: close`, RFC 9112, section 9.6), unless the status is 101.
+    pub close: bool,
 }

@@ -9,5 +9,5 @@ mod http;
 mod query;
 
 pub use bytes::{Text8, Vec8};
-pub use http::{BodyKind, Method, Reply, Request};
+pub use http::{BodyKind, Method, Refusal, Reply, ReplyField, Request};
 pub use query::query_value;

@@ -13,6 +13,7 @@ returns-in_err-accept c =
 pub returns : goal.returns
 returns c =
     let fields = map (header_bytes c.args.held.now) (take c.args.spans.headers c.args.headers.now) in
-    request-ok c.args.held.now c.args.headers.now c.args.spans c.in_ok-message.message c.in_ok-accept.accept c.in_ok-accept.length c.requires.covered.1 c.requires.few
+    request-ok c.args.held.now c.args.headers.now c.args.spans c.in_ok-message.message c.in_ok-accept.accept c.in_ok-accept.length c.expects_continue-expects.result c.requires.covered.1 c.requires.few
     c.in_ok-message.ensures.names c.in_ok-message.ensures.upgrade
-    (subst (λ (m : List ℕ). IsTaken m fields c.in_ok-accept.accept c.in_ok-accept.length) c.of.ensures c.in_ok-accept.ensures)
+    (subst (λ (m : List ℕ). IsTaken m c.args.spans.version fields c.in_ok-accept.accept c.in_ok-accept.length) c.of.ensures c.in_ok-accept.ensures)
+    c.expects_continue-expects.ensures
