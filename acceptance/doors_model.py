@@ -10,6 +10,7 @@ import sys
 
 import committed
 
+FIELDS = ("Allow: POST", "Allow: GET, POST, DELETE", "WWW-Authenticate: Bearer", "Sec-WebSocket-Version: 13")
 
 
 class Failed(Exception):
@@ -238,8 +239,10 @@ class Bench:
         if line == "system":
             return "two draws that differ"
         if form == "heard":
-            kind, lane, *_ = rest.split(" ")
-            if kind not in ("bytes", "response", "lost"):
+            kind, lane, *more = rest.split(" ")
+            if kind not in ("bytes", "response", "refused", "lost"):
+                raise Refused
+            if kind == "refused" and more[1:] and " ".join(more[1:]) not in [f"[{field}]" for field in FIELDS]:
                 raise Refused
             self.heard.append((number(word), rest))
             number(lane)
@@ -303,6 +306,21 @@ note a door at which nothing is heard
 door start -
 door next
 door given
+note refusals, each with its field
+heard 1 refused 1 431
+heard 1 refused 2 405 [Allow: POST]
+heard 1 refused 3 405 [Allow: GET, POST, DELETE]
+heard 1 refused 4 401 [WWW-Authenticate: Bearer]
+heard 1 refused 5 400 [Sec-WebSocket-Version: 13]
+heard 1 refused 6 400 [Sec-WebSocket-Version: 12]
+door start 2
+door next
+door next
+door next
+door next
+door next
+door next
+door next
 note a dialer: the ask of number 1 is to fail, and has no lane
 {HEARD}dialer start 1
 dialer ask POST /negotiate

@@ -8,6 +8,7 @@ A client's conversation is a list of items whose bytes and meaning are known bef
 WebSocket (RFC 9110, 9112 and 6455). So the model parses nothing; it counts bytes. It shares no code with the program, whose main.rt has the
 words of a script."""
 import base64
+import collections
 import hashlib
 import random
 import sys
@@ -19,10 +20,12 @@ HEAD = 16384
 UNWRITTEN = 1 << 20
 NAMED = 64
 WAIT = 30000
+CLOSING = 30000
 PHRASES = {101: "Switching Protocols", 200: "OK", 202: "Accepted", 204: "No Content", 400: "Bad Request", 401: "Unauthorized", 404: "Not Found",
            405: "Method Not Allowed", 409: "Conflict", 411: "Length Required", 413: "Payload Too Large", 431: "Request Header Fields Too Large",
            500: "Internal Server Error", 503: "Service Unavailable"}
 KINDS = {"none": "", "json": "Content-Type: application/json\r\n", "octets": "Content-Type: application/octet-stream\r\n"}
+CONTINUE = b"HTTP/1.1 100 Continue\r\n\r\n"
 KEY = "dGhlIHNhbXBsZSBub25jZQ=="
 ACCEPT = base64.b64encode(hashlib.sha1((KEY + "258EAFA5-E914-47DA-95CA-C5AB0DC85B11").encode()).digest()).decode()
 assert ACCEPT == "s3pPLMBiTxaQ9kYGzzhZRbK+xOo="
@@ -42,31 +45,38 @@ def frame(opcode, payload=b"", mask=b"\x37\xfa\x21\x3d", fin=True):
     return head + mask + bytes(b ^ mask[i % 4] for i, b in enumerate(payload))
 
 
-def reply_text(status, kind="none", body=b"", accept=None):
+# How the door refuses what is no request: the field is a line of the reply's head, or None.
+Refusal = collections.namedtuple("Refusal", "status field", defaults=[None])
+
+
+def reply_text(status, kind="none", body=b"", accept=None, field=None, close=False):
     text = f"HTTP/1.1 {status} {PHRASES[status]}\r\n"
     if accept is not None:
         text += f"Upgrade: websocket\r\nConnection: Upgrade\r\nSec-WebSocket-Accept: {accept}\r\n"
-    elif status != 204:
-        text += f"Content-Length: {len(body)}\r\n" + (KINDS[kind] if body else "")
+    else:
+        text += f"{field}\r\n" if field else ""
+        text += f"Content-Length: {len(body)}\r\n" + (KINDS[kind] if body else "") if status != 204 else ""
+        text += "Connection: close\r\n" if close else ""
     return text.encode() + b"\r\n" + body
 
 
 class Item:
     """A part of what a client says: its bytes, what is heard once `ready` of them came, and how long it is then (0 if that isn't known)."""
 
-    def __init__(self, data, heard, ready=None, head=None, upgrade=False, replies=b"", gone=False):
+    def __init__(self, data, heard, ready=None, head=None, upgrade=False, replies=b"", gone=False, expects=False):
         self.data, self.heard, self.ready = data, heard, len(data) if ready is None else ready
-        self.head, self.upgrade, self.replies, self.gone = head, upgrade, replies, gone
+        self.head, self.upgrade, self.replies, self.gone, self.expects = head, upgrade, replies, gone, expects
 
 
-def request(method, path, query="", body=b"", close=False, headers=()):
+def request(method, path, query="", body=b"", close=False, headers=(), expects=False):
     target = path + (f"?{query}" if query else "")
     head = f"{method} {target} HTTP/1.1\r\nHost: x\r\n" + "".join(f"{h}\r\n" for h in headers)
     head += "Connection: close\r\n" if close else ""
+    head += "Expect: 100-continue\r\n" if expects else ""
     head += f"Content-Length: {len(body)}\r\n" if body else ""
     data = head.encode() + b"\r\n"
     shut = "shut" if close else "kept"
-    return Item(data + body, f"{method} {path} ?{query} - - {shut} {hexed(body)}", head=len(data))
+    return Item(data + body, f"{method} {path} ?{query} - - {shut} {hexed(body)}", head=len(data), expects=expects)
 
 
 def upgrade(path):
@@ -76,10 +86,17 @@ def upgrade(path):
 
 
 def refused(status):
-    line = "POST /r HTTP/1.1\r\n"
+    line = "POST /r HTTP/1.1\r\nHost: x\r\n"
     data = {400: line + "Content-Length: 1\r\nContent-Length: 2\r\n\r\n", 411: line + "Transfer-Encoding: chunked\r\n\r\n",
             413: line + "Content-Length: 1048577\r\n\r\n", 431: line + "X: " + "a" * (HEAD - len(line) - 2)}[status].encode()
-    return Item(data, status, ready=min(len(data), HEAD))
+    return Item(data, Refusal(status), ready=min(len(data), HEAD))
+
+
+def bad_upgrade(version):
+    """It asks for a WebSocket of another version, so it is told which one is known."""
+    data = (f"GET /hub HTTP/1.1\r\nHost: x\r\nUpgrade: websocket\r\nConnection: Upgrade\r\nSec-WebSocket-Key: {KEY}\r\n"
+            f"Sec-WebSocket-Version: {version}\r\n\r\n").encode()
+    return Item(data, Refusal(400, "Sec-WebSocket-Version: 13"))
 
 
 def message(opcode, payload):
@@ -108,12 +125,14 @@ class Lane:
         self.at = 0              # the next item
         self.begin = 0           # where it begins
         self.known = 0           # its length, if its head was read
+        self.continues = False   # a 100 is to be written
         self.socket = self.busy = False
         self.has_unparsed = self.wants_read = True
         self.gone = None         # the status of the close frame that a WebSocket which is gone still has to write
         self.out = b""
         self.texts = 0           # how many of its first bytes are texts of HTTP
         self.stage = "live"
+        self.closed_at = None    # since when it closes
 
 
 class Failed(Exception):
@@ -177,7 +196,17 @@ class Door:
         lane.out = b""
         lane.stage = "lost" if lane.stage == "live" else "over"
 
+    def close(self, lane, moment):
+        lane.stage, lane.closed_at = "closing", moment
+
     def say(self, lane):
+        """Writes what waits, but for a lane that has closed for so long that it is dropped."""
+        if lane.stage == "closing" and self.moment - lane.closed_at >= CLOSING:
+            self.end(lane)
+        else:
+            self.write_out(lane)
+
+    def write_out(self, lane):
         """Writes what waits. The texts of HTTP and the frames after them are two pieces, with a write each."""
         if lane.stage not in ("live", "closing"):
             return
@@ -214,11 +243,13 @@ class Door:
         item = self.item(lane)
         held = lane.came - lane.begin
         if item is None or held < item.ready:
-            if item and item.head and held >= item.head:
+            if item and item.head and held >= item.head and not lane.known:
                 lane.known = len(item.data)
+                # The head was read just now, and the body isn't there.
+                lane.continues = lane.continues or item.expects
             lane.has_unparsed = False
             return None
-        if isinstance(item.heard, int):
+        if isinstance(item.heard, Refusal):
             return ("refused", item.heard)
         lane.busy = True
         lane.asked = item
@@ -269,6 +300,9 @@ class Door:
             self.say(lane)
             return None
         heard, event = (self.hear_message if lane.socket else self.hear_request)(lane), None
+        if lane.continues:
+            self.add(lane, CONTINUE)
+            lane.continues = False
         if heard is None:
             if not lane.socket and not lane.busy and self.moment - lane.since >= WAIT:
                 self.end(lane)
@@ -277,14 +311,17 @@ class Door:
         elif heard[0] == "bytes":
             event = f"bytes {lane.number} {hexed(heard[1])}"
         elif heard[0] == "refused":
-            self.add(lane, reply_text(heard[1]))
-            lane.stage, event = "closing", f"refused {lane.number} {heard[1]}"
+            status, field = heard[1]
+            self.add(lane, reply_text(status, field=field, close=True))
+            self.close(lane, self.moment)
+            event = f"refused {lane.number} {status}" + (f" [{field}]" if field else "")
         elif heard[0] == "broken":
             self.end(lane)
         else:
             if lane.gone != "answered":
                 self.add(lane, frame(8, lane.gone.to_bytes(2, "big"), None))
-            lane.stage, event = "closing", f"lost {lane.number}"
+            self.close(lane, self.moment)
+            event = f"lost {lane.number}"
         if lane.stage == "lost" and heard is not None and event is None:
             lane.stage = "over"
             return f"lost {lane.number}"
@@ -323,7 +360,7 @@ class Door:
         if len(lane.out) > UNWRITTEN:
             self.end(lane)
         else:
-            self.say(lane)
+            self.write_out(lane)
 
     def reply(self, number, status, kind, body, accept):
         lane = self.find(number)
@@ -355,8 +392,8 @@ class Door:
             return
         if lane.socket and lane.gone != "answered":
             self.add(lane, frame(8, (lane.gone or 1000).to_bytes(2, "big"), None))
-        lane.stage = "closing"
-        self.say(lane)
+        self.close(lane, self.heard_at)
+        self.write_out(lane)
 
 
 class Script:
@@ -481,10 +518,58 @@ def by_hand(s):
     s.start([5])
     for lane, status in enumerate((400, 411, 413)):
         s.next(f"at 5 refused {lane} {status}")
-        s.written(lane, f"HTTP/1.1 {status} {PHRASES[status]}\r\nContent-Length: 0\r\n\r\n".encode())
+        s.written(lane, f"HTTP/1.1 {status} {PHRASES[status]}\r\nContent-Length: 0\r\nConnection: close\r\n\r\n".encode())
     for _ in range(3):
         s.next("at 5 quiet")
     s.next("at 5 refused 3 431")
+
+    s.note("an upgrade of another version is told which one is known")
+    item = bad_upgrade(12)
+    s.wire(0, [item.data], FREE, [item])
+    s.start([5])
+    s.next("at 5 refused 0 400 [Sec-WebSocket-Version: 13]")
+    s.written(0, b"HTTP/1.1 400 Bad Request\r\nSec-WebSocket-Version: 13\r\nContent-Length: 0\r\nConnection: close\r\n\r\n")
+
+    s.note("a lane that was shut writes until 30,000 ms are over, and then what waits is dropped")
+    for last in (29999, 30000):
+        items = [request("GET", "/a")]
+        s.wire(0, [items[0].data], [3, 0, 0, 4, 0] + FREE, items)
+        s.start([1000, 1000, 1000 + last])
+        s.next("at 1000 request 0 GET /a ? - - kept -")
+        s.reply(0, 204)
+        s.shut(0)
+        s.written(0, b"HTT")
+        s.next("at 1000 quiet")
+        s.next(f"at {1000 + last} quiet")
+        s.written(0, b"HTTP/1." if last == 30000 else b"HTTP/1.1 204 No Content\r\n\r\n")
+        s.next(f"at {1000 + last} quiet")
+
+    s.note("so does one that was refused")
+    for last in (29999, 30000):
+        s.wire(0, [refused(411).data], [2, 0, 1, 0] + FREE, [refused(411)])
+        s.start([7, 7, 7 + last])
+        s.next("at 7 refused 0 411")
+        s.written(0, b"HT")
+        s.next("at 7 quiet")
+        s.next(f"at {7 + last} quiet")
+        s.written(0, b"HTT" if last == 30000 else b"HTTP/1.1 411 Length Required\r\nContent-Length: 0\r\nConnection: close\r\n\r\n")
+
+    s.note("so does a WebSocket that is gone, also in calls in which another lane is heard")
+    for last in (29999, 30000):
+        items = [upgrade("/hub"), closing(1000)]
+        others = [request("GET", f"/{i}") for i in range(3)]
+        s.wire(0, [items[0].data, items[1].data], [1 << 20, 1, 0] + FREE, items)
+        s.wire(0, [talk(*others[:2]), "*", others[2].data], FREE, others)
+        s.start([9, 9, 9, 9 + last])
+        s.next(f"at 9 request 0 GET /hub ? - {ACCEPT} kept -")
+        s.reply(0, 101, accept=ACCEPT)
+        s.next("at 9 request 1 GET /0 ? - - kept -")
+        s.written(0, upgraded[len(negotiated):])
+        s.reply(1, 204)
+        s.next("at 9 lost 0")
+        s.written(0, upgraded[len(negotiated):] + bytes.fromhex("88"))
+        s.next(f"at {9 + last} request 1 GET /1 ? - - kept -")
+        s.written(0, upgraded[len(negotiated):] + bytes.fromhex("88" if last == 30000 else "880203e8"))
 
     s.note("a lane that waits for 30,000 ms is shut, and one that owes a reply isn't")
     items = [request("GET", "/a")]
@@ -517,6 +602,55 @@ def by_hand(s):
     s.send(0, b"a", True)
     s.shut(0)
     s.shut(7)
+
+    s.note("a body that is expected is asked for, once, and before anything else is said")
+    item = request("POST", "/e", body=b"abcdef", expects=True)
+    half = len(item.data) - 3
+    s.wire(0, [item.data[:10], item.data[10:-6], "*", item.data[-6:half], item.data[half:]], FREE, [item])
+    s.start([1])
+    s.next("at 1 quiet")
+    s.written(0, b"")
+    s.next("at 1 quiet")
+    s.written(0, CONTINUE)
+    for _ in range(2):
+        s.next("at 1 quiet")
+        s.written(0, CONTINUE)
+    s.next("at 1 request 0 POST /e ? - - kept 616263646566")
+    s.written(0, CONTINUE)
+    s.reply(0, 204)
+    s.written(0, CONTINUE + b"HTTP/1.1 204 No Content\r\n\r\n")
+
+    s.note("a body that came with its head isn't asked for, nor one that nobody expects to be asked for")
+    items = [item, request("POST", "/f", body=b"abc")]
+    s.wire(0, [items[0].data, items[1].data[:-1], items[1].data[-1:]], FREE, items)
+    s.start([1])
+    s.next("at 1 request 0 POST /e ? - - kept 616263646566")
+    s.reply(0, 204)
+    s.next("at 1 quiet")
+    s.next("at 1 request 0 POST /f ? - - kept 616263")
+    s.written(0, b"HTTP/1.1 204 No Content\r\n\r\n")
+
+    s.note("the head of the next request counts as read once the one before is replied to, also where the rest comes in the same turn")
+    first = request("GET", "/g")
+    s.wire(0, [first.data + item.data[:half], item.data[half:]], FREE, [first, item])
+    s.wire(0, [first.data + item.data[:half], "*", item.data[half:]], FREE, [first, item])
+    s.wire(0, [first.data + item.data[:half], item.data[half:]], FREE, [first, item])
+    s.start([1])
+    for lane in range(3):
+        s.next(f"at 1 request {lane} GET /g ? - - kept -")
+        s.written(lane, b"")
+    s.reply(0, 204)
+    s.written(0, b"HTTP/1.1 204 No Content\r\n\r\n")
+    s.next("at 1 request 0 POST /e ? - - kept 616263646566")
+    s.written(0, b"HTTP/1.1 204 No Content\r\n\r\n" + CONTINUE)
+    # While the reply was owed the rest came too: the whole body is held once the head counts as read.
+    s.next("at 1 quiet")
+    s.reply(2, 204)
+    s.next("at 1 request 2 POST /e ? - - kept 616263646566")
+    s.written(2, b"HTTP/1.1 204 No Content\r\n\r\n")
+    s.reply(1, 204)
+    s.next("at 1 request 1 POST /e ? - - kept 616263646566")
+    s.written(1, b"HTTP/1.1 204 No Content\r\n\r\n")
 
     s.note("lanes are heard in turns, and a wire that is written in pieces")
     asked = [request("GET", f"/{i}") for i in range(6)]
@@ -583,10 +717,11 @@ def conversation(rng):
     items = []
     for _ in range(rng.randrange(4)):
         body = rng.randbytes(rng.choice([0, 0, 1, 300, 5000]))
-        items.append(request(rng.choice(["GET", "POST", "DELETE"]), f"/{rng.randrange(9)}", rng.choice(["", "id=7"]), body, rng.random() < 0.2))
+        items.append(request(rng.choice(["GET", "POST", "DELETE"]), f"/{rng.randrange(9)}", rng.choice(["", "id=7"]), body, rng.random() < 0.2,
+                             expects=rng.random() < 0.3))
     end = rng.random()
     if end < 0.2:
-        items.append(refused(rng.choice([400, 411, 413, 431])))
+        items.append(refused(rng.choice([400, 411, 413, 431])) if rng.random() < 0.8 else bad_upgrade(8))
     elif end < 0.8:
         items.append(upgrade("/hub"))
         for _ in range(rng.randrange(6)):
@@ -634,7 +769,8 @@ def at_random(s, seed, steps=60):
                 s.send(lane.number, rng.randbytes(rng.choice([0, 3, 200])) if not text else rng.choice([b"hey", b"\xff"]), text)
             elif act > 0.98:
                 s.shut(lane.number)
-            elif act > 0.96:
+            elif act > 0.96 and not (lane.busy and lane.asked.upgrade):
+                # After an upgrade that was declined the frames would be read as requests, of which a conversation says nothing.
                 s.reply(lane.number, 500)
         s.next()
     for wire in range(5):

@@ -3,7 +3,7 @@
 ghost use Rattle.std.specs.Prelude.{IfOk};
 ghost use Rattle.hw_lanes.specs.Replies.{IsReply};
 
-use ht_forms::{method, never_falls};
+use ht_forms::{method, never_falls, refusal_of, refusal_told};
 use ht_kit::{Stop, as_text, first_word, number, numbers};
 use hw_door::{Dialer, Door, DoorError, Event, Given, Heard, MemoryDialer, MemoryDoor, Upgrade};
 use hw_lanes::{BodyKind, Reply, Vec8};
@@ -33,6 +33,10 @@ fn event_of(alloc: Global, kind: &str, lane: u64, rest: &str) -> Result<Event, S
             let status = rest.parse::<u16>().ok().ok_or(Stop::Refused)?;
             let body = Vec8::of(alloc, b"{}")?;
             Ok(Event::Response { lane, status, body })
+        }
+        "refused" => {
+            let refusal = refusal_of(rest)?;
+            Ok(Event::Refused { lane, refusal })
         }
         "lost" => Ok(Event::Lost { lane }),
         _ => Err(Stop::Refused),
@@ -164,6 +168,8 @@ fn accepted(alloc: Global) -> Result<Reply, Stop>
         kind: BodyKind::None,
         body: Vec8::from_vec(Vec::new(alloc)),
         accept: None,
+        field: None,
+        close: false,
     })
 }
 
@@ -188,7 +194,10 @@ fn event_told(alloc: Global, event: &Event) -> Result<String, AllocError> {
         Event::Lost { lane } => format!(in alloc; "lost {lane}"),
         Event::Quiet => String::from_str(alloc, "quiet"),
         Event::Request { lane, .. } => format!(in alloc; "request {lane}"),
-        Event::Refused { lane, status } => format!(in alloc; "refused {lane} {status}"),
+        Event::Refused { lane, refusal } => {
+            let refusal = refusal_told(alloc, *refusal)?;
+            format!(in alloc; "refused {lane} {refusal}")
+        }
         Event::Upgraded { lane } => format!(in alloc; "upgraded {lane}"),
     }
 }

@@ -8,7 +8,8 @@
 //! ```text
 //! note TEXT                          is printed
 //! heard MOMENT lost LANE             is to be heard by the door or dialer that starts next, after what is to be heard already; so are
-//!                                    `bytes LANE TEXT` and `response LANE STATUS` in place of `lost LANE`
+//!                                    `bytes LANE TEXT`, `response LANE STATUS` and `refused LANE STATUS [FIELD]`, whose field may be absent,
+//!                                    in place of `lost LANE`
 //! door start FAILING                 a door that hears this, and fails at the calls of these numbers; its further actions are
 //!                                    `next`, `reply LANE`, `send LANE KIND TEXT` (KIND is `text` or `octets`), `shut LANE` and `given`
 //! dialer start FAILING               the same of a dialer, with `ask METHOD TARGET` and `upgrade METHOD TARGET` in place of `reply`

@@ -1,5 +1,5 @@
-//! What the scripts of several programs of tests say of doors and wires in memory: a wire to give, a method, and whether moments never
-//! fall, which is asked before a form is made of them.
+//! What the scripts of several programs of tests say of doors and wires in memory: a wire to give, a method, how something is refused, and
+//! whether moments never fall, which is asked before a form is made of them.
 #![tactic(auto)]
 
 ghost use Rattle.std.specs.Prelude.{◌≢◌, IfSome, IsTrue};
@@ -8,8 +8,8 @@ ghost use Rattle.hw_door.specs.Wires.{IsRising};
 
 use ht_kit::{Stop, counts, first_word, from_digits, number};
 use hw_door::{Heard, MemoryWire, WireGiven};
-use hw_lanes::{Method, Vec8};
-use std::alloc::Global;
+use hw_lanes::{Method, Refusal, ReplyField, Vec8};
+use std::alloc::{AllocError, Global};
 
 /// How the bytes of a wire stand in a script.
 #[derive(Clone, Copy)]
@@ -62,6 +62,48 @@ pub fn method(word: &str) -> Option<Method>
         "POST" => Some(Method::Post),
         "DELETE" => Some(Method::Delete),
         _ => None,
+    }
+}
+
+fn field_text(field: ReplyField) -> &'static str {
+    match field {
+        ReplyField::AllowPost => "Allow: POST",
+        ReplyField::AllowGetPostDelete => "Allow: GET, POST, DELETE",
+        ReplyField::AuthenticateBearer => "WWW-Authenticate: Bearer",
+        ReplyField::WebSocketVersion => "Sec-WebSocket-Version: 13",
+    }
+}
+
+fn field_of(text: &str) -> Option<ReplyField> {
+    match text {
+        "[Allow: POST]" => Some(ReplyField::AllowPost),
+        "[Allow: GET, POST, DELETE]" => Some(ReplyField::AllowGetPostDelete),
+        "[WWW-Authenticate: Bearer]" => Some(ReplyField::AuthenticateBearer),
+        "[Sec-WebSocket-Version: 13]" => Some(ReplyField::WebSocketVersion),
+        _ => None,
+    }
+}
+
+/// How something is refused: `STATUS`, or `STATUS [FIELD]`.
+pub fn refusal_of(words: &str) -> Result<Refusal, Stop> {
+    let (status, field) = first_word(words);
+    let status = status.parse::<u16>().ok().ok_or(Stop::Refused)?;
+    let field = field_of(field);
+    if field.is_none() && words.contains(' ') {
+        return Err(Stop::Refused);
+    }
+    Ok(Refusal { status, field })
+}
+
+/// How something is refused: its status, and its field in brackets if it has one.
+pub fn refusal_told(alloc: Global, refusal: Refusal) -> Result<String, AllocError> {
+    let status = refusal.status;
+    match refusal.field {
+        Some(field) => {
+            let field = field_text(field);
+            format!(in alloc; "{status} [{field}]")
+        }
+        None => format!(in alloc; "{status}"),
     }
 }
 

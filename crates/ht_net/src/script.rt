@@ -87,6 +87,8 @@ fn said(alloc: Global, words: &str) -> Result<Reply, Stop> {
         kind: kind(kind_word)?,
         body: body(alloc, body_word)?,
         accept: accept(alloc, accept_word)?,
+        field: None,
+        close: false,
     })
 }
 

@@ -1,6 +1,7 @@
 //! What is heard, in words.
 
 use crate::words::shown;
+use ht_forms::refusal_told;
 use ht_kit::Stop;
 use hw_door::{Event, Heard};
 use hw_lanes::{Method, Request, Text8};
@@ -45,7 +46,10 @@ fn event(alloc: Global, event: &Event) -> Result<String, Stop> {
             lane,
             request: asked,
         } => request(alloc, *lane, asked),
-        Event::Refused { lane, status } => Ok(format!(in alloc; "refused {lane} {status}")?),
+        Event::Refused { lane, refusal } => {
+            let refusal = refusal_told(alloc, *refusal)?;
+            Ok(format!(in alloc; "refused {lane} {refusal}")?)
+        }
         Event::Bytes { lane, bytes } => {
             let bytes = shown(alloc, bytes.bytes())?;
             Ok(format!(in alloc; "bytes {lane} {bytes}")?)

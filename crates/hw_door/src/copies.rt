@@ -13,9 +13,9 @@ fn copy_event(event: &Event) -> Result<Event, AllocError>
             lane: *lane,
             request: request.copy()?,
         }),
-        Event::Refused { lane, status } => Ok(Event::Refused {
+        Event::Refused { lane, refusal } => Ok(Event::Refused {
             lane: *lane,
-            status: *status,
+            refusal: *refusal,
         }),
         Event::Bytes { lane, bytes } => Ok(Event::Bytes {
             lane: *lane,

@@ -3,7 +3,7 @@
 //! A lane is one connection, by its number. A moment is in milliseconds since a start of the door's own.
 
 use hv_value::Text;
-use hw_lanes::{Method, Reply, Request, Text8, Vec8};
+use hw_lanes::{Method, Refusal, Reply, Request, Text8, Vec8};
 
 /// The random bytes of one ask for a WebSocket.
 #[derive(Clone, Copy, Debug, Drop, PartialEq, Eq)]
@@ -19,8 +19,8 @@ pub struct Upgrade {
 pub enum Event {
     /// A whole request came.
     Request { lane: u64, request: Request },
-    /// What came is no request, which was answered with this status.
-    Refused { lane: u64, status: u16 },
+    /// What came is no request, which was answered with this refusal.
+    Refused { lane: u64, refusal: Refusal },
     /// A whole message came, on a lane that is a WebSocket.
     Bytes { lane: u64, bytes: Vec8 },
     /// The response to what was asked came.

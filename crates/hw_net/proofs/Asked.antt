@@ -1,5 +1,6 @@
 -- In a session the requests heard on a lane are those of all bytes read on its wire.
 use Rattle.std.proofs.Common.{◌≡◌, ◌==◌, ◌++◌, ◌∷◌, [], ℕ, Bool, true, false, if◌then◌else◌, List, Option, None, Some, refl, sym, ap, ◌∙◌, subst, inl, inr, append-nil, append_assoc, length}
+use Rattle.hw_lanes.specs.declared.http.Refusal.{Refusal}
 use Rattle.hw_lanes.specs.declared.http.Reply.{Reply}
 use Rattle.hw_lanes.specs.declared.http.Request.{Request}
 use Rattle.hh_http.specs.Asks.{Asks, request_grammar}
@@ -17,8 +18,8 @@ use Rattle.hw_net.specs.declared.protocol.Stage.{Stage}
 use Rattle.hw_net.specs.declared.protocol.Stage.TheVariants.{Live, Lost, Closing, Over}
 use Rattle.hw_net.specs.HttpState.{HttpStateView, requests_of}
 use Rattle.hw_net.specs.Door.{new_lane}
-use Rattle.hw_net.specs.Lane.{Lane, waits, after_end, after_reply, owes, is_live, is_overdue, protocol_after_shut, protocol_after_reply, new_socket, rest_of}
-use Rattle.hw_net.specs.Saying.{Writes, WritesOut, SpeaksAs, Says, SaysAt, SaysMore, must_end, is_too_much}
+use Rattle.hw_net.specs.Lane.{Lane, waits, after_end, after_reply, owes, is_live, is_overdue, protocol_after_shut, protocol_after_reply, new_socket, rest_of, after_hearing, protocol_after_continue}
+use Rattle.hw_net.specs.Saying.{Writes, WritesOut, DropsOrWrites, SpeaksAs, Says, SaysAt, SaysMore, must_end, has_closed_long, is_too_much}
 use Rattle.hw_net.specs.Sessions as session
 use Rattle.hw_net.specs.Sessions.{Call, Session, answers_in, answers_of, request_on, requests_on, HeardRequests, RequestsAreAsked, RefusalsAreDeserved}
 use Rattle.hw_net.specs.Trace.{Reads, Gives, Chooses, bytes_of}
@@ -71,19 +72,20 @@ protocol-silent before after answers none e = (none, λ bytes requests h. subst 
 still-silent : (before after : Lane) (answers : List Answer) → answers ≡ [] → after ≡ before → Silent before after answers
 still-silent before after answers e f = protocol-silent before after answers (λ wire. none-of wire [] answers e refl) (ap (λ (l : Lane). l.protocol) f)
 
-pub says-silent : (before after : Lane) (answers : List Answer) → Says before after answers → Silent before after answers
-says-silent before after answers h = go before.stage h where
-  go : (s : Stage) → SaysAt s before after answers → Silent before after answers
+dropped-or-silent : (is_dropped : Bool) (before after : Lane) (answers : List Answer) → DropsOrWrites is_dropped before after answers → Silent before after answers
+dropped-or-silent true before after answers h = protocol-silent before after answers (λ wire. none-of wire (was_shut before.wire ∷ []) answers h.0 refl) (ap (λ (l : Lane). l.protocol) h.1)
+dropped-or-silent false before after answers h = writes-silent before after answers h
+
+pub says-silent : (now : ℕ) (before after : Lane) (answers : List Answer) → Says now before after answers → Silent before after answers
+says-silent now before after answers h = go before.stage h where
+  go : (s : Stage) → SaysAt s now before after answers → Silent before after answers
   go Live h = writes-silent before after answers h
   go Lost h = still-silent before after answers h.0 h.1
-  go Closing h = writes-silent before after answers h
+  go Closing h = dropped-or-silent (has_closed_long now before.since) before after answers h
   go Over h = still-silent before after answers h.0 h.1
 
 pub more-silent : (before after : Lane) (answers : List Answer) → SaysMore before after answers → Silent before after answers
-more-silent before after answers h = go (is_too_much (length (waits before))) h where
-  go : (b : Bool) → Chooses b ((answers ≡ was_shut before.wire ∷ []) × (after ≡ record before { stage = after_end before.stage })) (WritesOut before after answers) → Silent before after answers
-  go true h = protocol-silent before after answers (λ wire. none-of wire (was_shut before.wire ∷ []) answers h.0 refl) (ap (λ (l : Lane). l.protocol) h.1)
-  go false h = writes-silent before after answers h
+more-silent before after answers h = dropped-or-silent (is_too_much (length (waits before))) before after answers h
 
 -- ---- hearing
 
@@ -117,7 +119,7 @@ hears-asked wire (Socket before) (Socket after) answers what bytes requests h k 
       go : (what : Input) → Rattle.hw_net.specs.WebSocketState.IsInput before after answers h.got what → Asks k.0 (requests ++ requests_of what) k.1
       go input.Nothing n = same-requests [] refl
       go (input.Request request) n = absurd n
-      go (input.Refused status) n = absurd n
+      go (input.Refused refusal) n = absurd n
       go (input.Message message) n = same-requests [] refl
       go input.Broken n = same-requests [] refl
       go input.Gone n = same-requests [] refl
@@ -139,7 +141,7 @@ settles-silent now before after answers input.Nothing heard h = go (is_overdue n
   go true h = falls-silent before after answers heard h
   go false h = passes-silent before before after answers None heard refl h
 settles-silent now before after answers (input.Request request) heard h = passes-silent before before after answers _ heard refl h
-settles-silent now before after answers (input.Refused status) heard h = passes-silent before _ after answers _ heard refl h
+settles-silent now before after answers (input.Refused refusal) heard h = passes-silent before _ after answers _ heard refl h
 settles-silent now before after answers (input.Message bytes) heard h = passes-silent before before after answers _ heard refl h
 settles-silent now before after answers input.Broken heard h = falls-silent before after answers heard h
 settles-silent now before after answers input.Gone heard h =
@@ -159,7 +161,7 @@ settles-requests now before after answers input.Nothing heard h = go (is_overdue
   go true h = ap (λ o. requests_in before.wire o) h.1
   go false h = ap (λ o. requests_in before.wire o) h.1
 settles-requests now before after answers (input.Request request) heard h = ap (λ o. requests_in before.wire o) h.1 ∙ trace-request before.wire request
-settles-requests now before after answers (input.Refused status) heard h = ap (λ o. requests_in before.wire o) h.1
+settles-requests now before after answers (input.Refused refusal) heard h = ap (λ o. requests_in before.wire o) h.1
 settles-requests now before after answers (input.Message bytes) heard h = ap (λ o. requests_in before.wire o) h.1
 settles-requests now before after answers input.Broken heard h = ap (λ o. requests_in before.wire o) h.1
 settles-requests now before after answers input.Gone heard h = ap (λ o. requests_in before.wire o) h.1
@@ -198,17 +200,21 @@ pub live-reads : (wire : ℕ) (answers read shut written : List Answer) → answ
 live-reads wire answers read shut written all e f =
     ap (λ l. read_on wire l) all ∙ read-append wire read (shut ++ written) ∙ ap (λ l. read_on wire read ++ l) (read-append wire shut written ∙ ap (λ l. l ++ read_on wire written) e ∙ f) ∙ append-nil (read_on wire read)
 
+continue-heard : (protocol : Protocol) (bytes : List ℕ) (requests : List Request) → HeardIn bytes requests protocol → HeardIn bytes requests (protocol_after_continue protocol)
+continue-heard (Http http_state) bytes requests h = h
+continue-heard (Socket websocket_state) bytes requests h = h
+
 live-asked : (now : ℕ) (x y : Lane) (mine : List Answer) (own : Option Event) → TurnsLive now x y mine own → Asked x y mine (requests_in x.wire own)
 live-asked now x y mine own h bytes requests k =
-    let settled = settles-silent now (record x { protocol = h.protocol }) h.settled h.shut h.input h.trace h.settles in
-    let said = says-silent h.settled h.said h.written h.says in
+    let settled = settles-silent now (after_hearing h.protocol x) h.settled h.shut h.input h.trace h.settles in
+    let said = says-silent now h.settled h.said h.written h.says in
     let news_are : requests_in x.wire own ≡ requests_of h.input =
-    loses-requests x.wire h.trace h.said y own h.loses ∙ settles-requests now (record x { protocol = h.protocol }) h.settled h.shut h.input h.trace h.settles in
+    loses-requests x.wire h.trace h.said y own h.loses ∙ settles-requests now (after_hearing h.protocol x) h.settled h.shut h.input h.trace h.settles in
     let reads = live-reads x.wire mine h.read h.shut h.written h.all (settled.0 x.wire) (said.0 x.wire) in
     let heard = hears-asked x.wire x.protocol h.protocol h.read h.input bytes requests h.hears k in
     let all = bytes ++ read_on x.wire h.read in
     let most = requests ++ requests_of h.input in
-    let at_end : HeardIn all most y.protocol = subst (λ (t : Protocol). HeardIn all most t) (sym (loses-protocol h.trace h.said y own h.loses)) (said.1 all most (settled.1 all most heard)) in
+    let at_end : HeardIn all most y.protocol = subst (λ (t : Protocol). HeardIn all most t) (sym (loses-protocol h.trace h.said y own h.loses)) (said.1 all most (settled.1 all most (continue-heard h.protocol all most heard))) in
     subst (λ (l : List ℕ). HeardIn (bytes ++ l) (requests ++ requests_in x.wire own) y.protocol) (sym reads) (subst (λ (l : List Request). HeardIn all (requests ++ l) y.protocol) (sym news_are) at_end)
 
 listens-asked : (now : ℕ) (x y : Lane) (mine : List Answer) (own : Option Event) → Listens now x y mine own → Asked x y mine (requests_in x.wire own)
@@ -216,7 +222,7 @@ listens-asked now x y mine own h = go x.stage h where
   go : (s : Stage) → TurnsAt s now x y mine own → Asked x y mine (requests_in x.wire own)
   go Live h = live-asked now x y mine own h
   go Lost h = nothing-more x y mine (requests_in x.wire own) (passes-silent x _ y mine _ own refl h) (ap (λ o. requests_in x.wire o) h.1)
-  go Closing h = nothing-more x y mine (requests_in x.wire own) (says-silent x y mine h.1) (ap (λ o. requests_in x.wire o) h.0)
+  go Closing h = nothing-more x y mine (requests_in x.wire own) (says-silent now x y mine h.1) (ap (λ o. requests_in x.wire o) h.0)
   go Over h = nothing-more x y mine (requests_in x.wire own) (passes-silent x x y mine _ own refl h) (ap (λ o. requests_in x.wire o) h.1)
 
 pub heard-requests : (wire : ℕ) (own : Option Event) (what : Event) → IsHeard wire own what → request_on wire what ≡ requests_in wire own
@@ -225,7 +231,7 @@ heard-requests wire (Some trace) what h = ap (λ v. request_on wire v) h
 
 heeds-asked : (now : ℕ) (what : Event) (x y : Lane) (mine : List Answer) → Heeds now what x y mine → Asked x y mine (request_on x.wire what)
 heeds-asked now what x y mine (inl h) = subst (λ (l : List Request). Asked x y mine l) (sym (heard-requests x.wire h.0 what h.2)) (listens-asked now x y mine h.0 h.1)
-heeds-asked now what x y mine (inr h) = nothing-more x y mine (request_on x.wire what) (says-silent x y mine h.0) (unrequested x.wire what h.1)
+heeds-asked now what x y mine (inr h) = nothing-more x y mine (request_on x.wire what) (says-silent now x y mine h.0) (unrequested x.wire what h.1)
 
 -- ---- saying
 
@@ -266,11 +272,11 @@ sends-silent bytes text before after answers h = then-silent before h.0 after an
   go mid true h = more-silent mid after answers h
   go mid false h = still-silent mid after answers h.0 h.1
 
-pub shuts-silent : (before after : Lane) (answers : List Answer) → Shuts before after answers → Silent before after answers
-shuts-silent before after answers h = go (is_live before.stage) h where
-  go : (b : Bool) → Chooses b (WritesOut (record before { protocol = protocol_after_shut before.protocol; stage = Closing }) after answers) ((answers ≡ []) × (after ≡ before)) → Silent before after answers
-  go true h = then-silent before (record before { protocol = protocol_after_shut before.protocol; stage = Closing }) after answers (λ bytes requests k. shut-heard before.protocol bytes requests k)
-      (writes-silent (record before { protocol = protocol_after_shut before.protocol; stage = Closing }) after answers h)
+pub shuts-silent : (now : ℕ) (before after : Lane) (answers : List Answer) → Shuts now before after answers → Silent before after answers
+shuts-silent now before after answers h = go (is_live before.stage) h where
+  go : (b : Bool) → Chooses b (WritesOut (record before { since = now; protocol = protocol_after_shut before.protocol; stage = Closing }) after answers) ((answers ≡ []) × (after ≡ before)) → Silent before after answers
+  go true h = then-silent before (record before { since = now; protocol = protocol_after_shut before.protocol; stage = Closing }) after answers (λ bytes requests k. shut-heard before.protocol bytes requests k)
+      (writes-silent (record before { since = now; protocol = protocol_after_shut before.protocol; stage = Closing }) after answers h)
   go false h = still-silent before after answers h.0 h.1
 
 at-silent : (wire : ℕ) (Does : Lane → Lane → List Answer → Type 0) (x y : Lane) (mine : List Answer) → (Does x y mine → Silent x y mine) → ActsAt wire Does x y mine → Silent x y mine
@@ -292,7 +298,7 @@ moves-asked (session.replied lane reply answers) x y h =
     nothing-more x y (share x.wire answers) [] (at-silent lane (Replies h.0 reply) x y (share x.wire answers) (replies-silent h.0 reply x y (share x.wire answers)) h.1) refl
 moves-asked (session.sent lane bytes text answers) x y h =
     nothing-more x y (share x.wire answers) [] (at-silent lane (Sends bytes text) x y (share x.wire answers) (sends-silent bytes text x y (share x.wire answers)) h) refl
-moves-asked (session.shut lane answers) x y h = nothing-more x y (share x.wire answers) [] (at-silent lane Shuts x y (share x.wire answers) (shuts-silent x y (share x.wire answers)) h) refl
+moves-asked (session.shut lane answers) x y h = nothing-more x y (share x.wire answers) [] (at-silent lane (Shuts h.0) x y (share x.wire answers) (shuts-silent h.0 x y (share x.wire answers)) h.1) refl
 
 pub requests-more : (wire : ℕ) (call : Call) (calls : List Call) → requests_on wire (call ∷ calls) ≡ requests_on wire calls ++ requests_by wire call
 requests-more wire (session.heard what answers) calls = refl
@@ -331,92 +337,92 @@ requests-are-asked calls bound now h lane has =
 
 -- ---- refusals
 
-abbrev status_of : Input → Option ℕ
-status_of (input.Refused status) = Some status
-status_of _ = None
+abbrev refusal_of : Input → Option Refusal
+refusal_of (input.Refused refusal) = Some refusal
+refusal_of _ = None
 
-abbrev status_in : Option Event → Option ℕ
-status_in (Some (event.Refused at status)) = Some status
-status_in _ = None
+abbrev refusal_in : Option Event → Option Refusal
+refusal_in (Some (event.Refused at refusal)) = Some refusal
+refusal_in _ = None
 
-settles-status : (now : ℕ) (before after : Lane) (answers : List Answer) (what : Input) (heard : Option Event) → Settles now before after answers what heard → status_in heard ≡ status_of what
-settles-status now before after answers input.Nothing heard h = go (is_overdue now before) h where
-  go : (b : Bool) → Chooses b (Falls before after answers heard) (Passes before after answers None heard) → status_in heard ≡ None
-  go true h = ap (λ o. status_in o) h.1
-  go false h = ap (λ o. status_in o) h.1
-settles-status now before after answers (input.Request request) heard h = ap (λ o. status_in o) h.1
-settles-status now before after answers (input.Refused status) heard h = ap (λ o. status_in o) h.1
-settles-status now before after answers (input.Message bytes) heard h = ap (λ o. status_in o) h.1
-settles-status now before after answers input.Broken heard h = ap (λ o. status_in o) h.1
-settles-status now before after answers input.Gone heard h = ap (λ o. status_in o) h.1
+settles-refusal : (now : ℕ) (before after : Lane) (answers : List Answer) (what : Input) (heard : Option Event) → Settles now before after answers what heard → refusal_in heard ≡ refusal_of what
+settles-refusal now before after answers input.Nothing heard h = go (is_overdue now before) h where
+  go : (b : Bool) → Chooses b (Falls before after answers heard) (Passes before after answers None heard) → refusal_in heard ≡ None
+  go true h = ap (λ o. refusal_in o) h.1
+  go false h = ap (λ o. refusal_in o) h.1
+settles-refusal now before after answers (input.Request request) heard h = ap (λ o. refusal_in o) h.1
+settles-refusal now before after answers (input.Refused refusal) heard h = ap (λ o. refusal_in o) h.1
+settles-refusal now before after answers (input.Message bytes) heard h = ap (λ o. refusal_in o) h.1
+settles-refusal now before after answers input.Broken heard h = ap (λ o. refusal_in o) h.1
+settles-refusal now before after answers input.Gone heard h = ap (λ o. refusal_in o) h.1
 
-loses-status : (trace : Option Event) (before after : Lane) (heard : Option Event) → Loses trace before after heard → status_in heard ≡ status_in trace
-loses-status (Some here) before after heard h = ap (λ o. status_in o) h.0
-loses-status None before after heard h = go before.stage h where
-  go : (s : Stage) → LosesAt s before after heard → status_in heard ≡ None
-  go Live h = ap (λ o. status_in o) h.0
-  go Lost h = ap (λ o. status_in o) h.0
-  go Closing h = ap (λ o. status_in o) h.0
-  go Over h = ap (λ o. status_in o) h.0
+loses-refusal : (trace : Option Event) (before after : Lane) (heard : Option Event) → Loses trace before after heard → refusal_in heard ≡ refusal_in trace
+loses-refusal (Some here) before after heard h = ap (λ o. refusal_in o) h.0
+loses-refusal None before after heard h = go before.stage h where
+  go : (s : Stage) → LosesAt s before after heard → refusal_in heard ≡ None
+  go Live h = ap (λ o. refusal_in o) h.0
+  go Lost h = ap (λ o. refusal_in o) h.0
+  go Closing h = ap (λ o. refusal_in o) h.0
+  go Over h = ap (λ o. refusal_in o) h.0
 
--- these bytes leave what is refused with this status
-abbrev Deserves : List ℕ → List Request → ℕ → Type 0
-Deserves bytes requests status = (rest : List ℕ) × Asks bytes requests rest × Refuses request_grammar rest status
+-- these bytes leave what is refused so
+abbrev Deserves : List ℕ → List Request → Refusal → Type 0
+Deserves bytes requests refusal = (rest : List ℕ) × Asks bytes requests rest × Refuses request_grammar rest refusal
 
-hears-refused : (wire : ℕ) (before after : Protocol) (answers : List Answer) (what : Input) (status : ℕ) (bytes : List ℕ) (requests : List Request) → status_of what ≡ Some status → Hears wire before after answers what →
-    HeardIn bytes requests before → Deserves (bytes ++ read_on wire answers) requests status
-hears-refused wire (Http before) (Http after) answers (input.Refused trace) status bytes requests e h k =
-    let same_status : trace ≡ status = cc e in (
+hears-refused : (wire : ℕ) (before after : Protocol) (answers : List Answer) (what : Input) (refusal : Refusal) (bytes : List ℕ) (requests : List Request) → refusal_of what ≡ Some refusal → Hears wire before after answers what →
+    HeardIn bytes requests before → Deserves (bytes ++ read_on wire answers) requests refusal
+hears-refused wire (Http before) (Http after) answers (input.Refused trace) refusal bytes requests e h k =
+    let same_refusal : trace ≡ refusal = cc e in (
       after.lane.held,
       subst (λ (l : List ℕ). Asks (bytes ++ l) requests after.lane.held) (sym (gives-bytes wire _ answers h.got h.read))
           (subst (λ (l : List Request). Asks (bytes ++ bytes_of h.got) l after.lane.held) (append-nil requests) (h.asks bytes requests k)),
-      subst (λ n. Refuses request_grammar after.lane.held n) same_status h.is_input.3,
+      subst (λ (r : Refusal). Refuses request_grammar after.lane.held r) same_refusal h.is_input.3,
     )
-hears-refused wire (Socket before) (Socket after) answers (input.Refused trace) status bytes requests e h k = absurd h.is_input
-hears-refused wire (Http before) (Socket after) answers (input.Refused trace) status bytes requests e h k = absurd h
-hears-refused wire (Socket before) (Http after) answers (input.Refused trace) status bytes requests e h k = absurd h
-hears-refused wire before after answers _ status bytes requests e h k = absurd (cc e)
+hears-refused wire (Socket before) (Socket after) answers (input.Refused trace) refusal bytes requests e h k = absurd h.is_input
+hears-refused wire (Http before) (Socket after) answers (input.Refused trace) refusal bytes requests e h k = absurd h
+hears-refused wire (Socket before) (Http after) answers (input.Refused trace) refusal bytes requests e h k = absurd h
+hears-refused wire before after answers _ refusal bytes requests e h k = absurd (cc e)
 
-live-refused : (now : ℕ) (x y : Lane) (mine : List Answer) (own : Option Event) (status : ℕ) (bytes : List ℕ) (requests : List Request) → TurnsLive now x y mine own → status_in own ≡ Some status →
-    HeardIn bytes requests x.protocol → Deserves (bytes ++ read_on x.wire mine) requests status
-live-refused now x y mine own status bytes requests h e k =
-    let settled = settles-silent now (record x { protocol = h.protocol }) h.settled h.shut h.input h.trace h.settles in
-    let said = says-silent h.settled h.said h.written h.says in
-    let news_is : status_of h.input ≡ Some status =
-    sym (settles-status now (record x { protocol = h.protocol }) h.settled h.shut h.input h.trace h.settles) ∙ sym (loses-status h.trace h.said y own h.loses) ∙ e in
+live-refused : (now : ℕ) (x y : Lane) (mine : List Answer) (own : Option Event) (refusal : Refusal) (bytes : List ℕ) (requests : List Request) → TurnsLive now x y mine own → refusal_in own ≡ Some refusal →
+    HeardIn bytes requests x.protocol → Deserves (bytes ++ read_on x.wire mine) requests refusal
+live-refused now x y mine own refusal bytes requests h e k =
+    let settled = settles-silent now (after_hearing h.protocol x) h.settled h.shut h.input h.trace h.settles in
+    let said = says-silent now h.settled h.said h.written h.says in
+    let news_is : refusal_of h.input ≡ Some refusal =
+    sym (settles-refusal now (after_hearing h.protocol x) h.settled h.shut h.input h.trace h.settles) ∙ sym (loses-refusal h.trace h.said y own h.loses) ∙ e in
     let reads = live-reads x.wire mine h.read h.shut h.written h.all (settled.0 x.wire) (said.0 x.wire) in
-    subst (λ (l : List ℕ). Deserves (bytes ++ l) requests status) (sym reads) (hears-refused x.wire x.protocol h.protocol h.read h.input status bytes requests news_is h.hears k)
+    subst (λ (l : List ℕ). Deserves (bytes ++ l) requests refusal) (sym reads) (hears-refused x.wire x.protocol h.protocol h.read h.input refusal bytes requests news_is h.hears k)
 
-listens-refused : (now : ℕ) (x y : Lane) (mine : List Answer) (own : Option Event) (status : ℕ) (bytes : List ℕ) (requests : List Request) → Listens now x y mine own → status_in own ≡ Some status →
-    HeardIn bytes requests x.protocol → Deserves (bytes ++ read_on x.wire mine) requests status
-listens-refused now x y mine own status bytes requests h e k = go x.stage h where
-  never : ◌≡◌ {A = Option ℕ} None (Some status) → Deserves (bytes ++ read_on x.wire mine) requests status
+listens-refused : (now : ℕ) (x y : Lane) (mine : List Answer) (own : Option Event) (refusal : Refusal) (bytes : List ℕ) (requests : List Request) → Listens now x y mine own → refusal_in own ≡ Some refusal →
+    HeardIn bytes requests x.protocol → Deserves (bytes ++ read_on x.wire mine) requests refusal
+listens-refused now x y mine own refusal bytes requests h e k = go x.stage h where
+  never : ◌≡◌ {A = Option Refusal} None (Some refusal) → Deserves (bytes ++ read_on x.wire mine) requests refusal
   never f = absurd (cc f)
 
-  go : (s : Stage) → TurnsAt s now x y mine own → Deserves (bytes ++ read_on x.wire mine) requests status
-  go Live h = live-refused now x y mine own status bytes requests h e k
-  go Lost h = never (sym (ap (λ o. status_in o) h.1) ∙ e)
-  go Closing h = never (sym (ap (λ o. status_in o) h.0) ∙ e)
-  go Over h = never (sym (ap (λ o. status_in o) h.1) ∙ e)
+  go : (s : Stage) → TurnsAt s now x y mine own → Deserves (bytes ++ read_on x.wire mine) requests refusal
+  go Live h = live-refused now x y mine own refusal bytes requests h e k
+  go Lost h = never (sym (ap (λ o. refusal_in o) h.1) ∙ e)
+  go Closing h = never (sym (ap (λ o. refusal_in o) h.0) ∙ e)
+  go Over h = never (sym (ap (λ o. refusal_in o) h.1) ∙ e)
 
-is-refused : (wire status : ℕ) → is_on wire (event.Refused wire status) ≡ true
-is-refused wire status = same wire
+is-refused : (wire : ℕ) (refusal : Refusal) → is_on wire (event.Refused wire refusal) ≡ true
+is-refused wire refusal = same wire
 
-heeds-refused : (now : ℕ) (what : Event) (x y : Lane) (mine : List Answer) (status : ℕ) (bytes : List ℕ) (requests : List Request) → Heeds now what x y mine → what ≡ event.Refused x.wire status →
-    HeardIn bytes requests x.protocol → Deserves (bytes ++ read_on x.wire mine) requests status
-heeds-refused now what x y mine status bytes requests (inl h) e k = go h.0 h.1 h.2 where
-  go : (own : Option Event) → Listens now x y mine own → IsHeard x.wire own what → Deserves (bytes ++ read_on x.wire mine) requests status
-  go None l is = absurd (off-and-on (is_on x.wire what) is (ap (λ v. is_on x.wire v) e ∙ is-refused x.wire status))
-  go (Some trace) l is = listens-refused now x y mine (Some trace) status bytes requests l (ap (λ v. status_in (Some v)) (sym is ∙ e)) k
-heeds-refused now what x y mine status bytes requests (inr h) e k = absurd (off-and-on (is_on x.wire what) h.1 (ap (λ v. is_on x.wire v) e ∙ is-refused x.wire status))
+heeds-refused : (now : ℕ) (what : Event) (x y : Lane) (mine : List Answer) (refusal : Refusal) (bytes : List ℕ) (requests : List Request) → Heeds now what x y mine → what ≡ event.Refused x.wire refusal →
+    HeardIn bytes requests x.protocol → Deserves (bytes ++ read_on x.wire mine) requests refusal
+heeds-refused now what x y mine refusal bytes requests (inl h) e k = go h.0 h.1 h.2 where
+  go : (own : Option Event) → Listens now x y mine own → IsHeard x.wire own what → Deserves (bytes ++ read_on x.wire mine) requests refusal
+  go None l is = absurd (off-and-on (is_on x.wire what) is (ap (λ v. is_on x.wire v) e ∙ is-refused x.wire refusal))
+  go (Some trace) l is = listens-refused now x y mine (Some trace) refusal bytes requests l (ap (λ v. refusal_in (Some v)) (sym is ∙ e)) k
+heeds-refused now what x y mine refusal bytes requests (inr h) e k = absurd (off-and-on (is_on x.wire what) h.1 (ap (λ v. is_on x.wire v) e ∙ is-refused x.wire refusal))
 
 pub refusals-are-deserved : RefusalsAreDeserved
-refusals-are-deserved what answers calls bound now h lane status e =
-    let m = mover what answers calls bound now h lane (ap (λ v. is_on lane v) e ∙ is-refused lane status) in
+refusals-are-deserved what answers calls bound now h lane refusal e =
+    let m = mover what answers calls bound now h lane (ap (λ v. is_on lane v) e ∙ is-refused lane refusal) in
     let x = m.0 in
     let heard_before : IsAsked calls x = each-before IsAsked new-asked step-asked (session.heard what answers) calls bound now h x m.2 in
-    let here : what.event ≡ event.Refused x.wire status = e ∙ ap (λ n. event.Refused n status) (sym m.4) in
-    let at_wire : Deserves (read_on x.wire (answers_of (session.heard what answers ∷ calls))) (requests_on x.wire calls) status =
-    subst (λ (l : List ℕ). Deserves l (requests_on x.wire calls) status) (sym (read-more x.wire calls (session.heard what answers)))
-    (heeds-refused what.now what.event x m.1 (share x.wire answers) status (read_on x.wire (answers_of calls)) (requests_on x.wire calls) m.5 here heard_before) in
-    subst (λ n. Deserves (read_on n (answers_of (session.heard what answers ∷ calls))) (requests_on n calls) status) m.4 at_wire
+    let here : what.event ≡ event.Refused x.wire refusal = e ∙ ap (λ n. event.Refused n refusal) (sym m.4) in
+    let at_wire : Deserves (read_on x.wire (answers_of (session.heard what answers ∷ calls))) (requests_on x.wire calls) refusal =
+    subst (λ (l : List ℕ). Deserves l (requests_on x.wire calls) refusal) (sym (read-more x.wire calls (session.heard what answers)))
+    (heeds-refused what.now what.event x m.1 (share x.wire answers) refusal (read_on x.wire (answers_of calls)) (requests_on x.wire calls) m.5 here heard_before) in
+    subst (λ n. Deserves (read_on n (answers_of (session.heard what answers ∷ calls))) (requests_on n calls) refusal) m.4 at_wire

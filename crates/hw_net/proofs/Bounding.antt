@@ -1,20 +1,20 @@
--- After what a lane does in a call no more waits on it than may.
-use Rattle.std.proofs.Common.{◌≡◌, ◌≤◌, ◌==◌, ◌||◌, ◌++◌, ◌∷◌, [], ℕ, Bool, true, false, List, length, Option, None, Some, refl, sym, ap, ◌∙◌, subst, arith, inl, inr}
+-- After what a lane does in a call no more waits on it than may, and for no longer once it closes.
+use Rattle.std.proofs.Common.{◌≡◌, ◌≤◌, ◌<◌, ◌-◌, ◌==◌, ◌||◌, ◌++◌, ◌∷◌, [], ℕ, Bool, true, false, List, length, Option, None, Some, refl, sym, ap, ◌∙◌, subst, arith, inl, inr}
 use Rattle.hw_lanes.specs.declared.http.Reply.{Reply}
 use Rattle.hw_door.specs.declared.heard.Event.{Event}
 use Rattle.hw_door.specs.Traffic.{Answer, was_shut}
 use Rattle.hw_socket.specs.Lane as socket
 use Rattle.hw_socket.specs.Masks.{Written}
 use Rattle.hw_socket.specs.Sending as sending
-use Rattle.hw_net.specs.declared.limits.TheConstants.{MOST_UNWRITTEN}
+use Rattle.hw_net.specs.declared.limits.TheConstants.{MOST_CLOSING, MOST_UNWRITTEN}
 use Rattle.hw_net.specs.declared.protocol.Protocol.{Protocol}
 use Rattle.hw_net.specs.declared.protocol.Protocol.TheVariants.{Http, Socket}
 use Rattle.hw_net.specs.declared.protocol.Stage.{Stage}
 use Rattle.hw_net.specs.declared.protocol.Stage.TheVariants.{Live, Lost, Closing, Over}
-use Rattle.hw_net.specs.Bounds.{has_wire, IsWithin, AreWithin, NextIsWithin, RepliesAreWithin, SendsAreWithin, ShutsAreWithin}
+use Rattle.hw_net.specs.Bounds.{has_wire, IsWithin, EachIs, AreWithin, IsInTime, NextIsWithin, NextIsInTime, RepliesAreWithin, SendsAreWithin, ShutsAreWithin}
 use Rattle.hw_net.specs.Door.{HearsAll}
 use Rattle.hw_net.specs.Lane.{Lane, waits, frames_of, after_end, owes, is_live, after_reply, protocol_after_shut}
-use Rattle.hw_net.specs.Saying.{WritesOut, Says, SaysAt, SaysMore, must_end, is_too_much}
+use Rattle.hw_net.specs.Saying.{WritesOut, DropsOrWrites, Says, SaysAt, SaysMore, must_end, has_closed_long, is_too_much}
 use Rattle.hw_net.specs.Trace.{Chooses}
 use Rattle.hw_net.specs.Turn.{Turns, TurnsAt, TurnAll, Loses, LosesAt, Replies, PutsAt, Puts, Sends, Shuts, AtLane}
 
@@ -56,19 +56,20 @@ writes-within before after answers w = go (must_end before.stage (length (waits 
   go true e = shut-within after (ap has_wire (w.ends e).1 ∙ ended before.stage)
   go false e = λ has. little before.stage (length (waits after)) w.is_whole (sym (ap has_wire (w.stays e).1) ∙ has) e
 
-says-within : (before after : Lane) (answers : List Answer) → Says before after answers → IsWithin after
-says-within before after answers h = go before.stage refl h where
-  go : (s : Stage) → before.stage ≡ s → SaysAt s before after answers → IsWithin after
+dropped-or-within : (is_dropped : Bool) (before after : Lane) (answers : List Answer) → DropsOrWrites is_dropped before after answers → IsWithin after
+dropped-or-within true before after answers h = shut-within after (ap (λ (l : Lane). has_wire l.stage) h.1 ∙ ended before.stage)
+dropped-or-within false before after answers h = writes-within before after answers h
+
+says-within : (now : ℕ) (before after : Lane) (answers : List Answer) → Says now before after answers → IsWithin after
+says-within now before after answers h = go before.stage refl h where
+  go : (s : Stage) → before.stage ≡ s → SaysAt s now before after answers → IsWithin after
   go Live e h = writes-within before after answers h
   go Lost e h = shut-within after (ap (λ (l : Lane). has_wire l.stage) h.1 ∙ ap has_wire e)
-  go Closing e h = writes-within before after answers h
+  go Closing e h = dropped-or-within (has_closed_long now before.since) before after answers h
   go Over e h = shut-within after (ap (λ (l : Lane). has_wire l.stage) h.1 ∙ ap has_wire e)
 
 more-within : (before after : Lane) (answers : List Answer) → SaysMore before after answers → IsWithin after
-more-within before after answers h = go (is_too_much (length (waits before))) h where
-  go : (b : Bool) → Chooses b ((answers ≡ was_shut before.wire ∷ []) × (after ≡ record before { stage = after_end before.stage })) (WritesOut before after answers) → IsWithin after
-  go true h = shut-within after (ap (λ (l : Lane). has_wire l.stage) h.1 ∙ ended before.stage)
-  go false h = writes-within before after answers h
+more-within before after answers h = dropped-or-within (is_too_much (length (waits before))) before after answers h
 
 -- ---- hearing
 
@@ -82,30 +83,101 @@ loses-within None before after heard h k = go before.stage h where
   go Over h = same-within before after h.1 k
 
 turn-within : (now : ℕ) (trace : Option Event) (before after : Lane) (answers : List Answer) (heard : Option Event) → Turns now trace before after answers heard → IsWithin after
-turn-within now (Some event) before after answers heard h = says-within before after answers h.1
+turn-within now (Some event) before after answers heard h = says-within now before after answers h.1
 turn-within now None before after answers heard h = go before.stage refl h where
   go : (s : Stage) → before.stage ≡ s → TurnsAt s now before after answers heard → IsWithin after
-  go Live e h = loses-within h.trace h.said after heard h.loses (says-within h.settled h.said h.written h.says)
+  go Live e h = loses-within h.trace h.said after heard h.loses (says-within now h.settled h.said h.written h.says)
   go Lost e h = shut-within after (ap (λ (l : Lane). has_wire l.stage) h.2)
-  go Closing e h = says-within before after answers h.1
+  go Closing e h = says-within now before after answers h.1
   go Over e h = shut-within after (ap (λ (l : Lane). has_wire l.stage) h.2 ∙ ap has_wire e)
 
-turns-within : (now : ℕ) (trace : Option Event) (lanes after : List Lane) (answers : List Answer) (heard : Option Event) → TurnAll now trace lanes after answers heard → AreWithin after
-turns-within now trace [] after answers heard h = subst (λ (l : List Lane). AreWithin l) (sym h.0) tt
-turns-within now trace (lane ∷ lanes) after answers heard h =
-    subst (λ (l : List Lane). AreWithin l) (sym h.5) (turn-within now trace lane h.1 h.3 h.0 h.7, turns-within now h.0 lanes h.2 h.4 heard h.8)
+-- each turn leaves a lane of which this holds
+abbrev TurnsLeave : ℕ → (Lane → Type 0) → Type 0
+TurnsLeave now Is = (trace : Option Event) (before after : Lane) (answers : List Answer) (heard : Option Event) → Turns now trace before after answers heard → Is after
 
-both-within : (xs ys : List Lane) → AreWithin xs → AreWithin ys → AreWithin (xs ++ ys)
-both-within [] ys h k = k
-both-within (x ∷ xs) ys h k = (h.0, both-within xs ys h.1 k)
+turns-leave : (now : ℕ) (Is : Lane → Type 0) (trace : Option Event) (lanes after : List Lane) (answers : List Answer) (heard : Option Event) → TurnsLeave now Is → TurnAll now trace lanes after answers heard → EachIs Is after
+turns-leave now Is trace [] after answers heard each h = subst (λ (l : List Lane). EachIs Is l) (sym h.0) tt
+turns-leave now Is trace (lane ∷ lanes) after answers heard each h =
+    subst (λ (l : List Lane). EachIs Is l) (sym h.5) (each trace lane h.1 h.3 h.0 h.7, turns-leave now Is h.0 lanes h.2 h.4 heard each h.8)
 
-all-within : (now from : ℕ) (before after : List Lane) (answers : List Answer) (heard : Option Event) → HearsAll now from before after answers heard → AreWithin after
-all-within now from before after answers heard h =
-    subst (λ (l : List Lane). AreWithin l) (sym h.order)
-    (both-within h.last h.first (turns-within now h.trace _ h.last h.answers_last heard h.turns_last) (turns-within now None _ h.first h.answers_first h.trace h.turns_first))
+both-are : (Is : Lane → Type 0) (xs ys : List Lane) → EachIs Is xs → EachIs Is ys → EachIs Is (xs ++ ys)
+both-are Is [] ys h k = k
+both-are Is (x ∷ xs) ys h k = (h.0, both-are Is xs ys h.1 k)
+
+all-leave : (now : ℕ) (Is : Lane → Type 0) (from : ℕ) (before after : List Lane) (answers : List Answer) (heard : Option Event) → TurnsLeave now Is → HearsAll now from before after answers heard → EachIs Is after
+all-leave now Is from before after answers heard each h =
+    subst (λ (l : List Lane). EachIs Is l) (sym h.order)
+    (both-are Is h.last h.first (turns-leave now Is h.trace _ h.last h.answers_last heard each h.turns_last) (turns-leave now Is None _ h.first h.answers_first h.trace each h.turns_first))
 
 pub next-within : NextIsWithin
-next-within before after answers heard h = all-within heard.now h.begin _ after.lanes h.turns h.trace h.hears
+next-within before after answers heard h = all-leave heard.now IsWithin h.begin _ after.lanes h.turns h.trace (turn-within heard.now) h.hears
+
+-- ---- how long a lane closes
+
+not-closing : (s : Stage) → after_end s ≡ Closing → ⊥
+not-closing Live e = cc e
+not-closing Lost e = cc e
+not-closing Closing e = cc e
+not-closing Over e = cc e
+
+-- a lane that doesn't close
+not-late : (now : ℕ) (lane : Lane) → (lane.stage ≡ Closing → ⊥) → IsInTime now lane
+not-late now lane never_closes = λ closes. absurd (never_closes closes)
+
+same-time : (now : ℕ) (before after : Lane) → after ≡ before → IsInTime now before → IsInTime now after
+same-time now before after e k = subst (λ (l : Lane). IsInTime now l) (sym e) k
+
+in-time : (now since : ℕ) → has_closed_long now since ≡ false → now - since < MOST_CLOSING
+in-time now since e = grind (arith, e)
+
+ended-time : (now : ℕ) (before after : Lane) → after.stage ≡ after_end before.stage → IsInTime now after
+ended-time now before after e = not-late now after (λ closes. not-closing before.stage (sym e ∙ closes))
+
+writes-time : (now : ℕ) (before after : Lane) (answers : List Answer) → WritesOut before after answers → IsInTime now before → IsInTime now after
+writes-time now before after answers w k = go (must_end before.stage (length (waits after)) w.is_whole) refl where
+  go : (b : Bool) → must_end before.stage (length (waits after)) w.is_whole ≡ b → IsInTime now after
+  go true e = ended-time now before after (w.ends e).1
+  go false e = λ closes. subst (λ n. now - n < MOST_CLOSING) (sym w.still.since) (k (sym (w.stays e).1 ∙ closes))
+
+dropped-or-time : (now : ℕ) (is_dropped : Bool) (before after : Lane) (answers : List Answer) → DropsOrWrites is_dropped before after answers → (is_dropped ≡ false → IsInTime now before) → IsInTime now after
+dropped-or-time now true before after answers h k = ended-time now before after (ap (λ (l : Lane). l.stage) h.1)
+dropped-or-time now false before after answers h k = writes-time now before after answers h (k refl)
+
+-- a lane that closed for too long was dropped
+says-time : (now : ℕ) (before after : Lane) (answers : List Answer) → Says now before after answers → IsInTime now after
+says-time now before after answers h = go before.stage refl h where
+  other : (s : Stage) → before.stage ≡ s → (s ≡ Closing → ⊥) → IsInTime now before
+  other s e never_closes = not-late now before (λ closes. never_closes (sym e ∙ closes))
+
+  go : (s : Stage) → before.stage ≡ s → SaysAt s now before after answers → IsInTime now after
+  go Live e h = writes-time now before after answers h (other Live e (λ closes. cc closes))
+  go Lost e h = same-time now before after h.1 (other Lost e (λ closes. cc closes))
+  go Closing e h = dropped-or-time now (has_closed_long now before.since) before after answers h (λ f closes. in-time now before.since f)
+  go Over e h = same-time now before after h.1 (other Over e (λ closes. cc closes))
+
+over-time : (now : ℕ) (after : Lane) → after.stage ≡ Over → IsInTime now after
+over-time now after e = not-late now after (λ closes. cc (sym e ∙ closes))
+
+loses-time : (now : ℕ) (trace : Option Event) (before after : Lane) (heard : Option Event) → Loses trace before after heard → IsInTime now before → IsInTime now after
+loses-time now (Some event) before after heard h k = same-time now before after h.1 k
+loses-time now None before after heard h k = go before.stage h where
+  go : (s : Stage) → LosesAt s before after heard → IsInTime now after
+  go Live h = same-time now before after h.1 k
+  go Lost h = over-time now after (ap (λ (l : Lane). l.stage) h.1)
+  go Closing h = same-time now before after h.1 k
+  go Over h = same-time now before after h.1 k
+
+turn-time : (now : ℕ) (trace : Option Event) (before after : Lane) (answers : List Answer) (heard : Option Event) → Turns now trace before after answers heard → IsInTime now after
+turn-time now (Some event) before after answers heard h = says-time now before after answers h.1
+turn-time now None before after answers heard h = go before.stage refl h where
+  go : (s : Stage) → before.stage ≡ s → TurnsAt s now before after answers heard → IsInTime now after
+  go Live e h = loses-time now h.trace h.said after heard h.loses (says-time now h.settled h.said h.written h.says)
+  go Lost e h = over-time now after (ap (λ (l : Lane). l.stage) h.2)
+  go Closing e h = says-time now before after answers h.1
+  go Over e h = over-time now after (ap (λ (l : Lane). l.stage) h.2 ∙ e)
+
+pub next-in-time : NextIsInTime
+next-in-time before after answers heard h = all-leave heard.now (IsInTime heard.now) h.begin _ after.lanes h.turns h.trace (turn-time heard.now) h.hears
 
 -- ---- saying
 
@@ -129,14 +201,14 @@ pub replies-within : RepliesAreWithin
 replies-within lane now reply before after answers h k =
     at-within lane (Replies now reply) before.lanes after.lanes answers (reply-within now reply) h.0 k
 
-shuts-one : (before after : Lane) (answers : List Answer) → Shuts before after answers → IsWithin before → IsWithin after
-shuts-one before after answers h k = go (is_live before.stage) h where
-  go : (b : Bool) → Chooses b (WritesOut (record before { protocol = protocol_after_shut before.protocol; stage = Closing }) after answers) ((answers ≡ []) × (after ≡ before)) → IsWithin after
-  go true h = writes-within (record before { protocol = protocol_after_shut before.protocol; stage = Closing }) after answers h
+shuts-one : (now : ℕ) (before after : Lane) (answers : List Answer) → Shuts now before after answers → IsWithin before → IsWithin after
+shuts-one now before after answers h k = go (is_live before.stage) h where
+  go : (b : Bool) → Chooses b (WritesOut (record before { since = now; protocol = protocol_after_shut before.protocol; stage = Closing }) after answers) ((answers ≡ []) × (after ≡ before)) → IsWithin after
+  go true h = writes-within (record before { since = now; protocol = protocol_after_shut before.protocol; stage = Closing }) after answers h
   go false h = same-within before after h.1 k
 
 pub shuts-within : ShutsAreWithin
-shuts-within lane before after answers h k = at-within lane Shuts before.lanes after.lanes answers shuts-one h.0 k
+shuts-within lane now before after answers h k = at-within lane (Shuts now) before.lanes after.lanes answers (shuts-one now) h.0 k
 
 -- a message that isn't sent leaves what waits
 unsaid : (lane next : socket.Lane) (bytes : List ℕ) (text : Bool) → sending.Says lane next bytes text false → next.out ≡ lane.out

@@ -16,7 +16,7 @@ use Rattle.hw_net.specs.declared.protocol.Protocol.TheVariants.{Http, Socket}
 use Rattle.hw_net.specs.declared.protocol.Stage.{Stage}
 use Rattle.hw_net.specs.declared.protocol.Stage.TheVariants.{Live}
 use Rattle.hw_net.specs.FirstReads.{ReadsFirst, ReadsFirstAt, IsCalmLane, IsCalmProtocol}
-use Rattle.hw_net.specs.Lane.{Lane, waits, frames_of, is_late}
+use Rattle.hw_net.specs.Lane.{Lane, waits, frames_of, is_late, after_hearing}
 use Rattle.hw_net.specs.Lanes.{DoesHere}
 use Rattle.hw_net.specs.Saying.{Says}
 use Rattle.hw_net.specs.Tally.{has_unwritten, has_unwritten_by}
@@ -82,6 +82,13 @@ second : (b : Bool) (A B : Type 0) → b ≡ false → B → Chooses b A B
 second true A B e h = absurd (cc e)
 second false A B e h = h
 
+-- no 100 is said there
+calm-hearing : (lane : Lane) → IsCalmProtocol lane.protocol → after_hearing lane.protocol lane ≡ lane
+calm-hearing lane calm = go lane.protocol refl calm where
+  go : (protocol : Protocol) → lane.protocol ≡ protocol → IsCalmProtocol protocol → after_hearing protocol lane ≡ lane
+  go (Http http_state) e calm = absurd calm
+  go (Socket websocket_state) e calm = ap (λ (t : Protocol). record lane { protocol = t }) (sym e)
+
 -- the turn of a calm lane whose wire gave nothing
 pub calm-listens : (now : ℕ) (lane : Lane) (first : List Answer) (buf : List ℕ) → ReadsFirst lane first buf NothingRead → Listens now lane lane first None
 calm-listens now lane first buf h =
@@ -99,8 +106,8 @@ calm-listens now lane first buf h =
       written = [];
       all = sym (append-nil first);
       hears = calm-input lane first buf h;
-      settles = settles;
-      says = silent lane (nothing-unwritten lane calm);
+      settles = subst (λ (l : Lane). Settles now l lane [] input.Nothing None) (sym (calm-hearing lane calm.protocol)) settles;
+      says = silent now lane (nothing-unwritten lane calm);
       loses = loses;
     } in
     subst (λ (s : Stage). TurnsAt s now lane lane first None) (sym calm.live) turns

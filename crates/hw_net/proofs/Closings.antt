@@ -14,13 +14,13 @@ use Rattle.hw_net.specs.declared.protocol.Stage.{Stage}
 use Rattle.hw_net.specs.declared.protocol.Stage.TheVariants.{Live, Lost, Closing, Over}
 use Rattle.hw_net.specs.Bounds.{has_wire}
 use Rattle.hw_net.specs.Door.{DoorState, new_lane}
-use Rattle.hw_net.specs.Lane.{Lane, waits, is_live, is_busy, owes, is_overdue, after_end, after_reply, protocol_after_shut, protocol_after_reply, new_socket, rest_of}
-use Rattle.hw_net.specs.Saying.{WritesOut, Says, SaysAt, SaysMore, must_end, is_too_much}
+use Rattle.hw_net.specs.Lane.{Lane, waits, is_live, is_busy, owes, is_overdue, after_end, after_reply, protocol_after_shut, protocol_after_reply, new_socket, rest_of, after_hearing}
+use Rattle.hw_net.specs.Saying.{WritesOut, DropsOrWrites, Says, SaysAt, SaysMore, must_end, has_closed_long, is_too_much}
 use Rattle.hw_net.specs.Sessions as session
 use Rattle.hw_net.specs.Sessions.{Call, Session, answers_in, answers_of, is_about, are_about, was_shut_in, came_in, is_end_on, is_done_on, LanesHaveWires, WiresAreShutOnce, WiresAreShutForACause}
 use Rattle.hw_net.specs.Trace.{Chooses}
 use Rattle.hw_net.specs.Turn.{Falls, Passes, Settles, Loses, LosesAt, TurnsLive, TurnsAt, Listens, Replies, Puts, PutsAt, Sends, Shuts}
-use Rattle.hw_net.proofs.Ends.{Ends, writes-end, more-end, hears-unshut, writes-unshut, one-shut}
+use Rattle.hw_net.proofs.Ends.{Ends, writes-end, more-end, hears-unshut, writes-unshut, one-shut, dropped-or-end}
 use Rattle.hw_net.proofs.Moves.{Has, Without, has-of, contains-of}
 use Rattle.hw_net.proofs.Numbering.{replied-wire, put-wire}
 use Rattle.hw_net.proofs.Owed.{by-number}
@@ -168,19 +168,22 @@ writes-last x y mine w = go (must_end x.stage (length (waits y)) w.is_whole) ref
 writes-close : (x y : Lane) (mine : List Answer) → has_wire x.stage ≡ true → WritesOut x y mine → Closes x.wire x.stage y.stage mine false
 writes-close x y mine has w = by-ends x.wire x.stage y.stage mine (writes-end x y mine w) (writes-last x y mine w) (λ h. absurd (cc (sym h ∙ has)))
 
-says-close : (x y : Lane) (mine : List Answer) → Says x y mine → Closes x.wire x.stage y.stage mine false
-says-close x y mine h = go x.stage refl h where
-  go : (s : Stage) → x.stage ≡ s → SaysAt s x y mine → Closes x.wire x.stage y.stage mine false
+dropped-or-close : (is_dropped : Bool) (x y : Lane) (mine : List Answer) → has_wire x.stage ≡ true → DropsOrWrites is_dropped x y mine → Closes x.wire x.stage y.stage mine false
+dropped-or-close is_dropped x y mine has h = by-ends x.wire x.stage y.stage mine (dropped-or-end is_dropped x y mine h) (go is_dropped h) (λ k. absurd (cc (sym k ∙ has))) where
+  go : (b : Bool) → DropsOrWrites b x y mine → ShutLast x.wire mine
+  go true h = subst (λ (l : List Answer). ShutLast x.wire l) (sym h.0) (shut-alone x.wire)
+  go false h = writes-last x y mine h
+
+says-close : (now : ℕ) (x y : Lane) (mine : List Answer) → Says now x y mine → Closes x.wire x.stage y.stage mine false
+says-close now x y mine h = go x.stage refl h where
+  go : (s : Stage) → x.stage ≡ s → SaysAt s now x y mine → Closes x.wire x.stage y.stage mine false
   go Live e h = writes-close x y mine (ap has_wire e) h
   go Lost e h = idles x.wire x.stage y.stage mine h.0 (ap (λ (l : Lane). l.stage) h.1)
-  go Closing e h = writes-close x y mine (ap has_wire e) h
+  go Closing e h = dropped-or-close (has_closed_long now x.since) x y mine (ap has_wire e) h
   go Over e h = idles x.wire x.stage y.stage mine h.0 (ap (λ (l : Lane). l.stage) h.1)
 
 more-close : (x y : Lane) (mine : List Answer) → has_wire x.stage ≡ true → SaysMore x y mine → Closes x.wire x.stage y.stage mine false
-more-close x y mine has h = by-ends x.wire x.stage y.stage mine (more-end x y mine h) (go (is_too_much (length (waits x))) h) (λ k. absurd (cc (sym k ∙ has))) where
-  go : (b : Bool) → Chooses b ((mine ≡ was_shut x.wire ∷ []) × (y ≡ record x { stage = after_end x.stage })) (WritesOut x y mine) → ShutLast x.wire mine
-  go true h = subst (λ (l : List Answer). ShutLast x.wire l) (sym h.0) (shut-alone x.wire)
-  go false h = writes-last x y mine h
+more-close x y mine has h = dropped-or-close (is_too_much (length (waits x))) x y mine has h
 
 -- ---- turns
 
@@ -220,7 +223,7 @@ settles-settled now x after shut what trace live s = go what s where
   go : (what : Input) → Settles now x after shut what trace → Settled x.wire after.stage shut trace
   go input.Nothing s = nothing (is_overdue now x) s
   go (input.Request request) s = passes-settled x.wire x after shut _ trace has (λ d. undone d) s
-  go (input.Refused status) s = passes-settled x.wire _ after shut _ trace refl (λ d. same x.wire) s
+  go (input.Refused refusal) s = passes-settled x.wire _ after shut _ trace refl (λ d. same x.wire) s
   go (input.Message bytes) s = passes-settled x.wire x after shut _ trace has (λ d. undone d) s
   go input.Broken s = falls-settled x after shut trace s
   go input.Gone s = passes-settled x.wire _ after shut _ trace refl (λ d. same x.wire) s
@@ -247,7 +250,7 @@ loses-close wire None said y own e h = go said.stage refl h where
 live-close : (now : ℕ) (x y : Lane) (mine : List Answer) (own : Option Event) → x.stage ≡ Live → TurnsLive now x y mine own → Closes x.wire x.stage y.stage mine (ends_in x.wire own)
 live-close now x y mine own live h = go (settles-settled now mid h.settled h.shut h.input h.trace live h.settles) where
   mid : Lane
-  mid = record x { protocol = h.protocol }
+  mid = after_hearing h.protocol x
 
   w : ℕ
   w = x.wire
@@ -256,13 +259,13 @@ live-close now x y mine own live h = go (settles-settled now mid h.settled h.shu
   unread = hears-unshut x.wire x.wire x.protocol h.protocol h.read h.input h.hears
 
   kept : h.settled.wire ≡ x.wire
-  kept = (settles-keeps now (record x { protocol = h.protocol }) h.settled h.shut h.input h.trace h.settles).0.0
+  kept = (settles-keeps now (after_hearing h.protocol x) h.settled h.shut h.input h.trace h.settles).0.0
 
   said : Closes x.wire h.settled.stage h.said.stage h.written false
-  said = subst (λ n. Closes n h.settled.stage h.said.stage h.written false) kept (says-close h.settled h.said h.written h.says)
+  said = subst (λ n. Closes n h.settled.stage h.said.stage h.written false) kept (says-close now h.settled h.said h.written h.says)
 
   lost : (has_wire y.stage ≡ has_wire h.said.stage) × (is_done y.stage ≡ true → (is_done h.said.stage ≡ true) ⊎ (ends_in x.wire own ≡ true)) × (ends_in x.wire h.trace ≡ true → ends_in x.wire own ≡ true)
-  lost = loses-close x.wire h.trace h.said y own ((says-keeps h.settled h.said h.written h.says).0 ∙ kept) h.loses
+  lost = loses-close x.wire h.trace h.said y own ((says-keeps now h.settled h.said h.written h.says).0 ∙ kept) h.loses
 
   has : has_wire x.stage ≡ true
   has = ap has_wire live
@@ -330,12 +333,12 @@ listens-close now x y mine own h = go x.stage refl h where
     none = λ k. h.0;
     done = λ d. inr (ap (λ o. ends_in x.wire o) h.1 ∙ same x.wire);
   }
-  go Closing e h = more-ends x.wire x.stage y.stage mine (ends_in x.wire own) (says-close x y mine h.1)
+  go Closing e h = more-ends x.wire x.stage y.stage mine (ends_in x.wire own) (says-close now x y mine h.1)
   go Over e h = more-ends x.wire x.stage y.stage mine (ends_in x.wire own) (idles x.wire x.stage y.stage mine h.0 (ap (λ (l : Lane). l.stage) h.2))
 
 unended : (wire : ℕ) (what : Event) → is_on wire what ≡ false → is_end_on wire what ≡ false
 unended wire (event.Request at request) h = refl
-unended wire (event.Refused at status) h = h
+unended wire (event.Refused at refusal) h = h
 unended wire (event.Bytes at bytes) h = refl
 unended wire (event.Response at status body) h = refl
 unended wire (event.Upgraded at) h = refl
@@ -348,7 +351,7 @@ heard-ends wire (Some trace) what h = ap (λ v. is_end_on wire v) h
 
 heeds-close : (now : ℕ) (what : Event) (x y : Lane) (mine : List Answer) → Heeds now what x y mine → Closes x.wire x.stage y.stage mine (is_end_on x.wire what)
 heeds-close now what x y mine (inl h) = subst (λ b. Closes x.wire x.stage y.stage mine b) (sym (heard-ends x.wire h.0 what h.2)) (listens-close now x y mine h.0 h.1)
-heeds-close now what x y mine (inr h) = more-ends x.wire x.stage y.stage mine (is_end_on x.wire what) (says-close x y mine h.0)
+heeds-close now what x y mine (inr h) = more-ends x.wire x.stage y.stage mine (is_end_on x.wire what) (says-close now x y mine h.0)
 
 -- ---- saying
 
@@ -396,12 +399,12 @@ sends-close bytes text x y mine h = go h.0 h.1 h.2 h.3 where
       moved-close x mid y mine (put-wire (is_live x.stage) x.protocol bytes text x mid true p) put.0 (more-close mid y mine (ap has_wire put.0 ∙ live-has x.stage (put.1 refl)) s)
   go mid false p s = idles x.wire x.stage y.stage mine s.0 (ap (λ (l : Lane). l.stage) s.1 ∙ (put-stage (is_live x.stage) x.protocol bytes text x mid false p).0)
 
-shuts-close : (x y : Lane) (mine : List Answer) → Shuts x y mine → Closes x.wire x.stage y.stage mine true
-shuts-close x y mine h = go (is_live x.stage) refl h where
-  go : (b : Bool) → is_live x.stage ≡ b → Chooses b (WritesOut (record x { protocol = protocol_after_shut x.protocol; stage = Closing }) y mine) ((mine ≡ []) × (y ≡ x)) → Closes x.wire x.stage y.stage mine true
+shuts-close : (now : ℕ) (x y : Lane) (mine : List Answer) → Shuts now x y mine → Closes x.wire x.stage y.stage mine true
+shuts-close now x y mine h = go (is_live x.stage) refl h where
+  go : (b : Bool) → is_live x.stage ≡ b → Chooses b (WritesOut (record x { since = now; protocol = protocol_after_shut x.protocol; stage = Closing }) y mine) ((mine ≡ []) × (y ≡ x)) → Closes x.wire x.stage y.stage mine true
   go true e h =
       let has = live-has x.stage e in
-      let c = writes-close (record x { protocol = protocol_after_shut x.protocol; stage = Closing }) y mine refl h in
+      let c = writes-close (record x { since = now; protocol = protocol_after_shut x.protocol; stage = Closing }) y mine refl h in
       record {
         ends = subst (λ b. ((was_shut_in x.wire mine ≡ true) × (has_wire y.stage ≡ false)) ⊎ ((was_shut_in x.wire mine ≡ false) × (has_wire y.stage ≡ b))) (sym has) c.ends;
         last = c.last;
@@ -428,8 +431,8 @@ moves-close (session.sent at bytes text answers) x y h =
     by-number at (Sends bytes text) x y (share x.wire answers) (λ b. Closes x.wire x.stage y.stage (share x.wire answers) false)
     (sends-close bytes text x y (share x.wire answers)) (λ e f. idles x.wire x.stage y.stage (share x.wire answers) f (ap (λ (l : Lane). l.stage) e)) h
 moves-close (session.shut at answers) x y h =
-    by-number at Shuts x y (share x.wire answers) (λ b. Closes x.wire x.stage y.stage (share x.wire answers) b)
-    (shuts-close x y (share x.wire answers)) (λ e f. idles x.wire x.stage y.stage (share x.wire answers) f (ap (λ (l : Lane). l.stage) e)) h
+    by-number at (Shuts h.0) x y (share x.wire answers) (λ b. Closes x.wire x.stage y.stage (share x.wire answers) b)
+    (shuts-close h.0 x y (share x.wire answers)) (λ e f. idles x.wire x.stage y.stage (share x.wire answers) f (ap (λ (l : Lane). l.stage) e)) h.1
 
 done-more : (wire : ℕ) (call : Call) (calls : List Call) → came_in wire (answers_of (call ∷ calls)) ≡ true → is_done_on wire (call ∷ calls) ≡ (ends_by wire call || is_done_on wire calls)
 done-more wire (session.heard what answers) calls came = refl

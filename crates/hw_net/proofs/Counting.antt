@@ -14,14 +14,14 @@ use Rattle.hw_net.specs.declared.protocol.Stage.{Stage}
 use Rattle.hw_net.specs.declared.protocol.Stage.TheVariants.{Live, Lost, Closing, Over}
 use Rattle.hw_net.specs.HttpState.{HttpStateView, requests_of}
 use Rattle.hw_net.specs.Door.{new_lane}
-use Rattle.hw_net.specs.Lane.{Lane, waits, is_live, is_busy, owes, is_overdue, after_end, after_reply, protocol_after_shut, protocol_after_reply, new_socket, rest_of}
-use Rattle.hw_net.specs.Saying.{WritesOut, Says, SaysAt, SaysMore, is_too_much}
+use Rattle.hw_net.specs.Lane.{Lane, waits, is_live, is_busy, owes, is_overdue, after_end, after_reply, protocol_after_shut, protocol_after_reply, new_socket, rest_of, after_hearing}
+use Rattle.hw_net.specs.Saying.{WritesOut, DropsOrWrites, Says, SaysAt, SaysMore, has_closed_long, is_too_much}
 use Rattle.hw_net.specs.Sessions as session
 use Rattle.hw_net.specs.Sessions.{Call, Session, requests_on, replies_on, request_on, refusal_on, RequestsWaitForReplies}
 use Rattle.hw_net.specs.Trace.{Chooses}
 use Rattle.hw_net.specs.Turn.{Hears, Falls, Passes, Settles, Loses, LosesAt, TurnsLive, TurnsAt, Listens, Replies, PutsAt, Sends, Shuts}
 use Rattle.hw_net.proofs.Asked.{requests_in, settles-requests, loses-requests, heard-requests, requests_by, requests-more}
-use Rattle.hw_net.proofs.Ends.{more-end, writes-end, speaks-busy, replied-owes, Ends}
+use Rattle.hw_net.proofs.Ends.{more-end, writes-end, speaks-busy, replied-owes, Ends, dropped-or-end, continue-busy}
 use Rattle.hw_net.proofs.Owed.{IsOwed, step-owed, new-owed, by-number, replies_by, replies-more}
 use Rattle.hw_net.proofs.Owning.{is_on}
 use Rattle.hw_net.proofs.Shares.{same}
@@ -69,19 +69,20 @@ same-lives x y e live = (sym (ap (λ (l : Lane). is_live l.stage) e) ∙ live, a
 pub writes-live : (x y : Lane) (answers : List Answer) → WritesOut x y answers → Lives x y
 writes-live x y answers w = ends-lives x.wire x y answers (writes-end x y answers w) (speaks-busy x.protocol y.protocol w.still.protocol)
 
-pub says-live : (x y : Lane) (answers : List Answer) → Says x y answers → Lives x y
-says-live x y answers h = go x.stage h where
-  go : (s : Stage) → SaysAt s x y answers → Lives x y
+pub dropped-or-live : (is_dropped : Bool) (x y : Lane) (answers : List Answer) → DropsOrWrites is_dropped x y answers → Lives x y
+dropped-or-live true x y answers h = ends-lives x.wire x y answers (dropped-or-end true x y answers h) (ap (λ (l : Lane). is_busy l.protocol) h.1)
+dropped-or-live false x y answers h = writes-live x y answers h
+
+pub says-live : (now : ℕ) (x y : Lane) (answers : List Answer) → Says now x y answers → Lives x y
+says-live now x y answers h = go x.stage h where
+  go : (s : Stage) → SaysAt s now x y answers → Lives x y
   go Live h = writes-live x y answers h
   go Lost h = same-lives x y h.1
-  go Closing h = writes-live x y answers h
+  go Closing h = dropped-or-live (has_closed_long now x.since) x y answers h
   go Over h = same-lives x y h.1
 
 pub more-live : (x y : Lane) (answers : List Answer) → SaysMore x y answers → Lives x y
-more-live x y answers h = ends-lives x.wire x y answers (more-end x y answers h) (busy (is_too_much (length (waits x))) h) where
-  busy : (b : Bool) → Chooses b ((answers ≡ Rattle.hw_door.specs.Traffic.was_shut x.wire ∷ []) × (y ≡ record x { stage = after_end x.stage })) (WritesOut x y answers) → is_busy y.protocol ≡ is_busy x.protocol
-  busy true h = ap (λ (l : Lane). is_busy l.protocol) h.1
-  busy false h = speaks-busy x.protocol y.protocol h.still.protocol
+more-live x y answers h = dropped-or-live (is_too_much (length (waits x))) x y answers h
 
 lives-on : (x y z : Lane) → Lives x y → Lives y z → Lives x z
 lives-on x y z f g live = let a = g live in let b = f a.0 in (b.0, a.1 ∙ b.1)
@@ -101,17 +102,17 @@ loses-live None x y heard h = go x.stage h where
 gone : (x mid after : Lane) (requests replies : ℕ) → after ≡ mid → is_live mid.stage ≡ false → StaysEven x after requests replies
 gone x mid after requests replies e f n m k live = absurd (cc (sym f ∙ sym (ap (λ (l : Lane). is_live l.stage) e) ∙ live))
 
-settles-even : (now : ℕ) (x : Lane) (protocol : Protocol) (after : Lane) (read answers : List Answer) (what : Input) (heard : Option Event) → Hears x.wire x.protocol protocol read what → Settles now (record x { protocol = protocol }) after answers what heard →
+settles-even : (now : ℕ) (x : Lane) (protocol : Protocol) (after : Lane) (read answers : List Answer) (what : Input) (heard : Option Event) → Hears x.wire x.protocol protocol read what → Settles now (after_hearing protocol x) after answers what heard →
     StaysEven x after (length (requests_of what)) (length (refusals_of what))
 settles-even now x protocol after read answers what heard h s n m k = go x.protocol protocol what h s k where
-  kept : (old new : Protocol) → is_busy new ≡ is_busy old → (l : Lane) → l ≡ record x { protocol = new } → (is_live x.stage ≡ true → n ≡ m + busy_count old) → is_live l.stage ≡ true → n + 0 ≡ m + 0 + busy_count l.protocol
+  kept : (old new : Protocol) → is_busy new ≡ is_busy old → (l : Lane) → l ≡ after_hearing new x → (is_live x.stage ≡ true → n ≡ m + busy_count old) → is_live l.stage ≡ true → n + 0 ≡ m + 0 + busy_count l.protocol
   kept old new e l f k live =
       let was : is_live x.stage ≡ true = sym (ap (λ (l : Lane). is_live l.stage) f) ∙ live in
-      let count : busy_count l.protocol ≡ busy_count old = ap (λ (l : Lane). busy_count l.protocol) f ∙ ap (λ b. if b then 1 else 0) e in
+      let count : busy_count l.protocol ≡ busy_count old = ap (λ (l : Lane). busy_count l.protocol) f ∙ ap (λ b. if b then 1 else 0) (continue-busy new ∙ e) in
       let before : n ≡ m + busy_count old = k was in
       omega (arith, count, before)
 
-  asked : (old new : HttpStateView) → old.busy ≡ false → new.busy ≡ true → (l : Lane) → l ≡ record x { protocol = Http new } → (is_live x.stage ≡ true → n ≡ m + busy_count (Http old)) → is_live l.stage ≡ true → n + 1 ≡ m + 0 + busy_count l.protocol
+  asked : (old new : HttpStateView) → old.busy ≡ false → new.busy ≡ true → (l : Lane) → l ≡ after_hearing (Http new) x → (is_live x.stage ≡ true → n ≡ m + busy_count (Http old)) → is_live l.stage ≡ true → n + 1 ≡ m + 0 + busy_count l.protocol
   asked old new e f l g k live =
       let was : is_live x.stage ≡ true = sym (ap (λ (l : Lane). is_live l.stage) g) ∙ live in
       let now_is : busy_count l.protocol ≡ 1 = ap (λ (l : Lane). busy_count l.protocol) g ∙ ap (λ b. if b then 1 else 0) f in
@@ -120,24 +121,24 @@ settles-even now x protocol after read answers what heard h s n m k = go x.proto
       omega (arith, now_is, then_was, before)
 
   nothing : (old new : Protocol) → is_busy new ≡ is_busy old → (is_live x.stage ≡ true → n ≡ m + busy_count old) → (b : Bool) →
-      Chooses b (Falls (record x { protocol = new }) after answers heard) (Passes (record x { protocol = new }) after answers None heard) → is_live after.stage ≡ true → n + 0 ≡ m + 0 + busy_count after.protocol
+      Chooses b (Falls (after_hearing new x) after answers heard) (Passes (after_hearing new x) after answers None heard) → is_live after.stage ≡ true → n + 0 ≡ m + 0 + busy_count after.protocol
   nothing old new e k true f live = absurd (cc (sym (ap (λ (l : Lane). is_live l.stage) f.2) ∙ live))
   nothing old new e k false f live = kept old new e after f.2 k live
 
   over : (mid : Lane) (requests replies : ℕ) → after ≡ mid → is_live mid.stage ≡ false → is_live after.stage ≡ true → n + requests ≡ m + replies + busy_count after.protocol
   over mid requests replies e f live = absurd (cc (sym f ∙ sym (ap (λ (l : Lane). is_live l.stage) e) ∙ live))
 
-  go : (old new : Protocol) (what : Input) → Hears x.wire old new read what → Settles now (record x { protocol = new }) after answers what heard → (is_live x.stage ≡ true → n ≡ m + busy_count old) →
+  go : (old new : Protocol) (what : Input) → Hears x.wire old new read what → Settles now (after_hearing new x) after answers what heard → (is_live x.stage ≡ true → n ≡ m + busy_count old) →
       is_live after.stage ≡ true → n + length (requests_of what) ≡ m + length (refusals_of what) + busy_count after.protocol
-  go (Http old) (Http new) input.Nothing h s k = nothing (Http old) (Http new) h.is_input.2 k (is_overdue now (record x { protocol = Http new })) s
+  go (Http old) (Http new) input.Nothing h s k = nothing (Http old) (Http new) h.is_input.2 k (is_overdue now (after_hearing (Http new) x)) s
   go (Http old) (Http new) (input.Request request) h s k = asked old new h.is_input.1 h.is_input.2 after s.2 k
-  go (Http old) (Http new) (input.Refused status) h s k = over _ 0 1 s.2 refl
+  go (Http old) (Http new) (input.Refused refusal) h s k = over _ 0 1 s.2 refl
   go (Http old) (Http new) (input.Message bytes) h s k = absurd h.is_input
   go (Http old) (Http new) input.Broken h s k = over _ 0 0 s.2 refl
   go (Http old) (Http new) input.Gone h s k = absurd h.is_input
-  go (Socket old) (Socket new) input.Nothing h s k = nothing (Socket old) (Socket new) refl k (is_overdue now (record x { protocol = Socket new })) s
+  go (Socket old) (Socket new) input.Nothing h s k = nothing (Socket old) (Socket new) refl k (is_overdue now (after_hearing (Socket new) x)) s
   go (Socket old) (Socket new) (input.Request request) h s k = absurd h.is_input
-  go (Socket old) (Socket new) (input.Refused status) h s k = absurd h.is_input
+  go (Socket old) (Socket new) (input.Refused refusal) h s k = absurd h.is_input
   go (Socket old) (Socket new) (input.Message bytes) h s k = kept (Socket old) (Socket new) refl after s.2 k
   go (Socket old) (Socket new) input.Broken h s k = over _ 0 0 s.2 refl
   go (Socket old) (Socket new) input.Gone h s k = over _ 0 0 s.2 refl
@@ -153,11 +154,11 @@ even-on x y z requests replies f l n m k live =
 
 live-even : (now : ℕ) (x y : Lane) (mine : List Answer) (own : Option Event) → TurnsLive now x y mine own → StaysEven x y (length (requests_in x.wire own)) (length (refusals_in x.wire own))
 live-even now x y mine own h =
-    let mid = record x { protocol = h.protocol } in
+    let mid = after_hearing h.protocol x in
     let requests : requests_in x.wire own ≡ requests_of h.input = loses-requests x.wire h.trace h.said y own h.loses ∙ settles-requests now mid h.settled h.shut h.input h.trace h.settles in
     let refusals : refusals_in x.wire own ≡ refusals_of h.input = loses-refusals x.wire h.trace h.said y own h.loses ∙ settles-refusals now mid h.settled h.shut h.input h.trace h.settles in
     let at_end = even-on x h.settled y (length (requests_of h.input)) (length (refusals_of h.input)) (settles-even now x h.protocol h.settled h.read h.shut h.input h.trace h.hears h.settles)
-    (lives-on h.settled h.said y (says-live h.settled h.said h.written h.says) (loses-live h.trace h.said y own h.loses)) in
+    (lives-on h.settled h.said y (says-live now h.settled h.said h.written h.says) (loses-live h.trace h.said y own h.loses)) in
     subst (λ (l : List Request). StaysEven x y (length l) (length (refusals_in x.wire own))) (sym requests)
     (subst (λ (l : List Reply). StaysEven x y (length (requests_of h.input)) (length l)) (sym refusals) at_end)
 
@@ -170,7 +171,7 @@ listens-even now x y mine own h = go x.stage refl h where
   go : (s : Stage) → x.stage ≡ s → TurnsAt s now x y mine own → StaysEven x y (length (requests_in x.wire own)) (length (refusals_in x.wire own))
   go Live e h = live-even now x y mine own h
   go Lost e h = gone x (record x { stage = Over }) y _ _ h.2 refl
-  go Closing e h = quiet-even x y x.wire own (says-live x y mine h.1) (ap (λ o. requests_in x.wire o) h.0) (ap (λ o. refusals_in x.wire o) h.0)
+  go Closing e h = quiet-even x y x.wire own (says-live now x y mine h.1) (ap (λ o. requests_in x.wire o) h.0) (ap (λ o. refusals_in x.wire o) h.0)
   go Over e h = gone x x y _ _ h.2 (ap is_live e)
 
 heeds-even : (now : ℕ) (what : Event) (x y : Lane) (mine : List Answer) → Heeds now what x y mine → StaysEven x y (length (request_on x.wire what)) (length (refusal_on x.wire what))
@@ -178,7 +179,7 @@ heeds-even now what x y mine (inl h) =
     subst (λ (l : List Request). StaysEven x y (length l) (length (refusal_on x.wire what))) (sym (heard-requests x.wire h.0 what h.2))
     (subst (λ (l : List Reply). StaysEven x y (length (requests_in x.wire h.0)) (length l)) (sym (heard-refusals x.wire h.0 what h.2)) (listens-even now x y mine h.0 h.1))
 heeds-even now what x y mine (inr h) =
-    even-lives x y _ _ (says-live x y mine h.0) (ap (λ (l : List Request). length l) (unrequested x.wire what h.1)) (ap (λ (l : List Reply). length l) (unrefused x.wire what h.1))
+    even-lives x y _ _ (says-live now x y mine h.0) (ap (λ (l : List Request). length l) (unrequested x.wire what h.1)) (ap (λ (l : List Reply). length l) (unrefused x.wire what h.1))
 
 -- ---- saying
 
@@ -219,10 +220,10 @@ sends-live bytes text x y mine h = lives-on x h.0 y (put-lives (is_live x.stage)
   go mid true h = more-live mid y mine h
   go mid false h = same-lives mid y h.1
 
-shuts-live : (x y : Lane) (mine : List Answer) → Shuts x y mine → Lives x y
-shuts-live x y mine h = go (is_live x.stage) h where
-  go : (b : Bool) → Chooses b (WritesOut (record x { protocol = protocol_after_shut x.protocol; stage = Closing }) y mine) ((mine ≡ []) × (y ≡ x)) → Lives x y
-  go true h = λ live. absurd (cc ((writes-live (record x { protocol = protocol_after_shut x.protocol; stage = Closing }) y mine h live).0))
+shuts-live : (now : ℕ) (x y : Lane) (mine : List Answer) → Shuts now x y mine → Lives x y
+shuts-live now x y mine h = go (is_live x.stage) h where
+  go : (b : Bool) → Chooses b (WritesOut (record x { since = now; protocol = protocol_after_shut x.protocol; stage = Closing }) y mine) ((mine ≡ []) × (y ≡ x)) → Lives x y
+  go true h = λ live. absurd (cc ((writes-live (record x { since = now; protocol = protocol_after_shut x.protocol; stage = Closing }) y mine h live).0))
   go false h = same-lives x y h.1
 
 -- ---- sessions
@@ -236,8 +237,8 @@ moves-even (session.sent at bytes text answers) x y h =
     by-number at (Sends bytes text) x y _ (λ b. StaysEven x y 0 0)
     (λ s. even-lives x y 0 0 (sends-live bytes text x y _ s) refl refl) (λ e f. even-lives x y 0 0 (same-lives x y e) refl refl) h
 moves-even (session.shut at answers) x y h =
-    by-number at Shuts x y _ (λ b. StaysEven x y 0 0)
-    (λ s. even-lives x y 0 0 (shuts-live x y _ s) refl refl) (λ e f. even-lives x y 0 0 (same-lives x y e) refl refl) h
+    by-number at (Shuts h.0) x y _ (λ b. StaysEven x y 0 0)
+    (λ s. even-lives x y 0 0 (shuts-live h.0 x y _ s) refl refl) (λ e f. even-lives x y 0 0 (same-lives x y e) refl refl) h.1
 
 abbrev AreEven : List Call → Lane → Type 0
 AreEven calls lane = IsOwed calls lane × IsEven (length (requests_on lane.wire calls)) (length (replies_on lane.wire calls)) lane
@@ -283,7 +284,7 @@ listens-free now x y mine own request h e = go x.stage refl h where
   go Live f h = (
     ap is_live f,
     hears-free x.wire x.protocol h.protocol h.read h.input request h.hears
-        (sym (loses-requests x.wire h.trace h.said y own h.loses ∙ settles-requests now (record x { protocol = h.protocol }) h.settled h.shut h.input h.trace h.settles) ∙ e),
+        (sym (loses-requests x.wire h.trace h.said y own h.loses ∙ settles-requests now (after_hearing h.protocol x) h.settled h.shut h.input h.trace h.settles) ∙ e),
   )
   go Lost f h = never (ap (λ o. requests_in x.wire o) h.1)
   go Closing f h = never (ap (λ o. requests_in x.wire o) h.0)

@@ -12,8 +12,8 @@ use Rattle.hw_net.specs.declared.protocol.Protocol.TheVariants.{Http, Socket}
 use Rattle.hw_net.specs.declared.protocol.Stage.{Stage}
 use Rattle.hw_net.specs.declared.protocol.Stage.TheVariants.{Live, Lost, Closing, Over}
 use Rattle.hw_net.specs.HttpState.{HttpStateView}
-use Rattle.hw_net.specs.Lane.{Lane, waits, is_live, is_busy, owes, is_overdue, after_end, after_reply, protocol_after_shut, protocol_after_reply, new_socket, rest_of}
-use Rattle.hw_net.specs.Saying.{Writes, WritesOut, SpeaksAs, Says, SaysAt, SaysMore, must_end, is_too_much}
+use Rattle.hw_net.specs.Lane.{Lane, waits, is_live, is_busy, owes, is_overdue, after_end, after_reply, protocol_after_shut, protocol_after_reply, new_socket, rest_of, after_hearing, protocol_after_continue}
+use Rattle.hw_net.specs.Saying.{Writes, WritesOut, DropsOrWrites, SpeaksAs, Says, SaysAt, SaysMore, must_end, has_closed_long, is_too_much}
 use Rattle.hw_net.specs.Sessions.{was_shut_in, is_request_on}
 use Rattle.hw_net.specs.Trace.{Reads, Gives, Chooses}
 use Rattle.hw_net.specs.Turn.{Hears, Falls, Passes, Settles, Loses, LosesAt, TurnsLive, TurnsAt, Listens, Replies, PutsAt, Sends, Shuts}
@@ -71,19 +71,20 @@ writes-end before after answers w = go (must_end before.stage (length (waits aft
 still-end : (before after : Lane) (answers : List Answer) → answers ≡ [] → after ≡ before → Ends before.wire before.stage after.stage answers
 still-end before after answers e f = inr (ap (λ l. was_shut_in before.wire l) e, ap (λ (l : Lane). l.stage) f)
 
-pub says-end : (before after : Lane) (answers : List Answer) → Says before after answers → Ends before.wire before.stage after.stage answers
-says-end before after answers h = go before.stage h where
-  go : (s : Stage) → SaysAt s before after answers → Ends before.wire before.stage after.stage answers
+pub dropped-or-end : (is_dropped : Bool) (before after : Lane) (answers : List Answer) → DropsOrWrites is_dropped before after answers → Ends before.wire before.stage after.stage answers
+dropped-or-end true before after answers h = inl (ap (λ l. was_shut_in before.wire l) h.0 ∙ one-shut before.wire, ap (λ (l : Lane). l.stage) h.1)
+dropped-or-end false before after answers h = writes-end before after answers h
+
+pub says-end : (now : ℕ) (before after : Lane) (answers : List Answer) → Says now before after answers → Ends before.wire before.stage after.stage answers
+says-end now before after answers h = go before.stage h where
+  go : (s : Stage) → SaysAt s now before after answers → Ends before.wire before.stage after.stage answers
   go Live h = writes-end before after answers h
   go Lost h = still-end before after answers h.0 h.1
-  go Closing h = writes-end before after answers h
+  go Closing h = dropped-or-end (has_closed_long now before.since) before after answers h
   go Over h = still-end before after answers h.0 h.1
 
 pub more-end : (before after : Lane) (answers : List Answer) → SaysMore before after answers → Ends before.wire before.stage after.stage answers
-more-end before after answers h = go (is_too_much (length (waits before))) h where
-  go : (b : Bool) → Chooses b ((answers ≡ was_shut before.wire ∷ []) × (after ≡ record before { stage = after_end before.stage })) (WritesOut before after answers) → Ends before.wire before.stage after.stage answers
-  go true h = inl (ap (λ l. was_shut_in before.wire l) h.0 ∙ one-shut before.wire, ap (λ (l : Lane). l.stage) h.1)
-  go false h = writes-end before after answers h
+more-end before after answers h = dropped-or-end (is_too_much (length (waits before))) before after answers h
 
 -- ---- whether a reply is owed
 
@@ -115,19 +116,20 @@ writes-owes before after answers w = ends-owes before.wire before after answers 
 still-owes : (before after : Lane) (answers : List Answer) → answers ≡ [] → after ≡ before → KeepsOwing before after answers
 still-owes before after answers e f = ap owes f ∙ ap (λ l. not (was_shut_in before.wire l) && owes before) (sym e)
 
-pub says-owes : (before after : Lane) (answers : List Answer) → Says before after answers → KeepsOwing before after answers
-says-owes before after answers h = go before.stage h where
-  go : (s : Stage) → SaysAt s before after answers → KeepsOwing before after answers
+dropped-or-owes : (is_dropped : Bool) (before after : Lane) (answers : List Answer) → DropsOrWrites is_dropped before after answers → KeepsOwing before after answers
+dropped-or-owes true before after answers h = ends-owes before.wire before after answers (inl (ap (λ l. was_shut_in before.wire l) h.0 ∙ one-shut before.wire, ap (λ (l : Lane). l.stage) h.1)) (ap (λ (l : Lane). is_busy l.protocol) h.1)
+dropped-or-owes false before after answers h = writes-owes before after answers h
+
+pub says-owes : (now : ℕ) (before after : Lane) (answers : List Answer) → Says now before after answers → KeepsOwing before after answers
+says-owes now before after answers h = go before.stage h where
+  go : (s : Stage) → SaysAt s now before after answers → KeepsOwing before after answers
   go Live h = writes-owes before after answers h
   go Lost h = still-owes before after answers h.0 h.1
-  go Closing h = writes-owes before after answers h
+  go Closing h = dropped-or-owes (has_closed_long now before.since) before after answers h
   go Over h = still-owes before after answers h.0 h.1
 
 pub more-owes : (before after : Lane) (answers : List Answer) → SaysMore before after answers → KeepsOwing before after answers
-more-owes before after answers h = go (is_too_much (length (waits before))) h where
-  go : (b : Bool) → Chooses b ((answers ≡ was_shut before.wire ∷ []) × (after ≡ record before { stage = after_end before.stage })) (WritesOut before after answers) → KeepsOwing before after answers
-  go true h = ends-owes before.wire before after answers (inl (ap (λ l. was_shut_in before.wire l) h.0 ∙ one-shut before.wire, ap (λ (l : Lane). l.stage) h.1)) (ap (λ (l : Lane). is_busy l.protocol) h.1)
-  go false h = writes-owes before after answers h
+more-owes before after answers h = dropped-or-owes (is_too_much (length (waits before))) before after answers h
 
 -- ---- hearing
 
@@ -153,8 +155,13 @@ passes-owes : (wire : ℕ) (becomes after : Lane) (answers : List Answer) (trace
     owes after ≡ (not (was_shut_in wire answers) && owed)
 passes-owes wire becomes after answers trace heard owed h e = ap owes h.2 ∙ e ∙ ap (λ l. not (was_shut_in wire l) && owed) (sym h.0)
 
+-- a 100 changes nothing of what is owed
+pub continue-busy : (protocol : Protocol) → is_busy (protocol_after_continue protocol) ≡ is_busy protocol
+continue-busy (Http http_state) = refl
+continue-busy (Socket websocket_state) = refl
+
 settles-owes : (now : ℕ) (x : Lane) (protocol : Protocol) (after : Lane) (read answers : List Answer) (what : Input) (heard : Option Event) → x.stage ≡ Live → Hears x.wire x.protocol protocol read what →
-    Settles now (record x { protocol = protocol }) after answers what heard → owes after ≡ (not (was_shut_in x.wire answers) && (is_request what || is_busy x.protocol))
+    Settles now (after_hearing protocol x) after answers what heard → owes after ≡ (not (was_shut_in x.wire answers) && (is_request what || is_busy x.protocol))
 settles-owes now x protocol after read answers what heard live h s = go x.protocol protocol what h s where
   was-live : is_live x.stage ≡ true
   was-live = ap is_live live
@@ -162,24 +169,24 @@ settles-owes now x protocol after read answers what heard live h s = go x.protoc
   kept : (protocol : Protocol) (busy : Bool) → is_busy protocol ≡ busy → (is_live x.stage && is_busy protocol) ≡ busy
   kept protocol busy e = ap (λ b. b && is_busy protocol) was-live ∙ e
 
-  nothing : (protocol : Protocol) (busy : Bool) → is_busy protocol ≡ busy → (b : Bool) → Chooses b (Falls (record x { protocol = protocol }) after answers heard) (Passes (record x { protocol = protocol }) after answers None heard) →
+  nothing : (protocol : Protocol) (busy : Bool) → is_busy protocol ≡ busy → (b : Bool) → Chooses b (Falls (after_hearing protocol x) after answers heard) (Passes (after_hearing protocol x) after answers None heard) →
       owes after ≡ (not (was_shut_in x.wire answers) && busy)
-  nothing protocol busy e true k = falls-owes x (record x { protocol = protocol }) after answers heard busy refl k
-  nothing protocol busy e false k = passes-owes x.wire (record x { protocol = protocol }) after answers None heard busy k (kept protocol busy e)
+  nothing protocol busy e true k = falls-owes x (after_hearing protocol x) after answers heard busy refl k
+  nothing protocol busy e false k = passes-owes x.wire (after_hearing protocol x) after answers None heard busy k (kept (protocol_after_continue protocol) busy (continue-busy protocol ∙ e))
 
-  go : (old new : Protocol) (what : Input) → Hears x.wire old new read what → Settles now (record x { protocol = new }) after answers what heard →
+  go : (old new : Protocol) (what : Input) → Hears x.wire old new read what → Settles now (after_hearing new x) after answers what heard →
       owes after ≡ (not (was_shut_in x.wire answers) && (is_request what || is_busy old))
-  go (Http old) (Http new) input.Nothing h s = nothing (Http new) old.busy h.is_input.2 (is_overdue now (record x { protocol = Http new })) s
-  go (Http old) (Http new) (input.Request request) h s = passes-owes x.wire (record x { protocol = Http new }) after answers _ heard true s (kept (Http new) true h.is_input.2)
-  go (Http old) (Http new) (input.Refused status) h s = passes-owes x.wire _ after answers _ heard old.busy s (sym h.is_input.1)
+  go (Http old) (Http new) input.Nothing h s = nothing (Http new) old.busy h.is_input.2 (is_overdue now (after_hearing (Http new) x)) s
+  go (Http old) (Http new) (input.Request request) h s = passes-owes x.wire (after_hearing (Http new) x) after answers _ heard true s (kept (Http new) true h.is_input.2)
+  go (Http old) (Http new) (input.Refused refusal) h s = passes-owes x.wire _ after answers _ heard old.busy s (sym h.is_input.1)
   go (Http old) (Http new) (input.Message bytes) h s = absurd h.is_input
-  go (Http old) (Http new) input.Broken h s = falls-owes x (record x { protocol = Http new }) after answers heard old.busy refl s
+  go (Http old) (Http new) input.Broken h s = falls-owes x (after_hearing (Http new) x) after answers heard old.busy refl s
   go (Http old) (Http new) input.Gone h s = absurd h.is_input
-  go (Socket old) (Socket new) input.Nothing h s = nothing (Socket new) false refl (is_overdue now (record x { protocol = Socket new })) s
+  go (Socket old) (Socket new) input.Nothing h s = nothing (Socket new) false refl (is_overdue now (after_hearing (Socket new) x)) s
   go (Socket old) (Socket new) (input.Request request) h s = absurd h.is_input
-  go (Socket old) (Socket new) (input.Refused status) h s = absurd h.is_input
-  go (Socket old) (Socket new) (input.Message bytes) h s = passes-owes x.wire (record x { protocol = Socket new }) after answers _ heard false s (kept (Socket new) false refl)
-  go (Socket old) (Socket new) input.Broken h s = falls-owes x (record x { protocol = Socket new }) after answers heard false refl s
+  go (Socket old) (Socket new) (input.Refused refusal) h s = absurd h.is_input
+  go (Socket old) (Socket new) (input.Message bytes) h s = passes-owes x.wire (after_hearing (Socket new) x) after answers _ heard false s (kept (Socket new) false refl)
+  go (Socket old) (Socket new) input.Broken h s = falls-owes x (after_hearing (Socket new) x) after answers heard false refl s
   go (Socket old) (Socket new) input.Gone h s = passes-owes x.wire _ after answers _ heard false s refl
   go (Http old) (Socket new) what h s = absurd h
   go (Socket old) (Http new) what h s = absurd h
@@ -193,7 +200,7 @@ settles-request now before after answers input.Nothing heard h = go (is_overdue 
   go true h = ap (λ o. is_request_in before.wire o) h.1
   go false h = ap (λ o. is_request_in before.wire o) h.1
 settles-request now before after answers (input.Request request) heard h = trace-is-request before.wire heard _ true h.1 (same before.wire)
-settles-request now before after answers (input.Refused status) heard h = ap (λ o. is_request_in before.wire o) h.1
+settles-request now before after answers (input.Refused refusal) heard h = ap (λ o. is_request_in before.wire o) h.1
 settles-request now before after answers (input.Message bytes) heard h = ap (λ o. is_request_in before.wire o) h.1
 settles-request now before after answers input.Broken heard h = ap (λ o. is_request_in before.wire o) h.1
 settles-request now before after answers input.Gone heard h = ap (λ o. is_request_in before.wire o) h.1
@@ -232,12 +239,12 @@ live-owes : (now : ℕ) (x y : Lane) (mine : List Answer) (own : Option Event) �
     owes y ≡ (not (was_shut_in x.wire mine) && (is_request_in x.wire own || is_busy x.protocol))
 live-owes now x y mine own live h =
     let w = x.wire in
-    let kept = settles-keeps now (record x { protocol = h.protocol }) h.settled h.shut h.input h.trace h.settles in
+    let kept = settles-keeps now (after_hearing h.protocol x) h.settled h.shut h.input h.trace h.settles in
     let requested : is_request_in w own ≡ is_request h.input =
-    loses-request w h.trace h.said y own h.loses ∙ settles-request now (record x { protocol = h.protocol }) h.settled h.shut h.input h.trace h.settles in
+    loses-request w h.trace h.said y own h.loses ∙ settles-request now (after_hearing h.protocol x) h.settled h.shut h.input h.trace h.settles in
     let q = is_request h.input || is_busy x.protocol in
     let wrote : owes h.said ≡ (not (was_shut_in w h.written) && owes h.settled) =
-    subst (λ n. owes h.said ≡ (not (was_shut_in n h.written) && owes h.settled)) kept.0.0 (says-owes h.settled h.said h.written h.says) in
+    subst (λ n. owes h.said ≡ (not (was_shut_in n h.written) && owes h.settled)) kept.0.0 (says-owes now h.settled h.said h.written h.says) in
     loses-owes h.trace h.said y own h.loses ∙ wrote
     ∙ ap (λ b. not (was_shut_in w h.written) && b) (settles-owes now x h.protocol h.settled h.read h.shut h.input h.trace live h.hears h.settles)
     ∙ thrice (was_shut_in w h.read) (was_shut_in w h.shut) (was_shut_in w h.written) q (hears-unshut w w x.protocol h.protocol h.read h.input h.hears)
@@ -264,7 +271,7 @@ listens-owes now x y mine own h = go x.stage refl h where
   go : (s : Stage) → x.stage ≡ s → TurnsAt s now x y mine own → OwesAfter x y mine (is_request_in x.wire own)
   go Live e h = live-owes now x y mine own e h ∙ ap (λ b. not (was_shut_in x.wire mine) && (is_request_in x.wire own || b)) (sym (ap (λ s. is_live s && is_busy x.protocol) e))
   go Lost e h = unowed Lost e refl (ap (λ o. is_request_in x.wire o) h.1) (ap owes h.2)
-  go Closing e h = says-owes x y mine h.1 ∙ ap (λ o. not (was_shut_in x.wire mine) && (is_request_in x.wire o || owes x)) (sym h.0)
+  go Closing e h = says-owes now x y mine h.1 ∙ ap (λ o. not (was_shut_in x.wire mine) && (is_request_in x.wire o || owes x)) (sym h.0)
   go Over e h = unowed Over e refl (ap (λ o. is_request_in x.wire o) h.1) (ap owes h.2 ∙ idle x Over e refl)
 
 heard-request : (wire : ℕ) (own : Option Event) (what : Event) → IsHeard wire own what → is_request_on wire what ≡ is_request_in wire own
@@ -273,7 +280,7 @@ heard-request wire (Some trace) what h = ap (λ v. is_request_on wire v) h
 
 pub heeds-owes : (now : ℕ) (what : Event) (x y : Lane) (mine : List Answer) → Heeds now what x y mine → OwesAfter x y mine (is_request_on x.wire what)
 heeds-owes now what x y mine (inl h) = subst (λ b. OwesAfter x y mine b) (sym (heard-request x.wire h.0 what h.2)) (listens-owes now x y mine h.0 h.1)
-heeds-owes now what x y mine (inr h) = says-owes x y mine h.0 ∙ ap (λ b. not (was_shut_in x.wire mine) && (b || owes x)) (sym (not-request x.wire what h.1))
+heeds-owes now what x y mine (inr h) = says-owes now x y mine h.0 ∙ ap (λ b. not (was_shut_in x.wire mine) && (b || owes x)) (sym (not-request x.wire what h.1))
 
 -- ---- saying
 
@@ -317,8 +324,8 @@ sends-owe bytes text x y mine h = go h.0 h.1 (puts-owe (is_live x.stage) x.proto
   go mid true (e, inr f) h = more-owes mid y mine h ∙ ap (λ b. not (was_shut_in mid.wire mine) && b) (e ∙ f) ∙ none-owed (was_shut_in mid.wire mine) ∙ sym f
   go mid false (e, f) h = ap owes h.1 ∙ e
 
-pub shuts-owe : (x y : Lane) (mine : List Answer) → Shuts x y mine → owes y ≡ false
-shuts-owe x y mine h = go (is_live x.stage) refl h where
-  go : (b : Bool) → is_live x.stage ≡ b → Chooses b (WritesOut (record x { protocol = protocol_after_shut x.protocol; stage = Closing }) y mine) ((mine ≡ []) × (y ≡ x)) → owes y ≡ false
-  go true e h = writes-owes (record x { protocol = protocol_after_shut x.protocol; stage = Closing }) y mine h ∙ none-owed (was_shut_in x.wire mine)
+pub shuts-owe : (now : ℕ) (x y : Lane) (mine : List Answer) → Shuts now x y mine → owes y ≡ false
+shuts-owe now x y mine h = go (is_live x.stage) refl h where
+  go : (b : Bool) → is_live x.stage ≡ b → Chooses b (WritesOut (record x { since = now; protocol = protocol_after_shut x.protocol; stage = Closing }) y mine) ((mine ≡ []) × (y ≡ x)) → owes y ≡ false
+  go true e h = writes-owes (record x { since = now; protocol = protocol_after_shut x.protocol; stage = Closing }) y mine h ∙ none-owed (was_shut_in x.wire mine)
   go false e h = ap owes h.1 ∙ ap (λ b. b && is_busy x.protocol) e

@@ -1,27 +1,132 @@
 -- How a look and a read come to one turn of a lane of requests.
-use Rattle.std.proofs.Common.{◌≡◌, ◌≤◌, ℕ, List, [], ◌++◌, true, false, Option, None, Some, refl, sym, ap, subst, ◌∙◌, arith, ◌⊎◌, inl, inr, is_some, IfOk, Result, Ok, Err}
-use Rattle.std.proofs.lemmas.List.{append-nil}
+use Rattle.std.proofs.Common.{◌||◌, ◌+◌, ◌≡◌, ◌≤◌, ℕ, List, [], ◌++◌, true, false, Option, None, Some, refl, sym, ap, subst, ◌∙◌, arith, ◌⊎◌, inl, inr, is_some, IfOk, Result, Ok, Err, ◌<◌, length, Bool}
+use Rattle.std.proofs.lemmas.List.{append-nil, length-append}
 use Rattle.hw_lanes.specs.declared.http.Request.{Request}
-use Rattle.hh_http.specs.Asks.{Asks}
-use Rattle.hh_http.specs.Lane.{Lane, at_start, room}
+use Rattle.hw_lanes.specs.declared.http.Refusal.{Refusal}
+use Rattle.hh_http.specs.Messages.{WaitsForHead, WaitsForBody, Refuses, Answers, Repeats, due_after}
+use Rattle.hh_http.specs.declared.error.HttpError.TheVariants.{Refused}
+use Rattle.hh_http.specs.Asks.{Asks, request_grammar}
+use Rattle.hh_http.specs.Lane.{Lane, at_start, room, room_by, room_for}
 use Rattle.hw_door.specs.Traffic.{Answer}
 use Rattle.hw_net.specs.declared.input.Input.{Input}
 use Rattle.hw_net.specs.declared.input.Input.TheVariants as input
 use Rattle.hw_net.specs.Input.{is_nothing}
 use Rattle.hw_net.specs.Trace.{bytes_of, IsAsked, Tells}
-use Rattle.hw_net.specs.HttpState.{HttpStateView, IsHttpState, HearsHttp, ReadsInto, Finds, IsInput, requests_of, room_of}
+use Rattle.hw_net.specs.HttpState.{HttpStateView, IsHttpState, HearsHttp, ReadsInto, Finds, IsInput, requests_of, room_of, AwaitsAfter, IsWaiting}
 
 -- what a look adds to the requests that were heard
 abbrev pub Adds : HttpStateView → HttpStateView → Input → Type 0
 Adds before after heard = (bytes : List ℕ) (requests : List Request) → Asks bytes requests before.lane.held → Asks bytes (requests ++ requests_of heard) after.lane.held
 
 pub http_state-start : IsHttpState at_start false true
-http_state-start = record { refused = λ status e. cc e; unended = λ e. refl; looked = λ e. cc e }
+http_state-start = record { refused = λ refusal e. cc e; unended = λ e. refl; looked = λ e. cc e; taken = refl }
+
+continued-of : (before after : HttpStateView) (heard : Input) → Finds before after heard → after.continued ≡ before.continued
+continued-of before after input.Nothing f = f.5
+continued-of before after (input.Request request) f = f.2
+continued-of before after (input.Refused refusal) f = f.4
+continued-of before after (input.Message bytes) f = absurd f
+continued-of before after input.Broken f = absurd f
+continued-of before after input.Gone f = absurd f
+
+-- a lane that was refused stays so
+pub refused-state : (lane next : Lane) (busy has_unparsed : Bool) (refusal : Refusal) → IsHttpState lane busy has_unparsed → busy ≡ false → has_unparsed ≡ true →
+    (lane.spent ≡ None → lane.ended ≡ false → Answers request_grammar lane next (Err (Refused refusal))) → Repeats {M = Request} lane next (Err (Refused refusal)) → IsHttpState next busy has_unparsed
+refused-state lane next busy has_unparsed refusal is free unparsed answers repeats = go lane.spent refl where
+  go : (o : Option Refusal) → lane.spent ≡ o → IsHttpState next busy has_unparsed
+  go (Some spent) e = subst (λ (l : Lane). IsHttpState l busy has_unparsed) (sym (repeats spent e).1) is
+  go None e =
+      let a = answers e (is.unended free) in
+      record {
+        refused = λ other f.
+            let same : refusal ≡ other = cc (sym (ap (λ (l : Lane). l.spent) a.1) ∙ f) in
+            subst (λ (l : Lane). Refuses request_grammar l.held other) (sym a.1) (subst (λ (r : Refusal). Refuses request_grammar lane.held r) same a.0);
+        unended = λ b. ap (λ (l : Lane). l.ended) a.1 ∙ is.unended b;
+        looked = λ f. absurd (cc (sym unparsed ∙ f));
+        taken = ap (λ (l : Lane). l.due) a.1 ∙ is.taken;
+      }
+
+-- a lane that holds the beginning of a request has room
+room-left : (lane : Lane) → lane.spent ≡ None → length lane.held < room_for lane.want → 1 ≤ room lane
+room-left lane e less =
+    let left : room lane ≡ room_by None lane.want (length lane.held) = ap (λ (o : Option Refusal). room_by o lane.want (length lane.held)) e in
+    omega (arith, left, less)
+
+waiting-room : (lane : Lane) → lane.spent ≡ None → IsWaiting lane → 1 ≤ room lane
+waiting-room lane e (inl w) = let short = w.2 in room-left lane e (omega (arith, short))
+waiting-room lane e (inr w) =
+    let body = w.1 in
+    let whole : length lane.held ≡ length (request_grammar.print body.0) + length body.1 = ap length body.4.0.1 ∙ length-append (request_grammar.print body.0) body.1 in
+    let less = body.6 in
+    let want = body.7 in
+    room-left lane e (omega (arith, whole, less, want))
+
+or-none : (a b : Bool) → b ≡ false → (a || b) ≡ a
+or-none true b e = refl
+or-none false b e = e
+
+-- what a look leaves that finds no request: the 100 that is due, if one is, is taken
+abbrev pub none-after : HttpStateView → Lane → HttpStateView
+none-after before next = record before {
+  lane = record next { due = false };
+  has_unparsed = false;
+  awaits_continue = before.awaits_continue || next.due;
+}
+
+-- what a look that finds no request says of the bytes held
+abbrev NoneIn : Lane → Lane → Type 0
+NoneIn lane next =
+    (WaitsForHead request_grammar lane.held × (next.want ≡ 0) × (next.due ≡ lane.due))
+    ⊎ ((expects : Bool) × WaitsForBody request_grammar lane.held next.want expects × (next.due ≡ due_after lane.want expects lane.due))
+
+none-waits : (lane next : Lane) → NoneIn lane next → next.held ≡ lane.held → IsWaiting next
+none-waits lane next (inl w) same = inl (subst (λ (l : List ℕ). WaitsForHead request_grammar l) (sym same) w.0)
+none-waits lane next (inr w) same = inr (w.0, subst (λ (l : List ℕ). WaitsForBody request_grammar l next.want w.0) (sym same) w.1)
+
+pub none-state : (lane next : Lane) (busy has_unparsed : Bool) → IsHttpState lane busy has_unparsed → busy ≡ false →
+    (lane.spent ≡ None → lane.ended ≡ false → Answers request_grammar lane next (Ok None)) → Repeats {M = Request} lane next (Ok None) → IsHttpState (record next { due = false }) busy false
+none-state lane next busy has_unparsed is free answers repeats = go lane.spent refl where
+  go : (o : Option Refusal) → lane.spent ≡ o → IsHttpState (record next { due = false }) busy false
+  go (Some spent) e = absurd (cc (repeats spent e).0)
+  go None e =
+      let a = answers e (is.unended free) in
+      let unspent : next.spent ≡ None = ap (λ (l : Lane). l.spent) a.0 ∙ e in
+      let held : next.held ≡ lane.held = ap (λ (l : Lane). l.held) a.0 in
+      record {
+        refused = λ refusal f. absurd (cc (sym unspent ∙ f));
+        unended = λ b. ap (λ (l : Lane). l.ended) a.0 ∙ is.unended b;
+        looked = λ _. (unspent, none-waits lane next a.1 held);
+        taken = refl;
+      }
+
+pub either-is : (value a b : Bool) → ((a ≡ true) × (value ≡ true)) ⊎ ((a ≡ false) × (value ≡ b)) → value ≡ (a || b)
+either-is value a b (inl h) = h.1 ∙ sym (ap (λ c. c || b) h.0)
+either-is value a b (inr h) = h.1 ∙ sym (ap (λ c. c || b) h.0)
+
+-- a look that finds no request
+pub none-found : (before : HttpStateView) (next : Lane) → IsHttpState before.lane before.busy before.has_unparsed → before.busy ≡ false →
+    (before.lane.spent ≡ None → before.lane.ended ≡ false → Answers request_grammar before.lane next (Ok None)) → Repeats {M = Request} before.lane next (Ok None) →
+    Finds before (none-after before next) input.Nothing
+none-found before next is free answers repeats = go lane.spent refl where
+  lane : Lane
+  lane = before.lane
+
+  go : (o : Option Refusal) → lane.spent ≡ o → Finds before (none-after before next) input.Nothing
+  go (Some spent) e = absurd (cc (repeats spent e).0)
+  go None e =
+      let a = answers e (is.unended free) in
+      let held : next.held ≡ lane.held = ap (λ (l : Lane). l.held) a.0 in
+      let unspent : next.spent ≡ None = ap (λ (l : Lane). l.spent) a.0 ∙ e in
+      let waiting = none-waits lane next a.1 held in
+      (held, refl, λ b. waiting, inr (waiting-room next unspent waiting, awaits a.1), λ b. absurd (cc (sym free ∙ b)), refl) where
+        awaits : (WaitsForHead request_grammar lane.held × (next.want ≡ 0) × (next.due ≡ lane.due)) ⊎ ((expects : Bool) × WaitsForBody request_grammar lane.held next.want expects × (next.due ≡ due_after lane.want expects lane.due)) → AwaitsAfter before (none-after before next)
+        awaits (inl w) = inl (w.0, or-none before.awaits_continue next.due (w.2 ∙ is.taken))
+        awaits (inr w) = inr (w.0, w.1, ap (λ b. before.awaits_continue || b) (w.2 ∙ ap (λ b. due_after lane.want w.0 b) is.taken))
 
 input-found : (before after : HttpStateView) (heard : Input) → Finds before after heard → is_nothing heard ≡ false → IsInput before after [] (Some []) heard
 input-found before after input.Nothing f e = cc e
 input-found before after (input.Request request) f e = (refl, f.0, f.1)
-input-found before after (input.Refused status) f e = (refl, f.1, f.2, rw f.0 f.3)
+input-found before after (input.Refused refusal) f e = (refl, f.1, f.2, rw f.0 f.3)
 input-found before after (input.Message bytes) f e = absurd f
 input-found before after input.Broken f e = absurd f
 input-found before after input.Gone f e = absurd f
@@ -37,18 +142,19 @@ hears-found wire before after heard f adds e =
       read = refl;
       asks = λ bytes requests a. rw (append-nil bytes) (adds bytes requests a);
       is_input = input-found before after heard f e;
+      continued = continued-of before after heard f;
     }
 
 -- a lane that holds less than it may has room, whatever room it had before
-asked-later : (before mid : HttpStateView) (answers : List Answer) → (mid ≡ before) ⊎ (1 ≤ room mid.lane) → IsAsked (room mid.lane) answers → IsAsked (room before.lane) answers
+asked-later : (before mid : HttpStateView) (answers : List Answer) → (mid ≡ before) ⊎ ((1 ≤ room mid.lane) × AwaitsAfter before mid) → IsAsked (room mid.lane) answers → IsAsked (room before.lane) answers
 asked-later before mid answers (inl e) h = subst (λ (a : HttpStateView). IsAsked (room a.lane) answers) e h
-asked-later before mid answers (inr some) h = λ had. h some
+asked-later before mid answers (inr some) h = λ had. h some.0
 
 input-later : (before mid after : HttpStateView) (answers : List Answer) (got : Option (List ℕ)) (heard : Input) → Finds before mid input.Nothing → IsInput mid after answers got heard →
     IsInput before after answers got heard
 input-later before mid after answers got input.Nothing f n = (n.0, asked-later before mid answers f.3 n.1, n.2 ∙ f.1, n.3)
 input-later before mid after answers got (input.Request request) f n = (n.0, sym f.1 ∙ n.1, n.2)
-input-later before mid after answers got (input.Refused status) f n = (n.0, sym f.1 ∙ n.1, n.2, n.3)
+input-later before mid after answers got (input.Refused refusal) f n = (n.0, sym f.1 ∙ n.1, n.2, n.3)
 input-later before mid after answers got (input.Message bytes) f n = absurd n
 input-later before mid after answers got input.Broken f n = (n.0, n.1 ∙ f.1)
 input-later before mid after answers got input.Gone f n = absurd n
@@ -72,6 +178,7 @@ hears-later wire before mid after answers heard f adds h =
       read = h.read;
       asks = λ bytes requests a. h.asks bytes requests (rw (append-nil requests) at (adds bytes requests a));
       is_input = input-later before mid after answers h.got heard f h.is_input;
+      continued = h.continued ∙ f.5;
     }
 
 -- the wire broke
@@ -85,13 +192,14 @@ hears-broken wire before after answers r =
       read = r.read;
       asks = λ bytes requests a. rw (append-nil requests) (r.asks bytes requests a);
       is_input = (none-of r.got r.whole, r.busy);
+      continued = r.continued;
     }
 
 input-looked : (wire : ℕ) (before mid after : HttpStateView) (answers : List Answer) (heard : Input) → (r : ReadsInto wire before mid answers true) → Finds mid after heard →
     IsInput before after answers r.got heard
 input-looked wire before mid after answers input.Nothing r f = (sym r.whole, λ had. r.asked (room-of before.lane had), f.1 ∙ r.busy, f.2)
 input-looked wire before mid after answers (input.Request request) r f = (sym r.whole, sym r.busy ∙ f.0, f.1)
-input-looked wire before mid after answers (input.Refused status) r f = (sym r.whole, sym r.busy ∙ f.1, f.2, rw f.0 f.3)
+input-looked wire before mid after answers (input.Refused refusal) r f = (sym r.whole, sym r.busy ∙ f.1, f.2, rw f.0 f.3)
 input-looked wire before mid after answers (input.Message bytes) r f = absurd f
 input-looked wire before mid after answers input.Broken r f = absurd f
 input-looked wire before mid after answers input.Gone r f = absurd f
@@ -108,12 +216,13 @@ hears-looked wire before mid after answers heard r f adds =
       read = r.read;
       asks = λ bytes requests a. adds (bytes ++ bytes_of r.got) requests (r.asks bytes requests a);
       is_input = input-looked wire before mid after answers heard r f;
+      continued = continued-of mid after heard f ∙ r.continued;
     }
 
 pub nothing-of : (heard : Input) → is_nothing heard ≡ true → heard ≡ input.Nothing
 nothing-of input.Nothing e = refl
 nothing-of (input.Request request) e = cc e
-nothing-of (input.Refused status) e = cc e
+nothing-of (input.Refused refusal) e = cc e
 nothing-of (input.Message bytes) e = cc e
 nothing-of input.Broken e = cc e
 nothing-of input.Gone e = cc e
@@ -124,3 +233,10 @@ pub later-all : {E : Type 0} (a b : Option (List Answer)) (wire : ℕ) (before m
     IfOk r (λ heard. (answers : List Answer) × Tells a b answers × HearsHttp wire before after answers heard)
 later-all a b wire before mid after (Ok heard) f adds h = (h.0, h.1, hears-later wire before mid after h.0 heard f adds h.2)
 later-all a b wire before mid after (Err e) f adds h = h
+
+-- the wire was read, and then what is held is looked at, which may be out of memory
+pub looked-all : {E : Type 0} (a b : Option (List Answer)) (wire : ℕ) (before mid after : HttpStateView) (r : Result Input E) →
+    ((answers : List Answer) × Tells a b answers × ReadsInto wire before mid answers true) → IfOk r (λ heard. Finds mid after heard) → IfOk r (λ heard. Adds mid after heard) →
+    IfOk r (λ heard. (answers : List Answer) × Tells a b answers × HearsHttp wire before after answers heard)
+looked-all a b wire before mid after (Ok heard) h f adds = (h.0, h.1, hears-looked wire before mid after h.0 heard h.2 f adds)
+looked-all a b wire before mid after (Err e) h f adds = f

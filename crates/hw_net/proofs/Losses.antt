@@ -14,8 +14,8 @@ use Rattle.hw_net.specs.declared.protocol.Stage.{Stage}
 use Rattle.hw_net.specs.declared.protocol.Stage.TheVariants.{Live, Lost, Closing, Over}
 use Rattle.hw_net.specs.Bounds.{has_wire}
 use Rattle.hw_net.specs.Door.{new_lane}
-use Rattle.hw_net.specs.Lane.{Lane, waits, is_live, owes, is_overdue, after_end, after_reply, protocol_after_shut}
-use Rattle.hw_net.specs.Saying.{Writes, WritesOut, Says, SaysAt, SaysMore, must_end, is_too_much}
+use Rattle.hw_net.specs.Lane.{Lane, waits, is_live, owes, is_overdue, after_end, after_reply, protocol_after_shut, after_hearing}
+use Rattle.hw_net.specs.Saying.{Writes, WritesOut, DropsOrWrites, Says, SaysAt, SaysMore, must_end, has_closed_long, is_too_much}
 use Rattle.hw_net.specs.Sessions as session
 use Rattle.hw_net.specs.Sessions.{Call, Session, Does, answers_in, answers_of, broke_in, IsGone, IsSpoiled, IsLostRightly, LossesHaveCauses}
 use Rattle.hw_net.specs.Trace.{Reads, Gives, Chooses}
@@ -83,12 +83,17 @@ writes-break x y mine has w lost = go (must_end x.stage (length (waits y)) w.is_
   go true e = by x.stage (w.ends e).1 e (ap (λ l. broke_in x.wire l) (w.ends e).0)
   go false e = unlost y.stage x.stage (w.stays e).1 (has-unlost x.stage has) lost
 
-says-break : (x y : Lane) (mine : List Answer) → Says x y mine → Breaks x y mine
-says-break x y mine h = go x.stage refl h where
-  go : (s : Stage) → x.stage ≡ s → SaysAt s x y mine → Breaks x y mine
+-- a lane that closes is over after its wire was shut
+closing-break : (is_dropped : Bool) (x y : Lane) (mine : List Answer) → x.stage ≡ Closing → DropsOrWrites is_dropped x y mine → y.stage ≡ Lost → Cause x.wire mine y
+closing-break true x y mine e h lost = unlost y.stage Over (ap (λ (l : Lane). l.stage) h.1 ∙ ap after_end e) refl lost
+closing-break false x y mine e h lost = writes-break x y mine (ap has_wire e) h lost
+
+says-break : (now : ℕ) (x y : Lane) (mine : List Answer) → Says now x y mine → Breaks x y mine
+says-break now x y mine h = go x.stage refl h where
+  go : (s : Stage) → x.stage ≡ s → SaysAt s now x y mine → Breaks x y mine
   go Live e h = λ lost. inl (writes-break x y mine (ap has_wire e) h lost)
   go Lost e h = λ lost. inr h.1
-  go Closing e h = λ lost. inl (writes-break x y mine (ap has_wire e) h lost)
+  go Closing e h = λ lost. inl (closing-break (has_closed_long now x.since) x y mine e h lost)
   go Over e h = λ lost. inr h.1
 
 more-break : (x y : Lane) (mine : List Answer) → has_wire x.stage ≡ true → SaysMore x y mine → y.stage ≡ Lost → Cause x.wire mine y
@@ -112,7 +117,7 @@ settled-unlost now x after shut what trace live s = go what s where
   go : (what : Input) → Settles now x after shut what trace → is_lost after.stage ≡ false
   go input.Nothing s = nothing (is_overdue now x) s
   go (input.Request request) s = same-stage x s.2 (ap is_lost live)
-  go (input.Refused status) s = same-stage _ s.2 refl
+  go (input.Refused refusal) s = same-stage _ s.2 refl
   go (input.Message bytes) s = same-stage x s.2 (ap is_lost live)
   go input.Broken s = same-stage _ s.2 refl
   go input.Gone s = same-stage _ s.2 refl
@@ -129,15 +134,15 @@ broke-read a b c d e f = sym e ∙ ap (λ k. k || (b || c)) f
 
 -- a lane that writes at the end of its turn and is lost then
 said-cause : (now : ℕ) (x y : Lane) (mine : List Answer) (own : Option Event) → x.stage ≡ Live → (h : TurnsLive now x y mine own) → h.said.stage ≡ Lost → Cause x.wire mine h.said
-said-cause now x y mine own live h lost = go (says-break h.settled h.said h.written h.says lost) where
+said-cause now x y mine own live h lost = go (says-break now h.settled h.said h.written h.says lost) where
   kept : h.settled.wire ≡ x.wire
-  kept = (settles-keeps now (record x { protocol = h.protocol }) h.settled h.shut h.input h.trace h.settles).0.0
+  kept = (settles-keeps now (after_hearing h.protocol x) h.settled h.shut h.input h.trace h.settles).0.0
 
   go : Cause h.settled.wire h.written h.said ⊎ (h.said ≡ h.settled) → Cause x.wire mine h.said
   go (inl (inl e)) = inl (broke-written (broke_in x.wire h.read) (broke_in x.wire h.shut) (broke_in x.wire h.written) (broke_in x.wire mine)
       (live-broke x.wire mine h.read h.shut h.written h.all) (subst (λ n. broke_in n h.written ≡ true) kept e))
   go (inl (inr e)) = inr e
-  go (inr e) = unlost h.said.stage h.settled.stage (ap (λ (l : Lane). l.stage) e) (settled-unlost now (record x { protocol = h.protocol }) h.settled h.shut h.input h.trace live h.settles) lost
+  go (inr e) = unlost h.said.stage h.settled.stage (ap (λ (l : Lane). l.stage) e) (settled-unlost now (after_hearing h.protocol x) h.settled h.shut h.input h.trace live h.settles) lost
 
 live-breaks : (now : ℕ) (x y : Lane) (mine : List Answer) (own : Option Event) → x.stage ≡ Live → TurnsLive now x y mine own → y.stage ≡ Lost → Cause x.wire mine y
 live-breaks now x y mine own live h lost = go h.trace h.loses where
@@ -159,12 +164,12 @@ listens-break now x y mine own h = go x.stage refl h where
   go : (s : Stage) → x.stage ≡ s → TurnsAt s now x y mine own → Breaks x y mine
   go Live e h = λ lost. inl (live-breaks now x y mine own e h lost)
   go Lost e h = λ lost. unlost y.stage Over (ap (λ (l : Lane). l.stage) h.2) refl lost
-  go Closing e h = says-break x y mine h.1
+  go Closing e h = says-break now x y mine h.1
   go Over e h = λ lost. inr h.2
 
 heeds-break : (now : ℕ) (what : Event) (x y : Lane) (mine : List Answer) → Heeds now what x y mine → Breaks x y mine
 heeds-break now what x y mine (inl h) = listens-break now x y mine h.0 h.1
-heeds-break now what x y mine (inr h) = says-break x y mine h.0
+heeds-break now what x y mine (inr h) = says-break now x y mine h.0
 
 -- ---- saying
 
@@ -189,10 +194,10 @@ sends-break bytes text x y mine h = go h.0 h.1 h.2 h.3 where
       inl (subst (λ n. Cause n mine y) (put-wire (is_live x.stage) x.protocol bytes text x mid true p) (more-break mid y mine (ap has_wire put.0 ∙ live-has x.stage (put.1 refl)) s lost))
   go mid false p s = unput (is_live x.stage) x.protocol mid refl p s.1
 
-shuts-break : (x y : Lane) (mine : List Answer) → Shuts x y mine → Breaks x y mine
-shuts-break x y mine h = go (is_live x.stage) h where
-  go : (b : Bool) → Chooses b (WritesOut (record x { protocol = protocol_after_shut x.protocol; stage = Closing }) y mine) ((mine ≡ []) × (y ≡ x)) → Breaks x y mine
-  go true h = λ lost. inl (writes-break (record x { protocol = protocol_after_shut x.protocol; stage = Closing }) y mine refl h lost)
+shuts-break : (now : ℕ) (x y : Lane) (mine : List Answer) → Shuts now x y mine → Breaks x y mine
+shuts-break now x y mine h = go (is_live x.stage) h where
+  go : (b : Bool) → Chooses b (WritesOut (record x { since = now; protocol = protocol_after_shut x.protocol; stage = Closing }) y mine) ((mine ≡ []) × (y ≡ x)) → Breaks x y mine
+  go true h = λ lost. inl (writes-break (record x { since = now; protocol = protocol_after_shut x.protocol; stage = Closing }) y mine refl h lost)
   go false h = λ lost. inr h.1
 
 -- ---- sessions
@@ -204,7 +209,7 @@ moves-break (session.replied at reply answers) x y h =
 moves-break (session.sent at bytes text answers) x y h =
     by-number at (Sends bytes text) x y (share x.wire answers) (λ b. Breaks x y (share x.wire answers)) (sends-break bytes text x y (share x.wire answers)) (λ e f lost. inr e) h
 moves-break (session.shut at answers) x y h =
-    by-number at Shuts x y (share x.wire answers) (λ b. Breaks x y (share x.wire answers)) (shuts-break x y (share x.wire answers)) (λ e f lost. inr e) h
+    by-number at (Shuts h.0) x y (share x.wire answers) (λ b. Breaks x y (share x.wire answers)) (shuts-break h.0 x y (share x.wire answers)) (λ e f lost. inr e) h.1
 
 broke-more : (wire : ℕ) (calls : List Call) (call : Call) → broke_in wire (answers_of (call ∷ calls)) ≡ (broke_in wire (answers_of calls) || broke_in wire (share wire (answers_in call)))
 broke-more wire calls call = broke-append wire (answers_of calls) (answers_in call) ∙ ap (λ b. broke_in wire (answers_of calls) || b) (broke-share wire (answers_in call))
@@ -256,9 +261,9 @@ is_loss (Some (event.Lost at)) = true
 is_loss _ = false
 
 -- the wire is shut, so the lane says nothing more
-over-said : (after said y : Lane) (written : List Answer) → after.stage ≡ Over → Says after said written → y ≡ said → y ≡ after
-over-said after said y written o s last = go after.stage o s where
-  go : (t : Stage) → t ≡ Over → SaysAt t after said written → y ≡ after
+over-said : (now : ℕ) (after said y : Lane) (written : List Answer) → after.stage ≡ Over → Says now after said written → y ≡ said → y ≡ after
+over-said now after said y written o s last = go after.stage o s where
+  go : (t : Stage) → t ≡ Over → SaysAt t now after said written → y ≡ after
   go Live f k = absurd (cc f)
   go Lost f k = last ∙ k.1
   go Closing f k = absurd (cc f)
@@ -271,20 +276,20 @@ ShowsOf wire old mine y now =
 
 -- the loss is that of the input
 input-shows : (now wire : ℕ) (x : Lane) (protocol : Protocol) (after y : Lane) (mine read shut : List Answer) (what : Input) (trace : Option Event) → is_loss trace ≡ true → Hears wire x.protocol protocol read what →
-    Settles now (record x { protocol = protocol }) after shut what trace → (broke_in wire read ≡ true → broke_in wire mine ≡ true) → read_on wire mine ≡ read_on wire read → (after.stage ≡ Over → y ≡ after) →
+    Settles now (after_hearing protocol x) after shut what trace → (broke_in wire read ≡ true → broke_in wire mine ≡ true) → read_on wire mine ≡ read_on wire read → (after.stage ≡ Over → y ≡ after) →
     ShowsOf wire x.protocol mine y now
 input-shows now wire x protocol after y mine read shut what trace loss h s broke same_read last = go x.protocol protocol what h s where
   never : {A : Type 0} (o : Option Event) → trace ≡ o → is_loss o ≡ false → A
   never o e f = absurd (cc (sym f ∙ sym (ap is_loss e) ∙ loss))
 
-  nothing : (old new : Protocol) (b : Bool) → is_overdue now (record x { protocol = new }) ≡ b → Chooses b (Falls (record x { protocol = new }) after shut trace) (Passes (record x { protocol = new }) after shut None trace) → ShowsOf wire old mine y now
+  nothing : (old new : Protocol) (b : Bool) → is_overdue now (after_hearing new x) ≡ b → Chooses b (Falls (after_hearing new x) after shut trace) (Passes (after_hearing new x) after shut None trace) → ShowsOf wire old mine y now
   nothing old new true e f = inr (inl (ap (λ (l : Lane). is_overdue now l) (last (ap (λ (l : Lane). l.stage) f.2) ∙ f.2) ∙ e))
   nothing old new false e f = never None f.1 refl
 
-  go : (old new : Protocol) (what : Input) → Hears wire old new read what → Settles now (record x { protocol = new }) after shut what trace → ShowsOf wire old mine y now
-  go old new input.Nothing h s = nothing old new (is_overdue now (record x { protocol = new })) refl s
+  go : (old new : Protocol) (what : Input) → Hears wire old new read what → Settles now (after_hearing new x) after shut what trace → ShowsOf wire old mine y now
+  go old new input.Nothing h s = nothing old new (is_overdue now (after_hearing new x)) refl s
   go old new (input.Request request) h s = never _ s.1 refl
-  go old new (input.Refused status) h s = never _ s.1 refl
+  go old new (input.Refused refusal) h s = never _ s.1 refl
   go old new (input.Message bytes) h s = never _ s.1 refl
   go (Http old) (Http new) input.Broken h s = inl (broke (gives-broke wire _ read h.got h.is_input.0 h.read))
   go (Socket old) (Socket new) input.Broken h s = by h.is_input.0 where
@@ -307,11 +312,11 @@ input-shows now wire x protocol after y mine read shut what trace loss h s broke
 
 live-shows : (now : ℕ) (x y : Lane) (mine : List Answer) (own : Option Event) → x.stage ≡ Live → is_loss own ≡ true → TurnsLive now x y mine own → ShowsOf x.wire x.protocol mine y now
 live-shows now x y mine own live loss h = go h.trace refl h.loses where
-  settled : Silent (record x { protocol = h.protocol }) h.settled h.shut
-  settled = settles-silent now (record x { protocol = h.protocol }) h.settled h.shut h.input h.trace h.settles
+  settled : Silent (after_hearing h.protocol x) h.settled h.shut
+  settled = settles-silent now (after_hearing h.protocol x) h.settled h.shut h.input h.trace h.settles
 
   said : Silent h.settled h.said h.written
-  said = says-silent h.settled h.said h.written h.says
+  said = says-silent now h.settled h.said h.written h.says
 
   never : {A : Type 0} → own ≡ None → A
   never e = absurd (cc (sym (ap is_loss e) ∙ loss))
@@ -331,7 +336,7 @@ live-shows now x y mine own live loss h = go h.trace refl h.loses where
       input-shows now x.wire x h.protocol h.settled y mine h.read h.shut h.input h.trace (ap is_loss (e ∙ sym k.0) ∙ loss) h.hears h.settles
       (broke-read (broke_in x.wire h.read) (broke_in x.wire h.shut) (broke_in x.wire h.written) (broke_in x.wire mine) (live-broke x.wire mine h.read h.shut h.written h.all))
       (live-reads x.wire mine h.read h.shut h.written h.all (settled.0 x.wire) (said.0 x.wire))
-      (λ o. over-said h.settled h.said y h.written o h.says k.1)
+      (λ o. over-said now h.settled h.said y h.written o h.says k.1)
   go None e k = at h.said.stage refl k
 
 -- the loss of a lane that heard it: shown in this call, or the cause of a lane whose wire was shut before

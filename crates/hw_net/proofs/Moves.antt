@@ -164,12 +164,12 @@ Fits wire (Some trace) heard = heard ≡ Some trace
 -- a turn in a call in which this is heard: the lane listened, or it only wrote
 abbrev pub Turned : ℕ → Option Event → Lane → Lane → List Answer → Type 0
 Turned now heard x y mine =
-    ((own : Option Event) × Listens now x y mine own × Fits x.wire own heard) ⊎ (Says x y mine × IsOff x.wire heard)
+    ((own : Option Event) × Listens now x y mine own × Fits x.wire own heard) ⊎ (Says now x y mine × IsOff x.wire heard)
 
 -- on another lane it isn't
 off-other : (v w : ℕ) (heard : Event) → is_on v heard ≡ true → (v == w) ≡ false → is_on w heard ≡ false
 off-other v w (event.Request at request) h k = other at v w h k
-off-other v w (event.Refused at status) h k = other at v w h k
+off-other v w (event.Refused at refusal) h k = other at v w h k
 off-other v w (event.Bytes at bytes) h k = other at v w h k
 off-other v w (event.Response at status body) h k = other at v w h k
 off-other v w (event.Upgraded at) h k = other at v w h k

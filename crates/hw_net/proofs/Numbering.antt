@@ -91,11 +91,11 @@ send-wire bytes text before after answers h = go h.0 h.1 h.3 ∙ put-wire (is_li
 pub sends-keep : SendsKeepNumbers
 sends-keep lane bytes text before after answers h = at-wires lane (Sends bytes text) before.lanes after.lanes answers (send-wire bytes text) h.0
 
-pub shut-wire : (before after : Lane) (answers : List Answer) → Shuts before after answers → after.wire ≡ before.wire
-shut-wire before after answers h = go (is_live before.stage) h where
-  go : (b : Bool) → Chooses b (WritesOut (record before { protocol = protocol_after_shut before.protocol; stage = Closing }) after answers) ((answers ≡ []) × (after ≡ before)) → after.wire ≡ before.wire
+pub shut-wire : (now : ℕ) (before after : Lane) (answers : List Answer) → Shuts now before after answers → after.wire ≡ before.wire
+shut-wire now before after answers h = go (is_live before.stage) h where
+  go : (b : Bool) → Chooses b (WritesOut (record before { since = now; protocol = protocol_after_shut before.protocol; stage = Closing }) after answers) ((answers ≡ []) × (after ≡ before)) → after.wire ≡ before.wire
   go true h = h.still.wire
   go false h = ap (λ (l : Lane). l.wire) h.1
 
 pub shuts-keep : ShutsKeepNumbers
-shuts-keep lane before after answers h = at-wires lane Shuts before.lanes after.lanes answers shut-wire h.0
+shuts-keep lane now before after answers h = at-wires lane (Shuts now) before.lanes after.lanes answers (shut-wire now) h.0

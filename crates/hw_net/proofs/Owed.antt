@@ -41,8 +41,8 @@ owed-here (session.sent at bytes text answers) calls x y k h =
     by-number at (Sends bytes text) x y (share x.wire answers) (λ b. owes y ≡ is_owed_on x.wire calls)
     (λ s. sends-owe bytes text x y (share x.wire answers) s ∙ k) (λ e f. ap owes e ∙ k) h
 owed-here (session.shut at answers) calls x y k h =
-    by-number at Shuts x y (share x.wire answers) (λ b. owes y ≡ (not b && is_owed_on x.wire calls))
-    (shuts-owe x y (share x.wire answers)) (λ e f. ap owes e ∙ k) h
+    by-number at (Shuts h.0) x y (share x.wire answers) (λ b. owes y ≡ (not b && is_owed_on x.wire calls))
+    (shuts-owe h.0 x y (share x.wire answers)) (λ e f. ap owes e ∙ k) h.1
 
 pub step-owed : (call : Call) (calls : List Call) (x y : Lane) → IsOwed calls x → Moves call x y → IsOwed (call ∷ calls) y
 step-owed call calls x y k h = owed-here call calls x y k h ∙ ap (λ n. is_owed_on n (call ∷ calls)) (sym (moves-wire call x y h))

@@ -10,8 +10,8 @@ use Rattle.hw_net.specs.declared.protocol.Protocol.{Protocol}
 use Rattle.hw_net.specs.declared.protocol.Protocol.TheVariants.{Http, Socket}
 use Rattle.hw_net.specs.declared.protocol.Stage.{Stage}
 use Rattle.hw_net.specs.declared.protocol.Stage.TheVariants.{Live, Lost, Closing, Over}
-use Rattle.hw_net.specs.Lane.{Lane, waits, after_end, after_reply, owes, is_live, is_overdue, protocol_after_shut}
-use Rattle.hw_net.specs.Saying.{Writes, WritesOut, Says, SaysAt, SaysMore, must_end, is_too_much}
+use Rattle.hw_net.specs.Lane.{Lane, waits, after_end, after_reply, owes, is_live, is_overdue, protocol_after_shut, after_hearing}
+use Rattle.hw_net.specs.Saying.{Writes, WritesOut, DropsOrWrites, Says, SaysAt, SaysMore, must_end, has_closed_long, is_too_much}
 use Rattle.hw_net.specs.Sessions.{is_about}
 use Rattle.hw_net.specs.Trace.{Reads, Gives, Chooses}
 use Rattle.hw_net.specs.Turn.{Hears, Falls, Passes, Settles, Loses, LosesAt, TurnsLive, TurnsAt, Listens, Turns, Replies, Puts, Sends, Shuts}
@@ -21,7 +21,7 @@ use Rattle.hw_net.proofs.Shares.{AreOwn, own-append, same}
 -- the event is heard on this lane
 abbrev pub is_on : ℕ → Event → Bool
 is_on lane (event.Request at request) = at == lane
-is_on lane (event.Refused at status) = at == lane
+is_on lane (event.Refused at refusal) = at == lane
 is_on lane (event.Bytes at bytes) = at == lane
 is_on lane (event.Response at status body) = at == lane
 is_on lane (event.Upgraded at) = at == lane
@@ -70,19 +70,20 @@ writes-out-keeps before after answers w = (w.still.wire, go (must_end before.sta
 still-keeps : (before after : Lane) (answers : List Answer) → answers ≡ [] → after ≡ before → Keeps before after answers
 still-keeps before after answers e f = (wire-of before after f, to-own before.wire [] answers e tt)
 
-pub says-keeps : (before after : Lane) (answers : List Answer) → Says before after answers → Keeps before after answers
-says-keeps before after answers h = go before.stage h where
-  go : (s : Stage) → SaysAt s before after answers → Keeps before after answers
+dropped-or-keeps : (is_dropped : Bool) (before after : Lane) (answers : List Answer) → DropsOrWrites is_dropped before after answers → Keeps before after answers
+dropped-or-keeps true before after answers h = (ap (λ (l : Lane). l.wire) h.1, to-own before.wire (was_shut before.wire ∷ []) answers h.0 (own-shut before.wire))
+dropped-or-keeps false before after answers h = writes-out-keeps before after answers h
+
+pub says-keeps : (now : ℕ) (before after : Lane) (answers : List Answer) → Says now before after answers → Keeps before after answers
+says-keeps now before after answers h = go before.stage h where
+  go : (s : Stage) → SaysAt s now before after answers → Keeps before after answers
   go Live h = writes-out-keeps before after answers h
   go Lost h = still-keeps before after answers h.0 h.1
-  go Closing h = writes-out-keeps before after answers h
+  go Closing h = dropped-or-keeps (has_closed_long now before.since) before after answers h
   go Over h = still-keeps before after answers h.0 h.1
 
 more-keeps : (before after : Lane) (answers : List Answer) → SaysMore before after answers → Keeps before after answers
-more-keeps before after answers h = go (is_too_much (length (waits before))) h where
-  go : (b : Bool) → Chooses b ((answers ≡ was_shut before.wire ∷ []) × (after ≡ record before { stage = after_end before.stage })) (WritesOut before after answers) → Keeps before after answers
-  go true h = (ap (λ (l : Lane). l.wire) h.1, to-own before.wire (was_shut before.wire ∷ []) answers h.0 (own-shut before.wire))
-  go false h = writes-out-keeps before after answers h
+more-keeps before after answers h = dropped-or-keeps (is_too_much (length (waits before))) before after answers h
 
 -- ---- hearing
 
@@ -125,7 +126,7 @@ settles-keeps now before after answers input.Nothing heard h = go (is_overdue no
   go true h = falls-keeps before after answers heard h
   go false h = (still-keeps before after answers h.0 h.2, subst (λ (o : Option Event). IsOn before.wire o) (sym h.1) tt)
 settles-keeps now before after answers (input.Request request) heard h = passes-keeps before _ after answers (event.Request before.wire request) heard refl (same before.wire) h
-settles-keeps now before after answers (input.Refused status) heard h = passes-keeps before _ after answers (event.Refused before.wire status) heard refl (same before.wire) h
+settles-keeps now before after answers (input.Refused refusal) heard h = passes-keeps before _ after answers (event.Refused before.wire refusal) heard refl (same before.wire) h
 settles-keeps now before after answers (input.Message bytes) heard h = passes-keeps before _ after answers (event.Bytes before.wire bytes) heard refl (same before.wire) h
 settles-keeps now before after answers input.Broken heard h = falls-keeps before after answers heard h
 settles-keeps now before after answers input.Gone heard h = passes-keeps before _ after answers (event.Lost before.wire) heard refl (same before.wire) h
@@ -142,8 +143,8 @@ loses-keeps wire None before after heard e is h = go before.stage h where
 
 live-keeps : (now : ℕ) (before after : Lane) (answers : List Answer) (heard : Option Event) → TurnsLive now before after answers heard → Settled before after answers heard
 live-keeps now before after answers heard h =
-    let settled = settles-keeps now (record before { protocol = h.protocol }) h.settled h.shut h.input h.trace h.settles in
-    let said = says-keeps h.settled h.said h.written h.says in
+    let settled = settles-keeps now (after_hearing h.protocol before) h.settled h.shut h.input h.trace h.settles in
+    let said = says-keeps now h.settled h.said h.written h.says in
     let wrote : AreOwn before.wire h.written = subst (λ n. AreOwn n h.written) settled.0.0 said.1 in
     let loses = loses-keeps before.wire h.trace h.said after heard (said.0 ∙ settled.0.0) settled.1 h.loses in (
       (
@@ -159,12 +160,12 @@ listens-keeps now before after answers heard h = go before.stage h where
   go : (s : Stage) → TurnsAt s now before after answers heard → Settled before after answers heard
   go Live h = live-keeps now before after answers heard h
   go Lost h = passes-keeps before (record before { stage = Over }) after answers (event.Lost before.wire) heard refl (same before.wire) h
-  go Closing h = (says-keeps before after answers h.1, subst (λ (o : Option Event). IsOn before.wire o) (sym h.0) tt)
+  go Closing h = (says-keeps now before after answers h.1, subst (λ (o : Option Event). IsOn before.wire o) (sym h.0) tt)
   go Over h = (still-keeps before after answers h.0 h.2, subst (λ (o : Option Event). IsOn before.wire o) (sym h.1) tt)
 
 pub turns-keeps : (now : ℕ) (trace : Option Event) (before after : Lane) (answers : List Answer) (heard : Option Event) → Turns now trace before after answers heard → Keeps before after answers
 turns-keeps now None before after answers heard h = (listens-keeps now before after answers heard h).0
-turns-keeps now (Some trace) before after answers heard h = says-keeps before after answers h.1
+turns-keeps now (Some trace) before after answers heard h = says-keeps now before after answers h.1
 
 -- ---- saying
 
@@ -183,8 +184,8 @@ sends-keeps bytes text before after answers h = (send-wire bytes text before aft
   go mid true p h = more-own before.wire mid after answers (put-wire (is_live before.stage) before.protocol bytes text before mid true p) h
   go mid false p h = to-own before.wire [] answers h.0 tt
 
-pub shuts-keeps : (before after : Lane) (answers : List Answer) → Shuts before after answers → Keeps before after answers
-shuts-keeps before after answers h = (shut-wire before after answers h, go (is_live before.stage) h) where
-  go : (b : Bool) → Chooses b (WritesOut (record before { protocol = protocol_after_shut before.protocol; stage = Closing }) after answers) ((answers ≡ []) × (after ≡ before)) → AreOwn before.wire answers
-  go true h = (writes-out-keeps (record before { protocol = protocol_after_shut before.protocol; stage = Closing }) after answers h).1
+pub shuts-keeps : (now : ℕ) (before after : Lane) (answers : List Answer) → Shuts now before after answers → Keeps before after answers
+shuts-keeps now before after answers h = (shut-wire now before after answers h, go (is_live before.stage) h) where
+  go : (b : Bool) → Chooses b (WritesOut (record before { since = now; protocol = protocol_after_shut before.protocol; stage = Closing }) after answers) ((answers ≡ []) × (after ≡ before)) → AreOwn before.wire answers
+  go true h = (writes-out-keeps (record before { since = now; protocol = protocol_after_shut before.protocol; stage = Closing }) after answers h).1
   go false h = to-own before.wire [] answers h.0 tt

@@ -4,7 +4,7 @@ use Rattle.hw_door.specs.declared.heard.Event.{Event}
 use Rattle.hw_door.specs.Traffic.{Answer, was_shut}
 use Rattle.hw_net.specs.declared.input.Input.{Input}
 use Rattle.hw_net.specs.Trace.{Tells}
-use Rattle.hw_net.specs.Lane.{Lane, waits, after_end}
+use Rattle.hw_net.specs.Lane.{Lane, waits, after_end, after_hearing}
 use Rattle.hw_net.specs.Saying.{Writes, WritesOut, Says, IsLaneStill, must_end}
 use Rattle.hw_net.specs.Turn.{Hears, Settles, Loses, TurnsLive}
 use Rattle.hw_net.proofs.Telling.{tells-more}
@@ -47,11 +47,11 @@ done-both a b c wire out more left rest first whole h e none k =
     (h.0 ++ k.0, tells-more a b c h.0 k.0 h.1 k.1, writes-both wire out more h.0 k.0 left whole gone k.2)
 
 -- a live lane heard an input after a first look at it, whose answers come before; it was settled, and it wrote what waited
-pub turned-after : (a b c d : Option (List Answer)) (now : ℕ) (before heard settled said after : Lane) (input : Input) (trace event : Option Event) (first : List Answer) →
-    ((answers : List Answer) × Tells a b answers × Hears before.wire before.protocol heard.protocol (first ++ answers) input) → heard ≡ record before { protocol = heard.protocol } →
-    ((answers : List Answer) × Tells b c answers × Settles now heard settled answers input trace) → ((answers : List Answer) × Tells c d answers × Says settled said answers) →
+pub turned-after : (a b c d : Option (List Answer)) (now : ℕ) (before heard continued settled said after : Lane) (input : Input) (trace event : Option Event) (first : List Answer) →
+    ((answers : List Answer) × Tells a b answers × Hears before.wire before.protocol heard.protocol (first ++ answers) input) → heard ≡ record before { protocol = heard.protocol } → continued ≡ after_hearing heard.protocol heard →
+    ((answers : List Answer) × Tells b c answers × Settles now continued settled answers input trace) → ((answers : List Answer) × Tells c d answers × Says now settled said answers) →
     Loses trace said after event → (answers : List Answer) × Tells a d answers × TurnsLive now before after (first ++ answers) event
-turned-after a b c d now before heard settled said after input trace event first h e s w l = (
+turned-after a b c d now before heard continued settled said after input trace event first h e f s w l = (
   h.0 ++ (s.0 ++ w.0),
   tells-more a b d h.0 (s.0 ++ w.0) h.1 (tells-more b c d s.0 w.0 s.1 w.1),
   record {
@@ -65,7 +65,7 @@ turned-after a b c d now before heard settled said after input trace event first
     written = w.0;
     all = sym (append_assoc first h.0 (s.0 ++ w.0));
     hears = h.2;
-    settles = subst (λ (x : Lane). Settles now x settled s.0 input trace) e s.2;
+    settles = subst (λ (x : Lane). Settles now (after_hearing heard.protocol x) settled s.0 input trace) e (subst (λ (x : Lane). Settles now x settled s.0 input trace) f s.2);
     says = w.2;
     loses = l;
   },

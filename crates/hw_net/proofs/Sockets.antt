@@ -23,15 +23,15 @@ use Rattle.hw_net.specs.declared.protocol.Stage.{Stage}
 use Rattle.hw_net.specs.declared.protocol.Stage.TheVariants.{Live, Lost, Closing, Over}
 use Rattle.hw_net.specs.HttpState.{HttpStateView, requests_of}
 use Rattle.hw_net.specs.Door.{new_lane}
-use Rattle.hw_net.specs.Lane.{Lane, waits, frames_of, is_live, is_busy, owes, is_overdue, after_end, after_reply, protocol_after_shut, protocol_after_reply, new_socket, rest_of}
-use Rattle.hw_net.specs.Saying.{WritesOut, SpeaksAs, Says, SaysAt, SaysMore, must_end, is_too_much}
+use Rattle.hw_net.specs.Lane.{Lane, waits, frames_of, is_live, is_busy, owes, is_overdue, after_end, after_reply, protocol_after_shut, protocol_after_reply, new_socket, rest_of, after_hearing}
+use Rattle.hw_net.specs.Saying.{WritesOut, DropsOrWrites, SpeaksAs, Says, SaysAt, SaysMore, must_end, has_closed_long, is_too_much}
 use Rattle.hw_net.specs.Sessions as session
-use Rattle.hw_net.specs.Sessions.{Call, Session, answers_in, answers_of, requests_on, replies_on, texts_of, message_on, messages_on, IsCarried, CarriesSocket, SocketsAreCarried}
+use Rattle.hw_net.specs.Sessions.{Call, Session, answers_in, answers_of, requests_on, replies_on, continue_of, message_on, messages_on, IsCarried, CarriesSocket, SocketsAreCarried}
 use Rattle.hw_net.specs.WebSocketState.{WebSocketState, Gets}
 use Rattle.hw_net.specs.Trace.{Chooses, bytes_of}
 use Rattle.hw_net.specs.Turn.{Hears, Falls, Passes, Settles, Loses, LosesAt, TurnsLive, TurnsAt, Listens, Replies, Puts, PutsAt, Sends, Shuts}
 use Rattle.hw_net.proofs.Asked.{HeardIn, IsAsked, step-asked, new-asked, requests_by, requests-more, requests_in, settles-requests, loses-requests, heard-requests, gives-bytes, live-reads, settles-silent, says-silent, read-more, replies-silent, sends-silent, shuts-silent}
-use Rattle.hw_net.proofs.Counting.{Lives, more-live, writes-live}
+use Rattle.hw_net.proofs.Counting.{Lives, more-live, writes-live, dropped-or-live}
 use Rattle.hw_net.proofs.Ends.{dead}
 use Rattle.hw_net.proofs.Moves.{has-of}
 use Rattle.hw_net.proofs.Numbering.{replied-wire, put-wire}
@@ -39,7 +39,7 @@ use Rattle.hw_net.proofs.Owed.{by-number, replies_by, replies-more}
 use Rattle.hw_net.proofs.Owning.{settles-keeps}
 use Rattle.hw_net.proofs.Shares.{share, written-append, same}
 use Rattle.hw_net.proofs.Shifts.{rewritten, Shifted, takes-shift, says-shift, shut-shift, session-more, fed-more, heard-more, dropped-more}
-use Rattle.hw_net.proofs.Voices.{Voiced, HasSaid, step-said, new-said, writes-front, reply-said, refusals_of, refusals_in, settles-refusals, loses-refusals, heard-refusals, hears-unwritten, settles-unwritten, live-written, written-more}
+use Rattle.hw_net.proofs.Voices.{Voiced, HasSaid, step-said, new-said, writes-front, reply-said, texts-more, refusals_of, refusals_in, settles-refusals, loses-refusals, heard-refusals, hears-unwritten, settles-unwritten, live-written, written-more}
 use Rattle.hw_net.proofs.Walks.{IsHeard, Heeds, Moves, moves-wire, IsUntouched, each-lane, unrequested, unheard, unrefused}
 
 -- ---- one call more of the WebSocket that is carried
@@ -62,6 +62,8 @@ carries-on live after from wrote requests messages replies now next f e c = reco
   asks = c.asks;
   fed = c.fed;
   heard_all = c.heard_all;
+  texts = c.texts;
+  said = c.said;
   wrote_all = c.wrote_all;
 }
 
@@ -84,6 +86,8 @@ carries-fed from wrote requests messages replies now next piece h c = record {
   asks = c.asks;
   fed = fed-more c.calls (socket_calls.Feed piece) ∙ ap (λ l. socket_calls.fed c.calls ++ l) (append-nil piece) ∙ ap (λ l. l ++ piece) c.fed ∙ append_assoc c.rest c.more piece;
   heard_all = heard-more c.calls (socket_calls.Feed piece) ∙ append-nil (socket_calls.heard c.calls) ∙ c.heard_all;
+  texts = c.texts;
+  said = c.said;
   wrote_all = c.wrote_all;
 }
 
@@ -105,6 +109,8 @@ carries-lost from wrote requests messages replies now next piece e c = record {
   asks = c.asks;
   fed = c.fed;
   heard_all = c.heard_all;
+  texts = c.texts;
+  said = c.said;
   wrote_all = c.wrote_all;
 }
 
@@ -129,8 +135,10 @@ carries-call live from written out requests messages more replies now next call 
       asks = c.asks;
       fed = fed-more c.calls call ∙ ap (λ l. socket_calls.fed c.calls ++ l) no_food ∙ append-nil (socket_calls.fed c.calls) ∙ c.fed;
       heard_all = heard-more c.calls call ∙ ap (λ l. socket_calls.heard c.calls ++ l) hears ∙ ap (λ l. l ++ more) c.heard_all;
+      texts = c.texts;
+      said = c.said;
       wrote_all = ap (λ l. written ++ (out ++ l)) grown ∙ ap (λ l. written ++ l) (sym (append_assoc out now.out.bytes s.2)) ∙ sym (append_assoc written (out ++ now.out.bytes) s.2)
-          ∙ ap (λ l. l ++ s.2) c.wrote_all ∙ append_assoc (texts_of replies) c.keeps.out.bytes s.2 ∙ ap (λ l. texts_of replies ++ l) (sym s.4);
+          ∙ ap (λ l. l ++ s.2) c.wrote_all ∙ append_assoc c.texts c.keeps.out.bytes s.2 ∙ ap (λ l. c.texts ++ l) (sym s.4);
     }
 
 carries-taken : (live : Bool) (from written out : List ℕ) (requests : List Request) (messages more : List (List ℕ)) (replies : List Reply) (now next : socket.Lane) (answer : SocketRead) →
@@ -210,19 +218,20 @@ same-glides : (x y : Lane) (mine : List Answer) → mine ≡ [] → y ≡ x → 
 same-glides x y mine e f =
     stage-glides x y mine (ap (λ l. written_on x.wire l) e) (ap waits f) (ap (λ (l : Lane). l.protocol) f) (λ k. sym (ap (λ (l : Lane). is_live l.stage) f) ∙ k)
 
-says-glide : (x y : Lane) (mine : List Answer) → Says x y mine → Glides x y mine
-says-glide x y mine h = go x.stage h where
-  go : (s : Stage) → SaysAt s x y mine → Glides x y mine
+dropped-or-glide : (is_dropped : Bool) (x y : Lane) (mine : List Answer) → DropsOrWrites is_dropped x y mine → Glides x y mine
+dropped-or-glide true x y mine h = stage-glides x y mine (ap (λ l. written_on x.wire l) h.0) (ap waits h.1) (ap (λ (l : Lane). l.protocol) h.1) (lives-stage x y (dropped-or-live true x y mine h))
+dropped-or-glide false x y mine h = writes-glide x y mine h
+
+says-glide : (now : ℕ) (x y : Lane) (mine : List Answer) → Says now x y mine → Glides x y mine
+says-glide now x y mine h = go x.stage h where
+  go : (s : Stage) → SaysAt s now x y mine → Glides x y mine
   go Live h = writes-glide x y mine h
   go Lost h = same-glides x y mine h.0 h.1
-  go Closing h = writes-glide x y mine h
+  go Closing h = dropped-or-glide (has_closed_long now x.since) x y mine h
   go Over h = same-glides x y mine h.0 h.1
 
 more-glide : (x y : Lane) (mine : List Answer) → SaysMore x y mine → Glides x y mine
-more-glide x y mine s = go (is_too_much (length (waits x))) s where
-  go : (b : Bool) → Chooses b ((mine ≡ was_shut x.wire ∷ []) × (y ≡ record x { stage = after_end x.stage })) (WritesOut x y mine) → Glides x y mine
-  go true h = stage-glides x y mine (ap (λ l. written_on x.wire l) h.0) (ap waits h.1) (ap (λ (l : Lane). l.protocol) h.1) (lives-stage x y (more-live x y mine s))
-  go false h = writes-glide x y mine h
+more-glide x y mine h = dropped-or-glide (is_too_much (length (waits x))) x y mine h
 
 -- ---- hearing
 
@@ -240,7 +249,7 @@ settles-messages now before after answers input.Nothing heard h = go (is_overdue
   go true h = ap (λ o. messages_in before.wire o) h.1
   go false h = ap (λ o. messages_in before.wire o) h.1
 settles-messages now before after answers (input.Request request) heard h = ap (λ o. messages_in before.wire o) h.1
-settles-messages now before after answers (input.Refused status) heard h = ap (λ o. messages_in before.wire o) h.1
+settles-messages now before after answers (input.Refused refusal) heard h = ap (λ o. messages_in before.wire o) h.1
 settles-messages now before after answers (input.Message bytes) heard h = ap (λ o. messages_in before.wire o) h.1 ∙ ap (λ b. if b then bytes ∷ [] else []) (same before.wire)
 settles-messages now before after answers input.Broken heard h = ap (λ o. messages_in before.wire o) h.1
 settles-messages now before after answers input.Gone heard h = ap (λ o. messages_in before.wire o) h.1
@@ -283,7 +292,7 @@ gets-carried from written out requests messages more replies old new got answer 
     (subst (λ (l : List ℕ). IsCarried true (from ++ bytes_of got) (written ++ (out ++ l)) requests messages replies fed) (sym bytes) food)
 
 settles-borne : (now : ℕ) (x : Lane) (protocol : Protocol) (after : Lane) (reads answers : List Answer) (what : Input) (heard : Option Event) (from written : List ℕ) (requests : List Request) (messages : List (List ℕ)) (replies : List Reply) →
-    x.stage ≡ Live → Hears x.wire x.protocol protocol reads what → Settles now (record x { protocol = protocol }) after answers what heard → IsBorne from written requests messages replies x →
+    x.stage ≡ Live → Hears x.wire x.protocol protocol reads what → Settles now (after_hearing protocol x) after answers what heard → IsBorne from written requests messages replies x →
     IsBorne (from ++ read_on x.wire reads) written (requests ++ requests_of what) (messages ++ messages_of what) (replies ++ refusals_of what) after
 settles-borne now x protocol after reads answers what heard from written requests messages replies live h s b = go x.protocol protocol what h s was where
   was : Borne true from (written ++ (x.out ++ frames_of x.protocol)) requests messages replies x.protocol
@@ -315,22 +324,22 @@ settles-borne now x protocol after reads answers what heard from written request
   nothing new c true f = carried new (record x { protocol = Socket new; stage = Over }) input.Nothing f.2 refl refl (stage new (messages ++ []) Over c)
   nothing new c false f = carried new (record x { protocol = Socket new }) input.Nothing f.2 refl refl (stage new (messages ++ []) x.stage c)
 
-  go : (old new : Protocol) (what : Input) → Hears x.wire old new reads what → Settles now (record x { protocol = new }) after answers what heard → Borne true from (written ++ (x.out ++ frames_of old)) requests messages replies old →
+  go : (old new : Protocol) (what : Input) → Hears x.wire old new reads what → Settles now (after_hearing new x) after answers what heard → Borne true from (written ++ (x.out ++ frames_of old)) requests messages replies old →
       IsBorne (from ++ read_on x.wire reads) written (requests ++ requests_of what) (messages ++ messages_of what) (replies ++ refusals_of what) after
-  go (Http old) (Http new) input.Nothing h s k = idle (is_overdue now (record x { protocol = Http new })) s where
-    idle : (b : Bool) → Chooses b (Falls (record x { protocol = Http new }) after answers heard) (Passes (record x { protocol = Http new }) after answers None heard) →
+  go (Http old) (Http new) input.Nothing h s k = idle (is_overdue now (after_hearing (Http new) x)) s where
+    idle : (b : Bool) → Chooses b (Falls (after_hearing (Http new) x) after answers heard) (Passes (after_hearing (Http new) x) after answers None heard) →
         IsBorne (from ++ read_on x.wire reads) written (requests ++ []) (messages ++ []) (replies ++ []) after
-    idle true f = none _ _ _ _ new f.2 refl k
-    idle false f = none _ _ _ _ new f.2 refl k
-  go (Http old) (Http new) (input.Request request) h s k = none _ _ _ _ new s.2 refl k
-  go (Http old) (Http new) (input.Refused status) h s k = none _ _ _ _ new s.2 refl k
+    idle true f = none _ _ _ _ _ f.2 refl k
+    idle false f = none _ _ _ _ _ f.2 refl k
+  go (Http old) (Http new) (input.Request request) h s k = none _ _ _ _ _ s.2 refl k
+  go (Http old) (Http new) (input.Refused refusal) h s k = none _ _ _ _ _ s.2 refl k
   go (Http old) (Http new) (input.Message bytes) h s k = absurd h.is_input
-  go (Http old) (Http new) input.Broken h s k = none _ _ _ _ new s.2 refl k
+  go (Http old) (Http new) input.Broken h s k = none _ _ _ _ _ s.2 refl k
   go (Http old) (Http new) input.Gone h s k = absurd h.is_input
   go (Socket old) (Socket new) input.Nothing h s k =
       nothing new (got old new h.got read.NotYet [] (gives-bytes x.wire _ reads h.got h.read) refl h.is_input.0 k) (is_overdue now (record x { protocol = Socket new })) s
   go (Socket old) (Socket new) (input.Request request) h s k = absurd h.is_input
-  go (Socket old) (Socket new) (input.Refused status) h s k = absurd h.is_input
+  go (Socket old) (Socket new) (input.Refused refusal) h s k = absurd h.is_input
   go (Socket old) (Socket new) (input.Message bytes) h s k =
       carried new (record x { protocol = Socket new }) (input.Message bytes) s.2 refl refl
       (stage new (messages ++ bytes ∷ []) x.stage (got old new h.got (read.Payload bytes) (bytes ∷ []) (gives-bytes x.wire _ reads h.got h.read) refl h.is_input.0 k))
@@ -340,8 +349,8 @@ settles-borne now x protocol after reads answers what heard from written request
       (subst (λ (l : List (List ℕ)). IsCarried false (from ++ read_on x.wire reads) (written ++ (x.out ++ old.lane.out.bytes)) requests l replies new.lane) (sym (append-nil messages))
       (carries-lost from (written ++ (x.out ++ old.lane.out.bytes)) requests messages replies old.lane new.lane (read_on x.wire reads) h.is_input.1 k)))
   go (Socket old) (Socket new) input.Gone h s k =
-      carried new (record x { protocol = protocol_after_shut (Socket new); stage = Closing }) input.Gone s.2 refl refl
-      (unpadded (messages ++ []) (λ m. IsBorne (from ++ read_on x.wire reads) written requests m replies (record x { protocol = protocol_after_shut (Socket new); stage = Closing }))
+      carried new (record x { since = now; protocol = protocol_after_shut (Socket new); stage = Closing }) input.Gone s.2 refl refl
+      (unpadded (messages ++ []) (λ m. IsBorne (from ++ read_on x.wire reads) written requests m replies (record x { since = now; protocol = protocol_after_shut (Socket new); stage = Closing }))
       (carries-on true false (from ++ read_on x.wire reads) (written ++ (x.out ++ (sending.after_shut new.lane).out.bytes)) requests ((messages ++ []) ++ []) replies (sending.after_shut new.lane) (sending.after_shut new.lane) (λ e. absurd (cc e)) refl
       (carries-shut true (from ++ read_on x.wire reads) written x.out requests (messages ++ []) replies new.lane
       (got old new h.got read.Gone [] (gives-bytes x.wire _ reads h.got h.read) refl h.is_input.0 k))))
@@ -373,11 +382,11 @@ glides-bear x y mine more_requests more_messages more_replies g r e f k from wri
 
 live-bears : (now : ℕ) (x y : Lane) (mine : List Answer) (own : Option Event) → x.stage ≡ Live → TurnsLive now x y mine own → Bears x y mine (requests_in x.wire own) (messages_in x.wire own) (refusals_in x.wire own)
 live-bears now x y mine own live h from written requests messages replies b =
-    let mid = record x { protocol = h.protocol } in
+    let mid = after_hearing h.protocol x in
     let w = x.wire in
     let kept = settles-keeps now mid h.settled h.shut h.input h.trace h.settles in
     let silent = settles-silent now mid h.settled h.shut h.input h.trace h.settles in
-    let quiet = says-silent h.settled h.said h.written h.says in
+    let quiet = says-silent now h.settled h.said h.written h.says in
     let reads : read_on w mine ≡ read_on w h.read = live-reads w mine h.read h.shut h.written h.all (silent.0 w) (quiet.0 w) in
     let writes : written_on w mine ≡ written_on h.settled.wire h.written =
     live-written w mine h.read h.shut h.written h.all (hears-unwritten w w x.protocol h.protocol h.read h.input h.hears) (settles-unwritten w now mid h.settled h.shut h.input h.trace h.settles)
@@ -387,7 +396,7 @@ live-bears now x y mine own live h from written requests messages replies b =
     let refused : refusals_in w own ≡ refusals_of h.input = loses-refusals w h.trace h.said y own h.loses ∙ settles-refusals now mid h.settled h.shut h.input h.trace h.settles in
     let bytes = from ++ read_on w h.read in
     let settled = settles-borne now x h.protocol h.settled h.read h.shut h.input h.trace from written requests messages replies live h.hears h.settles b in
-    let said = says-glide h.settled h.said h.written h.says bytes written (requests ++ requests_of h.input) (messages ++ messages_of h.input) (replies ++ refusals_of h.input) settled in
+    let said = says-glide now h.settled h.said h.written h.says bytes written (requests ++ requests_of h.input) (messages ++ messages_of h.input) (replies ++ refusals_of h.input) settled in
     let lost = loses-borne h.trace h.said y own bytes (written ++ written_on h.settled.wire h.written) (requests ++ requests_of h.input) (messages ++ messages_of h.input) (replies ++ refusals_of h.input) h.loses said in
     subst (λ (l : List ℕ). IsBorne (from ++ l) (written ++ written_on w mine) (requests ++ requests_in w own) (messages ++ messages_in w own) (replies ++ refusals_in w own) y) (sym reads)
     (subst (λ (l : List ℕ). IsBorne bytes (written ++ l) (requests ++ requests_in w own) (messages ++ messages_in w own) (replies ++ refusals_in w own) y) (sym writes)
@@ -407,7 +416,7 @@ listens-bear now x y mine own h = go x.stage refl h where
   go Live e h = live-bears now x y mine own e h
   go Lost e h = quiet (stage-glides x y mine (ap (λ l. written_on x.wire l) h.0) (ap waits h.2) (ap (λ (l : Lane). l.protocol) h.2) (λ k. absurd (cc (sym (ap (λ (l : Lane). is_live l.stage) h.2) ∙ k))))
       (ap (λ l. read_on x.wire l) h.0) (nothing (Some (event.Lost x.wire)) h.1 (refl, refl, refl))
-  go Closing e h = quiet (says-glide x y mine h.1) ((says-silent x y mine h.1).0 x.wire) (nothing None h.0 (refl, refl, refl))
+  go Closing e h = quiet (says-glide now x y mine h.1) ((says-silent now x y mine h.1).0 x.wire) (nothing None h.0 (refl, refl, refl))
   go Over e h = quiet (same-glides x y mine h.0 h.2) (ap (λ l. read_on x.wire l) h.0) (nothing None h.1 (refl, refl, refl))
 
 heeds-bear : (now : ℕ) (what : Event) (x y : Lane) (mine : List Answer) → Heeds now what x y mine →
@@ -417,14 +426,14 @@ heeds-bear now what x y mine (inl h) =
     (subst (λ (l : List (List ℕ)). Bears x y mine (requests_in x.wire h.0) l (session.refusal_on x.wire what)) (sym (heard-messages x.wire h.0 what h.2))
     (subst (λ (l : List Reply). Bears x y mine (requests_in x.wire h.0) (messages_in x.wire h.0) l) (sym (heard-refusals x.wire h.0 what h.2)) (listens-bear now x y mine h.0 h.1)))
 heeds-bear now what x y mine (inr h) =
-    glides-bear x y mine (session.request_on x.wire what) (message_on x.wire what) (session.refusal_on x.wire what) (says-glide x y mine h.0) ((says-silent x y mine h.0).0 x.wire)
+    glides-bear x y mine (session.request_on x.wire what) (message_on x.wire what) (session.refusal_on x.wire what) (says-glide now x y mine h.0) ((says-silent now x y mine h.0).0 x.wire)
     (unrequested x.wire what h.1) (unheard x.wire what h.1) (unrefused x.wire what h.1)
 
 -- ---- saying
 
 -- a lane of requests that upgrades carries a WebSocket that was fed with what it held
 upgraded : (x : Lane) (http_state : HttpStateView) (reply : Reply) (from written : List ℕ) (requests : List Request) (messages : List (List ℕ)) (replies : List Reply) → Asks from requests http_state.lane.held →
-    written ++ (x.out ++ []) ≡ texts_of replies → messages ≡ [] →
+    Voiced (written ++ (x.out ++ [])) replies (Http http_state) → messages ≡ [] →
     IsCarried (is_live x.stage) from (written ++ ((x.out ++ reply_text reply) ++ [])) requests messages (replies ++ reply ∷ []) (record (socket.fresh_lane side.Server) { unread = http_state.lane.held })
 upgraded x http_state reply from written requests messages replies asks wrote none = record {
   calls = socket_calls.Feed http_state.lane.held ∷ [];
@@ -441,14 +450,16 @@ upgraded x http_state reply from written requests messages replies asks wrote no
   asks = asks;
   fed = refl;
   heard_all = sym none;
-  wrote_all = reply-said written x.out replies reply wrote ∙ sym (append-nil (texts_of (replies ++ reply ∷ [])));
+  texts = wrote.0 ++ (continue_of wrote.1 ++ reply_text reply);
+  said = texts-more wrote.1 replies reply wrote.0 wrote.2;
+  wrote_all = reply-said written x.out wrote.0 wrote.1 reply wrote.4;
 }
 
 -- a lane that owes a reply says it
 reply-borne : (now : ℕ) (reply : Reply) (x : Lane) (from written : List ℕ) (requests : List Request) (messages : List (List ℕ)) (replies : List Reply) → owes x ≡ true →
     HeardIn from requests x.protocol → Voiced (written ++ waits x) replies x.protocol → IsBorne from written requests messages replies x → IsBorne from written requests messages (replies ++ reply ∷ []) (after_reply now reply x)
 reply-borne now reply x from written requests messages replies owed asks wrote b = go x.protocol refl owed asks wrote b where
-  http : (http_state : HttpStateView) → x.protocol ≡ Http http_state → Asks from requests http_state.lane.held → written ++ (x.out ++ []) ≡ texts_of replies → messages ≡ [] → (b : Bool) →
+  http : (http_state : HttpStateView) → x.protocol ≡ Http http_state → Asks from requests http_state.lane.held → Voiced (written ++ (x.out ++ [])) replies (Http http_state) → messages ≡ [] → (b : Bool) →
       IsBorne from written requests messages (replies ++ reply ∷ []) (if b then record x { protocol = new_socket (rest_of x.protocol); out = x.out ++ reply_text reply }
       else record x { protocol = protocol_after_reply x.protocol; out = x.out ++ reply_text reply; since = now })
   http http_state e asks wrote none true =
@@ -501,11 +512,11 @@ shut-borne x (Socket websocket_state) from written requests messages replies b =
     (unpadded messages (λ m. IsCarried (is_live x.stage) from (written ++ (x.out ++ (sending.after_shut websocket_state.lane).out.bytes)) requests m replies (sending.after_shut websocket_state.lane))
     (carries-shut (is_live x.stage) from written x.out requests messages replies websocket_state.lane b))
 
-shuts-glide : (x y : Lane) (mine : List Answer) → Shuts x y mine → Glides x y mine
-shuts-glide x y mine h = go (is_live x.stage) h where
-  go : (b : Bool) → Chooses b (WritesOut (record x { protocol = protocol_after_shut x.protocol; stage = Closing }) y mine) ((mine ≡ []) × (y ≡ x)) → Glides x y mine
+shuts-glide : (now : ℕ) (x y : Lane) (mine : List Answer) → Shuts now x y mine → Glides x y mine
+shuts-glide now x y mine h = go (is_live x.stage) h where
+  go : (b : Bool) → Chooses b (WritesOut (record x { since = now; protocol = protocol_after_shut x.protocol; stage = Closing }) y mine) ((mine ≡ []) × (y ≡ x)) → Glides x y mine
   go true h = λ from written requests messages replies b.
-      writes-glide (record x { protocol = protocol_after_shut x.protocol; stage = Closing }) y mine h from written requests messages replies (shut-borne x x.protocol from written requests messages replies b)
+      writes-glide (record x { since = now; protocol = protocol_after_shut x.protocol; stage = Closing }) y mine h from written requests messages replies (shut-borne x x.protocol from written requests messages replies b)
   go false h = same-glides x y mine h.0 h.1
 
 -- ---- sessions
@@ -547,9 +558,9 @@ moves-bear (session.sent at bytes text answers) x y from written requests messag
     (λ s. glides-bear x y (share x.wire answers) [] [] [] (sends-glide bytes text x y (share x.wire answers) s) ((sends-silent bytes text x y (share x.wire answers) s).0 x.wire) refl refl refl from written requests messages replies b)
     (λ e f. glides-bear x y (share x.wire answers) [] [] [] (same-glides x y (share x.wire answers) f e) (ap (λ l. read_on x.wire l) f) refl refl refl from written requests messages replies b) h
 moves-bear (session.shut at answers) x y from written requests messages replies h asks wrote b =
-    by-number at Shuts x y (share x.wire answers) (λ c. BearsAt x y (share x.wire answers) from written requests messages replies [] [] [])
-    (λ s. glides-bear x y (share x.wire answers) [] [] [] (shuts-glide x y (share x.wire answers) s) ((shuts-silent x y (share x.wire answers) s).0 x.wire) refl refl refl from written requests messages replies b)
-    (λ e f. glides-bear x y (share x.wire answers) [] [] [] (same-glides x y (share x.wire answers) f e) (ap (λ l. read_on x.wire l) f) refl refl refl from written requests messages replies b) h
+    by-number at (Shuts h.0) x y (share x.wire answers) (λ c. BearsAt x y (share x.wire answers) from written requests messages replies [] [] [])
+    (λ s. glides-bear x y (share x.wire answers) [] [] [] (shuts-glide h.0 x y (share x.wire answers) s) ((shuts-silent h.0 x y (share x.wire answers) s).0 x.wire) refl refl refl from written requests messages replies b)
+    (λ e f. glides-bear x y (share x.wire answers) [] [] [] (same-glides x y (share x.wire answers) f e) (ap (λ l. read_on x.wire l) f) refl refl refl from written requests messages replies b) h.1
 
 abbrev BorneAt : ℕ → List Call → Lane → Type 0
 BorneAt wire calls lane = IsBorne (read_on wire (answers_of calls)) (written_on wire (answers_of calls)) (requests_on wire calls) (messages_on wire calls) (replies_on wire calls) lane

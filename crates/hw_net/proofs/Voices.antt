@@ -1,8 +1,7 @@
 -- In a session what was written on a lane's wire, and then what waits, is what was said there.
-use Rattle.std.proofs.Common.{◌≡◌, ◌==◌, ◌&&◌, ◌++◌, ◌∷◌, [], ℕ, Bool, true, false, if◌then◌else◌, List, Option, None, Some, refl, sym, ap, ◌∙◌, subst, inl, inr, append-nil, append_assoc, length}
-use Rattle.std.proofs.lemmas.Grind.{flat_map-append}
+use Rattle.std.proofs.Common.{◌≡◌, ◌==◌, ◌&&◌, ◌||◌, not, ◌++◌, ◌∷◌, [], ℕ, Bool, true, false, if◌then◌else◌, List, Option, None, Some, refl, sym, ap, ◌∙◌, subst, inl, inr, append-nil, append_assoc, length}
 use Rattle.hw_lanes.specs.declared.http.Reply.{Reply}
-use Rattle.hh_http.specs.Texts.{reply_text}
+use Rattle.hh_http.specs.Texts.{continue_text, reply_text}
 use Rattle.hw_door.specs.declared.heard.Event.{Event}
 use Rattle.hw_door.specs.Traffic.{Answer, bytes_in, not_yet, ended, read_failed, bytes_out, write_failed, was_shut, written_on}
 use Rattle.hw_socket.specs.Lane as socket
@@ -15,10 +14,11 @@ use Rattle.hw_net.specs.declared.protocol.Protocol.TheVariants.{Http, Socket}
 use Rattle.hw_net.specs.declared.protocol.Stage.{Stage}
 use Rattle.hw_net.specs.declared.protocol.Stage.TheVariants.{Live, Lost, Closing, Over}
 use Rattle.hw_net.specs.Door.{new_lane}
-use Rattle.hw_net.specs.Lane.{Lane, waits, frames_of, is_live, owes, is_overdue, refusal_of, after_end, after_reply, protocol_after_shut, protocol_after_reply, new_socket, rest_of}
-use Rattle.hw_net.specs.Saying.{Writes, WritesOut, SpeaksAs, Says, SaysAt, SaysMore, must_end, is_too_much}
+use Rattle.hw_net.specs.HttpState.{HttpStateView}
+use Rattle.hw_net.specs.Lane.{Lane, waits, frames_of, is_live, owes, is_overdue, refusal_of, after_end, after_reply, protocol_after_shut, protocol_after_reply, new_socket, rest_of, says_continue, protocol_after_continue, out_after_continue, after_hearing}
+use Rattle.hw_net.specs.Saying.{Writes, WritesOut, DropsOrWrites, SpeaksAs, Says, SaysAt, SaysMore, must_end, has_closed_long, is_too_much}
 use Rattle.hw_net.specs.Sessions as session
-use Rattle.hw_net.specs.Sessions.{Call, Session, answers_in, answers_of, refusal_on, replies_on, texts_of, WroteReplies, RepliesAreWritten}
+use Rattle.hw_net.specs.Sessions.{Call, Session, answers_in, answers_of, refusal_on, replies_on, continue_of, AreTextsOf, WroteReplies, RepliesAreWritten}
 use Rattle.hw_net.specs.WebSocketState.{WebSocketState, Gets}
 use Rattle.hw_net.specs.Trace.{Reads, Gives, Chooses, bytes_of}
 use Rattle.hw_net.specs.Turn.{Hears, Falls, Passes, Settles, Loses, LosesAt, TurnsLive, TurnsAt, Listens, Replies, Puts, PutsAt, Sends, Shuts}
@@ -31,12 +31,13 @@ use Rattle.hw_net.proofs.Owning.{settles-keeps}
 use Rattle.hw_net.proofs.Shares.{share, written-append, written-share, same, equal}
 use Rattle.hw_net.proofs.Walks.{IsHeard, Heeds, Moves, moves-wire, IsUntouched, each-lane, unrefused}
 
--- these bytes are the texts of the replies, and then frames
+-- these bytes are the texts of the replies and of 100s before them, and then one 100 more or frames
 abbrev pub Voiced : List ℕ → List Reply → Protocol → Type 0
-Voiced all replies (Http http_state) = all ≡ texts_of replies
+Voiced all replies (Http http_state) =
+    (texts : List ℕ) × (continued : Bool) × AreTextsOf replies texts × (continued ≡ true → http_state.continued ≡ true) × (all ≡ texts ++ continue_of continued)
 Voiced all replies (Socket websocket_state) =
-    (first : List Reply) × (upgrade : Reply) × (frames : List ℕ)
-    × (replies ≡ first ++ upgrade ∷ []) × (upgrade.status ≡ SWITCHING) × (all ≡ texts_of replies ++ frames)
+    (first : List Reply) × (upgrade : Reply) × (texts : List ℕ) × (frames : List ℕ)
+    × (replies ≡ first ++ upgrade ∷ []) × (upgrade.status ≡ SWITCHING) × AreTextsOf replies texts × (all ≡ texts ++ frames)
 
 -- so it is of what was written and what waits
 abbrev pub IsVoiced : List ℕ → List Reply → Lane → Type 0
@@ -57,7 +58,7 @@ writes-front wire waits (write_failed at ∷ []) left whole h = h.2
 writes-front wire waits _ left whole h = absurd h
 
 speaks-voiced : (before after : Protocol) (all : List ℕ) (replies : List Reply) → SpeaksAs before after → Voiced all replies before → Voiced all replies after
-speaks-voiced (Http before) (Http after) all replies e h = h
+speaks-voiced (Http before) (Http after) all replies e h = subst (λ (a : HttpStateView). Voiced all replies (Http a)) (sym e) h
 speaks-voiced (Socket before) (Socket after) all replies e h = h
 speaks-voiced _ _ all replies e h = absurd e
 
@@ -89,19 +90,20 @@ still-pours before after answers e f g =
 same-pours : (before after : Lane) (answers : List Answer) → answers ≡ [] → after ≡ before → Pours before after answers
 same-pours before after answers e f = still-pours before after answers (ap (λ l. written_on before.wire l) e) (ap waits f) (ap (λ (l : Lane). l.protocol) f)
 
-says-pour : (before after : Lane) (answers : List Answer) → Says before after answers → Pours before after answers
-says-pour before after answers h = go before.stage h where
-  go : (s : Stage) → SaysAt s before after answers → Pours before after answers
+dropped-or-pour : (is_dropped : Bool) (before after : Lane) (answers : List Answer) → DropsOrWrites is_dropped before after answers → Pours before after answers
+dropped-or-pour true before after answers h = still-pours before after answers (ap (λ l. written_on before.wire l) h.0) (ap waits h.1) (ap (λ (l : Lane). l.protocol) h.1)
+dropped-or-pour false before after answers h = writes-pour before after answers h
+
+says-pour : (now : ℕ) (before after : Lane) (answers : List Answer) → Says now before after answers → Pours before after answers
+says-pour now before after answers h = go before.stage h where
+  go : (s : Stage) → SaysAt s now before after answers → Pours before after answers
   go Live h = writes-pour before after answers h
   go Lost h = same-pours before after answers h.0 h.1
-  go Closing h = writes-pour before after answers h
+  go Closing h = dropped-or-pour (has_closed_long now before.since) before after answers h
   go Over h = same-pours before after answers h.0 h.1
 
 more-pour : (before after : Lane) (answers : List Answer) → SaysMore before after answers → Pours before after answers
-more-pour before after answers h = go (is_too_much (length (waits before))) h where
-  go : (b : Bool) → Chooses b ((answers ≡ was_shut before.wire ∷ []) × (after ≡ record before { stage = after_end before.stage })) (WritesOut before after answers) → Pours before after answers
-  go true h = still-pours before after answers (ap (λ l. written_on before.wire l) h.0) (ap waits h.1) (ap (λ (l : Lane). l.protocol) h.1)
-  go false h = writes-pour before after answers h
+more-pour before after answers h = dropped-or-pour (is_too_much (length (waits before))) before after answers h
 
 -- ---- frames and replies that are added
 
@@ -111,21 +113,85 @@ frames-grow : (written out before after : List ℕ) (replies : List Reply) (old 
 frames-grow written out before after replies old new g h = (
   h.0,
   h.1,
-  h.2 ++ g.0,
-  h.3,
+  h.2,
+  h.3 ++ g.0,
   h.4,
+  h.5,
+  h.6,
   ap (λ l. written ++ (out ++ l)) g.1 ∙ ap (λ l. written ++ l) (sym (append_assoc out before g.0)) ∙ sym (append_assoc written (out ++ before) g.0)
-      ∙ ap (λ l. l ++ g.0) h.5 ∙ append_assoc (texts_of replies) h.2 g.0,
+      ∙ ap (λ l. l ++ g.0) h.7 ∙ append_assoc h.2 h.3 g.0,
 )
 
-texts-more : (replies : List Reply) (reply : Reply) → texts_of (replies ++ reply ∷ []) ≡ texts_of replies ++ reply_text reply
-texts-more replies reply = flat_map-append reply_text replies (reply ∷ []) ∙ ap (λ l. texts_of replies ++ l) (append-nil (reply_text reply))
+-- one reply more, before which a 100 may stand
+pub texts-more : (continued : Bool) (replies : List Reply) (reply : Reply) (texts : List ℕ) → AreTextsOf replies texts → AreTextsOf (replies ++ reply ∷ []) (texts ++ (continue_of continued ++ reply_text reply))
+texts-more continued [] reply texts h = (
+  continued,
+  [],
+  ap (λ l. l ++ (continue_of continued ++ reply_text reply)) h ∙ ap (λ l. continue_of continued ++ l) (sym (append-nil (reply_text reply))),
+  refl,
+)
+texts-more continued (first ∷ replies) reply texts h =
+    let more = continue_of continued ++ reply_text reply in (
+      h.0,
+      h.1 ++ more,
+      ap (λ l. l ++ more) h.2 ∙ append_assoc (continue_of h.0) (reply_text first ++ h.1) more ∙ ap (λ l. continue_of h.0 ++ l) (append_assoc (reply_text first) h.1 more),
+      texts-more continued replies reply h.1 h.3,
+    )
 
 -- a reply stands behind what waits of a lane of requests
-pub reply-said : (written out : List ℕ) (replies : List Reply) (reply : Reply) → written ++ (out ++ []) ≡ texts_of replies → written ++ ((out ++ reply_text reply) ++ []) ≡ texts_of (replies ++ reply ∷ [])
-reply-said written out replies reply h =
+pub reply-said : (written out texts : List ℕ) (continued : Bool) (reply : Reply) → written ++ (out ++ []) ≡ texts ++ continue_of continued →
+    written ++ ((out ++ reply_text reply) ++ []) ≡ (texts ++ (continue_of continued ++ reply_text reply)) ++ []
+reply-said written out texts continued reply h =
     ap (λ l. written ++ l) (append-nil (out ++ reply_text reply)) ∙ sym (append_assoc written out (reply_text reply))
-    ∙ ap (λ l. l ++ reply_text reply) (ap (λ l. written ++ l) (sym (append-nil out)) ∙ h) ∙ sym (texts-more replies reply)
+    ∙ ap (λ l. l ++ reply_text reply) (ap (λ l. written ++ l) (sym (append-nil out)) ∙ h) ∙ append_assoc texts (continue_of continued) (reply_text reply)
+    ∙ sym (append-nil (texts ++ (continue_of continued ++ reply_text reply)))
+
+http-replied : (written out : List ℕ) (replies : List Reply) (reply : Reply) (before after : HttpStateView) → Voiced (written ++ (out ++ [])) replies (Http before) →
+    Voiced (written ++ ((out ++ reply_text reply) ++ [])) (replies ++ reply ∷ []) (Http after)
+http-replied written out replies reply before after v = (
+  v.0 ++ (continue_of v.1 ++ reply_text reply),
+  false,
+  texts-more v.1 replies reply v.0 v.2,
+  λ e. absurd (cc e),
+  reply-said written out v.0 v.1 reply v.4,
+)
+
+-- the 100 that was to be said was
+abbrev noted : HttpStateView → HttpStateView
+noted http_state = record http_state { awaits_continue = false; continued = http_state.awaits_continue || http_state.continued }
+
+-- so does a 100, if none was said since the last reply
+http-continued : (written out : List ℕ) (replies : List Reply) (old new : HttpStateView) → new.continued ≡ old.continued → Voiced (written ++ (out ++ [])) replies (Http old) →
+    Voiced (written ++ (out_after_continue (Http new) out ++ [])) replies (protocol_after_continue (Http new))
+http-continued written out replies old new e v = go (says_continue new) refl where
+  one : (a b : Bool) → (a && not b) ≡ true → (a || b) ≡ true
+  one true b f = refl
+  one false b f = absurd (cc f)
+
+  other : (a b : Bool) → b ≡ true → (a || b) ≡ true
+  other true b f = refl
+  other false b f = f
+
+  both : (a b : Bool) → (a && not b) ≡ true → b ≡ false
+  both true true f = absurd (cc f)
+  both true false f = refl
+  both false b f = absurd (cc f)
+
+  unsaid : (continued : Bool) → (continued ≡ true → old.continued ≡ true) → new.continued ≡ false → continued ≡ false
+  unsaid true f g = absurd (cc (sym (e ∙ f refl) ∙ g))
+  unsaid false f g = refl
+
+  go : (b : Bool) → says_continue new ≡ b → Voiced (written ++ ((if b then out ++ continue_text else out) ++ [])) replies (protocol_after_continue (Http new))
+  go true f =
+      let none : v.1 ≡ false = unsaid v.1 v.3 (both new.awaits_continue new.continued f) in
+      let plain : written ++ (out ++ []) ≡ v.0 = v.4 ∙ ap (λ c. v.0 ++ continue_of c) none ∙ append-nil v.0 in (
+        v.0,
+        true,
+        v.2,
+        λ _. one new.awaits_continue new.continued f,
+        ap (λ l. written ++ l) (append-nil (out ++ continue_text)) ∙ sym (append_assoc written out continue_text) ∙ ap (λ l. l ++ continue_text) (ap (λ l. written ++ l) (sym (append-nil out)) ∙ plain),
+      )
+  go false f = (v.0, v.1, v.2, λ c. other new.awaits_continue new.continued (e ∙ v.3 c), v.4)
 
 -- ---- hearing
 
@@ -152,14 +218,14 @@ settles-unwritten at now before after answers input.Nothing heard h = go (is_ove
   go true h = ap (λ l. written_on at l) h.0
   go false h = ap (λ l. written_on at l) h.0
 settles-unwritten at now before after answers (input.Request request) heard h = ap (λ l. written_on at l) h.0
-settles-unwritten at now before after answers (input.Refused status) heard h = ap (λ l. written_on at l) h.0
+settles-unwritten at now before after answers (input.Refused refusal) heard h = ap (λ l. written_on at l) h.0
 settles-unwritten at now before after answers (input.Message bytes) heard h = ap (λ l. written_on at l) h.0
 settles-unwritten at now before after answers input.Broken heard h = ap (λ l. written_on at l) h.0
 settles-unwritten at now before after answers input.Gone heard h = ap (λ l. written_on at l) h.0
 
 -- the door's own reply to the input
 abbrev pub refusals_of : Input → List Reply
-refusals_of (input.Refused status) = refusal_of status ∷ []
+refusals_of (input.Refused refusal) = refusal_of refusal ∷ []
 refusals_of _ = []
 
 gets-grow : (before after : socket.Lane) (got : Option (List ℕ)) (answer : SocketRead) → Gets before got answer after → Grows before.out.bytes after.out.bytes
@@ -171,40 +237,44 @@ becomes : (written : List ℕ) (replies : List Reply) (settled mid : Lane) → s
 becomes written replies settled mid e h = subst (λ (l : Lane). IsVoiced written replies l) (sym e) h
 
 settles-voiced : (now : ℕ) (x : Lane) (protocol : Protocol) (after : Lane) (read answers : List Answer) (what : Input) (heard : Option Event) (written : List ℕ) (replies : List Reply) → Hears x.wire x.protocol protocol read what →
-    Settles now (record x { protocol = protocol }) after answers what heard → IsVoiced written replies x → IsVoiced written (replies ++ refusals_of what) after
+    Settles now (after_hearing protocol x) after answers what heard → IsVoiced written replies x → IsVoiced written (replies ++ refusals_of what) after
 settles-voiced now x protocol after read answers what heard written replies h s k = go x.protocol protocol what h s k where
   none : (l : Lane) → IsVoiced written replies l → IsVoiced written (replies ++ []) l
   none l v = subst (λ (r : List Reply). IsVoiced written r l) (sym (append-nil replies)) v
 
-  nothing : (protocol : Protocol) → IsVoiced written replies (record x { protocol = protocol }) → (b : Bool) → Chooses b (Falls (record x { protocol = protocol }) after answers heard) (Passes (record x { protocol = protocol }) after answers None heard) →
+  nothing : (protocol : Protocol) → IsVoiced written replies (after_hearing protocol x) → (b : Bool) → Chooses b (Falls (after_hearing protocol x) after answers heard) (Passes (after_hearing protocol x) after answers None heard) →
       IsVoiced written replies after
-  nothing protocol v true f = becomes written replies after (record x { protocol = protocol; stage = Over }) f.2 v
-  nothing protocol v false f = becomes written replies after (record x { protocol = protocol }) f.2 v
+  nothing protocol v true f = becomes written replies after (record (after_hearing protocol x) { stage = Over }) f.2 v
+  nothing protocol v false f = becomes written replies after (after_hearing protocol x) f.2 v
+
+  continued : (old new : HttpStateView) → new.continued ≡ old.continued → Voiced (written ++ (x.out ++ [])) replies (Http old) → IsVoiced written replies (after_hearing (Http new) x)
+  continued old new e v = http-continued written x.out replies old new e v
 
   grown : (old new : WebSocketState) → Grows old.lane.out.bytes new.lane.out.bytes → Voiced (written ++ (x.out ++ old.lane.out.bytes)) replies (Socket old) → Voiced (written ++ (x.out ++ new.lane.out.bytes)) replies (Socket new)
   grown old new g v = frames-grow written x.out old.lane.out.bytes new.lane.out.bytes replies old new g v
 
-  go : (old new : Protocol) (what : Input) → Hears x.wire old new read what → Settles now (record x { protocol = new }) after answers what heard → Voiced (written ++ (x.out ++ frames_of old)) replies old →
+  go : (old new : Protocol) (what : Input) → Hears x.wire old new read what → Settles now (after_hearing new x) after answers what heard → Voiced (written ++ (x.out ++ frames_of old)) replies old →
       IsVoiced written (replies ++ refusals_of what) after
-  go (Http old) (Http new) input.Nothing h s v = none after (nothing (Http new) v (is_overdue now (record x { protocol = Http new })) s)
-  go (Http old) (Http new) (input.Request request) h s v = none after (becomes written replies after (record x { protocol = Http new }) s.2 v)
-  go (Http old) (Http new) (input.Refused status) h s v =
-      becomes written (replies ++ refusal_of status ∷ []) after (record x { protocol = Http new; out = x.out ++ reply_text (refusal_of status); stage = Closing }) s.2
-      (reply-said written x.out replies (refusal_of status) v)
+  go (Http old) (Http new) input.Nothing h s v = none after (nothing (Http new) (continued old new h.continued v) (is_overdue now (after_hearing (Http new) x)) s)
+  go (Http old) (Http new) (input.Request request) h s v = none after (becomes written replies after (after_hearing (Http new) x) s.2 (continued old new h.continued v))
+  go (Http old) (Http new) (input.Refused refusal) h s v =
+      becomes written (replies ++ refusal_of refusal ∷ []) after
+      (record (after_hearing (Http new) x) { since = now; out = out_after_continue (Http new) x.out ++ reply_text (refusal_of refusal); stage = Closing }) s.2
+      (http-replied written (out_after_continue (Http new) x.out) replies (refusal_of refusal) (noted new) (noted new) (continued old new h.continued v))
   go (Http old) (Http new) (input.Message bytes) h s v = absurd h.is_input
-  go (Http old) (Http new) input.Broken h s v = none after (becomes written replies after (record x { protocol = Http new; stage = Over }) s.2 v)
+  go (Http old) (Http new) input.Broken h s v = none after (becomes written replies after (record (after_hearing (Http new) x) { stage = Over }) s.2 (continued old new h.continued v))
   go (Http old) (Http new) input.Gone h s v = absurd h.is_input
   go (Socket old) (Socket new) input.Nothing h s v =
-      none after (nothing (Socket new) (grown old new (gets-grow old.lane new.lane h.got _ h.is_input.0) v) (is_overdue now (record x { protocol = Socket new })) s)
+      none after (nothing (Socket new) (grown old new (gets-grow old.lane new.lane h.got _ h.is_input.0) v) (is_overdue now (after_hearing (Socket new) x)) s)
   go (Socket old) (Socket new) (input.Request request) h s v = absurd h.is_input
-  go (Socket old) (Socket new) (input.Refused status) h s v = absurd h.is_input
+  go (Socket old) (Socket new) (input.Refused refusal) h s v = absurd h.is_input
   go (Socket old) (Socket new) (input.Message bytes) h s v =
       none after (becomes written replies after (record x { protocol = Socket new }) s.2 (grown old new (gets-grow old.lane new.lane h.got _ h.is_input.0) v))
   go (Socket old) (Socket new) input.Broken h s v =
       none after (becomes written replies after (record x { protocol = Socket new; stage = Over }) s.2
       (grown old new (grows-none old.lane.out.bytes new.lane.out.bytes (ap (λ (l : socket.Lane). l.out.bytes) h.is_input.1)) v))
   go (Socket old) (Socket new) input.Gone h s v =
-      none after (becomes written replies after (record x { protocol = protocol_after_shut (Socket new); stage = Closing }) s.2
+      none after (becomes written replies after (record x { since = now; protocol = protocol_after_shut (Socket new); stage = Closing }) s.2
       (frames-grow written x.out old.lane.out.bytes (frames_of (protocol_after_shut (Socket new))) replies old old
       (grows-on old.lane.out.bytes new.lane.out.bytes (frames_of (protocol_after_shut (Socket new))) (gets-grow old.lane new.lane h.got _ h.is_input.0) (shut-grows new.lane)) v))
   go (Http old) (Socket new) what h s v = absurd h
@@ -230,8 +300,8 @@ settles-refusals now before after answers input.Nothing heard h = go (is_overdue
   go true h = ap (λ o. refusals_in before.wire o) h.1
   go false h = ap (λ o. refusals_in before.wire o) h.1
 settles-refusals now before after answers (input.Request request) heard h = ap (λ o. refusals_in before.wire o) h.1
-settles-refusals now before after answers (input.Refused status) heard h =
-    ap (λ o. refusals_in before.wire o) h.1 ∙ ap (λ b. if b then refusal_of status ∷ [] else []) (same before.wire)
+settles-refusals now before after answers (input.Refused refusal) heard h =
+    ap (λ o. refusals_in before.wire o) h.1 ∙ ap (λ b. if b then refusal_of refusal ∷ [] else []) (same before.wire)
 settles-refusals now before after answers (input.Message bytes) heard h = ap (λ o. refusals_in before.wire o) h.1
 settles-refusals now before after answers input.Broken heard h = ap (λ o. refusals_in before.wire o) h.1
 settles-refusals now before after answers input.Gone heard h = ap (λ o. refusals_in before.wire o) h.1
@@ -260,7 +330,7 @@ live-written wire answers read shut written all e f =
 
 live-says : (now : ℕ) (x y : Lane) (mine : List Answer) (own : Option Event) → TurnsLive now x y mine own → SaysIn x y mine (refusals_in x.wire own)
 live-says now x y mine own h written replies v =
-    let mid = record x { protocol = h.protocol } in
+    let mid = after_hearing h.protocol x in
     let w = x.wire in
     let kept = settles-keeps now mid h.settled h.shut h.input h.trace h.settles in
     let refused : refusals_in w own ≡ refusals_of h.input = loses-refusals w h.trace h.said y own h.loses ∙ settles-refusals now mid h.settled h.shut h.input h.trace h.settles in
@@ -269,7 +339,7 @@ live-says now x y mine own h written replies v =
     ∙ ap (λ n. written_on n h.written) (sym kept.0.0) in
     let more = replies ++ refusals_of h.input in
     let settled = settles-voiced now x h.protocol h.settled h.read h.shut h.input h.trace written replies h.hears h.settles v in
-    let said = says-pour h.settled h.said h.written h.says written more settled in
+    let said = says-pour now h.settled h.said h.written h.says written more settled in
     let lost = loses-voiced h.trace h.said y own (written ++ written_on h.settled.wire h.written) more h.loses said in
     subst (λ (l : List ℕ). IsVoiced (written ++ l) (replies ++ refusals_in w own) y) (sym wrote_is)
     (subst (λ (r : List Reply). IsVoiced (written ++ written_on h.settled.wire h.written) (replies ++ r) y) (sym refused) lost)
@@ -282,7 +352,7 @@ listens-say now x y mine own h = go x.stage h where
   go : (s : Stage) → TurnsAt s now x y mine own → SaysIn x y mine (refusals_in x.wire own)
   go Live h = live-says now x y mine own h
   go Lost h = pours-say x y mine (refusals_in x.wire own) (passes-pour x (record x { stage = Over }) y mine _ own refl refl h) (ap (λ o. refusals_in x.wire o) h.1)
-  go Closing h = pours-say x y mine (refusals_in x.wire own) (says-pour x y mine h.1) (ap (λ o. refusals_in x.wire o) h.0)
+  go Closing h = pours-say x y mine (refusals_in x.wire own) (says-pour now x y mine h.1) (ap (λ o. refusals_in x.wire o) h.0)
   go Over h = pours-say x y mine (refusals_in x.wire own) (passes-pour x x y mine _ own refl refl h) (ap (λ o. refusals_in x.wire o) h.1)
 
 pub heard-refusals : (wire : ℕ) (own : Option Event) (what : Event) → IsHeard wire own what → refusal_on wire what ≡ refusals_in wire own
@@ -291,20 +361,29 @@ heard-refusals wire (Some trace) what h = ap (λ v. refusal_on wire v) h
 
 heeds-say : (now : ℕ) (what : Event) (x y : Lane) (mine : List Answer) → Heeds now what x y mine → SaysIn x y mine (refusal_on x.wire what)
 heeds-say now what x y mine (inl h) = subst (λ (l : List Reply). SaysIn x y mine l) (sym (heard-refusals x.wire h.0 what h.2)) (listens-say now x y mine h.0 h.1)
-heeds-say now what x y mine (inr h) = pours-say x y mine (refusal_on x.wire what) (says-pour x y mine h.0) (unrefused x.wire what h.1)
+heeds-say now what x y mine (inr h) = pours-say x y mine (refusal_on x.wire what) (says-pour now x y mine h.0) (unrefused x.wire what h.1)
 
 -- ---- saying
 
 -- a lane that owes a reply says it
 reply-voiced : (now : ℕ) (reply : Reply) (x : Lane) (written : List ℕ) (replies : List Reply) → owes x ≡ true → IsVoiced written replies x → IsVoiced written (replies ++ reply ∷ []) (after_reply now reply x)
 reply-voiced now reply x written replies owed v = go x.protocol refl owed v where
-  http : (http_state : Rattle.hw_net.specs.HttpState.HttpStateView) → x.protocol ≡ Http http_state → written ++ (x.out ++ []) ≡ texts_of replies → (b : Bool) → (reply.status == SWITCHING) ≡ b →
+  http : (http_state : HttpStateView) → x.protocol ≡ Http http_state → Voiced (written ++ (x.out ++ [])) replies (Http http_state) → (b : Bool) → (reply.status == SWITCHING) ≡ b →
       IsVoiced written (replies ++ reply ∷ []) (if b then record x { protocol = new_socket (rest_of x.protocol); out = x.out ++ reply_text reply }
       else record x { protocol = protocol_after_reply x.protocol; out = x.out ++ reply_text reply; since = now })
-  http http_state e v true f = (replies, reply, [], refl, equal reply.status SWITCHING f, reply-said written x.out replies reply v ∙ sym (append-nil (texts_of (replies ++ reply ∷ []))))
+  http http_state e v true f = (
+    replies,
+    reply,
+    v.0 ++ (continue_of v.1 ++ reply_text reply),
+    [],
+    refl,
+    equal reply.status SWITCHING f,
+    texts-more v.1 replies reply v.0 v.2,
+    reply-said written x.out v.0 v.1 reply v.4,
+  )
   http http_state e v false f =
       subst (λ (t : Protocol). IsVoiced written (replies ++ reply ∷ []) (record x { protocol = protocol_after_reply t; out = x.out ++ reply_text reply; since = now })) (sym e)
-      (reply-said written x.out replies reply v)
+      (http-replied written x.out replies reply http_state (record http_state { lane = record http_state.lane { ended = false }; busy = false; continued = false }) v)
 
   go : (protocol : Protocol) → x.protocol ≡ protocol → (is_live x.stage && Rattle.hw_net.specs.Lane.is_busy protocol) ≡ true → Voiced (written ++ (x.out ++ frames_of protocol)) replies protocol → IsVoiced written (replies ++ reply ∷ []) (after_reply now reply x)
   go (Http http_state) e owed v = http http_state e v (reply.status == SWITCHING) refl
@@ -340,10 +419,10 @@ shut-voiced : (protocol : Protocol) (written out : List ℕ) (replies : List Rep
 shut-voiced (Http http_state) written out replies v = v
 shut-voiced (Socket websocket_state) written out replies v = frames-grow written out websocket_state.lane.out.bytes (frames_of (protocol_after_shut (Socket websocket_state))) replies websocket_state websocket_state (shut-grows websocket_state.lane) v
 
-shuts-pour : (x y : Lane) (mine : List Answer) → Shuts x y mine → Pours x y mine
-shuts-pour x y mine h = go (is_live x.stage) h where
-  go : (b : Bool) → Chooses b (WritesOut (record x { protocol = protocol_after_shut x.protocol; stage = Closing }) y mine) ((mine ≡ []) × (y ≡ x)) → Pours x y mine
-  go true h = λ written replies v. writes-pour (record x { protocol = protocol_after_shut x.protocol; stage = Closing }) y mine h written replies (shut-voiced x.protocol written x.out replies v)
+shuts-pour : (now : ℕ) (x y : Lane) (mine : List Answer) → Shuts now x y mine → Pours x y mine
+shuts-pour now x y mine h = go (is_live x.stage) h where
+  go : (b : Bool) → Chooses b (WritesOut (record x { since = now; protocol = protocol_after_shut x.protocol; stage = Closing }) y mine) ((mine ≡ []) × (y ≡ x)) → Pours x y mine
+  go true h = λ written replies v. writes-pour (record x { since = now; protocol = protocol_after_shut x.protocol; stage = Closing }) y mine h written replies (shut-voiced x.protocol written x.out replies v)
   go false h = same-pours x y mine h.0 h.1
 
 -- ---- sessions
@@ -360,8 +439,8 @@ moves-say (session.sent at bytes text answers) x y h =
     by-number at (Sends bytes text) x y (share x.wire answers) (λ b. SaysIn x y (share x.wire answers) [])
     (λ s. pours-say x y (share x.wire answers) [] (sends-pour bytes text x y (share x.wire answers) s) refl) (λ e f. pours-say x y (share x.wire answers) [] (same-pours x y (share x.wire answers) f e) refl) h
 moves-say (session.shut at answers) x y h =
-    by-number at Shuts x y (share x.wire answers) (λ b. SaysIn x y (share x.wire answers) [])
-    (λ s. pours-say x y (share x.wire answers) [] (shuts-pour x y (share x.wire answers) s) refl) (λ e f. pours-say x y (share x.wire answers) [] (same-pours x y (share x.wire answers) f e) refl) h
+    by-number at (Shuts h.0) x y (share x.wire answers) (λ b. SaysIn x y (share x.wire answers) [])
+    (λ s. pours-say x y (share x.wire answers) [] (shuts-pour h.0 x y (share x.wire answers) s) refl) (λ e f. pours-say x y (share x.wire answers) [] (same-pours x y (share x.wire answers) f e) refl) h.1
 
 pub written-more : (wire : ℕ) (calls : List Call) (call : Call) → written_on wire (answers_of (call ∷ calls)) ≡ written_on wire (answers_of calls) ++ written_on wire (share wire (answers_in call))
 written-more wire calls call = written-append wire (answers_of calls) (answers_in call) ∙ ap (λ l. written_on wire (answers_of calls) ++ l) (written-share wire (answers_in call))
@@ -382,7 +461,13 @@ step-said call calls x y k h = (
 pub new-said : (calls : List Call) (now wire : ℕ) → IsUntouched wire calls → HasSaid calls (new_lane now wire)
 new-said calls now wire h = (
   new-owed calls now wire h,
-  append-nil (written_on wire (answers_of calls)) ∙ written-share wire (answers_of calls) ∙ ap (λ l. written_on wire l) h.answers ∙ ap texts_of (sym h.replies),
+  (
+    [],
+    false,
+    subst (λ (r : List Reply). AreTextsOf r []) (sym h.replies) refl,
+    λ e. absurd (cc e),
+    append-nil (written_on wire (answers_of calls)) ∙ written-share wire (answers_of calls) ∙ ap (λ l. written_on wire l) h.answers,
+  ),
 )
 
 wrote-of : (calls : List Call) (lane : Lane) (protocol : Protocol) → Voiced (written_on lane.wire (answers_of calls) ++ waits lane) (replies_on lane.wire calls) protocol → WroteReplies calls lane protocol

@@ -140,14 +140,14 @@ walks-still a b c now begin index all cur buf first_look le within inside listen
     (h.0 ++ look.0, tells-more a b c h.0 look.0 h.1 look.1, subst (λ (l : List Lane). Walks now None begin (index + 1) all l (h.0 ++ look.0) None) same walked)
 
 -- and of lanes that write what waits
-pub speaks-here : (a b c : Option (List Answer)) (begin index : ℕ) (all cur after : List Lane) → begin ≤ index → index < length all → index < length cur →
-    ((answers : List Answer) × Tells a b answers × Speak begin index all cur answers) → ((answers : List Answer) × Tells b c answers × DoesHere index Says cur after answers) →
-    (answers : List Answer) × Tells a c answers × Speak begin (index + 1) all after answers
-speaks-here a b c begin index all cur after le within inside h k = (
+pub speaks-here : (a b c : Option (List Answer)) (now begin index : ℕ) (all cur after : List Lane) → begin ≤ index → index < length all → index < length cur →
+    ((answers : List Answer) × Tells a b answers × Speak now begin index all cur answers) → ((answers : List Answer) × Tells b c answers × DoesHere index (Says now) cur after answers) →
+    (answers : List Answer) × Tells a c answers × Speak now begin (index + 1) all after answers
+speaks-here a b c now begin index all cur after le within inside h k = (
   h.0 ++ k.0,
   tells-more a b c h.0 k.0 h.1 k.1,
-  λ now trace. subst (λ (l : List Lane). Walks now (Some trace) begin (index + 1) all l (h.0 ++ k.0) (Some trace)) (sym k.2.order)
-      (walk-more now (Some trace) begin index all cur k.2.lane k.2.next h.0 k.0 (Some trace) (Some trace) le within inside k.2.at (h.2 now trace) (refl, k.2.does)),
+  λ trace. subst (λ (l : List Lane). Walks now (Some trace) begin (index + 1) all l (h.0 ++ k.0) (Some trace)) (sym k.2.order)
+      (walk-more now (Some trace) begin index all cur k.2.lane k.2.next h.0 k.0 (Some trace) (Some trace) le within inside k.2.at (h.2 trace) (refl, k.2.does)),
 )
 
 -- two parts of the places, one after the other
@@ -246,8 +246,8 @@ spoken (Http http_state) = refl
 spoken (Socket websocket_state) = refl
 
 -- a lane on which nothing waits says nothing
-pub silent : (lane : Lane) → has_unwritten lane ≡ false → Says lane lane []
-silent lane e = go lane.stage e refl where
+pub silent : (now : ℕ) (lane : Lane) → has_unwritten lane ≡ false → Says now lane lane []
+silent now lane e = go lane.stage e refl where
   quiet : lane.stage ≡ Live → length (waits lane) ≡ 0 → WritesOut lane lane []
   quiet live none =
       let empty : waits lane ≡ [] = nil_from_length (waits lane) none in
@@ -261,7 +261,7 @@ silent lane e = go lane.stage e refl where
         stays = λ _. (refl, refl);
       }
 
-  go : (s : Stage) → has_unwritten_by s (length (waits lane)) ≡ false → lane.stage ≡ s → SaysAt s lane lane []
+  go : (s : Stage) → has_unwritten_by s (length (waits lane)) ≡ false → lane.stage ≡ s → SaysAt s now lane lane []
   go Live e is = quiet is (nothing-waits (length (waits lane)) e)
   go Lost e is = (refl, refl)
   go Closing e is = absurd (never e)
@@ -276,7 +276,7 @@ silent-turns : (now : ℕ) (trace : Event) (lanes : List Lane) → (tally_of lan
 silent-turns now trace [] h = (refl, refl, refl)
 silent-turns now trace (lane ∷ lanes) h =
     let lane_is : has_unwritten lane ≡ false = nothing-unwritten (has_unwritten lane) (omega (arith, h)) in
-    (Some trace, lane, lanes, [], [], refl, refl, (refl, silent lane lane_is), silent-turns now trace lanes (omega (arith, h)))
+    (Some trace, lane, lanes, [], [], refl, refl, (refl, silent now lane lane_is), silent-turns now trace lanes (omega (arith, h)))
 
 fewer-after : (n : ℕ) (lanes : List Lane) → (tally_of (drop n lanes)).writers ≤ (tally_of lanes).writers
 fewer-after zero lanes = omega arith
@@ -288,8 +288,8 @@ fewer-before zero lanes = omega arith
 fewer-before (suc n) [] = omega arith
 fewer-before (suc n) (lane ∷ lanes) = omega (arith, fewer-before n lanes)
 
-pub silent-walk : (begin end : ℕ) (lanes : List Lane) → ltb 0 (tally_of lanes).writers ≡ false → Speak begin end lanes lanes []
-silent-walk begin end lanes e now trace =
+pub silent-walk : (now begin end : ℕ) (lanes : List Lane) → ltb 0 (tally_of lanes).writers ≡ false → Speak now begin end lanes lanes []
+silent-walk now begin end lanes e trace =
     let none : (tally_of lanes).writers ≡ 0 = nothing-waits (tally_of lanes).writers e in
     let few : (tally_of (between begin end lanes)).writers ≤ 0 = omega (arith, none, fewer-after begin lanes, fewer-before (end - begin) (drop begin lanes)) in
     record { front = refl; back = refl; turns = silent-turns now trace (between begin end lanes) few }
@@ -298,12 +298,12 @@ silent-walk begin end lanes e now trace =
 
 -- something is heard, and then the other lanes of the part write what waits
 pub walks-speak : (a b c : Option (List Answer)) (now : ℕ) (begin mid end : ℕ) (all cur after : List Lane) (heard : Event) → begin ≤ mid → mid ≤ end →
-    ((answers : List Answer) × Tells a b answers × Walks now None begin mid all cur answers (Some heard)) → ((answers : List Answer) × Tells b c answers × Speak mid end cur after answers) →
+    ((answers : List Answer) × Tells a b answers × Walks now None begin mid all cur answers (Some heard)) → ((answers : List Answer) × Tells b c answers × Speak now mid end cur after answers) →
     (answers : List Answer) × Tells a c answers × Walks now None begin end all after answers (Some heard)
 walks-speak a b c now begin mid end all cur after heard le lt h k = (
   h.0 ++ k.0,
   tells-more a b c h.0 k.0 h.1 k.1,
-  walks-on now None (Some heard) (Some heard) begin mid end all cur after h.0 k.0 le lt h.2 (k.2 now heard),
+  walks-on now None (Some heard) (Some heard) begin mid end all cur after h.0 k.0 le lt h.2 (k.2 heard),
 )
 
 -- the lanes from a place on take their turns, and then those before it
@@ -322,11 +322,11 @@ hears-or-fails a b c now from index all cur after (Ok heard) here same h k = hea
 hears-or-fails a b c now from index all cur after (Err why) here same h k = k
 
 -- a lane on which nothing waits, where it stands
-pub says-nothing : (lanes : List Lane) (index : ℕ) (lane : Lane) → get_or lanes index lane ≡ lane → has_unwritten lane ≡ false → DoesHere index Says lanes lanes []
-says-nothing lanes index lane found e = record {
+pub says-nothing : (now : ℕ) (lanes : List Lane) (index : ℕ) (lane : Lane) → get_or lanes index lane ≡ lane → has_unwritten lane ≡ false → DoesHere index (Says now) lanes lanes []
+says-nothing now lanes index lane found e = record {
   lane = lane;
   next = lane;
   at = found;
   order = sym (ap (λ (l : Lane). set lanes index l) (sym found) ∙ set-get_or lanes index lane);
-  does = silent lane e;
+  does = silent now lane e;
 }

@@ -25,14 +25,14 @@ IsHeard wire (Some trace) what = what ≡ trace
 -- a lane's part of a `next`: it listened, or it only wrote
 abbrev pub Heeds : ℕ → Event → Lane → Lane → List Answer → Type 0
 Heeds now what x y mine =
-    ((own : Option Event) × Listens now x y mine own × IsHeard x.wire own what) ⊎ (Says x y mine × (is_on x.wire what ≡ false))
+    ((own : Option Event) × Listens now x y mine own × IsHeard x.wire own what) ⊎ (Says now x y mine × (is_on x.wire what ≡ false))
 
 -- a lane's part of a call
 abbrev pub Moves : Call → Lane → Lane → Type 0
 Moves (heard what answers) x y = Heeds what.now what.event x y (share x.wire answers)
 Moves (replied lane reply answers) x y = (moment : ℕ) × ActsAt lane (Replies moment reply) x y (share x.wire answers)
 Moves (sent lane bytes text answers) x y = ActsAt lane (Sends bytes text) x y (share x.wire answers)
-Moves (shut lane answers) x y = ActsAt lane Shuts x y (share x.wire answers)
+Moves (shut lane answers) x y = (moment : ℕ) × ActsAt lane (Shuts moment) x y (share x.wire answers)
 
 at-wire : (wire : ℕ) (Does : Lane → Lane → List Answer → Type 0) (x y : Lane) (mine : List Answer) → EachKeeps Does → ActsAt wire Does x y mine → y.wire ≡ x.wire
 at-wire wire Does x y mine each h = go (x.wire == wire) h where
@@ -43,10 +43,10 @@ at-wire wire Does x y mine each h = go (x.wire == wire) h where
 -- a lane keeps its number
 pub moves-wire : (call : Call) (x y : Lane) → Moves call x y → y.wire ≡ x.wire
 moves-wire (heard what answers) x y (inl h) = (listens-keeps what.now x y (share x.wire answers) h.0 h.1).0.0
-moves-wire (heard what answers) x y (inr h) = (says-keeps x y (share x.wire answers) h.0).0
+moves-wire (heard what answers) x y (inr h) = (says-keeps what.now x y (share x.wire answers) h.0).0
 moves-wire (replied lane reply answers) x y h = at-wire lane (Replies h.0 reply) x y (share x.wire answers) (replies-keeps h.0 reply) h.1
 moves-wire (sent lane bytes text answers) x y h = at-wire lane (Sends bytes text) x y (share x.wire answers) (sends-keeps bytes text) h
-moves-wire (shut lane answers) x y h = at-wire lane Shuts x y (share x.wire answers) shuts-keeps h
+moves-wire (shut lane answers) x y h = at-wire lane (Shuts h.0) x y (share x.wire answers) (shuts-keeps h.0) h.1
 
 -- a call isn't heard on a lane
 abbrev pub IsElsewhere : ℕ → Call → Type 0
@@ -177,9 +177,9 @@ steps (sent lane bytes text answers) bound bound_after before after d rise =
     (spreads lane (Sends bytes text) before.lanes after.lanes answers (sends-keeps bytes text) d.0.0 (rising-distinct 0 bound before.lanes rise))
     rise (sends-keep lane bytes text before after answers d.0) d.1
 steps (shut lane answers) bound bound_after before after d rise =
-    at-steps (shut lane answers) lane Shuts answers bound bound_after before after refl (λ x y k. k) (λ w. tt)
-    (spreads lane Shuts before.lanes after.lanes answers shuts-keeps d.0.0 (rising-distinct 0 bound before.lanes rise))
-    rise (shuts-keep lane before after answers d.0) d.1
+    at-steps (shut lane answers) lane (Shuts before.moment) answers bound bound_after before after refl (λ x y k. (before.moment, k)) (λ w. tt)
+    (spreads lane (Shuts before.moment) before.lanes after.lanes answers (shuts-keeps before.moment) d.0.0 (rising-distinct 0 bound before.lanes rise))
+    rise (shuts-keep lane before.moment before after answers d.0) d.1
 
 pub rises : (calls : List Call) (bound : ℕ) (now : DoorState) → Session calls bound now → IsRising 0 bound (wires_of now.lanes)
 rises [] bound now h = subst (λ (d : DoorState). IsRising 0 bound (wires_of d.lanes)) (sym h) (omega arith)
@@ -192,7 +192,7 @@ steps-in call calls bound now h = steps call h.0 bound h.1 now h.3 (rises calls 
 
 pub unrequested : (wire : ℕ) (what : Event) → is_on wire what ≡ false → request_on wire what ≡ []
 unrequested wire (event.Request at request) h = ap (λ b. if b then request ∷ [] else []) h
-unrequested wire (event.Refused at status) h = refl
+unrequested wire (event.Refused at refusal) h = refl
 unrequested wire (event.Bytes at bytes) h = refl
 unrequested wire (event.Response at status body) h = refl
 unrequested wire (event.Upgraded at) h = refl
@@ -201,7 +201,7 @@ unrequested wire event.Quiet h = refl
 
 pub not-request : (wire : ℕ) (what : Event) → is_on wire what ≡ false → is_request_on wire what ≡ false
 not-request wire (event.Request at request) h = h
-not-request wire (event.Refused at status) h = refl
+not-request wire (event.Refused at refusal) h = refl
 not-request wire (event.Bytes at bytes) h = refl
 not-request wire (event.Response at status body) h = refl
 not-request wire (event.Upgraded at) h = refl
@@ -210,7 +210,7 @@ not-request wire event.Quiet h = refl
 
 pub unrefused : (wire : ℕ) (what : Event) → is_on wire what ≡ false → refusal_on wire what ≡ []
 unrefused wire (event.Request at request) h = refl
-unrefused wire (event.Refused at status) h = ap (λ b. if b then refusal_of status ∷ [] else []) h
+unrefused wire (event.Refused at refusal) h = ap (λ b. if b then refusal_of refusal ∷ [] else []) h
 unrefused wire (event.Bytes at bytes) h = refl
 unrefused wire (event.Response at status body) h = refl
 unrefused wire (event.Upgraded at) h = refl
@@ -219,7 +219,7 @@ unrefused wire event.Quiet h = refl
 
 pub unheard : (wire : ℕ) (what : Event) → is_on wire what ≡ false → message_on wire what ≡ []
 unheard wire (event.Request at request) h = refl
-unheard wire (event.Refused at status) h = refl
+unheard wire (event.Refused at refusal) h = refl
 unheard wire (event.Bytes at bytes) h = ap (λ b. if b then bytes ∷ [] else []) h
 unheard wire (event.Response at status body) h = refl
 unheard wire (event.Upgraded at) h = refl

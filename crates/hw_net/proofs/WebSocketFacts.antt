@@ -32,7 +32,7 @@ websocket_state-reads a b wire room before after piece wants_read size h fed sam
 pub input-of : (wire : ℕ) (before mid after : WebSocketState) (answers : List Answer) (heard : Input) → (r : ReadsInto wire before mid answers true) → Finds mid after heard → IsInput before after answers r.got heard
 input-of wire before mid after answers input.Nothing r f = ((sym r.whole, (mid.lane, r.fed, f.0)), r.asked, f.1)
 input-of wire before mid after answers (input.Request request) r f = absurd f
-input-of wire before mid after answers (input.Refused status) r f = absurd f
+input-of wire before mid after answers (input.Refused refusal) r f = absurd f
 input-of wire before mid after answers (input.Message bytes) r f = ((sym r.whole, (mid.lane, r.fed, f.0)), f.1)
 input-of wire before mid after answers input.Broken r f = absurd f
 input-of wire before mid after answers input.Gone r f = ((sym r.whole, (mid.lane, r.fed, f.0)), f.1)

@@ -1,9 +1,9 @@
--- How much may wait on the lanes of a door.
-use Rattle.std.specs.Prelude.{◌≡◌, ◌≤◌, ℕ, Bool, true, false, List, [], ◌∷◌, length, ⊤}
+-- How much may wait on the lanes of a door, and for how long on those that close.
+use Rattle.std.specs.Prelude.{◌≡◌, ◌≤◌, ◌<◌, ◌-◌, ℕ, Bool, true, false, List, [], ◌∷◌, length, ⊤}
 use Rattle.hw_lanes.specs.declared.http.Reply.{Reply}
 use Rattle.hw_door.specs.declared.heard.Heard.{Heard}
 use Rattle.hw_door.specs.Traffic.{Answer}
-use Rattle.hw_net.specs.declared.limits.TheConstants.{MOST_UNWRITTEN}
+use Rattle.hw_net.specs.declared.limits.TheConstants.{MOST_CLOSING, MOST_UNWRITTEN}
 use Rattle.hw_net.specs.declared.protocol.Stage.{Stage}
 use Rattle.hw_net.specs.declared.protocol.Stage.TheVariants.{Live, Lost, Closing, Over}
 use Rattle.hw_net.specs.Door.{DoorState, HearsNext, DoesAt}
@@ -21,9 +21,13 @@ has_wire Over = false
 abbrev pub IsWithin : Lane → Type 0
 IsWithin lane = has_wire lane.stage ≡ true → length (waits lane) ≤ MOST_UNWRITTEN
 
+-- this holds of each lane
+abbrev pub EachIs : (Lane → Type 0) → List Lane → Type 0
+EachIs Is [] = ⊤
+EachIs Is (lane ∷ lanes) = Is lane × EachIs Is lanes
+
 abbrev pub AreWithin : List Lane → Type 0
-AreWithin [] = ⊤
-AreWithin (lane ∷ lanes) = IsWithin lane × AreWithin lanes
+AreWithin lanes = EachIs IsWithin lanes
 
 -- after each `next` no more waits than may, whatever did before it
 abbrev pub NextIsWithin : Type 0
@@ -39,5 +43,14 @@ SendsAreWithin = (lane : ℕ) (bytes : List ℕ) (text : Bool) (before after : D
     → AreWithin before.lanes → AreWithin after.lanes
 
 abbrev pub ShutsAreWithin : Type 0
-ShutsAreWithin = (lane : ℕ) (before after : DoorState) (answers : List Answer) → DoesAt lane Shuts before after answers
+ShutsAreWithin = (lane now : ℕ) (before after : DoorState) (answers : List Answer) → DoesAt lane (Shuts now) before after answers
     → AreWithin before.lanes → AreWithin after.lanes
+
+-- a lane that closes hasn't had its time yet at this moment
+abbrev pub IsInTime : ℕ → Lane → Type 0
+IsInTime now lane = lane.stage ≡ Closing → now - lane.since < MOST_CLOSING
+
+-- so it is of each lane after each `next`, whatever did before it
+abbrev pub NextIsInTime : Type 0
+NextIsInTime = (before after : DoorState) (answers : List Answer) (heard : Heard) → HearsNext before after answers heard
+    → EachIs (IsInTime heard.now) after.lanes

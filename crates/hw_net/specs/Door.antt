@@ -28,7 +28,14 @@ abbrev pub new_lane : ℕ → ℕ → Lane
 new_lane now wire = record {
   wire = wire;
   since = now;
-  protocol = Http (record { lane = at_start; busy = false; has_unparsed = true; last_read_was_full = true });
+  protocol = Http (record {
+    lane = at_start;
+    busy = false;
+    has_unparsed = true;
+    last_read_was_full = true;
+    awaits_continue = false;
+    continued = false;
+  });
   out = [];
   stage = Live;
 }
@@ -59,7 +66,7 @@ index_of_first from lanes = unwrap_or (position (λ (lane : Lane). nat_le from l
 -- the lane of an event
 abbrev pub lane_of : Event → ℕ
 lane_of (event.Request lane request) = lane
-lane_of (event.Refused lane status) = lane
+lane_of (event.Refused lane refusal) = lane
 lane_of (event.Bytes lane bytes) = lane
 lane_of (event.Response lane status body) = lane
 lane_of (event.Upgraded lane) = lane

@@ -6,7 +6,7 @@ use Rattle.hw_net.specs.declared.input.Input.TheVariants as input
 abbrev pub is_nothing : Input → Bool
 is_nothing input.Nothing = true
 is_nothing (input.Request request) = false
-is_nothing (input.Refused status) = false
+is_nothing (input.Refused refusal) = false
 is_nothing (input.Message bytes) = false
 is_nothing input.Broken = false
 is_nothing input.Gone = false

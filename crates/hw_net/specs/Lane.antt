@@ -1,20 +1,21 @@
 -- One lane of a door.
 use Rattle.std.specs.Prelude.{◌==◌, ◌-◌, ◌&&◌, ◌||◌, ℕ, Bool, true, false, not, nat_le, if◌then◌else◌, List, [], ◌++◌, map, None}
+use Rattle.hw_lanes.specs.declared.http.Refusal.{Refusal}
 use Rattle.hw_lanes.specs.declared.http.Reply.{Reply}
 use Rattle.hw_lanes.specs.declared.http.BodyKind.TheVariants as kind
-use Rattle.hh_http.specs.Texts.{reply_text}
+use Rattle.hh_http.specs.Texts.{continue_text, reply_text}
 use Rattle.hw_socket.specs.Lane.{fresh_lane}
 use Rattle.hw_socket.specs.Sending.{after_shut}
 use Rattle.hw_socket.specs.declared.vocabulary.SocketSide.TheVariants as side
 use Rattle.hw_net.specs.declared.limits.TheConstants.{MOST_WAIT, SWITCHING}
-use Rattle.hw_net.specs.HttpState.{is_awake as http_is_awake}
+use Rattle.hw_net.specs.HttpState.{HttpStateView, is_awake as http_is_awake}
 use Rattle.hw_net.specs.declared.protocol.Protocol.{Protocol}
 use Rattle.hw_net.specs.declared.protocol.Protocol.TheVariants.{Http, Socket}
 use Rattle.hw_net.specs.declared.protocol.Stage.{Stage}
 use Rattle.hw_net.specs.declared.protocol.Stage.TheVariants.{Live, Lost, Closing, Over}
 
--- a lane: the number of its wire, which is its own; since when it waits for a whole request; what it speaks; what was replied and isn't
--- written; and how far it is
+-- a lane: the number of its wire, which is its own; since when it waits for a whole request, or closes; what it speaks; what was replied
+-- and isn't written; and how far it is
 pub record Lane : Type 0 where
   pub wire : ℕ
   pub since : ℕ
@@ -75,9 +76,9 @@ is_late now since (Socket websocket_state) = false
 abbrev pub is_overdue : ℕ → Lane → Bool
 is_overdue now lane = is_late now lane.since lane.protocol
 
--- the reply to what is no request
-abbrev pub refusal_of : ℕ → Reply
-refusal_of status = record { status = status; kind = kind.None; body = []; accept = None }
+-- the reply to what is no request, after which the lane ends
+abbrev pub refusal_of : Refusal → Reply
+refusal_of refusal = record { status = refusal.status; kind = kind.None; body = []; accept = None; field = refusal.field; close = true }
 
 -- the stage after the wire was shut: a lane that was heard until then is lost
 abbrev pub after_end : Stage → Stage
@@ -93,8 +94,25 @@ protocol_after_shut (Socket websocket_state) = Socket (record websocket_state { 
 
 -- after a reply that isn't the last on a lane of requests
 abbrev pub protocol_after_reply : Protocol → Protocol
-protocol_after_reply (Http http_state) = Http (record http_state { lane = record http_state.lane { ended = false }; busy = false })
+protocol_after_reply (Http http_state) = Http (record http_state { lane = record http_state.lane { ended = false }; busy = false; continued = false })
 protocol_after_reply (Socket websocket_state) = Socket websocket_state
+
+-- a 100 is said: one is to be, and none was for this request
+abbrev pub says_continue : HttpStateView → Bool
+says_continue http_state = http_state.awaits_continue && not http_state.continued
+
+abbrev pub protocol_after_continue : Protocol → Protocol
+protocol_after_continue (Http http_state) =
+    Http (record http_state { awaits_continue = false; continued = http_state.awaits_continue || http_state.continued })
+protocol_after_continue (Socket websocket_state) = Socket websocket_state
+
+abbrev pub out_after_continue : Protocol → List ℕ → List ℕ
+out_after_continue (Http http_state) out = if says_continue http_state then out ++ continue_text else out
+out_after_continue (Socket websocket_state) out = out
+
+-- the lane once it heard what leaves this of what it speaks: a 100 that is to be said stands behind what waits
+abbrev pub after_hearing : Protocol → Lane → Lane
+after_hearing protocol lane = record lane { protocol = protocol_after_continue protocol; out = out_after_continue protocol lane.out }
 
 -- the bytes that were read and belong to no request
 abbrev pub rest_of : Protocol → List ℕ

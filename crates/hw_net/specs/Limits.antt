@@ -13,6 +13,10 @@ most_unwritten = 1048576
 abbrev pub most_wait : ℕ
 most_wait = 30000
 
+-- how many milliseconds a lane may close for
+abbrev pub most_closing : ℕ
+most_closing = 30000
+
 -- the status of an upgrade
 abbrev pub switching : ℕ
 switching = 101

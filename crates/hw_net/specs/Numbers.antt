@@ -22,5 +22,5 @@ SendsKeepNumbers = (lane : ℕ) (bytes : List ℕ) (text : Bool) (before after :
     → wires_of after.lanes ≡ wires_of before.lanes
 
 abbrev pub ShutsKeepNumbers : Type 0
-ShutsKeepNumbers = (lane : ℕ) (before after : DoorState) (answers : List Answer) → DoesAt lane Shuts before after answers
+ShutsKeepNumbers = (lane now : ℕ) (before after : DoorState) (answers : List Answer) → DoesAt lane (Shuts now) before after answers
     → wires_of after.lanes ≡ wires_of before.lanes

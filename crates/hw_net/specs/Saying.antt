@@ -1,7 +1,7 @@
 -- What a lane writes.
-use Rattle.std.specs.Prelude.{◌≡◌, ◌≢◌, ◌==◌, ◌||◌, ℕ, Bool, true, false, not, nat_lt, List, [], ◌∷◌, ◌++◌, length}
+use Rattle.std.specs.Prelude.{◌≡◌, ◌≢◌, ◌==◌, ◌||◌, ◌-◌, ℕ, Bool, true, false, not, nat_le, nat_lt, List, [], ◌∷◌, ◌++◌, length}
 use Rattle.hw_door.specs.Traffic.{Answer, bytes_out, write_failed, was_shut}
-use Rattle.hw_net.specs.declared.limits.TheConstants.{MOST_UNWRITTEN}
+use Rattle.hw_net.specs.declared.limits.TheConstants.{MOST_CLOSING, MOST_UNWRITTEN}
 use Rattle.hw_net.specs.declared.protocol.Protocol.{Protocol}
 use Rattle.hw_net.specs.declared.protocol.Protocol.TheVariants.{Http, Socket}
 use Rattle.hw_net.specs.declared.protocol.Stage.{Stage}
@@ -53,19 +53,28 @@ pub record WritesOut (before after : Lane) (answers : List Answer) : Type 0 wher
       → (answers ≡ sent ++ was_shut before.wire ∷ []) × (after.stage ≡ after_end before.stage)
   pub stays : must_end before.stage (length (waits after)) is_whole ≡ false → (answers ≡ sent) × (after.stage ≡ before.stage)
 
--- a lane whose wire is still there writes what waits
-abbrev pub SaysAt : Stage → Lane → Lane → List Answer → Type 0
-SaysAt Live before after answers = WritesOut before after answers
-SaysAt Lost before after answers = (answers ≡ []) × (after ≡ before)
-SaysAt Closing before after answers = WritesOut before after answers
-SaysAt Over before after answers = (answers ≡ []) × (after ≡ before)
+-- the wire is shut, and what waits is never written
+abbrev pub Drops : Lane → Lane → List Answer → Type 0
+Drops before after answers = (answers ≡ was_shut before.wire ∷ []) × (after ≡ record before { stage = after_end before.stage })
 
-abbrev pub Says : Lane → Lane → List Answer → Type 0
-Says before after answers = SaysAt before.stage before after answers
+-- what waits is dropped if the test is true, and else it is written
+abbrev pub DropsOrWrites : Bool → Lane → Lane → List Answer → Type 0
+DropsOrWrites is_dropped before after answers = Chooses is_dropped (Drops before after answers) (WritesOut before after answers)
+
+-- a lane that closes since this moment has had its time
+abbrev pub has_closed_long : ℕ → ℕ → Bool
+has_closed_long now since = nat_le MOST_CLOSING (now - since)
+
+-- a lane whose wire is still there writes what waits, unless it closes and has had its time
+abbrev pub SaysAt : Stage → ℕ → Lane → Lane → List Answer → Type 0
+SaysAt Live now before after answers = WritesOut before after answers
+SaysAt Lost now before after answers = (answers ≡ []) × (after ≡ before)
+SaysAt Closing now before after answers = DropsOrWrites (has_closed_long now before.since) before after answers
+SaysAt Over now before after answers = (answers ≡ []) × (after ≡ before)
+
+abbrev pub Says : ℕ → Lane → Lane → List Answer → Type 0
+Says now before after answers = SaysAt before.stage now before after answers
 
 -- after more was added to what waits: if it is too much the wire is shut and the lane is lost, and else what waits is written
 abbrev pub SaysMore : Lane → Lane → List Answer → Type 0
-SaysMore before after answers =
-    Chooses (is_too_much (length (waits before)))
-    ((answers ≡ was_shut before.wire ∷ []) × (after ≡ record before { stage = after_end before.stage }))
-    (WritesOut before after answers)
+SaysMore before after answers = DropsOrWrites (is_too_much (length (waits before))) before after answers

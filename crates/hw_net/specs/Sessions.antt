@@ -1,10 +1,11 @@
 -- Sessions of a door: its calls since it started, and what they hear, say and shut, put together.
-use Rattle.std.specs.Prelude.{◌≡◌, ◌⊎◌, ◌==◌, ◌&&◌, ◌||◌, ℕ, Bool, true, false, not, if◌then◌else◌, List, [], ◌∷◌, ◌++◌, length, flat_map, Contains, Some, ⊤}
+use Rattle.std.specs.Prelude.{◌≡◌, ◌⊎◌, ◌==◌, ◌&&◌, ◌||◌, ℕ, Bool, true, false, not, if◌then◌else◌, List, [], ◌∷◌, ◌++◌, length, Contains, Some, ⊤}
+use Rattle.hw_lanes.specs.declared.http.Refusal.{Refusal}
 use Rattle.hw_lanes.specs.declared.http.Reply.{Reply}
 use Rattle.hw_lanes.specs.declared.http.Request.{Request}
 use Rattle.hh_http.specs.Asks.{Asks, request_grammar}
 use Rattle.hh_http.specs.Messages.{Refuses}
-use Rattle.hh_http.specs.Texts.{reply_text}
+use Rattle.hh_http.specs.Texts.{continue_text, reply_text}
 use Rattle.hw_door.specs.declared.heard.Event.{Event}
 use Rattle.hw_door.specs.declared.heard.Event.TheVariants as event
 use Rattle.hw_door.specs.declared.heard.Heard.{Heard}
@@ -40,7 +41,7 @@ Does (replied lane reply answers) bound bound_after before after =
 Does (sent lane bytes text answers) bound bound_after before after =
     DoesAt lane (Sends bytes text) before after answers × (bound_after ≡ bound)
 Does (shut lane answers) bound bound_after before after =
-    DoesAt lane Shuts before after answers × (bound_after ≡ bound)
+    DoesAt lane (Shuts before.moment) before after answers × (bound_after ≡ bound)
 
 -- all calls of a door since it started, the latest first, and how they leave it
 abbrev pub Session : List Call → ℕ → DoorState → Type 0
@@ -128,8 +129,8 @@ RequestsAreAsked =
 abbrev pub RefusalsAreDeserved : Type 0
 RefusalsAreDeserved =
     (what : Heard) (answers : List Answer) (calls : List Call) (bound : ℕ) (now : DoorState) → Session (heard what answers ∷ calls) bound now
-    → (lane status : ℕ) → what.event ≡ event.Refused lane status
-    → (rest : List ℕ) × Asks (read_on lane (answers_of (heard what answers ∷ calls))) (requests_on lane calls) rest × Refuses request_grammar rest status
+    → (lane : ℕ) (refusal : Refusal) → what.event ≡ event.Refused lane refusal
+    → (rest : List ℕ) × Asks (read_on lane (answers_of (heard what answers ∷ calls))) (requests_on lane calls) rest × Refuses request_grammar rest refusal
 
 -- ---- what was said on a lane
 
@@ -148,7 +149,7 @@ is_owed_on lane (shut at answers ∷ calls) = not (at == lane) && is_owed_on lan
 
 -- the door's own reply to what is no request, if this is one of this lane
 abbrev pub refusal_on : ℕ → Event → List Reply
-refusal_on lane (event.Refused at status) = if at == lane then refusal_of status ∷ [] else []
+refusal_on lane (event.Refused at refusal) = if at == lane then refusal_of refusal ∷ [] else []
 refusal_on lane _ = []
 
 -- the replies that were said on a lane, in order: those that were given while one was owed, and the door's own
@@ -159,18 +160,27 @@ replies_on lane (replied at reply answers ∷ calls) =
     replies_on lane calls ++ (if (at == lane) && is_owed_on lane calls then reply ∷ [] else [])
 replies_on lane (_ ∷ calls) = replies_on lane calls
 
--- the texts of replies one after the other
-abbrev pub texts_of : List Reply → List ℕ
-texts_of replies = flat_map reply_text replies
+-- the text of a 100, if one is said
+abbrev pub continue_of : Bool → List ℕ
+continue_of continued = if continued then continue_text else []
 
--- What was written on a lane's wire, and then what waits, are the texts of the replies said there. On a lane that became a WebSocket the
--- last reply is the upgrade, and its frames follow.
+-- these bytes are the texts of the replies one after the other, before each of which one 100 may stand
+abbrev pub AreTextsOf : List Reply → List ℕ → Type 0
+AreTextsOf [] bytes = bytes ≡ []
+AreTextsOf (reply ∷ replies) bytes =
+    (continued : Bool) × (rest : List ℕ) × (bytes ≡ continue_of continued ++ (reply_text reply ++ rest)) × AreTextsOf replies rest
+
+-- What was written on a lane's wire, and then what waits, are the texts of the replies said there, before each of which one 100 may
+-- stand, and then one for the request that comes or waits for its reply, if it was said. On a lane that became a WebSocket the last reply is the
+-- upgrade, and its frames follow.
 abbrev pub WroteReplies : List Call → Lane → Protocol → Type 0
-WroteReplies calls lane (Http http_state) = written_on lane.wire (answers_of calls) ++ waits lane ≡ texts_of (replies_on lane.wire calls)
+WroteReplies calls lane (Http http_state) =
+    (texts : List ℕ) × (continued : Bool) × AreTextsOf (replies_on lane.wire calls) texts × (continued ≡ true → http_state.continued ≡ true)
+    × (written_on lane.wire (answers_of calls) ++ waits lane ≡ texts ++ continue_of continued)
 WroteReplies calls lane (Socket websocket_state) =
-    (replies : List Reply) × (upgrade : Reply) × (frames : List ℕ)
-    × (replies_on lane.wire calls ≡ replies ++ upgrade ∷ []) × (upgrade.status ≡ SWITCHING)
-    × (written_on lane.wire (answers_of calls) ++ waits lane ≡ texts_of (replies_on lane.wire calls) ++ frames)
+    (replies : List Reply) × (upgrade : Reply) × (texts : List ℕ) × (frames : List ℕ)
+    × (replies_on lane.wire calls ≡ replies ++ upgrade ∷ []) × (upgrade.status ≡ SWITCHING) × AreTextsOf (replies_on lane.wire calls) texts
+    × (written_on lane.wire (answers_of calls) ++ waits lane ≡ texts ++ frames)
 
 -- so it is of each lane, also after its wire was shut: what waits then is never written
 abbrev pub RepliesAreWritten : Type 0
@@ -190,7 +200,7 @@ RequestsWaitForReplies =
 -- the loss of this lane is heard, or its refusal
 abbrev pub is_end_on : ℕ → Event → Bool
 is_end_on lane (event.Lost at) = at == lane
-is_end_on lane (event.Refused at status) = at == lane
+is_end_on lane (event.Refused at refusal) = at == lane
 is_end_on lane _ = false
 
 -- the loss of the lane was heard, or its refusal, or the caller shut it once it had come
@@ -278,7 +288,9 @@ pub record IsCarried (live : Bool) (came wrote : List ℕ) (requests : List Requ
   pub asks : Asks front requests rest
   pub fed : socket_calls.fed calls ≡ rest ++ more
   pub heard_all : socket_calls.heard calls ≡ messages
-  pub wrote_all : wrote ≡ texts_of replies ++ keeps.out.bytes
+  pub texts : List ℕ
+  pub said : AreTextsOf replies texts
+  pub wrote_all : wrote ≡ texts ++ keeps.out.bytes
 
 abbrev pub CarriesSocket : List Call → Lane → Protocol → Type 0
 CarriesSocket calls lane (Http http_state) = ⊤

@@ -18,7 +18,7 @@ use Rattle.hw_net.specs.declared.protocol.Stage.TheVariants.{Live, Lost, Closing
 use Rattle.hw_net.specs.Trace.{Chooses}
 use Rattle.hw_net.specs.HttpState.{HearsHttp}
 use Rattle.hw_net.specs.WebSocketState.{HearsWebSocket}
-use Rattle.hw_net.specs.Lane.{Lane, is_live, owes, is_overdue, refusal_of, protocol_after_shut, after_reply}
+use Rattle.hw_net.specs.Lane.{Lane, is_live, owes, is_overdue, refusal_of, protocol_after_shut, after_hearing, after_reply}
 use Rattle.hw_net.specs.Saying.{WritesOut, Says, SaysMore}
 
 -- ---- hearing
@@ -31,8 +31,8 @@ Hears wire _ _ answers heard = ⊥
 
 -- a refusal is one of what is held
 abbrev pub IsRightInput : Protocol → Input → Type 0
-IsRightInput (Http http_state) (input.Refused status) = Refuses request_grammar http_state.lane.held status
-IsRightInput (Socket websocket_state) (input.Refused status) = ⊥
+IsRightInput (Http http_state) (input.Refused refusal) = Refuses request_grammar http_state.lane.held refusal
+IsRightInput (Socket websocket_state) (input.Refused refusal) = ⊥
 IsRightInput protocol _ = ⊤
 
 -- the wire is shut, and the loss of the lane is heard
@@ -45,17 +45,17 @@ abbrev pub Passes : Lane → Lane → List Answer → Option Event → Option Ev
 Passes becomes after answers trace heard = (answers ≡ []) × (heard ≡ trace) × (after ≡ becomes)
 
 -- The event that is heard of the input. A lane that has waited for too long is lost, what is no request is answered, and a WebSocket that is
--- gone says so.
+-- gone says so. The last two close from this moment on.
 abbrev pub Settles : ℕ → Lane → Lane → List Answer → Input → Option Event → Type 0
 Settles now before after answers input.Nothing heard =
     Chooses (is_overdue now before) (Falls before after answers heard) (Passes before after answers None heard)
 Settles now before after answers (input.Request request) heard = Passes before after answers (Some (event.Request before.wire request)) heard
-Settles now before after answers (input.Refused status) heard =
-    Passes (record before { out = before.out ++ reply_text (refusal_of status); stage = Closing }) after answers (Some (event.Refused before.wire status)) heard
+Settles now before after answers (input.Refused refusal) heard =
+    Passes (record before { since = now; out = before.out ++ reply_text (refusal_of refusal); stage = Closing }) after answers (Some (event.Refused before.wire refusal)) heard
 Settles now before after answers (input.Message bytes) heard = Passes before after answers (Some (event.Bytes before.wire bytes)) heard
 Settles now before after answers input.Broken heard = Falls before after answers heard
 Settles now before after answers input.Gone heard =
-    Passes (record before { protocol = protocol_after_shut before.protocol; stage = Closing }) after answers (Some (event.Lost before.wire)) heard
+    Passes (record before { since = now; protocol = protocol_after_shut before.protocol; stage = Closing }) after answers (Some (event.Lost before.wire)) heard
 
 -- a lane whose wire was shut meanwhile is heard as lost, if nothing else is heard of it
 abbrev pub LosesAt : Stage → Lane → Lane → Option Event → Type 0
@@ -66,7 +66,7 @@ abbrev pub Loses : Option Event → Lane → Lane → Option Event → Type 0
 Loses None before after heard = LosesAt before.stage before after heard
 Loses (Some trace) before after heard = (heard ≡ Some trace) × (after ≡ before)
 
--- One turn of a live lane: it hears an input, which becomes the event, and then it writes what waits.
+-- One turn of a live lane: it hears an input, says a 100 if a request waits for one, the input becomes the event, and what waits is written.
 pub record TurnsLive (now : ℕ) (before after : Lane) (answers : List Answer) (heard : Option Event) : Type 0 where
   pub input : Input
   pub protocol : Protocol
@@ -78,14 +78,14 @@ pub record TurnsLive (now : ℕ) (before after : Lane) (answers : List Answer) (
   pub written : List Answer
   pub all : answers ≡ read ++ (shut ++ written)
   pub hears : Hears before.wire before.protocol protocol read input
-  pub settles : Settles now (record before { protocol = protocol }) settled shut input trace
-  pub says : Says settled said written
+  pub settles : Settles now (after_hearing protocol before) settled shut input trace
+  pub says : Says now settled said written
   pub loses : Loses trace said after heard
 
 abbrev pub TurnsAt : Stage → ℕ → Lane → Lane → List Answer → Option Event → Type 0
 TurnsAt Live now before after answers heard = TurnsLive now before after answers heard
 TurnsAt Lost now before after answers heard = Passes (record before { stage = Over }) after answers (Some (event.Lost before.wire)) heard
-TurnsAt Closing now before after answers heard = (heard ≡ None) × Says before after answers
+TurnsAt Closing now before after answers heard = (heard ≡ None) × Says now before after answers
 TurnsAt Over now before after answers heard = Passes before after answers None heard
 
 -- a lane's turn while nothing was heard in this call
@@ -95,7 +95,7 @@ Listens now before after answers heard = TurnsAt before.stage now before after a
 -- a lane's turn in a call in which this was heard: once something was, it only writes
 abbrev pub Turns : ℕ → Option Event → Lane → Lane → List Answer → Option Event → Type 0
 Turns now None before after answers heard = Listens now before after answers heard
-Turns now (Some trace) before after answers heard = (heard ≡ Some trace) × Says before after answers
+Turns now (Some trace) before after answers heard = (heard ≡ Some trace) × Says now before after answers
 
 -- the turns of lanes, the first first
 abbrev pub TurnAll : ℕ → Option Event → List Lane → List Lane → List Answer → Option Event → Type 0
@@ -127,11 +127,11 @@ Sends bytes text before after answers =
     (mid : Lane) × (is_put : Bool) × Puts bytes text before mid is_put
     × Chooses is_put (SaysMore mid after answers) ((answers ≡ []) × (after ≡ mid))
 
--- a live lane is shut: a WebSocket says that it ends, and the lane is heard no more
-abbrev pub Shuts : Lane → Lane → List Answer → Type 0
-Shuts before after answers =
+-- a live lane is shut at this moment: a WebSocket says that it ends, and the lane is heard no more
+abbrev pub Shuts : ℕ → Lane → Lane → List Answer → Type 0
+Shuts now before after answers =
     Chooses (is_live before.stage)
-    (WritesOut (record before { protocol = protocol_after_shut before.protocol; stage = Closing }) after answers)
+    (WritesOut (record before { since = now; protocol = protocol_after_shut before.protocol; stage = Closing }) after answers)
     ((answers ≡ []) × (after ≡ before))
 
 -- the first lane of this number does this, if there is one, and the others stay as they are

@@ -15,6 +15,6 @@ pub record Walks (now : ℕ) (trace : Option Event) (begin end : ℕ) (before af
   pub back : drop end after ≡ drop end before
   pub turns : TurnAll now trace (between begin end before) (between begin end after) answers heard
 
--- the lanes of these places write what waits: so they do in any call in which something was heard
-abbrev pub Speak : ℕ → ℕ → List Lane → List Lane → List Answer → Type 0
-Speak begin end before after answers = (now : ℕ) (trace : Event) → Walks now (Some trace) begin end before after answers (Some trace)
+-- the lanes of these places write what waits at this moment: so they do in any call in which something was heard
+abbrev pub Speak : ℕ → ℕ → ℕ → List Lane → List Lane → List Answer → Type 0
+Speak now begin end before after answers = (trace : Event) → Walks now (Some trace) begin end before after answers (Some trace)

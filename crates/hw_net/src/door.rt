@@ -324,7 +324,7 @@ impl<W: Wires + Drop> Door for NetDoor<W> {
         ensures others_unchanged { self.new.moment ≡ self.old.moment }
         ensures cause { HasFaultCause self.old.faults self.new.faults result }
         ensures shut { OnOk result ((answers : List Answer) × Tells (W.trace self.old.wires) (W.trace self.new.wires) answers
-            × DoesAt lane Shuts (state_of self.old) (state_of self.new) answers) }
+            × DoesAt lane (Shuts self.old.moment) (state_of self.old) (state_of self.new) answers) }
         ensures memory { IfErr result (λ e. e ≡ DoorError.NoMemory) }
         ensures bound { W.wires self.new.wires ≡ W.wires self.old.wires }
         ensures unchanged { OnErr result ((state_of self.new ≡ state_of self.old) × (W.trace self.new.wires ≡ W.trace self.old.wires)) }
@@ -332,7 +332,8 @@ impl<W: Wires + Drop> Door for NetDoor<W> {
         let Some(index) = self.lanes.index_of(lane) else {
             return Ok(());
         };
-        self.lanes.shut(index, &mut self.wires)?;
+        let now = self.moment;
+        self.lanes.shut(index, &mut self.wires, now)?;
         Ok(())
     }
 }

@@ -1,11 +1,12 @@
 //! A lane while it is one of requests. It knows nothing of what is written.
 
-ghost use Rattle.std.specs.Prelude.{◌≡◌, ◌≤◌, ◌++◌, List, ℕ, false, true, length, IfOk};
+ghost use Rattle.std.specs.Prelude.{◌≡◌, ◌≤◌, ◌||◌, ◌++◌, List, ℕ, false, true, length, IfOk};
 ghost use Rattle.hw_lanes.specs.declared.http.Request.{Request};
 ghost use Rattle.hh_http.specs.Asks.{Asks};
 ghost use Rattle.hh_http.specs.Lane.{at_start, room};
 ghost use Rattle.hw_door.specs.Traffic.{Answer};
 ghost use Rattle.hw_net.specs.HttpState.{HearsHttp, ReadsInto, Finds, room_of, requests_of, is_awake};
+ghost use Rattle.hw_net.specs.Lane.{says_continue};
 ghost use Rattle.hw_net.specs.Trace.{Tells};
 
 use crate::input::{Input, is_nothing};
@@ -26,6 +27,10 @@ pub struct HttpState {
     has_unparsed: bool,
     // The last read filled the room that it had, or there was none.
     last_read_was_full: bool,
+    // A 100 is to be said for the request whose head was read.
+    awaits_continue: bool,
+    // A 100 was said for the request that comes, or that waits for its reply.
+    continued: bool,
 }
 
 impl Model for HttpState {
@@ -35,7 +40,14 @@ impl Model for HttpState {
 
     ghost coded = { http_state_code };
 
-    ghost view = { λ a. record { lane = a.lane; busy = a.busy; has_unparsed = a.has_unparsed; last_read_was_full = a.last_read_was_full } };
+    ghost view = { λ a. record {
+      lane = a.lane;
+      busy = a.busy;
+      has_unparsed = a.has_unparsed;
+      last_read_was_full = a.last_read_was_full;
+      awaits_continue = a.awaits_continue;
+      continued = a.continued;
+    } };
 
     ghost invariant = { λ a. IsHttpState a.lane a.busy a.has_unparsed };
 }
@@ -43,13 +55,22 @@ impl Model for HttpState {
 impl HttpState {
     /// A lane on which nothing was read.
     pub fn start(alloc: Global) -> Result<HttpState, AllocError>
-        ensures { IfOk result (λ a. a ≡ record { lane = at_start; busy = false; has_unparsed = true; last_read_was_full = true }) }
+        ensures { IfOk result (λ a. a ≡ record {
+          lane = at_start;
+          busy = false;
+          has_unparsed = true;
+          last_read_was_full = true;
+          awaits_continue = false;
+          continued = false;
+        }) }
     {
         Ok(HttpState {
             lane: HttpLane::start(alloc)?,
             busy: false,
             has_unparsed: true,
             last_read_was_full: true,
+            awaits_continue: false,
+            continued: false,
         })
     }
 
@@ -120,6 +141,7 @@ impl HttpState {
         requires { length piece.now ≤ room self.old.lane }
         ensures held { self.new.lane ≡ record self.old.lane { held = self.old.lane.held ++ piece.now } }
         ensures busy { self.new.busy ≡ self.old.busy }
+        ensures continued { self.new.continued ≡ self.old.continued }
         ensures asks { (bytes : List ℕ) (requests : List Request) → Asks bytes requests self.old.lane.held
             → Asks (bytes ++ piece.now) requests self.new.lane.held }
     {
@@ -146,19 +168,37 @@ impl HttpState {
             }
             Ok(None) => {
                 self.has_unparsed = false;
+                let is_due = self.lane.take_continue();
+                self.awaits_continue = self.awaits_continue || is_due;
                 Ok(Input::Nothing)
             }
-            Err(HttpError::Refused(status)) => Ok(Input::Refused(status)),
+            Err(HttpError::Refused(refusal)) => Ok(Input::Refused(refusal)),
             Err(HttpError::NoMemory) => Err(AllocError),
         }
     }
 
     /// The request that waits was replied to, and isn't the last.
     pub fn go_on(&mut self)
-        ensures { self.new ≡ record self.old { lane = record self.old.lane { ended = false }; busy = false } }
+        ensures { self.new ≡ record self.old { lane = record self.old.lane { ended = false }; busy = false; continued = false } }
     {
         self.lane.decline_upgrade();
         self.busy = false;
+        self.continued = false;
+    }
+
+    /// Whether a 100 is to be said, before anything else.
+    pub fn says_continue(&self) -> bool
+        ensures { result ≡ says_continue self.now }
+    {
+        self.awaits_continue && !self.continued
+    }
+
+    /// The 100 that was to be said was, if one was to be.
+    pub fn note_continue(&mut self)
+        ensures { self.new ≡ record self.old { awaits_continue = false; continued = self.old.awaits_continue || self.old.continued } }
+    {
+        self.continued = self.awaits_continue || self.continued;
+        self.awaits_continue = false;
     }
 
     /// Whether a request waits for its reply.

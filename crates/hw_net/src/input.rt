@@ -3,15 +3,15 @@
 ghost use Rattle.std.specs.Prelude.{◌≡◌};
 ghost use Rattle.hw_net.specs.Input.{is_nothing};
 
-use hw_lanes::{Request, Vec8};
+use hw_lanes::{Refusal, Request, Vec8};
 
 #[derive(Drop)]
 pub enum Input {
     /// Nothing that is whole.
     Nothing,
     Request(Request),
-    /// What came is no request, and is to be answered with this status.
-    Refused(u16),
+    /// What came is no request, and is to be answered with this.
+    Refused(Refusal),
     /// A message of a WebSocket.
     Message(Vec8),
     /// The wire ended or failed, or bytes that were read are lost.

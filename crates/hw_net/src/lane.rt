@@ -1,13 +1,13 @@
 //! One lane of a door: what it hears in a turn, and what it says.
 
-ghost use Rattle.std.specs.Prelude.{◌≡◌, ◌≤◌, ◌++◌, ◌∷◌, [], List, true, length, IfOk, IfSome, OnOk, OnErr};
+ghost use Rattle.std.specs.Prelude.{◌≡◌, ◌≤◌, ◌++◌, ◌∷◌, [], if◌then◌else◌, List, true, length, IfOk, IfSome, OnOk, OnErr};
 ghost use Rattle.hw_lanes.specs.Replies.{IsReply};
-ghost use Rattle.hh_http.specs.Texts.{reply_text};
+ghost use Rattle.hh_http.specs.Texts.{continue_text, reply_text};
 ghost use Rattle.hw_door.specs.Traffic.{Answer, was_shut};
 ghost use Rattle.hw_net.specs.Door.{new_lane};
 ghost use Rattle.hw_net.specs.FirstReads.{ReadsFirst, IsCalmLane, IsWithin};
-ghost use Rattle.hw_net.specs.Lane.{waits, frames_of, is_over, is_awake, is_overdue, owes, refusal_of, after_end, after_reply, protocol_after_shut, protocol_after_reply, new_socket, rest_of};
-ghost use Rattle.hw_net.specs.Saying.{Writes, WritesOut, Says, SaysMore, SpeaksAs, IsLaneStill, must_end};
+ghost use Rattle.hw_net.specs.Lane.{waits, frames_of, is_over, is_awake, is_overdue, owes, refusal_of, after_end, after_hearing, after_reply, protocol_after_shut, protocol_after_reply, new_socket, rest_of};
+ghost use Rattle.hw_net.specs.Saying.{Writes, WritesOut, DropsOrWrites, Says, SaysMore, SpeaksAs, IsLaneStill, must_end, has_closed_long};
 ghost use Rattle.hw_net.specs.Tally.{has_unwritten};
 ghost use Rattle.hw_net.specs.Trace.{Tells};
 ghost use Rattle.hw_net.specs.Turn.{Hears, Settles, IsRightInput, TurnsLive, Listens, Loses, LosesAt, Replies, Puts, Sends, Shuts};
@@ -15,15 +15,15 @@ ghost use Rattle.hw_net.specs.Turn.{Hears, Settles, IsRightInput, TurnsLive, Lis
 use crate::first_read::FirstRead;
 use crate::http_state::HttpState;
 use crate::input::Input;
-use crate::limits::{MOST_UNWRITTEN, MOST_WAIT, PIECE, SWITCHING};
+use crate::limits::{MOST_CLOSING, MOST_UNWRITTEN, MOST_WAIT, PIECE, SWITCHING};
 use crate::protocol::{Protocol, Stage};
 use crate::reading::read_piece;
-use crate::refusing::refusal;
+use crate::refusing::refusal_reply;
 use crate::websocket_state::WebSocketState;
 use crate::writing::write_bytes;
-use hh_http::write_reply;
+use hh_http::{write_continue, write_reply};
 use hw_door::{Event, Wires};
-use hw_lanes::Reply;
+use hw_lanes::{Refusal, Reply};
 use hw_socket::{SocketLane, SocketSide};
 use std::alloc::{AllocError, Global};
 use std::marker::Model;
@@ -40,12 +40,23 @@ fn must_end(stage: Stage, unwritten: usize, is_whole: bool) -> bool
     }
 }
 
+/// Appends a 100, if one is to be said.
+fn put_continue(is_said: bool, out: &mut Vec<u8>) -> Result<(), AllocError>
+    ensures { OnOk result (out.new.items ≡ (if is_said then out.old.items ++ continue_text else out.old.items)) }
+{
+    if !is_said {
+        return Ok(());
+    }
+    write_continue(out)?;
+    Ok(())
+}
+
 /// One lane. Its number is that of its wire.
 #[derive(Drop)]
 pub struct NetLane {
     alloc: Global,
     wire: u64,
-    // The moment since which it waits for a whole request.
+    // The moment since which it waits for a whole request, or closes.
     since: u64,
     protocol: Protocol,
     // What was replied and isn't written. What a WebSocket has to write comes after it.
@@ -176,7 +187,7 @@ impl NetLane {
             Stage::Live => self.turn_live(first_look, wires, buf, now),
             Stage::Lost => Ok(Some(self.tell_loss())),
             Stage::Closing => {
-                self.say(wires);
+                self.say(wires, now);
                 Ok(None)
             }
             Stage::Over => Ok(None),
@@ -199,9 +210,27 @@ impl NetLane {
         ensures lane { self.new.wire ≡ self.old.wire }
     {
         let input = self.hear_on(first_look, wires, buf)?;
+        self.say_continue()?;
         let event = self.take(wires, input, now)?;
-        self.say(wires);
+        self.say(wires, now);
         Ok(self.heard(event))
+    }
+
+    /// Says that the body of a request may be sent, if that is waited for.
+    fn say_continue(&mut self) -> Result<(), AllocError>
+        ensures said { OnOk result (self.new ≡ after_hearing self.old.protocol self.old) }
+        ensures right { OnOk result ((input : Input) → IsRightInput self.old.protocol input → IsRightInput self.new.protocol input) }
+        ensures lane { self.new.wire ≡ self.old.wire }
+        ensures stage { self.new.stage ≡ self.old.stage }
+    {
+        match &mut self.protocol {
+            Protocol::Http(http_state) => {
+                put_continue(http_state.says_continue(), &mut self.out)?;
+                http_state.note_continue();
+                Ok(())
+            }
+            Protocol::Socket(_) => Ok(()),
+        }
     }
 
     /// Hears what there is after this first look.
@@ -296,9 +325,9 @@ impl NetLane {
         match input {
             Input::Nothing => Ok(self.expire(wires, now)),
             Input::Request(request) => Ok(Some(Event::Request { lane, request })),
-            Input::Refused(status) => {
-                self.refuse(status)?;
-                Ok(Some(Event::Refused { lane, status }))
+            Input::Refused(refusal) => {
+                self.refuse(refusal, now)?;
+                Ok(Some(Event::Refused { lane, refusal }))
             }
             Input::Message(bytes) => Ok(Some(Event::Bytes { lane, bytes })),
             Input::Broken => {
@@ -306,7 +335,7 @@ impl NetLane {
                 Ok(Some(self.tell_loss()))
             }
             Input::Gone => {
-                self.part()?;
+                self.part(now)?;
                 Ok(Some(Event::Lost { lane }))
             }
         }
@@ -338,26 +367,42 @@ impl NetLane {
     }
 
     /// Replies that what came is no request. The lane is heard no more.
-    fn refuse(&mut self, status: u16) -> Result<(), AllocError>
-        requires { IsReply (refusal_of status) }
-        ensures refused { OnOk result (self.new ≡ record self.old { out = self.old.out ++ reply_text (refusal_of status); stage = Stage.Closing }) }
+    fn refuse(&mut self, refusal: Refusal, now: u64) -> Result<(), AllocError>
+        requires { IsReply (refusal_of refusal) }
+        ensures refused { OnOk result (self.new ≡ record self.old {
+          since = now;
+          out = self.old.out ++ reply_text (refusal_of refusal);
+          stage = Stage.Closing;
+        }) }
         ensures lane { self.new.wire ≡ self.old.wire }
     {
-        write_reply(&refusal(self.alloc, status), &mut self.out)?;
-        self.stage = Stage::Closing;
+        write_reply(&refusal_reply(self.alloc, refusal), &mut self.out)?;
+        self.close(now);
         Ok(())
     }
 
     /// Says that the WebSocket ends. The lane is heard no more.
-    fn part(&mut self) -> Result<(), AllocError>
+    fn part(&mut self, now: u64) -> Result<(), AllocError>
         ensures err { OnErr result (self.new ≡ self.old) }
-        ensures ok { OnOk result (self.new ≡ record self.old { protocol = protocol_after_shut self.old.protocol; stage = Stage.Closing }) }
+        ensures ok { OnOk result (self.new ≡ record self.old {
+          since = now;
+          protocol = protocol_after_shut self.old.protocol;
+          stage = Stage.Closing;
+        }) }
     {
         if let Protocol::Socket(websocket_state) = &mut self.protocol {
             websocket_state.shut()?;
         }
-        self.stage = Stage::Closing;
+        self.close(now);
         Ok(())
+    }
+
+    /// The lane is heard no more from now on.
+    fn close(&mut self, now: u64)
+        ensures { self.new ≡ record self.old { since = now; stage = Stage.Closing } }
+    {
+        self.stage = Stage::Closing;
+        self.since = now;
     }
 
     /// The loss is heard now.
@@ -385,17 +430,37 @@ impl NetLane {
     }
 
     /// Writes what waits, as far as the wire takes it. The lane ends if the wire fails, if too much still waits, and if the lane only
-    /// waited for this.
-    pub fn say<W: Wires>(&mut self, wires: &mut W)
-        ensures said { (answers : List Answer) × Tells (W.trace wires.old) (W.trace wires.new) answers × Says self.old self.new answers }
+    /// waited for this, or has done so for too long: then nothing is written.
+    pub fn say<W: Wires>(&mut self, wires: &mut W, now: u64)
+        ensures said { (answers : List Answer) × Tells (W.trace wires.old) (W.trace wires.new) answers × Says now self.old self.new answers }
         ensures wires { W.wires wires.new ≡ W.wires wires.old }
         ensures lane { self.new.wire ≡ self.old.wire }
     {
         match self.stage {
             Stage::Live => self.write_out(wires),
             Stage::Lost => {}
-            Stage::Closing => self.write_out(wires),
+            Stage::Closing => self.drop_or_write(wires, self.has_closed_long(now)),
             Stage::Over => {}
+        }
+    }
+
+    /// Whether a lane that closes has had its time.
+    fn has_closed_long(&self, now: u64) -> bool
+        ensures { result ≡ has_closed_long now self.now.since }
+    {
+        now.saturating_sub(self.since) >= MOST_CLOSING
+    }
+
+    /// Shuts the wire, so that what waits is dropped, or writes what waits.
+    fn drop_or_write<W: Wires>(&mut self, wires: &mut W, is_dropped: bool)
+        ensures said { (answers : List Answer) × Tells (W.trace wires.old) (W.trace wires.new) answers × DropsOrWrites is_dropped self.old self.new answers }
+        ensures wires { W.wires wires.new ≡ W.wires wires.old }
+        ensures lane { self.new.wire ≡ self.old.wire }
+    {
+        if is_dropped {
+            self.end(wires);
+        } else {
+            self.write_out(wires);
         }
     }
 
@@ -448,11 +513,8 @@ impl NetLane {
         ensures wires { W.wires wires.new ≡ W.wires wires.old }
         ensures lane { self.new.wire ≡ self.old.wire }
     {
-        if self.unwritten() > MOST_UNWRITTEN {
-            self.end(wires);
-        } else {
-            self.write_out(wires);
-        }
+        let is_dropped = self.unwritten() > MOST_UNWRITTEN;
+        self.drop_or_write(wires, is_dropped);
     }
 
     /// Replies to the request that waits, if one does.
@@ -561,9 +623,9 @@ impl NetLane {
     }
 
     /// Ends the lane, once what waits is written.
-    pub fn shut<W: Wires>(&mut self, wires: &mut W) -> Result<(), AllocError>
+    pub fn shut<W: Wires>(&mut self, wires: &mut W, now: u64) -> Result<(), AllocError>
         ensures shut { OnOk result ((answers : List Answer) × Tells (W.trace wires.old) (W.trace wires.new) answers
-            × Shuts self.old self.new answers) }
+            × Shuts now self.old self.new answers) }
         ensures unchanged { OnErr result ((self.new ≡ self.old) × (W.trace wires.new ≡ W.trace wires.old)) }
         ensures wires { W.wires wires.new ≡ W.wires wires.old }
         ensures lane { self.new.wire ≡ self.old.wire }
@@ -571,7 +633,7 @@ impl NetLane {
         if self.stage != Stage::Live {
             return Ok(());
         }
-        self.part()?;
+        self.part(now)?;
         self.write_out(wires);
         Ok(())
     }

@@ -151,10 +151,10 @@ impl Lanes {
     }
 
     /// The lane of this place writes what waits.
-    pub fn say<W: Wires>(&mut self, index: usize, wires: &mut W)
+    pub fn say<W: Wires>(&mut self, index: usize, wires: &mut W, now: u64)
         requires { index < length self.old.items }
         ensures said { (answers : List Answer) × Tells (W.trace wires.old) (W.trace wires.new) answers
-            × DoesHere index Says self.old.items self.new.items answers }
+            × DoesHere index (Says now) self.old.items self.new.items answers }
         ensures wires { W.wires wires.new ≡ W.wires wires.old }
         ensures lanes { wires_of self.new.items ≡ wires_of self.old.items }
     {
@@ -163,7 +163,7 @@ impl Lanes {
         }
         let lane = &mut self.items[index];
         self.tally.leave(lane);
-        lane.say(wires);
+        lane.say(wires, now);
         self.tally.enter(lane);
     }
 
@@ -215,18 +215,23 @@ impl Lanes {
     }
 
     /// Ends the lane of this place, once what waits is written.
-    pub fn shut<W: Wires>(&mut self, index: usize, wires: &mut W) -> Result<(), AllocError>
+    pub fn shut<W: Wires>(
+        &mut self,
+        index: usize,
+        wires: &mut W,
+        now: u64,
+    ) -> Result<(), AllocError>
         requires { index < length self.old.items }
         ensures shut { OnOk result ((answers : List Answer)
             × Tells (W.trace wires.old) (W.trace wires.new) answers
-            × DoesHere index Shuts self.old.items self.new.items answers) }
+            × DoesHere index (Shuts now) self.old.items self.new.items answers) }
         ensures unchanged { OnErr result ((self.new.items ≡ self.old.items) × (W.trace wires.new ≡ W.trace wires.old)) }
         ensures wires { W.wires wires.new ≡ W.wires wires.old }
         ensures lanes { wires_of self.new.items ≡ wires_of self.old.items }
     {
         let lane = &mut self.items[index];
         self.tally.leave(lane);
-        let ended = lane.shut(wires);
+        let ended = lane.shut(wires, now);
         self.tally.enter(lane);
         ended
     }

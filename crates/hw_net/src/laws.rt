@@ -1,18 +1,19 @@
 //! What crates above cite of the definitions. No function here does anything: its contract is the law.
 
 ghost use Rattle.std.specs.Prelude.{◌≡◌};
-ghost use Rattle.hw_net.specs.Bounds.{NextIsWithin, RepliesAreWithin, SendsAreWithin, ShutsAreWithin};
-ghost use Rattle.hw_net.specs.Limits.{piece, most_unwritten, most_wait, most_named, switching};
+ghost use Rattle.hw_net.specs.Bounds.{NextIsWithin, NextIsInTime, RepliesAreWithin, SendsAreWithin, ShutsAreWithin};
+ghost use Rattle.hw_net.specs.Limits.{piece, most_unwritten, most_wait, most_closing, most_named, switching};
 ghost use Rattle.hw_net.specs.Numbers.{NumbersRise, RepliesKeepNumbers, SendsKeepNumbers, ShutsKeepNumbers};
 ghost use Rattle.hw_net.specs.Sessions.{RequestsAreAsked, RefusalsAreDeserved, RepliesAreWritten, RequestsWaitForReplies, WiresAreShutForACause, WiresAreShutOnce, LanesHaveWires, LossesHaveCauses, SocketsAreCarried};
 
-use crate::limits::{MOST_NAMED, MOST_UNWRITTEN, MOST_WAIT, PIECE, SWITCHING};
+use crate::limits::{MOST_CLOSING, MOST_NAMED, MOST_UNWRITTEN, MOST_WAIT, PIECE, SWITCHING};
 
 /// The constants are the numbers of the definitions.
 pub fn limits_are_named()
     ensures read { PIECE ≡ piece }
     ensures unwritten { MOST_UNWRITTEN ≡ most_unwritten }
     ensures wait { MOST_WAIT ≡ most_wait }
+    ensures closing { MOST_CLOSING ≡ most_closing }
     ensures named { MOST_NAMED ≡ most_named }
     ensures status { SWITCHING ≡ switching }
 {}
@@ -23,6 +24,11 @@ pub fn lanes_are_bounded()
     ensures replied { RepliesAreWithin }
     ensures sent { SendsAreWithin }
     ensures shut { ShutsAreWithin }
+{}
+
+/// A lane closes for less than 30,000 ms: after each call of `next` those that still close began to after that.
+pub fn closing_ends()
+    ensures { NextIsInTime }
 {}
 
 /// The numbers of lanes rise in the order in which the lanes came, so no two lanes have one number.

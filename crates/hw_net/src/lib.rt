@@ -13,7 +13,7 @@
 //! These four are live. A live lane ends in one of three ways:
 //!
 //!       bytes that are no request: `Refused`            all is written, a write fails,
-//!       the WebSocket is gone: `Lost`                   or more than 1 MiB waits
+//!       the WebSocket is gone: `Lost`                   more than 1 MiB waits, or 30 s are over
 //! live -------------------------------------> closing ---------------------------------> over
 //!       the call `shut`
 //!
@@ -48,9 +48,11 @@
 //! - `start` takes no memory, and has no lanes.
 //! - `next` polls once, accepts one connection at most, and gives the lanes their turns until one hears something, which is what all bytes
 //!   of that lane say. It is `Quiet` only if each lane was listened to, loses no lane, and fails only where `poll` or `accept` did.
+//!   A request whose head expects a 100 (RFC 9110, section 10.1.1) gets one, once, before all else, if its body isn't whole then.
 //! - `reply` puts the text of the reply behind what waits, if a request waits for it.
 //! - `send` puts the frame of a message behind what waits, if the lane is a live WebSocket that isn't gone.
-//! - `shut` puts a close frame behind what waits, if the lane is a live WebSocket, and the wire is shut once all is written.
+//! - `shut` puts a close frame behind what waits, if the lane is a live WebSocket, and the wire is shut once all is written, or in the
+//!   first `next` from 30,000 ms on, which drops what waits then ([`closing_ends`]).
 //!
 //! The last three write as far as the wire takes it, leave all other lanes as they are, and change nothing when memory is out. Over whole
 //! sessions, in which no call was out of memory, what is heard is what was read, what was written and waits is what was replied, in
@@ -78,7 +80,8 @@ mod writing;
 
 pub use door::NetDoor;
 pub use laws::{
-    lanes_are_bounded, limits_are_named, losses_have_causes, numbers_rise, replies_are_written,
-    requests_are_asked, requests_wait_for_replies, sockets_are_carried, wires_are_shut_for_a_cause,
+    closing_ends, lanes_are_bounded, limits_are_named, losses_have_causes, numbers_rise,
+    replies_are_written, requests_are_asked, requests_wait_for_replies, sockets_are_carried,
+    wires_are_shut_for_a_cause,
 };
-pub use limits::{MOST_NAMED, MOST_UNWRITTEN, MOST_WAIT};
+pub use limits::{MOST_CLOSING, MOST_NAMED, MOST_UNWRITTEN, MOST_WAIT};

@@ -9,6 +9,9 @@ pub const MOST_UNWRITTEN: usize = 1_048_576;
 /// How many milliseconds a lane may wait for a whole request, since it was accepted or since its last reply.
 pub const MOST_WAIT: u64 = 30_000;
 
+/// How many milliseconds a lane that is heard no more may take to write what waits, since the caller shut it, or its refusal or loss was heard.
+pub const MOST_CLOSING: u64 = 30_000;
+
 /// The status of the reply that makes a lane a WebSocket (RFC 9110, section 15.2.2).
 pub const SWITCHING: u16 = 101;
 

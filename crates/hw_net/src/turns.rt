@@ -59,11 +59,11 @@ fn turn_until<W: Wires>(
 }
 
 /// The lanes of these places write what waits. None is looked at if nothing waits on any lane.
-fn say_all<W: Wires>(lanes: &mut Lanes, begin: usize, end: usize, wires: &mut W)
+fn say_all<W: Wires>(lanes: &mut Lanes, begin: usize, end: usize, wires: &mut W, now: u64)
     requires order { begin ≤ end }
     requires places { end ≤ length lanes.old.items }
     ensures said { (answers : List Answer) × Tells (W.trace wires.old) (W.trace wires.new) answers
-        × Speak begin end lanes.old.items lanes.new.items answers }
+        × Speak now begin end lanes.old.items lanes.new.items answers }
     ensures wires { W.wires wires.new ≡ W.wires wires.old }
     ensures lanes { wires_of lanes.new.items ≡ wires_of lanes.old.items }
 {
@@ -71,7 +71,7 @@ fn say_all<W: Wires>(lanes: &mut Lanes, begin: usize, end: usize, wires: &mut W)
         return;
     }
     for index in begin..end {
-        lanes.say(index, wires);
+        lanes.say(index, wires, now);
     }
 }
 
@@ -97,7 +97,7 @@ fn turn_all<W: Wires>(
     let Some(found) = turn_until(lanes, begin, end, wires, buf, now)? else {
         return Ok(None);
     };
-    say_all(lanes, found.next, end, wires);
+    say_all(lanes, found.next, end, wires, now);
     Ok(Some(found.event))
 }
 
@@ -120,6 +120,6 @@ pub fn turn_from<W: Wires>(
     let Some(event) = turn_all(lanes, index, end, wires, &mut buf, now)? else {
         return turn_all(lanes, 0, index, wires, &mut buf, now);
     };
-    say_all(lanes, 0, index, wires);
+    say_all(lanes, 0, index, wires, now);
     Ok(Some(event))
 }

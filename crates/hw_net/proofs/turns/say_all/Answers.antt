@@ -10,7 +10,7 @@ use Rattle.hw_net.proofs.turns.say_all.Goals as goal
 pub returns-then-not-has_writers-clause-said : goal.returns-then-not-has_writers-clause-said
 returns-then-not-has_writers-clause-said g c =
     let none : ltb 0 (tally_of c.args.lanes.now.items).writers ≡ false = search rules in
-    ([], tells-none (g.W.Wires.trace c.args.wires.now), silent-walk c.args.begin c.args.end c.args.lanes.now.items none)
+    ([], tells-none (g.W.Wires.trace c.args.wires.now), silent-walk c.args.now c.args.begin c.args.end c.args.lanes.now.items none)
 
 pub loop-index-preserved : goal.loop-index-preserved
 loop-index-preserved g c =
@@ -18,7 +18,7 @@ loop-index-preserved g c =
     let within : c.loop-index.index < length c.args.lanes.now.items = search rules in
     let same = same-length c.loop-index.lanes.items c.args.lanes.now.items c.loop-index.invariant.3 in
     let inside : c.loop-index.index < length c.loop-index.lanes.items = omega (arith, within, same) in (
-      speaks-here (trace c.args.wires.now) (trace c.loop-index.wires) (trace c.say.new.wires) c.args.begin c.loop-index.index c.args.lanes.now.items c.loop-index.lanes.items c.say.new.self.items
+      speaks-here (trace c.args.wires.now) (trace c.loop-index.wires) (trace c.say.new.wires) c.args.now c.args.begin c.loop-index.index c.args.lanes.now.items c.loop-index.lanes.items c.say.new.self.items
           c.loop-index.invariant.1 within inside c.loop-index.invariant.0 c.say.ensures.said,
       search rules,
       search rules,
@@ -30,4 +30,4 @@ returns-clause-said g c =
     let trace = g.W.Wires.trace in
     let at_end : c.loop-index.index ≡ c.args.end = search rules in
     subst (λ n. (answers : List Answer) × Tells (trace c.args.wires.now) (trace c.loop-index.wires) answers
-    × Speak c.args.begin n c.args.lanes.now.items c.loop-index.lanes.items answers) at_end c.loop-index.invariant.0
+    × Speak c.args.now c.args.begin n c.args.lanes.now.items c.loop-index.lanes.items answers) at_end c.loop-index.invariant.0

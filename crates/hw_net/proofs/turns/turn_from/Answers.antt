@@ -29,4 +29,4 @@ returns-clause-hears g c =
     let said = c.say_all.ensures.said in
     hears-both (trace c.args.wires.now) (trace c.turn_all.new.wires) (trace c.say_all.new.wires) c.args.now c.args.from c.index_of_first-index.result all cur
     c.say_all.new.lanes.items (Some c.in-Some.event) (Some c.in-Some.event) c.index_of_first-index.ensures (same-length cur all c.turn_all.ensures.lanes) walked
-    (said.0, said.1, said.2 c.args.now c.in-Some.event)
+    (said.0, said.1, said.2 c.in-Some.event)

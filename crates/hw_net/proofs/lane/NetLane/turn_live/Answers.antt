@@ -4,5 +4,5 @@ use Rattle.hw_net.proofs.lane.NetLane.turn_live.Goals as goal
 pub returns-clause-turned : goal.returns-clause-turned
 returns-clause-turned g c = λ first reads_first.
     let trace = g.W.Wires.trace in
-    turned-after (trace c.args.wires.now) (trace c.hear_on.new.wires) (trace c.take.new.wires) (trace c.say.new.wires) c.args.now c.args.self.now c.hear_on.new.self c.take.new.self c.say.new.self c.heard.new.self
-    c.in_ok-input.input c.in_ok-event.event c.heard.result first (c.in_ok-input.ensures.heard first reads_first) c.in_ok-input.ensures.others_unchanged c.in_ok-event.ensures.settled c.say.ensures.said c.heard.ensures.heard
+    turned-after (trace c.args.wires.now) (trace c.hear_on.new.wires) (trace c.take.new.wires) (trace c.say.new.wires) c.args.now c.args.self.now c.hear_on.new.self c.say_continue.new.self c.take.new.self c.say.new.self c.heard.new.self
+    c.in_ok-input.input c.in_ok-event.event c.heard.result first (c.in_ok-input.ensures.heard first reads_first) c.in_ok-input.ensures.others_unchanged c.in_ok-say_continue.ensures.said c.in_ok-event.ensures.settled c.say.ensures.said c.heard.ensures.heard

@@ -31,4 +31,4 @@ pub returns-then-not-has_unwritten-clause-said : goal.returns-then-not-has_unwri
 returns-then-not-has_unwritten-clause-said g c =
     let lanes = c.args.self.now.items in
     let lane = c.index.result.now in
-    ([], tells-none (g.W.Wires.trace c.args.wires.now), says-nothing lanes c.args.index lane (search rules) (search rules))
+    ([], tells-none (g.W.Wires.trace c.args.wires.now), says-nothing c.args.now lanes c.args.index lane (search rules) (search rules))
