@@ -15,6 +15,8 @@ import hubs_script
 
 MOST_TURNS = 1_000_000
 MOST_RECALLED = 100
+MOST_NAME = 256
+MOST_GROUPS = 256
 CALLER = "ann"
 
 
@@ -109,6 +111,10 @@ def is_text(v):
     return isinstance(v, str)
 
 
+def is_room(v):
+    return is_text(v) and len(v.encode()) <= MOST_NAME
+
+
 def is_anything(v):
     return True
 
@@ -174,18 +180,18 @@ def next_number():
     return count(MOST_TURNS)
 
 
-def deeds(*each, brings=False):
-    """The deeds one after the other, and an ending, which is what the last brought if it brings anything."""
+def deeds(*each, brings=False, error="The store failed."):
+    """The deeds one after the other, and an ending, which is what the last brought if it brings anything, or the error if one failed."""
     brought = None
     for deed in each:
         word, brought = yield deed
         if word == "failed":
-            yield "error The store failed."
+            yield "error " + error
     yield "result " + shown(brought) if brings else "void"
 
 
 def join(room):
-    return deeds(joined("join", shown(room)))
+    return deeds(joined("join", shown(room)), error="Too many groups.")
 
 
 def leave(room):
@@ -218,11 +224,11 @@ HUBS = {
     "client": {"Confirm": (False, 0, [is_anything], echo)},
     "counter": {"Next": (True, None, None, next_number)},
     "rooms": {
-        "Join": (False, 0, [is_text], join),
-        "Leave": (False, 0, [is_text], leave),
-        "Post": (False, 0, [is_text, is_text], post),
+        "Join": (False, 0, [is_room], join),
+        "Leave": (False, 0, [is_room], leave),
+        "Post": (False, 0, [is_room, is_text], post),
         "Tell": (False, 0, [is_text, is_text], tell),
-        "History": (False, 0, [is_text, is_recalled], history),
+        "History": (False, 0, [is_room, is_recalled], history),
     },
 }
 
@@ -269,7 +275,7 @@ def count_numbers(hub, words):
 # ---- groups
 
 class Groups:
-    """Pairs of a name and a connection, in order of joining."""
+    """Pairs of a name and a connection, in order of joining. Of those that joined, a connection has MOST_GROUPS at most."""
 
     def __init__(self, watched):
         self.watched, self.members, self.users = watched, [], []
@@ -295,7 +301,7 @@ class Groups:
         if word == "gone":
             self.lose([number(first)])
             return "gone"
-        if word not in ("add", "remove", "name"):
+        if word not in ("join", "remove", "name"):
             raise Refused
         pairs, pair = self.users if word == "name" else self.members, (name(first), number(more))
         was_there = pair in pairs
@@ -303,9 +309,11 @@ class Groups:
             if was_there:
                 pairs.remove(pair)
             return "left" if was_there else "not there"
+        if word == "join" and not was_there and sum(conn == pair[1] for _, conn in pairs) >= MOST_GROUPS:
+            return "too many"
         if not was_there:
             pairs.append(pair)
-        return "named" if word == "name" else "there already" if was_there else "new"
+        return "named" if word == "name" else "joined"
 
     def lose(self, conns):
         self.members, self.users = ([pair for pair in pairs if pair[1] not in conns] for pairs in (self.members, self.users))
@@ -316,11 +324,21 @@ class Groups:
 
     def fill(self, conns, each, groups, users):
         """Connection c joins the groups 17 c + 31 k for each k, and is of the user c, both modulo how many there are. The name 0 is empty."""
-        before = len(set(self.members))
-        joins = [(str((17 * conn + 31 * k) % groups or ""), conn) for conn in range(conns) for k in range(each)]
-        self.members = list(dict.fromkeys(self.members + joins))
+        carried_out, of_each = 0, {}
+        for known, conn in self.members:
+            of_each.setdefault(conn, set()).add(known)
+        for conn in range(conns):
+            own = of_each.setdefault(conn, set())
+            for k in range(each):
+                called = str((17 * conn + 31 * k) % groups or "")
+                if called not in own and len(own) >= MOST_GROUPS:
+                    continue
+                carried_out += 1
+                if called not in own:
+                    own.add(called)
+                    self.members.append((called, conn))
         self.users = list(dict.fromkeys(self.users + [(str(conn % users or ""), conn) for conn in range(conns)]))
-        return f"{len(self.members) - before} new"
+        return f"{carried_out} joined"
 
 
 # ---- keepers

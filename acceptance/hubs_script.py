@@ -100,6 +100,9 @@ call Count 0 1 : go
 stream Next 0 : go / go / go
 """
 
+# A room's name of 256 bytes, which are fewer characters.
+LONGEST = "ü" * 100 + "r" * 56
+
 # A method of rooms with right arguments, and how many deeds it has.
 DOES_ITS_DEEDS = [
     ("Join", "'r", 1),
@@ -110,6 +113,11 @@ DOES_ITS_DEEDS = [
     ("History", "'r 10", 1),
     ("History", "'r 100", 1),
     ("Join", "'", 1),
+    ("Join", "'" + LONGEST, 1),
+    ("Leave", "'" + LONGEST, 1),
+    ("Post", f"'{LONGEST} 'hi", 2),
+    ("History", f"'{LONGEST} 1", 1),
+    ("Tell", f"'{LONGEST}s 'hi", 1),
 ]
 
 HAS_WRONG_ARGUMENTS = [
@@ -130,6 +138,12 @@ HAS_WRONG_ARGUMENTS = [
     ("History", "'r -1"),
     ("History", "'r '1"),
     ("History", "1 1"),
+    ("Join", f"'{LONGEST}s"),
+    ("Join", "'" + "r" * 257),
+    ("Leave", f"'{LONGEST}s"),
+    ("Post", f"'{LONGEST}s 'hi"),
+    ("History", f"'{LONGEST}s 1"),
+    ("History", f"'{LONGEST}s 101"),
 ]
 
 IS_NO_METHOD = ["join", "JOIN", "Posted", "Told", "Joins", "Echo", ""]
@@ -172,8 +186,9 @@ calc ask Echo 0 1 : go
 calc call Echo 0 one : go
 calc call Echo 0 18446744073709551616 : go
 count rooms 1 call Join 0 'r
-groups add r 1
-groups add 'r one
+groups join r 1
+groups join 'r one
+groups add 'r 1
 keeper history r most
 keeper lag r ann a
 """
@@ -225,7 +240,7 @@ def random_groups():
         pair = f"{NAMES[(chance >> 40) % len(NAMES)]} {(chance >> 50) % CONNECTIONS}"
         action = (chance >> 33) % 16
         if action < 7:
-            yield f"groups add {pair}"
+            yield f"groups join {pair}"
         elif action < 11:
             yield f"groups remove {pair}"
         elif action < 15:
@@ -243,6 +258,32 @@ def many_groups():
     yield f"groups empty {MANY}"
     yield f"groups sizes {GROUPS}"
     yield from some
+
+
+# Connection 0 is in the groups 0, 31, 62 .. up to the most; a 257th, one more in place of another, and one that is there already.
+A_257TH_GROUP = """groups new 'x '31 'y
+groups fill 1 255 8000 1
+groups join 'x 0
+groups join 'y 0
+groups join 'x 0
+groups join '31 0
+groups join 'y 0
+groups remove '31 0
+groups join 'y 0
+groups join '31 0
+groups remove '31 0
+groups join 'x 0
+groups join 'x 1
+groups name 'x 0
+groups gone 0
+groups join '31 0
+groups join 'y 0
+groups sizes 8000
+groups new
+groups fill 5 300 1000 7
+groups fill 5 300 1000 7
+groups sizes 1000
+""".splitlines()
 
 
 def random_keeper():
@@ -272,6 +313,7 @@ def script():
         ["note the target is tested first, then whether the call is a Stream, and then its uploads and arguments", *rooms_test_in_order()],
         ["note groups and users: calls by chance", *random_groups()],
         ["note ten thousand connections join and go", *many_groups()],
+        ["note a connection is in 256 groups at most", *A_257TH_GROUP],
         ["note a keeper: calls by chance; of two users with one token the first counts", *random_keeper()],
     ]
     return "".join(line + "\n" for part in parts for line in part) + A_KEEPER + NO_ACTIONS

@@ -95,6 +95,7 @@ got 8 => no member
 
 SHAKE = '{"protocol":"json","version":1}'
 SESSIONS = 120
+MOST_GROUPS, MOST_NAME = 256, 256
 STEPS = 60
 
 
@@ -250,6 +251,30 @@ state 77 => none
 """
 
 
+def heard(text): return f"hear 1 0 {text} => fed {len(text) + 1} began"
+
+
+def many_groups():
+    """A connection joins as many groups as it may, and then one more, one in which it is, and one in place of another; names that are too long."""
+    joins = [heard(notify("Join", f"g{k}")) for k in range(MOST_GROUPS)]
+    joined = [line for k in range(0, MOST_GROUPS, 32) for line in [*joins[k:k + 32], "round 0 => a round", "round 0 => a round"]]
+    lines = ["note a connection is in 256 groups at most", "machine 1024 - => a machine", "connect 1 1 1 - => a connection", shaken(1), *joined]
+    longest = "r" * MOST_NAME
+    full, wrong = {"error": "Too many groups."}, {"error": "Wrong arguments."}
+    for number, (target, arguments, ending) in enumerate([
+        ("Join", ["x"], full), ("Join", ["g7"], {}), ("Leave", ["x"], {}), ("Join", ["x"], full), ("Leave", ["g7"], {}), ("Join", ["x"], {}),
+        ("Join", ["g7"], full), ("Leave", ["g8"], {}), ("Join", [longest], {}), ("Leave", [longest], {}), ("Join", ["g7"], {}),
+        ("Join", [longest], full), ("Join", [longest + "r"], wrong), ("Leave", [longest + "r"], wrong), ("Post", [longest + "r", "hi"], wrong),
+        ("History", [longest + "r", 1], wrong), ("History", [longest, 1], {"result": []}), ("Tell", [longest + "r", "hi"], {}),
+    ]):
+        lines += [heard(call(number, target, *arguments)), "round 0 => a round", "round 0 => a round", f"said 1 => said {ended(number, **ending)}|"]
+    post = heard(notify("Post", "x", "hi"))
+    posted = f"said 1 => said {notify('Posted', 'x', '1', 'hi')}|"
+    lines += [post, "round 0 => a round", "round 0 => a round", posted, heard(notify("Post", "g8", "hi")), "round 0 => a round", "round 0 => a round",
+              "said 1 => said ", "asked => asked 3"]
+    return "\n".join(lines)
+
+
 def shaken(*conns):
     return "\n".join(f"attach {c} 0 => a link\nhear {c} 0 {SHAKE} => fed {len(SHAKE) + 1} other\nsaid {c} => said {{}}|" for c in conns)
 
@@ -298,7 +323,10 @@ class Rooms:
         """The next deed of a job. What the keeper fails at ends it, at its next turn."""
         conn, deed = self.conns[c], job["deeds"].pop(0)
         if deed[0] == "join" and (deed[1], c) not in self.joined:
-            self.joined.append((deed[1], c))
+            if sum(k == c for _, k in self.joined) < MOST_GROUPS:
+                self.joined.append((deed[1], c))
+            else:
+                job["ending"] = {"error": "Too many groups."}
         elif deed[0] == "leave":
             self.joined = [pair for pair in self.joined if pair != (deed[1], c)]
         elif deed[0] == "log":
@@ -436,7 +464,7 @@ def refused(*lines): return "\n".join(f"{line} => no action: {line}" for line in
 
 
 def made():
-    return committed.pairs(script().strip() + "\n" + rows().strip() + "\n" + sessions())
+    return committed.pairs(script().strip() + "\n" + rows().strip() + "\n" + many_groups() + "\n" + sessions())
 
 
 if __name__ == "__main__":

@@ -1,7 +1,11 @@
 -- Who is in which group and who is which user: two lists of pairs of a name and a connection, in order of joining.
-use Rattle.std.specs.Prelude.{◌≡◌, ℕ, Bool, false, not, ◌&&◌, ◌==◌, List, [], ◌∷◌, ◌++◌, filter, map, if◌then◌else◌}
+use Rattle.std.specs.Prelude.{◌≡◌, ℕ, Bool, false, not, ◌&&◌, ◌||◌, ◌==◌, nat_lt, List, [], ◌∷◌, ◌++◌, length, filter, map, if◌then◌else◌}
 use Rattle.std.specs.List.{list_any}
 pub use Rattle.hm_message.specs.Same.{same_text}
+
+-- The most groups in which a connection is.
+abbrev pub most_groups : ℕ
+most_groups = 256
 
 -- A name, and a connection that joined under it.
 abbrev pub Pair : Type 0
@@ -45,9 +49,21 @@ without conn pairs = filter (λ q. not (conn == q.1)) pairs
 abbrev pub members : List ℕ → List Pair → List ℕ
 members name pairs = map (λ q. q.1) (filter (λ q. same_text name q.0) pairs)
 
--- A connection joined a group.
+-- How many names a connection has.
+abbrev pub count_of : ℕ → List Pair → ℕ
+count_of conn pairs = length (filter (λ q. conn == q.1) pairs)
+
+-- Whether a connection may join a group: it is in it, or in fewer groups than the most.
+abbrev pub may_join : Pair → List Pair → Bool
+may_join p pairs = has p pairs || nat_lt (count_of p.1 pairs) most_groups
+
+-- The list with the pair, if its connection may join.
+abbrev pub with_member : Pair → List Pair → List Pair
+with_member p pairs = if may_join p pairs then with_pair p pairs else pairs
+
+-- A connection joined a group, if it may.
 abbrev pub added : Lists → List ℕ → ℕ → Lists
-added l group conn = record l { groups = with_pair (group, conn) l.groups }
+added l group conn = record l { groups = with_member (group, conn) l.groups }
 
 -- A connection left a group.
 abbrev pub removed : Lists → List ℕ → ℕ → Lists

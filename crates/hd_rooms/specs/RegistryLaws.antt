@@ -1,7 +1,7 @@
 -- What follows for the members of a name when a list of pairs changes: all that an index by name needs to know of its list.
-use Rattle.std.specs.Prelude.{◌≡◌, ℕ, Bool, not, ◌==◌, List, [], ◌∷◌, ◌++◌, filter, if◌then◌else◌, nat_eq}
+use Rattle.std.specs.Prelude.{◌≡◌, ℕ, suc, ◌≤◌, Bool, true, false, false, not, ◌==◌, List, [], ◌∷◌, ◌++◌, filter, if◌then◌else◌, nat_eq}
 use Rattle.std.specs.List.{list_any, IsDistinct}
-use Rattle.hd_rooms.specs.Registry.{Pair, same_text, has, members, with_pair, without_pair, without, AreDistinct}
+use Rattle.hd_rooms.specs.Registry.{Pair, same_text, has, members, with_pair, without_pair, without, with_member, count_of, most_groups, AreDistinct}
 
 -- Whether a connection is one of these.
 abbrev pub is_among : ℕ → List ℕ → Bool
@@ -34,3 +34,13 @@ pub record PairsStayDistinct : Type 0 where
   pub left : (p : Pair) (pairs : List Pair) → AreDistinct pairs → AreDistinct (without_pair p pairs)
   pub all_left : (conn : ℕ) (pairs : List Pair) → AreDistinct pairs → AreDistinct (without conn pairs)
   pub once : (name : List ℕ) (pairs : List Pair) → AreDistinct pairs → IsDistinct nat_eq (members name pairs)
+
+-- A connection that has the same names in two lists has as many, if no pair stands twice.
+abbrev pub CountsAgree : Type 0
+CountsAgree = (conn : ℕ) (xs ys : List Pair) → AreDistinct xs → AreDistinct ys
+    → ((name : List ℕ) → has (name, conn) xs ≡ has (name, conn) ys) → count_of conn xs ≡ count_of conn ys
+
+-- No change makes a connection be in more groups than the most.
+pub record GroupsAreBounded : Type 0 where
+  pub joined : (p : Pair) (pairs : List Pair) (who : ℕ) → count_of who pairs ≤ most_groups → count_of who (with_member p pairs) ≤ most_groups
+  pub fewer : (test : Pair → Bool) (pairs : List Pair) (who : ℕ) → count_of who (filter test pairs) ≤ count_of who pairs

@@ -1,5 +1,5 @@
 -- The rooms hub: what each of its methods does for a caller, deed by deed, and how it ends after that.
-use Rattle.std.specs.Prelude.{ℕ, pos, nat_le, List, [], ◌∷◌, codes, Option, Some, None, if◌then◌else◌}
+use Rattle.std.specs.Prelude.{ℕ, pos, nat_le, List, [], ◌∷◌, codes, length, Option, Some, None, if◌then◌else◌}
 use Rattle.hv_value.specs.Tree.{Tree, text, int}
 use Rattle.hm_message.specs.declared.message.Ending.{Ending}
 use Rattle.hm_message.specs.declared.message.Ending.TheVariants.{Void, Result, Error}
@@ -21,6 +21,10 @@ use Rattle.hd_rooms.specs.declared.vocabulary.RoomsMethod.TheVariants.{Join, Lea
 abbrev pub most_recalled : ℕ
 most_recalled = 100
 
+-- the most bytes of a room's name
+abbrev pub most_name : ℕ
+most_name = 256
+
 -- ---- the methods
 
 -- the method that a target names
@@ -32,16 +36,21 @@ method_of target =
     (if same_text target (codes "Tell") then Some Tell else
     (if same_text target (codes "History") then Some History else None))))
 
+-- these deeds, if the room has a name that isn't too long
+abbrev pub in_room : List ℕ → List Deed → Option (List Deed)
+in_room room deeds = if nat_le (length room) most_name then Some deeds else None
+
 -- History(r, n) has one deed, if n isn't too many
 abbrev pub recall_deeds : List ℕ → ℕ → Option (List Deed)
-recall_deeds room most = if nat_le most most_recalled then Some (deed.History room most ∷ []) else None
+recall_deeds room most = if nat_le most most_recalled then in_room room (deed.History room most ∷ []) else None
 
 -- the deeds of each method in order, for the caller's side `who`. There are none if the arguments are of another number or kind:
--- Join(r), Leave(r), Post(r, t), Tell(u, t) and History(r, n), where r, t and u are texts, and n is a whole number
+-- Join(r), Leave(r), Post(r, t), Tell(u, t) and History(r, n), where r is a room's name, t and u are texts, and n is a whole number
 abbrev pub deeds_of : RoomsMethod → List ℕ → List Tree → Option (List Deed)
-deeds_of Join who (text r ∷ []) = Some (deed.Join r ∷ [])
-deeds_of Leave who (text r ∷ []) = Some (deed.Leave r ∷ [])
-deeds_of Post who (text r ∷ text t ∷ []) = Some (deed.Log r t ∷ deed.Post r (codes "Posted") (text r ∷ text who ∷ text t ∷ []) ∷ [])
+deeds_of Join who (text r ∷ []) = in_room r (deed.Join r ∷ [])
+deeds_of Leave who (text r ∷ []) = in_room r (deed.Leave r ∷ [])
+deeds_of Post who (text r ∷ text t ∷ []) =
+    in_room r (deed.Log r t ∷ deed.Post r (codes "Posted") (text r ∷ text who ∷ text t ∷ []) ∷ [])
 deeds_of Tell who (text u ∷ text t ∷ []) = Some (deed.Tell u (codes "Told") (text who ∷ text t ∷ []) ∷ [])
 deeds_of History who (text r ∷ int (pos n) ∷ []) = recall_deeds r n
 deeds_of _ who _ = None
@@ -50,6 +59,11 @@ deeds_of _ who _ = None
 abbrev pub ending_of : RoomsMethod → Input → Ending
 ending_of History (Done brought) = Result brought
 ending_of _ _ = Void
+
+-- the error of a method whose deed failed. A Join fails only if its connection is in too many groups, the others if the store failed
+abbrev pub error_of : RoomsMethod → List ℕ
+error_of Join = codes "Too many groups."
+error_of _ = codes "The store failed."
 
 -- ---- jobs
 
@@ -78,10 +92,10 @@ abbrev pub job_at : Option RoomsMethod → Call → Job
 job_at None call = Refused (codes "Unknown method.")
 job_at (Some method) call = job_in method call.kind call
 
--- one act a turn: the next deed, and the ending after the last one. The store's failure ends the job, and so does what was refused
+-- one act a turn: the next deed, and the ending after the last one. A deed that failed ends the job, and so does what was refused
 abbrev pub step_of : Job → Input → Job × Act
 step_of (Refused error) input = (Refused error, End (Error error))
-step_of (Doing method deeds) Failed = (Doing method deeds, End (Error (codes "The store failed.")))
+step_of (Doing method deeds) Failed = (Doing method deeds, End (Error (error_of method)))
 step_of (Doing method (next ∷ deeds)) input = (Doing method deeds, Do next)
 step_of (Doing method []) input = (Doing method [], End (ending_of method input))
 

@@ -6,6 +6,12 @@ use hv_value::{Text, Texts};
 /// The most texts for which `History` of the rooms hub can ask.
 pub const MOST_RECALLED: u32 = 100;
 
+/// The most bytes of a room's name.
+pub const MOST_NAME: usize = 256;
+
+/// The most groups in which a connection is.
+pub const MOST_GROUPS: usize = 256;
+
 /// A row that a keeper keeps: a text that was said in a room.
 #[derive(Drop, PartialEq, Eq)]
 pub struct Row {

@@ -1,3 +1,4 @@
+pub mod Counts
 pub mod IndexLemmas
 pub mod ListLemmas
 pub mod MapLemmas

@@ -1,5 +1,5 @@
 -- What the two maps of an index say, and how a change of each reads.
-use Rattle.std.specs.Prelude.{◌≡◌, ℕ, ◌<◌, Bool, false, not, ◌&&◌, ◌||◌, ◌==◌, List, [], ◌∷◌, ◌++◌, Option, Vec, vec_len, if◌then◌else◌, nat_eq}
+use Rattle.std.specs.Prelude.{◌≡◌, ℕ, ◌<◌, Bool, false, not, ◌&&◌, ◌||◌, ◌==◌, List, [], ◌∷◌, ◌++◌, Option, Some, None, Vec, vec_len, if◌then◌else◌, nat_eq}
 use Rattle.std.specs.declared.alloc.Global.{Global}
 use Rattle.std.specs.Option.{ForSome, option_map_or}
 use Rattle.std.specs.List.{IsDistinct}
@@ -7,7 +7,7 @@ use Rattle.std.specs.Ordering.{nat_cmp}
 use Rattle.std.specs.Cmp.Lexicographic.{slice_cmp}
 use Rattle.std.specs.BTreeMap.{BTreeMap}
 use Rattle.std.specs.BTreeMap as tree
-use Rattle.std.specs.BTreeSet.{BTreeSet, contains, btree_set_len}
+use Rattle.std.specs.BTreeSet.{BTreeSet, IsOrdered, contains, btree_set_len}
 use Rattle.indexmap.specs.IndexMap.{IndexMap}
 use Rattle.indexmap.specs.IndexMap as hash
 use Rattle.hd_rooms.specs.Registry.{same_text}
@@ -40,6 +40,11 @@ has_name names name = contains (slice_cmp nat_cmp) names name
 -- Whether a connection has a name.
 abbrev pub holds : {S : Type 0} → ByConn S → ℕ → List ℕ → Bool
 holds m conn name = option_map_or (λ names. has_name names name) (at_conn m conn) false
+
+-- There are this many names in what a map has at a connection, each once.
+abbrev pub HasCount : Option (BTreeSet (List ℕ)) → ℕ → Type 0
+HasCount None count = count ≡ 0
+HasCount (Some names) count = (count ≡ btree_set_len names) × IsOrdered (slice_cmp nat_cmp) names
 
 -- No name is kept for nobody.
 abbrev pub NoneIsEmpty : ByName → Type 0

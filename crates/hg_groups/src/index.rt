@@ -19,7 +19,7 @@ pub struct Index {
 impl Index {
     ghost use Rattle.std.specs.Prelude.{◌≡◌, ℕ, List, [], not, IfOk, OnOk, OnErr, nat_eq};
     ghost use Rattle.std.specs.List.{IsDistinct};
-    ghost use Rattle.hd_rooms.specs.Registry.{Pair, has, members, with_pair, without_pair, without};
+    ghost use Rattle.hd_rooms.specs.Registry.{Pair, has, members, count_of, with_pair, without_pair, without};
     ghost use Rattle.hg_groups.specs.Standing.{StandsIndex};
 
     /// No pairs.
@@ -38,6 +38,23 @@ impl Index {
         ensures once { IsDistinct nat_eq result.now }
     {
         self.members.of(name)
+    }
+
+    /// How many names the connection has.
+    pub(crate) fn count(&self, conn: u64) -> usize
+        ensures { (pairs : List Pair) → StandsIndex self.now pairs → result ≡ count_of conn pairs }
+    {
+        hd_rooms::members_follow();
+        hd_rooms::counts_agree();
+        self.names.count(conn)
+    }
+
+    /// Whether the pair is there.
+    pub(crate) fn has(&self, name: &Text, conn: u64) -> bool
+        ensures { (pairs : List Pair) → StandsIndex self.now pairs → result ≡ has (name.now, conn) pairs }
+    {
+        hd_rooms::members_follow();
+        self.names.has(conn, name)
     }
 
     /// Adds the pair, last. Whether it is new: a pair that is there stays where it is. Out of memory nothing has changed.

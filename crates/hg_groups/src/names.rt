@@ -1,6 +1,6 @@
 //! The side of an index that goes from a connection to its names. A connection without names isn't kept.
 ghost use Rattle.std.specs.Prelude.{◌≡◌, ℕ, List, false, not, OnOk, OnErr, IsTrue, MatchOption};
-ghost use Rattle.hg_groups.specs.Maps.{NoneIsNameless, SameNames, Entered, Exited, Forgotten, holds, has_name};
+ghost use Rattle.hg_groups.specs.Maps.{NoneIsNameless, SameNames, Entered, Exited, Forgotten, HasCount, at_conn, holds, has_name};
 
 use hv_value::Text;
 use indexmap::IndexMap;
@@ -33,6 +33,16 @@ impl Names {
         match self.by_conn.get(&conn) {
             Some(names) => names.contains(name),
             None => false,
+        }
+    }
+
+    /// How many names the connection has.
+    pub(crate) fn count(&self, conn: u64) -> usize
+        ensures { HasCount (at_conn self.now.by_conn conn) result }
+    {
+        match self.by_conn.get(&conn) {
+            Some(names) => names.len(),
+            None => 0,
         }
     }
 

@@ -1,10 +1,11 @@
 //! Groups and users: who joined what, in order of joining.
 ghost use Rattle.std.specs.Prelude.{◌≡◌, ℕ, not, IfOk, OnOk, OnErr, nat_eq};
 ghost use Rattle.std.specs.List.{IsDistinct};
-ghost use Rattle.hd_rooms.specs.Registry.{Lists, nobody, has, members, added, removed, named, gone};
+ghost use Rattle.hd_rooms.specs.Registry.{Lists, nobody, has, members, may_join, added, removed, named, gone};
 ghost use Rattle.hg_groups.specs.Standing.{StandsRegistry};
 
 use crate::index::Index;
+use hd_rooms::MOST_GROUPS;
 use hv_value::Text;
 use std::alloc::{AllocError, Global};
 
@@ -29,15 +30,22 @@ impl Registry {
         })
     }
 
-    /// A connection joins a group, as its last member. `true` if and only if it is new there: one that is a member already stays in
-    /// its place. Out of memory nothing has changed.
-    pub fn add(&mut self, alloc: Global, group: &Text, conn: u64) -> Result<bool, AllocError>
+    /// A connection joins a group, as its last member; one that is a member already stays in its place. `false` if and only if it may not,
+    /// since it is in `MOST_GROUPS` others: then nothing has changed. Nor has it out of memory.
+    pub fn join(&mut self, alloc: Global, group: &Text, conn: u64) -> Result<bool, AllocError>
         ensures answer { IfOk result
-            (λ new. (l : Lists) → StandsRegistry self.old l → new ≡ not (has (group.now, conn) l.groups)) }
-        ensures added { OnOk result ((l : Lists) → StandsRegistry self.old l → StandsRegistry self.new (added l group.now conn)) }
+            (λ may. (l : Lists) → StandsRegistry self.old l → may ≡ may_join (group.now, conn) l.groups) }
+        ensures joined { OnOk result ((l : Lists) → StandsRegistry self.old l → StandsRegistry self.new (added l group.now conn)) }
         ensures unchanged { OnErr result ((l : Lists) → StandsRegistry self.old l → StandsRegistry self.new l) }
     {
-        self.groups.add(alloc, group, conn)
+        hd_rooms::groups_are_bounded();
+        let is_member = self.groups.has(group, conn);
+        let is_full = self.groups.count(conn) >= MOST_GROUPS;
+        if is_full && !is_member {
+            return Ok(false);
+        }
+        self.groups.add(alloc, group, conn)?;
+        Ok(true)
     }
 
     /// A connection leaves a group. `true` if and only if it was a member. It takes no memory.

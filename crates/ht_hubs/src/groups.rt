@@ -66,9 +66,9 @@ impl Groups {
         }
         let (called, conn) = (name(alloc, first)?, number(rest)?);
         match word {
-            "add" => {
-                let is_new = self.registry.add(alloc, &called, conn)?;
-                Ok(if is_new { "new" } else { "there already" })
+            "join" => {
+                let may = self.registry.join(alloc, &called, conn)?;
+                Ok(if may { "joined" } else { "too many" })
             }
             "remove" => {
                 let was_there = self.registry.remove(&called, conn);
@@ -88,24 +88,24 @@ impl Groups {
         Ok(told)
     }
 
-    /// How many of the joins were new.
+    /// How many of the joins were carried out.
     fn fill(&mut self, alloc: Global, words: &str) -> Result<String, Stop> {
         let (conns, rest) = first_word(words);
         let (each, rest) = first_word(rest);
         let (groups, users) = first_word(rest);
         let names = names(alloc, number(groups)?)?;
         let (each, users) = (number(each)?, number(users)?);
-        let mut new: u64 = 0;
+        let mut joined: u64 = 0;
         for conn in 0..number(conns)? {
             for k in 0..each {
-                if self.registry.add(alloc, group_of(&names, conn, k)?, conn)? {
-                    new = new.saturating_add(1);
+                if self.registry.join(alloc, group_of(&names, conn, k)?, conn)? {
+                    joined = joined.saturating_add(1);
                 }
             }
             let user = user_of(&names, conn, users)?;
             self.registry.name(alloc, user, conn)?;
         }
-        Ok(format!(in alloc; "{new} new")?)
+        Ok(format!(in alloc; "{joined} joined")?)
     }
 
     fn sizes(&self, alloc: Global, groups: u64) -> Result<String, Stop> {

@@ -14,9 +14,10 @@
 //! count HUB MOST CALL          gives turns, MOST at most, to a job as long as it gives the numbers from 1 on, and prints how many it
 //!                              gave and what it did then
 //! groups new NAME ..           a registry without members; the members of these groups, and the connections of users of these names, are
-//!                              printed after each of `add NAME CONN`, `remove NAME CONN`, `name NAME CONN` and `gone CONN`
+//!                              printed after each of `join NAME CONN`, `remove NAME CONN`, `name NAME CONN` and `gone CONN`
 //! groups members NAME          its members, and the connections of the user of this name
-//! groups fill CONNS EACH GROUPS USERS     so many connections join so many each of the groups 0, 1, ..., and are named
+//! groups fill CONNS EACH GROUPS USERS     so many connections join so many each of the groups 0, 1, ..., as far as
+//!                              they may, and are named
 //! groups sizes GROUPS          how many members these groups have, and connections the users of these names
 //! groups empty CONNS           so many connections are lost
 //! keeper new USERS FAILING     a keeper with these users (TOKEN:NAME with a comma between two), which fails at the calls of these

@@ -5,9 +5,11 @@ use Rattle.std.specs.Prelude.{if◌then◌else◌, filter, find, nat_le}
 use Rattle.std.proofs.lemmas.Bool.{eqb-true, eq-eqb, cond-false, both_ways, false_from_ne_true, and_left, and_parts, not-true, or_left, or_right}
 use Rattle.std.proofs.lemmas.List.{append-nil}
 use Rattle.hv_value.specs.Tree.{Tree}
+use Rattle.hv_value.specs.declared.value.Value.TheVariants as value
 use Rattle.hd_calls.specs.declared.vocabulary.Deed.{Deed}
 use Rattle.hd_calls.specs.declared.vocabulary.Deed.TheVariants.{Join, Leave, Post, Tell, Log, History}
 use Rattle.hd_calls.specs.declared.vocabulary.Input.{Input}
+use Rattle.hd_calls.specs.declared.vocabulary.Input.TheVariants as input
 use Rattle.hd_calls.specs.declared.vocabulary.Act.{Act}
 use Rattle.hd_calls.specs.declared.vocabulary.Act.TheVariants as act
 use Rattle.hd_calls.specs.Hubs.{Hub}
@@ -15,7 +17,7 @@ use Rattle.hd_calls.specs.Peers.{PeerEvent, Answers, Runs, Settings}
 use Rattle.hd_calls.specs.Rules.{IsPeer, is_deed_answer, settles}
 use Rattle.hd_rooms.specs.declared.vocabulary.Asked.{Asked}
 use Rattle.hd_rooms.specs.Kept.{Content, KeeperDid}
-use Rattle.hd_rooms.specs.Registry.{Pair, Lists, members, with_pair, without, without_pair}
+use Rattle.hd_rooms.specs.Registry.{Pair, Lists, may_join, members, with_member, without, without_pair}
 use Rattle.hd_server.specs.Machine.{MachineEvent, Carries, Does, Rounds, DeliveryOutcome, Got, IsAskedFor, Owed, NothingOwed, OwesCall, OwesDeed, GoesOn, MayFollow}
 use Rattle.hd_server.specs.Machine.{answer_to, fate_at, outcome_in, fates_among, fates_of, greatest, last_turn, turn_at}
 use Rattle.hd_server.specs.Lives.{numbers_to}
@@ -34,7 +36,7 @@ use Rattle.hub_machine.proofs.Open.{filter_goes, filter_stays}
 use Rattle.hub_machine.proofs.Doing.{index_stays}
 use Rattle.hub_machine.proofs.Lags.{kept_is_peer}
 use Rattle.hub_machine.proofs.Same.{same_stands}
-use Rattle.hub_machine.proofs.CarryLists.{among, among_agree, eqb_swap, fate_found, fates_by, is_slow, kept, kept_with, kept_without, lists_of, lists_same}
+use Rattle.hub_machine.proofs.CarryLists.{among, among_agree, eqb_swap, fate_found, fates_by, is_slow, kept, kept_member, kept_without, lists_of, lists_same, may_kept}
 use Rattle.hub_machine.proofs.CarryLists.{members_pass, slow_among, slow_found, slow_leave}
 use Rattle.hub_machine.proofs.CarryMoves.{handed_up, may_answer_at, open_answered, open_by_fate, still_answers, unclosed_at, untold}
 
@@ -127,9 +129,9 @@ gone_untold r fates f k g =
 -- ---- the moves of each
 
 pub moves_carried : (r : List MachineEvent) (c j : ℕ) (d : Deed) (fates : List (ℕ × DeliveryOutcome)) (asked : Option Asked) (l : Lists) → AreFates r fates → (k : ℕ)
-    → (moved c (Answers j (answer_to asked)) (told d fates (with_lists l (machine_view r)))).moves k ≡ moves k (Carries c j d fates asked ∷ r)
-moves_carried r c j d fates asked l f k = ap (λ (h : List PeerEvent). if c == k then Answers j (answer_to asked) ∷ h else h) (go (has_gone k r) refl)
-    ∙ ap (λ b. if b then Answers j (answer_to asked) ∷ with_fate d (settings_of k r) (outcome_in k fates) (moves k r)
+    → (moved c (Answers j (answer_to c d asked r)) (told d fates (with_lists l (machine_view r)))).moves k ≡ moves k (Carries c j d fates asked ∷ r)
+moves_carried r c j d fates asked l f k = ap (λ (h : List PeerEvent). if c == k then Answers j (answer_to c d asked r) ∷ h else h) (go (has_gone k r) refl)
+    ∙ ap (λ b. if b then Answers j (answer_to c d asked r) ∷ with_fate d (settings_of k r) (outcome_in k fates) (moves k r)
     else with_fate d (settings_of k r) (outcome_in k fates) (moves k r)) (eqb_swap c k)
   where
     go : (b : Bool) → has_gone k r ≡ b
@@ -151,7 +153,7 @@ open_carried : (r : List MachineEvent) (c j : ℕ) (d : Deed) (fates : List (ℕ
     → is_open k (Carries c j d fates asked ∷ r) ≡ (is_open k r && not (is_slow (outcome_in k fates)))
 open_carried r c j d fates asked k =
     ap (λ b. not (has_gone k r) && b)
-    (open_answered (settings_of k r) (k == c) j (answer_to asked) (with_fate d (settings_of k r) (outcome_in k fates) (moves k r))
+    (open_answered (settings_of k r) (k == c) j (answer_to c d asked r) (with_fate d (settings_of k r) (outcome_in k fates) (moves k r))
     ∙ open_by_fate d (settings_of k r) (outcome_in k fates) (moves k r))
     ∙ three (not (has_gone k r)) (is_open_at (settings_of k r) (moves k r)) (not (is_slow (outcome_in k fates)))
 
@@ -160,8 +162,8 @@ open_carried r c j d fates asked k =
 lists_carried : (r : List MachineEvent) (c j : ℕ) (d : Deed) (fates : List (ℕ × DeliveryOutcome)) (asked : Option Asked) → is_open c r ≡ true
     → among (λ k. is_open k r) (lists_of (joined (Carries c j d fates asked ∷ r)) (user_pairs r)) ≡ lists_after d c (registry r)
 lists_carried r c j (Join group) fates asked e =
-    lists_same (kept (λ k. is_open k r) (with_pair (group, c) (joined r))) (with_pair (group, c) (kept (λ k. is_open k r) (joined r)))
-    (registry r).users (registry r).users (kept_with (λ k. is_open k r) (group, c) (joined r) e) refl
+    lists_same (kept (λ k. is_open k r) (with_member (group, c) (joined r))) (with_member (group, c) (kept (λ k. is_open k r) (joined r)))
+    (registry r).users (registry r).users (kept_member (λ k. is_open k r) (group, c) (joined r) e) refl
 lists_carried r c j (Leave group) fates asked e =
     lists_same (kept (λ k. is_open k r) (without_pair (group, c) (joined r))) (without_pair (group, c) (kept (λ k. is_open k r) (joined r)))
     (registry r).users (registry r).users (kept_without (λ k. is_open k r) (group, c) (joined r)) refl
@@ -185,7 +187,7 @@ registry_carried r c j d fates asked f e =
 -- ---- all that is remembered
 
 pub same_affairs : (r : List MachineEvent) (c j : ℕ) (d : Deed) (asked : Option Asked) → is_open c r ≡ true
-    → AreSame (moved c (Answers j (answer_to asked)) (told d (fates_of d r) (with_lists (lists_after d c (registry r)) (machine_view r))))
+    → AreSame (moved c (Answers j (answer_to c d asked r)) (told d (fates_of d r) (with_lists (lists_after d c (registry r)) (machine_view r))))
     (machine_view (Carries c j d (fates_of d r) asked ∷ r))
 same_affairs r c j d asked e = record {
   settings = λ k. refl;
@@ -202,7 +204,7 @@ apart_from r c k at e = false_from_ne_true (k == c) (λ f.
 
 unjoined : (r : List MachineEvent) (c j k : ℕ) (d : Deed) (fates : List (ℕ × DeliveryOutcome)) (asked : Option Asked) → (k == c) ≡ false → without k (joined r) ≡ joined r
     → without k (joined (Carries c j d fates asked ∷ r)) ≡ joined (Carries c j d fates asked ∷ r)
-unjoined r c j k (Join group) fates asked e f = kept_with (λ n. not (k == n)) (group, c) (joined r) (ap not e) ∙ ap (with_pair (group, c)) f
+unjoined r c j k (Join group) fates asked e f = kept_member (λ n. not (k == n)) (group, c) (joined r) (ap not e) ∙ ap (with_member (group, c)) f
 unjoined r c j k (Leave group) fates asked e f = kept_without (λ n. not (k == n)) (group, c) (joined r) ∙ ap (without_pair (group, c)) f
 unjoined r c j k (Post group target arguments) fates asked e f = f
 unjoined r c j k (Tell user target arguments) fates asked e f = f
@@ -215,7 +217,7 @@ still_strange r c j k d fates asked at e s =
     let other : (k == c) ≡ false = apart_from r c k at e in
     record {
       unknown = s.unknown;
-      unmoved = cond-false (k == c) (Answers j (answer_to asked) ∷ with_fate d (settings_of k r) (outcome_in k fates) (moves k r))
+      unmoved = cond-false (k == c) (Answers j (answer_to c d asked r) ∷ with_fate d (settings_of k r) (outcome_in k fates) (moves k r))
           (with_fate d (settings_of k r) (outcome_in k fates) (moves k r)) other
           ∙ ap (λ o. with_fate d o (outcome_in k fates) (moves k r)) e ∙ s.unmoved;
       in_no_group = unjoined r c j k d fates asked other s.in_no_group;
@@ -225,7 +227,7 @@ still_strange r c j k d fates asked at e s =
 gone_unmoved : (r : List MachineEvent) (c j k : ℕ) (d : Deed) (fates : List (ℕ × DeliveryOutcome)) (asked : Option Asked) → IsHere c r → AreFates r fates
     → has_gone k r ≡ true → moves k (Carries c j d fates asked ∷ r) ≡ moves k r
 gone_unmoved r c j k d fates asked at f g =
-    cond-false (k == c) (Answers j (answer_to asked) ∷ with_fate d (settings_of k r) (outcome_in k fates) (moves k r))
+    cond-false (k == c) (Answers j (answer_to c d asked r) ∷ with_fate d (settings_of k r) (outcome_in k fates) (moves k r))
     (with_fate d (settings_of k r) (outcome_in k fates) (moves k r))
     (false_from_ne_true (k == c) (λ e. both_ways (has_gone c r) at.stays (ap (λ n. has_gone n r) (sym (eqb-true k c e)) ∙ g)))
     ∙ ap (λ o. with_fate d (settings_of k r) o (moves k r)) (gone_untold r fates f k g) ∙ untold d (settings_of k r) (moves k r)
@@ -271,10 +273,10 @@ same_back a b e = record { settings = λ c. sym (e.settings c); moves = λ c. sy
 -- members were told, and the job is answered
 pub carried_stands : {H Job : Type 0} (hub : Hub Job) (new old : Machine H Job) (r : List MachineEvent) (c j : ℕ) (d : Deed) (asked : Option Asked)
     → StandsMachine {H = H} hub old r → owed r ≡ OwesDeed c j d → is_there c r ≡ true → IsAskedFor d (who_of (settings_of c r)) asked → (b : MachineView)
-    → AreSame (moved c (Answers j (answer_to asked)) (told d (fates_of d r) (with_lists (lists_after d c (registry r)) (machine_view r)))) b
+    → AreSame (moved c (Answers j (answer_to c d asked r)) (told d (fates_of d r) (with_lists (lists_after d c (registry r)) (machine_view r)))) b
     → StandsFor {H = H} hub new b → StandsMachine {H = H} hub new (Carries c j d (fates_of d r) asked ∷ r)
 carried_stands {H} {Job} hub new old r c j d asked s e there is_asked b same stands =
-    let all : MachineView = moved c (Answers j (answer_to asked)) (told d (fates_of d r) (with_lists (lists_after d c (registry r)) (machine_view r))) in
+    let all : MachineView = moved c (Answers j (answer_to c d asked r)) (told d (fates_of d r) (with_lists (lists_after d c (registry r)) (machine_view r))) in
     stands_carried {H = H} {Job = Job} hub new old r c j d (fates_of d r) asked s (here c r there) (are_fates d r)
     (same_stands {H = H} {Job = Job} hub new all (machine_view (Carries c j d (fates_of d r) asked ∷ r))
     (same_affairs r c j d asked (open_here {H = H} {Job = Job} hub old r c j d s e there))
@@ -294,13 +296,19 @@ moved_same c m a b e = record {
 
 pub carried_quietly : {H Job : Type 0} (hub : Hub Job) (new old : Machine H Job) (r : List MachineEvent) (c j : ℕ) (d : Deed) (asked : Option Asked)
     → StandsMachine {H = H} hub old r → owed r ≡ OwesDeed c j d → is_there c r ≡ true → IsAskedFor d (who_of (settings_of c r)) asked → fates_of d r ≡ []
-    → StandsFor {H = H} hub new (moved c (Answers j (answer_to asked)) (with_lists (lists_after d c (registry r)) (machine_view r)))
+    → StandsFor {H = H} hub new (moved c (Answers j (answer_to c d asked r)) (with_lists (lists_after d c (registry r)) (machine_view r)))
     → StandsMachine {H = H} hub new (Carries c j d (fates_of d r) asked ∷ r)
 carried_quietly {H} {Job} hub new old r c j d asked s e there is_asked none stands =
     let a : MachineView = with_lists (lists_after d c (registry r)) (machine_view r) in
-    let m : PeerEvent = Answers j (answer_to asked) in
+    let m : PeerEvent = Answers j (answer_to c d asked r) in
     carried_stands {H = H} {Job = Job} hub new old r c j d asked s e there is_asked (moved c m a)
     (moved_same c m (told d (fates_of d r) a) a (subst (λ fs. AreSame (told d fs a) a) (sym none) (told_nobody d a))) stands
+
+-- whether an open connection may join is read off its registry, and so is what its job is told
+pub join_answer : (r : List MachineEvent) (c : ℕ) (group : List ℕ) (may : Bool) → is_open c r ≡ true → may ≡ may_join (group, c) (registry r).groups
+    → answer_to c (Join group) None r ≡ (if may then input.Done value.Null else input.Failed)
+join_answer r c group may e is =
+    ap (λ b. if b then input.Done value.Null else input.Failed) (sym (is ∙ may_kept (λ k. is_open k r) (group, c) (joined r) e))
 
 -- ---- members that are told
 
@@ -335,10 +343,10 @@ pub carried_telling : {H Job : Type 0} (hub : Hub Job) (new old : Machine H Job)
     (fates : List (ℕ × DeliveryOutcome)) (b : MachineView) → StandsMachine {H = H} hub old r → owed r ≡ OwesDeed c j d → is_there c r ≡ true
     → IsAskedFor d (who_of (settings_of c r)) None
     → lists_after d c (registry r) ≡ registry r → AreSame (told d fates (machine_view r)) b → fates ≡ fates_of d r
-    → StandsFor {H = H} hub new (moved c (Answers j (answer_to None)) b) → StandsMachine {H = H} hub new (Carries c j d (fates_of d r) None ∷ r)
+    → StandsFor {H = H} hub new (moved c (Answers j (answer_to c d None r)) b) → StandsMachine {H = H} hub new (Carries c j d (fates_of d r) None ∷ r)
 carried_telling {H} {Job} hub new old r c j d fates b s e there is_asked lists same are stands =
-    carried_stands {H = H} {Job = Job} hub new old r c j d None s e there is_asked (moved c (Answers j (answer_to None)) b)
-    (moved_same c (Answers j (answer_to None)) (told d (fates_of d r) (with_lists (lists_after d c (registry r)) (machine_view r))) b
+    carried_stands {H = H} {Job = Job} hub new old r c j d None s e there is_asked (moved c (Answers j (answer_to c d None r)) b)
+    (moved_same c (Answers j (answer_to c d None r)) (told d (fates_of d r) (with_lists (lists_after d c (registry r)) (machine_view r))) b
     (subst (λ l. AreSame (told d (fates_of d r) (with_lists l (machine_view r))) b) (sym lists)
     (subst (λ fs. AreSame (told d fs (machine_view r)) b) are same))) stands
 

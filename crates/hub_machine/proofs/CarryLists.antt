@@ -1,10 +1,10 @@
 -- Lists of pairs of which those of some connections are kept: how joining, leaving and closing the slow ones change them.
 use Rattle.std.proofs.Common.{◌≡◌, ◌⊎◌, inl, inr, ℕ, ◌==◌, Bool, true, false, not, ◌&&◌, ◌||◌, List, [], ◌∷◌, ◌++◌, filter, map}
 use Rattle.std.proofs.Common.{Option, Some, None, refl, sym, ap, ◌∙◌}
-use Rattle.std.specs.Prelude.{if◌then◌else◌}
+use Rattle.std.specs.Prelude.{if◌then◌else◌, length, nat_lt}
 use Rattle.std.proofs.lemmas.Bool.{eqb-true, eq-eqb, ne_eqb, cond-true, cond-false, both_ways, and_right, or_left, or_cases, false_from_ne_true}
 use Rattle.std.proofs.lemmas.List.Elements.{filter_agree, filter-append}
-use Rattle.hd_rooms.specs.Registry.{Pair, Lists, gone, has, members, same_pair, same_text, with_pair, without, without_pair}
+use Rattle.hd_rooms.specs.Registry.{Pair, Lists, count_of, gone, has, may_join, members, most_groups, same_pair, same_text, with_member, with_pair, without, without_pair}
 use Rattle.hd_server.specs.Machine.{DeliveryOutcome, Got, TooSlow, PassedOver, outcome_in}
 use Rattle.hub_machine.specs.Spreads.{is_listed}
 use Rattle.hub_machine.specs.MachineView.{without_slow}
@@ -60,8 +60,8 @@ has_kept f p (q ∷ qs) e = go (f q.1) refl (has_kept f p qs e)
     go true g ih = ap (has p) (filter_stays (λ (x : Pair). f x.1) q qs g) ∙ ap (λ b. same_pair p q || b) ih
     go false g ih = ap (has p) (filter_goes (λ (x : Pair). f x.1) q qs g) ∙ ih ∙ ap (λ b. b || has p qs) (sym (other g))
 
--- it joins
-pub kept_with : (f : ℕ → Bool) (p : Pair) (pairs : List Pair) → f p.1 ≡ true → kept f (with_pair p pairs) ≡ with_pair p (kept f pairs)
+-- it comes to have the pair
+kept_with : (f : ℕ → Bool) (p : Pair) (pairs : List Pair) → f p.1 ≡ true → kept f (with_pair p pairs) ≡ with_pair p (kept f pairs)
 kept_with f p pairs e = go (has p pairs) refl
   where
     go : (b : Bool) → has p pairs ≡ b → kept f (with_pair p pairs) ≡ with_pair p (kept f pairs)
@@ -71,6 +71,33 @@ kept_with f p pairs e = go (has p pairs) refl
         ∙ filter-append (λ (x : Pair). f x.1) pairs (p ∷ [])
         ∙ ap (λ l. kept f pairs ++ l) (filter_stays (λ (x : Pair). f x.1) p [] e)
         ∙ sym (cond-false (has p (kept f pairs)) (kept f pairs) (kept f pairs ++ p ∷ []) (has_kept f p pairs e ∙ h))
+
+-- it has as many pairs
+count_kept : (f : ℕ → Bool) (c : ℕ) (pairs : List Pair) → f c ≡ true → count_of c (kept f pairs) ≡ count_of c pairs
+count_kept f c pairs e =
+    ap length (sym (filter_both (λ (x : Pair). f x.1) (λ x. c == x.1) pairs) ∙ filter_agree (λ (x : Pair). f x.1 && (c == x.1)) (λ x. c == x.1) same pairs)
+  where
+    same : (x : Pair) → (f x.1 && (c == x.1)) ≡ (c == x.1)
+    same x = go (c == x.1) refl
+      where
+        go : (b : Bool) → (c == x.1) ≡ b → (f x.1 && (c == x.1)) ≡ (c == x.1)
+        go true g = ap (λ b. b && (c == x.1)) (ap f (sym (eqb-true c x.1 g)) ∙ e)
+        go false g = and_right (f x.1) (c == x.1) g ∙ sym g
+
+pub may_kept : (f : ℕ → Bool) (p : Pair) (pairs : List Pair) → f p.1 ≡ true → may_join p (kept f pairs) ≡ may_join p pairs
+may_kept f p pairs e =
+    ap (λ b. b || nat_lt (count_of p.1 (kept f pairs)) most_groups) (has_kept f p pairs e)
+    ∙ ap (λ n. has p pairs || nat_lt n most_groups) (count_kept f p.1 pairs e)
+
+-- it joins, if it may
+pub kept_member : (f : ℕ → Bool) (p : Pair) (pairs : List Pair) → f p.1 ≡ true → kept f (with_member p pairs) ≡ with_member p (kept f pairs)
+kept_member f p pairs e = go (may_join p pairs) refl
+  where
+    go : (b : Bool) → may_join p pairs ≡ b → kept f (with_member p pairs) ≡ with_member p (kept f pairs)
+    go true h = ap (kept f) (cond-true (may_join p pairs) (with_pair p pairs) pairs h) ∙ kept_with f p pairs e
+        ∙ sym (cond-true (may_join p (kept f pairs)) (with_pair p (kept f pairs)) (kept f pairs) (may_kept f p pairs e ∙ h))
+    go false h = ap (kept f) (cond-false (may_join p pairs) (with_pair p pairs) pairs h)
+        ∙ sym (cond-false (may_join p (kept f pairs)) (with_pair p (kept f pairs)) (kept f pairs) (may_kept f p pairs e ∙ h))
 
 -- it leaves
 pub kept_without : (f : ℕ → Bool) (p : Pair) (pairs : List Pair) → kept f (without_pair p pairs) ≡ without_pair p (kept f pairs)

@@ -37,7 +37,7 @@ pub carried_alike : (k c j : ℕ) (d : Deed) (fates : List (ℕ × DeliveryOutco
 carried_alike k c j d fates asked h =
     let told : RanAlike (with_fate d (settings_of k h) (outcome_in k fates) (moves k h)) (moves k h)
     = told_alike d (settings_of k h) (outcome_in k fates) (moves k h) in
-    answered_alike (k == c) (Answers j (answer_to asked) ∷ with_fate d (settings_of k h) (outcome_in k fates) (moves k h))
+    answered_alike (k == c) (Answers j (answer_to c d asked h) ∷ with_fate d (settings_of k h) (outcome_in k fates) (moves k h))
     (with_fate d (settings_of k h) (outcome_in k fates) (moves k h)) (moves k h) told told
 
 -- ---- the round

@@ -1,6 +1,6 @@
 //! Deeds that jobs hand up: each is carried out at once, and its job is told what came of it.
 
-ghost use Rattle.std.specs.Prelude.{◌≡◌, ◌≤◌, ◌+◌, ℕ, true, suc, map, List, ◌∷◌, Some, None, nat_eq, OnOk, IfOk, option_copied};
+ghost use Rattle.std.specs.Prelude.{◌≡◌, ◌≤◌, ◌+◌, ℕ, true, suc, map, List, ◌∷◌, Some, None, nat_eq, OnOk, OnErr, IfOk, option_copied};
 ghost use Rattle.std.specs.List.{IsDistinct};
 ghost use Rattle.hv_value.specs.Tree.{text};
 ghost use Rattle.hv_value.specs.declared.value.Value.TheVariants as value;
@@ -30,7 +30,8 @@ use std::alloc::{AllocError, Global};
 use std::sync::ledger::Ledger;
 
 impl<H: Hub> Machine<H> {
-    /// Carries out what a job of this connection, which is there, handed up, and tells the job what came of it.
+    /// Carries out what a job of this connection, which is there, handed up, and tells the job what came of it. A fault of the keeper is
+    /// told to the job: the error is out of memory alone.
     pub(crate) fn carry<K: Keeper, L: Ledger>(
         &mut self,
         alloc: Global,
@@ -40,10 +41,11 @@ impl<H: Hub> Machine<H> {
         job: u64,
         deed: Deed,
     ) -> Result<(), AllocError>
-        ensures { OnOk result ((r : List MachineEvent) (j : ℕ) → job ≡ suc j → owed r ≡ OwesDeed conn j deed → is_there conn r ≡ true →
+        ensures carried { OnOk result ((r : List MachineEvent) (j : ℕ) → job ≡ suc j → owed r ≡ OwesDeed conn j deed → is_there conn r ≡ true →
             StandsMachine (meaning H.begin_of H.step_of) self.old r → IsCarried (meaning H.begin_of H.step_of) self.new
             (keeper_state (K.holds keeper.old) (K.answers keeper.old) (K.faults keeper.old) steps.old)
             (keeper_state (K.holds keeper.new) (K.answers keeper.new) (K.faults keeper.new) steps.new) r conn j deed) }
+        ensures faultless { OnErr result (K.faults keeper.new ≡ K.faults keeper.old) }
     {
         match deed {
             Deed::Join(group) => self.join(alloc, conn, job, &group),
@@ -66,12 +68,16 @@ impl<H: Hub> Machine<H> {
         }
     }
 
-    /// The connection joins a group.
+    /// The connection joins a group, if it may.
     fn join(&mut self, alloc: Global, conn: u64, job: u64, group: &Text) -> Result<(), AllocError>
         ensures { OnOk result ((r : List MachineEvent) (j : ℕ) → job ≡ suc j → owed r ≡ OwesDeed conn j (deed.Join group.now) → is_there conn r ≡ true →
             StandsMachine (meaning H.begin_of H.step_of) self.old r → IsCarriedAlone (meaning H.begin_of H.step_of) self.new r conn j (deed.Join group.now)) }
     {
-        let _is_new = self.registry.add(alloc, group, conn)?;
+        let may = self.registry.join(alloc, group, conn)?;
+        if !may {
+            self.answer(conn, job, Input::Failed);
+            return Ok(());
+        }
         self.answer(conn, job, Input::Done(Value::Null));
         Ok(())
     }
@@ -137,11 +143,12 @@ impl<H: Hub> Machine<H> {
         room: &Text,
         text: &Text,
     ) -> Result<(), AllocError>
-        ensures { OnOk result ((r : List MachineEvent) (j : ℕ) → job ≡ suc j → owed r ≡ OwesDeed conn j (deed.Log room.now text.now) → is_there conn r ≡ true →
+        ensures carried { OnOk result ((r : List MachineEvent) (j : ℕ) → job ≡ suc j → owed r ≡ OwesDeed conn j (deed.Log room.now text.now) → is_there conn r ≡ true →
             StandsMachine (meaning H.begin_of H.step_of) self.old r → (spelled : ℕ) →
             IsCarried (meaning H.begin_of H.step_of) self.new
             (keeper_state (K.holds keeper.old) (K.answers keeper.old) (K.faults keeper.old) spelled)
             (keeper_state (K.holds keeper.new) (K.answers keeper.new) (K.faults keeper.new) spelled) r conn j (deed.Log room.now text.now)) }
+        ensures faultless { OnErr result (K.faults keeper.new ≡ K.faults keeper.old) }
     {
         let Some(peer) = self.peers.get(&conn) else {
             return Ok(());
@@ -169,11 +176,12 @@ impl<H: Hub> Machine<H> {
         room: &Text,
         most: u32,
     ) -> Result<(), AllocError>
-        ensures { OnOk result ((r : List MachineEvent) (j : ℕ) → job ≡ suc j → owed r ≡ OwesDeed conn j (deed.History room.now most) → is_there conn r ≡ true →
+        ensures carried { OnOk result ((r : List MachineEvent) (j : ℕ) → job ≡ suc j → owed r ≡ OwesDeed conn j (deed.History room.now most) → is_there conn r ≡ true →
             StandsMachine (meaning H.begin_of H.step_of) self.old r → (spelled : ℕ) →
             IsCarried (meaning H.begin_of H.step_of) self.new
             (keeper_state (K.holds keeper.old) (K.answers keeper.old) (K.faults keeper.old) spelled)
             (keeper_state (K.holds keeper.new) (K.answers keeper.new) (K.faults keeper.new) spelled) r conn j (deed.History room.now most)) }
+        ensures faultless { OnErr result (K.faults keeper.new ≡ K.faults keeper.old) }
     {
         match keeper.history(alloc, room, most) {
             Ok(texts) => {

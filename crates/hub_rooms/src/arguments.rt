@@ -3,21 +3,34 @@
 ghost use Rattle.std.specs.Prelude.{◌≡◌, [], ◌∷◌, IfOk};
 ghost use Rattle.hv_value.specs.Tree.{text, depth_of_all};
 ghost use Rattle.hv_value.specs.View.{tree, trees_of};
-ghost use Rattle.hub_rooms.specs.Arguments.{one_text, two_texts, most_in, text_and_most};
+ghost use Rattle.hub_rooms.specs.Arguments.{room_in, one_room, two_texts, room_and_text, most_in, room_and_most};
 
-use hd_rooms::MOST_RECALLED;
+use hd_rooms::{MOST_NAME, MOST_RECALLED};
 use hm_message::{number_in, text_in};
 use hv_value::{Items, Text, Value};
 use std::alloc::{AllocError, Global};
 
-/// A copy of the one argument, if there is one and it is a text.
-pub fn text_of(arguments: &[Value]) -> Result<Option<Text>, AllocError>
-    ensures { IfOk result (λ o. o ≡ one_text (trees_of arguments.now)) }
+/// A copy of the room's name that the value is, if it is one that isn't too long.
+fn room_in(value: &Value) -> Result<Option<Text>, AllocError>
+    ensures { IfOk result (λ o. o ≡ room_in (tree value.now)) }
+{
+    let Some(name) = text_in(value)? else {
+        return Ok(None);
+    };
+    if name.as_str().len() > MOST_NAME {
+        return Ok(None);
+    }
+    Ok(Some(name))
+}
+
+/// A copy of the one argument, if there is one and it is a room's name.
+pub fn room_of(arguments: &[Value]) -> Result<Option<Text>, AllocError>
+    ensures { IfOk result (λ o. o ≡ one_room (trees_of arguments.now)) }
 {
     let [only] = arguments else {
         return Ok(None);
     };
-    text_in(only)
+    room_in(only)
 }
 
 /// Copies of the two arguments, if there are two and both are texts.
@@ -28,6 +41,22 @@ pub fn texts_of(arguments: &[Value]) -> Result<Option<(Text, Text)>, AllocError>
         return Ok(None);
     };
     let Some(first) = text_in(first)? else {
+        return Ok(None);
+    };
+    let Some(second) = text_in(second)? else {
+        return Ok(None);
+    };
+    Ok(Some((first, second)))
+}
+
+/// Copies of the two arguments, if there are two, a room's name and a text.
+pub fn room_and_text_of(arguments: &[Value]) -> Result<Option<(Text, Text)>, AllocError>
+    ensures { IfOk result (λ o. o ≡ room_and_text (trees_of arguments.now)) }
+{
+    let [first, second] = arguments else {
+        return Ok(None);
+    };
+    let Some(first) = room_in(first)? else {
         return Ok(None);
     };
     let Some(second) = text_in(second)? else {
@@ -47,14 +76,14 @@ fn most_in(value: &Value) -> Option<u32>
     Some(number as u32)
 }
 
-/// Copies of the two arguments, if there are two, a text and a number of texts for which `History` can ask.
-pub fn text_and_most_of(arguments: &[Value]) -> Result<Option<(Text, u32)>, AllocError>
-    ensures { IfOk result (λ o. o ≡ text_and_most (trees_of arguments.now)) }
+/// Copies of the two arguments, if there are two, a room's name and a number of texts for which `History` can ask.
+pub fn room_and_most_of(arguments: &[Value]) -> Result<Option<(Text, u32)>, AllocError>
+    ensures { IfOk result (λ o. o ≡ room_and_most (trees_of arguments.now)) }
 {
     let [first, second] = arguments else {
         return Ok(None);
     };
-    let Some(first) = text_in(first)? else {
+    let Some(first) = room_in(first)? else {
         return Ok(None);
     };
     let Some(most) = most_in(second) else {

@@ -6,7 +6,9 @@ ghost use Rattle.hd_rooms.specs.Rooms.{deeds_of, method_of};
 ghost use Rattle.hd_rooms.specs.declared.vocabulary.RoomsMethod.TheVariants.{Join, Leave, Post, Tell, History};
 ghost use Rattle.hub_rooms.specs.Jobs.{listed};
 
-use crate::arguments::{text_and_most_of, text_of, texts_of, three_items, two_items};
+use crate::arguments::{
+    room_and_most_of, room_and_text_of, room_of, texts_of, three_items, two_items,
+};
 use hd_calls::Deed;
 use hd_rooms::RoomsMethod;
 use hv_value::{Text, Value};
@@ -56,7 +58,7 @@ fn two(alloc: Global, first: Deed, second: Deed) -> Result<VecDeque<Deed>, Alloc
 fn join(alloc: Global, arguments: &[Value]) -> Result<Option<VecDeque<Deed>>, AllocError>
     ensures { IfOk result (λ o. (who : List ℕ) → listed o ≡ deeds_of Join who (trees_of arguments.now)) }
 {
-    let Some(room) = text_of(arguments)? else {
+    let Some(room) = room_of(arguments)? else {
         return Ok(None);
     };
     Ok(Some(one(alloc, Deed::Join(room))?))
@@ -65,7 +67,7 @@ fn join(alloc: Global, arguments: &[Value]) -> Result<Option<VecDeque<Deed>>, Al
 fn leave(alloc: Global, arguments: &[Value]) -> Result<Option<VecDeque<Deed>>, AllocError>
     ensures { IfOk result (λ o. (who : List ℕ) → listed o ≡ deeds_of Leave who (trees_of arguments.now)) }
 {
-    let Some(room) = text_of(arguments)? else {
+    let Some(room) = room_of(arguments)? else {
         return Ok(None);
     };
     Ok(Some(one(alloc, Deed::Leave(room))?))
@@ -78,7 +80,7 @@ fn post(
 ) -> Result<Option<VecDeque<Deed>>, AllocError>
     ensures { IfOk result (λ o. listed o ≡ deeds_of Post who.now (trees_of arguments.now)) }
 {
-    let Some((room, text)) = texts_of(arguments)? else {
+    let Some((room, text)) = room_and_text_of(arguments)? else {
         return Ok(None);
     };
     let target = Text::of(alloc, "Posted")?;
@@ -116,7 +118,7 @@ fn tell(
 fn history(alloc: Global, arguments: &[Value]) -> Result<Option<VecDeque<Deed>>, AllocError>
     ensures { IfOk result (λ o. (who : List ℕ) → listed o ≡ deeds_of History who (trees_of arguments.now)) }
 {
-    let Some((room, most)) = text_and_most_of(arguments)? else {
+    let Some((room, most)) = room_and_most_of(arguments)? else {
         return Ok(None);
     };
     Ok(Some(one(alloc, Deed::History { room, most })?))

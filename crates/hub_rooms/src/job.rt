@@ -63,6 +63,16 @@ fn ending_of(method: RoomsMethod, input: &Input) -> Result<Ending, AllocError>
     Ok(Ending::Result(copy_of(brought)?))
 }
 
+/// The error of the method, a deed of which failed.
+fn error_of(alloc: Global, method: RoomsMethod) -> Result<Text, AllocError>
+    ensures { IfOk result (λ error. error ≡ rooms.error_of method) }
+{
+    if method == RoomsMethod::Join {
+        return Text::of(alloc, "Too many groups.");
+    }
+    Text::of(alloc, "The store failed.")
+}
+
 impl RoomsJob {
     /// A job that ends with this error at its first turn.
     pub(crate) fn refused(alloc: Global, error: &str) -> Result<RoomsJob, AllocError>
@@ -113,8 +123,7 @@ fn next_act(
     ensures unchanged { OnErr result (deeds.new.items ≡ deeds.old.items) }
 {
     if let Input::Failed = input {
-        let error = Text::of(alloc, "The store failed.")?;
-        return Ok(Act::End(Ending::Error(error)));
+        return Ok(Act::End(Ending::Error(error_of(alloc, method)?)));
     }
     if let Some(next) = deeds.pop_front() {
         return Ok(Act::Do(next));

@@ -8,7 +8,8 @@
 //! | `History(room, most)` | the last texts of the room, 100 at most, oldest first | with their list |
 //!
 //! Each deed is one turn of the call's job, and the ending one more. What can't be done ends with an error: `Unknown method.`,
-//! `Not a stream.` for a Stream of any of them, `Wrong arguments.`, and `The store failed.` if a deed couldn't be done.
+//! `Not a stream.` for a Stream of any of them, `Wrong arguments.`, also for a room whose name has more than 256 bytes, and, if a deed
+//! failed, `Too many groups.` of a `Join` and `The store failed.` of the others.
 //!
 //! Proved: a job is what `Rooms` of `hd_rooms` says of its call, and each of its acts is the one that it says.
 //!

@@ -1,12 +1,12 @@
 use Rattle.std.proofs.Common.{◌≡◌, Some, sym, ◌∙◌}
 use Rattle.hv_value.specs.View.{trees_of}
 use Rattle.hub_rooms.proofs.Methods.{posts}
-use Rattle.hub_rooms.specs.Arguments.{two_texts}
+use Rattle.hub_rooms.specs.Arguments.{room_and_text}
 use Rattle.hub_rooms.proofs.deeds.post.Goals as goal
 
 pub returns : goal.returns
 returns c =
-    let read : two_texts (trees_of c.args.arguments.now) ≡ Some (c.in-Some.room, c.in-Some.text) =
+    let read : room_and_text (trees_of c.args.arguments.now) ≡ Some (c.in-Some.room, c.in-Some.text) =
     sym c.in_ok-room.ensures ∙ c.in-Some.is
     in
     posts (trees_of c.args.arguments.now) c.args.who.now c.in-Some.room c.in-Some.text c.in_ok-copy.field-0 c.in_ok-copy-4.field-0 c.in_ok-copy-3.field-0

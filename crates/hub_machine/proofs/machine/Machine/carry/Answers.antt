@@ -3,8 +3,8 @@ use Rattle.hub_machine.specs.KeeperState.{keeper_state}
 use Rattle.hub_machine.proofs.Carry.{named_so, on_ok}
 use Rattle.hub_machine.proofs.machine.Machine.carry.Goals as goal
 
-pub returns-in-Log : goal.returns-in-Log
-returns-in-Log g c =
+pub returns-in-Log-clause-carried : goal.returns-in-Log-clause-carried
+returns-in-Log-clause-carried g c =
     let hub = meaning g.H.Hub.begin_of g.H.Hub.step_of in
     let holds = g.K.Keeper.holds c.args.keeper.now in
     let answers = g.K.Keeper.answers c.args.keeper.now in
@@ -12,12 +12,12 @@ returns-in-Log g c =
     let before = keeper_state holds answers faults c.args.steps.now in
     let keeper = c.log.new.keeper in
     let now = keeper_state (g.K.Keeper.holds keeper) (g.K.Keeper.answers keeper) (g.K.Keeper.faults keeper) c.args.steps.now in
-    on_ok c.log.result c.log.ensures (λ f.
+    on_ok c.log.result c.log.ensures.carried (λ f.
     named_so {H = g.row.H.Denot} hub c.args.self.now c.log.new.self before now c.args.conn c.args.job c.args.deed _ c.in-Log.is
     (λ r j number owes there s. f r j number owes there s c.args.steps.now))
 
-pub returns-in-Join : goal.returns-in-Join
-returns-in-Join g c =
+pub returns-in-Join-clause-carried : goal.returns-in-Join-clause-carried
+returns-in-Join-clause-carried g c =
     let hub = meaning g.H.Hub.begin_of g.H.Hub.step_of in
     let holds = g.K.Keeper.holds c.args.keeper.now in
     let answers = g.K.Keeper.answers c.args.keeper.now in
@@ -27,8 +27,8 @@ returns-in-Join g c =
     named_so {H = g.row.H.Denot} hub c.args.self.now c.join.new.self before before c.args.conn c.args.job c.args.deed _ c.in-Join.is
     (λ r j number owes there s. f r j number owes there s holds answers faults c.args.steps.now))
 
-pub returns-in-Post : goal.returns-in-Post
-returns-in-Post g c =
+pub returns-in-Post-clause-carried : goal.returns-in-Post-clause-carried
+returns-in-Post-clause-carried g c =
     let hub = meaning g.H.Hub.begin_of g.H.Hub.step_of in
     let holds = g.K.Keeper.holds c.args.keeper.now in
     let answers = g.K.Keeper.answers c.args.keeper.now in
@@ -39,8 +39,8 @@ returns-in-Post g c =
     named_so {H = g.row.H.Denot} hub c.args.self.now c.post.new.self before now c.args.conn c.args.job c.args.deed _ c.in-Post.is
     (λ r j number owes there s. f r j number owes there s holds answers faults))
 
-pub returns-in-Tell : goal.returns-in-Tell
-returns-in-Tell g c =
+pub returns-in-Tell-clause-carried : goal.returns-in-Tell-clause-carried
+returns-in-Tell-clause-carried g c =
     let hub = meaning g.H.Hub.begin_of g.H.Hub.step_of in
     let holds = g.K.Keeper.holds c.args.keeper.now in
     let answers = g.K.Keeper.answers c.args.keeper.now in
@@ -51,8 +51,8 @@ returns-in-Tell g c =
     named_so {H = g.row.H.Denot} hub c.args.self.now c.tell.new.self before now c.args.conn c.args.job c.args.deed _ c.in-Tell.is
     (λ r j number owes there s. f r j number owes there s holds answers faults))
 
-pub returns-in-Leave : goal.returns-in-Leave
-returns-in-Leave g c =
+pub returns-in-Leave-clause-carried : goal.returns-in-Leave-clause-carried
+returns-in-Leave-clause-carried g c =
     let hub = meaning g.H.Hub.begin_of g.H.Hub.step_of in
     let holds = g.K.Keeper.holds c.args.keeper.now in
     let answers = g.K.Keeper.answers c.args.keeper.now in
@@ -61,8 +61,8 @@ returns-in-Leave g c =
     named_so {H = g.row.H.Denot} hub c.args.self.now c.leave.new.self before before c.args.conn c.args.job c.args.deed _ c.in-Leave.is
     (λ r j number owes there s. c.leave.ensures r j number owes there s holds answers faults c.args.steps.now)
 
-pub returns-in-History : goal.returns-in-History
-returns-in-History g c =
+pub returns-in-History-clause-carried : goal.returns-in-History-clause-carried
+returns-in-History-clause-carried g c =
     let hub = meaning g.H.Hub.begin_of g.H.Hub.step_of in
     let holds = g.K.Keeper.holds c.args.keeper.now in
     let answers = g.K.Keeper.answers c.args.keeper.now in
@@ -70,6 +70,6 @@ returns-in-History g c =
     let before = keeper_state holds answers faults c.args.steps.now in
     let keeper = c.history.new.keeper in
     let now = keeper_state (g.K.Keeper.holds keeper) (g.K.Keeper.answers keeper) (g.K.Keeper.faults keeper) c.args.steps.now in
-    on_ok c.history.result c.history.ensures (λ f.
+    on_ok c.history.result c.history.ensures.carried (λ f.
     named_so {H = g.row.H.Denot} hub c.args.self.now c.history.new.self before now c.args.conn c.args.job c.args.deed _ c.in-History.is
     (λ r j number owes there s. f r j number owes there s c.args.steps.now))

@@ -5,8 +5,8 @@ use Rattle.hub_machine.specs.KeeperState.{KeeperState, keeper_state}
 use Rattle.hub_machine.proofs.AsksKeeper.{IsTold, history_carried, was_recalled, was_unrecalled}
 use Rattle.hub_machine.proofs.machine.Machine.history.Goals as goal
 
-pub returns-in_ok-rows-in-Ok : goal.returns-in_ok-rows-in-Ok
-returns-in_ok-rows-in-Ok g c r j number owes there s spelled =
+pub returns-in_ok-rows-in-Ok-clause-carried : goal.returns-in_ok-rows-in-Ok-clause-carried
+returns-in_ok-rows-in-Ok-clause-carried g c r j number owes there s spelled =
     let hub = meaning g.H.Hub.begin_of g.H.Hub.step_of in
     let before : KeeperState = keeper_state (g.K.Keeper.holds c.args.keeper.now) (g.K.Keeper.answers c.args.keeper.now) (g.K.Keeper.faults c.args.keeper.now) spelled in
     let now : KeeperState = keeper_state (g.K.Keeper.holds c.history.new.self) (g.K.Keeper.answers c.history.new.self) (g.K.Keeper.faults c.history.new.self) spelled in
@@ -17,8 +17,8 @@ returns-in_ok-rows-in-Ok g c r j number owes there s spelled =
     (subst (λ rows. IsTold {H = g.row.H.Denot} {Job = g.row.H-Job.Denot} hub c.args.self.now c.answer.new.self c.args.conn j (Done rows))
     c.in_ok-rows-in-Ok.ensures (λ a. c.answer.ensures a j number))
 
-pub returns-in-Err-Failed : goal.returns-in-Err-Failed
-returns-in-Err-Failed g c r j number owes there s spelled =
+pub returns-in-Err-Failed-clause-carried : goal.returns-in-Err-Failed-clause-carried
+returns-in-Err-Failed-clause-carried g c r j number owes there s spelled =
     let hub = meaning g.H.Hub.begin_of g.H.Hub.step_of in
     let before : KeeperState = keeper_state (g.K.Keeper.holds c.args.keeper.now) (g.K.Keeper.answers c.args.keeper.now) (g.K.Keeper.faults c.args.keeper.now) spelled in
     let now : KeeperState = keeper_state (g.K.Keeper.holds c.history.new.self) (g.K.Keeper.answers c.history.new.self) (g.K.Keeper.faults c.history.new.self) spelled in

@@ -4,13 +4,13 @@ use Rattle.hub_machine.specs.KeeperState.{KeeperState, keeper_state}
 use Rattle.hub_machine.proofs.AsksKeeper.{has_its_peer, log_carried, was_logged, was_unlogged, who_is}
 use Rattle.hub_machine.proofs.machine.Machine.log.Goals as goal
 
-pub returns-in_default : goal.returns-in_default
-returns-in_default g c r j number owes there s spelled =
+pub returns-in_default-clause-carried : goal.returns-in_default-clause-carried
+returns-in_default-clause-carried g c r j number owes there s spelled =
     absurd (has_its_peer {H = g.row.H.Denot} {Job = g.row.H-Job.Denot} (meaning g.H.Hub.begin_of g.H.Hub.step_of) c.args.self.now r c.args.conn s there
     c.in_default.ensures.value)
 
-pub returns-in-Ok : goal.returns-in-Ok
-returns-in-Ok g c r j number owes there s spelled =
+pub returns-in-Ok-clause-carried : goal.returns-in-Ok-clause-carried
+returns-in-Ok-clause-carried g c r j number owes there s spelled =
     let hub = meaning g.H.Hub.begin_of g.H.Hub.step_of in
     let before : KeeperState = keeper_state (g.K.Keeper.holds c.args.keeper.now) (g.K.Keeper.answers c.args.keeper.now) (g.K.Keeper.faults c.args.keeper.now) spelled in
     let now : KeeperState = keeper_state (g.K.Keeper.holds c.log.new.self) (g.K.Keeper.answers c.log.new.self) (g.K.Keeper.faults c.log.new.self) spelled in
@@ -21,8 +21,8 @@ returns-in-Ok g c r j number owes there s spelled =
     (was_logged before now c.args.room.now c.who.result.now c.args.text.now c.in-Ok.ensures.added c.in-Ok.ensures.noted c.in-Ok.ensures.cause refl)
     (λ a. c.answer.ensures a j number)
 
-pub returns-in-Err-Failed : goal.returns-in-Err-Failed
-returns-in-Err-Failed g c r j number owes there s spelled =
+pub returns-in-Err-Failed-clause-carried : goal.returns-in-Err-Failed-clause-carried
+returns-in-Err-Failed-clause-carried g c r j number owes there s spelled =
     let hub = meaning g.H.Hub.begin_of g.H.Hub.step_of in
     let before : KeeperState = keeper_state (g.K.Keeper.holds c.args.keeper.now) (g.K.Keeper.answers c.args.keeper.now) (g.K.Keeper.faults c.args.keeper.now) spelled in
     let now : KeeperState = keeper_state (g.K.Keeper.holds c.log.new.self) (g.K.Keeper.answers c.log.new.self) (g.K.Keeper.faults c.log.new.self) spelled in

@@ -8,7 +8,7 @@ loop-deed-init g c = λ w r stands in_round. none_passed _ _ _ _ _ _ _ stands in
 pub loop-deed-preserved : goal.loop-deed-preserved
 loop-deed-preserved g c = λ w r stands in_round.
     one_passed _ c.loop-deed.self c.step_job.new.self c.carry.new.self _ _ _ c.args.now w r c.args.conn c.loop-deed._deed c.in-Some.job c.in-Some.deed _
-    c.answers_join.ensures (c.loop-deed.invariant w r stands in_round) (c.in_ok-job.ensures w) c.in-Some.is c.in_ok-carry.ensures
+    c.answers_join.ensures (c.loop-deed.invariant w r stands in_round) (c.in_ok-job.ensures w) c.in-Some.is c.in_ok-carry.ensures.carried
 
 pub returns-in_default : goal.returns-in_default
 returns-in_default g c = λ w r stands in_round.
