@@ -127,33 +127,54 @@ class Connection:
 
 
 class Front:
-    def __init__(self):
+    def __init__(self, most=MOST_LIVE):
+        self.most = most
         self.notes = []  # of each connection, in order of numbers
 
     def known(self): return {c: Connection(notes) for c, notes in enumerate(self.notes, 1)}
-    def is_busy(self, now): return sum(c.life(now) != "unknown" for c in self.known().values()) >= MOST_LIVE
+
+    def room(self, now):
+        """How many more may live, and those that nobody used yet, in order of numbers."""
+        lives = {c: known.life(now) for c, known in self.known().items()}
+        return self.most - sum(life != "unknown" for life in lives.values()), [c for c, life in lives.items() if life == "fresh"]
+
+    def is_busy(self, now):
+        more, unused = self.room(now)
+        return more <= 0 and not unused
 
     def make(self, token, now, promised=False):
-        if self.is_busy(now):
+        """Its number, and words for the one that gave way."""
+        more, unused = self.room(now)
+        if more <= 0 and not unused:
             raise Busy
+        if more <= 0:
+            self.note(unused[0], "on_closed")
         conn = len(self.notes) + 1
         self.notes.append([("made", token and token(conn), now if token else None, promised)])
-        return conn
+        return f"{conn}" if more > 0 else f"{conn} in place of {unused[0]}"
 
-    def open_many(self, count, now):
-        """As many as can be made at once: no life ends between two of them."""
-        room = MOST_LIVE - sum(c.life(now) != "unknown" for c in self.known().values())
-        opened = max(0, min(room, count))
-        self.notes += [[("made", None, None, False)] for _ in range(opened)]
-        last = len(self.notes) if opened else 0
-        return f"opened {opened}, the last {last}" + (", then busy" if opened < count else "")
+    def open_many(self, count, now, used):
+        """So many, or as many as can be made: no life ends between two of them. `used`: each stands on a socket at once."""
+        more, unused = self.room(now)
+        for opened in range(count):
+            if more <= 0 and not unused:
+                return f"opened {opened}, the last {len(self.notes) if opened else 0}, then busy"
+            if more <= 0:
+                self.note(unused.pop(0), "on_closed")
+            more -= more > 0
+            self.notes.append([("made", None, None, False)])
+            if used:
+                self.note(len(self.notes), "on_socket", 0, now)
+            else:
+                unused.append(len(self.notes))
+        return f"opened {count}, the last {len(self.notes) if count else 0}"
 
     def negotiate(self, asked, drawn, now, transports):
-        conn = self.make(lambda conn: base64.urlsafe_b64encode(drawn + conn.to_bytes(8, "big")).decode(), now, asked)
-        body = {"availableTransports": transports, "connectionId": str(conn), "connectionToken": self.notes[-1][0][1], "negotiateVersion": 1}
+        made = self.make(lambda conn: base64.urlsafe_b64encode(drawn + conn.to_bytes(8, "big")).decode(), now, asked)
+        body = {"availableTransports": transports, "connectionId": str(len(self.notes)), "connectionToken": self.notes[-1][0][1], "negotiateVersion": 1}
         if asked:
             body["useStatefulReconnect"] = True
-        return f"made {conn} {json.dumps(body, separators=(',', ':'))}"
+        return f"made {made} {json.dumps(body, separators=(',', ':'))}"
 
     def note(self, conn, *note):
         if 1 <= conn <= len(self.notes):
@@ -211,7 +232,10 @@ class Script:
         if word == "note":
             return f"note {rest}"
         if word == "front":
-            self.front = Front()
+            most = number(rest) if rest else MOST_LIVE
+            if not 1 <= most <= MOST_LIVE:
+                raise Refused
+            self.front = Front(most)
             return "a front"
         if word == "route":
             method, path, query, kind = words
@@ -229,8 +253,8 @@ class Script:
         numbers = [number(w) for w in words]
         if word == "open":
             return f"made {self.front.make(None, *numbers)}"
-        if word == "many":
-            return self.front.open_many(*numbers)
+        if word in ("many", "used"):
+            return self.front.open_many(*numbers, word == "used")
         if word in ("at", "held", "promised"):
             return getattr(self.front, word)(*(numbers if len(numbers) == (2 if word == "at" else 1) else []))
         if word == "busy":
@@ -327,12 +351,34 @@ def lives():
     yield "expired 30009"
 
 
+def giving_way():
+    yield "note those that nobody used give way, the least number first, as long as there are any"
+    for most in (1, 2, 3):
+        yield f"front {most}"
+        yield from (f"negotiate no {DRAWN} {now}" for now in (10, 20, 30))
+        yield from (f"at {conn} 30" for conn in (1, 2, 3))
+        yield from ("socket 3 1 30", "open 40", "busy 40", "socket 4 2 40", f"sockets yes {DRAWN} 50", "busy 50", "poll 5 3 50", "busy 50", "open 60", f"negotiate no {DRAWN} 60", "closed 3", "open 70")
+        yield from (f"at {conn} 70" for conn in range(1, 9))
+    yield "note neither one that was lost nor one that ends gives way, and one whose moment has come takes no room"
+    yield "front 2"
+    yield from (f"negotiate yes {DRAWN} 0", f"negotiate yes {DRAWN} 0", "socket 1 1 0", "lost 1 1 5", "poll 2 2 5", "ending 2 6", "open 7", "busy 7", "open 30005", "at 1 30005", "busy 30005", "open 30005",
+                "expired 30006", "busy 30006", f"negotiate no {DRAWN} 30006", "socket 4 1 30006", "busy 60006", "open 60006", "at 5 60006")
+    yield "note an older moment, at which more live than may"
+    yield "front 2"
+    yield from (f"negotiate no {DRAWN} 0", f"negotiate no {DRAWN} 0", f"negotiate no {DRAWN} 30000", f"negotiate no {DRAWN} 30000", "busy 0", "open 0", *(f"at {conn} 0" for conn in range(1, 6)),
+                "socket 3 1 0", "socket 4 1 0", "socket 5 1 0", "busy 0", "open 0", "busy 0", "open 0", "busy 0")
+    yield "note how many may live"
+    yield from ("front 0", "front 10001", "front x", f"front {MOST + 1}", "front 10000", "front +1", "front 1", "used 2 0", "busy 0")
+
+
 def bounds():
     yield "note ten thousand live"
     yield "front"
-    yield from ("many 9999 0", "busy 0", f"negotiate yes {DRAWN} 10", "busy 10", "busy 30009", "busy 30010", "open 11", f"negotiate no {DRAWN} 11", f"sockets no {DRAWN} 11", "many 5 30010",
-                "closed 77", "busy 30010", "busy 12", "many 5 30010", "expired 30010", "many 1 30010", "poll 3 1 30011", "answered 3 1 30012", "busy 60012", "expired 60012", "busy 60012",
-                "busy 90012", "many 2 90012", "expired 90012", "many 1 90012")
+    yield from ("many 10003 0", "at 3 0", "at 4 0", "busy 0", "at 10003 0")
+    yield "front"
+    yield from ("used 9999 0", "busy 0", f"negotiate yes {DRAWN} 10", "busy 10", "busy 30009", "busy 30010", "open 11", f"negotiate no {DRAWN} 11", f"sockets no {DRAWN} 11", "used 5 30010",
+                "closed 77", "busy 30010", "busy 12", "used 5 30010", "expired 30010", "used 1 30010", "poll 3 1 30011", "answered 3 1 30012", "busy 60012", "expired 60012", "busy 60012",
+                "busy 90012", "used 2 90012", "expired 90012", "used 1 90012")
     yield "note words that are no action"
     yield from ("open", "open x", "open -1", f"open {MOST + 1}", "negotiate maybe 00 0", f"negotiate yes {DRAWN}0 0", f"negotiate yes {'g' * 32} 0", "life", "conn a", "socket 1 2", "ending 1",
                 "closed", "what", "front", "expired", "busy", "at 1", "held", "promised x")
@@ -364,7 +410,9 @@ class Session:
         return f"ending {conn} {self.moment()}" if word == "ending" else f"{word} {conn} {self.draw.randrange(3)} {self.moment()}"
 
     def lines(self, count):
-        yield "front"
+        first = f"front {self.draw.choice([1, 2, 3, 5, 10_000])}"
+        self.script.answer(first)
+        yield first
         for _ in range(count):
             line = self.line()
             self.script.answer(line)
@@ -376,6 +424,7 @@ class Session:
 def cases():
     yield from routes()
     yield from lives()
+    yield from giving_way()
     yield from bounds()
     draw = random.Random(23)
     yield "note random sessions"

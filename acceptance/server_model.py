@@ -6,6 +6,7 @@ import base64
 import json
 
 LIVES, HELD, PING, SILENCE = 30000, 90000, 15000, 30000
+MOST_GROUPS = 256
 
 
 def compact(message): return json.dumps(message, sort_keys=True, separators=(",", ":"))
@@ -142,10 +143,10 @@ class Server:
 
     def shut(self, lane): return [] if lane in self.refused else [f"shut {lane}"]
 
-    def reply(self, lane, status, kind="None", body="", accept=None):
-        line = f"reply {lane} {status} {kind}" + (f" accept {accept}" if accept else "") + (f" {body}" if body else "")
-        ends = status == 400 or (self.last.get(lane) and status != 101)
-        return [line] + (self.shut(lane) if ends else [])
+    def reply(self, lane, status, kind="None", body="", accept=None, tells=None):
+        ends = lane not in self.refused and (status == 400 or (self.last.get(lane) and status != 101))
+        words = ([f"accept {accept}"] if accept else []) + ([tells] if tells else []) + ["close"] * bool(ends) + ([body] if body else [])
+        return [" ".join([f"reply {lane} {status} {kind}", *words])] + ([f"shut {lane}"] if ends else [])
 
     def failed(self):
         self.asked += 1
@@ -262,17 +263,17 @@ class Server:
         if path not in ("/hub", "/hub/negotiate"):
             return self.answer(lane, 404)
         if negotiate and r["method"] != "POST":
-            return self.answer(lane, 405)
+            return self.answer(lane, 405, tells="allow=POST")
         version = query.get("negotiateVersion", "")
         if negotiate and not (version.isdigit() and 0 < int(version) < 2 ** 64):
             return self.answer(lane, 400)
         if negotiate or (r["upgrade"] and "id" not in query):
             status, user = self.caller(r["bearer"])
             if status:
-                return self.answer(lane, status)
+                return self.answer(lane, status, tells="authenticate=Bearer" if status == 401 else None)
             return self.negotiate(lane, query, user) if negotiate else self.open(lane, r, user)
         if r["method"] not in ("GET", "POST", "DELETE"):
-            return self.answer(lane, 405)
+            return self.answer(lane, 405, tells="allow=GET,POST,DELETE")
         if "id" not in query:
             return self.answer(lane, 400)
         conn = next((c for c in self.conns.values() if c.token == query["id"]), None)
@@ -450,7 +451,10 @@ class Server:
     def carry(self, conn, job):
         deed = job["deeds"].pop(0)
         if deed[0] == "join" and (deed[1], conn.number) not in self.joined:
-            self.joined.append((deed[1], conn.number))
+            if sum(k == conn.number for _, k in self.joined) < MOST_GROUPS:
+                self.joined.append((deed[1], conn.number))
+            else:
+                job["ending"] = {"error": "Too many groups."}
         elif deed[0] == "leave":
             self.joined = [pair for pair in self.joined if pair != (deed[1], conn.number)]
         elif deed[0] == "log":

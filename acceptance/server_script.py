@@ -109,8 +109,8 @@ server - - - => a server
 0 request 3 GET /hub?id={FIRST} => reply 3 409 None
 0 request 3 DELETE /hub?id={FIRST} => reply 3 409 None
 0 {socket(4, FIRST)} => reply 4 409 None
-0 request 5 POST /hub/negotiate?negotiateVersion=0 => reply 5 400 None; shut 5
-0 request 6 GET /hub/negotiate?negotiateVersion=1 => reply 6 405 None
+0 request 5 POST /hub/negotiate?negotiateVersion=0 => reply 5 400 None close; shut 5
+0 request 6 GET /hub/negotiate?negotiateVersion=1 => reply 6 405 None allow=POST
 0 request 6 {NEGOTIATE} => reply 6 200 Json {body(2, token_of(1, 2), False)}
 0 request 7 GET /hub?id={token_of(1, 2)} => reply 7 200 None
 0 {socket(8, token_of(1, 2))} => reply 8 409 None
@@ -121,7 +121,7 @@ server - - - => a server
 0 request 3 GET /hub?id={FIRST} => -
 0 request 4 GET /hub?id={FIRST} => reply 3 204 None
 0 request 5 POST /hub?id={FIRST} body={SHAKE}{compact({"type": 6})}| => reply 5 200 None; reply 4 200 Octets {{}}|
-0 request 6 DELETE /hub?id={FIRST} shut => reply 6 202 None; shut 6
+0 request 6 DELETE /hub?id={FIRST} shut => reply 6 202 None close; shut 6
 0 request 7 GET /hub?id={FIRST} => reply 7 404 None
 note a broadcast, to a member in MessagePack and to one that acknowledges nothing
 server - - - => a server
@@ -177,9 +177,33 @@ resend 65537 32773 => out of range
 resend 1 32772 => out of range
 resend 1 {MOST_RESEND_BYTES + 1} => out of range
 resend 1024 100000 => so much
+note where as many live as may, a token that nobody used gives way
+live 2 => so many
+server - - - => a server
+0 request 1 {NEGOTIATE} => reply 1 200 Json {body(1, FIRST, False)}
+0 request 1 {NEGOTIATE} => reply 1 200 Json {body(2, token_of(1, 2), False)}
+0 request 1 {NEGOTIATE} => reply 1 200 Json {body(3, token_of(2, 3), False)}
+0 {socket(2, FIRST)} => reply 2 404 None
+0 {socket(2, token_of(1, 2))} => reply 2 101 None accept k
+0 request 3 GET /hub upgrade=k => reply 3 101 None accept k
+0 {socket(4, token_of(2, 3))} => reply 4 404 None
+0 request 4 {NEGOTIATE} => reply 4 503 None
+0 request 4 GET /hub upgrade=k => reply 4 503 None
+0 lost 3 => -
+0 request 4 {NEGOTIATE} => reply 4 200 Json {body(5, token_of(3, 5), False)}
+note but for no draw, nor for one who may have no connection
+live 1 => so many
+server - 1 Ann => a server
+0 request 1 {NEGOTIATE} bearer=Ann => reply 1 200 Json {body(1, FIRST, False)}
+0 request 1 {NEGOTIATE} => reply 1 500 None
+0 request 1 {NEGOTIATE} bearer=Eve => reply 1 401 None authenticate=Bearer
+0 {socket(2, FIRST)} => reply 2 101 None accept k
+live 0 => out of range
+live 10001 => out of range
+live 10000 => so many
 note who calls
 server 1 0 Ann,Bob => a server
-0 request 1 GET /hub upgrade=k bearer=Eve => reply 1 401 None
+0 request 1 GET /hub upgrade=k bearer=Eve => reply 1 401 None authenticate=Bearer
 0 request 1 GET /hub upgrade=k bearer=Ann => reply 1 500 None
 0 request 1 {NEGOTIATE} bearer=Ann => reply 1 500 None
 0 request 1 {NEGOTIATE} bearer=Ann => reply 1 200 Json {body(1, FIRST, False)}
@@ -233,14 +257,14 @@ serve 1 - => served: -
 
 # what is said to a request that names a token, by the token's life: a socket, a poll, a POST, a DELETE and another method. `-` is a poll that is held
 LIVES = {
-    "unknown": ([], ["404 None", "404 None", "404 None", "404 None", "405 None"]),
-    "fresh": ([RECONNECT], ["101 None accept k", "200 None", "409 None", "202 None", "405 None"]),
-    "on a socket, not granted": ([NEGOTIATE, "socket", SHAKE_2], ["409 None", "409 None", "409 None", "409 None", "405 None"]),
-    "on a socket, before its handshake": ([RECONNECT, "socket"], ["409 None", "409 None", "409 None", "409 None", "405 None"]),
-    "on a socket, granted": ([RECONNECT, "socket", SHAKE_2], ["101 None accept k", "409 None", "409 None", "409 None", "405 None"]),
-    "lost": ([RECONNECT, "socket", SHAKE_2, "lost"], ["101 None accept k", "409 None", "409 None", "409 None", "405 None"]),
-    "polling": ([RECONNECT, "poll"], ["409 None", "-", "200 None", "202 None", "405 None"]),
-    "ending": ([RECONNECT, "poll", "close"], ["404 None", "200 Octets {}|", "404 None", "202 None", "405 None"]),
+    "unknown": ([], ["404 None", "404 None", "404 None", "404 None", "405 None allow=GET,POST,DELETE"]),
+    "fresh": ([RECONNECT], ["101 None accept k", "200 None", "409 None", "202 None", "405 None allow=GET,POST,DELETE"]),
+    "on a socket, not granted": ([NEGOTIATE, "socket", SHAKE_2], ["409 None", "409 None", "409 None", "409 None", "405 None allow=GET,POST,DELETE"]),
+    "on a socket, before its handshake": ([RECONNECT, "socket"], ["409 None", "409 None", "409 None", "409 None", "405 None allow=GET,POST,DELETE"]),
+    "on a socket, granted": ([RECONNECT, "socket", SHAKE_2], ["101 None accept k", "409 None", "409 None", "409 None", "405 None allow=GET,POST,DELETE"]),
+    "lost": ([RECONNECT, "socket", SHAKE_2, "lost"], ["101 None accept k", "409 None", "409 None", "409 None", "405 None allow=GET,POST,DELETE"]),
+    "polling": ([RECONNECT, "poll"], ["409 None", "-", "200 None", "202 None", "405 None allow=GET,POST,DELETE"]),
+    "ending": ([RECONNECT, "poll", "close"], ["404 None", "200 Octets {}|", "404 None", "202 None", "405 None allow=GET,POST,DELETE"]),
 }
 
 
@@ -315,27 +339,68 @@ def doors():
     return "\n".join(lines)
 
 
-class Draw:
-    """A random session: a model of the server, and what its clients know."""
+class Play:
+    """A session beside a model of the server."""
 
-    def __init__(self, seed):
-        self.random = random.Random(seed)
-        self.fails = [sorted(self.random.sample(range(14), self.random.randrange(3))), sorted(self.random.sample(range(5), self.random.randrange(2)))]
-        self.server, self.now, self.lane, self.number = Server(*self.fails, ["Ann", "Bob"]), 0, 0, 0
-        comma = [",".join(map(str, fails)) or "-" for fails in self.fails]
-        self.lines = [f"note session {seed}", f"server {comma[0]} {comma[1]} Ann,Bob => a server"]
+    def __init__(self, title, keeper_fails, lots_fail):
+        self.server, self.now, self.lane, self.number = Server(keeper_fails, lots_fail, ["Ann", "Bob"]), 0, 0, 0
+        comma = [",".join(map(str, fails)) or "-" for fails in (keeper_fails, lots_fail)]
+        self.lines = [f"note {title}", f"server {comma[0]} {comma[1]} Ann,Bob => a server"]
 
     def hear(self, line, *event):
         said = self.server.hear(self.now, *event)
         self.lines.append(f"{self.now} {line} => {'; '.join(said) or '-'}")
+        return said
 
     def request(self, method, path, query=None, upgrade=None, bearer=None, shut=False, text=""):
         self.lane += 1
         lane, query = self.lane, query or {}
         target = path + ("?" + "&".join(f"{k}={v}" for k, v in query.items()) if query else "")
         words = [f"bearer={bearer}"] * bool(bearer) + [f"upgrade={upgrade}"] * bool(upgrade) + ["shut"] * shut + [f"body={text}"] * bool(text)
-        self.hear(" ".join(["request", str(lane), method, target, *words]), "request", lane,
-                  dict(method=method, path=path, query=query, upgrade=upgrade, bearer=bearer, shut=shut, body=text))
+        return self.hear(" ".join(["request", str(lane), method, target, *words]), "request", lane,
+                         dict(method=method, path=path, query=query, upgrade=upgrade, bearer=bearer, shut=shut, body=text))
+
+
+def refused_once(play, *words):
+    """A request that is made again where the first was refused with 500."""
+    if play.request(*words) == [f"reply {play.lane} 500 None"]:
+        play.request(*words)
+
+
+def with_a_fault(name, failing):
+    """How often a keeper or lots are asked in a session that meets a fault at this of their calls, and the lines of it."""
+    play = Play(f"a fault of the {name} at call {failing}", [failing] * (name == "keeper"), [failing] * (name == "lots"))
+    negotiate = ("POST", "/hub/negotiate", {"negotiateVersion": "1"}, None)
+    refused_once(play, *negotiate, "Ann")
+    refused_once(play, "GET", "/hub", None, "k", "Bob")
+    for text in (SHAKE + call(1, "Join", "r"), call(2, "Post", "r", "hi"), call(3, "Post", "r", "you"), call(4, "History", "r", 2), call(5, "History", "r", 1)):
+        play.hear(f"text {play.lane} {text}", "text", play.lane, text)
+        play.hear("quiet", "quiet")
+        play.hear("quiet", "quiet")
+    refused_once(play, *negotiate, "Bob")
+    refused_once(play, *negotiate)
+    return play.server.asked if name == "keeper" else play.server.drawn, play.lines
+
+
+def stores():
+    """A keeper and lots that fail at each of their calls in turn: who asked is told, and the server goes on."""
+    lines = []
+    for name in ("keeper", "lots"):
+        failing, asked = 0, 1
+        while failing < asked:
+            asked, session_lines = with_a_fault(name, failing)
+            lines += session_lines
+            failing += 1
+    return "\n".join(lines)
+
+
+class Draw(Play):
+    """A random session, and what its clients know."""
+
+    def __init__(self, seed):
+        self.random = random.Random(seed)
+        self.fails = [sorted(self.random.sample(range(14), self.random.randrange(3))), sorted(self.random.sample(range(5), self.random.randrange(2)))]
+        super().__init__(f"session {seed}", *self.fails)
 
     def conn(self):
         some = [conn for conn in self.server.conns.values() if not conn.gone or self.random.randrange(8) == 0]
@@ -425,7 +490,7 @@ def session(seed):
 
 
 def made():
-    return committed.pairs("\n".join([rows().strip(), by_life(), doors(), *(session(seed) for seed in range(SESSIONS))]))
+    return committed.pairs("\n".join([rows().strip(), by_life(), doors(), stores(), *(session(seed) for seed in range(SESSIONS))]))
 
 
 def at_random(seed, count, program):

@@ -4,8 +4,8 @@ use Rattle.std.specs.Prelude.{◌==◌, not, is_some, option_map, ◌&&◌}
 use Rattle.std.proofs.lemmas.Bool.{and_parts, or_parts, not-true, eqb-true, eq-eqb, ne_eqb, le-leb, leb-true, leb-false, ltb-true, cases_eq, or_left, or_right, and_from, not_from_false}
 use Rattle.hd_server.specs.declared.vocabulary.Life.{Life}
 use Rattle.hd_server.specs.declared.vocabulary.Life.TheVariants.{Unknown, Fresh, Socket, Lost, Polling, Ending}
-use Rattle.hd_server.specs.Numbers.{most_live, lives_for}
-use Rattle.hd_server.specs.Lives.{ConnectionEvent, Negotiated, Opened, Socketed, Polled, Answered, LaneLost, Ended, Expired, Removed, AreInOrder, made, negotiated_at, is_opened, socket_of, lost_at, poll_of, poll_ended, ended_at, ends_then, is_removed, is_known, is_past, is_polling, past, standing, since, deadline, life_of, live, overdue, numbers_to, is_busy, last_moment}
+use Rattle.hd_server.specs.Numbers.{lives_for}
+use Rattle.hd_server.specs.Lives.{ConnectionEvent, Negotiated, Opened, Socketed, Polled, Answered, LaneLost, Ended, Expired, Removed, AreInOrder, made, negotiated_at, is_opened, socket_of, lost_at, poll_of, poll_ended, ended_at, ends_then, is_removed, is_known, is_past, is_polling, past, standing, since, deadline, life_of, live, overdue, numbers_to, HasRoom, last_moment}
 use Rattle.hd_server.specs.Laws.{FewLive, LivesAreSettled}
 
 -- ---- numbers that pass a test
@@ -25,7 +25,7 @@ count_last p xs y = ap length (filter_join p xs (y ∷ [])) ∙ length-append (f
   by false = refl
 
 -- a test that passes what another passes, passes as many at least
-fewer : (n : ℕ) (p q : ℕ → Bool) → ((k : ℕ) → k ≤ n → p k ≡ true → q k ≡ true) → length (filter p (numbers_to n)) ≤ length (filter q (numbers_to n))
+pub fewer : (n : ℕ) (p q : ℕ → Bool) → ((k : ℕ) → k ≤ n → p k ≡ true → q k ≡ true) → length (filter p (numbers_to n)) ≤ length (filter q (numbers_to n))
 fewer zero p q f = omega arith
 fewer (suc n) p q f =
     let one = count_last p (numbers_to n) (suc n) in
@@ -38,6 +38,34 @@ fewer (suc n) p q f =
     by true true g = omega arith
     by true false g = absurd (let z : false ≡ true = g refl in cc)
     by false b g = omega arith
+
+-- and one more, if it passes one that the other doesn't
+pub fewer_by_one : (n c : ℕ) (p q : ℕ → Bool) → ((k : ℕ) → k ≤ n → p k ≡ true → q k ≡ true) → 0 < c → c ≤ n → p c ≡ false → q c ≡ true
+    → suc (length (filter p (numbers_to n))) ≤ length (filter q (numbers_to n))
+fewer_by_one zero c p q f l m e g = absurd (omega (arith, l, m))
+fewer_by_one (suc n) c p q f l m e g = elim (cases_eq c (suc n)) [ inl same ↦ last same | inr other ↦ earlier (fewer_by_one n c p q (λ k i. f k (omega (arith, i))) l (omega (arith, m, other)) e g) ] where
+  one : length (filter p (numbers_to (suc n))) ≡ length (filter p (numbers_to n)) + (if p (suc n) then 1 else 0)
+  one = count_last p (numbers_to n) (suc n)
+
+  two : length (filter q (numbers_to (suc n))) ≡ length (filter q (numbers_to n)) + (if q (suc n) then 1 else 0)
+  two = count_last q (numbers_to n) (suc n)
+
+  last : c ≡ suc n → suc (length (filter p (numbers_to (suc n)))) ≤ length (filter q (numbers_to (suc n)))
+  last same =
+      let before = fewer n p q (λ k i. f k (omega (arith, i))) in
+      let none : ◌≡◌ {A = ℕ} (if p (suc n) then 1 else 0) 0 = ap (λ b. if b then 1 else 0) (ap p (sym same) ∙ e) in
+      let more : ◌≡◌ {A = ℕ} (if q (suc n) then 1 else 0) 1 = ap (λ b. if b then 1 else 0) (ap q (sym same) ∙ g) in
+      omega (arith, one, two, before, none, more)
+
+  earlier : suc (length (filter p (numbers_to n))) ≤ length (filter q (numbers_to n)) → suc (length (filter p (numbers_to (suc n)))) ≤ length (filter q (numbers_to (suc n)))
+  earlier before =
+      let next = by (p (suc n)) (q (suc n)) (f (suc n) (omega arith)) in
+      omega (arith, one, two, before, next)
+    where
+      by : (a b : Bool) → (a ≡ true → b ≡ true) → (if a then 1 else 0) ≤ (if b then 1 else 0)
+      by true true h = omega arith
+      by true false h = absurd (let z : false ≡ true = h refl in cc)
+      by false b h = omega arith
 
 -- one number more is one more at most
 one_more : (p : ℕ → Bool) (n : ℕ) → length (filter p (numbers_to (suc n))) ≤ suc (length (filter p (numbers_to n)))
@@ -103,7 +131,7 @@ known_either false false l f e = e
 known_before : (c m now : ℕ) (h : List ConnectionEvent) → m ≤ now → is_known (life_of c now h) ≡ true → is_known (life_of c m h) ≡ true
 known_before c m now h l e = known_either (is_past m (deadline c h)) (is_past now (deadline c h)) (standing c h) (past_later (deadline c h) m now l) e
 
-removed_unknown : (c now : ℕ) (h : List ConnectionEvent) → is_removed c h ≡ true → life_of c now h ≡ Unknown
+pub removed_unknown : (c now : ℕ) (h : List ConnectionEvent) → is_removed c h ≡ true → life_of c now h ≡ Unknown
 removed_unknown c now h e = rw e refl
 
 -- ---- what a note of one connection changes
@@ -283,7 +311,7 @@ of_expired c m now h comes known = by (is_removed c h) (ends_then c h) refl refl
       gone (or_left ((c == c) && not (ends_then c h)) (is_removed c h) its_own)
   by false true e f = rw (comes, only_polling c h e f) refl
 
-of_gone : (k now c : ℕ) (h : List ConnectionEvent) → is_known (life_of k now (Removed c ∷ h)) ≡ true → is_known (life_of k now h) ≡ true
+pub of_gone : (k now c : ℕ) (h : List ConnectionEvent) → is_known (life_of k now (Removed c ∷ h)) ≡ true → is_known (life_of k now h) ≡ true
 of_gone k now c h known = by (k == c) refl where
   by : (b : Bool) → (k == c) ≡ b → is_known (life_of k now h) ≡ true
   by true e = absurd (let z : false ≡ true = ap is_known (sym (removed_unknown k now (Removed c ∷ h) (or_left (k == c) (is_removed k h) e))) ∙ known in cc)
@@ -310,33 +338,34 @@ fewer_live m now g h same f =
     rw same (fewer (made h) (λ k. is_known (life_of k now g)) (λ k. is_known (life_of k m h)) (λ k l. f k))
 
 -- a new one is one more, and there was room
-new_live : (m now : ℕ) (n : ConnectionEvent) (h : List ConnectionEvent) → made (n ∷ h) ≡ suc (made h) → conn_of n ≡ suc (made h) → is_busy m h ≡ false → m ≤ now
-    → length (live now (n ∷ h)) ≤ most_live
-new_live m now n h grows new room l =
-    let few = leb-false most_live (length (live m h)) (or_parts _ _ room).0 in
+new_live : (most m now : ℕ) (n : ConnectionEvent) (h : List ConnectionEvent) → made (n ∷ h) ≡ suc (made h) → HasRoom most m (conn_of n) h → m ≤ now
+    → length (live now (n ∷ h)) ≤ most
+new_live most m now n h grows room l =
+    let few = leb-false most (length (live m h)) room.not_full in
+    let new = room.next in
     let more = one_more (λ k. is_known (life_of k now (n ∷ h))) (made h) in
     let old = fewer (made h) (λ k. is_known (life_of k now (n ∷ h))) (λ k. is_known (life_of k m h))
     (λ k below. another_known k m now n h (ne_eqb k (conn_of n) (λ e. omega (arith, e, below, new))) l) in
     rw grows (omega (arith, few, more, old))
 
-all_few : (h : List ConnectionEvent) → AreInOrder h → (now : ℕ) → last_moment h ≤ now → length (live now h) ≤ most_live
-all_few [] a now l = omega arith
-all_few (Negotiated c token reconnect m ∷ h) (order, later, may) now l = new_live m now (Negotiated c token reconnect m) h refl may.0 may.1 l
-all_few (Opened c m ∷ h) (order, later, may) now l = new_live m now (Opened c m) h refl may.0 may.1 l
-all_few (Socketed c lane m ∷ h) (order, later, may) now l =
-    trans (fewer_live m now (Socketed c lane m ∷ h) h refl (λ k. of_known k m now (Socketed c lane m) h may l)) (all_few h order m later)
-all_few (Polled c lane m ∷ h) (order, later, may) now l =
-    trans (fewer_live m now (Polled c lane m ∷ h) h refl (λ k. of_known k m now (Polled c lane m) h may l)) (all_few h order m later)
-all_few (Answered c lane m ∷ h) (order, later, may) now l =
-    trans (fewer_live m now (Answered c lane m ∷ h) h refl (λ k. of_known k m now (Answered c lane m) h may l)) (all_few h order m later)
-all_few (LaneLost c lane m ∷ h) (order, later, may) now l =
-    trans (fewer_live m now (LaneLost c lane m ∷ h) h refl (λ k. of_known k m now (LaneLost c lane m) h may l)) (all_few h order m later)
-all_few (Ended c m ∷ h) (order, later, may) now l =
-    trans (fewer_live m now (Ended c m ∷ h) h refl (λ k. of_known k m now (Ended c m) h may l)) (all_few h order m later)
-all_few (Expired c m ∷ h) (order, later, (rest, is)) now l =
-    trans (fewer_live m now (Expired c m ∷ h) h refl (λ k. of_first k m now c h rest is l)) (all_few h order m later)
-all_few (Removed c ∷ h) (order, later, may) now l =
-    trans (fewer_live now now (Removed c ∷ h) h refl (λ k. of_gone k now c h)) (all_few h order now l)
+pub all_few : (most : ℕ) (h : List ConnectionEvent) → AreInOrder most h → (now : ℕ) → last_moment h ≤ now → length (live now h) ≤ most
+all_few most [] a now l = omega arith
+all_few most (Negotiated c token reconnect m ∷ h) (order, later, may) now l = new_live most m now (Negotiated c token reconnect m) h refl may l
+all_few most (Opened c m ∷ h) (order, later, may) now l = new_live most m now (Opened c m) h refl may l
+all_few most (Socketed c lane m ∷ h) (order, later, may) now l =
+    trans (fewer_live m now (Socketed c lane m ∷ h) h refl (λ k. of_known k m now (Socketed c lane m) h may l)) (all_few most h order m later)
+all_few most (Polled c lane m ∷ h) (order, later, may) now l =
+    trans (fewer_live m now (Polled c lane m ∷ h) h refl (λ k. of_known k m now (Polled c lane m) h may l)) (all_few most h order m later)
+all_few most (Answered c lane m ∷ h) (order, later, may) now l =
+    trans (fewer_live m now (Answered c lane m ∷ h) h refl (λ k. of_known k m now (Answered c lane m) h may l)) (all_few most h order m later)
+all_few most (LaneLost c lane m ∷ h) (order, later, may) now l =
+    trans (fewer_live m now (LaneLost c lane m ∷ h) h refl (λ k. of_known k m now (LaneLost c lane m) h may l)) (all_few most h order m later)
+all_few most (Ended c m ∷ h) (order, later, may) now l =
+    trans (fewer_live m now (Ended c m ∷ h) h refl (λ k. of_known k m now (Ended c m) h may l)) (all_few most h order m later)
+all_few most (Expired c m ∷ h) (order, later, (rest, is)) now l =
+    trans (fewer_live m now (Expired c m ∷ h) h refl (λ k. of_first k m now c h rest is l)) (all_few most h order m later)
+all_few most (Removed c ∷ h) (order, later, may) now l =
+    trans (fewer_live now now (Removed c ∷ h) h refl (λ k. of_gone k now c h)) (all_few most h order now l)
 
 pub few_live : FewLive
-few_live now h order l = all_few h order now l
+few_live most now h order l = all_few most h order now l

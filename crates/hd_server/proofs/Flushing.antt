@@ -13,8 +13,8 @@ use Rattle.hd_server.specs.declared.vocabulary.Said.TheVariants as say
 use Rattle.hd_server.specs.Numbers.{held_for}
 use Rattle.hd_server.specs.Lives.{Negotiated, Opened, Socketed, Polled, Answered, LaneLost, Ended, Expired, Removed, socket_of, poll_of, is_polling, ended_at, numbers_to}
 use Rattle.hd_server.specs.Machine.{MachineEvent, Does, Goes, Connects, Rounds, Carries, moves, settings_of, has_gone, is_there, connections, greatest}
-use Rattle.hd_server.specs.Doings.{ServerEvent, Hears, Learns, Draws, Notes, Works, Says, notes, work, wants_shut, was_refused, peer, history_with, history, config_with, config_of, has_peer, has_closed}
-use Rattle.hd_server.specs.Plans.{Setup, onto, step, dropping, removing_conn, shutting, replying, bare_reply, frames_reply}
+use Rattle.hd_server.specs.Doings.{ServerEvent, Hears, Learns, Draws, Notes, Works, Says, notes, work, was_refused, peer, history_with, history, config_with, config_of, has_peer, has_closed}
+use Rattle.hd_server.specs.Plans.{Setup, onto, step, dropping, removing_conn, shutting, ends_lane, reply_on, replying, bare_reply, frames_reply}
 use Rattle.hd_server.specs.Serves.{lending, writing, all_of, bytes_of, is_text, flushing_socket, flushing_poll, flushing_some_poll, ending, flushing_on, flushing, all_flushing, AreDueOn, AreDue, AreAllDue, LendsAll, LendsUpTo}
 use Rattle.hd_server.specs.Laws.{NothingIsLeft}
 
@@ -65,7 +65,7 @@ shutting_tells : (k lane : ℕ) (h : List ServerEvent) → AllTell k (shutting l
 shutting_tells k lane h = either_tell k (was_refused lane h) [] (Says (say.Shut lane) ∷ []) tt (tt, tt)
 
 replying_tells : (k lane : ℕ) (reply : Reply) (h : List ServerEvent) → AllTell k (replying lane reply h)
-replying_tells k lane reply h = (tt, either_tell k ((reply.status == 400) || (wants_shut lane h && not (reply.status == 101))) (shutting lane h) [] (shutting_tells k lane h) tt)
+replying_tells k lane reply h = (tt, either_tell k (ends_lane lane reply.status h) (Says (say.Shut lane) ∷ []) [] (tt, tt) tt)
 
 poll_tells : (s : Setup) (now k : ℕ) (p : ℕ × ℕ) (fs : List LinkFrame) (h : List ServerEvent) → AllTell k (flushing_poll s now k p fs h)
 poll_tells s now k p [] h =
@@ -427,9 +427,9 @@ stays_none c k (Draws drawn ∷ ds) g a e = absurd a.0
 shutting_all : (P : ServerEvent → Type 0) (lane : ℕ) (h : List ServerEvent) → P (Says (say.Shut lane)) → AllAre P (shutting lane h)
 shutting_all P lane h p = either_all P (was_refused lane h) [] (Says (say.Shut lane) ∷ []) tt (p, tt)
 
-replying_all : (P : ServerEvent → Type 0) (lane : ℕ) (reply : Reply) (h : List ServerEvent) → P (Says (say.Reply lane reply)) → P (Says (say.Shut lane)) → AllAre P (replying lane reply h)
+replying_all : (P : ServerEvent → Type 0) (lane : ℕ) (reply : Reply) (h : List ServerEvent) → P (Says (say.Reply lane (reply_on lane reply h))) → P (Says (say.Shut lane)) → AllAre P (replying lane reply h)
 replying_all P lane reply h p q =
-    (p, either_all P ((reply.status == 400) || (wants_shut lane h && not (reply.status == 101))) (shutting lane h) [] (shutting_all P lane h q) tt)
+    (p, either_all P (ends_lane lane reply.status h) (Says (say.Shut lane) ∷ []) [] (q, tt) tt)
 
 ending_all : (P : ServerEvent → Type 0) (now c : ℕ) (h : List ServerEvent) → P (Notes (Ended c now)) → AllAre P (ending now c h)
 ending_all P now c h p = either_all P (has_closed c h && not (is_some (ended_at c (notes h)))) (Notes (Ended c now) ∷ []) [] (p, tt) tt

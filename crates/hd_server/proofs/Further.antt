@@ -11,12 +11,13 @@ use Rattle.hw_door.specs.declared.heard.Event.{Event}
 use Rattle.hw_door.specs.declared.heard.Event.TheVariants as event
 use Rattle.hd_server.specs.declared.vocabulary.Life.{Life}
 use Rattle.hd_server.specs.declared.vocabulary.Life.TheVariants.{Polling}
-use Rattle.hd_server.specs.Lives.{Removed, Opened, made, is_resumable_promise, standing, socket_of, poll_of, overdue}
+use Rattle.hd_server.specs.Lives.{Removed, Opened, gives_way, made, is_resumable_promise, standing, socket_of, poll_of, overdue}
 use Rattle.hd_server.specs.Texts.{token_of, negotiate_body}
 use Rattle.hd_server.specs.Table.{Outcome, Refusal, NewToken, PlainSocket, TokenSocket, FirstPoll, NextPoll, LastPoll, Posting, Deletion, asks_keeper, outcome}
 use Rattle.hd_server.specs.Machine.{MachineEvent, Does, Goes, Rounds, settings_of, connections}
-use Rattle.hd_server.specs.Doings.{ServerEvent, Hears, Notes, Works, Says, Learns, Draws, notes, work, hears, was_refused, wants_shut, history, config_of, has_peer, is_up, may_resume}
-use Rattle.hd_server.specs.Plans.{Setup, PendingRequest, onto, connecting, attaching, closing, dropping, removing_conn, expiring, expiries, bare_reply, socket_reply, token_reply, shutting, replying, ending_poll, ending_held, learning, asks_lots, questions, standing_on, shutting_some, request_plan, conn_on, poller_on, losing, losing_lane, named_conn, facts, plan}
+use Rattle.hd_server.specs.declared.vocabulary.Said.TheVariants as say
+use Rattle.hd_server.specs.Doings.{ServerEvent, Hears, Notes, Works, Says, Learns, Draws, notes, work, hears, was_refused, history, config_of, has_peer, is_up, may_resume}
+use Rattle.hd_server.specs.Plans.{Setup, PendingRequest, onto, connecting, attaching, closing, dropping, removing_conn, expiring, expiries, bare_reply, socket_reply, token_reply, refusal_reply, shutting, ends_lane, replying, ending_poll, ending_held, learning, asks_lots, questions, standing_on, shutting_some, request_plan, conn_on, poller_on, losing, losing_lane, named_conn, facts, plan, giving_way, removing_some}
 use Rattle.hd_server.specs.Serves.{IsFed, silenced, ticking, ticks, flushing, all_flushing}
 use Rattle.hd_server.specs.Laws.{TurnsGoFurther}
 use Rattle.hd_server.proofs.Flushing.{AllTell, flushing_tells}
@@ -91,7 +92,7 @@ shuts : (lane : ℕ) (h : List ServerEvent) → AreSilent (shutting lane h)
 shuts lane h = either (was_refused lane h) [] _ tt (tt, tt)
 
 replies : (lane : ℕ) (reply : Reply) (h : List ServerEvent) → AreSilent (replying lane reply h)
-replies lane reply h = (tt, either ((reply.status == 400) || (wants_shut lane h && not (reply.status == 101))) (shutting lane h) [] (shuts lane h) tt)
+replies lane reply h = (tt, either (ends_lane lane reply.status h) (Says (say.Shut lane) ∷ []) [] (tt, tt) tt)
 
 ends_poll : (c now : ℕ) (o : Option (ℕ × ℕ)) (h : List ServerEvent) → AreSilent (ending_poll c now o h)
 ends_poll c now None h = tt
@@ -118,10 +119,21 @@ shuts_some : (o : Option ℕ) (h : List ServerEvent) → AreSilent (shutting_som
 shuts_some None h = tt
 shuts_some (Some lane) h = shuts lane h
 
+gives : (o : Option ℕ) (h : List ServerEvent) → AreSilent (removing_some o h)
+gives None h = tt
+gives (Some c) h = letting c h
+
 first : (s : Setup) (o : PendingRequest) (drawn : Option (List ℕ)) (c : ℕ) (h : List ServerEvent) (out : Outcome) → AreSilent (request_plan s o drawn c h out).first
-first s o drawn c h (Refusal status) = replies o.lane (bare_reply status) h
-first s o drawn c h (NewToken reconnect) = (tt, (replies o.lane (token_reply (negotiate_body (suc (made (notes h))) (token_of (unwrap_or drawn []) (suc (made (notes h)))) reconnect)) h))
-first s o drawn c h PlainSocket = let k = suc (made (notes h)) in (tt, stands s o k false (Notes (Opened k o.now) ∷ h))
+first s o drawn c h (Refusal status) = replies o.lane (refusal_reply s.base o.request status) h
+first s o drawn c h (NewToken reconnect) =
+    let g = onto (giving_way s o.now h) h in
+    let k = suc (made (notes g)) in
+    join (giving_way s o.now h) _ (gives (gives_way s.live o.now (notes h)) h)
+    (tt, replies o.lane (token_reply (negotiate_body k (token_of (unwrap_or drawn []) k) reconnect)) g)
+first s o drawn c h PlainSocket =
+    let g = onto (giving_way s o.now h) h in
+    let k = suc (made (notes g)) in
+    join (giving_way s o.now h) _ (gives (gives_way s.live o.now (notes h)) h) (tt, stands s o k false (Notes (Opened k o.now) ∷ g))
 first s o drawn c h TokenSocket = join (shutting_some (socket_of c (notes h)) h) _ (shuts_some (socket_of c (notes h)) h) (stands s o c (is_resumable_promise c (notes h)) h)
 first s o drawn c h FirstPoll = join (connecting s c false h) _ (connects s c false h) (tt, tt)
 first s o drawn c h NextPoll = ends_poll c o.now (poll_of c (notes h)) h

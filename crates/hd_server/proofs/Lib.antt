@@ -3,6 +3,7 @@ pub mod InOrder
 pub mod Members
 pub mod SocketAnswers
 pub mod Rows
+pub mod Allowed
 pub mod Tests
 pub mod Flushing
 pub mod Further
@@ -14,6 +15,7 @@ pub mod Once
 pub mod Few
 pub mod Served
 pub mod OrderlyNotes
+pub mod GivingWay
 pub mod OrderlyDoings
 pub mod OrderlyEach
 pub mod OrderlyPlans

@@ -31,31 +31,31 @@ module _ (now : ℕ) where
 -- ---- the whole of it
 
 -- what holds between events: one that has a peer is known, and none was let go that wasn't made
-pub record IsOrderly (h : List ServerEvent) : Type 0 where
-  pub in_order : AreInOrder (notes h)
+pub record IsOrderly (most : ℕ) (h : List ServerEvent) : Type 0 where
+  pub in_order : AreInOrder most (notes h)
   pub not_later : last_moment (notes h) ≤ moment h
   pub peers : (c : ℕ) → has_peer c h ≡ true → Known c (notes h)
   pub made_first : (c : ℕ) → made (notes h) < c → is_removed c (notes h) ≡ false
 
 turn_settled : {Job : Type 0} → (hub : Hub Job) (s : Setup) (now : ℕ) (e : Event) (h after : List ServerEvent) → IsTurn hub s now e h after
-    → moment h ≤ now → IsOrderly h → Settled now after
+    → moment h ≤ now → IsOrderly s.live h → Settled s.live now after
 turn_settled hub s now e h after turn later was =
     let heard : List ServerEvent = Hears now e ∷ h in
-    let expired : Settled now turn.expired
-    = subst (Settled now) (sym turn.expires) (expired_settled now heard was.in_order (omega (arith, later, was.not_later)) refl was.peers was.made_first) in
-    let asked : Settled now turn.asked = subst (Settled now) (sym turn.asks) (asked_settled s now e turn.name turn.drawn turn.expired expired) in
+    let expired : Settled s.live now turn.expired
+    = subst (Settled s.live now) (sym turn.expires) (expired_settled now heard was.in_order (omega (arith, later, was.not_later)) refl was.peers was.made_first) in
+    let asked : Settled s.live now turn.asked = subst (Settled s.live now) (sym turn.asks) (asked_settled s now e turn.name turn.drawn turn.expired expired) in
     let feeds = subst (λ begun. IsFed now (plan s now e turn.name turn.drawn turn.asked).food begun turn.fed) turn.begins turn.feeds in
-    let handled : Settled now turn.handled
-    = subst (Settled now) (sym turn.handles) (plan_settled s now e turn.name turn.drawn turn.asked turn.fed asked feeds) in
-    let ticked : Settled now turn.ticked = subst (Settled now) (sym turn.has_ticked) (ticked_settled now turn.handled handled) in
-    let begun : Settled now (Works (Rounds now) ∷ turn.ticked) = quiet_settled_after now (Works (Rounds now) ∷ []) turn.ticked (tt, tt) ticked in
-    let stepped : Settled now turn.stepped
-    = subst (Settled now) (sym turn.has_stepped)
+    let handled : Settled s.live now turn.handled
+    = subst (Settled s.live now) (sym turn.handles) (plan_settled s now e turn.name turn.drawn turn.asked turn.fed asked feeds) in
+    let ticked : Settled s.live now turn.ticked = subst (Settled s.live now) (sym turn.has_ticked) (ticked_settled now turn.handled handled) in
+    let begun : Settled s.live now (Works (Rounds now) ∷ turn.ticked) = quiet_settled_after now (Works (Rounds now) ∷ []) turn.ticked (tt, tt) ticked in
+    let stepped : Settled s.live now turn.stepped
+    = subst (Settled s.live now) (sym turn.has_stepped)
     (quiet_settled_after now (map Works turn.round) (Works (Rounds now) ∷ turn.ticked)
     (round_quiet now turn.round (Rounds now ∷ work turn.ticked) turn.rounds.each) begun) in
-    subst (Settled now) (sym turn.tells) (told_settled s now turn.pieces turn.stepped stepped)
+    subst (Settled s.live now) (sym turn.tells) (told_settled s now turn.pieces turn.stepped stepped)
 
-pub orderly_then : (now : ℕ) (h : List ServerEvent) → Settled now h → IsOrderly h
+pub orderly_then : {most : ℕ} (now : ℕ) (h : List ServerEvent) → Settled most now h → IsOrderly most h
 orderly_then now h s = record {
   in_order = s.in_order;
   not_later = subst (λ m. last_moment (notes h) ≤ m) (sym s.is_now) s.not_later;
@@ -63,11 +63,11 @@ orderly_then now h s = record {
   made_first = s.made_first;
 }
 
-pub nothing_done : IsOrderly []
+pub nothing_done : {most : ℕ} → IsOrderly most []
 nothing_done = record { in_order = tt; not_later = omega arith; peers = λ c e. absurd (cc); made_first = λ c over. refl }
 
-orderly : {Job : Type 0} → (hub : Hub Job) (s : Setup) (es : List Heard) (h : List ServerEvent) → Serves hub s es h → IsOrderly h
-orderly hub s [] h e = subst IsOrderly (sym e) nothing_done
+orderly : {Job : Type 0} → (hub : Hub Job) (s : Setup) (es : List Heard) (h : List ServerEvent) → Serves hub s es h → IsOrderly s.live h
+orderly hub s [] h e = subst (IsOrderly s.live) (sym e) nothing_done
 orderly hub s (e ∷ es) h (before, serves, may, turn) =
     orderly_then e.now h (turn_settled hub s e.now e.event before h turn may.0 (orderly hub s es before serves))
 

@@ -4,15 +4,16 @@ use Rattle.std.specs.Prelude.{◌==◌, not, is_some, map, ◌&&◌, ◌||◌}
 use Rattle.std.proofs.lemmas.Bool.{eqb-true, eq-eqb}
 use Rattle.hw_lanes.specs.declared.http.Reply.{Reply}
 use Rattle.hd_calls.specs.Peers.{PeerEvent}
-use Rattle.hd_server.specs.Lives.{ConnectionEvent, Negotiated, Opened, Socketed, Polled, Answered, LaneLost, Ended, Expired, Removed, AreInOrder, MayBeNoted, made, is_removed, is_known, is_busy, standing, life_of, last_moment}
+use Rattle.hd_server.specs.Lives.{ConnectionEvent, Negotiated, Opened, Socketed, Polled, Answered, LaneLost, Ended, Expired, Removed, AreInOrder, MayBeNoted, made, is_removed, is_known, HasRoom, standing, life_of, last_moment}
 use Rattle.hd_server.specs.Machine.{Connects, Does, Rounds, Carries, Goes, settings_of, has_gone}
-use Rattle.hd_server.specs.Doings.{ServerEvent, Learns, Draws, Notes, Works, Says, notes, work, moment, user_of, wants_shut, was_refused, has_peer}
-use Rattle.hd_server.specs.Plans.{Setup, onto, connecting, peer_settings, removing_conn, shutting, replying}
+use Rattle.hd_server.specs.declared.vocabulary.Said.TheVariants as say
+use Rattle.hd_server.specs.Doings.{ServerEvent, Learns, Draws, Notes, Works, Says, notes, work, moment, user_of, was_refused, has_peer}
+use Rattle.hd_server.specs.Plans.{Setup, onto, connecting, peer_settings, removing_conn, shutting, ends_lane, replying}
 use Rattle.hd_server.proofs.OrderlyNotes.{subject, IsOf, NonePast, Known, within, none_past_still, another_stands, another_stays, life_of_known, still_socketed, still_polled, still_answered, still_lost, still_ended, once_opened, once_negotiated}
 
 -- what holds after the moments that have come are noted
-pub record Settled (now : ℕ) (h : List ServerEvent) : Type 0 where
-  pub in_order : AreInOrder (notes h)
+pub record Settled (most now : ℕ) (h : List ServerEvent) : Type 0 where
+  pub in_order : AreInOrder most (notes h)
   pub not_later : last_moment (notes h) ≤ now
   pub is_now : moment h ≡ now
   pub peers : (c : ℕ) → has_peer c h ≡ true → Known c (notes h)
@@ -25,13 +26,13 @@ pub record Others (c : ℕ) (g x : List ServerEvent) : Type 0 where
   pub there : (k : ℕ) → (k == c) ≡ false → has_peer k x ≡ has_peer k g
 
 -- of one nothing may be known any more
-pub record Parted (now c : ℕ) (g x : List ServerEvent) : Type 0 where
-  pub settled : Settled now x
+pub record Parted (most now c : ℕ) (g x : List ServerEvent) : Type 0 where
+  pub settled : Settled most now x
   pub others : Others c g x
 
 -- it is known still
-pub record Lively (now c : ℕ) (g x : List ServerEvent) : Type 0 where
-  pub settled : Settled now x
+pub record Lively (most now c : ℕ) (g x : List ServerEvent) : Type 0 where
+  pub settled : Settled most now x
   pub others : Others c g x
   pub known : Known c (notes x)
   pub stays : has_peer c x ≡ has_peer c g
@@ -42,16 +43,16 @@ others_same c g = record { stand = λ k e. refl; there = λ k e. refl }
 others_then : (c : ℕ) (f g x : List ServerEvent) → Others c f g → Others c g x → Others c f x
 others_then c f g x a b = record { stand = λ k e. b.stand k e ∙ a.stand k e; there = λ k e. b.there k e ∙ a.there k e }
 
-pub lively_same : (now c : ℕ) (g : List ServerEvent) → Settled now g → Known c (notes g) → Lively now c g g
+pub lively_same : {most : ℕ} (now c : ℕ) (g : List ServerEvent) → Settled most now g → Known c (notes g) → Lively most now c g g
 lively_same now c g s k = record { settled = s; others = others_same c g; known = k; stays = refl }
 
-pub lively_then : (now c : ℕ) (f g x : List ServerEvent) → Lively now c f g → Lively now c g x → Lively now c f x
+pub lively_then : {most : ℕ} (now c : ℕ) (f g x : List ServerEvent) → Lively most now c f g → Lively most now c g x → Lively most now c f x
 lively_then now c f g x a b = record { settled = b.settled; others = others_then c f g x a.others b.others; known = b.known; stays = b.stays ∙ a.stays }
 
-pub parted_of : (now c : ℕ) (g x : List ServerEvent) → Lively now c g x → Parted now c g x
+pub parted_of : {most : ℕ} (now c : ℕ) (g x : List ServerEvent) → Lively most now c g x → Parted most now c g x
 parted_of now c g x a = record { settled = a.settled; others = a.others }
 
-pub parted_then : (now c : ℕ) (f g x : List ServerEvent) → Lively now c f g → Parted now c g x → Parted now c f x
+pub parted_then : {most : ℕ} (now c : ℕ) (f g x : List ServerEvent) → Lively most now c f g → Parted most now c g x → Parted most now c f x
 parted_then now c f g x a b = record { settled = b.settled; others = others_then c f g x a.others b.others }
 
 -- ---- lists of doings
@@ -115,9 +116,9 @@ unmoved_after : (ds g : List ServerEvent) → AreQuiet ds → Unmoved g (ds ++ g
 unmoved_after [] g a = unmoved_same g
 unmoved_after (d ∷ ds) g a = unmoved_then g (ds ++ g) (d ∷ ds ++ g) (unmoved_after ds g a.1) (one_quiet d (ds ++ g) a.0)
 
-settled_still : (now : ℕ) (g x : List ServerEvent) → Unmoved g x → Settled now g → Settled now x
-settled_still now g x a s = record {
-  in_order = subst AreInOrder (sym a.same_notes) s.in_order;
+settled_still : {most : ℕ} (now : ℕ) (g x : List ServerEvent) → Unmoved g x → Settled most now g → Settled most now x
+settled_still {most} now g x a s = record {
+  in_order = subst (AreInOrder most) (sym a.same_notes) s.in_order;
   not_later = subst (λ n. last_moment n ≤ now) (sym a.same_notes) s.not_later;
   is_now = a.same_moment ∙ s.is_now;
   peers = λ c e. subst (Known c) (sym a.same_notes) (s.peers c (sym (a.same_peers c) ∙ e));
@@ -125,7 +126,7 @@ settled_still now g x a s = record {
   young = subst (NonePast now) (sym a.same_notes) s.young;
 }
 
-lively_still : (now c : ℕ) (g x : List ServerEvent) → Unmoved g x → Settled now g → Known c (notes g) → Lively now c g x
+lively_still : {most : ℕ} (now c : ℕ) (g x : List ServerEvent) → Unmoved g x → Settled most now g → Known c (notes g) → Lively most now c g x
 lively_still now c g x a s k = record {
   settled = settled_still now g x a s;
   others = record { stand = λ k e. ap (standing k) a.same_notes; there = λ k e. a.same_peers k };
@@ -133,10 +134,10 @@ lively_still now c g x a s k = record {
   stays = a.same_peers c;
 }
 
-pub quiet_settled : (now : ℕ) (ds g : List ServerEvent) → AreQuiet ds → Settled now g → Settled now (onto ds g)
+pub quiet_settled : {most : ℕ} (now : ℕ) (ds g : List ServerEvent) → AreQuiet ds → Settled most now g → Settled most now (onto ds g)
 quiet_settled now ds g a s = settled_still now g (onto ds g) (unmoved_onto ds g a) s
 
-pub quiet_settled_after : (now : ℕ) (ds g : List ServerEvent) → AreQuiet ds → Settled now g → Settled now (ds ++ g)
+pub quiet_settled_after : {most : ℕ} (now : ℕ) (ds g : List ServerEvent) → AreQuiet ds → Settled most now g → Settled most now (ds ++ g)
 quiet_settled_after now ds g a s = settled_still now g (ds ++ g) (unmoved_after ds g a) s
 
 pub quiet_notes : (ds g : List ServerEvent) → AreQuiet ds → notes (onto ds g) ≡ notes g
@@ -145,10 +146,10 @@ quiet_notes ds g a = (unmoved_onto ds g a).same_notes
 pub quiet_notes_after : (ds g : List ServerEvent) → AreQuiet ds → notes (ds ++ g) ≡ notes g
 quiet_notes_after ds g a = (unmoved_after ds g a).same_notes
 
-pub quiet_lively : (now c : ℕ) (ds g : List ServerEvent) → AreQuiet ds → Settled now g → Known c (notes g) → Lively now c g (onto ds g)
+pub quiet_lively : {most : ℕ} (now c : ℕ) (ds g : List ServerEvent) → AreQuiet ds → Settled most now g → Known c (notes g) → Lively most now c g (onto ds g)
 quiet_lively now c ds g a s k = lively_still now c g (onto ds g) (unmoved_onto ds g a) s k
 
-pub parted_quiet : (now c : ℕ) (ds g x : List ServerEvent) → AreQuiet ds → Parted now c g x → Parted now c g (onto ds x)
+pub parted_quiet : {most : ℕ} (now c : ℕ) (ds g x : List ServerEvent) → AreQuiet ds → Parted most now c g x → Parted most now c g (onto ds x)
 parted_quiet now c ds g x a p =
     let u = unmoved_onto ds x a in
     record {
@@ -161,7 +162,7 @@ shutting_quiet lane h = either_way AreQuiet (was_refused lane h) [] _ tt (tt, tt
 
 pub replying_quiet : (lane : ℕ) (reply : Reply) (h : List ServerEvent) → AreQuiet (replying lane reply h)
 replying_quiet lane reply h =
-    (tt, either_way AreQuiet ((reply.status == 400) || (wants_shut lane h && not (reply.status == 101))) (shutting lane h) [] (shutting_quiet lane h) tt)
+    (tt, either_way AreQuiet (ends_lane lane reply.status h) (Says (say.Shut lane) ∷ []) [] (tt, tt) tt)
 
 pub moves_quiet : (c : ℕ) (ms : List PeerEvent) → AreQuiet (map (λ m. Works (Does c m)) ms)
 moves_quiet c [] = tt
@@ -181,12 +182,12 @@ noted_now now (Ended c m) h e l = (omega (arith, e, l), omega (arith, e))
 noted_now now (Expired c m) h e l = absurd e
 noted_now now (Removed c) h e l = (omega arith, l)
 
-module _ (now : ℕ) (n : ConnectionEvent) (g : List ServerEvent) (s : Settled now g) (of_now : IsOf now n) (may : MayBeNoted n (notes g)) where
+module _ {most : ℕ} (now : ℕ) (n : ConnectionEvent) (g : List ServerEvent) (s : Settled most now g) (of_now : IsOf now n) (may : MayBeNoted most n (notes g)) where
   note_others : Others (subject n) g (Notes n ∷ g)
   note_others = record { stand = λ k e. another_stands k n (notes g) e; there = λ k e. refl }
 
   settled_by : (has_peer (subject n) g ≡ true → Known (subject n) (n ∷ notes g)) → ((c : ℕ) → made (n ∷ notes g) < c → is_removed c (n ∷ notes g) ≡ false)
-      → Settled now (Notes n ∷ g)
+      → Settled most now (Notes n ∷ g)
   settled_by own first =
       let moments = noted_now now n (notes g) of_now s.not_later in
       record {
@@ -204,11 +205,11 @@ module _ (now : ℕ) (n : ConnectionEvent) (g : List ServerEvent) (s : Settled n
           subst (λ k. Known k (n ∷ notes g)) (sym same) (own (subst (λ k. has_peer k g ≡ true) same there))
       by c false e there = ap is_known (another_stands c n (notes g) e) ∙ s.peers c there
 
-module _ (now c : ℕ) (g : List ServerEvent) (s : Settled now g) (k : Known c (notes g)) where
+module _ {most : ℕ} (now c : ℕ) (g : List ServerEvent) (s : Settled most now g) (k : Known c (notes g)) where
   lives : is_known (life_of c now (notes g)) ≡ true
   lives = life_of_known c now (notes g) s.young k
 
-  pub socketing : (lane : ℕ) → Lively now c g (Notes (Socketed c lane now) ∷ g)
+  pub socketing : (lane : ℕ) → Lively most now c g (Notes (Socketed c lane now) ∷ g)
   socketing lane =
       let still = still_socketed c (notes g) lane now k in
       record {
@@ -218,7 +219,7 @@ module _ (now c : ℕ) (g : List ServerEvent) (s : Settled now g) (k : Known c (
         stays = refl;
       }
 
-  pub polling : (lane : ℕ) → Lively now c g (Notes (Polled c lane now) ∷ g)
+  pub polling : (lane : ℕ) → Lively most now c g (Notes (Polled c lane now) ∷ g)
   polling lane =
       let still = still_polled c (notes g) lane now k in
       record {
@@ -228,7 +229,7 @@ module _ (now c : ℕ) (g : List ServerEvent) (s : Settled now g) (k : Known c (
         stays = refl;
       }
 
-  pub answering : (lane : ℕ) → Lively now c g (Notes (Answered c lane now) ∷ g)
+  pub answering : (lane : ℕ) → Lively most now c g (Notes (Answered c lane now) ∷ g)
   answering lane =
       let still = still_answered c (notes g) lane now k in
       record {
@@ -238,7 +239,7 @@ module _ (now c : ℕ) (g : List ServerEvent) (s : Settled now g) (k : Known c (
         stays = refl;
       }
 
-  pub lane_losing : (lane : ℕ) → Lively now c g (Notes (LaneLost c lane now) ∷ g)
+  pub lane_losing : (lane : ℕ) → Lively most now c g (Notes (LaneLost c lane now) ∷ g)
   lane_losing lane =
       let still = still_lost c (notes g) lane now k in
       record {
@@ -248,7 +249,7 @@ module _ (now c : ℕ) (g : List ServerEvent) (s : Settled now g) (k : Known c (
         stays = refl;
       }
 
-  pub now_ending : Lively now c g (Notes (Ended c now) ∷ g)
+  pub now_ending : Lively most now c g (Notes (Ended c now) ∷ g)
   now_ending =
       let still = still_ended c (notes g) now k in
       record {
@@ -259,7 +260,7 @@ module _ (now c : ℕ) (g : List ServerEvent) (s : Settled now g) (k : Known c (
       }
 
   -- one that has no peer is let go
-  note_leave : has_peer c g ≡ false → Parted now c g (Notes (Removed c) ∷ g)
+  note_leave : has_peer c g ≡ false → Parted most now c g (Notes (Removed c) ∷ g)
   note_leave none = record {
     settled = settled_by now (Removed c) g s tt tt (λ e. absurd (let z : false ≡ true = sym none ∙ e in cc)) (λ x over. by x over (x == c) refl);
     others = note_others now (Removed c) g s tt tt;
@@ -268,7 +269,7 @@ module _ (now c : ℕ) (g : List ServerEvent) (s : Settled now g) (k : Known c (
       by : (x : ℕ) → made (notes g) < x → (b : Bool) → (x == c) ≡ b → is_removed x (Removed c ∷ notes g) ≡ false
       by x over true e =
           let same : x ≡ c = eqb-true x c e in
-          let was = within (notes g) s.in_order c k in
+          let was = within most (notes g) s.in_order c k in
           absurd (let no : ⊥ = omega (arith, over, same, was.1) in no)
       by x over false e = another_stays x (Removed c) (notes g) e ∙ s.made_first x over
 
@@ -276,9 +277,9 @@ and_false : (b : Bool) → (b && false) ≡ false
 and_false true = refl
 and_false false = refl
 
-module _ (now c : ℕ) (g : List ServerEvent) (s : Settled now g) (k : Known c (notes g)) where
+module _ {most : ℕ} (now c : ℕ) (g : List ServerEvent) (s : Settled most now g) (k : Known c (notes g)) where
   -- its peer goes
-  goes : Settled now (Works (Goes c) ∷ g)
+  goes : Settled most now (Works (Goes c) ∷ g)
   goes = record {
     in_order = s.in_order;
     not_later = s.not_later;
@@ -292,12 +293,12 @@ module _ (now c : ℕ) (g : List ServerEvent) (s : Settled now g) (k : Known c (
       by x true e = absurd (let z : false ≡ true = sym (and_false (is_some (settings_of x (work g)))) ∙ e in cc)
       by x false e = e
 
-  pub lets_go : (h : List ServerEvent) → has_peer c g ≡ has_peer c h → Parted now c g (onto (removing_conn c h) g)
+  pub lets_go : (h : List ServerEvent) → has_peer c g ≡ has_peer c h → Parted most now c g (onto (removing_conn c h) g)
   lets_go h same = by (has_peer c h) same where
     dropped : has_peer c (Works (Goes c) ∷ g) ≡ false
     dropped = rw (eq-eqb c c refl) (and_false (is_some (settings_of c (work g))))
 
-    by : (b : Bool) → has_peer c g ≡ b → Parted now c g (onto ((if b then Works (Goes c) ∷ [] else []) ++ Notes (Removed c) ∷ []) g)
+    by : (b : Bool) → has_peer c g ≡ b → Parted most now c g (onto ((if b then Works (Goes c) ∷ [] else []) ++ Notes (Removed c) ∷ []) g)
     by true e =
         let left = note_leave now c (Works (Goes c) ∷ g) goes k dropped in
         record {
@@ -307,9 +308,9 @@ module _ (now c : ℕ) (g : List ServerEvent) (s : Settled now g) (k : Known c (
     by false e = note_leave now c g s k e
 
   -- its peer begins
-  pub connects : (t : Setup) (reconnect : Bool) (h : List ServerEvent) → Settled now (onto (connecting t c reconnect h) g)
+  pub connects : (t : Setup) (reconnect : Bool) (h : List ServerEvent) → Settled most now (onto (connecting t c reconnect h) g)
   connects t reconnect h = by (is_some (settings_of c (work h))) where
-    begun : Settled now (Works (Connects c (peer_settings t c (user_of c h) reconnect) (user_of c h)) ∷ g)
+    begun : Settled most now (Works (Connects c (peer_settings t c (user_of c h) reconnect) (user_of c h)) ∷ g)
     begun = record {
       in_order = s.in_order;
       not_later = s.not_later;
@@ -325,7 +326,7 @@ module _ (now c : ℕ) (g : List ServerEvent) (s : Settled now g) (k : Known c (
         its x true f e = subst (λ y. Known y (notes g)) (sym (eqb-true x c f)) k
         its x false f e = s.peers x e
 
-    by : (b : Bool) → Settled now (onto (if b then [] else Works (Connects c (peer_settings t c (user_of c h) reconnect) (user_of c h)) ∷ []) g)
+    by : (b : Bool) → Settled most now (onto (if b then [] else Works (Connects c (peer_settings t c (user_of c h) reconnect) (user_of c h)) ∷ []) g)
     by true = s
     by false = begun
 
@@ -336,20 +337,20 @@ connecting_notes c t reconnect h g =
 
 -- ---- a new connection
 
-module _ (now : ℕ) (g : List ServerEvent) (s : Settled now g) (room : is_busy now (notes g) ≡ false) where
+module _ {most : ℕ} (now : ℕ) (g : List ServerEvent) (s : Settled most now g) (room : HasRoom most now (suc (made (notes g))) (notes g)) where
   never_gone : is_removed (suc (made (notes g))) (notes g) ≡ false
   never_gone = s.made_first (suc (made (notes g))) (omega arith)
 
   fewer : (c : ℕ) → suc (made (notes g)) < c → is_removed c (notes g) ≡ false
   fewer c over = s.made_first c (omega (arith, over))
 
-  pub negotiating : (token : List ℕ) (reconnect : Bool) → Settled now (Notes (Negotiated (suc (made (notes g))) token reconnect now) ∷ g)
+  pub negotiating : (token : List ℕ) (reconnect : Bool) → Settled most now (Notes (Negotiated (suc (made (notes g))) token reconnect now) ∷ g)
   negotiating token reconnect =
-      settled_by now (Negotiated (suc (made (notes g))) token reconnect now) g s refl (refl, room)
+      settled_by now (Negotiated (suc (made (notes g))) token reconnect now) g s refl room
       (λ e. once_negotiated (suc (made (notes g))) (notes g) token reconnect now never_gone) fewer
 
-  pub opening : Settled now (Notes (Opened (suc (made (notes g))) now) ∷ g)
-  opening = settled_by now (Opened (suc (made (notes g))) now) g s refl (refl, room) (λ e. once_opened (suc (made (notes g))) (notes g) now never_gone) fewer
+  pub opening : Settled most now (Notes (Opened (suc (made (notes g))) now) ∷ g)
+  opening = settled_by now (Opened (suc (made (notes g))) now) g s refl room (λ e. once_opened (suc (made (notes g))) (notes g) now never_gone) fewer
 
   pub opened_known : Known (suc (made (notes g))) (Opened (suc (made (notes g))) now ∷ notes g)
   opened_known = once_opened (suc (made (notes g))) (notes g) now never_gone

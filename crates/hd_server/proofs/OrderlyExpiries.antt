@@ -17,8 +17,8 @@ use Rattle.hd_server.proofs.OrderlyDoings.{Settled, either_way, in_turn}
 use Rattle.hd_server.proofs.OrderlyEach.{is_other, apart-filter}
 
 -- what holds while these are still to expire, and are as they were after h
-record Expires (now : ℕ) (h : List ServerEvent) (cs : List ℕ) (g : List ServerEvent) : Type 0 where
-  in_order : AreInOrder (notes g)
+record Expires (most now : ℕ) (h : List ServerEvent) (cs : List ℕ) (g : List ServerEvent) : Type 0 where
+  in_order : AreInOrder most (notes g)
   not_later : last_moment (notes g) ≤ now
   is_now : moment g ≡ now
   peers : (c : ℕ) → has_peer c g ≡ true → Known c (notes g)
@@ -33,7 +33,7 @@ record Leaves (c : ℕ) (h g x : List ServerEvent) : Type 0 where
   of_others : (k : ℕ) → (k == c) ≡ false → has_peer k x ≡ has_peer k g
   own : has_peer c x ≡ true → (standing c (notes h) ≡ Polling) × (has_peer c g ≡ true)
 
-module _ (now c : ℕ) (cs : List ℕ) (h g x : List ServerEvent) (out : is_in c cs ≡ false) (e : Expires now h (c ∷ cs) g) (l : Leaves c h g x) where
+module _ {most : ℕ} (now c : ℕ) (cs : List ℕ) (h g x : List ServerEvent) (out : is_in c cs ≡ false) (e : Expires most now h (c ∷ cs) g) (l : Leaves c h g x) where
   left_then : overdue now (notes x) ≡ c ∷ cs
   left_then = ap (overdue now) l.same_notes ∙ e.left
 
@@ -56,9 +56,9 @@ module _ (now c : ℕ) (cs : List ℕ) (h g x : List ServerEvent) (out : is_in c
   gone_then k over false f =
       another_stays k (Expired c now) (notes x) f ∙ ap (is_removed k) l.same_notes ∙ e.made_first k (subst (λ n. made n < k) l.same_notes over)
 
-  expire : Expires now h cs (Notes (Expired c now) ∷ x)
+  expire : Expires most now h cs (Notes (Expired c now) ∷ x)
   expire = record {
-    in_order = (subst AreInOrder (sym l.same_notes) e.in_order, subst (λ n. last_moment n ≤ now) (sym l.same_notes) e.not_later, (cs, left_then));
+    in_order = (subst (AreInOrder most) (sym l.same_notes) e.in_order, subst (λ n. last_moment n ≤ now) (sym l.same_notes) e.not_later, (cs, left_then));
     not_later = omega arith;
     is_now = l.same_moment ∙ e.is_now;
     peers = λ k there. peers_then k (k == c) refl there;
@@ -101,20 +101,20 @@ leaves_dropped c h g same = by (has_peer c h) same where
     own = λ there. absurd (let z : false ≡ true = sym e ∙ there in cc);
   }
 
-module _ (now : ℕ) (h : List ServerEvent) where
-  one_expires : (c : ℕ) (cs : List ℕ) (g : List ServerEvent) → is_in c cs ≡ false → Expires now h (c ∷ cs) g → (life : Life) → standing c (notes h) ≡ life
-      → Expires now h cs (onto (expiring now life c h) g)
+module _ {most : ℕ} (now : ℕ) (h : List ServerEvent) where
+  one_expires : (c : ℕ) (cs : List ℕ) (g : List ServerEvent) → is_in c cs ≡ false → Expires most now h (c ∷ cs) g → (life : Life) → standing c (notes h) ≡ life
+      → Expires most now h cs (onto (expiring now life c h) g)
   one_expires c cs g out e life f = by life f where
     same : has_peer c g ≡ has_peer c h
     same = (e.as_before c (or_left (c == c) (is_in c cs) (eq-eqb c c refl))).1
 
-    drops : Expires now h cs (onto (dropping c h ++ Notes (Expired c now) ∷ []) g)
-    drops = in_turn (Expires now h cs) (dropping c h) (Notes (Expired c now) ∷ []) g
+    drops : Expires most now h cs (onto (dropping c h ++ Notes (Expired c now) ∷ []) g)
+    drops = in_turn (Expires most now h cs) (dropping c h) (Notes (Expired c now) ∷ []) g
         (expire now c cs h g (onto (dropping c h) g) out e (leaves_dropped c h g same))
 
-    by : (life : Life) → standing c (notes h) ≡ life → Expires now h cs (onto (expiring now life c h) g)
+    by : (life : Life) → standing c (notes h) ≡ life → Expires most now h cs (onto (expiring now life c h) g)
     by Polling f =
-        in_turn (Expires now h cs) (closing c reason.Expired h) (Notes (Expired c now) ∷ []) g
+        in_turn (Expires most now h cs) (closing c reason.Expired h) (Notes (Expired c now) ∷ []) g
         (expire now c cs h g (onto (closing c reason.Expired h) g) out e (leaves_closed c h g f))
     by Unknown f = drops
     by Fresh f = drops
@@ -122,18 +122,18 @@ module _ (now : ℕ) (h : List ServerEvent) where
     by Lost f = drops
     by Ending f = drops
 
-  all_expire : (cs : List ℕ) (g : List ServerEvent) → AreApart cs → Expires now h cs g
-      → Expires now h [] (onto (flat_map (λ c. expiring now (standing c (notes h)) c h) cs) g)
+  all_expire : (cs : List ℕ) (g : List ServerEvent) → AreApart cs → Expires most now h cs g
+      → Expires most now h [] (onto (flat_map (λ c. expiring now (standing c (notes h)) c h) cs) g)
   all_expire [] g apart e = e
   all_expire (c ∷ cs) g apart e =
       let mine : List ServerEvent = expiring now (standing c (notes h)) c h in
-      in_turn (Expires now h []) mine (flat_map (λ c. expiring now (standing c (notes h)) c h) cs) g
+      in_turn (Expires most now h []) mine (flat_map (λ c. expiring now (standing c (notes h)) c h) cs) g
       (all_expire cs (onto mine g) apart.1 (one_expires c cs g apart.0 e (standing c (notes h)) refl))
 
-  pub expired_settled : AreInOrder (notes h) → last_moment (notes h) ≤ now → moment h ≡ now → ((c : ℕ) → has_peer c h ≡ true → Known c (notes h))
-      → ((c : ℕ) → made (notes h) < c → is_removed c (notes h) ≡ false) → Settled now (onto (expiries now h) h)
+  pub expired_settled : AreInOrder most (notes h) → last_moment (notes h) ≤ now → moment h ≡ now → ((c : ℕ) → has_peer c h ≡ true → Known c (notes h))
+      → ((c : ℕ) → made (notes h) < c → is_removed c (notes h) ≡ false) → Settled most now (onto (expiries now h) h)
   expired_settled order later is_now peers first =
-      let begins : Expires now h (overdue now (notes h)) h = record {
+      let begins : Expires most now h (overdue now (notes h)) h = record {
         in_order = order;
         not_later = later;
         is_now = is_now;
@@ -150,5 +150,5 @@ module _ (now : ℕ) (h : List ServerEvent) where
         is_now = e.is_now;
         peers = e.peers;
         made_first = e.made_first;
-        young = none_past now (notes (onto (expiries now h) h)) e.in_order e.left;
+        young = none_past most now (notes (onto (expiries now h) h)) e.in_order e.left;
       }

@@ -419,25 +419,25 @@ own_or k n h more own further known = by (k == subject n) refl where
   by true e = subst (λ x. IsWithin x (n ∷ h)) (sym (eqb-true k (subject n) e)) own
   by false e = let was = further (ap is_known (sym (another_stands k n h e)) ∙ known) in (was.0, omega (arith, was.1, more))
 
-pub within : (h : List ConnectionEvent) → AreInOrder h → (k : ℕ) → Known k h → IsWithin k h
-within [] order k known = absurd (cc)
-within (Negotiated c token reconnect m ∷ h) (order, later, may) k known =
-    own_or k (Negotiated c token reconnect m) h (omega arith) (omega (arith, may.0), omega (arith, may.0)) (within h order k) known
-within (Opened c m ∷ h) (order, later, may) k known =
-    own_or k (Opened c m) h (omega arith) (omega (arith, may.0), omega (arith, may.0)) (within h order k) known
-within (Socketed c lane m ∷ h) (order, later, may) k known =
-    own_or k (Socketed c lane m) h (omega arith) (within h order c (known_of_life c m h may)) (within h order k) known
-within (Polled c lane m ∷ h) (order, later, may) k known =
-    own_or k (Polled c lane m) h (omega arith) (within h order c (known_of_life c m h may)) (within h order k) known
-within (Answered c lane m ∷ h) (order, later, may) k known =
-    own_or k (Answered c lane m) h (omega arith) (within h order c (known_of_life c m h may)) (within h order k) known
-within (LaneLost c lane m ∷ h) (order, later, may) k known =
-    own_or k (LaneLost c lane m) h (omega arith) (within h order c (known_of_life c m h may)) (within h order k) known
-within (Ended c m ∷ h) (order, later, may) k known =
-    own_or k (Ended c m) h (omega arith) (within h order c (known_of_life c m h may)) (within h order k) known
-within (Expired c m ∷ h) (order, later, (rest, may)) k known =
-    own_or k (Expired c m) h (omega arith) (first_within c m rest h may) (within h order k) known
-within (Removed c ∷ h) (order, later, may) k known = by (k == c) refl (within h order k) where
+pub within : (most : ℕ) (h : List ConnectionEvent) → AreInOrder most h → (k : ℕ) → Known k h → IsWithin k h
+within most [] order k known = absurd (cc)
+within most (Negotiated c token reconnect m ∷ h) (order, later, may) k known =
+    own_or k (Negotiated c token reconnect m) h (omega arith) (let new = may.next in (omega (arith, new), omega (arith, new))) (within most h order k) known
+within most (Opened c m ∷ h) (order, later, may) k known =
+    own_or k (Opened c m) h (omega arith) (let new = may.next in (omega (arith, new), omega (arith, new))) (within most h order k) known
+within most (Socketed c lane m ∷ h) (order, later, may) k known =
+    own_or k (Socketed c lane m) h (omega arith) (within most h order c (known_of_life c m h may)) (within most h order k) known
+within most (Polled c lane m ∷ h) (order, later, may) k known =
+    own_or k (Polled c lane m) h (omega arith) (within most h order c (known_of_life c m h may)) (within most h order k) known
+within most (Answered c lane m ∷ h) (order, later, may) k known =
+    own_or k (Answered c lane m) h (omega arith) (within most h order c (known_of_life c m h may)) (within most h order k) known
+within most (LaneLost c lane m ∷ h) (order, later, may) k known =
+    own_or k (LaneLost c lane m) h (omega arith) (within most h order c (known_of_life c m h may)) (within most h order k) known
+within most (Ended c m ∷ h) (order, later, may) k known =
+    own_or k (Ended c m) h (omega arith) (within most h order c (known_of_life c m h may)) (within most h order k) known
+within most (Expired c m ∷ h) (order, later, (rest, may)) k known =
+    own_or k (Expired c m) h (omega arith) (first_within c m rest h may) (within most h order k) known
+within most (Removed c ∷ h) (order, later, may) k known = by (k == c) refl (within most h order k) where
   by : (b : Bool) → (k == c) ≡ b → (Known k h → IsWithin k h) → IsWithin k h
   by true e further = absurd (gone_unknown k (Removed c ∷ h) (or_left (k == c) (is_removed k h) e) known)
   by false e further = further (ap is_known (sym (another_stands k (Removed c) h e)) ∙ known)
@@ -460,10 +460,10 @@ no_more p (x ∷ xs) none c e = by (p x) refl none (c == x) refl e (no_more p xs
   by false f g false i j further = further g c j
 
 -- where no moment is left to come, none is past
-pub none_past : (now : ℕ) (h : List ConnectionEvent) → AreInOrder h → overdue now h ≡ [] → NonePast now h
-none_past now h order none c = by (is_known (standing c h)) refl where
+pub none_past : (most now : ℕ) (h : List ConnectionEvent) → AreInOrder most h → overdue now h ≡ [] → NonePast now h
+none_past most now h order none c = by (is_known (standing c h)) refl where
   by : (b : Bool) → is_known (standing c h) ≡ b → is_past now (deadline c h) ≡ false
   by true e =
-      let was = within h order c e in
+      let was = within most h order c e in
       no_more (λ k. is_past now (deadline k h)) (numbers_to (made h)) none c (among (made h) c was.0 was.1)
   by false e = ap (λ l. is_past now (option_map (λ moment. moment + lives_for) (since c l h))) (unknown_is (standing c h) e)

@@ -1,5 +1,5 @@
 -- What is done about an event is noted in order: the table lets through only what may be noted.
-use Rattle.std.proofs.Common.{refl, ap, subst, sym, ◌∙◌, ◌≡◌, ℕ, suc, Bool, true, false, List, [], ◌∷◌, ◌++◌, Option, Some, None, if◌then◌else◌}
+use Rattle.std.proofs.Common.{refl, ap, subst, sym, ◌∙◌, ◌≡◌, ℕ, suc, ◌<◌, Bool, true, false, List, [], ◌∷◌, ◌++◌, Option, Some, None, if◌then◌else◌}
 use Rattle.std.specs.Prelude.{◌==◌, not, is_some, find, option_map, unwrap_or, ◌&&◌, ◌||◌}
 use Rattle.std.proofs.lemmas.Bool.{eq-eqb, or_left, or_right}
 use Rattle.hw_lanes.specs.declared.http.Method.{Method}
@@ -12,16 +12,18 @@ use Rattle.hw_door.specs.declared.heard.Event.{Event}
 use Rattle.hw_door.specs.declared.heard.Event.TheVariants as event
 use Rattle.hd_server.specs.declared.vocabulary.Life.{Life}
 use Rattle.hd_server.specs.declared.vocabulary.Life.TheVariants.{Unknown, Fresh, Socket, Lost, Polling, Ending}
-use Rattle.hd_server.specs.Lives.{Negotiated, Opened, Socketed, Polled, Answered, is_known, is_busy, is_resumable_promise, life_of_some, made, numbers_to, poll_of, socket_of}
+use Rattle.hd_server.specs.Lives.{Negotiated, Opened, Socketed, Polled, Answered, HasRoom, gives_way, is_known, is_busy, is_resumable_promise, life_of_some, made, numbers_to, poll_of, socket_of}
+use Rattle.hd_server.specs.Numbers.{most_connections}
 use Rattle.hd_server.specs.Texts.{token_of, negotiate_body}
 use Rattle.hd_server.specs.Table.{Facts, Outcome, Refusal, NewToken, PlainSocket, TokenSocket, FirstPoll, NextPoll, LastPoll, Posting, Deletion, is_base, is_negotiate, is_socket, has_id, has_version, same_method, is_entry, is_unauthorized, is_keepers_fault, asks_keeper, socket_outcome, poll_outcome, post_outcome, delete_outcome, method_outcome, named_outcome, outcome}
 use Rattle.hd_server.specs.Machine.{connections, greatest, is_there}
 use Rattle.hd_server.specs.Doings.{ServerEvent, Notes, notes, work, is_up}
-use Rattle.hd_server.specs.Plans.{Setup, onto, step, connecting, attaching, closing, removing_conn, bare_reply, socket_reply, token_reply, replying, ending_poll, ending_held, learning, asks_lots, questions, standing_on, shutting_some, request_plan, conn_on, poller_on, losing, losing_lane, named_conn, facts, plan}
+use Rattle.hd_server.specs.Plans.{Setup, onto, step, connecting, attaching, closing, removing_conn, bare_reply, socket_reply, token_reply, refusal_reply, replying, ending_poll, ending_held, learning, asks_lots, questions, standing_on, shutting_some, request_plan, conn_on, poller_on, losing, losing_lane, named_conn, facts, plan, giving_way, removing_some}
 use Rattle.hd_server.specs.Serves.{IsFed}
 use Rattle.hd_server.proofs.Flushing.{is_in}
 use Rattle.hd_server.proofs.OrderlyNotes.{Known, known_of_life}
 use Rattle.hd_server.proofs.OrderlyDoings.{Settled, Parted, Lively, AreQuiet, quiet_both, quiet_settled, quiet_settled_after, quiet_notes_after, quiet_lively, shutting_quiet, replying_quiet, moves_quiet, either_way, in_turn, socketing, polling, answering, lane_losing, connects, connecting_notes, negotiating, opening, opened_known}
+use Rattle.hd_server.proofs.GivingWay.{either_room, has_room, makes_room, not_last, removed_so, unused}
 use Rattle.hd_server.proofs.OrderlyEach.{Keeps, keeps_quiet, keeps_both, keeps_answer, keeps_none, fits_after, fits_leaving, fits_losing, passes}
 
 -- ---- the table
@@ -120,35 +122,34 @@ outcome_right base r f =
 
 -- ---- food
 
-module _ (now : ℕ) where
-  fed_settled : (o : Option (ℕ × List ℕ)) (h after : List ServerEvent) → IsFed now o h after → Settled now h → Settled now after
-  fed_settled None h after e s = subst (Settled now) (sym e) s
-  fed_settled (Some f) h after one s = subst (Settled now) (sym one.are) (quiet_settled_after now _ h (moves_quiet f.0 one.moves) s)
+fed_settled : {most : ℕ} (now : ℕ) (o : Option (ℕ × List ℕ)) (h after : List ServerEvent) → IsFed now o h after → Settled most now h → Settled most now after
+fed_settled {most} now None h after e s = subst (Settled most now) (sym e) s
+fed_settled {most} now (Some f) h after one s = subst (Settled most now) (sym one.are) (quiet_settled_after now _ h (moves_quiet f.0 one.moves) s)
 
-  fed_notes : (o : Option (ℕ × List ℕ)) (h after : List ServerEvent) → IsFed now o h after → notes after ≡ notes h
-  fed_notes None h after e = ap notes e
-  fed_notes (Some f) h after one = ap notes one.are ∙ quiet_notes_after _ h (moves_quiet f.0 one.moves)
+fed_notes : (now : ℕ) (o : Option (ℕ × List ℕ)) (h after : List ServerEvent) → IsFed now o h after → notes after ≡ notes h
+fed_notes now None h after e = ap notes e
+fed_notes now (Some f) h after one = ap notes one.are ∙ quiet_notes_after _ h (moves_quiet f.0 one.moves)
 
 -- ---- requests
 
-abbrev IsLive : ℕ → ℕ → List ServerEvent → Type 0
-IsLive now c g = Settled now g × Known c (notes g)
+abbrev IsLive : ℕ → ℕ → ℕ → List ServerEvent → Type 0
+IsLive most now c g = Settled most now g × Known c (notes g)
 
-begins : (now c : ℕ) (s : Setup) (reconnect : Bool) (h g : List ServerEvent) → IsLive now c g
-    → IsLive now c (onto (connecting s c reconnect h ++ attaching c now h) g)
-begins now c s reconnect h g live =
-    let begun : IsLive now c (onto (connecting s c reconnect h) g)
+begins : {most : ℕ} (now c : ℕ) (s : Setup) (reconnect : Bool) (h g : List ServerEvent) → IsLive most now c g
+    → IsLive most now c (onto (connecting s c reconnect h ++ attaching c now h) g)
+begins {most} now c s reconnect h g live =
+    let begun : IsLive most now c (onto (connecting s c reconnect h) g)
     = (connects now c g live.0 live.1 s reconnect h, subst (Known c) (sym (connecting_notes c s reconnect h g)) live.1) in
-    in_turn (IsLive now c) (connecting s c reconnect h) (attaching c now h) g
+    in_turn (IsLive most now c) (connecting s c reconnect h) (attaching c now h) g
     (quiet_settled now (attaching c now h) (onto (connecting s c reconnect h) g) (tt, tt) begun.0, begun.1)
 
-stands : (now lane c : ℕ) (r : Request) (s : Setup) (reconnect : Bool) (h g : List ServerEvent) → IsLive now c g
-    → Settled now (onto (standing_on s (record { now = now; lane = lane; request = r }) c reconnect h) g)
-stands now lane c r s reconnect h g live =
+stands : {most : ℕ} (now lane c : ℕ) (r : Request) (s : Setup) (reconnect : Bool) (h g : List ServerEvent) → IsLive most now c g
+    → Settled most now (onto (standing_on s (record { now = now; lane = lane; request = r }) c reconnect h) g)
+stands {most} now lane c r s reconnect h g live =
     let x : List ServerEvent = onto (connecting s c reconnect h ++ attaching c now h) g in
-    let begun : IsLive now c x = begins now c s reconnect h g live in
+    let begun : IsLive most now c x = begins now c s reconnect h g live in
     let reply = replying lane (socket_reply r.upgrade) h in
-    in_turn (Settled now) (connecting s c reconnect h ++ attaching c now h) (Notes (Socketed c lane now) ∷ reply) g
+    in_turn (Settled most now) (connecting s c reconnect h ++ attaching c now h) (Notes (Socketed c lane now) ∷ reply) g
     (quiet_settled now reply (Notes (Socketed c lane now) ∷ x) (replying_quiet lane (socket_reply r.upgrade) h)
     (socketing now c x begun.0 begun.1 lane).settled)
 
@@ -156,7 +157,7 @@ shuts_some : (o : Option ℕ) (h : List ServerEvent) → AreQuiet (shutting_some
 shuts_some None h = tt
 shuts_some (Some lane) h = shutting_quiet lane h
 
-poll_ends : (c now : ℕ) (o : Option (ℕ × ℕ)) (h : List ServerEvent) → Keeps now c (ending_poll c now o h)
+poll_ends : {most : ℕ} (c now : ℕ) (o : Option (ℕ × ℕ)) (h : List ServerEvent) → Keeps most now c (ending_poll c now o h)
 poll_ends c now None h = keeps_none now c
 poll_ends c now (Some poll) h =
     keeps_both now c (replying poll.0 (bare_reply 204) h) (Notes (Answered c poll.0 now) ∷ [])
@@ -165,44 +166,73 @@ poll_ends c now (Some poll) h =
 closes : (c : ℕ) (why : Reason) (h : List ServerEvent) → AreQuiet (closing c why h)
 closes c why h = either_way AreQuiet (is_up c h) _ [] (tt, tt) tt
 
-module _ (s : Setup) (now lane : ℕ) (r : Request) (drawn : Option (List ℕ)) (c : ℕ) (h : List ServerEvent) (ok : Settled now h) where
-  deletes : Known c (notes h) → Settled now (onto (ending_held c now h ++ closing c reason.Done h ++ removing_conn c h ++ replying lane (bare_reply 202) h) h)
+-- after one gave way there is room, unless the server is busy
+pub gave_way : (s : Setup) (now : ℕ) (h : List ServerEvent) → Settled s.live now h → Settled s.live now (onto (giving_way s now h) h)
+gave_way s now h ok =
+    either_room (Settled s.live now) (gives_way s.live now (notes h)) h h ok
+    (λ c e. (fits_leaving now c h h ok (known_of_life c now (notes h) (unused s.live now (notes h) c e).known) refl).settled)
+
+abbrev Room : Setup → ℕ → List ServerEvent → Type 0
+Room s now g = HasRoom s.live now (suc (made (notes g))) (notes g)
+
+room_for_next : (s : Setup) (now : ℕ) (h : List ServerEvent) → Settled s.live now h → is_busy s.live now (notes h) ≡ false
+    → Room s now (onto (giving_way s now h) h)
+room_for_next s now h ok free = by (gives_way s.live now (notes h)) refl where
+  few : made (notes h) < most_connections
+  few = not_last s.live now (notes h) free
+
+  by : (o : Option ℕ) → gives_way s.live now (notes h) ≡ o → Room s now (onto (removing_some o h) h)
+  by None e = record { next = refl; not_full = has_room s.live now (notes h) free e; not_last = few }
+  by (Some c) e =
+      let room = makes_room s.live now (notes h) ok.in_order ok.not_later c e in
+      removed_so (Room s now) c h h (record { next = refl; not_full = room; not_last = few }) (record { next = refl; not_full = room; not_last = few })
+
+module _ (s : Setup) (now lane : ℕ) (r : Request) (drawn : Option (List ℕ)) (c : ℕ) (h : List ServerEvent) (ok : Settled s.live now h) where
+  deletes : Known c (notes h) → Settled s.live now (onto (ending_held c now h ++ closing c reason.Done h ++ removing_conn c h ++ replying lane (bare_reply 202) h) h)
   deletes k =
       let ended : List ServerEvent = ending_held c now h ++ closing c reason.Done h in
-      let keeps : Keeps now c ended
+      let keeps : Keeps s.live now c ended
       = keeps_both now c (ending_held c now h) (closing c reason.Done h) (poll_ends c now (poll_of c (notes h)) h)
       (keeps_quiet now c (closing c reason.Done h) (closes c reason.Done h)) in
-      let left : Parted now c h (onto (ended ++ removing_conn c h) h) = fits_after now c h ended (removing_conn c h) keeps (fits_leaving now c h) h ok k refl in
-      in_turn (Settled now) (ended ++ removing_conn c h) (replying lane (bare_reply 202) h) h
+      let left : Parted s.live now c h (onto (ended ++ removing_conn c h) h) = fits_after now c h ended (removing_conn c h) keeps (fits_leaving now c h) h ok k refl in
+      in_turn (Settled s.live now) (ended ++ removing_conn c h) (replying lane (bare_reply 202) h) h
       (quiet_settled now (replying lane (bare_reply 202) h) (onto (ended ++ removing_conn c h) h) (replying_quiet lane (bare_reply 202) h) left.settled)
 
-  request_settled : (life : Life) (busy : Bool) → (is_known life ≡ true → Known c (notes h)) → (busy ≡ false → is_busy now (notes h) ≡ false)
+  request_settled : (life : Life) (busy : Bool) → (is_known life ≡ true → Known c (notes h)) → (busy ≡ false → is_busy s.live now (notes h) ≡ false)
       → (out : Outcome) → IsRight life busy out → (fed : List ServerEvent)
       → IsFed now (request_plan s (record { now = now; lane = lane; request = r }) drawn c h out).food
       (onto (request_plan s (record { now = now; lane = lane; request = r }) drawn c h out).first h) fed
-      → Settled now (onto (request_plan s (record { now = now; lane = lane; request = r }) drawn c h out).last fed)
+      → Settled s.live now (onto (request_plan s (record { now = now; lane = lane; request = r }) drawn c h out).last fed)
   request_settled life busy known room (Refusal status) right fed e =
-      subst (Settled now) (sym e) (quiet_settled now (replying lane (bare_reply status) h) h (replying_quiet lane (bare_reply status) h) ok)
+      subst (Settled s.live now) (sym e) (quiet_settled now (replying lane (refusal_reply s.base r status) h) h (replying_quiet lane (refusal_reply s.base r status) h) ok)
   request_settled life busy known room (NewToken reconnect) right fed e =
-      let k : ℕ = suc (made (notes h)) in
+      let g : List ServerEvent = onto (giving_way s now h) h in
+      let k : ℕ = suc (made (notes g)) in
       let token : List ℕ = token_of (unwrap_or drawn []) k in
-      subst (Settled now) (sym e)
-      (quiet_settled now (replying lane (token_reply (negotiate_body k token reconnect)) h) (Notes (Negotiated k token reconnect now) ∷ h)
-      (replying_quiet lane (token_reply (negotiate_body k token reconnect)) h) (negotiating now h ok (room right) token reconnect))
+      let reply : List ServerEvent = replying lane (token_reply (negotiate_body k token reconnect)) g in
+      subst (Settled s.live now) (sym e)
+      (in_turn (Settled s.live now) (giving_way s now h) (Notes (Negotiated k token reconnect now) ∷ reply) h
+      (quiet_settled now reply (Notes (Negotiated k token reconnect now) ∷ g) (replying_quiet lane (token_reply (negotiate_body k token reconnect)) g)
+      (negotiating now g (gave_way s now h ok) (room_for_next s now h ok (room right)) token reconnect)))
   request_settled life busy known room PlainSocket right fed e =
-      let k : ℕ = suc (made (notes h)) in
-      subst (Settled now) (sym e)
-      (stands now lane k r s false (Notes (Opened k now) ∷ h) (Notes (Opened k now) ∷ h) (opening now h ok (room right), opened_known now h ok (room right)))
+      let g : List ServerEvent = onto (giving_way s now h) h in
+      let k : ℕ = suc (made (notes g)) in
+      let x : List ServerEvent = Notes (Opened k now) ∷ g in
+      let ok_g = gave_way s now h ok in
+      let free = room_for_next s now h ok (room right) in
+      subst (Settled s.live now) (sym e)
+      (in_turn (Settled s.live now) (giving_way s now h) (Notes (Opened k now) ∷ standing_on s (record { now = now; lane = lane; request = r }) k false x) h
+      (stands now lane k r s false x x (opening now g ok_g free, opened_known now g ok_g free)))
   request_settled life busy known room TokenSocket right fed e =
       let shut : List ServerEvent = shutting_some (socket_of c (notes h)) h in
-      let after_it : Lively now c h (onto shut h) = quiet_lively now c shut h (shuts_some (socket_of c (notes h)) h) ok (known right) in
-      subst (Settled now) (sym e)
-      (in_turn (Settled now) shut (standing_on s (record { now = now; lane = lane; request = r }) c (is_resumable_promise c (notes h)) h) h
+      let after_it : Lively s.live now c h (onto shut h) = quiet_lively now c shut h (shuts_some (socket_of c (notes h)) h) ok (known right) in
+      subst (Settled s.live now) (sym e)
+      (in_turn (Settled s.live now) shut (standing_on s (record { now = now; lane = lane; request = r }) c (is_resumable_promise c (notes h)) h) h
       (stands now lane c r s (is_resumable_promise c (notes h)) h (onto shut h) (after_it.settled, after_it.known)))
   request_settled life busy known room FirstPoll right fed e =
       let begun : List ServerEvent = onto (connecting s c false h ++ attaching c now h) h in
-      let live : IsLive now c begun = begins now c s false h h (ok, known right) in
-      let ate : Settled now fed = fed_settled now (Some (c, [])) begun fed e live.0 in
+      let live : IsLive s.live now c begun = begins now c s false h h (ok, known right) in
+      let ate : Settled s.live now fed = fed_settled now (Some (c, [])) begun fed e live.0 in
       let still : Known c (notes fed) = subst (Known c) (sym (fed_notes now (Some (c, [])) begun fed e)) live.1 in
       let polls = polling now c fed ate still lane in
       let answers = answering now c (Notes (Polled c lane now) ∷ fed) polls.settled polls.known lane in
@@ -210,14 +240,14 @@ module _ (s : Setup) (now lane : ℕ) (r : Request) (drawn : Option (List ℕ)) 
       (replying_quiet lane (bare_reply 200) h) answers.settled
   request_settled life busy known room NextPoll right fed e =
       let begun : List ServerEvent = onto (ending_held c now h) h in
-      let live : Lively now c h begun = poll_ends c now (poll_of c (notes h)) h h ok (known right) in
-      let ate : Settled now fed = fed_settled now (Some (c, [])) begun fed e live.settled in
+      let live : Lively s.live now c h begun = poll_ends c now (poll_of c (notes h)) h h ok (known right) in
+      let ate : Settled s.live now fed = fed_settled now (Some (c, [])) begun fed e live.settled in
       let still : Known c (notes fed) = subst (Known c) (sym (fed_notes now (Some (c, [])) begun fed e)) live.known in
       (polling now c fed ate still lane).settled
-  request_settled life busy known room LastPoll right fed e = subst (Settled now) (sym e) (polling now c h ok (known right) lane).settled
+  request_settled life busy known room LastPoll right fed e = subst (Settled s.live now) (sym e) (polling now c h ok (known right) lane).settled
   request_settled life busy known room Posting right fed e =
       quiet_settled now (replying lane (bare_reply 200) h) fed (replying_quiet lane (bare_reply 200) h) (fed_settled now (Some (c, r.body)) h fed e ok)
-  request_settled life busy known room Deletion right fed e = subst (Settled now) (sym e) (deletes (known right))
+  request_settled life busy known room Deletion right fed e = subst (Settled s.live now) (sym e) (deletes (known right))
 
 -- the connection that is named is known if its life is
 pub named_known : (o : Option ℕ) (now : ℕ) (h : List ServerEvent) → is_known (life_of_some o now (notes h)) ≡ true → Known (unwrap_or o 0) (notes h)
@@ -233,12 +263,12 @@ found_in p (x ∷ xs) c e = by (p x) e (found_in p xs c) where
   by true f further = let here : c ≡ x = cc in or_left (c == x) (is_in c xs) (eq-eqb c x here)
   by false f further = or_right (c == x) (is_in c xs) (further f)
 
-found_known : (now : ℕ) (h : List ServerEvent) → Settled now h → (p : ℕ → Bool) (c : ℕ) → find p (connections (work h)) ≡ Some c → Known c (notes h)
+found_known : {most : ℕ} (now : ℕ) (h : List ServerEvent) → Settled most now h → (p : ℕ → Bool) (c : ℕ) → find p (connections (work h)) ≡ Some c → Known c (notes h)
 found_known now h ok p c e =
     ok.peers c (passes (λ k. is_there k (work h)) c (numbers_to (greatest (work h))) (found_in p (connections (work h)) c e))
 
-module _ (now lane : ℕ) (h : List ServerEvent) (ok : Settled now h) where
-  losing_settled : (a b : Option ℕ) → conn_on lane h ≡ a → poller_on lane h ≡ b → Settled now (onto (losing_lane a b lane now h) h)
+module _ {most : ℕ} (now lane : ℕ) (h : List ServerEvent) (ok : Settled most now h) where
+  losing_settled : (a b : Option ℕ) → conn_on lane h ≡ a → poller_on lane h ≡ b → Settled most now (onto (losing_lane a b lane now h) h)
   losing_settled (Some c) b e f =
       let k : Known c (notes h) = found_known now h ok (λ c. is_this lane (socket_of c (notes h))) c e in
       (fits_after now c h (step c (Detached now) ∷ []) (losing c lane now h)
@@ -250,16 +280,16 @@ module _ (now lane : ℕ) (h : List ServerEvent) (ok : Settled now h) where
 
 -- ---- any event
 
-pub plan_settled : (s : Setup) (now : ℕ) (e : Event) (name : Option (Option (List ℕ))) (drawn : Option (List ℕ)) (h fed : List ServerEvent) → Settled now h
-    → IsFed now (plan s now e name drawn h).food (onto (plan s now e name drawn h).first h) fed → Settled now (onto (plan s now e name drawn h).last fed)
+pub plan_settled : (s : Setup) (now : ℕ) (e : Event) (name : Option (Option (List ℕ))) (drawn : Option (List ℕ)) (h fed : List ServerEvent) → Settled s.live now h
+    → IsFed now (plan s now e name drawn h).food (onto (plan s now e name drawn h).first h) fed → Settled s.live now (onto (plan s now e name drawn h).last fed)
 plan_settled s now (event.Request lane r) name drawn h fed ok e =
     let f : Facts = facts s now r name (not (is_some drawn)) h in
     request_settled s now lane r drawn (unwrap_or (named_conn r h) 0) h ok f.life f.busy
     (named_known (named_conn r h) now h) (λ room. room) (outcome s.base r f) (outcome_right s.base r f) fed e
 plan_settled s now (event.Bytes lane bytes) name drawn h fed ok e = fed_settled now (option_map (λ c. (c, bytes)) (conn_on lane h)) h fed e ok
 plan_settled s now (event.Lost lane) name drawn h fed ok e =
-    subst (Settled now) (sym e) (losing_settled now lane h ok (conn_on lane h) (poller_on lane h) refl refl)
-plan_settled s now heard name drawn h fed ok e = subst (Settled now) (sym e) ok
+    subst (Settled s.live now) (sym e) (losing_settled now lane h ok (conn_on lane h) (poller_on lane h) refl refl)
+plan_settled s now heard name drawn h fed ok e = subst (Settled s.live now) (sym e) ok
 
 -- ---- questions
 
@@ -273,6 +303,6 @@ asks s now (event.Request lane r) name drawn h =
     quiet_both (learning (asks_keeper s.base r) name) _ (learns (asks_keeper s.base r) name) (either_way AreQuiet (asks_lots s now r name h) _ [] (tt, tt) tt)
 asks s now e name drawn h = tt
 
-pub asked_settled : (s : Setup) (now : ℕ) (e : Event) (name : Option (Option (List ℕ))) (drawn : Option (List ℕ)) (h : List ServerEvent) → Settled now h
-    → Settled now (onto (questions s now e name drawn h) h)
+pub asked_settled : {most : ℕ} (s : Setup) (now : ℕ) (e : Event) (name : Option (Option (List ℕ))) (drawn : Option (List ℕ)) (h : List ServerEvent) → Settled most now h
+    → Settled most now (onto (questions s now e name drawn h) h)
 asked_settled s now e name drawn h ok = quiet_settled now (questions s now e name drawn h) h (asks s now e name drawn h) ok

@@ -12,14 +12,14 @@ use Rattle.hd_server.specs.Lives.{Opened, is_known, is_polling, life_of, life_of
 use Rattle.hd_server.specs.Table.{outcome}
 use Rattle.hd_server.specs.Machine.{Rounds, connections, has_gone, settings_of}
 use Rattle.hd_server.specs.Doings.{ServerEvent, Hears, Works, notes, work, moment, has_peer}
-use Rattle.hd_server.specs.Plans.{Setup, onto, expiries, questions, conn_on, poller_on, losing_lane, named_conn, facts, plan}
+use Rattle.hd_server.specs.Plans.{Setup, onto, expiries, questions, conn_on, poller_on, losing_lane, named_conn, facts, plan, giving_way}
 use Rattle.hd_server.specs.Serves.{IsFed, IsFree, IsTurn, Serves, ticks, all_flushing}
 use Rattle.hd_server.specs.Laws.{EachRequestIsAnswered}
 use Rattle.hd_server.proofs.Flushing.{is_in}
 use Rattle.hd_server.proofs.OrderlyNotes.{Known, known_of_life, once_opened, within}
 use Rattle.hd_server.proofs.OrderlyDoings.{Settled, AreQuiet}
 use Rattle.hd_server.proofs.OrderlyExpiries.{expired_settled}
-use Rattle.hd_server.proofs.OrderlyPlans.{asks, asked_settled, named_known, plan_settled}
+use Rattle.hd_server.proofs.OrderlyPlans.{asks, asked_settled, named_known, plan_settled, gave_way}
 use Rattle.hd_server.proofs.Orderly.{nothing_done, round_quiet}
 use Rattle.hd_server.proofs.RepliesSent.{outcome_sent}
 use Rattle.hd_server.proofs.RepliesLanes.{Holds, calm_onto}
@@ -44,7 +44,7 @@ clashes b e f = absurd (let z : false ≡ true = sym e ∙ f in cc)
 
 -- ---- what is known where no moment has come unnoted
 
-module _ (now : ℕ) (h : List ServerEvent) (ok : Settled now h) (both : (k : ℕ) → Both k h) where
+module _ {most : ℕ} (now : ℕ) (h : List ServerEvent) (ok : Settled most now h) (both : (k : ℕ) → Both k h) where
   life_is : (c : ℕ) → life_of c now (notes h) ≡ standing c (notes h)
   life_is c = ap (λ b. if b then past (standing c (notes h)) else standing c (notes h)) (ok.young c)
 
@@ -73,9 +73,6 @@ module _ (now : ℕ) (h : List ServerEvent) (ok : Settled now h) (both : (k : �
       let blank = (both k).0.unmade (omega arith) in
       (none_of (socket_of k (notes h)) (λ e. clashes (is_some (socket_of k (notes h))) blank.stands_not e), not_polling k blank.no_poll)
 
-  new_known : Known (suc (made (notes h))) (Opened (suc (made (notes h))) now ∷ notes h)
-  new_known = once_opened (suc (made (notes h))) (notes h) now (ok.made_first (suc (made (notes h))) (omega arith))
-
   named_is : (o : Option ℕ) → Named (unwrap_or o 0) (life_of_some o now (notes h)) h
   named_is None = record {
     never_begun = λ k e. absurd (let z : false ≡ true = k in cc);
@@ -98,7 +95,7 @@ module _ (now : ℕ) (h : List ServerEvent) (ok : Settled now h) (both : (k : �
   needs : (e : Event) → Seating e h → Needs now e h
   needs (event.Request lane r) seats = named_is (named_conn r h)
   needs (event.Lost lane) seats = record { among = all_among now h ok; clash = seats.clash }
-  needs (event.Refused lane status) seats = tt
+  needs (event.Refused lane refusal) seats = tt
   needs (event.Bytes lane bytes) seats = tt
   needs (event.Response lane status body) seats = tt
   needs (event.Upgraded lane) seats = tt
@@ -109,10 +106,10 @@ module _ (now : ℕ) (h : List ServerEvent) (ok : Settled now h) (both : (k : �
   lived : (o : Option ℕ) → is_known (life_of_some o now (notes h)) ≡ true
       → (standing (unwrap_or o 0) (notes h) ≡ life_of_some o now (notes h)) × (unwrap_or o 0 ≤ made (notes h))
   lived None k = absurd (let z : false ≡ true = k in cc)
-  lived (Some c) k = (sym (life_is c), (within (notes h) ok.in_order c (known_of_life c now (notes h) k)).1)
+  lived (Some c) k = (sym (life_is c), (within most (notes h) ok.in_order c (known_of_life c now (notes h) k)).1)
 
   known_on : (c : ℕ) → is_in c (connections (work h)) ≡ true → Known c (notes h) × (c ≤ made (notes h))
-  known_on c i = let u = ok.peers c (there_of h c i) in (u, (within (notes h) ok.in_order c u).1)
+  known_on c i = let u = ok.peers c (there_of h c i) in (u, (within most (notes h) ok.in_order c u).1)
 
   losing_own : (lane : ℕ) (a b : Option ℕ) → conn_on lane h ≡ a → poller_on lane h ≡ b → (k : ℕ) → Own k (onto (losing_lane a b lane now h) h)
   losing_own lane (Some c) b e f k =
@@ -123,25 +120,32 @@ module _ (now : ℕ) (h : List ServerEvent) (ok : Settled now h) (both : (k : �
       poll_loses_own c lane now h known.0 known.1 (λ j. (both j).0) k
   losing_own lane None None e f k = (both k).0
 
-  handled_own : (s : Setup) (e : Event) (name : Option (Option (List ℕ))) (drawn : Option (List ℕ)) (fed : List ServerEvent)
+  -- the next connection is known once it is opened, also after one gave way
+  new_known : (s : Setup) → s.live ≡ most → let g = onto (giving_way s now h) h in Known (suc (made (notes g))) (Opened (suc (made (notes g))) now ∷ notes g)
+  new_known s same =
+      let g : List ServerEvent = onto (giving_way s now h) h in
+      let ok_g = gave_way s now h (subst (λ m. Settled m now h) (sym same) ok) in
+      once_opened (suc (made (notes g))) (notes g) now (ok_g.made_first (suc (made (notes g))) (omega arith))
+
+  handled_own : (s : Setup) → s.live ≡ most → (e : Event) (name : Option (Option (List ℕ))) (drawn : Option (List ℕ)) (fed : List ServerEvent)
       → IsFed now (plan s now e name drawn h).food (onto (plan s now e name drawn h).first h) fed
       → (k : ℕ) → Own k (onto (plan s now e name drawn h).last fed)
-  handled_own s (event.Request lane r) name drawn fed e k =
+  handled_own s same (event.Request lane r) name drawn fed e k =
       let f = facts s now r name (not (is_some drawn)) h in
-      request_own s now lane r drawn (unwrap_or (named_conn r h) 0) h (λ j. (both j).0) new_known f.life (lived (named_conn r h))
+      request_own s now lane r drawn (unwrap_or (named_conn r h) 0) h (λ j. (both j).0) (new_known s same) f.life (lived (named_conn r h))
       (outcome s.base r f) (outcome_sent s.base r f) fed e k
-  handled_own s (event.Lost lane) name drawn fed e k = subst (Own k) (sym e) (losing_own lane (conn_on lane h) (poller_on lane h) refl refl k)
-  handled_own s (event.Bytes lane bytes) name drawn fed e k = all_fed now _ h fed e (λ j. (both j).0) k
-  handled_own s (event.Refused lane status) name drawn fed e k = subst (Own k) (sym e) (both k).0
-  handled_own s (event.Response lane status body) name drawn fed e k = subst (Own k) (sym e) (both k).0
-  handled_own s (event.Upgraded lane) name drawn fed e k = subst (Own k) (sym e) (both k).0
-  handled_own s event.Quiet name drawn fed e k = subst (Own k) (sym e) (both k).0
+  handled_own s same (event.Lost lane) name drawn fed e k = subst (Own k) (sym e) (losing_own lane (conn_on lane h) (poller_on lane h) refl refl k)
+  handled_own s same (event.Bytes lane bytes) name drawn fed e k = all_fed now _ h fed e (λ j. (both j).0) k
+  handled_own s same (event.Refused lane refusal) name drawn fed e k = subst (Own k) (sym e) (both k).0
+  handled_own s same (event.Response lane status body) name drawn fed e k = subst (Own k) (sym e) (both k).0
+  handled_own s same (event.Upgraded lane) name drawn fed e k = subst (Own k) (sym e) (both k).0
+  handled_own s same event.Quiet name drawn fed e k = subst (Own k) (sym e) (both k).0
 
 -- ---- a turn
 
 -- what holds between events
-record Whole (h : List ServerEvent) : Type 0 where
-  sound : Sound h
+record Whole (most : ℕ) (h : List ServerEvent) : Type 0 where
+  sound : Sound most h
   seats : Seats None None h
 
 hears_alike : (k now : ℕ) (e : Event) (h : List ServerEvent) → Alike k h (Hears now e ∷ h)
@@ -149,24 +153,24 @@ hears_alike k now e h =
     record { same_notes = (alike_same k h).same_notes; more = omega arith; same_settings = refl; same_gone = refl; closed_still = λ f. f }
 
 module _ {Job : Type 0} (hub : Hub Job) (s : Setup) (now : ℕ) (e : Event) (h after : List ServerEvent) (turn : IsTurn hub s now e h after)
-    (later : moment h ≤ now) (free : IsFree e h) (was : Whole h) where
+    (later : moment h ≤ now) (free : IsFree e h) (was : Whole s.live h) where
   abbrev heard : List ServerEvent
   heard = Hears now e ∷ h
 
-  expired_ok : Settled now turn.expired
+  expired_ok : Settled s.live now turn.expired
   expired_ok =
       let o = was.sound.ordered in
-      subst (Settled now) (sym turn.expires)
+      subst (Settled s.live now) (sym turn.expires)
       (expired_settled now heard o.in_order (let last = o.not_later in omega (arith, later, last)) refl o.peers o.made_first)
 
-  asked_ok : Settled now turn.asked
-  asked_ok = subst (Settled now) (sym turn.asks) (asked_settled s now e turn.name turn.drawn turn.expired expired_ok)
+  asked_ok : Settled s.live now turn.asked
+  asked_ok = subst (Settled s.live now) (sym turn.asks) (asked_settled s now e turn.name turn.drawn turn.expired expired_ok)
 
   fed_as : IsFed now (plan s now e turn.name turn.drawn turn.asked).food (onto (plan s now e turn.name turn.drawn turn.asked).first turn.asked) turn.fed
   fed_as = subst (λ begun. IsFed now (plan s now e turn.name turn.drawn turn.asked).food begun turn.fed) turn.begins turn.feeds
 
-  handled_ok : Settled now turn.handled
-  handled_ok = subst (Settled now) (sym turn.handles) (plan_settled s now e turn.name turn.drawn turn.asked turn.fed asked_ok fed_as)
+  handled_ok : Settled s.live now turn.handled
+  handled_ok = subst (Settled s.live now) (sym turn.handles) (plan_settled s now e turn.name turn.drawn turn.asked turn.fed asked_ok fed_as)
 
   asked_both : (k : ℕ) → Both k turn.asked
   asked_both k =
@@ -208,7 +212,7 @@ module _ {Job : Type 0} (hub : Hub Job) (s : Setup) (now : ℕ) (e : Event) (h a
       (handled_lanes s now e turn.name turn.drawn turn.asked turn.fed asked_hearing (needs now turn.asked asked_ok asked_both e asked_seating) fed_as)
 
   own_handled : (k : ℕ) → Own k turn.handled
-  own_handled k = subst (Own k) (sym turn.handles) (handled_own now turn.asked asked_ok asked_both s e turn.name turn.drawn turn.fed fed_as k)
+  own_handled k = subst (Own k) (sym turn.handles) (handled_own now turn.asked asked_ok asked_both s refl e turn.name turn.drawn turn.fed fed_as k)
 
   seats_after : Seats None None after
   seats_after =
@@ -231,12 +235,12 @@ module _ {Job : Type 0} (hub : Hub Job) (s : Setup) (now : ℕ) (e : Event) (h a
       (less_seats None None turn.stepped (onto told turn.stepped)
       (less_onto told turn.stepped (all_less s now (connections (work turn.stepped)) turn.pieces turn.stepped)) stepped)
 
-  whole_after : Whole after
+  whole_after : Whole s.live after
   whole_after = record { sound = sound_after hub s now e h after turn handled_ok lanes_handled own_handled; seats = seats_after }
 
 -- ---- the whole of it
 
-nothing_whole : Whole []
+nothing_whole : {most : ℕ} → Whole most []
 nothing_whole = record {
   sound = record {
     lanes = record {
@@ -268,8 +272,8 @@ nothing_whole = record {
   };
 }
 
-whole : {Job : Type 0} → (hub : Hub Job) (s : Setup) (es : List Heard) (h : List ServerEvent) → Serves hub s es h → Whole h
-whole hub s [] h e = subst Whole (sym e) nothing_whole
+whole : {Job : Type 0} → (hub : Hub Job) (s : Setup) (es : List Heard) (h : List ServerEvent) → Serves hub s es h → Whole s.live h
+whole hub s [] h e = subst (Whole s.live) (sym e) nothing_whole
 whole hub s (e ∷ es) h (before, serves, may, turn) =
     whole_after hub s e.now e.event before h turn may.0 may.1 (whole hub s es before serves)
 

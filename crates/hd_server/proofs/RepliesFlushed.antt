@@ -10,13 +10,13 @@ use Rattle.hd_server.specs.Numbers.{held_for}
 use Rattle.hd_server.specs.Lives.{Answered, Ended, Removed, is_polling, ended_at, socket_of, poll_of}
 use Rattle.hd_server.specs.Machine.{Goes, settings_of, has_gone}
 use Rattle.hd_server.specs.Doings.{ServerEvent, Notes, Works, Says, notes, work, has_peer, has_closed}
-use Rattle.hd_server.specs.Plans.{Setup, onto, removing_conn, shutting, replying, bare_reply, frames_reply}
+use Rattle.hd_server.specs.Plans.{Setup, onto, removing_conn, shutting, ends_lane, reply_on, shutting_after, replying, bare_reply, frames_reply}
 use Rattle.hd_server.specs.Serves.{lending, writing, all_of, bytes_of, flushing_socket, flushing_poll, flushing_some_poll, ending, flushing_without, flushing_on, flushing, all_flushing}
 use Rattle.hd_server.proofs.Flushing.{is_in, AreApart, Same, all_same, flushing_tells}
 use Rattle.hd_server.proofs.OrderlyDoings.{in_turn, either_way}
 use Rattle.hd_server.proofs.OrderlyEach.{is_other}
-use Rattle.hd_server.proofs.RepliesSent.{bare_sent, frames_sent, plain_200, plain_204}
-use Rattle.hd_server.proofs.RepliesLanes.{Holds, calm_then, calm_holds, AreCalm, calm_onto, calm_both, shutting_calm, letting_calm, shutting_after, shutting_after_calm, answered, parted}
+use Rattle.hd_server.proofs.RepliesSent.{bare_sent, frames_sent, plain_200, plain_204, sent_on}
+use Rattle.hd_server.proofs.RepliesLanes.{Holds, calm_then, calm_holds, AreCalm, calm_onto, calm_both, shutting_calm, letting_calm, shutting_after_calm, answered, parted}
 
 -- ---- one that goes has no peer
 
@@ -33,8 +33,7 @@ left_alone c h g same = by (has_peer c h) same where
 -- a reply and the end of its lane tell of no peer
 shut_peer : (c lane : ℕ) (reply : Reply) (h g : List ServerEvent) → has_peer c (onto (shutting_after lane reply h) g) ≡ has_peer c g
 shut_peer c lane reply h g =
-    either_way (λ ds. has_peer c (onto ds g) ≡ has_peer c g) _ (shutting lane h) []
-    (either_way (λ ds. has_peer c (onto ds g) ≡ has_peer c g) _ [] (Says (say.Shut lane) ∷ []) refl refl) refl
+    either_way (λ ds. has_peer c (onto ds g) ≡ has_peer c g) (ends_lane lane reply.status h) (Says (say.Shut lane) ∷ []) [] refl refl
 
 -- the poll is answered, and that is noted
 pub answers_held : (asks : Option ℕ) (c : ℕ) (poll : ℕ × ℕ) (now : ℕ) (h g : List ServerEvent) → Holds asks None g → has_peer c g ≡ true
@@ -42,20 +41,21 @@ pub answers_held : (asks : Option ℕ) (c : ℕ) (poll : ℕ × ℕ) (now : ℕ)
     → Holds asks None (onto (replying poll.0 reply h ++ Notes (Answered c poll.0 now) ∷ []) g)
 answers_held asks c poll now h g ok there mine reply sent =
     in_turn (Holds asks None) (replying poll.0 reply h) (Notes (Answered c poll.0 now) ∷ []) g
-    (answered asks None g ok c poll.0 poll.1 there mine refl reply sent (onto (shutting_after poll.0 reply h) (Says (say.Reply poll.0 reply) ∷ g))
-    (calm_onto (shutting_after poll.0 reply h) (Says (say.Reply poll.0 reply) ∷ g) (shutting_after_calm poll.0 reply h)) now)
+    (let x : List ServerEvent = Says (say.Reply poll.0 (reply_on poll.0 reply h)) ∷ g in
+    answered asks None g ok c poll.0 poll.1 there mine refl (reply_on poll.0 reply h) (sent_on poll.0 reply h sent)
+    (onto (shutting_after poll.0 reply h) x) (calm_onto (shutting_after poll.0 reply h) x (shutting_after_calm poll.0 reply h)) now)
 
 -- the poll is answered, and the connection goes
 answers_leaving : (asks : Option ℕ) (c : ℕ) (poll : ℕ × ℕ) (h g : List ServerEvent) → Holds asks None g → has_peer c g ≡ true → has_peer c h ≡ true
     → poll_of c (notes g) ≡ Some poll → (reply : Reply) → IsReply reply
     → Holds asks None (onto (replying poll.0 reply h ++ removing_conn c h) g)
 answers_leaving asks c poll h g ok there was mine reply sent =
-    let x : List ServerEvent = Says (say.Reply poll.0 reply) ∷ g in
+    let x : List ServerEvent = Says (say.Reply poll.0 (reply_on poll.0 reply h)) ∷ g in
     let y : List ServerEvent = onto (shutting_after poll.0 reply h) x in
     let to_y = calm_onto (shutting_after poll.0 reply h) x (shutting_after_calm poll.0 reply h) in
     let to_z = calm_onto (removing_conn c h) y (letting_calm c h) in
     in_turn (Holds asks None) (replying poll.0 reply h) (removing_conn c h) g
-    (parted asks None g ok c poll.0 poll.1 there mine refl reply sent (onto (removing_conn c h) y) (calm_then x y (onto (removing_conn c h) y) to_y to_z)
+    (parted asks None g ok c poll.0 poll.1 there mine refl (reply_on poll.0 reply h) (sent_on poll.0 reply h sent) (onto (removing_conn c h) y) (calm_then x y (onto (removing_conn c h) y) to_y to_z)
     (left_alone c h y (shut_peer c poll.0 reply h x ∙ there ∙ sym was)))
 
 -- ---- what one connection says

@@ -23,7 +23,7 @@ Hearing _ h = Holds None None h
 pub hearing_calm : (e : Event) (g x : List ServerEvent) → Calm g x → Hearing e g → Hearing e x
 hearing_calm (event.Request lane r) g x a ok = calm_holds (Some lane) None g x a ok
 hearing_calm (event.Lost lane) g x a ok = (a.same_waits lane ∙ ok.0, calm_holds None (Some lane) g x a ok.1)
-hearing_calm (event.Refused lane status) g x a ok = calm_holds None None g x a ok
+hearing_calm (event.Refused lane refusal) g x a ok = calm_holds None None g x a ok
 hearing_calm (event.Bytes lane bytes) g x a ok = calm_holds None None g x a ok
 hearing_calm (event.Response lane status body) g x a ok = calm_holds None None g x a ok
 hearing_calm (event.Upgraded lane) g x a ok = calm_holds None None g x a ok
@@ -44,7 +44,7 @@ handled_lanes s now (event.Request lane r) name drawn h fed ok n e =
 handled_lanes s now (event.Lost lane) name drawn h fed ok n e =
     subst (Holds None None) (sym e) (lost_holds now lane h n ok.0 ok.1 (conn_on lane h) (poller_on lane h) refl refl)
 handled_lanes s now (event.Bytes lane bytes) name drawn h fed ok n e = calm_holds None None h fed (fed_calm now _ h fed e) ok
-handled_lanes s now (event.Refused lane status) name drawn h fed ok n e = subst (Holds None None) (sym e) ok
+handled_lanes s now (event.Refused lane refusal) name drawn h fed ok n e = subst (Holds None None) (sym e) ok
 handled_lanes s now (event.Response lane status body) name drawn h fed ok n e = subst (Holds None None) (sym e) ok
 handled_lanes s now (event.Upgraded lane) name drawn h fed ok n e = subst (Holds None None) (sym e) ok
 handled_lanes s now event.Quiet name drawn h fed ok n e = subst (Holds None None) (sym e) ok
@@ -56,7 +56,7 @@ pub heard_lanes : (now : ℕ) (e : Event) (g : List ServerEvent) → IsFree e g 
 heard_lanes now (event.Request lane r) g free ok = hears_request now lane r g free.1 ok
 heard_lanes now (event.Lost lane) g free ok =
     (ap (λ b. if b then false else awaits_reply lane g) (eq-eqb lane lane refl), hears_lost now lane g ok)
-heard_lanes now (event.Refused lane status) g free ok = calm_holds None None g _ (hears_calm now (event.Refused lane status) g (λ l. refl)) ok
+heard_lanes now (event.Refused lane refusal) g free ok = calm_holds None None g _ (hears_calm now (event.Refused lane refusal) g (λ l. refl)) ok
 heard_lanes now (event.Bytes lane bytes) g free ok = calm_holds None None g _ (hears_calm now (event.Bytes lane bytes) g (λ l. refl)) ok
 heard_lanes now (event.Response lane status body) g free ok = calm_holds None None g _ (hears_calm now (event.Response lane status body) g (λ l. refl)) ok
 heard_lanes now (event.Upgraded lane) g free ok = calm_holds None None g _ (hears_calm now (event.Upgraded lane) g (λ l. refl)) ok

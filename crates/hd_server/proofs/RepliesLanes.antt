@@ -9,8 +9,8 @@ use Rattle.hd_calls.specs.Peers.{PeerEvent}
 use Rattle.hd_server.specs.declared.vocabulary.Said.TheVariants as say
 use Rattle.hd_server.specs.Lives.{Negotiated, Opened, Socketed, Answered, Ended, Expired, Removed, poll_of}
 use Rattle.hd_server.specs.Machine.{Does, Rounds, Carries, Goes, settings_of, has_gone}
-use Rattle.hd_server.specs.Doings.{ServerEvent, Learns, Draws, Notes, Works, Says, notes, work, awaits_reply, wants_shut, was_refused, has_peer}
-use Rattle.hd_server.specs.Plans.{onto, dropping, removing_conn, shutting}
+use Rattle.hd_server.specs.Doings.{ServerEvent, Learns, Draws, Notes, Works, Says, notes, work, awaits_reply, was_refused, has_peer}
+use Rattle.hd_server.specs.Plans.{onto, dropping, removing_conn, shutting, ends_lane, shutting_after}
 use Rattle.hd_server.specs.Laws.{AreAwaited}
 use Rattle.hd_server.proofs.OrderlyDoings.{either_way}
 
@@ -134,13 +134,8 @@ pub moves_calm : (c : ℕ) (ms : List PeerEvent) → AreCalm (map (λ m. Works (
 moves_calm c [] = tt
 moves_calm c (m ∷ ms) = (tt, moves_calm c ms)
 
--- the end of a lane that is shut after its reply
-abbrev pub shutting_after : ℕ → Reply → List ServerEvent → List ServerEvent
-shutting_after lane reply h = if (reply.status == 400) || (wants_shut lane h && not (reply.status == 101)) then shutting lane h else []
-
 pub shutting_after_calm : (lane : ℕ) (reply : Reply) (h : List ServerEvent) → AreCalm (shutting_after lane reply h)
-shutting_after_calm lane reply h =
-    either_way AreCalm ((reply.status == 400) || (wants_shut lane h && not (reply.status == 101))) (shutting lane h) [] (shutting_calm lane h) tt
+shutting_after_calm lane reply h = either_way AreCalm (ends_lane lane reply.status h) (Says (say.Shut lane) ∷ []) [] (tt, tt) tt
 
 -- ---- a reply to a request that is answered just now
 

@@ -152,7 +152,7 @@ quiet_alike k (Works (Carries c j d fates ask)) g e = record {
   closed_still = λ f.
       let o : Option Settings = settings_of k (work g) in
       let m : List PeerEvent = with_fate d o (outcome_in k fates) (peer k g) in
-      either_shut o (k == c) (Answers j (answer_to ask)) m (fate_shut d o (outcome_in k fates) (peer k g) f);
+      either_shut o (k == c) (Answers j (answer_to c d ask (work g))) m (fate_shut d o (outcome_in k fates) (peer k g) f);
 }
 quiet_alike k d g e = absurd e
 

@@ -8,12 +8,12 @@ use Rattle.hd_delivery.specs.Histories.{Detached, first_of}
 use Rattle.hd_calls.specs.Peers.{Settings}
 use Rattle.hd_server.specs.declared.vocabulary.Life.{Life}
 use Rattle.hd_server.specs.declared.vocabulary.Life.TheVariants.{Unknown, Fresh, Socket, Lost, Polling, Ending}
-use Rattle.hd_server.specs.Lives.{Negotiated, Opened, Socketed, Polled, Answered, LaneLost, ended_at, is_known, is_removed, is_opened, is_polling, is_resumable_promise, lost_at, made, negotiated_at, poll_of, socket_of, standing, when}
+use Rattle.hd_server.specs.Lives.{Negotiated, Opened, Socketed, Polled, Answered, LaneLost, ended_at, gives_way, is_known, is_removed, is_opened, is_polling, is_resumable_promise, lost_at, made, negotiated_at, poll_of, socket_of, standing, when}
 use Rattle.hd_server.specs.Texts.{token_of, negotiate_body}
 use Rattle.hd_server.specs.Table.{Outcome, Refusal, NewToken, PlainSocket, TokenSocket, FirstPoll, NextPoll, LastPoll, Posting, Deletion}
 use Rattle.hd_server.specs.Machine.{Connects, settings_of, has_gone}
 use Rattle.hd_server.specs.Doings.{ServerEvent, Notes, Works, notes, work, user_of, has_peer, may_resume}
-use Rattle.hd_server.specs.Plans.{Setup, onto, step, connecting, attaching, closing, removing_conn, losing, peer_settings, bare_reply, socket_reply, token_reply, replying, ending_poll, ending_held, standing_on, shutting_some, request_plan}
+use Rattle.hd_server.specs.Plans.{Setup, onto, step, connecting, attaching, closing, removing_conn, losing, peer_settings, bare_reply, socket_reply, token_reply, refusal_reply, replying, ending_poll, ending_held, standing_on, shutting_some, request_plan, giving_way, removing_some}
 use Rattle.hd_server.specs.Serves.{IsFed}
 use Rattle.hd_server.proofs.Few.{standing_same}
 use Rattle.hd_server.proofs.OrderlyNotes.{Known, still_polled, still_answered}
@@ -21,6 +21,7 @@ use Rattle.hd_server.proofs.OrderlyDoings.{AreQuiet, in_turn, either_way, replyi
 use Rattle.hd_server.proofs.RepliesSent.{IsSent}
 use Rattle.hd_server.proofs.RepliesOwn.{Alike, AreOne, others_alike, quiet_onto, quiet_after, peer_alike, own_alike, Own, own_opened, own_negotiated, own_connects, own_socketed, own_polled, own_answered, own_lost}
 use Rattle.hd_server.proofs.RepliesPhases.{quiet_one, one_both, letting_one, removed_own, polls_of, fresh_of, ending_of, closing_quiet}
+use Rattle.hd_server.proofs.GivingWay.{either_room, removed_so, unused}
 
 -- a part of one connection, after which each holds what it held
 all_after : (c : ℕ) (ds g : List ServerEvent) → AreOne c ds → ((k : ℕ) → Own k g) → Own c (onto ds g) → (k : ℕ) → Own k (onto ds g)
@@ -180,30 +181,44 @@ poll_loses_own c lane now h known old all k =
 -- ---- a request
 
 module _ (s : Setup) (now lane : ℕ) (r : Request) (drawn : Option (List ℕ)) (c : ℕ) (h : List ServerEvent) (all : (k : ℕ) → Own k h)
-    (new_known : Known (suc (made (notes h))) (Opened (suc (made (notes h))) now ∷ notes h)) where
+    (new_known : let g = onto (giving_way s now h) h in Known (suc (made (notes g))) (Opened (suc (made (notes g))) now ∷ notes g)) where
+  -- after one gave way
+  gave_own : (k : ℕ) → Own k (onto (giving_way s now h) h)
+  gave_own =
+      either_room (λ g. (k : ℕ) → Own k g) (gives_way s.live now (notes h)) h h all
+      (λ gone e. all_after gone (removing_conn gone h) h (letting_one gone h) all
+      (removed_own gone h h (all gone) (unused s.live now (notes h) gone e).made_so.1))
+
   pub request_own : (life : Life) → (is_known life ≡ true → (standing c (notes h) ≡ life) × (c ≤ made (notes h)))
       → (out : Outcome) → IsSent r life out → (fed : List ServerEvent)
       → IsFed now (request_plan s (record { now = now; lane = lane; request = r }) drawn c h out).food
       (onto (request_plan s (record { now = now; lane = lane; request = r }) drawn c h out).first h) fed
       → (k : ℕ) → Own k (onto (request_plan s (record { now = now; lane = lane; request = r }) drawn c h out).last fed)
   request_own life named (Refusal status) right fed e k =
-      subst (Own k) (sym e) (all_quiet (replying lane (bare_reply status) h) h (replying_quiet lane (bare_reply status) h) all k)
+      subst (Own k) (sym e) (all_quiet (replying lane (refusal_reply s.base r status) h) h (replying_quiet lane (refusal_reply s.base r status) h) all k)
   request_own life named (NewToken reconnect) right fed e k =
-      let n : ℕ = suc (made (notes h)) in
+      let room : List ServerEvent = giving_way s now h in
+      let g : List ServerEvent = onto room h in
+      let n : ℕ = suc (made (notes g)) in
       let token : List ℕ = token_of (unwrap_or drawn []) n in
-      let x : List ServerEvent = Notes (Negotiated n token reconnect now) ∷ h in
+      let x : List ServerEvent = Notes (Negotiated n token reconnect now) ∷ g in
       let reply = token_reply (negotiate_body n token reconnect) in
       subst (Own k) (sym e)
-      (all_quiet (replying lane reply h) x (replying_quiet lane reply h)
-      (all_after n (Notes (Negotiated n token reconnect now) ∷ []) h (refl, tt) all (own_negotiated n h (all n) token reconnect now refl)) k)
+      (in_turn (Own k) room (Notes (Negotiated n token reconnect now) ∷ replying lane reply g) h
+      (all_quiet (replying lane reply g) x (replying_quiet lane reply g)
+      (all_after n (Notes (Negotiated n token reconnect now) ∷ []) g (refl, tt) gave_own (own_negotiated n g (gave_own n) token reconnect now refl)) k))
   request_own life named PlainSocket right fed e k =
-      let n : ℕ = suc (made (notes h)) in
-      let x : List ServerEvent = Notes (Opened n now) ∷ h in
-      let all_x : (j : ℕ) → Own j x = all_after n (Notes (Opened n now) ∷ []) h (refl, tt) all (own_opened n h (all n) now refl) in
-      let blank = (all n).unmade (omega arith) in
+      let room : List ServerEvent = giving_way s now h in
+      let g : List ServerEvent = onto room h in
+      let n : ℕ = suc (made (notes g)) in
+      let x : List ServerEvent = Notes (Opened n now) ∷ g in
+      let all_x : (j : ℕ) → Own j x = all_after n (Notes (Opened n now) ∷ []) g (refl, tt) gave_own (own_opened n g (gave_own n) now refl) in
+      let blank = (gave_own n).unmade (omega arith) in
+      let stands : List ServerEvent = standing_on s (record { now = now; lane = lane; request = r }) n false x in
       subst (Own k) (sym e)
-      (all_after n (standing_on s (record { now = now; lane = lane; request = r }) n false x) x (stands_one s now lane n r false x) all_x
-      (stands_own s now n false x x refl (all_x n) new_known (omega arith) lane r blank.no_poll) k)
+      (in_turn (Own k) room (Notes (Opened n now) ∷ stands) h
+      (all_after n stands x (stands_one s now lane n r false x) all_x
+      (stands_own s now n false x x refl (all_x n) new_known (omega arith) lane r blank.no_poll) k))
   request_own life named TokenSocket right fed e k =
       let shut : List ServerEvent = shutting_some (socket_of c (notes h)) h in
       let x : List ServerEvent = onto shut h in

@@ -11,17 +11,18 @@ use Rattle.hd_delivery.specs.Histories.{is_this}
 use Rattle.hd_server.specs.declared.vocabulary.Life.{Life}
 use Rattle.hd_server.specs.declared.vocabulary.Life.TheVariants.{Unknown, Fresh, Socket, Lost, Polling, Ending}
 use Rattle.hd_server.specs.declared.vocabulary.Said.TheVariants as say
-use Rattle.hd_server.specs.Lives.{Negotiated, Opened, Socketed, Polled, Answered, is_known, is_resumable_promise, made, poll_of, socket_of}
+use Rattle.hd_server.specs.Lives.{Negotiated, Opened, Socketed, Polled, Answered, gives_way, is_known, is_resumable_promise, made, poll_of, socket_of}
 use Rattle.hd_server.specs.Texts.{token_of, negotiate_body}
 use Rattle.hd_server.specs.Table.{Outcome, Refusal, NewToken, PlainSocket, TokenSocket, FirstPoll, NextPoll, LastPoll, Posting, Deletion, is_socket}
 use Rattle.hd_server.specs.Machine.{Connects, settings_of, has_gone}
 use Rattle.hd_server.specs.Doings.{ServerEvent, Notes, Works, Says, notes, work, awaits_reply, user_of, has_peer, is_up}
-use Rattle.hd_server.specs.Plans.{Setup, onto, connecting, attaching, closing, removing_conn, peer_settings, bare_reply, socket_reply, token_reply, replying, ending_poll, ending_held, standing_on, shutting_some, request_plan}
+use Rattle.hd_server.specs.Plans.{Setup, onto, connecting, attaching, closing, removing_conn, peer_settings, bare_reply, socket_reply, token_reply, refusal_reply, reply_on, shutting_after, replying, ending_poll, ending_held, standing_on, shutting_some, request_plan, giving_way, removing_some}
 use Rattle.hd_server.specs.Serves.{IsFed}
 use Rattle.hd_server.proofs.OrderlyDoings.{in_turn, either_way}
-use Rattle.hd_server.proofs.RepliesSent.{IsSent, bare_sent, token_sent, socket_sent, plain_200, plain_202, plain_204}
-use Rattle.hd_server.proofs.RepliesLanes.{Held, Holds, Calm, calm_same, calm_then, calm_holds, AreCalm, calm_onto, calm_after, calm_both, shutting_calm, letting_calm, moves_calm, shutting_after, shutting_after_calm, replied}
+use Rattle.hd_server.proofs.RepliesSent.{IsSent, bare_sent, refusal_sent, sent_on, token_sent, socket_sent, plain_200, plain_202, plain_204}
+use Rattle.hd_server.proofs.RepliesLanes.{Held, Holds, Calm, calm_same, calm_then, calm_holds, AreCalm, calm_onto, calm_after, calm_both, shutting_calm, letting_calm, moves_calm, shutting_after_calm, replied}
 use Rattle.hd_server.proofs.RepliesFlushed.{answers_held}
+use Rattle.hd_server.proofs.GivingWay.{either_room, removed_so, unused}
 
 -- ---- single parts
 
@@ -108,8 +109,9 @@ poll_holds c lane now g ok none = record {
 -- the request is answered
 replies_now : (lane : ℕ) (reply : Reply) (h g : List ServerEvent) → IsReply reply → Holds (Some lane) None g → Holds None None (onto (replying lane reply h) g)
 replies_now lane reply h g sent ok =
-    calm_holds None None (Says (say.Reply lane reply) ∷ g) (onto (replying lane reply h) g)
-    (calm_onto (shutting_after lane reply h) (Says (say.Reply lane reply) ∷ g) (shutting_after_calm lane reply h)) (replied lane None reply g sent ok)
+    let x : List ServerEvent = Says (say.Reply lane (reply_on lane reply h)) ∷ g in
+    calm_holds None None x (onto (replying lane reply h) g)
+    (calm_onto (shutting_after lane reply h) x (shutting_after_calm lane reply h)) (replied lane None (reply_on lane reply h) g (sent_on lane reply h sent) ok)
 
 pub closing_calm : (c : ℕ) (why : Reason) (h : List ServerEvent) → AreCalm (closing c why h)
 closing_calm c why h = either_way AreCalm (is_up c h) _ [] (tt, tt) tt
@@ -150,7 +152,7 @@ ended_none c now (Some poll) h g e =
 
     still : poll_of c (notes y) ≡ Some poll
     still =
-        (calm_onto (shutting_after poll.0 (bare_reply 204) h) (Says (say.Reply poll.0 (bare_reply 204)) ∷ g)
+        (calm_onto (shutting_after poll.0 (bare_reply 204) h) (Says (say.Reply poll.0 (reply_on poll.0 (bare_reply 204) h)) ∷ g)
         (shutting_after_calm poll.0 (bare_reply 204) h)).same_polls c ∙ e
 
 ends_holds : (asks : Option ℕ) (c now : ℕ) (o : Option (ℕ × ℕ)) (h g : List ServerEvent) → Holds asks None g → poll_of c (notes g) ≡ o
@@ -178,24 +180,43 @@ known_but Ending f = refl
 
 module _ (s : Setup) (now lane : ℕ) (r : Request) (drawn : Option (List ℕ)) (c : ℕ) (h : List ServerEvent) (life : Life) (n : Named c life h)
     (ok : Holds (Some lane) None h) where
+  -- after one gave way
+  gave : Holds (Some lane) None (onto (giving_way s now h) h)
+  gave =
+      either_room (Holds (Some lane) None) (gives_way s.live now (notes h)) h h ok
+      (λ k e. calm_holds (Some lane) None h (onto (removing_conn k h) h) (calm_onto (removing_conn k h) h (letting_calm k h)) ok)
+
+  next_none : poll_of (suc (made (notes (onto (giving_way s now h) h)))) (notes (onto (giving_way s now h) h)) ≡ None
+  next_none =
+      either_room (λ g. poll_of (suc (made (notes g))) (notes g) ≡ None) (gives_way s.live now (notes h)) h h n.next
+      (λ k e. removed_so (λ g. poll_of (suc (made (notes g))) (notes g) ≡ None) k h h n.next n.next)
+
   pub request_holds : (out : Outcome) → IsSent r life out → (fed : List ServerEvent)
       → IsFed now (request_plan s (record { now = now; lane = lane; request = r }) drawn c h out).food
       (onto (request_plan s (record { now = now; lane = lane; request = r }) drawn c h out).first h) fed
       → Holds None None (onto (request_plan s (record { now = now; lane = lane; request = r }) drawn c h out).last fed)
   request_holds (Refusal status) right fed e =
-      subst (Holds None None) (sym e) (replies_now lane (bare_reply status) h h (bare_sent status right) ok)
+      subst (Holds None None) (sym e) (replies_now lane (refusal_reply s.base r status) h h (refusal_sent s.base r status right) ok)
   request_holds (NewToken reconnect) right fed e =
-      let k : ℕ = suc (made (notes h)) in
+      let room : List ServerEvent = giving_way s now h in
+      let g : List ServerEvent = onto room h in
+      let k : ℕ = suc (made (notes g)) in
       let token : List ℕ = token_of (unwrap_or drawn []) k in
-      let x : List ServerEvent = Notes (Negotiated k token reconnect now) ∷ h in
+      let x : List ServerEvent = Notes (Negotiated k token reconnect now) ∷ g in
+      let reply : List ServerEvent = replying lane (token_reply (negotiate_body k token reconnect)) g in
       subst (Holds None None) (sym e)
-      (replies_now lane (token_reply (negotiate_body k token reconnect)) h x (token_sent (negotiate_body k token reconnect))
-      (calm_holds (Some lane) None h x (calm_onto (Notes (Negotiated k token reconnect now) ∷ []) h (tt, tt)) ok))
+      (in_turn (Holds None None) room (Notes (Negotiated k token reconnect now) ∷ reply) h
+      (replies_now lane (token_reply (negotiate_body k token reconnect)) g x (token_sent (negotiate_body k token reconnect))
+      (calm_holds (Some lane) None g x (calm_onto (Notes (Negotiated k token reconnect now) ∷ []) g (tt, tt)) gave)))
   request_holds PlainSocket right fed e =
-      let k : ℕ = suc (made (notes h)) in
-      let x : List ServerEvent = Notes (Opened k now) ∷ h in
+      let room : List ServerEvent = giving_way s now h in
+      let g : List ServerEvent = onto room h in
+      let k : ℕ = suc (made (notes g)) in
+      let x : List ServerEvent = Notes (Opened k now) ∷ g in
       subst (Holds None None) (sym e)
-      (stands_holds s now lane k r false x x right (λ z. n.next) (calm_holds (Some lane) None h x (calm_onto (Notes (Opened k now) ∷ []) h (tt, tt)) ok))
+      (in_turn (Holds None None) room (Notes (Opened k now) ∷ standing_on s (record { now = now; lane = lane; request = r }) k false x) h
+      (stands_holds s now lane k r false x x right (λ z. next_none)
+      (calm_holds (Some lane) None g x (calm_onto (Notes (Opened k now) ∷ []) g (tt, tt)) gave)))
   request_holds TokenSocket right fed e =
       let shut : List ServerEvent = shutting_some (socket_of c (notes h)) h in
       let calm = calm_onto shut h (shuts_some_calm (socket_of c (notes h)) h) in

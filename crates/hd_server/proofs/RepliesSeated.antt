@@ -11,21 +11,21 @@ use Rattle.hw_door.specs.declared.heard.Event.TheVariants as event
 use Rattle.hd_server.specs.declared.vocabulary.Life.{Life}
 use Rattle.hd_server.specs.declared.vocabulary.Life.TheVariants.{Unknown, Fresh, Socket, Lost, Polling, Ending}
 use Rattle.hd_server.specs.declared.vocabulary.Said.TheVariants as say
-use Rattle.hd_server.specs.Lives.{Negotiated, Opened, Socketed, Polled, Answered, LaneLost, is_known, is_resumable_promise, life_of_some, made, poll_of, socket_of}
+use Rattle.hd_server.specs.Lives.{Negotiated, Opened, Socketed, Polled, Answered, LaneLost, gives_way, is_known, is_resumable_promise, life_of_some, made, poll_of, socket_of}
 use Rattle.hd_server.specs.Texts.{token_of, negotiate_body}
 use Rattle.hd_server.specs.Table.{Outcome, Refusal, NewToken, PlainSocket, TokenSocket, FirstPoll, NextPoll, LastPoll, Posting, Deletion, outcome}
 use Rattle.hd_server.specs.Machine.{Connects, connections, settings_of, has_gone}
 use Rattle.hd_server.specs.Doings.{ServerEvent, Hears, Notes, Works, Says, notes, work, may_resume, is_upgraded, user_of, has_peer}
-use Rattle.hd_server.specs.Plans.{Setup, onto, step, connecting, attaching, closing, removing_conn, losing, losing_lane, conn_on, poller_on, named_conn, facts, plan, peer_settings, bare_reply, socket_reply, token_reply, replying, ending_held, standing_on, shutting_some, request_plan}
+use Rattle.hd_server.specs.Plans.{Setup, onto, step, connecting, attaching, closing, removing_conn, losing, losing_lane, conn_on, poller_on, named_conn, facts, plan, peer_settings, bare_reply, socket_reply, token_reply, refusal_reply, shutting_after, replying, ending_held, standing_on, shutting_some, request_plan, giving_way, removing_some}
 use Rattle.hd_server.specs.Serves.{IsFed, IsFree}
 use Rattle.hd_server.proofs.Flushing.{is_in}
 use Rattle.hd_server.proofs.OrderlyDoings.{AreQuiet, in_turn, either_way, quiet_notes, shutting_quiet}
 use Rattle.hd_server.proofs.RepliesSent.{IsSent, outcome_sent}
-use Rattle.hd_server.proofs.RepliesLanes.{shutting_after}
 use Rattle.hd_server.proofs.RepliesFlushed.{left_alone}
 use Rattle.hd_server.proofs.RepliesTurns.{finds, finds_none, on_this, there_of}
 use Rattle.hd_server.proofs.RepliesHandled.{Hearing}
 use Rattle.hd_server.proofs.RepliesSeats.{Seats, Less, less_same, less_then, less_seats, AreLess, less_onto, less_after, less_both, shuts_some_less, shut_after_less, replying_less, letting_less, closing_less, moves_less, losing_less, poll_ends_less, unasked, poll_seats, stand_seats}
+use Rattle.hd_server.proofs.GivingWay.{either_room, removed_so, unused}
 
 -- it stands nowhere and holds no poll
 abbrev pub IsOff : ℕ → List ServerEvent → Type 0
@@ -107,24 +107,44 @@ module _ (s : Setup) (now lane : ℕ) (r : Request) (drawn : Option (List ℕ)) 
   answers : (ds : List ServerEvent) → AreLess ds → Seats None None (onto ds h)
   answers ds a = unasked lane None (onto ds h) (less_seats (Some lane) None h (onto ds h) (less_onto ds h a) ok)
 
+  gives_less : AreLess (giving_way s now h)
+  gives_less = by (gives_way s.live now (notes h)) where
+    by : (o : Option ℕ) → AreLess (removing_some o h)
+    by None = tt
+    by (Some k) = letting_less k h
+
+  -- the next connection after one gave way
+  next_still : IsOff (suc (made (notes (onto (giving_way s now h) h)))) (onto (giving_way s now h) h)
+  next_still =
+      either_room (λ g. IsOff (suc (made (notes g))) g) (gives_way s.live now (notes h)) h h next
+      (λ k e. removed_so (λ g. IsOff (suc (made (notes g))) g) k h h next next)
+
   request_seats : (out : Outcome) → IsSent r life out → (fed : List ServerEvent)
       → IsFed now (request_plan s (record { now = now; lane = lane; request = r }) drawn c h out).food
       (onto (request_plan s (record { now = now; lane = lane; request = r }) drawn c h out).first h) fed
       → Seats None None (onto (request_plan s (record { now = now; lane = lane; request = r }) drawn c h out).last fed)
   request_seats (Refusal status) right fed e =
       subst (Seats None None) (sym e)
-      (answers (replying lane (bare_reply status) h) (replying_less lane (bare_reply status) h (no_upgrade status right.1)))
+      (answers (replying lane (refusal_reply s.base r status) h) (replying_less lane (refusal_reply s.base r status) h (no_upgrade status right.1)))
   request_seats (NewToken reconnect) right fed e =
-      let k : ℕ = suc (made (notes h)) in
+      let room : List ServerEvent = giving_way s now h in
+      let g : List ServerEvent = onto room h in
+      let k : ℕ = suc (made (notes g)) in
       let token : List ℕ = token_of (unwrap_or drawn []) k in
       let reply : Reply = token_reply (negotiate_body k token reconnect) in
+      let told : List ServerEvent = Notes (Negotiated k token reconnect now) ∷ replying lane reply g in
       subst (Seats None None) (sym e)
-      (answers (Notes (Negotiated k token reconnect now) ∷ replying lane reply h) (tt, replying_less lane reply h refl))
+      (answers (room ++ told) (less_both room told gives_less (tt, replying_less lane reply g refl)))
   request_seats PlainSocket right fed e =
-      let k : ℕ = suc (made (notes h)) in
-      let x : List ServerEvent = Notes (Opened k now) ∷ h in
+      let room : List ServerEvent = giving_way s now h in
+      let g : List ServerEvent = onto room h in
+      let k : ℕ = suc (made (notes g)) in
+      let x : List ServerEvent = Notes (Opened k now) ∷ g in
       subst (Seats None None) (sym e)
-      (stands_seats s now lane k r false x x (λ z. next) (less_seats (Some lane) None h x (less_onto (Notes (Opened k now) ∷ []) h (tt, tt)) ok))
+      (in_turn (Seats None None) room (Notes (Opened k now) ∷ standing_on s (record { now = now; lane = lane; request = r }) k false x) h
+      (stands_seats s now lane k r false x x (λ z. next_still)
+      (less_seats (Some lane) None g x (less_onto (Notes (Opened k now) ∷ []) g (tt, tt))
+      (less_seats (Some lane) None h g (less_onto room h gives_less) ok))))
   request_seats TokenSocket right fed e =
       let shut : List ServerEvent = shutting_some (socket_of c (notes h)) h in
       let same : notes (onto shut h) ≡ notes h = quiet_notes shut h (shuts_some_quiet (socket_of c (notes h)) h) in
@@ -229,7 +249,7 @@ Seating _ h = Seats None None h
 pub seating_less : (e : Event) (g x : List ServerEvent) → Less g x → Seating e g → Seating e x
 seating_less (event.Request lane r) g x a ok = less_seats (Some lane) None g x a ok
 seating_less (event.Lost lane) g x a ok = less_seats None (Some lane) g x a ok
-seating_less (event.Refused lane status) g x a ok = less_seats None None g x a ok
+seating_less (event.Refused lane refusal) g x a ok = less_seats None None g x a ok
 seating_less (event.Bytes lane bytes) g x a ok = less_seats None None g x a ok
 seating_less (event.Response lane status body) g x a ok = less_seats None None g x a ok
 seating_less (event.Upgraded lane) g x a ok = less_seats None None g x a ok
@@ -253,7 +273,7 @@ heard_seats now (event.Lost lane) g free hearing ok = record {
   alone = ok.alone;
   clash = ok.clash;
 }
-heard_seats now (event.Refused lane status) g free hearing ok = less_seats None None g _ (hears_less now (event.Refused lane status) g (λ l. refl)) ok
+heard_seats now (event.Refused lane refusal) g free hearing ok = less_seats None None g _ (hears_less now (event.Refused lane refusal) g (λ l. refl)) ok
 heard_seats now (event.Bytes lane bytes) g free hearing ok = less_seats None None g _ (hears_less now (event.Bytes lane bytes) g (λ l. refl)) ok
 heard_seats now (event.Response lane status body) g free hearing ok =
     less_seats None None g _ (hears_less now (event.Response lane status body) g (λ l. refl)) ok
@@ -272,7 +292,7 @@ handled_seats s now (event.Request lane r) name drawn h fed ok named next among 
 handled_seats s now (event.Lost lane) name drawn h fed ok named next among e =
     subst (Seats None None) (sym e) (losing_seats now lane h among ok (conn_on lane h) (poller_on lane h) refl)
 handled_seats s now (event.Bytes lane bytes) name drawn h fed ok named next among e = less_seats None None h fed (fed_less now _ h fed e) ok
-handled_seats s now (event.Refused lane status) name drawn h fed ok named next among e = subst (Seats None None) (sym e) ok
+handled_seats s now (event.Refused lane refusal) name drawn h fed ok named next among e = subst (Seats None None) (sym e) ok
 handled_seats s now (event.Response lane status body) name drawn h fed ok named next among e = subst (Seats None None) (sym e) ok
 handled_seats s now (event.Upgraded lane) name drawn h fed ok named next among e = subst (Seats None None) (sym e) ok
 handled_seats s now event.Quiet name drawn h fed ok named next among e = subst (Seats None None) (sym e) ok

@@ -18,8 +18,8 @@ use Rattle.hd_server.specs.Numbers.{held_for}
 use Rattle.hd_server.specs.Lives.{Negotiated, Opened, Socketed, Polled, Answered, LaneLost, Ended, Expired, Removed, is_polling, ended_at, standing, overdue, socket_of, poll_of}
 use Rattle.hd_server.specs.Table.{asks_keeper}
 use Rattle.hd_server.specs.Machine.{MachineEvent, Does, Rounds, Carries, Goes, connections}
-use Rattle.hd_server.specs.Doings.{ServerEvent, Learns, Draws, Notes, Works, Says, notes, work, history, config_of, is_upgraded, wants_shut, was_refused, is_up, may_resume, has_peer, has_closed}
-use Rattle.hd_server.specs.Plans.{Setup, onto, step, closing, dropping, removing_conn, expiring, expiries, learning, asks_lots, questions, losing, shutting, shutting_some, replying, bare_reply, frames_reply, ending_poll}
+use Rattle.hd_server.specs.Doings.{ServerEvent, Learns, Draws, Notes, Works, Says, notes, work, history, config_of, is_upgraded, was_refused, is_up, may_resume, has_peer, has_closed}
+use Rattle.hd_server.specs.Plans.{Setup, onto, step, closing, dropping, removing_conn, expiring, expiries, learning, asks_lots, questions, losing, shutting, shutting_some, ends_lane, shutting_after, replying, bare_reply, frames_reply, ending_poll}
 use Rattle.hd_server.specs.Serves.{lending, writing, all_of, bytes_of, flushing_socket, flushing_poll, flushing_some_poll, ending, flushing_without, flushing_on, flushing, all_flushing, silenced, ticking, ticks}
 use Rattle.hd_server.proofs.OrderlyDoings.{AreQuiet, either_way}
 use Rattle.hd_server.proofs.RepliesLanes.{not_gone}
@@ -155,9 +155,9 @@ shuts_some_less (Some lane) h = shutting_less lane h
 
 -- the end of a lane that is shut after its reply
 pub shut_after_less : (lane : ℕ) (reply : Reply) (h : List ServerEvent)
-    → AreLess (if (reply.status == 400) || (wants_shut lane h && not (reply.status == 101)) then shutting lane h else [])
+    → AreLess (shutting_after lane reply h)
 shut_after_less lane reply h =
-    either_way AreLess ((reply.status == 400) || (wants_shut lane h && not (reply.status == 101))) (shutting lane h) [] (shutting_less lane h) tt
+    either_way AreLess (ends_lane lane reply.status h) (Says (say.Shut lane) ∷ []) [] (tt, tt) tt
 
 pub replying_less : (lane : ℕ) (reply : Reply) (h : List ServerEvent) → (reply.status == 101) ≡ false → AreLess (replying lane reply h)
 replying_less lane reply h e = (e, shut_after_less lane reply h)

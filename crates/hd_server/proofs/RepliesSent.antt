@@ -6,12 +6,14 @@ use Rattle.std.specs.List.{list_any}
 use Rattle.hw_lanes.specs.declared.http.Method.{Method}
 use Rattle.hw_lanes.specs.declared.http.Method.TheVariants.{Get, Post, Delete, Other}
 use Rattle.hw_lanes.specs.declared.http.Request.{Request}
+use Rattle.hw_lanes.specs.declared.http.Reply.{Reply}
 use Rattle.hw_lanes.specs.Replies.{IsReply, statuses}
 use Rattle.hd_server.specs.declared.vocabulary.Life.{Life}
 use Rattle.hd_server.specs.declared.vocabulary.Life.TheVariants.{Unknown, Fresh, Socket, Lost, Polling, Ending}
 use Rattle.hd_server.specs.Lives.{is_known}
 use Rattle.hd_server.specs.Table.{Facts, Outcome, Refusal, PlainSocket, TokenSocket, FirstPoll, NextPoll, LastPoll, Deletion, is_base, is_negotiate, is_socket, has_id, has_version, same_method, is_entry, is_unauthorized, is_keepers_fault, socket_outcome, poll_outcome, post_outcome, delete_outcome, method_outcome, named_outcome, outcome}
-use Rattle.hd_server.specs.Plans.{bare_reply, socket_reply, token_reply, frames_reply}
+use Rattle.hd_server.specs.Doings.{ServerEvent}
+use Rattle.hd_server.specs.Plans.{bare_reply, socket_reply, token_reply, frames_reply, refusal_reply, reply_on}
 use Rattle.hd_server.proofs.OrderlyPlans.{row}
 
 -- ---- replies
@@ -54,6 +56,13 @@ token_sent body = record {
 
 pub socket_sent : (accept : Option (List ℕ)) → is_some accept ≡ true → IsReply (socket_reply accept)
 socket_sent accept e = record { status = refl; accept = (λ t. refl, λ s. e); body = λ x. refl }
+
+-- fields of its head but that change nothing
+pub refusal_sent : (base : List ℕ) (r : Request) (status : ℕ) → IsPlainStatus status → IsReply (refusal_reply base r status)
+refusal_sent base r status e = let sent = bare_sent status e in record { status = sent.status; accept = sent.accept; body = sent.body }
+
+pub sent_on : (lane : ℕ) (reply : Reply) (h : List ServerEvent) → IsReply reply → IsReply (reply_on lane reply h)
+sent_on lane reply h sent = record { status = sent.status; accept = sent.accept; body = sent.body }
 
 -- ---- the table
 

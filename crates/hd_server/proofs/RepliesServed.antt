@@ -22,17 +22,17 @@ use Rattle.hd_server.proofs.RepliesOwnFlushed.{Done, done_still, told_own}
 use Rattle.hd_server.proofs.RepliesAmong.{among_connections}
 
 -- what holds between events
-pub record Sound (h : List ServerEvent) : Type 0 where
+pub record Sound (most : ℕ) (h : List ServerEvent) : Type 0 where
   pub lanes : Holds None None h
   pub own : (k : ℕ) → Own k h
   pub done : (k : ℕ) → Done k h
-  pub ordered : IsOrderly h
+  pub ordered : IsOrderly most h
 
-known_there : (now : ℕ) (h : List ServerEvent) → Settled now h → (k : ℕ) → has_peer k h ≡ true → Known k (notes h) × (k ≤ made (notes h))
-known_there now h s k there = let u = s.peers k there in (u, (within (notes h) s.in_order k u).1)
+known_there : {most : ℕ} (now : ℕ) (h : List ServerEvent) → Settled most now h → (k : ℕ) → has_peer k h ≡ true → Known k (notes h) × (k ≤ made (notes h))
+known_there now h s k there = let u = s.peers k there in (u, (within _ (notes h) s.in_order k u).1)
 
-pub all_among : (now : ℕ) (h : List ServerEvent) → Settled now h → (k : ℕ) → has_peer k h ≡ true → is_in k (connections (work h)) ≡ true
-all_among now h s k there = among_connections k h (within (notes h) s.in_order k (s.peers k there)).0 there
+pub all_among : {most : ℕ} (now : ℕ) (h : List ServerEvent) → Settled most now h → (k : ℕ) → has_peer k h ≡ true → is_in k (connections (work h)) ≡ true
+all_among now h s k there = among_connections k h (within _ (notes h) s.in_order k (s.peers k there)).0 there
 
 poll_some : (o : Option (ℕ × ℕ)) (p : ℕ × ℕ) (b : Bool) → o ≡ Some p → (is_some o || b) ≡ true
 poll_some (Some q) p b e = refl
@@ -40,7 +40,7 @@ poll_some None p b e = absurd (let z : ◌≡◌ {A = Option (ℕ × ℕ)} None 
 
 -- the last parts of a turn, from what was done about the event on
 module _ {Job : Type 0} (hub : Hub Job) (s : Setup) (now : ℕ) (e : Event) (h after : List ServerEvent) (turn : IsTurn hub s now e h after)
-    (ok : Settled now turn.handled) (lanes : Holds None None turn.handled) (own : (k : ℕ) → Own k turn.handled) where
+    (ok : Settled s.live now turn.handled) (lanes : Holds None None turn.handled) (own : (k : ℕ) → Own k turn.handled) where
   own_clash : (c lane t : ℕ) → is_in c (connections (work turn.handled)) ≡ true → socket_of c (notes turn.handled) ≡ Some lane
       → poll_of c (notes turn.handled) ≡ Some (lane, t) → ⊥
   own_clash c lane t i stands polls =
@@ -49,15 +49,15 @@ module _ {Job : Type 0} (hub : Hub Job) (s : Setup) (now : ℕ) (e : Event) (h a
       let none = ((own c).no_socket known (poll_some (poll_of c (notes turn.handled)) (lane, t) (is_some (poll_ended c (notes turn.handled))) polls)).0 in
       absurd (let z : ◌≡◌ {A = Option ℕ} (Some lane) None = sym stands ∙ none in cc)
 
-  ticked_ok : Settled now turn.ticked
-  ticked_ok = subst (Settled now) (sym turn.has_ticked) (ticked_settled now turn.handled ok)
+  ticked_ok : Settled s.live now turn.ticked
+  ticked_ok = subst (Settled s.live now) (sym turn.has_ticked) (ticked_settled now turn.handled ok)
 
   words : AreQuiet (map Works turn.round)
   words = round_quiet now turn.round (Rounds now ∷ work turn.ticked) turn.rounds.each
 
-  stepped_ok : Settled now turn.stepped
+  stepped_ok : Settled s.live now turn.stepped
   stepped_ok =
-      subst (Settled now) (sym turn.has_stepped)
+      subst (Settled s.live now) (sym turn.has_stepped)
       (quiet_settled_after now (map Works turn.round) (Works (Rounds now) ∷ turn.ticked) words
       (quiet_settled_after now (Works (Rounds now) ∷ []) turn.ticked (tt, tt) ticked_ok))
 
@@ -92,7 +92,7 @@ module _ {Job : Type 0} (hub : Hub Job) (s : Setup) (now : ℕ) (e : Event) (h a
     by false i = done_still k turn.stepped i u f
     by true i = absurd (let z : true ≡ false = sym (among k ((stepped_own k).there u i)) ∙ out in cc)
 
-  pub sound_after : Sound after
+  pub sound_after : Sound s.live after
   sound_after =
       let cs : List ℕ = connections (work turn.stepped) in
       let both = told_own s now turn.stepped stepped_own cs turn.pieces turn.stepped turn.all_due (all_apart turn.stepped)
@@ -102,5 +102,5 @@ module _ {Job : Type 0} (hub : Hub Job) (s : Setup) (now : ℕ) (e : Event) (h a
             (all_told s now turn.stepped cs turn.pieces turn.stepped (all_apart turn.stepped) (λ k i. (there_in k i, there_in k i, refl)) stepped_lanes);
         own = λ k. subst (Own k) (sym turn.tells) (both k).0;
         done = λ k. subst (Done k) (sym turn.tells) (both k).1;
-        ordered = orderly_then now after (subst (Settled now) (sym turn.tells) (told_settled s now turn.pieces turn.stepped stepped_ok));
+        ordered = orderly_then now after (subst (Settled s.live now) (sym turn.tells) (told_settled s now turn.pieces turn.stepped stepped_ok));
       }

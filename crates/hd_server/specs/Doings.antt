@@ -81,7 +81,7 @@ wants_shut lane (_ ∷ h) = wants_shut lane h
 -- the door refused what came on the lane, and has shut it. A request that comes under its number afterwards comes on a new lane
 abbrev pub was_refused : ℕ → List ServerEvent → Bool
 was_refused lane [] = false
-was_refused lane (Hears now (event.Refused l status) ∷ h) = (lane == l) || was_refused lane h
+was_refused lane (Hears now (event.Refused l refusal) ∷ h) = (lane == l) || was_refused lane h
 was_refused lane (Hears now (event.Request l r) ∷ h) = if lane == l then false else was_refused lane h
 was_refused lane (_ ∷ h) = was_refused lane h
 

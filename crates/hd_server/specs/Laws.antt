@@ -4,7 +4,10 @@ use Rattle.std.specs.List.{IsDistinct}
 use Rattle.hv_value.specs.Tree.{Tree}
 use Rattle.hm_message.specs.declared.message.Message.{Message}
 use Rattle.hm_message.specs.Message.{Fits}
-use Rattle.hw_lanes.specs.declared.http.Method.TheVariants.{Get}
+use Rattle.hw_lanes.specs.declared.http.Method.{Method}
+use Rattle.hw_lanes.specs.declared.http.Method.TheVariants.{Get, Post, Delete}
+use Rattle.hw_lanes.specs.declared.http.ReplyField.{ReplyField}
+use Rattle.hw_lanes.specs.declared.http.ReplyField.TheVariants.{AllowPost, AllowGetPostDelete}
 use Rattle.hw_lanes.specs.declared.http.Request.{Request}
 use Rattle.hd_delivery.specs.Numbers.{most_framing, ping_after}
 use Rattle.hd_delivery.specs.Histories.{EndEvent, Ticked, Config, codec_of, present_link, sent_messages, processed_messages, held_messages, moment, heard_moment, written_moment, is_silence, state}
@@ -21,18 +24,20 @@ use Rattle.hd_calls.specs.Peers.{PeerEvent, Runs, Settings, steps, codec, is_shu
 use Rattle.hd_calls.specs.Rules.{MayTurn}
 use Rattle.hw_door.specs.declared.heard.Event.{Event}
 use Rattle.hw_door.specs.declared.heard.Heard.{Heard}
-use Rattle.hd_server.specs.Numbers.{most_frame, most_live, most_polled}
+use Rattle.hd_server.specs.Numbers.{most_frame, most_polled}
 use Rattle.hd_server.specs.Lives.{ConnectionEvent, Expired, AreInOrder, is_made, last_moment, life_of, live, overdue, poll_of, socket_of, standing}
 use Rattle.hd_server.specs.Texts.{token_of}
 use Rattle.hd_server.specs.Table.{Facts, Outcome, Refusal, NewToken, PlainSocket, TokenSocket, FirstPoll, NextPoll, LastPoll, Posting, Deletion, is_base, is_negotiate, is_socket, is_unauthorized, is_keepers_fault, has_id, socket_outcome, delete_outcome, outcome}
 use Rattle.hd_server.specs.Machine.{MachineEvent, Does, IsRound, DeliveryOutcome, Got, TooSlow, PassedOver, ArePeers, notice, fate_of, fates_of, may_turn}
+use Rattle.hd_rooms.specs.Registry.{count_of, most_groups}
+use Rattle.hd_server.specs.Machine.{registry}
 use Rattle.hw_lanes.specs.Replies.{IsReply}
 use Rattle.hd_server.specs.declared.vocabulary.Life.TheVariants.{Fresh, Polling, Ending}
 use Rattle.hd_server.specs.declared.vocabulary.Said.TheVariants as say
 use Rattle.hd_server.specs.Doings.{ServerEvent, Says, notes, work, hears, asked, draws, said, history, awaits_reply, config_of, has_peer}
 use Rattle.hd_facts.specs.Prefixes.{IsPrefix}
 use Rattle.hd_server.specs.Doings.{moment as moment_heard}
-use Rattle.hd_server.specs.Plans.{Setup, bare_reply, makes_token}
+use Rattle.hd_server.specs.Plans.{Setup, allowed_at, bare_reply, makes_token}
 use Rattle.hd_server.specs.Serves.{LendsUpTo, IsFree, IsTurn, Serves}
 use Rattle.hd_server.specs.Serving.{ServesOn, given_as}
 use Rattle.hw_door.specs.declared.heard.Given.{Given}
@@ -79,6 +84,18 @@ abbrev pub LotsMatterToTokens : Type 0
 LotsMatterToTokens = (base : List ℕ) (r : Request) (f : Facts) → f.lots_failed ≡ false
     → outcome base r (record f { lots_failed = true }) ≡ (if makes_token (outcome base r f) then Refusal 500 else outcome base r f)
 
+-- a method that is named
+abbrev pub allows : ReplyField → Method → Bool
+allows AllowPost Post = true
+allows AllowGetPostDelete Get = true
+allows AllowGetPostDelete Post = true
+allows AllowGetPostDelete Delete = true
+allows field m = false
+
+-- no request is refused with 405 whose method is allowed at its path
+abbrev pub AllowedAreServed : Type 0
+AllowedAreServed = (base : List ℕ) (r : Request) (f : Facts) → allows (allowed_at (is_base base r)) r.method ≡ true → outcome base r f ≡ Refusal 405 → ⊥
+
 -- ---- tests that are rules
 
 -- a peer's jobs have turns by the test exactly if they may by the rules of a peer
@@ -105,6 +122,10 @@ FatesAreRefusals = (t : Settings) (h : List PeerEvent) (target : List ℕ) (argu
 -- a deed is told to each member once
 abbrev pub EachMemberOnce : Type 0
 EachMemberOnce = (d : Deed) (h : List MachineEvent) → IsDistinct nat_eq (map (λ f. f.0) (fates_of d h))
+
+-- a connection is in no more groups than the most
+abbrev pub GroupsAreFew : Type 0
+GroupsAreFew = (c : ℕ) (h : List MachineEvent) → count_of c (registry h).groups ≤ most_groups
 
 -- ---- rounds
 
@@ -211,7 +232,7 @@ LivesAreSettled = (c now : ℕ) (h : List ConnectionEvent) → is_made c h ≡ t
 
 -- at most so many connections live, if notes come in order
 abbrev pub FewLive : Type 0
-FewLive = (now : ℕ) (h : List ConnectionEvent) → AreInOrder h → last_moment h ≤ now → length (live now h) ≤ most_live
+FewLive = (most now : ℕ) (h : List ConnectionEvent) → AreInOrder most h → last_moment h ≤ now → length (live now h) ≤ most
 
 -- ---- serving
 
@@ -239,17 +260,17 @@ ServedIsServes Job = (hub : Hub Job) (s : Setup) (cut : Bool) (h : List ServerEv
 -- ---- what a server notes
 
 -- its notes come in order, none later than what was heard last
-pub record NotesInOrder (h : List ServerEvent) : Type 0 where
-  pub in_order : AreInOrder (notes h)
+pub record NotesInOrder (s : Setup) (h : List ServerEvent) : Type 0 where
+  pub in_order : AreInOrder s.live (notes h)
   pub not_later : last_moment (notes h) ≤ moment_heard h
 
 abbrev pub ServersNoteInOrder : Type 0 → Type 0
-ServersNoteInOrder Job = (hub : Hub Job) (s : Setup) (es : List Heard) (h : List ServerEvent) → Serves hub s es h → NotesInOrder h
+ServersNoteInOrder Job = (hub : Hub Job) (s : Setup) (es : List Heard) (h : List ServerEvent) → Serves hub s es h → NotesInOrder s h
 
--- at most so many connections of a server live
+-- at most as many connections of a server live as it was begun with
 abbrev pub ServersHaveFew : Type 0 → Type 0
 ServersHaveFew Job = (hub : Hub Job) (s : Setup) (es : List Heard) (h : List ServerEvent) (now : ℕ) → Serves hub s es h → moment_heard h ≤ now
-    → length (live now (notes h)) ≤ most_live
+    → length (live now (notes h)) ≤ s.live
 
 -- ---- replies
 

@@ -1,11 +1,11 @@
 -- What is noted of a server's connections, and the life of a token at a moment, which is read off the notes. The latest note comes first.
 -- This project's own rules: the moments, and that a connection that polls is never resumed.
-use Rattle.std.specs.Prelude.{◌≡◌, ◌≤◌, ℕ, zero, suc, ◌+◌, Bool, true, false, not, ◌&&◌, ◌||◌, ◌==◌, nat_lt, nat_le, List, [], ◌∷◌, ◌++◌, filter, length, Option, Some, None, is_some, option_map, unwrap_or, if◌then◌else◌}
+use Rattle.std.specs.Prelude.{◌≡◌, ◌≤◌, ℕ, zero, suc, ◌+◌, Bool, true, false, not, ◌&&◌, ◌||◌, ◌==◌, nat_lt, nat_le, ◌<◌, List, [], ◌∷◌, ◌++◌, filter, find, length, Option, Some, None, is_some, option_map, unwrap_or, if◌then◌else◌}
 use Rattle.hm_message.specs.Same.{same_text}
 use Rattle.hd_delivery.specs.Histories.{is_this, first_of}
 use Rattle.hd_server.specs.declared.vocabulary.Life.{Life}
 use Rattle.hd_server.specs.declared.vocabulary.Life.TheVariants.{Unknown, Fresh, Socket, Lost, Polling, Ending}
-use Rattle.hd_server.specs.Numbers.{most_live, most_connections, lives_for}
+use Rattle.hd_server.specs.Numbers.{most_connections, lives_for}
 
 -- Connections are numbered from 1, each by the note that makes it. A connection comes to its end by one of four notes: `Ended`, by its own
 -- side or the other's while it polls; `Expired`, by its moment, which is the same if it only polls, and else the last of it; `Removed`, for good
@@ -183,9 +183,25 @@ numbers_to (suc n) = numbers_to n ++ suc n ∷ []
 abbrev pub live : ℕ → List ConnectionEvent → List ℕ
 live now h = filter (λ c. is_known (life_of c now h)) (numbers_to (made h))
 
--- no further connection can be made: as many live as may, or as many were made
-abbrev pub is_busy : ℕ → List ConnectionEvent → Bool
-is_busy now h = nat_le most_live (length (live now h)) || nat_le most_connections (made h)
+-- as many live at a moment as may
+abbrev pub is_full : ℕ → ℕ → List ConnectionEvent → Bool
+is_full most now h = nat_le most (length (live now h))
+
+abbrev pub is_fresh : Life → Bool
+is_fresh Fresh = true
+is_fresh _ = false
+
+-- the connection of the least number that nobody used yet
+abbrev pub first_fresh : ℕ → List ConnectionEvent → Option ℕ
+first_fresh now h = find (λ c. is_fresh (life_of c now h)) (numbers_to (made h))
+
+-- the connection that gives way to a new one
+abbrev pub gives_way : ℕ → ℕ → List ConnectionEvent → Option ℕ
+gives_way most now h = if is_full most now h then first_fresh now h else None
+
+-- no further connection can be made: as many live as may and each was used, or as many were made
+abbrev pub is_busy : ℕ → ℕ → List ConnectionEvent → Bool
+is_busy most now h = (is_full most now h && not (is_some (first_fresh now h))) || nat_le most_connections (made h)
 
 -- the connections whose moment has come, the least number first
 abbrev pub overdue : ℕ → List ConnectionEvent → List ℕ
@@ -209,20 +225,26 @@ abbrev pub last_moment : List ConnectionEvent → ℕ
 last_moment [] = 0
 last_moment (n ∷ h) = unwrap_or (moment_of n) (last_moment h)
 
+-- the next connection may be made, where so many may live: fewer do, and fewer were made than ever are
+pub record HasRoom (most now c : ℕ) (h : List ConnectionEvent) : Type 0 where
+  pub next : c ≡ suc (made h)
+  pub not_full : is_full most now h ≡ false
+  pub not_last : made h < most_connections
+
 -- what may be noted next: a new connection while there is room; that a moment has come, of the first for which it has; and of a connection
 -- whose life is known anything
-abbrev pub MayBeNoted : ConnectionEvent → List ConnectionEvent → Type 0
-MayBeNoted (Negotiated c token reconnect now) h = (c ≡ suc (made h)) × (is_busy now h ≡ false)
-MayBeNoted (Opened c now) h = (c ≡ suc (made h)) × (is_busy now h ≡ false)
-MayBeNoted (Socketed c lane now) h = is_known (life_of c now h) ≡ true
-MayBeNoted (Polled c lane now) h = is_known (life_of c now h) ≡ true
-MayBeNoted (Answered c lane now) h = is_known (life_of c now h) ≡ true
-MayBeNoted (LaneLost c lane now) h = is_known (life_of c now h) ≡ true
-MayBeNoted (Ended c now) h = is_known (life_of c now h) ≡ true
-MayBeNoted (Expired c now) h = (rest : List ℕ) × (overdue now h ≡ c ∷ rest)
-MayBeNoted (Removed c) h = Unit {0}
+abbrev pub MayBeNoted : ℕ → ConnectionEvent → List ConnectionEvent → Type 0
+MayBeNoted most (Negotiated c token reconnect now) h = HasRoom most now c h
+MayBeNoted most (Opened c now) h = HasRoom most now c h
+MayBeNoted most (Socketed c lane now) h = is_known (life_of c now h) ≡ true
+MayBeNoted most (Polled c lane now) h = is_known (life_of c now h) ≡ true
+MayBeNoted most (Answered c lane now) h = is_known (life_of c now h) ≡ true
+MayBeNoted most (LaneLost c lane now) h = is_known (life_of c now h) ≡ true
+MayBeNoted most (Ended c now) h = is_known (life_of c now h) ≡ true
+MayBeNoted most (Expired c now) h = (rest : List ℕ) × (overdue now h ≡ c ∷ rest)
+MayBeNoted most (Removed c) h = Unit {0}
 
--- moments never fall, and each note is one that may come next
-abbrev pub AreInOrder : List ConnectionEvent → Type 0
-AreInOrder [] = Unit {0}
-AreInOrder (n ∷ h) = AreInOrder h × (last_moment h ≤ last_moment (n ∷ h)) × MayBeNoted n h
+-- moments never fall, and each note is one that may come next, where so many may live
+abbrev pub AreInOrder : ℕ → List ConnectionEvent → Type 0
+AreInOrder most [] = Unit {0}
+AreInOrder most (n ∷ h) = AreInOrder most h × (last_moment h ≤ last_moment (n ∷ h)) × MayBeNoted most n h

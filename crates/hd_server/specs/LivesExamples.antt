@@ -9,6 +9,13 @@ sixteen_zeros = 0 ∷ 0 ∷ 0 ∷ 0 ∷ 0 ∷ 0 ∷ 0 ∷ 0 ∷ 0 ∷ 0 ∷ 0 �
 abbrev pub first_token : List ℕ
 first_token = codes "AAAAAAAAAAAAAAAAAAAAAAAAAAAAAAAB"
 
+-- the same of connections 2 and 3
+abbrev pub second_token : List ℕ
+second_token = codes "AAAAAAAAAAAAAAAAAAAAAAAAAAAAAAAC"
+
+abbrev pub third_token : List ℕ
+third_token = codes "AAAAAAAAAAAAAAAAAAAAAAAAAAAAAAAD"
+
 -- a token of connection 1, at moment 1,000
 abbrev pub told : List ConnectionEvent
 told = Negotiated 1 first_token true 1000 ∷ []

@@ -1,7 +1,7 @@
 -- The hub machine: what the peers of a server do, round by round, and the deeds that their jobs hand up. The latest happening comes first.
 -- This project's own rules: in a round each due job has one turn, connection by connection in the order of their numbers; a deed is
--- carried out as it is handed up; a member of a broadcast that has no room is closed as too slow.
-use Rattle.std.specs.Prelude.{◌≡◌, ℕ, ◌+◌, max, Bool, false, not, ◌&&◌, ◌||◌, ◌==◌, nat_lt, nat_le, List, [], ◌∷◌, ◌++◌, map, filter, find, length, sum_by, Option, Some, None, is_some, if◌then◌else◌}
+-- carried out as it is handed up, but for a Join of one group too many; a member of a broadcast that has no room is closed as too slow.
+use Rattle.std.specs.Prelude.{◌≡◌, ℕ, ◌+◌, max, Bool, true, false, not, ◌&&◌, ◌||◌, ◌==◌, nat_lt, nat_le, List, [], ◌∷◌, ◌++◌, map, filter, find, length, sum_by, Option, Some, None, is_some, if◌then◌else◌}
 use Rattle.hv_value.specs.Tree.{Tree, text}
 use Rattle.hv_value.specs.declared.value.Value.TheVariants as value
 use Rattle.hm_message.specs.declared.message.Codec.{Codec}
@@ -24,7 +24,7 @@ use Rattle.hd_calls.specs.Peers as peers
 use Rattle.hd_calls.specs.Rules.{next_job, settles, IsPeer}
 use Rattle.hd_rooms.specs.declared.vocabulary.Asked.{Asked}
 use Rattle.hd_rooms.specs.declared.vocabulary.Asked.TheVariants as keeper
-use Rattle.hd_rooms.specs.Registry.{Pair, Lists, with_pair, without_pair, members}
+use Rattle.hd_rooms.specs.Registry.{Pair, Lists, with_pair, with_member, without_pair, may_join, members}
 use Rattle.hd_server.specs.Lives.{numbers_to}
 
 -- what became of one member of a broadcast
@@ -78,12 +78,28 @@ notice_of codec (Post group target arguments) = Some (notice codec target argume
 notice_of codec (Tell user target arguments) = Some (notice codec target arguments)
 notice_of codec _ = None
 
--- what a job is told of its deed, by what the keeper was asked and answered
-abbrev pub answer_to : Option Asked → Input
-answer_to (Some (keeper.Log room who words is_resumable)) = if is_resumable then Done value.Null else Failed
-answer_to (Some (keeper.History room most (Some texts))) = Done (value.List (map text texts))
-answer_to (Some (keeper.History room most None)) = Failed
-answer_to _ = Done value.Null
+-- who joined a group and didn't leave it. A Join by which a connection would be in too many groups isn't carried out
+abbrev pub joined : List MachineEvent → List Pair
+joined [] = []
+joined (Carries c j (Join group) fates asked ∷ h) = with_member (group, c) (joined h)
+joined (Carries c j (Leave group) fates asked ∷ h) = without_pair (group, c) (joined h)
+joined (_ ∷ h) = joined h
+
+-- whether a deed of the connection is carried out, where these joined
+abbrev pub may_do : ℕ → Deed → List Pair → Bool
+may_do c (Join group) pairs = may_join (group, c) pairs
+may_do c _ pairs = true
+
+-- what a job is told of a deed that is carried out, by what the keeper was asked and answered
+abbrev pub kept_as : Option Asked → Input
+kept_as (Some (keeper.Log room who words is_resumable)) = if is_resumable then Done value.Null else Failed
+kept_as (Some (keeper.History room most (Some texts))) = Done (value.List (map text texts))
+kept_as (Some (keeper.History room most None)) = Failed
+kept_as _ = Done value.Null
+
+-- what the connection's job is told of its deed
+abbrev pub answer_to : ℕ → Deed → Option Asked → List MachineEvent → Input
+answer_to c d asked h = if may_do c d (joined h) then kept_as asked else Failed
 
 abbrev pub outcome_in : ℕ → List (ℕ × DeliveryOutcome) → Option DeliveryOutcome
 outcome_in c [] = None
@@ -107,7 +123,7 @@ moves c (Does k m ∷ h) = if c == k then m ∷ moves c h else moves c h
 moves c (Rounds now ∷ h) = if is_there c h then peers.Rounds ∷ moves c h else moves c h
 moves c (Carries k j d fates asked ∷ h) =
     let x = with_fate d (settings_of c h) (outcome_in c fates) (moves c h) in
-    if c == k then Answers j (answer_to asked) ∷ x else x
+    if c == k then Answers j (answer_to k d asked h) ∷ x else x
 moves c (_ ∷ h) = moves c h
 
 abbrev pub is_open_at : Option Settings → List PeerEvent → Bool
@@ -123,13 +139,6 @@ abbrev pub ArePeers : {Job : Type 0} → Hub Job → List MachineEvent → Type 
 ArePeers hub h = (c : ℕ) (t : Settings) → settings_of c h ≡ Some t → IsPeer hub t (moves c h)
 
 -- ---- groups and users
-
--- who joined a group and didn't leave it
-abbrev pub joined : List MachineEvent → List Pair
-joined [] = []
-joined (Carries c j (Join group) fates asked ∷ h) = with_pair (group, c) (joined h)
-joined (Carries c j (Leave group) fates asked ∷ h) = without_pair (group, c) (joined h)
-joined (_ ∷ h) = joined h
 
 -- which user each connection is
 abbrev pub user_pairs : List MachineEvent → List Pair

@@ -1,9 +1,14 @@
 -- The numbers in the rules of a server, which are this project's own.
-use Rattle.std.specs.Prelude.{ℕ, ◌^◌}
+use Rattle.std.specs.Prelude.{◌≤◌, ℕ, ◌^◌}
 
--- the most connections that live at one moment
+-- the most connections that live at one moment, of any server
 abbrev pub most_live : ℕ
 most_live = 10000
+
+-- a server may be begun with this as the greatest number of its live connections
+pub record IsLiveLimit (live : ℕ) : Type 0 where
+  pub not_less : 1 ≤ live
+  pub not_more : live ≤ most_live
 
 -- the most connections that are ever made
 abbrev pub most_connections : ℕ

@@ -6,6 +6,8 @@ use Rattle.std.specs.Fmt.{decimal}
 use Rattle.hw_lanes.specs.declared.http.Request.{Request}
 use Rattle.hw_lanes.specs.declared.http.Reply.{Reply}
 use Rattle.hw_lanes.specs.declared.http.BodyKind.TheVariants as kind
+use Rattle.hw_lanes.specs.declared.http.ReplyField.{ReplyField}
+use Rattle.hw_lanes.specs.declared.http.ReplyField.TheVariants.{AllowPost, AllowGetPostDelete, AuthenticateBearer}
 use Rattle.hd_delivery.specs.declared.vocabulary.Side.TheVariants.{Server}
 use Rattle.hd_delivery.specs.declared.vocabulary.Reason.{Reason}
 use Rattle.hd_delivery.specs.declared.vocabulary.Reason.TheVariants as reason
@@ -21,22 +23,28 @@ use Rattle.hw_door.specs.declared.heard.Event.TheVariants as event
 use Rattle.hd_server.specs.declared.vocabulary.Life.{Life}
 use Rattle.hd_server.specs.declared.vocabulary.Life.TheVariants.{Polling}
 use Rattle.hd_server.specs.declared.vocabulary.Said.TheVariants as say
-use Rattle.hd_server.specs.Numbers.{most_frame, most_held, most_held_bytes}
-use Rattle.hd_server.specs.Lives.{ConnectionEvent, Negotiated, Opened, Socketed, Polled, Answered, LaneLost, Expired, Removed, made, conn_with, is_resumable_promise, socket_of, poll_of, standing, life_of_some, is_busy, overdue}
+use Rattle.hd_server.specs.Numbers.{most_frame, most_held, most_held_bytes, most_live}
+use Rattle.hd_server.specs.Lives.{ConnectionEvent, Negotiated, Opened, Socketed, Polled, Answered, LaneLost, Expired, Removed, made, conn_with, is_resumable_promise, socket_of, poll_of, standing, life_of_some, gives_way, is_busy, overdue}
 use Rattle.hd_server.specs.Texts.{token_of, negotiate_body}
-use Rattle.hd_server.specs.Table.{Caller, Facts, Outcome, Refusal, NewToken, PlainSocket, TokenSocket, FirstPoll, NextPoll, LastPoll, Posting, Deletion, id_in, asks_keeper, caller_without, caller_told, outcome}
+use Rattle.hd_server.specs.Table.{Caller, Facts, Outcome, Refusal, NewToken, PlainSocket, TokenSocket, FirstPoll, NextPoll, LastPoll, Posting, Deletion, is_base, id_in, asks_keeper, caller_without, caller_told, outcome}
 use Rattle.hd_server.specs.Machine.{Connects, Does, Goes, settings_of, connections}
 use Rattle.hd_server.specs.Doings.{ServerEvent, Learns, Draws, Notes, Works, Says, notes, work, wants_shut, was_refused, user_of, history, config_for, has_peer, is_up, may_resume}
 
--- how a server is begun: its base, how frames are written and read, and the limits of each end
+-- how a server is begun: its base, how frames are written and read, the limits of each end, and how many connections may live
 pub record Setup : Type 0 where
   pub base : List ℕ
   pub wire : Wire
   pub limits : Limits
+  pub live : ℕ
 
 -- the setup of every server with this base and wire
 abbrev pub usual_setup : List ℕ → Wire → Setup
-usual_setup base wire = record { base = base; wire = wire; limits = record { frame = most_frame; count = most_held; bytes = most_held_bytes } }
+usual_setup base wire = record {
+  base = base;
+  wire = wire;
+  limits = record { frame = most_frame; count = most_held; bytes = most_held_bytes };
+  live = most_live;
+}
 
 -- these doings, the first first, after those
 abbrev pub onto : {A : Type 0} → List A → List A → List A
@@ -92,27 +100,51 @@ expiries now h = flat_map (λ c. expiring now (standing c (notes h)) c h) (overd
 
 -- a status alone
 abbrev pub bare_reply : ℕ → Reply
-bare_reply status = record { status = status; kind = kind.None; body = []; accept = None }
+bare_reply status = record { status = status; kind = kind.None; body = []; accept = None; field = None; close = false }
 
 abbrev pub socket_reply : Option (List ℕ) → Reply
-socket_reply accept = record { status = 101; kind = kind.None; body = []; accept = accept }
+socket_reply accept = record { status = 101; kind = kind.None; body = []; accept = accept; field = None; close = false }
 
 abbrev pub token_reply : List ℕ → Reply
-token_reply body = record { status = 200; kind = kind.Json; body = body; accept = None }
+token_reply body = record { status = 200; kind = kind.Json; body = body; accept = None; field = None; close = false }
+
+-- which methods a path allows that is the base, or else the negotiate (RFC 9110, section 10.2.1)
+abbrev pub allowed_at : Bool → ReplyField
+allowed_at true = AllowGetPostDelete
+allowed_at false = AllowPost
+
+-- what a refusal says of requests that would not be refused so: the methods that are allowed (section 15.5.6), or how a caller is known
+-- (section 11.6.1). A path with 405 is one of the two
+abbrev pub field_at : Bool → ℕ → Option ReplyField
+field_at at_base status = if status == 405 then Some (allowed_at at_base) else (if status == 401 then Some AuthenticateBearer else None)
+
+abbrev pub refusal_reply : List ℕ → Request → ℕ → Reply
+refusal_reply base r status = record (bare_reply status) { field = field_at (is_base base r) status }
 
 -- the frames of a poll
 abbrev pub frames_reply : List ℕ → Reply
-frames_reply body = record { status = 200; kind = kind.Octets; body = body; accept = None }
+frames_reply body = record { status = 200; kind = kind.Octets; body = body; accept = None; field = None; close = false }
 
 -- the lane is shut, unless the door shut it with a refusal
 abbrev pub shutting : ℕ → List ServerEvent → List ServerEvent
 shutting lane h = if was_refused lane h then [] else Says (say.Shut lane) ∷ []
 
+-- the lane is shut after a reply of this status: after 400, and where the request asked for that, but for 101; unless the door shut it with
+-- a refusal
+abbrev pub ends_lane : ℕ → ℕ → List ServerEvent → Bool
+ends_lane lane status h = ((status == 400) || (not (status == 101) && wants_shut lane h)) && not (was_refused lane h)
+
+-- the reply as it is said on a lane: it tells whether the lane is shut after it
+abbrev pub reply_on : ℕ → Reply → List ServerEvent → Reply
+reply_on lane reply h = record reply { close = ends_lane lane reply.status h }
+
+-- the end of a lane that is shut after its reply
+abbrev pub shutting_after : ℕ → Reply → List ServerEvent → List ServerEvent
+shutting_after lane reply h = if ends_lane lane reply.status h then Says (say.Shut lane) ∷ [] else []
+
 -- a reply, and the end of a lane that is shut after it
 abbrev pub replying : ℕ → Reply → List ServerEvent → List ServerEvent
-replying lane reply h =
-    Says (say.Reply lane reply) ∷
-    (if (reply.status == 400) || (wants_shut lane h && not (reply.status == 101)) then shutting lane h else [])
+replying lane reply h = Says (say.Reply lane (reply_on lane reply h)) ∷ shutting_after lane reply h
 
 -- a poll that is held ends with 204
 abbrev pub ending_poll : ℕ → ℕ → Option (ℕ × ℕ) → List ServerEvent → List ServerEvent
@@ -145,7 +177,7 @@ caller_by (Some token) bearer name = caller_told name
 abbrev pub facts : Setup → ℕ → Request → Option (Option (List ℕ)) → Bool → List ServerEvent → Facts
 facts s now r name lots_failed h = record {
   caller = caller_by (asks_keeper s.base r) r.bearer name;
-  busy = is_busy now (notes h);
+  busy = is_busy s.live now (notes h);
   lots_failed = lots_failed;
   life = life_of_some (named_conn r h) now (notes h);
   granted = may_resume_some (named_conn r h) h;
@@ -195,6 +227,14 @@ abbrev pub shutting_some : Option ℕ → List ServerEvent → List ServerEvent
 shutting_some None h = []
 shutting_some (Some lane) h = shutting lane h
 
+abbrev pub removing_some : Option ℕ → List ServerEvent → List ServerEvent
+removing_some None h = []
+removing_some (Some c) h = removing_conn c h
+
+-- where as many live as may, nothing is kept of the first that nobody used yet
+abbrev pub giving_way : Setup → ℕ → List ServerEvent → List ServerEvent
+giving_way s now h = removing_some (gives_way s.live now (notes h)) h
+
 -- a token of what was drawn and the connection's number
 abbrev pub new_token : PendingRequest → ℕ → List ℕ → Bool → List ServerEvent → List ServerEvent
 new_token o c token reconnect h = Notes (Negotiated c token reconnect o.now) ∷ replying o.lane (token_reply (negotiate_body c token reconnect)) h
@@ -205,10 +245,16 @@ new_plain s o c h = Notes (Opened c o.now) ∷ standing_on s o c false (Notes (O
 
 -- what is done about a request, by its outcome; c is the connection that it names
 abbrev pub request_plan : Setup → PendingRequest → Option (List ℕ) → ℕ → List ServerEvent → Outcome → Plan
-request_plan s o drawn c h (Refusal status) = plan_of (replying o.lane (bare_reply status) h)
+request_plan s o drawn c h (Refusal status) = plan_of (replying o.lane (refusal_reply s.base o.request status) h)
 request_plan s o drawn c h (NewToken reconnect) =
-    let k = suc (made (notes h)) in plan_of (new_token o k (token_of (unwrap_or drawn []) k) reconnect h)
-request_plan s o drawn c h PlainSocket = plan_of (new_plain s o (suc (made (notes h))) h)
+    let room = giving_way s o.now h in
+    let g = onto room h in
+    let k = suc (made (notes g)) in
+    plan_of (room ++ new_token o k (token_of (unwrap_or drawn []) k) reconnect g)
+request_plan s o drawn c h PlainSocket =
+    let room = giving_way s o.now h in
+    let g = onto room h in
+    plan_of (room ++ new_plain s o (suc (made (notes g))) g)
 request_plan s o drawn c h TokenSocket =
     plan_of (shutting_some (socket_of c (notes h)) h ++ standing_on s o c (is_resumable_promise c (notes h)) h)
 request_plan s o drawn c h FirstPoll = record {

@@ -10,7 +10,9 @@ use Rattle.hm_message.specs.declared.message.Message.{Message}
 use Rattle.hm_message.specs.declared.message.Message.TheVariants.{Invocation, Completion}
 use Rattle.hd_delivery.specs.Frames.{LinkFrame, Request, Response, Refusal, Numbered, Ack, Sequence, Ping, Close, Strange}
 use Rattle.hd_delivery.specs.Bytes.{Reading, Waits, Reads, Wire}
-use Rattle.hw_lanes.specs.declared.http.Method.TheVariants.{Get, Post, Delete}
+use Rattle.hw_lanes.specs.declared.http.Method.TheVariants.{Get, Post, Delete, Other}
+use Rattle.hw_lanes.specs.declared.http.Reply.{Reply}
+use Rattle.hw_lanes.specs.declared.http.ReplyField.{ReplyField}
 use Rattle.hd_rooms.specs.declared.vocabulary.Asked.{Asked}
 use Rattle.hd_rooms.specs.declared.vocabulary.Asked.TheVariants as keeper
 use Rattle.hd_rooms.specs.Registry.{members}
@@ -20,11 +22,11 @@ use Rattle.hw_door.specs.declared.heard.Event.TheVariants as event
 use Rattle.hw_door.specs.declared.heard.Heard.{Heard}
 use Rattle.hd_server.specs.declared.vocabulary.Said.{Said}
 use Rattle.hd_server.specs.declared.vocabulary.Said.TheVariants as say
-use Rattle.hd_server.specs.LivesExamples.{sixteen_zeros, first_token}
+use Rattle.hd_server.specs.LivesExamples.{sixteen_zeros, first_token, third_token}
 use Rattle.hd_server.specs.TableExamples.{request, key}
 use Rattle.hd_server.specs.Machine.{registry, first_turn}
 use Rattle.hd_server.specs.Doings.{ServerEvent, work, said}
-use Rattle.hd_server.specs.Plans.{Setup, usual_setup}
+use Rattle.hd_server.specs.Plans.{Setup, usual_setup, bare_reply}
 use Rattle.hd_server.specs.Serves.{Serves}
 use Rattle.hd_server.specs.Plain.{Scene, turn, run}
 
@@ -126,6 +128,10 @@ setup = usual_setup (codes "/hub") wire
 abbrev pub setup_of_two : Setup
 setup_of_two = record setup { limits = record setup.limits { count = 2 } }
 
+-- where so many connections live at most
+abbrev pub setup_of_live : ℕ → Setup
+setup_of_live most = record setup { live = most }
+
 -- an event at which nobody is asked
 abbrev pub at : ℕ → Event → Scene
 at now event = record { now = now; event = event; name = None; drawn = None; answers = [] }
@@ -169,12 +175,33 @@ delete lane = event.Request lane (request Delete (codes "/hub") (with_token firs
 abbrev pub unnamed_poll : ℕ → Event
 unnamed_poll lane = event.Request lane (request Get (codes "/hub") [] None [])
 
+-- a negotiate, a request at the base and a socket of one whose access token is nobody's, each of which is refused
+abbrev pub get_negotiate : ℕ → Event
+get_negotiate lane = event.Request lane (request Get (codes "/hub/negotiate") (codes "negotiateVersion=1") None [])
+
+abbrev pub other_method : ℕ → Event
+other_method lane = event.Request lane (request Other (codes "/hub") (with_token first_token) None [])
+
+abbrev pub strangers_socket : ℕ → Event
+strangers_socket lane = event.Request lane (record (request Get (codes "/hub") [] key []) { bearer = Some (codes "abc") })
+
+-- the keeper knows no user by that access token
+abbrev pub at_stranger : ℕ → Event → Scene
+at_stranger now event = record { now = now; event = event; name = Some None; drawn = None; answers = [] }
+
+-- the door refuses what came on the lane
+abbrev pub refused : ℕ → Event
+refused lane = event.Refused lane (record { status = 400; field = None })
+
 -- the lane is to be shut after the reply
 abbrev pub last_poll : ℕ → Event
 last_poll lane = event.Request lane (record (request Get (codes "/hub") (with_token first_token) None []) { shut = true })
 
 abbrev pub last_socket : ℕ → Event
 last_socket lane = event.Request lane (record (request Get (codes "/hub") [] key []) { shut = true })
+
+abbrev pub last_negotiate : ℕ → Event
+last_negotiate lane = event.Request lane (record (request Get (codes "/hub/negotiate") [] None []) { shut = true })
 
 -- ---- what is said
 
@@ -190,9 +217,21 @@ said_at gs = said_by setup gs []
 abbrev pub said_after : List Scene → List Scene → List (List Said)
 said_after before gs = drop (length before) (said_at (before ++ gs))
 
+-- where so many connections live at most
+abbrev pub said_of_live : ℕ → List Scene → List (List Said)
+said_of_live most gs = said_by (setup_of_live most) gs []
+
 -- the connection that has a turn in a round after these events
 abbrev pub next_after : List Scene → Option ℕ
 next_after gs = first_turn 0 (work (run rooms setup gs []))
+
+-- a refusal that tells what would not be refused
+abbrev pub told_reply : ℕ → ReplyField → Reply
+told_reply status field = record (bare_reply status) { field = Some field }
+
+-- the reply after which its lane is shut
+abbrev pub closing_reply : Reply → Reply
+closing_reply reply = record reply { close = true }
 
 -- a frame as a message of text
 abbrev pub wrote : ℕ → List ℕ → Said
@@ -240,7 +279,7 @@ abbrev pub room_of_three : List Scene
 room_of_three =
     at 0 (plain_socket 1) ∷ at 0 (event.Bytes 1 (1 ∷ 4 ∷ 4 ∷ [])) ∷
     at 0 (plain_socket 2) ∷ at 0 (event.Bytes 2 (3 ∷ 4 ∷ [])) ∷
-    at_drawing 0 (negotiate 9) ∷ at 0 (socket_with (codes "AAAAAAAAAAAAAAAAAAAAAAAAAAAAAAAD") 3) ∷ at 0 (event.Bytes 3 (2 ∷ 4 ∷ [])) ∷ at 0 event.Quiet ∷ []
+    at_drawing 0 (negotiate 9) ∷ at 0 (socket_with third_token 3) ∷ at 0 (event.Bytes 3 (2 ∷ 4 ∷ [])) ∷ at 0 event.Quiet ∷ []
 
 abbrev pub posts_a_text : List Scene
 posts_a_text = at_with 0 (event.Bytes 1 (3 ∷ [])) (keeper.Log (codes "r") (codes "1") (codes "hi") true) ∷ at 0 event.Quiet ∷ at 0 event.Quiet ∷ []

@@ -2,7 +2,7 @@
 
 ghost use Rattle.std.specs.Prelude.{◌≡◌, ◌+◌};
 ghost use Rattle.hd_delivery.specs.Numbers.{most_framing};
-ghost use Rattle.hd_server.specs.Laws.{BodiesAreBounded, ConnectionsInOrder, EachMemberOnce, EachRequestIsAnswered, FatesAreRefusals, FewLive, IdleTicksAreUnseen, LivesAreSettled, LotsMatterToTokens, MomentsComeOnce, NothingIsLeft, OutcomesSuit, ServedIsServes, ServersArePeers, ServersHaveFew, ServersNoteInOrder, SocketsByLife, TokensDiffer, TurnsAreTested, TurnsGoFurther, WhatIsToldGrows};
+ghost use Rattle.hd_server.specs.Laws.{AllowedAreServed, BodiesAreBounded, ConnectionsInOrder, EachMemberOnce, EachRequestIsAnswered, FatesAreRefusals, FewLive, GroupsAreFew, IdleTicksAreUnseen, LivesAreSettled, LotsMatterToTokens, MomentsComeOnce, NothingIsLeft, OutcomesSuit, ServedIsServes, ServersArePeers, ServersHaveFew, ServersNoteInOrder, SocketsByLife, TokensDiffer, TurnsAreTested, TurnsGoFurther, WhatIsToldGrows};
 ghost use Rattle.hd_server.specs.Numbers.{most_before_last, most_connections, most_frame, most_held, most_held_bytes, most_live, most_polled, most_wait, lives_for, held_for};
 
 use crate::vocabulary::{
@@ -41,6 +41,11 @@ pub fn lots_matter_to_tokens()
     ensures { LotsMatterToTokens }
 {}
 
+/// No request is refused with 405 whose method is allowed at its path, as a 405 tells.
+pub fn allowed_are_served()
+    ensures { AllowedAreServed }
+{}
+
 /// The machine lets a peer's jobs have turns exactly if the rules of peers do.
 pub fn turns_are_tested()
     ensures { TurnsAreTested }
@@ -59,6 +64,13 @@ pub fn broadcasts_once()
     ensures { EachMemberOnce }
 {
     hd_rooms::pairs_stay_distinct();
+}
+
+/// A connection is in 256 groups at most.
+pub fn groups_are_few()
+    ensures { GroupsAreFew }
+{
+    hd_rooms::groups_are_bounded();
 }
 
 /// In a round connections have their turns in the order of their numbers.
@@ -113,7 +125,7 @@ pub fn lives_are_settled()
     ensures { LivesAreSettled }
 {}
 
-/// At most 10,000 connections live, if moments don't fall, new ones are made while there is room, of the moments that come the first is
+/// At most so many connections live, if moments don't fall, new ones are made while fewer live, of the moments that come the first is
 /// noted, and anything else is noted only of one whose life is known.
 pub fn few_live()
     ensures { FewLive }
@@ -130,7 +142,7 @@ pub fn servers_note_in_order<Job>()
     ensures { ServersNoteInOrder Job }
 {}
 
-/// At most 10,000 connections of a server live, after each event and until the next.
+/// At most as many connections of a server live as it was begun with, after each event and until the next.
 pub fn servers_have_few<Job>()
     ensures { ServersHaveFew Job }
 {

@@ -10,8 +10,9 @@
 //! - `Serving`: how long it lets its door wait, and what it gives it to say (`ServesOn`).
 //!
 //! Proved (`Laws`): each connection of a server does what a peer can do by itself; after an event nothing is due on a socket or a held
-//! poll; at most 10,000 connections live; each request has at most one reply, and none waits for one but held polls; a deed is told to
-//! each member once, by what its end can send; a socket that names a token is answered by its life; a moment that has come comes once;
+//! poll; at most as many connections live as the server was begun with; each request has at most one reply, and none waits for one but
+//! held polls; a deed is told to each member once, by what its end can send; a connection is in 256 groups at most; a socket that names a
+//! token is answered by its life; a moment that has come comes once;
 //! the body of a poll is bounded if its frames are; an idle tick changes nothing that is said or read then. The rows of the table and
 //! whole sessions are computed.
 //!
@@ -25,19 +26,20 @@ mod table;
 mod vocabulary;
 
 pub use laws::{
-    bodies_are_bounded, broadcasts_once, connections_in_order, each_request_is_answered,
-    fates_are_refusals, few_live, idle_ticks, lives_are_settled, lots_matter_to_tokens,
-    moments_come_once, nothing_left, numbers_are_named, outcomes_suit, served_is_serves,
-    servers_are_peers, servers_have_few, servers_note_in_order, sockets_by_life, tokens_differ,
-    turns_are_tested, turns_go_further, what_is_told_grows,
+    allowed_are_served, bodies_are_bounded, broadcasts_once, connections_in_order,
+    each_request_is_answered, fates_are_refusals, few_live, groups_are_few, idle_ticks,
+    lives_are_settled, lots_matter_to_tokens, moments_come_once, nothing_left, numbers_are_named,
+    outcomes_suit, served_is_serves, servers_are_peers, servers_have_few, servers_note_in_order,
+    sockets_by_life, tokens_differ, turns_are_tested, turns_go_further, what_is_told_grows,
 };
 pub use lives::{connections, fresh_tokens, known_tokens, polls, sockets, tokens};
 pub use sessions::{
-    a_room_is_joined, broadcasts, closings, conflicts, ends_of_polls, first_sockets, held_polls,
-    histories, idle_servers, losses, refused_lanes, rooms, silences, takeovers,
+    a_room_is_joined, broadcasts, closings, conflicts, ends_of_polls, first_sockets, giving_way,
+    held_polls, histories, idle_servers, losses, refusals, refused_lanes, rooms, silences,
+    takeovers,
 };
 pub use table::{by_life, negotiates, without_token};
 pub use vocabulary::{
-    Caller, HELD_FOR, LIVES_FOR, Life, MOST_BEFORE_LAST, MOST_CONNECTIONS, MOST_FRAME, MOST_HELD,
-    MOST_HELD_BYTES, MOST_LIVE, MOST_POLLED, MOST_WAIT, Outcome, Said,
+    Caller, HELD_FOR, LIVES_FOR, Life, LiveLimit, MOST_BEFORE_LAST, MOST_CONNECTIONS, MOST_FRAME,
+    MOST_HELD, MOST_HELD_BYTES, MOST_LIVE, MOST_POLLED, MOST_WAIT, Outcome, Said,
 };

@@ -3,12 +3,13 @@
 
 ghost use Rattle.std.specs.Prelude.{◌≡◌, true, false, Some, None, [], ◌∷◌, ◌++◌, codes};
 ghost use Rattle.hw_door.specs.declared.heard.Event.TheVariants as event;
+ghost use Rattle.hw_lanes.specs.declared.http.ReplyField.TheVariants.{AllowPost, AllowGetPostDelete, AuthenticateBearer};
 ghost use Rattle.hd_server.specs.declared.vocabulary.Said.TheVariants as say;
 ghost use Rattle.hd_server.specs.Texts.{negotiate_body};
-ghost use Rattle.hd_server.specs.LivesExamples.{first_token};
+ghost use Rattle.hd_server.specs.LivesExamples.{first_token, second_token, third_token};
 ghost use Rattle.hd_server.specs.TableExamples.{key};
 ghost use Rattle.hd_server.specs.Plans.{bare_reply, frames_reply, socket_reply, token_reply};
-ghost use Rattle.hd_server.specs.Sessions.{IsServed, asks_history, at, at_drawing, delete, ended, expired_text, first_socket, held_before, joins_a_room, joins_and_posts, last_poll, last_socket, members_by_two, negotiate, next_after, on_socket, plain_socket, poll, polled_once, polls_and_posts, post, posted, posts_a_text, room_of_three, said_after, said_at, said_by_two, silent_until, socket, unnamed_poll, wrote};
+ghost use Rattle.hd_server.specs.Sessions.{asks_history, at, at_drawing, at_stranger, closing_reply, delete, ended, expired_text, first_socket, get_negotiate, held_before, IsServed, joins_a_room, joins_and_posts, last_negotiate, last_poll, last_socket, members_by_two, negotiate, next_after, on_socket, other_method, plain_socket, poll, polled_once, polls_and_posts, post, posted, posts_a_text, refused, room_of_three, said_after, said_at, said_by_two, said_of_live, silent_until, socket, socket_with, strangers_socket, told_reply, unnamed_poll, wrote};
 
 /// A room is joined and a text posted to it. Each job has one turn in a round, so its deeds come event by event.
 pub fn rooms()
@@ -42,8 +43,37 @@ pub fn conflicts()
     ensures polling { said_at (at_drawing 0 (negotiate 1) ∷ at 0 (poll 2) ∷ at 0 (socket 3) ∷ []) ≡
         (say.Reply 1 (token_reply (negotiate_body 1 first_token true)) ∷ []) ∷
         (say.Reply 2 (bare_reply 200) ∷ []) ∷ (say.Reply 3 (bare_reply 409) ∷ []) ∷ [] }
-    ensures unnamed { said_at (at 0 (unnamed_poll 1) ∷ []) ≡ (say.Reply 1 (bare_reply 400) ∷ say.Shut 1 ∷ []) ∷ [] }
+    ensures unnamed { said_at (at 0 (unnamed_poll 1) ∷ []) ≡ (say.Reply 1 (closing_reply (bare_reply 400)) ∷ say.Shut 1 ∷ []) ∷ [] }
     ensures lots_fail { said_at (at 0 (negotiate 1) ∷ []) ≡ (say.Reply 1 (bare_reply 500) ∷ []) ∷ [] }
+{}
+
+/// Where as many connections live as may, the first that nobody used gives way to a new token or socket; one that was used gives way to
+/// none, and nothing gives way to a token for which nothing was drawn.
+pub fn giving_way()
+    ensures first { said_of_live 2 (at_drawing 0 (negotiate 1) ∷ at_drawing 0 (negotiate 2) ∷ at_drawing 0 (negotiate 3) ∷
+        at 0 (socket 4) ∷ at 0 (socket_with second_token 5) ∷ at 0 (socket_with third_token 6) ∷ []) ≡
+        (say.Reply 1 (token_reply (negotiate_body 1 first_token true)) ∷ []) ∷
+        (say.Reply 2 (token_reply (negotiate_body 2 second_token true)) ∷ []) ∷
+        (say.Reply 3 (token_reply (negotiate_body 3 third_token true)) ∷ []) ∷
+        (say.Reply 4 (bare_reply 404) ∷ []) ∷ (say.Reply 5 (socket_reply key) ∷ []) ∷ (say.Reply 6 (socket_reply key) ∷ []) ∷ [] }
+    ensures to_a_socket { said_of_live 1 (at_drawing 0 (negotiate 1) ∷ at 0 (plain_socket 2) ∷ at 0 (socket 3) ∷ []) ≡
+        (say.Reply 1 (token_reply (negotiate_body 1 first_token true)) ∷ []) ∷
+        (say.Reply 2 (socket_reply key) ∷ []) ∷ (say.Reply 3 (bare_reply 404) ∷ []) ∷ [] }
+    ensures used { said_of_live 1 (at_drawing 0 (negotiate 1) ∷ at 0 (socket 2) ∷ at_drawing 0 (negotiate 3) ∷ at 0 (plain_socket 4) ∷ []) ≡
+        (say.Reply 1 (token_reply (negotiate_body 1 first_token true)) ∷ []) ∷ (say.Reply 2 (socket_reply key) ∷ []) ∷
+        (say.Reply 3 (bare_reply 503) ∷ []) ∷ (say.Reply 4 (bare_reply 503) ∷ []) ∷ [] }
+    ensures lots_fail { said_of_live 1 (at_drawing 0 (negotiate 1) ∷ at 0 (negotiate 2) ∷ at 0 (socket 3) ∷ []) ≡
+        (say.Reply 1 (token_reply (negotiate_body 1 first_token true)) ∷ []) ∷
+        (say.Reply 2 (bare_reply 500) ∷ []) ∷ (say.Reply 3 (socket_reply key) ∷ []) ∷ [] }
+{}
+
+/// A refusal tells what its path allows, or how a caller is known. A lane that is to end says so in its last reply, and only there.
+pub fn refusals()
+    ensures negotiate { said_at (at 0 (get_negotiate 1) ∷ []) ≡ (say.Reply 1 (told_reply 405 AllowPost) ∷ []) ∷ [] }
+    ensures base { said_at (at 0 (other_method 1) ∷ []) ≡ (say.Reply 1 (told_reply 405 AllowGetPostDelete) ∷ []) ∷ [] }
+    ensures stranger { said_at (at_stranger 0 (strangers_socket 1) ∷ []) ≡ (say.Reply 1 (told_reply 401 AuthenticateBearer) ∷ []) ∷ [] }
+    ensures last { said_at (at 0 (last_negotiate 1) ∷ at 0 (get_negotiate 2) ∷ []) ≡
+        (say.Reply 1 (closing_reply (told_reply 405 AllowPost)) ∷ say.Shut 1 ∷ []) ∷ (say.Reply 2 (told_reply 405 AllowPost) ∷ []) ∷ [] }
 {}
 
 /// Long polling: the first poll is answered at once, the second is held until the third comes.
@@ -98,18 +128,18 @@ pub fn closings()
     ensures close { said_at (at 0 (plain_socket 1) ∷ at 0 (event.Bytes 1 (1 ∷ 6 ∷ [])) ∷ []) ≡
         (say.Reply 1 (socket_reply key) ∷ []) ∷ (wrote 1 (codes "{}") ∷ say.Shut 1 ∷ []) ∷ [] }
     ensures last_request { said_at (at 0 (last_socket 1) ∷ at 0 (last_poll 2) ∷ []) ≡
-        (say.Reply 1 (socket_reply key) ∷ []) ∷ (say.Reply 2 (bare_reply 404) ∷ say.Shut 2 ∷ []) ∷ [] }
+        (say.Reply 1 (socket_reply key) ∷ []) ∷ (say.Reply 2 (closing_reply (bare_reply 404)) ∷ say.Shut 2 ∷ []) ∷ [] }
 {}
 
 /// A lane on which the door refused a request is shut already, so it isn't shut again: after a reply, at a takeover, at a silence, and
 /// after the last bytes of a connection that is closed.
 pub fn refused_lanes()
-    ensures reply { said_after polled_once (at 0 (last_poll 5) ∷ at 0 (event.Refused 5 400) ∷ at 0 (poll 6) ∷ []) ≡
+    ensures reply { said_after polled_once (at 0 (last_poll 5) ∷ at 0 (refused 5) ∷ at 0 (poll 6) ∷ []) ≡
         [] ∷ [] ∷ (say.Reply 5 (bare_reply 204) ∷ []) ∷ [] }
-    ensures takeover { said_after on_socket (at 3000 (event.Refused 2 400) ∷ at 3000 (socket 3) ∷ []) ≡
+    ensures takeover { said_after on_socket (at 3000 (refused 2) ∷ at 3000 (socket 3) ∷ []) ≡
         [] ∷ (say.Reply 3 (socket_reply key) ∷ wrote 3 (codes "{\"sequenceId\":1,\"type\":9}") ∷ []) ∷ [] }
-    ensures silence { said_after on_socket (at 2000 (event.Refused 2 400) ∷ at 2000 event.Quiet ∷ at 32000 event.Quiet ∷ []) ≡ [] ∷ [] ∷ [] ∷ [] }
-    ensures close { said_at (at 0 (plain_socket 1) ∷ at 0 (event.Refused 1 400) ∷ at 0 (event.Bytes 1 (1 ∷ 6 ∷ [])) ∷ []) ≡
+    ensures silence { said_after on_socket (at 2000 (refused 2) ∷ at 2000 event.Quiet ∷ at 32000 event.Quiet ∷ []) ≡ [] ∷ [] ∷ [] ∷ [] }
+    ensures close { said_at (at 0 (plain_socket 1) ∷ at 0 (refused 1) ∷ at 0 (event.Bytes 1 (1 ∷ 6 ∷ [])) ∷ []) ≡
         (say.Reply 1 (socket_reply key) ∷ []) ∷ [] ∷ (wrote 1 (codes "{}") ∷ []) ∷ [] }
 {}
 

@@ -1,10 +1,14 @@
 //! The words that the definitions of this crate share with the code above: the life of a token, who asks for something and what is done
 //! about it, and what a server says at an event. The numbers in the rules of a server stand here too.
 
+ghost use Rattle.std.specs.Prelude.{◌≡◌, ◌↔◌, IsSome, IfSome};
+ghost use Rattle.hd_server.specs.Numbers.{IsLiveLimit, most_live};
+
 use hv_value::Text;
 use hw_lanes::{Reply, Vec8};
+use std::marker::Model;
 
-/// The most connections of a server that live at one moment.
+/// The most connections that live at one moment, of any server.
 pub const MOST_LIVE: u64 = 10_000;
 
 /// The most connections that a server ever makes.
@@ -34,6 +38,53 @@ pub const MOST_HELD_BYTES: usize = 100_000;
 
 /// For how many milliseconds a server lets its door wait at most.
 pub const MOST_WAIT: u64 = 100;
+
+/// The most connections of one server that live at one moment: from 1 to [`MOST_LIVE`].
+#[derive(Clone, Copy, Debug, PartialEq, Eq)]
+pub struct LiveLimit {
+    most: u64,
+}
+
+impl Model for LiveLimit {
+    ghost use Rattle.std.specs.Prelude.{ℕ};
+    ghost use Rattle.hd_server.specs.Numbers.{IsLiveLimit};
+
+    ghost Value = { ℕ };
+
+    ghost view = { λ live. live.most };
+
+    ghost invariant = { λ live. IsLiveLimit live.most };
+
+    ghost inverse = { λ most. record { most = most } };
+}
+
+impl LiveLimit {
+    /// 10,000.
+    pub fn usual() -> LiveLimit
+        ensures { result ≡ most_live }
+    {
+        LiveLimit { most: MOST_LIVE }
+    }
+
+    /// This limit, if it is from 1 to [`MOST_LIVE`].
+    pub fn of(most: u64) -> Option<LiveLimit>
+        ensures in_range { IsSome result ↔ IsLiveLimit most }
+        ensures value { IfSome result (λ live. live ≡ most) }
+    {
+        if most < 1 || MOST_LIVE < most {
+            return None;
+        }
+        Some(LiveLimit { most })
+    }
+
+    /// As a number.
+    pub fn most(self) -> u64
+        ensures value { result ≡ self }
+        ensures in_range { IsLiveLimit result }
+    {
+        self.most
+    }
+}
 
 /// The life of a token at a moment.
 #[derive(Clone, Copy, Debug, PartialEq, Eq)]

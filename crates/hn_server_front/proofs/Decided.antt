@@ -15,7 +15,7 @@ use Rattle.hn_server_front.specs.Routes.{RoutesTo, facts_at, outcome_at, token_a
 
 module _ (front : Front) (to : Route) (caller : Caller) (resumable : Bool) (now : ℕ) (out : Outcome) where
   abbrev ByRows : Type 0
-  ByRows = OfEach front (λ h. (base : List ℕ) (r : Request) → RoutesTo base r to → out ≡ outcome base r (facts_at r caller resumable now h))
+  ByRows = OfEach front (λ h. (base : List ℕ) (r : Request) → RoutesTo base r to → out ≡ outcome base r (facts_at front.live r caller resumable now h))
 
   abbrev OfTable : Type 0
   OfTable = (base : List ℕ) (r : Request) → RoutesTo base r to → (f : Facts) × (out ≡ outcome base r f)
@@ -26,7 +26,7 @@ module _ (front : Front) (to : Route) (caller : Caller) (resumable : Bool) (now 
 
   pub rows_always : Always → ByRows
   rows_always done h st base r routed =
-      let f : Facts = facts_at r caller resumable now h in
+      let f : Facts = facts_at front.live r caller resumable now h in
       done f ∙ sym (routed.by_rows f)
 
   pub table_always : Always → OfTable
@@ -38,9 +38,9 @@ module _ (front : Front) (to : Route) (caller : Caller) (resumable : Bool) (now 
   abbrev Enters : Bool → Type 0
   Enters busy = (f : Facts) → f.caller ≡ caller → f.busy ≡ busy → f.lots_failed ≡ false → out ≡ outcome_at to f
 
-  pub rows_of_entry : (busy : Bool) → OfEach front (λ h. busy ≡ is_busy now h) → Enters busy → ByRows
+  pub rows_of_entry : (busy : Bool) → OfEach front (λ h. busy ≡ is_busy front.live now h) → Enters busy → ByRows
   rows_of_entry busy full done h st base r routed =
-      let f : Facts = facts_at r caller resumable now h in
+      let f : Facts = facts_at front.live r caller resumable now h in
       done f refl (sym (full h st)) refl ∙ sym (routed.by_rows f)
 
   pub table_of_entry : (busy : Bool) → Enters busy → OfTable
@@ -54,7 +54,7 @@ module _ (front : Front) (to : Route) (caller : Caller) (resumable : Bool) (now 
 
   pub rows_of_token : (token : List ℕ) (l : Life) → token_at to ≡ Some token → OfEach front (λ h. l ≡ life token now h) → Suits l → ByRows
   rows_of_token token l named lives done h st base r routed =
-      let f : Facts = facts_at r caller resumable now h in
+      let f : Facts = facts_at front.live r caller resumable now h in
       let id : id_in r ≡ Some token = subst (λ (t : Option (List ℕ)). IfSome t (λ x. id_in r ≡ Some x)) named routed.named in
       done f (ap (λ (i : Option (List ℕ)). life_of_some (conn_of_some i h) now h) id ∙ sym (lives h st)) refl ∙ sym (routed.by_rows f)
 

@@ -11,3 +11,5 @@ pub mod Decided
 pub mod Versions
 pub mod Forgotten
 pub mod Making
+pub mod Fresh
+pub mod Leaving

@@ -7,10 +7,10 @@ use Rattle.std.specs.Map.{lookup}
 use Rattle.std.specs.Vec.{vec_capacity}
 use Rattle.indexmap.specs.IndexMap.{IndexMap, get, index_map_len, spare, Updates}
 use Rattle.hd_delivery.specs.Histories.{is_this}
-use Rattle.hd_server.specs.Numbers.{lives_for, most_connections, most_live}
+use Rattle.hd_server.specs.Numbers.{lives_for, most_connections}
 use Rattle.hd_server.specs.declared.vocabulary.Life.{Life}
 use Rattle.hd_server.specs.declared.vocabulary.Life.TheVariants.{Unknown, Fresh, Socket, Lost, Polling, Ending}
-use Rattle.hd_server.specs.Lives.{ConnectionEvent, Negotiated, Opened, made, numbers_to, is_made, is_removed, is_opened, is_busy, is_known, is_past, negotiated_at, is_resumable_promise, socket_of, lost_at, poll_of, poll_ended, ended_at, conn_with, deadline, life_of, live, past, standing, since}
+use Rattle.hd_server.specs.Lives.{ConnectionEvent, Negotiated, Opened, made, numbers_to, is_made, is_removed, is_opened, is_known, is_past, negotiated_at, is_resumable_promise, socket_of, lost_at, poll_of, poll_ended, ended_at, conn_with, deadline, life_of, live, past, standing, since}
 use Rattle.hn_server_front.specs.declared.entry.Entry.{Entry}
 use Rattle.hn_server_front.specs.declared.entry.Told.{Told}
 use Rattle.hn_server_front.specs.declared.front.Front.{Front}
@@ -338,7 +338,7 @@ kept_same : (n : ConnectionEvent) (h : List ConnectionEvent) → ((k : ℕ) → 
 kept_same n h same None = refl
 kept_same n h same (Some c) = ap (λ b. if b then None else Some c) (same c)
 
-begins_open : (h : List ConnectionEvent) (now : ℕ) → IsUnborn (suc (made h)) h → Begins (Opened (suc (made h)) now) (suc (made h)) None h
+pub begins_open : (h : List ConnectionEvent) (now : ℕ) → IsUnborn (suc (made h)) h → Begins (Opened (suc (made h)) now) (suc (made h)) None h
 begins_open h now u =
     let c : ℕ = suc (made h) in
     record {
@@ -384,7 +384,7 @@ text_is i k e = (bytes_eq-Decides i k).0 e
 text_same : (i k : List ℕ) → i ≡ k → same_text i k ≡ true
 text_same i k e = (bytes_eq-Decides i k).1 e
 
-begins_tell : (h : List ConnectionEvent) (token : List ℕ) (asked : Bool) (now : ℕ) (told : Told) → told.token ≡ token → told.now ≡ now → told.reconnect ≡ asked
+pub begins_tell : (h : List ConnectionEvent) (token : List ℕ) (asked : Bool) (now : ℕ) (told : Told) → told.token ≡ token → told.now ≡ now → told.reconnect ≡ asked
     → Begins (Negotiated (suc (made h)) token asked now) (suc (made h)) (Some told) h
 begins_tell h token asked now told spelled at_now granted =
     let c : ℕ = suc (made h) in
@@ -496,7 +496,7 @@ tells old mid new h token asked now told s few entries moments polls updates roo
     go text true = sym (ap (λ b. if b then None else Some (suc (made h))) (unborn_next old h s).held)
     go text false = s.tokens text ∙ sym (kept_same n h (λ k. refl) (conn_with text h))
 
--- ---- no more live then than may
+-- ---- one more lives then at most
 
 life_else : (n : ConnectionEvent) (h : List ConnectionEvent) (told : Option Told) (now k : ℕ) → Begins n (suc (made h)) told h → (k ≡ suc (made h) → ⊥)
     → life_of k now (n ∷ h) ≡ life_of k now h
@@ -508,7 +508,7 @@ at_most_one : (b : Bool) → cond b 1 0 ≤ 1
 at_most_one true = omega arith
 at_most_one false = omega arith
 
-live_more : (n : ConnectionEvent) (h : List ConnectionEvent) (told : Option Told) (now : ℕ) → Begins n (suc (made h)) told h → length (live now (n ∷ h)) ≤ suc (length (live now h))
+pub live_more : (n : ConnectionEvent) (h : List ConnectionEvent) (told : Option Told) (now : ℕ) → Begins n (suc (made h)) told h → length (live now (n ∷ h)) ≤ suc (length (live now h))
 live_more n h told now b =
     let known : ℕ → Bool = λ k. is_known (life_of k now (n ∷ h)) in
     let counted = ap (λ m. count m known) b.next in
@@ -516,32 +516,6 @@ live_more n h told now b =
     let others = count_alike (made h) known (λ k. is_known (life_of k now h)) (λ k l m. ap is_known (life_else n h told now k b (λ x. omega (arith, m, x)))) in
     let last = at_most_one (known (suc (made h))) in
     omega (arith, counted, next, others, last)
-
-room_left : (most count : ℕ) (b : Bool) → (nat_le most count || b) ≡ false → count < most
-room_left most count b e = elim (cases_lt count most) [
-  | inl l ↦ l
-  | inr l ↦ absurd (let z : false ≡ true = sym e ∙ or_left (nat_le most count) b (le-leb most count l) in cc)
-]
-
-live_few_more : (n : ConnectionEvent) (h : List ConnectionEvent) (told : Option Told) (now : ℕ) → Begins n (suc (made h)) told h → is_busy now h ≡ false
-    → length (live now (n ∷ h)) ≤ most_live
-live_few_more n h told now b free =
-    let room = room_left most_live (length (live now h)) (nat_le most_connections (made h)) free in
-    let more = live_more n h told now b in
-    omega (arith, room, more)
-
-pub opens_few : (f : Front) (h : List ConnectionEvent) (now c : ℕ) → c ≡ suc (made h) → Stands f h → is_busy now h ≡ false
-    → length (live now (Opened c now ∷ h)) ≤ most_live
-opens_few f h now c is s free =
-    subst (λ k. length (live now (Opened k now ∷ h)) ≤ most_live) (sym is)
-    (live_few_more (Opened (suc (made h)) now) h None now (begins_open h now (unborn_next f h s)) free)
-
-pub tells_few : (h : List ConnectionEvent) (c : ℕ) (token : List ℕ) (asked : Bool) (now : ℕ) → c ≡ suc (made h) → is_busy now h ≡ false
-    → length (live now (Negotiated c token asked now ∷ h)) ≤ most_live
-tells_few h c token asked now is free =
-    let told : Told = record { token = token; now = now; reconnect = asked } in
-    subst (λ k. length (live now (Negotiated k token asked now ∷ h)) ≤ most_live) (sym is)
-    (live_few_more (Negotiated (suc (made h)) token asked now) h (Some told) now (begins_tell h token asked now told refl refl refl) free)
 
 -- ---- the same of a number that is the next
 

@@ -53,11 +53,11 @@ pub record RoutesTo (base : List ℕ) (r : Request) (to : Route) : Type 0 where
 
 -- ---- what a front knows of a request
 
--- what the table looks at beside the request, by the notes: of the lots none has failed yet
-abbrev pub facts_at : Request → Caller → Bool → ℕ → List ConnectionEvent → Facts
-facts_at r caller resumable now h = record {
+-- what the table looks at beside the request, by the notes, where so many connections may live: of the lots none has failed yet
+abbrev pub facts_at : ℕ → Request → Caller → Bool → ℕ → List ConnectionEvent → Facts
+facts_at most r caller resumable now h = record {
   caller = caller;
-  busy = is_busy now h;
+  busy = is_busy most now h;
   lots_failed = false;
   life = life_of_some (conn_of_some (id_in r) h) now h;
   granted = resumable;

@@ -114,6 +114,7 @@ pub record IsRoomier (old new : Front) : Type 0 where
   pub polling : new.polls.waiting.items ≡ old.polls.waiting.items
   pub polls_capacity : vec_capacity old.polls.waiting ≤ vec_capacity new.polls.waiting
   pub polls_last : new.polls.lasts ≡ old.polls.lasts
+  pub live : new.live ≡ old.live
 
 -- one more connection is kept, which waits from the moment on at which its token was told, and holds no poll
 pub record IsEntered (old new : Front) (c : ℕ) (told : Option Told) : Type 0 where
@@ -129,3 +130,4 @@ pub record IsEntered (old new : Front) (c : ℕ) (told : Option Told) : Type 0 w
   pub capacity : vec_capacity old.moments.waiting ≤ vec_capacity new.moments.waiting
   pub lasts : new.moments.lasts ≡ old.moments.lasts
   pub polls : new.polls ≡ old.polls
+  pub live : new.live ≡ old.live

@@ -1,7 +1,7 @@
 //! What is kept of a connection until it is let go.
 
 ghost use Rattle.std.specs.Prelude.{◌≡◌, ℕ, List, ◌∷◌, option_map};
-ghost use Rattle.hd_server.specs.Lives.{ConnectionEvent, ends_then, is_polling, is_resumable_promise, life_of, past as past_of, poll_of, since as since_of, standing as standing_of};
+ghost use Rattle.hd_server.specs.Lives.{ConnectionEvent, ends_then, is_fresh, is_polling, is_resumable_promise, life_of, past as past_of, poll_of, since as since_of, standing as standing_of};
 ghost use Rattle.hn_server_front.specs.Entries.{HasEnded, HasPolled, IsLost, IsNew, Remembers, moment_told, note_of};
 
 use crate::moments::is_past;
@@ -186,6 +186,13 @@ impl Entry {
         }
     }
 
+    /// Whether nobody used it yet, and its moment hasn't come.
+    pub(crate) fn is_unused(&self, now: u64) -> bool
+        ensures { (c : ℕ) (h : List ConnectionEvent) → Remembers self.now c h → result ≡ is_fresh (life_of c now h) }
+    {
+        is_fresh(self.life(now))
+    }
+
     /// Whether its token begins to end when its moment comes. Else it is let go then.
     pub(crate) fn ends_then(&self) -> bool
         ensures { (c : ℕ) (h : List ConnectionEvent) → Remembers self.now c h → result ≡ ends_then c h }
@@ -211,6 +218,16 @@ pub(crate) fn told_at(told: &Option<Told>) -> Option<u64>
     match told {
         Some(told) => Some(told.now),
         None => None,
+    }
+}
+
+/// Whether it is the life of one that nobody used yet.
+fn is_fresh(life: Life) -> bool
+    ensures { result ≡ is_fresh life }
+{
+    match life {
+        Life::Fresh => true,
+        _ => false,
     }
 }
 

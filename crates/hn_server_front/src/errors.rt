@@ -7,7 +7,7 @@ use std::fmt;
 /// The first of these that holds. The front is as it was.
 #[derive(Clone, Copy, Debug, Drop, PartialEq, Eq)]
 pub enum FrontError {
-    /// 10,000 connections live, or 2^62 were made.
+    /// As many connections live as may and each was used, or 2^62 were made.
     Busy,
     NoMemory,
 }

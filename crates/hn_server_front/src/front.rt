@@ -1,11 +1,11 @@
 //! The connections of a server: what is noted of them, and the lives of their tokens.
 
-ghost use Rattle.std.specs.Prelude.{◌≡◌, ◌↔◌, ℕ, ◌+◌, ◌≤◌, ◌&&◌, suc, [], true, false, nat_le, Err, IfOk, IfErr, IfSome, OnOk, OnErr, length, is_some};
+ghost use Rattle.std.specs.Prelude.{◌≡◌, ◌↔◌, ℕ, ◌+◌, ◌≤◌, ◌&&◌, suc, [], true, false, Err, IfOk, IfErr, IfSome, OnOk, OnErr, length, is_some};
 ghost use Rattle.indexmap.specs.IndexMap.{index_map_len};
-ghost use Rattle.hd_server.specs.Numbers.{most_connections, most_live};
+ghost use Rattle.hd_server.specs.Numbers.{most_connections};
 ghost use Rattle.hd_server.specs.Lives.{Answered, Ended, LaneLost, Removed, ConnectionEvent, Polled, Socketed};
-ghost use Rattle.hd_server.specs.Lives.{ended_at, ends_then, is_busy, is_made, is_polling, is_resumable_promise, known_conn, life, life_of, live, overdue};
-ghost use Rattle.hn_server_front.specs.Calls.{Expires, IsFirst, IsNoted, OfEach, Opens, Stays, Tells, is_held_long, lane_of, poll_held};
+ghost use Rattle.hd_server.specs.Lives.{ended_at, ends_then, first_fresh, gives_way, is_busy, is_full, is_made, is_polling, is_resumable_promise, known_conn, life, life_of, live, overdue};
+ghost use Rattle.hn_server_front.specs.Calls.{Expires, GivesWay, IsFirst, IsNoted, OfEach, Opens, Stays, Tells, is_held_long, lane_of, poll_held};
 ghost use Rattle.hn_server_front.specs.Moments.{at, is_within};
 ghost use Rattle.hn_server_front.specs.Entries.{held_as, note_of};
 ghost use Rattle.hn_server_front.specs.Routes.{RoutesTo};
@@ -16,10 +16,10 @@ ghost use Rattle.hn_server_front.specs.declared.errors.FrontError.TheVariants.{B
 use crate::bodies::{Transports, body};
 use crate::entry::{Entry, EntryEvent, Held, Told, told_at};
 use crate::errors::FrontError;
-use crate::moments::{Moments, Waiting};
+use crate::moments::{Moments, Waiting, lesser};
 use crate::route::Route;
 use crate::token::{Token, token_for};
-use hd_server::{HELD_FOR, LIVES_FOR, Life, MOST_CONNECTIONS, MOST_LIVE, tokens_differ};
+use hd_server::{HELD_FOR, LIVES_FOR, Life, LiveLimit, MOST_CONNECTIONS, tokens_differ};
 use hw_lanes::{Request, Vec8};
 use indexmap::IndexMap;
 use std::alloc::{AllocError, Global};
@@ -32,11 +32,24 @@ pub struct Made {
     pub conn: u64,
     /// JSON.
     pub body: Vec8,
+    /// The connection that gave way to it, of which nothing is kept any more.
+    pub gone: Option<u64>,
+}
+
+/// A connection that was made without a token.
+#[derive(Clone, Copy, Debug, PartialEq, Eq)]
+pub struct Opened {
+    /// Its number, from 1.
+    pub conn: u64,
+    /// The connection that gave way to it, of which nothing is kept any more.
+    pub gone: Option<u64>,
 }
 
 /// The connections of a server, by their numbers and by their tokens. Moments are in milliseconds.
 #[derive(Drop)]
 pub struct Front {
+    /// How many may live.
+    live: LiveLimit,
     /// How many were made.
     made: u64,
     /// Those that aren't let go.
@@ -48,12 +61,21 @@ pub struct Front {
     polls: Moments,
 }
 
+/// The number of the next connection, and who gives way to it.
+#[derive(Clone, Copy, Debug, PartialEq, Eq)]
+struct Next {
+    conn: u64,
+    gone: Option<u64>,
+}
+
 impl Front {
-    /// No connections.
-    pub fn start(alloc: Global) -> Result<Front, AllocError>
-        ensures { IfOk result (λ front. Stands front []) }
+    /// No connections, of which so many may live at one moment.
+    pub fn start(alloc: Global, live: LiveLimit) -> Result<Front, AllocError>
+        ensures none { IfOk result (λ front. Stands front []) }
+        ensures limit { IfOk result (λ front. front.live ≡ live) }
     {
         Ok(Front {
+            live,
             made: 0,
             entries: IndexMap::new(alloc),
             tokens: BTreeMap::new(alloc),
@@ -161,14 +183,15 @@ impl Front {
         }
     }
 
-    /// Whether no further connection can be made: 10,000 live, or 2^62 were made.
+    /// Whether no further connection can be made: as many live as may and each was used, or 2^62 were made.
     pub fn busy(&self, now: u64) -> bool
-        ensures { OfEach self.now (λ h. result ≡ is_busy now h) }
+        ensures { OfEach self.now (λ h. result ≡ is_busy self.now.live now h) }
     {
         self.next(now).is_err()
     }
 
-    /// Makes a connection with a token of the 16 bytes that were drawn. `asked`: it can be resumed. After an error nothing has changed.
+    /// Makes a connection with a token of the 16 bytes that were drawn. `asked`: it can be resumed. If as many live as may, the one of the
+    /// least number that nobody used gives way: it is let go. After an error nothing has changed.
     pub fn negotiate(
         &mut self,
         alloc: Global,
@@ -176,8 +199,8 @@ impl Front {
         drawn: [u8; 16],
         now: u64,
     ) -> Result<Made, FrontError>
-        ensures ok { IfOk result (λ made_now. OfEach self.old (λ h. Tells All self.new h asked drawn now made_now)) }
-        ensures busy { OfEach self.old (λ h. (is_busy now h ≡ true) ↔ (result ≡ Err Busy)) }
+        ensures ok { IfOk result (λ made_now. OfEach self.old (λ h. Tells All self.old.live self.new h asked drawn now made_now)) }
+        ensures busy { OfEach self.old (λ h. (is_busy self.old.live now h ≡ true) ↔ (result ≡ Err Busy)) }
         ensures unchanged { OnErr result (Stays self.old self.new) }
     {
         self.tell(alloc, Transports::All, asked, drawn, now)
@@ -191,23 +214,27 @@ impl Front {
         drawn: [u8; 16],
         now: u64,
     ) -> Result<Made, FrontError>
-        ensures ok { IfOk result (λ made_now. OfEach self.old (λ h. Tells Sockets self.new h asked drawn now made_now)) }
-        ensures busy { OfEach self.old (λ h. (is_busy now h ≡ true) ↔ (result ≡ Err Busy)) }
+        ensures ok { IfOk result (λ made_now. OfEach self.old (λ h. Tells Sockets self.old.live self.new h asked drawn now made_now)) }
+        ensures busy { OfEach self.old (λ h. (is_busy self.old.live now h ≡ true) ↔ (result ≡ Err Busy)) }
         ensures unchanged { OnErr result (Stays self.old self.new) }
     {
         self.tell(alloc, Transports::Sockets, asked, drawn, now)
     }
 
-    /// Makes a connection without a token: its number. After an error nothing has changed.
-    pub fn open(&mut self, now: u64) -> Result<u64, FrontError>
-        ensures ok { IfOk result (λ conn. OfEach self.old (λ h. Opens self.new h now conn)) }
-        ensures busy { OfEach self.old (λ h. (is_busy now h ≡ true) ↔ (result ≡ Err Busy)) }
+    /// Makes a connection without a token, to which another gives way as to one with a token. After an error nothing has changed.
+    pub fn open(&mut self, now: u64) -> Result<Opened, FrontError>
+        ensures ok { IfOk result (λ opened. OfEach self.old (λ h. Opens self.old.live self.new h now opened)) }
+        ensures busy { OfEach self.old (λ h. (is_busy self.old.live now h ≡ true) ↔ (result ≡ Err Busy)) }
         ensures unchanged { OnErr result (Stays self.old self.new) }
     {
-        let conn = self.next(now)?;
+        let next = self.next(now)?;
         self.make_room()?;
-        self.enter(conn, None);
-        Ok(conn)
+        self.enter(next.conn, None);
+        self.give_way(next.gone);
+        Ok(Opened {
+            conn: next.conn,
+            gone: next.gone,
+        })
     }
 
     // ---- what is noted, which takes no memory. Of a number that no connection has nothing is noted
@@ -264,7 +291,8 @@ impl Front {
     /// The one that is overdue comes to its moment, and is handed out: one that only polled begins to end, if it doesn't yet, and every
     /// other is let go.
     pub fn expired(&mut self, now: u64) -> Option<u64>
-        ensures { OfEach self.old (λ h. Expires self.new h now result) }
+        ensures expires { OfEach self.old (λ h. Expires self.new h now result) }
+        ensures limit { OfEach self.old (λ _. self.new.live ≡ self.old.live) }
     {
         let conn = self.moments.first_due(now)?;
         if self.ends_then(conn) {
@@ -277,25 +305,50 @@ impl Front {
 
     // ---- parts of these
 
-    /// The number of the next connection, if one can be made.
-    fn next(&self, now: u64) -> Result<u64, FrontError>
-        ensures ok { IfOk result (λ conn. (conn ≡ suc self.now.made) × (conn ≤ most_connections)) }
-        ensures free { OnOk result (OfEach self.now (λ h. is_busy now h ≡ false)) }
-        ensures busy { OnErr result (OfEach self.now (λ h. is_busy now h ≡ true)) }
+    /// The next connection, if one can be made.
+    fn next(&self, now: u64) -> Result<Next, FrontError>
+        ensures ok { IfOk result (λ next. (next.conn ≡ suc self.now.made) × (next.conn ≤ most_connections)) }
+        ensures gone { IfOk result (λ next. OfEach self.now (λ h. next.gone ≡ gives_way self.now.live now h)) }
+        ensures free { OnOk result (OfEach self.now (λ h. is_busy self.now.live now h ≡ false)) }
+        ensures busy { OnErr result (OfEach self.now (λ h. is_busy self.now.live now h ≡ true)) }
         ensures refused { IfErr result (λ e. e ≡ Busy) }
     {
-        if self.made >= MOST_CONNECTIONS || self.is_full(now) {
+        if self.made >= MOST_CONNECTIONS {
             return Err(FrontError::Busy);
         }
-        Ok(self.made + 1)
+        let conn = self.made + 1;
+        if !self.is_full(now) {
+            return Ok(Next { conn, gone: None });
+        }
+        let Some(gone) = self.first_fresh(now) else {
+            return Err(FrontError::Busy);
+        };
+        Ok(Next {
+            conn,
+            gone: Some(gone),
+        })
     }
 
     /// Whether as many connections live as may.
     fn is_full(&self, now: u64) -> bool
-        ensures { OfEach self.now (λ h. result ≡ nat_le most_live (length (live now h))) }
+        ensures { OfEach self.now (λ h. result ≡ is_full self.now.live now h) }
     {
+        let most = self.live.most();
         let there = self.entries.len() as u64;
-        there >= MOST_LIVE && there.saturating_sub(self.forgotten(now)) >= MOST_LIVE
+        there >= most && there.saturating_sub(self.forgotten(now)) >= most
+    }
+
+    /// The connection of the least number that nobody used yet. It goes through all that aren't let go.
+    fn first_fresh(&self, now: u64) -> Option<u64>
+        ensures { OfEach self.now (λ h. result ≡ first_fresh now h) }
+    {
+        let mut first = None;
+        for (conn, entry) in self.entries.iter() {
+            if entry.is_unused(now) {
+                first = Some(lesser(first, *conn));
+            }
+        }
+        first
     }
 
     /// How many of those that aren't let go yet are unknown at a moment.
@@ -320,13 +373,14 @@ impl Front {
         drawn: [u8; 16],
         now: u64,
     ) -> Result<Made, FrontError>
-        ensures ok { IfOk result (λ made_now. OfEach self.old (λ h. Tells transports self.new h asked drawn now made_now)) }
-        ensures busy { OfEach self.old (λ h. (is_busy now h ≡ true) ↔ (result ≡ Err Busy)) }
+        ensures ok { IfOk result (λ made_now. OfEach self.old (λ h. Tells transports self.old.live self.new h asked drawn now made_now)) }
+        ensures busy { OfEach self.old (λ h. (is_busy self.old.live now h ≡ true) ↔ (result ≡ Err Busy)) }
         ensures unchanged { OnErr result (Stays self.old self.new) }
     {
         // A law: so the token is no other connection's.
         tokens_differ();
-        let conn = self.next(now)?;
+        let next = self.next(now)?;
+        let conn = next.conn;
         let token = token_for(alloc, drawn, conn)?;
         let body = body(alloc, transports, conn, &token, asked)?;
         let own = token.copy()?;
@@ -342,7 +396,21 @@ impl Front {
                 reconnect: asked,
             }),
         );
-        Ok(Made { conn, body })
+        self.give_way(next.gone);
+        Ok(Made {
+            conn,
+            body,
+            gone: next.gone,
+        })
+    }
+
+    /// Nothing is kept of the connection that gives way, if one does.
+    fn give_way(&mut self, gone: Option<u64>)
+        ensures { GivesWay self.old self.new gone }
+    {
+        if let Some(gone) = gone {
+            self.forget(gone);
+        }
     }
 
     /// Makes room for one more connection, and for all that is noted of it.

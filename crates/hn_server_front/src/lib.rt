@@ -16,10 +16,10 @@
 //!
 //! A front stands for the list of its notes, as `hd_server` has it: each call that makes or changes a connection adds its note. Proved:
 //! each answer but want of memory is what the definitions say of that list, whatever the order of calls and moments; what is done about a
-//! request is the table's. At most 10,000 connections live when one is made.
+//! request is the table's. Where as many connections live as may, the first that nobody used gives way to a new one; if each was used, none is made.
 //!
 //! The calls that note something take no memory: `negotiate` and `open` make room for all of a connection's notes. No call goes through
-//! connections but those whose moment has come.
+//! connections but those whose moment has come, unless as many live as may: then it goes through all, for the first that nobody used.
 //!
 //! The crate doesn't know peers, so whether an end may be resumed is handed in; nor lanes, nor what is said.
 #![tactic(auto)]
@@ -35,7 +35,7 @@ mod token;
 
 pub use entry::Held;
 pub use errors::FrontError;
-pub use front::{Front, Made};
+pub use front::{Front, Made, Opened};
 pub use moments::Waiting;
 pub use route::Route;
 pub use token::Token;

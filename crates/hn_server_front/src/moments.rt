@@ -134,7 +134,7 @@ fn least(waiting: &[Waiting]) -> Option<u64>
 }
 
 /// The lesser of two numbers, if there are two.
-fn lesser(least: Option<u64>, conn: u64) -> u64
+pub(crate) fn lesser(least: Option<u64>, conn: u64) -> u64
     ensures { result ≡ min (unwrap_or least conn) conn }
 {
     match least {

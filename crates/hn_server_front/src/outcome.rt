@@ -19,7 +19,7 @@ impl Front {
     /// aren't asked: if they fail after `NewToken`, it is a refusal of status 500.
     pub fn outcome(&self, route: &Route, caller: &Caller, resumable: bool, now: u64) -> Outcome
         ensures by_rows { OfEach self.now (λ h. (base : List ℕ) (r : RequestMeant) → RoutesTo base r route.now →
-            result ≡ table.outcome base r (facts_at r caller.now resumable now h)) }
+            result ≡ table.outcome base r (facts_at self.now.live r caller.now resumable now h)) }
         ensures of_table { (base : List ℕ) (r : RequestMeant) → RoutesTo base r route.now →
             (f : Facts) × (result ≡ table.outcome base r f) }
     {

@@ -2,7 +2,7 @@
 
 use crate::words::{drawn, method, token, yes_or_no};
 use hd_server::Life;
-use hn_server_front::{Front, FrontError, Held, Made, Route};
+use hn_server_front::{Front, FrontError, Held, Made, Opened, Route};
 use ht_kit::{Stop, as_text, first_word, number};
 use hw_lanes::{Request, Text8, Vec8};
 use std::alloc::Global;
@@ -58,14 +58,22 @@ pub fn negotiate(alloc: Global, front: &mut Front, all: bool, words: &str) -> Re
     } else {
         front.negotiate_sockets(alloc, asked, bytes, now)
     };
-    let Made { conn, body } = made.map_err(stop_of)?;
-    Ok(format!(in alloc; "made {conn} {}", as_text(body.bytes()))?)
+    let Made { conn, body, gone } = made.map_err(stop_of)?;
+    match gone {
+        Some(gone) => {
+            Ok(format!(in alloc; "made {conn} in place of {gone} {}", as_text(body.bytes()))?)
+        }
+        None => Ok(format!(in alloc; "made {conn} {}", as_text(body.bytes()))?),
+    }
 }
 
 /// A connection without a token.
 pub fn open(alloc: Global, front: &mut Front, words: &str) -> Result<String, Stop> {
-    let conn = front.open(number(words)?).map_err(stop_of)?;
-    Ok(format!(in alloc; "made {conn}")?)
+    let Opened { conn, gone } = front.open(number(words)?).map_err(stop_of)?;
+    match gone {
+        Some(gone) => Ok(format!(in alloc; "made {conn} in place of {gone}")?),
+        None => Ok(format!(in alloc; "made {conn}")?),
+    }
 }
 
 fn stop_of(error: FrontError) -> Stop {
@@ -75,15 +83,25 @@ fn stop_of(error: FrontError) -> Stop {
     }
 }
 
-/// So many connections without a token, or as many as can be made: the number of the last, and how many.
-pub fn open_many(alloc: Global, front: &mut Front, words: &str) -> Result<String, Stop> {
+/// So many connections without a token, or as many as can be made: the number of the last, and how many. `used`: each stands on a socket.
+pub fn open_many(
+    alloc: Global,
+    front: &mut Front,
+    used: bool,
+    words: &str,
+) -> Result<String, Stop> {
     let (count, now) = first_word(words);
     let count = number(count)?;
     let now = number(now)?;
     let mut last = 0;
     for opened in 0..count {
         match front.open(now) {
-            Ok(conn) => last = conn,
+            Ok(made) => {
+                last = made.conn;
+                if used {
+                    front.socket(last, 0, now);
+                }
+            }
             Err(FrontError::Busy) => {
                 return Ok(format!(in alloc; "opened {opened}, the last {last}, then busy")?);
             }

@@ -7,12 +7,12 @@
 //!
 //! ```text
 //! note TEXT                              is printed
-//! front                                  a front without connections
+//! front LIVE                             a front without connections, of which so many may live; 10,000 if that is absent
 //! route METHOD PATH QUERY KIND           where a request leads at the base /hub; METHOD is `get`, `post`, `delete` or `other`, KIND `socket` or
 //!                                        `plain`, and a QUERY of `-` is none
 //! negotiate ASKED DRAWN NOW              `yes` or `no`: a connection that can be resumed; so is `sockets ASKED DRAWN NOW`
 //! open NOW                               a connection without a token
-//! many COUNT NOW                         so many of them, or as many as can be made
+//! many COUNT NOW                         so many of them, or as many as can be made; `used COUNT NOW`: each on a socket
 //! busy NOW
 //! life TOKEN NOW                         and `conn TOKEN NOW`; by a number `at CONN NOW`, `held CONN` and `resumable CONN`
 //! socket CONN LANE NOW                   is noted; so are `poll CONN LANE NOW`, `answered CONN LANE NOW`, `lost CONN LANE NOW`,

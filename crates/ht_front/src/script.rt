@@ -1,6 +1,7 @@
 //! The lines of a script, and the front that they speak to.
 
 use crate::{asking, noting};
+use hd_server::LiveLimit;
 use hn_server_front::Front;
 use ht_kit::{Play, Stop, first_word, number};
 use std::alloc::{AllocError, Global};
@@ -17,12 +18,17 @@ impl Bench {
     pub fn start(alloc: Global) -> Result<Bench, AllocError> {
         Ok(Bench {
             alloc,
-            front: Front::start(alloc)?,
+            front: Front::start(alloc, LiveLimit::usual())?,
         })
     }
 
-    fn start_anew(&mut self) -> Result<String, Stop> {
-        self.front = Front::start(self.alloc)?;
+    fn start_anew(&mut self, words: &str) -> Result<String, Stop> {
+        let live = if words.is_empty() {
+            LiveLimit::usual()
+        } else {
+            LiveLimit::of(number(words)?).ok_or(Stop::Refused)?
+        };
+        self.front = Front::start(self.alloc, live)?;
         Ok(String::from_str(self.alloc, "a front")?)
     }
 
@@ -53,11 +59,12 @@ impl Play for Bench {
     fn carry_out(&mut self, line: &str) -> Result<String, Stop> {
         let (word, rest) = first_word(line);
         match word {
-            "front" => self.start_anew(),
+            "front" => self.start_anew(rest),
             "negotiate" => asking::negotiate(self.alloc, &mut self.front, true, rest),
             "sockets" => asking::negotiate(self.alloc, &mut self.front, false, rest),
             "open" => asking::open(self.alloc, &mut self.front, rest),
-            "many" => asking::open_many(self.alloc, &mut self.front, rest),
+            "many" => asking::open_many(self.alloc, &mut self.front, false, rest),
+            "used" => asking::open_many(self.alloc, &mut self.front, true, rest),
             "expired" => asking::expired(self.alloc, &mut self.front, rest),
             _ => self.ask(word, rest),
         }

@@ -2,7 +2,7 @@
 
 use ht_kit::{Stop, first_word, from_digits, number};
 use hw_door::{Event, Heard};
-use hw_lanes::{Method, Request, Text8, Vec8};
+use hw_lanes::{Method, Refusal, Request, Text8, Vec8};
 use std::alloc::Global;
 
 const SEPARATOR: u8 = 0x1e;
@@ -38,7 +38,11 @@ fn event_of(alloc: Global, words: &str) -> Result<Event, Stop> {
         "lost" => Ok(Event::Lost { lane }),
         "refused" => {
             let status = rest.parse::<u16>().ok().ok_or(Stop::Refused)?;
-            Ok(Event::Refused { lane, status })
+            let refusal = Refusal {
+                status,
+                field: None,
+            };
+            Ok(Event::Refused { lane, refusal })
         }
         _ => Err(Stop::Refused),
     }

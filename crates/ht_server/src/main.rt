@@ -9,6 +9,7 @@
 //!                                  the byte n. Numbers have a comma between two, and are none if they are `-`; so it is of users, whose
 //!                                  names are their access tokens
 //! resend COUNT BYTES              an end of each server that begins after it holds so much, if that is in range
+//! live COUNT                      so many connections of each server that begins after it may live, if that is in range
 //! NOW request LANE METHOD TARGET WORDS    a request; its words are `bearer=TOKEN`, `upgrade=KEY`, `shut` and `body=TEXT`
 //! NOW text LANE TEXT               a message; each `|` of its text stands for a separator
 //! NOW bytes LANE DIGITS            a message of these bytes

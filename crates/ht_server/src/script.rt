@@ -2,6 +2,7 @@
 
 use crate::events::heard_of;
 use crate::show::{all_given, all_said};
+use hd_server::LiveLimit;
 use hk_keeper::MemoryKeeper;
 use ht_forms::never_falls;
 use ht_kit::{Play, Stop, count, first_word, number, numbers};
@@ -18,6 +19,8 @@ pub struct Bench {
     alloc: Global,
     /// How much an end of the next server holds.
     resend: ResendLimits,
+    /// How many connections of the next server may live.
+    live: LiveLimit,
     server: Server<RoomsHub>,
     hub: RoomsHub,
     keeper: MemoryKeeper,
@@ -29,10 +32,12 @@ impl Bench {
     /// A server without users, whose keeper and lots never fail.
     pub fn start(alloc: Global) -> Result<Bench, AllocError> {
         let resend = ResendLimits::usual();
+        let live = LiveLimit::usual();
         Ok(Bench {
             alloc,
             resend,
-            server: Server::start(alloc, Text::of(alloc, "/hub")?, resend)?,
+            live,
+            server: Server::start(alloc, Text::of(alloc, "/hub")?, resend, live)?,
             hub: RoomsHub,
             keeper: MemoryKeeper::start(alloc, Vec::new(alloc), Vec::new(alloc))?,
             lots: MemoryLots::start(Vec::new(alloc), Vec::new(alloc)),
@@ -44,7 +49,7 @@ impl Bench {
         let alloc = self.alloc;
         let (keeper, rest) = first_word(words);
         let (lots, users) = first_word(rest);
-        self.server = Server::start(alloc, Text::of(alloc, "/hub")?, self.resend)?;
+        self.server = Server::start(alloc, Text::of(alloc, "/hub")?, self.resend, self.live)?;
         self.keeper = MemoryKeeper::start(alloc, users_of(alloc, users)?, numbers(alloc, keeper)?)?;
         self.lots = MemoryLots::start(draws(alloc)?, numbers(alloc, lots)?);
         Ok(String::from_str(alloc, "a server")?)
@@ -56,6 +61,17 @@ impl Bench {
             Some(resend) => {
                 self.resend = resend;
                 "so much"
+            }
+            None => "out of range",
+        };
+        Ok(String::from_str(self.alloc, answer)?)
+    }
+
+    fn live(&mut self, words: &str) -> Result<String, Stop> {
+        let answer = match LiveLimit::of(number(words)?) {
+            Some(live) => {
+                self.live = live;
+                "so many"
             }
             None => "out of range",
         };
@@ -113,6 +129,7 @@ impl Play for Bench {
         match word {
             "server" => self.start_anew(rest),
             "resend" => self.resend(rest),
+            "live" => self.live(rest),
             "idle" => Ok(format!(in self.alloc; "{}", self.server.idle())?),
             "hear" => self.hear(rest),
             "serve" => self.serve(rest),

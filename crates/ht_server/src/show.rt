@@ -2,7 +2,7 @@
 
 use hd_server::Said;
 use hw_door::Given;
-use hw_lanes::Reply;
+use hw_lanes::{Reply, ReplyField};
 use std::alloc::{AllocError, Global};
 
 const SEPARATOR: u8 = 0x1e;
@@ -65,11 +65,26 @@ fn reply_shown(alloc: Global, lane: u64, reply: &Reply) -> Result<String, AllocE
         text.push_str(" accept ")?;
         text.push_str(&accept)?;
     }
+    if let Some(field) = reply.field {
+        text.push_str(field_shown(field))?;
+    }
+    if reply.close {
+        text.push_str(" close")?;
+    }
     if !body.is_empty() {
         text.push(' ')?;
         text.push_str(&body)?;
     }
     Ok(text)
+}
+
+fn field_shown(field: ReplyField) -> &'static str {
+    match field {
+        ReplyField::AllowPost => " allow=POST",
+        ReplyField::AllowGetPostDelete => " allow=GET,POST,DELETE",
+        ReplyField::AuthenticateBearer => " authenticate=Bearer",
+        ReplyField::WebSocketVersion => " version=13",
+    }
 }
 
 fn bytes_shown(

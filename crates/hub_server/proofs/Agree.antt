@@ -20,12 +20,11 @@ use Rattle.hd_server.specs.Doings.{ServerEvent, Notes, Works, Says, notes, work,
 use Rattle.hd_server.specs.Doings.{was_refused}
 use Rattle.hd_server.specs.Plans.{Setup, removing_conn, losing, onto, shutting}
 use Rattle.hd_server.specs.Serves.{silenced, ticking}
-use Rattle.hn_server_front.specs.Stands as front
 use Rattle.hub_machine.specs.declared.machine.Machine.{Machine}
 use Rattle.hub_server.specs.declared.server.Server.{Server}
 use Rattle.hub_machine.specs.Machines.{IsKeptAs, IsStranger, StandsMachine, idle_peer_at, peer_at, settings_there}
 use Rattle.hub_server.specs.Lanes.{Unsettled, is_at, poll_lane}
-use Rattle.hub_server.specs.Servers.{IsOrderly, Standing, caller_of}
+use Rattle.hub_server.specs.Servers.{IsOrderly, Standing, caller_of, StandsFront}
 use Rattle.hub_server.proofs.Alike.{Alike, alike_noted, orderly_alike}
 use Rattle.hub_server.proofs.LaneKept.{SameLane, lane_kept, same_lane_refl, same_lane_trans}
 
@@ -147,7 +146,7 @@ pub standing_same : {H Job : Type 0} (hub : Hub Job) (s : Setup) (u : Unsettled)
 standing_same {H} hub s u before v m g h r machine orderly x = record {
   setup = x.setup;
   machine = machine;
-  front = subst (λ n. front.Stands v.front n) (sym r.noted) x.front;
+  front = subst (λ n. StandsFront s.live v.front n) (sym r.noted) x.front;
   callers = λ c. x.callers c ∙ sym (caller_same c g h r);
   lanes = λ lane. lane_kept u (get nat_cmp v.lanes lane) lane g h (r.lanes lane) (λ c. at_same lane c g h r)
       (λ c. ap (λ (n : List ConnectionEvent). is_this lane (socket_of c n)) r.noted) (x.lanes lane);

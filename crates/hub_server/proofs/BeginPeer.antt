@@ -217,7 +217,7 @@ called_by u k h known new = cond-false (is_some (settings_of k (work h)) || is_r
     (or_from (is_some (settings_of k (work h))) (is_removed k (notes h)) (ap (λ (x : Option Settings). is_some x) new) known.held)
 
 -- its settings
-as_begun : (s : Setup) (base : List ℕ) (resend : ResendLimits) (k : ℕ) (resumable : Bool) (limits : Limits) (who : List ℕ) (name : Option (List ℕ)) → IsSetup s base resend
+as_begun : (s : Setup) (base : List ℕ) (resend : ResendLimits) (k : ℕ) (resumable : Bool) (limits : Limits) (who : List ℕ) (name : Option (List ℕ)) → IsSetup s base resend s.live
     → limits ≡ limits_with resend → who ≡ unwrap_or name (decimal k)
     → settings side.Server (record { codec = Json; version = 1; reconnect = resumable; limits = limits }) s.wire who ≡ peer_settings s k name resumable
 as_begun s base resend k resumable limits who name setup few called =

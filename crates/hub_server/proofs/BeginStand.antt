@@ -4,7 +4,7 @@ use Rattle.std.proofs.Common.{refl, sym, ap, subst, ◌∙◌}
 use Rattle.std.specs.Prelude.{option_map}
 use Rattle.std.specs.Ordering.{nat_cmp}
 use Rattle.std.specs.BTreeMap.{BTreeMap, get, Updates}
-use Rattle.std.proofs.lemmas.Bool.{and_from, and_right, both_ways, cond-true, cond-false, eq-eqb, eqb-true, or_from, or_left, or_parts}
+use Rattle.std.proofs.lemmas.Bool.{and_from, and_right, both_ways, cond-true, eq-eqb, eqb-true, or_left, or_parts}
 use Rattle.std.proofs.lemmas.List.{append_assoc}
 use Rattle.hd_delivery.specs.Histories.{Attached, is_this, link_count}
 use Rattle.hd_delivery.specs.Bytes.{Does as Step_of}
@@ -14,18 +14,17 @@ use Rattle.hd_server.specs.declared.vocabulary.Said.{Said}
 use Rattle.hd_server.specs.declared.vocabulary.Said.TheVariants as say
 use Rattle.hd_server.specs.Lives.{ConnectionEvent, Socketed, socket_of, lost_at, poll_of, poll_ended, is_removed, is_made, is_polling}
 use Rattle.hd_server.specs.Machine.{Does, settings_of}
-use Rattle.hd_server.specs.Doings.{ServerEvent, Notes, Says, notes, work, moment, awaits_reply, has_peer, history, is_upgraded, wants_shut}
-use Rattle.hd_server.specs.Plans.{PendingRequest, Setup, attaching, connecting, onto, replying, shutting, socket_reply, standing_on, step}
+use Rattle.hd_server.specs.Doings.{ServerEvent, Notes, Says, notes, work, moment, awaits_reply, has_peer, history, is_upgraded}
+use Rattle.hd_server.specs.Plans.{PendingRequest, Setup, attaching, connecting, onto, replying, socket_reply, standing_on, step}
 use Rattle.hn_server_front.specs.Calls.{IsNoted}
 use Rattle.hn_server_front.specs.Calls as calls
 use Rattle.hn_server_front.specs.declared.front.Front.{Front}
-use Rattle.hn_server_front.specs.Stands as front
 use Rattle.hub_server.specs.declared.lane.Lane.{Lane}
 use Rattle.hub_machine.specs.declared.machine.Machine.{Machine}
 use Rattle.hub_server.specs.declared.server.Server.{Server}
 use Rattle.hub_machine.specs.Machines.{StandsMachine}
 use Rattle.hub_server.specs.Lanes.{conn_of, is_at, poll_lane, settled}
-use Rattle.hub_server.specs.Servers.{IsOrderly, Standing}
+use Rattle.hub_server.specs.Servers.{IsOrderly, Standing, StandsFront}
 use Rattle.hub_server.proofs.Alike.{Alike, alike_does, alike_note, alike_says, alike_trans, orderly_alike}
 use Rattle.hub_server.proofs.BeginLink.{IsLinked, IsReady, linked}
 use Rattle.hub_server.proofs.HoldLanes.{Goes_over, IsOf, goes_over}
@@ -33,14 +32,13 @@ use Rattle.hub_server.proofs.HoldPolls.{CutsLane, begun_of, cut_none, cut_some, 
 use Rattle.hub_server.proofs.LaneKept.{lane_wider, orderly_wider, same_lane_note, same_lane_reply, same_lane_trans, same_lane_works}
 use Rattle.hub_server.proofs.OntoAlike.{onto_append}
 use Rattle.hub_server.proofs.SameSetup.{same_setup}
+use Rattle.hub_server.proofs.FrontNoted.{noted_front}
 
 -- ---- the list of what is done
 
 socket_replying : (lane : ℕ) (accept : Option (List ℕ)) (h : List ServerEvent)
     → replying lane (socket_reply accept) h ≡ Says (say.Reply lane (socket_reply accept)) ∷ []
-socket_replying lane accept h = ap (λ xs. Says (say.Reply lane (socket_reply accept)) ∷ xs)
-    (cond-false ((101 == 400) || (wants_shut lane h && not (101 == 101))) (shutting lane h) []
-    (or_from (101 == 400) (wants_shut lane h && not (101 == 101)) refl (and_right (wants_shut lane h) (not (101 == 101)) refl)))
+socket_replying lane accept h = refl
 
 -- what stands on a connection that has its peer
 abbrev pub stood_on : ℕ → ℕ → ℕ → ℕ → Option (List ℕ) → List ServerEvent → List ServerEvent
@@ -193,8 +191,9 @@ module _ {H Job : Type 0} (hub : Hub Job) (s : Setup) (before : List Said) (v : 
   stands_now machine stands mid cut f noted lanes enters words says = record {
     setup = same_setup s cut.base cut.resend st.setup;
     machine = subst (λ m. StandsMachine {H = H} hub m (work g)) (sym cut.machine) stands;
-    front = subst (λ x. front.Stands f (Socketed k at x ∷ notes h)) (cut.clock ∙ st.clock)
-        ((noted (notes h) (subst (λ x. front.Stands x (notes h)) (sym cut.front) st.front)).0 ready.made);
+    front = subst (λ x. StandsFront s.live f (Socketed k at x ∷ notes h)) (cut.clock ∙ st.clock)
+        (noted_front s.live mid.front f k (Socketed k at mid.moment) (notes h) noted
+        (subst (λ x. StandsFront s.live x (notes h)) (sym cut.front) st.front) ready.made);
     callers = λ c. ap (λ m. get nat_cmp m c) cut.callers ∙ st.callers c;
     lanes = λ l. goes_over k at (socket_of k (notes h)) g h over ready.come.nobody
         (record { conn = k; polls = false; is_last = is_last; is_refused = false }) own_lane

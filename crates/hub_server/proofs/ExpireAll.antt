@@ -163,7 +163,7 @@ module _ {H Job : Type 0} (hub : Hub Job) (old : Server H Job) where
       never : (s : Setup) (u : Unsettled) (before : List Said) (h : List ServerEvent) → Standing {H = H} hub s u before old h
           → (left : List ℕ) × ExpiresSo {H = H} hub s u before new i left h → Standing {H = H} hub s u before new (expired_by h)
       never s u before h st (left, x) =
-          let made_few : made (notes h) ≤ most_connections = (let f = st.front in f.few) in
+          let made_few : made (notes h) ≤ most_connections = (let f = st.front.stands in f.few) in
           let few = few_overdue (moment h) (notes h) in
           let all = x.count in
           absurd (omega (arith, made_few, few, all, far))

@@ -29,7 +29,7 @@ use Rattle.hub_server.specs.Connections.{HasLeft, IsKnown}
 use Rattle.hub_server.specs.Events.{ExpiresFirst}
 use Rattle.hub_machine.specs.Machines.{OfConn, StandsMachine, peer_at, settings_there}
 use Rattle.hub_server.specs.Lanes.{Unsettled}
-use Rattle.hub_server.specs.Servers.{IsOrderly, Standing, caller_of}
+use Rattle.hub_server.specs.Servers.{IsOrderly, Standing, caller_of, StandsFront}
 use Rattle.hub_server.proofs.Alike.{alike_goes, alike_note, alike_trans, at_alike, caller_alike, orderly_alike}
 use Rattle.hub_server.proofs.Calm.{orderly_closed}
 use Rattle.hub_server.proofs.Gone.{Freed, at_is_on, is_on, lane_left}
@@ -153,7 +153,7 @@ module _ {H Job : Type 0} (hub : Hub Job) (s : Setup) (u : Unsettled) (before : 
         taken = o.taken;
       }
 
-  pub standing_ends : (f : Front) → front.Stands f (Expired c now ∷ notes h) → Standing {H = H} hub s u before (record v { front = f }) after
+  pub standing_ends : (f : Front) → StandsFront s.live f (Expired c now ∷ notes h) → Standing {H = H} hub s u before (record v { front = f }) after
   standing_ends f stands = record {
     setup = st.setup;
     machine = st.machine;
@@ -261,7 +261,7 @@ pub standing_goes : {H Job : Type 0} (hub : Hub Job) (s : Setup) (u : Unsettled)
     (h g : List ServerEvent)
     → Standing {H = H} hub s u before v h → Freed c g h → IsKnown c h → HasLeft {H = H} c v mid h → (m : Machine H Job)
     → StandsMachine {H = H} hub m (work g)
-    → (f : Front) → front.Stands f (notes g) → (callers : BTreeMap ℕ (List ℕ)) → Updates nat_cmp mid.callers callers c None
+    → (f : Front) → StandsFront s.live f (notes g) → (callers : BTreeMap ℕ (List ℕ)) → Updates nat_cmp mid.callers callers c None
     → Standing {H = H} hub s u before (record mid { machine = m; front = f; callers = callers }) g
 standing_goes {H} hub s u before v mid c h g st freed known left m machine f stands callers updates = record {
   setup = same_setup s left.base left.resend st.setup;
@@ -303,10 +303,12 @@ module _ {H Job : Type 0} (hub : Hub Job) (s : Setup) (u : Unsettled) (before : 
 
   -- the front has noted it
   noted_by : (f : Front) (mid : Front) (handed : Option ℕ) → mid ≡ v.front → calls.OfEach mid (λ n. calls.Expires f n v.moment handed)
-      → front.Stands f (Expired c (moment h) ∷ notes h)
-  noted_by f mid handed same expires =
-      subst (λ n. front.Stands f (Expired c n ∷ notes h)) st.clock
-      (by handed (expires (notes h) (subst (λ x. front.Stands x (notes h)) (sym same) st.front)))
+      → calls.OfEach mid (λ n. f.live ≡ mid.live)
+      → StandsFront s.live f (Expired c (moment h) ∷ notes h)
+  noted_by f mid handed same expires limit =
+      let was : StandsFront s.live mid (notes h) = subst (λ x. StandsFront s.live x (notes h)) (sym same) st.front in
+      subst (λ n. StandsFront s.live f (Expired c n ∷ notes h)) st.clock
+      (record { stands = by handed (expires (notes h) was.stands); limit = limit (notes h) was.stands ∙ was.limit })
     where
       by : (o : Option ℕ) → calls.Expires f (notes h) v.moment o → front.Stands f (Expired c v.moment ∷ notes h)
       by None x = absurd (let no : ◌≡◌ {A = List ℕ} [] (c ∷ rest) = sym x.0 ∙ first in cc)
@@ -322,8 +324,9 @@ module _ {H Job : Type 0} (hub : Hub Job) (s : Setup) (u : Unsettled) (before : 
       → OfConn {H = H} hub v.machine c (λ w t ms. is_shut t ms ≡ true → StandsMachine {H = H} hub m w)
       → (peer_at v.machine c ≡ None → m ≡ v.machine)
       → (f : Front) (handed : Option ℕ) → calls.OfEach v.front (λ n. calls.Expires f n v.moment handed)
+      → calls.OfEach v.front (λ n. f.live ≡ v.front.live)
       → ExpiresFirst {H = H} hub s u before (record v { machine = m; front = f }) h
-  expires_closing ending m live closed absent f handed expires = record {
+  expires_closing ending m live closed absent f handed expires limit = record {
     conn = c;
     rest = rest;
     first = is_first;
@@ -341,8 +344,8 @@ module _ {H Job : Type 0} (hub : Hub Job) (s : Setup) (u : Unsettled) (before : 
           (onto ((if b then step c (Closed reason.Expired false) ∷ [] else []) ++ Notes (Expired c (moment h)) ∷ []) h)
       by true x =
           standing_ends {H = H} hub s u before (record v { machine = m }) c (step c (Closed reason.Expired false) ∷ h) x polls f
-          (noted_by f v.front handed refl expires)
-      by false x = standing_ends {H = H} hub s u before (record v { machine = m }) c h x polls f (noted_by f v.front handed refl expires)
+          (noted_by f v.front handed refl expires limit)
+      by false x = standing_ends {H = H} hub s u before (record v { machine = m }) c h x polls f (noted_by f v.front handed refl expires limit)
 
   -- nothing is kept of it
   pub expires_dropping : (life_of c v.moment (notes h) ≡ Ending → ⊥) → (mid : Server H Job)
@@ -351,8 +354,9 @@ module _ {H Job : Type 0} (hub : Hub Job) (s : Setup) (u : Unsettled) (before : 
       → (peer_at mid.machine c ≡ None → m ≡ mid.machine)
       → (callers : BTreeMap ℕ (List ℕ)) → Updates nat_cmp mid.callers callers c None
       → (f : Front) (handed : Option ℕ) → calls.OfEach mid.front (λ n. calls.Expires f n mid.moment handed)
+      → calls.OfEach mid.front (λ n. f.live ≡ mid.front.live)
       → ExpiresFirst {H = H} hub s u before (record mid { machine = m; front = f; callers = callers }) h
-  expires_dropping lasts mid leaves m goes absent callers updates f handed expires = record {
+  expires_dropping lasts mid leaves m goes absent callers updates f handed expires limit = record {
     conn = c;
     rest = rest;
     first = is_first;
@@ -377,8 +381,8 @@ module _ {H Job : Type 0} (hub : Hub Job) (s : Setup) (u : Unsettled) (before : 
       stands_mid : StandsMachine {H = H} hub mid.machine (work h)
       stands_mid = subst (λ x. StandsMachine {H = H} hub x (work h)) (sym left.machine) st.machine
 
-      noted_now : front.Stands f (Expired c (moment h) ∷ notes h)
-      noted_now = noted_by f mid.front handed left.front (subst (λ m. calls.OfEach mid.front (λ n. calls.Expires f n m handed)) left.clock expires)
+      noted_now : StandsFront s.live f (Expired c (moment h) ∷ notes h)
+      noted_now = noted_by f mid.front handed left.front (subst (λ m. calls.OfEach mid.front (λ n. calls.Expires f n m handed)) left.clock expires) limit
 
       by_peer : (b : Bool) → has_peer c h ≡ b
           → Standing {H = H} hub s u before (record mid { machine = m; front = f; callers = callers })

@@ -19,7 +19,6 @@ use Rattle.hd_server.specs.Machine.{Does, has_gone, moves, settings_of}
 use Rattle.hd_server.specs.Doings.{ServerEvent, notes, work, moment, said, peer, history, history_with, config_of, config_with, has_peer, user_of}
 use Rattle.hd_server.specs.Plans.{Setup}
 use Rattle.hd_server.specs.Serves.{Feeds, is_taking, moving}
-use Rattle.hn_server_front.specs.Stands as front
 use Rattle.hub_machine.specs.declared.machine.Machine.{Machine}
 use Rattle.hub_server.specs.declared.server.Server.{Server}
 use Rattle.hub_machine.specs.Laws.{MovesComeFirst}
@@ -28,7 +27,7 @@ use Rattle.hub_machine.specs.Calls.{doing}
 use Rattle.hub_machine.specs.Traffic.{FeedsBytes, IsClear}
 use Rattle.hub_server.specs.Connections.{IsFedTo}
 use Rattle.hub_server.specs.Lanes.{Unsettled, is_at, poll_lane}
-use Rattle.hub_server.specs.Servers.{IsOrderly, Standing, caller_of}
+use Rattle.hub_server.specs.Servers.{IsOrderly, Standing, caller_of, StandsFront}
 use Rattle.hub_server.proofs.Alike.{Alike, alike_does, alike_refl, alike_trans, orderly_alike}
 use Rattle.hub_server.proofs.LaneKept.{SameLane, lane_kept, same_lane_refl, same_lane_trans, same_lane_works}
 
@@ -235,7 +234,7 @@ module _ {H Job : Type 0} (law : MovesComeFirst) (hub : Hub Job) (s : Setup) (u 
     stands = record {
       setup = x.setup;
       machine = subst (λ w. StandsMachine {H = H} hub m w) (sym (work_moving c h fed.moves)) fed.stands;
-      front = subst (λ n. front.Stands v.front n) (sym noted_as) x.front;
+      front = subst (λ n. StandsFront s.live v.front n) (sym noted_as) x.front;
       callers = λ k. x.callers k ∙ sym (caller_moving c h k fed.moves);
       lanes = λ lane. lane_kept u (get nat_cmp v.lanes lane) lane (moving c fed.moves h) h (lane_moving c h lane fed.moves)
           (λ k. at lane k)

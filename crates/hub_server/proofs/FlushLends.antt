@@ -19,14 +19,13 @@ use Rattle.hd_server.specs.Doings.{ServerEvent, notes, work, moment, said, user_
 use Rattle.hd_server.specs.Doings.{history_with}
 use Rattle.hd_server.specs.Plans.{Setup, onto, step}
 use Rattle.hd_server.specs.Serves.{LendsAll, lending}
-use Rattle.hn_server_front.specs.Stands as front
 use Rattle.hub_machine.specs.declared.machine.Machine.{Machine}
 use Rattle.hub_server.specs.declared.server.Server.{Server}
 use Rattle.hub_machine.specs.Machines.{StandsMachine}
 use Rattle.hub_machine.specs.Calls.{doing}
 use Rattle.hub_machine.specs.Traffic.{lends}
 use Rattle.hub_server.specs.Lanes.{Unsettled, is_at}
-use Rattle.hub_server.specs.Servers.{IsOrderly, Standing, caller_of}
+use Rattle.hub_server.specs.Servers.{IsOrderly, Standing, caller_of, StandsFront}
 use Rattle.hub_server.proofs.Alike.{Alike, alike_refl, alike_trans, alike_does, orderly_alike}
 use Rattle.hub_server.proofs.LaneKept.{SameLane, same_lane_refl, same_lane_trans, same_lane_works, lane_kept}
 use Rattle.hub_server.proofs.Calm.{moves_own, onto_reverse, orderly_lends}
@@ -167,7 +166,7 @@ standing_lends {H} hub s u before v m c fs h stands x =
     record {
       setup = x.setup;
       machine = subst (λ w. StandsMachine {H = H} hub m w) (sym (work_lent c fs h)) stands;
-      front = subst (λ n. front.Stands v.front n) (sym l.noted) x.front;
+      front = subst (λ n. StandsFront s.live v.front n) (sym l.noted) x.front;
       callers = λ k. x.callers k ∙ sym (caller_lent c k g h l);
       lanes = λ lane. lane_kept u (get nat_cmp v.lanes lane) lane g h (l.lane lane) (λ k. at_lent c lane k g h l)
           (λ k. ap (λ (n : List ConnectionEvent). is_this lane (socket_of k n)) l.noted) (x.lanes lane);

@@ -25,12 +25,13 @@ use Rattle.hub_server.specs.declared.server.Server.{Server}
 use Rattle.hub_machine.specs.Machines.{OfConn, StandsMachine}
 use Rattle.hub_server.specs.Connections.{Frees, IsKnown}
 use Rattle.hub_server.specs.Lanes.{Unsettled, settled}
-use Rattle.hub_server.specs.Servers.{IsOrderly, IsRested, OfEach, Standing}
+use Rattle.hub_server.specs.Servers.{IsOrderly, IsRested, OfEach, Standing, StandsFront}
 use Rattle.hub_server.specs.Flushes.{FlushesOne, FlushesPoll}
 use Rattle.hub_server.proofs.LaneKept.{lane_kept, same_lane_note}
 use Rattle.hub_server.proofs.OntoAlike.{onto_append}
 use Rattle.hub_server.proofs.FlushSaid.{closed_is, gone_after, is_one, standing_rests, up_there}
 use Rattle.hub_server.proofs.FlushOthersUnchanged.{all_polls, flushing_tells}
+use Rattle.hub_server.proofs.FrontNoted.{noted_front}
 
 -- of what holds once all is well something else follows
 pub on_ok : {A E : Type 0} (r : Result A E) (P Q : Type 0) → (P → Q) → OnOk r P → OnOk r Q
@@ -51,7 +52,7 @@ pub socket_told : {H Job : Type 0} (hub : Hub Job) (s : Setup) (u : Unsettled) (
     → Standing {H = H} hub s u before v h → has_peer c h ≡ true → calls.OfEach v.front (λ n. o ≡ calls.lane_of c n) → o ≡ r
     → socket_of c (notes h) ≡ r
 socket_told {H} {Job} hub s u before v c h o r x there told is =
-    sym (told (notes h) x.front ∙ ap (λ (b : Bool). if b then socket_of c (notes h) else None)
+    sym (told (notes h) x.front.stands ∙ ap (λ (b : Bool). if b then socket_of c (notes h) else None)
     (noted_known {H = H} {Job = Job} hub s u before v c h x there)) ∙ is
 
 pub polls_told : {H Job : Type 0} (hub : Hub Job) (s : Setup) (u : Unsettled) (before : List Said) (v : Server H Job) (c : ℕ) (h : List ServerEvent)
@@ -59,7 +60,7 @@ pub polls_told : {H Job : Type 0} (hub : Hub Job) (s : Setup) (u : Unsettled) (b
     → Standing {H = H} hub s u before v h → has_peer c h ≡ true → calls.OfEach v.front (λ n. a ≡ (stands.is_there c n && is_polling c n)) → a ≡ b
     → is_polling c (notes h) ≡ b
 polls_told {H} {Job} hub s u before v c h a b x there told is =
-    sym (told (notes h) x.front ∙ ap (λ (z : Bool). z && is_polling c (notes h)) (noted_known {H = H} {Job = Job} hub s u before v c h x there)) ∙ is
+    sym (told (notes h) x.front.stands ∙ ap (λ (z : Bool). z && is_polling c (notes h)) (noted_known {H = H} {Job = Job} hub s u before v c h x there)) ∙ is
 
 ended_told : {H Job : Type 0} (hub : Hub Job) (s : Setup) (u : Unsettled) (before : List Said) (v : Server H Job) (c : ℕ) (h : List ServerEvent)
     (a b : Bool)
@@ -67,7 +68,7 @@ ended_told : {H Job : Type 0} (hub : Hub Job) (s : Setup) (u : Unsettled) (befor
     → a ≡ b
     → is_some (ended_at c (notes h)) ≡ b
 ended_told {H} {Job} hub s u before v c h a b x there told is =
-    sym (told (notes h) x.front ∙ ap (λ (z : Bool). z && is_some (ended_at c (notes h)))
+    sym (told (notes h) x.front.stands ∙ ap (λ (z : Bool). z && is_some (ended_at c (notes h)))
     (noted_known {H = H} {Job = Job} hub s u before v c h x there)) ∙ is
 
 poll_told : {H Job : Type 0} (hub : Hub Job) (s : Setup) (u : Unsettled) (before : List Said) (v : Server H Job) (c : ℕ) (h : List ServerEvent)
@@ -75,7 +76,7 @@ poll_told : {H Job : Type 0} (hub : Hub Job) (s : Setup) (u : Unsettled) (before
     → Standing {H = H} hub s u before v h → has_peer c h ≡ true → calls.OfEach v.front (λ n. held_as o ≡ calls.poll_held c n) → o ≡ r
     → poll_of c (notes h) ≡ held_as r
 poll_told {H} {Job} hub s u before v c h o r x there told is =
-    sym (told (notes h) x.front ∙ ap (λ (b : Bool). if b then poll_of c (notes h) else None)
+    sym (told (notes h) x.front.stands ∙ ap (λ (b : Bool). if b then poll_of c (notes h) else None)
     (noted_known {H = H} {Job = Job} hub s u before v c h x there))
     ∙ ap held_as is
 
@@ -84,7 +85,7 @@ poll_told {H} {Job} hub s u before v c h o r x there told is =
 -- a server that stood stands with its ending noted too
 standing_ends : {H Job : Type 0} (hub : Hub Job) (s : Setup) (u : Unsettled) (before : List Said) (v : Server H Job) (f : Front) (c : ℕ)
     (h : List ServerEvent)
-    → Standing {H = H} hub s u before v h → stands.Stands f (Ended c (moment h) ∷ notes h) → is_polling c (notes h) ≡ true
+    → Standing {H = H} hub s u before v h → StandsFront s.live f (Ended c (moment h) ∷ notes h) → is_polling c (notes h) ≡ true
     → Standing {H = H} hub s u before (record v { front = f }) (Notes (Ended c (moment h)) ∷ h)
 standing_ends {H} hub s u before v f c h x noted polls = record {
   setup = x.setup;
@@ -149,7 +150,7 @@ module _ {H Job : Type 0} (hub : Hub Job) (s : Setup) (u : Unsettled) (before : 
   ends_now a f now e told is polls clock noted = subst (λ g. Standing {H = H} hub s u before (record v { front = f }) g)
       (sym (ends_is true false (closed_so ∙ e) (ended_told {H = H} {Job = Job} hub s u before v c h a false x there told is)))
       (standing_ends {H = H} {Job = Job} hub s u before v f c h x
-      (subst (λ (n : ℕ). stands.Stands f (Ended c n ∷ notes h)) (clock ∙ x.clock) ((noted (notes h) x.front).0
+      (subst (λ (n : ℕ). StandsFront s.live f (Ended c n ∷ notes h)) (clock ∙ x.clock) (noted_front s.live v.front f c (Ended c now) (notes h) noted x.front
       (is_one {H = H} {Job = Job} hub s u before v c h x there).known.made)) polls)
 
 -- ---- one that polls has told

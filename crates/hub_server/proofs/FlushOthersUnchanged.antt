@@ -12,11 +12,12 @@ use Rattle.hd_server.specs.Numbers.{held_for}
 use Rattle.hd_server.specs.Lives.{Answered, Ended, Removed, ended_at, is_polling, poll_ended, poll_of, socket_of}
 use Rattle.hd_server.specs.Machine.{Does, Goes}
 use Rattle.hd_server.specs.Doings.{ServerEvent, Notes, Works, Says, notes, moment, config_of, has_closed, has_peer, history, wants_shut, was_refused}
-use Rattle.hd_server.specs.Plans.{Setup, bare_reply, frames_reply, removing_conn, onto, replying, shutting}
+use Rattle.hd_server.specs.Plans.{Setup, bare_reply, frames_reply, ends_lane, removing_conn, onto, replying, shutting}
 use Rattle.hd_server.specs.Serves.{AreDueOn, LendsAll, LendsUpTo, all_of, bytes_of, ending, is_text, lending, flushing, flushing_on, flushing_poll}
 use Rattle.hd_server.specs.Serves.{flushing_some_poll, writing}
 use Rattle.hub_server.proofs.Alike.{Alike, alike_refl, alike_trans, alike_does, alike_goes, alike_note, alike_says, config_alike, history_alike}
 use Rattle.hub_server.proofs.Alike.{there_alike}
+use Rattle.hub_server.proofs.Answering.{replying_same}
 
 -- ---- what a connection does when it tells
 
@@ -58,8 +59,7 @@ shutting_tells k lane h = either_tell k (was_refused lane h) [] (Says (say.Shut 
 replying_tells : (k lane : ℕ) (reply : Reply) (h : List ServerEvent) → AllTell k (replying lane reply h)
 replying_tells k lane reply h = (
   tt,
-  either_tell k ((reply.status == 400) || (wants_shut lane h && not (reply.status == 101))) (shutting lane h) []
-      (shutting_tells k lane h) tt,
+  either_tell k (ends_lane lane reply.status h) (Says (say.Shut lane) ∷ []) [] (tt, tt) tt,
 )
 
 poll_tells : (s : Setup) (now k : ℕ) (p : ℕ × ℕ) (fs : List LinkFrame) (h : List ServerEvent) → AllTell k (flushing_poll s now k p fs h)
@@ -165,11 +165,7 @@ module _ (s : Setup) (now c : ℕ) (g h : List ServerEvent) (alike : Alike c g h
   same_shutting lane = ap (λ (b : Bool). if b then [] else Says (say.Shut lane) ∷ []) (unheard.refused lane)
 
   same_replying : (lane : ℕ) (reply : Reply) → replying lane reply g ≡ replying lane reply h
-  same_replying lane reply =
-      ap (λ (b : Bool). Says (say.Reply lane reply) ∷ (if (reply.status == 400) || (b && not (reply.status == 101)) then shutting lane g else []))
-      (unheard.shut lane)
-      ∙ ap (λ (xs : List ServerEvent). Says (say.Reply lane reply) ∷ (if (reply.status == 400) ||
-      (wants_shut lane h && not (reply.status == 101)) then xs else [])) (same_shutting lane)
+  same_replying lane reply = replying_same lane reply g h (unheard.shut lane) (unheard.refused lane)
 
   same_closed : has_closed c g ≡ has_closed c h
   same_closed =

@@ -1,5 +1,5 @@
 -- What one connection lends and says leaves of it all that isn't told by its end, and what its machine says of it is said of the doings.
-use Rattle.std.proofs.Common.{◌≡◌, ℕ, ◌==◌, Bool, true, false, not, ◌&&◌, ◌||◌, List, [], ◌∷◌, ◌++◌, Option, Some, None, is_some}
+use Rattle.std.proofs.Common.{◌≡◌, ℕ, Bool, true, false, not, ◌&&◌, ◌||◌, List, [], ◌∷◌, ◌++◌, Option, Some, None, is_some}
 use Rattle.std.proofs.Common.{refl, sym, ap, subst, ◌∙◌}
 use Rattle.std.specs.Prelude.{if◌then◌else◌}
 use Rattle.std.proofs.lemmas.Bool.{eq-eqb, true≢false}
@@ -16,7 +16,7 @@ use Rattle.hd_server.specs.Lives.{Removed, is_removed, is_made}
 use Rattle.hd_server.specs.Machine.{Goes, has_gone, is_open_at, moves, settings_of}
 use Rattle.hd_server.specs.Doings.{ServerEvent, Notes, Works, Says, config_of, config_with, has_closed, has_peer, history, history_with, is_up, moment}
 use Rattle.hd_server.specs.Doings.{notes, peer, wants_shut, was_refused, work}
-use Rattle.hd_server.specs.Plans.{Setup, removing_conn, onto, replying, shutting}
+use Rattle.hd_server.specs.Plans.{Setup, ends_lane, removing_conn, onto, replying, shutting}
 use Rattle.hd_server.specs.Serves.{LendsAll, LendsUpTo, bytes_of, is_text, lending, writing}
 use Rattle.hub_machine.specs.declared.machine.Machine.{Machine}
 use Rattle.hub_server.specs.declared.server.Server.{Server}
@@ -25,6 +25,7 @@ use Rattle.hub_machine.specs.Traffic.{IsServers, LendsDue, LendsSome, is_any}
 use Rattle.hub_server.specs.Connections.{IsKnown}
 use Rattle.hub_server.specs.Lanes.{Unsettled}
 use Rattle.hub_server.specs.Servers.{IsBegunBy, IsOrderly, Standing}
+use Rattle.hub_server.proofs.Answering.{replying_same}
 use Rattle.hub_server.proofs.FlushLends.{HasLent, all_lent, standing_lends, there_lent}
 
 -- ---- only words
@@ -94,8 +95,7 @@ pub shutting_says : (lane : ℕ) (h : List ServerEvent) → AllSay (shutting lan
 shutting_says lane h = either_says (was_refused lane h) [] (Says (say.Shut lane) ∷ []) tt tt
 
 pub replying_says : (lane : ℕ) (reply : Reply) (h : List ServerEvent) → AllSay (replying lane reply h)
-replying_says lane reply h = either_says ((reply.status == 400) || (wants_shut lane h && not (reply.status == 101))) (shutting lane h) []
-    (shutting_says lane h) tt
+replying_says lane reply h = either_says (ends_lane lane reply.status h) (Says (say.Shut lane) ∷ []) [] tt tt
 
 -- ---- what follows of it
 
@@ -112,11 +112,7 @@ pub shutting_mild : (c lane : ℕ) (g h : List ServerEvent) → Mild c g h → s
 shutting_mild c lane g h x = ap (λ (b : Bool). if b then [] else Says (say.Shut lane) ∷ []) (x.refused lane)
 
 pub replying_mild : (c lane : ℕ) (reply : Reply) (g h : List ServerEvent) → Mild c g h → replying lane reply g ≡ replying lane reply h
-replying_mild c lane reply g h x =
-    ap (λ (b : Bool). Says (say.Reply lane reply) ∷ (if (reply.status == 400) || (b && not (reply.status == 101)) then shutting lane g else []))
-    (x.shut lane)
-    ∙ ap (λ (xs : List ServerEvent). Says (say.Reply lane reply) ∷ (if (reply.status == 400) ||
-    (wants_shut lane h && not (reply.status == 101)) then xs else [])) (shutting_mild c lane g h x)
+replying_mild c lane reply g h x = replying_same lane reply g h (x.shut lane) (x.refused lane)
 
 -- a connection that is there and isn't closed is open
 pub up_there : (c : ℕ) (g : List ServerEvent) → has_peer c g ≡ true → has_closed c g ≡ false → is_up c g ≡ true

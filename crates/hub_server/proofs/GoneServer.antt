@@ -19,19 +19,20 @@ use Rattle.hd_server.specs.Lives.{Answered, LaneLost, Removed, ConnectionEvent, 
 use Rattle.hd_server.specs.Machine.{Goes, MachineEvent, has_gone, is_there, moves, settings_of}
 use Rattle.hd_server.specs.Doings.{ServerEvent, Notes, Says, Works, config_of, has_peer, history, may_resume, is_up, moment, notes, said, wants_shut}
 use Rattle.hd_server.specs.Doings.{was_refused, work}
-use Rattle.hd_server.specs.Plans.{Setup, closing, removing_conn, onto, replying, shutting, step}
-use Rattle.hn_server_front.specs.Stands as front
+use Rattle.hd_server.specs.Plans.{Setup, closing, ends_lane, removing_conn, onto, replying, step}
 use Rattle.hub_server.specs.declared.lane.Lane.{Lane}
 use Rattle.hub_server.specs.declared.server.Server.{Server}
 use Rattle.hub_server.specs.Connections.{Frees, IsKnown}
+use Rattle.hub_server.specs.Words.{reply_and_end}
 use Rattle.hub_server.specs.Lanes.{HasLane, IsLane, Unsettled, cut_of, is_at, lane_of, poll_lane, settled}
 use Rattle.hp_peer.specs.declared.peer.Peer.{Peer}
 use Rattle.hub_machine.specs.declared.machine.Machine.{Machine}
 use Rattle.hub_machine.specs.declared.idle_set.IdlePeer.{IdlePeer}
 use Rattle.hub_machine.specs.Machines.{IsKeptAs, StandsMachine, idle_peer_at, peer_at, settings_there}
-use Rattle.hub_server.specs.Servers.{IsOrderly, Standing, caller_of}
+use Rattle.hub_server.specs.Servers.{IsOrderly, Standing, caller_of, StandsFront}
 use Rattle.hub_server.proofs.Alike.{Alike, alike_note, alike_says, at_alike, caller_alike, orderly_alike}
 use Rattle.hub_server.proofs.LaneKept.{SameLane, lane_kept, lane_wider, orderly_wider, same_lane_note, same_lane_reply, standing_shuts}
+use Rattle.hub_server.proofs.Answering.{replying_both, says_by}
 use Rattle.hub_server.proofs.Gone.{Freed, alone, at_is_on, freed_absent, freed_there, held_some, is_on, lane_left, last_of_three, middle_of_three}
 use Rattle.hub_server.proofs.Gone.{orderly_off, unequal}
 use Rattle.hub_server.proofs.SameSetup.{same_setup}
@@ -76,7 +77,7 @@ or_none false = refl
 module _ {H Job : Type 0} (hub : Hub Job) (s : Setup) (u v : Unsettled) (before : List Said) (old new : Server H Job) (c : ℕ) (g h : List ServerEvent)
     (stands : Standing {H = H} hub s u before old h) (base : new.base ≡ old.base) (resend : new.resend ≡ old.resend) (clock : new.moment ≡ old.moment)
     (words : new.words ≡ old.words) where
-  pub left_standing : StandsMachine {H = H} hub new.machine (work g) → front.Stands new.front (notes g)
+  pub left_standing : StandsMachine {H = H} hub new.machine (work g) → StandsFront s.live new.front (notes g)
       → ((k : ℕ) → get nat_cmp new.callers k ≡ caller_of k g)
       → ((k : ℕ) → (k == c) ≡ false → Alike k g h) → ((l : ℕ) → SameLane l g h) → ((l : ℕ) → is_at l c g ≡ false)
       → ((l : ℕ) → is_at l c h ≡ false → (k : ℕ) → is_this l (socket_of k (notes g)) ≡ is_this l (socket_of k (notes h)))
@@ -122,7 +123,7 @@ module _ {H Job : Type 0} (hub : Hub Job) (s : Setup) (u : Unsettled) (before : 
     (base : new.base ≡ old.base) (resend : new.resend ≡ old.resend) (clock : new.moment ≡ old.moment) (words : new.words ≡ old.words)
     (lanes : (l : ℕ) → get nat_cmp new.lanes l ≡ (if is_on l c h then None else get nat_cmp old.lanes l))
     (uncalled : get nat_cmp new.callers c ≡ None) (called : (k : ℕ) → (c == k) ≡ false → get nat_cmp new.callers k ≡ get nat_cmp old.callers k) where
-  freed_standing : (v : Unsettled) (g : List ServerEvent) → Freed c g h → StandsMachine {H = H} hub new.machine (work g) → front.Stands new.front (notes g)
+  freed_standing : (v : Unsettled) (g : List ServerEvent) → Freed c g h → StandsMachine {H = H} hub new.machine (work g) → StandsFront s.live new.front (notes g)
       → ((l : ℕ) → is_at l c h ≡ false → is_this l u.lane ≡ true → is_this l v.lane ≡ true) → ((k : ℕ) → (k == c) ≡ false → IsOrderly v k h)
       → Standing {H = H} hub s v before new g
   freed_standing v g f machine fronts wider rest =
@@ -135,7 +136,7 @@ module _ {H Job : Type 0} (hub : Hub Job) (s : Setup) (u : Unsettled) (before : 
       callers k true e = subst (λ n. get nat_cmp new.callers n ≡ caller_of n g) (sym (eqb-true k c e)) (uncalled ∙ sym f.uncalled)
       callers k false e = called k (unequal k c e) ∙ stands.callers k ∙ sym (caller_alike k g h (f.others k e))
 
-  frees : (g : List ServerEvent) → Freed c g h → StandsMachine {H = H} hub new.machine (work g) → front.Stands new.front (notes g)
+  frees : (g : List ServerEvent) → Freed c g h → StandsMachine {H = H} hub new.machine (work g) → StandsFront s.live new.front (notes g)
       → Frees {H = H} hub s u before new c h g
   frees g f machine fronts = record {
     stands = freed_standing u g f machine fronts (λ l e x. x) (λ k e. stands.orderly k);
@@ -146,7 +147,7 @@ module _ {H Job : Type 0} (hub : Hub Job) (s : Setup) (u : Unsettled) (before : 
   }
 
   pub lets_go : ((t : Settings) → settings_there c (work h) ≡ Some t → StandsMachine {H = H} hub new.machine (Goes c ∷ work h))
-      → (settings_there c (work h) ≡ None → StandsMachine {H = H} hub new.machine (work h)) → front.Stands new.front (Removed c ∷ notes h)
+      → (settings_there c (work h) ≡ None → StandsMachine {H = H} hub new.machine (work h)) → StandsFront s.live new.front (Removed c ∷ notes h)
       → Frees {H = H} hub s u before new c h (onto (removing_conn c h) h)
   lets_go goes stays fronts = go (has_peer c h) refl
     where
@@ -252,7 +253,7 @@ module _ {H Job : Type 0} (hub : Hub Job) (s : Setup) (before : List Said) (old 
 
   pub loses : Standing {H = H} hub s (cut_of lane) before old h → present_link (history c h) ≡ None → socket_of c (notes h) ≡ Some lane
       → may_resume c h ≡ true
-      → front.Stands new.front (LaneLost c lane (moment h) ∷ notes h)
+      → StandsFront s.live new.front (LaneLost c lane (moment h) ∷ notes h)
       → Standing {H = H} hub s settled before new (Notes (LaneLost c lane (moment h)) ∷ h)
   loses stands present socket granted fronts =
       let now = moment h in
@@ -338,7 +339,7 @@ module _ {H Job : Type 0} (hub : Hub Job) (s : Setup) (before : List Said) (old 
     (callers : new.callers ≡ old.callers) (own : get nat_cmp new.lanes lane ≡ None)
     (others : (l : ℕ) → (lane == l) ≡ false → get nat_cmp new.lanes l ≡ get nat_cmp old.lanes l) (there : has_peer c h ≡ true) where
   pub answers : (now : ℕ) → Standing {H = H} hub s (lane_of (Some lane)) before old h → poll_lane c (notes h) ≡ Some lane
-      → front.Stands new.front (Answered c lane now ∷ notes h) → Standing {H = H} hub s settled before new (Notes (Answered c lane now) ∷ h)
+      → StandsFront s.live new.front (Answered c lane now ∷ notes h) → Standing {H = H} hub s settled before new (Notes (Answered c lane now) ∷ h)
   answers now stands poll fronts =
       let o = stands.orderly c in
       let g : List ServerEvent = Notes (Answered c lane now) ∷ h in
@@ -355,33 +356,6 @@ module _ {H Job : Type 0} (hub : Hub Job) (s : Setup) (before : List Said) (old 
       refl refl
 
 -- ---- a reply to one that is on its lane
-
--- a reply is said, after which the lane may be shut
-pub replying_both : (P : List ServerEvent → Type 0) (lane : ℕ) (reply : Reply) (h : List ServerEvent) → P (Says (say.Reply lane reply) ∷ h)
-    → P (Says (say.Shut lane) ∷ Says (say.Reply lane reply) ∷ h) → P (onto (replying lane reply h) h)
-replying_both P lane reply h x y = go ((reply.status == 400) || (wants_shut lane h && not (reply.status == 101))) (was_refused lane h)
-  where
-    go : (b d : Bool) → P (onto (if b then (if d then [] else Says (say.Shut lane) ∷ []) else []) (Says (say.Reply lane reply) ∷ h))
-    go true true = x
-    go true false = y
-    go false d = x
-
-pub replying_shut : (lane : ℕ) (reply : Reply) (h : List ServerEvent) → ((reply.status == 400) || (wants_shut lane h && not (reply.status == 101))) ≡ true
-    → was_refused lane h ≡ false → onto (replying lane reply h) h ≡ Says (say.Shut lane) ∷ Says (say.Reply lane reply) ∷ h
-replying_shut lane reply h e f =
-    ap (λ b. onto (if b then shutting lane h else []) (Says (say.Reply lane reply) ∷ h)) e
-    ∙ ap (λ b. onto (if b then [] else Says (say.Shut lane) ∷ []) (Says (say.Reply lane reply) ∷ h)) f
-
-pub replying_open : (lane : ℕ) (reply : Reply) (h : List ServerEvent)
-    → (((reply.status == 400) || (wants_shut lane h && not (reply.status == 101))) && not (was_refused lane h)) ≡ false
-    → onto (replying lane reply h) h ≡ Says (say.Reply lane reply) ∷ h
-replying_open lane reply h e = go ((reply.status == 400) || (wants_shut lane h && not (reply.status == 101))) (was_refused lane h) e
-  where
-    go : (b d : Bool) → (b && not d) ≡ false
-        → onto (if b then (if d then [] else Says (say.Shut lane) ∷ []) else []) (Says (say.Reply lane reply) ∷ h) ≡ Says (say.Reply lane reply) ∷ h
-    go true true e = refl
-    go true false e = absurd (let z : true ≡ false = e in cc)
-    go false d e = refl
 
 reply_lane : (lane : ℕ) (reply : Reply) (h : List ServerEvent) (l : ℕ) (x : Option Lane) → IsLane settled x l h
     → IsLane (lane_of (Some lane)) x l (Says (say.Reply lane reply) ∷ h)
@@ -457,21 +431,21 @@ pub answers_reply : {H Job : Type 0} (hub : Hub Job) (s : Setup) (before : List 
     → new.base ≡ old.base → new.resend ≡ old.resend → new.moment ≡ old.moment → new.words ≡ old.words → new.machine ≡ old.machine → new.callers ≡ old.callers
     → get nat_cmp new.lanes lane ≡ None → ((l : ℕ) → (lane == l) ≡ false → get nat_cmp new.lanes l ≡ get nat_cmp old.lanes l)
     → has_peer c h ≡ true → poll_lane c (notes h) ≡ Some lane
-    → ((n : List ConnectionEvent) → front.Stands old.front n → is_made c n ≡ true → front.Stands new.front (Answered c lane old.moment ∷ n))
+    → ((n : List ConnectionEvent) → StandsFront s.live old.front n → is_made c n ≡ true → StandsFront s.live new.front (Answered c lane old.moment ∷ n))
     → Standing {H = H} hub s (lane_of (Some lane)) before old (onto (replying lane reply h) h)
     → Standing {H = H} hub s settled before new (Notes (Answered c lane (moment h)) ∷ onto (replying lane reply h) h)
 answers_reply {H} {Job} hub s before old new c lane reply h base resend clock words machine callers own others there poll noted =
     replying_both (λ x. Standing {H = H} hub s (lane_of (Some lane)) before old x → Standing {H = H} hub s settled before new
     (Notes (Answered c lane (moment h)) ∷ x))
     lane reply h
-    (λ m. answers {H = H} {Job = Job} hub s before old new c lane (Says (say.Reply lane reply) ∷ h) base resend clock words machine callers own others there
+    (λ m. answers {H = H} {Job = Job} hub s before old new c lane (Says (say.Reply lane (record reply { close = false })) ∷ h) base resend clock words machine callers own others there
     (moment h) m poll
-    (subst (λ n. front.Stands new.front (Answered c lane n ∷ notes h)) m.clock
+    (subst (λ n. StandsFront s.live new.front (Answered c lane n ∷ notes h)) m.clock
     (noted (notes h) m.front ((m.orderly c).made (and_parts (is_some (settings_of c (work h))) _ there).0))))
-    (λ m. answers {H = H} {Job = Job} hub s before old new c lane (Says (say.Shut lane) ∷ Says (say.Reply lane reply) ∷ h) base resend clock words machine
+    (λ m. answers {H = H} {Job = Job} hub s before old new c lane (Says (say.Shut lane) ∷ Says (say.Reply lane (record reply { close = true })) ∷ h) base resend clock words machine
     callers own others
     there (moment h) m poll
-    (subst (λ n. front.Stands new.front (Answered c lane n ∷ notes h)) m.clock
+    (subst (λ n. StandsFront s.live new.front (Answered c lane n ∷ notes h)) m.clock
     (noted (notes h) m.front ((m.orderly c).made (and_parts (is_some (settings_of c (work h))) _ there).0))))
 
 -- ---- what is kept of a lane
@@ -485,45 +459,28 @@ some_flags u x o l h e lane =
 pub none_kept : (u : Unsettled) (o : Option Lane) (l c : ℕ) (h : List ServerEvent) → None ≡ o → IsLane u o l h → is_at l c h ≡ true → ⊥
 none_kept u o l c h e lane at = both_ways (is_at l c h) (subst (λ p. IsLane u p l h) (sym e) lane c) at
 
-pub test_first : (a b : Bool) → a ≡ true → a ≡ (a || b)
-test_first true b e = refl
-test_first false b e = absurd (let z : false ≡ true = e in cc)
+-- the reply is said, and the lane is shut after it or isn't
+pub replied_held : {H Job : Type 0} (hub : Hub Job) (s : Setup) (before : List Said) (v : Server H Job) (lane : ℕ) (reply : Reply) (h : List ServerEvent)
+    → Standing {H = H} hub s settled before v h → (ends : Bool) → ends ≡ ends_lane lane reply.status h
+    → (words : List Said) → words ≡ v.words ++ reply_and_end lane reply ends
+    → Standing {H = H} hub s (lane_of (Some lane)) before (record v { words = words }) (onto (replying lane reply h) h)
+replied_held {H} {Job} hub s before v lane reply h stands ends is words are =
+    subst (λ (b : Bool). Standing {H = H} hub s (lane_of (Some lane)) before (record v { words = words }) (onto (says_by lane reply b) h)) is
+    (go ends words are)
+  where
+    said_so : (b : Bool)
+        → Standing {H = H} hub s (lane_of (Some lane)) before (record v { words = v.words ++ say.Reply lane (record reply { close = b }) ∷ [] })
+        (Says (say.Reply lane (record reply { close = b })) ∷ h)
+    said_so b = standing_held {H = H} {Job = Job} hub s before v lane (record reply { close = b }) h stands
 
-pub test_second : (a b d : Bool) → a ≡ false → b ≡ true → d ≡ (a || (b && d))
-test_second false true d e f = refl
-test_second false false d e f = absurd (let z : false ≡ true = f in cc)
-test_second true b d e f = absurd (let z : true ≡ false = e in cc)
-
-pub test_none : (a b d : Bool) → a ≡ false → b ≡ false → b ≡ (a || (b && d))
-test_none false false d e f = refl
-test_none false true d e f = absurd (let z : true ≡ false = f in cc)
-test_none true b d e f = absurd (let z : true ≡ false = e in cc)
-
-module _ {H Job : Type 0} (hub : Hub Job) (s : Setup) (before : List Said) (v m : Server H Job) (p : List Said) (lane : ℕ) (reply : Reply)
-    (h : List ServerEvent)
-    (stands : Standing {H = H} hub s settled before v h) (same : m ≡ v) (replied : p ≡ m.words ++ say.Reply lane reply ∷ []) where
-  held_words : p ≡ v.words ++ say.Reply lane reply ∷ []
-  held_words = replied ∙ ap (λ x. x.words ++ say.Reply lane reply ∷ []) same
-
-  -- the reply was said, and the lane isn't shut
-  pub replied_open : (((reply.status == 400) || (wants_shut lane h && not (reply.status == 101))) && not (was_refused lane h)) ≡ false
-      → Standing {H = H} hub s (lane_of (Some lane)) before (record m { words = p }) (onto (replying lane reply h) h)
-  replied_open e =
-      subst (λ x. Standing {H = H} hub s (lane_of (Some lane)) before (record m { words = p }) x) (sym (replying_open lane reply h e))
-      (subst (λ x. Standing {H = H} hub s (lane_of (Some lane)) before (record x { words = p }) (Says (say.Reply lane reply) ∷ h)) (sym same)
-      (subst (λ x. Standing {H = H} hub s (lane_of (Some lane)) before (record v { words = x }) (Says (say.Reply lane reply) ∷ h)) (sym held_words)
-      (standing_held {H = H} {Job = Job} hub s before v lane reply h stands)))
-
-  -- and then it is shut
-  pub replied_shut : (q : List Said) → q ≡ p ++ say.Shut lane ∷ []
-      → ((reply.status == 400) || (wants_shut lane h && not (reply.status == 101))) ≡ true
-      → was_refused lane h ≡ false → Standing {H = H} hub s (lane_of (Some lane)) before (record m { words = q }) (onto (replying lane reply h) h)
-  replied_shut q shut e f =
-      subst (λ x. Standing {H = H} hub s (lane_of (Some lane)) before (record m { words = q }) x) (sym (replying_shut lane reply h e f))
-      (subst (λ x. Standing {H = H} hub s (lane_of (Some lane)) before (record x { words = q })
-      (Says (say.Shut lane) ∷ Says (say.Reply lane reply) ∷ h)) (sym same)
-      (subst (λ x. Standing {H = H} hub s (lane_of (Some lane)) before (record v { words = x })
-      (Says (say.Shut lane) ∷ Says (say.Reply lane reply) ∷ h))
-      (sym (shut ∙ ap (λ l. l ++ say.Shut lane ∷ []) held_words))
-      (standing_shuts {H = H} {Job = Job} hub s (lane_of (Some lane)) before (record v { words = v.words ++ say.Reply lane reply ∷ [] }) lane
-      (Says (say.Reply lane reply) ∷ h) (standing_held {H = H} {Job = Job} hub s before v lane reply h stands))))
+    go : (b : Bool) (words : List Said) → words ≡ v.words ++ reply_and_end lane reply b
+        → Standing {H = H} hub s (lane_of (Some lane)) before (record v { words = words }) (onto (says_by lane reply b) h)
+    go false words e =
+        subst (λ w. Standing {H = H} hub s (lane_of (Some lane)) before (record v { words = w }) (Says (say.Reply lane (record reply { close = false })) ∷ h))
+        (sym e) (said_so false)
+    go true words e =
+        let reply_now : Said = say.Reply lane (record reply { close = true }) in
+        subst (λ w. Standing {H = H} hub s (lane_of (Some lane)) before (record v { words = w }) (Says (say.Shut lane) ∷ Says reply_now ∷ h))
+        (append_assoc v.words (reply_now ∷ []) (say.Shut lane ∷ []) ∙ sym e)
+        (standing_shuts {H = H} {Job = Job} hub s (lane_of (Some lane)) before (record v { words = v.words ++ reply_now ∷ [] }) lane (Says reply_now ∷ h)
+        (said_so true))

@@ -1,40 +1,39 @@
 -- The first poll of a connection, which begins with it.
-use Rattle.std.proofs.Common.{◌≡◌, ℕ, ◌==◌, Bool, true, false, not, ◌&&◌, ◌||◌, List, [], ◌∷◌, ◌++◌, Option, Some, None, is_some}
+use Rattle.std.proofs.Common.{◌≡◌, ℕ, ◌==◌, Bool, true, false, ◌&&◌, List, [], ◌∷◌, ◌++◌, Option, Some, None, is_some}
 use Rattle.std.proofs.Common.{refl, sym, ap, subst, ◌∙◌}
-use Rattle.std.specs.Prelude.{if◌then◌else◌, option_map}
+use Rattle.std.specs.Prelude.{option_map}
 use Rattle.std.specs.Ordering.{nat_cmp}
 use Rattle.std.specs.BTreeMap.{get}
 use Rattle.std.proofs.lemmas.Bool.{and_from, both_ways, cond-true, eq-eqb, eqb-true, or_right}
-use Rattle.hw_lanes.specs.declared.http.Reply.{Reply}
 use Rattle.hd_delivery.specs.Histories.{Attached, is_this, link_count}
 use Rattle.hd_delivery.specs.Bytes.{Does as Step_of}
 use Rattle.hd_calls.specs.Hubs.{Hub}
 use Rattle.hd_calls.specs.Peers.{Plain}
 use Rattle.hd_server.specs.declared.vocabulary.Said.{Said}
-use Rattle.hd_server.specs.declared.vocabulary.Said.TheVariants as say
 use Rattle.hd_server.specs.Lives.{Polled, Answered, socket_of, lost_at, poll_of, poll_ended, is_made, is_polling}
 use Rattle.hd_server.specs.declared.vocabulary.Outcome.TheVariants.{FirstPoll}
 use Rattle.hd_server.specs.Machine.{Does}
-use Rattle.hd_server.specs.Doings.{ServerEvent, Notes, Says, notes, work, moment, has_peer, history, wants_shut, was_refused}
-use Rattle.hd_server.specs.Plans.{PendingRequest, Setup, attaching, bare_reply, connecting, onto, replying, request_plan, shutting, step}
+use Rattle.hd_server.specs.Doings.{ServerEvent, Notes, notes, work, moment, has_peer, history, wants_shut, was_refused}
+use Rattle.hd_server.specs.Plans.{PendingRequest, Setup, attaching, bare_reply, connecting, onto, replying, request_plan, step}
 use Rattle.hd_server.specs.Serves.{FeedsOne}
 use Rattle.hn_server_front.specs.Calls.{IsNoted}
 use Rattle.hn_server_front.specs.declared.front.Front.{Front}
-use Rattle.hn_server_front.specs.Stands as front
 use Rattle.hub_machine.specs.declared.machine.Machine.{Machine}
 use Rattle.hub_server.specs.declared.server.Server.{Server}
 use Rattle.hub_machine.specs.Machines.{StandsMachine}
 use Rattle.hub_server.specs.Lanes.{conn_of, is_at, poll_lane, settled}
-use Rattle.hub_server.specs.Servers.{IsOrderly, Standing}
+use Rattle.hub_server.specs.Servers.{IsOrderly, Standing, StandsFront}
 use Rattle.hub_server.specs.Steps.{Follows, HasCome}
 use Rattle.hub_server.specs.Connections.{IsKnown}
 use Rattle.hub_server.proofs.Alike.{Alike, alike_does, alike_note, alike_trans, at_alike, orderly_alike}
+use Rattle.hub_server.proofs.Answering.{replying_same}
 use Rattle.hub_server.proofs.BeginLink.{IsLinked, connecting_cases, linked}
 use Rattle.hub_server.proofs.BeginPeer.{IsBare, bare}
 use Rattle.hub_server.proofs.HoldMoved.{IsMoved}
 use Rattle.hub_server.proofs.HoldPolls.{at_poll, begun_of, not_later, polls_orderly}
 use Rattle.hub_server.proofs.LaneKept.{lane_kept, lane_wider, orderly_wider, same_lane_note, same_lane_trans, same_lane_works}
 use Rattle.hub_server.proofs.OntoAlike.{onto_append}
+use Rattle.hub_server.proofs.FrontNoted.{noted_front}
 
 -- ---- a new connection, once it has its peer
 
@@ -166,8 +165,9 @@ module _ {H Job : Type 0} (hub : Hub Job) (s : Setup) (before : List Said) (v : 
   stands_polled f1 f2 polls answers = record {
     setup = st.setup;
     machine = st.machine;
-    front = subst (λ x. front.Stands f2 (Answered k at x ∷ Polled k at x ∷ notes h)) st.clock
-        ((answers (Polled k at v.moment ∷ notes h) ((polls (notes h) st.front).0 made)).0 made);
+    front = subst (λ x. StandsFront s.live f2 (Answered k at x ∷ Polled k at x ∷ notes h)) st.clock
+        (noted_front s.live f1 f2 k (Answered k at v.moment) (Polled k at v.moment ∷ notes h) answers
+        (noted_front s.live v.front f1 k (Polled k at v.moment) (notes h) polls st.front made) made);
     callers = λ c. st.callers c;
     lanes = λ l. lane_wider (conn_of k) settled (get nat_cmp v.lanes l) l g2 (λ e. e)
         (lane_kept (conn_of k) (get nat_cmp v.lanes l) l g2 h
@@ -180,14 +180,6 @@ module _ {H Job : Type 0} (hub : Hub Job) (s : Setup) (before : List Said) (v : 
   }
 
 -- ---- what is done
-
--- what is replied depends on the lane alone
-pub replying_same : (l : ℕ) (reply : Reply) (g h : List ServerEvent) → wants_shut l g ≡ wants_shut l h → was_refused l g ≡ was_refused l h
-    → replying l reply g ≡ replying l reply h
-replying_same l reply g h shut refused =
-    ap (λ b. Says (say.Reply l reply) ∷ (if (reply.status == 400) || (b && not (reply.status == 101)) then shutting l g else [])) shut
-    ∙ ap (λ b. Says (say.Reply l reply) ∷ (if (reply.status == 400) || (wants_shut l h && not (reply.status == 101)) then
-    (if b then [] else Says (say.Shut l) ∷ []) else [])) refused
 
 abbrev pub at_once : ℕ → ℕ → ℕ → List ServerEvent → List ServerEvent
 at_once k at now fed = Notes (Answered k at now) ∷ Notes (Polled k at now) ∷ fed

@@ -1,7 +1,7 @@
 -- What a connection's own moves leave as it was, and the end of the poll that it held.
 use Rattle.std.proofs.Common.{◌≡◌, ℕ, ◌==◌, Bool, true, false, not, ◌&&◌, ◌||◌, List, [], ◌∷◌, Option, Some, None, is_some}
 use Rattle.std.proofs.Common.{refl, sym, ap, subst, ◌∙◌}
-use Rattle.std.specs.Prelude.{if◌then◌else◌, option_map}
+use Rattle.std.specs.Prelude.{option_map}
 use Rattle.std.proofs.lemmas.Bool.{and_from, both_ways, cond-true, cond-false, eq-eqb, eqb-true, false_from_ne_true}
 use Rattle.hd_delivery.specs.Histories.{is_this}
 use Rattle.hd_calls.specs.Peers.{PeerEvent}
@@ -16,6 +16,7 @@ use Rattle.hub_server.specs.Steps.{HasCome}
 use Rattle.hub_server.specs.Connections.{CanHold}
 use Rattle.hub_server.proofs.Alike.{Alike, alike_note, alike_says, alike_trans, at_alike, there_alike}
 use Rattle.hub_server.proofs.HoldPolls.{at_poll}
+use Rattle.hub_server.proofs.Answering.{last_empty, replying_both}
 use Rattle.hub_server.proofs.OntoAlike.{onto_append}
 
 -- ---- moves
@@ -75,14 +76,9 @@ hold_moved k g h x can = record {
 
 -- ---- a reply to a poll that was held
 
-pick : (Q : List ServerEvent → Type 0) (b d : Bool) (xs : List ServerEvent) → Q [] → Q xs → Q (if b then (if d then [] else xs) else [])
-pick Q true true xs n x = n
-pick Q true false xs n x = x
-pick Q false d xs n x = n
-
 pub ended_cases : (P : List ServerEvent → Type 0) (k now : ℕ) (h : List ServerEvent) → (poll_of k (notes h) ≡ None → P h)
     → ((p : ℕ × ℕ) → poll_of k (notes h) ≡ Some p → P (Notes (Answered k p.0 now) ∷ Says (say.Reply p.0 (bare_reply 204)) ∷ h))
-    → ((p : ℕ × ℕ) → poll_of k (notes h) ≡ Some p → P (Notes (Answered k p.0 now) ∷ Says (say.Shut p.0) ∷ Says (say.Reply p.0 (bare_reply 204)) ∷ h))
+    → ((p : ℕ × ℕ) → poll_of k (notes h) ≡ Some p → P (Notes (Answered k p.0 now) ∷ Says (say.Shut p.0) ∷ Says (say.Reply p.0 last_empty) ∷ h))
     → P (onto (ending_held k now h) h)
 ended_cases P k now h none one two = go (poll_of k (notes h)) refl
   where
@@ -90,8 +86,7 @@ ended_cases P k now h none one two = go (poll_of k (notes h)) refl
     go None e = subst P (sym (ap (λ o. onto (ending_poll k now o h) h) e)) (none e)
     go (Some p) e =
         subst P (sym (ap (λ o. onto (ending_poll k now o h) h) e ∙ onto_append (replying p.0 (bare_reply 204) h) (Notes (Answered k p.0 now) ∷ []) h))
-        (pick (λ xs. P (Notes (Answered k p.0 now) ∷ onto xs (Says (say.Reply p.0 (bare_reply 204)) ∷ h)))
-        ((204 == 400) || (wants_shut p.0 h && not (204 == 101))) (was_refused p.0 h) (Says (say.Shut p.0) ∷ []) (one p e) (two p e))
+        (replying_both (λ xs. P (Notes (Answered k p.0 now) ∷ xs)) p.0 (bare_reply 204) h (one p e) (two p e))
 
 -- a request has come as it had, and the connection may hold it
 pub record IsStill (k at : ℕ) (is_last : Bool) (h g : List ServerEvent) : Type 0 where
@@ -156,7 +151,7 @@ ended_still k at is_last now h can come = ended_cases (IsStill k at is_last h) k
     (λ p e. still_answered k at is_last now h (Says (say.Reply p.0 (bare_reply 204)) ∷ h) p can come e
     (λ c. alike_says (say.Reply p.0 (bare_reply 204)) c h)
     (cond-false (at == p.0) false (awaits_reply at h) (elsewhere k at is_last h p can come e)) refl refl refl)
-    (λ p e. still_answered k at is_last now h (Says (say.Shut p.0) ∷ Says (say.Reply p.0 (bare_reply 204)) ∷ h) p can come e
-    (λ c. alike_trans c (Says (say.Shut p.0) ∷ Says (say.Reply p.0 (bare_reply 204)) ∷ h) (Says (say.Reply p.0 (bare_reply 204)) ∷ h) h
-    (alike_says (say.Shut p.0) c (Says (say.Reply p.0 (bare_reply 204)) ∷ h)) (alike_says (say.Reply p.0 (bare_reply 204)) c h))
+    (λ p e. still_answered k at is_last now h (Says (say.Shut p.0) ∷ Says (say.Reply p.0 last_empty) ∷ h) p can come e
+    (λ c. alike_trans c (Says (say.Shut p.0) ∷ Says (say.Reply p.0 last_empty) ∷ h) (Says (say.Reply p.0 last_empty) ∷ h) h
+    (alike_says (say.Shut p.0) c (Says (say.Reply p.0 last_empty) ∷ h)) (alike_says (say.Reply p.0 last_empty) c h))
     (cond-false (at == p.0) false (awaits_reply at h) (elsewhere k at is_last h p can come e)) refl refl refl)

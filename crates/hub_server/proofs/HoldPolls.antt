@@ -19,18 +19,18 @@ use Rattle.hn_server_front.specs.Calls.{IsNoted, poll_held}
 use Rattle.hn_server_front.specs.Entries.{held_as}
 use Rattle.hn_server_front.specs.declared.entry.Held.{Held}
 use Rattle.hn_server_front.specs.declared.front.Front.{Front}
-use Rattle.hn_server_front.specs.Stands as front
 use Rattle.hub_server.specs.declared.lane.Lane.{Lane}
 use Rattle.hub_server.specs.declared.server.Server.{Server}
 use Rattle.hub_machine.specs.Machines.{StandsMachine}
 use Rattle.hub_server.specs.Lanes.{IsLane, Unsettled, is_at, poll_lane, settled}
-use Rattle.hub_server.specs.Servers.{IsOrderly, Standing}
+use Rattle.hub_server.specs.Servers.{IsOrderly, Standing, StandsFront}
 use Rattle.hub_server.specs.Steps.{HasCome}
 use Rattle.hub_server.specs.Connections.{CanHold}
 use Rattle.hub_server.proofs.Alike.{alike_note, orderly_alike}
 use Rattle.hub_server.proofs.HoldLanes.{Goes_over, HasCut, cuts, cuts_none, goes_over}
 use Rattle.hub_server.proofs.LaneKept.{same_lane_note}
 use Rattle.hub_server.proofs.SameSetup.{same_setup}
+use Rattle.hub_server.proofs.FrontNoted.{noted_front}
 
 pub not_later : (n : ℕ) → n ≤ n
 not_later n = omega (arith)
@@ -160,8 +160,9 @@ polled_stands {H} {Job} hub s u before old mid k at is_last h st is come can cut
     subst (λ w. Standing {H = H} hub s w before (record mid { front = f; lanes = lanes }) g) (sym is) (record {
       setup = same_setup s cut.base cut.resend st.setup;
       machine = subst (λ m. StandsMachine {H = H} hub m (work h)) (sym cut.machine) st.machine;
-      front = subst (λ n. front.Stands f (Polled k at n ∷ notes h)) (cut.clock ∙ st.clock)
-          ((noted (notes h) (subst (λ x. front.Stands x (notes h)) (sym cut.front) st.front)).0 can.known.made);
+      front = subst (λ n. StandsFront s.live f (Polled k at n ∷ notes h)) (cut.clock ∙ st.clock)
+          (noted_front s.live mid.front f k (Polled k at mid.moment) (notes h) noted
+          (subst (λ x. StandsFront s.live x (notes h)) (sym cut.front) st.front) can.known.made);
       callers = λ c. ap (λ m. get nat_cmp m c) cut.callers ∙ st.callers c;
       lanes = λ l. goes_over k at (poll_lane k (notes h)) g h (polls_over k at (moment h) h can.there can.unsocketed) come.nobody
           (record { conn = k; polls = true; is_last = is_last; is_refused = false })

@@ -6,6 +6,7 @@ pub mod Asleep
 pub mod TickAsleep
 pub mod WakePollers
 pub mod LaneKept
+pub mod Answering
 pub mod SameSetup
 pub mod Calm
 pub mod RoundReadsNothing
@@ -57,3 +58,6 @@ pub mod OutcomeEntries
 pub mod OutcomeHandles
 pub mod OutcomeDecided
 pub mod OutcomeEvents
+pub mod FrontNoted
+pub mod OutcomeRoom
+pub mod OutcomeMade

@@ -10,11 +10,12 @@ use Rattle.hd_server.specs.declared.vocabulary.Said.TheVariants as say
 use Rattle.hd_server.specs.Lives.{Answered, Removed, is_polling, poll_ended, poll_of, socket_of}
 use Rattle.hd_server.specs.Machine.{MachineEvent, Does, Goes, has_gone, is_open, is_there, settings_of}
 use Rattle.hd_server.specs.Doings.{ServerEvent, Notes, Says, Works, awaits_reply, has_peer, is_up, notes, wants_shut, was_refused, work}
-use Rattle.hd_server.specs.Plans.{Setup, PendingRequest, bare_reply, closing, ending_held, ending_poll, removing_conn, onto, replying, shutting, shutting_some, standing_on, step}
+use Rattle.hd_server.specs.Plans.{Setup, PendingRequest, bare_reply, closing, ends_lane, ending_held, ending_poll, removing_conn, onto, replying, shutting_some, standing_on, step}
 use Rattle.hd_server.specs.Serves.{FeedsOne, moving}
 use Rattle.hub_server.specs.Lanes.{IsNobodys, is_at, poll_lane}
 use Rattle.hub_server.specs.Connections.{IsKnown}
 use Rattle.hub_server.specs.Steps.{HasCome}
+use Rattle.hub_server.proofs.Answering.{last_empty, replying_same, says_by}
 use Rattle.hub_server.proofs.OntoAlike.{onto_append}
 
 -- ---- the lane of the request
@@ -47,19 +48,14 @@ come_stays lane is_last g h s come = record {
 
 -- so it is answered as it would have been before them
 pub replying_stays : (lane : ℕ) (reply : Reply) (g h : List ServerEvent) → Stays lane g h → replying lane reply g ≡ replying lane reply h
-replying_stays lane reply g h s =
-    ap (λ (w : Bool). Says (say.Reply lane reply) ∷ (if (reply.status == 400) || (w && not (reply.status == 101)) then shutting lane g else []))
-    s.shut
-    ∙ ap (λ (r : Bool). Says (say.Reply lane reply)
-    ∷ (if (reply.status == 400) || (wants_shut lane h && not (reply.status == 101)) then (if r then [] else Says (say.Shut lane) ∷ []) else []))
-    s.refused
+replying_stays lane reply g h s = replying_same lane reply g h s.shut s.refused
 
 -- ---- one doing
 
 stays_does : (lane k : ℕ) (m : PeerEvent) (h : List ServerEvent) → Stays lane (Works (Does k m) ∷ h) h
 stays_does lane k m h = record { awaits = refl; shut = refl; refused = refl; nobody = λ n. n }
 
-stays_lets : (lane k : ℕ) (h : List ServerEvent) → Stays lane (Notes (Removed k) ∷ h) h
+pub stays_lets : (lane k : ℕ) (h : List ServerEvent) → Stays lane (Notes (Removed k) ∷ h) h
 stays_lets lane k h = record { awaits = refl; shut = refl; refused = refl; nobody = λ n. n }
 
 pub stays_shut : (lane k : ℕ) (h : List ServerEvent) → Stays lane (Says (say.Shut k) ∷ h) h
@@ -69,7 +65,7 @@ stays_reply : (lane k : ℕ) (reply : Reply) (h : List ServerEvent) → (lane ==
 stays_reply lane k reply h e =
     record { awaits = cond-false (lane == k) false (awaits_reply lane h) e; shut = refl; refused = refl; nobody = λ n. n }
 
-stays_goes : (lane k : ℕ) (h : List ServerEvent) → Stays lane (Works (Goes k) ∷ h) h
+pub stays_goes : (lane k : ℕ) (h : List ServerEvent) → Stays lane (Works (Goes k) ∷ h) h
 stays_goes lane k h = record {
   awaits = refl;
   shut = refl;
@@ -113,20 +109,17 @@ stays_fed lane now c bytes h after f = subst (λ (g : List ServerEvent). Stays l
 pub ended_either : (P : List ServerEvent → Type 0) (c now : ℕ) (h : List ServerEvent) → P h
     → ((p : ℕ × ℕ) → poll_of c (notes h) ≡ Some p → P (Notes (Answered c p.0 now) ∷ Says (say.Reply p.0 (bare_reply 204)) ∷ h))
     → ((p : ℕ × ℕ) → poll_of c (notes h) ≡ Some p
-    → P (Notes (Answered c p.0 now) ∷ Says (say.Shut p.0) ∷ Says (say.Reply p.0 (bare_reply 204)) ∷ h))
+    → P (Notes (Answered c p.0 now) ∷ Says (say.Shut p.0) ∷ Says (say.Reply p.0 last_empty) ∷ h))
     → P (onto (ending_held c now h) h)
 ended_either P c now h none one two = go (poll_of c (notes h)) refl
   where
-    shuts : (p : ℕ × ℕ) → poll_of c (notes h) ≡ Some p → (b r : Bool)
-        → P (onto ((Says (say.Reply p.0 (bare_reply 204)) ∷ (if b then (if r then [] else Says (say.Shut p.0) ∷ []) else []))
-        ++ Notes (Answered c p.0 now) ∷ []) h)
-    shuts p e false r = one p e
-    shuts p e true true = one p e
-    shuts p e true false = two p e
+    shuts : (p : ℕ × ℕ) → poll_of c (notes h) ≡ Some p → (b : Bool) → P (onto (says_by p.0 (bare_reply 204) b ++ Notes (Answered c p.0 now) ∷ []) h)
+    shuts p e false = one p e
+    shuts p e true = two p e
 
     go : (o : Option (ℕ × ℕ)) → poll_of c (notes h) ≡ o → P (onto (ending_poll c now o h) h)
     go None e = none
-    go (Some p) e = shuts p e (wants_shut p.0 h && true) (was_refused p.0 h)
+    go (Some p) e = shuts p e (ends_lane p.0 204 h)
 
 ended_work : (c now : ℕ) (h : List ServerEvent) → work (onto (ending_held c now h) h) ≡ work h
 ended_work c now h = ended_either (λ (g : List ServerEvent). work g ≡ work h) c now h refl (λ p e. refl) (λ p e. refl)
@@ -150,11 +143,11 @@ apart lane c p h e there polls =
 pub ended_stays : (lane c now : ℕ) (h : List ServerEvent) → IsNobodys lane h → (is_polling c (notes h) ≡ true → has_peer c h ≡ true)
     → Stays lane (onto (ending_held c now h) h) h
 ended_stays lane c now h nobody there = ended_either (λ (g : List ServerEvent). Stays lane g h) c now h (stays_same lane h)
-    (λ p e. stays_then lane _ _ h (stays_answered lane c p.0 now _) (off p e))
-    (λ p e. stays_then lane _ _ h (stays_answered lane c p.0 now _) (stays_then lane _ _ h (stays_shut lane p.0 _) (off p e)))
+    (λ p e. stays_then lane _ _ h (stays_answered lane c p.0 now _) (off p (bare_reply 204) e))
+    (λ p e. stays_then lane _ _ h (stays_answered lane c p.0 now _) (stays_then lane _ _ h (stays_shut lane p.0 _) (off p last_empty e)))
   where
-    off : (p : ℕ × ℕ) → poll_of c (notes h) ≡ Some p → Stays lane (Says (say.Reply p.0 (bare_reply 204)) ∷ h) h
-    off p e = stays_reply lane p.0 (bare_reply 204) h
+    off : (p : ℕ × ℕ) (reply : Reply) → poll_of c (notes h) ≡ Some p → Stays lane (Says (say.Reply p.0 reply) ∷ h) h
+    off p reply e = stays_reply lane p.0 reply h
         (apart lane c p h (nobody c) (there (ap (λ (o : Option (ℕ × ℕ)). is_some o || is_some (poll_ended c (notes h))) e)) e)
 
 -- ---- the connection is closed and let go

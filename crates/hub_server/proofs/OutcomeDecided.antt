@@ -1,5 +1,5 @@
 -- What the front decides about a request is what the table says of it, and what the server was told of its connection is so.
-use Rattle.std.proofs.Common.{◌≡◌, ℕ, Bool, true, false, List, [], Option, Some, None, IfSome, refl, sym, ap, subst, ◌∙◌}
+use Rattle.std.proofs.Common.{◌≡◌, ℕ, Bool, true, false, List, Option, Some, None, IfSome, refl, sym, ap, subst, ◌∙◌}
 use Rattle.std.specs.Prelude.{unwrap_or, if◌then◌else◌}
 use Rattle.hw_lanes.specs.declared.http.Request.{Request}
 use Rattle.hd_calls.specs.Hubs.{Hub}
@@ -14,7 +14,7 @@ use Rattle.hd_server.specs.declared.vocabulary.Outcome.TheVariants.{Refusal, New
 use Rattle.hd_server.specs.declared.vocabulary.Said.{Said}
 use Rattle.hd_server.specs.Laws.{LivesAreSettled, LotsMatterToTokens, OutcomesSuit, Suits}
 use Rattle.hd_server.specs.Lives.{ConnectionEvent, conn_with, is_busy, is_known, is_made, known_conn, life, life_of, life_of_some}
-use Rattle.hd_server.specs.Table.{Facts, asks_keeper, id_in, is_keepers_fault, is_unauthorized, outcome, socket_outcome}
+use Rattle.hd_server.specs.Table.{Facts, asks_keeper, id_in, is_base, is_keepers_fault, is_unauthorized, outcome, socket_outcome}
 use Rattle.hd_server.specs.Doings.{ServerEvent, moment, name_now, notes}
 use Rattle.hd_server.specs.Plans.{PendingRequest, Setup, caller_by, conn_of_some, facts, may_resume_some, learning, named_conn, onto}
 use Rattle.hn_server_front.specs.Calls as calls
@@ -26,7 +26,7 @@ use Rattle.hub_server.specs.Lanes.{settled}
 use Rattle.hub_server.specs.Servers.{OfEach, Standing}
 use Rattle.hub_server.specs.Steps.{Handles, NoneOverdue, outside}
 use Rattle.hub_server.specs.Requests.{CarriesOut, IsCaller, IsSeen, OfRequest, is_about_token, name_meant, text_asked}
-use Rattle.hub_server.proofs.OutcomeHandles.{handled, known, learned_come, learned_moment, learned_none, learned_rested, learned_standing, name_learned, pending_request}
+use Rattle.hub_server.proofs.OutcomeHandles.{handled, learned_come, learned_moment, learned_none, learned_rested, learned_standing, name_learned, pending_request}
 use Rattle.hub_server.proofs.OutcomeTokens.{known_by}
 
 -- ---- a route that names a token
@@ -133,13 +133,13 @@ module _ (s : Setup) (r : Request) (to : Route) (routed : RoutesTo s.base r to) 
       (known_is ∙ ap (λ (t : Option (List ℕ)). known_conn_of_some t now (notes g)) e) k
 
   -- what the front decides is the table's
-  decides : (out : Outcome) → out ≡ outcome s.base r (facts_at r who resumable now (notes g)) → out ≡ outcome s.base r seen
+  decides : (out : Outcome) → out ≡ outcome s.base r (facts_at s.live r who resumable now (notes g)) → out ≡ outcome s.base r seen
   decides out is =
       is
-      ∙ routed.by_rows (facts_at r who resumable now (notes g))
-      ∙ by_grant to (facts_at r who false now (notes g)) resumable seen.granted (λ token e k. grants ∙ ap (λ (o : Option ℕ). may_resume_some o g) (named_is token e k))
-      ∙ sym (routed.by_rows (facts_at r who seen.granted now (notes g)))
-      ∙ ap (λ (w : Caller). outcome s.base r (facts_at r w seen.granted now (notes g))) is_who
+      ∙ routed.by_rows (facts_at s.live r who resumable now (notes g))
+      ∙ by_grant to (facts_at s.live r who false now (notes g)) resumable seen.granted (λ token e k. grants ∙ ap (λ (o : Option ℕ). may_resume_some o g) (named_is token e k))
+      ∙ sym (routed.by_rows (facts_at s.live r who seen.granted now (notes g)))
+      ∙ ap (λ (w : Caller). outcome s.base r (facts_at s.live r w seen.granted now (notes g))) is_who
 
   -- a token's connection is the one that is named
   about : (out : Outcome) → out ≡ outcome s.base r seen → Suits r seen out → is_about_token out ≡ true → named ≡ named_conn r g
@@ -148,9 +148,9 @@ module _ (s : Setup) (r : Request) (to : Route) (routed : RoutesTo s.base r to) 
       named_is one.0 one.1 (known_by r seen out suits e)
 
   seen_so : (out : Outcome) → out ≡ outcome s.base r seen → Suits r seen out → LivesAreSettled → now ≡ moment g → NoneOverdue g
-      → IfSome named (λ c. is_made c (notes g) ≡ true) → IsSeen seen (unwrap_or named 0) out g
+      → IfSome named (λ c. is_made c (notes g) ≡ true) → IsSeen s.live seen (unwrap_or named 0) out g
   seen_so out is suits law at none made = record {
-    busy = ap (λ (m : ℕ). is_busy m (notes g)) at;
+    busy = ap (λ (m : ℕ). is_busy s.live m (notes g)) at;
     named = λ e.
         let same : named ≡ named_conn r g = about out is suits e in
         let c : ℕ = unwrap_or named 0 in
@@ -176,11 +176,11 @@ module _ {H Job : Type 0} (hub : Hub Job) (old new : Server H Job) (lane : ℕ) 
     (named : Option ℕ) (known_is : calls.OfEach old.front (λ n. named ≡ known_conn_of_some (token_at to) old.moment n))
     (made : calls.OfEach old.front (λ n. IfSome named (λ c. is_made c n ≡ true))) (conn : ℕ) (conn_is : conn ≡ unwrap_or named 0) (resumable : Bool)
     (grants : OfEach {H = H} hub old (λ s u before h. resumable ≡ may_resume_some named h)) (out : Outcome)
-    (by_rows : calls.OfEach old.front (λ n. (b : List ℕ) (q : Request) → RoutesTo b q to → out ≡ outcome b q (facts_at q who resumable old.moment n)))
+    (by_rows : calls.OfEach old.front (λ n. (b : List ℕ) (q : Request) → RoutesTo b q to → out ≡ outcome b q (facts_at old.front.live q who resumable old.moment n)))
   where
     pub handled_there : OfRequest {H = H} hub old lane r.shut (λ s before h. (o : PendingRequest) → o.now ≡ moment h → o.lane ≡ lane
-        → o.request.upgrade ≡ r.upgrade → o.request.body ≡ r.body → name_now h ≡ name_meant who → (f : Facts) → Suits o.request f out
-        → IsSeen f conn out h
+        → o.request.upgrade ≡ r.upgrade → o.request.body ≡ r.body → is_base s.base o.request ≡ is_base old.base r → name_now h ≡ name_meant who → (f : Facts) → Suits o.request f out
+        → IsSeen s.live f conn out h
         → CarriesOut {H = H} hub s before new o conn told failures told_now failures_now h out)
         → OfRequest {H = H} hub old lane r.shut (λ s before h. name_now h ≡ None → Handles {H = H} hub s before new
         (outside holds answers faults told failures) (outside holds_now answers_now faults_now told_now failures_now) (event.Request lane r) h)
@@ -198,17 +198,19 @@ module _ {H Job : Type 0} (hub : Hub Job) (old new : Server H Job) (lane : ℕ) 
         let now : old.moment ≡ moment h = st.clock in
         let f : Facts = facts s (moment h) r name false g in
         let named_is : named ≡ known_conn_of_some (token_at to) (moment h) (notes g) =
-        subst (λ (m : ℕ). named ≡ known_conn_of_some (token_at to) m (notes g)) now (known_is (notes g) st_g.front) in
+        subst (λ (m : ℕ). named ≡ known_conn_of_some (token_at to) m (notes g)) now (known_is (notes g) st_g.front.stands) in
         let granted : resumable ≡ may_resume_some named g = grants s settled before g st_g in
         let is : out ≡ outcome s.base r f = decides s r to routed_so who name called_so.is (moment h) g named named_is resumable granted out
-        (subst (λ (m : ℕ). out ≡ outcome s.base r (facts_at r who resumable m (notes g))) now (by_rows (notes g) st_g.front s.base r routed_so)) in
+        (subst (λ (m : ℕ). out ≡ outcome s.base r (facts_at s.live r who resumable m (notes g))) now
+        (subst (λ (l : ℕ). out ≡ outcome s.base r (facts_at l r who resumable old.moment (notes g))) st_g.front.limit
+        (by_rows (notes g) st_g.front.stands s.base r routed_so))) in
         let suits_so : Suits r f out = subst (Suits r f) (sym is) (suits s.base r f) in
         let o : PendingRequest = pending_request lane r h in
         let done = did s before g st_g (λ k. learned_rested text name h k (rests k)) (learned_come text name h lane r.shut come)
-        (learned_none text name h none) o at refl refl refl (name_learned r.bearer text name who h unnamed called_so.is) f suits_so
-        (subst (λ (k : ℕ). IsSeen f k out g) (sym conn_is)
+        (learned_none text name h none) o at refl refl refl (ap (λ (x : Setup). is_base x.base r) st.setup.given) (name_learned r.bearer text name who h unnamed called_so.is) f suits_so
+        (subst (λ (k : ℕ). IsSeen s.live f k out g) (sym conn_is)
         (seen_so s r to routed_so who name called_so.is (moment h) g named named_is resumable granted out is suits_so law at (learned_none text name h none)
-        (made (notes g) st_g.front))) in
+        (made (notes g) st_g.front.stands))) in
         handled {H = H} {Job = Job} hub s before new lane r h lots who holds holds_now answers answers_now faults faults_now told told_now
         failures failures_now called_so out is
         (for_conn {H = H} {Job = Job} hub s before new o conn (unwrap_or (named_conn r g) 0) told failures told_now failures_now g out

@@ -1,5 +1,5 @@
 -- Requests that make a connection: what is drawn, and what is told.
-use Rattle.std.proofs.Common.{◌≡◌, ◌≤◌, ℕ, suc, Bool, false, List, [], ◌∷◌, length, Option, Some, None, refl, sym, subst}
+use Rattle.std.proofs.Common.{◌≡◌, ◌≤◌, ℕ, suc, Bool, false, List, [], ◌∷◌, ◌++◌, length, Option, Some, None, refl, sym, subst}
 use Rattle.std.proofs.lemmas.List.{append-nil}
 use Rattle.hd_facts.specs.Counts.{Rose}
 use Rattle.hw_lanes.specs.declared.http.Reply.{Reply}
@@ -9,12 +9,13 @@ use Rattle.hd_server.specs.declared.vocabulary.Said.{Said}
 use Rattle.hd_server.specs.Lives.{Negotiated, Opened, made}
 use Rattle.hd_server.specs.Texts.{negotiate_body, token_of}
 use Rattle.hd_server.specs.Doings.{ServerEvent, Draws, Notes, moment, notes}
-use Rattle.hd_server.specs.Plans.{PendingRequest, Setup, bare_reply, onto, replying, standing_on, token_reply}
+use Rattle.hd_server.specs.Plans.{PendingRequest, Setup, bare_reply, giving_way, new_plain, new_token, onto, replying, standing_on, token_reply}
 use Rattle.hub_server.specs.declared.server.Server.{Server}
 use Rattle.hub_server.specs.Lanes.{settled}
 use Rattle.hub_server.specs.Servers.{Standing}
 use Rattle.hub_server.specs.Steps.{AddsAll}
-use Rattle.hub_server.specs.Requests.{MakesToken, OpensTo}
+use Rattle.hub_server.specs.Requests.{MakesToken, OpensTo, TellsToken}
+use Rattle.hub_server.proofs.OntoAlike.{onto_append}
 
 -- ---- what the lots tell
 
@@ -43,38 +44,53 @@ module _ {H Job : Type 0} (hub : Hub Job) (s : Setup) (before : List Said) (new 
     failed = (failures_now, (later, rose), refl);
   }
 
-  -- a token is told
-  pub token_made : (reconnect : Bool) (told told_now : Option (List (Option (List ℕ)))) (failures failures_now lane : ℕ) (bytes body : List ℕ)
-      → o.now ≡ moment h → o.lane ≡ lane → length bytes ≡ 16 → Adds told told_now (Some bytes) → failures_now ≡ failures
-      → body ≡ negotiate_body (suc (made (notes h))) (token_of bytes (suc (made (notes h)))) reconnect
-      → Standing {H = H} hub s settled before new (onto (replying lane (token_reply body) (Notes (Negotiated (suc (made (notes h)))
-      (token_of bytes (suc (made (notes h)))) reconnect (moment h)) ∷ Draws (Some bytes) ∷ h)) (Notes (Negotiated (suc (made (notes h)))
-      (token_of bytes (suc (made (notes h)))) reconnect (moment h)) ∷ Draws (Some bytes) ∷ h))
+  -- a token was drawn and told
+  pub token_made : (reconnect : Bool) (told told_now : Option (List (Option (List ℕ)))) (failures failures_now : ℕ) (bytes : List ℕ)
+      → length bytes ≡ 16 → Adds told told_now (Some bytes) → failures_now ≡ failures → TellsToken {H = H} hub s before new o reconnect bytes (Draws (Some bytes) ∷ h)
       → MakesToken {H = H} hub s before new o reconnect told failures told_now failures_now h
-  token_made reconnect told told_now failures failures_now lane bytes body at on sixteen adds unfailed tells st =
-      let k : ℕ = suc (made (notes h)) in
+  token_made reconnect told told_now failures failures_now bytes sixteen adds unfailed st = record {
+    drawn = Some bytes;
+    of_sixteen = sixteen;
+    stands = st;
+    drawn_told = one_draw told told_now (Some bytes) adds;
+    failed = (failures, refl, unfailed);
+  }
+
+  -- the history once another gave way
+  abbrev left : ℕ → List ServerEvent
+  left now = onto (giving_way s now h) h
+
+  -- a token is told
+  pub token_told : (reconnect : Bool) (lane : ℕ) (bytes body : List ℕ)
+      → o.now ≡ moment h → o.lane ≡ lane
+      → body ≡ negotiate_body (suc (made (notes (left (moment h))))) (token_of bytes (suc (made (notes (left (moment h)))))) reconnect
+      → Standing {H = H} hub s settled before new (onto (replying lane (token_reply body) (Notes (Negotiated (suc (made (notes (left (moment h)))))
+      (token_of bytes (suc (made (notes (left (moment h)))))) reconnect (moment h)) ∷ left (moment h))) (Notes (Negotiated (suc (made (notes (left (moment h)))))
+      (token_of bytes (suc (made (notes (left (moment h)))))) reconnect (moment h)) ∷ left (moment h)))
+      → TellsToken {H = H} hub s before new o reconnect bytes h
+  token_told reconnect lane bytes body at on tells st =
+      let g : List ServerEvent = left (moment h) in
+      let k : ℕ = suc (made (notes g)) in
       let token : List ℕ = token_of bytes k in
-      let drew : List ServerEvent = Draws (Some bytes) ∷ h in
-      record {
-        drawn = Some bytes;
-        of_sixteen = sixteen;
-        stands =
-            subst (λ (n : ℕ). Standing {H = H} hub s settled before new (onto (replying o.lane (token_reply (negotiate_body k token reconnect)) drew)
-            (Notes (Negotiated k token reconnect n) ∷ drew))) (sym at)
-            (subst (λ (l : ℕ). Standing {H = H} hub s settled before new (onto (replying l (token_reply (negotiate_body k token reconnect)) drew)
-            (Notes (Negotiated k token reconnect (moment h)) ∷ drew))) (sym on)
-            (subst (λ (b : List ℕ). Standing {H = H} hub s settled before new (onto (replying lane (token_reply b) drew)
-            (Notes (Negotiated k token reconnect (moment h)) ∷ drew))) tells st));
-        drawn_told = one_draw told told_now (Some bytes) adds;
-        failed = (failures, refl, unfailed);
-      }
+      let reply : List ServerEvent = replying o.lane (token_reply (negotiate_body k token reconnect)) g in
+      subst (λ (n : ℕ). Standing {H = H} hub s settled before new (onto (giving_way s n h ++ new_token o (suc (made (notes (left n))))
+      (token_of bytes (suc (made (notes (left n))))) reconnect (left n)) h)) (sym at)
+      (subst (λ (x : List ServerEvent). Standing {H = H} hub s settled before new x)
+      (sym (onto_append (giving_way s (moment h) h) (new_token o k token reconnect g) h))
+      (subst (λ (n : ℕ). Standing {H = H} hub s settled before new (onto reply (Notes (Negotiated k token reconnect n) ∷ g))) (sym at)
+      (subst (λ (l : ℕ). Standing {H = H} hub s settled before new (onto (replying l (token_reply (negotiate_body k token reconnect)) g)
+      (Notes (Negotiated k token reconnect (moment h)) ∷ g))) (sym on)
+      (subst (λ (b : List ℕ). Standing {H = H} hub s settled before new (onto (replying lane (token_reply b) g)
+      (Notes (Negotiated k token reconnect (moment h)) ∷ g))) tells st))))
 
   -- one more connection stands on a socket
   pub socket_opened : o.now ≡ moment h → Standing {H = H} hub s settled before new
-      (onto (standing_on s o (suc (made (notes h))) false (Notes (Opened (suc (made (notes h))) (moment h)) ∷ h))
-      (Notes (Opened (suc (made (notes h))) (moment h)) ∷ h))
+      (onto (standing_on s o (suc (made (notes (left (moment h))))) false (Notes (Opened (suc (made (notes (left (moment h))))) (moment h)) ∷ left (moment h)))
+      (Notes (Opened (suc (made (notes (left (moment h))))) (moment h)) ∷ left (moment h)))
       → OpensTo {H = H} hub s before new o h
   socket_opened at st =
-      let k : ℕ = suc (made (notes h)) in
-      subst (λ (n : ℕ). Standing {H = H} hub s settled before new
-      (onto (standing_on s o k false (Notes (Opened k n) ∷ h)) (Notes (Opened k n) ∷ h))) (sym at) st
+      let g : List ServerEvent = left (moment h) in
+      let k : ℕ = suc (made (notes g)) in
+      subst (λ (n : ℕ). Standing {H = H} hub s settled before new (onto (giving_way s n h ++ new_plain s o (suc (made (notes (left n)))) (left n)) h)) (sym at)
+      (subst (λ (x : List ServerEvent). Standing {H = H} hub s settled before new x) (sym (onto_append (giving_way s (moment h) h) (new_plain s o k g) h))
+      (subst (λ (n : ℕ). Standing {H = H} hub s settled before new (onto (standing_on s o k false (Notes (Opened k n) ∷ g)) (Notes (Opened k n) ∷ g))) (sym at) st))

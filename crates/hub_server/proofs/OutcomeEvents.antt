@@ -1,6 +1,7 @@
 -- Events that are no requests, handled.
 use Rattle.std.proofs.Common.{ℕ, List, None, option_map, refl}
 use Rattle.hd_calls.specs.Hubs.{Hub}
+use Rattle.hw_lanes.specs.declared.http.Refusal.{Refusal as LaneRefusal}
 use Rattle.hw_door.specs.declared.heard.Event.TheVariants as event
 use Rattle.hd_server.specs.declared.vocabulary.Said.{Said}
 use Rattle.hd_server.specs.Doings.{ServerEvent, moment}
@@ -37,9 +38,9 @@ module _ {H Job : Type 0} (hub : Hub Job) (s : Setup) (before : List Said) (new 
       }
 
   -- what only a client hears, and what was refused, changes nothing
-  pub heard_refusal : (lane status : ℕ) → Standing {H = H} hub s settled before new h → Handles {H = H} hub s before new at at
-      (event.Refused lane status) h
-  heard_refusal lane status st = record {
+  pub heard_refusal : (lane : ℕ) (refusal : LaneRefusal) → Standing {H = H} hub s settled before new h → Handles {H = H} hub s before new at at
+      (event.Refused lane refusal) h
+  heard_refusal lane refusal st = record {
     after = h;
     is_handled = record { name = None; drawn = None; of_sixteen = tt; follows = record { fed = h; feeds = refl; is = refl } };
     stands = st;

@@ -116,14 +116,14 @@ facts_alike : (s : Setup) (now : ℕ) (r : Request) (name : Option (Option (List
 facts_alike s now r name failed g h same granted =
     ap (λ n. record {
       caller = caller_by (asks_keeper s.base r) r.bearer name;
-      busy = is_busy now n;
+      busy = is_busy s.live now n;
       lots_failed = failed;
       life = life_of_some (conn_of_some (id_in r) n) now n;
       granted = may_resume_some (conn_of_some (id_in r) n) g;
     }) same
     ∙ ap (λ (b : Bool). record {
       caller = caller_by (asks_keeper s.base r) r.bearer name;
-      busy = is_busy now (notes h);
+      busy = is_busy s.live now (notes h);
       lots_failed = failed;
       life = life_of_some (named_conn r h) now (notes h);
       granted = b;

@@ -1,10 +1,11 @@
 -- One more connection, of which only its note is there yet.
 use Rattle.std.proofs.Common.{◌≡◌, ℕ, suc, Bool, true, false, List, [], ◌∷◌, ◌++◌, Option, Some, None, is_some, refl, sym, ap, subst, ◌∙◌, arith}
-use Rattle.std.specs.Prelude.{◌==◌, not, nat_le, nat_lt, ◌&&◌, ◌||◌, if◌then◌else◌}
+use Rattle.std.specs.Prelude.{◌==◌, not, nat_le, nat_lt, ◌&&◌, ◌||◌, if◌then◌else◌, length, take}
+use Rattle.std.proofs.Common.{Result, Ok, Err, OnErr}
 use Rattle.std.specs.Ordering.{nat_cmp}
-use Rattle.std.specs.BTreeMap.{BTreeMap, Updates, get}
+use Rattle.std.specs.BTreeMap.{BTreeMap, get}
 use Rattle.std.proofs.lemmas.Bool.{and_from, and_parts, and_right, eqb-true, leb-true, le-leb, lt-leb, lt-ltb}
-use Rattle.std.specs.Cmp.{unsigned_tied}
+use Rattle.hd_delivery.specs.Histories.{first_of}
 use Rattle.hd_calls.specs.Hubs.{Hub}
 use Rattle.hd_server.specs.declared.vocabulary.Said.{Said}
 use Rattle.hd_server.specs.Lives.{ConnectionEvent, Answered, Ended, Expired, LaneLost, Removed, Negotiated, Opened, Polled, Socketed, is_removed, is_made, is_opened, made, negotiated_at, poll_ended}
@@ -19,10 +20,11 @@ use Rattle.hub_machine.specs.Machines.{StandsMachine}
 use Rattle.hub_server.specs.declared.lane.Lane.{Lane}
 use Rattle.hub_server.specs.declared.server.Server.{Server}
 use Rattle.hub_server.specs.Lanes.{IsLane, Unsettled, settled}
-use Rattle.hub_server.specs.Servers.{IsOrderly, Standing, caller_of}
+use Rattle.hub_server.specs.Servers.{IsOrderly, Standing, caller_of, StandsFront}
 use Rattle.hub_server.specs.Connections.{CanStand}
 use Rattle.hub_server.specs.Steps.{HasCome}
-use Rattle.hub_server.proofs.HoldLanes.{turned}
+use Rattle.hub_server.specs.Requests.{caller_made}
+use Rattle.hub_server.proofs.OutcomeRoom.{Around}
 use Rattle.hub_server.proofs.SameSetup.{same_setup}
 
 -- with a token and what was granted with it, or without
@@ -144,16 +146,17 @@ callers_make told now h unbegun held c was got e f = go (c == suc (made (notes h
 
 pub standing_makes : {H Job : Type 0} (hub : Hub Job) (s : Setup) (u : Unsettled) (before : List Said) (v w : Server H Job)
     (told : Option (List ℕ × Bool))
-    (now : ℕ) (h : List ServerEvent) → front.Stands w.front (making told (suc (made (notes h))) now ∷ notes h)
+    (now : ℕ) (h : List ServerEvent) → StandsFront s.live w.front (making told (suc (made (notes h))) now ∷ notes h)
     → w.base ≡ v.base → w.resend ≡ v.resend → w.machine ≡ v.machine → w.lanes ≡ v.lanes → w.moment ≡ v.moment → w.words ≡ v.words
     → ((c : ℕ) → get nat_cmp w.callers c ≡ (if c == suc (made (notes h)) then name_now h else get nat_cmp v.callers c))
-    → Standing {H = H} hub s u before v h → Standing {H = H} hub s u before w (Notes (making told (suc (made (notes h))) now) ∷ h)
-standing_makes {H} {Job} hub s u before v w told now h in_front base resend machine lanes clock words callers st = record {
+    → IsUnborn (suc (made (notes h))) (notes h) → Around {H = H} hub s u before v h
+    → Standing {H = H} hub s u before w (Notes (making told (suc (made (notes h))) now) ∷ h)
+standing_makes {H} {Job} hub s u before v w told now h in_front base resend machine lanes clock words callers unborn st = record {
   setup = same_setup s base resend st.setup;
   machine = subst (λ m. StandsMachine {H = H} hub m (work h)) (sym machine) st.machine;
   front = in_front;
   callers = λ c. callers_make told now h (next_unbegun u h (st.orderly (suc (made (notes h)))))
-      (st.front.unborn (suc (made (notes h))) (next_unmade (notes h))).held c (get nat_cmp v.callers c) (get nat_cmp w.callers c) (st.callers c)
+      unborn.held c (get nat_cmp v.callers c) (get nat_cmp w.callers c) (st.callers c)
       (callers c);
   lanes = λ lane. lane_makes told u (suc (made (notes h))) now lane (get nat_cmp w.lanes lane) h
       (subst (λ l. IsLane u (get nat_cmp l lane) lane h) (sym lanes) (st.lanes lane));
@@ -193,17 +196,15 @@ nobodys c (Draws drawn ∷ h) o n = nobodys c h o n
 nobodys c (Works happening ∷ h) o n = nobodys c h o n
 nobodys c (Says said ∷ h) o n = nobodys c h o n
 
--- nobody's name is entered
-pub unnamed : {H Job : Type 0} (hub : Hub Job) (s : Setup) (u : Unsettled) (before : List Said) (v : Server H Job) (h : List ServerEvent)
-    → Standing {H = H} hub s u before v h → name_now h ≡ None
-    → (c : ℕ) → get nat_cmp v.callers c ≡ (if c == suc (made (notes h)) then name_now h else get nat_cmp v.callers c)
-unnamed hub s u before v h st none c = go (c == suc (made (notes h))) refl
+-- a name is entered, or none is
+pub named : {H Job : Type 0} (hub : Hub Job) (s : Setup) (u : Unsettled) (before : List Said) (v : Server H Job) (h : List ServerEvent)
+    → Around {H = H} hub s u before v h → IsUnborn (suc (made (notes h))) (notes h) → (user : Option (List ℕ)) → name_now h ≡ user
+    → (callers : BTreeMap ℕ (List ℕ)) → ((c : ℕ) → get nat_cmp callers c ≡ caller_made (suc (made (notes h))) user c (get nat_cmp v.callers c))
+    → (c : ℕ) → get nat_cmp callers c ≡ (if c == suc (made (notes h)) then name_now h else get nat_cmp v.callers c)
+named hub s u before v h st unborn user is callers made_so c = made_so c ∙ go (c == suc (made (notes h))) refl
   where
     k : ℕ
     k = suc (made (notes h))
-
-    unborn : IsUnborn k (notes h)
-    unborn = st.front.unborn k (next_unmade (notes h))
 
     own : get nat_cmp v.callers k ≡ None
     own = st.callers k
@@ -211,18 +212,14 @@ unnamed hub s u before v h st none c = go (c == suc (made (notes h))) refl
         (ap (λ (b : Bool). b || is_removed k (notes h)) (next_unbegun u h (st.orderly k)) ∙ unborn.held)
         ∙ nobodys k h unborn.opened unborn.told
 
-    go : (b : Bool) → (c == k) ≡ b → get nat_cmp v.callers c ≡ (if b then name_now h else get nat_cmp v.callers c)
-    go true same = ap (λ (n : ℕ). get nat_cmp v.callers n) (eqb-true c k same) ∙ own ∙ sym none
-    go false other = refl
+    here : (name : Option (List ℕ)) → name ≡ user → (c == k) ≡ true → first_of name (get nat_cmp v.callers c) ≡ name_now h
+    here None e same = ap (λ (n : ℕ). get nat_cmp v.callers n) (eqb-true c k same) ∙ own ∙ e ∙ sym is
+    here (Some name) e same = e ∙ sym is
 
--- a name is entered
-pub named : (old new : BTreeMap ℕ (List ℕ)) (k : ℕ) (name : List ℕ) (now : Option (List ℕ)) → Updates nat_cmp old new k (Some name) → now ≡ Some name
-    → (c : ℕ) → get nat_cmp new c ≡ (if c == k then now else get nat_cmp old c)
-named old new k name now updates is c = go (c == k) refl
-  where
-    go : (b : Bool) → (c == k) ≡ b → get nat_cmp new c ≡ (if b then now else get nat_cmp old c)
-    go true same = ap (λ (n : ℕ). get nat_cmp new n) (eqb-true c k same) ∙ updates.1 ∙ sym is
-    go false other = updates.2 c (unsigned_tied k c ∙ turned c k other)
+    go : (b : Bool) → (c == k) ≡ b → (if b then first_of user (get nat_cmp v.callers c) else get nat_cmp v.callers c)
+        ≡ (if b then name_now h else get nat_cmp v.callers c)
+    go true same = here user refl same
+    go false other = refl
 
 -- ---- the one that was made may stand on a socket
 
@@ -244,27 +241,20 @@ next_stands (Some told) u now h o unborn = record {
 -- ---- what is noted stands for it
 
 module _ {H Job : Type 0} (hub : Hub Job) (s : Setup) (before : List Said) (v : Server H Job) (f : Front) (told : Option (List ℕ × Bool)) (now : ℕ)
-    (h : List ServerEvent) (in_front : front.Stands f (making told (suc (made (notes h))) now ∷ notes h)) (st : Standing {H = H} hub s settled before v h)
-  where
-    -- its caller has a name
-    pub stands_named : (callers : BTreeMap ℕ (List ℕ)) (name : List ℕ) → Updates nat_cmp v.callers callers (suc (made (notes h))) (Some name)
-        → name_now h ≡ Some name
-        → Standing {H = H} hub s settled before (record v { front = f; callers = callers }) (Notes (making told (suc (made (notes h))) now) ∷ h)
-    stands_named callers name updates is =
-        standing_makes {H = H} hub s settled before v (record v { front = f; callers = callers }) told now h in_front refl refl refl refl refl refl
-        (named v.callers callers (suc (made (notes h))) name (name_now h) updates is) st
-
-    -- or none
-    pub stands_unnamed : name_now h ≡ None → Standing {H = H} hub s settled before (record v { front = f })
-        (Notes (making told (suc (made (notes h))) now) ∷ h)
-    stands_unnamed none =
-        standing_makes {H = H} hub s settled before v (record v { front = f }) told now h in_front refl refl refl refl refl refl
-        (unnamed {H = H} hub s settled before v h st none) st
+    (h : List ServerEvent) (in_front : StandsFront s.live f (making told (suc (made (notes h))) now ∷ notes h)) (st : Around {H = H} hub s settled before v h)
+    (unborn : IsUnborn (suc (made (notes h))) (notes h)) where
+  -- its caller has this name, or none
+  pub stands_named : (callers : BTreeMap ℕ (List ℕ)) (user : Option (List ℕ)) → name_now h ≡ user
+      → ((c : ℕ) → get nat_cmp callers c ≡ caller_made (suc (made (notes h))) user c (get nat_cmp v.callers c))
+      → Standing {H = H} hub s settled before (record v { front = f; callers = callers }) (Notes (making told (suc (made (notes h))) now) ∷ h)
+  stands_named callers user is made_so =
+      standing_makes {H = H} hub s settled before v (record v { front = f; callers = callers }) told now h in_front refl refl refl refl refl refl
+      (named {H = H} {Job = Job} hub s settled before v h st unborn user is callers made_so) unborn st
 
 -- a front that noted nothing stands for what it stood for
 pub standing_fronts : {H Job : Type 0} (hub : Hub Job) (s : Setup) (u : Unsettled) (before : List Said) (v : Server H Job) (f : Front)
     (h : List ServerEvent)
-    → front.Stands f (notes h) → Standing {H = H} hub s u before v h → Standing {H = H} hub s u before (record v { front = f }) h
+    → StandsFront s.live f (notes h) → Standing {H = H} hub s u before v h → Standing {H = H} hub s u before (record v { front = f }) h
 standing_fronts hub s u before v f h in_front st = record {
   setup = st.setup;
   machine = st.machine;
@@ -295,3 +285,36 @@ pub come_made : (told : Option (List ℕ × Bool)) (k now lane : ℕ) (is_last :
     → HasCome lane is_last (Notes (making told k now) ∷ h)
 come_made None k now lane is_last h come = record { waits = come.waits; last = come.last; unrefused = come.unrefused; nobody = come.nobody }
 come_made (Some told) k now lane is_last h come = record { waits = come.waits; last = come.last; unrefused = come.unrefused; nobody = come.nobody }
+
+-- so it does where lots were asked
+pub come_drawn : (drawn : Option (List ℕ)) (lane : ℕ) (is_last : Bool) (h : List ServerEvent) → HasCome lane is_last h
+    → HasCome lane is_last (Draws drawn ∷ h)
+come_drawn drawn lane is_last h come = record { waits = come.waits; last = come.last; unrefused = come.unrefused; nobody = come.nobody }
+
+-- ---- what was said and unsaid
+
+pub first_again : (xs ys : List Said) → take (length xs) (xs ++ ys) ≡ xs
+first_again [] ys = refl
+first_again (x ∷ xs) ys = ap (λ (zs : List Said). x ∷ zs) (first_again xs ys)
+
+pub standing_words : {H Job : Type 0} (hub : Hub Job) (s : Setup) (u : Unsettled) (before : List Said) (v : Server H Job) (words : List Said)
+    (h : List ServerEvent)
+    → words ≡ v.words → Standing {H = H} hub s u before v h → Standing {H = H} hub s u before (record v { words = words }) h
+standing_words hub s u before v words h same x = record {
+  setup = x.setup;
+  machine = x.machine;
+  front = x.front;
+  callers = x.callers;
+  lanes = x.lanes;
+  begun = x.begun;
+  orderly = x.orderly;
+  clock = x.clock;
+  words = x.words ∙ ap (λ (w : List Said). before ++ w) (sym same);
+}
+
+-- ---- calls
+
+-- what holds holds where a call fails
+pub on_err : {A E P : Type 0} (r : Result A E) → P → OnErr r P
+on_err (Ok x) p = tt
+on_err (Err e) p = p

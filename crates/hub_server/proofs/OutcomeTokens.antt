@@ -3,6 +3,7 @@ use Rattle.std.proofs.Common.{◌≡◌, ℕ, Bool, true, false, List, ◌∷◌
 use Rattle.std.specs.Prelude.{not, ◌&&◌, if◌then◌else◌}
 use Rattle.hw_lanes.specs.declared.http.Reply.{Reply}
 use Rattle.hw_lanes.specs.declared.http.Request.{Request}
+use Rattle.hw_lanes.specs.Replies.{IsReply}
 use Rattle.hd_delivery.specs.declared.vocabulary.Reason.TheVariants as reason
 use Rattle.hd_calls.specs.Hubs.{Hub}
 use Rattle.hd_server.specs.declared.vocabulary.Life.{Life}
@@ -14,7 +15,7 @@ use Rattle.hd_server.specs.Laws.{Suits}
 use Rattle.hd_server.specs.Lives.{ConnectionEvent, Polled, is_known, is_removed, is_made, is_resumable_promise, socket_of}
 use Rattle.hd_server.specs.Table.{Facts, delete_outcome, socket_outcome}
 use Rattle.hd_server.specs.Doings.{ServerEvent, Notes, has_peer, moment, notes}
-use Rattle.hd_server.specs.Plans.{PendingRequest, Setup, bare_reply, closing, ending_held, removing_conn, onto, replying, request_plan, shutting_some, standing_on}
+use Rattle.hd_server.specs.Plans.{PendingRequest, Setup, bare_reply, field_at, refusal_reply, closing, ending_held, removing_conn, onto, replying, request_plan, shutting_some, standing_on}
 use Rattle.hd_server.specs.Serves.{FeedsOne}
 use Rattle.hn_server_front.specs.Stands as front
 use Rattle.hn_server_front.specs.Calls.{lane_of}
@@ -128,16 +129,25 @@ module _ (f : Facts) (c : ℕ) (h : List ServerEvent) (o : IsOrderly settled c h
 
 -- ---- outcomes
 
+-- a refusal that tells what would not be refused, by whether its path is the base
+abbrev pub told_at : Bool → ℕ → Reply
+told_at at_base status = record (bare_reply status) { field = field_at at_base status }
+
+pub told_sent : (at_base : Bool) (status : ℕ) → IsReply (bare_reply status) → IsReply (told_at at_base status)
+told_sent at_base status sent = record { status = sent.status; accept = sent.accept; body = sent.body }
+
 module _ {H Job : Type 0} (hub : Hub Job) (s : Setup) (before : List Said) (new : Server H Job) (o : PendingRequest) (c : ℕ) (h : List ServerEvent) where
   -- a refusal
-  pub refuses : (status lane : ℕ) (reply : Reply) → o.lane ≡ lane → reply ≡ bare_reply status
+  pub refuses : (status lane : ℕ) (reply : Reply) → o.lane ≡ lane → reply ≡ refusal_reply s.base o.request status
       → Standing {H = H} hub s settled before new (onto (replying lane reply h) h) → IsCarriedOut {H = H} hub s before new o c (Refusal status) h
-  refuses status lane reply on bare st = record {
-    after = onto (replying o.lane (bare_reply status) h) h;
-    follows = record { fed = onto (replying o.lane (bare_reply status) h) h; feeds = refl; is = refl };
-    stands = subst (λ (l : ℕ). Standing {H = H} hub s settled before new (onto (replying l (bare_reply status) h) h)) (sym on)
-        (subst (λ (r : Reply). Standing {H = H} hub s settled before new (onto (replying lane r h) h)) bare st);
-  }
+  refuses status lane reply on told st =
+      let refusal : Reply = refusal_reply s.base o.request status in
+      record {
+        after = onto (replying o.lane refusal h) h;
+        follows = record { fed = onto (replying o.lane refusal h) h; feeds = refl; is = refl };
+        stands = subst (λ (l : ℕ). Standing {H = H} hub s settled before new (onto (replying l refusal h) h)) (sym on)
+            (subst (λ (r : Reply). Standing {H = H} hub s settled before new (onto (replying lane r h) h)) told st);
+      }
 
   -- a poll comes
   pub follows_for : (out : Outcome) → (after : List ServerEvent) × Follows (request_plan s o None c h out) h after

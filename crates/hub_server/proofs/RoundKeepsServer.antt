@@ -12,7 +12,6 @@ use Rattle.hd_server.specs.Machine.{MachineEvent, Does, Rounds, Carries, IsRound
 use Rattle.hd_server.specs.Doings.{ServerEvent, Works, notes, work, asked, said, moment, wants_shut, was_refused, user_of, peer, history, history_with}
 use Rattle.hd_server.specs.Doings.{config_of, has_peer}
 use Rattle.hd_server.specs.Plans.{Setup}
-use Rattle.hn_server_front.specs.Stands as front
 use Rattle.hub_server.specs.declared.lane.Lane.{Lane}
 use Rattle.hub_machine.specs.declared.machine.Machine.{Machine}
 use Rattle.hub_server.specs.declared.server.Server.{Server}
@@ -20,7 +19,7 @@ use Rattle.hub_machine.specs.Machines.{StandsMachine}
 use Rattle.hub_machine.specs.KeeperState.{KeeperState, asks_in}
 use Rattle.hub_machine.specs.Rounds.{HasRound}
 use Rattle.hub_server.specs.Lanes.{IsLane, Unsettled, is_at, is_taken, poll_lane}
-use Rattle.hub_server.specs.Servers.{IsOrderly, Standing, caller_of}
+use Rattle.hub_server.specs.Servers.{IsOrderly, Standing, caller_of, StandsFront}
 use Rattle.hub_server.specs.Steps.{IsRounded}
 use Rattle.hub_server.proofs.Calm.{Leaves, orderly_left}
 use Rattle.hub_server.proofs.RoundReadsNothing.{AreQuiet, IsQuiet, Quietly, quiet_at, quietly_same, quietly_then, round_is_quiet}
@@ -172,7 +171,7 @@ whirled : {H Job : Type 0} (hub : Hub Job) (s : Setup) (u : Unsettled) (before :
 whirled {H} hub s u before v m g h a stands x = record {
   setup = x.setup;
   machine = stands;
-  front = subst (λ n. front.Stands v.front n) (sym a.noted) x.front;
+  front = subst (λ n. StandsFront s.live v.front n) (sym a.noted) x.front;
   callers = λ c. x.callers c ∙ sym (caller_same c g h a);
   lanes = λ lane. lane_same u _ lane g h a (x.lanes lane);
   begun = λ c t e. x.begun c t (sym (a.settings c) ∙ e);

@@ -118,8 +118,8 @@ quiet_at s last c (Does k m) w e q = at_one s last (c == k) m (moves c w) q
 quiet_at s last c (Rounds now) w e q = at_one s last (is_there c w) peers.Rounds (moves c w) tt
 quiet_at s last c (Carries k j d fates asked) w e q =
     subst (λ o. let told = with_fate d o (outcome_in c fates) (moves c w) in
-    Quietly s last (if c == k then Answers j (answer_to asked) ∷ told else told) (moves c w))
-    (sym e) (carried s last (c == k) j d (outcome_in c fates) (answer_to asked) (moves c w))
+    Quietly s last (if c == k then Answers j (answer_to k d asked w) ∷ told else told) (moves c w))
+    (sym e) (carried s last (c == k) j d (outcome_in c fates) (answer_to k d asked w) (moves c w))
 quiet_at s last c x w e q = absurd q
 
 -- ---- what comes in a round

@@ -6,6 +6,7 @@ use Rattle.std.specs.Ordering.{nat_cmp}
 use Rattle.std.specs.BTreeMap.{BTreeMap, UpdatesBy, WritesThrough, get}
 use Rattle.std.proofs.lemmas.Bool.{both_ways, eq-eqb, eqb-true, false_from_ne_true}
 use Rattle.std.specs.Cmp.{unsigned_tied}
+use Rattle.hw_lanes.specs.declared.http.Refusal.{Refusal as LaneRefusal}
 use Rattle.hw_lanes.specs.declared.http.Request.{Request}
 use Rattle.hd_calls.specs.Hubs.{Hub}
 use Rattle.hw_door.specs.declared.heard.Event.{Event}
@@ -24,7 +25,7 @@ use Rattle.hub_server.proofs.LaneKept.{orderly_wider}
 
 -- what is kept of a lane then
 abbrev pub heard_lane : Event → ℕ → Option Lane → Option Lane
-heard_lane (event.Refused lane status) k (Some x) = Some (record x { is_refused = (k == lane) || x.is_refused })
+heard_lane (event.Refused lane refusal) k (Some x) = Some (record x { is_refused = (k == lane) || x.is_refused })
 heard_lane _ k o = o
 
 -- a lane that could be on no request's way has nobody
@@ -34,7 +35,7 @@ free_is k lane x h e a b = ap (λ n. is_taken n h) e ∙ ap (λ z. z || awaits_r
 pub heard_is : (e : Event) (now k : ℕ) (o : Option Lane) (h : List ServerEvent) → IsFree e h → IsLane settled o k h
     → IsLane (lane_of (lost_in e)) (heard_lane e k o) k (Hears now e ∷ h)
 heard_is (event.Request lane r) now k None h free l = λ c. l c
-heard_is (event.Refused lane status) now k None h free l = λ c. l c
+heard_is (event.Refused lane refusal) now k None h free l = λ c. l c
 heard_is (event.Bytes lane bytes) now k None h free l = λ c. l c
 heard_is (event.Response lane status body) now k None h free l = λ c. l c
 heard_is (event.Upgraded lane) now k None h free l = λ c. l c
@@ -52,7 +53,7 @@ heard_is (event.Request lane r) now k (Some x) h free l = go (k == lane) refl
       refused = l.refused ∙ sym (ap (λ b. if b then false else was_refused k h) e);
       taken = ap (λ b. is_upgraded k h || (b || awaits_reply k h)) e ∙ l.taken;
     }
-heard_is (event.Refused lane status) now k (Some x) h free l = record {
+heard_is (event.Refused lane refusal) now k (Some x) h free l = record {
   at = l.at;
   only = l.only;
   polls = l.polls;
@@ -134,38 +135,38 @@ nobody_comes now lane r (Some x) h free l = absurd (both_ways (is_taken lane h) 
 other_way : (k lane : ℕ) → (k == lane) ≡ false → (lane == k) ≡ false
 other_way k lane e = false_from_ne_true (lane == k) (λ z. both_ways (k == lane) e (eq-eqb k lane (sym (eqb-true lane k z))))
 
-not_there : (lane status k : ℕ) (o : Option Lane) → (k == lane) ≡ false → heard_lane (event.Refused lane status) k o ≡ o
-not_there lane status k None e = refl
-not_there lane status k (Some x) e = ap (λ b. Some (record x { is_refused = b || x.is_refused })) e
+not_there : (lane : ℕ) (refusal : LaneRefusal) (k : ℕ) (o : Option Lane) → (k == lane) ≡ false → heard_lane (event.Refused lane refusal) k o ≡ o
+not_there lane refusal k None e = refl
+not_there lane refusal k (Some x) e = ap (λ b. Some (record x { is_refused = b || x.is_refused })) e
 
-pub refused_one : (m n : BTreeMap ℕ Lane) (lane status k : ℕ) (x : Lane) → Some x ≡ get nat_cmp m lane
+pub refused_one : (m n : BTreeMap ℕ Lane) (lane : ℕ) (refusal : LaneRefusal) (k : ℕ) (x : Lane) → Some x ≡ get nat_cmp m lane
     → WritesThrough nat_cmp (nat_cmp lane) m (record x { is_refused = true }) n
-    → get nat_cmp n k ≡ heard_lane (event.Refused lane status) k (get nat_cmp m k)
-refused_one m n lane status k x at through = go (k == lane) refl
+    → get nat_cmp n k ≡ heard_lane (event.Refused lane refusal) k (get nat_cmp m k)
+refused_one m n lane refusal k x at through = go (k == lane) refl
   where
     updates : UpdatesBy nat_cmp (nat_cmp lane) m n (Some (record x { is_refused = true }))
     updates = through.3 (sym (ap is_some at))
 
-    go : (b : Bool) → (k == lane) ≡ b → get nat_cmp n k ≡ heard_lane (event.Refused lane status) k (get nat_cmp m k)
+    go : (b : Bool) → (k == lane) ≡ b → get nat_cmp n k ≡ heard_lane (event.Refused lane refusal) k (get nat_cmp m k)
     go true e =
         let same = eqb-true k lane e in
         ap (get nat_cmp n) same ∙ updates.1 ∙ ap (λ b. Some (record x { is_refused = b || x.is_refused })) (sym e)
-        ∙ ap (heard_lane (event.Refused lane status) k) (at ∙ ap (get nat_cmp m) (sym same))
-    go false e = updates.2 k (unsigned_tied lane k ∙ other_way k lane e) ∙ sym (not_there lane status k (get nat_cmp m k) e)
+        ∙ ap (heard_lane (event.Refused lane refusal) k) (at ∙ ap (get nat_cmp m) (sym same))
+    go false e = updates.2 k (unsigned_tied lane k ∙ other_way k lane e) ∙ sym (not_there lane refusal k (get nat_cmp m k) e)
 
-pub refused_none : (m n : BTreeMap ℕ Lane) (lane status k : ℕ) → None ≡ get nat_cmp m lane → n ≡ m
-    → get nat_cmp n k ≡ heard_lane (event.Refused lane status) k (get nat_cmp m k)
-refused_none m n lane status k at same = ap (λ l. get nat_cmp l k) same ∙ go (k == lane) refl
+pub refused_none : (m n : BTreeMap ℕ Lane) (lane : ℕ) (refusal : LaneRefusal) (k : ℕ) → None ≡ get nat_cmp m lane → n ≡ m
+    → get nat_cmp n k ≡ heard_lane (event.Refused lane refusal) k (get nat_cmp m k)
+refused_none m n lane refusal k at same = ap (λ l. get nat_cmp l k) same ∙ go (k == lane) refl
   where
-    go : (b : Bool) → (k == lane) ≡ b → get nat_cmp m k ≡ heard_lane (event.Refused lane status) k (get nat_cmp m k)
+    go : (b : Bool) → (k == lane) ≡ b → get nat_cmp m k ≡ heard_lane (event.Refused lane refusal) k (get nat_cmp m k)
     go true e =
         let none : get nat_cmp m k ≡ None = ap (get nat_cmp m) (eqb-true k lane e) ∙ sym at in
-        none ∙ ap (heard_lane (event.Refused lane status) k) (sym none)
-    go false e = sym (not_there lane status k (get nat_cmp m k) e)
+        none ∙ ap (heard_lane (event.Refused lane refusal) k) (sym none)
+    go false e = sym (not_there lane refusal k (get nat_cmp m k) e)
 
-pub unrefused : (e : Event) (k : ℕ) (o : Option Lane) → ((lane status : ℕ) → e ≡ event.Refused lane status → ⊥) → o ≡ heard_lane e k o
+pub unrefused : (e : Event) (k : ℕ) (o : Option Lane) → ((lane : ℕ) (refusal : LaneRefusal) → e ≡ event.Refused lane refusal → ⊥) → o ≡ heard_lane e k o
 unrefused (event.Request lane r) k o n = refl
-unrefused (event.Refused lane status) k o n = absurd (n lane status refl)
+unrefused (event.Refused lane refusal) k o n = absurd (n lane refusal refl)
 unrefused (event.Bytes lane bytes) k o n = refl
 unrefused (event.Response lane status body) k o n = refl
 unrefused (event.Upgraded lane) k o n = refl

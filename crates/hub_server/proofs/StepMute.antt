@@ -1,6 +1,6 @@
 -- What a turn does beside what it hears, asks, draws and carries out in its round leaves the moment, and what was asked and drawn.
 use Rattle.std.proofs.Common.{refl, subst, sym, ◌∙◌, ◌≡◌, ℕ, Bool, true, false, List, [], ◌∷◌, ◌++◌, Option, Some, None}
-use Rattle.std.specs.Prelude.{is_some, map, not, ◌&&◌, ◌||◌, ◌==◌, ◌+◌, nat_le, suc, unwrap_or, if◌then◌else◌}
+use Rattle.std.specs.Prelude.{is_some, map, not, ◌&&◌, ◌+◌, nat_le, suc, unwrap_or, if◌then◌else◌}
 use Rattle.std.specs.List.{flat_map}
 use Rattle.hw_lanes.specs.declared.http.Reply.{Reply}
 use Rattle.hd_delivery.specs.declared.vocabulary.Reason.{Reason}
@@ -11,17 +11,18 @@ use Rattle.hw_door.specs.declared.heard.Event.{Event}
 use Rattle.hw_door.specs.declared.heard.Event.TheVariants as event
 use Rattle.hd_server.specs.declared.vocabulary.Life.{Life}
 use Rattle.hd_server.specs.declared.vocabulary.Life.TheVariants.{Polling}
+use Rattle.hd_server.specs.declared.vocabulary.Said.TheVariants as say
 use Rattle.hd_server.specs.Numbers.{held_for}
-use Rattle.hd_server.specs.Lives.{Answered, Ended, Removed, Opened, made, is_resumable_promise, standing, socket_of, poll_of, is_polling, ended_at, overdue}
+use Rattle.hd_server.specs.Lives.{Answered, Ended, Removed, Opened, made, is_resumable_promise, standing, socket_of, poll_of, is_polling, ended_at, gives_way, overdue}
 use Rattle.hd_server.specs.Texts.{token_of, negotiate_body}
 use Rattle.hd_server.specs.declared.vocabulary.Outcome.{Outcome}
 use Rattle.hd_server.specs.declared.vocabulary.Outcome.TheVariants.{Refusal, NewToken, PlainSocket, TokenSocket, FirstPoll, NextPoll, LastPoll, Posting, Deletion}
 use Rattle.hd_server.specs.Table.{outcome}
 use Rattle.hd_server.specs.Machine.{MachineEvent, Does, Goes, Connects, Rounds, Carries, settings_of, connections}
 use Rattle.hd_server.specs.Doings.{ServerEvent, Hears, Notes, Works, Says, Learns, Draws, notes, work, moment, asked, draws}
-use Rattle.hd_server.specs.Doings.{was_refused, wants_shut, history, config_of, has_closed, has_peer, is_up, may_resume}
+use Rattle.hd_server.specs.Doings.{was_refused, history, config_of, has_closed, has_peer, is_up, may_resume}
 use Rattle.hd_server.specs.Plans.{Plan, Setup, PendingRequest, onto, connecting, attaching, closing, dropping, removing_conn, expiring, expiries, bare_reply}
-use Rattle.hd_server.specs.Plans.{frames_reply, socket_reply, token_reply, shutting, replying, ending_poll, ending_held, standing_on, shutting_some}
+use Rattle.hd_server.specs.Plans.{frames_reply, socket_reply, token_reply, refusal_reply, shutting, ends_lane, replying, ending_poll, ending_held, standing_on, shutting_some, removing_some, giving_way, new_token, new_plain}
 use Rattle.hd_server.specs.Plans.{request_plan, conn_on, poller_on, losing, losing_lane, named_conn, facts, plan}
 use Rattle.hd_server.specs.Serves.{IsFed, silenced, ticking, ticks, lending, writing, all_of, bytes_of, flushing_poll, flushing_some_poll, ending}
 use Rattle.hd_server.specs.Serves.{flushing_on, flushing, all_flushing}
@@ -72,7 +73,7 @@ shuts : (lane : ℕ) (h : List ServerEvent) → AreMute (shutting lane h)
 shuts lane h = either (was_refused lane h) [] _ tt (tt, tt)
 
 replies : (lane : ℕ) (reply : Reply) (h : List ServerEvent) → AreMute (replying lane reply h)
-replies lane reply h = (tt, either ((reply.status == 400) || (wants_shut lane h && not (reply.status == 101))) (shutting lane h) [] (shuts lane h) tt)
+replies lane reply h = (tt, either (ends_lane lane reply.status h) (Says (say.Shut lane) ∷ []) [] (tt, tt) tt)
 
 ends_poll : (c now : ℕ) (o : Option (ℕ × ℕ)) (h : List ServerEvent) → AreMute (ending_poll c now o h)
 ends_poll c now None h = tt
@@ -90,10 +91,24 @@ shuts_some : (o : Option ℕ) (h : List ServerEvent) → AreMute (shutting_some 
 shuts_some None h = tt
 shuts_some (Some lane) h = shuts lane h
 
+removes_some : (o : Option ℕ) (h : List ServerEvent) → AreMute (removing_some o h)
+removes_some None h = tt
+removes_some (Some c) h = letting c h
+
+gives : (s : Setup) (now : ℕ) (h : List ServerEvent) → AreMute (giving_way s now h)
+gives s now h = removes_some (gives_way s.live now (notes h)) h
+
 first : (s : Setup) (o : PendingRequest) (drawn : Option (List ℕ)) (c : ℕ) (h : List ServerEvent) (out : Outcome) → AreMute (request_plan s o drawn c h out).first
-first s o drawn c h (Refusal status) = replies o.lane (bare_reply status) h
-first s o drawn c h (NewToken reconnect) = (tt, (replies o.lane (token_reply (negotiate_body (suc (made (notes h))) (token_of (unwrap_or drawn []) (suc (made (notes h)))) reconnect)) h))
-first s o drawn c h PlainSocket = let k = suc (made (notes h)) in (tt, stands s o k false (Notes (Opened k o.now) ∷ h))
+first s o drawn c h (Refusal status) = replies o.lane (refusal_reply s.base o.request status) h
+first s o drawn c h (NewToken reconnect) =
+    let g : List ServerEvent = onto (giving_way s o.now h) h in
+    let k : ℕ = suc (made (notes g)) in
+    join (giving_way s o.now h) (new_token o k (token_of (unwrap_or drawn []) k) reconnect g) (gives s o.now h)
+    (tt, replies o.lane (token_reply (negotiate_body k (token_of (unwrap_or drawn []) k) reconnect)) g)
+first s o drawn c h PlainSocket =
+    let g : List ServerEvent = onto (giving_way s o.now h) h in
+    let k : ℕ = suc (made (notes g)) in
+    join (giving_way s o.now h) (new_plain s o k g) (gives s o.now h) (tt, stands s o k false (Notes (Opened k o.now) ∷ g))
 first s o drawn c h TokenSocket = join (shutting_some (socket_of c (notes h)) h) _ (shuts_some (socket_of c (notes h)) h) (stands s o c (is_resumable_promise c (notes h)) h)
 first s o drawn c h FirstPoll = join (connecting s c false h) _ (connects s c false h) (tt, tt)
 first s o drawn c h NextPoll = ends_poll c o.now (poll_of c (notes h)) h

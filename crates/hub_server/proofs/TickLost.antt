@@ -16,14 +16,13 @@ use Rattle.hd_server.specs.Machine.{Does, settings_of}
 use Rattle.hd_server.specs.Doings.{ServerEvent, Notes, notes, work, moment, peer, has_peer, history, may_resume}
 use Rattle.hd_server.specs.Plans.{Setup, conn_on, removing_conn, losing, losing_lane, onto, poller_on, step}
 use Rattle.hn_server_front.specs.declared.front.Front.{Front}
-use Rattle.hn_server_front.specs.Stands as front
 use Rattle.hub_server.specs.declared.lane.Lane.{Lane}
 use Rattle.hub_machine.specs.declared.machine.Machine.{Machine}
 use Rattle.hub_server.specs.declared.server.Server.{Server}
 use Rattle.hub_machine.specs.Laws.{ConnectionsAreFound, FindsOne}
 use Rattle.hub_machine.specs.Machines.{OfConn, StandsMachine}
 use Rattle.hub_server.specs.Lanes.{HasLane, IsLane, IsNobodys, cut_of, is_at, lane_of, poll_lane, settled}
-use Rattle.hub_server.specs.Servers.{IsOrderly, OfEach, Standing}
+use Rattle.hub_server.specs.Servers.{IsOrderly, OfEach, Standing, StandsFront}
 use Rattle.hub_server.proofs.Alike.{Alike, alike_note, at_alike, orderly_alike}
 use Rattle.hub_server.proofs.Gone.{lane_left}
 use Rattle.hub_server.proofs.LaneKept.{lane_wider, orderly_wider, same_lane_note}
@@ -222,7 +221,7 @@ module _ {H Job : Type 0} (law : ConnectionsAreFound) (hub : Hub Job) (s : Setup
           (λ k here e. has.only k (there_at lane k h here (or_right (is_this lane (socket_of k (notes h))) (is_this lane (poll_lane k (notes h))) e)))
 
       -- the poll has ended
-      pub lost_poll : (f : Front) (lanes : BTreeMap ℕ Lane) → front.Stands f (LaneLost c lane v.moment ∷ notes h)
+      pub lost_poll : (f : Front) (lanes : BTreeMap ℕ Lane) → StandsFront s.live f (LaneLost c lane v.moment ∷ notes h)
           → get nat_cmp lanes lane ≡ None → ((k : ℕ) → (k == lane) ≡ false → get nat_cmp lanes k ≡ get nat_cmp v.lanes k)
           → Standing {H = H} hub s settled before (record v { front = f; lanes = lanes })
           (onto (losing_lane (conn_on lane h) (poller_on lane h) lane (moment h) h) h)
@@ -232,7 +231,7 @@ module _ {H Job : Type 0} (law : ConnectionsAreFound) (hub : Hub Job) (s : Setup
           (record {
             setup = st.setup;
             machine = st.machine;
-            front = subst (λ n. front.Stands f (LaneLost c lane n ∷ notes h)) st.clock noted;
+            front = subst (λ n. StandsFront s.live f (LaneLost c lane n ∷ notes h)) st.clock noted;
             callers = λ k. st.callers k;
             lanes = λ l. lane_left (lane_of (Some lane)) settled c l g h (get nat_cmp v.lanes l) (get nat_cmp lanes l)
                 (same_lane_note l (LaneLost c lane now) h)

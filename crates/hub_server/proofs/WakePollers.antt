@@ -108,7 +108,7 @@ pub all_woken : {H Job : Type 0} (hub : Hub Job) (old new : Server H Job) (ws : 
     → OfEach {H = H} hub old (λ s u before h. (c lane since : ℕ) → poll_of c (notes h) ≡ Some (lane, since) → has_peer c h ≡ true
     → nat_le (since + held_for) (moment h) ≡ true → idle_peer_at new.machine c ≡ None)
 all_woken {H} {Job} hub old new ws told so s u before h x c lane since polls there late =
-    awake (up_within {H = H} {Job = Job} new.machine ws since c so.up (told (notes h) x.front since c ∙ long))
+    awake (up_within {H = H} {Job = Job} new.machine ws since c so.up (told (notes h) x.front.stands since c ∙ long))
   where
     held : poll_held c (notes h) ≡ Some (lane, since)
     held = ap (λ (b : Bool). if b then poll_of c (notes h) else None) (noted_known {H = H} {Job = Job} hub s u before old c h x there) ∙ polls

@@ -1,19 +1,21 @@
 -- What is done about a request, by its outcome.
-use Rattle.std.specs.Prelude.{◌≡◌, ℕ, Bool, true, false, List, [], ◌∷◌, ◌++◌, Option, Some, None, is_some, option_map, if◌then◌else◌}
+use Rattle.std.specs.Prelude.{◌≡◌, ◌==◌, ℕ, suc, Bool, true, false, List, [], ◌∷◌, ◌++◌, Option, Some, None, is_some, option_map, if◌then◌else◌}
 use Rattle.hw_lanes.specs.Replies.{IsReply}
+use Rattle.hd_delivery.specs.Histories.{first_of, is_this}
 use Rattle.hd_calls.specs.Hubs.{Hub}
 use Rattle.hd_rooms.specs.declared.vocabulary.Asked.{Asked}
 use Rattle.hd_rooms.specs.declared.vocabulary.Asked.TheVariants as keeper
 use Rattle.hd_rooms.specs.Kept.{Content, KeeperDid, CountsFaults}
 use Rattle.hd_server.specs.declared.vocabulary.Said.{Said}
-use Rattle.hd_server.specs.Lives.{is_busy, is_made, standing}
+use Rattle.hd_server.specs.Lives.{is_busy, is_made, made, standing}
+use Rattle.hd_server.specs.Texts.{token_of}
 use Rattle.hd_server.specs.declared.vocabulary.Caller.{Caller}
 use Rattle.hd_server.specs.declared.vocabulary.Caller.TheVariants.{Named}
 use Rattle.hd_server.specs.declared.vocabulary.Outcome.{Outcome}
 use Rattle.hd_server.specs.declared.vocabulary.Outcome.TheVariants.{Refusal, NewToken, PlainSocket, TokenSocket, Deletion}
 use Rattle.hd_server.specs.Table.{Facts, text_in}
 use Rattle.hd_server.specs.Doings.{ServerEvent, Draws, may_resume, notes, moment}
-use Rattle.hd_server.specs.Plans.{PendingRequest, Setup, bare_reply, caller_by, onto, request_plan}
+use Rattle.hd_server.specs.Plans.{PendingRequest, Setup, bare_reply, caller_by, new_token, onto, request_plan, giving_way}
 use Rattle.hd_server.specs.Serves.{IsDraw}
 use Rattle.hub_server.specs.declared.server.Server.{Server}
 use Rattle.hub_server.specs.Lanes.{settled}
@@ -71,10 +73,20 @@ pub record IsNamed (f : Facts) (c : ℕ) (h : List ServerEvent) : Type 0 where
   pub lives : f.life ≡ standing c (notes h)
   pub grants : f.granted ≡ may_resume c h
 
--- what the table looked at is so
-pub record IsSeen (f : Facts) (c : ℕ) (out : Outcome) (h : List ServerEvent) : Type 0 where
-  pub busy : f.busy ≡ is_busy (moment h) (notes h)
+-- what the table looked at is so, where so many connections may live
+pub record IsSeen (live : ℕ) (f : Facts) (c : ℕ) (out : Outcome) (h : List ServerEvent) : Type 0 where
+  pub busy : f.busy ≡ is_busy live (moment h) (notes h)
   pub named : is_about_token out ≡ true → IsNamed f c h
+
+-- ---- who called
+
+-- whose connection each is, once one gave way
+abbrev pub caller_left : Option ℕ → ℕ → Option (List ℕ) → Option (List ℕ)
+caller_left gone c name = if is_this c gone then None else name
+
+-- and once one was made for this user
+abbrev pub caller_made : ℕ → Option (List ℕ) → ℕ → Option (List ℕ) → Option (List ℕ)
+caller_made conn user c name = if c == conn then first_of user name else name
 
 -- ---- what each outcome comes to
 
@@ -87,6 +99,14 @@ pub record MakesToken {H Job : Type 0} (hub : Hub Job) (s : Setup) (before : Lis
       (onto (request_plan s o drawn 0 (Draws drawn ∷ h) (if is_some drawn then NewToken reconnect else Refusal 500)).first (Draws drawn ∷ h))
   pub drawn_told : AddsAll told told_now (drawn ∷ [])
   pub failed : CountsDraws failures (drawn ∷ []) failures_now
+
+-- a token of what was drawn is told, to which another may have given way
+abbrev pub TellsToken : {H Job : Type 0} → Hub Job → Setup → List Said → Server H Job → PendingRequest → Bool → List ℕ → List ServerEvent → Type 0
+TellsToken hub s before new o reconnect drawn h =
+    let room = giving_way s o.now h in
+    let g = onto room h in
+    let k = suc (made (notes g)) in
+    Standing hub s settled before new (onto (room ++ new_token o k (token_of drawn k) reconnect g) h)
 
 -- this outcome of all that ask for no lots is carried out, for this connection
 pub record IsCarriedOut {H Job : Type 0} (hub : Hub Job) (s : Setup) (before : List Said) (new : Server H Job) (o : PendingRequest) (c : ℕ) (out : Outcome) (h : List ServerEvent) : Type 0 where

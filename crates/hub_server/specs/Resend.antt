@@ -30,6 +30,6 @@ pub record AreResendLimits (resend : ResendLimits) : Type 0 where
 abbrev pub limits_with : ResendLimits → Limits
 limits_with resend = record { frame = most_frame; count = resend.count; bytes = resend.bytes }
 
--- the setup of every server with this base and wire whose ends hold so much
-abbrev pub setup_with : List ℕ → Wire → ResendLimits → Setup
-setup_with base wire resend = record (usual_setup base wire) { limits = limits_with resend }
+-- the setup of every server with this base and wire whose ends hold so much, and of whose connections so many may live
+abbrev pub setup_with : List ℕ → Wire → ResendLimits → ℕ → Setup
+setup_with base wire resend live = record (usual_setup base wire) { limits = limits_with resend; live = live }

@@ -10,11 +10,12 @@ use Rattle.hd_calls.specs.Hubs.{Hub}
 use Rattle.hd_calls.specs.Peers.{Settings, waiting}
 use Rattle.hd_server.specs.declared.vocabulary.Said.{Said}
 use Rattle.hd_server.specs.Numbers.{most_frame}
-use Rattle.hd_server.specs.Lives.{ended_at, is_removed, is_made, is_polling, lost_at, socket_of}
+use Rattle.hd_server.specs.Lives.{ConnectionEvent, ended_at, is_removed, is_made, is_polling, lost_at, socket_of}
 use Rattle.hd_server.specs.Machine.{settings_of}
 use Rattle.hd_server.specs.Doings.{ServerEvent, notes, work, moment, said, user_of, peer, history, config_for, config_of, has_peer, is_up}
 use Rattle.hd_server.specs.Plans.{Setup}
 use Rattle.hn_server_front.specs.Stands as front
+use Rattle.hn_server_front.specs.declared.front.Front.{Front}
 use Rattle.hub_server.specs.declared.server.Server.{Server}
 use Rattle.hub_machine.specs.Machines.{StandsMachine}
 use Rattle.hub_server.specs.Lanes.{IsLane, Unsettled}
@@ -50,8 +51,8 @@ caller_of c h = if is_some (settings_of c (work h)) || is_removed c (notes h) th
 -- ---- the server
 
 -- how it is begun
-pub record IsSetup (s : Setup) (base : List ℕ) (resend : ResendLimits) : Type 0 where
-  pub given : s ≡ setup_with base s.wire resend
+pub record IsSetup (s : Setup) (base : List ℕ) (resend : ResendLimits) (live : ℕ) : Type 0 where
+  pub given : s ≡ setup_with base s.wire resend live
   pub wire : IsHouseWire most_frame s.wire
 
 -- and how the peer of a connection is
@@ -60,12 +61,17 @@ pub record IsBegunBy (s : Setup) (t : Settings) : Type 0 where
   pub wire : t.wire ≡ s.wire
   pub limits : t.limits ≡ s.limits
 
+-- the front stands for these notes, and as many connections may live as the server was begun with
+pub record StandsFront (live : ℕ) (f : Front) (n : List ConnectionEvent) : Type 0 where
+  pub stands : front.Stands f n
+  pub limit : f.live ≡ live
+
 -- The server stands for these doings, the latest first, of which these were said before the event that is heard. `u`: what isn't
 -- settled yet
 pub record Standing {H Job : Type 0} (hub : Hub Job) (s : Setup) (u : Unsettled) (before : List Said) (v : Server H Job) (h : List ServerEvent) : Type 0 where
-  pub setup : IsSetup s v.base v.resend
+  pub setup : IsSetup s v.base v.resend s.live
   pub machine : StandsMachine hub v.machine (work h)
-  pub front : front.Stands v.front (notes h)
+  pub front : StandsFront s.live v.front (notes h)
   pub callers : (c : ℕ) → get nat_cmp v.callers c ≡ caller_of c h
   pub lanes : (lane : ℕ) → IsLane u (get nat_cmp v.lanes lane) lane h
   pub begun : (c : ℕ) (t : Settings) → settings_of c (work h) ≡ Some t → IsBegunBy s t

@@ -6,7 +6,7 @@ ghost use Rattle.hd_delivery.specs.declared.vocabulary.Reason.TheVariants as rea
 ghost use Rattle.hd_server.specs.declared.vocabulary.Outcome.TheVariants.{FirstPoll, NextPoll};
 ghost use Rattle.hd_server.specs.Doings.{ServerEvent, Notes, has_peer, history, may_resume, moment, notes};
 ghost use Rattle.hd_server.specs.Lives as note;
-ghost use Rattle.hd_server.specs.Plans.{PendingRequest as OccasionMeant, Setup, closing, connecting, ending_held, removing_conn, losing, onto, replying, request_plan, standing_on};
+ghost use Rattle.hd_server.specs.Plans.{PendingRequest as OccasionMeant, Setup, closing, connecting, ending_held, ends_lane, removing_conn, losing, onto, replying, request_plan, standing_on};
 ghost use Rattle.hj_jobs.specs.Meaning.{meaning};
 ghost use Rattle.hub_server.specs.Lanes.{conn_of, cut_of, is_at, lane_of, poll_lane, settled};
 ghost use Rattle.hd_delivery.specs.Histories.{present_link};
@@ -16,7 +16,7 @@ ghost use Rattle.hub_server.specs.Connections.{CanHold, CanStand, Frees, HasLeft
 ghost use Rattle.std.specs.Fmt.{decimal};
 
 use crate::lane::Lane;
-use crate::requests::{PendingRequest, bare};
+use crate::requests::{PendingRequest, bare, ends_after};
 use crate::server::Server;
 use hd_delivery::Reason;
 use he_end::Config;
@@ -68,6 +68,8 @@ impl<H: Hub> Server<H> {
             kind: BodyKind::None,
             body: Vec8::from_vec(Vec::new(alloc)),
             accept: Some(accept),
+            field: None,
+            close: false,
         };
         self.words.reply(at.lane, reply)?;
         Ok(())
@@ -188,16 +190,22 @@ impl<H: Hub> Server<H> {
         ensures said { OnOk result (OfEach (meaning H.begin_of H.step_of) self.old (λ s u before h. u ≡ settled → (c : ℕ) → is_at lane c h ≡ true →
             Standing (meaning H.begin_of H.step_of) s (lane_of (Given lane)) before self.new (onto (replying lane reply h) h))) }
     {
-        let (is_last, is_refused) = match self.lanes.get(&lane) {
-            Some(kept) => (kept.is_last, kept.is_refused),
-            None => (false, false),
-        };
-        let ends = reply.status == 400 || is_last && reply.status != 101;
-        self.words.reply(lane, reply)?;
-        if ends && !is_refused {
-            self.words.shut(lane)?;
-        }
+        let ends = self.ends_held(lane, reply.status);
+        self.words.answer(lane, reply, ends)?;
         Ok(())
+    }
+
+    /// Whether a lane on which a connection is ends after a reply of this status.
+    fn ends_held(&self, lane: u64, status: u16) -> bool
+        ensures { OfEach (meaning H.begin_of H.step_of) self.now (λ s u before h. (c : ℕ) → is_at lane c h ≡ true → result ≡ ends_lane lane status h) }
+    {
+        match self.lanes.get(&lane) {
+            Some(kept) => {
+                let ends = ends_after(status, kept.is_last);
+                ends && !kept.is_refused
+            }
+            None => false,
+        }
     }
 
     // ---- bytes

@@ -46,7 +46,10 @@ impl<H: Hub> Server<H> {
                 self.on_loss(lane);
                 Ok(())
             }
-            Event::Refused { lane: _, status: _ } => Ok(()),
+            Event::Refused {
+                lane: _,
+                refusal: _,
+            } => Ok(()),
             Event::Response {
                 lane: _,
                 status: _,

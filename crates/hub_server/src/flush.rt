@@ -215,5 +215,7 @@ fn frames(body: Vec<u8>) -> Reply
         kind: BodyKind::Octets,
         body: Vec8::from_vec(body),
         accept: None,
+        field: None,
+        close: false,
     }
 }

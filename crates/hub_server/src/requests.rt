@@ -1,19 +1,21 @@
 //! Requests: the front says what is done about each, by a table, and that is carried out.
 
-ghost use Rattle.std.specs.Prelude.{◌≡◌, false, IfOk, OnOk, Some as Given, None as NoName, option_copied};
+ghost use Rattle.std.specs.Prelude.{◌≡◌, ℕ, ◌==◌, ◌&&◌, ◌||◌, not, false, IfOk, OnOk, OnErr, Some as Given, None as NoName, option_copied};
+ghost use Rattle.std.specs.Ordering.{nat_cmp};
+ghost use Rattle.std.specs.BTreeMap.{get};
 ghost use Rattle.hw_lanes.specs.Replies.{IsReply};
 ghost use Rattle.hd_server.specs.Doings.{moment, name_now, notes};
 ghost use Rattle.hd_server.specs.Laws.{Suits};
 ghost use Rattle.hd_server.specs.Lives.{is_busy};
-ghost use Rattle.hd_server.specs.Plans.{PendingRequest as OccasionMeant, bare_reply, may_resume_some, onto, replying};
+ghost use Rattle.hd_server.specs.Plans.{PendingRequest as OccasionMeant, bare_reply, field_at, may_resume_some, onto, replying};
 ghost use Rattle.hd_server.specs.declared.vocabulary.Outcome.TheVariants.{Posting};
-ghost use Rattle.hd_server.specs.Table.{Facts};
+ghost use Rattle.hd_server.specs.Table.{Facts, is_base};
 ghost use Rattle.hw_door.specs.declared.heard.Event.TheVariants as event;
 ghost use Rattle.hj_jobs.specs.Meaning.{meaning};
 ghost use Rattle.hub_server.specs.Servers.{OfEach, Standing};
 ghost use Rattle.hub_server.specs.Steps.{HasCome, Handles, outside};
 ghost use Rattle.hub_server.specs.Connections.{CanHold, CanStand, IsKnown};
-ghost use Rattle.hub_server.specs.Requests.{CanBeSaid, CarriesOut, Erases, IsCaller, IsCarriedOut, IsSeen, MakesToken, OfRequest, OpensTo, StandsOver, name_meant, text_asked};
+ghost use Rattle.hub_server.specs.Requests.{CanBeSaid, CarriesOut, Erases, IsCaller, IsCarriedOut, IsSeen, MakesToken, OfRequest, OpensTo, StandsOver, TellsToken, caller_left, caller_made, name_meant, text_asked};
 
 use crate::server::Server;
 use hd_server::{Caller, Outcome};
@@ -21,8 +23,9 @@ use hj_jobs::Hub;
 use hk_keeper::{KeepError, Keeper};
 use hv_value::Text;
 use hw_door::Lots;
-use hw_lanes::{BodyKind, Reply, Request, Text8, Vec8};
+use hw_lanes::{BodyKind, Reply, ReplyField, Request, Text8, Vec8};
 use std::alloc::{AllocError, Global};
+use std::collections::BTreeMap;
 
 /// The lane of a request, and whether it is the last there.
 #[derive(Clone, Copy, Debug, PartialEq, Eq)]
@@ -31,9 +34,10 @@ pub(crate) struct PendingRequest {
     pub(crate) is_last: bool,
 }
 
-/// What a request brings for its outcome: whose connection it would be, what accepts a socket, and bytes.
+/// What a request brings for its outcome: whether its path is the base, whose connection it would be, what accepts a socket, and bytes.
 #[derive(Drop)]
 struct Brought {
+    at_base: bool,
     user: Option<Text>,
     accept: Option<Text8>,
     body: Vec8,
@@ -59,6 +63,7 @@ impl<H: Hub> Server<H> {
         hd_server::outcomes_suit();
         hd_server::lots_matter_to_tokens();
         hd_server::lives_are_settled();
+        let at_base = self.is_at_base(&request);
         let base = self.base.as_str().as_bytes();
         let route = self.front.route(alloc, base, &request)?;
         let caller = caller_of(alloc, keeper, request.bearer.as_ref(), route.is_entry())?;
@@ -70,11 +75,19 @@ impl<H: Hub> Server<H> {
             is_last: request.shut,
         };
         let brought = Brought {
+            at_base,
             user: name_in(caller),
             accept: request.upgrade,
             body: request.body,
         };
         self.carry_out(alloc, hub, at, outcome, named.unwrap_or(0), brought, lots)
+    }
+
+    /// Whether the path of a request is the base.
+    fn is_at_base(&self, request: &Request) -> bool
+        ensures { result ≡ is_base self.now.base request.now }
+    {
+        request.path.bytes() == self.base.as_str().as_bytes()
     }
 
     /// Whether the end of the connection that is named may be resumed.
@@ -100,12 +113,12 @@ impl<H: Hub> Server<H> {
     ) -> Result<(), AllocError>
         requires { CanBeSaid brought.accept outcome }
         ensures done { OnOk result (OfRequest (meaning H.begin_of H.step_of) self.old at.lane at.is_last (λ s before h. (o : OccasionMeant) → o.now ≡ moment h → o.lane ≡ at.lane →
-            o.request.upgrade ≡ brought.accept → o.request.body ≡ brought.body → name_now h ≡ brought.user →
-            (f : Facts) → Suits o.request f outcome → IsSeen f conn outcome h →
+            o.request.upgrade ≡ brought.accept → o.request.body ≡ brought.body → is_base s.base o.request ≡ brought.at_base → name_now h ≡ brought.user →
+            (f : Facts) → Suits o.request f outcome → IsSeen s.live f conn outcome h →
             CarriesOut (meaning H.begin_of H.step_of) s before self.new o conn (L.drawn lots.old) (L.faults lots.old) (L.drawn lots.new) (L.faults lots.new) h outcome)) }
     {
         match outcome {
-            Outcome::Refusal(status) => self.reply(at, bare(alloc, status)),
+            Outcome::Refusal(status) => self.reply(at, refusal(alloc, status, brought.at_base)),
             Outcome::NewToken { reconnect } => {
                 self.new_token(alloc, at, reconnect, brought.user, lots)
             }
@@ -121,7 +134,7 @@ impl<H: Hub> Server<H> {
         }
     }
 
-    /// A token is made and told. There is room for its connection.
+    /// The lots are asked for a token, which is made and told; or they fail, and the request is refused. There is room for its connection.
     fn new_token<L: Lots>(
         &mut self,
         alloc: Global,
@@ -131,19 +144,40 @@ impl<H: Hub> Server<H> {
         lots: &mut L,
     ) -> Result<(), AllocError>
         ensures made { OnOk result (OfRequest (meaning H.begin_of H.step_of) self.old at.lane at.is_last (λ s before h. (o : OccasionMeant) → o.now ≡ moment h → o.lane ≡ at.lane →
-            name_now h ≡ user → is_busy (moment h) (notes h) ≡ false →
+            name_now h ≡ user → is_busy s.live (moment h) (notes h) ≡ false →
             MakesToken (meaning H.begin_of H.step_of) s before self.new o reconnect (L.drawn lots.old) (L.faults lots.old) (L.drawn lots.new) (L.faults lots.new) h)) }
+        ensures unfailed { OnErr result (L.faults lots.new ≡ L.faults lots.old) }
     {
+        // The answer to a failed draw is said before it, and unsaid after another: once lots fail, no memory is needed.
+        let said = self.words.count();
+        let ends = ends_after(500, at.is_last);
+        self.words.answer(at.lane, bare(alloc, 500), ends)?;
         let Ok(drawn) = lots.draw() else {
-            return self.reply(at, bare(alloc, 500));
+            return Ok(());
         };
+        self.words.truncate(said);
+        self.tell_token(alloc, at, reconnect, user, drawn)
+    }
+
+    /// A token of what was drawn is made and told. There is room for its connection.
+    fn tell_token(
+        &mut self,
+        alloc: Global,
+        at: PendingRequest,
+        reconnect: bool,
+        user: Option<Text>,
+        drawn: [u8; 16],
+    ) -> Result<(), AllocError>
+        ensures told { OnOk result (OfRequest (meaning H.begin_of H.step_of) self.old at.lane at.is_last (λ s before h. (o : OccasionMeant) → o.now ≡ moment h → o.lane ≡ at.lane →
+            name_now h ≡ user → is_busy s.live (moment h) (notes h) ≡ false →
+            TellsToken (meaning H.begin_of H.step_of) s before self.new o reconnect drawn h)) }
+    {
         let Ok(made) = self.front.negotiate(alloc, reconnect, drawn, self.moment) else {
             // There is room for it, so memory is out.
             return Err(AllocError);
         };
-        if let Some(user) = user {
-            self.callers.insert(made.conn, user)?;
-        }
+        leave_caller(&mut self.callers, made.gone);
+        name_caller(&mut self.callers, made.conn, user)?;
         self.reply(
             at,
             Reply {
@@ -151,6 +185,8 @@ impl<H: Hub> Server<H> {
                 kind: BodyKind::Json,
                 body: made.body,
                 accept: None,
+                field: None,
+                close: false,
             },
         )
     }
@@ -164,17 +200,16 @@ impl<H: Hub> Server<H> {
         accept: Text8,
     ) -> Result<(), AllocError>
         ensures opened { OnOk result (OfRequest (meaning H.begin_of H.step_of) self.old at.lane at.is_last (λ s before h. (o : OccasionMeant) → o.now ≡ moment h → o.lane ≡ at.lane →
-            o.request.upgrade ≡ Given accept → name_now h ≡ user → is_busy (moment h) (notes h) ≡ false →
+            o.request.upgrade ≡ Given accept → name_now h ≡ user → is_busy s.live (moment h) (notes h) ≡ false →
             OpensTo (meaning H.begin_of H.step_of) s before self.new o h)) }
     {
-        let Ok(conn) = self.front.open(self.moment) else {
+        let Ok(made) = self.front.open(self.moment) else {
             // There is room for it, so memory is out.
             return Err(AllocError);
         };
-        if let Some(user) = user {
-            self.callers.insert(conn, user)?;
-        }
-        self.attach_socket(alloc, conn, at, false, accept)
+        leave_caller(&mut self.callers, made.gone);
+        name_caller(&mut self.callers, made.conn, user)?;
+        self.attach_socket(alloc, made.conn, at, false, accept)
     }
 
     /// The connection of a token stands on the lane from now on. An older lane is to end.
@@ -230,12 +265,37 @@ impl<H: Hub> Server<H> {
         ensures said { OnOk result (OfEach (meaning H.begin_of H.step_of) self.old (λ s u before h. HasCome at.lane at.is_last h →
             Standing (meaning H.begin_of H.step_of) s u before self.new (onto (replying at.lane reply h) h))) }
     {
-        let ends = reply.status == 400 || at.is_last && reply.status != 101;
-        self.words.reply(at.lane, reply)?;
-        if ends {
-            self.words.shut(at.lane)?;
-        }
+        let ends = ends_after(reply.status, at.is_last);
+        self.words.answer(at.lane, reply, ends)?;
         Ok(())
+    }
+}
+
+/// Whether a lane ends after a reply of this status, where it is to end after its request or isn't.
+pub(crate) fn ends_after(status: u16, is_last: bool) -> bool
+    ensures { result ≡ (status == 400) || (not (status == 101) && is_last) }
+{
+    status == 400 || status != 101 && is_last
+}
+
+/// A refusal, which tells what would not be refused.
+fn refusal(alloc: Global, status: u16, at_base: bool) -> Reply
+    ensures { result ≡ record (bare_reply status) { field = field_at at_base status } }
+{
+    let mut reply = bare(alloc, status);
+    reply.field = refusal_field(status, at_base);
+    reply
+}
+
+/// What a refusal of this status tells: the methods of its path, or how a caller is known.
+fn refusal_field(status: u16, at_base: bool) -> Option<ReplyField>
+    ensures { result ≡ field_at at_base status }
+{
+    match status {
+        405 if at_base => Some(ReplyField::AllowGetPostDelete),
+        405 => Some(ReplyField::AllowPost),
+        401 => Some(ReplyField::AuthenticateBearer),
+        _ => None,
     }
 }
 
@@ -248,6 +308,8 @@ pub(crate) fn bare(alloc: Global, status: u16) -> Reply
         kind: BodyKind::None,
         body: Vec8::from_vec(Vec::new(alloc)),
         accept: None,
+        field: None,
+        close: false,
     }
 }
 
@@ -258,8 +320,9 @@ fn caller_of<K: Keeper>(
     bearer: Option<&Text8>,
     is_entry: bool,
 ) -> Result<Caller, AllocError>
-    ensures { IfOk result (λ caller. IsCaller (text_asked is_entry (option_copied bearer.entry)) (option_copied bearer.entry) caller
+    ensures who { IfOk result (λ caller. IsCaller (text_asked is_entry (option_copied bearer.entry)) (option_copied bearer.entry) caller
         (K.holds keeper.old) (K.answers keeper.old) (K.faults keeper.old) (K.holds keeper.new) (K.answers keeper.new) (K.faults keeper.new)) }
+    ensures unfailed { OnErr result (K.faults keeper.new ≡ K.faults keeper.old) }
 {
     let Some(bearer) = bearer else {
         return Ok(Caller::Anonymous);
@@ -277,6 +340,31 @@ fn caller_of<K: Keeper>(
         Err(KeepError::Failed) => Ok(Caller::KeeperFailed),
         Err(KeepError::NoMemory) => Err(AllocError),
     }
+}
+
+/// Whose connection it was is forgotten of the one that gave way.
+fn leave_caller(callers: &mut BTreeMap<u64, Text>, gone: Option<u64>)
+    ensures { (c : ℕ) → get nat_cmp callers.new c ≡ caller_left gone c (get nat_cmp callers.old c) }
+{
+    let Some(gone) = gone else {
+        return;
+    };
+    let _ = callers.remove(&gone);
+}
+
+/// The connection that was made is this user's, if its caller has a name.
+fn name_caller(
+    callers: &mut BTreeMap<u64, Text>,
+    conn: u64,
+    user: Option<Text>,
+) -> Result<(), AllocError>
+    ensures { OnOk result ((c : ℕ) → get nat_cmp callers.new c ≡ caller_made conn user c (get nat_cmp callers.old c)) }
+{
+    let Some(user) = user else {
+        return Ok(());
+    };
+    callers.insert(conn, user)?;
+    Ok(())
 }
 
 /// Whose connection a caller's would be.

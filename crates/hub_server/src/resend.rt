@@ -2,6 +2,7 @@
 
 ghost use Rattle.std.specs.Prelude.{◌≡◌, ◌↔◌, ℕ, List, IsSome, IfSome};
 ghost use Rattle.hd_delivery.specs.Bytes.{Wire};
+ghost use Rattle.hd_server.specs.Numbers.{most_live};
 ghost use Rattle.hd_server.specs.Plans.{usual_setup};
 ghost use Rattle.hub_server.specs.Resend.{AreResendLimits, limits_with, setup_with, usual_resend};
 
@@ -40,7 +41,7 @@ impl ResendLimits {
     /// 1,024 messages and 100,000 bytes.
     pub fn usual() -> ResendLimits
         ensures value { result ≡ usual_resend }
-        ensures setup { (base : List ℕ) (wire : Wire) → setup_with base wire result ≡ usual_setup base wire }
+        ensures setup { (base : List ℕ) (wire : Wire) → setup_with base wire result most_live ≡ usual_setup base wire }
     {
         hd_server::numbers_are_named();
         ResendLimits {

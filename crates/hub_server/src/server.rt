@@ -16,7 +16,7 @@ ghost use Rattle.hub_server.specs.Steps.{HasTurn, IsRounded, StandsServer, Turns
 use crate::lane::Lane;
 use crate::resend::ResendLimits;
 use crate::words::Words;
-use hd_server::Said;
+use hd_server::{LiveLimit, Said};
 use he_end::Steps;
 use hj_jobs::Hub;
 use hk_keeper::Keeper;
@@ -29,7 +29,7 @@ use std::collections::BTreeMap;
 use std::marker::Brand;
 use std::sync::ledger::{Blank, Ledger};
 
-/// A server of hubs at a base, such as `/hub`, whose ends hold so much: its connections with their tokens, their peers and their groups. Moments are in milliseconds.
+/// A server of hubs at a base, such as `/hub`, whose ends hold so much, and of whose connections so many may live: its connections with their tokens, their peers and their groups. Moments are in milliseconds.
 #[derive(Drop)]
 pub struct Server<H: Hub> {
     pub(crate) base: Text,
@@ -50,14 +50,19 @@ pub struct Server<H: Hub> {
 
 impl<H: Hub> Server<H> {
     /// A server without connections.
-    pub fn start(alloc: Global, base: Text, resend: ResendLimits) -> Result<Server<H>, AllocError>
-        ensures { IfOk result (λ server. (s : Setup) → IsSetup s base resend → StandsServer (meaning H.begin_of H.step_of) s server []) }
+    pub fn start(
+        alloc: Global,
+        base: Text,
+        resend: ResendLimits,
+        live: LiveLimit,
+    ) -> Result<Server<H>, AllocError>
+        ensures { IfOk result (λ server. (s : Setup) → IsSetup s base resend live → StandsServer (meaning H.begin_of H.step_of) s server []) }
     {
         Ok(Server {
             base,
             resend,
             machine: Machine::start(alloc)?,
-            front: Front::start(alloc)?,
+            front: Front::start(alloc, live)?,
             callers: BTreeMap::new(alloc),
             lanes: BTreeMap::new(alloc),
             moment: 0,
@@ -143,7 +148,7 @@ impl<H: Hub> Server<H> {
             Standing (meaning H.begin_of H.step_of) s (lane_of (lost_in event.now)) before self.new (Hears now event.now ∷ h)) }
     {
         self.moment = now;
-        if let Event::Refused { lane, status: _ } = event {
+        if let Event::Refused { lane, refusal: _ } = event {
             if let Some(kept) = self.lanes.get_mut(lane) {
                 kept.is_refused = true;
             }

@@ -27,4 +27,5 @@ returns c =
       capacity = c.change.ensures.capacity;
       lasts = c.change.ensures.lasts;
       polls = refl;
+      live = refl;
     }

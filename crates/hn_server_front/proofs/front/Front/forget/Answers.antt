@@ -13,6 +13,7 @@ returns-in_default c = λ h s.
     let gone = λ (there : is_made k h ≡ true). stands_gone f k (Removed k ∷ h) h (let_go_follows k h) s none there (λ _. removed k h) in (
       (λ there. stands_same f _ (Removed k ∷ h) refl c.in_default.ensures.unchanged refl refl refl (gone there)),
       (λ unmade. stands_same f _ h refl c.in_default.ensures.unchanged refl refl refl s),
+      refl,
     )
 
 pub returns-in-Some-told : goal.returns-in-Some-told
@@ -31,6 +32,7 @@ returns-in-Some-told c = λ h s.
           c.held_since.result (c.held_since.ensures k h r)
           (record { changed = held.changed; others = held.others; order = held.order; lasts = held.lasts; capacity = held.capacity })),
       (λ unmade. no_bool (sym unmade ∙ r.there)),
+      refl,
     )
 
 pub returns-in_default-told : goal.returns-in_default-told
@@ -48,4 +50,5 @@ returns-in_default-told c = λ h s.
           c.held_since.result (c.held_since.ensures k h r)
           (record { changed = held.changed; others = held.others; order = held.order; lasts = held.lasts; capacity = held.capacity })),
       (λ unmade. no_bool (sym unmade ∙ r.there)),
+      refl,
     )

@@ -11,9 +11,10 @@ returns-in_default c = λ h s.
     let g = note_of k c.args.noted ∷ h in
     let none = sym c.in_default.ensures.value in
     let same = sym c.get_mut.follows.holds-at-none in (
-      (λ there. subst (λ m. Stands (record { made = f.made; entries = m; tokens = f.tokens; moments = f.moments; polls = f.polls }) g) same
+      (λ there. subst (λ m. Stands (record { live = f.live; made = f.made; entries = m; tokens = f.tokens; moments = f.moments; polls = f.polls }) g) same
           (stands_gone f k g h (noted_follows k c.args.noted h) s none there (still_gone k c.args.noted h))),
-      (λ unmade. subst (λ m. Stands (record { made = f.made; entries = m; tokens = f.tokens; moments = f.moments; polls = f.polls }) h) same s),
+      (λ unmade. subst (λ m. Stands (record { live = f.live; made = f.made; entries = m; tokens = f.tokens; moments = f.moments; polls = f.polls }) h) same s),
+      refl,
     )
 
 pub returns : goal.returns
@@ -34,4 +35,5 @@ returns c = λ h s.
           (c.held_since-held_before.ensures k h r) (c.held_since-held_after.ensures k g q)
           (record { changed = held.changed; others = held.others; order = held.order; lasts = held.lasts; capacity = held.capacity })),
       (λ unmade. no_bool (sym unmade ∙ r.there)),
+      refl,
     )

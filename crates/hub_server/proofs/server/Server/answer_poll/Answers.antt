@@ -11,6 +11,7 @@ use Rattle.hub_server.specs.Lanes.{poll_lane}
 use Rattle.hub_server.specs.Servers.{Standing}
 use Rattle.hub_server.proofs.Gone.{is_on}
 use Rattle.hub_server.proofs.GoneServer.{answers_reply}
+use Rattle.hub_server.proofs.FrontNoted.{noted_front}
 use Rattle.hub_server.proofs.server.Server.answer_poll.Goals as goal
 
 pub returns : goal.returns
@@ -35,6 +36,7 @@ returns g c = record {
       (Notes (Answered c.args.conn c.args.lane (moment h)) ∷ onto (replying c.args.lane c.args.reply h) h)) (sym is)
       (answers_reply {H = g.row.H.Denot} {Job = g.row.H-Job.Denot} hub s before c.reply_held.new.self new c.args.conn c.args.lane c.args.reply h
       refl refl refl refl refl refl c.remove.ensures.updates.1 (λ l e. c.remove.ensures.updates.2 l (unsigned_tied c.args.lane l ∙ e)) there poll
-      (λ n f made. (c.answered.ensures n f).0 made)
+      (λ n f made. noted_front s.live c.reply_held.new.self.front c.answered.new.self c.args.conn
+      (Answered c.args.conn c.args.lane c.reply_held.new.self.moment) n c.answered.ensures f made)
       (c.in_ok-reply_held.ensures.said s u before h stands is c.args.conn at));
 }

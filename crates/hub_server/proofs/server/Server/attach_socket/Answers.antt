@@ -1,4 +1,4 @@
-use Rattle.std.proofs.Common.{◌≡◌, ℕ, List, ◌∷◌, ◌++◌, [], Some, sym, ap, subst, ◌∙◌}
+use Rattle.std.proofs.Common.{◌≡◌, ℕ, false, List, ◌∷◌, ◌++◌, [], None, Some, sym, ap, subst, ◌∙◌}
 use Rattle.hw_lanes.specs.declared.http.BodyKind.TheVariants as kind
 use Rattle.hd_delivery.specs.Histories.{link_count}
 use Rattle.hj_jobs.specs.Meaning.{meaning}
@@ -31,7 +31,7 @@ returns g c = record {
       c.attach-attached.ensures.not_granted
       there.machine (there.orderly k) is_ready.there is_ready.opens there.clock in
       let held = (there.orderly k).there is_ready.there in
-      let front_lane = c.lane.ensures (notes h1) there.front in
+      let front_lane = c.lane.ensures (notes h1) there.front.stands in
       let cut : CutsLane {H = g.row.H.Denot} {Job = g.row.H-Job.Denot} (socket_of k (notes h1))
       (record c.connect.new.self { machine = c.attach-attached.new.self }) c.match-lane.self =
       elim c.match-lane.branch [
@@ -43,9 +43,9 @@ returns g c = record {
             w.self-is
       ] in
       let says : c.reply.new.self ≡ c.match-lane.self.words ++ say.Reply at
-      (record { status = 101; kind = kind.None; body = []; accept = Some c.args.accept }) ∷ [] =
+      (record { status = 101; kind = kind.None; body = []; accept = Some c.args.accept; field = None; close = false }) ∷ [] =
       c.in_ok-reply.ensures
-      ∙ ap (λ b. c.match-lane.self.words ++ say.Reply at (record { status = 101; kind = kind.None; body = b; accept = Some c.args.accept }) ∷ [])
+      ∙ ap (λ b. c.match-lane.self.words ++ say.Reply at (record { status = 101; kind = kind.None; body = b; accept = Some c.args.accept; field = None; close = false }) ∷ [])
       (c.from_vec.ensures ∙ c.new.ensures.items) in
       let done = stands_now {H = g.row.H.Denot} {Job = g.row.H-Job.Denot} hub s before c.connect.new.self k at c.args.at.is_last c.args.accept h1
       there is_ready

@@ -1,6 +1,5 @@
-use Rattle.std.proofs.Common.{◌≡◌, ℕ, Some, true, is_some, refl, sym, ap, subst, ◌∙◌}
+use Rattle.std.proofs.Common.{refl, sym, ap, subst, ◌∙◌}
 use Rattle.std.proofs.lemmas.Result.{on_ok_weaker}
-use Rattle.hd_server.specs.declared.vocabulary.Outcome.{Outcome}
 use Rattle.hd_server.specs.declared.vocabulary.Outcome.TheVariants.{Refusal, NewToken, PlainSocket, TokenSocket, FirstPoll, NextPoll, LastPoll, Posting, Deletion}
 use Rattle.hd_server.specs.Doings.{notes}
 use Rattle.hd_server.specs.Laws.{Suits}
@@ -9,27 +8,27 @@ use Rattle.hw_lanes.specs.Replies.{IsReply}
 use Rattle.hub_server.specs.Lanes.{settled}
 use Rattle.hub_server.specs.Requests.{CanBeSaid, CarriesOut, IsNamed, IsSeen}
 use Rattle.hub_server.proofs.OutcomeLives.{fresh_unlost}
-use Rattle.hub_server.proofs.OutcomeTokens.{can_stand, deleted_known, deletes, ending_can_hold, follows_for, fresh_can_stand, fresh_has_none, fresh_reads, holds_last, opens, polling_can_hold, refuses, takes_over}
+use Rattle.hub_server.proofs.OutcomeTokens.{can_stand, deleted_known, deletes, ending_can_hold, follows_for, fresh_can_stand, fresh_has_none, fresh_reads, holds_last, opens, polling_can_hold, refuses, takes_over, told_at, told_sent}
 use Rattle.hub_server.proofs.server.Server.carry_out.Goals as goal
 
 pub reply-requires : goal.reply-requires
 reply-requires g c =
-    subst IsReply (sym c.bare.ensures) (subst (CanBeSaid c.args.brought.accept) c.in-Refusal.is c.requires)
+    subst IsReply (sym c.refusal.ensures) (told_sent c.args.brought.at_base c.in-Refusal.status (subst (CanBeSaid c.args.brought.accept) c.in-Refusal.is c.requires))
 
 pub returns-in-Refusal : goal.returns-in-Refusal
 returns-in-Refusal g c =
     let hub = meaning g.H.Hub.begin_of g.H.Hub.step_of in
     record {
-      done = on_ok_weaker c.reply.result (λ run s before h st rests come none o at on up body is f suits_any seen_any.
+      done = on_ok_weaker c.reply.result (λ run s before h st rests come none o at on up body here is f suits_any seen_any.
           let suits : Suits o.request f (Refusal c.in-Refusal.status) = subst (Suits o.request f) c.in-Refusal.is suits_any in
-          let seen : IsSeen f c.args.conn (Refusal c.in-Refusal.status) h = subst (λ x. IsSeen f c.args.conn x h) c.in-Refusal.is seen_any in
+          let seen : IsSeen s.live f c.args.conn (Refusal c.in-Refusal.status) h = subst (λ x. IsSeen s.live f c.args.conn x h) c.in-Refusal.is seen_any in
           subst (λ x. CarriesOut {H = g.row.H.Denot} {Job = g.row.H-Job.Denot} hub s before c.reply.new.self o c.args.conn
           (g.L.Lots.drawn c.args.lots.now) (g.L.Lots.faults c.args.lots.now) (g.L.Lots.drawn c.args.lots.now) (g.L.Lots.faults c.args.lots.now) h x)
           (sym c.in-Refusal.is) ((
             refl,
             refl,
-            refuses {H = g.row.H.Denot} {Job = g.row.H-Job.Denot} hub s before c.reply.new.self o c.args.conn h c.in-Refusal.status c.args.at.lane c.bare.result on c.bare.ensures
-                (run s settled before h st come),
+            refuses {H = g.row.H.Denot} {Job = g.row.H-Job.Denot} hub s before c.reply.new.self o c.args.conn h c.in-Refusal.status c.args.at.lane c.refusal.result on
+                (c.refusal.ensures ∙ ap (λ b. told_at b c.in-Refusal.status) (sym here)) (run s settled before h st come),
           ))) c.reply.ensures.said;
     }
 
@@ -37,9 +36,9 @@ pub returns-in-NewToken : goal.returns-in-NewToken
 returns-in-NewToken g c =
     let hub = meaning g.H.Hub.begin_of g.H.Hub.step_of in
     record {
-      done = on_ok_weaker c.new_token.result (λ run s before h st rests come none o at on up body is f suits_any seen_any.
+      done = on_ok_weaker c.new_token.result (λ run s before h st rests come none o at on up body here is f suits_any seen_any.
           let suits : Suits o.request f (NewToken c.in-NewToken.reconnect) = subst (Suits o.request f) c.in-NewToken.is suits_any in
-          let seen : IsSeen f c.args.conn (NewToken c.in-NewToken.reconnect) h = subst (λ x. IsSeen f c.args.conn x h) c.in-NewToken.is seen_any in
+          let seen : IsSeen s.live f c.args.conn (NewToken c.in-NewToken.reconnect) h = subst (λ x. IsSeen s.live f c.args.conn x h) c.in-NewToken.is seen_any in
           subst (λ x. CarriesOut {H = g.row.H.Denot} {Job = g.row.H-Job.Denot} hub s before c.new_token.new.self o c.args.conn
           (g.L.Lots.drawn c.args.lots.now) (g.L.Lots.faults c.args.lots.now) (g.L.Lots.drawn c.new_token.new.lots) (g.L.Lots.faults c.new_token.new.lots) h x)
           (sym c.in-NewToken.is) (
@@ -50,9 +49,9 @@ pub returns-in-PlainSocket : goal.returns-in-PlainSocket
 returns-in-PlainSocket g c =
     let hub = meaning g.H.Hub.begin_of g.H.Hub.step_of in
     record {
-      done = on_ok_weaker c.plain_socket.result (λ run s before h st rests come none o at on up body is f suits_any seen_any.
+      done = on_ok_weaker c.plain_socket.result (λ run s before h st rests come none o at on up body here is f suits_any seen_any.
           let suits : Suits o.request f PlainSocket = subst (Suits o.request f) c.in-PlainSocket.is suits_any in
-          let seen : IsSeen f c.args.conn PlainSocket h = subst (λ x. IsSeen f c.args.conn x h) c.in-PlainSocket.is seen_any in
+          let seen : IsSeen s.live f c.args.conn PlainSocket h = subst (λ x. IsSeen s.live f c.args.conn x h) c.in-PlainSocket.is seen_any in
           subst (λ x. CarriesOut {H = g.row.H.Denot} {Job = g.row.H-Job.Denot} hub s before c.plain_socket.new.self o c.args.conn
           (g.L.Lots.drawn c.args.lots.now) (g.L.Lots.faults c.args.lots.now) (g.L.Lots.drawn c.args.lots.now) (g.L.Lots.faults c.args.lots.now) h x)
           (sym c.in-PlainSocket.is) ((
@@ -67,9 +66,9 @@ pub returns-in-TokenSocket : goal.returns-in-TokenSocket
 returns-in-TokenSocket g c =
     let hub = meaning g.H.Hub.begin_of g.H.Hub.step_of in
     record {
-      done = on_ok_weaker c.token_socket.result (λ run s before h st rests come none o at on up body is f suits_any seen_any.
+      done = on_ok_weaker c.token_socket.result (λ run s before h st rests come none o at on up body here is f suits_any seen_any.
           let suits : Suits o.request f TokenSocket = subst (Suits o.request f) c.in-TokenSocket.is suits_any in
-          let seen : IsSeen f c.args.conn TokenSocket h = subst (λ x. IsSeen f c.args.conn x h) c.in-TokenSocket.is seen_any in
+          let seen : IsSeen s.live f c.args.conn TokenSocket h = subst (λ x. IsSeen s.live f c.args.conn x h) c.in-TokenSocket.is seen_any in
           subst (λ x. CarriesOut {H = g.row.H.Denot} {Job = g.row.H-Job.Denot} hub s before c.token_socket.new.self o c.args.conn
           (g.L.Lots.drawn c.args.lots.now) (g.L.Lots.faults c.args.lots.now) (g.L.Lots.drawn c.args.lots.now) (g.L.Lots.faults c.args.lots.now) h x)
           (sym c.in-TokenSocket.is) ((
@@ -85,9 +84,9 @@ pub returns-in-FirstPoll : goal.returns-in-FirstPoll
 returns-in-FirstPoll g c =
     let hub = meaning g.H.Hub.begin_of g.H.Hub.step_of in
     record {
-      done = on_ok_weaker c.first_poll.result (λ run s before h st rests come none o at on up body is f suits_any seen_any.
+      done = on_ok_weaker c.first_poll.result (λ run s before h st rests come none o at on up body here is f suits_any seen_any.
           let suits : Suits o.request f FirstPoll = subst (Suits o.request f) c.in-FirstPoll.is suits_any in
-          let seen : IsSeen f c.args.conn FirstPoll h = subst (λ x. IsSeen f c.args.conn x h) c.in-FirstPoll.is seen_any in
+          let seen : IsSeen s.live f c.args.conn FirstPoll h = subst (λ x. IsSeen s.live f c.args.conn x h) c.in-FirstPoll.is seen_any in
           subst (λ x. CarriesOut {H = g.row.H.Denot} {Job = g.row.H-Job.Denot} hub s before c.first_poll.new.self o c.args.conn
           (g.L.Lots.drawn c.args.lots.now) (g.L.Lots.faults c.args.lots.now) (g.L.Lots.drawn c.args.lots.now) (g.L.Lots.faults c.args.lots.now) h x)
           (sym c.in-FirstPoll.is) (
@@ -106,9 +105,9 @@ pub returns-in-NextPoll : goal.returns-in-NextPoll
 returns-in-NextPoll g c =
     let hub = meaning g.H.Hub.begin_of g.H.Hub.step_of in
     record {
-      done = on_ok_weaker c.next_poll.result (λ run s before h st rests come none o at on up body is f suits_any seen_any.
+      done = on_ok_weaker c.next_poll.result (λ run s before h st rests come none o at on up body here is f suits_any seen_any.
           let suits : Suits o.request f NextPoll = subst (Suits o.request f) c.in-NextPoll.is suits_any in
-          let seen : IsSeen f c.args.conn NextPoll h = subst (λ x. IsSeen f c.args.conn x h) c.in-NextPoll.is seen_any in
+          let seen : IsSeen s.live f c.args.conn NextPoll h = subst (λ x. IsSeen s.live f c.args.conn x h) c.in-NextPoll.is seen_any in
           subst (λ x. CarriesOut {H = g.row.H.Denot} {Job = g.row.H-Job.Denot} hub s before c.next_poll.new.self o c.args.conn
           (g.L.Lots.drawn c.args.lots.now) (g.L.Lots.faults c.args.lots.now) (g.L.Lots.drawn c.args.lots.now) (g.L.Lots.faults c.args.lots.now) h x)
           (sym c.in-NextPoll.is) ((
@@ -123,9 +122,9 @@ pub returns-in-LastPoll : goal.returns-in-LastPoll
 returns-in-LastPoll g c =
     let hub = meaning g.H.Hub.begin_of g.H.Hub.step_of in
     record {
-      done = on_ok_weaker c.hold_poll.result (λ run s before h st rests come none o at on up body is f suits_any seen_any.
+      done = on_ok_weaker c.hold_poll.result (λ run s before h st rests come none o at on up body here is f suits_any seen_any.
           let suits : Suits o.request f LastPoll = subst (Suits o.request f) c.in-LastPoll.is suits_any in
-          let seen : IsSeen f c.args.conn LastPoll h = subst (λ x. IsSeen f c.args.conn x h) c.in-LastPoll.is seen_any in
+          let seen : IsSeen s.live f c.args.conn LastPoll h = subst (λ x. IsSeen s.live f c.args.conn x h) c.in-LastPoll.is seen_any in
           subst (λ x. CarriesOut {H = g.row.H.Denot} {Job = g.row.H-Job.Denot} hub s before c.hold_poll.new.self o c.args.conn
           (g.L.Lots.drawn c.args.lots.now) (g.L.Lots.faults c.args.lots.now) (g.L.Lots.drawn c.args.lots.now) (g.L.Lots.faults c.args.lots.now) h x)
           (sym c.in-LastPoll.is) ((
@@ -140,9 +139,9 @@ pub returns-in-Posting : goal.returns-in-Posting
 returns-in-Posting g c =
     let hub = meaning g.H.Hub.begin_of g.H.Hub.step_of in
     record {
-      done = on_ok_weaker c.posting.result (λ run s before h st rests come none o at on up body is f suits_any seen_any.
+      done = on_ok_weaker c.posting.result (λ run s before h st rests come none o at on up body here is f suits_any seen_any.
           let suits : Suits o.request f Posting = subst (Suits o.request f) c.in-Posting.is suits_any in
-          let seen : IsSeen f c.args.conn Posting h = subst (λ x. IsSeen f c.args.conn x h) c.in-Posting.is seen_any in
+          let seen : IsSeen s.live f c.args.conn Posting h = subst (λ x. IsSeen s.live f c.args.conn x h) c.in-Posting.is seen_any in
           subst (λ x. CarriesOut {H = g.row.H.Denot} {Job = g.row.H-Job.Denot} hub s before c.posting.new.self o c.args.conn
           (g.L.Lots.drawn c.args.lots.now) (g.L.Lots.faults c.args.lots.now) (g.L.Lots.drawn c.args.lots.now) (g.L.Lots.faults c.args.lots.now) h x)
           (sym c.in-Posting.is) ((
@@ -157,9 +156,9 @@ pub returns-in-Deletion : goal.returns-in-Deletion
 returns-in-Deletion g c =
     let hub = meaning g.H.Hub.begin_of g.H.Hub.step_of in
     record {
-      done = on_ok_weaker c.deletion.result (λ run s before h st rests come none o at on up body is f suits_any seen_any.
+      done = on_ok_weaker c.deletion.result (λ run s before h st rests come none o at on up body here is f suits_any seen_any.
           let suits : Suits o.request f Deletion = subst (Suits o.request f) c.in-Deletion.is suits_any in
-          let seen : IsSeen f c.args.conn Deletion h = subst (λ x. IsSeen f c.args.conn x h) c.in-Deletion.is seen_any in
+          let seen : IsSeen s.live f c.args.conn Deletion h = subst (λ x. IsSeen s.live f c.args.conn x h) c.in-Deletion.is seen_any in
           subst (λ x. CarriesOut {H = g.row.H.Denot} {Job = g.row.H-Job.Denot} hub s before c.deletion.new.self o c.args.conn
           (g.L.Lots.drawn c.args.lots.now) (g.L.Lots.faults c.args.lots.now) (g.L.Lots.drawn c.args.lots.now) (g.L.Lots.faults c.args.lots.now) h x)
           (sym c.in-Deletion.is) ((

@@ -23,7 +23,7 @@ returns-in-Some g c = record {
       let there = and_from (is_made conn (notes h)) (not (is_removed conn (notes h))) known.made
       (not_from_false (is_removed conn (notes h)) known.held) in
       let poll : poll_of conn (notes h) ≡ Given (lane, c.in-Some.held.since) =
-      sym (cond-true (is_there conn (notes h)) (poll_of conn (notes h)) Absent there) ∙ sym (c.held.ensures (notes h) stands.front)
+      sym (cond-true (is_there conn (notes h)) (poll_of conn (notes h)) Absent there) ∙ sym (c.held.ensures (notes h) stands.front.stands)
       ∙ ap held_as c.in-Some.is in
       let used = used_there u conn h known (stands.orderly conn)
       (last_of_three (is_some (socket_of conn (notes h))) (is_some (lost_at conn (notes h))) (is_polling conn (notes h))

@@ -38,7 +38,7 @@ returns-in-Refused g c s before h st rests can none =
     (g.L.Lots.drawn c.args.lots.now) (g.L.Lots.faults c.args.lots.now) in
     subst (λ e. Handles {H = g.row.H.Denot} {Job = g.row.H-Job.Denot} hub s before c.args.self.now at at e h) (sym c.in-Refused.is)
     (heard_refusal {H = g.row.H.Denot} {Job = g.row.H-Job.Denot} hub s before c.args.self.now at
-    h c.in-Refused.lane c.in-Refused.status (subst
+    h c.in-Refused.lane c.in-Refused.refusal (subst
     (λ e. Standing {H = g.row.H.Denot} {Job = g.row.H-Job.Denot} hub s (lane_of (lost_in e)) before c.args.self.now h) c.in-Refused.is st))
 
 pub returns-in-Response : goal.returns-in-Response

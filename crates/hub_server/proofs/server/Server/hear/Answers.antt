@@ -13,7 +13,7 @@ returns-in-Some g c = λ s u before h stands is may.
     let x = c.in-Some.kept.now in
     let lanes = c.get_mut.follows.lender (record x { is_refused = true }) in
     hears_on {H = g.row.H.Denot} {Job = g.row.H-Job.Denot} hub s before old c.args.now c.args.event.now lanes h
-    (λ k. refused_one old.lanes lanes c.in-Refused.lane c.in-Refused.status k x c.in-Some.ensures.value
+    (λ k. refused_one old.lanes lanes c.in-Refused.lane c.in-Refused.refusal k x c.in-Some.ensures.value
     (c.get_mut.follows.holds (record x { is_refused = true }))
     ∙ ap (λ e. heard_lane e k (get nat_cmp old.lanes k)) (sym c.in-Refused.is))
     may.0 may.1 (subst (λ w. Standing {H = g.row.H.Denot} {Job = g.row.H-Job.Denot} hub s w before old h) is stands)
@@ -24,7 +24,7 @@ returns-in_default-get_mut g c = λ s u before h stands is may.
     let old = c.args.self.now in
     let lanes = c.get_mut.follows.lender-at-none in
     hears_on {H = g.row.H.Denot} {Job = g.row.H-Job.Denot} hub s before old c.args.now c.args.event.now lanes h
-    (λ k. refused_none old.lanes lanes c.in-Refused.lane c.in-Refused.status k c.in_default-get_mut.ensures.value c.get_mut.follows.holds-at-none
+    (λ k. refused_none old.lanes lanes c.in-Refused.lane c.in-Refused.refusal k c.in_default-get_mut.ensures.value c.get_mut.follows.holds-at-none
     ∙ ap (λ e. heard_lane e k (get nat_cmp old.lanes k)) (sym c.in-Refused.is))
     may.0 may.1 (subst (λ w. Standing {H = g.row.H.Denot} {Job = g.row.H-Job.Denot} hub s w before old h) is stands)
 

@@ -12,10 +12,10 @@ returns g c = record {
       elim c.match-held.branch [
         | in-Some w ↦ cuts_held {H = g.row.H.Denot} {Job = g.row.H-Job.Denot} c.args.conn
             (notes h) c.held.result w.in-Some.older c.args.self.now c.match-held.self
-            w.remove.new.self (c.held.ensures (notes h) st.front) can.known.made can.known.held w.in-Some.is w.remove.ensures.updates w.self-is
+            w.remove.new.self (c.held.ensures (notes h) st.front.stands) can.known.made can.known.held w.in-Some.is w.remove.ensures.updates w.self-is
         | in_default w ↦ cuts_unheld {H = g.row.H.Denot} {Job = g.row.H-Job.Denot} c.args.conn
             (notes h) c.held.result c.args.self.now c.match-held.self
-            (c.held.ensures (notes h) st.front) can.known.made can.known.held w.in_default.is w.self-is
+            (c.held.ensures (notes h) st.front.stands) can.known.made can.known.held w.in_default.is w.self-is
       ] in
       polled_stands {H = g.row.H.Denot} {Job = g.row.H-Job.Denot}
       (meaning g.H.Hub.begin_of g.H.Hub.step_of) s u before c.args.self.now c.match-held.self

@@ -7,12 +7,12 @@ use Rattle.hd_server.specs.Lives.{LaneLost, socket_of}
 use Rattle.hd_server.specs.Doings.{Notes, has_peer, may_resume, moment, notes, work}
 use Rattle.hd_server.specs.Plans.{removing_conn, onto}
 use Rattle.hj_jobs.specs.Meaning.{meaning}
-use Rattle.hn_server_front.specs.Stands as front
 use Rattle.hub_server.specs.declared.server.Server.{Server}
 use Rattle.hub_server.specs.Lanes.{poll_lane, settled}
-use Rattle.hub_server.specs.Servers.{Standing}
+use Rattle.hub_server.specs.Servers.{Standing, StandsFront}
 use Rattle.hub_server.proofs.Gone.{is_on}
 use Rattle.hub_server.proofs.GoneServer.{loses}
+use Rattle.hub_server.proofs.FrontNoted.{noted_front}
 use Rattle.hub_server.proofs.server.Server.lose.Goals as goal
 
 pub returns-then-granted : goal.returns-then-granted
@@ -38,8 +38,9 @@ returns-then-granted g c = record {
       c.args.conn c.args.lane h refl refl refl refl refl refl c.remove.ensures.updates.1
       (λ l e. c.remove.ensures.updates.2 l (unsigned_tied c.args.lane l ∙ e)) there
       (subst (λ x. Standing {H = g.row.H.Denot} hub s x before c.args.self.now h) is stands) present socket held
-      (subst (λ n. front.Stands c.lost.new.self (LaneLost c.args.conn c.args.lane n ∷ notes h)) stands.clock
-      ((c.lost.ensures (notes h) stands.front).0 (o.made (and_parts (is_some (settings_of c.args.conn (work h))) _ there).0))));
+      (subst (λ n. StandsFront s.live c.lost.new.self (LaneLost c.args.conn c.args.lane n ∷ notes h)) stands.clock
+      (noted_front s.live c.args.self.now.front c.lost.new.self c.args.conn (LaneLost c.args.conn c.args.lane c.args.self.now.moment) (notes h) c.lost.ensures
+      stands.front (o.made (and_parts (is_some (settings_of c.args.conn (work h))) _ there).0))));
 }
 
 pub returns-else-granted : goal.returns-else-granted

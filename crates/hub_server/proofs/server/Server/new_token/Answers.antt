@@ -1,80 +1,44 @@
-use Rattle.std.proofs.Common.{◌≡◌, ◌∷◌, ℕ, suc, true, false, length, Some, None, rules, refl, sym, ap, subst, ◌∙◌}
-use Rattle.std.specs.Ordering.{nat_cmp}
-use Rattle.std.specs.BTreeMap.{Updates}
+use Rattle.std.proofs.Common.{◌≡◌, ◌∷◌, ◌++◌, length, take, Some, None, rules, sym, ap, ◌∙◌}
 use Rattle.std.proofs.lemmas.Result.{on_ok_weaker}
-use Rattle.hd_server.specs.Lives.{is_busy, made}
-use Rattle.hd_server.specs.Texts.{negotiate_body, token_of}
-use Rattle.hd_server.specs.Doings.{Draws, Notes, moment, notes}
+use Rattle.hd_server.specs.Doings.{Draws}
 use Rattle.hj_jobs.specs.Meaning.{meaning}
-use Rattle.hn_server_front.specs.Stands as front
 use Rattle.hub_server.specs.Lanes.{settled}
-use Rattle.hub_server.specs.Servers.{Standing}
+use Rattle.hub_server.specs.Words.{reply_and_end}
 use Rattle.hub_server.proofs.LaneKept.{standing_draws}
 use Rattle.hub_server.proofs.OutcomeEntries.{token_made, token_refused}
-use Rattle.hub_server.proofs.OutcomeMakes.{come_made, making, noted_told, stands_named, stands_unnamed}
-use Rattle.hub_server.proofs.server.Server.new_token.Goals.{in-Some+in_ok-insert+in-Some-1, in-Some+in_ok-insert+in-None-1}
-use Rattle.hub_server.proofs.server.Server.new_token.Goals.{in_default-user}
+use Rattle.hub_server.proofs.OutcomeReplies.{ends, replied}
+use Rattle.hub_server.proofs.OutcomeMakes.{come_drawn, first_again, on_err, standing_words}
 use Rattle.hub_server.proofs.server.Server.new_token.Goals as goal
 
-pub returns-in_default : goal.returns-in_default
-returns-in_default g c =
+pub returns-in_default-clause-made : goal.returns-in_default-clause-made
+returns-in_default-clause-made g c = λ s before h st rests come none o at on named room.
     let hub = meaning g.H.Hub.begin_of g.H.Hub.step_of in
-    record {
-      made = on_ok_weaker c.reply.result (λ f s before h st rests come none o at on named room.
-          token_refused {H = g.row.H.Denot} {Job = g.row.H-Job.Denot} hub s before c.reply.new.self o h c.args.reconnect
-          (g.L.Lots.drawn c.args.lots.now) (g.L.Lots.drawn c.draw.new.self) (g.L.Lots.faults c.args.lots.now) (g.L.Lots.faults c.draw.new.self)
-          c.args.at.lane c.bare.result on c.bare.ensures c.in_default.ensures.trace c.in_default.ensures.cause.later c.in_default.ensures.cause.failed
-          (f s settled before (Draws None ∷ h) (standing_draws {H = g.row.H.Denot} {Job = g.row.H-Job.Denot} hub s settled before c.args.self.now
-          None h st)
-          (record { waits = come.waits; last = come.last; unrefused = come.unrefused; nobody = come.nobody }))) c.reply.ensures.said;
-    }
+    let ends_so = c.ends_after-ends.ensures ∙ ap (λ n. ends n c.args.at.is_last) (sym (ap (λ r. r.status) c.bare.ensures)) in
+    token_refused {H = g.row.H.Denot} {Job = g.row.H-Job.Denot} hub s before (record c.args.self.now { words = c.answer.new.self }) o h c.args.reconnect
+    (g.L.Lots.drawn c.args.lots.now) (g.L.Lots.drawn c.draw.new.self) (g.L.Lots.faults c.args.lots.now) (g.L.Lots.faults c.draw.new.self)
+    c.args.at.lane c.bare.result on c.bare.ensures c.in_default.ensures.trace c.in_default.ensures.cause.later c.in_default.ensures.cause.failed
+    (replied {H = g.row.H.Denot} {Job = g.row.H-Job.Denot} hub s settled before c.args.self.now c.args.at.lane c.args.at.is_last c.bare.result
+    (Draws None ∷ h) (standing_draws {H = g.row.H.Denot} {Job = g.row.H-Job.Denot} hub s settled before c.args.self.now None h st)
+    (come_drawn None c.args.at.lane c.args.at.is_last h come) c.answer.new.self
+    (c.in_ok-answer.ensures ∙ ap (λ b. c.args.self.now.words ++ reply_and_end c.args.at.lane c.bare.result b) ends_so))
 
-pub returns : goal.returns
-returns g c =
+pub returns-clause-made : goal.returns-clause-made
+returns-clause-made g c =
     let hub = meaning g.H.Hub.begin_of g.H.Hub.step_of in
-    record {
-      made = on_ok_weaker c.reply-2.result (λ f s before h st rests come none o at on named room.
-          let bytes = c.in-Ok.drawn in
-          let told_now = c.in-Ok-negotiate.made in
-          let sixteen : length bytes ≡ 16 = search rules in
-          let tells = c.in-Ok-negotiate.ensures.ok (notes h) st.front in
-          let k = suc (made (notes h)) in
-          let note = making (Some (token_of bytes k, c.args.reconnect)) k (moment h) in
-          let drew = Draws (Some bytes) ∷ h in
-          let drawn_st : Standing {H = g.row.H.Denot} {Job = g.row.H-Job.Denot} hub s settled before c.args.self.now drew =
-          standing_draws {H = g.row.H.Denot} {Job = g.row.H-Job.Denot} hub s settled before c.args.self.now (Some bytes) h st in
-          let in_front : front.Stands c.negotiate.new.self (note ∷ notes h) =
-          noted_told c.negotiate.new.self (notes h) told_now.conn c.args.self.now.moment (moment h) bytes c.args.reconnect tells.next st.clock tells.noted
-          in
-          let stands : Standing {H = g.row.H.Denot} {Job = g.row.H-Job.Denot} hub s settled before c.match-user-3.self (Notes note ∷ drew) =
-          elim c.match-user-3.branch [
-            | in-Some+in_ok-insert+in-Some-1 w ↦ subst
-                (λ v. Standing {H = g.row.H.Denot} {Job = g.row.H-Job.Denot} hub s settled before v (Notes note ∷ drew)) (sym w.self-is)
-                (stands_named {H = g.row.H.Denot} {Job = g.row.H-Job.Denot} hub s before c.args.self.now c.negotiate.new.self
-                (Some (token_of bytes k, c.args.reconnect)) (moment h) drew in_front drawn_st
-                w.insert.new.self w.in-Some.user
-                (subst (λ (n : ℕ). Updates nat_cmp c.args.self.now.callers w.insert.new.self n (Some w.in-Some.user)) tells.next
-                w.in_ok-insert.ensures.updates)
-                (named ∙ w.in-Some.is))
-            | in-Some+in_ok-insert+in-None-1 w ↦ subst
-                (λ v. Standing {H = g.row.H.Denot} {Job = g.row.H-Job.Denot} hub s settled before v (Notes note ∷ drew)) (sym w.self-is)
-                (stands_named {H = g.row.H.Denot} {Job = g.row.H-Job.Denot} hub s before c.args.self.now c.negotiate.new.self
-                (Some (token_of bytes k, c.args.reconnect)) (moment h) drew in_front drawn_st
-                w.insert.new.self w.in-Some.user
-                (subst (λ (n : ℕ). Updates nat_cmp c.args.self.now.callers w.insert.new.self n (Some w.in-Some.user)) tells.next
-                w.in_ok-insert.ensures.updates)
-                (named ∙ w.in-Some.is))
-            | in_default-user w ↦ subst (λ v. Standing {H = g.row.H.Denot} {Job = g.row.H-Job.Denot} hub s settled before v (Notes note ∷ drew))
-                (sym w.self-is)
-                (stands_unnamed {H = g.row.H.Denot} {Job = g.row.H-Job.Denot} hub s before c.args.self.now c.negotiate.new.self
-                (Some (token_of bytes k, c.args.reconnect)) (moment h) drew in_front drawn_st
-                (named ∙ w.in_default-user.is))
-          ] in
-          token_made {H = g.row.H.Denot} {Job = g.row.H-Job.Denot} hub s before c.reply-2.new.self o h c.args.reconnect
-          (g.L.Lots.drawn c.args.lots.now) (g.L.Lots.drawn c.draw.new.self) (g.L.Lots.faults c.args.lots.now) (g.L.Lots.faults c.draw.new.self)
-          c.args.at.lane bytes told_now.body at on sixteen c.in-Ok.ensures.trace c.in-Ok.ensures.cause.unfailed
-          (tells.body ∙ ap (λ (n : ℕ). negotiate_body n (token_of bytes n) c.args.reconnect) tells.next)
-          (f s settled before (Notes note ∷ drew) stands
-          (come_made (Some (token_of bytes k, c.args.reconnect)) k (moment h) c.args.at.lane c.args.at.is_last drew
-          (record { waits = come.waits; last = come.last; unrefused = come.unrefused; nobody = come.nobody })))) c.reply-2.ensures.said;
-    }
+    let bytes = c.in-Ok.drawn in
+    let words = c.args.self.now.words in
+    let unsaid : c.truncate.new.self ≡ words =
+    c.truncate.ensures ∙ ap (λ n. take n c.answer.new.self) c.count-said.ensures ∙ ap (take (length words)) c.in_ok-answer.ensures
+    ∙ first_again words (reply_and_end c.args.at.lane c.bare.result c.ends_after-ends.result) in
+    on_ok_weaker c.tell_token.result (λ f s before h st rests come none o at on named room.
+    let sixteen : length bytes ≡ 16 = search rules in
+    token_made {H = g.row.H.Denot} {Job = g.row.H-Job.Denot} hub s before c.tell_token.new.self o h c.args.reconnect
+    (g.L.Lots.drawn c.args.lots.now) (g.L.Lots.drawn c.draw.new.self) (g.L.Lots.faults c.args.lots.now) (g.L.Lots.faults c.draw.new.self)
+    bytes sixteen c.in-Ok.ensures.trace c.in-Ok.ensures.cause.unfailed
+    (f s before (Draws (Some bytes) ∷ h) (standing_words {H = g.row.H.Denot} {Job = g.row.H-Job.Denot} hub s settled before c.args.self.now
+    c.truncate.new.self (Draws (Some bytes) ∷ h) unsaid
+    (standing_draws {H = g.row.H.Denot} {Job = g.row.H-Job.Denot} hub s settled before c.args.self.now (Some bytes) h st))
+    rests (come_drawn (Some bytes) c.args.at.lane c.args.at.is_last h come) none o at on named room)) c.tell_token.ensures.told
+
+pub returns-clause-unfailed : goal.returns-clause-unfailed
+returns-clause-unfailed g c = on_err c.tell_token.result c.in-Ok.ensures.cause.unfailed

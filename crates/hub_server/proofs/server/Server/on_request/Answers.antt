@@ -1,9 +1,8 @@
-use Rattle.std.proofs.Common.{◌≡◌, List, Option, refl, sym, ap, subst, ◌∙◌}
+use Rattle.std.proofs.Common.{sym, subst, ◌∙◌}
 use Rattle.std.proofs.lemmas.Result.{on_ok_weaker}
 use Rattle.hd_server.specs.Laws.{Suits}
 use Rattle.hj_jobs.specs.Meaning.{meaning}
-use Rattle.hn_server_front.specs.Routes.{RoutesTo}
-use Rattle.hub_server.specs.Requests.{IsCaller, name_meant, text_asked}
+use Rattle.hub_server.specs.Requests.{IsCaller, text_asked}
 use Rattle.hub_server.proofs.OutcomeDecided.{handled_there}
 use Rattle.hub_server.proofs.OutcomeTokens.{said_by}
 use Rattle.hub_server.proofs.server.Server.on_request.Goals as goal
@@ -25,7 +24,7 @@ returns g c =
     (g.K.Keeper.faults was) (g.K.Keeper.holds now) (g.K.Keeper.answers now) (g.K.Keeper.faults now)) c.is_entry.ensures
     (subst (λ b. IsCaller (text_asked c.is_entry.result b) b caller (g.K.Keeper.holds was) (g.K.Keeper.answers was)
     (g.K.Keeper.faults was) (g.K.Keeper.holds now) (g.K.Keeper.answers now) (g.K.Keeper.faults now)) c.as_ref.ensures.value
-    c.in_ok-caller.ensures) in
+    c.in_ok-caller.ensures.who) in
     record {
       handled = on_ok_weaker c.carry_out.result (λ f.
           handled_there {H = g.row.H.Denot} {Job = g.row.H-Job.Denot} hub c.args.self.now c.carry_out.new.self c.args.lane r
@@ -35,6 +34,6 @@ returns g c =
           (g.K.Keeper.faults was) (g.K.Keeper.faults now) (g.L.Lots.drawn c.args.lots.now) (g.L.Lots.drawn c.carry_out.new.lots)
           (g.L.Lots.faults c.args.lots.now) (g.L.Lots.faults c.carry_out.new.lots) called
           c.named-named.result c.named-named.ensures.known c.named-named.ensures.made c.unwrap_or.result c.unwrap_or.ensures c.may_resume_named-resumable.result c.may_resume_named-resumable.ensures c.outcome-outcome.result c.outcome-outcome.ensures.by_rows
-          (λ s before h st rests come none o at on up body is seen suits view.
-          f s before h st rests come none o at on up body (is ∙ sym c.name_in.ensures) seen suits view)) c.carry_out.ensures.done;
+          (λ s before h st rests come none o at on up body here is seen suits view.
+          f s before h st rests come none o at on up body (here ∙ sym c.is_at_base-at_base.ensures) (is ∙ sym c.name_in.ensures) seen suits view)) c.carry_out.ensures.done;
     }

@@ -2,11 +2,13 @@ use Rattle.std.proofs.Common.{sym, ap, subst, ◌∙◌}
 use Rattle.std.specs.Ordering.{nat_cmp}
 use Rattle.std.specs.BTreeMap.{get}
 use Rattle.std.specs.Cmp.{unsigned_tied}
+use Rattle.hd_server.specs.Lives.{Removed}
 use Rattle.hd_server.specs.Doings.{notes, work}
 use Rattle.hj_jobs.specs.Meaning.{meaning}
-use Rattle.hn_server_front.specs.Stands as front
 use Rattle.hub_machine.specs.Machines.{StandsMachine}
+use Rattle.hub_server.specs.Servers.{StandsFront}
 use Rattle.hub_server.proofs.GoneServer.{lets_go, no_peer}
+use Rattle.hub_server.proofs.FrontNoted.{noted_front}
 use Rattle.hub_server.proofs.server.Server.remove_conn.Goals as goal
 
 pub returns : goal.returns
@@ -33,5 +35,6 @@ returns g c = record {
       (λ none. subst (λ m. StandsMachine {H = g.row.H.Denot} hub m (work h)) (sym (c.remove_conn.ensures.none
       (no_peer {H = g.row.H.Denot} {Job = g.row.H-Job.Denot} hub c.detach_lanes.new.self.machine (work h) c.args.conn
       (subst (λ m. StandsMachine {H = g.row.H.Denot} hub m (work h)) (sym left.machine) stands.machine) none) ∙ left.machine)) stands.machine)
-      ((c.closed.ensures (notes h) (subst (λ f. front.Stands f (notes h)) (sym left.front) stands.front)).0 known.made);
+      (noted_front s.live c.detach_lanes.new.self.front c.closed.new.self c.args.conn (Removed c.args.conn) (notes h) c.closed.ensures
+      (subst (λ f. StandsFront s.live f (notes h)) (sym left.front) stands.front) known.made);
 }

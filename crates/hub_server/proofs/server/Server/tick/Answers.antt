@@ -21,7 +21,7 @@ pub returns-in_default : goal.returns-in_default
 returns-in_default g c = λ s u before h st sound there.
     muted {H = g.row.H.Denot} (meaning g.H.Hub.begin_of g.H.Hub.step_of) s u before c.args.self.now c.args.conn h st there
     c.is_attached.result c.is_attached.ensures.there c.if-not-is_attached.false c.tick.result c.tick.new.self c.tick.ensures.ticks c.if-not-tick.false
-    (sym c.in_default.is ∙ c.lane.ensures (notes h) st.front)
+    (sym c.in_default.is ∙ c.lane.ensures (notes h) st.front.stands)
 
 pub returns-in_ok-shut : goal.returns-in_ok-shut
 returns-in_ok-shut g c = λ s u before h st sound there.
@@ -30,7 +30,7 @@ returns-in_ok-shut g c = λ s u before h st sound there.
     (lost_shut {H = g.row.H.Denot} (meaning g.H.Hub.begin_of g.H.Hub.step_of) s u before c.args.self.now c.args.conn h st there
     c.is_attached.result c.is_attached.ensures.there c.if-not-is_attached.false c.tick.result c.tick.new.self c.tick.ensures.ticks sound
     c.if-not-tick.false
-    c.in-Some.lane (sym c.in-Some.is ∙ c.lane.ensures (notes h) st.front) c.may_resume-granted.result c.may_resume-granted.ensures
+    c.in-Some.lane (sym c.in-Some.is ∙ c.lane.ensures (notes h) st.front.stands) c.may_resume-granted.result c.may_resume-granted.ensures
     c.may_shut-shuts.result c.may_shut-shuts.ensures c.lose.new.self c.lose.ensures.lost c.if-shuts.true)
 
 pub returns-else-shuts : goal.returns-else-shuts
@@ -38,5 +38,5 @@ returns-else-shuts g c = λ s u before h st sound there.
     lost_shut_before {H = g.row.H.Denot} (meaning g.H.Hub.begin_of g.H.Hub.step_of) s u before c.args.self.now c.args.conn h st there
     c.is_attached.result c.is_attached.ensures.there c.if-not-is_attached.false c.tick.result c.tick.new.self c.tick.ensures.ticks sound
     c.if-not-tick.false
-    c.in-Some.lane (sym c.in-Some.is ∙ c.lane.ensures (notes h) st.front) c.may_resume-granted.result c.may_resume-granted.ensures
+    c.in-Some.lane (sym c.in-Some.is ∙ c.lane.ensures (notes h) st.front.stands) c.may_resume-granted.result c.may_resume-granted.ensures
     c.may_shut-shuts.result c.may_shut-shuts.ensures c.lose.new.self c.lose.ensures.lost c.if-shuts.false

@@ -18,7 +18,7 @@ returns g c = record {
       let conn = c.args.conn in
       let older = c.lane-older.result in
       let socket : older ≡ socket_of conn (notes h) = lane_is conn (notes h) older can.known.made can.known.held
-      (c.lane-older.ensures (notes h) st.front) in
+      (c.lane-older.ensures (notes h) st.front.stands) in
       let shut : Standing {H = g.row.H.Denot} {Job = g.row.H-Job.Denot} hub s settled before c.match-older.self (onto (shutting_some older h) h) =
       elim c.match-older.branch [
         | in-Some+in_ok-shut w ↦
@@ -36,7 +36,7 @@ returns g c = record {
             (sym w.in_default.is) st)
       ] in
       stands_over {H = g.row.H.Denot} {Job = g.row.H-Job.Denot} hub s before c.attach_socket.new.self o conn h c.is_resumable_promise-resumable.result older socket
-      (promised_is conn (notes h) c.is_resumable_promise-resumable.result can.known.made can.known.held (c.is_resumable_promise-resumable.ensures (notes h) st.front))
+      (promised_is conn (notes h) c.is_resumable_promise-resumable.result can.known.made can.known.held (c.is_resumable_promise-resumable.ensures (notes h) st.front.stands))
       (f s settled before (onto (shutting_some older h) h) shut refl (shut_come c.args.at.lane older h c.args.at.is_last come)
       (shut_stands c.args.at.lane older h conn can) o (shut_moment c.args.at.lane older h o.now at) on up)) c.attach_socket.ensures.stands;
 }
