@@ -22,7 +22,7 @@ import tty
 HERE = pathlib.Path(__file__).resolve().parent
 sys.path.insert(0, str(HERE / "clients"))
 from raw import Ended, Raw  # noqa: E402
-from serving import Serving  # noqa: E402
+from serving import MOST_LIVE, OTHER_DESCRIPTORS, Serving, few_descriptors  # noqa: E402
 
 SECONDS = 120
 USUAL_PORT = 8080
@@ -195,7 +195,7 @@ def answer_at_last(port):
             time.sleep(0.1)
 
 
-def few_descriptors(program):
+def crowded(program):
     """Whether of twice as many connections as a server has descriptors the half is shut at once, and how it answers when all are gone."""
     with Serving(program) as server, contextlib.ExitStack() as opened:
         resource.prlimit(server.process.pid, resource.RLIMIT_NOFILE, (FEW_DESCRIPTORS, FEW_DESCRIPTORS))
@@ -207,14 +207,25 @@ def few_descriptors(program):
         return half, answer_at_last(server.port)
 
 
+def said_at_start(program, words, limit):
+    """The exit status of a server with this limit of descriptors, its output and what it says on standard error. A port that the system
+    chose is PORT."""
+    limits = lambda: resource.setrlimit(resource.RLIMIT_NOFILE, (limit, limit))  # noqa: E731
+    status, output, error = run(program, f"serve --port 0 --turns 0 {words}", preexec_fn=limits)
+    return status, output, re.sub(r":[1-9]\d*(?=/)", ":PORT", error.decode()).splitlines()
+
+
 def says_where(words, address):
-    """Whether a server of these words says on standard error alone that it listens at this address, and that is all."""
+    """A server of these words says on standard error where it listens, and that is all, unless this machine lets it have few descriptors."""
+    limit = min(MOST_LIVE + OTHER_DESCRIPTORS, resource.getrlimit(resource.RLIMIT_NOFILE)[1])
+    wanted = [f"sr: listening on http://{address}:PORT{BASE_SAID}", *few_descriptors(limit)]
+    return lambda program: said_at_start(program, words, limit), (0, SERVES, wanted)
 
-    def case(program):
-        status, output, error = run(program, f"serve --port 0 --turns 0 {words}")
-        return status, output, re.fullmatch(rf"sr: listening on http://{re.escape(address)}:[1-9]\d*{BASE_SAID}\n", error.decode()) is not None
 
-    return case
+def says_few(limit, live, words=""):
+    """A server that may have so many descriptors says so if they are few for its connections."""
+    wanted = ["sr: listening on http://127.0.0.1:PORT/hub", *few_descriptors(limit, live)]
+    return lambda program: said_at_start(program, words, limit), (0, SERVES, wanted)
 
 
 def another_base(program):
@@ -251,10 +262,13 @@ CASES = {
     "a port that is taken, at all addresses": of_port("0.0.0.0", "serve --listen 0.0.0.0 --port PORT", (5, SERVES, True)),
     "a port that is taken, in IPv6": of_port("::1", "serve --listen ::1 --port PORT", (5, SERVES, True)),
     "a port that is taken, and no turn": of_port("127.0.0.1", "serve --port PORT --turns 0", (0, SERVES, False)),
-    "where it listens": (says_where("--base /chat/hub", "127.0.0.1"), (0, SERVES, True)),
-    "where it listens, at all addresses": (says_where("--base /chat/hub --listen 0.0.0.0", "0.0.0.0"), (0, SERVES, True)),
-    "where it listens, in IPv6": (says_where("--base /chat/hub --listen ::1", "[::1]"), (0, SERVES, True)),
-    "few descriptors": (few_descriptors, (True, 200)),
+    "where it listens": says_where("--base /chat/hub", "127.0.0.1"),
+    "where it listens, at all addresses": says_where("--base /chat/hub --listen 0.0.0.0", "0.0.0.0"),
+    "where it listens, in IPv6": says_where("--base /chat/hub --listen ::1", "[::1]"),
+    "few descriptors": says_few(1_024, MOST_LIVE),
+    "few descriptors for some more connections": says_few(1_024, 961, "--live 961"),
+    "descriptors enough for some connections": says_few(1_024, 960, "--live 960"),
+    "more connections than descriptors": (crowded, (True, 200)),
     "another base": (another_base, [200, 404, 404]),
 }
 

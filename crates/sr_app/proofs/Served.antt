@@ -17,7 +17,7 @@ use Rattle.sr_app.proofs.Told.{bytes_of, appended_nothing, text_is_told}
 -- ---- what was written
 
 ends_by : (asked : Serving) (b n : serve.Environment) (input : Option (List ℕ)) (faults : ℕ) (result : Result Unit ServeError)
-    → serve.Ends asked.base asked.resend asked.turns b n result
+    → serve.Ends asked.base asked.resend asked.live asked.turns b n result
     → Ends serving (status_of_end result) (input_output input faults b.holds b.sink_faults) (input_output input faults n.holds n.sink_faults)
 ends_by asked b n input faults (Ok done) ends = record {
   done = λ is. (tt, (bytes_of input, serving_line ends.0.rows, text_is_told input, (ends.0.rows, refl), ends.0.line));
@@ -90,7 +90,7 @@ serving_ends asked status b n input faults ends =
 
 -- ---- faults
 
-sink_kept : (asked : Serving) (b n : serve.Environment) (result : Result Unit ServeError) → serve.Ends asked.base asked.resend asked.turns b n result
+sink_kept : (asked : Serving) (b n : serve.Environment) (result : Result Unit ServeError) → serve.Ends asked.base asked.resend asked.live asked.turns b n result
     → (status_of_end result ≡ WriteFault → ⊥) → n.sink_faults ≡ b.sink_faults
 sink_kept asked b n (Ok done) ends differ = ends.1
 sink_kept asked b n (Err end.Door) ends differ = ends.1
@@ -98,7 +98,7 @@ sink_kept asked b n (Err end.Keeper) ends differ = ends.1
 sink_kept asked b n (Err end.Write) ends differ = absurd (differ refl)
 sink_kept asked b n (Err end.NoMemory) ends differ = ends.1
 
-door_kept : (asked : Serving) (b n : serve.Environment) (result : Result Unit ServeError) → serve.Ends asked.base asked.resend asked.turns b n result
+door_kept : (asked : Serving) (b n : serve.Environment) (result : Result Unit ServeError) → serve.Ends asked.base asked.resend asked.live asked.turns b n result
     → (status_of_end result ≡ DoorFault → ⊥) → n.door_faults ≡ b.door_faults
 door_kept asked b n (Ok done) ends differ = ends.2
 door_kept asked b n (Err end.Door) ends differ = absurd (differ refl)
@@ -120,7 +120,7 @@ line_is_some : (rows : ℕ) → serving_line rows ≡ [] → ⊥
 line_is_some rows none = cc
 
 touched_by : {K : Type 0} (holds : K → Option (List ℕ)) (old new : K) (asked : Serving) (b n : serve.Environment) (result : Result Unit ServeError)
-    → b.holds ≡ holds old → n.holds ≡ holds new → serve.Ends asked.base asked.resend asked.turns b n result
+    → b.holds ≡ holds old → n.holds ≡ holds new → serve.Ends asked.base asked.resend asked.live asked.turns b n result
     → (status_of_end result ≡ KeeperFault → new ≡ old)
     → (status_of_end result ≡ NoMemory → (new ≡ old) ⊎ ((rows : ℕ) × Appends (holds old) (holds new) (serving_line rows)))
     → (status_of_end result ≡ WriteFault → ⊥) → IsTouchedByBytesAlone holds old new

@@ -258,4 +258,4 @@ status_of_end (Err error) = status_of_error error
 -- what serving did that ended with this status
 abbrev pub EndsServing : Serving → Status → serve.Environment → serve.Environment → Type 0
 EndsServing asked status before now =
-    (result : Result Unit ServeError) × (status ≡ status_of_end result) × serve.Ends asked.base asked.resend asked.turns before now result
+    (result : Result Unit ServeError) × (status ≡ status_of_end result) × serve.Ends asked.base asked.resend asked.live asked.turns before now result

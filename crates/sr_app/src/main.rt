@@ -4,17 +4,24 @@
 mod run;
 
 use crate::run::{Status, run};
+use hd_server::LiveLimit;
 use hk_latest::LatestKeeper;
 use hv_value::Text;
 use hw_door::{Door, MemoryDoor, RandLots};
 use hw_io::{StdSink, StdSource};
 use hw_mio::MioWires;
 use hw_net::NetDoor;
+use libc::types::rlimit;
+use libc::{RLIMIT_NOFILE, getrlimit};
 use sr_words::{Settings, WordsError, complaint, settings};
 use std::alloc::AllocError;
 use std::net::SocketAddr;
 use std::process::ExitCode;
 use std::{env, io};
+
+/// How many descriptors a server has beside those of its live connections: of its input and output, its listener, and lanes that begin
+/// or end.
+const OTHER_DESCRIPTORS: u64 = 64;
 
 /// The words of the command line, without the program's name. Where one of them isn't UTF-8 they are no command, as
 /// if there were none.
@@ -26,6 +33,23 @@ fn words(rt: &HostRuntime) -> Result<Vec<String>, AllocError> {
     }
 }
 
+/// Says on standard error if the system lets the program have fewer descriptors than so many live connections take.
+fn warn_of_descriptors(rt: &HostRuntime, live: u64) {
+    let mut limit = rlimit {
+        rlim_cur: 0,
+        rlim_max: 0,
+    };
+    if getrlimit(RLIMIT_NOFILE, &mut limit) != 0 {
+        return;
+    }
+    let count = limit.rlim_cur;
+    if count.saturating_sub(OTHER_DESCRIPTORS) < live {
+        let _ = eprintln!(rt;
+            "sr: {count} descriptors are few for {live} live connections: raise the limit (ulimit -n)"
+        );
+    }
+}
+
 /// Runs `serve` over the sockets of this address, with its hub at this path. Where it listens is written on standard error or, if the
 /// port can't be had, the reason.
 fn run_at(
@@ -33,11 +57,13 @@ fn run_at(
     words: &[String],
     address: SocketAddr,
     base: &Text,
+    live: LiveLimit,
 ) -> Result<u8, AllocError> {
     let alloc = rt.alloc();
     let wires = MioWires::listen(rt, alloc, address.ip(), address.port())?;
     if let Some(address) = wires.address() {
         let _ = eprintln!(rt; "sr: listening on http://{address}{}", base.as_str());
+        warn_of_descriptors(rt, live.most());
     }
     let mut door = NetDoor::start(alloc, wires);
     let status = run_over(rt, words, &mut door)?;
@@ -90,14 +116,15 @@ fn run_words(rt: &HostRuntime) -> Result<u8, AllocError> {
 
 /// Runs a command with these settings, which only `serve` has.
 fn run_settings(rt: &HostRuntime, words: &[String], settings: &Settings) -> Result<u8, AllocError> {
-    let (Some(port), Some(base), Some(ip)) = (
+    let (Some(port), Some(base), Some(ip), Some(live)) = (
         settings.port,
         settings.base.as_ref(),
         settings.listen,
+        settings.live,
     ) else {
         return run_unheard(rt, words);
     };
-    run_at(rt, words, SocketAddr::new(ip, port), base)
+    run_at(rt, words, SocketAddr::new(ip, port), base, live)
 }
 
 /// Runs a command over a door at which nothing is heard.

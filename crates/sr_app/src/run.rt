@@ -246,6 +246,7 @@ fn run_serve<K: Sink, D: Door, R: Keeper, L: Lots>(
         alloc,
         serving.base,
         serving.resend,
+        serving.live,
         serving.turns,
         out,
         door,

@@ -42,13 +42,13 @@ cut_off peers delivers s server at last (Some fault.NoMemory) es h serves end = 
 }
 
 -- the line was written, and a server that did nothing before served
-pub serves_by : ServersArePeers ServeJob → HoldsOverBytes → {H : Type 0} (base : List ℕ) (resend : ResendLimits) (turns rows : ℕ) (why : Option ServeFault) (before now : Environment) (at : Outside)
+pub serves_by : ServersArePeers ServeJob → HoldsOverBytes → {H : Type 0} (base : List ℕ) (resend : ResendLimits) (live turns rows : ℕ) (why : Option ServeFault) (before now : Environment) (at : Outside)
     (server after : Server H ServeJob) → IfSome before.kept.holds (λ content. rows ≡ row_count content.rows)
     → Appends before.holds now.holds (serving_line rows) → at ≡ counted rows before.kept
-    → ((s : Setup) → IsSetup s base resend → StandsServer serve_hub s server [])
+    → ((s : Setup) → IsSetup s base resend live → StandsServer serve_hub s server [])
     → HasServed serve_hub server after at now.kept before.trace now.trace before.heard_at now.heard_at turns why
-    → Serves base resend turns why before now
-serves_by peers delivers base resend turns rows why before now at server after are_rows line same stands has = record {
+    → Serves base resend live turns why before now
+serves_by peers delivers base resend live turns rows why before now at server after are_rows line same stands has = record {
   rows = rows;
   are_rows = are_rows;
   line = line;
@@ -71,10 +71,10 @@ counted_by rows holds holds' answers answers' faults faults' drawn failures same
     rw (same_holds, same_answers, same_faults) refl
 
 -- the server ended before its turns were done
-pub serving_failed : (base : List ℕ) (resend : ResendLimits) (turns : ℕ) (before now : Environment) (why : ServeFault) → Serves base resend turns (Some why) before now
-    → now.sink_faults ≡ before.sink_faults → IsCausedBy {T = Unit} before.door_faults now.door_faults (Err why) → Ends base resend turns before now (Err (error_of_server why))
-serving_failed base resend turns before now fault.Door serves whole cause = (serves, whole, cause.1)
-serving_failed base resend turns before now fault.NoMemory serves whole cause = (inr serves, whole, cause)
+pub serving_failed : (base : List ℕ) (resend : ResendLimits) (live turns : ℕ) (before now : Environment) (why : ServeFault) → Serves base resend live turns (Some why) before now
+    → now.sink_faults ≡ before.sink_faults → IsCausedBy {T = Unit} before.door_faults now.door_faults (Err why) → Ends base resend live turns before now (Err (error_of_server why))
+serving_failed base resend live turns before now fault.Door serves whole cause = (serves, whole, cause.1)
+serving_failed base resend live turns before now fault.NoMemory serves whole cause = (inr serves, whole, cause)
 
 pub not_keeper : (why : ServeFault) → error_of_server why ≡ end.Keeper → ⊥
 not_keeper fault.Door is = cc

@@ -63,7 +63,7 @@ pub record IsCut (at : Outside) (last : ℕ) (h : List ServerEvent) : Type 0 whe
 
 -- The line of the rows was written. A server of this base, whose ends hold so much, heard these, each after its wait, and gave this: all of its turns, or as many as
 -- there were until this fault
-pub record Serves (base : List ℕ) (resend : ResendLimits) (turns : ℕ) (why : Option ServeFault) (before now : Environment) : Type 0 where
+pub record Serves (base : List ℕ) (resend : ResendLimits) (live turns : ℕ) (why : Option ServeFault) (before now : Environment) : Type 0 where
   pub rows : ℕ
   pub are_rows : IfSome before.kept.holds (λ content. rows ≡ row_count content.rows)
   pub line : Appends before.holds now.holds (serving_line rows)
@@ -72,7 +72,7 @@ pub record Serves (base : List ℕ) (resend : ResendLimits) (turns : ℕ) (why :
   pub given : List Given
   pub trace : TellsMore before.trace now.trace heard waits given
   pub count : AreTurns why turns (length heard)
-  pub serves : (s : Setup) → IsSetup s base resend → ServesOn serve_hub s (is_some why)
+  pub serves : (s : Setup) → IsSetup s base resend live → ServesOn serve_hub s (is_some why)
       (IsServed (counted rows before.kept) now.kept now.heard_at) (IfMemoryEnds why (IsCut (counted rows before.kept) now.heard_at)) [] heard waits given
 
 -- a first part of the line of the rows was written
@@ -110,14 +110,14 @@ abbrev pub IsHeard : Environment → Environment → Type 0
 IsHeard before now = now.door_faults ≡ before.door_faults
 
 -- by how it ended. The output's and the door's counts of faults rise only in the call that the answer tells of
-abbrev pub Ends : List ℕ → ResendLimits → ℕ → Environment → Environment → Result Unit ServeError → Type 0
-Ends base resend turns before now (Ok done) = Serves base resend turns None before now × IsWhole before now × IsHeard before now
-Ends base resend turns before now (Err end.Door) = Serves base resend turns (Some fault.Door) before now × IsWhole before now × Rose before.door_faults now.door_faults
-Ends base resend turns before now (Err end.Keeper) =
+abbrev pub Ends : List ℕ → ResendLimits → ℕ → ℕ → Environment → Environment → Result Unit ServeError → Type 0
+Ends base resend live turns before now (Ok done) = Serves base resend live turns None before now × IsWhole before now × IsHeard before now
+Ends base resend live turns before now (Err end.Door) = Serves base resend live turns (Some fault.Door) before now × IsWhole before now × Rose before.door_faults now.door_faults
+Ends base resend live turns before now (Err end.Keeper) =
     IsUntouched before now × IsWhole before now × IsHeard before now × HasFailed before.kept now.kept
-Ends base resend turns before now (Err end.Write) = BreaksOff before now × IsHeard before now × Rose before.sink_faults now.sink_faults
-Ends base resend turns before now (Err end.NoMemory) =
-    ((IsUntouched before now × IsAskedAtMost before.kept now.kept) ⊎ Serves base resend turns (Some fault.NoMemory) before now) × IsWhole before now × IsHeard before now
+Ends base resend live turns before now (Err end.Write) = BreaksOff before now × IsHeard before now × Rose before.sink_faults now.sink_faults
+Ends base resend live turns before now (Err end.NoMemory) =
+    ((IsUntouched before now × IsAskedAtMost before.kept now.kept) ⊎ Serves base resend live turns (Some fault.NoMemory) before now) × IsWhole before now × IsHeard before now
 
 -- ---- faults below
 

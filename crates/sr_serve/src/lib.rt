@@ -2,12 +2,12 @@
 //! through its door.
 //!
 //! ```text
-//! serve_hub(alloc, base, resend, turns, &mut out, &mut door, &mut keeper, &mut lots)?
+//! serve_hub(alloc, base, resend, live, turns, &mut out, &mut door, &mut keeper, &mut lots)?
 //! ```
 //!
 //! Proved ([`serve_hub`]): what it writes, how many events it hears, and that what it gives the door for them is what a server of
-//! this base says whose ends hold so much (`hd_server`), over any door, keeper, lots and sink. What each connection did there is what a peer can do, and in every
-//! world of which it is the server's side each message comes once and in order (`specs/Sides`).
+//! this base says whose ends hold so much and of whose connections so many live (`hd_server`), over any door, keeper, lots and sink. What each connection did
+//! there is what a peer can do, and in every world of which it is the server's side each message comes once and in order (`specs/Sides`).
 //!
 //! The crate doesn't know sockets, clocks or the words of a command line.
 #![tactic(auto)]

@@ -7,6 +7,7 @@ ghost use Rattle.hub_server.specs.Steps.{outside};
 ghost use Rattle.sr_serve.specs.Serving.{Ends, environment, serving_line, error_of_keeper, error_of_server};
 ghost use Rattle.sr_serve.specs.declared.serving.ServeError.TheVariants as end;
 
+use hd_server::LiveLimit;
 use hk_keeper::{KeepError, Keeper};
 use hub_demo::{ServeHub, ServeJob};
 use hub_server::{ResendLimits, ServeFault, Server, serve};
@@ -79,8 +80,8 @@ fn tell_rows<K: Sink>(alloc: Global, rows: u64, out: &mut K) -> Result<(), Serve
 }
 
 /// Serves the calculator and rooms below `base` for `turns` events, each of which is awaited for 100 milliseconds at most, or not at all
-/// while a job is due. `resend` says how much the ends of its connections hold. First it asks the keeper how many rows there are and writes
-/// the line `serving R`.
+/// while a job is due. `resend` says how much the ends of its connections hold, and `live` how many of these may live. First it asks the keeper how
+/// many rows there are and writes the line `serving R`.
 ///
 /// # Errors
 ///
@@ -91,13 +92,14 @@ pub fn serve_hub<K: Sink, D: Door, R: Keeper, L: Lots>(
     alloc: Global,
     base: Text,
     resend: ResendLimits,
+    live: LiveLimit,
     turns: u64,
     out: &mut K,
     door: &mut D,
     keeper: &mut R,
     lots: &mut L,
 ) -> Result<(), ServeError>
-    ensures ends { Ends base resend turns
+    ensures ends { Ends base resend live turns
         (environment (K.holds out.old) (K.faults out.old) (D.trace door.old) (D.moment door.old) (D.faults door.old)
         (outside (R.holds keeper.old) (R.answers keeper.old) (R.faults keeper.old) (L.drawn lots.old) (L.faults lots.old)))
         (environment (K.holds out.new) (K.faults out.new) (D.trace door.new) (D.moment door.new) (D.faults door.new)
@@ -110,7 +112,7 @@ pub fn serve_hub<K: Sink, D: Door, R: Keeper, L: Lots>(
     hd_server::servers_are_peers::<ServeJob>();
     hd_delivery::delivery_over_bytes();
     let rows = keeper.rows()?;
-    let mut server = Server::start(alloc, base, resend)?;
+    let mut server = Server::start(alloc, base, resend, live)?;
     tell_rows(alloc, rows, out)?;
     serve(
         alloc,

@@ -11,6 +11,7 @@ use Rattle.hub_server.specs.Resend.{ResendLimits}
 use Rattle.sr_words.specs.declared.serving.Serving.{Serving}
 use Rattle.sr_words.specs.Clap.{IsNumber, SaysNumber}
 use Rattle.sr_words.specs.Resends.{IsResend}
+use Rattle.sr_words.specs.Lives.{IsLive}
 use Rattle.sr_words.specs.Words.{SaysServing, codec_name, serve_options}
 use Rattle.sr_words.proofs.Options.{agree}
 
@@ -45,12 +46,16 @@ same_resend texts a b x y =
     let bytes : a.bytes ≡ b.bytes = one_number 64 texts.1 a.bytes b.bytes x.bytes_are y.bytes_are in
     λ i. record { count = count i; bytes = bytes i }
 
+-- a text says one of how many may live
+same_live : (text : Text) (a b : ℕ) → IsLive text a → IsLive text b → a ≡ b
+same_live text a b x y = one_number 64 text a b x.count_is y.count_is
+
 -- rows ask for one server
 pub same_serving : (rows : List Row) (a b : Serving) → SaysServing rows a → SaysServing rows b → a ≡ b
 unfolding SaysServing
 same_serving rows a b x y =
     let same = agree serve_options rows a b (
       λ rows. one_number 16 _,
-      (λ rows s t is is_too. is.1 ∙ sym is_too.1, (λ rows. one_number 64 _, (λ rows. IsIpText_unique _, (λ rows. same_resend _, tt)))),
+      (λ rows s t is is_too. is.1 ∙ sym is_too.1, (λ rows. one_number 64 _, (λ rows. IsIpText_unique _, (λ rows. same_resend _, (λ rows. same_live _, tt))))),
     ) x y in
-    λ i. record { port = same.0 i; base = same.1.0 i; turns = same.1.1.0 i; listen = same.1.1.1.0 i; resend = same.1.1.1.1.0 i }
+    λ i. record { port = same.0 i; base = same.1.0 i; turns = same.1.1.0 i; listen = same.1.1.1.0 i; resend = same.1.1.1.1.0 i; live = same.1.1.1.1.1.0 i }

@@ -1,5 +1,4 @@
 -- How much the ends of a server hold, as two texts say it.
-use Rattle.std.specs.Prelude.{ℕ}
 use Rattle.clap.specs.Words.{Text}
 use Rattle.hub_server.specs.Resend.{ResendLimits, AreResendLimits}
 use Rattle.sr_words.specs.Clap.{IsNumber}

@@ -14,6 +14,7 @@ use Rattle.sr_words.specs.Base.{IsBase}
 use Rattle.sr_words.specs.Clap.{Gives, IsNumber, SaysNumber, Takes, bare_app, required}
 use Rattle.sr_words.specs.Options.{Choice, SayAll, choice, choice_of_two, told_of, with_options}
 use Rattle.sr_words.specs.Resends.{IsResend}
+use Rattle.sr_words.specs.Lives.{IsLive}
 
 abbrev pub codec_name : Codec → Text
 codec_name Json = codes "json"
@@ -31,6 +32,7 @@ serve_options =
     ∷ choice (codes "turns") (codes "18446744073709551615") (IsNumber 64) (λ serving. serving.turns)
     ∷ choice (codes "listen") (codes "127.0.0.1") IsIpText (λ serving. serving.listen)
     ∷ choice_of_two (codes "resend") (codes "1024", codes "100000") IsResend (λ serving. serving.resend)
+    ∷ choice (codes "live") (codes "10000") IsLive (λ serving. serving.live)
     ∷ []
 
 -- what clap is told of the words after each name
@@ -86,8 +88,9 @@ settings_of (Serve serving) = record {
   port = Some serving.port;
   base = Some serving.base;
   listen = Some serving.listen;
+  live = Some serving.live;
 }
-settings_of _ = record { port = None; base = None; listen = None }
+settings_of _ = record { port = None; base = None; listen = None; live = None }
 
 -- these are the settings of the one command that the words ask for
 abbrev pub AreSettings : List (String Global) → Settings → Type 0

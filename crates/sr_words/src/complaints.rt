@@ -1,7 +1,7 @@
 //! What is said to a person whose words are no command. Nothing is promised of it: it is for reading.
 
 use crate::error::WordsError;
-use crate::reading::{address, base, number, port, resend};
+use crate::reading::{address, base, live, number, port, resend};
 use crate::serving::SERVE_OPTIONS;
 use crate::words::{matches_in, serve_command, text, texts};
 use clap::ArgMatches;
@@ -42,7 +42,8 @@ fn form_of(name: &str) -> Option<&'static str> {
         "convert" => Some("FROM TO, which are json and pack, or pack and json"),
         "serve" => Some(
             "--port N (up to 65535), --base PATH (it begins with / and doesn't end with one), --turns N (of 64 bits), \
-             --listen ADDRESS (an IP address), --resend COUNT BYTES (1 to 65536, and 32773 to 524288)",
+             --listen ADDRESS (an IP address), --resend COUNT BYTES (1 to 65536, and 32773 to 524288), \
+             --live N (1 to 10000)",
         ),
         _ => None,
     }
@@ -94,6 +95,9 @@ fn refused_later(matches: &ArgMatches) -> Option<&'static str> {
     }
     if resend(texts(matches, "resend", ("1024", "100000"))).is_err() {
         return Some("resend");
+    }
+    if live(text(matches, "live", "10000")).is_err() {
+        return Some("live");
     }
     None
 }

@@ -7,9 +7,11 @@ ghost use Rattle.std.specs.declared.net.ip_addr.IpAddr.{IpAddr};
 ghost use Rattle.sr_words.specs.Base.{IsBase, IsPath, is_path_byte};
 ghost use Rattle.sr_words.specs.Clap.{IsNumber};
 ghost use Rattle.hub_server.specs.Resend.{ResendLimits as LimitsMeant};
+ghost use Rattle.sr_words.specs.Lives.{IsLive};
 ghost use Rattle.sr_words.specs.Resends.{IsResend};
 
 use crate::error::WordsError;
+use hd_server::LiveLimit;
 use hub_server::ResendLimits;
 use hv_value::Text;
 use std::alloc::Global;
@@ -97,6 +99,18 @@ pub(crate) fn resend(texts: (&str, &str)) -> Result<ResendLimits, WordsError>
     let bytes = number(texts.1)? as usize;
     match ResendLimits::of(count, bytes) {
         Some(resend) => Ok(resend),
+        None => Err(WordsError::NoCommand),
+    }
+}
+
+/// How many connections may live by a text. `NoCommand` if it is no number, or none from 1 to 10,000.
+pub(crate) fn live(text: &str) -> Result<LiveLimit, WordsError>
+    ensures said { IfOk result (IsLive text.now) }
+    ensures none { IfErr result (λ e. (e ≡ WordsError.NoCommand)
+        × ((live : ℕ) → IsLive text.now live → ⊥)) }
+{
+    match LiveLimit::of(number(text)?) {
+        Some(live) => Ok(live),
         None => Err(WordsError::NoCommand),
     }
 }

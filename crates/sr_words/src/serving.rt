@@ -1,5 +1,6 @@
 //! What `serve` is asked for, and which options it has.
 
+use hd_server::LiveLimit;
 use hub_server::ResendLimits;
 use hv_value::Text;
 use std::net::IpAddr;
@@ -33,6 +34,10 @@ pub(crate) const SERVE_OPTIONS: &[Choice] = &[
         name: "resend",
         values: 2,
     },
+    Choice {
+        name: "live",
+        values: 1,
+    },
 ];
 
 /// What `serve` is asked for.
@@ -48,6 +53,8 @@ pub struct Serving {
     pub listen: IpAddr,
     /// How much the end of each connection holds.
     pub resend: ResendLimits,
+    /// How many connections may live at one moment.
+    pub live: LiveLimit,
 }
 
 /// What has to be known before the objects are made that a command runs over. Each is `None` for a command other than
@@ -57,4 +64,5 @@ pub struct Settings {
     pub port: Option<u16>,
     pub base: Option<Text>,
     pub listen: Option<IpAddr>,
+    pub live: Option<LiveLimit>,
 }

@@ -11,7 +11,7 @@ ghost use Rattle.sr_words.specs.declared.serving.Serving.{Serving};
 
 use crate::commands::Command;
 use crate::error::WordsError;
-use crate::reading::{address, base, number, port, resend};
+use crate::reading::{address, base, live, number, port, resend};
 use crate::serving::{Choice, SERVE_OPTIONS, Serving, Settings};
 use clap::{Arg, ArgAction, ArgMatches};
 use hm_message::Codec;
@@ -227,12 +227,14 @@ fn serving(alloc: Global, matches: &ArgMatches) -> Result<Serving, WordsError>
     let turns = number(text(matches, "turns", "18446744073709551615"))?;
     let listen = address(text(matches, "listen", "127.0.0.1"))?;
     let resend = resend(texts(matches, "resend", ("1024", "100000")))?;
+    let live = live(text(matches, "live", "10000"))?;
     Ok(Serving {
         port,
         base,
         turns,
         listen,
         resend,
+        live,
     })
 }
 
@@ -283,11 +285,13 @@ pub fn settings(alloc: Global, words: &[String]) -> Result<Settings, WordsError>
             port: Some(serving.port),
             base: Some(serving.base),
             listen: Some(serving.listen),
+            live: Some(serving.live),
         }),
         _ => Ok(Settings {
             port: None,
             base: None,
             listen: None,
+            live: None,
         }),
     }
 }
