@@ -31,6 +31,9 @@ import urllib.error
 import urllib.request
 
 TOP = pathlib.Path(__file__).resolve().parent.parent
+sys.path.insert(0, str(TOP / "acceptance" / "clients"))
+from raw import Hub  # noqa: E402
+
 CHAT = TOP / "examples" / "chat"
 PATIENCE = 30  # seconds
 STREAM = 15_000  # bytes for the pages until a cut: about a third of a stream of 1,000 items
@@ -61,6 +64,7 @@ class Budget:
     def read(self):
         for line in sys.stdin:
             self.left = int(line)
+            print("counts", flush=True)
 
     def spend(self, size):
         if self.left is not None:
@@ -94,10 +98,15 @@ class Forwarder:
         self.process.stdout.readline()
 
     def cut_after(self, size):
+        """From now on so many bytes may pass. It has to be known there before the page may do anything."""
         print(size, file=self.process.stdin, flush=True)
+        self.process.stdout.readline()
 
     def wait_for_cut(self):
-        self.process.wait(PATIENCE)
+        """Whether it was cut, in time."""
+        with contextlib.suppress(subprocess.TimeoutExpired):
+            self.process.wait(PATIENCE)
+        return self.process.poll() is not None
 
     def stop(self):
         self.process.kill()
@@ -176,7 +185,7 @@ class Page:
         browser.pages[self.session] = self
         for domain in ("Network", "Runtime", "Page"):
             self.ask(f"{domain}.enable")
-        self.ask("Emulation.setDeviceMetricsOverride", width=720, height=480, deviceScaleFactor=1, mobile=False)
+        self.ask("Emulation.setDeviceMetricsOverride", width=720, height=560, deviceScaleFactor=1, mobile=False)
         self.ask("Page.navigate", url=url)
         self.wait("location.href !== 'about:blank' && document.readyState === 'complete'")
 
@@ -201,8 +210,8 @@ class Page:
             raise RuntimeError(f"{expression}: {answer['exceptionDetails']}")
         return answer["result"].get("value")
 
-    def wait(self, expression):
-        end = time.monotonic() + PATIENCE
+    def wait(self, expression, patience=PATIENCE):
+        end = time.monotonic() + patience
         while not self.value(expression):
             if time.monotonic() > end:
                 raise TimeoutError(f"page {self.name} waits for {expression}\n  state {self.state()}, {self.items()}, log {self.log()}")
@@ -213,6 +222,7 @@ class Page:
         self.value(f"document.getElementById({json.dumps(form)}).requestSubmit()")
 
     def join(self, room):
+        self.value(f"document.getElementById('name').value = {json.dumps(self.name)}")
         self.fill("join", "room", room)
         self.wait(f"document.querySelector('#log .note')?.textContent.endsWith('in the room {room}.')")
 
@@ -230,15 +240,24 @@ class Page:
     def state(self):
         return self.value("document.getElementById('state').textContent")
 
-    def wait_for_state(self, state):
-        self.wait(f"document.getElementById('state').textContent === {json.dumps(state)}")
+    def wait_for_state(self, state, patience=PATIENCE):
+        self.wait(f"document.getElementById('state').textContent === {json.dumps(state)}", patience)
 
     def counts(self):
         return self.value("document.getElementById('counts').textContent")
 
+    def click(self, button):
+        self.value(f"document.getElementById({json.dumps(button)}).click()")
+
+    def here(self):
+        return self.value("document.getElementById('here').textContent")
+
+    def wait_for_here(self, names):
+        self.wait(f"document.getElementById('here').textContent === {json.dumps(names)}")
+
     def begin_stream(self):
         self.value("document.getElementById('items').textContent = ''")
-        self.value("document.getElementById('stream').click()")
+        self.click("stream")
 
     def items(self):
         return self.value("document.getElementById('items').textContent")
@@ -308,7 +327,99 @@ def wait_for_port(port):
 
 
 def posts_of(page):
-    return [line[1:] for line in page.log() if line[0] in ("mine", "theirs")]
+    """The names and the texts of what other pages and this one posted since it joined."""
+    return [line[2:] for line in page.log() if line[0] in ("mine", "theirs") and len(line) == 4]
+
+
+def texts_of(page):
+    return [line[-1] for line in page.log() if line[0] in ("earlier", "mine", "theirs")]
+
+
+def try_names(trial, pages):
+    """Names and times of posts, and who is in the room."""
+    now = "new Date(Date.now() - %d).toLocaleTimeString([], { timeStyle: 'short' })"
+    for page in pages:
+        wanted = [["Ann", "Good morning, this is Ann."], ["Bob", "Good morning, Ann. Bob here."]]
+        trial.check(f"page of {page.name} sees both posts with names", posts_of(page) == wanted, posts_of(page))
+        times = {line[1] for line in page.log() if line[0] in ("mine", "theirs")}
+        minutes = {page.value(now % (60_000 * minutes)) for minutes in range(3)}
+        trial.check(f"page of {page.name} sees when they were posted", times <= minutes, f"{times}, {minutes}")
+        page.wait_for_here("Ann, Bob")
+        trial.check(f"page of {page.name} sees who is in the room", True)
+
+
+def try_another_program(trial, hub_port, page):
+    """A program that posts a text alone, and says that it is here, but not that it leaves."""
+    hub = Hub(hub_port)
+    hub.shake()
+    hub.call("Post", "lobby", "No JSON, no name.")
+    hub.call("Post", "lobby (who is here)", '{"name":"Dan"}')
+    page.wait_for_post("No JSON, no name.")
+    page.wait_for_here("Ann, Bob, Dan")
+    hub.close()
+    page.click("ask")
+    page.wait_for_here("Ann, Bob")
+    line = next(line for line in page.log() if line[-1] == "No JSON, no name.")
+    trial.check("a text of another program is shown with the number of its connection", len(line) == 3 and line[1].isdigit(), line)
+    trial.check("who left without a word is gone once somebody asks", True)
+
+
+def try_button(trial, one, other):
+    """A connection that its page cuts comes back and loses nothing."""
+    before = one.counts()
+    one.begin_stream()
+    one.wait("/^[1-9]/.test(document.getElementById('items').textContent)")
+    one.click("cut")
+    trial.check("a page that cuts its connection resumes it", one.state() == "resuming", one.state())
+    other.post("Posted while the other is cut.")
+    one.post("Posted by who is cut.")
+    one.wait_for_state("connected")
+    one.wait("/gap|order|then/.test(document.getElementById('items').textContent)")
+    trial.check("1,000 items come in order after the button", one.items() == "1000 items in order, no gap", one.items())
+    for page in (one, other):
+        for text in ("Posted while the other is cut.", "Posted by who is cut."):
+            page.wait_for_post(text)
+            trial.check(f"page of {page.name} has once: {text}", texts_of(page).count(text) == 1, texts_of(page))
+    one.wait("/ resumptions 3 /.test(document.getElementById('counts').textContent)")
+    trial.check("it is the same connection", before.split(" · ")[0] == one.counts().split(" · ")[0], f"{before}, {one.counts()}")
+
+
+class Poster(threading.Thread):
+    """A program that posts long texts, numbered from 0, until it is stopped: slowly enough for a page to acknowledge them."""
+
+    def __init__(self, hub_port, room):
+        super().__init__(daemon=True)
+        self.hub, self.room, self.count, self.stopped = Hub(hub_port), room, 0, threading.Event()
+        self.hub.shake()
+
+    def post(self):
+        self.hub.call("Post", self.room, f"{self.count} " + "x" * 900)
+        self.count += 1
+
+    def run(self):
+        while not self.stopped.wait(0.02):
+            self.post()
+
+    def stop(self):
+        self.stopped.set()
+        self.join()
+        self.hub.close()
+
+
+def try_long_history(trial, hub_port, page):
+    """A room whose last 50 texts are too long for one answer, and in which texts come while the page asks."""
+    poster = Poster(hub_port, "long")
+    for _ in range(60):
+        poster.post()
+    poster.start()
+    page.join("long")
+    time.sleep(0.5)
+    poster.stop()
+    page.wait(f"document.querySelector('#log li:last-child').textContent.includes('{poster.count - 1} x')")
+    numbers = [int(text.split()[0]) for text in texts_of(page)]
+    earlier = [line for line in page.log() if line[0] == "earlier"]
+    trial.check(f"a room with long texts shows {len(earlier)} that came earlier", 10 <= len(earlier) <= 36, len(earlier))
+    trial.check("and those that came meanwhile, each once", numbers == list(range(numbers[0], poster.count)), numbers)
 
 
 def try_cut(trial, what, forwarder, one, other):
@@ -316,7 +427,8 @@ def try_cut(trial, what, forwarder, one, other):
     before = len(one.frames)
     forwarder.cut_after(STREAM)
     one.begin_stream()
-    forwarder.wait_for_cut()
+    if not forwarder.wait_for_cut():
+        raise RuntimeError(f"{what} isn't cut: {one.items()!r}, {one.state()}, {one.counts()}, {one.frames[-6:]}, {one.faults}")
     time.sleep(OUTAGE)
     items = one.items()
     count = int(items.split()[0]) if items else 0
@@ -341,7 +453,7 @@ def try_silence(trial, forwarder, one, other):
     """A network that takes bytes and passes none on is noticed by the silence."""
     os.kill(forwarder.process.pid, signal.SIGSTOP)
     began = time.monotonic()
-    one.wait_for_state("resuming")
+    one.wait_for_state("resuming", 2 * PATIENCE)
     seconds = time.monotonic() - began
     os.kill(forwarder.process.pid, signal.SIGCONT)
     one.post(f"{one.name} writes this after a silence.")
@@ -473,8 +585,8 @@ def try_all(trial, program, browser, folder, picture, seed, wire):
         bob.post("Good morning, Ann. Bob here.")
         for page in (ann, bob):
             page.wait_for_post("Good morning, Ann. Bob here.")
-            wanted = [["1", "Good morning, this is Ann."], ["2", "Good morning, Ann. Bob here."]]
-            trial.check(f"page of {page.name} sees both posts", posts_of(page) == wanted, posts_of(page))
+        try_names(trial, [ann, bob])
+        try_another_program(trial, hub_port, ann)
 
         ann.begin_stream()
         ann.wait("/gap|order|then/.test(document.getElementById('items').textContent)")
@@ -486,6 +598,7 @@ def try_all(trial, program, browser, folder, picture, seed, wire):
             time.sleep(1)  # until the last Acks are there
             trial.check(f"page of {page.name} resumed one connection", "resumptions 2 " in page.counts(), page.counts())
             trial.check(f"page of {page.name} keeps no message", page.counts().endswith("unacknowledged 0"), page.counts())
+        try_button(trial, ann, bob)
         if picture:
             bob.picture(picture)
         try_silence(trial, front, ann, bob)
@@ -494,9 +607,19 @@ def try_all(trial, program, browser, folder, picture, seed, wire):
             try_random(trial, seed, [front, rear], [ann, bob])
 
         late = Page(browser, "Cid", f"http://127.0.0.1:{near_page}/")
+        try_long_history(trial, hub_port, late)
+        ann.wait_for_here("Ann, Bob")
         late.join("lobby")
-        earlier = [line[2] for line in late.log() if line[0] == "earlier"]
-        trial.check("one who joins later sees the history", earlier == [text for _, text in posts_of(ann)], earlier)
+        earlier = [line[-1] for line in late.log() if line[0] == "earlier"]
+        trial.check("one who joins later sees the history", earlier == texts_of(ann), earlier)
+        for page in (ann, bob, late):
+            page.wait_for_here("Ann, Bob, Cid")
+        gone = Page(browser, "Eve", f"http://127.0.0.1:{near_page}/")
+        gone.join("lobby")
+        ann.wait_for_here("Ann, Bob, Cid, Eve")
+        gone.ask("Page.navigate", url="about:blank")
+        ann.wait_for_here("Ann, Bob, Cid")
+        trial.check("who leaves says so", True)
 
         # A server that starts again knows no token: the pages begin new connections and enter the room again.
         server.kill()

@@ -33,6 +33,7 @@ EXAMPLES = HERE.parent / "examples"
 NAME = "chat.example.org"
 FILES = 1024  # which systemd gives a service that doesn't ask
 CLIENTS, OF_ONE_ADDRESS = 600, 5
+MOST_OPEN = 50  # requests of one address
 NEGOTIATE = "/hub/negotiate?negotiateVersion=1"
 
 
@@ -184,6 +185,19 @@ def try_limit(trial, door):
     trial.check("a client that polls may post 40 times in a row", got == [200] * 42, got)
 
 
+def try_open_requests(trial, door):
+    """Requests whose body is on its way, of one address: no more than MOST_OPEN may be."""
+    there = [Client(door, "127.0.5.1") for _ in range(MOST_OPEN + 1)]
+    for client in there:
+        client.send(f"POST /hub?id=none HTTP/1.1\r\nHost: {NAME}\r\nContent-Length: 3\r\n\r\n".encode())
+        time.sleep(0.01)
+    last = there[-1].reply()[0]
+    there[0].send(b"abc")
+    trial.check(f"of {MOST_OPEN + 1} requests at once one is answered 429", (last, there[0].reply()[0]) == (429, 404), last)
+    for client in there:
+        client.close()
+
+
 def try_guard(trial, door, name, address, bad, good, refused):
     """A guard stands before each request of the base, and lets good clients in."""
     client = Client(door, address, good)
@@ -224,7 +238,7 @@ def try_page(trial, browser, folder, port):
             page.join("lobby")
         ann.post("Good morning, this is Ann.")
         bob.wait_for_post("Good morning, this is Ann.")
-        wanted = [["1", "Good morning, this is Ann."]]
+        wanted = [["Ann", "Good morning, this is Ann."]]
         trial.check("a page sees what another posts", posts_of(bob) == wanted == posts_of(ann), posts_of(bob))
         ann.begin_stream()
         ann.wait("/gap|order|then/.test(document.getElementById('items').textContent)")
@@ -255,6 +269,7 @@ def try_all(trial, folder, program, browser, is_changed):
             try_page(trial, browser, folder, nginx.port)
         try_plain(trial, nginx.plain_port)
         try_limit(trial, door)
+        try_open_requests(trial, door)
         try_guard(trial, door, "a page of another site", "127.0.4.1", ["Origin: https://other.example.org"], [f"Origin: https://{NAME}"], 403)
         try_many(trial, door)
         nginx.stop()

@@ -1,71 +1,130 @@
-// The page of a chat: one room at a time, and a stream that shows that nothing is lost or told twice.
+// The page of a chat: one room at a time, and a stream that shows that nothing is lost or told twice. Names, times and who is in a room
+// are texts that pages post: the server knows none of it.
 
 import { Connection } from "./connection.js";
 
-const EARLIER = 50; // texts of a room that are shown to one who joins
+const EARLIER = 50; // texts of a room that are shown to one who joins, or fewer if these are long
 const ITEMS = 1_000;
 
 const byId = (id) => document.getElementById(id);
-const controls = [...document.querySelectorAll("#post input, #post button, #stream")];
+const controls = [...document.querySelectorAll("#post input, #post button, #ask, #stream")];
 
 const connection = new Connection(new URL("hub", document.baseURI));
 let room = null; // the room that we are in, or are to be in once there is a connection
 let newer = null; // what was posted while the room's history is on its way
+let here = new Map(); // the names of those in the room, by the numbers of their connections
 
 // The log
 
-function show(kind, who, text) {
+/** A text of a page is JSON with a name and a time, of which the server knows nothing. One of another program is a text alone. */
+function parsed(text) {
+  try {
+    const { name, at, said } = JSON.parse(text);
+    if (typeof name === "string" && typeof said === "string") return { name, at, said };
+  } catch {
+    // a text alone
+  }
+  return { said: text };
+}
+
+function show(kind, { name, at, said }) {
   const line = document.createElement("li");
   line.className = kind;
-  if (who) {
-    const name = document.createElement("b");
-    name.textContent = who;
-    line.append(name);
-  }
-  line.append(text);
+  if (Number.isFinite(at)) line.append(element("time", new Date(at).toLocaleTimeString([], { timeStyle: "short" })));
+  if (name) line.append(element("b", name));
+  line.append(said);
   const log = byId("log");
   log.append(line);
   log.scrollTop = log.scrollHeight;
 }
 
-const note = (text) => show("note", "", text);
+function element(kind, text) {
+  const made = document.createElement(kind);
+  made.textContent = text;
+  return made;
+}
+
+const note = (said) => show("note", { said });
 
 function showPost(who, text) {
-  show(who === connection.id ? "mine" : "theirs", who, text);
+  show(who === connection.id ? "mine" : "theirs", { name: who, ...parsed(text) });
 }
 
 // Rooms
 
+const myName = () => byId("name").value;
+
 connection.on("Posted", (where, who, text) => {
+  if (where === hall(room)) return meet(who, text);
   if (where !== room) return;
   if (newer) newer.push([who, text]);
   else showPost(who, text);
 });
 
-/** History tells no names, so those who posted since we joined are shown by what was called, and not a second time by the history. */
+/** The last texts of a room: half as many, and again, where so many are too long for one answer. */
+async function lastTexts(count) {
+  try {
+    return await connection.call("History", room, count);
+  } catch (error) {
+    if (error.message !== "The answer is too long." || count === 0) throw error;
+    return lastTexts(Math.floor(count / 2));
+  }
+}
+
+/** History tells no connections, so what was posted since we joined is shown by what was called, and not a second time by the history. */
 async function enter(name) {
   room = name;
   newer = [];
+  here = new Map();
   try {
     await connection.call("Join", room);
-    const earlier = await connection.call("History", room, EARLIER);
+    await connection.call("Join", hall(room));
+    const earlier = await lastTexts(EARLIER);
+    const known = new Set(newer.map(([, text]) => text));
     for (const line of byId("log").querySelectorAll("li:not(.fault)")) line.remove();
-    for (const text of earlier.slice(0, earlier.length - newer.length)) show("earlier", "earlier", text);
+    for (const text of earlier.filter((text) => !known.has(text))) show("earlier", { name: "earlier", ...parsed(text) });
     note(`You are ${connection.id} in the room ${room}.`);
     for (const [who, text] of newer) showPost(who, text);
+    callRoll();
   } catch (error) {
     note(error.message);
   }
   newer = null;
 }
 
+// Who is in the room: pages say so in a second room, its hall, so that the room's history has none of it. One who enters asks, and each
+// answers. Who left without a word is still named until somebody asks again.
+
+const hall = (name) => `${name} (who is here)`;
+
+const sayHere = (what) => connection.notify("Post", hall(room), JSON.stringify({ name: myName(), ...what }));
+
+const callRoll = () => sayHere({ asks: true });
+
+function meet(who, text) {
+  const { name, asks, leaves } = JSON.parse(text);
+  if (asks) here.clear();
+  if (asks && who !== connection.id) sayHere({});
+  if (leaves) here.delete(who);
+  else here.set(who, String(name));
+  byId("here").textContent = [...here.values()].sort().join(", ");
+}
+
+function leave() {
+  sayHere({ leaves: true });
+  connection.notify("Leave", hall(room));
+  connection.notify("Leave", room);
+}
+
+const isThere = () => connection.state === "connected" || connection.state === "resuming";
+
 async function change(name) {
-  const left = room;
-  room = name;
-  if (connection.state === "stopped") return connection.start();
-  if (connection.state === "connecting") return; // it is entered once there is a connection
-  if (left !== name) await connection.call("Leave", left).catch((error) => note(error.message));
-  await enter(name);
+  if (isThere()) {
+    if (room !== name) leave();
+    return enter(name);
+  }
+  room = name; // which is entered once there is a connection
+  if (connection.state === "stopped") connection.start();
 }
 
 connection.onstart = () => enter(room);
@@ -79,10 +138,16 @@ byId("join").addEventListener("submit", (event) => {
 
 byId("post").addEventListener("submit", (event) => {
   event.preventDefault();
-  const text = byId("text").value;
+  const said = byId("text").value;
   byId("text").value = "";
-  connection.call("Post", room, text).catch(() => show("fault", "", `It isn't known whether this was posted: ${text}`));
+  const text = JSON.stringify({ name: myName(), at: Date.now(), said });
+  connection.call("Post", room, text).catch(() => show("fault", { said: `It isn't known whether this was posted: ${said}` }));
 });
+
+byId("ask").addEventListener("click", callRoll);
+
+// Nothing is lost by it: the connection goes on over another socket.
+byId("cut").addEventListener("click", () => connection.cut());
 
 byId("stream").addEventListener("click", async () => {
   let count = 0;
@@ -109,7 +174,8 @@ byId("stream").addEventListener("click", async () => {
 connection.onstate = (state, why) => {
   byId("state").textContent = byId("state").dataset.state = state;
   // While a connection resumes, all may be used: what is sent then is kept until there is a socket.
-  for (const control of controls) control.disabled = state !== "connected" && state !== "resuming";
+  for (const control of controls) control.disabled = !isThere();
+  byId("cut").disabled = state !== "connected";
   if (why) note(why.message);
 };
 
@@ -121,4 +187,7 @@ setInterval(() => {
 }, 200);
 
 // A page that is left ends its connection, else the server keeps it for a while.
-addEventListener("pagehide", () => connection.stop());
+addEventListener("pagehide", () => {
+  if (isThere()) leave();
+  connection.stop();
+});

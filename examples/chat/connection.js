@@ -149,6 +149,13 @@ export class Connection {
     this.#end();
   }
 
+  /** Loses the socket, as a network may, and goes on over another one a second later. */
+  cut() {
+    if (!this.#greeted) return;
+    this.#tries = PAUSES.length;
+    this.#lose();
+  }
+
   /** Resolves with the result, and rejects with the server's error or if the connection is lost for good. */
   call(target, ...values) {
     return this.#begin(INVOCATION, target, values, null).ended;
