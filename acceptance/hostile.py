@@ -3,10 +3,11 @@
 
     acceptance/hostile.py [PROGRAM] [WORD]      PROGRAM is bin/sr by default. With WORD only cases whose name has it.
 
-What has to come is by RFC 9112 and RFC 9110 (requests), RFC 6455 (WebSockets) and the limits of docs/clients.md. All cases meet one
+What has to come is by RFC 9112 and RFC 9110 (requests), RFC 6455 (WebSockets) and the limits of docs/clients.md. The cases meet one
 server, one after the other; those that wait for half a minute run beside the others. At the end it must still serve a good client, have
-written on standard error where it listens alone, and hold at most MOST_GROWTH more memory than at its start. (A build with a sanitizer keeps what it
-freed: ASAN_OPTIONS=quarantine_size_mb=1.) The last line is 'N passed, N failed'; the status is 0 if none failed."""
+written on standard error where it listens alone, and hold at most MOST_GROWTH more memory than at its start. Those who are greedy meet a
+server each, with little memory, of which clients/hostile_greed.py tells. (A build with a sanitizer keeps what it freed:
+ASAN_OPTIONS=quarantine_size_mb=1.) The last line is 'N passed, N failed'; the status is 0 if none failed."""
 import json
 import pathlib
 import sys
@@ -14,6 +15,7 @@ import threading
 
 HERE = pathlib.Path(__file__).resolve().parent
 sys.path.insert(0, str(HERE / "clients"))
+from hostile_greed import GREEDY_CASES, SLOW_GREEDY_CASES, under_attack  # noqa: E402
 from hostile_http import HTTP_CASES, SLOW_HTTP_CASES  # noqa: E402
 from hostile_hubs import HUB_CASES, SLOW_HUB_CASES  # noqa: E402
 from hostile_sockets import SOCKET_CASES, SLOW_SOCKET_CASES  # noqa: E402
@@ -25,10 +27,10 @@ SLOW_CASES = SLOW_HTTP_CASES + SLOW_SOCKET_CASES + SLOW_HUB_CASES
 MOST_GROWTH = 65_536  # KiB
 
 
-def outcome(case, port):
+def outcome(case, *words):
     """What a case sees, in words."""
     try:
-        return case(port)
+        return case(*words)
     except Ended as ended:
         return f"{ended} too early"
     except Exception as wrong:
@@ -59,22 +61,32 @@ class Tally:
     def one(self, server, name, wanted, case):
         self.tell(name, wanted, outcome(case, server.port))
 
+    def greedy(self, program, name, wanted, *attack):
+        self.tell(name, wanted, outcome(under_attack, program, *attack))
 
-def begin_slow(tally, server, cases):
+
+def begun(tell, *words):
+    thread = threading.Thread(target=tell, args=words)
+    thread.start()
+    return thread
+
+
+def begin_slow(tally, server, word):
     """The cases that wait, each in a thread, so that they wait together."""
-    threads = [threading.Thread(target=tally.one, args=(server, *case)) for case in cases]
-    for thread in threads:
-        thread.start()
-    return threads
+    threads = [begun(tally.one, server, *case) for case in SLOW_CASES if word in case[0]]
+    return threads + [begun(tally.greedy, server.program, *case) for case in SLOW_GREEDY_CASES if word in case[0]]
 
 
 def all_cases(server, word):
     tally = Tally()
     before = server.memory()
-    slow = begin_slow(tally, server, [case for case in SLOW_CASES if word in case[0]])
+    slow = begin_slow(tally, server, word)
     for case in CASES:
         if word in case[0]:
             tally.one(server, *case)
+    for case in GREEDY_CASES:
+        if word in case[0]:
+            tally.greedy(server.program, *case)
     for thread in slow:
         thread.join()
     tally.one(server, "a good client, at the end", "5, closed 1000, ended", good_client)

@@ -2,6 +2,7 @@
 
 A case is its name, what it has to answer, and a function of the port. `ended` is a connection that ends in order: a reset might have
 destroyed the reply."""
+import json
 import time
 
 from raw import Hub, Raw
@@ -14,12 +15,25 @@ LATE = 10  # how late a close may be seen: the server is busy with the other cas
 
 
 def refused(data):
-    """Sends some bytes, and answers the reply's status and how the connection ends."""
+    """Sends some bytes, and answers the reply's status, whether its head doesn't tell that the connection ends, and how that ends."""
 
     def case(port):
         lane = Raw(port)
         lane.send(data if isinstance(data, bytes) else data.encode())
-        return f"{lane.reply()[0]}, {lane.end()}"
+        status, fields, _ = lane.reply()
+        return f"{status}{'' if fields.get('connection') == 'close' else ' untold'}, {lane.end()}"
+
+    return case
+
+
+def told(data, *names):
+    """What these fields of the reply are, after its status."""
+
+    def case(port):
+        lane = Raw(port)
+        lane.send(data.encode())
+        status, fields, _ = lane.reply()
+        return "; ".join([str(status), *(fields.get(name, "none") for name in names)])
 
     return case
 
@@ -74,6 +88,68 @@ def pipelined(port):
     asked = [request(first="GET /nowhere HTTP/1.1"), request("Content-Length: 3", body="abc"), request(first="GET /hub HTTP/1.1")]
     lane.send("".join(asked).encode())
     return ", ".join(str(lane.reply()[0]) for _ in asked)
+
+
+def field(name, data):
+    """A field of a refusal's head, or None."""
+
+    def case(port):
+        lane = Raw(port)
+        lane.send(data.encode())
+        status, fields, _ = lane.reply()
+        return f"{status} {fields.get(name)}"
+
+    return case
+
+
+def last_field(*fields, **parts):
+    """The last line of a reply's head."""
+
+    def case(port):
+        lane = Raw(port)
+        lane.send(request(*fields, **parts).encode())
+        while b"\r\n\r\n" not in lane.rest:
+            lane.more()
+        return lane.rest.split(b"\r\n\r\n")[0].split(b"\r\n")[-1].decode()
+
+    return case
+
+
+def body_after_continue(port):
+    """A client that sends its body once it may: the server has to say so, or the client waits."""
+    lane = Raw(port)
+    lane.send(request("Content-Length: 3", "Expect: 100-continue", first="POST /nowhere HTTP/1.1").encode())
+    told = [lane.reply()[0]]
+    lane.send(b"abc")
+    told.append(lane.reply()[0])
+    return f"{told[0]}, {told[1]}, {lane.http('GET', '/nowhere')[0]}"
+
+
+def body_at_once(port):
+    """A client that doesn't wait for the 100 may get one or none (RFC 9110, section 10.1.1)."""
+    lane = Raw(port)
+    lane.send(request("Content-Length: 3", "Expect: 100-continue", first="POST /nowhere HTTP/1.1", body="abc").encode())
+    status = lane.reply()[0]
+    return f"{lane.reply()[0] if status == 100 else status}, {lane.http('GET', '/nowhere')[0]}"
+
+
+def poll_with_an_upgrade(port):
+    """An upgrade that `Connection` doesn't name is none: the token's first request is a poll, which is answered at once."""
+    lane = Raw(port)
+    _, body = lane.http("POST", NEGOTIATE)
+    target = "/hub?id=" + json.loads(body)["connectionToken"]
+    lane.send(socket_asked(target=target).encode())
+    return f"{lane.reply()[0]}, {lane.http('GET', '/nowhere')[0]}"
+
+
+def socket_asked(*fields, target="/hub"):
+    return request(*fields, "Upgrade: websocket", KEY, VERSION, first=f"GET {target} HTTP/1.1")
+
+
+def upgraded_among_others(port):
+    lane = Raw(port)
+    lane.send(socket_asked("Connection: keep-alive, Upgrade").encode())
+    return str(lane.reply()[0])
 
 
 def half_close(port):
@@ -158,12 +234,31 @@ HTTP_CASES = [
     ("an unknown method", "405, 404", answered(first="BREW /hub HTTP/1.1")),
     ("HEAD", "405, 404", answered(first="HEAD /hub HTTP/1.1")),
     ("OPTIONS", "405, 404", answered(first="OPTIONS /hub HTTP/1.1")),
+    ("what a 405 of the base allows", "405; GET, POST, DELETE; none", told(request(first="PUT /hub HTTP/1.1"), "allow", "connection")),
+    ("what a 405 of a negotiate allows", "405; POST; close", told(request("Connection: close", first="GET /hub/negotiate HTTP/1.1"), "allow", "connection")),
+    ("how a caller is known", "401; Bearer; none", told(request("Authorization: Bearer abc"), "www-authenticate", "connection")),
+    ("a path that nobody serves", "404; none; none", told(request(first="PUT /nowhere HTTP/1.1"), "allow", "connection")),
+    ("which version an upgrade may have", "400; 13; close", told(upgrade(KEY, "Sec-WebSocket-Version: 12"), "sec-websocket-version", "connection")),
     ("an upgrade with version 12", "400, ended", refused(upgrade(KEY, "Sec-WebSocket-Version: 12"))),
     ("an upgrade without a version", "400, ended", refused(upgrade(KEY))),
     ("an upgrade without a key", "400, ended", refused(upgrade(VERSION))),
     ("an upgrade with a key of 15 bytes", "400, ended", refused(upgrade(VERSION, SHORT_KEY))),
     ("an upgrade of a POST is a POST without an id", "400, ended", refused(request("Upgrade: websocket", KEY, VERSION, first="POST /hub HTTP/1.1"))),
     ("an upgrade to something else is a poll without an id", "400, ended", refused(request("Upgrade: h2c", first="GET /hub HTTP/1.1"))),
+    ("an upgrade that Connection doesn't name is a poll", "200, 404", poll_with_an_upgrade),
+    ("an upgrade that Connection has no word of is a poll without an id", "400, ended", refused(socket_asked("Connection: keep-alive"))),
+    ("an upgrade that Connection names among others", "101", upgraded_among_others),
+    ("two Hosts", "400, ended", refused(request("Host: b"))),
+    ("two Hosts that are one", "400, ended", refused(request("Host: a"))),
+    ("no Host", "400, ended", refused(f"POST {NEGOTIATE} HTTP/1.1\r\n\r\n")),
+    ("what a negotiate allows", "405 POST", field("allow", request(first=f"GET {NEGOTIATE} HTTP/1.1"))),
+    ("what the hub allows", "405 GET, POST, DELETE", field("allow", request(first="BREW /hub HTTP/1.1"))),
+    ("how to come with an access token", "401 Bearer", field("www-authenticate", request("Authorization: Bearer a"))),
+    ("which version of WebSockets is spoken", "400 13", field("sec-websocket-version", upgrade(KEY, "Sec-WebSocket-Version: 12"))),
+    ("the last words of a connection", "Connection: close", last_field("Connection: close")),
+    ("the last words to what is refused", "Connection: close", last_field("Content-Length: x")),
+    ("a body that waits until it may come", "100, 404, 404", body_after_continue),
+    ("a body that doesn't wait until it may come", "404, 404", body_at_once),
     ("a request in single bytes", "200", single_bytes),
     ("three requests at once", "404, 200, 400", pipelined),
     ("a client that ends its half", "200, ended", half_close),

@@ -1,6 +1,7 @@
 """A server of the program for one test, on a free port of this machine."""
 import contextlib
 import random
+import resource
 import select
 import socket
 import subprocess
@@ -11,6 +12,8 @@ HOST = "127.0.0.1"
 PORTS = range(10_000, 32_768)  # Linux gives connections those from 32,768 on
 START = 60  # seconds until it serves
 TURNS = 50_000_000  # it ends by itself some day, should the test be killed
+MOST_LIVE = 10_000  # connections, if --live doesn't say
+OTHER_DESCRIPTORS = 64  # of a server, beside those of its connections
 
 
 def free_port():
@@ -22,11 +25,20 @@ def free_port():
             return port
 
 
-class Serving:
-    """The program while it serves. What it writes on standard error but where it listens, and that it ends before it is told to, are complaints."""
+def few_descriptors(count, live=MOST_LIVE):
+    """The lines that a server says at its start, as it may have so many descriptors."""
+    few = count < live + OTHER_DESCRIPTORS
+    return [f"sr: {count} descriptors are few for {live} live connections: raise the limit (ulimit -n)"] if few else []
 
-    def __init__(self, program, *options):
-        self.program, self.options = program, options
+
+class Serving:
+    """The program while it serves. That it ends before it is told to is a complaint, and what it writes on standard error, but where it listens
+    and that it may have few descriptors.
+
+    `address_space` is how many KiB of addresses it may have."""
+
+    def __init__(self, program, *options, address_space=None):
+        self.program, self.options, self.address_space = program, options, address_space
 
     def __enter__(self):
         self.port = free_port()
@@ -34,6 +46,8 @@ class Serving:
         self.errors = tempfile.TemporaryFile()
         command = [self.program, "serve", "--port", str(self.port), "--turns", str(TURNS), *self.options]
         self.process = subprocess.Popen(command, stdout=subprocess.PIPE, stderr=self.errors)
+        if self.address_space:
+            resource.prlimit(self.process.pid, resource.RLIMIT_AS, (self.address_space * 1_024,) * 2)
         ready, _, _ = select.select([self.process.stdout], [], [], START)
         line = self.process.stdout.readline() if ready else b""
         if line != b"serving 0\n":
@@ -45,12 +59,15 @@ class Serving:
         self.process.kill()
         self.process.wait()
 
+    def live(self):
+        return int(self.options[self.options.index("--live") + 1]) if "--live" in self.options else MOST_LIVE
+
     def complaints(self):
         status = self.process.poll()
         self.errors.seek(0)
         written = self.errors.read().decode(errors="replace").splitlines()[:20]
-        listening = f"sr: listening on {self.base}"
-        written = written[1:] if written[:1] == [listening] else [f"it didn't begin with {listening!r}", *written]
+        wanted = [f"sr: listening on {self.base}", *few_descriptors(resource.getrlimit(resource.RLIMIT_NOFILE)[0], self.live())]
+        written = written[len(wanted) :] if written[: len(wanted)] == wanted else [f"it didn't begin with {wanted!r}", *written]
         return written if status is None else [f"the server ended with {status}", *written]
 
     def memory(self):
