@@ -368,7 +368,7 @@ def giving_way():
     yield from (f"negotiate no {DRAWN} 0", f"negotiate no {DRAWN} 0", f"negotiate no {DRAWN} 30000", f"negotiate no {DRAWN} 30000", "busy 0", "open 0", *(f"at {conn} 0" for conn in range(1, 6)),
                 "socket 3 1 0", "socket 4 1 0", "socket 5 1 0", "busy 0", "open 0", "busy 0", "open 0", "busy 0")
     yield "note how many may live"
-    yield from ("front 0", "front 10001", "front x", f"front {MOST + 1}", "front 10000", "front +1", "front 1", "used 2 0", "busy 0")
+    yield from ("front 0", "front 10001", "front x", f"front {MOST + 1}", "front 10000", "front 1", "used 2 0", "busy 0")
 
 
 def bounds():
