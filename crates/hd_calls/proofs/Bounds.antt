@@ -1,15 +1,18 @@
 -- What happens at the bounds of a peer.
-use Rattle.std.proofs.Common.{◌≡◌, ℕ, zero, suc, ◌<◌, ◌≤◌, Bool, true, false, List, [], ◌∷◌, length, length-append, Option, Some, None, refl, sym, ap, ◌∙◌, arith}
-use Rattle.std.specs.Prelude.{◌+◌, ◌==◌, ◌&&◌, ◌||◌, not, nat_lt, slice_get}
+use Rattle.std.proofs.Common.{◌≡◌, ℕ, zero, suc, ◌<◌, ◌≤◌, Bool, true, false, List, [], ◌∷◌, ◌++◌, length, length-append, Option, Some, None, refl, sym, ap, ◌∙◌, subst, arith}
+use Rattle.std.specs.Prelude.{◌+◌, ◌*◌, ◌==◌, ◌&&◌, ◌||◌, not, nat_lt, slice_get, drop, map, if◌then◌else◌}
 use Rattle.std.proofs.lemmas.Bool.{eqb-true, eq-eqb, lt-ltb, ltb-true, ltb-false}
 use Rattle.hd_delivery.specs.Sending.{TooLong}
-use Rattle.hd_calls.specs.Hubs.{Call, Invoked}
-use Rattle.hd_calls.specs.Peers.{PeerEvent, Refuses, Settings, drawn, call_of, given, lost, has_end, has_id, live_call, live_upload, stream_count, waiting, begun, over, live_job}
-use Rattle.hd_calls.specs.Rules.{count_below, sum_below, own_live, live_uploads, live_jobs, shares, clashes, in_use, Unsent, MayMove, Follows}
+use Rattle.hd_calls.specs.Weights.{inputs_weight, reply_weight, job_weight}
+use Rattle.hd_calls.specs.Hubs.{Call, Invoked, upload_input}
+use Rattle.hd_calls.specs.Peers.{PeerEvent, Refuses, Settings, drawn, call_of, given, lost, has_end, has_id, live_call, live_upload, stream_count, waiting, begun, turns, inputs, reply, over, live_job}
+use Rattle.hd_calls.specs.Rules.{count_below, sum_below, own_live, live_uploads, live_jobs, used, inputs_waiting, weight_at, kept_weight, is_heavy, shares, clashes, in_use, Unsent, MayMove, Follows}
 use Rattle.hd_calls.specs.Examples.{hub, sized, short_asks, notice, noticed, one_more, FillsJobs, call_numbered, called_often, FillsCalls}
-use Rattle.hd_calls.proofs.Lists.{both}
+use Rattle.hd_calls.proofs.Lists.{both, get_front}
+use Rattle.hd_calls.proofs.Names.{get_last}
 use Rattle.hd_calls.proofs.Examples.{at_most}
-use Rattle.hd_calls.proofs.Counts.{count_all, count_but_first, any_none, sum_none}
+use Rattle.hd_calls.proofs.Counts.{count_all, count_but_first, any_none, sum_none, sum_each}
+use Rattle.hd_calls.proofs.Weighed.{drop_less, not_heavy}
 
 -- ---- jobs
 
@@ -43,9 +46,48 @@ notice_unused : (t : Settings) (h : List PeerEvent) → in_use t notice h ≡ fa
 notice_unused t h =
     ap (λ b. b || false) (any_none (length (begun h)) (λ j. live_job t j h && clashes notice j h (slice_get (begun h) j)) (λ j. and_false (live_job t j h) (clashes notice j h (slice_get (begun h) j)) (no_clash j h (slice_get (begun h) j))))
 
+-- each job keeps a notice alone
+noticed_unfed : (j k : ℕ) → inputs j (noticed k) ≡ []
+noticed_unfed j zero = refl
+noticed_unfed j (suc k) = noticed_unfed j k
+
+noticed_unanswered : (j k : ℕ) → reply j (noticed k) ≡ None
+noticed_unanswered j zero = refl
+noticed_unanswered j (suc k) = noticed_unanswered j k
+
+noticed_at : (k j : ℕ) → j < length (begun (noticed k)) → slice_get (begun (noticed k)) j ≡ Some notice
+noticed_at zero j l = absurd (omega arith)
+noticed_at (suc k) j l = go (nat_lt j (length (begun (noticed k)))) refl (noticed_at k j)
+  where
+    go : (b : Bool) → nat_lt j (length (begun (noticed k))) ≡ b → (j < length (begun (noticed k)) → slice_get (begun (noticed k)) j ≡ Some notice) → slice_get (begun (noticed k) ++ notice ∷ []) j ≡ Some notice
+    go true e f = get_front (begun (noticed k)) (notice ∷ []) j notice (f (ltb-true j (length (begun (noticed k))) e))
+    go false e f =
+        let m = ltb-false j (length (begun (noticed k))) e in
+        let a = noticed_jobs k in
+        let b = noticed_jobs (suc k) in
+        let z : length (begun (noticed k)) ≡ j = omega arith in
+        subst (λ i. slice_get (begun (noticed k) ++ notice ∷ []) i ≡ Some notice) z (get_last (begun (noticed k)) notice)
+
+noticed_weighs : (t : Settings) (k j : ℕ) → j < length (begun (noticed k)) → weight_at t j (noticed k) ≡ 96
+noticed_weighs t k j l =
+    ap (λ b. if b then job_weight (slice_get (begun (noticed k)) j) (inputs_waiting j (noticed k)) (reply j (noticed k)) else 0) live
+    ∙ (ap (λ o. job_weight o (inputs_waiting j (noticed k)) (reply j (noticed k))) (noticed_at k j l) ∙ (let x = light in let y : reply_weight (reply j (noticed k)) ≡ 0 = ap reply_weight (noticed_unanswered j k) in omega arith))
+  where
+    live : live_job t j (noticed k) ≡ true
+    live = ap (λ b. b && not (over t j (noticed k))) (lt-ltb j (length (begun (noticed k))) l) ∙ ap not (noticed_unended t j k)
+
+    light : inputs_weight (inputs_waiting j (noticed k)) ≤ 0
+    light = subst (λ xs. inputs_weight (drop (used (turns j (noticed k))) (map upload_input xs)) ≤ 0) (sym (noticed_unfed j k)) (drop_less (used (turns j (noticed k))) [])
+
+pub noticed_keeps : (t : Settings) (k : ℕ) → kept_weight t (noticed k) ≡ 96 * k
+noticed_keeps t k = sum_each (length (begun (noticed k))) (λ j. weight_at t j (noticed k)) (λ j l. noticed_weighs t k j l) ∙ ap (λ n. 96 * n) (noticed_jobs k)
+
+noticed_light : (t : Settings) (k : ℕ) → k ≤ 1024 → is_heavy t (noticed k) ≡ false
+noticed_light t k l = not_heavy t (noticed k) (let s = noticed_keeps t k in let m : 96 * 1024 ≤ 16777216 = at_most refl in omega arith)
+
 noticed_follows : (t : Settings) (k : ℕ) → k ≤ 1024 → Follows hub t (noticed k)
 noticed_follows t zero l = tt
-noticed_follows t (suc k) l = ((noticed_follows t k (omega (arith, l)), waits_none k), (refl, (refl, notice_unused t (one_more k), let e = noticed_live t k in omega arith)))
+noticed_follows t (suc k) l = ((noticed_follows t k (omega (arith, l)), waits_none k), (refl, (refl, notice_unused t (one_more k), let e = noticed_live t k in omega arith), sym (noticed_light t (suc k) l)))
   where
     waits_none : (k : ℕ) → waiting (noticed k) ≡ None
     waits_none zero = refl
@@ -55,8 +97,8 @@ pub fills_jobs : (t : Settings) (k : ℕ) → FillsJobs t k
 fills_jobs t k = record {
   live = noticed_live t k;
   may = noticed_follows t k;
-  refused = λ l. (refl, (refl, notice_unused t (one_more k), let e = noticed_live t k in omega arith));
-  begins_none = λ l now m. let e = noticed_live t k in let f = m.1.2 in omega arith;
+  refused = λ l. (refl, (refl, notice_unused t (one_more k), let e = noticed_live t k in omega arith), tt);
+  begins_none = λ l now floods m. let e = noticed_live t k in let f = m.1.2 in omega arith;
 }
 
 -- ---- calls

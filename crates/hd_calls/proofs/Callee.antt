@@ -127,7 +127,7 @@ abbrev pub Within : List Invoked → List ℕ → List PeerEvent → Type 0
 Within cs ns h = ((k : ℕ) (d : Invoked) → slice_get (begun h) k ≡ Some d → slice_get cs k ≡ Some d) × ((k n : ℕ) → slice_get (moments h) k ≡ Some n → slice_get ns k ≡ Some n)
 
 pub within_tail : (cs : List Invoked) (ns : List ℕ) (d : PeerEvent) (h : List PeerEvent) → Within cs ns (d ∷ h) → Within cs ns h
-within_tail cs ns (Handles m (Begins c now)) h w = (λ k e f. w.0 k e (get_front (begun h) (c ∷ []) k e f), λ k n f. w.1 k n (get_front (moments h) (now ∷ []) k n f))
+within_tail cs ns (Handles m (Begins c now floods)) h w = (λ k e f. w.0 k e (get_front (begun h) (c ∷ []) k e f), λ k n f. w.1 k n (get_front (moments h) (now ∷ []) k n f))
 within_tail cs ns (Handles m e) h w = w
 within_tail cs ns (Plain s) h w = w
 within_tail cs ns (Calls a n call) h w = w
@@ -167,7 +167,7 @@ module _ {Job : Type 0} (hub : Hub Job) (t : Settings) (code : Codec) (cs : List
       go ih false g = ih
       go ih true g = let same = same_call k call (w.0 k call p.1.at) g in
           ap (λ x. ends_job t x call.way what || over t j h) s.1 ∙ (ap (λ (x : Invoked). ends_job t code x.way what || over t j h) same ∙ (or_swap (ends_job t code d.way what) (over t j h) ∙ (ap (λ b. b || ends_job t code d.way what) ih ∙ sym (stops_push t code d.way (acts j h) what))))
-  over_is (Handles m (Begins k now) ∷ h) p s w = over_is h p.0 s (within_tail cs ns (Handles m (Begins k now)) h w)
+  over_is (Handles m (Begins k now floods) ∷ h) p s w = over_is h p.0 s (within_tail cs ns (Handles m (Begins k now floods)) h w)
   over_is (Handles m e ∷ h) p s w = over_is h p.0 s w
   over_is (_ ∷ h) p s w = over_is h p.0 s w
 
@@ -188,7 +188,7 @@ module _ {Job : Type 0} (hub : Hub Job) (t : Settings) (code : Codec) (cs : List
             (ap (λ x. told t i h ++ said i (replies t x call.way what)) s.1 ∙ ap (λ (x : Invoked). told t i h ++ said i (replies t code x.way what)) same)
             ∙ (ap (λ xs. told t i h ++ xs) (replies_same t code i d.way what id)
             ∙ (ap (λ xs. xs ++ add (answer_of t code d.way what) []) ih ∙ sym (answers_push t code d.way (acts j h) what (sym (over_is h p.0 s.0 w) ∙ o))))
-    told_answers (Handles m (Begins k now) ∷ h) p s w = told_answers h p.0 s (within_tail cs ns (Handles m (Begins k now)) h w)
+    told_answers (Handles m (Begins k now floods) ∷ h) p s w = told_answers h p.0 s (within_tail cs ns (Handles m (Begins k now floods)) h w)
     told_answers (Handles m e ∷ h) p s w = told_answers h p.0 s w
     told_answers (_ ∷ h) p s w = told_answers h p.0 s w
 
@@ -198,7 +198,7 @@ pub told_nothing : {Job : Type 0} (hub : Hub Job) (t : Settings) (cs : List Invo
 told_nothing hub t cs ns i none [] p w = refl
 told_nothing hub t cs ns i none (Runs k call since turn what ∷ h) p w =
     ap (λ xs. told t i h ++ xs) (replies_other t (codec t h) i call.way what (λ e. none k call (w.0 k call p.1.at) e)) ∙ (append_none (told t i h) ∙ told_nothing hub t cs ns i none h p.0 w)
-told_nothing hub t cs ns i none (Handles m (Begins k now) ∷ h) p w = told_nothing hub t cs ns i none h p.0 (within_tail cs ns (Handles m (Begins k now)) h w)
+told_nothing hub t cs ns i none (Handles m (Begins k now floods) ∷ h) p w = told_nothing hub t cs ns i none h p.0 (within_tail cs ns (Handles m (Begins k now floods)) h w)
 told_nothing hub t cs ns i none (Handles m e ∷ h) p w = told_nothing hub t cs ns i none h p.0 w
 told_nothing hub t cs ns i none (_ ∷ h) p w = told_nothing hub t cs ns i none h p.0 w
 
@@ -301,6 +301,6 @@ acts_run hub t code cs ns j d n at on (Runs k call since turn what ∷ h) p s w 
         let f : finishing (run hub (hub.begin_of (call_for t.who d) n) (turns j h)) ≡ false = ap finishing (sym ih) ∙ finishing_stops t code d.way (acts j h) (sym (over_is hub t code cs ns j d at h p.0 s.0 w) ∙ o) in
         let act_is : what ≡ act_at hub (job_after hub (hub.begin_of (call_for t.who d) n) (turns j h)) turn = p.1.is ∙ (ap (λ q. act_at hub (job_after hub (hub.begin_of (call_for t.who call) since) (turns q h)) turn) (sym z) ∙ (ap (λ q. act_at hub (job_after hub (hub.begin_of (call_for t.who q) since) (turns j h)) turn) e ∙ ap (λ q. act_at hub (job_after hub (hub.begin_of (call_for t.who d) q) (turns j h)) turn) v)) in
         ap (λ xs. xs ++ what ∷ []) ih ∙ (ap (λ q. run hub (hub.begin_of (call_for t.who d) n) (turns j h) ++ q ∷ []) act_is ∙ sym (run_push hub (hub.begin_of (call_for t.who d) n) (turns j h) turn f))
-acts_run hub t code cs ns j d n at on (Handles m (Begins k now) ∷ h) p s w = acts_run hub t code cs ns j d n at on h p.0 s (within_tail cs ns (Handles m (Begins k now)) h w)
+acts_run hub t code cs ns j d n at on (Handles m (Begins k now floods) ∷ h) p s w = acts_run hub t code cs ns j d n at on h p.0 s (within_tail cs ns (Handles m (Begins k now floods)) h w)
 acts_run hub t code cs ns j d n at on (Handles m e ∷ h) p s w = acts_run hub t code cs ns j d n at on h p.0 s w
 acts_run hub t code cs ns j d n at on (_ ∷ h) p s w = acts_run hub t code cs ns j d n at on h p.0 s w

@@ -77,15 +77,15 @@ Ignored t h (ToAnswer i a) = IsStrange t h i a
 Ignored t h _ = Unit {0}
 
 abbrev pub brings : Effect → Bool
-brings (Brings n a) = true
+brings (Brings n a floods) = true
 brings _ = false
 
 strange : (t : Settings) (h : List PeerEvent) (i : List ℕ) (a : Answer) (e : Effect) → Arrives t h i a e → brings e ≡ false → IsStrange t h i a
-strange t h i a (Brings n b) p f = absurd (let z : true ≡ false = f in cc)
+strange t h i a (Brings n b floods) p f = absurd (let z : true ≡ false = f in cc)
 strange t h i a (Feeds j w b) p f = p.1
 strange t h i a Flood p f = p.0
 strange t h i a Nothing p f = p.0
-strange t h i a (Begins c now) p f = absurd p
+strange t h i a (Begins c now floods) p f = absurd p
 strange t h i a (InUse c) p f = absurd p
 strange t h i a (TooMany c) p f = absurd p
 strange t h i a (Marks j) p f = absurd p
@@ -101,17 +101,17 @@ pub record Brought (t : Settings) (h : List PeerEvent) (m : Purpose) (n : ℕ) (
   pub said_is : (i : List ℕ) → said i (m ∷ []) ≡ put (same_text i (t.name n)) a []
   pub taken : takes n a h ≡ true
 
-brought_answer : (t : Settings) (h : List PeerEvent) (i : List ℕ) (a : Answer) (n : ℕ) (b : Answer) → Arrives t h i a (Brings n b) → Brought t h (ToAnswer i a) n b
-brought_answer t h i a n b p = record {
+brought_answer : (t : Settings) (h : List PeerEvent) (i : List ℕ) (a : Answer) (n : ℕ) (b : Answer) (floods : Bool) → Arrives t h i a (Brings n b floods) → Brought t h (ToAnswer i a) n b
+brought_answer t h i a n b floods p = record {
   said_is = λ k. ap (λ x. put (same_text k x) a []) (sym p.1) ∙ ap (λ x. put (same_text k (t.name n)) x []) (sym p.0);
   taken = ap (λ x. takes n x h) p.0 ∙ p.2;
 }
 
-pub brought : (t : Settings) (h : List PeerEvent) (m : Purpose) (n : ℕ) (a : Answer) → ActsOn t h m (Brings n a) → Brought t h m n a
-brought t h (ToAnswer i b) n a p = brought_answer t h i b n a p
-brought t h (ToBegin c) n a p = absurd p
-brought t h (ToCancel i) n a p = absurd p
-brought t h ToNothing n a p = absurd p
+pub brought : (t : Settings) (h : List PeerEvent) (m : Purpose) (n : ℕ) (a : Answer) (floods : Bool) → ActsOn t h m (Brings n a floods) → Brought t h m n a
+brought t h (ToAnswer i b) n a floods p = brought_answer t h i b n a floods p
+brought t h (ToBegin c) n a floods p = absurd p
+brought t h (ToCancel i) n a floods p = absurd p
+brought t h ToNothing n a floods p = absurd p
 
 -- the test of a call that is there
 takes_is : (n : ℕ) (h : List PeerEvent) (c : Invoked) (i : List ℕ) (a : Answer) → call_of n h ≡ Some c → id_of c.way ≡ Some i → takes n a h ≡ (accepts (is_stream c.way) a && (not (has_end (given n h)) && not (lost n h)))
@@ -132,10 +132,10 @@ none_tail n k c o e = both (λ x. x ≡ None → o ≡ None) (n == k) (Some c) o
 pub nothing_given : {Job : Type 0} (hub : Hub Job) (t : Settings) (n : ℕ) (h : List PeerEvent) → Follows hub t h → call_of n h ≡ None → (given n h ≡ []) × (lost n h ≡ false)
 nothing_given hub t n [] p e = (refl, refl)
 nothing_given hub t n (Calls a k d ∷ h) p e = nothing_given hub t n h p.0 (none_tail n k d (call_of n h) e)
-nothing_given hub t n (Handles m (Brings k a) ∷ h) p e =
+nothing_given hub t n (Handles m (Brings k a floods) ∷ h) p e =
     let ih = nothing_given hub t n h p.0 e in (
       both (λ xs. xs ≡ []) (n == k) (given n h ++ a ∷ []) (given n h)
-          (λ f. let z = eqb-true n k f in absurd (live_there n h (takes_live n a h (subst (λ x. takes x a h ≡ true) (sym z) (brought t h (purpose_of m) k a p.1.1).taken)) e))
+          (λ f. let z = eqb-true n k f in absurd (live_there n h (takes_live n a h (subst (λ x. takes x a h ≡ true) (sym z) (brought t h (purpose_of m) k a floods p.1.1).taken)) e))
           (λ f. ih.0),
       ih.1,
     )
@@ -221,18 +221,18 @@ module _ {Job : Type 0} (hub : Hub Job) (t : Settings) (own : (m n : ℕ) → t.
       let w : given n h ≡ heard (is_stream call.way) (said (t.name n) (handled h)) = none.0 ∙ ap (heard (is_stream call.way)) (sym quiet) in
       record { whole = λ f. w; front = ([], append_none (given n h) ∙ w) })
       (λ g q. let r = hears h p.0 k.0 q in record { whole = r.whole; front = r.front }) e
-  hears (Handles m (Brings j a) ∷ h) p k e = go (n == j) refl (hears h p.0 k.0 e)
+  hears (Handles m (Brings j a floods) ∷ h) p k e = go (n == j) refl (hears h p.0 k.0 e)
     where
       b : Brought t h (purpose_of m) j a
-      b = brought t h (purpose_of m) j a p.1.1
+      b = brought t h (purpose_of m) j a floods p.1.1
 
-      go : (x : Bool) → (n == j) ≡ x → Heard t n h call → Heard t n (Handles m (Brings j a) ∷ h) call
+      go : (x : Bool) → (n == j) ≡ x → Heard t n h call → Heard t n (Handles m (Brings j a floods) ∷ h) call
       go true f r =
           let z = eqb-true n j f in
-          let w : given n (Handles m (Brings j a) ∷ h) ≡ heard (is_stream call.way) (said (t.name n) (handled h ++ purpose_of m ∷ [])) = ap (λ y. if y then given n h ++ a ∷ [] else given n h) f ∙ taking h (purpose_of m) a e (subst (λ x. Brought t h (purpose_of m) x a) (sym z) b) r in
-          record { whole = λ l. w; front = ([], append_none (given n (Handles m (Brings j a) ∷ h)) ∙ w) }
+          let w : given n (Handles m (Brings j a floods) ∷ h) ≡ heard (is_stream call.way) (said (t.name n) (handled h ++ purpose_of m ∷ [])) = ap (λ y. if y then given n h ++ a ∷ [] else given n h) f ∙ taking h (purpose_of m) a e (subst (λ x. Brought t h (purpose_of m) x a) (sym z) b) r in
+          record { whole = λ l. w; front = ([], append_none (given n (Handles m (Brings j a floods) ∷ h)) ∙ w) }
       go false f r =
-          let g : given n (Handles m (Brings j a) ∷ h) ≡ given n h = ap (λ y. if y then given n h ++ a ∷ [] else given n h) f in
+          let g : given n (Handles m (Brings j a floods) ∷ h) ≡ given n h = ap (λ y. if y then given n h ++ a ∷ [] else given n h) f in
           let apart : same_text (t.name n) (t.name j) ≡ false = not_true (same_text (t.name n) (t.name j)) (λ q. absurd (let y : false ≡ true = sym f ∙ eq-eqb n j (own n j (same-true (t.name n) (t.name j) q)) in cc)) in
           let u = unmoved h (purpose_of m) (given n h) (lost n h) (b.said_is (t.name n) ∙ ap (λ y. put y a []) apart) (r.whole, r.front) in
           record { whole = λ l. g ∙ u.0 l; front = subst (λ xs. IsPrefix xs (heard (is_stream call.way) (said (t.name n) (handled h ++ purpose_of m ∷ [])))) (sym g) u.1 }

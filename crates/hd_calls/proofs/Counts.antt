@@ -1,8 +1,9 @@
 -- How many numbers below a bound pass a test.
-use Rattle.std.proofs.Common.{◌≡◌, ℕ, zero, suc, ◌<◌, ◌≤◌, Bool, true, false, refl, sym, ap, ◌∙◌, arith}
-use Rattle.std.specs.Prelude.{◌+◌, ◌||◌, if◌then◌else◌}
+use Rattle.std.proofs.Common.{◌≡◌, ℕ, zero, suc, ◌<◌, ◌≤◌, Bool, true, false, refl, sym, ap, ◌∙◌, subst, arith}
+use Rattle.std.specs.Prelude.{◌+◌, ◌*◌, ◌==◌, ◌||◌, if◌then◌else◌}
+use Rattle.std.proofs.lemmas.Bool.{eqb-true}
 use Rattle.hd_calls.specs.Rules.{any_below, count_below, sum_below}
-use Rattle.hd_calls.proofs.Lists.{both}
+use Rattle.hd_calls.proofs.Lists.{both, not_true}
 
 -- if all do
 pub count_all : (n : ℕ) (p : ℕ → Bool) → ((j : ℕ) → j < n → p j ≡ true) → count_below n p ≡ n
@@ -41,6 +42,23 @@ count_cut (suc m) a p f = let e : suc m + a ≡ suc (m + a) = omega arith in ap 
 pub sum_more : (n : ℕ) (f g : ℕ → ℕ) → ((j : ℕ) → j < n → f j ≤ g j) → sum_below n f ≤ sum_below n g
 sum_more zero f g e = omega arith
 sum_more (suc n) f g e = let x = e n (omega arith) in let y = sum_more n f g (λ j l. e j (omega (arith, l))) in omega arith
+
+-- where one number alone adds more, and so much at most
+pub sum_one : (n : ℕ) (f g : ℕ → ℕ) (k x : ℕ) → ((j : ℕ) → (j == k) ≡ false → f j ≤ g j) → f k ≤ g k + x → sum_below n f ≤ sum_below n g + x
+sum_one zero f g k x o l = omega arith
+sum_one (suc n) f g k x o l = go (n == k) refl (sum_one n f g k x o l)
+  where
+    go : (b : Bool) → (n == k) ≡ b → sum_below n f ≤ sum_below n g + x → f n + sum_below n f ≤ (g n + sum_below n g) + x
+    go true e s =
+        let a : f n ≤ g n + x = subst (λ i. f i ≤ g i + x) (sym (eqb-true n k e)) l in
+        let r = sum_more n f g (λ j m. o j (not_true (j == k) (λ d. let y = eqb-true j k d in let z = eqb-true n k e in absurd (omega arith)))) in
+        omega arith
+    go false e s = let a = o n e in omega arith
+
+-- where each adds 96
+pub sum_each : (n : ℕ) (f : ℕ → ℕ) → ((j : ℕ) → j < n → f j ≡ 96) → sum_below n f ≡ 96 * n
+sum_each zero f e = refl
+sum_each (suc n) f e = let x = e n (omega arith) in let y = sum_each n f (λ j l. e j (omega (arith, l))) in omega arith
 
 pub sum_cut : (m a : ℕ) (f : ℕ → ℕ) → ((j : ℕ) → a ≤ j → f j ≡ 0) → sum_below (m + a) f ≡ sum_below a f
 sum_cut zero a f e = let z : 0 + a ≡ a = omega arith in ap (λ k. sum_below k f) z

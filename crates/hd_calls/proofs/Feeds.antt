@@ -42,7 +42,7 @@ module _ {Job : Type 0} (hub : Hub Job) (t : Settings) (j : ℕ) where
       go : (b : Bool) → (reply j h ≡ Some i → SuitsAct (last_of (acts j h)) i) → (if b then None else reply j h) ≡ Some i → SuitsAct (last_of (if b then acts j h ++ what ∷ [] else acts j h)) i
       go true ih f = absurd (cc)
       go false ih f = ih f
-  reply_suits (Handles m (Brings n (End v)) ∷ h) i p e =
+  reply_suits (Handles m (Brings n (End v) floods) ∷ h) i p e =
       both (λ o. o ≡ Some i → SuitsAct (last_of (acts j h)) i) (is_this j (asker_of n h) && asks (last_of (acts j h))) (first_of (reply j h) (Some (input.Asked v))) (reply j h)
       (λ f g. first (reply j h) (and_parts (is_this j (asker_of n h)) (asks (last_of (acts j h))) f).1 g (λ q. reply_suits h i p.0 q))
       (λ f g. reply_suits h i p.0 g) e
@@ -226,6 +226,6 @@ module _ {Job : Type 0} (hub : Hub Job) (t : Settings) (code : Codec) (cs : List
       go : (b : Bool) → IsFeed None (map upload_input (inputs j h)) (turns j h) (acts j h) → IsFeed None (map upload_input (if b then inputs j h ++ (v, a) ∷ [] else inputs j h)) (turns j h) (acts j h)
       go false ih = ih
       go true ih = subst (λ r. IsFeed None r (turns j h) (acts j h)) (sym (map_append (inputs j h) ((v, a) ∷ []))) (feed_more (turns j h) (acts j h) None (map upload_input (inputs j h)) (map upload_input ((v, a) ∷ [])) ih)
-  job_fed (Handles m (Begins k now) ∷ h) p s w = job_fed h p.0 s (within_tail cs ns (Handles m (Begins k now)) h w)
+  job_fed (Handles m (Begins k now floods) ∷ h) p s w = job_fed h p.0 s (within_tail cs ns (Handles m (Begins k now floods)) h w)
   job_fed (Handles m e ∷ h) p s w = job_fed h p.0 s w
   job_fed (_ ∷ h) p s w = job_fed h p.0 s w

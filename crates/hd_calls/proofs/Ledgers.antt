@@ -80,10 +80,10 @@ has_end_last (End w ∷ xs) v = refl
 pub idless : {Job : Type 0} (hub : Hub Job) (t : Settings) (n : ℕ) (h : List PeerEvent) → Follows hub t h → has_id (call_of n h) ≡ false → (given n h ≡ []) × (lost n h ≡ false)
 idless hub t n [] p e = (refl, refl)
 idless hub t n (Calls a k d ∷ h) p e = idless hub t n h p.0 (both (λ o. has_id o ≡ false → has_id (call_of n h) ≡ false) (n == k) (Some d) (call_of n h) (λ g q. fresh hub t n k d h p.0 p.1.made (eqb-true n k g)) (λ g q. q) e)
-idless hub t n (Handles m (Brings k a) ∷ h) p e =
+idless hub t n (Handles m (Brings k a floods) ∷ h) p e =
     let ih = idless hub t n h p.0 e in (
       both (λ xs. xs ≡ []) (n == k) (given n h ++ a ∷ []) (given n h)
-          (λ f. let z = eqb-true n k f in let l = takes_live n a h (subst (λ x. takes x a h ≡ true) (sym z) (brought t h (purpose_of m) k a p.1.1).taken) in absurd (let y : false ≡ true = sym e ∙ (live_call_parts n h l).id in cc))
+          (λ f. let z = eqb-true n k f in let l = takes_live n a h (subst (λ x. takes x a h ≡ true) (sym z) (brought t h (purpose_of m) k a floods p.1.1).taken) in absurd (let y : false ≡ true = sym e ∙ (live_call_parts n h l).id in cc))
           (λ f. ih.0),
       ih.1,
     )
@@ -222,16 +222,16 @@ module _ {Job : Type 0} (hub : Hub Job) (t : Settings) (n : ℕ) (pos : 0 < n) w
             none = λ q. absurd (let z : ◌≡◌ {A = Option Invoked} (Some d) None = sym here ∙ q in cc);
             some = λ e q. let z : Some d ≡ Some e = sym here ∙ q in let y : d ≡ e = cc in record { rest = []; is = book ∙ (ap (λ x. Called x d ∷ []) (sym (eqb-true n k f)) ∙ ap (λ x. Called n x ∷ []) y); legal = tt; finishes = sym (ap (λ xs. has_end xs || lost n h) empty.0 ∙ empty.1) };
           }
-  books (Handles m (Brings k a) ∷ h) p = go (n == k) refl (books h p.0)
+  books (Handles m (Brings k a floods) ∷ h) p = go (n == k) refl (books h p.0)
     where
-      go : (b : Bool) → (n == k) ≡ b → Book n h → Book n (Handles m (Brings k a) ∷ h)
-      go false f b = unchanged n h (Handles m (Brings k a) ∷ h) refl (ap (λ y. if y then ledger n h ++ Got k a ∷ [] else ledger n h) f) (ap (λ y. if y then given n h ++ a ∷ [] else given n h) f) refl b
+      go : (b : Bool) → (n == k) ≡ b → Book n h → Book n (Handles m (Brings k a floods) ∷ h)
+      go false f b = unchanged n h (Handles m (Brings k a floods) ∷ h) refl (ap (λ y. if y then ledger n h ++ Got k a ∷ [] else ledger n h) f) (ap (λ y. if y then given n h ++ a ∷ [] else given n h) f) refl b
       go true f b =
           let z = eqb-true n k f in
-          let e : takes n a h ≡ true = subst (λ x. takes x a h ≡ true) (sym z) (brought t h (purpose_of m) k a p.1.1).taken in
+          let e : takes n a h ≡ true = subst (λ x. takes x a h ≡ true) (sym z) (brought t h (purpose_of m) k a floods p.1.1).taken in
           let l = live_call_parts n h (takes_live n a h e) in
-          let g : given n (Handles m (Brings k a) ∷ h) ≡ given n h ++ a ∷ [] = ap (λ y. if y then given n h ++ a ∷ [] else given n h) f in
-          entry n h (Handles m (Brings k a) ∷ h) (Got k a) refl (ap (λ y. if y then ledger n h ++ Got k a ∷ [] else ledger n h) f) (fits_got n h k a e) (id_call n h l.id) l.unended l.kept
+          let g : given n (Handles m (Brings k a floods) ∷ h) ≡ given n h ++ a ∷ [] = ap (λ y. if y then given n h ++ a ∷ [] else given n h) f in
+          entry n h (Handles m (Brings k a floods) ∷ h) (Got k a) refl (ap (λ y. if y then ledger n h ++ Got k a ∷ [] else ledger n h) f) (fits_got n h k a e) (id_call n h l.id) l.unended l.kept
           (ap (λ xs. has_end xs || lost n h) g ∙ (ap (λ y. has_end (given n h ++ a ∷ []) || y) l.kept ∙ (or_none (has_end (given n h ++ a ∷ [])) ∙ got_ends (given n h) k a l.unended))) b
   books (Handles m x ∷ h) p = let b = books h p.0 in record { none = b.none; some = λ d q. let r = b.some d q in record { rest = r.rest; is = r.is; legal = r.legal; finishes = r.finishes } }
   books (Uploads k w a ∷ h) p = go (n == k) refl (books h p.0)
@@ -310,7 +310,7 @@ sent_answers hub t code cs ns j d at (Runs k call since turn what ∷ h) p s w =
         let o : over t j h ≡ false = (live_parts t j h (subst (λ x. live_job t x h ≡ true) (sym z) (due_live t k h turn p.1.due))).1 in
         (ap (λ x. sent_for t j h ++ add (answer_of t x call.way what) []) s.1 ∙ ap (λ (x : Invoked). sent_for t j h ++ add (answer_of t code x.way what) []) same)
         ∙ (ap (λ xs. xs ++ add (answer_of t code d.way what) []) ih ∙ sym (answers_push t code d.way (acts j h) what (sym (over_is hub t code cs ns j d at h p.0 s.0 w) ∙ o)))
-sent_answers hub t code cs ns j d at (Handles m (Begins k now) ∷ h) p s w = sent_answers hub t code cs ns j d at h p.0 s (within_tail cs ns (Handles m (Begins k now)) h w)
+sent_answers hub t code cs ns j d at (Handles m (Begins k now floods) ∷ h) p s w = sent_answers hub t code cs ns j d at h p.0 s (within_tail cs ns (Handles m (Begins k now floods)) h w)
 sent_answers hub t code cs ns j d at (Handles m e ∷ h) p s w = sent_answers hub t code cs ns j d at h p.0 s w
 sent_answers hub t code cs ns j d at (_ ∷ h) p s w = sent_answers hub t code cs ns j d at h p.0 s w
 
@@ -326,7 +326,7 @@ nothing_sent hub t j (Runs k call since turn what ∷ h) p e =
     both (λ xs. xs ≡ []) (j == k) (sent_for t j h ++ add (answer_of t (codec t h) call.way what) []) (sent_for t j h)
     (λ g. let z = eqb-true j k g in absurd (let y : ◌≡◌ {A = Option Invoked} None (Some call) = sym e ∙ (ap (slice_get (begun h)) z ∙ p.1.at) in cc))
     (λ g. nothing_sent hub t j h p.0 e)
-nothing_sent hub t j (Handles m (Begins k now) ∷ h) p e = nothing_sent hub t j h p.0 (none_front (begun h) (k ∷ []) j e)
+nothing_sent hub t j (Handles m (Begins k now floods) ∷ h) p e = nothing_sent hub t j h p.0 (none_front (begun h) (k ∷ []) j e)
 nothing_sent hub t j (Handles m x ∷ h) p e = nothing_sent hub t j h p.0 e
 nothing_sent hub t j (_ ∷ h) p e = nothing_sent hub t j h p.0 e
 
@@ -370,11 +370,11 @@ dead_live n g e o = let l = live_call_parts n g e in ⊎_elim (λ f. absurd (let
 live_of : (n : ℕ) (g : List PeerEvent) → has_id (call_of n g) ≡ true → has_end (given n g) ≡ false → lost n g ≡ false → live_call n g ≡ true
 live_of n g a b c = ap (λ x. x && (not (has_end (given n g)) && not (lost n g))) a ∙ (ap (λ x. not x && not (lost n g)) b ∙ ap not c)
 
-ended_by : (t : Settings) (h : List PeerEvent) (m : Purpose) (n : ℕ) (v : Ending) → ActsOn t h m (Brings n (End v)) → m ≡ ToAnswer (t.name n) (End v)
-ended_by t h (ToAnswer i a) n v p = ap (ToAnswer i) (sym p.0) ∙ ap (λ k. ToAnswer k (End v)) (sym p.1)
-ended_by t h (ToBegin c) n v p = absurd p
-ended_by t h (ToCancel i) n v p = absurd p
-ended_by t h ToNothing n v p = absurd p
+ended_by : (t : Settings) (h : List PeerEvent) (m : Purpose) (n : ℕ) (v : Ending) (floods : Bool) → ActsOn t h m (Brings n (End v) floods) → m ≡ ToAnswer (t.name n) (End v)
+ended_by t h (ToAnswer i a) n v floods p = ap (ToAnswer i) (sym p.0) ∙ ap (λ k. ToAnswer k (End v)) (sym p.1)
+ended_by t h (ToBegin c) n v floods p = absurd p
+ended_by t h (ToCancel i) n v floods p = absurd p
+ended_by t h ToNothing n v floods p = absurd p
 
 module _ {Job : Type 0} (hub : Hub Job) (t : Settings) (h : List PeerEvent) (n : ℕ) (shut : is_shut t h ≡ true) (live : live_call n h ≡ true) where
   pub stays_closed : (ds : List PeerEvent) → is_shut t (ds ++ h) ≡ true
@@ -399,12 +399,12 @@ module _ {Job : Type 0} (hub : Hub Job) (t : Settings) (h : List PeerEvent) (n :
   dead : (g : List PeerEvent) → lost n g ≡ false → (v : Ending) → given n g ≡ given n h ++ End v ∷ [] → has_end (given n g) ≡ true
   dead g l v x = ap has_end x ∙ has_end_last (given n h) v
 
-  brought_after : (g : List PeerEvent) (m : Message) (a : Answer) → takes n a g ≡ true → ActsOn t g (purpose_of m) (Brings n a) → waiting g ≡ Some m → given n (Handles m (Brings n a) ∷ g) ≡ given n g ++ a ∷ [] → Track n h g → After t n h g → After t n h (Handles m (Brings n a) ∷ g)
-  brought_after g m a e what w f tr (IsGone l x) = absurd (dead_takes n a g e (inr l))
-  brought_after g m a e what w f tr (Ends v k l q y x) = absurd (dead_takes n a g e (inl (dead g l v x)))
-  brought_after g m (Item v) e what w f tr (Lives l) = let q = live_call_parts n g l in Lives (live_of n (Handles m (Brings n (Item v)) ∷ g) q.id (ap has_end f ∙ has_end_push (given n g) v q.unended) q.kept)
-  brought_after g m (End v) e what w f (Over z) (Lives l) = absurd (let y : ◌≡◌ {A = Option Message} None (Some m) = sym z ∙ w in cc)
-  brought_after g m (End v) e what w f (Same z y) (Lives l) = let q = live_call_parts n g l in Ends v m q.kept (sym z ∙ w) (ended_by t g (purpose_of m) n v what) (f ∙ ap (λ xs. xs ++ End v ∷ []) y)
+  brought_after : (g : List PeerEvent) (m : Message) (a : Answer) (floods : Bool) → takes n a g ≡ true → ActsOn t g (purpose_of m) (Brings n a floods) → waiting g ≡ Some m → given n (Handles m (Brings n a floods) ∷ g) ≡ given n g ++ a ∷ [] → Track n h g → After t n h g → After t n h (Handles m (Brings n a floods) ∷ g)
+  brought_after g m a floods e what w f tr (IsGone l x) = absurd (dead_takes n a g e (inr l))
+  brought_after g m a floods e what w f tr (Ends v k l q y x) = absurd (dead_takes n a g e (inl (dead g l v x)))
+  brought_after g m (Item v) floods e what w f tr (Lives l) = let q = live_call_parts n g l in Lives (live_of n (Handles m (Brings n (Item v) floods) ∷ g) q.id (ap has_end f ∙ has_end_push (given n g) v q.unended) q.kept)
+  brought_after g m (End v) floods e what w f (Over z) (Lives l) = absurd (let y : ◌≡◌ {A = Option Message} None (Some m) = sym z ∙ w in cc)
+  brought_after g m (End v) floods e what w f (Same z y) (Lives l) = let q = live_call_parts n g l in Ends v m q.kept (sym z ∙ w) (ended_by t g (purpose_of m) n v floods what) (f ∙ ap (λ xs. xs ++ End v ∷ []) y)
 
   lost_after : (g : List PeerEvent) → live_call n g ≡ true → lost n (Loses n ∷ g) ≡ true → After t n h g → After t n h (Loses n ∷ g)
   lost_after g e l (Lives x) = IsGone l (live_call_parts n g x).unended
@@ -423,15 +423,15 @@ module _ {Job : Type 0} (hub : Hub Job) (t : Settings) (h : List PeerEvent) (n :
       called_after true f (IsGone l x) = IsGone l x
       called_after true f (Ends v m l w q x) = Ends v m l w q x
       called_after true f (Lives l) = absurd (let z : false ≡ true = sym (fresh hub t n k d (ds ++ h) p.0 p.1.made (eqb-true n k f)) ∙ (live_call_parts n (ds ++ h) l).id in cc)
-  after (Handles m (Brings k a) ∷ ds) p o = handled_after (n == k) refl (after ds p.0 o) (tracks ds p.0 o)
+  after (Handles m (Brings k a floods) ∷ ds) p o = handled_after (n == k) refl (after ds p.0 o) (tracks ds p.0 o)
     where
-      handled_after : (b : Bool) → (n == k) ≡ b → After t n h (ds ++ h) → Track n h (ds ++ h) → After t n h (Handles m (Brings k a) ∷ (ds ++ h))
-      handled_after false f r tr = keep (Handles m (Brings k a)) (ds ++ h) refl (ap (λ y. if y then given n (ds ++ h) ++ a ∷ [] else given n (ds ++ h)) f) refl r
+      handled_after : (b : Bool) → (n == k) ≡ b → After t n h (ds ++ h) → Track n h (ds ++ h) → After t n h (Handles m (Brings k a floods) ∷ (ds ++ h))
+      handled_after false f r tr = keep (Handles m (Brings k a floods)) (ds ++ h) refl (ap (λ y. if y then given n (ds ++ h) ++ a ∷ [] else given n (ds ++ h)) f) refl r
       handled_after true f r tr =
           let z = eqb-true n k f in
-          let what : ActsOn t (ds ++ h) (purpose_of m) (Brings n a) = subst (λ x. ActsOn t (ds ++ h) (purpose_of m) (Brings x a)) (sym z) p.1.1 in
-          subst (λ x. After t n h (Handles m (Brings x a) ∷ (ds ++ h))) z
-          (brought_after (ds ++ h) m a (brought t (ds ++ h) (purpose_of m) n a what).taken what p.1.0 (ap (λ y. if y then given n (ds ++ h) ++ a ∷ [] else given n (ds ++ h)) (eq-eqb n n refl)) tr r)
+          let what : ActsOn t (ds ++ h) (purpose_of m) (Brings n a floods) = subst (λ x. ActsOn t (ds ++ h) (purpose_of m) (Brings x a floods)) (sym z) p.1.1 in
+          subst (λ x. After t n h (Handles m (Brings x a floods) ∷ (ds ++ h))) z
+          (brought_after (ds ++ h) m a floods (brought t (ds ++ h) (purpose_of m) n a floods what).taken what p.1.0 (ap (λ y. if y then given n (ds ++ h) ++ a ∷ [] else given n (ds ++ h)) (eq-eqb n n refl)) tr r)
   after (Handles m e ∷ ds) p o = keep (Handles m e) (ds ++ h) refl refl refl (after ds p.0 o)
   after (Loses k ∷ ds) p o = loses_after (n == k) refl (after ds p.0 o)
     where

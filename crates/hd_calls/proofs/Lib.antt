@@ -15,8 +15,10 @@ pub mod Once
 pub mod Tables
 pub mod Examples
 pub mod Counts
+pub mod Weighed
 pub mod Bounds
 pub mod Faithful
 pub mod Hostile
+pub mod Heavy
 pub mod Limits
 pub mod Ids

@@ -3,15 +3,15 @@ use Rattle.std.proofs.Common.{inl, inr, ⊎_elim, ◌≡◌, ℕ, suc, ◌<◌, 
 use Rattle.std.specs.Prelude.{◌⊎◌, ◌+◌, ◌-◌, max, is_some, ◌==◌, ◌||◌, ◌&&◌, not, nat_lt, if◌then◌else◌}
 use Rattle.std.proofs.lemmas.Bool.{or_cases, and_parts, not-true, eqb-true, eq-eqb, lt-ltb}
 use Rattle.hm_message.specs.declared.message.Message.{Message}
-use Rattle.hd_calls.specs.declared.vocabulary.Input.TheVariants as input
 use Rattle.hd_calls.specs.Numbers.{most_live, most_inputs, most_numbers}
-use Rattle.hd_calls.specs.Hubs.{Way, Notify, Call, Stream, Invoked, Answer, Item, End, Purpose, ToBegin, ToAnswer, ToCancel, ToNothing, Turn, Given, Hub, id_of, purpose_of}
+use Rattle.hd_calls.specs.Hubs.{Way, Notify, Call, Stream, Invoked, Answer, Item, End, Purpose, ToBegin, ToAnswer, ToCancel, ToNothing, Hub, id_of, purpose_of}
 use Rattle.hd_calls.specs.Peers.{Begins, Brings, Feeds, PeerEvent, Calls, Uploads, Handles, Runs, Loses, Settings, drawn, call_of, given, lost, has_end, has_id, live_call, uploaded, stream_count, live_upload, begun, turns, inputs, over, live_job, ends_job, codec}
 use Rattle.hd_calls.specs.Rules.{count_below, sum_below, MadeAs, live_uploads, own_live, new_live, new_numbers, live_jobs, used, inputs_left, ActsOn, Follows}
 use Rattle.hd_calls.specs.Laws.{IsBounded}
 use Rattle.hd_calls.proofs.Lists.{both, not_true}
 use Rattle.hd_calls.proofs.Caller.{undrawn}
 use Rattle.hd_calls.proofs.Counts.{count_more, count_at_most, count_one, count_cut, sum_more, sum_cut}
+use Rattle.hd_calls.proofs.Weighed.{used_push, weight_bound}
 
 -- ---- numbers
 
@@ -32,14 +32,8 @@ drawn_bound hub t (_ ∷ h) p = drawn_bound hub t h p.0
 
 -- ---- inputs
 
-used_push : (ts : List Turn) (u : Turn) → used ts ≤ used (ts ++ u ∷ [])
-used_push [] u = omega arith
-used_push (Given (input.Item w v) now ∷ ts) u = let l = used_push ts u in omega arith
-used_push (Given (input.StreamEnd w e) now ∷ ts) u = let l = used_push ts u in omega arith
-used_push (_ ∷ ts) u = used_push ts u
-
 fed_room : (t : Settings) (h : List PeerEvent) (m : Purpose) (k w : ℕ) (a : Answer) → ActsOn t h m (Feeds k w a) → inputs_left k h < most_inputs
-fed_room t h (ToAnswer i b) k w a p = p.3
+fed_room t h (ToAnswer i b) k w a p = p.3.few
 fed_room t h (ToBegin c) k w a p = absurd p
 fed_room t h (ToCancel i) k w a p = absurd p
 fed_room t h ToNothing k w a p = absurd p
@@ -65,11 +59,11 @@ inputs_bound hub t j (_ ∷ h) p = inputs_bound hub t j h p.0
 
 -- ---- jobs
 
-begin_room : (t : Settings) (h : List PeerEvent) (m : Purpose) (c : Invoked) (now : ℕ) → ActsOn t h m (Begins c now) → live_jobs t h < most_live
-begin_room t h (ToBegin d) c now p = p.2
-begin_room t h (ToAnswer i b) c now p = absurd p
-begin_room t h (ToCancel i) c now p = absurd p
-begin_room t h ToNothing c now p = absurd p
+begin_room : (t : Settings) (h : List PeerEvent) (m : Purpose) (c : Invoked) (now : ℕ) (floods : Bool) → ActsOn t h m (Begins c now floods) → live_jobs t h < most_live
+begin_room t h (ToBegin d) c now floods p = p.2
+begin_room t h (ToAnswer i b) c now floods p = absurd p
+begin_room t h (ToCancel i) c now floods p = absurd p
+begin_room t h ToNothing c now floods p = absurd p
 
 right_false : (a b : Bool) → (a || b) ≡ false → b ≡ false
 right_false true b e = absurd (let z : true ≡ false = e in cc)
@@ -84,10 +78,10 @@ jobs_bound hub t (Runs k c since turn what ∷ h) p =
     let r = right_false ((j == k) && ends_job t (codec t h) c.way what) (over t j h) (not-true (((j == k) && ends_job t (codec t h) c.way what) || over t j h) q.1) in
     ap (λ x. x && not (over t j h)) q.0 ∙ ap not r) in
     omega arith
-jobs_bound hub t (Handles m (Begins c now) ∷ h) p =
-    let r = begin_room t h (purpose_of m) c now p.1.1 in
+jobs_bound hub t (Handles m (Begins c now floods) ∷ h) p =
+    let r = begin_room t h (purpose_of m) c now floods p.1.1 in
     let n : length (begun h ++ c ∷ []) ≡ suc (length (begun h)) = length-append (begun h) (c ∷ []) ∙ (let y : length (c ∷ []) ≡ 1 = refl in omega arith) in
-    let test : ℕ → Bool = λ j. live_job t j (Handles m (Begins c now) ∷ h) in
+    let test : ℕ → Bool = λ j. live_job t j (Handles m (Begins c now floods) ∷ h) in
     let a : count_below (length (begun h ++ c ∷ [])) test ≡ count_below (suc (length (begun h))) test = ap (λ k. count_below k test) n in
     let o = count_one (length (begun h)) test in
     let l : count_below (length (begun h)) test ≤ live_jobs t h = count_more (length (begun h)) test (λ j. live_job t j h) (λ j b e.
@@ -138,8 +132,8 @@ none_more h g r =
     let c : own_live g ≡ count_below (suc (drawn h)) (λ n. live_call n g) + sum_below (suc (drawn h)) (λ n. live_uploads n g) = ap (λ d. count_below (suc d) (λ n. live_call n g) + sum_below (suc d) (λ n. live_uploads n g)) r.drawn_same in
     omega arith
 
-brings_less : (m : Message) (k : ℕ) (a : Answer) (h : List PeerEvent) (n : ℕ) → live_call n (Handles m (Brings k a) ∷ h) ≡ true → live_call n h ≡ true
-brings_less m k a h n e = live_less (has_id (call_of n h)) (has_end (given n h)) (has_end (if n == k then given n h ++ a ∷ [] else given n h)) (lost n h) (lost n h)
+brings_less : (m : Message) (k : ℕ) (a : Answer) (floods : Bool) (h : List PeerEvent) (n : ℕ) → live_call n (Handles m (Brings k a floods) ∷ h) ≡ true → live_call n h ≡ true
+brings_less m k a floods h n e = live_less (has_id (call_of n h)) (has_end (given n h)) (has_end (if n == k then given n h ++ a ∷ [] else given n h)) (lost n h) (lost n h)
     (λ f. both (λ xs. has_end xs ≡ false → has_end (given n h) ≡ false) (n == k) (given n h ++ a ∷ []) (given n h) (λ g q. has_end_front (given n h) (a ∷ []) q) (λ g q. q) f) (λ f. f) e
 
 loses_less : (k : ℕ) (h : List PeerEvent) (n : ℕ) → live_call n (Loses k ∷ h) ≡ true → live_call n h ≡ true
@@ -236,8 +230,8 @@ own_bound hub t (Calls a k c ∷ h) p = ⊎_elim
     (λ e. let l = notice_none a k c h e.0 e.1 e.2 in let m = own_bound hub t h p.0 in omega arith)
     (λ e. let l = call_more a k c h e in let m = p.1.place.few_live in omega arith)
     (made_cases t (drawn h) k c.way c p.1.made)
-own_bound hub t (Handles m (Brings k a) ∷ h) p =
-    let l = none_more h (Handles m (Brings k a) ∷ h) (record { drawn_same = refl; calls_same = λ n. refl; calls = brings_less m k a h; uploads = λ n w e. upload_less (nat_lt w (stream_count (call_of n h))) (has_end (uploaded n w h)) (has_end (uploaded n w h)) (live_call n h) (live_call n (Handles m (Brings k a) ∷ h)) (not (has_id (call_of n h))) (λ f. f) (brings_less m k a h n) e }) in
+own_bound hub t (Handles m (Brings k a floods) ∷ h) p =
+    let l = none_more h (Handles m (Brings k a floods) ∷ h) (record { drawn_same = refl; calls_same = λ n. refl; calls = brings_less m k a floods h; uploads = λ n w e. upload_less (nat_lt w (stream_count (call_of n h))) (has_end (uploaded n w h)) (has_end (uploaded n w h)) (live_call n h) (live_call n (Handles m (Brings k a floods) ∷ h)) (not (has_id (call_of n h))) (λ f. f) (brings_less m k a floods h n) e }) in
     let b = own_bound hub t h p.0 in
     omega arith
 own_bound hub t (Handles m e ∷ h) p = own_bound hub t h p.0
@@ -258,4 +252,4 @@ own_bound hub t (Uploads k v a ∷ h) p =
 own_bound hub t (_ ∷ h) p = own_bound hub t h p.0
 
 pub bounded : {Job : Type 0} (hub : Hub Job) (t : Settings) (h : List PeerEvent) → Follows hub t h → IsBounded t h
-bounded hub t h p = record { own = own_bound hub t h p; jobs = jobs_bound hub t h p; waiting = λ j. inputs_bound hub t j h p; numbers = drawn_bound hub t h p }
+bounded hub t h p = record { own = own_bound hub t h p; jobs = jobs_bound hub t h p; waiting = λ j. inputs_bound hub t j h p; numbers = drawn_bound hub t h p; weight = weight_bound hub t h p }

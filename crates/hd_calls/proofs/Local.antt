@@ -157,19 +157,19 @@ pub record Refusing (t : Settings) (h : List PeerEvent) : Type 0 where
 
 -- the call that a message made, by its effect
 abbrev pub calls_in : Effect → List Invoked
-calls_in (Begins c now) = c ∷ []
+calls_in (Begins c now floods) = c ∷ []
 calls_in (InUse c) = c ∷ []
 calls_in (TooMany c) = c ∷ []
 calls_in _ = []
 
 arrives_in : (t : Settings) (h : List PeerEvent) (i : List ℕ) (a : Answer) (e : Effect) → Arrives t h i a e → calls_in e ≡ []
-arrives_in t h i a (Begins c now) p = absurd p
+arrives_in t h i a (Begins c now floods) p = absurd p
 arrives_in t h i a (InUse c) p = absurd p
 arrives_in t h i a (TooMany c) p = absurd p
 arrives_in t h i a _ p = refl
 
 pub effect_in : (t : Settings) (h : List PeerEvent) (m : Purpose) (e : Effect) → ActsOn t h m e → calls_in e ≡ invoked (m ∷ [])
-effect_in t h (ToBegin c) (Begins d now) p = ap (λ x. x ∷ []) p.0
+effect_in t h (ToBegin c) (Begins d now floods) p = ap (λ x. x ∷ []) p.0
 effect_in t h (ToBegin c) (InUse d) p = ap (λ x. x ∷ []) p.0
 effect_in t h (ToBegin c) (TooMany d) p = ap (λ x. x ∷ []) p.0
 effect_in t h (ToBegin c) _ p = absurd p
@@ -219,11 +219,11 @@ module _ {Job : Type 0} (hub : Hub Job) (t : Settings) where
       let r = refusing h p.0 o.0 in
       let z : refused h ≡ [] = none_of (refused h) (λ l. let f = (r.last l).0 in let g = o.1 in absurd (let y : true ≡ false = sym f ∙ g in cc)) in
       record { jobs = r.jobs; last = λ l. absurd (let y : 0 < length {A = Invoked} [] = subst (λ xs. 0 < length xs) z l in omega arith); few = r.few }
-  refusing (Handles m (Begins k now) ∷ h) p o =
+  refusing (Handles m (Begins k now floods) ∷ h) p o =
       let r = refusing h p.0 o in
       let z = none_yet h m r p.1.0 in
       let before : begun h ≡ invoked (handled h) = sym (append_none (begun h)) ∙ (ap (λ xs. begun h ++ xs) (sym z) ∙ r.jobs) in record {
-        jobs = ap (λ xs. (begun h ++ k ∷ []) ++ xs) z ∙ (append_none (begun h ++ k ∷ []) ∙ (ap (λ xs. xs ++ k ∷ []) before ∙ (ap (λ xs. invoked (handled h) ++ xs) (effect_in t h (purpose_of m) (Begins k now) p.1.1) ∙ sym (invoked-append (handled h) (purpose_of m ∷ [])))));
+        jobs = ap (λ xs. (begun h ++ k ∷ []) ++ xs) z ∙ (append_none (begun h ++ k ∷ []) ∙ (ap (λ xs. xs ++ k ∷ []) before ∙ (ap (λ xs. invoked (handled h) ++ xs) (effect_in t h (purpose_of m) (Begins k now floods) p.1.1) ∙ sym (invoked-append (handled h) (purpose_of m ∷ [])))));
         last = λ l. absurd (let y : 0 < length {A = Invoked} [] = subst (λ xs. 0 < length xs) z l in omega arith);
         few = r.few;
       }

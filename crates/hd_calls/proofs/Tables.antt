@@ -1,6 +1,6 @@
 -- What a peer's history says of its calls and jobs, its tables see in their own happenings.
 use Rattle.std.proofs.Common.{◌≡◌, ℕ, zero, suc, Bool, true, false, List, [], ◌∷◌, ◌++◌, Option, Some, None, refl, sym, ap, ◌∙◌}
-use Rattle.std.specs.Prelude.{◌+◌, ◌-◌, max, length, nat_lt, is_some, option_map, slice_get, ◌==◌, ◌||◌, ◌&&◌, not, if◌then◌else◌}
+use Rattle.std.specs.Prelude.{◌+◌, ◌-◌, max, length, drop, map, nat_lt, is_some, option_map, slice_get, ◌==◌, ◌||◌, ◌&&◌, not, if◌then◌else◌}
 use Rattle.std.proofs.lemmas.Bool.{eqb-true}
 use Rattle.hm_message.specs.declared.message.Codec.{Codec}
 use Rattle.hm_message.specs.declared.message.Ending.{Ending}
@@ -9,43 +9,44 @@ use Rattle.hd_calls.specs.declared.vocabulary.Input.{Input}
 use Rattle.hd_calls.specs.declared.vocabulary.Input.TheVariants as input
 use Rattle.hd_calls.specs.declared.vocabulary.Act.{Act}
 use Rattle.hd_calls.specs.declared.vocabulary.Act.TheVariants as act
+use Rattle.hd_calls.specs.Weights.{job_weight}
 use Rattle.hd_calls.specs.Hubs.{Way, Notify, Call, Stream, Invoked, End, Turn, id_of, upload_input}
 use Rattle.hd_calls.specs.Peers.{Begins, Brings, Feeds, Marks, PeerEvent, Calls, Uploads, Handles, Runs, Answers, Refuses, Loses, Settings, drawn, call_of, given, lost, has_end, has_id, live_call, uploaded, stream_count, live_upload, begun, moments, turns, acts, inputs, is_cancelled, asker_of, last_of, asks, ask_refused, reply, ends_job, add, codec, over, Rounds, of_stream, live_job}
-use Rattle.hd_calls.specs.Rules.{any_below, count_below, sum_below, live_uploads, own_live, live_jobs, used, inputs_left, next_input, is_due, first_from, passed, next_job, is_among, repeats, same_id, shares, clashes, in_use}
-use Rattle.hd_calls.specs.Tables.{call_happenings, drawn_in, call_in, given_in, lost_in, uploaded_in, live_call_in, live_upload_in, JobHappening, Turned, Ended, Replied, cut_short, reply_to, job_happenings, begun_in, moments_in, turns_in, acts_in, inputs_in, marked_in, over_in, reply_in, live_uploads_in, own_live_in, passed_in, live_job_in, live_jobs_in, inputs_left_in, shares_in, clashes_in, in_use_in, next_input_in, is_due_in, next_job_in}
+use Rattle.hd_calls.specs.Rules.{any_below, count_below, sum_below, live_uploads, own_live, live_jobs, used, inputs_left, inputs_waiting, weight_at, kept_weight, next_input, is_due, first_from, passed, next_job, is_among, repeats, same_id, shares, clashes, in_use}
+use Rattle.hd_calls.specs.Tables.{call_happenings, drawn_in, call_in, given_in, lost_in, uploaded_in, live_call_in, live_upload_in, JobHappening, Turned, Ended, Replied, cut_short, reply_to, job_happenings, begun_in, moments_in, turns_in, acts_in, inputs_in, marked_in, over_in, reply_in, live_uploads_in, own_live_in, passed_in, live_job_in, live_jobs_in, inputs_left_in, inputs_waiting_in, weight_in, kept_weight_in, shares_in, clashes_in, in_use_in, next_input_in, is_due_in, next_job_in}
 use Rattle.hd_calls.specs.Laws.{CallsAgree, JobsAgree}
 
 pub drawn_is : (h : List PeerEvent) → drawn h ≡ drawn_in (call_happenings h)
 drawn_is [] = refl
 drawn_is (Calls a n c ∷ h) = ap (λ x. max x (n + length c.streams)) (drawn_is h)
-drawn_is (Handles m (Brings n a) ∷ h) = drawn_is h
+drawn_is (Handles m (Brings n a floods) ∷ h) = drawn_is h
 drawn_is (Handles m e ∷ h) = drawn_is h
 drawn_is (_ ∷ h) = drawn_is h
 
 pub call_is : (n : ℕ) (h : List PeerEvent) → call_of n h ≡ call_in n (call_happenings h)
 call_is n [] = refl
 call_is n (Calls a k c ∷ h) = ap (λ x. if n == k then Some c else x) (call_is n h)
-call_is n (Handles m (Brings k a) ∷ h) = call_is n h
+call_is n (Handles m (Brings k a floods) ∷ h) = call_is n h
 call_is n (Handles m e ∷ h) = call_is n h
 call_is n (_ ∷ h) = call_is n h
 
 pub given_is : (n : ℕ) (h : List PeerEvent) → given n h ≡ given_in n (call_happenings h)
 given_is n [] = refl
-given_is n (Handles m (Brings k a) ∷ h) = ap (λ x. if n == k then x ++ a ∷ [] else x) (given_is n h)
+given_is n (Handles m (Brings k a floods) ∷ h) = ap (λ x. if n == k then x ++ a ∷ [] else x) (given_is n h)
 given_is n (Handles m e ∷ h) = given_is n h
 given_is n (_ ∷ h) = given_is n h
 
 pub lost_is : (n : ℕ) (h : List PeerEvent) → lost n h ≡ lost_in n (call_happenings h)
 lost_is n [] = refl
 lost_is n (Loses k ∷ h) = ap (λ x. (n == k) || x) (lost_is n h)
-lost_is n (Handles m (Brings k a) ∷ h) = lost_is n h
+lost_is n (Handles m (Brings k a floods) ∷ h) = lost_is n h
 lost_is n (Handles m e ∷ h) = lost_is n h
 lost_is n (_ ∷ h) = lost_is n h
 
 pub uploaded_is : (n w : ℕ) (h : List PeerEvent) → uploaded n w h ≡ uploaded_in n w (call_happenings h)
 uploaded_is n w [] = refl
 uploaded_is n w (Uploads k v a ∷ h) = ap (λ x. if (n == k) && (w == v) then x ++ a ∷ [] else x) (uploaded_is n w h)
-uploaded_is n w (Handles m (Brings k a) ∷ h) = uploaded_is n w h
+uploaded_is n w (Handles m (Brings k a floods) ∷ h) = uploaded_is n w h
 uploaded_is n w (Handles m e ∷ h) = uploaded_is n w h
 uploaded_is n w (_ ∷ h) = uploaded_is n w h
 
@@ -83,30 +84,30 @@ reply_turns f same h e (Some j) xs = go (asks (last_of (acts j h)) && not (is_so
 
 pub begun_is : (t : Settings) (h : List PeerEvent) → begun h ≡ begun_in (job_happenings t h)
 begun_is t [] = refl
-begun_is t (Handles m (Begins c now) ∷ h) = ap (λ x. x ++ c ∷ []) (begun_is t h)
-begun_is t (Handles m (Brings n (End e)) ∷ h) = begun_is t h ∙ sym (reply_turns begun_in (λ j i xs. refl) h e (asker_of n h) (job_happenings t h))
+begun_is t (Handles m (Begins c now floods) ∷ h) = ap (λ x. x ++ c ∷ []) (begun_is t h)
+begun_is t (Handles m (Brings n (End e) floods) ∷ h) = begun_is t h ∙ sym (reply_turns begun_in (λ j i xs. refl) h e (asker_of n h) (job_happenings t h))
 begun_is t (Handles m e ∷ h) = begun_is t h
 begun_is t (Runs j c since turn what ∷ h) = begun_is t h ∙ sym (cut_turns begun_in (λ k xs. refl) t (codec t h) c.way j what (Turned j turn what ∷ job_happenings t h))
 begun_is t (_ ∷ h) = begun_is t h
 
 pub moments_are : (t : Settings) (h : List PeerEvent) → moments h ≡ moments_in (job_happenings t h)
 moments_are t [] = refl
-moments_are t (Handles m (Begins c now) ∷ h) = ap (λ x. x ++ now ∷ []) (moments_are t h)
-moments_are t (Handles m (Brings n (End e)) ∷ h) = moments_are t h ∙ sym (reply_turns moments_in (λ j i xs. refl) h e (asker_of n h) (job_happenings t h))
+moments_are t (Handles m (Begins c now floods) ∷ h) = ap (λ x. x ++ now ∷ []) (moments_are t h)
+moments_are t (Handles m (Brings n (End e) floods) ∷ h) = moments_are t h ∙ sym (reply_turns moments_in (λ j i xs. refl) h e (asker_of n h) (job_happenings t h))
 moments_are t (Handles m e ∷ h) = moments_are t h
 moments_are t (Runs j c since turn what ∷ h) = moments_are t h ∙ sym (cut_turns moments_in (λ k xs. refl) t (codec t h) c.way j what (Turned j turn what ∷ job_happenings t h))
 moments_are t (_ ∷ h) = moments_are t h
 
 pub turns_are : (t : Settings) (j : ℕ) (h : List PeerEvent) → turns j h ≡ turns_in j (job_happenings t h)
 turns_are t j [] = refl
-turns_are t j (Handles m (Brings n (End e)) ∷ h) = turns_are t j h ∙ sym (reply_turns (turns_in j) (λ k i xs. refl) h e (asker_of n h) (job_happenings t h))
+turns_are t j (Handles m (Brings n (End e) floods) ∷ h) = turns_are t j h ∙ sym (reply_turns (turns_in j) (λ k i xs. refl) h e (asker_of n h) (job_happenings t h))
 turns_are t j (Handles m e ∷ h) = turns_are t j h
 turns_are t j (Runs k c since turn what ∷ h) = ap (λ x. if j == k then x ++ turn ∷ [] else x) (turns_are t j h) ∙ sym (cut_turns (turns_in j) (λ k xs. refl) t (codec t h) c.way k what (Turned k turn what ∷ job_happenings t h))
 turns_are t j (_ ∷ h) = turns_are t j h
 
 pub acts_are : (t : Settings) (j : ℕ) (h : List PeerEvent) → acts j h ≡ acts_in j (job_happenings t h)
 acts_are t j [] = refl
-acts_are t j (Handles m (Brings n (End e)) ∷ h) = acts_are t j h ∙ sym (reply_turns (acts_in j) (λ k i xs. refl) h e (asker_of n h) (job_happenings t h))
+acts_are t j (Handles m (Brings n (End e) floods) ∷ h) = acts_are t j h ∙ sym (reply_turns (acts_in j) (λ k i xs. refl) h e (asker_of n h) (job_happenings t h))
 acts_are t j (Handles m e ∷ h) = acts_are t j h
 acts_are t j (Runs k c since turn what ∷ h) = ap (λ x. if j == k then x ++ what ∷ [] else x) (acts_are t j h) ∙ sym (cut_turns (acts_in j) (λ k xs. refl) t (codec t h) c.way k what (Turned k turn what ∷ job_happenings t h))
 acts_are t j (_ ∷ h) = acts_are t j h
@@ -114,7 +115,7 @@ acts_are t j (_ ∷ h) = acts_are t j h
 pub inputs_are : (t : Settings) (j : ℕ) (h : List PeerEvent) → inputs j h ≡ inputs_in j (job_happenings t h)
 inputs_are t j [] = refl
 inputs_are t j (Handles m (Feeds k w a) ∷ h) = ap (λ x. if j == k then x ++ (w, a) ∷ [] else x) (inputs_are t j h)
-inputs_are t j (Handles m (Brings n (End e)) ∷ h) = inputs_are t j h ∙ sym (reply_turns (inputs_in j) (λ k i xs. refl) h e (asker_of n h) (job_happenings t h))
+inputs_are t j (Handles m (Brings n (End e) floods) ∷ h) = inputs_are t j h ∙ sym (reply_turns (inputs_in j) (λ k i xs. refl) h e (asker_of n h) (job_happenings t h))
 inputs_are t j (Handles m e ∷ h) = inputs_are t j h
 inputs_are t j (Runs k c since turn what ∷ h) = inputs_are t j h ∙ sym (cut_turns (inputs_in j) (λ k xs. refl) t (codec t h) c.way k what (Turned k turn what ∷ job_happenings t h))
 inputs_are t j (_ ∷ h) = inputs_are t j h
@@ -122,7 +123,7 @@ inputs_are t j (_ ∷ h) = inputs_are t j h
 pub marks_are : (t : Settings) (j : ℕ) (h : List PeerEvent) → is_cancelled j h ≡ marked_in j (job_happenings t h)
 marks_are t j [] = refl
 marks_are t j (Handles m (Marks k) ∷ h) = ap (λ x. (j == k) || x) (marks_are t j h)
-marks_are t j (Handles m (Brings n (End e)) ∷ h) = marks_are t j h ∙ sym (reply_turns (marked_in j) (λ k i xs. refl) h e (asker_of n h) (job_happenings t h))
+marks_are t j (Handles m (Brings n (End e) floods) ∷ h) = marks_are t j h ∙ sym (reply_turns (marked_in j) (λ k i xs. refl) h e (asker_of n h) (job_happenings t h))
 marks_are t j (Handles m e ∷ h) = marks_are t j h
 marks_are t j (Runs k c since turn what ∷ h) = marks_are t j h ∙ sym (cut_turns (marked_in j) (λ k xs. refl) t (codec t h) c.way k what (Turned k turn what ∷ job_happenings t h))
 marks_are t j (_ ∷ h) = marks_are t j h
@@ -148,7 +149,7 @@ run_over t code (Stream i) j k turn what h = refl
 
 pub over_is : (t : Settings) (j : ℕ) (h : List PeerEvent) → over t j h ≡ over_in j (job_happenings t h)
 over_is t j [] = refl
-over_is t j (Handles m (Brings n (End e)) ∷ h) = over_is t j h ∙ sym (reply_turns (over_in j) (λ k i xs. refl) h e (asker_of n h) (job_happenings t h))
+over_is t j (Handles m (Brings n (End e) floods) ∷ h) = over_is t j h ∙ sym (reply_turns (over_in j) (λ k i xs. refl) h e (asker_of n h) (job_happenings t h))
 over_is t j (Handles m e ∷ h) = over_is t j h
 over_is t j (Runs k c since turn what ∷ h) = ap (λ x. ((j == k) && ends_job t (codec t h) c.way what) || x) (over_is t j h) ∙ run_over t (codec t h) c.way j k turn what (job_happenings t h)
 over_is t j (_ ∷ h) = over_is t j h
@@ -175,7 +176,7 @@ reply_brought j h e (Some k) xs s = go (j == k) refl
 
 pub reply_is : (t : Settings) (j : ℕ) (h : List PeerEvent) → reply j h ≡ reply_in j (job_happenings t h)
 reply_is t j [] = refl
-reply_is t j (Handles m (Brings n (End e)) ∷ h) = reply_brought j h e (asker_of n h) (job_happenings t h) (reply_is t j h)
+reply_is t j (Handles m (Brings n (End e) floods) ∷ h) = reply_brought j h e (asker_of n h) (job_happenings t h) (reply_is t j h)
 reply_is t j (Handles m e ∷ h) = reply_is t j h
 reply_is t j (Runs k c since turn what ∷ h) = ap (λ x. if j == k then None else x) (reply_is t j h) ∙ sym (cut_turns (reply_in j) (λ k xs. refl) t (codec t h) c.way k what (Turned k turn what ∷ job_happenings t h))
 reply_is t j (Answers k i ∷ h) = ap (λ x. if j == k then Some i else x) (reply_is t j h)
@@ -219,6 +220,19 @@ live_jobs_are t h = ap (λ cs. count_below (length cs) (λ j. live_job t j h)) (
 left_is : (t : Settings) (j : ℕ) (h : List PeerEvent) → inputs_left j h ≡ inputs_left_in j (job_happenings t h)
 left_is t j h = ap (λ xs. length xs - used (turns j h)) (inputs_are t j h) ∙ ap (λ ts. length (inputs_in j (job_happenings t h)) - used ts) (turns_are t j h)
 
+waiting_are : (t : Settings) (j : ℕ) (h : List PeerEvent) → inputs_waiting j h ≡ inputs_waiting_in j (job_happenings t h)
+waiting_are t j h = ap (λ xs. drop (used (turns j h)) (map upload_input xs)) (inputs_are t j h) ∙ ap (λ ts. drop (used ts) (map upload_input (inputs_in j (job_happenings t h)))) (turns_are t j h)
+
+weight_is : (t : Settings) (j : ℕ) (h : List PeerEvent) → weight_at t j h ≡ weight_in j (job_happenings t h)
+weight_is t j h =
+    ap (λ b. if b then job_weight (slice_get (begun h) j) (inputs_waiting j h) (reply j h) else 0) (live_job_is t j h)
+    ∙ (ap (λ cs. if live_job_in j (job_happenings t h) then job_weight (slice_get cs j) (inputs_waiting j h) (reply j h) else 0) (begun_is t h)
+    ∙ (ap (λ xs. if live_job_in j (job_happenings t h) then job_weight (slice_get (begun_in (job_happenings t h)) j) xs (reply j h) else 0) (waiting_are t j h)
+    ∙ ap (λ r. if live_job_in j (job_happenings t h) then job_weight (slice_get (begun_in (job_happenings t h)) j) (inputs_waiting_in j (job_happenings t h)) r else 0) (reply_is t j h)))
+
+weighs_is : (t : Settings) (h : List PeerEvent) → kept_weight t h ≡ kept_weight_in (job_happenings t h)
+weighs_is t h = ap (λ cs. sum_below (length cs) (λ j. weight_at t j h)) (begun_is t h) ∙ sum_same (length (begun_in (job_happenings t h))) (λ j. weight_at t j h) (λ j. weight_in j (job_happenings t h)) (λ j. weight_is t j h)
+
 shares_are : (t : Settings) (those : List (List ℕ)) (j : ℕ) (h : List PeerEvent) (w : ℕ) (ks : List (List ℕ)) → shares those j h w ks ≡ shares_in those j (job_happenings t h) w ks
 shares_are t those j h w [] = refl
 shares_are t those j h w (k ∷ ks) =
@@ -257,7 +271,7 @@ passed_cut t code way k what xs = cut_turns passed_in (λ j ys. refl) t code way
 
 passed_is : (t : Settings) (h : List PeerEvent) → passed h ≡ passed_in (job_happenings t h)
 passed_is t [] = refl
-passed_is t (Handles m (Brings n (End e)) ∷ h) = passed_is t h ∙ sym (reply_turns passed_in (λ k i xs. refl) h e (asker_of n h) (job_happenings t h))
+passed_is t (Handles m (Brings n (End e) floods) ∷ h) = passed_is t h ∙ sym (reply_turns passed_in (λ k i xs. refl) h e (asker_of n h) (job_happenings t h))
 passed_is t (Handles m e ∷ h) = passed_is t h
 passed_is t (Runs k c since turn what ∷ h) = sym (passed_cut t (codec t h) c.way k what (Turned k turn what ∷ job_happenings t h))
 passed_is t (Rounds ∷ h) = refl
@@ -294,6 +308,7 @@ jobs_agree t h = record {
   live = λ j. live_job_is t j h;
   count = live_jobs_are t h;
   left = λ j. left_is t j h;
+  weighs = weighs_is t h;
   uses = λ c. uses_are t c h;
   due = λ j. due_is t j h;
   passes = passed_is t h;

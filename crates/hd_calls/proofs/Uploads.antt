@@ -261,11 +261,11 @@ of_stream_push w (x ∷ xs) v a = go (w == x.0) (of_stream_push w xs v a)
     go true e = ap (λ zs. x.1 ∷ zs) e
     go false e = e
 
-begins_at : (t : Settings) (h : List PeerEvent) (m : Purpose) (d : Invoked) (now : ℕ) → ActsOn t h m (Begins d now) → m ≡ ToBegin d
-begins_at t h (ToBegin c) d now p = ap ToBegin (sym p.0)
-begins_at t h (ToAnswer i a) d now p = absurd p
-begins_at t h (ToCancel i) d now p = absurd p
-begins_at t h ToNothing d now p = absurd p
+begins_at : (t : Settings) (h : List PeerEvent) (m : Purpose) (d : Invoked) (now : ℕ) (floods : Bool) → ActsOn t h m (Begins d now floods) → m ≡ ToBegin d
+begins_at t h (ToBegin c) d now floods p = ap ToBegin (sym p.0)
+begins_at t h (ToAnswer i a) d now floods p = absurd p
+begins_at t h (ToCancel i) d now floods p = absurd p
+begins_at t h ToNothing d now floods p = absurd p
 
 -- of a message with an id that is no own call's: it is fed to an open stream, or there is none, or it floods
 data Fate (t : Settings) (h : List PeerEvent) (i : List ℕ) (m : Purpose) (e : Effect) : Type 0 where
@@ -278,11 +278,11 @@ said_self : (i : List ℕ) (a : Answer) → said i (ToAnswer i a ∷ []) ≡ a �
 said_self i a = ap (λ b. put b a []) (same_refl i)
 
 same_fate : (t : Settings) (h : List PeerEvent) (i : List ℕ) (a : Answer) (e : Effect) → ((n : ℕ) → t.name n ≡ i → ⊥) → Arrives t h i a e → Fate t h i (ToAnswer i a) e
-same_fate t h i a (Brings n b) f p = absurd (f n p.1)
+same_fate t h i a (Brings n b floods) f p = absurd (f n p.1)
 same_fate t h i a (Feeds j w b) f p = Comes j w b refl (said_self i a ∙ ap (λ x. x ∷ []) (sym p.0)) p.2
 same_fate t h i a Flood f p = Floods a (said_self i a) refl
 same_fate t h i a Nothing f p = Nowhere a (said_self i a) (λ j w b e. absurd (cc)) p.1
-same_fate t h i a (Begins c now) f p = absurd p
+same_fate t h i a (Begins c now floods) f p = absurd p
 same_fate t h i a (InUse c) f p = absurd p
 same_fate t h i a (TooMany c) f p = absurd p
 same_fate t h i a (Marks j) f p = absurd p
@@ -424,9 +424,9 @@ module _ {Job : Type 0} (hub : Hub Job) (t : Settings) (cs : List Invoked) (ns :
       accepted (Item v) = refl
       accepted (End v) = refl
 
-  begun_one : (h : List PeerEvent) (m : Message) (b : Invoked) (now : ℕ) → purpose_of m ≡ ToBegin b → waiting h ≡ Some m → ((c : Invoked) (i : List ℕ) → waits (waiting h) ≡ ToBegin c ∷ [] → is_among i c.streams ≡ true → said i (handled h) ≡ [])
-      → Within cs ns (Handles m (Begins b now) ∷ h) → FedSo h → FedSo (Handles m (Begins b now) ∷ h)
-  begun_one h m b now e wait quiet wi r = go (length (begun h) == j) refl
+  begun_one : (h : List PeerEvent) (m : Message) (b : Invoked) (now : ℕ) (floods : Bool) → purpose_of m ≡ ToBegin b → waiting h ≡ Some m → ((c : Invoked) (i : List ℕ) → waits (waiting h) ≡ ToBegin c ∷ [] → is_among i c.streams ≡ true → said i (handled h) ≡ [])
+      → Within cs ns (Handles m (Begins b now floods) ∷ h) → FedSo h → FedSo (Handles m (Begins b now floods) ∷ h)
+  begun_one h m b now floods e wait quiet wi r = go (length (begun h) == j) refl
     where
       still : said i (handled h ++ purpose_of m ∷ []) ≡ said i (handled h)
       still = said-append i (handled h) (purpose_of m ∷ []) ∙ (ap (λ x. said i (handled h) ++ said i (x ∷ [])) e ∙ append_none (said i (handled h)))
@@ -434,7 +434,7 @@ module _ {Job : Type 0} (hub : Hub Job) (t : Settings) (cs : List Invoked) (ns :
       longer : length (begun h ++ b ∷ []) ≡ suc (length (begun h))
       longer = length-append (begun h) (b ∷ []) ∙ (let z : length (b ∷ []) ≡ 1 = refl in omega arith)
 
-      go : (x : Bool) → (length (begun h) == j) ≡ x → FedSo (Handles m (Begins b now) ∷ h)
+      go : (x : Bool) → (length (begun h) == j) ≡ x → FedSo (Handles m (Begins b now floods) ∷ h)
       go true f =
           let z = eqb-true (length (begun h)) j f in
           let y : Some b ≡ Some d = sym (wi.0 (length (begun h)) b (get_last (begun h) b)) ∙ (ap (slice_get cs) z ∙ at) in
@@ -463,7 +463,7 @@ module _ {Job : Type 0} (hub : Hub Job) (t : Settings) (cs : List Invoked) (ns :
 
   pub feeds : (h : List PeerEvent) → Follows hub t h → OpenReads t h → StreamCausal h → Within cs ns h → FedSo h
   feeds [] p o k wi = record { nothing = λ l. refl; whole = λ l x y. refl; front = λ l. ([], refl) }
-  feeds (Handles m (Begins b now) ∷ h) p o k wi = begun_one h m b now (begins_at t h (purpose_of m) b now p.1.1) p.1.0 k.1 wi (feeds h p.0 o k.0 (within_tail cs ns (Handles m (Begins b now)) h wi))
+  feeds (Handles m (Begins b now floods) ∷ h) p o k wi = begun_one h m b now floods (begins_at t h (purpose_of m) b now floods p.1.1) p.1.0 k.1 wi (feeds h p.0 o k.0 (within_tail cs ns (Handles m (Begins b now floods)) h wi))
   feeds (Handles m (Feeds b v a) ∷ h) p o k wi = fed_one h m b v a (not_true (flooded h) (λ e. let q = flood_shuts hub t h p.0 o e in absurd (let z : ◌≡◌ {A = Option Message} None (Some m) = sym q.1 ∙ p.1.0 in cc))) wi (fate t h i (purpose_of m) (Feeds b v a) foreign p.1.1) (feeds h p.0 o k.0 wi)
   feeds (Handles m Flood ∷ h) p o k wi = fed_more h m Flood refl (λ x v a e. absurd (cc)) refl (λ e. absurd (let z : true ≡ false = e in cc)) (λ e. refl) wi (fate t h i (purpose_of m) Flood foreign p.1.1) (feeds h p.0 o k.0 wi)
   feeds (Handles m e ∷ h) p o k wi = fed_more h m e refl (λ x v a f. absurd (cc)) refl (λ f. f) (λ f. absurd (cc)) wi (fate t h i (purpose_of m) e foreign p.1.1) (feeds h p.0 o k.0 wi)

@@ -1,5 +1,6 @@
 -- Worked worlds of two peers, over a small way to write frames: each frame is four numbers. Each list has the oldest event first.
-use Rattle.std.specs.Prelude.{◌≡◌, length, ◌<◌, ◌≤◌, ℕ, zero, suc, ◌+◌, ◌==◌, pos, Bool, false, List, [], ◌∷◌, ◌++◌, map, flat_map, reverse, Some, None, if◌then◌else◌}
+use Rattle.std.specs.Prelude.{◌≡◌, length, ◌<◌, ◌≤◌, ℕ, zero, suc, ◌+◌, ◌==◌, pos, Bool, true, false, List, [], ◌∷◌, ◌++◌, map, flat_map, replicate, reverse, Some, None, if◌then◌else◌}
+use Rattle.hv_value.specs.Tree as tree
 use Rattle.hv_value.specs.declared.value.Value.{Value}
 use Rattle.hv_value.specs.declared.value.Value.TheVariants as value
 use Rattle.hm_message.specs.declared.message.Codec.{Codec}
@@ -22,10 +23,10 @@ use Rattle.hd_calls.specs.declared.vocabulary.Input.TheVariants as input
 use Rattle.hd_calls.specs.declared.vocabulary.Deed.TheVariants.{Join}
 use Rattle.hd_calls.specs.declared.vocabulary.Act.{Act}
 use Rattle.hd_calls.specs.declared.vocabulary.Act.TheVariants as act
-use Rattle.hd_calls.specs.Hubs.{Notify, Call, Stream, Invoked, Item, End, Given, Cancelled, Hub, message_of, answer_message}
-use Rattle.hd_calls.specs.Numbers.{most_live, most_inputs}
+use Rattle.hd_calls.specs.Hubs.{Notify, Call, Stream, Invoked, Answer, Item, End, Given, Cancelled, Hub, message_of, answer_message}
+use Rattle.hd_calls.specs.Numbers.{most_live, most_inputs, most_weight}
 use Rattle.hd_calls.specs.Peers.{Effect, Begins, TooMany, Brings, Feeds, Flood, Marks, PeerEvent, Plain, Calls, Uploads, Cancels, Reads, Handles, Runs, Answers, Loses, Rounds, Settings}
-use Rattle.hd_calls.specs.Rules.{inputs_left, own_live, live_jobs, TooManyLive, IsRefusedCall, MayMove, Follows}
+use Rattle.hd_calls.specs.Rules.{inputs_left, kept_weight, own_live, live_jobs, TooManyLive, IsRefusedCall, MayMove, Follows}
 use Rattle.hd_calls.specs.PeerWorlds.{Pair, settings, IsPeerWorld}
 
 -- ---- a hub
@@ -176,9 +177,9 @@ abbrev pub calls_read : List (Event PeerEvent)
 calls_read =
     server (
     hears (message_of streamed ∷ message_of fed ∷ message_of asking ∷ answer_message (3 ∷ []) (Item (int 9)) ∷ answer_message (3 ∷ []) (End Void) ∷ []) ∷
-    Reads (message_of streamed) ∷ Handles (message_of streamed) (Begins streamed 10) ∷
-    Reads (message_of fed) ∷ Handles (message_of fed) (Begins fed 10) ∷
-    Reads (message_of asking) ∷ Handles (message_of asking) (Begins asking 10) ∷
+    Reads (message_of streamed) ∷ Handles (message_of streamed) (Begins streamed 10 false) ∷
+    Reads (message_of fed) ∷ Handles (message_of fed) (Begins fed 10 false) ∷
+    Reads (message_of asking) ∷ Handles (message_of asking) (Begins asking 10 false) ∷
     Reads (answer_message (3 ∷ []) (Item (int 9))) ∷ Handles (answer_message (3 ∷ []) (Item (int 9))) (Feeds 1 0 (Item (int 9))) ∷
     Reads (answer_message (3 ∷ []) (End Void)) ∷ Handles (answer_message (3 ∷ []) (End Void)) (Feeds 1 0 (End Void)) ∷
     Runs 0 streamed 10 (Given input.Go 11) (act.Item (int 41)) ∷
@@ -194,9 +195,9 @@ abbrev pub answers_read : List (Event PeerEvent)
 answers_read =
     client (
     hears (answer_message (1 ∷ []) (Item (int 41)) ∷ message_of asked ∷ answer_message (2 ∷ []) (End (Result (int 5))) ∷ []) ∷
-    Reads (answer_message (1 ∷ []) (Item (int 41))) ∷ Handles (answer_message (1 ∷ []) (Item (int 41))) (Brings 1 (Item (int 41))) ∷
-    Reads (message_of asked) ∷ Handles (message_of asked) (Begins asked 14) ∷
-    Reads (answer_message (2 ∷ []) (End (Result (int 5)))) ∷ Handles (answer_message (2 ∷ []) (End (Result (int 5)))) (Brings 2 (End (Result (int 5)))) ∷
+    Reads (answer_message (1 ∷ []) (Item (int 41))) ∷ Handles (answer_message (1 ∷ []) (Item (int 41))) (Brings 1 (Item (int 41)) false) ∷
+    Reads (message_of asked) ∷ Handles (message_of asked) (Begins asked 14 false) ∷
+    Reads (answer_message (2 ∷ []) (End (Result (int 5)))) ∷ Handles (answer_message (2 ∷ []) (End (Result (int 5)))) (Brings 2 (End (Result (int 5))) false) ∷
     Runs 0 asked 14 (Given input.Go 15) (act.End (Result (int 7))) ∷
     Cancels 1 ∷
     says (answer_message (115 ∷ 1 ∷ []) (End (Result (int 7)))) ∷ says (CancelInvocation [] (1 ∷ [])) ∷ [])
@@ -206,15 +207,15 @@ abbrev pub ended : List (Event PeerEvent)
 ended =
     server (
     hears (answer_message (115 ∷ 1 ∷ []) (End (Result (int 7))) ∷ CancelInvocation [] (1 ∷ []) ∷ []) ∷
-    Reads (answer_message (115 ∷ 1 ∷ []) (End (Result (int 7)))) ∷ Handles (answer_message (115 ∷ 1 ∷ []) (End (Result (int 7)))) (Brings 1 (End (Result (int 7)))) ∷
+    Reads (answer_message (115 ∷ 1 ∷ []) (End (Result (int 7)))) ∷ Handles (answer_message (115 ∷ 1 ∷ []) (End (Result (int 7)))) (Brings 1 (End (Result (int 7))) false) ∷
     Reads (CancelInvocation [] (1 ∷ [])) ∷ Handles (CancelInvocation [] (1 ∷ [])) (Marks 0) ∷
     Rounds ∷ Runs 0 streamed 10 Cancelled (act.End Void) ∷
     Runs 2 asking 10 (Given (input.Asked (Result (int 7))) 16) (act.End (Result (int 7))) ∷
     says (answer_message (1 ∷ []) (End Void)) ∷ says (answer_message (4 ∷ []) (End (Result (int 7)))) ∷ [])
     ++ client (
     hears (answer_message (1 ∷ []) (End Void) ∷ answer_message (4 ∷ []) (End (Result (int 7))) ∷ []) ∷
-    Reads (answer_message (1 ∷ []) (End Void)) ∷ Handles (answer_message (1 ∷ []) (End Void)) (Brings 1 (End Void)) ∷
-    Reads (answer_message (4 ∷ []) (End (Result (int 7)))) ∷ Handles (answer_message (4 ∷ []) (End (Result (int 7)))) (Brings 4 (End (Result (int 7)))) ∷ [])
+    Reads (answer_message (1 ∷ []) (End Void)) ∷ Handles (answer_message (1 ∷ []) (End Void)) (Brings 1 (End Void) false) ∷
+    Reads (answer_message (4 ∷ []) (End (Result (int 7)))) ∷ Handles (answer_message (4 ∷ []) (End (Result (int 7)))) (Brings 4 (End (Result (int 7))) false) ∷ [])
 
 -- all of it
 abbrev pub three_calls : Codec → List (Event PeerEvent)
@@ -229,11 +230,11 @@ lost_link =
     ++ (client (Calls None 1 first_call ∷ says (message_of first_call) ∷ does (Detached 1) ∷ does (Attached 1 2) ∷ does (Lent (Sequence 1 None)) ∷ says (message_of first_call) ∷ [])
     ++ (server (
     does (Detached 1) ∷ does (Attached 1 2) ∷ does (Lent (Sequence 1 None)) ∷ hears_bytes (5 ∷ 1 ∷ 0 ∷ 0 ∷ bytes_of (message_of first_call)) ∷
-    does (Took (Sequenced 1)) ∷ Reads (message_of first_call) ∷ Handles (message_of first_call) (Begins first_call 3) ∷
+    does (Took (Sequenced 1)) ∷ Reads (message_of first_call) ∷ Handles (message_of first_call) (Begins first_call 3 false) ∷
     Runs 0 first_call 3 (Given input.Go 3) (act.End Void) ∷ does (Lent (Ack 1)) ∷ says (answer_message (1 ∷ []) (End Void)) ∷ [])
     ++ (client (
     hears_bytes (5 ∷ 1 ∷ 0 ∷ 0 ∷ 4 ∷ 1 ∷ 0 ∷ 0 ∷ bytes_of (answer_message (1 ∷ []) (End Void))) ∷ does (Took (Sequenced 1)) ∷ does (Took (Acked 1)) ∷
-    Reads (answer_message (1 ∷ []) (End Void)) ∷ Handles (answer_message (1 ∷ []) (End Void)) (Brings 1 (End Void)) ∷ does (Lent (Ack 1)) ∷ [])
+    Reads (answer_message (1 ∷ []) (End Void)) ∷ Handles (answer_message (1 ∷ []) (End Void)) (Brings 1 (End Void) false) ∷ does (Lent (Ack 1)) ∷ [])
     ++ server (hears_bytes (4 ∷ 1 ∷ 0 ∷ 0 ∷ []) ∷ does (Took (Acked 1)) ∷ []))))
 
 -- ---- a close with live calls
@@ -245,11 +246,11 @@ closed_with_calls =
     opened Json 1
     ++ (client (Calls None 1 first_call ∷ Calls None 2 second_call ∷ says (message_of first_call) ∷ says (message_of second_call) ∷ [])
     ++ (server (
-    hears (message_of first_call ∷ message_of second_call ∷ []) ∷ Reads (message_of first_call) ∷ Handles (message_of first_call) (Begins first_call 3) ∷
+    hears (message_of first_call ∷ message_of second_call ∷ []) ∷ Reads (message_of first_call) ∷ Handles (message_of first_call) (Begins first_call 3 false) ∷
     Runs 0 first_call 3 (Given input.Go 3) (act.End Void) ∷ says (answer_message (1 ∷ []) (End Void)) ∷ [])
     ++ client (
     hears (answer_message (1 ∷ []) (End Void) ∷ []) ∷ Reads (answer_message (1 ∷ []) (End Void)) ∷ does (Closed Done false) ∷
-    Handles (answer_message (1 ∷ []) (End Void)) (Brings 1 (End Void)) ∷ Loses 2 ∷ [])))
+    Handles (answer_message (1 ∷ []) (End Void)) (Brings 1 (End Void) false) ∷ Loses 2 ∷ [])))
 
 -- ---- too many jobs
 
@@ -260,7 +261,7 @@ notice = record { way = Notify; target = []; arguments = []; streams = [] }
 -- so many of them were handled, and no job had a turn
 abbrev pub noticed : ℕ → List PeerEvent
 noticed zero = []
-noticed (suc k) = Handles (message_of notice) (Begins notice 0) ∷ Reads (message_of notice) ∷ noticed k
+noticed (suc k) = Handles (message_of notice) (Begins notice 0 false) ∷ Reads (message_of notice) ∷ noticed k
 
 -- where one more waits
 abbrev pub one_more : ℕ → List PeerEvent
@@ -271,7 +272,24 @@ pub record FillsJobs (t : Settings) (k : ℕ) : Type 0 where
   pub live : live_jobs t (noticed k) ≡ k
   pub may : k ≤ most_live → Follows hub t (noticed k)
   pub refused : most_live ≤ k → MayMove hub t (one_more k) (Handles (message_of notice) (TooMany notice))
-  pub begins_none : most_live ≤ k → (now : ℕ) → MayMove hub t (one_more k) (Handles (message_of notice) (Begins notice now)) → ⊥
+  pub begins_none : most_live ≤ k → (now : ℕ) (floods : Bool) → MayMove hub t (one_more k) (Handles (message_of notice) (Begins notice now floods)) → ⊥
+
+-- ---- too heavy a call
+
+-- a notice with a target of so many bytes
+abbrev pub long_notice : ℕ → Invoked
+long_notice k = record { way = Notify; target = replicate k 0; arguments = []; streams = [] }
+
+-- what it does, as the first message
+abbrev pub MayBegin : Settings → ℕ → Effect → Type 0
+MayBegin t k e = MayMove hub t (Reads (message_of (long_notice k)) ∷ []) (Handles (message_of (long_notice k)) e)
+
+-- it weighs 96 with its bytes, and begins its job. One that weighs more than jobs may keep closes the end with that, and no other one does
+pub record FillsByCall (t : Settings) (k now : ℕ) : Type 0 where
+  pub light : 96 + k ≤ most_weight → MayBegin t k (Begins (long_notice k) now false)
+  pub light_alone : MayBegin t k (Begins (long_notice k) now false) → 96 + k ≤ most_weight
+  pub heavy : most_weight < 96 + k → MayBegin t k (Begins (long_notice k) now true)
+  pub heavy_alone : MayBegin t k (Begins (long_notice k) now true) → most_weight < 96 + k
 
 -- ---- too many calls
 
@@ -322,7 +340,7 @@ sized frame = record {
 -- its end has taken the handshake, and a job has asked for a call, the latest move first
 abbrev pub short_asks : List PeerEvent
 short_asks =
-    Runs 0 asking 10 (Given input.Go 11) (act.Ask (0 ∷ []) []) ∷ Handles (message_of asking) (Begins asking 10) ∷ Reads (message_of asking) ∷
+    Runs 0 asking 10 (Given input.Go 11) (act.Ask (0 ∷ []) []) ∷ Handles (message_of asking) (Begins asking 10 false) ∷ Reads (message_of asking) ∷
     does (Took (Shaken Json 1)) ∷ []
 
 -- ---- what may not come
@@ -337,11 +355,11 @@ ServerMayNot events d = MayMove hub (settings Server (pair Json 1 false)) (of_se
 
 -- the streamed call's job has begun
 abbrev pub one_begun : List (Event PeerEvent)
-one_begun = server (Reads (message_of streamed) ∷ Handles (message_of streamed) (Begins streamed 10) ∷ [])
+one_begun = server (Reads (message_of streamed) ∷ Handles (message_of streamed) (Begins streamed 10 false) ∷ [])
 
 -- a job has asked for a call
 abbrev pub one_asks : List (Event PeerEvent)
-one_asks = opened Json 1 ++ server (Reads (message_of asking) ∷ Handles (message_of asking) (Begins asking 10) ∷ Runs 0 asking 10 (Given input.Go 11) (act.Ask (0 ∷ []) []) ∷ [])
+one_asks = opened Json 1 ++ server (Reads (message_of asking) ∷ Handles (message_of asking) (Begins asking 10 false) ∷ Runs 0 asking 10 (Given input.Go 11) (act.Ask (0 ∷ []) []) ∷ [])
 
 -- the call that it asked for was made
 abbrev pub one_asked : List (Event PeerEvent)
@@ -371,7 +389,7 @@ ServerNever moves d = ServerMay moves d → ⊥
 
 -- the message of a call is read and begins a job
 abbrev pub begins : Invoked → List PeerEvent
-begins c = Reads (message_of c) ∷ Handles (message_of c) (Begins c 10) ∷ []
+begins c = Reads (message_of c) ∷ Handles (message_of c) (Begins c 10 false) ∷ []
 
 -- the message waits
 abbrev pub reads : List PeerEvent → Message → List PeerEvent
@@ -437,6 +455,71 @@ pub record FillsInputs (k : ℕ) : Type 0 where
   pub feeds : k < most_inputs → MayAfterItems k (Feeds 0 0 (Item (int 1)))
   pub floods : most_inputs ≤ k → MayAfterItems k Flood
   pub feeds_none : most_inputs ≤ k → MayAfterItems k (Feeds 0 0 (Item (int 1))) → ⊥
+
+-- an item that is a text of so many bytes
+abbrev pub long_item : ℕ → Answer
+long_item k = Item (value.Text (replicate k 0))
+
+-- what it does where the call with an upload is all that jobs keep
+abbrev pub MayBeFed : ℕ → Effect → Type 0
+MayBeFed k e = MayMove hub (settings Server (pair Json 1 false)) (Reads (answer_message (3 ∷ []) (long_item k)) ∷ uploaded_often 0) (Handles (answer_message (3 ∷ []) (long_item k)) e)
+
+-- the job of such a notice asks for a call, whose ending waits, the latest move first
+abbrev pub long_asks : ℕ → List PeerEvent
+long_asks k =
+    Reads (answer_message (115 ∷ 1 ∷ []) (End (Result (int 7)))) ∷ Calls (Some 0) 1 asked ∷ Runs 0 (long_notice k) 10 (Given input.Go 11) (act.Ask (0 ∷ []) []) ∷
+    Handles (message_of (long_notice k)) (Begins (long_notice k) 10 false) ∷ Reads (message_of (long_notice k)) ∷ []
+
+-- the ending is brought, and closes the end or doesn't
+abbrev pub MayBring : ℕ → Bool → Type 0
+MayBring k floods =
+    MayMove hub (settings Server (pair Json 1 false)) (long_asks k) (Handles (answer_message (115 ∷ 1 ∷ []) (End (Result (int 7)))) (Brings 1 (End (Result (int 7))) floods))
+
+-- the ending weighs 96 beside the call. If both weigh more than jobs may keep it closes the end, and else it doesn't
+pub record FillsByEnding (k : ℕ) : Type 0 where
+  pub light : 192 + k ≤ most_weight → MayBring k false
+  pub light_alone : MayBring k false → 192 + k ≤ most_weight
+  pub heavy : most_weight < 192 + k → MayBring k true
+  pub heavy_alone : MayBring k true → most_weight < 192 + k
+
+-- a stream with arguments and two uploads
+abbrev pub laden : Invoked
+laden = record { way = Stream (1 ∷ 2 ∷ []); target = 3 ∷ []; arguments = tree.text (1 ∷ 2 ∷ 3 ∷ []) ∷ tree.null ∷ []; streams = (4 ∷ []) ∷ (5 ∷ 6 ∷ []) ∷ [] }
+
+-- what the server's jobs keep after these moves, the oldest first
+abbrev pub server_keeps : List PeerEvent → ℕ
+server_keeps moves = kept_weight (settings Server (pair Json 1 false)) (reverse moves)
+
+-- an item of an upload came, for which the job waits
+abbrev pub item_fed : List PeerEvent
+item_fed =
+    begins fed ++ Runs 0 fed 10 (Given input.Go 11) act.Wait ∷ Reads (answer_message (3 ∷ []) (Item (int 1))) ∷
+    Handles (answer_message (3 ∷ []) (Item (int 1))) (Feeds 0 0 (Item (int 1))) ∷ []
+
+-- it was given to the job
+abbrev pub item_taken : List PeerEvent
+item_taken = item_fed ++ Runs 0 fed 10 (Given (input.Item 0 (int 1)) 12) act.Wait ∷ []
+
+-- a job has asked for a call, which was made
+abbrev pub ask_made : List PeerEvent
+ask_made = does (Took (Shaken Json 1)) ∷ begins asking ++ Runs 0 asking 10 (Given input.Go 11) (act.Ask (0 ∷ []) []) ∷ Calls (Some 0) 1 asked ∷ []
+
+-- that call was answered
+abbrev pub ask_answered : List PeerEvent
+ask_answered =
+    ask_made ++ Reads (answer_message (115 ∷ 1 ∷ []) (End (Result (int 7)))) ∷
+    Handles (answer_message (115 ∷ 1 ∷ []) (End (Result (int 7)))) (Brings 1 (End (Result (int 7))) false) ∷ []
+
+-- the job was told so, and asks again
+abbrev pub ask_told : List PeerEvent
+ask_told = ask_answered ++ Runs 0 asking 10 (Given (input.Asked (Result (int 7))) 12) (act.Ask (0 ∷ []) []) ∷ []
+
+-- the call weighs 195, and the item 48 with its bytes. It is fed if both weigh no more than jobs may keep, and else it floods the job
+pub record FillsByInput (k : ℕ) : Type 0 where
+  pub light : 243 + k ≤ most_weight → MayBeFed k (Feeds 0 0 (long_item k))
+  pub light_alone : MayBeFed k (Feeds 0 0 (long_item k)) → 243 + k ≤ most_weight
+  pub heavy : most_weight < 243 + k → MayBeFed k Flood
+  pub heavy_alone : MayBeFed k Flood → most_weight < 243 + k
 
 -- ---- what is said of them
 

@@ -1,5 +1,5 @@
 -- What crates above cite of these definitions.
-use Rattle.std.specs.Prelude.{◌≡◌, ◌≤◌, ◌↔◌, ℕ, true, List, []}
+use Rattle.std.specs.Prelude.{◌≡◌, ◌≤◌, ◌↔◌, ℕ, true, false, List, []}
 use Rattle.hd_delivery.specs.declared.vocabulary.Side.TheVariants.{Client, Server}
 use Rattle.hd_delivery.specs.Worlds.{Event, config, client_of, server_of}
 use Rattle.hd_delivery.specs.Bytes.{IsFaithful, DeliveryOverBytes}
@@ -7,12 +7,12 @@ use Rattle.hd_delivery.specs.Laws.{AreReadAsSent}
 use Rattle.hm_message.specs.declared.message.Codec.{Codec}
 use Rattle.hm_message.specs.declared.message.Message.{Message}
 use Rattle.hm_message.specs.Message.{Fits}
-use Rattle.hd_calls.specs.Numbers.{most_live, most_inputs, most_numbers}
+use Rattle.hd_calls.specs.Numbers.{most_live, most_inputs, most_numbers, most_weight}
 use Rattle.hd_calls.specs.Hubs.{Invoked, Hub}
-use Rattle.hd_calls.specs.Peers.{PeerEvent, Settings, can_frame, drawn, call_of, given, lost, live_call, uploaded, live_upload, begun, moments, turns, acts, inputs, is_cancelled, over, live_job, reply, steps}
-use Rattle.hd_calls.specs.Rules.{own_live, live_jobs, inputs_left, in_use, is_due, next_job, passed, IsPeer}
+use Rattle.hd_calls.specs.Peers.{PeerEvent, Settings, can_frame, drawn, call_of, given, lost, live_call, uploaded, live_upload, begun, moments, turns, acts, inputs, is_cancelled, over, live_job, reply, is_shut, steps}
+use Rattle.hd_calls.specs.Rules.{own_live, live_jobs, inputs_left, kept_weight, in_use, is_due, next_job, passed, IsPeer}
 use Rattle.hd_calls.specs.PeerWorlds.{Pair, settings, ends, AreApart, IsPeerWorld, BothOnce}
-use Rattle.hd_calls.specs.Tables.{call_happenings, drawn_in, call_in, given_in, lost_in, uploaded_in, live_call_in, live_upload_in, own_live_in, live_job_in, live_jobs_in, inputs_left_in, in_use_in, is_due_in, next_job_in, job_happenings, begun_in, moments_in, turns_in, acts_in, inputs_in, marked_in, over_in, passed_in, reply_in}
+use Rattle.hd_calls.specs.Tables.{call_happenings, drawn_in, call_in, given_in, lost_in, uploaded_in, live_call_in, live_upload_in, own_live_in, live_job_in, live_jobs_in, inputs_left_in, kept_weight_in, in_use_in, is_due_in, next_job_in, job_happenings, begun_in, moments_in, turns_in, acts_in, inputs_in, marked_in, over_in, passed_in, reply_in}
 
 -- what a peer's history says of its own calls is what their own happenings say, and so is what a table of calls decides by
 pub record CallsAgree (h : List PeerEvent) : Type 0 where
@@ -38,6 +38,7 @@ pub record JobsAgree (t : Settings) (h : List PeerEvent) : Type 0 where
   pub live : (j : ℕ) → live_job t j h ≡ live_job_in j (job_happenings t h)
   pub count : live_jobs t h ≡ live_jobs_in (job_happenings t h)
   pub left : (j : ℕ) → inputs_left j h ≡ inputs_left_in j (job_happenings t h)
+  pub weighs : kept_weight t h ≡ kept_weight_in (job_happenings t h)
   pub uses : (c : Invoked) → in_use t c h ≡ in_use_in c (job_happenings t h)
   pub due : (j : ℕ) → is_due t j h ≡ is_due_in j (job_happenings t h)
   pub passes : passed h ≡ passed_in (job_happenings t h)
@@ -47,12 +48,13 @@ pub record JobsAgree (t : Settings) (h : List PeerEvent) : Type 0 where
 abbrev pub TablesAgree : Type 0
 TablesAgree = (t : Settings) (h : List PeerEvent) → CallsAgree h × JobsAgree t h
 
--- nothing that a peer counts passes its bound
+-- nothing that a peer counts passes its bound. Of what its jobs keep that is said while its end is open
 pub record IsBounded (t : Settings) (h : List PeerEvent) : Type 0 where
   pub own : own_live h ≤ most_live
   pub jobs : live_jobs t h ≤ most_live
   pub waiting : (j : ℕ) → inputs_left j h ≤ most_inputs
   pub numbers : drawn h ≤ most_numbers
+  pub weight : is_shut t h ≡ false → kept_weight t h ≤ most_weight
 
 -- so it is of each peer, whatever the other side is
 abbrev pub PeersAreBounded : Type 0 → Type 0

@@ -34,7 +34,7 @@ pub data CallHappening : Type 0 where
 abbrev pub ledger : ℕ → List PeerEvent → List CallHappening
 ledger n [] = []
 ledger n (Calls a k c ∷ h) = if n == k then ledger n h ++ Called k c ∷ [] else ledger n h
-ledger n (Handles m (Brings k a) ∷ h) = if n == k then ledger n h ++ Got k a ∷ [] else ledger n h
+ledger n (Handles m (Brings k a floods) ∷ h) = if n == k then ledger n h ++ Got k a ∷ [] else ledger n h
 ledger n (Uploads k w a ∷ h) = if n == k then ledger n h ++ Uploaded k w a ∷ [] else ledger n h
 ledger n (Cancels k ∷ h) = if n == k then ledger n h ++ Stopped k ∷ [] else ledger n h
 ledger n (Loses k ∷ h) = if n == k then ledger n h ++ Gone k ∷ [] else ledger n h

@@ -1,6 +1,7 @@
 pub mod Numbers
 pub mod Hubs
 pub mod Peers
+pub mod Weights
 pub mod Rules
 pub mod Ledgers
 pub mod PeerWorlds

@@ -13,6 +13,14 @@ most_uploads = 8
 abbrev pub most_inputs : ℕ
 most_inputs = 4096
 
+-- the most that the calls of live jobs, the inputs that wait at them and the answers to their asks weigh together
+abbrev pub most_weight : ℕ
+most_weight = 2 ^ 24
+
+-- what a value, a list of arguments, a target, an id, a stream's end or an ending weighs, beside its bytes and what is in it
+abbrev pub base_weight : ℕ
+base_weight = 48
+
 -- the greatest number that is drawn
 abbrev pub most_numbers : ℕ
 most_numbers = 2 ^ 62

@@ -25,12 +25,12 @@ use Rattle.hd_calls.specs.Hubs.{Way, Notify, Call, Stream, Invoked, Answer, Item
 
 -- what a message did that was handled
 pub data Effect : Type 0 where
-  Begins : (call : Invoked) → (now : ℕ) → Effect
+  Begins : (call : Invoked) → (now : ℕ) → (floods : Bool) → Effect  -- floods: the jobs keep more after it than they may, and an open end is closed
   InUse : (call : Invoked) → Effect  -- refused, since an id of it is in use
   TooMany : (call : Invoked) → Effect  -- refused, since too many jobs are live
-  Brings : (number : ℕ) → (answer : Answer) → Effect  -- for an own call
+  Brings : (number : ℕ) → (answer : Answer) → (floods : Bool) → Effect  -- for an own call; floods as above
   Feeds : (job which : ℕ) → (answer : Answer) → Effect  -- for a stream of a job
-  Flood : Effect  -- for a job at which too many inputs wait
+  Flood : Effect  -- for a job: too many inputs wait there, or with this one all jobs would keep more than they may
   Marks : (job : ℕ) → Effect  -- the job is cancelled
   Nothing : Effect
 
@@ -82,7 +82,7 @@ call_of n (_ ∷ h) = call_of n h
 -- what the caller was given for a call
 abbrev pub given : ℕ → List PeerEvent → List Answer
 given n [] = []
-given n (Handles m (Brings k a) ∷ h) = if n == k then given n h ++ a ∷ [] else given n h
+given n (Handles m (Brings k a floods) ∷ h) = if n == k then given n h ++ a ∷ [] else given n h
 given n (_ ∷ h) = given n h
 
 -- whether the call was handed out as gone
@@ -143,13 +143,13 @@ waiting (_ ∷ h) = waiting h
 -- the calls that began a job, in the order of the jobs
 abbrev pub begun : List PeerEvent → List Invoked
 begun [] = []
-begun (Handles m (Begins c now) ∷ h) = begun h ++ c ∷ []
+begun (Handles m (Begins c now floods) ∷ h) = begun h ++ c ∷ []
 begun (_ ∷ h) = begun h
 
 -- when each job began
 abbrev pub moments : List PeerEvent → List ℕ
 moments [] = []
-moments (Handles m (Begins c now) ∷ h) = moments h ++ now ∷ []
+moments (Handles m (Begins c now floods) ∷ h) = moments h ++ now ∷ []
 moments (_ ∷ h) = moments h
 
 -- the turns of a job
@@ -209,15 +209,19 @@ abbrev pub hands_up : Option Act → Bool
 hands_up (Some (act.Do deed)) = true
 hands_up _ = false
 
--- what a job is told whose ask is refused
+-- the error that a job is told whose ask is refused
+abbrev pub refusal_text : List ℕ
+refusal_text = codes "The ask was refused."
+
+-- so the ask ends
 abbrev pub ask_refused : Ending
-ask_refused = Error (codes "The ask was refused.")
+ask_refused = Error refusal_text
 
 -- what answers the job's last ask or deed, where that came
 abbrev pub reply : ℕ → List PeerEvent → Option Input
 reply j [] = None
 reply j (Runs k c since turn what ∷ h) = if j == k then None else reply j h
-reply j (Handles m (Brings n (End e)) ∷ h) = if is_this j (asker_of n h) && asks (last_of (acts j h)) then first_of (reply j h) (Some (input.Asked e)) else reply j h
+reply j (Handles m (Brings n (End e) floods) ∷ h) = if is_this j (asker_of n h) && asks (last_of (acts j h)) then first_of (reply j h) (Some (input.Asked e)) else reply j h
 reply j (Answers k i ∷ h) = if j == k then Some i else reply j h
 reply j (Refuses k ∷ h) = if j == k then Some (input.Asked ask_refused) else reply j h
 reply j (_ ∷ h) = reply j h
@@ -274,6 +278,8 @@ abbrev pub reason_of : Effect → Option Reason
 reason_of (InUse c) = Some reason.InUse
 reason_of (TooMany c) = Some reason.TooMany
 reason_of Flood = Some reason.Flood
+reason_of (Begins c now floods) = if floods then Some reason.Flood else None
+reason_of (Brings n a floods) = if floods then Some reason.Flood else None
 reason_of _ = None
 
 -- an end that isn't closed is closed for the reason

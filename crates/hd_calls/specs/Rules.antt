@@ -1,7 +1,7 @@
 -- What a peer may do next, by its own history alone: its calls and uploads, its jobs' turns, and what a message does that it handles.
 -- HubProtocol.md, "Invocations", has the ids, and that each call is answered once. This project's own rules: how ids are drawn, the bounds,
 -- the order of a call's refusals, when a job is due, and that own calls come before the streams of jobs where an id is looked up.
-use Rattle.std.specs.Prelude.{◌≡◌, ◌⊎◌, ℕ, zero, suc, ◌-◌, ◌+◌, ◌<◌, ◌≤◌, Bool, true, false, not, ◌&&◌, ◌||◌, ◌==◌, List, [], ◌∷◌, length, Option, Some, None, is_some, option_map, slice_get, if◌then◌else◌}
+use Rattle.std.specs.Prelude.{◌≡◌, ◌⊎◌, ℕ, zero, suc, ◌-◌, ◌+◌, ◌<◌, ◌≤◌, Bool, true, false, not, ◌&&◌, ◌||◌, ◌==◌, nat_lt, List, [], ◌∷◌, length, drop, map, Option, Some, None, is_some, option_map, slice_get, if◌then◌else◌}
 use Rattle.hv_value.specs.Tree.{Tree}
 use Rattle.hm_message.specs.declared.message.Message.{Message}
 use Rattle.hm_message.specs.declared.message.Message.TheVariants.{CancelInvocation}
@@ -19,7 +19,8 @@ use Rattle.hd_calls.specs.declared.vocabulary.Input.{Input}
 use Rattle.hd_calls.specs.declared.vocabulary.Input.TheVariants as input
 use Rattle.hd_calls.specs.declared.vocabulary.Act.{Act}
 use Rattle.hd_calls.specs.declared.vocabulary.Act.TheVariants as act
-use Rattle.hd_calls.specs.Numbers.{most_live, most_uploads, most_inputs, most_numbers}
+use Rattle.hd_calls.specs.Numbers.{most_live, most_uploads, most_inputs, most_numbers, most_weight}
+use Rattle.hd_calls.specs.Weights.{input_weight, job_weight}
 use Rattle.hd_calls.specs.Hubs.{Way, Notify, Call, Stream, Invoked, Answer, End, Purpose, ToBegin, ToAnswer, ToCancel, ToNothing, Turn, Given, Cancelled, Hub, id_of, purpose_of, message_of, answer_message, arguments_in, upload_input, call_for}
 use Rattle.hd_calls.specs.Peers.{Effect, Begins, InUse, TooMany, Brings, Feeds, Flood, Marks, Nothing, PeerEvent, Plain, Calls, Uploads, Cancels, Reads, Handles, Runs, Answers, Refuses, Loses, Rounds, Settings, drawn, call_of, has_end, live_call, takes, stream_count, live_upload, waiting, begun, moments, turns, acts, inputs, of_stream, is_cancelled, has_asked, last_of, hands_up, reply, byte_steps, steps, codec, is_shut, live_job}
 
@@ -191,6 +192,31 @@ used (_ ∷ ts) = used ts
 abbrev pub inputs_left : ℕ → List PeerEvent → ℕ
 inputs_left j h = length (inputs j h) - used (turns j h)
 
+-- what came from the uploads of the job's call and wasn't given to it
+abbrev pub inputs_waiting : ℕ → List PeerEvent → List Input
+inputs_waiting j h = drop (used (turns j h)) (map upload_input (inputs j h))
+
+-- what a live job keeps
+abbrev pub weight_at : Settings → ℕ → List PeerEvent → ℕ
+weight_at t j h = if live_job t j h then job_weight (slice_get (begun h) j) (inputs_waiting j h) (reply j h) else 0
+
+-- what all live jobs keep
+abbrev pub kept_weight : Settings → List PeerEvent → ℕ
+kept_weight t h = sum_below (length (begun h)) (λ j. weight_at t j h)
+
+-- whether that is more than they may keep
+abbrev pub is_heavy : Settings → List PeerEvent → Bool
+is_heavy t h = nat_lt most_weight (kept_weight t h)
+
+-- one more input may wait at the job
+pub record HasRoomFor (t : Settings) (h : List PeerEvent) (j : ℕ) (i : Input) : Type 0 where
+  pub few : inputs_left j h < most_inputs
+  pub light : kept_weight t h + input_weight i ≤ most_weight
+
+-- it may not: too many wait there, or with it all jobs would keep more than they may
+abbrev pub IsTooMuch : Settings → List PeerEvent → ℕ → Input → Type 0
+IsTooMuch t h j i = (most_inputs ≤ inputs_left j h) ⊎ (most_weight < kept_weight t h + input_weight i)
+
 -- what the job is given next, by its last act: after Wait the oldest input that waits; after an ask or a deed its answer alone
 abbrev pub next_input : ℕ → List PeerEvent → Option Act → Option Input
 next_input j h (Some act.Wait) = option_map upload_input (slice_get (inputs j h) (used (turns j h)))
@@ -294,7 +320,7 @@ in_use t c h = any_below (length (begun h)) (λ j. live_job t j h && clashes c j
 
 -- what a call does
 abbrev pub Starts : Settings → List PeerEvent → Invoked → Effect → Type 0
-Starts t h c (Begins d now) = (d ≡ c) × (in_use t c h ≡ false) × (live_jobs t h < most_live)
+Starts t h c (Begins d now floods) = (d ≡ c) × (in_use t c h ≡ false) × (live_jobs t h < most_live)
 Starts t h c (InUse d) = (d ≡ c) × (in_use t c h ≡ true)
 Starts t h c (TooMany d) = (d ≡ c) × (in_use t c h ≡ false) × (most_live ≤ live_jobs t h)
 Starts t h c _ = ⊥
@@ -313,9 +339,9 @@ IsStrange t h i a = (n : ℕ) → t.name n ≡ i → takes n a h ≡ false
 
 -- what an answer does: own calls come first, then the streams of jobs
 abbrev pub Arrives : Settings → List PeerEvent → List ℕ → Answer → Effect → Type 0
-Arrives t h i a (Brings n b) = (b ≡ a) × (t.name n ≡ i) × (takes n a h ≡ true)
-Arrives t h i a (Feeds j w b) = (b ≡ a) × IsStrange t h i a × StreamAt t h i j w × (inputs_left j h < most_inputs)
-Arrives t h i a Flood = IsStrange t h i a × ((j : ℕ) × (w : ℕ) × StreamAt t h i j w × (most_inputs ≤ inputs_left j h))
+Arrives t h i a (Brings n b floods) = (b ≡ a) × (t.name n ≡ i) × (takes n a h ≡ true)
+Arrives t h i a (Feeds j w b) = (b ≡ a) × IsStrange t h i a × StreamAt t h i j w × HasRoomFor t h j (upload_input (w, a))
+Arrives t h i a Flood = IsStrange t h i a × ((j : ℕ) × (w : ℕ) × StreamAt t h i j w × IsTooMuch t h j (upload_input (w, a)))
 Arrives t h i a Nothing = IsStrange t h i a × ((j w : ℕ) → StreamAt t h i j w → ⊥)
 Arrives t h i a _ = ⊥
 
@@ -340,6 +366,12 @@ ActsOn t h (ToAnswer i a) e = Arrives t h i a e
 ActsOn t h (ToCancel i) e = Stops t h i e
 ActsOn t h ToNothing e = ⊥
 
+-- A call begins its job and an ending is brought, whatever they weigh. The end is closed if the jobs keep more after that than they may
+abbrev pub IsWeighed : Settings → List PeerEvent → Message → Effect → Type 0
+IsWeighed t h m (Begins c now floods) = floods ≡ is_heavy t (Handles m (Begins c now floods) ∷ h)
+IsWeighed t h m (Brings n a floods) = floods ≡ is_heavy t (Handles m (Brings n a floods) ∷ h)
+IsWeighed t h m _ = Unit {0}
+
 -- ---- the peer
 
 -- a step of the end that is no message read and none sent. No frame is taken while a message waits
@@ -357,7 +389,7 @@ MayMove hub t h (Calls a n c) = MayCall t a n c h
 MayMove hub t h (Uploads n w a) = (live_upload n w h ≡ true) × (is_upload a ≡ true)
 MayMove hub t h (Cancels n) = live_call n h ≡ true
 MayMove hub t h (Reads m) = waiting h ≡ None
-MayMove hub t h (Handles m e) = (waiting h ≡ Some m) × ActsOn t h (purpose_of m) e
+MayMove hub t h (Handles m e) = (waiting h ≡ Some m) × ActsOn t h (purpose_of m) e × IsWeighed t h m e
 MayMove hub t h (Runs j c since turn what) = MayRun hub t h j c since turn what
 MayMove hub t h (Answers j i) = MayAnswer t j i h
 MayMove hub t h (Refuses j) = MayRefuse t j h

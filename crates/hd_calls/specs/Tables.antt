@@ -1,6 +1,6 @@
 -- What the table of own calls and the table of jobs below a peer see: the happenings of each, read off the peer's moves, and what either
 -- reads off its own happenings.
-use Rattle.std.specs.Prelude.{ℕ, suc, ◌+◌, ◌-◌, max, Bool, true, false, not, ◌&&◌, ◌||◌, ◌==◌, nat_lt, List, [], ◌∷◌, ◌++◌, length, Option, Some, None, is_some, option_map, slice_get, if◌then◌else◌}
+use Rattle.std.specs.Prelude.{ℕ, suc, ◌+◌, ◌-◌, max, Bool, true, false, not, ◌&&◌, ◌||◌, ◌==◌, nat_lt, List, [], ◌∷◌, ◌++◌, length, drop, map, Option, Some, None, is_some, option_map, slice_get, if◌then◌else◌}
 use Rattle.hm_message.specs.declared.message.Codec.{Codec}
 use Rattle.hm_message.specs.declared.message.Ending.{Ending}
 use Rattle.hd_calls.specs.declared.vocabulary.Input.{Input}
@@ -8,6 +8,7 @@ use Rattle.hd_calls.specs.declared.vocabulary.Input.TheVariants as input
 use Rattle.hd_calls.specs.declared.vocabulary.Act.{Act}
 use Rattle.hd_calls.specs.declared.vocabulary.Act.TheVariants as act
 use Rattle.hd_calls.specs.Hubs.{Way, Invoked, Answer, End, Turn, id_of, upload_input}
+use Rattle.hd_calls.specs.Weights.{job_weight}
 use Rattle.hd_calls.specs.Rules.{any_below, count_below, sum_below, first_from, is_among, repeats, same_id, used}
 use Rattle.hd_calls.specs.Ledgers.{CallHappening, Called, Got, Uploaded, Stopped, Gone}
 use Rattle.hd_calls.specs.Peers.{Begins, Brings, Feeds, Marks, PeerEvent, Calls, Uploads, Cancels, Handles, Runs, Answers, Refuses, Loses, Rounds, Settings, of_stream, has_end, has_id, stream_count, ends_job, asker_of, asks, acts, reply, ask_refused, last_of, add, codec}
@@ -17,7 +18,7 @@ use Rattle.hd_calls.specs.Peers.{Begins, Brings, Feeds, Marks, PeerEvent, Calls,
 -- what a move is to the table of own calls
 abbrev pub call_happening : PeerEvent → Option CallHappening
 call_happening (Calls a n c) = Some (Called n c)
-call_happening (Handles m (Brings n a)) = Some (Got n a)
+call_happening (Handles m (Brings n a floods)) = Some (Got n a)
 call_happening (Uploads n w a) = Some (Uploaded n w a)
 call_happening (Cancels n) = Some (Stopped n)
 call_happening (Loses n) = Some (Gone n)
@@ -93,10 +94,10 @@ reply_to h e (Some j) = if asks (last_of (acts j h)) && not (is_some (reply j h)
 -- the happenings of the jobs, the latest first
 abbrev pub job_happenings : Settings → List PeerEvent → List JobHappening
 job_happenings t [] = []
-job_happenings t (Handles m (Begins c now) ∷ h) = Accepted c now ∷ job_happenings t h
+job_happenings t (Handles m (Begins c now floods) ∷ h) = Accepted c now ∷ job_happenings t h
 job_happenings t (Handles m (Feeds j w a) ∷ h) = Came j w a ∷ job_happenings t h
 job_happenings t (Handles m (Marks j) ∷ h) = Marked j ∷ job_happenings t h
-job_happenings t (Handles m (Brings n (End e)) ∷ h) = add (reply_to h e (asker_of n h)) (job_happenings t h)
+job_happenings t (Handles m (Brings n (End e) floods) ∷ h) = add (reply_to h e (asker_of n h)) (job_happenings t h)
 job_happenings t (Runs j c since turn what ∷ h) = add (cut_short t (codec t h) c.way j what) (Turned j turn what ∷ job_happenings t h)
 job_happenings t (Answers j i ∷ h) = Replied j i ∷ job_happenings t h
 job_happenings t (Refuses j ∷ h) = Replied j (input.Asked ask_refused) ∷ job_happenings t h
@@ -165,6 +166,15 @@ live_jobs_in h = count_below (length (begun_in h)) (λ j. live_job_in j h)
 
 abbrev pub inputs_left_in : ℕ → List JobHappening → ℕ
 inputs_left_in j h = length (inputs_in j h) - used (turns_in j h)
+
+abbrev pub inputs_waiting_in : ℕ → List JobHappening → List Input
+inputs_waiting_in j h = drop (used (turns_in j h)) (map upload_input (inputs_in j h))
+
+abbrev pub weight_in : ℕ → List JobHappening → ℕ
+weight_in j h = if live_job_in j h then job_weight (slice_get (begun_in h) j) (inputs_waiting_in j h) (reply_in j h) else 0
+
+abbrev pub kept_weight_in : List JobHappening → ℕ
+kept_weight_in h = sum_below (length (begun_in h)) (λ j. weight_in j h)
 
 abbrev pub shares_in : List (List ℕ) → ℕ → List JobHappening → ℕ → List (List ℕ) → Bool
 shares_in those j h w [] = false

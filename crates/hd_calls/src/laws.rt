@@ -3,9 +3,11 @@
 ghost use Rattle.std.specs.Prelude.{◌≡◌};
 ghost use Rattle.hd_calls.specs.Ids.{IdsAreDrawn};
 ghost use Rattle.hd_calls.specs.Laws.{FramesAreTested, HoldsAsSent, PeersAreBounded, TablesAgree, WorldsArePeers};
-ghost use Rattle.hd_calls.specs.Numbers.{most_inputs, most_live, most_numbers, most_uploads};
+ghost use Rattle.hd_calls.specs.Numbers.{base_weight, most_inputs, most_live, most_numbers, most_uploads, most_weight};
 
-use crate::vocabulary::{MOST_INPUTS, MOST_LIVE, MOST_NUMBERS, MOST_UPLOADS};
+use crate::vocabulary::{
+    BASE_WEIGHT, MOST_INPUTS, MOST_LIVE, MOST_NUMBERS, MOST_UPLOADS, MOST_WEIGHT,
+};
 
 /// What a peer's history says of its calls and jobs is what their own happenings say, which are all that a table of calls and a
 /// table of jobs see.
@@ -29,8 +31,8 @@ pub fn calls_once_as_sent<C, S>()
     crate::calls_once::<C, S>();
 }
 
-/// At most 1,024 own calls and uploads of a peer are live, and at most 1,024 jobs; at most 4,096 inputs wait at each; and no number
-/// past 2^62 is drawn.
+/// At most 1,024 own calls and uploads of a peer are live, and at most 1,024 jobs; at most 4,096 inputs wait at each; no number past 2^62
+/// is drawn; and while its end is open what its jobs keep weighs at most 16,777,216.
 pub fn peers_are_bounded<Job>()
     ensures { PeersAreBounded Job }
 {}
@@ -51,4 +53,6 @@ pub fn bounds_are_named()
     ensures uploads { MOST_UPLOADS ≡ most_uploads }
     ensures inputs { MOST_INPUTS ≡ most_inputs }
     ensures numbers { MOST_NUMBERS ≡ most_numbers }
+    ensures weight { MOST_WEIGHT ≡ most_weight }
+    ensures base { BASE_WEIGHT ≡ base_weight }
 {}

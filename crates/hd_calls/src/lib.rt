@@ -20,11 +20,13 @@ pub use laws::{
     tables_agree, worlds_are_peers,
 };
 pub use one_peer::{
-    an_ask_refused, ids_in_use, marks_and_deeds, own_calls_come_first, too_many_inputs,
-    what_is_answered, what_is_excluded, what_is_refused, what_may_not_come,
+    an_ask_refused, ids_in_use, marks_and_deeds, own_calls_come_first, too_heavy, too_many_inputs,
+    what_closes, what_is_answered, what_is_excluded, what_is_refused, what_jobs_keep,
+    what_may_not_come, what_values_weigh,
 };
 pub use vocabulary::{
-    Act, Call, CallKind, Deed, Input, MOST_INPUTS, MOST_LIVE, MOST_NUMBERS, MOST_UPLOADS, UnknownId,
+    Act, BASE_WEIGHT, Call, CallKind, Deed, Input, MOST_INPUTS, MOST_LIVE, MOST_NUMBERS,
+    MOST_UPLOADS, MOST_WEIGHT, REFUSAL_TEXT, UnknownId,
 };
 pub use worlds::{closed_with_calls, lost_link, three_calls, too_many_calls, too_many_jobs};
 

@@ -1,22 +1,29 @@
 //! Cases of one peer, which the checker computes: what is answered, what a message does, and what may not come.
 
-ghost use Rattle.std.specs.Prelude.{[], false, None, Some, true, ℕ, ◌++◌, ◌∷◌, ◌≡◌};
+ghost use Rattle.std.specs.Prelude.{[], Bool, false, None, Some, true, ℕ, ◌*◌, ◌+◌, ◌++◌, ◌∷◌, ◌≡◌};
 ghost use Rattle.hv_value.specs.declared.value.Value.TheVariants as value;
+ghost use Rattle.hv_value.specs.Tree as tree;
+ghost use Rattle.hv_value.specs.Tree.{bytes, list, map, more, no_pairs, no_trees, null, text};
+ghost use Rattle.hm_message.specs.declared.message.Codec.{Codec};
 ghost use Rattle.hm_message.specs.declared.message.Codec.TheVariants.{Json, Pack};
-ghost use Rattle.hm_message.specs.declared.message.Ending.TheVariants.{Void, Result};
+ghost use Rattle.hm_message.specs.declared.message.Ending.TheVariants.{Error, Result, Void};
+ghost use Rattle.hm_message.specs.declared.message.Message.{Message};
 ghost use Rattle.hm_message.specs.declared.message.Message.TheVariants.{CancelInvocation};
 ghost use Rattle.hm_message.specs.Message.{value_image};
 ghost use Rattle.hd_delivery.specs.declared.vocabulary.Reason.TheVariants as reason;
+ghost use Rattle.hd_delivery.specs.declared.vocabulary.Side.TheVariants.{Server};
 ghost use Rattle.hd_delivery.specs.Bytes.{Does};
 ghost use Rattle.hd_delivery.specs.Histories.{Closed};
 ghost use Rattle.hd_calls.specs.declared.vocabulary.Act.TheVariants as act;
 ghost use Rattle.hd_calls.specs.declared.vocabulary.Deed.TheVariants.{Join};
 ghost use Rattle.hd_calls.specs.declared.vocabulary.Input.TheVariants as input;
-ghost use Rattle.hd_calls.specs.Hubs.{answer_message, Call, Cancelled, End, Given, Item, message_of, Notify, Stream, upload_input};
+ghost use Rattle.hd_calls.specs.Hubs.{Answer, answer_message, Call, Cancelled, End, Given, Invoked, Item, message_of, Notify, Stream, upload_input};
 ghost use Rattle.hd_calls.specs.Peers.{acts, Answers, answers, ask_refused, Begins, Brings, Calls, Feeds, Flood, Handles, InUse, last_of, Loses, Marks, Nothing, Reads, Refuses, Rounds, Runs, Settings, step_of, too_long, Uploads};
-ghost use Rattle.hd_calls.specs.Rules.{IsPeerDue, IsPrompt, IsRefusedCancel, IsRefusedUpload, MayMove, MayTurn, next_input, Unknown};
+ghost use Rattle.hd_calls.specs.Rules.{IsPeerDue, IsPrompt, IsRefusedCancel, IsRefusedUpload, kept_weight, MayMove, MayTurn, next_input, Unknown};
+ghost use Rattle.hd_calls.specs.Weights.{call_weight, input_weight, value_weight};
+ghost use Rattle.hd_calls.specs.PeerWorlds.{settings};
 ghost use Rattle.hd_calls.specs.Ledgers.{Called, Gone, IsLegal, IsLegalLedger, ledger};
-ghost use Rattle.hd_calls.specs.Examples.{asked, asking, begins, calls_made, cancelled_once, ClientMayNot, closed_with_two, deed_done, deed_handed_up, doing, fed, FillsInputs, first_call, hub, int, notice, of_client, of_server, one_asked, one_asks, one_begun, one_more_ending, one_more_item, opened, reads, same_id_again, same_stream_again, server, ServerMay, ServerMayNot, ServerNever, short_asks, sized, stream_twice, streamed, three_calls, upload_ended, with_own_call};
+ghost use Rattle.hd_calls.specs.Examples.{ask_answered, ask_made, ask_told, asked, asking, begins, calls_made, cancelled_once, ClientMayNot, closed_with_two, deed_done, deed_handed_up, doing, fed, FillsByCall, FillsByEnding, FillsByInput, FillsInputs, first_call, hub, int, item_fed, item_taken, laden, notice, noticed, of_client, of_server, one_asked, one_asks, one_begun, one_more_ending, one_more_item, opened, pair, reads, same_id_again, same_stream_again, server, server_keeps, ServerMay, ServerMayNot, ServerNever, short_asks, sized, stream_twice, streamed, three_calls, upload_ended, uploaded_often, with_own_call};
 
 /// What is sent for a job: its items to a Stream alone, and its ending. One that is too long ends the call in its place, with an error;
 /// if that is too long too, nothing is said.
@@ -45,10 +52,10 @@ pub fn what_may_not_come()
     ensures refusal { ServerMayNot one_asks (Refuses 0) }
     ensures twice { ServerMayNot one_asked (Calls (Some 0) 2 asked) }
     ensures waits { ServerMayNot (one_begun ++ server (Reads (message_of fed) ∷ [])) (Reads (message_of asking)) }
-    ensures again { ClientMayNot one_more_ending
-        (Handles (answer_message (1 ∷ []) (End Void)) (Brings 1 (End Void))) }
-    ensures item { ClientMayNot one_more_item
-        (Handles (answer_message (2 ∷ []) (Item (int 1))) (Brings 2 (Item (int 1)))) }
+    ensures again { (floods : Bool) → ClientMayNot one_more_ending
+        (Handles (answer_message (1 ∷ []) (End Void)) (Brings 1 (End Void) floods)) }
+    ensures item { (floods : Bool) → ClientMayNot one_more_item
+        (Handles (answer_message (2 ∷ []) (Item (int 1))) (Brings 2 (Item (int 1)) floods)) }
     ensures upload { ClientMayNot (three_calls Json) (Uploads 2 0 (End (Result (int 1)))) }
     ensures turn { ServerMayNot one_asked (Runs 0 asking 10 (Given input.Go 12) (act.Ask (0 ∷ []) [])) }
     ensures ended { ServerMayNot (three_calls Json) (Runs 0 streamed 10 Cancelled (act.End Void)) }
@@ -85,12 +92,12 @@ pub fn what_is_excluded()
 pub fn ids_in_use()
     ensures id { ServerMay (reads (begins fed) (message_of same_id_again))
         (Handles (message_of same_id_again) (InUse same_id_again)) }
-    ensures id_begins_none { ServerNever (reads (begins fed) (message_of same_id_again))
-        (Handles (message_of same_id_again) (Begins same_id_again 12)) }
+    ensures id_begins_none { (floods : Bool) → ServerNever (reads (begins fed) (message_of same_id_again))
+        (Handles (message_of same_id_again) (Begins same_id_again 12 floods)) }
     ensures stream { ServerMay (reads (begins fed) (message_of same_stream_again))
         (Handles (message_of same_stream_again) (InUse same_stream_again)) }
     ensures ended { ServerMay (reads upload_ended (message_of same_stream_again))
-        (Handles (message_of same_stream_again) (Begins same_stream_again 12)) }
+        (Handles (message_of same_stream_again) (Begins same_stream_again 12 false)) }
     ensures twice { ServerMay (reads [] (message_of stream_twice))
         (Handles (message_of stream_twice) (InUse stream_twice)) }
 {}
@@ -100,7 +107,7 @@ pub fn own_calls_come_first()
     ensures item { ServerMay (reads with_own_call (answer_message (115 ∷ 1 ∷ []) (Item (int 1))))
         (Handles (answer_message (115 ∷ 1 ∷ []) (Item (int 1))) (Feeds 0 0 (Item (int 1)))) }
     ensures ending { ServerMay (reads with_own_call (answer_message (115 ∷ 1 ∷ []) (End Void)))
-        (Handles (answer_message (115 ∷ 1 ∷ []) (End Void)) (Brings 1 (End Void))) }
+        (Handles (answer_message (115 ∷ 1 ∷ []) (End Void)) (Brings 1 (End Void) false)) }
     ensures not_fed { ServerNever (reads with_own_call (answer_message (115 ∷ 1 ∷ []) (End Void)))
         (Handles (answer_message (115 ∷ 1 ∷ []) (End Void)) (Feeds 0 0 (End Void))) }
     ensures result { upload_input (0, End (Result (int 1))) ≡ input.StreamEnd 0 None }
@@ -126,6 +133,64 @@ pub fn too_many_inputs()
     ensures fills { (k : ℕ) → FillsInputs k }
     ensures closes { (t : Settings) → step_of t Json false (Handles (message_of notice) Flood)
         ≡ Some (Does (Closed reason.Flood false)) }
+{}
+
+/// A call from which jobs keep more than they may begins its job, and closes the end. An ending that is too heavy is given to its job, and
+/// closes the end too. An input that is too heavy isn't given.
+pub fn too_heavy()
+    ensures call { (t : Settings) (k now : ℕ) → FillsByCall t k now }
+    ensures ending { (k : ℕ) → FillsByEnding k }
+    ensures input { (k : ℕ) → FillsByInput k }
+{}
+
+/// Where the jobs keep too much an open end is closed for Flood, and no other one is.
+pub fn what_closes()
+    ensures call { (t : Settings) (code : Codec) (m : Message) (c : Invoked) (now : ℕ)
+        → step_of t code false (Handles m (Begins c now true)) ≡ Some (Does (Closed reason.Flood false)) }
+    ensures call_on_closed { (t : Settings) (code : Codec) (m : Message) (c : Invoked) (now : ℕ)
+        → step_of t code true (Handles m (Begins c now true)) ≡ None }
+    ensures light_call { (t : Settings) (code : Codec) (shut : Bool) (m : Message) (c : Invoked) (now : ℕ)
+        → step_of t code shut (Handles m (Begins c now false)) ≡ None }
+    ensures answer { (t : Settings) (code : Codec) (m : Message) (n : ℕ) (a : Answer)
+        → step_of t code false (Handles m (Brings n a true)) ≡ Some (Does (Closed reason.Flood false)) }
+    ensures answer_on_closed { (t : Settings) (code : Codec) (m : Message) (n : ℕ) (a : Answer)
+        → step_of t code true (Handles m (Brings n a true)) ≡ None }
+    ensures light_answer { (t : Settings) (code : Codec) (shut : Bool) (m : Message) (n : ℕ) (a : Answer)
+        → step_of t code shut (Handles m (Brings n a false)) ≡ None }
+{}
+
+/// What jobs keep: each call until its job is over, each input until the turn at which it is given, and the answer to an ask until the next
+/// turn. That an ask is refused adds nothing, nor does the answer to a deed.
+pub fn what_jobs_keep()
+    ensures calls { (t : Settings) (k : ℕ) → kept_weight t (noticed k) ≡ 96 * k }
+    ensures inputs { (t : Settings) (k : ℕ) → kept_weight t (uploaded_often k) ≡ 195 + 48 * k }
+    ensures fed { server_keeps item_fed ≡ 243 }
+    ensures taken { server_keeps item_taken ≡ 195 }
+    ensures made { server_keeps ask_made ≡ 146 }
+    ensures answered { server_keeps ask_answered ≡ 242 }
+    ensures told { server_keeps ask_told ≡ 146 }
+    ensures refused { kept_weight (sized 3) (Refuses 0 ∷ short_asks) ≡ 146 }
+    ensures done { server_keeps deed_done ≡ 97 }
+    ensures ended { kept_weight (settings Server (pair Json 1 false)) (of_server (three_calls Json)) ≡ 0 }
+{}
+
+/// What values, calls and inputs weigh: 48 for each value, list of arguments, target, id and end, with the bytes of texts, of bytes, of
+/// keys, of targets and ids, and of errors.
+pub fn what_values_weigh()
+    ensures null { value_weight null ≡ 48 }
+    ensures list { value_weight (list (more (text (1 ∷ 2 ∷ [])) (more (bytes (3 ∷ [])) no_trees))) ≡ 147 }
+    ensures map { value_weight (map (tree.pair (1 ∷ 2 ∷ []) null no_pairs)) ≡ 98 }
+    ensures notice { call_weight notice ≡ 96 }
+    ensures call { call_weight fed ≡ 195 }
+    ensures stream { call_weight laden ≡ 345 }
+    ensures item { input_weight (input.Item 0 (value.Text (1 ∷ 2 ∷ 3 ∷ []))) ≡ 51 }
+    ensures stream_end { input_weight (input.StreamEnd 0 None) ≡ 48 }
+    ensures stream_error { input_weight (input.StreamEnd 0 (Some (1 ∷ 2 ∷ []))) ≡ 50 }
+    ensures nothing { input_weight (input.Asked Void) ≡ 48 }
+    ensures error { input_weight (input.Asked (Error (1 ∷ 2 ∷ []))) ≡ 50 }
+    ensures refusal { input_weight (input.Asked ask_refused) ≡ 0 }
+    ensures result { input_weight (input.Asked (Result (int 7))) ≡ 96 }
+    ensures deed { input_weight (input.Done (int 7)) ≡ 0 }
 {}
 
 /// Nothing is due without room. What speaks of no live call or upload is refused.

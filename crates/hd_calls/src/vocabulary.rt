@@ -13,6 +13,16 @@ pub const MOST_UPLOADS: u32 = 8;
 /// The most inputs from uploads that wait at one job, over all its streams.
 pub const MOST_INPUTS: u64 = 4096;
 
+/// The most that the calls of live jobs, the inputs that wait at them and the answers to their asks weigh together, in bytes: 48 for each
+/// value, list of arguments, target, id, stream's end and ending, with the bytes of texts, of bytes, and of the keys of maps.
+pub const MOST_WEIGHT: u64 = 1 << 24;
+
+/// What a value, a list of arguments, a target, an id, a stream's end or an ending weighs, beside its bytes and what is in it.
+pub const BASE_WEIGHT: u64 = 48;
+
+/// What a job is told whose ask is refused.
+pub const REFUSAL_TEXT: &str = "The ask was refused.";
+
 /// The greatest number that a peer draws for its calls and uploads.
 pub const MOST_NUMBERS: u64 = 1 << 62;
 

@@ -1,7 +1,7 @@
 use Rattle.std.proofs.Common.{◌++◌, subst, sym}
 use Rattle.hd_delivery.specs.declared.vocabulary.Side.TheVariants.{Client, Server}
 use Rattle.hd_delivery.specs.Histories.{sent_messages}
-use Rattle.hd_delivery.specs.Worlds.{config, client_of, server_of}
+use Rattle.hd_delivery.specs.Worlds.{config, server_of}
 use Rattle.hd_delivery.specs.Bytes.{IsFaithful, in_frames, client_in_frames}
 use Rattle.hd_delivery.specs.Laws.{AreReadAsSent}
 use Rattle.hd_calls.specs.Peers.{steps}
