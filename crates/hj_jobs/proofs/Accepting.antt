@@ -1,19 +1,19 @@
 -- What `accept` makes of the happenings that the table stood for.
-use Rattle.std.proofs.Common.{◌≡◌, ℕ, zero, suc, ◌+◌, ◌<◌, ◌≤◌, Bool, true, false, List, [], ◌∷◌, length, Option, Some, None, refl, sym, ap, ◌∙◌, subst, arith}
-use Rattle.std.specs.Prelude.{◌||◌, ◌==◌, if◌then◌else◌}
+use Rattle.std.proofs.Common.{◌≡◌, ℕ, suc, ◌+◌, ◌<◌, ◌≤◌, Bool, true, false, List, length, None, refl, sym, ap, ◌∙◌, subst, arith}
+use Rattle.std.specs.Prelude.{◌||◌, if◌then◌else◌}
 use Rattle.std.specs.Vec.{vec_capacity}
 use Rattle.hd_calls.specs.declared.vocabulary.Call as as_given
 use Rattle.hd_calls.specs.Numbers.{most_live}
-use Rattle.hd_calls.specs.Hubs.{call_for, Hub, id_of, Invoked}
-use Rattle.hd_calls.specs.Tables.{begun_in, in_use_in, JobHappening, live_jobs_in}
-use Rattle.hj_jobs.specs.declared.entry.Entry.{Entry}
+use Rattle.hd_calls.specs.Hubs.{Hub, id_of, Invoked}
+use Rattle.hd_calls.specs.Tables.{begun_in, JobHappening, live_jobs_in}
 use Rattle.hj_jobs.specs.declared.errors.AcceptError.{AcceptError}
 use Rattle.hj_jobs.specs.declared.errors.AcceptError.TheVariants as accept
 use Rattle.hj_jobs.specs.declared.jobs.Jobs.{Jobs}
 use Rattle.hj_jobs.specs.declared.ids.Ids.{Ids}
 use Rattle.hj_jobs.specs.Calls.{Accepts, IsCallOf, IsRefusedIn}
+use Rattle.hj_jobs.specs.Counted.{Adds}
 use Rattle.hj_jobs.specs.Live.{entry_at, Gains, live_count, Retains}
-use Rattle.hj_jobs.specs.Ids.{AreFree, AreSame, Claims, IsUnclaimed, Releases}
+use Rattle.hj_jobs.specs.Ids.{AreFree, Claims, IsUnclaimed, Releases}
 use Rattle.hj_jobs.specs.Parts.{DueIs, Enters, HasRoomForOne, IsFullOr, IsRoomier}
 use Rattle.hj_jobs.specs.Stands.{past, Stands}
 use Rattle.hj_jobs.proofs.Beginning.{begins_remembered, clash_taken, clash_used, free_unused, released, stands_begun}
@@ -79,7 +79,7 @@ module _ {H Job : Type 0} (hub : Hub Job) (who : List ℕ) (old : Jobs H Job) (h
         next = next;
         stands = stands_begun {H = H} hub who old h s new c now enters.entry mid.due
             (begins_remembered new.prepared hub who c now call enters.entry job is made enters.begins)
-            gained.here (λ m ne. gained.others m ne ∙ retains.at m) (gained.count ∙ ap (λ m. m + 1) same) few (free_of c is free) claims_of
+            gained.here (λ m ne. gained.others m ne ∙ retains.at m) (gained.count ∙ ap (λ m. m + 1) same) (subst (λ m. Adds m new.live.weight enters.entry.weight) retains.weight gained.weight) few (free_of c is free) claims_of
             roomier.due (subst (λ m. m < vec_capacity mid.due.numbers) same space) (subst (λ m. DueIs mid.due new.due m true) next enters.due)
             (enters.accepted ∙ next) (enters.passed ∙ roomier.passed) (enters.prepared ∙ roomier.prepared);
       }

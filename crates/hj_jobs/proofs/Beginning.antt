@@ -1,15 +1,15 @@
 -- A call begins a job: when its ids are free, and what the table stands for then.
-use Rattle.std.proofs.Common.{◌≡◌, ℕ, zero, suc, ◌+◌, ◌<◌, ◌≤◌, Bool, true, false, List, [], ◌∷◌, ◌++◌, length, Option, Some, None, refl, sym, ap, ◌∙◌, subst, arith, ◌⊎◌, inl, inr, ⊎_elim}
-use Rattle.std.specs.Prelude.{slice_get, not, nat_lt, ◌&&◌, ◌||◌, ◌==◌, if◌then◌else◌}
+use Rattle.std.proofs.Common.{◌≡◌, ℕ, zero, suc, ◌+◌, ◌<◌, Bool, true, false, List, [], ◌∷◌, length, Option, Some, None, refl, sym, ap, ◌∙◌, subst, arith, ◌⊎◌, inl, inr, ⊎_elim}
+use Rattle.std.specs.Prelude.{slice_get, not, ◌&&◌, ◌||◌, ◌==◌, if◌then◌else◌}
 use Rattle.std.specs.Vec.{vec_capacity}
 use Rattle.std.proofs.lemmas.Bool.{and_parts, and_from, or_cases, or_parts, or_from, or_left, or_right, cond-true, cond-false, false_from_ne_true, eq-eqb, ne_eqb, cases_eq, not-true, not_from_false}
 use Rattle.hm_message.specs.Same.{same_text}
 use Rattle.hd_calls.specs.declared.vocabulary.Call as as_given
-use Rattle.hd_calls.specs.Numbers.{most_live, most_inputs}
-use Rattle.hd_calls.specs.Hubs.{Hub, Invoked, call_for, id_of, kind_of}
+use Rattle.hd_calls.specs.Numbers.{most_live}
+use Rattle.hd_calls.specs.Hubs.{Hub, Invoked, call_for, id_of}
 use Rattle.hd_calls.specs.Peers.{has_end, of_stream}
 use Rattle.hd_calls.specs.Rules.{any_below, count_below, is_among, repeats, same_id}
-use Rattle.hd_calls.specs.Tables.{Accepted, JobHappening, begun_in, clashes_in, in_use_in, inputs_in, is_due_in, live_job_in, live_jobs_in, moments_in, passed_in, shares_in}
+use Rattle.hd_calls.specs.Tables.{Accepted, JobHappening, begun_in, clashes_in, in_use_in, inputs_in, is_due_in, live_job_in, live_jobs_in, moments_in, shares_in}
 use Rattle.hv_value.specs.declared.sorted_set.SortedSet.{SortedSet}
 use Rattle.hj_jobs.specs.declared.entry.Entry.{Entry}
 use Rattle.hj_jobs.specs.declared.jobs.Jobs.{Jobs}
@@ -17,17 +17,20 @@ use Rattle.hj_jobs.specs.declared.ids.Ids.{Ids}
 use Rattle.hj_jobs.specs.declared.ids.Stream.{Stream}
 use Rattle.hj_jobs.specs.Calls.{IsTaken, ItsId, ItsStream, NamedTwice}
 use Rattle.hv_value.specs.SortedSet.{HasPlace, is_in, IsRising}
+use Rattle.hj_jobs.specs.Counted.{Adds, counted, weight_as_given}
 use Rattle.hj_jobs.specs.Entries.{Begins}
 use Rattle.hj_jobs.specs.Live.{entry_at, live_count}
 use Rattle.hj_jobs.specs.Ids.{AreFree, AreSame, claimed, Claims, Clash, OfJob, OfStream, Twice, is_twice, is_of, job_at, or_else, Releases, stream_at}
 use Rattle.hj_jobs.specs.Parts.{DueIs}
-use Rattle.hj_jobs.specs.Stands.{DueAgree, HadBy, HasId, IdsAgree, IsEntryOf, IsUnborn, OpenBy, Past, past, Remembers, Stands, StreamIn, StreamsAgree}
+use Rattle.hj_jobs.specs.Stands.{count_in, HadBy, HasId, IdsAgree, IsEntryOf, IsUnborn, OpenBy, Past, past, Remembers, Stands, StreamIn, StreamsAgree}
+use Rattle.hj_jobs.proofs.AllJobs.{all_begun}
 use Rattle.hj_jobs.proofs.Agree.{among, place_cases, same_id-true, suc_apart, suc_apart2, true-same_id}
 use Rattle.hj_jobs.proofs.Basics.{get_within, none_some, same-true, same_refl, some_injective, true_false}
 use Rattle.hj_jobs.proofs.Counting.{count_due, count_more, count_same}
-use Rattle.hj_jobs.proofs.OneJob.{due_entry, due_is, due_of}
-use Rattle.hj_jobs.proofs.Pasts.{accepted_as, accepted_elsewhere, accepted_here, accepted_moments, accepted_more}
-use Rattle.hj_jobs.proofs.Table.{dead_past, due_live, entry_of, live_within, undue}
+use Rattle.hj_jobs.proofs.OneJob.{count_is, counts_within, due_is, due_of}
+use Rattle.hj_jobs.proofs.Pasts.{accepted_elsewhere, accepted_here, accepted_moments, accepted_more}
+use Rattle.hj_jobs.proofs.Table.{dead_past, due_live, entry_of, kept_within, live_within, undue}
+use Rattle.hj_jobs.proofs.Weighing.{job_begun, one_fits}
 
 -- ---- claimed and released
 
@@ -258,6 +261,7 @@ begins_remembered half hub who c now call e job is made b = record {
   reply = b.reply;
   answered = rw b.reply tt;
   is_cancelled = b.is_cancelled;
+  weight = b.weight ∙ (ap (λ (x : as_given.Call). counted (weight_as_given x)) is ∙ sym (job_begun c));
 }
 
 module _ (h : List JobHappening) (c : Invoked) (now : ℕ) (agree : length (moments_in h) ≡ length (begun_in h)) (unborn : IsUnborn (past (length (begun_in h)) h)) where
@@ -369,11 +373,11 @@ module _ {H Job : Type 0} (hub : Hub Job) (who : List ℕ) (old : Jobs H Job) (h
 
   pub stands_begun : (new : Jobs H Job) (c : Invoked) (now : ℕ) (e : Entry Job) (mid : SortedSet) → Remembers new.prepared hub who e (newborn c now)
       → entry_at new.live (suc (length (begun_in h))) ≡ Some e → ((n : ℕ) → (suc (length (begun_in h)) == n) ≡ false → entry_at new.live n ≡ entry_at old.live n)
-      → live_count new.live ≡ live_count old.live + 1 → live_count old.live < most_live
+      → live_count new.live ≡ live_count old.live + 1 → Adds old.live.weight new.live.weight e.weight → live_count old.live < most_live
       → AreFree old.names (id_of c.way) c.streams → Claims old.names new.names (suc (length (begun_in h))) (id_of c.way) c.streams
       → mid.numbers.items ≡ old.due.numbers.items → live_count old.live < vec_capacity mid.numbers → DueIs mid new.due (suc (length (begun_in h))) true
       → new.accepted ≡ suc (length (begun_in h)) → new.passed ≡ old.passed → new.prepared ≡ old.prepared → Stands {H = H} hub new who (Accepted c now ∷ h)
-  stands_begun new c now e mid keeps here others count few free claims items room due accepted passed half =
+  stands_begun new c now e mid keeps here others count adds few free claims items room due accepted passed half =
       let n = length (begun_in h) in
       let after = Accepted c now ∷ h in
       let unborn = s.unborn n (omega arith) in
@@ -395,6 +399,9 @@ module _ {H Job : Type 0} (hub : Hub Job) (who : List ℕ) (old : Jobs H Job) (h
         none = others 0 (ne_eqb (suc n) 0 (λ z. omega (arith, z))) ∙ s.none;
         count = omega (arith, count, all, lives);
         few_live = omega (arith, few, all, lives);
+        weight =
+            adds (one_fits old.live.weight e.weight (kept_within {H = H} hub who old h s) (counts_within new.prepared hub who e (past n after) kept))
+            ∙ (ap (λ m. m + e.weight) s.weight ∙ (ap (λ m. count_in h + m) (sym (count_is new.prepared hub who e (past n after) kept)) ∙ sym (all_begun h c now s.moments)));
         ids = ids_begun h c now s.moments unborn old.names new.names free claims s.ids;
         streams = streams_begun h c now s.moments unborn old.names new.names free claims s.streams;
         due = record {

@@ -1,7 +1,8 @@
--- How many numbers below a bound pass a test, against another test, and against a rising list of those that pass.
-use Rattle.std.proofs.Common.{◌≡◌, ℕ, zero, suc, ◌<◌, ◌≤◌, Bool, true, false, ◌||◌, ◌==◌, inl, inr, List, [], ◌∷◌, length, refl, sym, ap, ◌∙◌, arith, eq-eqb, ne_eqb, if◌then◌else◌}
+-- How many numbers below a bound pass a test, against another test, and against a rising list of those that pass; and sums over such numbers.
+use Rattle.std.proofs.Common.{◌≡◌, ℕ, zero, suc, ◌+◌, ◌*◌, ◌<◌, ◌≤◌, Bool, true, false, ◌||◌, ◌==◌, inl, inr, List, [], ◌∷◌, length, refl, sym, ap, ◌∙◌, arith, eq-eqb, ne_eqb, if◌then◌else◌}
 use Rattle.std.proofs.lemmas.Bool.{or_left, or_right, false_from_ne_true, cases_lt, cases_eq}
-use Rattle.hd_calls.specs.Rules.{count_below}
+use Rattle.std.proofs.Math.Nat.{suc-mul}
+use Rattle.hd_calls.specs.Rules.{count_below, sum_below}
 use Rattle.hv_value.specs.SortedSet.{is_in, IsRising}
 
 -- ---- two tests
@@ -67,6 +68,56 @@ count_flipped (suc n) p q i l a b f = elim (cases_eq i n) [ inl e ↦ last e | i
 pub count_none : (n : ℕ) (p : ℕ → Bool) → ((j : ℕ) → j < n → p j ≡ false) → count_below n p ≡ 0
 count_none zero p f = refl
 count_none (suc n) p f = ap (λ t. if t then suc (count_below n p) else count_below n p) (f n (omega arith)) ∙ count_none n p (λ j l. f j (omega (arith, l)))
+
+-- ---- sums
+
+-- two functions with the same values have one sum
+pub sum_same : (n : ℕ) (f g : ℕ → ℕ) → ((j : ℕ) → j < n → f j ≡ g j) → sum_below n f ≡ sum_below n g
+sum_same zero f g e = refl
+sum_same (suc n) f g e =
+    let a = e n (omega arith) in
+    let b = sum_same n f g (λ j l. e j (omega (arith, l))) in
+    omega (arith, a, b)
+
+-- the sums of two functions that differ at one number differ as much
+pub sum_changed : (n : ℕ) (f g : ℕ → ℕ) (i : ℕ) → i < n → ((j : ℕ) → (j ≡ i → ⊥) → f j ≡ g j) → sum_below n g + f i ≡ sum_below n f + g i
+sum_changed zero f g i l e = absurd (omega (arith, l))
+sum_changed (suc n) f g i l e = elim (cases_eq i n) [ inl z ↦ last z | inr z ↦ before z (sum_changed n f g i (omega (arith, l, z)) e) ]
+  where
+    last : i ≡ n → sum_below (suc n) g + f i ≡ sum_below (suc n) f + g i
+    last z =
+        let same = sum_same n f g (λ j m. e j (λ w. omega (arith, m, w, z))) in
+        let a : f i ≡ f n = ap f z in
+        let b : g i ≡ g n = ap g z in
+        omega (arith, same, a, b)
+
+    before : (i ≡ n → ⊥) → sum_below n g + f i ≡ sum_below n f + g i → sum_below (suc n) g + f i ≡ sum_below (suc n) f + g i
+    before z rest =
+        let a = e n (λ w. z (sym w)) in
+        omega (arith, rest, a)
+
+-- no part is more than the sum
+pub sum_part : (n : ℕ) (f : ℕ → ℕ) (i : ℕ) → i < n → f i ≤ sum_below n f
+sum_part zero f i l = absurd (omega (arith, l))
+sum_part (suc n) f i l = elim (cases_eq i n) [ inl z ↦ last z | inr z ↦ before (sum_part n f i (omega (arith, l, z))) ]
+  where
+    last : i ≡ n → f i ≤ sum_below (suc n) f
+    last z = let a : f i ≡ f n = ap f z in omega (arith, a)
+
+    before : f i ≤ sum_below n f → f i ≤ sum_below (suc n) f
+    before rest = omega (arith, rest)
+
+-- a sum of parts of which those that fail a test are 0, and none is more than m
+pub sum_within : (n : ℕ) (f : ℕ → ℕ) (p : ℕ → Bool) (m : ℕ) → ((j : ℕ) → p j ≡ true → f j ≤ m) → ((j : ℕ) → p j ≡ false → f j ≡ 0) → sum_below n f ≤ count_below n p * m
+sum_within zero f p m a b = omega arith
+sum_within (suc n) f p m a b = go (p n) refl (sum_within n f p m a b)
+  where
+    go : (t : Bool) → p n ≡ t → sum_below n f ≤ count_below n p * m → f n + sum_below n f ≤ (if t then suc (count_below n p) else count_below n p) * m
+    go true e rest =
+        let x = a n e in
+        let y = suc-mul (count_below n p) m in
+        omega (arith, rest, x, y)
+    go false e rest = let x = b n e in omega (arith, rest, x)
 
 -- ---- against a list
 

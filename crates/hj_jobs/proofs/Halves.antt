@@ -1,16 +1,15 @@
 -- The two halves of a turn: what a table stands for after an attempt, and after that is finished.
-use Rattle.std.proofs.Common.{◌≡◌, ℕ, zero, suc, ◌+◌, ◌<◌, ◌≤◌, Bool, true, false, List, [], ◌∷◌, ◌++◌, length, Option, Some, None, refl, sym, ap, ◌∙◌, subst, arith}
-use Rattle.std.specs.Prelude.{slice_get, ◌==◌, if◌then◌else◌}
+use Rattle.std.proofs.Common.{◌≡◌, ℕ, suc, Bool, true, false, List, [], ◌∷◌, ◌++◌, Option, Some, None, refl, sym, ap, ◌∙◌, subst, arith}
+use Rattle.std.specs.Prelude.{◌==◌, if◌then◌else◌}
 use Rattle.std.proofs.lemmas.Bool.{eq-eqb, ne_eqb}
 use Rattle.std.specs.Vec.{vec_capacity}
 use Rattle.hm_message.specs.declared.message.Ending.TheVariants.{Void}
-use Rattle.hd_calls.specs.declared.vocabulary.Act.{Act}
 use Rattle.hd_calls.specs.declared.vocabulary.Act.TheVariants as act
 use Rattle.hd_calls.specs.declared.vocabulary.Input.{Input}
 use Rattle.hd_calls.specs.Hubs.{Cancelled, Given, Hub, Turn, call_for}
 use Rattle.hd_calls.specs.Peers.{last_of}
 use Rattle.hd_calls.specs.Rules.{act_at, job_after}
-use Rattle.hd_calls.specs.Tables.{acts_in, finishes, JobHappening, live_job_in, marked_in, next_input_in, Turned, turns_in}
+use Rattle.hd_calls.specs.Tables.{acts_in, finishes, JobHappening, live_job_in, Turned, turns_in}
 use Rattle.hv_value.specs.declared.sorted_set.SortedSet.{SortedSet}
 use Rattle.hj_jobs.specs.declared.entry.Entry.{Entry}
 use Rattle.hj_jobs.specs.declared.jobs.Jobs.{Jobs}
@@ -20,17 +19,18 @@ use Rattle.hj_jobs.specs.Calls as calls
 use Rattle.hj_jobs.specs.Calls.{HasPrepared, IsStepOf, IsTurnIn, StepsOrNot}
 use Rattle.hj_jobs.specs.Entries.{PreparesIf, PreparesOrNot, Gives, given_next, is_due_entry, IsTurned}
 use Rattle.hj_jobs.specs.Live as live
-use Rattle.hj_jobs.specs.Live.{Alters, AltersEntry, entry_at, is_due_at, live_count}
+use Rattle.hj_jobs.specs.Counted.{Swaps}
+use Rattle.hj_jobs.specs.Live.{Alters, AltersEntry, entry_at, is_due_at, live_count, LosesWeight}
 use Rattle.hj_jobs.specs.Ids.{job_at, stream_at}
 use Rattle.hj_jobs.specs.Parts.{Agrees, Drops, DueIs}
 use Rattle.hj_jobs.specs.Stands.{DueAgree, HasRun, HaveRun, IsEntryOf, Past, past, Remembers, Stands}
 use Rattle.hj_jobs.proofs.Agree.{ids_kept, place_cases, SameNames, streams_kept, suc_apart}
-use Rattle.hj_jobs.proofs.Basics.{none_some, some_injective, true_false}
+use Rattle.hj_jobs.proofs.Basics.{some_injective, true_false}
 use Rattle.hj_jobs.proofs.OneJob.{does_so, given_is, moved, next_is, ran, runs_off, runs_on, turned, turning}
 use Rattle.hj_jobs.proofs.Pasts.{Touches, turned_ends, turned_here, turned_touches}
 use Rattle.hj_jobs.proofs.Rounds.{IsNext}
 use Rattle.hj_jobs.proofs.Table.{due_live, entry_of, remembered, settled, stands_changed, stands_dropped, stands_kept}
-use Rattle.hj_jobs.proofs.Told.{altered_some, its_entry, same_names}
+use Rattle.hj_jobs.proofs.Told.{altered_some, its_entry, same_names, swaps_of}
 
 -- ---- the first half
 
@@ -124,8 +124,8 @@ module _ {H Job : Type 0} (hub : Hub Job) (who : List ℕ) (old : Jobs H Job) (h
             let kept : Remembers false hub who e (past j h) = subst (λ b. Remembers b hub who e (past j h)) whole (remembered old.prepared hub who (entry_at old.live (suc j)) (past j h) e was (s.entries j)) in
             subst (λ p. HasRun hub who e.job p) (sym ((turned_touches h k t.turn z.act).elsewhere j ne)) (ran hub who e (past j h) kept)
 
-    pub was_prepared : new.names ≡ old.names → new.due ≡ old.due → new.accepted ≡ old.accepted → new.passed ≡ old.passed → new.prepared ≡ true → HasPrepared {H = H} hub new who h now z
-    was_prepared names due accepted passed half =
+    pub was_prepared : new.live.weight ≡ old.live.weight → new.names ≡ old.names → new.due ≡ old.due → new.accepted ≡ old.accepted → new.passed ≡ old.passed → new.prepared ≡ true → HasPrepared {H = H} hub new who h now z
+    was_prepared weight names due accepted passed half =
         let capacity : vec_capacity old.due.numbers ≡ vec_capacity new.due.numbers = ap (λ (d : SortedSet). vec_capacity d.numbers) (sym due) in
         record {
           job = k;
@@ -142,7 +142,7 @@ module _ {H Job : Type 0} (hub : Hub Job) (who : List ℕ) (old : Jobs H Job) (h
             due = t.due r.live;
             does = t.does r;
           };
-          stands = stands_kept {H = H} hub who old h s new (entries half) (alters_here.others 0 (ne_eqb (suc k) 0 (λ z. omega (arith, z))) ∙ s.none) alters_here.count
+          stands = stands_kept {H = H} hub who old h s new (entries half) (alters_here.others 0 (ne_eqb (suc k) 0 (λ z. omega (arith, z))) ∙ s.none) alters_here.count weight
               (record { ids = λ i. ap (λ ns. job_at ns i) names; streams = λ i. ap (λ ns. stream_at ns i) names })
               (subst (λ d. DueAgree d h) (sym due) s.due) (omega (arith, capacity)) accepted passed;
           prepared = half;
@@ -155,7 +155,7 @@ module _ {H Job : Type 0} (hub : Hub Job) (who : List ℕ) (old : Jobs H Job) (h
   attempted_at jobs now n z next whole tried =
       was_prepared (record { live = jobs; names = old.names; due = old.due; accepted = old.accepted; passed = old.passed; prepared = true }) now z
       (subst (IsNext h) (sym tried.0) next) whole (subst (λ m. Alters old.live jobs m (live.HasPrepared hub now z)) (sym tried.0) tried.2)
-      refl refl refl refl refl
+      tried.3 refl refl refl refl refl
 
 -- ---- the second half
 
@@ -206,7 +206,8 @@ module _ {H Job : Type 0} (hub : Hub Job) (who : List ℕ) (old : Jobs H Job) (h
         subst (λ b. DueIs old.due new.due (suc n) b) (ap is_due_at made.1) (subst (λ m. DueIs old.due new.due m (is_due_at (entry_at mid m))) a.step.is g.due) in
         stands_changed {H = H} hub who old h a.stands new later n its.0 touches its.1
         (λ m ne. ap (λ l. entry_at l m) g.live ∙ turns_here.others m ne) g.accepted (g.passed ∙ a.step.is) settle
-        made.0 (ap (λ l. entry_at l (suc n)) g.live ∙ made.1) (ap live_count g.live ∙ turns_here.count) (keeps a.turn a.step.due a.step.does (a.ahead n its.0 its.1)) due
+        made.0 (ap (λ l. entry_at l (suc n)) g.live ∙ made.1) (ap live_count g.live ∙ turns_here.count)
+        (subst (λ (l : Live Job). Swaps old.live.weight l.weight its.0.weight made.0.weight) (sym g.live) (swaps_of old.live.weight mid.weight (entry_at old.live (suc n)) (entry_at mid (suc n)) its.0 made.0 its.1 made.1 turns_here.weight)) (keeps a.turn a.step.due a.step.does (a.ahead n its.0 its.1)) due
         (ids_kept h later n touches (record { call = same.call; live = same.live }) old.names new.names (λ i. ap (λ ns. job_at ns i) g.names) a.stands.ids)
         (streams_kept h later n touches same old.names new.names (λ i. ap (λ ns. stream_at ns i) g.names) a.stands.streams)
 
@@ -216,7 +217,7 @@ module _ {H Job : Type 0} (hub : Hub Job) (who : List ℕ) (old : Jobs H Job) (h
       subst (λ m. Drops {H = H} (record { live = old.live; names = old.names; due = old.due; accepted = old.accepted; passed = z.job; prepared = false }) new m) a.step.is drops in
       stands_dropped {H = H} hub who old h a.stands new later n its.0 touches its.1
       d.live.others d.accepted (d.passed ∙ a.step.is) settle
-      d.live.here (d.live.count its.0 its.1) (turned_ends h n a.turn z.act ends) d.due
+      d.live.here (d.live.count its.0 its.1) (subst (λ o. LosesWeight old.live.weight new.live.weight o) its.1 d.live.weight) (turned_ends h n a.turn z.act ends) d.due
       its.0.id its.0.streams refl refl (d.names its.0 its.1)
 
 -- ---- both

@@ -1,9 +1,11 @@
 pub mod Counting
+pub mod Weighing
 pub mod Claiming
 pub mod Basics
 pub mod OneJob
 pub mod Entering
 pub mod Pasts
+pub mod AllJobs
 pub mod Agree
 pub mod Table
 pub mod Rounds

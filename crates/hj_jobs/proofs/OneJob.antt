@@ -1,6 +1,6 @@
 -- One live job: what is kept of it against what the happenings say of it, before and after each.
-use Rattle.std.proofs.Common.{◌≡◌, ℕ, zero, suc, ◌+◌, ◌-◌, ◌<◌, ◌≤◌, Bool, true, false, List, [], ◌∷◌, ◌++◌, length, drop, map, Option, Some, None, refl, sym, ap, ◌∙◌, subst, arith, length-append}
-use Rattle.std.specs.Prelude.{slice_get, option_map, is_some, not, ◌&&◌, ◌||◌}
+use Rattle.std.proofs.Common.{◌≡◌, ℕ, zero, suc, ◌+◌, ◌-◌, ◌<◌, ◌≤◌, Bool, true, false, List, [], ◌∷◌, ◌++◌, length, drop, map, Option, Some, None, refl, sym, ap, ◌∙◌, subst, arith, length-append, length-drop}
+use Rattle.std.specs.Prelude.{slice_get, option_map, is_some, ◌&&◌, ◌||◌, if◌then◌else◌}
 use Rattle.std.proofs.lemmas.List.{drop-append-le, map-append, length-map}
 use Rattle.hd_calls.specs.declared.vocabulary.Input.{Input}
 use Rattle.hd_calls.specs.declared.vocabulary.Input.TheVariants as input
@@ -9,14 +9,17 @@ use Rattle.hd_calls.specs.declared.vocabulary.Act.TheVariants as act
 use Rattle.hd_calls.specs.Numbers.{most_inputs}
 use Rattle.hd_calls.specs.Hubs.{Invoked, Answer, Item, End, Turn, Given, Cancelled, Hub, call_for, upload_input}
 use Rattle.hd_calls.specs.Peers.{last_of}
-use Rattle.hd_calls.specs.Rules.{act_at, job_after, used, is_deed_answer}
+use Rattle.hd_calls.specs.Rules.{act_at, job_after, used}
 use Rattle.hd_calls.specs.Tables.{JobHappening, next_input_in, is_due_in, live_job_in, marked_in, acts_in}
 use Rattle.hj_jobs.specs.declared.entry.Awaits.{Awaits}
 use Rattle.hj_jobs.specs.declared.entry.Awaits.TheVariants as awaits
 use Rattle.hj_jobs.specs.declared.entry.Entry.{Entry}
-use Rattle.hj_jobs.specs.Entries.{AnswersOrNot, awaited, first_input, given_at, given_next, inputs_after, is_answer_to, is_due_entry, IsTurned}
-use Rattle.hj_jobs.specs.Live.{IsFed}
-use Rattle.hj_jobs.specs.Stands.{HasRun, Past, past, Remembers}
+use Rattle.hj_jobs.specs.Entries.{AnswersOrNot, awaited, first_input, given_at, given_next, inputs_after, is_answer_to, is_due_entry, IsTurned, taken_count}
+use Rattle.hd_calls.specs.Weights.{input_weight}
+use Rattle.hj_jobs.specs.Counted.{counted, inputs_count, job_count}
+use Rattle.hj_jobs.specs.Live.{IsAnswered, IsFed}
+use Rattle.hj_jobs.specs.Stands.{count_of, HasRun, Past, past, Remembers}
+use Rattle.hj_jobs.proofs.Weighing.{alone_fits, fed_fits, input_fits, job_answered, job_fed, job_turned, job_within, most_of_one}
 use Rattle.hj_jobs.proofs.Basics.{append_none, drop_more, get_within, last_more, none_some, some_injective, true_false}
 
 -- ---- what is next
@@ -147,6 +150,21 @@ leaves awaits.Deed items None xs u i now given answers at l = absurd (none_some 
 leaves awaits.Deed items (Some k) xs u i now given answers at l =
     none_used awaits.Deed items xs u (used (Given i now ∷ [])) (ap (λ (m : Input). used (Given m now ∷ [])) (sym (some_injective k i given)) ∙ used_answer awaits.Deed k now answers) refl at l
 
+-- ---- weights
+
+module _ {Job : Type 0} (half : Bool) (hub : Hub Job) (who : List ℕ) (e : Entry Job) (p : Past) (r : Remembers half hub who e p) where
+  -- what is kept of it counts as its past says
+  pub count_is : count_of p ≡ e.weight
+  count_is = ap (λ (b : Bool). if b then job_count p.call (drop (used p.turns) (map upload_input p.inputs)) p.reply else 0) r.live ∙ sym r.weight
+
+  -- and no more than one job may
+  pub counts_within : e.weight ≤ most_of_one
+  counts_within =
+      let left : length (drop (used p.turns) (map upload_input p.inputs)) ≡ length p.inputs - used p.turns =
+      length-drop (used p.turns) (map upload_input p.inputs) ∙ ap (λ n. n - used p.turns) (length-map p.inputs upload_input) in
+      let few = r.few_inputs in
+      subst (λ n. n ≤ most_of_one) (sym r.weight) (job_within p.call (drop (used p.turns) (map upload_input p.inputs)) p.reply most_inputs (omega (arith, left, few)))
+
 -- ---- what happens to a job
 
 -- an input came
@@ -185,6 +203,7 @@ module _ {Job : Type 0} (half : Bool) (hub : Hub Job) (who : List ℕ) (e f : En
     reply = s.reply ∙ r.reply;
     answered = rw (s.awaits, s.reply) r.answered;
     is_cancelled = s.is_cancelled ∙ r.is_cancelled;
+    weight = let more = s.weight (alone_fits e.weight (counts_within half hub who e p r)) in let none : e.weight + 0 ≡ e.weight = omega arith in more ∙ (none ∙ r.weight);
   }
 
   pub feeding : (w : ℕ) (a : Answer) → IsFed (upload_input (w, a) ∷ []) e f → length p.inputs - used p.turns < most_inputs → Remembers half hub who f (fed p w a)
@@ -192,6 +211,10 @@ module _ {Job : Type 0} (half : Bool) (hub : Hub Job) (who : List ℕ) (e f : En
       let longer : length (p.inputs ++ (w, a) ∷ []) ≡ length p.inputs + 1 = length-append p.inputs ((w, a) ∷ []) in
       let given = r.given in
       let within : used p.turns ≤ length (map upload_input p.inputs) = omega (arith, length-map p.inputs upload_input) in
+      let i = upload_input (w, a) in
+      let were = drop (used p.turns) (map upload_input p.inputs) in
+      let are = drop (used p.turns) (map upload_input (p.inputs ++ (w, a) ∷ [])) in
+      let more : were ++ i ∷ [] ≡ are = sym (drop-append-le (used p.turns) (map upload_input p.inputs) (i ∷ []) within) ∙ ap (drop (used p.turns)) (sym (map-append upload_input p.inputs ((w, a) ∷ []))) in
       record {
         call = r.call;
         since = r.since;
@@ -212,6 +235,11 @@ module _ {Job : Type 0} (half : Bool) (hub : Hub Job) (who : List ℕ) (e f : En
         reply = s.reply ∙ r.reply;
         answered = rw (s.awaits, s.reply) r.answered;
         is_cancelled = s.is_cancelled ∙ r.is_cancelled;
+        weight =
+            s.weight (fed_fits e.weight i (counts_within half hub who e p r))
+            ∙ (ap (λ n. n + inputs_count (i ∷ [])) (r.weight ∙ ap (λ (o : Option Invoked). job_count o were p.reply) r.at)
+            ∙ (sym (job_fed r.call were i p.reply)
+            ∙ (ap (λ (is : List Input). job_count (Some r.call) is p.reply) more ∙ ap (λ (o : Option Invoked). job_count o are p.reply) (sym r.at))));
       }
 
   pub marking : f ≡ record e { is_cancelled = true } → Remembers half hub who f (cancelled p)
@@ -232,10 +260,11 @@ module _ {Job : Type 0} (half : Bool) (hub : Hub Job) (who : List ℕ) (e f : En
     reply = r.reply;
     answered = r.answered;
     is_cancelled = refl;
+    weight = r.weight;
   })
 
-  pub answering : (i : Input) → is_answer_to e.awaits i ≡ true → f ≡ record e { reply = Some i } → Remembers half hub who f (answered p i)
-  answering i fits s = subst (λ (g : Entry Job). Remembers half hub who g (answered p i)) (sym s) (record {
+  pub answering : (i : Input) → is_answer_to e.awaits i ≡ true → e.reply ≡ None → IsAnswered i e f → Remembers half hub who f (answered p i)
+  answering i fits none s = subst (λ (g : Entry Job). Remembers half hub who g (answered p i)) (sym s.0) (record {
     call = r.call;
     since = r.since;
     live = r.live;
@@ -252,6 +281,13 @@ module _ {Job : Type 0} (half : Bool) (hub : Hub Job) (who : List ℕ) (e f : En
     reply = refl;
     answered = fits;
     is_cancelled = r.is_cancelled;
+    weight =
+        s.1 (input_fits e.weight (input_weight i) (counts_within half hub who e p r))
+        ∙ (ap (λ n. n + counted (input_weight i)) (r.weight
+        ∙ (ap (λ (o : Option Invoked). job_count o (drop (used p.turns) (map upload_input p.inputs)) p.reply) r.at
+        ∙ ap (λ (o : Option Input). job_count (Some r.call) (drop (used p.turns) (map upload_input p.inputs)) o) (sym r.reply ∙ none)))
+        ∙ (sym (job_answered r.call (drop (used p.turns) (map upload_input p.inputs)) i)
+        ∙ ap (λ (o : Option Invoked). job_count o (drop (used p.turns) (map upload_input p.inputs)) (Some i)) (sym r.at)));
   })
 
   -- it had its turn, at which it was given an input and did this
@@ -261,6 +297,17 @@ module _ {Job : Type 0} (half : Bool) (hub : Hub Job) (who : List ℕ) (e f : En
       let more = used_more p.turns (Given i now ∷ []) in
       let few = r.few_inputs in
       let within = left.within in
+      let items = e.inputs.items in
+      let kept = inputs_after e.awaits items in
+      let are = drop (used (p.turns ++ Given i now ∷ [])) (map upload_input p.inputs) in
+      let whole : e.weight ≡ taken_count e + job_count (Some r.call) kept None =
+      r.weight
+      ∙ (ap (λ (o : Option Invoked). job_count o (drop (used p.turns) (map upload_input p.inputs)) p.reply) r.at
+      ∙ (ap (λ (is : List Input). job_count (Some r.call) is p.reply) (sym r.inputs)
+      ∙ (ap (λ (o : Option Input). job_count (Some r.call) items o) (sym r.reply)
+      ∙ job_turned r.call e.awaits items e.reply))) in
+      let taken = t.weight (omega (arith, whole)) in
+      let rest : f.weight ≡ job_count (Some r.call) kept None = omega (arith, whole, taken) in
       record {
         call = r.call;
         since = r.since;
@@ -278,6 +325,10 @@ module _ {Job : Type 0} (half : Bool) (hub : Hub Job) (who : List ℕ) (e f : En
         reply = t.reply;
         answered = rw t.reply tt;
         is_cancelled = t.is_cancelled ∙ r.is_cancelled;
+        weight =
+            rest
+            ∙ (ap (λ (is : List Input). job_count (Some r.call) is None) (left.left ∙ ap (λ (k : ℕ). drop k (map upload_input p.inputs)) (sym more))
+            ∙ ap (λ (o : Option Invoked). job_count o are None) (sym r.at));
       }
 
   -- what is kept of a job whose state alone changed
@@ -299,6 +350,7 @@ module _ {Job : Type 0} (half : Bool) (hub : Hub Job) (who : List ℕ) (e f : En
     reply = ap (λ (x : Entry Job). x.reply) s ∙ r.reply;
     answered = subst (λ (x : Entry Job). AnswersOrNot x.awaits x.reply) (sym s) r.answered;
     is_cancelled = ap (λ (x : Entry Job). x.is_cancelled) s ∙ r.is_cancelled;
+    weight = ap (λ (x : Entry Job). x.weight) s ∙ r.weight;
   }
 
 -- what a job's state is after a turn, and what it did at it, is what its hub means

@@ -1,29 +1,31 @@
 -- A table stands for one happening more: a job changed, or it isn't live any more.
-use Rattle.std.proofs.Common.{◌≡◌, ℕ, zero, suc, ◌+◌, ◌<◌, ◌≤◌, Bool, true, false, List, [], ◌∷◌, length, Option, Some, None, refl, sym, ap, ◌∙◌, subst, arith, ◌⊎◌, inl, inr}
-use Rattle.std.specs.Prelude.{slice_get, not, nat_lt, is_some, ◌&&◌, ◌||◌, ◌==◌}
+use Rattle.std.proofs.Common.{◌≡◌, ℕ, suc, ◌+◌, ◌*◌, ◌<◌, ◌≤◌, Bool, true, false, List, [], length, Option, Some, None, refl, sym, ap, ◌∙◌, subst, arith, inl, inr}
+use Rattle.std.specs.Prelude.{slice_get, not, nat_lt, is_some, ◌||◌, ◌==◌, if◌then◌else◌}
 use Rattle.std.specs.Vec.{vec_capacity}
 use Rattle.std.proofs.lemmas.Bool.{and_parts, and_left, ltb-true, le-ltb, eqb-true, ne_eqb}
-use Rattle.hd_calls.specs.Numbers.{most_live}
+use Rattle.hd_calls.specs.Numbers.{most_inputs, most_live}
 use Rattle.hd_calls.specs.Hubs.{Hub}
 use Rattle.hd_calls.specs.Peers.{last_of}
 use Rattle.hd_calls.specs.Rules.{count_below}
-use Rattle.hd_calls.specs.Tables.{JobHappening, acts_in, begun_in, is_due_in, live_job_in, live_jobs_in, marked_in, moments_in, next_input_in, over_in, passed_in}
+use Rattle.hd_calls.specs.Tables.{JobHappening, acts_in, begun_in, inputs_left_in, inputs_waiting_in, is_due_in, live_job_in, live_jobs_in, marked_in, next_input_in, over_in, passed_in, reply_in}
 use Rattle.hv_value.specs.declared.sorted_set.SortedSet.{SortedSet}
 use Rattle.hj_jobs.specs.declared.entry.Entry.{Entry}
 use Rattle.hj_jobs.specs.declared.jobs.Jobs.{Jobs}
 use Rattle.hj_jobs.specs.declared.live.Live.{Live}
-use Rattle.hj_jobs.specs.declared.ids.Ids.{Ids}
 use Rattle.hv_value.specs.SortedSet.{HasPlace, is_in, IsRising}
+use Rattle.hj_jobs.specs.Counted.{job_count, Swaps, Takes}
 use Rattle.hj_jobs.specs.Entries.{is_due_entry}
 use Rattle.hj_jobs.specs.Live.{Alters, AltersEntry, entry_at, IsFed, live_count}
 use Rattle.hj_jobs.specs.Ids.{AreSame, job_at, Releases, stream_at}
 use Rattle.hj_jobs.specs.Parts.{DueIs}
-use Rattle.hj_jobs.specs.Stands.{DueAgree, HasRun, IdsAgree, IsEntryOf, IsUnborn, Past, past, Remembers, Stands, StreamsAgree}
+use Rattle.hj_jobs.specs.Stands.{count_in, count_of, DueAgree, HasRun, IdsAgree, IsEntryOf, IsUnborn, Past, past, Remembers, Stands, StreamsAgree}
+use Rattle.hj_jobs.proofs.AllJobs.{all_touched, all_within}
 use Rattle.hj_jobs.proofs.Agree.{due_changed, ids_dropped, place_cases, streams_dropped, suc_apart}
 use Rattle.hj_jobs.proofs.Basics.{none_some, true_false}
-use Rattle.hj_jobs.proofs.Counting.{count_due, count_fewer, count_flipped, count_same}
-use Rattle.hj_jobs.proofs.OneJob.{due_entry, due_is, moved, retained}
+use Rattle.hj_jobs.proofs.Counting.{count_due, count_fewer, count_flipped, count_same, sum_part}
+use Rattle.hj_jobs.proofs.OneJob.{count_is, counts_within, due_entry, due_is, moved, retained}
 use Rattle.hj_jobs.proofs.Pasts.{Touches}
+use Rattle.hj_jobs.proofs.Weighing.{most_of_one, one_fits, sum_dropped, sum_settled}
 
 -- ---- how many are live
 
@@ -100,6 +102,16 @@ module _ {H Job : Type 0} (hub : Hub Job) (who : List ℕ) (old : Jobs H Job) (h
           let room = s.room in
           inr (omega (arith, many, fewer, all, room))
 
+  few_left : (j : ℕ) → live_job_in j h ≡ true → inputs_left_in j h ≤ most_inputs
+  few_left j l =
+      let x = live_entry old.prepared hub who (entry_at old.live (suc j)) (past j h) (s.entries j) l in
+      let r = remembered old.prepared hub who (entry_at old.live (suc j)) (past j h) x.0 x.1 (s.entries j) in
+      r.few_inputs
+
+  -- what is kept of all jobs counts so little that one more can be added
+  pub kept_within : old.live.weight ≤ most_live * most_of_one
+  kept_within = subst (λ n. n ≤ most_live * most_of_one) (sym s.weight) (all_within h few_left s.few_live)
+
   module _ (new : Jobs H Job) (after : List JobHappening) (k : ℕ) (e : Entry Job) (t : Touches h after k) (was : entry_at old.live (suc k) ≡ Some e)
       (others : (n : ℕ) → (suc k == n) ≡ false → entry_at new.live n ≡ entry_at old.live n)
       (accepted : new.accepted ≡ old.accepted) (passed : new.passed ≡ passed_in after)
@@ -112,6 +124,11 @@ module _ {H Job : Type 0} (hub : Hub Job) (who : List ℕ) (old : Jobs H Job) (h
 
     other_entries : (j : ℕ) → (j == k) ≡ false → IsEntryOf new.prepared hub who (entry_at new.live (suc j)) (past j after)
     other_entries j ne = entry_of new.prepared hub who (entry_at old.live (suc j)) (entry_at new.live (suc j)) (past j h) (past j after) (others (suc j) (suc_apart j k ne)) (t.elsewhere j ne) (entries j ne)
+
+    its_part : e.weight ≤ old.live.weight
+    its_part =
+        let part : count_of (past k h) ≤ count_in h = sum_part (length (begun_in h)) (λ j. count_of (past j h)) k within in
+        subst (λ n. e.weight ≤ n) (sym s.weight) (subst (λ n. n ≤ count_in h) (count_is old.prepared hub who e (past k h) kept) part)
 
     first_none : entry_at new.live 0 ≡ None
     first_none = others 0 (ne_eqb (suc k) 0 (λ z. omega (arith, z))) ∙ s.none
@@ -127,9 +144,9 @@ module _ {H Job : Type 0} (hub : Hub Job) (who : List ℕ) (old : Jobs H Job) (h
     other_lives j ne = ap (λ (p : Past). p.live) (t.elsewhere j ne)
 
     -- the job has changed and is live
-    pub stands_changed : (f : Entry Job) → entry_at new.live (suc k) ≡ Some f → live_count new.live ≡ live_count old.live → Remembers new.prepared hub who f (past k after)
+    pub stands_changed : (f : Entry Job) → entry_at new.live (suc k) ≡ Some f → live_count new.live ≡ live_count old.live → Swaps old.live.weight new.live.weight e.weight f.weight → Remembers new.prepared hub who f (past k after)
         → DueIs old.due new.due (suc k) (is_due_entry f) → IdsAgree new.names after → StreamsAgree new.names after → Stands {H = H} hub new who after
-    stands_changed f here count keeps due ids streams =
+    stands_changed f here count swaps keeps due ids streams =
         let lives : live_jobs_in after ≡ live_jobs_in h =
         same_lives h after t.begun (place_cases (λ j. live_job_in j after ≡ live_job_in j h) k (keeps.live ∙ sym kept.live) other_lives) in
         let few = s.few_live in
@@ -143,6 +160,9 @@ module _ {H Job : Type 0} (hub : Hub Job) (who : List ℕ) (old : Jobs H Job) (h
           none = first_none;
           count = count ∙ (s.count ∙ sym lives);
           few_live = omega (arith, few, lives);
+          weight = sum_settled old.live.weight new.live.weight e.weight f.weight (count_in h) (count_in after) (count_of (past k h)) (count_of (past k after))
+              (swaps its_part (one_fits old.live.weight f.weight kept_within (counts_within new.prepared hub who f (past k after) keeps)))
+              (all_touched h after k t within) (count_is old.prepared hub who e (past k h) kept) (count_is new.prepared hub who f (past k after) keeps) s.weight;
           ids = ids;
           streams = streams;
           due = due_changed h after k t old.due new.due (is_due_entry f) due (λ d. has_place k kept.live) (due_is k after ∙ sym (due_entry new.prepared hub who f (past k after) keeps)) s.due;
@@ -152,10 +172,10 @@ module _ {H Job : Type 0} (hub : Hub Job) (who : List ℕ) (old : Jobs H Job) (h
         }
 
     -- the job isn't live any more
-    pub stands_dropped : entry_at new.live (suc k) ≡ None → live_count new.live + 1 ≡ live_count old.live → live_job_in k after ≡ false
+    pub stands_dropped : entry_at new.live (suc k) ≡ None → live_count new.live + 1 ≡ live_count old.live → Takes old.live.weight new.live.weight e.weight → live_job_in k after ≡ false
         → DueIs old.due new.due (suc k) false → (id : Option (List ℕ)) (streams : List (List ℕ)) → id ≡ e.id → streams ≡ e.streams → Releases old.names new.names (suc k) id streams
         → Stands {H = H} hub new who after
-    stands_dropped here count dead due id streams is_id are names =
+    stands_dropped here count takes dead due id streams is_id are names =
         let lives : live_jobs_in h ≡ suc (live_jobs_in after) = fewer_lives h after k t.begun kept.live dead (λ j ne. other_lives j (ne_eqb j k ne)) in
         let few = s.few_live in
         let room = s.room in
@@ -169,6 +189,9 @@ module _ {H Job : Type 0} (hub : Hub Job) (who : List ℕ) (old : Jobs H Job) (h
           none = first_none;
           count = omega (arith, count, counted, lives);
           few_live = omega (arith, few, lives);
+          weight = sum_dropped old.live.weight new.live.weight e.weight (count_in h) (count_in after) (count_of (past k h)) (count_of (past k after)) (takes its_part)
+              (all_touched h after k t within) (count_is old.prepared hub who e (past k h) kept)
+              (ap (λ (b : Bool). if b then job_count (slice_get (begun_in after) k) (inputs_waiting_in k after) (reply_in k after) else 0) dead) s.weight;
           ids = ids_dropped h after k t dead kept.call kept.at kept.live old.names new.names id streams (is_id ∙ kept.id) (are ∙ kept.streams) names s.ids;
           streams = streams_dropped h after k t dead kept.call kept.at kept.live old.names new.names id streams (is_id ∙ kept.id) (are ∙ kept.streams) names s.streams;
           due = due_changed h after k t old.due new.due false due (λ d. true_false (sym d)) (undue k after dead) s.due;
@@ -178,10 +201,10 @@ module _ {H Job : Type 0} (hub : Hub Job) (who : List ℕ) (old : Jobs H Job) (h
         }
 
   -- the same is kept, in other room
-  pub stands_kept : (new : Jobs H Job) → ((j : ℕ) → IsEntryOf new.prepared hub who (entry_at new.live (suc j)) (past j h)) → entry_at new.live 0 ≡ None → live_count new.live ≡ live_count old.live
+  pub stands_kept : (new : Jobs H Job) → ((j : ℕ) → IsEntryOf new.prepared hub who (entry_at new.live (suc j)) (past j h)) → entry_at new.live 0 ≡ None → live_count new.live ≡ live_count old.live → new.live.weight ≡ old.live.weight
       → AreSame old.names new.names → DueAgree new.due h → vec_capacity old.due.numbers ≤ vec_capacity new.due.numbers
       → new.accepted ≡ old.accepted → new.passed ≡ old.passed → Stands {H = H} hub new who h
-  stands_kept new entries none count names due capacity accepted passed =
+  stands_kept new entries none count weight names due capacity accepted passed =
       let room = s.room in
       record {
         accepted = accepted ∙ s.accepted;
@@ -190,6 +213,7 @@ module _ {H Job : Type 0} (hub : Hub Job) (who : List ℕ) (old : Jobs H Job) (h
         none = none;
         count = count ∙ s.count;
         few_live = s.few_live;
+        weight = weight ∙ s.weight;
         ids = record { had = λ i n e. s.ids.had i n (sym (names.ids i) ∙ e); every = λ i j x. names.ids i ∙ s.ids.every i j x };
         streams = record { had = λ i z e. s.streams.had i z (sym (names.streams i) ∙ e); every = λ i j w x. names.streams i ∙ s.streams.every i j w x };
         due = due;
@@ -232,16 +256,17 @@ module _ {Job : Type 0} (half : Bool) (hub : Hub Job) (who : List ℕ) where
 
 -- ---- no jobs
 
-pub stands_start : {H Job : Type 0} (hub : Hub Job) (who : List ℕ) (jobs : Jobs H Job) → ((n : ℕ) → entry_at jobs.live n ≡ None) → live_count jobs.live ≡ 0
+pub stands_start : {H Job : Type 0} (hub : Hub Job) (who : List ℕ) (jobs : Jobs H Job) → ((n : ℕ) → entry_at jobs.live n ≡ None) → live_count jobs.live ≡ 0 → jobs.live.weight ≡ 0
     → ((i : List ℕ) → job_at jobs.names i ≡ None) → ((i : List ℕ) → stream_at jobs.names i ≡ None) → jobs.due.numbers.items ≡ []
     → jobs.accepted ≡ 0 → jobs.passed ≡ 0 → Stands {H = H} hub jobs who []
-stands_start hub who jobs entries count ids streams items accepted passed = record {
+stands_start hub who jobs entries count weight ids streams items accepted passed = record {
   accepted = accepted;
   moments = refl;
   entries = λ j. entry_of jobs.prepared hub who None (entry_at jobs.live (suc j)) (past j []) (past j []) (entries (suc j)) refl (dead_past j [] (omega arith));
   none = entries 0;
   count = count;
   few_live = omega arith;
+  weight = weight;
   ids = record {
     had = λ i n e. absurd (none_some n (sym (ids i) ∙ e));
     every = λ i j x. true_false (sym x.live ∙ dead_past j [] (omega arith));

@@ -1,44 +1,44 @@
 -- What each call of a table makes of the happenings that it stood for.
-use Rattle.std.proofs.Common.{◌≡◌, ℕ, zero, suc, ◌+◌, ◌-◌, ◌<◌, ◌≤◌, Bool, true, false, List, [], ◌∷◌, length, drop, map, Option, Some, None, refl, sym, ap, ◌∙◌, subst, arith, ◌⊎◌, inl, inr, length-drop}
-use Rattle.std.specs.Prelude.{slice_get, not, is_some, ◌&&◌, ◌||◌, ◌==◌}
+use Rattle.std.proofs.Common.{◌≡◌, ℕ, zero, suc, ◌+◌, ◌-◌, ◌<◌, ◌≤◌, Bool, true, false, List, [], ◌∷◌, length, map, Option, Some, None, refl, sym, ap, ◌∙◌, subst, arith, ◌⊎◌, inl, inr, length-drop}
+use Rattle.std.specs.Prelude.{not, is_some, ◌&&◌, ◌==◌}
 use Rattle.std.specs.Vec.{vec_capacity}
-use Rattle.std.proofs.lemmas.Bool.{and_parts, not-true, not-false, eqb-true, eq-eqb, ne_eqb, cond-true, cond-false, or_left}
+use Rattle.std.proofs.lemmas.Bool.{and_parts, not-true, not-false, eqb-true, cond-true, cond-false}
 use Rattle.std.proofs.lemmas.List.{length-map}
 use Rattle.hv_value.specs.declared.value.Value.{Value}
 use Rattle.hm_message.specs.declared.message.Ending.{Ending}
-use Rattle.hm_message.specs.declared.message.Ending.TheVariants.{Void}
 use Rattle.hd_calls.specs.declared.vocabulary.Act.{Act}
 use Rattle.hd_calls.specs.declared.vocabulary.Act.TheVariants as act
 use Rattle.hd_calls.specs.declared.vocabulary.Input.{Input}
 use Rattle.hd_calls.specs.declared.vocabulary.Input.TheVariants as input
-use Rattle.hd_calls.specs.Numbers.{most_inputs}
-use Rattle.hd_calls.specs.Hubs.{Answer, call_for, Cancelled, End, error_in, Given, Hub, Item, Turn, upload_input}
+use Rattle.hd_calls.specs.Numbers.{most_inputs, most_weight}
+use Rattle.hd_calls.specs.Weights.{input_weight}
+use Rattle.hd_calls.specs.Hubs.{Answer, End, error_in, Hub, Item, upload_input}
 use Rattle.hd_calls.specs.Peers.{has_end, last_of, of_stream}
-use Rattle.hd_calls.specs.Rules.{act_at, job_after, used}
-use Rattle.hd_calls.specs.Tables.{acts_in, Came, Ended, finishes, inputs_left_in, is_due_in, JobHappening, live_job_in, Marked, marked_in, next_input_in, next_job_in, passed_in, Replied, reply_in, Round, Turned, turns_in}
+use Rattle.hd_calls.specs.Rules.{used}
+use Rattle.hd_calls.specs.Tables.{acts_in, Came, Ended, inputs_left_in, JobHappening, kept_weight_in, live_job_in, Marked, marked_in, passed_in, Replied}
 use Rattle.hv_value.specs.declared.sorted_set.SortedSet.{SortedSet}
-use Rattle.hj_jobs.specs.declared.entry.Awaits.{Awaits}
-use Rattle.hj_jobs.specs.declared.entry.Awaits.TheVariants as awaits
 use Rattle.hj_jobs.specs.declared.entry.Entry.{Entry}
 use Rattle.hj_jobs.specs.declared.errors.InputError.{InputError}
 use Rattle.hj_jobs.specs.declared.errors.InputError.TheVariants as errors
 use Rattle.hj_jobs.specs.declared.jobs.Jobs.{Jobs}
 use Rattle.hj_jobs.specs.declared.live.Live.{Live}
-use Rattle.hj_jobs.specs.declared.live.Stepped.{Stepped}
 use Rattle.hj_jobs.specs.declared.ids.Ids.{Ids}
 use Rattle.hj_jobs.specs.declared.ids.Stream.{Stream}
-use Rattle.hj_jobs.specs.Calls.{Answers, AwaitsAnswer, Feeds, Floods, is_answer, IsDead, IsTurnIn, IsUnfed, Marks, Steps}
-use Rattle.hv_value.specs.SortedSet.{is_in, IsFirstPast}
-use Rattle.hj_jobs.specs.Entries.{awaited, given_next, is_answer_to, is_due_entry, is_open_for}
-use Rattle.hj_jobs.specs.Live.{Alters, AltersEntry, awaits_at, entry_at, is_due_at, is_unmarked_at, IsAnswered, IsFed, IsMarked, live_count, Loses, Retains, waits_at}
-use Rattle.hj_jobs.specs.Ids.{AreSame, Closes, job_at, Releases, stream_at}
-use Rattle.hj_jobs.specs.Parts.{Agrees, Changes, Drops, DueIs, FeedsNothing, IsFloodOr, KeepsFed}
-use Rattle.hj_jobs.specs.Stands.{DueAgree, HasId, IdsAgree, IsEntryOf, Past, past, Remembers, Stands, StreamIn, StreamsAgree}
-use Rattle.hj_jobs.proofs.Agree.{ids_kept, item_unended, place_cases, SameNames, streams_ended, streams_kept, suc_apart, suc_apart2, suc_injective}
+use Rattle.hj_jobs.specs.Calls.{Answers, AwaitsAnswer, Feeds, Floods, is_answer, IsDead, IsTooMuchIn, IsUnfed, Marks, Measures}
+use Rattle.hv_value.specs.SortedSet.{is_in}
+use Rattle.hj_jobs.specs.Entries.{awaited, is_answer_to, is_due_entry}
+use Rattle.hj_jobs.specs.Counted.{counted, Swaps}
+use Rattle.hj_jobs.specs.Live.{Alters, AltersEntry, AltersWeight, awaits_at, entry_at, is_due_at, is_unmarked_at, IsAnswered, IsFed, IsMarked, live_count, LosesWeight, Retains, waits_at}
+use Rattle.hj_jobs.specs.Ids.{AreSame, Closes, job_at, stream_at}
+use Rattle.hj_jobs.specs.Parts.{Agrees, Changes, Drops, DueIs, IsFloodOr, KeepsFed}
+use Rattle.hj_jobs.specs.Stands.{DueAgree, HasId, IdsAgree, Past, past, Remembers, Stands, StreamIn, StreamsAgree}
+use Rattle.hj_jobs.proofs.Agree.{ids_kept, item_unended, SameNames, streams_ended, streams_kept}
+use Rattle.hj_jobs.proofs.AllJobs.{all_measured}
 use Rattle.hj_jobs.proofs.Basics.{none_some, some_injective, true_false}
-use Rattle.hj_jobs.proofs.OneJob.{answered, answering, cancelled, due_entry, due_is, fed, feeding, given_is, marking, next_is, next_of, turned}
-use Rattle.hj_jobs.proofs.Pasts.{came_here, came_touches, ended_ends, ended_touches, marked_here, marked_touches, replied_here, replied_touches, Touches, turned_ends, turned_here, turned_touches}
+use Rattle.hj_jobs.proofs.OneJob.{answering, due_entry, due_is, feeding, marking}
+use Rattle.hj_jobs.proofs.Pasts.{came_here, came_touches, ended_ends, ended_touches, marked_here, marked_touches, replied_here, replied_touches, Touches}
 use Rattle.hj_jobs.proofs.Rounds.{IsNext}
+use Rattle.hj_jobs.proofs.Weighing.{heavy_measured, light_measured, measured, measured_both}
 use Rattle.hj_jobs.proofs.Table.{altered_entries, altered_first, entries_same, entry_of, due_live, due_moved, live_entry, no_entry, remembered, stands_changed, stands_dropped, stands_kept, undue}
 
 -- ---- one entry
@@ -47,6 +47,10 @@ pub altered_some : {J : Type 0} (o n : Option (Entry J)) (e : Entry J) (C : Entr
 altered_some None n e C is a = absurd (none_some e is)
 altered_some (Some d) None e C is a = absurd a
 altered_some (Some d) (Some f) e C is a = (f, refl, subst (λ z. C z f) (some_injective d e is) a)
+
+-- the sum with what an entry counts now
+pub swaps_of : {J : Type 0} (old new : ℕ) (o n : Option (Entry J)) (e f : Entry J) → o ≡ Some e → n ≡ Some f → AltersWeight old new o n → Swaps old new e.weight f.weight
+swaps_of old new o n e f was is a = subst (λ z. AltersWeight old new (Some e) z) is (subst (λ z. AltersWeight old new z n) was a)
 
 pub agreed : {H J : Type 0} (old new : Jobs H J) (live : Live J) (n : ℕ) (C : Entry J → Entry J → Type 0) → Alters old.live live n C
     → Agrees {H = H} (record { live = live; names = old.names; due = old.due; accepted = old.accepted; passed = old.passed; prepared = old.prepared }) new n → Changes {H = H} old new n C
@@ -85,7 +89,9 @@ module _ {H Job : Type 0} (hub : Hub Job) (who : List ℕ) (old : Jobs H Job) (h
         let x = altered_some (entry_at old.live (suc k)) (entry_at new.live (suc k)) e C was c.live.here in
         stands_changed {H = H} hub who old h s jobs after k e t was
         (λ n ne. ap (λ l. entry_at l n) live ∙ c.live.others n ne) (accepted ∙ c.accepted) (turn ∙ (c.passed ∙ (s.passed ∙ sym passed))) (λ j ne. entries_same {H = H} hub who old h s jobs (half ∙ c.prepared) j)
-        x.0 (ap (λ l. entry_at l (suc k)) live ∙ x.1) (ap live_count live ∙ c.live.count) (subst (λ b. Remembers b hub who x.0 (past k after)) (sym (half ∙ c.prepared)) (keeps x.0 x.2))
+        x.0 (ap (λ l. entry_at l (suc k)) live ∙ x.1) (ap live_count live ∙ c.live.count)
+        (subst (λ (l : Live Job). Swaps old.live.weight l.weight e.weight x.0.weight) (sym live) (swaps_of old.live.weight new.live.weight (entry_at old.live (suc k)) (entry_at new.live (suc k)) e x.0 was x.1 c.live.weight))
+        (subst (λ b. Remembers b hub who x.0 (past k after)) (sym (half ∙ c.prepared)) (keeps x.0 x.2))
         (subst (λ d. DueIs old.due d (suc k) (is_due_entry x.0)) (sym due) (subst (λ b. DueIs old.due new.due (suc k) b) (ap is_due_at x.1) c.due))
         (subst (λ ns. IdsAgree ns after) (sym named) ids) (subst (λ ns. StreamsAgree ns after) (sym named) streams)
 
@@ -134,7 +140,7 @@ module _ {H Job : Type 0} (hub : Hub Job) (who : List ℕ) (old : Jobs H Job) (h
             is = refl;
             awaits = record { live = r.live; asked = sym (answer_fits k e i r) ∙ parts.1; unanswered = sym r.reply ∙ unanswered e.reply parts.0 };
             stands = changed_plainly new k (IsAnswered i) c (Replied k i ∷ h) (replied_touches h k i) e is refl
-                (λ f x. subst (λ p. Remembers old.prepared hub who f p) (sym there) (answering old.prepared hub who e f (past k h) r i parts.1 x))
+                (λ f x. subst (λ p. Remembers old.prepared hub who f p) (sym there) (answering old.prepared hub who e f (past k h) r i parts.1 (unanswered e.reply parts.0) x))
                 (same_names (past k h) (past k (Replied k i ∷ h)) refl refl refl);
           }
 
@@ -182,9 +188,19 @@ module _ {H Job : Type 0} (hub : Hub Job) (who : List ℕ) (old : Jobs H Job) (h
 
   -- ---- what comes on a stream
 
+  -- what the table counts stands for what is kept, without an input more and with it
+  pub kept_measured : Measures old.live.weight (kept_weight_in h)
+  kept_measured = subst (λ n. Measures n (kept_weight_in h)) (sym s.weight) (all_measured h)
+
+  with_measured : (i : Input) → Measures (old.live.weight + counted (input_weight i)) (kept_weight_in h + input_weight i)
+  with_measured i = measured_both old.live.weight (counted (input_weight i)) (kept_weight_in h) (input_weight i) kept_measured (measured (input_weight i))
+
+  is_light : (i : Input) → old.live.weight + counted (input_weight i) ≤ most_weight → kept_weight_in h + input_weight i ≤ most_weight
+  is_light i l = light_measured (old.live.weight + counted (input_weight i)) (kept_weight_in h + input_weight i) (with_measured i) l
+
   pub item_fed : (new : Jobs H Job) (i : List ℕ) (v : Value) (f : Stream) → stream_at old.names i ≡ Some f → Changes {H = H} old new f.job (IsFed (input.Item f.which v ∷ []))
-      → waits_at (entry_at old.live f.job) < most_inputs → Feeds {H = H} hub new who h i (Item v) f.job
-  item_fed new i v f found c few =
+      → waits_at (entry_at old.live f.job) < most_inputs → old.live.weight + counted (input_weight (input.Item f.which v)) ≤ most_weight → Feeds {H = H} hub new who h i (Item v) f.job
+  item_fed new i v f found c few light =
       let x = s.streams.had i f found in
       at x.0 x.1 x.2 (subst (λ m. Changes {H = H} old new m (IsFed (input.Item f.which v ∷ []))) x.1 c) (subst (λ m. waits_at (entry_at old.live m) < most_inputs) x.1 few)
     where
@@ -200,16 +216,16 @@ module _ {H Job : Type 0} (hub : Hub Job) (who : List ℕ) (old : Jobs H Job) (h
             which = f.which;
             is = is;
             at = open_there;
-            few = left;
+            room = record { few = left; light = is_light (input.Item f.which v) light };
             stands = changed_plainly new k (IsFed (input.Item f.which v ∷ [])) c (Came k f.which (Item v) ∷ h) (came_touches h k f.which (Item v)) x.0 x.1 refl
                 (λ z y. subst (λ p. Remembers old.prepared hub who z p) (sym there) (feeding old.prepared hub who x.0 z (past k h) r f.which (Item v) y left))
                 (subst (SameNames (past k h)) (sym there) (item_unended (past k h) f.which v));
           }
 
   pub end_fed : (mid new : Jobs H Job) (i : List ℕ) (error : Option (List ℕ)) (f : Stream) → stream_at old.names i ≡ Some f → Changes {H = H} old mid f.job (IsFed (input.StreamEnd f.which error ∷ []))
-      → waits_at (entry_at old.live f.job) < most_inputs → Closes mid.names new.names i → new.live ≡ mid.live → new.due ≡ mid.due → new.accepted ≡ mid.accepted → new.passed ≡ mid.passed → new.prepared ≡ mid.prepared
+      → waits_at (entry_at old.live f.job) < most_inputs → old.live.weight + counted (input_weight (input.StreamEnd f.which error)) ≤ most_weight → Closes mid.names new.names i → new.live ≡ mid.live → new.due ≡ mid.due → new.accepted ≡ mid.accepted → new.passed ≡ mid.passed → new.prepared ≡ mid.prepared
       → (e : Ending) → error_in e ≡ error → Feeds {H = H} hub new who h i (End e) f.job
-  end_fed mid new i error f found c few closes live due accepted turn half e is_error =
+  end_fed mid new i error f found c few light closes live due accepted turn half e is_error =
       let x = s.streams.had i f found in
       at x.0 x.1 x.2 (subst (λ m. Changes {H = H} old mid m (IsFed (input.StreamEnd f.which (error_in e) ∷ []))) x.1 (subst (λ z. Changes {H = H} old mid f.job (IsFed (input.StreamEnd f.which z ∷ []))) (sym is_error) c))
       (subst (λ m. waits_at (entry_at old.live m) < most_inputs) x.1 few)
@@ -229,7 +245,7 @@ module _ {H Job : Type 0} (hub : Hub Job) (who : List ℕ) (old : Jobs H Job) (h
             which = f.which;
             is = is;
             at = open_there;
-            few = left;
+            room = record { few = left; light = subst (λ z. kept_weight_in h + input_weight (input.StreamEnd f.which z) ≤ most_weight) (sym is_error) (is_light (input.StreamEnd f.which error) light) };
             stands = changed_to mid k (IsFed (input.StreamEnd f.which (error_in e) ∷ [])) c after t x.0 x.1 refl
                 (λ z y. subst (λ p. Remembers old.prepared hub who z p) (sym there) (feeding old.prepared hub who x.0 z (past k h) r f.which (End e) y left))
                 new.names (ids_kept h after k t (record { call = ap (λ (p : Past). p.call) there; live = ap (λ (p : Past). p.live) there }) old.names new.names shut.ids s.ids) (streams_ended h after k f.which e t there old.names new.names i shut open_there s.streams)
@@ -239,23 +255,29 @@ module _ {H Job : Type 0} (hub : Hub Job) (who : List ℕ) (old : Jobs H Job) (h
   pub stream_unknown : (i : List ℕ) → stream_at old.names i ≡ None → (j w : ℕ) → StreamIn h i j w → ⊥
   stream_unknown i none j w r = none_some (record { job = suc j; which = w }) (sym none ∙ s.streams.every i j w r)
 
-  pub flooded : (i : List ℕ) (f : Stream) → stream_at old.names i ≡ Some f → most_inputs ≤ waits_at (entry_at old.live f.job) → Floods h i
-  flooded i f found full =
+  pub flooded : (i : List ℕ) (a : Answer) (f : Stream) → stream_at old.names i ≡ Some f
+      → (most_inputs ≤ waits_at (entry_at old.live f.job)) ⊎ (most_weight < old.live.weight + counted (input_weight (upload_input (f.which, a)))) → Floods h i a
+  flooded i a f found full =
       let x = s.streams.had i f found in
       let r : StreamIn h i x.0 f.which = x.2 in
       record {
         job = x.0;
         which = f.which;
         at = r;
-        full = subst (λ m. most_inputs ≤ m) (ap (λ m. waits_at (entry_at old.live m)) x.1 ∙ waits_is x.0 r.live) full;
+        full = much x.0 x.1 r.live full;
       }
+    where
+      much : (k : ℕ) → f.job ≡ suc k → live_job_in k h ≡ true
+          → (most_inputs ≤ waits_at (entry_at old.live f.job)) ⊎ (most_weight < old.live.weight + counted (input_weight (upload_input (f.which, a)))) → IsTooMuchIn h k (upload_input (f.which, a))
+      much k is live (inl many) = inl (subst (λ m. most_inputs ≤ m) (ap (λ m. waits_at (entry_at old.live m)) is ∙ waits_is k live) many)
+      much k is live (inr heavy) = inr (heavy_measured (old.live.weight + counted (input_weight (upload_input (f.which, a)))) (kept_weight_in h + input_weight (upload_input (f.which, a))) (with_measured (upload_input (f.which, a))) heavy)
 
   pub unfed_stands : (new : Jobs H Job) (n : ℕ) → KeepsFed {H = H} old new n → Stands {H = H} hub new who h
   unfed_stands new n (inl same) = subst (λ j. Stands {H = H} hub j who h) (sym same) s
   unfed_stands new n (inr f) =
       let capacity : vec_capacity old.due.numbers ≡ vec_capacity new.due.numbers = ap (λ (d : SortedSet). vec_capacity d.numbers) (sym f.due) in
       stands_kept {H = H} hub who old h s new (altered_entries new.prepared hub who old.live new.live n h f.live (entries_same {H = H} hub who old h s new f.prepared)) (altered_first new.prepared hub who old.live new.live n f.live s.none)
-      f.live.count (record { ids = λ i. ap (λ ns. job_at ns i) f.names; streams = λ i. ap (λ ns. stream_at ns i) f.names })
+      f.live.count f.weight (record { ids = λ i. ap (λ ns. job_at ns i) f.names; streams = λ i. ap (λ ns. stream_at ns i) f.names })
       (subst (λ d. DueAgree d h) (sym f.due) s.due) (omega (arith, capacity)) f.accepted f.passed
 
   -- ---- an end
@@ -264,7 +286,7 @@ module _ {H Job : Type 0} (hub : Hub Job) (who : List ℕ) (old : Jobs H Job) (h
   end_live new k d live =
       let x = its_entry k live in
       stands_dropped {H = H} hub who old h s new (Ended k ∷ h) k x.0 (ended_touches h k) x.1 d.live.others d.accepted (d.passed ∙ s.passed) (λ j ne. entries_same {H = H} hub who old h s new d.prepared j)
-      d.live.here (d.live.count x.0 x.1) (ended_ends h k) d.due x.0.id x.0.streams refl refl (d.names x.0 x.1)
+      d.live.here (d.live.count x.0 x.1) (subst (λ o. LosesWeight old.live.weight new.live.weight o) x.1 d.live.weight) (ended_ends h k) d.due x.0.id x.0.streams refl refl (d.names x.0 x.1)
 
   -- nothing changes at a number that no live job has
   pub end_dead : (new : Jobs H Job) (n : ℕ) → Drops {H = H} old new n → IsDead h n → Stands {H = H} hub new who h
@@ -273,7 +295,7 @@ module _ {H Job : Type 0} (hub : Hub Job) (who : List ℕ) (old : Jobs H Job) (h
       let same = d.same_names absent in
       stands_kept {H = H} hub who old h s new
       (λ j. entry_of new.prepared hub who (entry_at old.live (suc j)) (entry_at new.live (suc j)) (past j h) (past j h) (same_at (suc j) absent) refl (entries_same {H = H} hub who old h s new d.prepared j))
-      (same_at 0 absent ∙ s.none) (d.live.none absent)
+      (same_at 0 absent ∙ s.none) (d.live.none absent) (subst (λ o. LosesWeight old.live.weight new.live.weight o) absent d.live.weight)
       (record { ids = λ i. ap (λ ns. job_at ns i) same; streams = λ i. ap (λ ns. stream_at ns i) same })
       (record {
         rising = d.due.rising s.due.rising;
@@ -314,13 +336,14 @@ module _ {H Job : Type 0} (hub : Hub Job) (who : List ℕ) (old : Jobs H Job) (h
       → new.accepted ≡ old.accepted → new.passed ≡ old.passed → new.prepared ≡ old.prepared → Stands {H = H} hub new who h
   retained_stands new live names items capacity accepted passed half =
       stands_kept {H = H} hub who old h s new (λ j. entry_of new.prepared hub who (entry_at old.live (suc j)) (entry_at new.live (suc j)) (past j h) (past j h) (live.at (suc j)) refl (entries_same {H = H} hub who old h s new half j))
-      (live.at 0 ∙ s.none) live.count names (due_moved h old.due new.due items s.due) capacity accepted passed
+      (live.at 0 ∙ s.none) live.count live.weight names (due_moved h old.due new.due items s.due) capacity accepted passed
 
   -- nothing is fed for the reason that the table told
-  pub unfed_refused : (i : List ℕ) (f : Stream) → stream_at old.names i ≡ Some f → (e : InputError) → IsFloodOr (waits_at (entry_at old.live f.job)) e → IsUnfed h i e
-  unfed_refused i f found errors.UnknownId full = absurd full
-  unfed_refused i f found errors.Flood full = flooded i f found full
-  unfed_refused i f found errors.NoMemory full = tt
+  pub unfed_refused : (i : List ℕ) (a : Answer) (f : Stream) → stream_at old.names i ≡ Some f → (e : InputError)
+      → IsFloodOr (waits_at (entry_at old.live f.job)) (old.live.weight + counted (input_weight (upload_input (f.which, a)))) e → IsUnfed h i a e
+  unfed_refused i a f found errors.UnknownId full = absurd full
+  unfed_refused i a f found errors.Flood full = flooded i a f found full
+  unfed_refused i a f found errors.NoMemory full = tt
 
 pub same_retained : {J : Type 0} (live : Live J) → Retains live live
-same_retained live = record { at = λ n. refl; count = refl }
+same_retained live = record { at = λ n. refl; count = refl; weight = refl }

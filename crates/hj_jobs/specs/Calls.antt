@@ -1,18 +1,17 @@
 -- What each call of a table of jobs makes of the happenings that it stands for. OfEach says: for every caller's name and happenings for which
 -- the table stood.
-use Rattle.std.specs.Prelude.{◌≡◌, ◌⊎◌, ◌<◌, ◌≤◌, ℕ, suc, Bool, true, false, List, [], ◌∷◌, length, Option, Some, None, slice_get}
-use Rattle.hv_value.specs.declared.value.Value.{Value}
-use Rattle.hm_message.specs.declared.message.Ending.{Ending}
+use Rattle.std.specs.Prelude.{◌≡◌, ◌⊎◌, ◌<◌, ◌≤◌, ◌+◌, ℕ, suc, Bool, true, false, List, ◌∷◌, length, Option, Some, None, slice_get}
 use Rattle.hd_calls.specs.declared.vocabulary.Call as as_given
 use Rattle.hd_calls.specs.declared.vocabulary.Input.{Input}
 use Rattle.hd_calls.specs.declared.vocabulary.Input.TheVariants as input
 use Rattle.hd_calls.specs.declared.vocabulary.Act.{Act}
 use Rattle.hd_calls.specs.declared.vocabulary.Act.TheVariants as act
-use Rattle.hd_calls.specs.Numbers.{most_live, most_inputs}
-use Rattle.hd_calls.specs.Hubs.{Invoked, Answer, Hub, Turn, Given, Cancelled, id_of, kind_of, call_for}
+use Rattle.hd_calls.specs.Numbers.{most_live, most_inputs, most_weight}
+use Rattle.hd_calls.specs.Weights.{input_weight}
+use Rattle.hd_calls.specs.Hubs.{Invoked, Answer, Hub, Turn, Given, Cancelled, id_of, kind_of, call_for, upload_input}
 use Rattle.hd_calls.specs.Peers.{last_of}
 use Rattle.hd_calls.specs.Rules.{act_at, job_after, is_among, is_deed_answer}
-use Rattle.hd_calls.specs.Tables.{JobHappening, Accepted, Came, Marked, Turned, Ended, Replied, Round, begun_in, moments_in, turns_in, acts_in, marked_in, reply_in, live_job_in, live_jobs_in, inputs_left_in, in_use_in, next_input_in, next_job_in, is_due_in}
+use Rattle.hd_calls.specs.Tables.{JobHappening, Accepted, Came, Marked, Turned, Replied, begun_in, moments_in, turns_in, acts_in, marked_in, reply_in, live_job_in, live_jobs_in, inputs_left_in, kept_weight_in, in_use_in, next_input_in, next_job_in, is_due_in}
 use Rattle.hj_jobs.specs.declared.errors.AcceptError.{AcceptError}
 use Rattle.hj_jobs.specs.declared.errors.AcceptError.TheVariants as accept
 use Rattle.hj_jobs.specs.declared.errors.InputError.{InputError}
@@ -28,6 +27,13 @@ OfEach hub jobs Holds = (who : List ℕ) (h : List JobHappening) → Stands hub 
 -- it stands for what it stood for
 abbrev pub Stays : {H Job : Type 0} → Hub Job → Jobs H Job → Jobs H Job → Type 0
 Stays hub old new = OfEach hub old (λ who h. Stands hub new who h)
+
+-- ---- weights
+
+-- the number that a table tells is the weight, or both are more than jobs may keep
+pub record Measures (number weight : ℕ) : Type 0 where
+  pub least : number ≤ weight
+  pub exact : number ≤ most_weight → number ≡ weight
 
 -- ---- a call
 
@@ -56,27 +62,36 @@ IsRefusedIn h c accept.NoMemory = Unit {0}
 
 -- ---- what comes on a stream
 
+-- one more input may wait at the job
+pub record HasRoomIn (h : List JobHappening) (j : ℕ) (i : Input) : Type 0 where
+  pub few : inputs_left_in j h < most_inputs
+  pub light : kept_weight_in h + input_weight i ≤ most_weight
+
+-- it may not: too many wait there, or it is too heavy for what jobs may keep
+abbrev pub IsTooMuchIn : List JobHappening → ℕ → Input → Type 0
+IsTooMuchIn h j i = (most_inputs ≤ inputs_left_in j h) ⊎ (most_weight < kept_weight_in h + input_weight i)
+
 -- the answer came on an open stream of a live job, with room
 pub record Feeds {H Job : Type 0} (hub : Hub Job) (new : Jobs H Job) (who : List ℕ) (h : List JobHappening) (i : List ℕ) (a : Answer) (number : ℕ) : Type 0 where
   pub job : ℕ
   pub which : ℕ
   pub is : number ≡ suc job
   pub at : StreamIn h i job which
-  pub few : inputs_left_in job h < most_inputs
+  pub room : HasRoomIn h job (upload_input (which, a))
   pub stands : Stands hub new who (Came job which a ∷ h)
 
--- the job of the open stream has no room
-pub record Floods (h : List JobHappening) (i : List ℕ) : Type 0 where
+-- the job of the open stream has no room for the answer
+pub record Floods (h : List JobHappening) (i : List ℕ) (a : Answer) : Type 0 where
   pub job : ℕ
   pub which : ℕ
   pub at : StreamIn h i job which
-  pub full : most_inputs ≤ inputs_left_in job h
+  pub full : IsTooMuchIn h job (upload_input (which, a))
 
--- nothing was fed, for this reason
-abbrev pub IsUnfed : List JobHappening → List ℕ → InputError → Type 0
-IsUnfed h i fed.UnknownId = (j w : ℕ) → StreamIn h i j w → ⊥
-IsUnfed h i fed.Flood = Floods h i
-IsUnfed h i fed.NoMemory = Unit {0}
+-- the answer wasn't fed, for this reason
+abbrev pub IsUnfed : List JobHappening → List ℕ → Answer → InputError → Type 0
+IsUnfed h i a fed.UnknownId = (j w : ℕ) → StreamIn h i j w → ⊥
+IsUnfed h i a fed.Flood = Floods h i a
+IsUnfed h i a fed.NoMemory = Unit {0}
 
 -- ---- answers and marks
 

@@ -1,5 +1,5 @@
 -- One live job as it is kept: what it is given next, and what it is after a turn.
-use Rattle.std.specs.Prelude.{◌≡◌, ℕ, Bool, true, false, not, ◌&&◌, ◌||◌, List, [], ◌∷◌, drop, Option, Some, None, is_some}
+use Rattle.std.specs.Prelude.{◌≡◌, ℕ, ◌+◌, Bool, true, false, not, ◌&&◌, ◌||◌, List, [], ◌∷◌, drop, Option, Some, None, is_some}
 use Rattle.hd_calls.specs.declared.vocabulary.Call.{Call}
 use Rattle.hd_calls.specs.declared.vocabulary.Input.{Input}
 use Rattle.hd_calls.specs.declared.vocabulary.Input.TheVariants as input
@@ -8,6 +8,7 @@ use Rattle.hd_calls.specs.declared.vocabulary.Act.TheVariants as act
 use Rattle.hd_calls.specs.Hubs.{Hub}
 use Rattle.hm_message.specs.declared.message.Ending.TheVariants.{Void}
 use Rattle.hd_calls.specs.Rules.{is_deed_answer}
+use Rattle.hj_jobs.specs.Counted.{counted, input_count, Takes, weight_as_given}
 use Rattle.hj_jobs.specs.declared.entry.Awaits.{Awaits}
 use Rattle.hj_jobs.specs.declared.entry.Awaits.TheVariants as awaits
 use Rattle.hj_jobs.specs.declared.entry.Entry.{Entry}
@@ -42,6 +43,15 @@ abbrev pub inputs_after : Awaits → List Input → List Input
 inputs_after awaits.Upload inputs = drop 1 inputs
 inputs_after _ inputs = inputs
 
+-- what the input counts that is given, if it is one of its uploads
+abbrev pub given_count : Awaits → List Input → ℕ
+given_count awaits.Upload inputs = input_count (first_input inputs)
+given_count _ inputs = 0
+
+-- what leaves with a turn counts
+abbrev pub taken_count : {J : Type 0} → Entry J → ℕ
+taken_count e = given_count e.awaits e.inputs.items + input_count e.reply
+
 -- whether the input answers what is awaited
 abbrev pub is_answer_to : Awaits → Input → Bool
 is_answer_to awaits.CallEnd (input.Asked e) = true
@@ -67,6 +77,7 @@ pub record Begins {J : Type 0} (e : Entry J) (call : Call) (job : J) : Type 0 wh
   pub inputs : e.inputs.items ≡ []
   pub reply : e.reply ≡ None
   pub is_cancelled : e.is_cancelled ≡ false
+  pub weight : e.weight ≡ counted (weight_as_given call)
 
 -- the job was given an input, if there was one, and did what the hub means. Nothing else of what is kept changed
 abbrev pub Gives : {J : Type 0} → Hub J → Entry J → Entry J → ℕ → Option Input → Option Act → Type 0
@@ -93,3 +104,4 @@ pub record IsTurned {J : Type 0} (what : Act) (old new : Entry J) : Type 0 where
   pub id : new.id ≡ old.id
   pub kind : new.kind ≡ old.kind
   pub streams : new.streams ≡ old.streams
+  pub weight : Takes old.weight new.weight (taken_count old)

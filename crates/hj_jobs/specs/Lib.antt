@@ -1,5 +1,6 @@
 pub mod Meaning
 pub mod Ids
+pub mod Counted
 pub mod Entries
 pub mod Live
 pub mod Stands

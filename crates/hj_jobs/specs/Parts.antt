@@ -1,9 +1,8 @@
 -- What the parts of a table's calls do to it.
-use Rattle.std.specs.Prelude.{◌≡◌, ◌⊎◌, ◌<◌, ◌≤◌, ℕ, Bool, true, false, ◌||◌, ◌==◌, List, [], Option, Some, None, if◌then◌else◌}
+use Rattle.std.specs.Prelude.{◌≡◌, ◌⊎◌, ◌<◌, ◌≤◌, ℕ, Bool, true, false, ◌==◌, [], Some, None, if◌then◌else◌}
 use Rattle.std.specs.Vec.{vec_capacity}
 use Rattle.hd_calls.specs.declared.vocabulary.Call.{Call}
-use Rattle.hd_calls.specs.declared.vocabulary.Input.{Input}
-use Rattle.hd_calls.specs.Numbers.{most_live, most_inputs}
+use Rattle.hd_calls.specs.Numbers.{most_live, most_inputs, most_weight}
 use Rattle.hv_value.specs.declared.sorted_set.SortedSet.{SortedSet}
 use Rattle.hj_jobs.specs.declared.entry.Entry.{Entry}
 use Rattle.hj_jobs.specs.declared.errors.AcceptError.{AcceptError}
@@ -26,11 +25,11 @@ IsFullOr count (accept.InUse i) = ⊥
 IsFullOr count accept.TooMany = most_live ≤ count
 IsFullOr count accept.NoMemory = Unit {0}
 
--- so many inputs wait that no more may, or memory is out
-abbrev pub IsFloodOr : ℕ → InputError → Type 0
-IsFloodOr count fed.UnknownId = ⊥
-IsFloodOr count fed.Flood = most_inputs ≤ count
-IsFloodOr count fed.NoMemory = Unit {0}
+-- so many inputs wait that no more may, so much would be kept that no more may, or memory is out
+abbrev pub IsFloodOr : ℕ → ℕ → InputError → Type 0
+IsFloodOr count weight fed.UnknownId = ⊥
+IsFloodOr count weight fed.Flood = (most_inputs ≤ count) ⊎ (most_weight < weight)
+IsFloodOr count weight fed.NoMemory = Unit {0}
 
 -- the job is among those that are due, or isn't, and nothing else changed among them
 pub record DueIs (old new : SortedSet) (n : ℕ) (is_due : Bool) : Type 0 where
@@ -80,6 +79,7 @@ pub record Changes {H Job : Type 0} (old new : Jobs H Job) (n : ℕ) (Changed : 
 -- nothing was fed to the job
 pub record FeedsNothing {H Job : Type 0} (old new : Jobs H Job) (n : ℕ) : Type 0 where
   pub live : Alters old.live new.live n (IsFed [])
+  pub weight : new.live.weight ≡ old.live.weight
   pub due : new.due ≡ old.due
   pub names : new.names ≡ old.names
   pub accepted : new.accepted ≡ old.accepted

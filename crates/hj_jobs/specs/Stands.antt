@@ -1,12 +1,12 @@
 -- What a table of jobs remembers of what happened to them. In lists jobs are numbered from 0, so the job at place j has the number suc j.
-use Rattle.std.specs.Prelude.{◌≡◌, ◌≤◌, ℕ, suc, ◌-◌, Bool, true, false, List, [], ◌∷◌, length, drop, map, Option, Some, None, slice_get}
+use Rattle.std.specs.Prelude.{◌≡◌, ◌≤◌, ℕ, suc, ◌-◌, Bool, true, false, List, [], length, drop, map, Option, Some, None, slice_get, if◌then◌else◌}
 use Rattle.std.specs.Vec.{vec_capacity}
 use Rattle.hd_calls.specs.declared.vocabulary.Act.{Act}
 use Rattle.hd_calls.specs.declared.vocabulary.Input.{Input}
 use Rattle.hd_calls.specs.Numbers.{most_live, most_inputs}
 use Rattle.hd_calls.specs.Hubs.{Invoked, Answer, Turn, Hub, id_of, kind_of, call_for, upload_input}
 use Rattle.hd_calls.specs.Peers.{has_end, of_stream, last_of}
-use Rattle.hd_calls.specs.Rules.{job_after, used}
+use Rattle.hd_calls.specs.Rules.{job_after, sum_below, used}
 use Rattle.hd_calls.specs.Tables.{JobHappening, begun_in, moments_in, turns_in, acts_in, inputs_in, marked_in, reply_in, over_in, passed_in, live_job_in, live_jobs_in, is_due_in}
 use Rattle.hv_value.specs.declared.sorted_set.SortedSet.{SortedSet}
 use Rattle.hj_jobs.specs.declared.entry.Entry.{Entry}
@@ -14,6 +14,7 @@ use Rattle.hj_jobs.specs.declared.jobs.Jobs.{Jobs}
 use Rattle.hj_jobs.specs.declared.live.Live.{Live}
 use Rattle.hj_jobs.specs.declared.ids.Ids.{Ids}
 use Rattle.hj_jobs.specs.declared.ids.Stream.{Stream}
+use Rattle.hj_jobs.specs.Counted.{job_count}
 use Rattle.hj_jobs.specs.Ids.{job_at, stream_at}
 use Rattle.hv_value.specs.SortedSet.{is_in, IsRising}
 use Rattle.hj_jobs.specs.Entries.{awaited, AnswersOrNot}
@@ -46,6 +47,14 @@ past j h = record {
   is_cancelled = marked_in j h;
   reply = reply_in j h;
 }
+
+-- what is kept of it counts
+abbrev pub count_of : Past → ℕ
+count_of p = if p.live then job_count p.call (drop (used p.turns) (map upload_input p.inputs)) p.reply else 0
+
+-- what is kept of all jobs counts
+abbrev pub count_in : List JobHappening → ℕ
+count_in h = sum_below (length (begun_in h)) (λ j. count_of (past j h))
 
 -- a live job of this id
 pub record HadBy (p : Past) (i : List ℕ) : Type 0 where
@@ -92,6 +101,7 @@ pub record Remembers {Job : Type 0} (prepared : Bool) (hub : Hub Job) (who : Lis
   pub reply : e.reply ≡ p.reply
   pub answered : AnswersOrNot e.awaits e.reply
   pub is_cancelled : e.is_cancelled ≡ p.is_cancelled
+  pub weight : e.weight ≡ job_count p.call (drop (used p.turns) (map upload_input p.inputs)) p.reply
 
 -- the entry of a place: there is one exactly if its job is live
 abbrev pub IsEntryOf : {Job : Type 0} → Bool → Hub Job → List ℕ → Option (Entry Job) → Past → Type 0
@@ -133,6 +143,7 @@ pub record Stands {H Job : Type 0} (hub : Hub Job) (jobs : Jobs H Job) (who : Li
   pub none : entry_at jobs.live 0 ≡ None
   pub count : live_count jobs.live ≡ live_jobs_in h
   pub few_live : live_jobs_in h ≤ most_live
+  pub weight : jobs.live.weight ≡ count_in h
   pub ids : IdsAgree jobs.names h
   pub streams : StreamsAgree jobs.names h
   pub due : DueAgree jobs.due h

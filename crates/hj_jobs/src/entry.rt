@@ -1,13 +1,15 @@
 //! One live job: what it is given next, and its turn, which has two halves: the hub's step, and what is kept of it.
 
-ghost use Rattle.std.specs.Prelude.{◌≡◌, None, Some, IfOk, OnErr, drop};
+ghost use Rattle.std.specs.Prelude.{◌≡◌, ◌≤◌, None, Some, IfOk, OnErr, drop};
 ghost use Rattle.hd_calls.specs.declared.vocabulary.Input.TheVariants.{Go};
 ghost use Rattle.hd_calls.specs.Rules.{is_deed_answer};
 ghost use Rattle.hd_calls.specs.Tables.{finishes};
-ghost use Rattle.hj_jobs.specs.Entries.{PreparesOrNot, awaited, Begins, first_input, Gives, inputs_after, is_answer_to, is_due_entry, is_open_for, IsTurned};
+ghost use Rattle.hj_jobs.specs.Counted.{input_count, most_counted};
+ghost use Rattle.hj_jobs.specs.Entries.{PreparesOrNot, awaited, Begins, first_input, given_count, Gives, inputs_after, is_answer_to, is_due_entry, is_open_for, IsTurned, taken_count};
 ghost use Rattle.hj_jobs.specs.Meaning.{meaning};
 
 use crate::hub::Hub;
+use crate::weight::{call_count, count_of, reply_count};
 use hd_calls::{Act, Call, CallKind, Input};
 use hm_message::Ending;
 use hv_value::{Text, Texts};
@@ -58,6 +60,8 @@ pub struct Entry<J> {
     pub(crate) reply: Option<Input>,
     /// It was cancelled.
     pub(crate) is_cancelled: bool,
+    /// What its call, the inputs that wait and the reply count together, each at most `weight::MOST_COUNTED`.
+    pub(crate) weight: u64,
 }
 
 impl<J> Entry<J> {
@@ -99,6 +103,7 @@ impl<J> Entry<J> {
     pub(crate) fn begin(alloc: Global, call: Call, job: J) -> Entry<J>
         ensures { Begins result call job }
     {
+        let weight = call_count(&call);
         Entry {
             id: call.id,
             kind: call.kind,
@@ -108,6 +113,7 @@ impl<J> Entry<J> {
             inputs: VecDeque::new(alloc),
             reply: None,
             is_cancelled: false,
+            weight,
         }
     }
 
@@ -192,9 +198,32 @@ impl<J> Entry<J> {
     pub(crate) fn turned(&mut self, act: &Act)
         ensures { IsTurned act.now self.old self.new }
     {
+        self.weight = self.weight.saturating_sub(self.taken_count());
         self.take_given();
         self.awaits = Awaits::after(act);
         forget(&mut self.reply);
+    }
+
+    /// What leaves with its turn counts: what it was given, and what has answered it.
+    fn taken_count(&self) -> u64
+        ensures { result ≡ taken_count self.now }
+    {
+        let given = self.given_count();
+        let reply = reply_count(&self.reply);
+        given + reply
+    }
+
+    /// What the oldest input of its uploads counts, if that is what it awaits.
+    fn given_count(&self) -> u64
+        ensures exact { result ≡ given_count self.now.awaits self.now.inputs.items }
+        ensures bound { result ≤ most_counted }
+    {
+        match self.awaits {
+            Awaits::Upload => oldest_count(&self.inputs),
+            Awaits::Turn => 0,
+            Awaits::CallEnd => 0,
+            Awaits::Deed => 0,
+        }
     }
 
     /// The oldest input of its uploads is gone, if that is what it awaited.
@@ -208,6 +237,16 @@ impl<J> Entry<J> {
             Awaits::CallEnd => {}
             Awaits::Deed => {}
         }
+    }
+}
+
+fn oldest_count(inputs: &VecDeque<Input>) -> u64
+    ensures exact { result ≡ input_count (first_input inputs.now.items) }
+    ensures bound { result ≤ most_counted }
+{
+    match inputs.front() {
+        Some(input) => count_of(input),
+        None => 0,
     }
 }
 

@@ -21,7 +21,8 @@ pub enum AcceptError {
 pub enum InputError {
     /// No live job has the stream open.
     UnknownId,
-    /// `hd_calls::MOST_INPUTS` inputs wait at the job, over all its streams.
+    /// `hd_calls::MOST_INPUTS` inputs wait at the job, over all its streams, or with this one what jobs keep would weigh more than
+    /// `hd_calls::MOST_WEIGHT`.
     Flood,
     NoMemory,
 }

@@ -1,13 +1,15 @@
 //! The table of jobs: what happens to each, and whose turn it is.
 
-ghost use Rattle.std.specs.Prelude.{◌≡◌, ◌==◌, ◌↔◌, ◌<◌, ◌≤◌, ℕ, List, ◌∷◌, [], length, true, false, IfErr, IfOk, IsErr, IsTrue, OnErr, OnOk};
+ghost use Rattle.std.specs.Prelude.{◌≡◌, ◌==◌, ◌↔◌, ◌<◌, ◌≤◌, ◌+◌, ℕ, List, ◌∷◌, [], length, true, false, IfErr, IfOk, IsErr, IsTrue, OnErr, OnOk};
 ghost use Rattle.hm_message.specs.declared.message.Ending.{Ending as EndingMeant};
 ghost use Rattle.hd_calls.specs.Hubs.{End, error_in, Invoked, Item};
-ghost use Rattle.hd_calls.specs.Numbers.{most_inputs, most_live};
-ghost use Rattle.hd_calls.specs.Tables.{begun_in, Ended, JobHappening, live_job_in, live_jobs_in, passed_in, Replied, Round, Turned};
+ghost use Rattle.hd_calls.specs.Numbers.{most_inputs, most_live, most_weight};
+ghost use Rattle.hd_calls.specs.Weights.{input_weight};
+ghost use Rattle.hd_calls.specs.Tables.{begun_in, Ended, JobHappening, kept_weight_in, live_job_in, live_jobs_in, passed_in, Replied, Round, Turned};
 ghost use Rattle.hj_jobs.specs.Meaning.{meaning};
 ghost use Rattle.hj_jobs.specs.Stands.{Stands};
-ghost use Rattle.hj_jobs.specs.Calls.{Accepts, Answers, AtPlace, PreparesOrNot, AwaitsAnswer, Feeds, HasPrepared, IsCallOf, IsDead, IsRefusedIn, IsUnfed, IsUnmarkable, Marks, OfEach, SomeIsDue, Stays, StepsOrNot};
+ghost use Rattle.hj_jobs.specs.Calls.{Accepts, Answers, AtPlace, PreparesOrNot, AwaitsAnswer, Feeds, HasPrepared, IsCallOf, IsDead, IsRefusedIn, IsUnfed, IsUnmarkable, Marks, Measures, OfEach, SomeIsDue, Stays, StepsOrNot};
+ghost use Rattle.hj_jobs.specs.Counted.{counted};
 ghost use Rattle.hj_jobs.specs.Laws.{AreFew};
 ghost use Rattle.hj_jobs.specs.Live.{entry_at, HasRoom, IsFed, live_count, waits_at};
 ghost use Rattle.hj_jobs.specs.Parts.{Agrees, Changes, Drops, Enters, HasRoomForOne, IsFloodOr, IsFullOr, IsRoomier, KeepsFed};
@@ -17,7 +19,8 @@ use crate::errors::{AcceptError, InputError};
 use crate::hub::Hub;
 use crate::ids::Ids;
 use crate::live::{Live, Stepped};
-use hd_calls::{Call, Input, MOST_INPUTS, MOST_LIVE, UnknownId};
+use crate::weight::count_of;
+use hd_calls::{Call, Input, MOST_INPUTS, MOST_LIVE, MOST_WEIGHT, UnknownId};
 use hv_value::{SortedSet, Text, Value};
 use std::alloc::{AllocError, Global};
 
@@ -69,9 +72,18 @@ impl<H: Hub> Jobs<H> {
         self.accepted
     }
 
+    /// What is kept for the live jobs weighs this many bytes, by the weights of `hd_calls`: their calls, the inputs that wait at them and
+    /// the answers to their asks. Up to `hd_calls::MOST_WEIGHT` it is exact. Past it, which one call or answer may bring about, only that
+    /// it is more is told.
+    pub fn weight(&self) -> u64
+        ensures { OfEach (meaning H.begin_of H.step_of) self.now (λ who h. Measures result (kept_weight_in h)) }
+    {
+        self.live.weight()
+    }
+
     // ---- what it is told
 
-    /// A call begins a job: its number, from 1 in order of acceptance.
+    /// A call begins a job, whatever it weighs: its number, from 1 in order of acceptance.
     pub fn accept(
         &mut self,
         alloc: Global,
@@ -107,7 +119,8 @@ impl<H: Hub> Jobs<H> {
     pub fn item(&mut self, stream: &Text, value: Value) -> Result<u64, InputError>
         ensures ok { IfOk result (λ number. OfEach (meaning H.begin_of H.step_of) self.old (λ who h.
             Feeds (meaning H.begin_of H.step_of) self.new who h stream.now (Item value) number)) }
-        ensures refused { IfErr result (λ e. OfEach (meaning H.begin_of H.step_of) self.old (λ who h. IsUnfed h stream.now e)) }
+        ensures refused { IfErr result (λ e. OfEach (meaning H.begin_of H.step_of) self.old (λ who h.
+            IsUnfed h stream.now (Item value) e)) }
         ensures unchanged { OnErr result (Stays (meaning H.begin_of H.step_of) self.old self.new) }
         ensures fresh { self.new.prepared ≡ self.old.prepared }
     {
@@ -126,7 +139,8 @@ impl<H: Hub> Jobs<H> {
     pub fn stream_end(&mut self, stream: &Text, error: Option<Text>) -> Result<u64, InputError>
         ensures ok { IfOk result (λ number. OfEach (meaning H.begin_of H.step_of) self.old (λ who h.
             (e : EndingMeant) → error_in e ≡ error → Feeds (meaning H.begin_of H.step_of) self.new who h stream.now (End e) number)) }
-        ensures refused { IfErr result (λ e. OfEach (meaning H.begin_of H.step_of) self.old (λ who h. IsUnfed h stream.now e)) }
+        ensures refused { IfErr result (λ why. OfEach (meaning H.begin_of H.step_of) self.old (λ who h.
+            (e : EndingMeant) → error_in e ≡ error → IsUnfed h stream.now (End e) why)) }
         ensures unchanged { OnErr result (Stays (meaning H.begin_of H.step_of) self.old self.new) }
         ensures fresh { self.new.prepared ≡ self.old.prepared }
     {
@@ -323,13 +337,19 @@ impl<H: Hub> Jobs<H> {
     fn feed(&mut self, job: u64, input: Input) -> Result<(), InputError>
         ensures ok { OnOk result (Changes self.old self.new job (IsFed (input ∷ []))) }
         ensures few { OnOk result (waits_at (entry_at self.old.live job) < most_inputs) }
-        ensures refused { IfErr result (λ e. IsFloodOr (waits_at (entry_at self.old.live job)) e) }
+        ensures light { OnOk result (self.old.live.weight + counted (input_weight input) ≤ most_weight) }
+        ensures refused { IfErr result (λ e.
+            IsFloodOr (waits_at (entry_at self.old.live job)) (self.old.live.weight + counted (input_weight input)) e) }
         ensures unchanged { OnErr result (KeepsFed self.old self.new job) }
     {
         if self.live.waiting(job) as u64 >= MOST_INPUTS {
             return Err(InputError::Flood);
         }
-        self.live.feed(job, input)?;
+        let count = count_of(&input);
+        if self.live.weight().saturating_add(count) > MOST_WEIGHT {
+            return Err(InputError::Flood);
+        }
+        self.live.feed(job, input, count)?;
         self.agree(job);
         Ok(())
     }

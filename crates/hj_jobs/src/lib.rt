@@ -14,7 +14,8 @@
 //!
 //! A table stands for the list of what happened to its jobs, as `hd_calls` has it: each call of this crate adds its happening. Proved:
 //! what a job does at its turns is what its hub means, each turn is the one that was due, a round gives no job two turns and each that
-//! is due one, and each refusal comes for its cause alone. At most 1,024 jobs are live, and 4,096 inputs wait at each.
+//! is due one, and each refusal comes for its cause alone. At most 1,024 jobs are live, 4,096 inputs wait at each, and no input is taken
+//! with which what jobs keep would weigh more than 16,777,216 (`weight`).
 //!
 //! The crate doesn't know ends, codecs, what is sent for a job, nor any one hub.
 #![tactic(auto)]
@@ -26,6 +27,7 @@ mod ids;
 mod jobs;
 mod laws;
 mod live;
+mod weight;
 
 pub use errors::{AcceptError, InputError};
 pub use hub::Hub;

@@ -1,12 +1,15 @@
 //! The live jobs, by number. Numbers are drawn here and not by the other side, so a hashed map serves.
 
 ghost use Rattle.std.specs.Prelude.{◌≡◌, ◌<◌, ℕ, ◌∷◌, [], None, IfOk, OnOk, OnErr};
+ghost use Rattle.hd_calls.specs.Weights.{input_weight};
+ghost use Rattle.hj_jobs.specs.Counted.{counted};
 ghost use Rattle.hj_jobs.specs.Entries.{IsTurned};
 ghost use Rattle.hj_jobs.specs.Live.{Alters, PreparesAt, awaits_at, entry_at, Gains, HasRoom, is_due_at, is_unmarked_at, IsAnswered, IsFed, IsMarked, live_count, Loses, Retains, waits_at};
 ghost use Rattle.hj_jobs.specs.Meaning.{meaning};
 
 use crate::entry::Entry;
 use crate::hub::Hub;
+use crate::weight::{count_of, plus, swapped};
 use hd_calls::{Act, CallKind, Input, MOST_LIVE};
 use hv_value::Text;
 use indexmap::IndexMap;
@@ -28,15 +31,19 @@ pub struct Stepped {
 #[derive(Drop)]
 pub struct Live<J: Drop> {
     entries: IndexMap<u64, Entry<J>>,
+    /// What all of them count together.
+    weight: u64,
 }
 
 impl<J: Drop> Live<J> {
     pub(crate) fn start(alloc: Global) -> Live<J>
         ensures entries { (n : ℕ) → entry_at result n ≡ None }
         ensures count { live_count result ≡ 0 }
+        ensures weight { result.weight ≡ 0 }
     {
         Live {
             entries: IndexMap::new(alloc),
+            weight: 0,
         }
     }
 
@@ -45,6 +52,13 @@ impl<J: Drop> Live<J> {
         ensures { result ≡ live_count self.now }
     {
         self.entries.len()
+    }
+
+    /// What is kept of all of them counts this.
+    pub(crate) fn weight(&self) -> u64
+        ensures { result ≡ self.now.weight }
+    {
+        self.weight
     }
 
     /// Whether the job is live and has a turn to come.
@@ -100,6 +114,7 @@ impl<J: Drop> Live<J> {
         requires { HasRoom self.old }
         ensures { entry_at self.old number ≡ None → Gains self.old self.new number entry }
     {
+        self.weight = plus(self.weight, entry.weight);
         let _ = self.entries.insert(number, entry);
     }
 
@@ -108,7 +123,11 @@ impl<J: Drop> Live<J> {
         ensures result { result ≡ entry_at self.old number }
         ensures lost { Loses self.old self.new number }
     {
-        self.entries.swap_remove(&number)
+        let Some(entry) = self.entries.swap_remove(&number) else {
+            return None;
+        };
+        self.weight = self.weight.saturating_sub(entry.weight);
+        Some(entry)
     }
 
     /// The job is marked as cancelled.
@@ -125,22 +144,30 @@ impl<J: Drop> Live<J> {
         ensures { Alters self.old self.new number (IsAnswered input) }
     {
         if let Some(entry) = self.entries.get_mut(&number) {
+            let before = entry.weight;
+            entry.weight = plus(before, count_of(&input));
             entry.reply = Some(input);
+            self.weight = swapped(self.weight, before, entry.weight);
         }
     }
 
-    /// Something came from an upload of the job.
-    pub(crate) fn feed(&mut self, number: u64, input: Input) -> Result<(), AllocError>
+    /// Something came from an upload of the job, which counts this much.
+    pub(crate) fn feed(&mut self, number: u64, input: Input, count: u64) -> Result<(), AllocError>
+        requires { count ≡ counted (input_weight input) }
         ensures ok { OnOk result (Alters self.old self.new number (IsFed (input ∷ []))) }
         ensures unchanged { OnErr result (Alters self.old self.new number (IsFed [])) }
+        ensures weight { OnErr result (self.new.weight ≡ self.old.weight) }
     {
         let Some(entry) = self.entries.get_mut(&number) else {
             return Ok(());
         };
-        match entry.inputs.push_back(input) {
-            Ok(()) => Ok(()),
-            Err(_) => Err(AllocError),
+        if entry.inputs.push_back(input).is_err() {
+            return Err(AllocError);
         }
+        let before = entry.weight;
+        entry.weight = plus(before, count);
+        self.weight = swapped(self.weight, before, entry.weight);
+        Ok(())
     }
 
     /// The hub's part of the job's turn, if it has one to come. `turned` is the rest.
@@ -175,7 +202,9 @@ impl<J: Drop> Live<J> {
         ensures { Alters self.old self.new number (IsTurned act.now) }
     {
         if let Some(entry) = self.entries.get_mut(&number) {
+            let before = entry.weight;
             entry.turned(act);
+            self.weight = swapped(self.weight, before, entry.weight);
         }
     }
 }
