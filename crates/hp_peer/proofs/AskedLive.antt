@@ -51,7 +51,7 @@ run_live t j k c turn what h due before false p e = before e
 
 pub asks_live : {Job : Type 0} (hub : Hub Job) (t : Settings) (j : ℕ) (h : List PeerEvent) → Follows hub t h → asks (last_of (acts j h)) ≡ true → live_job t j h ≡ true
 asks_live hub t j [] f e = absurd (cc)
-asks_live hub t j (Handles m (Begins c now) ∷ h) f e = more_begun j (begun h) c (over t j h) (asks_live hub t j h f.0 e)
+asks_live hub t j (Handles m (Begins c now floods) ∷ h) f e = more_begun j (begun h) c (over t j h) (asks_live hub t j h f.0 e)
 asks_live hub t j (Handles m x ∷ h) f e = asks_live hub t j h f.0 e
 asks_live hub t j (Runs k c since turn what ∷ h) f e = run_live t j k c turn what h f.1.due (asks_live hub t j h f.0) (j == k) refl e
 asks_live hub t j (_ ∷ h) f e = asks_live hub t j h f.0 e

@@ -6,6 +6,7 @@ pub mod Notices
 pub mod JobMoves
 pub mod AskedLive
 pub mod Counted
+pub mod Heavy
 pub mod Taken
 pub mod Told
 pub mod Two

@@ -54,11 +54,11 @@ waits_counted hub t old m h s = subst IsCounted (sym s.waits) s.counted
 -- ---- what is told
 
 never_other : (h : List PeerEvent) (now : ℕ) (m : Message) (e : Effect) (got : Got) → IsToldAs h now m e (did.Other got) → ⊥
-never_other h now m (Begins c since) got f = f
+never_other h now m (Begins c since floods) got f = f
 never_other h now m (InUse c) got f = f
 never_other h now m (TooMany c) got f = f
-never_other h now m (Brings n (Item v)) got f = f
-never_other h now m (Brings n (Ends e)) got f = f
+never_other h now m (Brings n (Item v) floods) got f = f
+never_other h now m (Brings n (Ends e) floods) got f = f
 never_other h now m (Feeds j w a) got f = f
 never_other h now m Flood got f = f
 never_other h now m (Marks j) got f = f

@@ -1,18 +1,25 @@
 -- What `take` does: it handles the message that waits or, if none does, reads the next frame, and handles it if it is a message.
-use Rattle.std.specs.Prelude.{◌≡◌, ◌⊎◌, ℕ, suc, List, ◌∷◌, length, Option, Some, None}
+use Rattle.std.specs.Prelude.{◌≡◌, ◌⊎◌, ℕ, suc, Bool, true, false, nat_lt, List, ◌∷◌, length, Option, Some, None}
 use Rattle.hm_message.specs.declared.message.Message.{Message}
 use Rattle.hd_delivery.specs.declared.vocabulary.Got.TheVariants as gives
-use Rattle.hd_delivery.specs.Histories.{EndEvent, Took, Failed, Fault}
+use Rattle.hd_delivery.specs.declared.vocabulary.Reason.TheVariants as reason
+use Rattle.hd_delivery.specs.Histories.{Closed, EndEvent, Took, Failed, Fault, is_closed}
 use Rattle.hd_delivery.specs.Processes.{processes}
-use Rattle.hd_delivery.specs.Bytes.{Does}
+use Rattle.hd_delivery.specs.Bytes.{Does, in_frames}
+use Rattle.he_end.specs.declared.end.End.{End as ByteEnd}
 use Rattle.he_end.specs.declared.errors.NextError.{NextError}
 use Rattle.he_end.specs.declared.errors.NextError.TheVariants as next
+use Rattle.he_end.specs.Calls as of_end
 use Rattle.he_end.specs.Calls.{fault_of}
+use Rattle.he_end.specs.Stands as end_stands
 use Rattle.hd_calls.specs.declared.vocabulary.Call as as_given
+use Rattle.hd_calls.specs.Numbers.{most_weight}
 use Rattle.hd_calls.specs.Hubs.{Hub, Invoked, Answer, Item, End, Purpose, ToBegin, ToAnswer, ToCancel, ToNothing, call_for, id_of, purpose_of}
 use Rattle.hd_calls.specs.Peers.{Effect, Begins, InUse, TooMany, Brings, Feeds, Flood, Marks, Nothing, PeerEvent, Plain, Reads, Handles, Settings, begun, waiting, steps}
 use Rattle.hd_calls.specs.Rules.{IsStrange}
-use Rattle.hd_calls.specs.Tables.{job_happenings}
+use Rattle.hd_calls.specs.Tables.{JobHappening, job_happenings, kept_weight_in}
+use Rattle.hj_jobs.specs.declared.jobs.Jobs.{Jobs}
+use Rattle.hj_jobs.specs.Calls as of_jobs
 use Rattle.hj_jobs.specs.Calls.{IsTaken}
 use Rattle.hp_peer.specs.declared.did.Did.{Did}
 use Rattle.hp_peer.specs.declared.did.Did.TheVariants as did
@@ -39,9 +46,9 @@ pub record IsBegun (h : List PeerEvent) (c : Invoked) (since now job : ℕ) (id 
 
 -- what a message did that was handled after these moves, at a moment, is told so
 abbrev pub IsToldAs : List PeerEvent → ℕ → Message → Effect → Did → Type 0
-IsToldAs h now m (Begins c since) (did.Began job id target arguments) = IsBegun h c since now job id target × (arguments ≡ c.arguments)
-IsToldAs h now m (Brings n (Item v)) (did.Item call value) = (call ≡ n) × (value ≡ v)
-IsToldAs h now m (Brings n (End e)) (did.Ended call ending) = (call ≡ n) × (ending ≡ e)
+IsToldAs h now m (Begins c since floods) (did.Began job id target arguments) = IsBegun h c since now job id target × (arguments ≡ c.arguments)
+IsToldAs h now m (Brings n (Item v) floods) (did.Item call value) = (call ≡ n) × (value ≡ v)
+IsToldAs h now m (Brings n (End e) floods) (did.Ended call ending) = (call ≡ n) × (ending ≡ e)
 IsToldAs h now m (Feeds j w a) (did.Fed id) = IsFor (purpose_of m) id
 IsToldAs h now m (Marks j) (did.Cancelled id) = IsFor (purpose_of m) id
 IsToldAs h now m Nothing (did.Unknown id) = IsFor (purpose_of m) id
@@ -134,3 +141,19 @@ FeedsAs hub old new m i a told = OfEach hub (holding old m) (λ t h. IsStrange t
 
 abbrev pub Unfeeds : {H Job : Type 0} → Hub Job → Peer H Job → Peer H Job → Message → List ℕ → Answer → PeerError → Type 0
 Unfeeds hub old new m i a e = OfEach hub (holding old m) (λ t h. IsStrange t h i a → IsUnhandled hub t new e m h)
+
+-- ---- what jobs keep
+
+-- whether what the jobs keep is more than they may
+abbrev pub is_heavy_in : List JobHappening → Bool
+is_heavy_in h = nat_lt most_weight (kept_weight_in h)
+
+-- the end is closed for a flood if it floods. One that is closed stays as it is
+abbrev pub ClosesIf : Bool → ByteEnd → ByteEnd → Type 0
+ClosesIf false old new = new ≡ old
+ClosesIf true old new = of_end.OfEach old (λ wire c h.
+    (is_closed c (in_frames wire c h) ≡ false → end_stands.Stands wire c new (Does (Closed reason.Flood false) ∷ h)) × (is_closed c (in_frames wire c h) ≡ true → new ≡ old))
+
+-- it floods if these jobs keep more than they may
+abbrev pub ClosesIfHeavy : {H Job : Type 0} → Hub Job → Jobs H Job → ByteEnd → ByteEnd → Type 0
+ClosesIfHeavy hub jobs old new = of_jobs.OfEach hub jobs (λ who h. ClosesIf (is_heavy_in h) old new)

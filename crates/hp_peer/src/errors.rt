@@ -92,7 +92,8 @@ pub enum PeerError {
     InUse(Text),
     /// A call came while `hd_calls::MOST_LIVE` jobs were live. The end is closed for that reason.
     TooMany,
-    /// An input came to a job at which `hd_calls::MOST_INPUTS` wait. The end is closed for that reason.
+    /// An input came to a job at which `hd_calls::MOST_INPUTS` wait, or with which jobs would keep more than `hd_calls::MOST_WEIGHT`. It isn't
+    /// given, and the end is closed for that reason.
     Flood,
     /// The peer is as it was, or a message was read that waits: the next `take` handles it.
     NoMemory,

@@ -4,17 +4,20 @@ ghost use Rattle.std.specs.Prelude.{◌≡◌, ◌==◌, ℕ, List, None, Some, 
 ghost use Rattle.std.specs.HashMap.{get};
 ghost use Rattle.hm_message.specs.declared.message.Message.TheVariants as message_of_kind;
 ghost use Rattle.hm_message.specs.Headers.{Header};
+ghost use Rattle.he_end.specs.Stands.{limits_of};
 ghost use Rattle.hd_calls.specs.Hubs.{End as Ends, error_in, id_of, Invoked, Item, purpose_of, ToBegin};
 ghost use Rattle.hi_calls.specs.Calls as of_calls;
 ghost use Rattle.hj_jobs.specs.Meaning.{meaning};
 ghost use Rattle.hp_peer.specs.declared.did.Did.TheVariants as told_of;
 ghost use Rattle.hp_peer.specs.Stands.{OfEach};
-ghost use Rattle.hp_peer.specs.Taking.{call_to_begin, FeedsAs, HandlesAs, IsUntaken, of_next, Takes, Unfeeds, Unhandles};
+ghost use Rattle.hp_peer.specs.Taking.{call_to_begin, ClosesIfHeavy, FeedsAs, HandlesAs, IsUntaken, of_next, Takes, Unfeeds, Unhandles};
 
 use crate::did::Did;
 use crate::errors::PeerError;
 use crate::peer::Peer;
-use hd_calls::{Call, CallKind, Input, UnknownId, ids_are_drawn, tables_agree};
+use hd_calls::{
+    Call, CallKind, Input, MOST_WEIGHT, UnknownId, ids_are_drawn, peers_are_bounded, tables_agree,
+};
 use hd_delivery::{Got, Reason};
 use he_end::NextError;
 use he_wire::wire_is_sound;
@@ -27,6 +30,9 @@ use std::alloc::{AllocError, Global};
 impl<H: Hub> Peer<H> {
     /// Takes the message that waits or, if none does, the next frame of the link, and tells what it did. None if no message waits and no
     /// whole frame has come. Own calls come before the streams of jobs if an id is both.
+    ///
+    /// A call begins its job and an ending is given to the job that asked, whatever they weigh. If jobs keep more than `hd_calls::MOST_WEIGHT`
+    /// then, the end is also closed for `Reason::Flood`: this is told by the end's `state` alone.
     pub fn take(&mut self, alloc: Global, hub: &H, now: u64) -> Result<Option<Did>, PeerError>
         ensures ok { IfOk result (λ told. OfEach (meaning H.begin_of H.step_of) self.old (λ t h. Takes (meaning H.begin_of H.step_of) t h self.new now told)) }
         ensures refused { IfErr result (λ e. OfEach (meaning H.begin_of H.step_of) self.old (λ t h. IsUntaken (meaning H.begin_of H.step_of) t h self.new e)) }
@@ -100,7 +106,10 @@ impl<H: Hub> Peer<H> {
             return Ok(Did::Other(Got::Message(message)));
         };
         match self.jobs.accept(alloc, hub, call, now) {
-            Ok(job) => Ok(began(job, message)),
+            Ok(job) => {
+                self.close_if_heavy();
+                Ok(began(job, message))
+            }
             Err(AcceptError::InUse(id)) => {
                 self.end.close(Reason::InUse, false);
                 Err(PeerError::InUse(id))
@@ -129,6 +138,7 @@ impl<H: Hub> Peer<H> {
     {
         tables_agree();
         ids_are_of_a_side();
+        peers_are_bounded::<H::Job>();
         match self.calls.item(&id) {
             Ok(call) => Ok(Did::Item { call, value: item }),
             Err(UnknownId) => self.feed_item(headers, id, item),
@@ -177,6 +187,7 @@ impl<H: Hub> Peer<H> {
         tables_agree();
         ids_are_of_a_side();
         ids_are_drawn();
+        peers_are_bounded::<H::Job>();
         let Ok(call) = self.calls.find(&id) else {
             return self.feed_end(headers, id, ending);
         };
@@ -195,6 +206,7 @@ impl<H: Hub> Peer<H> {
         self.settle(call, &id);
         // A job that is over isn't told.
         let _answered = self.jobs.answer(job, Input::Asked(copy));
+        self.close_if_heavy();
         Ok(Did::Ended { call, ending })
     }
 
@@ -249,6 +261,20 @@ impl<H: Hub> Peer<H> {
     {
         let _settled = self.calls.settle(id);
         let _asker = self.jobs_by_call.swap_remove(&call);
+    }
+
+    // ---- what jobs keep
+
+    /// The end is closed for a flood if jobs keep more than they may. A closed end stays as it is.
+    fn close_if_heavy(&mut self)
+        ensures closes { ClosesIfHeavy (meaning H.begin_of H.step_of) self.old.jobs self.old.end self.new.end }
+        ensures limits { limits_of self.new.end ≡ limits_of self.old.end }
+        ensures others { self.new ≡ record self.old { end = self.new.end } }
+    {
+        if self.jobs.weight() <= MOST_WEIGHT {
+            return;
+        }
+        self.end.close(Reason::Flood, false);
     }
 
     // ---- cancellations

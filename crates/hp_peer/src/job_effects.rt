@@ -14,7 +14,7 @@ ghost use Rattle.hp_peer.specs.Turning.{IsAnswered, IsCarriedOut, IsSaid, OfEach
 
 use crate::errors::AskError;
 use crate::peer::Peer;
-use hd_calls::{Act, CallKind, Input, frames_are_tested, tables_agree};
+use hd_calls::{Act, CallKind, Input, REFUSAL_TEXT, frames_are_tested, tables_agree};
 use he_end::SendError;
 use hi_calls::ids_are_of_a_side;
 use hj_jobs::{Hub, Stepped};
@@ -115,7 +115,7 @@ impl<H: Hub> Peer<H> {
     {
         tables_agree();
         ids_are_of_a_side();
-        let refused = Ending::Error(Text::of(alloc, "The ask was refused.")?);
+        let refused = Ending::Error(Text::of(alloc, REFUSAL_TEXT)?);
         let target = target.copy()?;
         let arguments = arguments.copy()?;
         self.jobs_by_call.reserve(1)?;

@@ -5,7 +5,7 @@ use Rattle.hp_peer.proofs.peer.Peer.bring_item.Goals as goal
 
 pub returns-in-Ok-clause-ok : goal.returns-in-Ok-clause-ok
 returns-in-Ok-clause-ok g c = λ now t h s.
-    item_came {H = g.row.H.Denot} _ t c.args.self.now c.args.headers c.args.id c.args.item h s (c.tables_agree.ensures t h).0 c.requires.none_waits c.ids_are_of_a_side.ensures now c.in-Ok.call
+    item_came {H = g.row.H.Denot} _ t c.args.self.now c.args.headers c.args.id c.args.item h s c.tables_agree.ensures c.peers_are_bounded.ensures c.requires.none_waits c.ids_are_of_a_side.ensures now c.in-Ok.call
     (c.in-Ok.ensures.ok _ (call_happenings h) s.calls)
 
 pub returns-in-Err-clause-ok : goal.returns-in-Err-clause-ok

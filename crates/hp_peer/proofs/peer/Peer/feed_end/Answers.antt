@@ -14,13 +14,13 @@ returns-in-Ok-stream_end-clause-ok g c = λ t h s strange now.
 pub returns-in-Err-UnknownId-clause-ok : goal.returns-in-Err-UnknownId-clause-ok
 returns-in-Err-UnknownId-clause-ok g c = λ t h s strange now.
     fed_none {H = g.row.H.Denot} _ t c.args.self.now (Completion c.args.headers c.args.id c.args.ending) c.args.id (End c.args.ending) refl h s (c.tables_agree.ensures t h).1
-    c.requires.none_waits strange now 0 _ (rw c.in-Err-UnknownId.field-0-is at (c.in-Err-UnknownId.ensures.refused t.who (job_happenings t h) s.jobs))
+    c.requires.none_waits strange now 0 _ (rw c.in-Err-UnknownId.field-0-is at (c.in-Err-UnknownId.ensures.refused t.who (job_happenings t h) s.jobs c.args.ending (sym c.in-Ok.ensures)))
     (c.in-Err-UnknownId.ensures.unchanged t.who (job_happenings t h) s.jobs)
 
 pub returns-in-Err-Flood-clause-refused : goal.returns-in-Err-Flood-clause-refused
 returns-in-Err-Flood-clause-refused g c = λ t h s strange.
     flooded {H = g.row.H.Denot} _ t c.args.self.now (Completion c.args.headers c.args.id c.args.ending) c.args.id (End c.args.ending) refl h s (c.tables_agree.ensures t h).1
-    c.requires.none_waits strange 0 0 _ (rw c.in-Err-Flood.field-0-is at (c.in-Err-Flood.ensures.refused t.who (job_happenings t h) s.jobs))
+    c.requires.none_waits strange 0 0 _ (rw c.in-Err-Flood.field-0-is at (c.in-Err-Flood.ensures.refused t.who (job_happenings t h) s.jobs c.args.ending (sym c.in-Ok.ensures)))
     (c.in-Err-Flood.ensures.unchanged t.who (job_happenings t h) s.jobs) _
     (c.close.ensures.live t.wire t.config (byte_steps t h) s.end) (c.close.ensures.closed t.wire t.config (byte_steps t h) s.end) c.close.ensures.limits
 

@@ -20,8 +20,10 @@ returns-in-Err-UnknownId-clause-ok g c = λ t h s strange now.
 
 pub returns-in-Err-Flood-clause-refused : goal.returns-in-Err-Flood-clause-refused
 returns-in-Err-Flood-clause-refused g c = λ t h s strange.
+    let e = same_value c.values_are_trees.ensures c.in-Ok.copy c.args.item c.in-Ok.ensures in
+    let refused = rw c.in-Err-Flood.field-0-is at (c.in-Err-Flood.ensures.refused t.who (job_happenings t h) s.jobs) in
     flooded {H = g.row.H.Denot} _ t c.args.self.now (StreamItem c.args.headers c.args.id c.args.item) c.args.id (Item c.args.item) refl h s (c.tables_agree.ensures t h).1
-    c.requires.none_waits strange 0 0 _ (rw c.in-Err-Flood.field-0-is at (c.in-Err-Flood.ensures.refused t.who (job_happenings t h) s.jobs))
+    c.requires.none_waits strange 0 0 _ (rw e at refused)
     (c.in-Err-Flood.ensures.unchanged t.who (job_happenings t h) s.jobs) _
     (c.close.ensures.live t.wire t.config (byte_steps t h) s.end) (c.close.ensures.closed t.wire t.config (byte_steps t h) s.end) c.close.ensures.limits
 
