@@ -191,10 +191,10 @@ abbrev call_heard : List ServerEvent
 call_heard = Hears 0 (event.Bytes 1 (1 ∷ [])) ∷ second
 
 abbrev call_moves : List PeerEvent
-call_moves = Handles joining (Begins join 0) ∷ Reads joining ∷ Plain (Bytes (1 ∷ [])) ∷ []
+call_moves = Handles joining (Begins join 0 false) ∷ Reads joining ∷ Plain (Bytes (1 ∷ [])) ∷ []
 
 abbrev called : List ServerEvent
-called = does (Handles joining (Begins join 0)) ∷ does (Reads joining) ∷ does (Plain (Bytes (1 ∷ []))) ∷ call_heard
+called = does (Handles joining (Begins join 0 false)) ∷ does (Reads joining) ∷ does (Plain (Bytes (1 ∷ []))) ∷ call_heard
 
 abbrev deed_round : List MachineEvent
 deed_round = Carries 1 0 (Join (codes "r")) [] None ∷ Does 1 joins ∷ []
@@ -209,7 +209,7 @@ third_peer : IsPeer rooms settings third_moves
 third_peer = record {
   follows = (
     (
-      (((((second_peer.follows, tt), refl), (refl, (refl, refl, ltb-true _ _ refl))), tt), tt),
+      (((((second_peer.follows, tt), refl), (refl, (refl, refl, ltb-true _ _ refl), refl)), tt), tt),
       record {
         at = refl;
         began = refl;
@@ -251,7 +251,7 @@ third_turn = record {
       refl,
       (
         call_moves ++ second_moves,
-        record { taken = Handles joining (Begins join 0) ∷ Reads joining ∷ []; are = refl; each = refl; none_waits = refl; none_left = refl },
+        record { taken = Handles joining (Begins join 0 false) ∷ Reads joining ∷ []; are = refl; each = refl; none_waits = refl; none_left = refl },
         (inr (refl, refl), refl),
       ),
     );

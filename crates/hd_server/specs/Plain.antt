@@ -11,10 +11,11 @@ use Rattle.hd_delivery.specs.Bytes.{Wire, Bytes}
 use Rattle.hd_delivery.specs.Bytes.{Does as Step_of}
 use Rattle.hd_calls.specs.declared.vocabulary.Deed.{Deed}
 use Rattle.hd_calls.specs.declared.vocabulary.Deed.TheVariants as deed
-use Rattle.hd_calls.specs.Numbers.{most_live}
+use Rattle.hd_calls.specs.Numbers.{most_live, most_weight}
+use Rattle.hd_calls.specs.Weights.{call_weight}
 use Rattle.hd_calls.specs.Hubs.{Invoked, Purpose, ToBegin, Turn, Given, Cancelled, Hub, purpose_of, call_for}
 use Rattle.hd_calls.specs.Peers.{Effect, Begins, InUse, TooMany, Nothing, PeerEvent, Plain, Reads, Handles, Runs, Settings, waiting, begun, moments, turns, acts, is_cancelled, last_of, steps}
-use Rattle.hd_calls.specs.Rules.{in_use, live_jobs, next_input, job_after, act_at}
+use Rattle.hd_calls.specs.Rules.{in_use, kept_weight, live_jobs, next_input, job_after, act_at}
 use Rattle.hd_rooms.specs.declared.vocabulary.Asked.{Asked}
 use Rattle.hw_door.specs.declared.heard.Event.{Event}
 use Rattle.hd_server.specs.Numbers.{most_before_last}
@@ -31,8 +32,12 @@ followed go (Some x) h = go (x ∷ h)
 
 -- ---- what is taken
 
+-- whether what jobs keep would be too heavy with the call
+abbrev pub floods_with : Settings → List PeerEvent → Invoked → Bool
+floods_with t h c = nat_lt most_weight (kept_weight t h + call_weight c)
+
 abbrev pub begins_with : Settings → ℕ → List PeerEvent → Invoked → Effect
-begins_with t now h c = if in_use t c h then InUse c else (if nat_lt (live_jobs t h) most_live then Begins c now else TooMany c)
+begins_with t now h c = if in_use t c h then InUse c else (if nat_lt (live_jobs t h) most_live then Begins c now (floods_with t h c) else TooMany c)
 
 abbrev pub effect_of : Settings → ℕ → List PeerEvent → Purpose → Effect
 effect_of t now h (ToBegin c) = begins_with t now h c

@@ -31,7 +31,7 @@ abbrev pub is_taking : ℕ → PeerEvent → Bool
 is_taking now (Plain (Step_of (Took got))) = true
 is_taking now (Plain (Step_of (Failed fault))) = true
 is_taking now (Reads m) = true
-is_taking now (Handles m (Begins call since)) = since == now
+is_taking now (Handles m (Begins call since floods)) = since == now
 is_taking now (Handles m effect) = true
 is_taking now _ = false
 

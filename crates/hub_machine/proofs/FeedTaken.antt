@@ -45,11 +45,11 @@ shut_or_same wire c false (Some why) y = inr refl
 
 -- a job that is told to have begun began at this moment
 told_taking : (h : List PeerEvent) (now : ℕ) (m : Message) (e : Effect) (told : Did) → IsToldAs h now m e told → is_taking now (Handles m e) ≡ true
-told_taking h now m (Begins call since) (did.Began job id target arguments) is = eq-eqb since now is.0.moment
-told_taking h now m (Begins call since) _ is = absurd is
+told_taking h now m (Begins call since floods) (did.Began job id target arguments) is = eq-eqb since now is.0.moment
+told_taking h now m (Begins call since floods) _ is = absurd is
 told_taking h now m (InUse call) told is = refl
 told_taking h now m (TooMany call) told is = refl
-told_taking h now m (Brings n a) told is = refl
+told_taking h now m (Brings n a floods) told is = refl
 told_taking h now m (Feeds j k a) told is = refl
 told_taking h now m Flood told is = refl
 told_taking h now m (Marks j) told is = refl

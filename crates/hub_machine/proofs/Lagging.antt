@@ -238,6 +238,7 @@ round_jobs hub jobs who h calm s = record {
   room = s.room;
   passed = s.passed ∙ calm;
   unborn = s.unborn;
+  weight = s.weight;
 }
 
 round_more : {H Job : Type 0} (tables : TablesAgree) (hub : Hub Job) (t : Settings) (p : Peer H Job) (h : List PeerEvent) → passed h ≡ 0

@@ -83,7 +83,7 @@ module _ (target : List ℕ) (arguments : List Tree) (j : ℕ) where
       absurd (refused k h (j == k) refl x.last x.unmade x.unanswered prompt.1 (asked_at_once h prompt.0))
   asked_at_once (Answers k i ∷ h) prompt x =
       absurd (answered k i h (j == k) x.last x.unmade x.unanswered prompt.1 (asked_at_once h prompt.0))
-  asked_at_once (Handles m (Brings n (End e)) ∷ h) prompt x =
+  asked_at_once (Handles m (Brings n (End e) floods) ∷ h) prompt x =
       let none = none_before (is_this j (asker_of n h) && asks (last_of (acts j h))) (reply j h) (input.Asked e) x.unanswered in
       absurd (not_asked j h (asked_at_once h prompt.0 (record { last = x.last; unmade = x.unmade; unanswered = none })) prompt.1)
   asked_at_once (d ∷ h) prompt x =

@@ -54,10 +54,10 @@ id_is ToNothing id is = absurd is
 -- what is told of a message that was handled has the words of what it did
 told_so : (t : Settings) (h : List PeerEvent) (now : ℕ) (m : Message) (e : Effect) (d : Did) (number : ℕ) → IsToldAs h now m e d
     → BeginsAt now e × TellsEffect t h m e (did_words number d)
-told_so t h now m (Begins c since) (did.Began job id target arguments) number is =
+told_so t h now m (Begins c since floods) (did.Began job id target arguments) number is =
     (is.0.moment, ap (λ i. began_words i target) is.0.id_is ∙ ap (λ x. began_words (id_of c.way) x) is.0.target_is)
-told_so t h now m (Brings n (Item v)) (did.Item call value) number is = (tt, ap (λ k. item_words k value) is.0 ∙ ap (λ x. item_words n x) is.1)
-told_so t h now m (Brings n (End e)) (did.Ended call ending) number is = (tt, ap (λ k. ended_words k ending) is.0 ∙ ap (λ x. ended_words n x) is.1)
+told_so t h now m (Brings n (Item v) floods) (did.Item call value) number is = (tt, ap (λ k. item_words k value) is.0 ∙ ap (λ x. item_words n x) is.1)
+told_so t h now m (Brings n (End e) floods) (did.Ended call ending) number is = (tt, ap (λ k. ended_words k ending) is.0 ∙ ap (λ x. ended_words n x) is.1)
 told_so t h now m (Feeds j w a) (did.Fed id) number is = (tt, ap fed_words (id_is (purpose_of m) id is))
 told_so t h now m (Marks j) (did.Cancelled id) number is = (tt, ap cancelled_words (id_is (purpose_of m) id is))
 told_so t h now m Nothing (did.Unknown id) number is = (tt, ap unknown_words (id_is (purpose_of m) id is))

@@ -58,7 +58,7 @@ WithLosses t h ds new = (gone : List PeerEvent) × (WholeChain (Losing t) (ds ++
 
 -- a job that begins does so at this moment
 abbrev pub BeginsAt : ℕ → Effect → Type 0
-BeginsAt now (Begins c since) = since ≡ now
+BeginsAt now (Begins c since floods) = since ≡ now
 BeginsAt now e = Unit {0}
 
 -- the message that waits is handled or, if none waits, the next frame is taken

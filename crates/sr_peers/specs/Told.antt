@@ -19,11 +19,11 @@ id_in ToNothing = []
 
 -- what a message did that was handled, in words. The id of a call that began no job is one of it that is taken
 abbrev pub TellsEffect : Settings → List PeerEvent → Message → Effect → List ℕ → Type 0
-TellsEffect t h m (Begins c now) words = words ≡ began_words (id_of c.way) c.target
+TellsEffect t h m (Begins c now floods) words = words ≡ began_words (id_of c.way) c.target
 TellsEffect t h m (InUse c) words = (i : List ℕ) × (IsTaken (job_happenings t h) c i × (words ≡ codes "fault " ++ in_use_words i))
 TellsEffect t h m (TooMany c) words = words ≡ codes "fault too-many"
-TellsEffect t h m (Brings n (Item v)) words = words ≡ item_words n v
-TellsEffect t h m (Brings n (End e)) words = words ≡ ended_words n e
+TellsEffect t h m (Brings n (Item v) floods) words = words ≡ item_words n v
+TellsEffect t h m (Brings n (End e) floods) words = words ≡ ended_words n e
 TellsEffect t h m (Feeds j w a) words = words ≡ fed_words (id_in (purpose_of m))
 TellsEffect t h m Flood words = words ≡ codes "fault flood"
 TellsEffect t h m (Marks j) words = words ≡ cancelled_words (id_in (purpose_of m))
