@@ -31,8 +31,8 @@ as_many (n ∷ notes) bytes = ap suc (as_many notes (drop (bytes_of n) bytes))
 
 -- an answer has the bytes that its note stands for
 pub size_told : (one : WireCall) (bytes : List ℕ) → bytes_of one ≡ length bytes → size_of (answer_of one bytes) ≡ length bytes
-size_told (note.Polled now) bytes p = p
-size_told note.PollFailed bytes p = p
+size_told (note.Polled wait now) bytes p = p
+size_told (note.PollFailed wait) bytes p = p
 size_told (note.Accepted wire) bytes p = p
 size_told note.AcceptFailed bytes p = p
 size_told (note.Connected wire) bytes p = p

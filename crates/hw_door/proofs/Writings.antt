@@ -21,8 +21,8 @@ out_more false bytes xs ys zs e = e
 pub written_more : (wire : ℕ) (answers : List Answer) (one : Answer) →
     written_on wire (answers ++ one ∷ []) ≡ written_on wire answers ++ written_on wire (one ∷ [])
 written_more wire [] one = refl
-written_more wire (polled now ∷ answers) one = written_more wire answers one
-written_more wire (poll_failed ∷ answers) one = written_more wire answers one
+written_more wire (polled wait now ∷ answers) one = written_more wire answers one
+written_more wire (poll_failed wait ∷ answers) one = written_more wire answers one
 written_more wire (accepted at ∷ answers) one = written_more wire answers one
 written_more wire (accept_failed ∷ answers) one = written_more wire answers one
 written_more wire (connected at ∷ answers) one = written_more wire answers one
@@ -52,8 +52,8 @@ nothing_of true = refl
 nothing_of false = refl
 
 pub note_unwritten : (one : WireCall) (wire : ℕ) → written_on wire (answer_of one [] ∷ []) ≡ []
-note_unwritten (note.Polled now) wire = refl
-note_unwritten note.PollFailed wire = refl
+note_unwritten (note.Polled wait now) wire = refl
+note_unwritten (note.PollFailed wait) wire = refl
 note_unwritten (note.Accepted at) wire = refl
 note_unwritten note.AcceptFailed wire = refl
 note_unwritten (note.Connected at) wire = refl

@@ -12,8 +12,8 @@ bytes_of _ = 0
 
 -- the answer that a note and its bytes are
 abbrev pub answer_of : WireCall → List ℕ → Answer
-answer_of (note.Polled now) bytes = polled now
-answer_of note.PollFailed bytes = poll_failed
+answer_of (note.Polled wait now) bytes = polled wait now
+answer_of (note.PollFailed wait) bytes = poll_failed wait
 answer_of (note.Accepted wire) bytes = accepted wire
 answer_of note.AcceptFailed bytes = accept_failed
 answer_of (note.Connected wire) bytes = connected wire

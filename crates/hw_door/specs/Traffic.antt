@@ -6,8 +6,9 @@ use Rattle.hw_door.specs.declared.wires.WireRead.TheVariants as read
 
 -- one answer of wires
 pub data Answer : Type 0 where
-  polled : ℕ → Answer
-  poll_failed : Answer
+  -- a poll that was to wait for at most so many milliseconds, and the moment then
+  polled : ℕ → ℕ → Answer
+  poll_failed : ℕ → Answer
   accepted : Option ℕ → Answer
   accept_failed : Answer
   connected : ℕ → Answer
@@ -22,9 +23,10 @@ pub data Answer : Type 0 where
   write_failed : ℕ → Answer
   was_shut : ℕ → Answer
 
-abbrev pub poll_answer : Result ℕ Failed → Answer
-poll_answer (Ok now) = polled now
-poll_answer (Err e) = poll_failed
+-- a poll tells also how long it was to wait at most
+abbrev pub poll_answer : ℕ → Result ℕ Failed → Answer
+poll_answer wait (Ok now) = polled wait now
+poll_answer wait (Err e) = poll_failed wait
 
 abbrev pub accept_answer : Result (Option ℕ) Failed → Answer
 accept_answer (Ok wire) = accepted wire

@@ -132,8 +132,8 @@ abbrev pub next_moment : List ℕ → ℕ → ℕ
 next_moment [] moment = moment
 next_moment (next ∷ more) moment = next
 
-abbrev pub poll_next : WiresState → Answer
-poll_next state = if is_to_fail state then poll_failed else polled (next_moment state.moments state.moment)
+abbrev pub poll_next : ℕ → WiresState → Answer
+poll_next wait state = if is_to_fail state then poll_failed wait else polled wait (next_moment state.moments state.moment)
 
 abbrev pub accept_next : WiresState → Answer
 accept_next state =
@@ -166,7 +166,7 @@ write_next wire bytes state =
 
 -- what a call that answered this took from the lists: nothing if it failed
 abbrev pub after_answer : Answer → WiresState → WiresState
-after_answer (polled now) state = record state { moments = drop 1 state.moments; moment = now }
+after_answer (polled wait now) state = record state { moments = drop 1 state.moments; moment = now }
 after_answer (accepted wire) state = record state { given = given_after wire state.given }
 after_answer (connected wire) state = record state { given = state.given + 1 }
 after_answer (bytes_in wire bytes) state = record state { wires = at_wire wire (with_read (length bytes)) state.wires }
@@ -174,14 +174,14 @@ after_answer (not_yet wire) state = record state { wires = at_wire wire (with_re
 after_answer (ended wire) state = record state { wires = at_wire wire (with_read 0) state.wires }
 after_answer (bytes_out wire bytes) state = record state { wires = at_wire wire (with_written bytes) state.wires }
 after_answer (was_shut wire) state = record state { wires = at_wire wire with_shut state.wires }
-after_answer poll_failed state = state
+after_answer (poll_failed wait) state = state
 after_answer accept_failed state = state
 after_answer connect_failed state = state
 after_answer (read_failed wire) state = state
 after_answer (write_failed wire) state = state
 
 abbrev pub is_failure : Answer → Bool
-is_failure poll_failed = true
+is_failure (poll_failed wait) = true
 is_failure accept_failed = true
 is_failure connect_failed = true
 is_failure (read_failed wire) = true

@@ -9,8 +9,9 @@ use std::marker::Model;
 /// What one call answered; of bytes that were read or written, how many they were.
 #[derive(Clone, Copy, Drop)]
 pub enum WireCall {
-    Polled(u64),
-    PollFailed,
+    // The wait that it was handed, and the moment.
+    Polled(u64, u64),
+    PollFailed(u64),
     Accepted(Option<u64>),
     AcceptFailed,
     Connected(u64),

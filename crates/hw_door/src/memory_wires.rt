@@ -154,19 +154,19 @@ impl Wires for MemoryWires {
     fn poll(&mut self, wait: u64) -> Result<u64, Failed>
         ensures later { IsPolled self.old.moment self.new.moment result }
         ensures wires { self.new.given ≡ self.old.given }
-        ensures trace { Adds (trace_of self.old.ledger) (trace_of self.new.ledger) (poll_answer result) }
+        ensures trace { Adds (trace_of self.old.ledger) (trace_of self.new.ledger) (poll_answer wait result) }
         ensures cause { HasCause self.old.faults self.new.faults result }
-        ensures answers { poll_answer result ≡ answered poll_failed (poll_next self.old) self.old }
-        ensures after { self.new ≡ after_call (poll_next self.old) self.old }
+        ensures answers { poll_answer wait result ≡ answered (poll_failed wait) (poll_next wait self.old) self.old }
+        ensures after { self.new ≡ after_call (poll_next wait self.old) self.old }
     {
         if self.is_to_fail() {
-            return Err(self.fail(WireCall::PollFailed));
+            return Err(self.fail(WireCall::PollFailed(wait)));
         }
         if !self.ledger.has_room(0) {
             return Err(self.overrun());
         }
         let now = self.moments.next();
-        self.ledger.tell(WireCall::Polled(now), &[]);
+        self.ledger.tell(WireCall::Polled(wait, now), &[]);
         Ok(now)
     }
 

@@ -36,11 +36,11 @@ pub trait Wires {
     ghost faults: { Self → ℕ };
 
     /// Waits at most `wait` milliseconds until something may be ready, and answers the moment, in milliseconds since a start of its own.
-    /// It is never before the moment polled last.
+    /// It is never before the moment polled last. What is told of the call has the wait that it was handed.
     fn poll(&mut self, wait: u64) -> Result<u64, Failed>
         ensures later { IsPolled (moment self.old) (moment self.new) result }
         ensures wires { wires self.new ≡ wires self.old }
-        ensures trace { Adds (trace self.old) (trace self.new) (poll_answer result) }
+        ensures trace { Adds (trace self.old) (trace self.new) (poll_answer wait result) }
         ensures cause { HasCause (faults self.old) (faults self.new) result };
 
     /// Takes a connection that came, if there is one, and answers its number: one that was never answered before.

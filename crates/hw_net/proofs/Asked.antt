@@ -18,7 +18,7 @@ use Rattle.hw_net.specs.declared.protocol.Stage.{Stage}
 use Rattle.hw_net.specs.declared.protocol.Stage.TheVariants.{Live, Lost, Closing, Over}
 use Rattle.hw_net.specs.HttpState.{HttpStateView, requests_of}
 use Rattle.hw_net.specs.Door.{new_lane}
-use Rattle.hw_net.specs.Lane.{Lane, waits, after_end, after_reply, owes, is_live, is_overdue, protocol_after_shut, protocol_after_reply, new_socket, rest_of, after_hearing, protocol_after_continue}
+use Rattle.hw_net.specs.Lane.{Lane, waits, after_reply, owes, is_live, is_overdue, protocol_after_shut, protocol_after_reply, new_socket, rest_of, after_hearing, protocol_after_continue}
 use Rattle.hw_net.specs.Saying.{Writes, WritesOut, DropsOrWrites, SpeaksAs, Says, SaysAt, SaysMore, must_end, has_closed_long, is_too_much}
 use Rattle.hw_net.specs.Sessions as session
 use Rattle.hw_net.specs.Sessions.{Call, Session, answers_in, answers_of, request_on, requests_on, HeardRequests, RequestsAreAsked, RefusalsAreDeserved}

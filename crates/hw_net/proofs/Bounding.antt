@@ -2,7 +2,7 @@
 use Rattle.std.proofs.Common.{◌≡◌, ◌≤◌, ◌<◌, ◌-◌, ◌==◌, ◌||◌, ◌++◌, ◌∷◌, [], ℕ, Bool, true, false, List, length, Option, None, Some, refl, sym, ap, ◌∙◌, subst, arith, inl, inr}
 use Rattle.hw_lanes.specs.declared.http.Reply.{Reply}
 use Rattle.hw_door.specs.declared.heard.Event.{Event}
-use Rattle.hw_door.specs.Traffic.{Answer, was_shut}
+use Rattle.hw_door.specs.Traffic.{Answer}
 use Rattle.hw_socket.specs.Lane as socket
 use Rattle.hw_socket.specs.Masks.{Written}
 use Rattle.hw_socket.specs.Sending as sending
@@ -110,7 +110,7 @@ all-leave now Is from before after answers heard each h =
     (both-are Is h.last h.first (turns-leave now Is h.trace _ h.last h.answers_last heard each h.turns_last) (turns-leave now Is None _ h.first h.answers_first h.trace each h.turns_first))
 
 pub next-within : NextIsWithin
-next-within before after answers heard h = all-leave heard.now IsWithin h.begin _ after.lanes h.turns h.trace (turn-within heard.now) h.hears
+next-within wait before after answers heard h = all-leave heard.now IsWithin h.begin _ after.lanes h.turns h.trace (turn-within heard.now) h.hears
 
 -- ---- how long a lane closes
 
@@ -177,7 +177,7 @@ turn-time now None before after answers heard h = go before.stage refl h where
   go Over e h = over-time now after (ap (λ (l : Lane). l.stage) h.2 ∙ e)
 
 pub next-in-time : NextIsInTime
-next-in-time before after answers heard h = all-leave heard.now (IsInTime heard.now) h.begin _ after.lanes h.turns h.trace (turn-time heard.now) h.hears
+next-in-time wait before after answers heard h = all-leave heard.now (IsInTime heard.now) h.begin _ after.lanes h.turns h.trace (turn-time heard.now) h.hears
 
 -- ---- saying
 

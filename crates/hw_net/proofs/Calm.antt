@@ -1,13 +1,13 @@
 -- Lanes that are calm: a read that gives nothing leaves them as they are, and is their turn.
-use Rattle.std.proofs.Common.{◌≡◌, ◌≤◌, ◌<◌, ◌⊎◌, ◌++◌, ◌∷◌, [], ℕ, List, Bool, true, false, Option, None, Some, Result, Ok, Err, IfOk, option_map, set, get_or, refl, sym, ap, ◌∙◌, subst, inl, inr, arith, length, take}
+use Rattle.std.proofs.Common.{◌≡◌, ◌<◌, ◌++◌, ◌∷◌, [], ℕ, List, Bool, true, false, Option, None, Some, Result, Ok, Err, IfOk, option_map, set, get_or, refl, sym, ap, ◌∙◌, subst, inl, inr, arith, length, take}
 use Rattle.std.proofs.lemmas.List.{append-nil, get_or_default}
 use Rattle.hw_door.specs.declared.heard.Event.{Event}
 use Rattle.hw_door.specs.Traffic.{Answer}
 use Rattle.hw_socket.specs.Lane as socket
-use Rattle.hw_socket.specs.Reading.{Feeds, Takes, Steps}
+use Rattle.hw_socket.specs.Reading.{Feeds, Takes}
 use Rattle.hw_socket.specs.declared.vocabulary.SocketRead.TheVariants as read
 use Rattle.hw_net.specs.declared.first_read.FirstRead.{FirstRead}
-use Rattle.hw_net.specs.declared.first_read.FirstRead.TheVariants.{Unread, NothingRead, Read}
+use Rattle.hw_net.specs.declared.first_read.FirstRead.TheVariants.{NothingRead, Read}
 use Rattle.hw_net.specs.declared.limits.TheConstants.{PIECE}
 use Rattle.hw_net.specs.declared.input.Input.{Input}
 use Rattle.hw_net.specs.declared.input.Input.TheVariants as input
@@ -18,11 +18,10 @@ use Rattle.hw_net.specs.declared.protocol.Stage.TheVariants.{Live}
 use Rattle.hw_net.specs.FirstReads.{ReadsFirst, ReadsFirstAt, IsCalmLane, IsCalmProtocol}
 use Rattle.hw_net.specs.Lane.{Lane, waits, frames_of, is_late, after_hearing}
 use Rattle.hw_net.specs.Lanes.{DoesHere}
-use Rattle.hw_net.specs.Saying.{Says}
 use Rattle.hw_net.specs.Tally.{has_unwritten, has_unwritten_by}
 use Rattle.hw_net.specs.WebSocketState.{WebSocketState, HearsWebSocket, ReadsInto, Finds, IsCalm, room_of}
 use Rattle.hw_net.specs.Trace.{Chooses, Reads, Gives, Tells}
-use Rattle.hw_net.specs.Turn.{Hears, Settles, Passes, Falls, Loses, LosesAt, TurnsLive, TurnsAt, Listens}
+use Rattle.hw_net.specs.Turn.{Hears, Settles, LosesAt, TurnsLive, TurnsAt, Listens}
 use Rattle.hw_net.proofs.WebSocketFacts.{room-wants_read, input-of}
 use Rattle.hw_net.proofs.Telling.{tells-none}
 use Rattle.hw_net.proofs.Walking.{silent}
@@ -32,28 +31,28 @@ use Rattle.hw_net.proofs.Walking.{silent}
 fed-nothing : (lane : socket.Lane) → Feeds lane [] lane
 fed-nothing lane = ap (λ u. record lane { unread = u }) (sym (append-nil lane.unread))
 
-last_read_was_full : (wire : ℕ) (before : WebSocketState) (answer : Answer) (got : Option (List ℕ)) → before.wants_read ≡ true → Reads wire PIECE answer got → Gives wire (room_of before) (answer ∷ []) got
+pub last_read_was_full : (wire : ℕ) (before : WebSocketState) (answer : Answer) (got : Option (List ℕ)) → before.wants_read ≡ true → Reads wire PIECE answer got → Gives wire (room_of before) (answer ∷ []) got
 last_read_was_full wire before answer got wants_read h =
     let room = room-wants_read before wants_read in
     (omega (arith, room), subst (λ n. Reads wire n answer got) (sym room) h)
 
 -- bytes came, and one message was heard, or none
-pub hears-after : (wire : ℕ) (before mid after : WebSocketState) (piece : List ℕ) (answer : Answer) (heard : Input) → before.wants_read ≡ true → Reads wire PIECE answer (Some piece) →
+pub hears-after : (wire : ℕ) (before mid after : WebSocketState) (piece : List ℕ) (answer : Answer) (heard : Input) → before.wants_read ≡ true → before.lost_bytes ≡ false → Reads wire PIECE answer (Some piece) →
     Feeds before.lane piece mid.lane → mid.lost_bytes ≡ before.lost_bytes → Finds mid after heard → after.lost_bytes ≡ before.lost_bytes → HearsWebSocket wire before after (answer ∷ []) heard
-hears-after wire before mid after piece answer heard wants_read h fed kept f same =
+hears-after wire before mid after piece answer heard wants_read had_all h fed kept f same =
     let read = last_read_was_full wire before answer (Some piece) wants_read h in
     let into : ReadsInto wire before mid (answer ∷ []) true = record { got = Some piece; read = read; asked = λ _. omega arith; whole = refl; fed = fed; lost_bytes = kept } in
-    record { got = Some piece; read = read; is_input = input-of wire before mid after (answer ∷ []) heard into f; lost_bytes = same }
+    record { got = Some piece; read = read; is_input = input-of wire before mid after (answer ∷ []) heard into f; lost_bytes = same; breaks = λ e. absurd (cc (sym had_all ∙ e)) }
 
 -- the wire broke
 pub breaks-after : (wire : ℕ) (before : WebSocketState) (answer : Answer) → before.wants_read ≡ true → Reads wire PIECE answer None → HearsWebSocket wire before before (answer ∷ []) input.Broken
-breaks-after wire before answer wants_read h = record { got = None; read = last_read_was_full wire before answer None wants_read h; is_input = (inl refl, refl); lost_bytes = refl }
+breaks-after wire before answer wants_read h = record { got = None; read = last_read_was_full wire before answer None wants_read h; is_input = (inl refl, refl); lost_bytes = refl; breaks = λ e. refl }
 
 -- nothing came
 pub still-hears : (wire : ℕ) (websocket_state : WebSocketState) (answer : Answer) → IsCalm websocket_state → Reads wire PIECE answer (Some []) → HearsWebSocket wire websocket_state websocket_state (answer ∷ []) input.Nothing
 still-hears wire websocket_state answer calm h =
     let takes : Takes websocket_state.lane websocket_state.lane read.NotYet = inr (calm.there, ([], websocket_state.lane, refl, calm.waiting)) in
-    hears-after wire websocket_state websocket_state websocket_state [] answer input.Nothing calm.wants_read h (fed-nothing websocket_state.lane) refl (takes, calm.wants_read) refl
+    hears-after wire websocket_state websocket_state websocket_state [] answer input.Nothing calm.wants_read calm.whole h (fed-nothing websocket_state.lane) refl (takes, calm.wants_read) refl
 
 -- ---- a lane
 
@@ -118,7 +117,7 @@ calm-listens now lane first buf h =
 pub looked : {E : Type 0} (r : Result Input E) (before mid after : WebSocketState) (count : ℕ) (buf : List ℕ) (got : Option ℕ) → got ≡ Some count → Feeds before.lane (take count buf) mid.lane → IfOk r (Finds mid after) → (mid.lost_bytes ≡ before.lost_bytes) × (after.lost_bytes ≡ before.lost_bytes) →
     IfOk r (λ heard. (wire : ℕ) (answer : Answer) → IsCalm before → Reads wire PIECE answer (option_map (λ n. take n buf) got) → HearsWebSocket wire before after (answer ∷ []) heard)
 looked (Ok heard) before mid after count buf got e fed f same = λ wire answer calm h.
-    hears-after wire before mid after (take count buf) answer heard calm.wants_read (subst (λ (o : Option ℕ). Reads wire PIECE answer (option_map (λ n. take n buf) o)) e h) fed same.0 f same.1
+    hears-after wire before mid after (take count buf) answer heard calm.wants_read calm.whole (subst (λ (o : Option ℕ). Reads wire PIECE answer (option_map (λ n. take n buf) o)) e h) fed same.0 f same.1
 looked (Err why) before mid after count buf got e fed f same = f
 
 -- nothing more is told after a look that read the wire

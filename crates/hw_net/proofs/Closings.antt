@@ -20,7 +20,7 @@ use Rattle.hw_net.specs.Sessions as session
 use Rattle.hw_net.specs.Sessions.{Call, Session, answers_in, answers_of, is_about, are_about, was_shut_in, came_in, is_end_on, is_done_on, LanesHaveWires, WiresAreShutOnce, WiresAreShutForACause}
 use Rattle.hw_net.specs.Trace.{Chooses}
 use Rattle.hw_net.specs.Turn.{Falls, Passes, Settles, Loses, LosesAt, TurnsLive, TurnsAt, Listens, Replies, Puts, PutsAt, Sends, Shuts}
-use Rattle.hw_net.proofs.Ends.{Ends, writes-end, more-end, hears-unshut, writes-unshut, one-shut, dropped-or-end}
+use Rattle.hw_net.proofs.Ends.{Ends, writes-end, hears-unshut, writes-unshut, one-shut, dropped-or-end}
 use Rattle.hw_net.proofs.Moves.{Has, Without, has-of, contains-of}
 use Rattle.hw_net.proofs.Numbering.{replied-wire, put-wire}
 use Rattle.hw_net.proofs.Owed.{by-number}

@@ -21,7 +21,7 @@ use Rattle.hw_net.specs.Sessions.{Call, Session, requests_on, replies_on, reques
 use Rattle.hw_net.specs.Trace.{Chooses}
 use Rattle.hw_net.specs.Turn.{Hears, Falls, Passes, Settles, Loses, LosesAt, TurnsLive, TurnsAt, Listens, Replies, PutsAt, Sends, Shuts}
 use Rattle.hw_net.proofs.Asked.{requests_in, settles-requests, loses-requests, heard-requests, requests_by, requests-more}
-use Rattle.hw_net.proofs.Ends.{more-end, writes-end, speaks-busy, replied-owes, Ends, dropped-or-end, continue-busy}
+use Rattle.hw_net.proofs.Ends.{writes-end, speaks-busy, replied-owes, Ends, dropped-or-end, continue-busy}
 use Rattle.hw_net.proofs.Owed.{IsOwed, step-owed, new-owed, by-number, replies_by, replies-more}
 use Rattle.hw_net.proofs.Owning.{is_on}
 use Rattle.hw_net.proofs.Shares.{same}

@@ -25,3 +25,5 @@ pub mod Closings
 pub mod Losses
 pub mod Shifts
 pub mod Sockets
+pub mod Reaching
+pub mod Halting

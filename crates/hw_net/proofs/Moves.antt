@@ -180,7 +180,7 @@ pub off-if : (v w : ℕ) (heard : Option Event) → IsOn v heard → (v == w) �
 off-if v w None h k = tt
 off-if v w (Some trace) h k = off-other v w trace h k
 
-keep : (now : ℕ) (trace : Event) (lanes after : List Lane) (answers : List Answer) (heard : Option Event) → TurnAll now (Some trace) lanes after answers heard → heard ≡ Some trace
+pub keep : (now : ℕ) (trace : Event) (lanes after : List Lane) (answers : List Answer) (heard : Option Event) → TurnAll now (Some trace) lanes after answers heard → heard ≡ Some trace
 keep now trace [] after answers heard h = h.2
 keep now trace (lane ∷ lanes) after answers heard h =
     keep now trace lanes h.2 h.4 heard (subst (λ (o : Option Event). TurnAll now o lanes h.2 h.4 heard) h.7.0 h.8)

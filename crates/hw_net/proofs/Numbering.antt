@@ -16,7 +16,7 @@ use Rattle.hw_net.specs.Trace.{Chooses}
 use Rattle.hw_net.specs.Turn.{Replies, PutsAt, Sends, Shuts, AtLane}
 use Rattle.hh_http.specs.Texts.{reply_text}
 
-lower : (from least bound : ℕ) (wires : List ℕ) → least ≤ from → IsRising from bound wires → IsRising least bound wires
+pub lower : (from least bound : ℕ) (wires : List ℕ) → least ≤ from → IsRising from bound wires → IsRising least bound wires
 lower from least bound [] le h = omega (arith, le, h)
 lower from least bound (wire ∷ wires) le h = (omega (arith, le, h.0), h.1)
 

@@ -10,7 +10,7 @@ use Rattle.hw_net.specs.declared.protocol.Protocol.{Protocol}
 use Rattle.hw_net.specs.declared.protocol.Protocol.TheVariants.{Http, Socket}
 use Rattle.hw_net.specs.declared.protocol.Stage.{Stage}
 use Rattle.hw_net.specs.declared.protocol.Stage.TheVariants.{Live, Lost, Closing, Over}
-use Rattle.hw_net.specs.Lane.{Lane, waits, after_end, after_reply, owes, is_live, is_overdue, protocol_after_shut, after_hearing}
+use Rattle.hw_net.specs.Lane.{Lane, waits, after_reply, owes, is_live, is_overdue, protocol_after_shut, after_hearing}
 use Rattle.hw_net.specs.Saying.{Writes, WritesOut, DropsOrWrites, Says, SaysAt, SaysMore, must_end, has_closed_long, is_too_much}
 use Rattle.hw_net.specs.Sessions.{is_about}
 use Rattle.hw_net.specs.Trace.{Reads, Gives, Chooses}

@@ -28,8 +28,8 @@ no : false ≡ true → ⊥
 no e = absurd (cc e)
 
 about-other : (v w : ℕ) (a : Answer) → is_about v a ≡ true → (v == w) ≡ false → is_about w a ≡ false
-about-other v w (polled now) h k = absurd (no h)
-about-other v w poll_failed h k = absurd (no h)
+about-other v w (polled wait now) h k = absurd (no h)
+about-other v w (poll_failed wait) h k = absurd (no h)
 about-other v w (accepted wire) h k = absurd (no h)
 about-other v w accept_failed h k = absurd (no h)
 about-other v w (connected wire) h k = absurd (no h)
@@ -90,8 +90,8 @@ either false l m n e = e
 -- ---- read
 
 read-skip : (w : ℕ) (a : Answer) (xs : List Answer) → is_about w a ≡ false → read_on w (a ∷ xs) ≡ read_on w xs
-read-skip w (polled now) xs e = refl
-read-skip w poll_failed xs e = refl
+read-skip w (polled wait now) xs e = refl
+read-skip w (poll_failed wait) xs e = refl
 read-skip w (accepted wire) xs e = refl
 read-skip w accept_failed xs e = refl
 read-skip w (connected wire) xs e = refl
@@ -105,8 +105,8 @@ read-skip w (write_failed at) xs e = refl
 read-skip w (was_shut at) xs e = refl
 
 read-both : (w : ℕ) (a : Answer) (xs ys : List Answer) → read_on w xs ≡ read_on w ys → read_on w (a ∷ xs) ≡ read_on w (a ∷ ys)
-read-both w (polled now) xs ys e = e
-read-both w poll_failed xs ys e = e
+read-both w (polled wait now) xs ys e = e
+read-both w (poll_failed wait) xs ys e = e
 read-both w (accepted wire) xs ys e = e
 read-both w accept_failed xs ys e = e
 read-both w (connected wire) xs ys e = e
@@ -124,8 +124,8 @@ read-share w xs = same-share (read_on w) w (read-skip w) (read-both w) xs
 
 pub read-append : (w : ℕ) (xs ys : List Answer) → read_on w (xs ++ ys) ≡ (read_on w xs ++ read_on w ys)
 read-append w [] ys = refl
-read-append w (polled now ∷ xs) ys = read-append w xs ys
-read-append w (poll_failed ∷ xs) ys = read-append w xs ys
+read-append w (polled wait now ∷ xs) ys = read-append w xs ys
+read-append w (poll_failed wait ∷ xs) ys = read-append w xs ys
 read-append w (accepted wire ∷ xs) ys = read-append w xs ys
 read-append w (accept_failed ∷ xs) ys = read-append w xs ys
 read-append w (connected wire ∷ xs) ys = read-append w xs ys
@@ -141,8 +141,8 @@ read-append w (was_shut at ∷ xs) ys = read-append w xs ys
 -- ---- written
 
 written-skip : (w : ℕ) (a : Answer) (xs : List Answer) → is_about w a ≡ false → written_on w (a ∷ xs) ≡ written_on w xs
-written-skip w (polled now) xs e = refl
-written-skip w poll_failed xs e = refl
+written-skip w (polled wait now) xs e = refl
+written-skip w (poll_failed wait) xs e = refl
 written-skip w (accepted wire) xs e = refl
 written-skip w accept_failed xs e = refl
 written-skip w (connected wire) xs e = refl
@@ -156,8 +156,8 @@ written-skip w (write_failed at) xs e = refl
 written-skip w (was_shut at) xs e = refl
 
 written-both : (w : ℕ) (a : Answer) (xs ys : List Answer) → written_on w xs ≡ written_on w ys → written_on w (a ∷ xs) ≡ written_on w (a ∷ ys)
-written-both w (polled now) xs ys e = e
-written-both w poll_failed xs ys e = e
+written-both w (polled wait now) xs ys e = e
+written-both w (poll_failed wait) xs ys e = e
 written-both w (accepted wire) xs ys e = e
 written-both w accept_failed xs ys e = e
 written-both w (connected wire) xs ys e = e
@@ -175,8 +175,8 @@ written-share w xs = same-share (written_on w) w (written-skip w) (written-both 
 
 pub written-append : (w : ℕ) (xs ys : List Answer) → written_on w (xs ++ ys) ≡ (written_on w xs ++ written_on w ys)
 written-append w [] ys = refl
-written-append w (polled now ∷ xs) ys = written-append w xs ys
-written-append w (poll_failed ∷ xs) ys = written-append w xs ys
+written-append w (polled wait now ∷ xs) ys = written-append w xs ys
+written-append w (poll_failed wait ∷ xs) ys = written-append w xs ys
 written-append w (accepted wire ∷ xs) ys = written-append w xs ys
 written-append w (accept_failed ∷ xs) ys = written-append w xs ys
 written-append w (connected wire ∷ xs) ys = written-append w xs ys
@@ -192,8 +192,8 @@ written-append w (was_shut at ∷ xs) ys = written-append w xs ys
 -- ---- shut
 
 pub shut-skip : (w : ℕ) (a : Answer) (xs : List Answer) → is_about w a ≡ false → was_shut_in w (a ∷ xs) ≡ was_shut_in w xs
-shut-skip w (polled now) xs e = refl
-shut-skip w poll_failed xs e = refl
+shut-skip w (polled wait now) xs e = refl
+shut-skip w (poll_failed wait) xs e = refl
 shut-skip w (accepted wire) xs e = refl
 shut-skip w accept_failed xs e = refl
 shut-skip w (connected wire) xs e = refl
@@ -207,8 +207,8 @@ shut-skip w (write_failed at) xs e = refl
 shut-skip w (was_shut at) xs e = rw e refl
 
 shut-both : (w : ℕ) (a : Answer) (xs ys : List Answer) → was_shut_in w xs ≡ was_shut_in w ys → was_shut_in w (a ∷ xs) ≡ was_shut_in w (a ∷ ys)
-shut-both w (polled now) xs ys e = e
-shut-both w poll_failed xs ys e = e
+shut-both w (polled wait now) xs ys e = e
+shut-both w (poll_failed wait) xs ys e = e
 shut-both w (accepted wire) xs ys e = e
 shut-both w accept_failed xs ys e = e
 shut-both w (connected wire) xs ys e = e
@@ -226,8 +226,8 @@ shut-share w xs = same-share (was_shut_in w) w (shut-skip w) (shut-both w) xs
 
 pub shut-append : (w : ℕ) (xs ys : List Answer) → was_shut_in w (xs ++ ys) ≡ (was_shut_in w xs || was_shut_in w ys)
 shut-append w [] ys = refl
-shut-append w (polled now ∷ xs) ys = shut-append w xs ys
-shut-append w (poll_failed ∷ xs) ys = shut-append w xs ys
+shut-append w (polled wait now ∷ xs) ys = shut-append w xs ys
+shut-append w (poll_failed wait ∷ xs) ys = shut-append w xs ys
 shut-append w (accepted wire ∷ xs) ys = shut-append w xs ys
 shut-append w (accept_failed ∷ xs) ys = shut-append w xs ys
 shut-append w (connected wire ∷ xs) ys = shut-append w xs ys
@@ -243,8 +243,8 @@ shut-append w (was_shut at ∷ xs) ys = either (at == w) (was_shut_in w (xs ++ y
 -- ---- broke
 
 pub broke-skip : (w : ℕ) (a : Answer) (xs : List Answer) → is_about w a ≡ false → broke_in w (a ∷ xs) ≡ broke_in w xs
-broke-skip w (polled now) xs e = refl
-broke-skip w poll_failed xs e = refl
+broke-skip w (polled wait now) xs e = refl
+broke-skip w (poll_failed wait) xs e = refl
 broke-skip w (accepted wire) xs e = refl
 broke-skip w accept_failed xs e = refl
 broke-skip w (connected wire) xs e = refl
@@ -258,8 +258,8 @@ broke-skip w (write_failed at) xs e = rw e refl
 broke-skip w (was_shut at) xs e = refl
 
 broke-both : (w : ℕ) (a : Answer) (xs ys : List Answer) → broke_in w xs ≡ broke_in w ys → broke_in w (a ∷ xs) ≡ broke_in w (a ∷ ys)
-broke-both w (polled now) xs ys e = e
-broke-both w poll_failed xs ys e = e
+broke-both w (polled wait now) xs ys e = e
+broke-both w (poll_failed wait) xs ys e = e
 broke-both w (accepted wire) xs ys e = e
 broke-both w accept_failed xs ys e = e
 broke-both w (connected wire) xs ys e = e
@@ -277,8 +277,8 @@ broke-share w xs = same-share (broke_in w) w (broke-skip w) (broke-both w) xs
 
 pub broke-append : (w : ℕ) (xs ys : List Answer) → broke_in w (xs ++ ys) ≡ (broke_in w xs || broke_in w ys)
 broke-append w [] ys = refl
-broke-append w (polled now ∷ xs) ys = broke-append w xs ys
-broke-append w (poll_failed ∷ xs) ys = broke-append w xs ys
+broke-append w (polled wait now ∷ xs) ys = broke-append w xs ys
+broke-append w (poll_failed wait ∷ xs) ys = broke-append w xs ys
 broke-append w (accepted wire ∷ xs) ys = broke-append w xs ys
 broke-append w (accept_failed ∷ xs) ys = broke-append w xs ys
 broke-append w (connected wire ∷ xs) ys = broke-append w xs ys
@@ -296,8 +296,8 @@ broke-append w (was_shut at ∷ xs) ys = broke-append w xs ys
 pub came-append : (w : ℕ) (xs ys : List Answer) → came_in w (xs ++ ys) ≡ (came_in w xs || came_in w ys)
 came-append w [] ys = refl
 came-append w (accepted (Some at) ∷ xs) ys = either (at == w) (came_in w (xs ++ ys)) (came_in w xs) (came_in w ys) (came-append w xs ys)
-came-append w (polled now ∷ xs) ys = came-append w xs ys
-came-append w (poll_failed ∷ xs) ys = came-append w xs ys
+came-append w (polled wait now ∷ xs) ys = came-append w xs ys
+came-append w (poll_failed wait ∷ xs) ys = came-append w xs ys
 came-append w (accepted None ∷ xs) ys = came-append w xs ys
 came-append w (accept_failed ∷ xs) ys = came-append w xs ys
 came-append w (connected wire ∷ xs) ys = came-append w xs ys

@@ -23,7 +23,7 @@ use Rattle.hw_net.specs.declared.protocol.Stage.{Stage}
 use Rattle.hw_net.specs.declared.protocol.Stage.TheVariants.{Live, Lost, Closing, Over}
 use Rattle.hw_net.specs.HttpState.{HttpStateView, requests_of}
 use Rattle.hw_net.specs.Door.{new_lane}
-use Rattle.hw_net.specs.Lane.{Lane, waits, frames_of, is_live, is_busy, owes, is_overdue, after_end, after_reply, protocol_after_shut, protocol_after_reply, new_socket, rest_of, after_hearing}
+use Rattle.hw_net.specs.Lane.{Lane, waits, frames_of, is_live, is_busy, owes, is_overdue, after_reply, protocol_after_shut, protocol_after_reply, new_socket, rest_of, after_hearing}
 use Rattle.hw_net.specs.Saying.{WritesOut, DropsOrWrites, SpeaksAs, Says, SaysAt, SaysMore, must_end, has_closed_long, is_too_much}
 use Rattle.hw_net.specs.Sessions as session
 use Rattle.hw_net.specs.Sessions.{Call, Session, answers_in, answers_of, requests_on, replies_on, continue_of, message_on, messages_on, IsCarried, CarriesSocket, SocketsAreCarried}
@@ -31,7 +31,7 @@ use Rattle.hw_net.specs.WebSocketState.{WebSocketState, Gets}
 use Rattle.hw_net.specs.Trace.{Chooses, bytes_of}
 use Rattle.hw_net.specs.Turn.{Hears, Falls, Passes, Settles, Loses, LosesAt, TurnsLive, TurnsAt, Listens, Replies, Puts, PutsAt, Sends, Shuts}
 use Rattle.hw_net.proofs.Asked.{HeardIn, IsAsked, step-asked, new-asked, requests_by, requests-more, requests_in, settles-requests, loses-requests, heard-requests, gives-bytes, live-reads, settles-silent, says-silent, read-more, replies-silent, sends-silent, shuts-silent}
-use Rattle.hw_net.proofs.Counting.{Lives, more-live, writes-live, dropped-or-live}
+use Rattle.hw_net.proofs.Counting.{Lives, writes-live, dropped-or-live}
 use Rattle.hw_net.proofs.Ends.{dead}
 use Rattle.hw_net.proofs.Moves.{has-of}
 use Rattle.hw_net.proofs.Numbering.{replied-wire, put-wire}

@@ -4,7 +4,7 @@ use Rattle.std.proofs.lemmas.List.{append-nil, map-append, map-set, set-get_or}
 use Rattle.hw_net.proofs.Telling.{tells-more}
 use Rattle.hw_door.specs.declared.heard.Event.{Event}
 use Rattle.hw_door.specs.Traffic.{Answer, polled, accepted}
-use Rattle.hw_net.specs.Door.{HearsAll, HearsTurns, HearsNext, IsNumbered, KeepsLanes, kept, with_accepted, new_lane}
+use Rattle.hw_net.specs.Door.{HearsAll, HearsTurns, HearsNext, IsNumbered, KeepsLanes, kept, time_to_wait, with_accepted, new_lane}
 use Rattle.hw_net.specs.Lane.{Lane, wires_of}
 use Rattle.hw_net.specs.Trace.{Tells}
 
@@ -16,17 +16,17 @@ wires-kept cur i lane next same =
     ∙ ap (λ (l : List Lane). wires_of l) (set-get_or cur i lane)
 
 -- one poll, one accept, and the turns of the lanes
-pub hears-next : (a b c d : Option (List Answer)) (now from before after_from named after_named : ℕ) (lanes kept_lanes with_new after : List Lane) (heard : Event) →
-    ((moment : ℕ) × Tells a b (polled moment ∷ []) × (now ≡ max moment before)) → kept_lanes ≡ kept lanes →
+pub hears-next : (a b c d : Option (List Answer)) (wait now from before after_from named after_named : ℕ) (lanes kept_lanes with_new after : List Lane) (heard : Event) →
+    ((moment : ℕ) × Tells a b (polled (time_to_wait wait (kept lanes)) moment ∷ []) × (now ≡ max moment before)) → kept_lanes ≡ kept lanes →
     ((wire : Option ℕ) × Tells b c (accepted wire ∷ []) × (with_new ≡ with_accepted now wire kept_lanes)) →
     ((answers : List Answer) × Tells c d answers
     × HearsTurns now (record { lanes = with_new; from = from; named = named; moment = before }) (record { lanes = after; from = after_from; named = after_named; moment = before }) answers heard) →
     (answers : List Answer) × Tells a d answers
-    × HearsNext (record { lanes = lanes; from = from; named = named; moment = before }) (record { lanes = after; from = after_from; named = after_named; moment = now }) answers (record { now = now; event = heard })
-hears-next a b c d now from before after_from named after_named lanes kept_lanes with_new after heard p same q h =
+    × HearsNext wait (record { lanes = lanes; from = from; named = named; moment = before }) (record { lanes = after; from = after_from; named = after_named; moment = now }) answers (record { now = now; event = heard })
+hears-next a b c d wait now from before after_from named after_named lanes kept_lanes with_new after heard p same q h =
     let grown : with_new ≡ with_accepted now q.0 (kept lanes) = q.2 ∙ ap (λ (l : List Lane). with_accepted now q.0 l) same in (
-      polled p.0 ∷ accepted q.0 ∷ h.0,
-      tells-more a b d (polled p.0 ∷ []) (accepted q.0 ∷ h.0) p.1 (tells-more b c d (accepted q.0 ∷ []) h.0 q.1 h.1),
+      polled (time_to_wait wait (kept lanes)) p.0 ∷ accepted q.0 ∷ h.0,
+      tells-more a b d (polled (time_to_wait wait (kept lanes)) p.0 ∷ []) (accepted q.0 ∷ h.0) p.1 (tells-more b c d (accepted q.0 ∷ []) h.0 q.1 h.1),
       record {
         now = p.0;
         wire = q.0;

@@ -5,7 +5,7 @@ use Rattle.hw_door.specs.declared.heard.Event.{Event}
 use Rattle.hw_door.specs.declared.heard.Event.TheVariants as event
 use Rattle.hw_door.specs.declared.heard.Heard.{Heard}
 use Rattle.hw_door.specs.Traffic.{Answer, polled, accepted}
-use Rattle.hw_net.specs.Door.{DoorState, HearsNext, IsNumbered, kept, with_accepted, new_lane}
+use Rattle.hw_net.specs.Door.{DoorState, HearsNext, IsNumbered, kept, time_to_wait, with_accepted, new_lane}
 use Rattle.hw_net.specs.Lane.{Lane, wires_of, refusal_of}
 use Rattle.hw_net.specs.Rising.{IsRising}
 use Rattle.hw_net.specs.Saying.{Says}
@@ -82,8 +82,8 @@ heeds now trace what x y mine e (inl t) = inl (t.0, t.1, go t.0 t.2) where
   go (Some one) f = e ∙ ap (λ (o : Option Event). unwrap_or o event.Quiet) f
 heeds now trace what x y mine e (inr t) = inr (t.0, ap (λ v. is_on x.wire v) e ∙ off-event x.wire trace t.1)
 
-share-rest : (wire now : ℕ) (came : Option ℕ) (turns answers : List Answer) → answers ≡ polled now ∷ accepted came ∷ turns → share wire answers ≡ share wire turns
-share-rest wire now came turns answers e = ap (λ l. share wire l) e
+share-rest : (wire wait now : ℕ) (came : Option ℕ) (turns answers : List Answer) → answers ≡ polled wait now ∷ accepted came ∷ turns → share wire answers ≡ share wire turns
+share-rest wire wait now came turns answers e = ap (λ l. share wire l) e
 
 same-came : (a b : Option ℕ) → option_to_list a ≡ option_to_list b → a ≡ b
 same-came None None e = refl
@@ -91,7 +91,7 @@ same-came None (Some b) e = absurd (cc e)
 same-came (Some a) None e = absurd (cc e)
 same-came (Some a) (Some b) e = cc e
 
-wires-with : (now : ℕ) (came : Option ℕ) (lanes : List Lane) → wires_of (with_accepted now came lanes) ≡ wires_of lanes ++ option_to_list came
+pub wires-with : (now : ℕ) (came : Option ℕ) (lanes : List Lane) → wires_of (with_accepted now came lanes) ≡ wires_of lanes ++ option_to_list came
 wires-with now None lanes = sym (append-nil (wires_of lanes))
 wires-with now (Some wire) lanes = map-append (λ (l : Lane). l.wire) lanes (new_lane now wire ∷ [])
 
@@ -103,10 +103,10 @@ with-were now bound bound_after (Some wire) before x n h = go (has-part (kept be
   go (inr (inl e)) = inr (now, wire, sym e, n.0)
   go (inr (inr k)) = absurd k
 
-with-came : (now : ℕ) (came : Option ℕ) (polled_at : ℕ) (before : List Lane) (x : Lane) (turns answers : List Answer) → answers ≡ polled polled_at ∷ accepted came ∷ turns → Has (with_accepted now came (kept before)) x →
+with-came : (now : ℕ) (came : Option ℕ) (wait polled_at : ℕ) (before : List Lane) (x : Lane) (turns answers : List Answer) → answers ≡ polled wait polled_at ∷ accepted came ∷ turns → Has (with_accepted now came (kept before)) x →
     Has before x ⊎ (came_in x.wire answers ≡ true)
-with-came now None polled_at before x turns answers e h = inl (has-kept before x h)
-with-came now (Some wire) polled_at before x turns answers e h = go (has-part (kept before) (new_lane now wire ∷ []) x h) where
+with-came now None wait polled_at before x turns answers e h = inl (has-kept before x h)
+with-came now (Some wire) wait polled_at before x turns answers e h = go (has-part (kept before) (new_lane now wire ∷ []) x h) where
   go : Has (kept before) x ⊎ Has (new_lane now wire ∷ []) x → Has before x ⊎ (came_in x.wire answers ≡ true)
   go (inl k) = inl (has-kept before x k)
   go (inr (inl f)) = inr (ap (λ l. came_in x.wire l) e ∙ ap (λ (l : Lane). (wire == l.wire) || came_in x.wire turns) (sym f) ∙ ap (λ b. b || came_in x.wire turns) (same wire))
@@ -116,37 +116,37 @@ numbered-rises : (bound bound_after : ℕ) (came : Option ℕ) → IsNumbered bo
 numbered-rises bound bound_after None n = n
 numbered-rises bound bound_after (Some wire) n = omega (arith, n.0, n.1)
 
-next-with : (what : Heard) (answers : List Answer) (bound bound_after : ℕ) (before after : DoorState) (h : HearsNext before after answers what) → IsNumbered bound bound_after h.wire →
+next-with : (what : Heard) (answers : List Answer) (bound bound_after wait : ℕ) (before after : DoorState) (h : HearsNext wait before after answers what) → IsNumbered bound bound_after h.wire →
     IsRising 0 bound_after (wires_of after.lanes) → IsRising 0 bound_after (wires_of (with_accepted what.now h.wire (kept before.lanes))) →
     Sweeps what.now (with_accepted what.now h.wire (kept before.lanes)) after.lanes h.turns h.trace → Steps (heard what answers) bound bound_after before after
-next-with what answers bound bound_after before after h numbered risen rises sweep = record {
+next-with what answers bound bound_after wait before after h numbered risen rises sweep = record {
   lanes = with_accepted what.now h.wire (kept before.lanes);
   were = λ x has. with-were what.now bound bound_after h.wire before.lanes x numbered has;
-  came = λ x has. with-came what.now h.wire h.now before.lanes x h.turns answers h.all has;
+  came = λ x has. with-came what.now h.wire (time_to_wait wait (kept before.lanes)) h.now before.lanes x h.turns answers h.all has;
   rise = rises;
   risen = risen;
   bounds = numbered-rises bound bound_after h.wire numbered;
   back = λ y has. let p = sweep.back y has in (p.0, p.1, moved p.0 y p.2);
   on = λ x has. let p = sweep.on x has in (p.0, p.1, moved x p.0 p.2);
   off = λ wire without. let p = sweep.off wire without in
-      (share-rest wire h.now h.wire h.turns answers h.all ∙ p.0, ap (λ v. is_on wire v) h.event_is ∙ off-event wire h.trace p.1);
+      (share-rest wire (time_to_wait wait (kept before.lanes)) h.now h.wire h.turns answers h.all ∙ p.0, ap (λ v. is_on wire v) h.event_is ∙ off-event wire h.trace p.1);
 } where
   moved : (x y : Lane) → TurnedIn what.now h.trace h.turns x y → Moves (heard what answers) x y
   moved x y t = heeds what.now h.trace what.event x y (share x.wire answers) h.event_is
-      (subst (λ (l : List Answer). Turned what.now h.trace x y l) (sym (share-rest x.wire h.now h.wire h.turns answers h.all)) t)
+      (subst (λ (l : List Answer). Turned what.now h.trace x y l) (sym (share-rest x.wire (time_to_wait wait (kept before.lanes)) h.now h.wire h.turns answers h.all)) t)
 
 next-steps : (what : Heard) (answers : List Answer) (bound bound_after : ℕ) (before after : DoorState) → Does (heard what answers) bound bound_after before after → IsRising 0 bound (wires_of before.lanes) →
     Steps (heard what answers) bound bound_after before after
 next-steps what answers bound bound_after before after d rise =
-    let h = d.0 in
-    let keeps = d.1 in
+    let h = d.1 in
+    let keeps = d.2 in
     let lanes = with_accepted what.now h.wire (kept before.lanes) in
     let same : wires_of after.lanes ≡ wires_of lanes = hears-wires what.now h.begin lanes after.lanes h.turns h.trace h.hears in
     let came : keeps.0 ≡ h.wire = same-came keeps.0 h.wire (append_cancel_left (wires_of (kept before.lanes)) (option_to_list keeps.0) (option_to_list h.wire)
     (sym keeps.1 ∙ same ∙ wires-with what.now h.wire (kept before.lanes))) in
     let risen = numbers-rise bound bound_after before.lanes after.lanes rise keeps in
     let rises = subst (λ (l : List ℕ). IsRising 0 bound_after l) same risen in
-    next-with what answers bound bound_after before after h (subst (λ (o : Option ℕ). IsNumbered bound bound_after o) came keeps.2) risen rises
+    next-with what answers bound bound_after d.0 before after h (subst (λ (o : Option ℕ). IsNumbered bound bound_after o) came keeps.2) risen rises
     (sweeps what.now h.begin lanes after.lanes h.turns h.trace h.hears (rising-distinct 0 bound_after lanes rises))
 
 -- ---- the steps of the other calls

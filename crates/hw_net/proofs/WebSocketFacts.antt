@@ -1,5 +1,5 @@
 -- How a read of a wire and one of a WebSocket come to one turn.
-use Rattle.std.proofs.Common.{◌≡◌, ◌≤◌, ℕ, List, [], ◌∷◌, Bool, true, Option, Some, IfOk, Result, Ok, Err, refl, sym, subst, ◌∙◌, arith}
+use Rattle.std.proofs.Common.{◌≡◌, ◌≤◌, ℕ, List, [], ◌∷◌, Bool, true, false, Option, Some, IfOk, Result, Ok, Err, refl, sym, subst, ◌∙◌, arith}
 use Rattle.hw_door.specs.Traffic.{Answer}
 use Rattle.hw_socket.specs.Reading.{Feeds}
 use Rattle.hw_net.specs.declared.limits.TheConstants.{PIECE}
@@ -37,10 +37,10 @@ input-of wire before mid after answers (input.Message bytes) r f = ((sym r.whole
 input-of wire before mid after answers input.Broken r f = absurd f
 input-of wire before mid after answers input.Gone r f = ((sym r.whole, (mid.lane, r.fed, f.0)), f.1)
 
-pub websocket_state-hears : {E : Type 0} (a b : Option (List Answer)) (wire : ℕ) (before mid after : WebSocketState) (whole : Bool) (r : Result Input E) → whole ≡ true →
+pub websocket_state-hears : {E : Type 0} (a b : Option (List Answer)) (wire : ℕ) (before mid after : WebSocketState) (whole : Bool) (r : Result Input E) → whole ≡ true → before.lost_bytes ≡ false →
     ((answers : List Answer) × Tells a b answers × ReadsInto wire before mid answers whole) → IfOk r (Finds mid after) → after.lost_bytes ≡ mid.lost_bytes →
     IfOk r (λ heard. (answers : List Answer) × Tells a b answers × HearsWebSocket wire before after answers heard)
-websocket_state-hears a b wire before mid after whole (Ok heard) e h f same =
+websocket_state-hears a b wire before mid after whole (Ok heard) e had_all h f same =
     let read : ReadsInto wire before mid h.0 true = subst (λ w. ReadsInto wire before mid h.0 w) e h.2 in
-    (h.0, h.1, record { got = read.got; read = read.read; is_input = input-of wire before mid after h.0 heard read f; lost_bytes = same ∙ read.lost_bytes })
-websocket_state-hears a b wire before mid after whole (Err why) e h f same = f
+    (h.0, h.1, record { got = read.got; read = read.read; is_input = input-of wire before mid after h.0 heard read f; lost_bytes = same ∙ read.lost_bytes; breaks = λ lost. absurd (cc (sym had_all ∙ lost)) })
+websocket_state-hears a b wire before mid after whole (Err why) e had_all h f same = f

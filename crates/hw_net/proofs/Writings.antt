@@ -69,8 +69,8 @@ none-left (x ∷ xs) e = absurd (omega (arith, e))
 pub writes-both : (wire : ℕ) (xs ys : List ℕ) (ones bs : List Answer) (left : List ℕ) (is_whole : Bool) → Writes wire xs ones [] true → Writes wire ys bs left is_whole →
     Writes wire (xs ++ ys) (ones ++ bs) left is_whole
 writes-both wire xs ys [] bs left is_whole w v = subst (λ (l : List ℕ). Writes wire (l ++ ys) bs left is_whole) (sym w.0) v
-writes-both wire xs ys (polled now ∷ ones) bs left is_whole w v = absurd w
-writes-both wire xs ys (poll_failed ∷ ones) bs left is_whole w v = absurd w
+writes-both wire xs ys (polled wait now ∷ ones) bs left is_whole w v = absurd w
+writes-both wire xs ys (poll_failed wait ∷ ones) bs left is_whole w v = absurd w
 writes-both wire xs ys (accepted at ∷ ones) bs left is_whole w v = absurd w
 writes-both wire xs ys (accept_failed ∷ ones) bs left is_whole w v = absurd w
 writes-both wire xs ys (connected at ∷ ones) bs left is_whole w v = absurd w
@@ -94,8 +94,8 @@ some-more (x ∷ xs) ys some = λ e. cc e
 pub writes-first : (wire : ℕ) (xs ys : List ℕ) (ones : List Answer) (left : List ℕ) (is_whole : Bool) → Writes wire xs ones left is_whole → left ≢ [] →
     Writes wire (xs ++ ys) ones (left ++ ys) is_whole
 writes-first wire xs ys [] left is_whole w some = absurd (some w.1)
-writes-first wire xs ys (polled now ∷ ones) left is_whole w some = absurd w
-writes-first wire xs ys (poll_failed ∷ ones) left is_whole w some = absurd w
+writes-first wire xs ys (polled wait now ∷ ones) left is_whole w some = absurd w
+writes-first wire xs ys (poll_failed wait ∷ ones) left is_whole w some = absurd w
 writes-first wire xs ys (accepted at ∷ ones) left is_whole w some = absurd w
 writes-first wire xs ys (accept_failed ∷ ones) left is_whole w some = absurd w
 writes-first wire xs ys (connected at ∷ ones) left is_whole w some = absurd w
@@ -115,8 +115,8 @@ writes-first wire xs ys (was_shut at ∷ ones) left is_whole w some = absurd w
 -- a write that failed left something
 pub left-of-failed : (wire : ℕ) (xs : List ℕ) (ones : List Answer) (left : List ℕ) → Writes wire xs ones left false → left ≢ []
 left-of-failed wire xs [] left w = cc w.2
-left-of-failed wire xs (polled now ∷ ones) left w = absurd w
-left-of-failed wire xs (poll_failed ∷ ones) left w = absurd w
+left-of-failed wire xs (polled wait now ∷ ones) left w = absurd w
+left-of-failed wire xs (poll_failed wait ∷ ones) left w = absurd w
 left-of-failed wire xs (accepted at ∷ ones) left w = absurd w
 left-of-failed wire xs (accept_failed ∷ ones) left w = absurd w
 left-of-failed wire xs (connected at ∷ ones) left w = absurd w

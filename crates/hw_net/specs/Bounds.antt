@@ -31,7 +31,7 @@ AreWithin lanes = EachIs IsWithin lanes
 
 -- after each `next` no more waits than may, whatever did before it
 abbrev pub NextIsWithin : Type 0
-NextIsWithin = (before after : DoorState) (answers : List Answer) (heard : Heard) → HearsNext before after answers heard → AreWithin after.lanes
+NextIsWithin = (wait : ℕ) (before after : DoorState) (answers : List Answer) (heard : Heard) → HearsNext wait before after answers heard → AreWithin after.lanes
 
 -- the other calls keep it so
 abbrev pub RepliesAreWithin : Type 0
@@ -52,5 +52,5 @@ IsInTime now lane = lane.stage ≡ Closing → now - lane.since < MOST_CLOSING
 
 -- so it is of each lane after each `next`, whatever did before it
 abbrev pub NextIsInTime : Type 0
-NextIsInTime = (before after : DoorState) (answers : List Answer) (heard : Heard) → HearsNext before after answers heard
+NextIsInTime = (wait : ℕ) (before after : DoorState) (answers : List Answer) (heard : Heard) → HearsNext wait before after answers heard
     → EachIs (IsInTime heard.now) after.lanes

@@ -1,5 +1,6 @@
 -- What a door does in one call.
-use Rattle.std.specs.Prelude.{◌≡◌, ◌==◌, ◌⊎◌, ◌<◌, ◌≤◌, ◌+◌, ◌-◌, ◌^◌, ℕ, false, true, not, nat_le, min, max, if◌then◌else◌, List, [], ◌∷◌, ◌++◌, filter, take, drop, length, Option, None, Some, position, unwrap_or, option_to_list}
+use Rattle.std.specs.Prelude.{◌≡◌, ◌==◌, ◌⊎◌, ◌<◌, ◌≤◌, ◌+◌, ◌-◌, ◌^◌, ℕ, false, true, not, nat_le, max, if◌then◌else◌, List, [], ◌∷◌, ◌++◌, filter, take, drop, length, Option, None, Some, position, unwrap_or, option_to_list}
+use Rattle.std.specs.List.{list_any}
 use Rattle.hw_door.specs.declared.heard.Heard.{Heard}
 use Rattle.hw_door.specs.declared.heard.Event.{Event}
 use Rattle.hw_door.specs.declared.heard.Event.TheVariants as event
@@ -9,7 +10,7 @@ use Rattle.hw_net.specs.declared.limits.TheConstants.{MOST_NAMED}
 use Rattle.hw_net.specs.declared.protocol.Protocol.TheVariants.{Http}
 use Rattle.hw_net.specs.declared.protocol.Stage.TheVariants.{Live}
 use Rattle.hw_net.specs.declared.door.NetDoor.{NetDoor}
-use Rattle.hw_net.specs.Lane.{Lane, is_over, wires_of}
+use Rattle.hw_net.specs.Lane.{Lane, is_over, is_awake, wires_of}
 use Rattle.hw_net.specs.Turn.{TurnAll, AtLane}
 
 -- the lanes, the number from which on they come first in the next search that begins with no named one, how many searches in a row began
@@ -63,6 +64,10 @@ KeepsLanes bound bound_after before after =
 abbrev pub index_of_first : ℕ → List Lane → ℕ
 index_of_first from lanes = unwrap_or (position (λ (lane : Lane). nat_le from lane.wire) lanes) (length lanes)
 
+-- how long the wires wait at most if a call may wait for so long: not at all if something may be heard at once on some lane
+abbrev pub time_to_wait : ℕ → List Lane → ℕ
+time_to_wait wait lanes = if list_any is_awake lanes then 0 else wait
+
 -- the lane of an event
 abbrev pub lane_of : Event → ℕ
 lane_of (event.Request lane request) = lane
@@ -77,10 +82,14 @@ lane_of event.Quiet = 0
 abbrev pub Begins : DoorState → ℕ → ℕ → Type 0
 Begins before begin named = ((begin ≡ before.from) × (named ≡ 0)) ⊎ ((before.named < MOST_NAMED) × (named ≡ before.named + 1))
 
+-- the number after this one: after the last of 64 bits comes 0
+abbrev pub number_after : ℕ → ℕ
+number_after number = if number == 2 ^ 64 - 1 then 0 else number + 1
+
 -- the number from which on the lanes come first after this was heard: the lane that was heard comes last
 abbrev pub next_from : ℕ → Option Event → ℕ
 next_from from None = from
-next_from from (Some heard) = min (lane_of heard + 1) (2 ^ 64 - 1)
+next_from from (Some heard) = number_after (lane_of heard)
 
 -- the same after a search: one that began with a named lane leaves it
 abbrev pub from_after : ℕ → ℕ → Option Event → ℕ
@@ -98,15 +107,15 @@ pub record HearsAll (now : ℕ) (from : ℕ) (before after : List Lane) (answers
   pub turns_first : TurnAll now None (drop (index_of_first from before) before) first answers_first trace
   pub turns_last : TurnAll now trace (take (index_of_first from before) before) last answers_last heard
 
--- One `next`: one poll, one accept, and then a turn of each lane, from the one whose turn it is, or from any other. Nothing is heard only if
--- each lane was listened to and gave nothing.
-pub record HearsNext (before after : DoorState) (answers : List Answer) (heard : Heard) : Type 0 where
+-- One `next` that was handed this wait: one poll, which is handed the same, or 0 if something may be heard at once, one accept, and then a
+-- turn of each lane, from the one whose turn it is, or from any other. Nothing is heard only if each lane was listened to and gave nothing.
+pub record HearsNext (wait : ℕ) (before after : DoorState) (answers : List Answer) (heard : Heard) : Type 0 where
   pub now : ℕ
   pub wire : Option ℕ
   pub turns : List Answer
   pub begin : ℕ
   pub trace : Option Event
-  pub all : answers ≡ polled now ∷ accepted wire ∷ turns
+  pub all : answers ≡ polled (time_to_wait wait (kept before.lanes)) now ∷ accepted wire ∷ turns
   pub moment : heard.now ≡ max now before.moment
   pub begins : Begins before begin after.named
   pub hears : HearsAll heard.now begin (with_accepted heard.now wire (kept before.lanes)) after.lanes turns trace
@@ -114,9 +123,11 @@ pub record HearsNext (before after : DoorState) (answers : List Answer) (heard :
   pub from : after.from ≡ from_after after.named before.from trace
   pub later : after.moment ≡ heard.now
 
--- a call of `next` that fails: poll failed, or accept after it
-abbrev pub FailsNext : List Answer → Type 0
-FailsNext answers = (answers ≡ poll_failed ∷ []) ⊎ ((now : ℕ) × (answers ≡ polled now ∷ accept_failed ∷ []))
+-- a call of `next` that was handed this wait and fails: poll failed, or accept after it
+abbrev pub FailsNext : ℕ → DoorState → List Answer → Type 0
+FailsNext wait before answers =
+    (answers ≡ poll_failed (time_to_wait wait (kept before.lanes)) ∷ [])
+    ⊎ ((now : ℕ) × (answers ≡ polled (time_to_wait wait (kept before.lanes)) now ∷ accept_failed ∷ []))
 
 -- a call on the lane of this number, which does this there
 abbrev pub DoesAt : ℕ → (Lane → Lane → List Answer → Type 0) → DoorState → DoorState → List Answer → Type 0

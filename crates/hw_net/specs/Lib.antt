@@ -13,6 +13,8 @@ pub mod Saying
 pub mod Turn
 pub mod Walks
 pub mod Door
+pub mod Halting
 pub mod Bounds
 pub mod Numbers
 pub mod Sessions
+pub mod Reaching

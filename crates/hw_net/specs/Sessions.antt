@@ -35,7 +35,7 @@ pub data Call : Type 0 where
 -- what a call does to a door, and to the bound below which lie all numbers of wires that came
 abbrev pub Does : Call → ℕ → ℕ → DoorState → DoorState → Type 0
 Does (heard what answers) bound bound_after before after =
-    HearsNext before after answers what × KeepsLanes bound bound_after before.lanes after.lanes
+    (wait : ℕ) × HearsNext wait before after answers what × KeepsLanes bound bound_after before.lanes after.lanes
 Does (replied lane reply answers) bound bound_after before after =
     DoesAt lane (Replies before.moment reply) before after answers × (bound_after ≡ bound)
 Does (sent lane bytes text answers) bound bound_after before after =

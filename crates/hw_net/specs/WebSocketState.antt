@@ -79,9 +79,11 @@ IsInput before after answers got (input.Message bytes) = Gets before.lane got (r
 IsInput before after answers got input.Broken = ((got ≡ None) ⊎ (before.lost_bytes ≡ true)) × (after.lane ≡ before.lane)
 IsInput before after answers got input.Gone = Gets before.lane got read.Gone after.lane × (after.wants_read ≡ false)
 
--- One turn: the wire is read at most once, the WebSocket is fed with what it gave, and then it is read once.
+-- One turn: the wire is read at most once, the WebSocket is fed with what it gave, and then it is read once. One that lost bytes is heard as
+-- broken, and nothing else.
 pub record HearsWebSocket (wire : ℕ) (before after : WebSocketState) (answers : List Answer) (heard : Input) : Type 0 where
   pub got : Option (List ℕ)
   pub read : Gives wire (room_of before) answers got
   pub is_input : IsInput before after answers got heard
   pub lost_bytes : after.lost_bytes ≡ before.lost_bytes
+  pub breaks : before.lost_bytes ≡ true → heard ≡ input.Broken

@@ -1,14 +1,14 @@
 //! The door: all lanes, and the wires that they stand on.
 
 ghost use Rattle.std.specs.Prelude.{◌≡◌, ◌≤◌, ◌+◌, ◌∷◌, [], ℕ, List, Option, None, Some, Err, IfOk, IfErr, IfSome, IfNone, OnOk, OnErr, if◌then◌else◌, max};
-ghost use Rattle.std.specs.List.{list_any};
 ghost use Rattle.hd_facts.specs.Counts.{Rose};
 ghost use Rattle.hw_lanes.specs.Replies.{IsReply};
 ghost use Rattle.hw_door.specs.declared.heard.Given.TheVariants as say;
 ghost use Rattle.hw_door.specs.Calls.{HasFaultCause, IsCaused, Hears, Says, IsLater};
-ghost use Rattle.hw_door.specs.Traffic.{Answer, polled, poll_failed, accepted, accept_failed};
-ghost use Rattle.hw_net.specs.Door.{HearsNext, HearsAll, FailsNext, IsNumbered, KeepsLanes, DoesAt, HearsTurns, Begins, state_of, kept, with_accepted, next_from, from_after};
-ghost use Rattle.hw_net.specs.Lane.{is_awake, wires_of};
+ghost use Rattle.hw_door.specs.Traffic.{Answer, polled, poll_failed, accepted, accept_failed, was_shut};
+ghost use Rattle.hw_net.specs.Door.{HearsNext, HearsAll, FailsNext, IsNumbered, KeepsLanes, DoesAt, HearsTurns, Begins, state_of, kept, time_to_wait, with_accepted, next_from, from_after};
+ghost use Rattle.hw_net.specs.Halting.{HaltsAll, HaltsNext};
+ghost use Rattle.hw_net.specs.Lane.{wires_of};
 ghost use Rattle.hw_net.specs.Rising.{IsRising};
 ghost use Rattle.hw_net.specs.Trace.{Tells};
 ghost use Rattle.hw_net.specs.Turn.{Replies, Sends, Shuts};
@@ -25,8 +25,8 @@ use std::marker::Model;
 /// A door over wires.
 ///
 /// Each `next` gives the lanes their turns until one hears something, from the one on whose turn it is: the first after the one that was
-/// heard last so. If the wires name one that is ready, the turns begin there, though at most [`MOST_NAMED`] times in a row, so that no lane
-/// waits for ever behind those that are named.
+/// heard last so. If the wires name one that is ready, the turns begin there, though at most [`MOST_NAMED`] times in a row, so that each
+/// lane listens, whatever they name ([`lanes_are_reached`](crate::lanes_are_reached)).
 ///
 /// The wires wait in `poll` unless a lane may have more at once. So they have to tell of what comes on a wire after a read that gave less than
 /// there was room for.
@@ -115,16 +115,16 @@ impl<W: Wires + Drop> NetDoor<W> {
 
     /// How long the wires may wait: not at all if something may be heard at once.
     fn wait_for(&self, wait: u64) -> u64
-        ensures { result ≡ (if list_any is_awake self.now.lanes.items then 0 else wait) }
+        ensures { result ≡ time_to_wait wait self.now.lanes.items }
     {
         if self.lanes.has_awake() { 0 } else { wait }
     }
 
     /// Waits for something to come, and answers the moment then.
     fn poll(&mut self, wait: u64) -> Result<u64, DoorError>
-        ensures polled { IfOk result (λ now. (moment : ℕ) × Tells (W.trace self.old.wires) (W.trace self.new.wires) (polled moment ∷ []) × (now ≡ max moment self.old.moment)) }
+        ensures polled { IfOk result (λ now. (moment : ℕ) × Tells (W.trace self.old.wires) (W.trace self.new.wires) (polled (time_to_wait wait self.old.lanes.items) moment ∷ []) × (now ≡ max moment self.old.moment)) }
         ensures failed { IfErr result (λ e. (e ≡ DoorError.Failed) × Rose (W.faults self.old.wires) (W.faults self.new.wires)
-            × Tells (W.trace self.old.wires) (W.trace self.new.wires) (poll_failed ∷ [])) }
+            × Tells (W.trace self.old.wires) (W.trace self.new.wires) (poll_failed (time_to_wait wait self.old.lanes.items) ∷ [])) }
         ensures unfailed { OnOk result (W.faults self.new.wires ≡ W.faults self.old.wires) }
         ensures others_unchanged { self.new ≡ record self.old { wires = self.new.wires; faults = self.new.faults } }
         ensures cause { HasFaultCause self.old.faults self.new.faults result }
@@ -143,6 +143,7 @@ impl<W: Wires + Drop> NetDoor<W> {
             × (self.new.lanes.items ≡ with_accepted now wire self.old.lanes.items) × IsNumbered (W.wires self.old.wires) (W.wires self.new.wires) wire) }
         ensures failed { result ≡ Err DoorError.Failed → Rose (W.faults self.old.wires) (W.faults self.new.wires)
             × Tells (W.trace self.old.wires) (W.trace self.new.wires) (accept_failed ∷ []) }
+        ensures told { result ≡ Err DoorError.NoMemory → (wire : ℕ) × Tells (W.trace self.old.wires) (W.trace self.new.wires) (accepted (Some wire) ∷ was_shut wire ∷ []) }
         ensures from { self.new.from ≡ self.old.from }
         ensures named { self.new.named ≡ self.old.named }
         ensures moment { self.new.moment ≡ self.old.moment }
@@ -164,6 +165,7 @@ impl<W: Wires + Drop> NetDoor<W> {
         ensures added { OnOk result ((self.new.lanes.items ≡ with_accepted now (Some wire) self.old.lanes.items)
             × (self.new.wires ≡ self.old.wires)) }
         ensures memory { IfErr result (λ e. e ≡ DoorError.NoMemory) }
+        ensures told { OnErr result (Tells (W.trace self.old.wires) (W.trace self.new.wires) (was_shut wire ∷ [])) }
         ensures from { self.new.from ≡ self.old.from }
         ensures named { self.new.named ≡ self.old.named }
         ensures moment { self.new.moment ≡ self.old.moment }
@@ -182,6 +184,7 @@ impl<W: Wires + Drop> NetDoor<W> {
 
     fn turn_away(&mut self, wire: u64) -> DoorError
         ensures memory { result ≡ DoorError.NoMemory }
+        ensures told { Tells (W.trace self.old.wires) (W.trace self.new.wires) (was_shut wire ∷ []) }
         ensures others_unchanged { self.new ≡ record self.old { wires = self.new.wires } }
         ensures bound { W.wires self.new.wires ≡ W.wires self.old.wires }
     {
@@ -218,6 +221,9 @@ impl<W: Wires + Drop> NetDoor<W> {
     fn hear(&mut self, now: u64) -> Result<Event, AllocError>
         ensures hears { IfOk result (λ event. (answers : List Answer) × Tells (W.trace self.old.wires) (W.trace self.new.wires) answers
             × HearsTurns now (state_of self.old) (state_of self.new) answers event) }
+        ensures halts { OnErr result ((begin : ℕ) × Begins (state_of self.old) begin self.new.named × ((answers : List Answer)
+            × Tells (W.trace self.old.wires) (W.trace self.new.wires) answers × HaltsAll now begin self.old.lanes.items self.new.lanes.items answers)) }
+        ensures from { OnErr result (self.new.from ≡ self.old.from) }
         ensures moment { self.new.moment ≡ self.old.moment }
         ensures faults { self.new.faults ≡ self.old.faults }
         ensures lanes { wires_of self.new.lanes.items ≡ wires_of self.old.lanes.items }
@@ -235,6 +241,8 @@ impl<W: Wires + Drop> NetDoor<W> {
     fn turn_from(&mut self, begin: u64, now: u64) -> Result<Option<Event>, AllocError>
         ensures hears { IfOk result (λ trace. (answers : List Answer) × Tells (W.trace self.old.wires) (W.trace self.new.wires) answers
             × HearsAll now begin self.old.lanes.items self.new.lanes.items answers trace) }
+        ensures halts { OnErr result ((answers : List Answer) × Tells (W.trace self.old.wires) (W.trace self.new.wires) answers
+            × HaltsAll now begin self.old.lanes.items self.new.lanes.items answers) }
         ensures others_unchanged { self.new ≡ record self.old { wires = self.new.wires; lanes = self.new.lanes } }
         ensures lanes { wires_of self.new.lanes.items ≡ wires_of self.old.lanes.items }
         ensures bound { W.wires self.new.wires ≡ W.wires self.old.wires }
@@ -243,7 +251,7 @@ impl<W: Wires + Drop> NetDoor<W> {
     }
 }
 
-/// The number after that of the lane of this event.
+/// The number after that of the lane of this event, in an order that goes round.
 fn next_lane(event: &Event) -> u64
     ensures { result ≡ next_from 0 (Some event.now) }
 {
@@ -256,7 +264,7 @@ fn next_lane(event: &Event) -> u64
         Event::Lost { lane } => *lane,
         Event::Quiet => 0,
     };
-    lane.saturating_add(1)
+    if lane == u64::MAX { 0 } else { lane + 1 }
 }
 
 impl<W: Wires + Drop> Door for NetDoor<W> {
@@ -269,10 +277,12 @@ impl<W: Wires + Drop> Door for NetDoor<W> {
         ensures later { IsLater self.old.moment self.new.moment result }
         ensures cause { HasFaultCause self.old.faults self.new.faults result }
         ensures hears { IfOk result (λ heard. (answers : List Answer) × Tells (W.trace self.old.wires) (W.trace self.new.wires) answers
-            × HearsNext (state_of self.old) (state_of self.new) answers heard) }
+            × HearsNext wait (state_of self.old) (state_of self.new) answers heard) }
         ensures fails { result ≡ Err DoorError.Failed → Rose (W.faults self.old.wires) (W.faults self.new.wires)
-            × ((answers : List Answer) × Tells (W.trace self.old.wires) (W.trace self.new.wires) answers × FailsNext answers) }
+            × ((answers : List Answer) × Tells (W.trace self.old.wires) (W.trace self.new.wires) answers × FailsNext wait (state_of self.old) answers) }
         ensures fallen { result ≡ Err DoorError.Failed → state_of self.new ≡ record (state_of self.old) { lanes = kept self.old.lanes.items } }
+        ensures halts { result ≡ Err DoorError.NoMemory → (answers : List Answer) × Tells (W.trace self.old.wires) (W.trace self.new.wires) answers
+            × HaltsNext wait (state_of self.old) (state_of self.new) answers }
         ensures lanes { KeepsLanes (W.wires self.old.wires) (W.wires self.new.wires) self.old.lanes.items self.new.lanes.items }
     {
         self.clear();

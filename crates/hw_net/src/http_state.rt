@@ -1,10 +1,11 @@
 //! A lane while it is one of requests. It knows nothing of what is written.
 
-ghost use Rattle.std.specs.Prelude.{◌≡◌, ◌≤◌, ◌||◌, ◌++◌, List, ℕ, false, true, length, IfOk};
+ghost use Rattle.std.specs.Prelude.{◌≡◌, ◌≤◌, ◌||◌, ◌++◌, List, ℕ, false, true, length, IfOk, OnErr};
 ghost use Rattle.hw_lanes.specs.declared.http.Request.{Request};
 ghost use Rattle.hh_http.specs.Asks.{Asks};
 ghost use Rattle.hh_http.specs.Lane.{at_start, room};
 ghost use Rattle.hw_door.specs.Traffic.{Answer};
+ghost use Rattle.hw_net.specs.Halting.{HaltsHttp};
 ghost use Rattle.hw_net.specs.HttpState.{HearsHttp, ReadsInto, Finds, room_of, requests_of, is_awake};
 ghost use Rattle.hw_net.specs.Lane.{says_continue};
 ghost use Rattle.hw_net.specs.Trace.{Tells};
@@ -91,6 +92,8 @@ impl HttpState {
         requires { length buf.old ≡ PIECE }
         ensures heard { IfOk result (λ input. (answers : List Answer) × Tells (W.trace wires.old) (W.trace wires.new) answers
             × HearsHttp wire self.old self.new answers input) }
+        ensures halts { OnErr result ((answers : List Answer) × Tells (W.trace wires.old) (W.trace wires.new) answers
+            × HaltsHttp wire self.old self.new answers) }
         ensures wires { W.wires wires.new ≡ W.wires wires.old }
     {
         let input = self.look()?;
@@ -109,6 +112,8 @@ impl HttpState {
         requires { length buf.old ≡ PIECE }
         ensures heard { IfOk result (λ input. (answers : List Answer) × Tells (W.trace wires.old) (W.trace wires.new) answers
             × HearsHttp wire self.old self.new answers input) }
+        ensures halts { OnErr result ((answers : List Answer) × Tells (W.trace wires.old) (W.trace wires.new) answers
+            × HaltsHttp wire self.old self.new answers) }
         ensures wires { W.wires wires.new ≡ W.wires wires.old }
     {
         if !self.read(wires, wire, buf) {
@@ -155,6 +160,7 @@ impl HttpState {
     /// Looks for a request in the bytes held, unless one waits for its reply.
     fn look(&mut self) -> Result<Input, AllocError>
         ensures found { IfOk result (Finds self.old self.new) }
+        ensures unchanged { OnErr result (self.new ≡ self.old) }
         ensures asks { IfOk result (λ input. (bytes : List ℕ) (requests : List Request) → Asks bytes requests self.old.lane.held
             → Asks bytes (requests ++ requests_of input) self.new.lane.held) }
     {

@@ -6,6 +6,7 @@ ghost use Rattle.hh_http.specs.Texts.{continue_text, reply_text};
 ghost use Rattle.hw_door.specs.Traffic.{Answer, was_shut};
 ghost use Rattle.hw_net.specs.Door.{new_lane};
 ghost use Rattle.hw_net.specs.FirstReads.{ReadsFirst, IsCalmLane, IsWithin};
+ghost use Rattle.hw_net.specs.Halting.{Halts, HaltsIn, IsDue, IsLasting};
 ghost use Rattle.hw_net.specs.Lane.{waits, frames_of, is_over, is_awake, is_overdue, owes, refusal_of, after_end, after_hearing, after_reply, protocol_after_shut, protocol_after_reply, new_socket, rest_of};
 ghost use Rattle.hw_net.specs.Saying.{Writes, WritesOut, DropsOrWrites, Says, SaysMore, SpeaksAs, IsLaneStill, must_end, has_closed_long};
 ghost use Rattle.hw_net.specs.Tally.{has_unwritten};
@@ -42,7 +43,8 @@ fn must_end(stage: Stage, unwritten: usize, is_whole: bool) -> bool
 
 /// Appends a 100, if one is to be said.
 fn put_continue(is_said: bool, out: &mut Vec<u8>) -> Result<(), AllocError>
-    ensures { OnOk result (out.new.items ≡ (if is_said then out.old.items ++ continue_text else out.old.items)) }
+    ensures ok { OnOk result (out.new.items ≡ (if is_said then out.old.items ++ continue_text else out.old.items)) }
+    ensures err { OnErr result ((out.new.items ≡ out.old.items) × (is_said ≡ true)) }
 {
     if !is_said {
         return Ok(());
@@ -180,6 +182,8 @@ impl NetLane {
         requires count { IsWithin first_look }
         ensures turned { IfOk result (λ heard. (first : List Answer) → ReadsFirst self.old first buf.old first_look
             → (answers : List Answer) × Tells (W.trace wires.old) (W.trace wires.new) answers × Listens now self.old self.new (first ++ answers) heard) }
+        ensures halts { OnErr result ((first : List Answer) → ReadsFirst self.old first buf.old first_look
+            → (answers : List Answer) × Tells (W.trace wires.old) (W.trace wires.new) answers × Halts self.old self.new (first ++ answers)) }
         ensures wires { W.wires wires.new ≡ W.wires wires.old }
         ensures lane { self.new.wire ≡ self.old.wire }
     {
@@ -206,6 +210,8 @@ impl NetLane {
         requires live { self.old.stage ≡ Stage.Live }
         ensures turned { IfOk result (λ heard. (first : List Answer) → ReadsFirst self.old first buf.old first_look
             → (answers : List Answer) × Tells (W.trace wires.old) (W.trace wires.new) answers × TurnsLive now self.old self.new (first ++ answers) heard) }
+        ensures halts { OnErr result ((first : List Answer) → ReadsFirst self.old first buf.old first_look
+            → (answers : List Answer) × Tells (W.trace wires.old) (W.trace wires.new) answers × Halts self.old self.new (first ++ answers)) }
         ensures wires { W.wires wires.new ≡ W.wires wires.old }
         ensures lane { self.new.wire ≡ self.old.wire }
     {
@@ -219,6 +225,7 @@ impl NetLane {
     /// Says that the body of a request may be sent, if that is waited for.
     fn say_continue(&mut self) -> Result<(), AllocError>
         ensures said { OnOk result (self.new ≡ after_hearing self.old.protocol self.old) }
+        ensures due { OnErr result ((self.new ≡ self.old) × IsDue self.old.protocol) }
         ensures right { OnOk result ((input : Input) → IsRightInput self.old.protocol input → IsRightInput self.new.protocol input) }
         ensures lane { self.new.wire ≡ self.old.wire }
         ensures stage { self.new.stage ≡ self.old.stage }
@@ -245,6 +252,9 @@ impl NetLane {
         ensures heard { IfOk result (λ input. (first : List Answer) → ReadsFirst self.old first buf.old first_look
             → (answers : List Answer) × Tells (W.trace wires.old) (W.trace wires.new) answers
             × Hears self.old.wire self.old.protocol self.new.protocol (first ++ answers) input) }
+        ensures halts { OnErr result ((first : List Answer) → ReadsFirst self.old first buf.old first_look
+            → (answers : List Answer) × Tells (W.trace wires.old) (W.trace wires.new) answers
+            × HaltsIn self.old.wire self.old.protocol self.new.protocol (first ++ answers)) }
         ensures right { IfOk result (IsRightInput self.new.protocol) }
         ensures others_unchanged { self.new ≡ record self.old { protocol = self.new.protocol } }
         ensures wires { W.wires wires.new ≡ W.wires wires.old }
@@ -262,13 +272,15 @@ impl NetLane {
         requires count { IfSome read (λ count. count ≤ PIECE) }
         ensures heard { IfOk result (λ input. (first : List Answer) → ReadsFirst self.old first buf.now (FirstRead.Read read)
             → Hears self.old.wire self.old.protocol self.new.protocol first input) }
+        ensures halts { OnErr result ((first : List Answer) → ReadsFirst self.old first buf.now (FirstRead.Read read)
+            → HaltsIn self.old.wire self.old.protocol self.new.protocol first) }
         ensures right { IfOk result (IsRightInput self.new.protocol) }
         ensures others_unchanged { self.new ≡ record self.old { protocol = self.new.protocol } }
     {
-        match &mut self.protocol {
-            Protocol::Http(_) => Ok(Input::Nothing),
-            Protocol::Socket(websocket_state) => websocket_state.hear_after(read, buf),
-        }
+        let Protocol::Socket(websocket_state) = &mut self.protocol else {
+            return Ok(Input::Nothing);
+        };
+        websocket_state.hear_after(read, buf)
     }
 
     /// What is heard in the end: a lane whose wire was shut meanwhile is lost, if nothing else is heard of it.
@@ -298,6 +310,8 @@ impl NetLane {
         requires { length buf.old ≡ PIECE }
         ensures heard { IfOk result (λ input. (answers : List Answer) × Tells (W.trace wires.old) (W.trace wires.new) answers
             × Hears self.old.wire self.old.protocol self.new.protocol answers input) }
+        ensures halts { OnErr result ((answers : List Answer) × Tells (W.trace wires.old) (W.trace wires.new) answers
+            × HaltsIn self.old.wire self.old.protocol self.new.protocol answers) }
         ensures others_unchanged { self.new ≡ record self.old { protocol = self.new.protocol } }
         ensures wires { W.wires wires.new ≡ W.wires wires.old }
     {
@@ -318,6 +332,7 @@ impl NetLane {
         requires right { IsRightInput self.old.protocol input }
         ensures settled { IfOk result (λ heard. (answers : List Answer) × Tells (W.trace wires.old) (W.trace wires.new) answers
             × Settles now self.old self.new answers input heard) }
+        ensures lasts { OnErr result ((self.new ≡ self.old) × (W.trace wires.new ≡ W.trace wires.old) × IsLasting input) }
         ensures wires { W.wires wires.new ≡ W.wires wires.old }
         ensures lane { self.new.wire ≡ self.old.wire }
     {
@@ -374,6 +389,7 @@ impl NetLane {
           out = self.old.out ++ reply_text (refusal_of refusal);
           stage = Stage.Closing;
         }) }
+        ensures err { OnErr result (self.new ≡ self.old) }
         ensures lane { self.new.wire ≡ self.old.wire }
     {
         write_reply(&refusal_reply(self.alloc, refusal), &mut self.out)?;

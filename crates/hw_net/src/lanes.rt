@@ -7,6 +7,7 @@ ghost use Rattle.hw_lanes.specs.Replies.{IsReply};
 ghost use Rattle.hw_door.specs.Traffic.{Answer};
 ghost use Rattle.hw_net.specs.Door.{kept, index_of_first};
 ghost use Rattle.hw_net.specs.FirstReads.{ReadsFirstAt, IsWithin};
+ghost use Rattle.hw_net.specs.Halting.{Halts};
 ghost use Rattle.hw_net.specs.Lane.{Lane, is_awake, wires_of};
 ghost use Rattle.hw_net.specs.Lanes.{DoesHere};
 ghost use Rattle.hw_net.specs.Rising.{Rise};
@@ -140,6 +141,9 @@ impl Lanes {
             → (answers : List Answer) × Tells (W.trace wires.old) (W.trace wires.new) answers
             × DoesHere index (λ before after said. Listens now before after (first ++ said) heard)
             self.old.items self.new.items answers) }
+        ensures halts { OnErr result ((first : List Answer) → ReadsFirstAt index self.old.items first buf.old first_look
+            → (answers : List Answer) × Tells (W.trace wires.old) (W.trace wires.new) answers
+            × DoesHere index (λ before after said. Halts before after (first ++ said)) self.old.items self.new.items answers) }
         ensures wires { W.wires wires.new ≡ W.wires wires.old }
         ensures lanes { wires_of self.new.items ≡ wires_of self.old.items }
     {

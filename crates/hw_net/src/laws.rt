@@ -4,6 +4,7 @@ ghost use Rattle.std.specs.Prelude.{◌≡◌};
 ghost use Rattle.hw_net.specs.Bounds.{NextIsWithin, NextIsInTime, RepliesAreWithin, SendsAreWithin, ShutsAreWithin};
 ghost use Rattle.hw_net.specs.Limits.{piece, most_unwritten, most_wait, most_closing, most_named, switching};
 ghost use Rattle.hw_net.specs.Numbers.{NumbersRise, RepliesKeepNumbers, SendsKeepNumbers, ShutsKeepNumbers};
+ghost use Rattle.hw_net.specs.Reaching.{OthersListen, LanesAreReached};
 ghost use Rattle.hw_net.specs.Sessions.{RequestsAreAsked, RefusalsAreDeserved, RepliesAreWritten, RequestsWaitForReplies, WiresAreShutForACause, WiresAreShutOnce, LanesHaveWires, LossesHaveCauses, SocketsAreCarried};
 
 use crate::limits::{MOST_CLOSING, MOST_NAMED, MOST_UNWRITTEN, MOST_WAIT, PIECE, SWITCHING};
@@ -68,6 +69,13 @@ pub fn wires_are_shut_for_a_cause()
 /// 30,000 ms, more than 1,048,576 bytes would wait, or memory was out when it was read.
 pub fn losses_have_causes()
     ensures { LossesHaveCauses }
+{}
+
+/// A lane listens in each search that doesn't pass it over, as one does that hears a lane before it. Calls one after the other, in any
+/// state of a door, do so in fewer of `next` than 65 for each lane that is there or comes meanwhile, whatever the wires name.
+pub fn lanes_are_reached()
+    ensures listens { OthersListen }
+    ensures reached { LanesAreReached }
 {}
 
 /// A lane that became a WebSocket carries a fresh one, call by call. It is fed with what the requests leave of the bytes read, its payloads

@@ -54,9 +54,11 @@
 //! - `shut` puts a close frame behind what waits, if the lane is a live WebSocket, and the wire is shut once all is written, or in the
 //!   first `next` from 30,000 ms on, which drops what waits then ([`closing_ends`]).
 //!
-//! The last three write as far as the wire takes it, leave all other lanes as they are, and change nothing when memory is out. Over whole
+//! The last three write as far as the wire takes it, leave all other lanes as they are, and change nothing when memory is out. A `next` that is
+//! out of memory cuts one lane's turn short, which holds what was read, or is to be heard as lost; the others stand as they were or listened. Over whole
 //! sessions, in which no call was out of memory, what is heard is what was read, what was written and waits is what was replied, in
-//! order, and a wire is shut once, for a cause: [`requests_are_asked`], [`replies_are_written`] and the laws beside them.
+//! order, and a wire is shut once, for a cause: [`requests_are_asked`], [`replies_are_written`] and the laws beside them. In any calls each
+//! lane listens sooner or later, whatever the wires name ([`lanes_are_reached`]).
 //!
 //! The crate doesn't know what a request means, what a message says, sockets, nor clocks: moments are those that the wires polled.
 #![tactic(auto)]
@@ -80,8 +82,8 @@ mod writing;
 
 pub use door::NetDoor;
 pub use laws::{
-    closing_ends, lanes_are_bounded, limits_are_named, losses_have_causes, numbers_rise,
-    replies_are_written, requests_are_asked, requests_wait_for_replies, sockets_are_carried,
-    wires_are_shut_for_a_cause,
+    closing_ends, lanes_are_bounded, lanes_are_reached, limits_are_named, losses_have_causes,
+    numbers_rise, replies_are_written, requests_are_asked, requests_wait_for_replies,
+    sockets_are_carried, wires_are_shut_for_a_cause,
 };
 pub use limits::{MOST_CLOSING, MOST_NAMED, MOST_UNWRITTEN, MOST_WAIT};

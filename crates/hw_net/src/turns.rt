@@ -1,8 +1,9 @@
 //! One call's turns of the lanes, in their order.
 
-ghost use Rattle.std.specs.Prelude.{◌≡◌, ◌≤◌, List, None, Some, length, IfOk, IfSome, IfNone};
+ghost use Rattle.std.specs.Prelude.{◌≡◌, ◌≤◌, List, None, Some, length, IfOk, IfSome, IfNone, OnErr};
 ghost use Rattle.hw_door.specs.Traffic.{Answer};
 ghost use Rattle.hw_net.specs.Door.{HearsAll};
+ghost use Rattle.hw_net.specs.Halting.{HaltsWithin, HaltsAll};
 ghost use Rattle.hw_net.specs.Lane.{wires_of};
 ghost use Rattle.hw_net.specs.Rising.{Rise};
 ghost use Rattle.hw_net.specs.Trace.{Tells};
@@ -39,6 +40,8 @@ fn turn_until<W: Wires>(
     ensures quiet { IfOk result (λ found. IfNone found ((answers : List Answer)
         × Tells (W.trace wires.old) (W.trace wires.new) answers
         × Walks now None begin end lanes.old.items lanes.new.items answers None)) }
+    ensures halts { OnErr result ((answers : List Answer) × Tells (W.trace wires.old) (W.trace wires.new) answers
+        × HaltsWithin now begin end lanes.old.items lanes.new.items answers) }
     ensures buffer { length buf.new ≡ PIECE }
     ensures wires { W.wires wires.new ≡ W.wires wires.old }
     ensures lanes { wires_of lanes.new.items ≡ wires_of lanes.old.items }
@@ -90,6 +93,8 @@ fn turn_all<W: Wires>(
     ensures turned { IfOk result (λ heard. (answers : List Answer)
         × Tells (W.trace wires.old) (W.trace wires.new) answers
         × Walks now None begin end lanes.old.items lanes.new.items answers heard) }
+    ensures halts { OnErr result ((answers : List Answer) × Tells (W.trace wires.old) (W.trace wires.new) answers
+        × HaltsWithin now begin end lanes.old.items lanes.new.items answers) }
     ensures buffer { length buf.new ≡ PIECE }
     ensures wires { W.wires wires.new ≡ W.wires wires.old }
     ensures lanes { wires_of lanes.new.items ≡ wires_of lanes.old.items }
@@ -111,6 +116,8 @@ pub fn turn_from<W: Wires>(
     requires { Rise (wires_of lanes.old.items) }
     ensures hears { IfOk result (λ trace. (answers : List Answer) × Tells (W.trace wires.old) (W.trace wires.new) answers
         × HearsAll now from lanes.old.items lanes.new.items answers trace) }
+    ensures halts { OnErr result ((answers : List Answer) × Tells (W.trace wires.old) (W.trace wires.new) answers
+        × HaltsAll now from lanes.old.items lanes.new.items answers) }
     ensures wires { W.wires wires.new ≡ W.wires wires.old }
     ensures lanes { wires_of lanes.new.items ≡ wires_of lanes.old.items }
 {

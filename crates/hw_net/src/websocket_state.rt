@@ -2,10 +2,11 @@
 
 ghost use Rattle.std.specs.Prelude.{◌≡◌, ◌≤◌, ◌||◌, ◌∷◌, [], ℕ, List, true, false, not, length, take, option_map, IfOk, IfSome, OnOk, OnErr};
 ghost use Rattle.hw_door.specs.Traffic.{Answer};
-ghost use Rattle.hw_socket.specs.Reading.{Feeds};
+ghost use Rattle.hw_socket.specs.Reading.{Feeds, Loses};
 ghost use Rattle.hw_socket.specs.Sending as sending;
 ghost use Rattle.hw_socket.specs.Sending.{after_shut};
 ghost use Rattle.hw_net.specs.declared.limits.TheConstants.{PIECE};
+ghost use Rattle.hw_net.specs.Halting.{HaltsSocket};
 ghost use Rattle.hw_net.specs.Saying.{Writes};
 ghost use Rattle.hw_net.specs.WebSocketState.{HearsWebSocket, ReadsInto, Finds, IsCalm};
 ghost use Rattle.hw_net.specs.Trace.{Tells, Reads};
@@ -70,6 +71,8 @@ impl WebSocketState {
         requires { length buf.old ≡ PIECE }
         ensures heard { IfOk result (λ input. (answers : List Answer) × Tells (W.trace wires.old) (W.trace wires.new) answers
             × HearsWebSocket wire self.old self.new answers input) }
+        ensures halts { OnErr result ((answers : List Answer) × Tells (W.trace wires.old) (W.trace wires.new) answers
+            × HaltsSocket wire self.old self.new answers) }
         ensures wires { W.wires wires.new ≡ W.wires wires.old }
     {
         if self.lost_bytes || !self.read(wires, wire, buf)? {
@@ -88,6 +91,8 @@ impl WebSocketState {
         requires { length buf.old ≡ PIECE }
         ensures read { IfOk result (λ is_whole. (answers : List Answer) × Tells (W.trace wires.old) (W.trace wires.new) answers
             × ReadsInto wire self.old self.new answers is_whole) }
+        ensures halts { OnErr result ((answers : List Answer) × Tells (W.trace wires.old) (W.trace wires.new) answers
+            × HaltsSocket wire self.old self.new answers) }
         ensures wires { W.wires wires.new ≡ W.wires wires.old }
     {
         if !self.wants_read {
@@ -106,6 +111,8 @@ impl WebSocketState {
         requires count { IfSome read (λ count. count ≤ PIECE) }
         ensures heard { IfOk result (λ input. (wire : ℕ) (answer : Answer) → IsCalm self.old → Reads wire PIECE answer (option_map (λ count. take count buf.now) read)
             → HearsWebSocket wire self.old self.new (answer ∷ []) input) }
+        ensures halts { OnErr result ((wire : ℕ) (answer : Answer) → IsCalm self.old → Reads wire PIECE answer (option_map (λ count. take count buf.now) read)
+            → HaltsSocket wire self.old self.new (answer ∷ [])) }
         ensures right { IfOk result (IsRightInput (Protocol.Socket self.new)) }
     {
         let Some(count) = read else {
@@ -167,6 +174,7 @@ impl WebSocketState {
         requires { count ≤ length buf.now }
         ensures fed { OnOk result (Feeds self.old.lane (take count buf.now) self.new.lane) }
         ensures whole { OnOk result (self.new.lost_bytes ≡ self.old.lost_bytes) }
+        ensures lost { OnErr result (self.new ≡ record self.old { last_read_was_full = true; lost_bytes = true }) }
     {
         self.last_read_was_full = count == buf.len();
         let piece = &buf[..count];
@@ -185,6 +193,7 @@ impl WebSocketState {
     /// Hears one message.
     fn look(&mut self) -> Result<Input, AllocError>
         ensures found { IfOk result (Finds self.old self.new) }
+        ensures lost { OnErr result (Loses self.old.lane self.new.lane) }
         ensures whole { self.new.lost_bytes ≡ self.old.lost_bytes }
     {
         self.wants_read = false;

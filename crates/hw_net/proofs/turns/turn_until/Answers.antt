@@ -1,6 +1,7 @@
 use Rattle.std.proofs.Common.{rules, arith, ◌≡◌, ◌<◌, None, Some, length}
 use Rattle.hw_net.proofs.Calm.{calm-listens}
 use Rattle.hw_net.proofs.Walking.{walks-after-look, walks-still, same-length}
+use Rattle.hw_net.proofs.Halting.{on-err, halts-after-look}
 use Rattle.hw_net.proofs.turns.turn_until.Goals as goal
 
 pub returns-in-Some-clause-found : goal.returns-in-Some-clause-found
@@ -46,3 +47,10 @@ loop-index-preserved-then-eq g c =
       search rules,
       search rules,
     )
+
+pub returns-in_err-event-clause-halts : goal.returns-in_err-event-clause-halts
+returns-in_err-event-clause-halts g c =
+    let trace = g.W.Wires.trace in
+    on-err c.from_residual.result (halts-after-look (trace c.args.wires.now) (trace c.loop-index.wires) (trace c.read_first-first_look.new.wires) (trace c.turn.new.wires) c.args.now c.args.begin c.loop-index.index c.args.end
+    c.args.lanes.now.items c.loop-index.lanes.items c.turn.new.self.items c.read_first-first_look.new.buf c.read_first-first_look.result c.loop-index.invariant.1 (search rules) c.loop-index.invariant.0
+    c.read_first-first_look.ensures.reads_first c.in_err-event.ensures.halts)

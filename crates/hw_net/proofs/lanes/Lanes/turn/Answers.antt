@@ -2,6 +2,7 @@ use Rattle.std.proofs.Common.{rules, ◌≡◌, ◌<◌, ◌+◌, ◌^◌, ◌�
 use Rattle.hw_net.proofs.Calm.{turns-here}
 use Rattle.hw_net.proofs.Sweeps.{wires-kept}
 use Rattle.hw_net.proofs.Tallying.{at-counted, room-again, put-again}
+use Rattle.hw_net.proofs.Halting.{halts-here}
 use Rattle.hw_net.proofs.lanes.Lanes.turn.Goals as goal
 
 pub leave-requires : goal.leave-requires
@@ -33,3 +34,11 @@ returns-clause-turned g c =
     let within : c.args.index < length c.args.self.now.items = search rules in
     turns-here c.turn-heard.result (trace c.args.wires.now) (trace c.turn-heard.new.wires) c.args.now c.args.index c.args.self.now.items _ c.index_mut-lane.result.now c.turn-heard.new.self c.args.buf.now c.args.first_look
     within found (search rules) c.turn-heard.ensures.turned
+
+pub returns-clause-halts : goal.returns-clause-halts
+returns-clause-halts g c =
+    let trace = g.W.Wires.trace in
+    let found : get_or c.args.self.now.items c.args.index c.index_mut-lane.result.now ≡ c.index_mut-lane.result.now = search rules in
+    let within : c.args.index < length c.args.self.now.items = search rules in
+    halts-here c.turn-heard.result (trace c.args.wires.now) (trace c.turn-heard.new.wires) c.args.index c.args.self.now.items _ c.index_mut-lane.result.now c.turn-heard.new.self c.args.buf.now c.args.first_look
+    within found (search rules) c.turn-heard.ensures.halts
