@@ -5,8 +5,10 @@ use hm_message::Ending;
 use hv_value::{Items, Text, Value};
 use std::alloc::AllocError;
 
+/// As JSON has it. A number or a text is its own image.
 fn push_value(out: &mut String, value: &Value) -> Result<(), AllocError> {
-    match value {
+    let image = value.json_image()?;
+    match &image {
         Value::Null => out.push_str("null"),
         Value::Int(whole) => {
             let number = whole.get();

@@ -10,7 +10,7 @@ use ht_kit::Stop;
 use hv_value::{Items, Text, Texts, Value};
 use std::alloc::Global;
 
-/// A Notify of this target, with these words as its arguments.
+/// A Notify of this target, with these words as its arguments. What is sent is a copy of it, so that scripts see what copies are.
 pub fn notice(alloc: Global, target: &str, words: &str) -> Result<Message, Stop>
     ensures notice { IfOk result (λ m. (c : Invoked) × IsNotice m c) }
     ensures fits { IfOk result (λ m. Fits m) }
@@ -19,7 +19,7 @@ pub fn notice(alloc: Global, target: &str, words: &str) -> Result<Message, Stop>
     if !message.fits() {
         return Err(Stop::Refused);
     }
-    Ok(message)
+    Ok(message.copy()?)
 }
 
 fn message(alloc: Global, target: &str, words: &str) -> Result<Message, Stop>

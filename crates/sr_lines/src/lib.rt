@@ -18,8 +18,6 @@
 mod laws;
 mod report;
 mod telling;
-#[cfg(test)]
-mod tests;
 
 pub use laws::{asks_are_told, faults_are_told, refusals_are_told};
 pub use report::{
