@@ -1,43 +1,18 @@
-#!/usr/bin/env python3
-"""A model of the table of own calls and the table of jobs, for crates/ht_calls.
-
-    acceptance/calls_model.py --check [BUILT] | --write      the script of calls_script.py and what the model says of it (committed.py)
-    acceptance/calls_model.py                                prints what the model says of a script on its standard input
+"""A model of the table of own calls, of the table of jobs and of the calculator's methods, for the model of peers (peers_model.py).
 
 A table here is the list of what happened to it, the latest last. Each question scans that list anew: nothing is kept beside it. The rules
-are those of docs/calls.md and docs/hubs.md, and the methods those of docs/protocol.md. crates/ht_calls/src has the words of a script."""
-import re
-import sys
-
-import calls_script
-import committed
+are those of docs/calls.md and docs/hubs.md, and the methods those of docs/protocol.md."""
 
 MOST_LIVE = 1024
-MOST_UPLOADS = 8
 MOST_INPUTS = 4096
+MOST_WEIGHT = 2**24
+BASE_WEIGHT = 48
+REFUSED = "The ask was refused."
 MOST_NUMBERS = 2**62
 MOST_TURNS = 1_000_000
-MOST_TIMES = 10_000
-KINDS = ("notify", "call", "stream")
 
 
-class Refused(Exception):
-    """The line is no action."""
-
-
-# ---- words
-
-
-def number(word, bits=64):
-    if not re.fullmatch(r"\+?[0-9]+", word, re.ASCII) or int(word) >= 2**bits:
-        raise Refused
-    return int(word)
-
-
-def kind_of(word):
-    if word not in KINDS:
-        raise Refused
-    return word
+# ---- numbers
 
 
 def is_whole(n):
@@ -51,49 +26,6 @@ def is_int(v):
 
 def is_count(v):
     return is_int(v) and 0 <= v <= MOST_TURNS
-
-
-def value(word):
-    if re.fullmatch(r"[+-]?[0-9]+", word, re.ASCII) and is_whole(int(word)):
-        return int(word)
-    return word
-
-
-def values(words):
-    return [value(word) for word in words.split(" ")] if words else []
-
-
-def shown(v):
-    return str(v) if isinstance(v, int) else "'" + v
-
-
-def ending_of(words):
-    word, _, rest = words.partition(" ")
-    if word == "void":
-        return ("void",)
-    if word == "result":
-        return ("result", value(rest))
-    if word == "error":
-        return ("error", rest)
-    raise Refused
-
-
-def shown_ending(ending):
-    if ending == ("void",):
-        return "void"
-    word, told = ending
-    return f"{word} {shown(told) if word == 'result' else told}"
-
-
-def asked_of(asks, verb):
-    """Does what these functions have for a verb."""
-    if verb not in asks:
-        raise Refused
-    return asks[verb]()
-
-
-def target_with(target, arguments):
-    return " ".join(["target", target, "arguments", *map(shown, arguments)])
 
 
 # ---- own calls
@@ -121,9 +53,6 @@ class OwnCalls:
         ended = {h[1:] for h in self.log if h[0] == "ended"}
         return [(n, w) for n, _, uploads in self.called() if n not in over for w in range(uploads) if (n, w) not in ended]
 
-    def live(self):
-        return f"live {len(self.live_calls()) + len(self.live_uploads())}"
-
     def drawn(self):
         return max([n + uploads for n, _, uploads in self.called()], default=0)
 
@@ -141,21 +70,9 @@ class OwnCalls:
         self.log.append(("called", n, kind, uploads))
         return n
 
-    def begin(self, kind, uploads, target, arguments):
-        if uploads > MOST_UPLOADS:
-            return "not asked"
-        n = self.enter(kind, uploads)
-        if isinstance(n, str):
-            return n
-        name = "StreamInvocation" if kind == "stream" else "Invocation"
-        who = "no id" if kind == "notify" else "id " + self.id(n)
-        streams = " ".join(["streams", *(self.id(n + 1 + w) for w in range(uploads))])
-        return f"call {n} {name} {who} {target_with(target, arguments)} {streams}"
-
     def undo(self):
         if self.log and self.log[-1][0] == "called":
             self.log[-1] = ("undone",)
-        return self.live()
 
     def settle(self, text):
         for n, _ in self.live_calls():
@@ -164,31 +81,9 @@ class OwnCalls:
                 return f"settled {n}"
         return "unknown"
 
-    def item(self, text):
-        for n, kind in self.live_calls():
-            if self.id(n) == text and kind == "stream":
-                return f"item of {n}"
-        return "unknown"
-
-    def cancel(self, n):
-        if n in [live for live, _ in self.live_calls()]:
-            return "CancelInvocation id " + self.id(n)
-        return "unknown"
-
-    def upload_item(self, n, w, v):
-        if (n, w) in self.live_uploads():
-            return f"StreamItem id {self.id(n + 1 + w)} {shown(v)}"
-        return "unknown"
-
-    def upload_end(self, n, w, error):
-        if (n, w) in self.live_uploads():
-            return f"Completion id {self.id(n + 1 + w)} {shown_ending(('error', error) if error else ('void',))}"
-        return "unknown"
-
     def upload_ended(self, n, w):
         if (n, w) in self.live_uploads():
             self.log.append(("ended", n, w))
-        return self.live()
 
     def lose(self):
         live = [n for n, _ in self.live_calls()]
@@ -196,24 +91,6 @@ class OwnCalls:
             return "none lost"
         self.log.append(("over", min(live)))
         return f"lost {min(live)}"
-
-    def ask(self, verb, rest):
-        word, _, more = rest.partition(" ")
-        last, _, words = more.partition(" ")
-        target, _, arguments = words.partition(" ")
-        asks = {
-            "begin": lambda: self.begin(kind_of(word), number(last, 32), target, values(arguments)),
-            "undo": self.undo,
-            "settle": lambda: self.settle(rest),
-            "item": lambda: self.item(rest),
-            "cancel": lambda: self.cancel(number(rest)),
-            "upload-item": lambda: self.upload_item(number(word), number(last, 32), value(words)),
-            "upload-end": lambda: self.upload_end(number(word), number(last, 32), words),
-            "upload-ended": lambda: self.upload_ended(number(word), number(more, 32)),
-            "lose": self.lose,
-            "live": self.live,
-        }
-        return asked_of(asks, verb)
 
 
 # ---- the calculator
@@ -258,7 +135,7 @@ def sum_of(inputs):
         return ("wait",)
     if word == "stream end":
         (error,) = given
-        return ("end", ("error", error) if error else ("result", total))
+        return ("end", ("result", total) if error is None else ("error", error))
     (item,) = given
     if not is_int(item):
         return ("end", ("error", "Wrong arguments."))
@@ -268,6 +145,36 @@ def sum_of(inputs):
 # ---- jobs
 
 
+def text_weight(text):
+    return BASE_WEIGHT + len(text.encode())
+
+
+def value_weight(v):
+    if isinstance(v, str):
+        return text_weight(v)
+    if isinstance(v, list):
+        return BASE_WEIGHT + sum(map(value_weight, v))
+    if isinstance(v, dict):
+        return BASE_WEIGHT + sum(len(key.encode()) + value_weight(value) for key, value in v.items())
+    return BASE_WEIGHT
+
+
+def call_weight(id, streams, target, arguments):
+    return sum(map(text_weight, [target, *streams] + [id] * (id is not None))) + value_weight(arguments)
+
+
+def input_weight(given):
+    """Of an item, of the end of a stream with its error or none, or of how an ask was answered."""
+    kind, part = given
+    if kind == "item":
+        return value_weight(part)
+    if kind == "stream end":
+        return text_weight(part or "")
+    if part[0] == "error":
+        return 0 if part[1] == REFUSED else text_weight(part[1])
+    return BASE_WEIGHT + (value_weight(part[1]) if part[0] == "result" else 0)
+
+
 class Jobs:
     """What happened: ("accepted", kind, id, streams, target, arguments), ("came", job, stream's place, input), ("marked", job),
     ("turned", job, input, act), ("over", job), ("replied", job, input), ("round",). Jobs are numbered from 1."""
@@ -275,16 +182,23 @@ class Jobs:
     def __init__(self, hub=calculator):
         self.hub = hub
         self.log = []
+        self.came = 0  # the weight of all that came, which what is kept doesn't pass
 
     def calls(self):
         return [h[1:] for h in self.log if h[0] == "accepted"]
 
+    def job_weight(self, job, call):
+        _, id, streams, target, arguments = call
+        kept = self.waiting(job) + [self.reply(job)] * (self.reply(job) is not None)
+        return call_weight(id, streams, target, arguments) + sum(map(input_weight, kept))
+
+    def is_heavy(self, more=0):
+        """Whether its live jobs would keep more than they may with this weight more."""
+        return self.came + more > MOST_WEIGHT and sum(self.job_weight(*live) for live in self.live_jobs()) + more > MOST_WEIGHT
+
     def live_jobs(self):
         over = {h[1] for h in self.log if h[0] == "over" or h[0] == "turned" and h[3][0] == "end"}
         return [(job, call) for job, call in enumerate(self.calls(), 1) if job not in over]
-
-    def live(self):
-        return f"live {len(self.live_jobs())}"
 
     def given(self, job):
         """The inputs of its turns."""
@@ -310,14 +224,16 @@ class Jobs:
         if len(self.live_jobs()) >= MOST_LIVE:
             return "too many"
         self.log.append(("accepted", kind, text, streams, target, arguments))
+        self.came += call_weight(text, streams, target, arguments)
         return f"job {len(self.calls())}"
 
     def feed(self, stream, given):
         for text, job, w in self.open_streams():
             if text == stream:
-                if len(self.waiting(job)) >= MOST_INPUTS:
+                if len(self.waiting(job)) >= MOST_INPUTS or self.is_heavy(input_weight(given)):
                     return "flood"
                 self.log.append(("came", job, w, given))
+                self.came += input_weight(given)
                 return f"fed {job}"
         return "unknown"
 
@@ -331,7 +247,6 @@ class Jobs:
     def end(self, job):
         if job in [live for live, _ in self.live_jobs()]:
             self.log.append(("over", job))
-        return self.live()
 
     def reply(self, job):
         """What has answered its last ask."""
@@ -352,11 +267,8 @@ class Jobs:
         if act is None or act[0] != "ask" or self.reply(job):
             return "unknown"
         self.log.append(("replied", job, ("asked", ending)))
+        self.came += input_weight(("asked", ending))
         return "answered"
-
-    def answer_deed(self, _job):
-        """No job of the calculator hands up a deed."""
-        return "unknown"
 
     def next_input(self, job):
         word = (self.last_act(job) or ("none",))[0]
@@ -377,10 +289,6 @@ class Jobs:
 
     def round(self):
         self.log.append(("round",))
-        return "round"
-
-    def due(self):
-        return "due" if any(self.is_due(job) for job, _ in self.live_jobs()) else "none due"
 
     def next_turn(self):
         """The job that has the next turn of this round, with its call."""
@@ -399,101 +307,3 @@ class Jobs:
             act = self.hub(kind, target, arguments, streams, self.given(job) + [given])
         self.log.append(("turned", job, given, act))
         return act
-
-    def step(self, room):
-        found = self.next_turn() if room else None
-        if found is None:
-            return "no turn"
-        job, call = found
-        kind, text, *_ = call
-        act = self.turn(job, call)
-        return f"turn {job} {kind} {'no id' if kind == 'notify' else 'id ' + text} {self.shown_act(act)}"
-
-    @staticmethod
-    def shown_act(act):
-        word, *parts = act
-        ways = {"item": shown, "end": shown_ending, "ask": target_with}
-        return f"{word} {ways[word](*parts)}" if word in ways else word
-
-    def ask(self, verb, rest):
-        word, _, more = rest.partition(" ")
-        asks = {
-            "accept": lambda: self.accept_words(kind_of(word), more),
-            "input": lambda: self.feed(word, ("item", value(more))),
-            "stream-end": lambda: self.feed(word, ("stream end", more)),
-            "cancel": lambda: self.cancel(rest),
-            "end": lambda: self.end(number(rest)),
-            "answer": lambda: self.answer(number(word), ending_of(more)),
-            "reply": lambda: self.answer_deed(number(word)),
-            "fail": lambda: self.answer_deed(number(rest)),
-            "round": self.round,
-            "step": lambda: self.step(True),
-            "halves": lambda: self.step(True),
-            "stall": lambda: self.step(False),
-            "due": self.due,
-            "live": self.live,
-        }
-        return asked_of(asks, verb)
-
-    def accept_words(self, kind, words):
-        text, _, words = words.partition(" ")
-        streams, _, words = words.partition(" ")
-        target, _, words = words.partition(" ")
-        return self.accept(kind, text, [] if streams == "-" else streams.split(","), target, values(words))
-
-
-# ---- scripts
-
-
-class Model:
-    def __init__(self):
-        self.calls = OwnCalls("")
-        self.jobs = Jobs()
-
-    def ask(self, action):
-        table, _, words = action.partition(" ")
-        verb, _, rest = words.partition(" ")
-        if table == "note":
-            return words
-        if table not in ("calls", "jobs"):
-            raise Refused
-        if verb != "new":
-            return (self.calls if table == "calls" else self.jobs).ask(verb, rest)
-        if table == "calls":
-            self.calls = OwnCalls(rest)
-            return self.calls.live()
-        self.jobs = Jobs()
-        return self.jobs.live()
-
-    def answers(self, place, line):
-        """The answers to a line of a script, which are lines."""
-        try:
-            if not (line + " ").startswith("repeat "):
-                return [self.ask(line)]
-            times, _, action = line[7:].partition(" ")
-            if number(times) > MOST_TIMES:
-                raise Refused
-        except Refused:
-            return [f"line {place} refused"]
-        return [answer for n in range(1, int(times) + 1) for answer in self.repeated(place, action.replace("#", str(n)))]
-
-    def repeated(self, place, action):
-        try:
-            return [self.ask(action)]
-        except Refused:
-            return [f"line {place} refused"]
-
-
-def output_of(script):
-    model = Model()
-    lines = script.removesuffix("\n").split("\n") if script else []
-    return "".join(answer + "\n" for place, line in enumerate(lines, 1) for answer in model.answers(place, line))
-
-
-def made():
-    script = calls_script.script(Model)
-    return script, output_of(script)
-
-
-if __name__ == "__main__":
-    sys.exit(committed.main("ht_calls", made, output_of))

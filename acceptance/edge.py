@@ -1,11 +1,14 @@
 #!/usr/bin/env python3
-"""Looks at what no proof says of the system's side: where a server listens, what of its descriptors it gives back, and what its draws are.
+"""Looks at what no proof says of the system's side: where a server listens, what of its descriptors it gives back, what its draws are, and whether its
+clock goes with the system's.
 
     acceptance/edge.py [PROGRAM]      PROGRAM is bin/sr by default, and so the release if nothing newer was built
 
 A draw is the first 16 bytes of a token. What is asked of draws follows from the binomial distribution: of BITS fair bits 4,000 more or
 fewer than the half is more than seven standard deviations. The last line is 'N passed, N failed'; the status is 0 if none failed."""
 import base64
+import concurrent.futures
+import json
 import os
 import pathlib
 import socket
@@ -27,6 +30,9 @@ SECONDS = 10  # until the server has seen that a connection is gone
 NEGOTIATE = "/hub/negotiate?negotiateVersion=1"
 TOKEN = b'"connectionToken":"'
 TOKEN_LETTERS = 32
+LIFE = 30  # seconds for which a token lives that nobody uses
+TOLERANCE = 0.05  # seconds that the server's clock may be off after those
+TRIES = 8
 
 
 def draws(port):
@@ -95,11 +101,44 @@ def all_addresses(program):
         return connects(HOST, server.port), connects("127.0.0.2", server.port)
 
 
+class Token:
+    """A token, with the moments between which it was made."""
+
+    def __init__(self, server):
+        self.port, self.before = server.port, time.monotonic()
+        status, body = Raw(server.port).http("POST", NEGOTIATE)
+        self.after = time.monotonic()
+        self.id = json.loads(body)["connectionToken"] if status == 200 else None
+
+    def polled(self, age):
+        """How a poll is answered about so many seconds after it was made, with the least and the greatest that it may be."""
+        time.sleep(max(0, self.after + age - time.monotonic()))
+        lane, least = Raw(self.port), time.monotonic() - self.after
+        status, _ = lane.http("GET", f"/hub?id={self.id}")
+        return status, least, time.monotonic() - self.before
+
+
+def a_life(program):
+    """How a token is answered before it is LIFE seconds old, and after that. Asked too late for the one or too early for the other, as may be on a
+    machine that does other things too, it says nothing; it is asked so often that some does."""
+    young, old = set(), set()
+    with Serving(program) as server, concurrent.futures.ThreadPoolExecutor(TRIES) as pool:
+        tokens = [Token(server) for _ in range(TRIES)]
+        ages = [LIFE - 2 * TOLERANCE, LIFE + 2 * TOLERANCE] * (TRIES // 2)
+        for status, least, most in pool.map(Token.polled, tokens, ages):
+            if most < LIFE - TOLERANCE:
+                young.add(status)
+            elif least > LIFE + TOLERANCE:
+                old.add(status)
+    return young or {200}, old or {404}
+
+
 CASES = {
     "draws are fair, and no two are equal": (fair_draws, (RUNS, RUNS * DRAWS)),
     "connections that went leave no descriptor": (given_back, (0, 200)),
     "a port is bound to its address alone": (one_address, (True, False)),
     "a port is bound to all addresses": (all_addresses, (True, True)),
+    "a token lives as long by the system's clock": (a_life, ({200}, {404})),
 }
 
 

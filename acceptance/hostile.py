@@ -15,6 +15,7 @@ import threading
 
 HERE = pathlib.Path(__file__).resolve().parent
 sys.path.insert(0, str(HERE / "clients"))
+from hostile_calls import CALL_CASES  # noqa: E402
 from hostile_greed import GREEDY_CASES, SLOW_GREEDY_CASES, under_attack  # noqa: E402
 from hostile_http import HTTP_CASES, SLOW_HTTP_CASES  # noqa: E402
 from hostile_hubs import HUB_CASES, SLOW_HUB_CASES  # noqa: E402
@@ -22,7 +23,7 @@ from hostile_sockets import SOCKET_CASES, SLOW_SOCKET_CASES  # noqa: E402
 from raw import Ended, Hub, Raw  # noqa: E402
 from serving import Serving  # noqa: E402
 
-CASES = HTTP_CASES + SOCKET_CASES + HUB_CASES
+CASES = HTTP_CASES + SOCKET_CASES + HUB_CASES + CALL_CASES
 SLOW_CASES = SLOW_HTTP_CASES + SLOW_SOCKET_CASES + SLOW_HUB_CASES
 MOST_GROWTH = 65_536  # KiB
 

@@ -28,6 +28,7 @@ SECONDS = 120
 USUAL_PORT = 8080
 LITTLE_MEMORY = 1 << 20  # bytes; a script may have as many
 FEW_DESCRIPTORS = 40
+MOST_WRITTEN = 65_536  # bytes that a call of a case writes
 # Two messages, of which the server reads the first alone and then the rest.
 SCRIPT = b"""open
 accept 0
@@ -54,6 +55,10 @@ LONG_SCRIPT = SCRIPT[: SCRIPT.index(b"c send")] + b'c send {"arguments":[],"targ
 # Pings as HubProtocol.md has them ("Ping Message Encoding").
 PINGS = b'{"type":6}\x1e{"type":6}\x1e'
 LINES = b'0 message {"type":6}\n11 message {"type":6}\n'
+# An unknown type between two pings.
+MIXED = b'{"type":6}\x1e{"type":10}\x1e{"type":6}\x1e'
+MIXED_LINES = b'0 message {"type":6}\n11 unknown 10\n23 message {"type":6}\n'
+PACKED_PINGS = b"\x02\x91\x06\x02\x91\x06"
 SOAKED = b"seed 1 actions 1 calls 1 endings 1 live 0 links 2\n"
 LONGEST_SOAK = rb"seed 18446744073709551615 actions 100000 calls (\d+) endings \1 live 0 links (\d+)\n"
 SERVES = b"serving 0\n"
@@ -145,6 +150,23 @@ def takes_ten_bytes(program):
         status, _, _ = run(program, "check json", input=PINGS, stdout=out, preexec_fn=limit, restore_signals=False)
         out.seek(0)
         return status, out.read()
+
+
+def at_once(words, given, wanted):
+    """A case of a command whose output keeps apart what each call puts there: what a piece of the input makes whole is put by one."""
+    def case(program):
+        ours, theirs = socket.socketpair(socket.AF_UNIX, socket.SOCK_DGRAM)
+        with ours, theirs:
+            status = run(program, words, input=given, stdout=theirs)[0]
+            ours.setblocking(False)
+            return status, [*datagrams(ours)]
+    return case, wanted
+
+
+def datagrams(ours):
+    with contextlib.suppress(BlockingIOError):
+        while True:
+            yield ours.recv(MOST_WRITTEN)
 
 
 def little_memory(program):
@@ -245,7 +267,13 @@ CASES = {
     "check, and the output is full": of_output("check json", PINGS, 4),
     "check, and input and output fail": (both_fail, 4),
     "check, and the output takes ten bytes": (takes_ten_bytes, (4, LINES[:10])),
-    "convert, and the input fails behind two frames": of_input("convert json pack", lambda: broken_off(PINGS), (3, b"\x02\x91\x06" * 2)),
+    "check, and the input fails behind an unknown type too": of_input("check json", lambda: broken_off(MIXED), (3, MIXED_LINES)),
+    "check of one piece": at_once("check json", MIXED, (0, [MIXED_LINES])),
+    "check of one piece with a refusal": at_once("check json", b"{}\x1e" + MIXED, (2, [b"0 refused Missing type\n"])),
+    "convert, and the input fails behind two frames": of_input("convert json pack", lambda: broken_off(PINGS), (3, PACKED_PINGS)),
+    "convert of one piece": at_once("convert json pack", MIXED, (0, [PACKED_PINGS])),
+    "convert of an unknown type alone": at_once("convert json pack", b'{"type":10}\x1e', (0, [])),
+    "convert, and the output is full": of_output("convert json pack", PINGS, 4),
     "soak doesn't read its input": of_input("soak 1 1", folder, (0, SOAKED)),
     "soak, and the output is full": of_output("soak 1 1", NOTHING, 4),
     "no command, and the output is full": of_output("frob", NOTHING, 4),

@@ -20,7 +20,7 @@ import sys
 
 REASON_DONE = None
 PROTOCOL = "Protocol error."
-SHOWN = 40  # lines of a report that isn't as wanted
+SHOWN = 40  # lines of a script whose report isn't as wanted, and of what differs there
 
 
 class Refused(Exception):
@@ -555,13 +555,19 @@ def random_script(draw):
 
 def compare(script, program):
     """What is wrong with what the program reports of a script, in lines."""
-    wanted, status = report_of(script)
+    return compare_with(*report_of(script), script, program)
+
+
+def compare_with(wanted, status, script, program):
     run = subprocess.run([program, "replay"], input=script.encode(), capture_output=True, timeout=60)
     got = run.stdout.decode(errors="replace")
     if (got, run.returncode) == (wanted, status): return []
     names = f"want, with status {status}", f"got, with status {run.returncode}"
-    differences = [*difflib.unified_diff(wanted.splitlines(), got.splitlines(), *names, lineterm="", n=2)]
-    return [*script.splitlines(), *(differences[:SHOWN] or names)]
+    return [*script.splitlines()[:SHOWN], *(differences(wanted, got, *names) or names)]
+
+
+def differences(wanted, got, *names):
+    return [*difflib.unified_diff(wanted.splitlines(), got.splitlines(), *names, lineterm="", n=2)][:SHOWN]
 
 
 def compare_random(seed, n, program):

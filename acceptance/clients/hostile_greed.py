@@ -29,11 +29,16 @@ ROW_COST = 0.25  # KiB: what a row takes beside its bytes
 MOST_PATIENCE = 5  # seconds for an answer; the machine does other things too
 SOON = 10  # seconds after the attacker's end until its memory is back
 CALLS = 30  # in one message, which has at most 1,048,576 bytes
+MOST_SHARED = 4 * MIB  # a copy for each of 300 members would be 27 MB
 JSON = '{"protocol":"json","version":1}'
+KEPT = '{"protocol":"json","version":2}'
 TOO_LONG = "The answer is too long."
 WRONG = "Wrong arguments."
 TOO_MANY = "Too many groups."
 MOST_GROUPS = 256
+MOST_WEIGHT = 16_777_216  # of what the live calls of a connection carry
+VALUE = 48  # what each value, id, target and list of arguments weighs beside the bytes of its text
+FLOODED = "Too many inputs."
 
 
 class Beside(threading.Thread):
@@ -187,6 +192,24 @@ def flood(count):
     return attack, 0
 
 
+def heavy_calls(server):
+    """Long lists that are kept while their calls wait. As many are taken as may be kept; the next one ends the connection."""
+    hub = attacker(server.port)
+    nulls = 6_500
+    slow = ['{"type":1,"invocationId":"%03d","target":"Slow","arguments":[1000000,[%s]]}' % (n, ",".join(["null"] * nulls)) for n in range(100)]
+    weight = VALUE * (5 + nulls) + len("000") + len("Slow")  # an id, a target, the arguments, a number, the list and what is in it
+    most = MOST_WEIGHT // weight
+    for begin in range(0, most, CALLS):
+        hub.say(*slow[begin : min(begin + CALLS, most)])
+    served = hub.call("Add", 2, 3).get("result")
+    hub.say(slow[most])
+    told = hub.hear()
+    while '"type":7' not in told and not told.startswith("closed"):
+        told = hub.hear()
+    hub.close()
+    return f"{served}, {json.loads(told).get('error') if told.startswith('{') else told}"
+
+
 def descriptors(server):
     return len(os.listdir(f"/proc/{server.process.pid}/fd"))
 
@@ -247,6 +270,41 @@ def deaf_client(port, texts):
     return hub
 
 
+def members_away(count):
+    """Members of a room whose sockets are lost, and so are kept all that is posted: that is one copy for all of them. They come back to
+    close."""
+
+    def attack(server):
+        lane, targets = Raw(server.port), []
+        for _ in range(count):
+            _, body = lane.http("POST", NEGOTIATE + "&useStatefulReconnect=true")
+            targets.append("/hub?id=" + json.loads(body)["connectionToken"])
+            hub = Hub(server.port, targets[-1])
+            hub.say(KEPT, '{"type":1,"invocationId":"1","target":"Join","arguments":["a"]}')
+            while json.loads(hub.hear()).get("type") != 3:
+                pass
+            hub.drop()
+        hub, before = attacker(server.port), server.memory() or 0
+        posted = kinds(calling(hub, "Post", [["a", "x" * 30_000]] * 3))
+        growth = (server.memory() or 0) - before
+        hub.close()
+        back = {back_to_close(server.port, target) for target in targets}
+        return f"{posted}, {'one copy' if growth <= MOST_SHARED else f'{growth} KiB'}, {back}"
+
+    return attack, 3 * 30
+
+
+def back_to_close(port, target):
+    """How many texts of 30,000 bytes come, and the status with which the socket is closed."""
+    hub, texts = Hub(port, target), 0
+    while texts < 3:
+        texts += len(hub.hear()) > 30_000
+    hub.say('{"type":7}')
+    status, _ = hub.closing()
+    hub.close()
+    return texts, status
+
+
 FINE = "others are answered, memory is bounded, and back"
 # Each is its name, what has to come of it, and the attack with the KiB of texts that are kept of it.
 GREEDY_CASES = [
@@ -254,6 +312,8 @@ GREEDY_CASES = [
     ("3,000 posts of 10,000 bytes", f"None, {FINE}", *many_posts(3_000, 10_000)),
     ("2,000 names of groups of 30,000 bytes", f"{WRONG}, {FINE}", *long_names(2_000)),
     ("300 groups", f"None, {TOO_MANY}, None and {TOO_MANY}, 5, {FINE}", many_groups, 0),
+    ("calls that carry long lists and wait", f"5, {FLOODED}, {FINE}", heavy_calls, 0),
+    ("300 members without a socket, and 90,000 bytes for each", f"None, one copy, {{(3, 1000)}}, {FINE}", *members_away(300)),
     ("10,000 tokens that nobody uses", f"[200], 5, {FINE}", *flood(10_000)),
 ]
 SLOW_GREEDY_CASES = [("28 clients that never read", f"lanes wait, and 0 after half a minute, {FINE}", never_reading, 0)]

@@ -105,11 +105,11 @@ def held_poll_of_a_deleted(port):
     return f"{Raw(port).http('DELETE', target)[0]}, {held.reply()[0]}"
 
 
-def kept(port):
+def kept(port, version=2):
     """A kept connection, after its handshake: its target and its first socket."""
     target = negotiated(port, "&useStatefulReconnect=true")
     hub = Hub(port, target)
-    hub.shake(2)
+    hub.shake(version)
     return target, hub
 
 
