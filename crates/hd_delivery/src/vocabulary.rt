@@ -51,7 +51,7 @@ pub enum Reason {
     InUse,
     /// The other end made more calls than may be live.
     TooMany,
-    /// The other end sent a job more inputs than may wait.
+    /// The other end sent jobs more than they may keep.
     Flood,
     /// The other end read too slowly.
     Slow,
