@@ -5,7 +5,7 @@ clock goes with the system's.
     acceptance/edge.py [PROGRAM]      PROGRAM is bin/sr by default, and so the release if nothing newer was built
 
 A draw is the first 16 bytes of a token. What is asked of draws follows from the binomial distribution: of BITS fair bits 4,000 more or
-fewer than the half is more than seven standard deviations. The last line is 'N passed, N failed'; the status is 0 if none failed."""
+fewer than the half is more than seven standard deviations. The last line is 'N passed, N failed', with ', N skipped' after it if any were; the status is 0 if none failed."""
 import base64
 import concurrent.futures
 import json
@@ -120,7 +120,7 @@ class Token:
 
 def a_life(program):
     """How a token is answered before it is LIFE seconds old, and after that. Asked too late for the one or too early for the other, as may be on a
-    machine that does other things too, it says nothing; it is asked so often that some does."""
+    machine that does other things too, it says nothing. None: nothing was said of the one or of the other."""
     young, old = set(), set()
     with Serving(program) as server, concurrent.futures.ThreadPoolExecutor(TRIES) as pool:
         tokens = [Token(server) for _ in range(TRIES)]
@@ -130,7 +130,7 @@ def a_life(program):
                 young.add(status)
             elif least > LIFE + TOLERANCE:
                 old.add(status)
-    return young or {200}, old or {404}
+    return (young, old) if young and old else None
 
 
 CASES = {
@@ -144,15 +144,19 @@ CASES = {
 
 def main():
     program = sys.argv[1] if len(sys.argv) > 1 else str(HERE.parent / "bin" / "sr")
-    failed = 0
+    failed = skipped = 0
     for name, (case, wanted) in CASES.items():
         try:
             got = case(program)
         except Exception as wrong:
             got = repr(wrong)
+        if got is None:
+            skipped += 1
+            print(f"skipped {name}: this machine was too busy to tell", flush=True)
+            continue
         failed += got != wanted
         print(f"passed {name}: {got}" if got == wanted else f"FAILED {name}\n    want {wanted}\n    got  {got}", flush=True)
-    print(f"{len(CASES) - failed} passed, {failed} failed")
+    print(f"{len(CASES) - failed - skipped} passed, {failed} failed" + f", {skipped} skipped" * (skipped > 0))
     return 1 if failed else 0
 
 
