@@ -58,10 +58,10 @@ class Calls:
 class Door:
     asks = ()
 
-    def __init__(self, heard, failing):
+    def __init__(self, heard, failing, filling):
         rising([now for now, _ in heard])
-        self.heard, self.calls = list(heard), Calls(failing, "the outside failed")
-        self.now, self.said, self.lanes = 0, [], 0
+        self.heard, self.calls, self.filling = list(heard), Calls(failing, "the outside failed"), filling
+        self.now, self.said, self.lanes, self.messages = 0, [], 0, 0
 
     def say(self, words):
         self.calls.next()
@@ -84,7 +84,9 @@ class Door:
         if word == "reply" and not self.asks:
             return self.say(f"reply {number(first)} 202")
         if word == "send":
-            return self.say(f"bytes {number(first)} {'text' if kind == 'text' else 'octets'} {text}")
+            self.say(f"bytes {number(first)} {'text' if kind == 'text' else 'octets'} {text}")
+            self.messages += 1
+            return "sent, full" if self.messages - 1 in self.filling else "sent"
         if word == "shut":
             return self.say(f"shut {number(first)}")
         raise Refused
@@ -221,7 +223,7 @@ class Lots:
 class Bench:
     def __init__(self):
         self.heard, self.wires = [], []
-        self.forms = {"door": Door([], []), "dialer": Dialer([], []), "wires": Wires([], [], [], 0, 0), "lots": Lots([], [])}
+        self.forms = {"door": Door([], [], []), "dialer": Dialer([], [], []), "wires": Wires([], [], [], 0, 0), "lots": Lots([], [])}
 
     def line(self, line):
         try:
@@ -240,7 +242,7 @@ class Bench:
             return "two draws that differ"
         if form == "heard":
             kind, lane, *more = rest.split(" ")
-            if kind not in ("bytes", "response", "refused", "lost"):
+            if kind not in ("bytes", "response", "refused", "lost", "drained"):
                 raise Refused
             if kind == "refused" and more[1:] and " ".join(more[1:]) not in [f"[{field}]" for field in FIELDS]:
                 raise Refused
@@ -259,7 +261,8 @@ class Bench:
     def start(self, form, words):
         if form in ("door", "dialer"):
             heard, self.heard = self.heard, []
-            self.forms[form] = (Door if form == "door" else Dialer)(heard, numbers(words[0]))
+            failing, filling = words
+            self.forms[form] = (Door if form == "door" else Dialer)(heard, numbers(failing), numbers(filling))
             return f"a {form}"
         if form == "wires":
             wires, self.wires = self.wires, []
@@ -290,7 +293,7 @@ wire 1000 - -
 """
 
 CASES = f"""note a door: number 3 is to fail, and is not kept
-{HEARD}door start 1,3
+{HEARD}door start 1,3 -
 door next
 door next
 door next
@@ -303,7 +306,7 @@ door next
 door next
 door given
 note a door at which nothing is heard
-door start -
+door start - -
 door next
 door given
 note refusals, each with its field
@@ -313,7 +316,7 @@ heard 1 refused 3 405 [Allow: GET, POST, DELETE]
 heard 1 refused 4 401 [WWW-Authenticate: Bearer]
 heard 1 refused 5 400 [Sec-WebSocket-Version: 13]
 heard 1 refused 6 400 [Sec-WebSocket-Version: 12]
-door start 2
+door start 2 -
 door next
 door next
 door next
@@ -322,7 +325,7 @@ door next
 door next
 door next
 note a dialer: the ask of number 1 is to fail, and has no lane
-{HEARD}dialer start 1
+{HEARD}dialer start 1 -
 dialer ask POST /negotiate
 dialer ask GET /lost
 dialer upgrade GET /hub
@@ -333,11 +336,53 @@ dialer next
 dialer send 2 text hi
 dialer shut 2
 dialer given
+note lanes are full after the messages 0, 2 and 3, on whatever lane: call 1 is to fail and is no message, and there is no message 9
+heard 4 drained 1
+heard 4 drained 7
+door start 1 3,0,9,2
+door send 1 text zero
+door send 1 text lost
+door send 1 octets one
+door next
+door reply 2
+door send 2 text two
+door shut 2
+door send 1 octets
+door send 1 text four
+door next
+door next
+door given
+note a new door counts its messages anew, and no message fills a lane unless it is one of the numbers
+door start - 1,1
+door send 1 text zero
+door send 1 text one
+door send 1 text two
+heard 5 drained 1
+door start - -
+door send 1 text zero
+door next
+note a dialer's lanes: asks and calls that fail are no messages
+heard 2 drained 2
+dialer start 3 1
+dialer ask GET /
+dialer upgrade GET /hub
+dialer send 2 text zero
+dialer send 2 text lost
+dialer send 1 octets one
+dialer send 2 text two
+dialer next
+dialer next
+dialer given
 note moments that fall, and words that are no actions
 heard 3 lost 1
 heard 2 lost 1
-door start -
+door start - -
 door next
+heard 3 drained
+heard 3 drained x
+door start -
+door start - x
+door start - - -
 heard 3 gone 1
 door reply x
 dialer ask OTHER /

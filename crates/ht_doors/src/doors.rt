@@ -39,26 +39,31 @@ fn event_of(alloc: Global, kind: &str, lane: u64, rest: &str) -> Result<Event, S
             Ok(Event::Refused { lane, refusal })
         }
         "lost" => Ok(Event::Lost { lane }),
+        "drained" => Ok(Event::Drained { lane }),
         _ => Err(Stop::Refused),
     }
 }
 
-/// A door at which this is heard, and that fails at the calls that the words number.
-pub fn start_door(alloc: Global, heard: Vec<Heard>, failing: &str) -> Result<MemoryDoor, Stop> {
+/// A door at which this is heard, that fails at the calls and is full after the messages that the words number.
+pub fn start_door(alloc: Global, heard: Vec<Heard>, words: &str) -> Result<MemoryDoor, Stop> {
+    let (failing, filling) = first_word(words);
     let failing = numbers(alloc, failing)?;
+    let filling = numbers(alloc, filling)?;
     if !never_falls(&heard) {
         return Err(Stop::Refused);
     }
-    Ok(MemoryDoor::start(heard, failing))
+    Ok(MemoryDoor::start(heard, failing, filling))
 }
 
 /// The same of a dialer.
-pub fn start_dialer(alloc: Global, heard: Vec<Heard>, failing: &str) -> Result<MemoryDialer, Stop> {
+pub fn start_dialer(alloc: Global, heard: Vec<Heard>, words: &str) -> Result<MemoryDialer, Stop> {
+    let (failing, filling) = first_word(words);
     let failing = numbers(alloc, failing)?;
+    let filling = numbers(alloc, filling)?;
     if !never_falls(&heard) {
         return Err(Stop::Refused);
     }
-    Ok(MemoryDialer::start(heard, failing))
+    Ok(MemoryDialer::start(heard, failing, filling))
 }
 
 /// What the door answers to the words.
@@ -73,7 +78,7 @@ pub fn ask_door(alloc: Global, door: &mut MemoryDoor, words: &str) -> Result<Str
         }
         "send" => {
             let sent = sent_of(rest)?;
-            done(alloc, door.send(sent.lane, sent.bytes, sent.is_text))
+            sent_told(alloc, door.send(sent.lane, sent.bytes, sent.is_text))
         }
         "shut" => {
             let lane = number(rest)?;
@@ -93,7 +98,7 @@ pub fn ask_dialer(alloc: Global, dialer: &mut MemoryDialer, words: &str) -> Resu
         "upgrade" => ask(alloc, dialer, rest, Some(upgrade())),
         "send" => {
             let sent = sent_of(rest)?;
-            done(alloc, dialer.send(sent.lane, sent.bytes, sent.is_text))
+            sent_told(alloc, dialer.send(sent.lane, sent.bytes, sent.is_text))
         }
         "shut" => {
             let lane = number(rest)?;
@@ -106,6 +111,15 @@ pub fn ask_dialer(alloc: Global, dialer: &mut MemoryDialer, words: &str) -> Resu
 fn done(alloc: Global, answer: Result<(), DoorError>) -> Result<String, Stop> {
     match answer {
         Ok(()) => ht_kit::told(alloc, "done"),
+        Err(error) => failed(alloc, error),
+    }
+}
+
+/// Whether the lane is full after a message.
+fn sent_told(alloc: Global, answer: Result<bool, DoorError>) -> Result<String, Stop> {
+    match answer {
+        Ok(true) => ht_kit::told(alloc, "sent, full"),
+        Ok(false) => ht_kit::told(alloc, "sent"),
         Err(error) => failed(alloc, error),
     }
 }
@@ -192,6 +206,7 @@ fn event_told(alloc: Global, event: &Event) -> Result<String, AllocError> {
         }
         Event::Response { lane, status, .. } => format!(in alloc; "response {lane} {status}"),
         Event::Lost { lane } => format!(in alloc; "lost {lane}"),
+        Event::Drained { lane } => format!(in alloc; "drained {lane}"),
         Event::Quiet => String::from_str(alloc, "quiet"),
         Event::Request { lane, .. } => format!(in alloc; "request {lane}"),
         Event::Refused { lane, refusal } => {

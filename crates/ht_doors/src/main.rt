@@ -8,11 +8,12 @@
 //! ```text
 //! note TEXT                          is printed
 //! heard MOMENT lost LANE             is to be heard by the door or dialer that starts next, after what is to be heard already; so are
-//!                                    `bytes LANE TEXT`, `response LANE STATUS` and `refused LANE STATUS [FIELD]`, whose field may be absent,
-//!                                    in place of `lost LANE`
-//! door start FAILING                 a door that hears this, and fails at the calls of these numbers; its further actions are
-//!                                    `next`, `reply LANE`, `send LANE KIND TEXT` (KIND is `text` or `octets`), `shut LANE` and `given`
-//! dialer start FAILING               the same of a dialer, with `ask METHOD TARGET` and `upgrade METHOD TARGET` in place of `reply`
+//!                                    `drained LANE`, `bytes LANE TEXT`, `response LANE STATUS` and `refused LANE STATUS [FIELD]`, whose field may
+//!                                    be absent, in place of `lost LANE`
+//! door start FAILING FILLING         a door that hears this, fails at the calls of these numbers, and whose lanes are full after the messages of
+//!                                    these; its further actions are `next`, `reply LANE`, `send LANE KIND TEXT` (KIND is `text` or
+//!                                    `octets`), `shut LANE` and `given`
+//! dialer start FAILING FILLING       the same of a dialer, with `ask METHOD TARGET` and `upgrade METHOD TARGET` in place of `reply`
 //! wire MOMENT READS WRITES           is given by the wires that start next: the moment from which it may be accepted, what its reads give
 //!                                    (words with a comma between two, in which `*` is nothing yet and `!` the end), and the list of how
 //!                                    many bytes its writes take

@@ -29,8 +29,8 @@ impl Bench {
             system,
             heard: Vec::new(alloc),
             wires_to_give: Vec::new(alloc),
-            door: MemoryDoor::start(Vec::new(alloc), Vec::new(alloc)),
-            dialer: MemoryDialer::start(Vec::new(alloc), Vec::new(alloc)),
+            door: MemoryDoor::start(Vec::new(alloc), Vec::new(alloc), Vec::new(alloc)),
+            dialer: MemoryDialer::start(Vec::new(alloc), Vec::new(alloc), Vec::new(alloc)),
             wires: MemoryWires::start(
                 alloc,
                 Vec::new(alloc),

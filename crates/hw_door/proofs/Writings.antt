@@ -8,7 +8,7 @@ use Rattle.hw_door.specs.declared.ledger.WireCall.{WireCall}
 use Rattle.hw_door.specs.declared.ledger.WireCall.TheVariants as note
 use Rattle.hw_door.specs.Ledger.{LedgerState, answer_of, after_telling, with_answer, has_room, size_of}
 use Rattle.hw_door.specs.Lines.{WritesAreTold}
-use Rattle.hw_door.specs.Traffic.{Answer, polled, poll_failed, accepted, accept_failed, connected, connect_failed, bytes_in, not_yet, ended, read_failed, bytes_out, write_failed, was_shut, written_on}
+use Rattle.hw_door.specs.Traffic.{Answer, polled, poll_failed, accepted, accept_failed, connected, connect_failed, bytes_in, not_yet, ended, read_failed, bytes_out, write_failed, was_shut, written_on, none_ready}
 use Rattle.hw_door.specs.Wires.{WireLeft, wire_of, at_wire, with_written, written_of}
 
 -- ---- what is told
@@ -36,6 +36,7 @@ written_more wire (bytes_out at bytes ∷ answers) one =
     (written_more wire answers one)
 written_more wire (write_failed at ∷ answers) one = written_more wire answers one
 written_more wire (was_shut at ∷ answers) one = written_more wire answers one
+written_more wire (none_ready ∷ answers) one = written_more wire answers one
 
 -- an answer that wrote nothing
 pub told_unwritten : (wires : List WireLeft) (answers : List Answer) (one : Answer) → ((wire : ℕ) → written_on wire (one ∷ []) ≡ []) →

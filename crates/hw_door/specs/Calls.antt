@@ -7,9 +7,9 @@ use Rattle.hw_door.specs.declared.heard.Given.{Given}
 use Rattle.hw_door.specs.declared.error.DoorError.{DoorError}
 use Rattle.hw_door.specs.declared.error.DoorError.TheVariants.{Failed, NoMemory}
 
--- the call of this number is one that is to fail
-abbrev pub is_failing : List ℕ → ℕ → Bool
-is_failing failing call = list_any (λ number. number == call) failing
+-- the call of this number is one of those that are listed
+abbrev pub is_listed : List ℕ → ℕ → Bool
+is_listed listed call = list_any (λ number. number == call) listed
 
 -- ---- faults
 
@@ -31,14 +31,22 @@ Adds before None one = Unit {0}
 Adds None (Some now) one = ⊥
 Adds (Some before) (Some now) one = now ≡ before ++ one ∷ []
 
+-- if the list is still told, it has these at its end
+abbrev pub AddsSome : {A : Type 0} → Option (List A) → Option (List A) → List A → Type 0
+AddsSome before None some = Unit {0}
+AddsSome None (Some now) some = ⊥
+AddsSome (Some before) (Some now) some = now ≡ before ++ some
+
 -- ---- what doors and dialers tell
 
--- what was heard, how long each time it was to wait at most, what was given to be said, and which of that was said, all in order
+-- what was heard, how long each time it was to wait at most, what was given to be said, which of that was said, and what was answered to the
+-- messages among it: whether the lane is full then. All are in order
 pub record Trace : Type 0 where
   pub heard : List Heard
   pub waits : List ℕ
   pub given : List Given
   pub said : List Given
+  pub full : List Bool
 
 -- this was heard too, with this wait
 abbrev pub with_heard : ℕ → Heard → Trace → Trace
@@ -52,6 +60,10 @@ with_said given trace = record trace { given = trace.given ++ given ∷ []; said
 abbrev pub with_unsaid : Given → Trace → Trace
 with_unsaid given trace = record trace { given = trace.given ++ given ∷ [] }
 
+-- this was answered to a message too
+abbrev pub with_full : Bool → Trace → Trace
+with_full full trace = record trace { full = trace.full ++ full ∷ [] }
+
 -- what a call of `next` adds: at Ok what was heard, and nothing after an error
 abbrev pub Hears : Option Trace → Option Trace → ℕ → Result Heard DoorError → Type 0
 Hears before now wait (Ok heard) = now ≡ option_map (with_heard wait heard) before
@@ -62,6 +74,13 @@ abbrev pub Says : {T : Type 0} → Option Trace → Option Trace → (T → Give
 Says before now given (Ok answer) =
     (now ≡ option_map (with_said (given answer)) before) ⊎ (now ≡ option_map (with_unsaid (given answer)) before)
 Says before now given (Err why) = now ≡ before
+
+-- what a call that is given a message adds: at Ok that, said or not, and the answer, and nothing after an error
+abbrev pub Sends : Option Trace → Option Trace → Given → Result Bool DoorError → Type 0
+Sends before now given (Ok full) =
+    (now ≡ option_map (λ trace. with_full full (with_said given trace)) before)
+    ⊎ (now ≡ option_map (λ trace. with_full full (with_unsaid given trace)) before)
+Sends before now given (Err why) = now ≡ before
 
 -- the moment heard last: at Ok that of what was heard, which is no earlier, and the same after an error
 abbrev pub IsLater : ℕ → ℕ → Result Heard DoorError → Type 0

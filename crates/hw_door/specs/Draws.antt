@@ -2,7 +2,7 @@
 use Rattle.std.specs.Prelude.{ℕ, zero, suc, ◌+◌, ◌-◌, ◌^◌, ◌==◌, Bool, List, [], ◌∷◌, ◌++◌, Option, Some, None, Result, Ok, Err, if◌then◌else◌, slice_get}
 use Rattle.hd_facts.specs.Counts.{one_more}
 use Rattle.hw_io.specs.declared.traits.Failed.{Failed}
-use Rattle.hw_door.specs.Calls.{is_failing}
+use Rattle.hw_door.specs.Calls.{is_listed}
 
 -- the draws to give, the numbers of the calls that are to fail, the number of the next call, and the count of faults
 pub record MemoryDraws : Type 0 where
@@ -14,11 +14,11 @@ pub record MemoryDraws : Type 0 where
 -- how many of the calls before this one weren't to fail, so the place of the draw that this one gives
 abbrev pub place_of : List ℕ → ℕ → ℕ
 place_of failing zero = 0
-place_of failing (suc call) = if is_failing failing call then place_of failing call else place_of failing call + 1
+place_of failing (suc call) = if is_listed failing call then place_of failing call else place_of failing call + 1
 
 -- the draw that the call of this number gives, or None if it fails: it is to, or all draws were given
 abbrev pub draw_at : List (List ℕ) → List ℕ → ℕ → Option (List ℕ)
-draw_at draws failing call = if is_failing failing call then None else slice_get draws (place_of failing call)
+draw_at draws failing call = if is_listed failing call then None else slice_get draws (place_of failing call)
 
 -- what the first calls gave
 abbrev pub first_draws : List (List ℕ) → List ℕ → ℕ → List (Option (List ℕ))

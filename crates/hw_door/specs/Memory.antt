@@ -1,5 +1,5 @@
 -- Doors and dialers in memory, as contracts see them.
-use Rattle.std.specs.Prelude.{◌≡◌, ℕ, ◌≤◌, Bool, true, false, IsTrue, List, [], ◌∷◌, drop, Result, Ok, Err, count_by}
+use Rattle.std.specs.Prelude.{◌≡◌, ℕ, ◌≤◌, Bool, true, false, IsTrue, List, [], ◌∷◌, length, drop, Result, Ok, Err, count_by}
 use Rattle.hd_facts.specs.Counts.{one_more}
 use Rattle.hw_door.specs.declared.heard.Heard.{Heard}
 use Rattle.hw_door.specs.declared.heard.Event.TheVariants.{Quiet}
@@ -7,15 +7,16 @@ use Rattle.hw_door.specs.declared.heard.Given.{Given}
 use Rattle.hw_door.specs.declared.heard.Given.TheVariants as given
 use Rattle.hw_door.specs.declared.error.DoorError.{DoorError}
 use Rattle.hw_door.specs.declared.error.DoorError.TheVariants.{Failed, NoMemory}
-use Rattle.hw_door.specs.Calls.{Trace, with_heard, with_said, is_failing}
+use Rattle.hw_door.specs.Calls.{Trace, with_heard, with_said, with_full, is_listed}
 
--- what is left to be heard, what it tells, the moment heard last, the numbers of the calls that are to fail, the number of the next
--- call, and the count of faults
+-- what is left to be heard, what it tells, the moment heard last, the numbers of the calls that are to fail, those of the messages that
+-- leave their lanes full, the number of the next call, and the count of faults
 pub record MemoryScript : Type 0 where
   pub left : List Heard
   pub trace : Trace
   pub moment : ℕ
   pub failing : List ℕ
+  pub filling : List ℕ
   pub calls : ℕ
   pub faults : ℕ
 
@@ -25,19 +26,20 @@ NeverFalls moment [] = Unit {0}
 NeverFalls moment (heard ∷ more) = (moment ≤ heard.now) × NeverFalls heard.now more
 
 -- the state at the start
-abbrev pub script_of : List Heard → List ℕ → MemoryScript
-script_of heard failing = record {
+abbrev pub script_of : List Heard → List ℕ → List ℕ → MemoryScript
+script_of heard failing filling = record {
   left = heard;
-  trace = record { heard = []; waits = []; given = []; said = [] };
+  trace = record { heard = []; waits = []; given = []; said = []; full = [] };
   moment = 0;
   failing = failing;
+  filling = filling;
   calls = 0;
   faults = 0;
 }
 
 -- the next call is one that is to fail
 abbrev pub ScriptFails : MemoryScript → Type 0
-ScriptFails script = IsTrue (is_failing script.failing script.calls)
+ScriptFails script = IsTrue (is_listed script.failing script.calls)
 
 -- what is heard next: the first that is left, and when nothing is, quiet at the moment heard last
 abbrev pub next_of : List Heard → ℕ → Heard
@@ -68,6 +70,15 @@ after_next wait (Err why) script = after_error why script
 abbrev pub after_saying : {T : Type 0} → (T → Given) → Result T DoorError → MemoryScript → MemoryScript
 after_saying given (Ok answer) script = record script { trace = with_said (given answer) script.trace; calls = one_more script.calls }
 after_saying given (Err why) script = after_error why script
+
+-- whether the next message leaves its lane full. Messages are numbered from 0, without those of calls that failed
+abbrev pub fills : MemoryScript → Bool
+fills script = is_listed script.filling (length script.trace.full)
+
+-- after a call that was given this message, with this result
+abbrev pub after_sending : Given → Result Bool DoorError → MemoryScript → MemoryScript
+after_sending given (Ok full) script = record script { trace = with_full full (with_said given script.trace); calls = one_more script.calls }
+after_sending given (Err why) script = after_error why script
 
 -- it asks
 abbrev pub is_ask : Given → Bool

@@ -1,5 +1,5 @@
 -- What wires tell of their calls.
-use Rattle.std.specs.Prelude.{◌≡◌, ◌==◌, ◌+◌, ◌≤◌, ℕ, List, [], ◌∷◌, ◌++◌, if◌then◌else◌, take, Option, None, Some, Result, Ok, Err}
+use Rattle.std.specs.Prelude.{◌≡◌, ◌==◌, ◌+◌, ◌≤◌, ℕ, Bool, true, false, List, [], ◌∷◌, ◌++◌, if◌then◌else◌, take, Option, None, Some, Result, Ok, Err}
 use Rattle.hw_io.specs.declared.traits.Failed.{Failed}
 use Rattle.hw_door.specs.declared.wires.WireRead.{WireRead}
 use Rattle.hw_door.specs.declared.wires.WireRead.TheVariants as read
@@ -22,6 +22,8 @@ pub data Answer : Type 0 where
   bytes_out : ℕ → List ℕ → Answer
   write_failed : ℕ → Answer
   was_shut : ℕ → Answer
+  -- no wire has anything to give: a read of any of them would be answered with `not_yet`
+  none_ready : Answer
 
 -- a poll tells also how long it was to wait at most
 abbrev pub poll_answer : ℕ → Result ℕ Failed → Answer
@@ -47,6 +49,11 @@ read_answer wire buf (Err e) = read_failed wire
 abbrev pub write_answer : ℕ → List ℕ → Result ℕ Failed → Answer
 write_answer wire bytes (Ok count) = bytes_out wire (take count bytes)
 write_answer wire bytes (Err e) = write_failed wire
+
+-- what is told of wires that were asked whether none of them has anything to give: that it is so, or nothing
+abbrev pub ready_answer : Bool → List Answer
+ready_answer true = none_ready ∷ []
+ready_answer false = []
 
 -- the bytes that were read are within the buffer
 abbrev pub CountsWithin : WireRead → ℕ → Type 0

@@ -4,9 +4,9 @@ use Rattle.hd_facts.specs.Counts.{one_more}
 use Rattle.hw_door.specs.declared.memory_wire.MemoryWire.{MemoryWire}
 use Rattle.hw_door.specs.declared.memory_wire.WireGiven.{WireGiven}
 use Rattle.hw_door.specs.declared.memory_wire.WireGiven.TheVariants as given
-use Rattle.hw_door.specs.Calls.{is_failing}
+use Rattle.hw_door.specs.Calls.{is_listed}
 use Rattle.hw_door.specs.Ledger.{LedgerState, has_room, size_of, after_telling}
-use Rattle.hw_door.specs.Traffic.{Answer, polled, poll_failed, accepted, accept_failed, connected, connect_failed, bytes_in, not_yet, ended, read_failed, bytes_out, write_failed, was_shut}
+use Rattle.hw_door.specs.Traffic.{Answer, polled, poll_failed, accepted, accept_failed, connected, connect_failed, bytes_in, not_yet, ended, read_failed, bytes_out, write_failed, was_shut, none_ready}
 
 -- the moment from which a wire may be accepted, what is left of its reads and of how much its writes take, whether it was shut, and
 -- what was written on it
@@ -125,7 +125,7 @@ written_of (Some left) = left.written
 
 -- the call is one that is to fail. The calls are counted by what is told of them, until there is no room
 abbrev pub is_to_fail : WiresState → Bool
-is_to_fail state = is_failing state.failing (length state.ledger.answers)
+is_to_fail state = is_listed state.failing (length state.ledger.answers)
 
 -- the next moment, or once none is left the one polled last
 abbrev pub next_moment : List ℕ → ℕ → ℕ
@@ -179,6 +179,7 @@ after_answer accept_failed state = state
 after_answer connect_failed state = state
 after_answer (read_failed wire) state = state
 after_answer (write_failed wire) state = state
+after_answer none_ready state = state
 
 abbrev pub is_failure : Answer → Bool
 is_failure (poll_failed wait) = true

@@ -28,6 +28,7 @@ fn copy_event(event: &Event) -> Result<Event, AllocError>
         }),
         Event::Upgraded { lane } => Ok(Event::Upgraded { lane: *lane }),
         Event::Lost { lane } => Ok(Event::Lost { lane: *lane }),
+        Event::Drained { lane } => Ok(Event::Drained { lane: *lane }),
         Event::Quiet => Ok(Event::Quiet),
     }
 }

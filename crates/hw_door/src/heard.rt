@@ -29,6 +29,8 @@ pub enum Event {
     Upgraded { lane: u64 },
     /// The lane ended, and nothing more comes from it.
     Lost { lane: u64 },
+    /// The lane, which is a WebSocket, was full by the answer to the last message sent there, and isn't any more.
+    Drained { lane: u64 },
     /// Nothing came while there was time to wait.
     Quiet,
 }

@@ -23,11 +23,11 @@
 
 mod copies;
 mod error;
-mod failing;
 mod heard;
 mod ledger;
 mod line;
 mod lines;
+mod listed;
 mod memory_dialer;
 mod memory_door;
 mod memory_lots;

@@ -3,8 +3,8 @@
 ghost use Rattle.std.specs.Prelude.{◌≡◌, ℕ, IfOk, Some};
 ghost use Rattle.hw_lanes.specs.Replies.{IsReply};
 ghost use Rattle.hw_door.specs.declared.heard.Given.TheVariants as say;
-ghost use Rattle.hw_door.specs.Calls.{HasFaultCause, Hears, Says, IsLater};
-ghost use Rattle.hw_door.specs.Memory.{MemoryScript, NeverFalls, ScriptFails, FailsIf, script_of, next_of, after_next, after_saying};
+ghost use Rattle.hw_door.specs.Calls.{HasFaultCause, Hears, Says, Sends, IsLater};
+ghost use Rattle.hw_door.specs.Memory.{MemoryScript, NeverFalls, ScriptFails, FailsIf, script_of, next_of, fills, after_next, after_saying, after_sending};
 
 use crate::error::DoorError;
 use crate::heard::{Given, Heard};
@@ -32,14 +32,15 @@ impl Model for MemoryDoor {
 }
 
 impl MemoryDoor {
-    /// Makes a door at which this will be heard, whose moments never fall, and that fails at the calls of the numbers in `failing`, in
-    /// any order. It takes no memory.
-    pub fn start(heard: Vec<Heard>, failing: Vec<u64>) -> MemoryDoor
+    /// Makes a door at which this will be heard, whose moments never fall, and that fails at the calls of the numbers in `failing`, and
+    /// whose lanes are full after the messages of the numbers in `filling`, both in any order. Messages are counted from 0, without those of calls
+    /// that failed. It takes no memory.
+    pub fn start(heard: Vec<Heard>, failing: Vec<u64>, filling: Vec<u64>) -> MemoryDoor
         requires { NeverFalls 0 heard.items }
-        ensures { result ≡ script_of heard.items failing.items }
+        ensures { result ≡ script_of heard.items failing.items filling.items }
     {
         MemoryDoor {
-            script: Scripted::start(heard, failing),
+            script: Scripted::start(heard, failing, filling),
         }
     }
 
@@ -83,16 +84,18 @@ impl Door for MemoryDoor {
         self.script.say(Given::Reply { lane, reply })
     }
 
-    /// Keeps a copy of the message. It fails exactly at the calls that are to fail.
-    fn send(&mut self, lane: u64, bytes: &[u8], text: bool) -> Result<(), DoorError>
-        ensures given { Says (Some self.old.trace) (Some self.new.trace) (λ done. say.Bytes lane bytes.now text) result }
+    /// Keeps a copy of the message. It fails exactly at the calls that are to fail, and its lane is full exactly after the messages that are to
+    /// fill it.
+    fn send(&mut self, lane: u64, bytes: &[u8], text: bool) -> Result<bool, DoorError>
+        ensures given { Sends (Some self.old.trace) (Some self.new.trace) (say.Bytes lane bytes.now text) result }
         ensures others_unchanged { self.new.moment ≡ self.old.moment }
         ensures cause { HasFaultCause self.old.faults self.new.faults result }
         ensures fails { FailsIf (ScriptFails self.old) result }
-        ensures after { self.new ≡ after_saying (λ done. say.Bytes lane bytes.now text) result self.old }
+        ensures answers { IfOk result (λ full. full ≡ fills self.old) }
+        ensures after { self.new ≡ after_sending (say.Bytes lane bytes.now text) result self.old }
     {
         let bytes = Vec8::of(self.script.allocator(), bytes)?;
-        self.script.say(Given::Bytes { lane, bytes, text })
+        self.script.send(Given::Bytes { lane, bytes, text })
     }
 
     /// Keeps that the lane was shut. It fails exactly at the calls that are to fail.

@@ -6,7 +6,7 @@ ghost use Rattle.hd_facts.specs.Counts.{HasCause, one_more};
 ghost use Rattle.hw_door.specs.Calls.{Adds};
 ghost use Rattle.hw_door.specs.Draws.{MemoryDraws, drawn_by, next_draw, lots_after};
 
-use crate::failing::is_to_fail;
+use crate::listed::is_listed;
 use crate::traits::Lots;
 use hw_io::Failed;
 use std::marker::Model;
@@ -71,7 +71,7 @@ impl MemoryLots {
             return None;
         }
         self.calls = call + 1;
-        if is_to_fail(&self.failing, call) {
+        if is_listed(&self.failing, call) {
             return None;
         }
         let at = self.at;

@@ -7,9 +7,9 @@ ghost use Rattle.hw_door.specs.Ledger.{after_telling, answer_of, bytes_of, trace
 ghost use Rattle.hw_door.specs.Traffic.{CountsWithin, IsPolled, IsNewWire, poll_answer, accept_answer, connect_answer, read_answer, write_answer, accepted_wire, connected_wire, count_of, poll_failed, accept_failed, connect_failed, read_failed, write_failed, was_shut, written_on};
 ghost use Rattle.hw_door.specs.Wires.{WiresState, IsRising, wires_of, written_of, is_to_fail, poll_next, accept_next, connect_next, read_next, write_next, answered, after_call, after_shut};
 
-use crate::failing::is_to_fail;
 use crate::ledger::{Ledger, WireCall};
 use crate::lines::Lines;
+use crate::listed::is_listed;
 use crate::memory_wire::MemoryWire;
 use crate::moments::Moments;
 use crate::wires::{WireRead, Wires};
@@ -112,7 +112,7 @@ impl MemoryWires {
     fn is_to_fail(&self) -> bool
         ensures { result ≡ is_to_fail self.now }
     {
-        is_to_fail(&self.failing, self.ledger.calls() as u64)
+        is_listed(&self.failing, self.ledger.calls() as u64)
     }
 
     /// Fails this call, and tells it if there is room.

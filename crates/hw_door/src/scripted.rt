@@ -1,15 +1,15 @@
 //! What a door and a dialer in memory share: what is left to be heard, what was heard, and what was given to be said.
 
-ghost use Rattle.std.specs.Prelude.{◌≡◌, ◌+◌, ◌-◌, ◌^◌, ◌≤◌, ℕ, [], ◌∷◌, ◌++◌, drop, IsTrue, IfOk, OnOk, OnErr, Some};
+ghost use Rattle.std.specs.Prelude.{◌≡◌, ◌+◌, ◌-◌, ◌^◌, ◌≤◌, ℕ, [], ◌∷◌, ◌++◌, length, drop, IsTrue, IfOk, OnOk, OnErr, Some};
 ghost use Rattle.hd_facts.specs.Counts.{one_more};
 ghost use Rattle.hw_door.specs.declared.error.DoorError.TheVariants.{Failed};
-ghost use Rattle.hw_door.specs.Calls.{IsCaused, HasFaultCause, Hears, Says, IsLater, is_failing, with_heard};
-ghost use Rattle.hw_door.specs.Memory.{MemoryScript, NeverFalls, ScriptFails, FailsIf, script_of, next_of, after_error, after_next, after_saying};
+ghost use Rattle.hw_door.specs.Calls.{IsCaused, HasFaultCause, Hears, Says, Sends, IsLater, is_listed, with_heard};
+ghost use Rattle.hw_door.specs.Memory.{MemoryScript, NeverFalls, ScriptFails, FailsIf, script_of, next_of, fills, after_error, after_next, after_saying, after_sending};
 
 use crate::copies::copy_heard;
 use crate::error::DoorError;
-use crate::failing::is_to_fail;
 use crate::heard::{Event, Given, Heard};
+use crate::listed::is_listed;
 use std::alloc::{AllocError, Global};
 use std::collections::VecDeque;
 use std::marker::Model;
@@ -22,8 +22,10 @@ pub struct Scripted {
     heard: Vec<Heard>,
     waits: Vec<u64>,
     given: Vec<Given>,
+    full: Vec<bool>,
     moment: u64,
     failing: Vec<u64>,
+    filling: Vec<u64>,
     calls: u64,
     faults: u64,
 }
@@ -40,9 +42,11 @@ impl Model for Scripted {
         waits = s.waits.items;
         given = s.given.items;
         said = s.given.items;
+        full = s.full.items;
       };
       moment = s.moment;
       failing = s.failing.items;
+      filling = s.filling.items;
       calls = s.calls;
       faults = s.faults;
     } };
@@ -51,9 +55,9 @@ impl Model for Scripted {
 }
 
 impl Scripted {
-    pub fn start(heard: Vec<Heard>, failing: Vec<u64>) -> Scripted
+    pub fn start(heard: Vec<Heard>, failing: Vec<u64>, filling: Vec<u64>) -> Scripted
         requires { NeverFalls 0 heard.items }
-        ensures { result ≡ script_of heard.items failing.items }
+        ensures { result ≡ script_of heard.items failing.items filling.items }
     {
         let alloc = *heard.allocator();
         Scripted {
@@ -61,8 +65,10 @@ impl Scripted {
             heard: Vec::new(alloc),
             waits: Vec::new(alloc),
             given: Vec::new(alloc),
+            full: Vec::new(alloc),
             moment: 0,
             failing,
+            filling,
             calls: 0,
             faults: 0,
         }
@@ -81,9 +87,16 @@ impl Scripted {
 
     /// Whether the next call is one that is to fail.
     fn is_to_fail(&self) -> bool
-        ensures { result ≡ is_failing self.now.failing self.now.calls }
+        ensures { result ≡ is_listed self.now.failing self.now.calls }
     {
-        is_to_fail(&self.failing, self.calls)
+        is_listed(&self.failing, self.calls)
+    }
+
+    /// Whether the next message leaves its lane full.
+    fn fills(&self) -> bool
+        ensures { result ≡ fills self.now }
+    {
+        is_listed(&self.filling, self.full.len() as u64)
     }
 
     /// Fails this call.
@@ -174,5 +187,24 @@ impl Scripted {
         self.given.push(given)?;
         self.calls = self.calls.saturating_add(1);
         Ok(())
+    }
+
+    /// Keeps the message that it is given, and what it answers to it.
+    pub fn send(&mut self, given: Given) -> Result<bool, DoorError>
+        ensures fails { FailsIf (ScriptFails self.old) result }
+        ensures answers { IfOk result (λ full. full ≡ fills self.old) }
+        ensures after { self.new ≡ after_sending given result self.old }
+        ensures given { Sends (Some self.old.trace) (Some self.new.trace) given result }
+        ensures cause { HasFaultCause self.old.faults self.new.faults result }
+    {
+        if self.is_to_fail() {
+            return Err(self.fail());
+        }
+        let full = self.fills();
+        self.full.reserve(1)?;
+        self.given.push(given)?;
+        self.full.push(full).unwrap();
+        self.calls = self.calls.saturating_add(1);
+        Ok(full)
     }
 }

@@ -5,7 +5,7 @@ ghost use Rattle.std.specs.Result.{result_ok};
 ghost use Rattle.hd_facts.specs.Counts.{HasCause};
 ghost use Rattle.hw_lanes.specs.Replies.{IsReply};
 ghost use Rattle.hw_door.specs.declared.heard.Given.TheVariants as say;
-ghost use Rattle.hw_door.specs.Calls.{Trace, Adds, HasFaultCause, Hears, Says, IsLater, IsNewLane};
+ghost use Rattle.hw_door.specs.Calls.{Trace, Adds, HasFaultCause, Hears, Says, Sends, IsLater, IsNewLane};
 
 use crate::error::DoorError;
 use crate::heard::{Heard, Upgrade};
@@ -58,9 +58,11 @@ pub trait Door {
         ensures others_unchanged { moment self.new ≡ moment self.old }
         ensures cause { HasFaultCause (faults self.old) (faults self.new) result };
 
-    /// Sends one message, a text or not, on a lane that is a WebSocket. On a lane that is broken this is Ok, and nothing is said.
-    fn send(&mut self, lane: u64, bytes: &[u8], text: bool) -> Result<(), DoorError>
-        ensures given { Says (trace self.old) (trace self.new) (λ done. say.Bytes lane bytes.now text) result }
+    /// Sends one message, a text or not, on a lane that is a WebSocket, and answers whether the lane is full now: so much waits there that
+    /// nothing more should be sent, though it may be, until [`Drained`](crate::Event::Drained) is heard of the lane or a later message is answered
+    /// with false. Neither comes of a lane that is shut or lost. On a lane that is broken this is Ok, and nothing is said.
+    fn send(&mut self, lane: u64, bytes: &[u8], text: bool) -> Result<bool, DoorError>
+        ensures given { Sends (trace self.old) (trace self.new) (say.Bytes lane bytes.now text) result }
         ensures others_unchanged { moment self.new ≡ moment self.old }
         ensures cause { HasFaultCause (faults self.old) (faults self.new) result };
 
@@ -105,9 +107,11 @@ pub trait Dialer {
         ensures lanes { lanes self.new ≡ lanes self.old }
         ensures cause { HasFaultCause (faults self.old) (faults self.new) result };
 
-    /// Sends one message, a text or not, on a lane that is a WebSocket. On a lane that is broken this is Ok, and nothing is said.
-    fn send(&mut self, lane: u64, bytes: &[u8], text: bool) -> Result<(), DoorError>
-        ensures given { Says (trace self.old) (trace self.new) (λ done. say.Bytes lane bytes.now text) result }
+    /// Sends one message, a text or not, on a lane that is a WebSocket, and answers whether the lane is full now: so much waits there that
+    /// nothing more should be sent, though it may be, until [`Drained`](crate::Event::Drained) is heard of the lane or a later message is answered
+    /// with false. Neither comes of a lane that is shut or lost. On a lane that is broken this is Ok, and nothing is said.
+    fn send(&mut self, lane: u64, bytes: &[u8], text: bool) -> Result<bool, DoorError>
+        ensures given { Sends (trace self.old) (trace self.new) (say.Bytes lane bytes.now text) result }
         ensures others_unchanged { moment self.new ≡ moment self.old }
         ensures lanes { lanes self.new ≡ lanes self.old }
         ensures cause { HasFaultCause (faults self.old) (faults self.new) result };

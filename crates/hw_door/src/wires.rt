@@ -2,8 +2,8 @@
 
 ghost use Rattle.std.specs.Prelude.{◌≡◌, ◌+◌, ◌≤◌, ℕ, List, Option, None, length, IfOk};
 ghost use Rattle.hd_facts.specs.Counts.{HasCause};
-ghost use Rattle.hw_door.specs.Calls.{Adds};
-ghost use Rattle.hw_door.specs.Traffic.{Answer, CountsWithin, IsPolled, IsNewWire, poll_answer, accept_answer, connect_answer, read_answer, write_answer, accepted_wire, connected_wire, was_shut};
+ghost use Rattle.hw_door.specs.Calls.{Adds, AddsSome};
+ghost use Rattle.hw_door.specs.Traffic.{Answer, CountsWithin, IsPolled, IsNewWire, poll_answer, accept_answer, connect_answer, read_answer, write_answer, accepted_wire, connected_wire, ready_answer, was_shut};
 
 use hw_io::Failed;
 
@@ -79,6 +79,17 @@ pub trait Wires {
         ensures others_unchanged { moment self.new ≡ moment self.old }
         ensures trace { Adds (trace self.old) (trace self.new) (was_shut wire) }
         ensures unfailed { faults self.new ≡ faults self.old };
+
+    /// Whether no wire has anything to give: none that was answered and not shut, so that a read of any would be answered with `NotYet`. That is what
+    /// true promises; wires that can't tell answer false.
+    fn none_ready(&mut self) -> bool
+        ensures wires { wires self.new ≡ wires self.old }
+        ensures others_unchanged { moment self.new ≡ moment self.old }
+        ensures trace { AddsSome (trace self.old) (trace self.new) (ready_answer result) }
+        ensures unfailed { faults self.new ≡ faults self.old }
+    {
+        false
+    }
 
     /// A wire on which a read may give something: the first after that of this number, in an order of the wires that goes round. It is a
     /// hint of which nothing is promised: the wire may have nothing or be none of the caller's, and one that has something may never be
