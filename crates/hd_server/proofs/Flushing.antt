@@ -13,10 +13,10 @@ use Rattle.hd_server.specs.declared.vocabulary.Said.TheVariants as say
 use Rattle.hd_server.specs.Numbers.{held_for}
 use Rattle.hd_server.specs.Lives.{Negotiated, Opened, Socketed, Polled, Answered, LaneLost, Ended, Expired, Removed, socket_of, poll_of, is_polling, ended_at, numbers_to}
 use Rattle.hd_server.specs.Machine.{MachineEvent, Does, Goes, Connects, Rounds, Carries, moves, settings_of, has_gone, is_there, connections, greatest}
-use Rattle.hd_server.specs.Doings.{ServerEvent, Hears, Learns, Draws, Notes, Works, Says, notes, work, was_refused, peer, history_with, history, config_with, config_of, has_peer, has_closed}
+use Rattle.hd_server.specs.Doings.{ServerEvent, Hears, Learns, Draws, Notes, Works, Says, Sees, notes, work, was_refused, is_full, peer, history_with, history, config_with, config_of, has_peer, has_closed}
 use Rattle.hd_server.specs.Plans.{Setup, onto, step, dropping, removing_conn, shutting, ends_lane, reply_on, replying, bare_reply, frames_reply}
-use Rattle.hd_server.specs.Serves.{lending, writing, all_of, bytes_of, is_text, flushing_socket, flushing_poll, flushing_some_poll, ending, flushing_on, flushing, all_flushing, AreDueOn, AreDue, AreAllDue, LendsAll, LendsUpTo}
-use Rattle.hd_server.specs.Laws.{NothingIsLeft}
+use Rattle.hd_server.specs.Serves.{lending, writing, all_of, bytes_of, is_text, flushing_socket, flushing_poll, flushing_some_poll, ending, flushing_on, flushing, all_flushing, AreDueBy, AreDueOn, AreDue, AreAllDue, LendsAll, LendsUpTo}
+use Rattle.hd_server.specs.Laws.{is_full_some, NothingIsLeft}
 
 -- a connection is one of these
 abbrev pub is_in : ℕ → List ℕ → Bool
@@ -141,26 +141,32 @@ record Kept (c : ℕ) (h g : List ServerEvent) : Type 0 where
   kept_settings : settings_of c (work g) ≡ settings_of c (work h)
   kept_gone : has_gone c (work h) ≡ true → has_gone c (work g) ≡ true
   kept_socket : socket_of c (notes g) ≡ socket_of c (notes h)
+  kept_full : (lane : ℕ) → is_full lane g ≡ is_full lane h
 
 or_right : (a b : Bool) → b ≡ true → (a || b) ≡ true
 or_right true b e = refl
 or_right false b e = e
 
 one_kept : (c k : ℕ) (d : ServerEvent) (h : List ServerEvent) → Tells k d → Kept c h (d ∷ h)
-one_kept c k (Works (Does x (Plain (Step_of (Lent f))))) h e = record { kept_settings = refl; kept_gone = λ g. g; kept_socket = refl }
-one_kept c k (Works (Goes x)) h e = record { kept_settings = refl; kept_gone = λ g. or_right (c == x) (has_gone c (work h)) g; kept_socket = refl }
-one_kept c k (Notes (Answered x lane now)) h e = record { kept_settings = refl; kept_gone = λ g. g; kept_socket = refl }
-one_kept c k (Notes (Ended x now)) h e = record { kept_settings = refl; kept_gone = λ g. g; kept_socket = refl }
-one_kept c k (Notes (Removed x)) h e = record { kept_settings = refl; kept_gone = λ g. g; kept_socket = refl }
-one_kept c k (Says x) h e = record { kept_settings = refl; kept_gone = λ g. g; kept_socket = refl }
+one_kept c k (Works (Does x (Plain (Step_of (Lent f))))) h e = record { kept_settings = refl; kept_gone = λ g. g; kept_socket = refl; kept_full = λ lane. refl }
+one_kept c k (Works (Goes x)) h e = record { kept_settings = refl; kept_gone = λ g. or_right (c == x) (has_gone c (work h)) g; kept_socket = refl; kept_full = λ lane. refl }
+one_kept c k (Notes (Answered x lane now)) h e = record { kept_settings = refl; kept_gone = λ g. g; kept_socket = refl; kept_full = λ lane. refl }
+one_kept c k (Notes (Ended x now)) h e = record { kept_settings = refl; kept_gone = λ g. g; kept_socket = refl; kept_full = λ lane. refl }
+one_kept c k (Notes (Removed x)) h e = record { kept_settings = refl; kept_gone = λ g. g; kept_socket = refl; kept_full = λ lane. refl }
+one_kept c k (Says x) h e = record { kept_settings = refl; kept_gone = λ g. g; kept_socket = refl; kept_full = λ lane. refl }
 one_kept c k d h e = absurd e
 
 all_kept : (c k : ℕ) (ds h : List ServerEvent) → AllTell k ds → Kept c h (onto ds h)
-all_kept c k [] h a = record { kept_settings = refl; kept_gone = λ g. g; kept_socket = refl }
+all_kept c k [] h a = record { kept_settings = refl; kept_gone = λ g. g; kept_socket = refl; kept_full = λ lane. refl }
 all_kept c k (d ∷ ds) h a =
     let x = one_kept c k d h a.0 in
     let y = all_kept c k ds (d ∷ h) a.1 in
-    record { kept_settings = y.kept_settings ∙ x.kept_settings; kept_gone = λ g. y.kept_gone (x.kept_gone g); kept_socket = y.kept_socket ∙ x.kept_socket }
+    record {
+      kept_settings = y.kept_settings ∙ x.kept_settings;
+      kept_gone = λ g. y.kept_gone (x.kept_gone g);
+      kept_socket = y.kept_socket ∙ x.kept_socket;
+      kept_full = λ lane. y.kept_full lane ∙ x.kept_full lane;
+    }
 
 onto_append : (xs ys h : List ServerEvent) → onto (xs ++ ys) h ≡ onto ys (onto xs h)
 onto_append [] ys h = refl
@@ -168,14 +174,19 @@ onto_append (x ∷ xs) ys h = onto_append xs ys (x ∷ h)
 
 -- what all these say leaves another as it is, and drops nothing of what stays
 rest_kept : (s : Setup) (now c : ℕ) (cs : List ℕ) (all : List (List (List LinkFrame))) (h g : List ServerEvent) → Kept c g (onto (all_flushing s now cs all h) g)
-rest_kept s now c [] all h g = record { kept_settings = refl; kept_gone = λ e. e; kept_socket = refl }
-rest_kept s now c (k ∷ cs) [] h g = record { kept_settings = refl; kept_gone = λ e. e; kept_socket = refl }
+rest_kept s now c [] all h g = record { kept_settings = refl; kept_gone = λ e. e; kept_socket = refl; kept_full = λ lane. refl }
+rest_kept s now c (k ∷ cs) [] h g = record { kept_settings = refl; kept_gone = λ e. e; kept_socket = refl; kept_full = λ lane. refl }
 rest_kept s now c (k ∷ cs) (p ∷ more) h g =
     let mine = flushing s now k p h in
     let x = all_kept c k mine g (flushing_tells s now k (socket_of k (notes h)) p h) in
     let y = rest_kept s now c cs more h (onto mine g) in
     subst (λ z. Kept c g z) (sym (onto_append mine (all_flushing s now cs more h) g))
-    (record { kept_settings = y.kept_settings ∙ x.kept_settings; kept_gone = λ e. y.kept_gone (x.kept_gone e); kept_socket = y.kept_socket ∙ x.kept_socket })
+    (record {
+      kept_settings = y.kept_settings ∙ x.kept_settings;
+      kept_gone = λ e. y.kept_gone (x.kept_gone e);
+      kept_socket = y.kept_socket ∙ x.kept_socket;
+      kept_full = λ lane. y.kept_full lane ∙ x.kept_full lane;
+    })
 
 rest_same : (s : Setup) (now c : ℕ) (cs : List ℕ) (all : List (List (List LinkFrame))) (h g : List ServerEvent) → is_in c cs ≡ false
     → Same c g (onto (all_flushing s now cs all h) g)
@@ -383,6 +394,7 @@ still_moves c (Says x ∷ ds) g a = still_moves c ds (Says x ∷ g) a.1
 still_moves c (Hears now event ∷ ds) g a = still_moves c ds (Hears now event ∷ g) a.1
 still_moves c (Learns ask ∷ ds) g a = still_moves c ds (Learns ask ∷ g) a.1
 still_moves c (Draws drawn ∷ ds) g a = still_moves c ds (Draws drawn ∷ g) a.1
+still_moves c (Sees lane full ∷ ds) g a = still_moves c ds (Sees lane full ∷ g) a.1
 
 unpolled : (c : ℕ) (ds g : List ServerEvent) → AllAre IsUnpolled ds → poll_of c (notes (onto ds g)) ≡ poll_of c (notes g)
 unpolled c [] g a = refl
@@ -400,6 +412,7 @@ unpolled c (Says x ∷ ds) g a = unpolled c ds (Says x ∷ g) a.1
 unpolled c (Hears now event ∷ ds) g a = unpolled c ds (Hears now event ∷ g) a.1
 unpolled c (Learns ask ∷ ds) g a = unpolled c ds (Learns ask ∷ g) a.1
 unpolled c (Draws drawn ∷ ds) g a = unpolled c ds (Draws drawn ∷ g) a.1
+unpolled c (Sees lane full ∷ ds) g a = unpolled c ds (Sees lane full ∷ g) a.1
 
 -- a poll that isn't held isn't held once more was told
 none_held : (b : Bool) (o : Option (ℕ × ℕ)) → o ≡ None → (if b then None else o) ≡ None
@@ -423,6 +436,7 @@ stays_none c k (Says x ∷ ds) g a e = stays_none c k ds (Says x ∷ g) a.1 e
 stays_none c k (Hears now event ∷ ds) g a e = absurd a.0
 stays_none c k (Learns ask ∷ ds) g a e = absurd a.0
 stays_none c k (Draws drawn ∷ ds) g a e = absurd a.0
+stays_none c k (Sees lane full ∷ ds) g a e = absurd a.0
 
 shutting_all : (P : ServerEvent → Type 0) (lane : ℕ) (h : List ServerEvent) → P (Says (say.Shut lane)) → AllAre P (shutting lane h)
 shutting_all P lane h p = either_all P (was_refused lane h) [] (Says (say.Shut lane) ∷ []) tt (p, tt)
@@ -493,24 +507,26 @@ by_poll s now c pieces h g (Some poll) e same sock d =
 -- ---- with a socket or without
 
 with_any : (s : Setup) (now c : ℕ) (t : Settings) (pieces : List (List LinkFrame)) (h g : List ServerEvent) (o : Option ℕ) → o ≡ socket_of c (notes h)
-    → Same c h g → settings_of c (work h) ≡ Some t → has_peer c h ≡ true → AreDueOn s c o (poll_of c (notes h)) pieces h
-    → IsDone c (onto (flushing_on s now c o pieces h) g)
-with_any s now c t pieces h g (Some lane) e same te there d = own_tells s c lane t pieces h g same te there d.1
-with_any s now c t pieces h g None e same te there d = by_poll s now c pieces h g (poll_of c (notes h)) refl same (sym e) d
+    → Same c h g → settings_of c (work h) ≡ Some t → has_peer c h ≡ true → is_full_some o h ≡ false
+    → AreDueOn s c o (poll_of c (notes h)) pieces h → IsDone c (onto (flushing_on s now c o pieces h) g)
+with_any s now c t pieces h g (Some lane) e same te there free d =
+    let due_there : AreDueBy false c pieces h = subst (λ b. AreDueBy (b && not (has_closed c h)) c pieces h) free d in
+    own_tells s c lane t pieces h g same te there due_there.1
+with_any s now c t pieces h g None e same te there free d = by_poll s now c pieces h g (poll_of c (notes h)) refl same (sym e) d
 
 out_of_reach : (c : ℕ) (h g : List ServerEvent) → Same c h g → reaches c h ≡ false → reaches c g ≡ false
 out_of_reach c h g same e = ap (λ o. is_some o || is_some (poll_of c (notes g))) same.same_socket ∙ ap (λ o. is_some (socket_of c (notes h)) || is_some o) same.same_poll ∙ e
 
 -- among all that are told
 walk : (s : Setup) (now c : ℕ) (t : Settings) (cs : List ℕ) (all : List (List (List LinkFrame))) (h g : List ServerEvent) → AreAllDue s cs all h → AreApart cs
-    → is_in c cs ≡ true → Same c h g → settings_of c (work h) ≡ Some t → has_peer c h ≡ true
+    → is_in c cs ≡ true → Same c h g → settings_of c (work h) ≡ Some t → has_peer c h ≡ true → is_full_some (socket_of c (notes h)) h ≡ false
     → IsDone c (onto (all_flushing s now cs all h) g)
-walk s now c t [] all h g d apart i same te there = absurd (cc)
-walk s now c t (k ∷ cs) [] h g d apart i same te there = absurd d
-walk s now c t (k ∷ cs) (p ∷ more) h g d apart i same te there =
+walk s now c t [] all h g d apart i same te there free = absurd (cc)
+walk s now c t (k ∷ cs) [] h g d apart i same te there free = absurd d
+walk s now c t (k ∷ cs) (p ∷ more) h g d apart i same te there free =
     subst (λ z. IsDone c z) (sym (onto_append (flushing s now k p h) (all_flushing s now cs more h) g))
     (by (c == k) refl i (λ f j. walk s now c t cs more h (onto (flushing s now k p h) g) d.1 apart.1 j
-    (same_then c h g (onto (flushing s now k p h) g) same (all_same c k (flushing s now k p h) g f (flushing_tells s now k (socket_of k (notes h)) p h))) te there)) where
+    (same_then c h g (onto (flushing s now k p h) g) same (all_same c k (flushing s now k p h) g f (flushing_tells s now k (socket_of k (notes h)) p h))) te there free)) where
       by : (b : Bool) → (c == k) ≡ b → (b || is_in c cs) ≡ true
           → ((c == k) ≡ false → is_in c cs ≡ true → IsDone c (onto (all_flushing s now cs more h) (onto (flushing s now k p h) g)))
           → IsDone c (onto (all_flushing s now cs more h) (onto (flushing s now k p h) g))
@@ -518,7 +534,7 @@ walk s now c t (k ∷ cs) (p ∷ more) h g d apart i same te there =
           let is : k ≡ c = sym (eqb-true c k f) in
           let out : is_in c cs ≡ false = subst (λ x. is_in x cs ≡ false) is apart.0 in
           let mine : AreDue s c p h = subst (λ x. AreDue s x p h) is d.0 in
-          let own : IsDone c (onto (flushing s now c p h) g) = with_any s now c t p h g (socket_of c (notes h)) refl same te there mine in
+          let own : IsDone c (onto (flushing s now c p h) g) = with_any s now c t p h g (socket_of c (notes h)) refl same te there free mine in
           let now_k : IsDone c (onto (flushing s now k p h) g) = subst (λ x. IsDone c (onto (flushing s now x p h) g)) (sym is) own in
           ⊎_elim
           (λ e. inl ((rest_kept s now c cs more h (onto (flushing s now k p h) g)).kept_gone e))
@@ -533,11 +549,16 @@ not_gone_before : (a b : Bool) → (a ≡ true → b ≡ true) → b ≡ false �
 not_gone_before true b f e = let g : b ≡ true = f refl in absurd (cc)
 not_gone_before false b f e = refl
 
+-- the lane of a socket is full by what is full of each lane
+same_full : (o : Option ℕ) (g h : List ServerEvent) → ((lane : ℕ) → is_full lane h ≡ is_full lane g) → is_full_some o h ≡ is_full_some o g
+same_full None g h same = refl
+same_full (Some lane) g h same = same lane
+
 -- one that is there after all was told was there before
 all_told : (s : Setup) (now c : ℕ) (all : List (List (List LinkFrame))) (h after : List ServerEvent) → AreAllDue s (connections (work h)) all h
     → after ≡ onto (all_flushing s now (connections (work h)) all h) h → 0 < c → has_peer c after ≡ true → reaches c after ≡ true
-    → due (config_of c after) (history c after) ≡ None
-all_told s now c all h after d is positive there reached =
+    → is_full_some (socket_of c (notes after)) after ≡ false → due (config_of c after) (history c after) ≡ None
+all_told s now c all h after d is positive there reached free =
     let kept = subst (λ z. Kept c h z) (sym is) (rest_kept s now c (connections (work h)) all h h) in
     let parts = and_parts _ _ there in
     let stays : has_gone c (work after) ≡ false = not-true _ parts.1 in
@@ -545,15 +566,17 @@ all_told s now c all h after d is positive there reached =
     let stayed : has_gone c (work h) ≡ false = not_gone_before _ _ kept.kept_gone stays in
     let there_then : has_peer c h ≡ true = rw (was, stayed) refl in
     let begun = some_of (settings_of c (work h)) was in
+    let free_then : is_full_some (socket_of c (notes h)) h ≡ false
+    = same_full (socket_of c (notes h)) after h (λ lane. sym (kept.kept_full lane)) ∙ ap (λ o. is_full_some o after) (sym kept.kept_socket) ∙ free in
     let listed : is_in c (connections (work h)) ≡ true
     = in-filter (λ k. is_there k (work h)) c (numbers_to (greatest (work h))) there_then
     (within (greatest (work h)) c positive (to_greatest c begun.0 (work h) begun.1)) in
     let done : IsDone c after = subst (λ z. IsDone c z) (sym is)
     (walk s now c begun.0 (connections (work h)) all h h d
     (apart-filter (λ k. is_there k (work h)) (numbers_to (greatest (work h))) (numbers_apart (greatest (work h))))
-    listed (same_itself c h) begun.1 there_then) in
+    listed (same_itself c h) begun.1 there_then free_then) in
     ⊎_elim (λ g. absurd (cc)) (λ rest. ⊎_elim (λ e. e) (λ e. absurd (cc)) rest) done
 
 pub nothing_is_left : {Job : Type 0} → NothingIsLeft Job
-nothing_is_left hub s now event h after turn c positive there reached =
-    all_told s now c turn.pieces turn.stepped after turn.all_due turn.tells positive there reached
+nothing_is_left hub s now event h after turn c positive there reached free =
+    all_told s now c turn.pieces turn.stepped after turn.all_due turn.tells positive there reached free

@@ -16,16 +16,17 @@ use Rattle.hd_server.specs.Texts.{token_of, negotiate_body}
 use Rattle.hd_server.specs.Table.{Outcome, Refusal, NewToken, PlainSocket, TokenSocket, FirstPoll, NextPoll, LastPoll, Posting, Deletion, asks_keeper, outcome}
 use Rattle.hd_server.specs.Machine.{MachineEvent, Does, Goes, Rounds, settings_of, connections}
 use Rattle.hd_server.specs.declared.vocabulary.Said.TheVariants as say
-use Rattle.hd_server.specs.Doings.{ServerEvent, Hears, Notes, Works, Says, Learns, Draws, notes, work, hears, was_refused, history, config_of, has_peer, is_up, may_resume}
+use Rattle.hd_server.specs.Doings.{ServerEvent, Hears, Notes, Works, Says, Sees, Learns, Draws, notes, work, hears, seen, was_refused, history, config_of, has_peer, is_up, may_resume}
 use Rattle.hd_server.specs.Plans.{Setup, PendingRequest, onto, connecting, attaching, closing, dropping, removing_conn, expiring, expiries, bare_reply, socket_reply, token_reply, refusal_reply, shutting, ends_lane, replying, ending_poll, ending_held, learning, asks_lots, questions, standing_on, shutting_some, request_plan, conn_on, poller_on, losing, losing_lane, named_conn, facts, plan, giving_way, removing_some}
 use Rattle.hd_server.specs.Serves.{IsFed, silenced, ticking, ticks, flushing, all_flushing}
 use Rattle.hd_server.specs.Laws.{TurnsGoFurther}
 use Rattle.hd_server.proofs.Flushing.{AllTell, flushing_tells}
 
--- ---- doings that hear nothing
+-- ---- doings that hear nothing, and see nothing
 
 abbrev IsSilent : ServerEvent → Type 0
 IsSilent (Hears now event) = ⊥
+IsSilent (Sees lane full) = ⊥
 IsSilent _ = Unit {0}
 
 abbrev AreSilent : List ServerEvent → Type 0
@@ -72,6 +73,17 @@ hears_same (Draws drawn ∷ new) h a = hears_same new h a.1
 hears_same (Notes note ∷ new) h a = hears_same new h a.1
 hears_same (Works x ∷ new) h a = hears_same new h a.1
 hears_same (Says x ∷ new) h a = hears_same new h a.1
+hears_same (Sees lane full ∷ new) h a = absurd a.0
+
+sees_same : (new h : List ServerEvent) → AreSilent new → seen (new ++ h) ≡ seen h
+sees_same [] h a = refl
+sees_same (Hears now event ∷ new) h a = absurd a.0
+sees_same (Learns asked ∷ new) h a = sees_same new h a.1
+sees_same (Draws drawn ∷ new) h a = sees_same new h a.1
+sees_same (Notes note ∷ new) h a = sees_same new h a.1
+sees_same (Works x ∷ new) h a = sees_same new h a.1
+sees_same (Says x ∷ new) h a = sees_same new h a.1
+sees_same (Sees lane full ∷ new) h a = absurd a.0
 
 -- ---- the parts of a turn
 
@@ -199,6 +211,7 @@ of_flushing k (Draws drawn ∷ ds) a = (tt, of_flushing k ds a.1)
 of_flushing k (Notes note ∷ ds) a = (tt, of_flushing k ds a.1)
 of_flushing k (Works x ∷ ds) a = (tt, of_flushing k ds a.1)
 of_flushing k (Says x ∷ ds) a = (tt, of_flushing k ds a.1)
+of_flushing k (Sees lane full ∷ ds) a = absurd a.0
 
 tells : (s : Setup) (now : ℕ) (cs : List ℕ) (all : List (List (List LinkFrame))) (h : List ServerEvent) → AreSilent (all_flushing s now cs all h)
 tells s now [] all h = tt
@@ -234,4 +247,5 @@ turns_go_further hub s now e h after turn =
       new = all.new ++ Hears now e ∷ [];
       are = all.are ∙ sym (append_assoc all.new (Hears now e ∷ []) h);
       hears_it = ap hears all.are ∙ hears_same all.new heard all.silent;
+      sees_none = ap seen all.are ∙ sees_same all.new heard all.silent;
     }

@@ -6,6 +6,7 @@ pub mod Rows
 pub mod Allowed
 pub mod Tests
 pub mod Flushing
+pub mod Seeing
 pub mod Further
 pub mod FurtherDoings
 pub mod OneSession

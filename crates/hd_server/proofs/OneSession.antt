@@ -26,9 +26,9 @@ use Rattle.hw_door.specs.declared.heard.Event.TheVariants as event
 use Rattle.hd_server.specs.declared.vocabulary.Said.TheVariants as say
 use Rattle.hd_server.specs.Lives.{Opened, Socketed}
 use Rattle.hd_server.specs.Machine.{MachineEvent, Connects, Does, Rounds, Carries, settings_of, moves, ArePeers}
-use Rattle.hd_server.specs.Doings.{ServerEvent, Hears, Notes, Works, Says, work}
+use Rattle.hd_server.specs.Doings.{ServerEvent, Hears, Notes, Works, Says, Sees, work}
 use Rattle.hd_server.specs.Plans.{peer_settings, socket_reply}
-use Rattle.hd_server.specs.Serves.{IsTurn}
+use Rattle.hd_server.specs.Serves.{IsTurn, ServesOne}
 use Rattle.hd_server.specs.TableExamples.{key}
 use Rattle.hd_server.specs.Sessions.{plain_socket, setup, wrote, joins_a_room, IsServed}
 
@@ -120,6 +120,10 @@ stepped = Works (Rounds 0) ∷ does ticks ∷ shaken
 abbrev second : List ServerEvent
 second = Says (wrote 1 (codes "{}")) ∷ does (Plain (Step_of (Lent Response))) ∷ stepped
 
+-- the door answers that the lane isn't full
+abbrev second_seen : List ServerEvent
+second_seen = Sees 1 false ∷ second
+
 abbrev second_moves : List PeerEvent
 second_moves = Plain (Step_of (Lent Response)) ∷ peers.Rounds ∷ ticks ∷ new_moves ++ first_moves
 
@@ -188,7 +192,7 @@ abbrev joins : PeerEvent
 joins = Runs 0 join 0 (Given Go 0) (Do (Join (codes "r")))
 
 abbrev call_heard : List ServerEvent
-call_heard = Hears 0 (event.Bytes 1 (1 ∷ [])) ∷ second
+call_heard = Hears 0 (event.Bytes 1 (1 ∷ [])) ∷ second_seen
 
 abbrev call_moves : List PeerEvent
 call_moves = Handles joining (Begins join 0 false) ∷ Reads joining ∷ Plain (Bytes (1 ∷ [])) ∷ []
@@ -228,7 +232,7 @@ third_peer = record {
   );
 }
 
-third_turn : IsTurn rooms setup 0 (event.Bytes 1 (1 ∷ [])) second third
+third_turn : IsTurn rooms setup 0 (event.Bytes 1 (1 ∷ [])) second_seen third
 third_turn = record {
   name = None;
   drawn = None;
@@ -355,14 +359,54 @@ fourth_turn = record {
   peers = only-one (work fourth) settings refl (λ c e. rw e refl) fourth_peer;
 }
 
+-- ---- each event with what is seen of what is said at it
+
+first_one : ServesOne rooms setup (record { now = 0; event = plain_socket 1 }) [] first
+first_one = record {
+  turned = first;
+  turn = first_turn;
+  words = say.Reply 1 (socket_reply key) ∷ [];
+  tells = refl;
+  full = [];
+  seen = record { each = refl; sees = refl };
+}
+
+second_one : ServesOne rooms setup (record { now = 0; event = event.Bytes 1 (1 ∷ []) }) first second_seen
+second_one = record {
+  turned = second;
+  turn = second_turn;
+  words = wrote 1 (codes "{}") ∷ [];
+  tells = refl;
+  full = false ∷ [];
+  seen = record { each = refl; sees = refl };
+}
+
+third_one : ServesOne rooms setup (record { now = 0; event = event.Bytes 1 (1 ∷ []) }) second_seen third
+third_one = record { turned = third; turn = third_turn; words = []; tells = refl; full = []; seen = record { each = refl; sees = refl } }
+
+fourth_one : ServesOne rooms setup (record { now = 0; event = event.Quiet }) third (Sees 1 false ∷ fourth)
+fourth_one = record {
+  turned = fourth;
+  turn = fourth_turn;
+  words = wrote 1 (codes "{\"invocationId\":\"1\",\"type\":3}") ∷ [];
+  tells = refl;
+  full = false ∷ [];
+  seen = record { each = refl; sees = refl };
+}
+
 pub served : IsServed joins_a_room (say.Reply 1 (socket_reply key) ∷ wrote 1 (codes "{}") ∷ wrote 1 (codes "{\"invocationId\":\"1\",\"type\":3}") ∷ [])
 served = (
-  fourth,
+  Sees 1 false ∷ fourth,
   (
     third,
-    (second, (first, ([], refl, (leb-true _ _ refl, (refl, refl)), first_turn), (leb-true _ _ refl, tt), second_turn), (leb-true _ _ refl, tt), third_turn),
+    (
+      second_seen,
+      (first, ([], refl, (leb-true _ _ refl, (refl, refl)), first_one), (leb-true _ _ refl, tt), second_one),
+      (leb-true _ _ refl, tt),
+      third_one,
+    ),
     (leb-true _ _ refl, tt),
-    fourth_turn,
+    fourth_one,
   ),
   refl,
 )

@@ -10,6 +10,7 @@ use Rattle.hd_server.specs.Doings.{ServerEvent, Hears, Works, notes, work, momen
 use Rattle.hd_server.specs.Plans.{Setup, plan}
 use Rattle.hd_server.specs.Serves.{IsFed, IsTurn, Serves}
 use Rattle.hd_server.specs.Laws.{ServersNoteInOrder}
+use Rattle.hd_server.proofs.Seeing.{Stays, one_stays}
 use Rattle.hd_server.proofs.OrderlyNotes.{Known}
 use Rattle.hd_server.proofs.OrderlyDoings.{Settled, IsQuiet, AreQuiet, quiet_settled_after}
 use Rattle.hd_server.proofs.OrderlyEach.{ticked_settled, told_settled}
@@ -63,13 +64,18 @@ orderly_then now h s = record {
   made_first = s.made_first;
 }
 
+pub orderly_stays : {most : ℕ} → Stays (IsOrderly most)
+orderly_stays lane full h was =
+    record { in_order = was.in_order; not_later = was.not_later; peers = was.peers; made_first = was.made_first }
+
 pub nothing_done : {most : ℕ} → IsOrderly most []
 nothing_done = record { in_order = tt; not_later = omega arith; peers = λ c e. absurd (cc); made_first = λ c over. refl }
 
 orderly : {Job : Type 0} → (hub : Hub Job) (s : Setup) (es : List Heard) (h : List ServerEvent) → Serves hub s es h → IsOrderly s.live h
 orderly hub s [] h e = subst (IsOrderly s.live) (sym e) nothing_done
-orderly hub s (e ∷ es) h (before, serves, may, turn) =
-    orderly_then e.now h (turn_settled hub s e.now e.event before h turn may.0 (orderly hub s es before serves))
+orderly hub s (e ∷ es) h (before, serves, may, one) =
+    one_stays (IsOrderly s.live) orderly_stays hub s e before h one
+    (orderly_then e.now one.turned (turn_settled hub s e.now e.event before one.turned one.turn may.0 (orderly hub s es before serves)))
 
 pub servers_note_in_order : {Job : Type 0} → ServersNoteInOrder Job
 servers_note_in_order hub s es h serves =

@@ -7,7 +7,7 @@ use Rattle.hd_calls.specs.Peers.{PeerEvent}
 use Rattle.hd_server.specs.Lives.{ConnectionEvent, Negotiated, Opened, Socketed, Polled, Answered, LaneLost, Ended, Expired, Removed, AreInOrder, MayBeNoted, made, is_removed, is_known, HasRoom, standing, life_of, last_moment}
 use Rattle.hd_server.specs.Machine.{Connects, Does, Rounds, Carries, Goes, settings_of, has_gone}
 use Rattle.hd_server.specs.declared.vocabulary.Said.TheVariants as say
-use Rattle.hd_server.specs.Doings.{ServerEvent, Learns, Draws, Notes, Works, Says, notes, work, moment, user_of, was_refused, has_peer}
+use Rattle.hd_server.specs.Doings.{ServerEvent, Learns, Draws, Notes, Works, Says, Sees, notes, work, moment, user_of, was_refused, has_peer}
 use Rattle.hd_server.specs.Plans.{Setup, onto, connecting, peer_settings, removing_conn, shutting, ends_lane, replying}
 use Rattle.hd_server.proofs.OrderlyNotes.{subject, IsOf, NonePast, Known, within, none_past_still, another_stands, another_stays, life_of_known, still_socketed, still_polled, still_answered, still_lost, still_ended, once_opened, once_negotiated}
 
@@ -71,6 +71,7 @@ abbrev pub IsQuiet : ServerEvent → Type 0
 IsQuiet (Learns ask) = Unit {0}
 IsQuiet (Draws drawn) = Unit {0}
 IsQuiet (Says x) = Unit {0}
+IsQuiet (Sees lane full) = Unit {0}
 IsQuiet (Works (Does c m)) = Unit {0}
 IsQuiet (Works (Rounds now)) = Unit {0}
 IsQuiet (Works (Carries c j d fates ask)) = Unit {0}
@@ -93,6 +94,7 @@ one_quiet : (d : ServerEvent) (g : List ServerEvent) → IsQuiet d → Unmoved g
 one_quiet (Learns ask) g e = record { same_notes = refl; same_peers = λ k. refl; same_moment = refl }
 one_quiet (Draws drawn) g e = record { same_notes = refl; same_peers = λ k. refl; same_moment = refl }
 one_quiet (Says x) g e = record { same_notes = refl; same_peers = λ k. refl; same_moment = refl }
+one_quiet (Sees lane full) g e = record { same_notes = refl; same_peers = λ k. refl; same_moment = refl }
 one_quiet (Works (Does c m)) g e = record { same_notes = refl; same_peers = λ k. refl; same_moment = refl }
 one_quiet (Works (Rounds now)) g e = record { same_notes = refl; same_peers = λ k. refl; same_moment = refl }
 one_quiet (Works (Carries c j d fates ask)) g e = record { same_notes = refl; same_peers = λ k. refl; same_moment = refl }

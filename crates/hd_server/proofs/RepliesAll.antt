@@ -11,18 +11,19 @@ use Rattle.hd_server.specs.declared.vocabulary.Life.TheVariants.{Unknown, Fresh,
 use Rattle.hd_server.specs.Lives.{Opened, is_known, is_polling, life_of, life_of_some, made, past, poll_ended, poll_of, socket_of, standing}
 use Rattle.hd_server.specs.Table.{outcome}
 use Rattle.hd_server.specs.Machine.{Rounds, connections, has_gone, settings_of}
-use Rattle.hd_server.specs.Doings.{ServerEvent, Hears, Works, notes, work, moment, has_peer}
+use Rattle.hd_server.specs.Doings.{ServerEvent, Hears, Works, Sees, notes, work, moment, has_peer}
 use Rattle.hd_server.specs.Plans.{Setup, onto, expiries, questions, conn_on, poller_on, losing_lane, named_conn, facts, plan, giving_way}
 use Rattle.hd_server.specs.Serves.{IsFed, IsFree, IsTurn, Serves, ticks, all_flushing}
 use Rattle.hd_server.specs.Laws.{EachRequestIsAnswered}
 use Rattle.hd_server.proofs.Flushing.{is_in}
+use Rattle.hd_server.proofs.Seeing.{Stays, one_stays}
 use Rattle.hd_server.proofs.OrderlyNotes.{Known, known_of_life, once_opened, within}
 use Rattle.hd_server.proofs.OrderlyDoings.{Settled, AreQuiet}
 use Rattle.hd_server.proofs.OrderlyExpiries.{expired_settled}
 use Rattle.hd_server.proofs.OrderlyPlans.{asks, asked_settled, named_known, plan_settled, gave_way}
-use Rattle.hd_server.proofs.Orderly.{nothing_done, round_quiet}
+use Rattle.hd_server.proofs.Orderly.{nothing_done, orderly_stays, round_quiet}
 use Rattle.hd_server.proofs.RepliesSent.{outcome_sent}
-use Rattle.hd_server.proofs.RepliesLanes.{Holds, calm_onto}
+use Rattle.hd_server.proofs.RepliesLanes.{Holds, calm_holds, calm_onto}
 use Rattle.hd_server.proofs.RepliesPlans.{Named}
 use Rattle.hd_server.proofs.RepliesTurns.{finds, there_of, expiries_calm, questions_calm}
 use Rattle.hd_server.proofs.RepliesOwn.{Alike, alike_same, own_alike, Own, quiet_onto}
@@ -99,6 +100,7 @@ module _ {most : ℕ} (now : ℕ) (h : List ServerEvent) (ok : Settled most now 
   needs (event.Bytes lane bytes) seats = tt
   needs (event.Response lane status body) seats = tt
   needs (event.Upgraded lane) seats = tt
+  needs (event.Drained lane) seats = tt
   needs event.Quiet seats = tt
 
   -- ---- what holds of each connection by itself, after what is done about an event
@@ -139,6 +141,7 @@ module _ {most : ℕ} (now : ℕ) (h : List ServerEvent) (ok : Settled most now 
   handled_own s same (event.Refused lane refusal) name drawn fed e k = subst (Own k) (sym e) (both k).0
   handled_own s same (event.Response lane status body) name drawn fed e k = subst (Own k) (sym e) (both k).0
   handled_own s same (event.Upgraded lane) name drawn fed e k = subst (Own k) (sym e) (both k).0
+  handled_own s same (event.Drained lane) name drawn fed e k = subst (Own k) (sym e) (both k).0
   handled_own s same event.Quiet name drawn fed e k = subst (Own k) (sym e) (both k).0
 
 -- ---- a turn
@@ -238,6 +241,21 @@ module _ {Job : Type 0} (hub : Hub Job) (s : Setup) (now : ℕ) (e : Event) (h a
   whole_after : Whole s.live after
   whole_after = record { sound = sound_after hub s now e h after turn handled_ok lanes_handled own_handled; seats = seats_after }
 
+-- what is seen after it
+whole_stays : {most : ℕ} → Stays (Whole most)
+whole_stays lane full h was =
+    let sight : List ServerEvent = Sees lane full ∷ [] in
+    let a : (k : ℕ) → Alike k h (Sees lane full ∷ h) = λ k. quiet_onto k sight h (tt, tt) in
+    record {
+      sound = record {
+        lanes = calm_holds None None h (Sees lane full ∷ h) (calm_onto sight h (tt, tt)) was.sound.lanes;
+        own = λ k. own_alike k h (Sees lane full ∷ h) (a k) (was.sound.own k);
+        done = λ k. done_alike k h (Sees lane full ∷ h) (a k) (was.sound.done k);
+        ordered = orderly_stays lane full h was.sound.ordered;
+      };
+      seats = less_seats None None h (Sees lane full ∷ h) (less_onto sight h (tt, tt)) was.seats;
+    }
+
 -- ---- the whole of it
 
 nothing_whole : {most : ℕ} → Whole most []
@@ -274,8 +292,9 @@ nothing_whole = record {
 
 whole : {Job : Type 0} → (hub : Hub Job) (s : Setup) (es : List Heard) (h : List ServerEvent) → Serves hub s es h → Whole s.live h
 whole hub s [] h e = subst (Whole s.live) (sym e) nothing_whole
-whole hub s (e ∷ es) h (before, serves, may, turn) =
-    whole_after hub s e.now e.event before h turn may.0 may.1 (whole hub s es before serves)
+whole hub s (e ∷ es) h (before, serves, may, one) =
+    one_stays (Whole s.live) whole_stays hub s e before h one
+    (whole_after hub s e.now e.event before one.turned one.turn may.0 may.1 (whole hub s es before serves))
 
 pub each_request_is_answered : {Job : Type 0} → EachRequestIsAnswered Job
 each_request_is_answered hub s es h serves =

@@ -27,6 +27,7 @@ hearing_calm (event.Refused lane refusal) g x a ok = calm_holds None None g x a 
 hearing_calm (event.Bytes lane bytes) g x a ok = calm_holds None None g x a ok
 hearing_calm (event.Response lane status body) g x a ok = calm_holds None None g x a ok
 hearing_calm (event.Upgraded lane) g x a ok = calm_holds None None g x a ok
+hearing_calm (event.Drained lane) g x a ok = calm_holds None None g x a ok
 hearing_calm event.Quiet g x a ok = calm_holds None None g x a ok
 
 -- what is needed of the connection that a request names, and of a lane that is lost
@@ -47,6 +48,7 @@ handled_lanes s now (event.Bytes lane bytes) name drawn h fed ok n e = calm_hold
 handled_lanes s now (event.Refused lane refusal) name drawn h fed ok n e = subst (Holds None None) (sym e) ok
 handled_lanes s now (event.Response lane status body) name drawn h fed ok n e = subst (Holds None None) (sym e) ok
 handled_lanes s now (event.Upgraded lane) name drawn h fed ok n e = subst (Holds None None) (sym e) ok
+handled_lanes s now (event.Drained lane) name drawn h fed ok n e = subst (Holds None None) (sym e) ok
 handled_lanes s now event.Quiet name drawn h fed ok n e = subst (Holds None None) (sym e) ok
 
 hears_calm : (now : ℕ) (e : Event) (g : List ServerEvent) → ((lane : ℕ) → awaits_reply lane (Hears now e ∷ g) ≡ awaits_reply lane g) → Calm g (Hears now e ∷ g)
@@ -60,4 +62,5 @@ heard_lanes now (event.Refused lane refusal) g free ok = calm_holds None None g 
 heard_lanes now (event.Bytes lane bytes) g free ok = calm_holds None None g _ (hears_calm now (event.Bytes lane bytes) g (λ l. refl)) ok
 heard_lanes now (event.Response lane status body) g free ok = calm_holds None None g _ (hears_calm now (event.Response lane status body) g (λ l. refl)) ok
 heard_lanes now (event.Upgraded lane) g free ok = calm_holds None None g _ (hears_calm now (event.Upgraded lane) g (λ l. refl)) ok
+heard_lanes now (event.Drained lane) g free ok = calm_holds None None g _ (hears_calm now (event.Drained lane) g (λ l. refl)) ok
 heard_lanes now event.Quiet g free ok = calm_holds None None g _ (hears_calm now event.Quiet g (λ l. refl)) ok

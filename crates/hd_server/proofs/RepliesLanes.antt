@@ -9,7 +9,7 @@ use Rattle.hd_calls.specs.Peers.{PeerEvent}
 use Rattle.hd_server.specs.declared.vocabulary.Said.TheVariants as say
 use Rattle.hd_server.specs.Lives.{Negotiated, Opened, Socketed, Answered, Ended, Expired, Removed, poll_of}
 use Rattle.hd_server.specs.Machine.{Does, Rounds, Carries, Goes, settings_of, has_gone}
-use Rattle.hd_server.specs.Doings.{ServerEvent, Learns, Draws, Notes, Works, Says, notes, work, awaits_reply, was_refused, has_peer}
+use Rattle.hd_server.specs.Doings.{ServerEvent, Learns, Draws, Notes, Works, Says, Sees, notes, work, awaits_reply, was_refused, has_peer}
 use Rattle.hd_server.specs.Plans.{onto, dropping, removing_conn, shutting, ends_lane, shutting_after}
 use Rattle.hd_server.specs.Laws.{AreAwaited}
 use Rattle.hd_server.proofs.OrderlyDoings.{either_way}
@@ -65,6 +65,7 @@ IsCalm (Learns ask) = Unit {0}
 IsCalm (Draws drawn) = Unit {0}
 IsCalm (Says (say.Bytes lane bytes text)) = Unit {0}
 IsCalm (Says (say.Shut lane)) = Unit {0}
+IsCalm (Sees lane full) = Unit {0}
 IsCalm (Works (Does c m)) = Unit {0}
 IsCalm (Works (Rounds now)) = Unit {0}
 IsCalm (Works (Carries c j d fates ask)) = Unit {0}
@@ -96,6 +97,7 @@ one_calm (Learns ask) g e = record { same_polls = λ c. refl; fewer = λ c p e f
 one_calm (Draws drawn) g e = record { same_polls = λ c. refl; fewer = λ c p e f. f; same_waits = λ lane. refl; told_still = λ t. t }
 one_calm (Says (say.Bytes lane bytes text)) g e = record { same_polls = λ c. refl; fewer = λ c p e f. f; same_waits = λ lane. refl; told_still = λ t. t }
 one_calm (Says (say.Shut lane)) g e = record { same_polls = λ c. refl; fewer = λ c p e f. f; same_waits = λ lane. refl; told_still = λ t. t }
+one_calm (Sees lane full) g e = record { same_polls = λ c. refl; fewer = λ c p e f. f; same_waits = λ lane. refl; told_still = λ t. t }
 one_calm (Works (Does c m)) g e = record { same_polls = λ c. refl; fewer = λ c p e f. f; same_waits = λ lane. refl; told_still = λ t. t }
 one_calm (Works (Rounds now)) g e = record { same_polls = λ c. refl; fewer = λ c p e f. f; same_waits = λ lane. refl; told_still = λ t. t }
 one_calm (Works (Carries c j d fates ask)) g e = record { same_polls = λ c. refl; fewer = λ c p e f. f; same_waits = λ lane. refl; told_still = λ t. t }

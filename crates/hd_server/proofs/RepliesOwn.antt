@@ -14,7 +14,7 @@ use Rattle.hd_calls.specs.Peers.{PeerEvent, Settings, Answers, Calls, Plain, add
 use Rattle.hd_calls.specs.Peers as peers
 use Rattle.hd_server.specs.Lives.{ConnectionEvent, Negotiated, Opened, Socketed, Polled, Answered, LaneLost, Ended, Expired, Removed, made, is_known, is_polling, socket_of, lost_at, poll_of, poll_ended, ended_at}
 use Rattle.hd_server.specs.Machine.{Connects, Does, Rounds, Carries, Goes, DeliveryOutcome, Got, TooSlow, PassedOver, settings_of, has_gone, is_there, with_fate, outcome_in, notifies, notice_of, answer_to}
-use Rattle.hd_server.specs.Doings.{ServerEvent, Hears, Learns, Draws, Notes, Works, Says, notes, work, peer, history_with, config_with, has_peer, has_closed}
+use Rattle.hd_server.specs.Doings.{ServerEvent, Hears, Learns, Draws, Notes, Works, Says, Sees, notes, work, peer, history_with, config_with, has_peer, has_closed}
 use Rattle.hd_server.specs.Plans.{onto}
 use Rattle.hd_server.proofs.Few.{IsSame, conn_of, same_of_another, standing_same}
 use Rattle.hd_server.proofs.OrderlyNotes.{Known}
@@ -130,6 +130,8 @@ quiet_alike k (Draws drawn) g e =
     record { same_notes = notes_same k (notes g); more = omega arith; same_settings = refl; same_gone = refl; closed_still = λ f. f }
 quiet_alike k (Says x) g e =
     record { same_notes = notes_same k (notes g); more = omega arith; same_settings = refl; same_gone = refl; closed_still = λ f. f }
+quiet_alike k (Sees lane full) g e =
+    record { same_notes = notes_same k (notes g); more = omega arith; same_settings = refl; same_gone = refl; closed_still = λ f. f }
 quiet_alike k (Works (Does c m)) g e = record {
   same_notes = notes_same k (notes g);
   more = omega arith;
@@ -212,6 +214,7 @@ one_alike c k (Works (Carries x j d fates ask)) g n e = quiet_alike k (Works (Ca
 one_alike c k (Learns ask) g n e = quiet_alike k (Learns ask) g e
 one_alike c k (Draws drawn) g n e = quiet_alike k (Draws drawn) g e
 one_alike c k (Says x) g n e = quiet_alike k (Says x) g e
+one_alike c k (Sees lane full) g n e = quiet_alike k (Sees lane full) g e
 one_alike c k (Hears now event) g n e = absurd e
 
 pub others_alike : (c k : ℕ) (ds g : List ServerEvent) → (k == c) ≡ false → AreOne c ds → Alike k g (onto ds g)

@@ -12,7 +12,7 @@ use Rattle.hd_server.specs.declared.vocabulary.Life.{Life}
 use Rattle.hd_server.specs.declared.vocabulary.Life.TheVariants.{Unknown, Fresh, Socket, Lost, Polling, Ending}
 use Rattle.hd_server.specs.Lives.{ConnectionEvent, LaneLost, Expired, Removed, ended_at, is_known, is_removed, is_opened, is_polling, lost_at, made, negotiated_at, socket_of, standing, when}
 use Rattle.hd_server.specs.Machine.{Does, Goes, Rounds, Carries, connections, settings_of, has_gone, is_open_at}
-use Rattle.hd_server.specs.Doings.{ServerEvent, Learns, Draws, Notes, Works, Says, notes, work, peer, history, config_of, has_peer, has_closed, may_resume, is_up}
+use Rattle.hd_server.specs.Doings.{ServerEvent, Learns, Draws, Notes, Works, Says, Sees, notes, work, peer, history, config_of, has_peer, has_closed, may_resume, is_up}
 use Rattle.hd_server.specs.Plans.{onto, step, closing, dropping, removing_conn, expiring, losing, shutting}
 use Rattle.hd_server.specs.Serves.{silenced, ticking, ticks}
 use Rattle.hd_server.proofs.Few.{standing_same}
@@ -28,6 +28,7 @@ quiet_is_one : (c : ℕ) (d : ServerEvent) → IsQuiet d → IsOne c d
 quiet_is_one c (Learns ask) e = e
 quiet_is_one c (Draws drawn) e = e
 quiet_is_one c (Says x) e = e
+quiet_is_one c (Sees lane full) e = e
 quiet_is_one c (Works (Does k m)) e = e
 quiet_is_one c (Works (Rounds now)) e = e
 quiet_is_one c (Works (Carries k j d fates ask)) e = e

@@ -253,6 +253,7 @@ seating_less (event.Refused lane refusal) g x a ok = less_seats None None g x a 
 seating_less (event.Bytes lane bytes) g x a ok = less_seats None None g x a ok
 seating_less (event.Response lane status body) g x a ok = less_seats None None g x a ok
 seating_less (event.Upgraded lane) g x a ok = less_seats None None g x a ok
+seating_less (event.Drained lane) g x a ok = less_seats None None g x a ok
 seating_less event.Quiet g x a ok = less_seats None None g x a ok
 
 hears_less : (now : ℕ) (e : Event) (g : List ServerEvent) → ((lane : ℕ) → is_upgraded lane (Hears now e ∷ g) ≡ is_upgraded lane g) → Less g (Hears now e ∷ g)
@@ -278,6 +279,7 @@ heard_seats now (event.Bytes lane bytes) g free hearing ok = less_seats None Non
 heard_seats now (event.Response lane status body) g free hearing ok =
     less_seats None None g _ (hears_less now (event.Response lane status body) g (λ l. refl)) ok
 heard_seats now (event.Upgraded lane) g free hearing ok = less_seats None None g _ (hears_less now (event.Upgraded lane) g (λ l. refl)) ok
+heard_seats now (event.Drained lane) g free hearing ok = less_seats None None g _ (hears_less now (event.Drained lane) g (λ l. refl)) ok
 heard_seats now event.Quiet g free hearing ok = less_seats None None g _ (hears_less now event.Quiet g (λ l. refl)) ok
 
 pub handled_seats : (s : Setup) (now : ℕ) (e : Event) (name : Option (Option (List ℕ))) (drawn : Option (List ℕ)) (h fed : List ServerEvent) → Seating e h
@@ -295,4 +297,5 @@ handled_seats s now (event.Bytes lane bytes) name drawn h fed ok named next amon
 handled_seats s now (event.Refused lane refusal) name drawn h fed ok named next among e = subst (Seats None None) (sym e) ok
 handled_seats s now (event.Response lane status body) name drawn h fed ok named next among e = subst (Seats None None) (sym e) ok
 handled_seats s now (event.Upgraded lane) name drawn h fed ok named next among e = subst (Seats None None) (sym e) ok
+handled_seats s now (event.Drained lane) name drawn h fed ok named next among e = subst (Seats None None) (sym e) ok
 handled_seats s now event.Quiet name drawn h fed ok named next among e = subst (Seats None None) (sym e) ok

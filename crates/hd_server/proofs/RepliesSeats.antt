@@ -18,7 +18,7 @@ use Rattle.hd_server.specs.Numbers.{held_for}
 use Rattle.hd_server.specs.Lives.{Negotiated, Opened, Socketed, Polled, Answered, LaneLost, Ended, Expired, Removed, is_polling, ended_at, standing, overdue, socket_of, poll_of}
 use Rattle.hd_server.specs.Table.{asks_keeper}
 use Rattle.hd_server.specs.Machine.{MachineEvent, Does, Rounds, Carries, Goes, connections}
-use Rattle.hd_server.specs.Doings.{ServerEvent, Learns, Draws, Notes, Works, Says, notes, work, history, config_of, is_upgraded, was_refused, is_up, may_resume, has_peer, has_closed}
+use Rattle.hd_server.specs.Doings.{ServerEvent, Learns, Draws, Notes, Works, Says, Sees, notes, work, history, config_of, is_upgraded, was_refused, is_up, may_resume, has_peer, has_closed}
 use Rattle.hd_server.specs.Plans.{Setup, onto, step, closing, dropping, removing_conn, expiring, expiries, learning, asks_lots, questions, losing, shutting, shutting_some, ends_lane, shutting_after, replying, bare_reply, frames_reply, ending_poll}
 use Rattle.hd_server.specs.Serves.{lending, writing, all_of, bytes_of, flushing_socket, flushing_poll, flushing_some_poll, ending, flushing_without, flushing_on, flushing, all_flushing, silenced, ticking, ticks}
 use Rattle.hd_server.proofs.OrderlyDoings.{AreQuiet, either_way}
@@ -67,6 +67,7 @@ IsLess (Draws drawn) = Unit {0}
 IsLess (Says (say.Reply lane reply)) = (reply.status == 101) ≡ false
 IsLess (Says (say.Bytes lane bytes text)) = Unit {0}
 IsLess (Says (say.Shut lane)) = Unit {0}
+IsLess (Sees lane full) = Unit {0}
 IsLess (Works (Does c m)) = Unit {0}
 IsLess (Works (Rounds now)) = Unit {0}
 IsLess (Works (Carries c j d fates ask)) = Unit {0}
@@ -106,6 +107,7 @@ one_less (Says (say.Reply lane reply)) g e = record {
 }
 one_less (Says (say.Bytes lane bytes text)) g e = record { socket = λ c l p f. (p, f); poll = λ c l t p f. (p, f); same = λ l. refl }
 one_less (Says (say.Shut lane)) g e = record { socket = λ c l p f. (p, f); poll = λ c l t p f. (p, f); same = λ l. refl }
+one_less (Sees lane full) g e = record { socket = λ c l p f. (p, f); poll = λ c l t p f. (p, f); same = λ l. refl }
 one_less (Works (Does c m)) g e = record { socket = λ c l p f. (p, f); poll = λ c l t p f. (p, f); same = λ l. refl }
 one_less (Works (Rounds now)) g e = record { socket = λ c l p f. (p, f); poll = λ c l t p f. (p, f); same = λ l. refl }
 one_less (Works (Carries c j d fates ask)) g e = record { socket = λ c l p f. (p, f); poll = λ c l t p f. (p, f); same = λ l. refl }

@@ -9,11 +9,13 @@ use Rattle.hw_door.specs.declared.heard.Event.TheVariants as event
 use Rattle.hw_door.specs.declared.heard.Given.{Given}
 use Rattle.hw_door.specs.declared.heard.Heard.{Heard}
 use Rattle.hd_server.specs.declared.vocabulary.Said.{Said}
-use Rattle.hd_server.specs.Doings.{ServerEvent, said, is_upgraded, awaits_reply}
+use Rattle.hd_server.specs.Doings.{ServerEvent, said, seen, is_upgraded, awaits_reply}
 use Rattle.hd_server.specs.Plans.{Setup}
-use Rattle.hd_server.specs.Serves.{Serves, IsFree}
-use Rattle.hd_server.specs.Serving.{IsAnswered, ServesOn, given_as}
+use Rattle.hd_server.specs.Serves.{Serves, ServesOne, IsFree, IsSeen, given_as}
+use Rattle.hd_server.specs.Serving.{IsAnswered, ServesOn}
 use Rattle.hd_server.specs.Laws.{HasServed, AreLeft, ServedIsServes}
+use Rattle.hd_server.proofs.Further.{turns_go_further}
+use Rattle.hd_server.proofs.Seeing.{seen_all, seen_said}
 
 -- the latest comes first
 turned : (e : Heard) (es before : List Heard) → reverse es ++ e ∷ before ≡ reverse (e ∷ es) ++ before
@@ -38,9 +40,9 @@ is_decided x h = inl tt
 
 module _ {Job : Type 0} (hub : Hub Job) (s : Setup) (cut : Bool) where
   -- none of these is answered, and if there are none, nothing is given
-  none_more : (h : List ServerEvent) (before es : List Heard) (given : List Given) → Serves hub s before h → AreLeft cut h es
-      → (es ≡ [] → given ≡ []) → HasServed hub s cut h before es given
-  none_more h before es given serves left none = record {
+  none_more : (h : List ServerEvent) (before es : List Heard) (given : List Given) (full : List Bool) → Serves hub s before h → AreLeft cut h es
+      → (es ≡ [] → (given ≡ []) × (full ≡ [])) → HasServed hub s cut h before es given full
+  none_more h before es given full serves left none = record {
     answered = [];
     rest = es;
     are = refl;
@@ -48,36 +50,60 @@ module _ {Job : Type 0} (hub : Hub Job) (s : Setup) (cut : Bool) where
     serves = serves;
     gives = (given, refl);
     left = left;
-    all_given = λ e. sym (ap (λ l. map given_as (said h) ++ l) (none e) ∙ append-nil _);
+    all_given = λ e. sym (ap (λ l. map given_as (said h) ++ l) (none e).0 ∙ append-nil _);
+    sees = (full, refl);
+    all_seen = λ e. sym (ap (λ l. seen h ++ l) (none e).1 ∙ append-nil _);
   }
 
+  -- an event that is answered, and what is seen of the answer
+  one_served : (h mid after : List ServerEvent) (e : Heard) (own : List Given) (sights : List Bool) → IsAnswered hub s h e mid own → IsSeen own sights mid after
+      → ServesOne hub s e h after
+  one_served h mid after e own sights answer sees = record {
+    turned = mid;
+    turn = answer.turn;
+    words = answer.new;
+    tells = answer.tells;
+    full = sights;
+    seen = subst (λ l. IsSeen l sights mid after) answer.gives sees;
+  }
+
+  -- what is seen of one answer, and then of those after it
+  seen_on : (h mid after : List ServerEvent) (e : Heard) (own : List Given) (sights more full : List Bool) (all : List Bool)
+      → IsAnswered hub s h e mid own → IsSeen own sights mid after → full ≡ sights ++ more → all ≡ seen after ++ more → all ≡ seen h ++ full
+  seen_on h mid after e own sights more full all answer sees parted is =
+      is ∙ ap (λ l. l ++ more) (seen_all own sights mid after sees ∙ ap (λ l. l ++ sights) (turns_go_further hub s e.now e.event h mid answer.turn).sees_none)
+      ∙ append_assoc (seen h) sights more ∙ ap (λ l. seen h ++ l) (sym parted)
+
   -- an event that is answered, and those after it
-  one_more : (h after : List ServerEvent) (e : Heard) (before es : List Heard) (own rest given : List Given)
-      → IsAnswered hub s h e after own → given ≡ own ++ rest → HasServed hub s cut after (e ∷ before) es rest
-      → HasServed hub s cut h before (e ∷ es) given
-  one_more h after e before es own rest given answer is last = record {
+  one_more : (h mid after : List ServerEvent) (e : Heard) (before es : List Heard) (own rest given : List Given) (sights more full : List Bool)
+      → IsAnswered hub s h e mid own → IsSeen own sights mid after → given ≡ own ++ rest → full ≡ sights ++ more
+      → HasServed hub s cut after (e ∷ before) es rest more → HasServed hub s cut h before (e ∷ es) given full
+  one_more h mid after e before es own rest given sights more full answer sees is parted last = record {
     answered = e ∷ last.answered;
     rest = last.rest;
     are = ap (λ l. e ∷ l) last.are;
     after = last.after;
     serves = subst (λ l. Serves hub s l last.after) (turned e last.answered before) last.serves;
-    gives = (last.gives.0, given_on _ _ _ answer.new own rest given answer.tells answer.gives is last.gives.1);
+    gives = (last.gives.0, given_on _ _ _ answer.new own rest given (seen_said own sights mid after sees ∙ answer.tells) answer.gives is last.gives.1);
     left = last.left;
-    all_given = λ e. given_on _ _ _ answer.new own rest given answer.tells answer.gives is (last.all_given e);
+    all_given = λ e. given_on _ _ _ answer.new own rest given (seen_said own sights mid after sees ∙ answer.tells) answer.gives is (last.all_given e);
+    sees = (last.sees.0, seen_on h mid after e own sights more full _ answer sees parted last.sees.1);
+    all_seen = λ none. seen_on h mid after e own sights more full _ answer sees parted (last.all_seen none);
   }
 
   -- whatever holds at the end
   answered_first : (AtEnd Ended : List ServerEvent → Type 0) (h : List ServerEvent) (before es : List Heard) (waits : List ℕ) (given : List Given)
-      → Serves hub s before h → ServesOn hub s cut AtEnd Ended h es waits given → HasServed hub s cut h before es given
-  answered_first AtEnd Ended h before [] [] given serves on = none_more h before [] given serves tt (λ e. on.0)
-  answered_first AtEnd Ended h before [] (wait ∷ waits) given serves on = absurd on
-  answered_first AtEnd Ended h before (e ∷ es) [] given serves on = absurd on
-  answered_first AtEnd Ended h before (e ∷ es) (wait ∷ waits) given serves (waited, later, answers) = elim (is_decided e.event h) [
-    | inr may_not ↦ none_more h before (e ∷ es) given serves (inl may_not) (λ none. absurd (cc))
+      (full : List Bool) → Serves hub s before h → ServesOn hub s cut AtEnd Ended h es waits given full → HasServed hub s cut h before es given full
+  answered_first AtEnd Ended h before [] [] given full serves on = none_more h before [] given full serves tt (λ e. (on.0, on.1))
+  answered_first AtEnd Ended h before [] (wait ∷ waits) given full serves on = absurd on
+  answered_first AtEnd Ended h before (e ∷ es) [] given full serves on = absurd on
+  answered_first AtEnd Ended h before (e ∷ es) (wait ∷ waits) given full serves (waited, later, answers) = elim (is_decided e.event h) [
+    | inr may_not ↦ none_more h before (e ∷ es) given full serves (inl may_not) (λ none. absurd (cc))
     | inl free ↦ elim (answers free) [
-      | inl (after, own, rest, answer, is, further) ↦ one_more h after e before es own rest given answer is
-          (answered_first AtEnd Ended after (e ∷ before) es waits rest (h, serves, (later, free), answer.turn) further)
-      | inr short ↦ none_more h before (e ∷ es) given serves (inr (short.0, short.1)) (λ none. absurd (cc))
+      | inl (mid, after, own, rest, sights, more, answer, is, parted, sees, further) ↦ one_more h mid after e before es own rest given sights more full answer sees is parted
+          (answered_first AtEnd Ended after (e ∷ before) es waits rest more
+          (h, serves, (later, free), one_served h mid after e own sights answer sees) further)
+      | inr short ↦ none_more h before (e ∷ es) given full serves (inr (short.0, short.1)) (λ none. absurd (cc))
     ]
   ]
 

@@ -1,5 +1,5 @@
 -- What a server did, as one list, the latest first, and what is read off it: its connections' notes, the happenings of the hub machine,
--- and with them each peer's moves and the history of its end; what was heard, asked, drawn and said.
+-- and with them each peer's moves and the history of its end; what was heard, asked, drawn and said, and which lanes are full.
 use Rattle.std.specs.Prelude.{ℕ, Bool, false, ◌&&◌, ◌||◌, ◌==◌, List, [], ◌∷◌, ◌++◌, Option, Some, None, if◌then◌else◌}
 use Rattle.hm_message.specs.declared.message.Codec.TheVariants.{Json}
 use Rattle.hd_delivery.specs.declared.vocabulary.Side.TheVariants.{Server}
@@ -24,6 +24,7 @@ pub data ServerEvent : Type 0 where
   Notes : (note : ConnectionEvent) → ServerEvent
   Works : (happening : MachineEvent) → ServerEvent
   Says : (said : Said) → ServerEvent
+  Sees : (lane : ℕ) → (full : Bool) → ServerEvent  -- the door was given a message for the lane, and answered whether that is full now
 
 -- ---- the parts
 
@@ -64,6 +65,12 @@ said [] = []
 said (Says x ∷ h) = said h ++ x ∷ []
 said (_ ∷ h) = said h
 
+-- what was answered to messages, the first first
+abbrev pub seen : List ServerEvent → List Bool
+seen [] = []
+seen (Sees lane full ∷ h) = seen h ++ full ∷ []
+seen (_ ∷ h) = seen h
+
 -- the moment of the last event
 abbrev pub moment : List ServerEvent → ℕ
 moment [] = 0
@@ -84,6 +91,15 @@ was_refused lane [] = false
 was_refused lane (Hears now (event.Refused l refusal) ∷ h) = (lane == l) || was_refused lane h
 was_refused lane (Hears now (event.Request l r) ∷ h) = if lane == l then false else was_refused lane h
 was_refused lane (_ ∷ h) = was_refused lane h
+
+-- the door answered to the last message for the lane that it is full, and hasn't said since that it is drained. A request that comes under its
+-- number afterwards comes on a new lane
+abbrev pub is_full : ℕ → List ServerEvent → Bool
+is_full lane [] = false
+is_full lane (Sees l full ∷ h) = if lane == l then full else is_full lane h
+is_full lane (Hears now (event.Drained l) ∷ h) = if lane == l then false else is_full lane h
+is_full lane (Hears now (event.Request l r) ∷ h) = if lane == l then false else is_full lane h
+is_full lane (_ ∷ h) = is_full lane h
 
 -- since the lane was lost last, 101 was said there
 abbrev pub is_upgraded : ℕ → List ServerEvent → Bool

@@ -1,5 +1,5 @@
 -- What holds of these definitions, in their own words.
-use Rattle.std.specs.Prelude.{◌≡◌, ◌↔◌, ◌⊎◌, ℕ, ◌+◌, ◌^◌, ◌<◌, ◌≤◌, ◌||◌, map, reverse, Bool, true, false, nat_le, List, [], ◌∷◌, ◌++◌, length, nat_eq, None, Some, is_some, All, if◌then◌else◌}
+use Rattle.std.specs.Prelude.{◌≡◌, ◌↔◌, ◌⊎◌, ℕ, ◌+◌, ◌^◌, ◌<◌, ◌≤◌, ◌||◌, map, reverse, Bool, true, false, nat_le, List, [], ◌∷◌, ◌++◌, length, nat_eq, Option, None, Some, is_some, All, if◌then◌else◌}
 use Rattle.std.specs.List.{IsDistinct}
 use Rattle.hv_value.specs.Tree.{Tree}
 use Rattle.hm_message.specs.declared.message.Message.{Message}
@@ -34,12 +34,12 @@ use Rattle.hd_server.specs.Machine.{registry}
 use Rattle.hw_lanes.specs.Replies.{IsReply}
 use Rattle.hd_server.specs.declared.vocabulary.Life.TheVariants.{Fresh, Polling, Ending}
 use Rattle.hd_server.specs.declared.vocabulary.Said.TheVariants as say
-use Rattle.hd_server.specs.Doings.{ServerEvent, Says, notes, work, hears, asked, draws, said, history, awaits_reply, config_of, has_peer}
+use Rattle.hd_server.specs.Doings.{ServerEvent, Says, notes, work, hears, asked, draws, said, seen, history, awaits_reply, config_of, has_peer, is_full}
 use Rattle.hd_facts.specs.Prefixes.{IsPrefix}
 use Rattle.hd_server.specs.Doings.{moment as moment_heard}
 use Rattle.hd_server.specs.Plans.{Setup, allowed_at, bare_reply, makes_token}
-use Rattle.hd_server.specs.Serves.{LendsUpTo, IsFree, IsTurn, Serves}
-use Rattle.hd_server.specs.Serving.{ServesOn, given_as}
+use Rattle.hd_server.specs.Serves.{LendsUpTo, IsFree, IsTurn, Serves, given_as}
+use Rattle.hd_server.specs.Serving.{ServesOn}
 use Rattle.hw_door.specs.declared.heard.Given.{Given}
 
 -- ---- sockets that name a token
@@ -168,11 +168,12 @@ IdleTicksAreUnseen = (c : Config) (now : ℕ) (h : List EndEvent) → is_unseen 
 
 -- ---- turns
 
--- what was done before an event stays, and the event is heard once
+-- what was done before an event stays, the event is heard once, and no answer to a message is seen yet
 pub record GoesFurther (now : ℕ) (event : Event) (h after : List ServerEvent) : Type 0 where
   pub new : List ServerEvent
   pub are : after ≡ new ++ h
   pub hears_it : hears after ≡ hears h ++ record { now = now; event = event } ∷ []
+  pub sees_none : seen after ≡ seen h
 
 abbrev pub TurnsGoFurther : Type 0 → Type 0
 TurnsGoFurther Job = (hub : Hub Job) (s : Setup) (now : ℕ) (event : Event) (h after : List ServerEvent)
@@ -184,6 +185,7 @@ pub record TellsGrow (new h : List ServerEvent) : Type 0 where
   pub asked_more : asked (new ++ h) ≡ asked h ++ asked new
   pub drawn_more : draws (new ++ h) ≡ draws h ++ draws new
   pub said_more : said (new ++ h) ≡ said h ++ said new
+  pub seen_more : seen (new ++ h) ≡ seen h ++ seen new
 
 abbrev pub WhatIsToldGrows : Type 0
 WhatIsToldGrows = (new h : List ServerEvent) → TellsGrow new h
@@ -201,11 +203,16 @@ pub record IsServer {Job : Type 0} (hub : Hub Job) (es : List Heard) (h : List S
 abbrev pub ServersArePeers : Type 0 → Type 0
 ServersArePeers Job = (hub : Hub Job) (s : Setup) (es : List Heard) (h : List ServerEvent) → Serves hub s es h → IsServer hub es h
 
--- after an event nothing is due on a connection that stands on a socket or holds a poll. Connections are numbered from 1
+-- the lane of a connection's socket is full
+abbrev pub is_full_some : Option ℕ → List ServerEvent → Bool
+is_full_some None h = false
+is_full_some (Some lane) h = is_full lane h
+
+-- after an event nothing is due on a connection that stands on a socket whose lane isn't full, or holds a poll. Connections are numbered from 1
 abbrev pub NothingIsLeft : Type 0 → Type 0
 NothingIsLeft Job = (hub : Hub Job) (s : Setup) (now : ℕ) (event : Event) (h after : List ServerEvent) → IsTurn hub s now event h after
     → (c : ℕ) → 0 < c → has_peer c after ≡ true → (is_some (socket_of c (notes after)) || is_some (poll_of c (notes after))) ≡ true
-    → due (config_of c after) (history c after) ≡ None
+    → is_full_some (socket_of c (notes after)) after ≡ false → due (config_of c after) (history c after) ≡ None
 
 -- the body of a poll's reply is within its bound, if each frame in it and its framing are within theirs
 abbrev pub BodiesAreBounded : Type 0
@@ -241,9 +248,9 @@ abbrev pub AreLeft : Bool → List ServerEvent → List Heard → Type 0
 AreLeft cut h [] = Unit {0}
 AreLeft cut h (e ∷ es) = (IsFree e.event h → ⊥) ⊎ ((cut ≡ true) × (es ≡ []))
 
--- a server that heard `before`, the latest first, and then these, in order, is one that heard the first of them, and gave first what it says,
--- and nothing else if it heard them all
-pub record HasServed {Job : Type 0} (hub : Hub Job) (s : Setup) (cut : Bool) (h : List ServerEvent) (before es : List Heard) (given : List Given) : Type 0 where
+-- a server that heard `before`, the latest first, and then these, in order, is one that heard the first of them, gave first what it says, and saw
+-- first what was answered to that; and nothing else if it heard them all
+pub record HasServed {Job : Type 0} (hub : Hub Job) (s : Setup) (cut : Bool) (h : List ServerEvent) (before es : List Heard) (given : List Given) (full : List Bool) : Type 0 where
   pub answered : List Heard
   pub rest : List Heard
   pub are : es ≡ answered ++ rest
@@ -252,10 +259,12 @@ pub record HasServed {Job : Type 0} (hub : Hub Job) (s : Setup) (cut : Bool) (h 
   pub gives : IsPrefix (map given_as (said after)) (map given_as (said h) ++ given)
   pub left : AreLeft cut after rest
   pub all_given : rest ≡ [] → map given_as (said after) ≡ map given_as (said h) ++ given
+  pub sees : IsPrefix (seen after) (seen h ++ full)
+  pub all_seen : rest ≡ [] → seen after ≡ seen h ++ full
 
 abbrev pub ServedIsServes : Type 0 → Type 0
-ServedIsServes Job = (hub : Hub Job) (s : Setup) (cut : Bool) (h : List ServerEvent) (before es : List Heard) (waits : List ℕ) (given : List Given)
-    → Serves hub s before h → ServesOn hub s cut (λ after. Unit {0}) (λ after. Unit {0}) h es waits given → HasServed hub s cut h before es given
+ServedIsServes Job = (hub : Hub Job) (s : Setup) (cut : Bool) (h : List ServerEvent) (before es : List Heard) (waits : List ℕ) (given : List Given) (full : List Bool)
+    → Serves hub s before h → ServesOn hub s cut (λ after. Unit {0}) (λ after. Unit {0}) h es waits given full → HasServed hub s cut h before es given full
 
 -- ---- what a server notes
 

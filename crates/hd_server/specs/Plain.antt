@@ -21,9 +21,10 @@ use Rattle.hw_door.specs.declared.heard.Event.{Event}
 use Rattle.hd_server.specs.Numbers.{most_before_last}
 use Rattle.hd_server.specs.Lives.{socket_of, poll_of}
 use Rattle.hd_server.specs.Machine.{MachineEvent, Does, Rounds, Carries, Owed, NothingOwed, OwesDeed, OwesCall, owed, fates_of, turn_at, next_turn, moves, settings_of, connections}
-use Rattle.hd_server.specs.Doings.{ServerEvent, Hears, Works, notes, work, peer, history, config_of}
+use Rattle.hd_server.specs.declared.vocabulary.Said.{Said}
+use Rattle.hd_server.specs.Doings.{ServerEvent, Hears, Works, notes, work, said, peer, history, config_of}
 use Rattle.hd_server.specs.Plans.{Setup, onto, expiries, questions, plan}
-use Rattle.hd_server.specs.Serves.{can_feed, next_piece, moving, ticks, all_flushing}
+use Rattle.hd_server.specs.Serves.{can_feed, next_piece, moving, ticks, all_flushing, given_as, is_withheld, lanes_sent, seeing}
 
 -- what is followed while there is a next
 abbrev pub followed : {A : Type 0} → (List A → List A) → Option A → List A → List A
@@ -143,7 +144,7 @@ one_piece [] = []
 one_piece (f ∷ fs) = (f ∷ fs) ∷ []
 
 abbrev pub pieces_on : Setup → ℕ → Option ℕ → Option (ℕ × ℕ) → List ServerEvent → List (List LinkFrame)
-pieces_on s c (Some lane) poll h = one_piece (lent_all 40 (config_of c h) (history c h))
+pieces_on s c (Some lane) poll h = if is_withheld c lane h then [] else one_piece (lent_all 40 (config_of c h) (history c h))
 pieces_on s c None (Some poll) h = one_piece (lent_up_to 40 s.wire (config_of c h) (history c h) 0)
 pieces_on s c None None h = []
 
@@ -152,13 +153,15 @@ pieces_of s c h = pieces_on s c (socket_of c (notes h)) (poll_of c (notes h)) h
 
 -- ---- one event after the other, the first first
 
--- an event, and what the keeper and the lots answer at it
+-- an event, what the keeper and the lots answer at it, and what the door answers to the first of the messages that are said. Where it isn't told
+-- a lane isn't full
 pub record Scene : Type 0 where
   pub now : ℕ
   pub event : Event
   pub name : Option (Option (List ℕ))
   pub drawn : Option (List ℕ)
   pub answers : List Asked
+  pub full : List Bool
 
 abbrev pub stepped : {Job : Type 0} → Hub Job → ℕ → List Asked → List ServerEvent → List ServerEvent
 stepped hub now answers h =
@@ -177,7 +180,15 @@ turn hub s g h =
     let cs = connections (work ready) in
     onto (all_flushing s g.now cs (map (λ c. pieces_of s c ready) cs) ready) ready
 
+-- what is said at an event
+abbrev pub words_of : List ServerEvent → List ServerEvent → List Said
+words_of h after = drop (length (said h)) (said after)
+
+-- the turn, and what is answered to the messages that are said in it
+abbrev pub served : {Job : Type 0} → Hub Job → Setup → Scene → List ServerEvent → List ServerEvent
+served hub s g h = let x = turn hub s g h in seeing (lanes_sent (map given_as (words_of h x))) g.full x
+
 -- the history after these
 abbrev pub run : {Job : Type 0} → Hub Job → Setup → List Scene → List ServerEvent → List ServerEvent
 run hub s [] h = h
-run hub s (g ∷ gs) h = run hub s gs (turn hub s g h)
+run hub s (g ∷ gs) h = run hub s gs (served hub s g h)

@@ -1,6 +1,7 @@
 -- What a server does at each event, from what it hears to what it says.
 -- At an event, in this order: what its moment has ended is closed; who calls is asked, and the lots; the event is handled, with every
--- message that came; each end on a link ticks once; one round; then each connection says what is due.
+-- message that came; each end on a link ticks once; one round; then each connection says what is due, unless its lane is full. Afterwards the
+-- door, which is given all that is said, answers to each message whether its lane is full.
 use Rattle.std.specs.Prelude.{◌≡◌, ◌⊎◌, ℕ, ◌+◌, ◌-◌, ◌<◌, ◌≤◌, Bool, true, false, not, ◌&&◌, ◌==◌, nat_le, List, [], ◌∷◌, ◌++◌, map, length, take, drop, Option, Some, None, is_some, if◌then◌else◌}
 use Rattle.std.specs.List.{flat_map, list_all}
 use Rattle.hm_message.specs.declared.message.Codec.{Codec}
@@ -16,12 +17,15 @@ use Rattle.hd_calls.specs.Hubs.{Hub}
 use Rattle.hd_calls.specs.Peers.{Begins, PeerEvent, Plain, Reads, Handles, Settings, waiting, byte_steps, steps, is_shut}
 use Rattle.hw_door.specs.declared.heard.Event.{Event}
 use Rattle.hw_door.specs.declared.heard.Event.TheVariants as event
+use Rattle.hw_door.specs.declared.heard.Given.{Given}
+use Rattle.hw_door.specs.declared.heard.Given.TheVariants as give
 use Rattle.hw_door.specs.declared.heard.Heard.{Heard}
+use Rattle.hd_server.specs.declared.vocabulary.Said.{Said}
 use Rattle.hd_server.specs.declared.vocabulary.Said.TheVariants as say
 use Rattle.hd_server.specs.Numbers.{held_for, most_before_last}
 use Rattle.hd_server.specs.Lives.{Ended, Answered, socket_of, poll_of, is_polling, ended_at}
 use Rattle.hd_server.specs.Machine.{MachineEvent, Does, Rounds, settings_of, connections, ArePeers, IsRound}
-use Rattle.hd_server.specs.Doings.{ServerEvent, Hears, Notes, Works, Says, notes, work, moment, is_upgraded, awaits_reply, peer, history, config_of, has_closed}
+use Rattle.hd_server.specs.Doings.{ServerEvent, Hears, Notes, Works, Says, Sees, notes, work, moment, said, is_full, is_upgraded, awaits_reply, peer, history, config_of, has_closed}
 use Rattle.hd_server.specs.Plans.{Setup, onto, step, removing_conn, losing, bare_reply, frames_reply, shutting, replying, expiries, questions, plan}
 
 -- ---- bytes that come
@@ -171,9 +175,18 @@ flushing_on s now c None pieces h = flushing_without s now c (all_of pieces) h
 abbrev pub flushing : Setup → ℕ → ℕ → List (List LinkFrame) → List ServerEvent → List ServerEvent
 flushing s now c pieces h = flushing_on s now c (socket_of c (notes h)) pieces h
 
+-- what is due stays due: the lane is full, and the end isn't closed
+abbrev pub is_withheld : ℕ → ℕ → List ServerEvent → Bool
+is_withheld c lane h = is_full lane h && not (has_closed c h)
+
+-- what is due on a socket, by whether it is withheld
+abbrev pub AreDueBy : Bool → ℕ → List (List LinkFrame) → List ServerEvent → Type 0
+AreDueBy true c pieces h = pieces ≡ []
+AreDueBy false c pieces h = AreNonempty pieces × LendsAll (config_of c h) (history c h) (all_of pieces)
+
 -- what is due on a connection, by the lane of its socket and the poll that it holds, cut into messages
 abbrev pub AreDueOn : Setup → ℕ → Option ℕ → Option (ℕ × ℕ) → List (List LinkFrame) → List ServerEvent → Type 0
-AreDueOn s c (Some lane) poll pieces h = AreNonempty pieces × LendsAll (config_of c h) (history c h) (all_of pieces)
+AreDueOn s c (Some lane) poll pieces h = AreDueBy (is_withheld c lane h) c pieces h
 AreDueOn s c None (Some poll) pieces h = LendsUpTo s.wire (config_of c h) (history c h) 0 (all_of pieces)
 AreDueOn s c None None pieces h = pieces ≡ []
 
@@ -235,7 +248,38 @@ IsFree _ h = Unit {0}
 abbrev pub MayBeHeard : Heard → List ServerEvent → Type 0
 MayBeHeard e h = (moment h ≤ e.now) × IsFree e.event h
 
+-- what a door is given, so that this is said
+abbrev pub given_as : Said → Given
+given_as (say.Reply lane reply) = give.Reply lane reply
+given_as (say.Bytes lane bytes text) = give.Bytes lane bytes text
+given_as (say.Shut lane) = give.Shut lane
+
+-- the lanes of the messages among what is given, in order
+abbrev pub lanes_sent : List Given → List ℕ
+lanes_sent [] = []
+lanes_sent (give.Bytes lane bytes text ∷ given) = lane ∷ lanes_sent given
+lanes_sent (_ ∷ given) = lanes_sent given
+
+-- what is answered to messages for these lanes, as far as there are answers, the first first
+abbrev pub seeing : List ℕ → List Bool → List ServerEvent → List ServerEvent
+seeing (lane ∷ lanes) (full ∷ more) h = seeing lanes more (Sees lane full ∷ h)
+seeing _ _ h = h
+
+-- after this was given the server has seen what was answered to each message among it
+pub record IsSeen (given : List Given) (full : List Bool) (h after : List ServerEvent) : Type 0 where
+  pub each : length full ≡ length (lanes_sent given)
+  pub sees : after ≡ seeing (lanes_sent given) full h
+
+-- what a server does at one event, and then sees of what it said at it
+pub record ServesOne {Job : Type 0} (hub : Hub Job) (s : Setup) (e : Heard) (h after : List ServerEvent) : Type 0 where
+  pub turned : List ServerEvent
+  pub turn : IsTurn hub s e.now e.event h turned
+  pub words : List Said
+  pub tells : said turned ≡ said h ++ words
+  pub full : List Bool
+  pub seen : IsSeen (map given_as words) full turned after
+
 -- what a server did that heard these, the latest first
 abbrev pub Serves : {Job : Type 0} → Hub Job → Setup → List Heard → List ServerEvent → Type 0
 Serves hub s [] h = h ≡ []
-Serves hub s (e ∷ es) h = (before : List ServerEvent) × Serves hub s es before × MayBeHeard e before × IsTurn hub s e.now e.event before h
+Serves hub s (e ∷ es) h = (before : List ServerEvent) × Serves hub s es before × MayBeHeard e before × ServesOne hub s e before h

@@ -28,7 +28,7 @@ use Rattle.hd_server.specs.Machine.{registry, first_turn}
 use Rattle.hd_server.specs.Doings.{ServerEvent, work, said}
 use Rattle.hd_server.specs.Plans.{Setup, usual_setup, bare_reply}
 use Rattle.hd_server.specs.Serves.{Serves}
-use Rattle.hd_server.specs.Plain.{Scene, turn, run}
+use Rattle.hd_server.specs.Plain.{Scene, served, words_of, run}
 
 -- ---- frames that come
 
@@ -134,15 +134,19 @@ setup_of_live most = record setup { live = most }
 
 -- an event at which nobody is asked
 abbrev pub at : ℕ → Event → Scene
-at now event = record { now = now; event = event; name = None; drawn = None; answers = [] }
+at now event = record { now = now; event = event; name = None; drawn = None; answers = []; full = [] }
 
 -- the keeper answers this to a job
 abbrev pub at_with : ℕ → Event → Asked → Scene
-at_with now event answer = record { now = now; event = event; name = None; drawn = None; answers = answer ∷ [] }
+at_with now event answer = record { now = now; event = event; name = None; drawn = None; answers = answer ∷ []; full = [] }
+
+-- the door answers this to what is said
+abbrev pub at_filling : ℕ → Event → List Bool → Scene
+at_filling now event full = record { now = now; event = event; name = None; drawn = None; answers = []; full = full }
 
 -- 16 zero bytes are drawn
 abbrev pub at_drawing : ℕ → Event → Scene
-at_drawing now event = record { now = now; event = event; name = None; drawn = Some sixteen_zeros; answers = [] }
+at_drawing now event = record { now = now; event = event; name = None; drawn = Some sixteen_zeros; answers = []; full = [] }
 
 -- a socket without a token
 abbrev pub plain_socket : ℕ → Event
@@ -187,7 +191,7 @@ strangers_socket lane = event.Request lane (record (request Get (codes "/hub") [
 
 -- the keeper knows no user by that access token
 abbrev pub at_stranger : ℕ → Event → Scene
-at_stranger now event = record { now = now; event = event; name = Some None; drawn = None; answers = [] }
+at_stranger now event = record { now = now; event = event; name = Some None; drawn = None; answers = []; full = [] }
 
 -- the door refuses what came on the lane
 abbrev pub refused : ℕ → Event
@@ -208,7 +212,7 @@ last_negotiate lane = event.Request lane (record (request Get (codes "/hub/negot
 -- what is said at each of these events
 abbrev pub said_by : Setup → List Scene → List ServerEvent → List (List Said)
 said_by s [] h = []
-said_by s (g ∷ gs) h = let x = turn rooms s g h in drop (length (said h)) (said x) ∷ said_by s gs x
+said_by s (g ∷ gs) h = let x = served rooms s g h in words_of h x ∷ said_by s gs x
 
 abbrev pub said_at : List Scene → List (List Said)
 said_at gs = said_by setup gs []
@@ -256,6 +260,11 @@ on_socket = at_drawing 1000 (negotiate 1) ∷ at 2000 (socket 2) ∷ at 2000 (ev
 -- nothing is heard on its socket, and it comes again at this moment
 abbrev pub silent_until : ℕ → List Scene
 silent_until now = at 16999 event.Quiet ∷ at 17000 event.Quiet ∷ at 31999 event.Quiet ∷ at 32000 event.Quiet ∷ at now (socket 3) ∷ []
+
+-- a lane that is full from the answer to the handshake on, while a room is joined
+abbrev pub joins_on_full : List Scene
+joins_on_full =
+    at 0 (plain_socket 1) ∷ at_filling 0 (event.Bytes 1 (1 ∷ [])) (true ∷ []) ∷ at 0 (event.Bytes 1 (1 ∷ [])) ∷ at 0 event.Quiet ∷ []
 
 -- long polling: what is posted is the handshake of version 1 and a Ping
 abbrev pub polls_and_posts : List Scene

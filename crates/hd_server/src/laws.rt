@@ -83,7 +83,7 @@ pub fn idle_ticks()
     ensures { IdleTicksAreUnseen }
 {}
 
-/// After an event nothing is due on a connection that stands on a socket or holds a poll.
+/// After an event nothing is due on a connection that stands on a socket whose lane isn't full, or holds a poll.
 pub fn nothing_left<Job>()
     ensures { NothingIsLeft Job }
 {}
@@ -93,7 +93,7 @@ pub fn turns_go_further<Job>()
     ensures { TurnsGoFurther Job }
 {}
 
-/// What was heard, asked, drawn and said is told as lists that only grow.
+/// What was heard, asked, drawn, said and answered to messages is told as lists that only grow.
 pub fn what_is_told_grows()
     ensures { WhatIsToldGrows }
 {}
@@ -131,8 +131,8 @@ pub fn few_live()
     ensures { FewLive }
 {}
 
-/// A server that hears through a door is one that heard all that it answered, and gave first what it says of that. Not answered is what
-/// comes from a request on that may not come, and the last event if its answer was cut short.
+/// A server that hears through a door is one that heard all that it answered, gave first what it says of that, and saw what was answered to
+/// its messages. Not answered is what comes from a request on that may not come, and the last event if its answer was cut short.
 pub fn served_is_serves<Job>()
     ensures { ServedIsServes Job }
 {}

@@ -34,9 +34,9 @@ pub use laws::{
 };
 pub use lives::{connections, fresh_tokens, known_tokens, polls, sockets, tokens};
 pub use sessions::{
-    a_room_is_joined, broadcasts, closings, conflicts, ends_of_polls, first_sockets, giving_way,
-    held_polls, histories, idle_servers, losses, refusals, refused_lanes, rooms, silences,
-    takeovers,
+    a_room_is_joined, broadcasts, closings, conflicts, ends_of_polls, first_sockets, full_lanes,
+    giving_way, held_polls, histories, idle_servers, losses, refusals, refused_lanes, rooms,
+    silences, takeovers,
 };
 pub use table::{by_life, negotiates, without_token};
 pub use vocabulary::{

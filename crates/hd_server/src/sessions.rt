@@ -9,7 +9,7 @@ ghost use Rattle.hd_server.specs.Texts.{negotiate_body};
 ghost use Rattle.hd_server.specs.LivesExamples.{first_token, second_token, third_token};
 ghost use Rattle.hd_server.specs.TableExamples.{key};
 ghost use Rattle.hd_server.specs.Plans.{bare_reply, frames_reply, socket_reply, token_reply};
-ghost use Rattle.hd_server.specs.Sessions.{asks_history, at, at_drawing, at_stranger, closing_reply, delete, ended, expired_text, first_socket, get_negotiate, held_before, IsServed, joins_a_room, joins_and_posts, last_negotiate, last_poll, last_socket, members_by_two, negotiate, next_after, on_socket, other_method, plain_socket, poll, polled_once, polls_and_posts, post, posted, posts_a_text, refused, room_of_three, said_after, said_at, said_by_two, said_of_live, silent_until, socket, socket_with, strangers_socket, told_reply, unnamed_poll, wrote};
+ghost use Rattle.hd_server.specs.Sessions.{asks_history, at, at_drawing, at_stranger, closing_reply, delete, ended, expired_text, first_socket, get_negotiate, held_before, IsServed, joins_a_room, joins_and_posts, joins_on_full, last_negotiate, last_poll, last_socket, members_by_two, negotiate, next_after, on_socket, other_method, plain_socket, poll, polled_once, polls_and_posts, post, posted, posts_a_text, refused, room_of_three, said_after, said_at, said_by_two, said_of_live, silent_until, socket, socket_with, strangers_socket, told_reply, unnamed_poll, wrote};
 
 /// A room is joined and a text posted to it. Each job has one turn in a round, so its deeds come event by event.
 pub fn rooms()
@@ -141,6 +141,19 @@ pub fn refused_lanes()
     ensures silence { said_after on_socket (at 2000 (refused 2) ∷ at 2000 event.Quiet ∷ at 32000 event.Quiet ∷ []) ≡ [] ∷ [] ∷ [] ∷ [] }
     ensures close { said_at (at 0 (plain_socket 1) ∷ at 0 (refused 1) ∷ at 0 (event.Bytes 1 (1 ∷ 6 ∷ [])) ∷ []) ≡
         (say.Reply 1 (socket_reply key) ∷ []) ∷ [] ∷ (wrote 1 (codes "{}") ∷ []) ∷ [] }
+{}
+
+/// On a lane that is full nothing is said of an end that is open: what is due is said once the lane has drained. An end that is closed says it all the
+/// same.
+pub fn full_lanes()
+    ensures drained { said_at (joins_on_full ++ at 0 (event.Drained 1) ∷ []) ≡
+        (say.Reply 1 (socket_reply key) ∷ []) ∷ (wrote 1 (codes "{}") ∷ []) ∷ [] ∷ [] ∷
+        (wrote 1 (codes "{\"invocationId\":\"1\",\"type\":3}") ∷ []) ∷ [] }
+    ensures closed { said_at (joins_on_full ++ at 0 (event.Bytes 1 (6 ∷ [])) ∷ []) ≡
+        (say.Reply 1 (socket_reply key) ∷ []) ∷ (wrote 1 (codes "{}") ∷ []) ∷ [] ∷ [] ∷
+        (wrote 1 (codes "{\"invocationId\":\"1\",\"type\":3}") ∷ say.Shut 1 ∷ []) ∷ [] }
+    ensures other { said_at (joins_on_full ++ at 0 (event.Drained 2) ∷ []) ≡
+        (say.Reply 1 (socket_reply key) ∷ []) ∷ (wrote 1 (codes "{}") ∷ []) ∷ [] ∷ [] ∷ [] ∷ [] }
 {}
 
 /// A text is posted to a room of three, one of which holds two messages at most: it gets two, and is closed at the third. A member that
