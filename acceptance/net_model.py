@@ -21,6 +21,11 @@ UNWRITTEN = 1 << 20
 NAMED = 64
 WAIT = 30000
 CLOSING = 30000
+FULL = 1 << 18
+DRAINED = 1 << 16
+STALLED = 30000
+# How long each call of `next` may wait.
+PATIENCE = 100
 PHRASES = {101: "Switching Protocols", 200: "OK", 202: "Accepted", 204: "No Content", 400: "Bad Request", 401: "Unauthorized", 404: "Not Found",
            405: "Method Not Allowed", 409: "Conflict", 411: "Length Required", 413: "Payload Too Large", 431: "Request Header Fields Too Large",
            500: "Internal Server Error", 503: "Service Unavailable"}
@@ -118,6 +123,20 @@ class Wire:
         self.written, self.shut = b"", False
 
 
+class Full:
+    """How long a lane is full: when a turn last found that something was written since the one before it, as the first does, how much was
+    written on the wire by then, and whether the last turn found that this is too long ago."""
+
+    def __init__(self):
+        self.since, self.written, self.is_late = None, None, False
+
+    def turn(self, written, now):
+        if written != self.written:
+            self.since, self.written, self.is_late = now, written, False
+        else:
+            self.is_late = now - self.since >= STALLED
+
+
 class Lane:
     def __init__(self, number, wire, now):
         self.number, self.wire, self.since = number, wire, now
@@ -128,11 +147,13 @@ class Lane:
         self.continues = False   # a 100 is to be written
         self.socket = self.busy = False
         self.has_unparsed = self.wants_read = True
+        self.filled = True     # the last read filled its room, or there was none
         self.gone = None         # the status of the close frame that a WebSocket which is gone still has to write
         self.out = b""
         self.texts = 0           # how many of its first bytes are texts of HTTP
         self.stage = "live"
         self.closed_at = None    # since when it closes
+        self.full = None
 
 
 class Failed(Exception):
@@ -142,7 +163,7 @@ class Failed(Exception):
 class Door:
     def __init__(self, moments, wires, failing, names=()):
         self.moments, self.wires, self.failing, self.names = list(moments), wires, set(failing), list(names)
-        self.calls = self.moment = self.heard_at = self.given = self.first = self.named = 0
+        self.calls = self.moment = self.heard_at = self.given = self.first = self.named = self.waited = self.shuts = 0
         self.lanes = []
 
     # ---- the wires
@@ -154,6 +175,7 @@ class Door:
 
     def poll(self):
         self.name = self.names.pop(0) if self.names else None
+        self.waited = 0 if any(map(self.is_awake, self.lanes)) else PATIENCE
         self.call()
         if self.moments:
             self.moment = self.moments.pop(0)
@@ -187,9 +209,27 @@ class Door:
 
     def shut_wire(self, lane):
         self.calls += 1
+        self.shuts += 1
         lane.wire.shut = True
 
     # ---- one lane
+
+    def is_awake(self, lane):
+        """Whether something may be heard at once."""
+        if lane.stage != "live":
+            return lane.stage == "lost"
+        if self.has_drained(lane):
+            return True
+        if lane.socket:
+            return not lane.wants_read or lane.filled
+        return (lane.has_unparsed and not lane.busy) or (lane.filled and self.room(lane) > 0)
+
+    def has_drained(self, lane):
+        return lane.full is not None and len(lane.out) <= DRAINED
+
+    def room(self, lane):
+        """How many bytes of requests are read at once."""
+        return min(PIECE, max(HEAD, lane.known) - (lane.came - lane.begin))
 
     def end(self, lane):
         self.shut_wire(lane)
@@ -260,22 +300,25 @@ class Door:
         heard = self.look(lane)
         if heard:
             return heard
-        room = min(PIECE, max(HEAD, lane.known) - (lane.came - lane.begin))
+        room = self.room(lane)
         if room:
             try:
                 piece = self.read(lane, room)
             except Failed:
                 return ("broken", None)
             lane.came += len(piece)
+            lane.filled = len(piece) == room
             lane.has_unparsed = lane.has_unparsed or bool(piece)
         return self.look(lane)
 
     def hear_message(self, lane):
         if lane.wants_read:
             try:
-                lane.came += len(self.read(lane, PIECE))
+                piece = self.read(lane, PIECE)
             except Failed:
                 return ("broken", None)
+            lane.came += len(piece)
+            lane.filled = len(piece) == PIECE
         lane.wants_read = False
         if lane.gone:
             return ("gone", None)
@@ -299,6 +342,21 @@ class Door:
         if lane.stage != "live":
             self.say(lane)
             return None
+        if self.has_drained(lane):
+            lane.full = None
+            self.say(lane)
+            return f"drained {lane.number}"
+        if lane.full and lane.full.is_late and len(lane.wire.written) == lane.full.written:
+            self.end(lane)
+            lane.stage = "over"
+            return f"lost {lane.number}"
+        event = self.turn_on(lane)
+        if lane.full:
+            lane.full.turn(len(lane.wire.written), self.moment)
+        return event
+
+    def turn_on(self, lane):
+        """The turn of a live lane that hasn't drained, nor is lost for being full for so long."""
         heard, event = (self.hear_message if lane.socket else self.hear_request)(lane), None
         if lane.continues:
             self.add(lane, CONTINUE)
@@ -368,23 +426,28 @@ class Door:
             return
         self.add(lane, reply_text(status, kind, body, accept))
         if status == 101:
-            lane.socket = lane.wants_read = True
+            lane.socket = lane.wants_read = lane.filled = True
         else:
             lane.busy, lane.since = False, self.heard_at
         self.more(lane)
 
     def send(self, number, data, text):
+        """Answers whether the lane is full then."""
         lane = self.find(number)
-        if not lane or not lane.socket or lane.gone:
-            return
-        if text:
-            try:
-                data.decode()
-            except UnicodeDecodeError:
+        if lane and lane.socket and not lane.gone:
+            if text and not is_text(data):
                 lane.gone = 1000
-                return
-        self.add(lane, frame(1 if text else 2, data, None))
+            else:
+                self.send_frame(lane, frame(1 if text else 2, data, None))
+        return bool(lane and lane.stage == "live" and lane.full)
+
+    def send_frame(self, lane, data):
+        self.add(lane, data)
         self.more(lane)
+        if lane.full is None and len(lane.out) > FULL:
+            lane.full = Full()
+        elif self.has_drained(lane):
+            lane.full = None
 
     def shut(self, number):
         lane = self.find(number)
@@ -394,6 +457,14 @@ class Door:
             self.add(lane, frame(8, (lane.gone or 1000).to_bytes(2, "big"), None))
         self.close(lane, self.heard_at)
         self.write_out(lane)
+
+
+def is_text(data):
+    try:
+        data.decode()
+    except UnicodeDecodeError:
+        return False
+    return True
 
 
 class Script:
@@ -426,20 +497,23 @@ class Script:
     def next(self, answer=None):
         said = self.door.next()
         assert answer is None or said == answer, (len(self.lines), said, answer)
-        self.say("next 100", said)
+        self.say(f"next {PATIENCE}", said)
         return said
 
     def reply(self, lane, status, kind="none", body=b"", accept=None):
         self.door.reply(lane, status, kind, body, accept)
         self.say(f"reply {lane} {status} {kind} {hexed(body)} {accept or '-'}", "replied")
 
-    def send(self, lane, data, text):
-        self.door.send(lane, data, text)
-        self.say(f"send {lane} {'text' if text else 'octets'} {hexed(data)}", "sent")
+    def send(self, lane, data, text, answer=None):
+        self.sent(f"send {lane} {'text' if text else 'octets'} {hexed(data)}", self.door.send(lane, data, text), answer)
 
-    def fill(self, lane, count):
-        self.door.send(lane, bytes(count), False)
-        self.say(f"fill {lane} {count}", "sent")
+    def fill(self, lane, count, answer=None):
+        self.sent(f"fill {lane} {count}", self.door.send(lane, bytes(count), False), answer)
+
+    def sent(self, line, is_full, answer):
+        said = "sent, full" if is_full else "sent"
+        assert answer is None or said == answer, (len(self.lines), said, answer)
+        self.say(line, said)
 
     def shut(self, lane):
         self.door.shut(lane)
@@ -449,6 +523,21 @@ class Script:
         data = self.door.wires[wire].written if wire < self.door.given else b""
         assert answer is None or data == answer, (len(self.lines), data, answer)
         self.say(f"written {wire}", f"written {hexed(data)}")
+
+    def taken(self, wire, answer=None):
+        count = len(self.door.wires[wire].written) if wire < self.door.given else 0
+        assert answer is None or count == answer, (len(self.lines), count, answer)
+        self.say(f"taken {wire}", f"taken {count}")
+
+    def waited(self, answer=None):
+        wait = self.door.waited
+        assert answer is None or wait == answer, (len(self.lines), wait, answer)
+        self.say("waited", f"waited {wait}")
+
+    def shuts(self, answer=None):
+        count = self.door.shuts
+        assert answer is None or count == answer, (len(self.lines), count, answer)
+        self.say("shuts", f"shuts {count}")
 
 
 NEGOTIATED = (b'{"availableTransports":[{"transferFormats":["Text","Binary"],"transport":"WebSockets"},{"transferFormats":["Text","Binary"],'
@@ -712,6 +801,259 @@ def by_hand(s):
     s.say("door 2,1 -", "no action: door 2,1 -")
 
 
+# A message of a server has a head of two bytes, of four from 126 bytes on and of ten from 65,536 bytes on (RFC 6455, section 5.2). After one
+# of so many bytes, on a lane on which nothing else waits, 262,144 bytes wait, or one more, and then the lane is full.
+BEFORE_FULL, FULLEST = 262134, 262135
+UPGRADED = reply_text(101, accept=ACCEPT)
+assert len(UPGRADED) == 129
+
+
+def sockets(s, moments, *wires, names=(), failing=()):
+    """A door with a WebSocket on each wire: what its writes take after the 101, and then what its further reads give, a list of items each, or
+    `*` or `!`. Until the door hears nothing more it is at the first moment."""
+    if names:
+        s.name([None] * (len(wires) + 1) + list(names))
+    for writes, *reads in wires:
+        items = [upgrade("/hub"), *(item for read in reads if not isinstance(read, str) for item in read)]
+        data = [read if isinstance(read, str) else talk(*read) for read in reads]
+        s.wire(0, [items[0].data, "*", *data], [len(UPGRADED), *writes], items)
+    s.start(moments[:1] * len(wires) + moments, failing)
+    for lane in range(len(wires)):
+        s.next(f"at {moments[0]} request {lane} GET /hub ? - {ACCEPT} kept -")
+        s.reply(lane, 101, accept=ACCEPT)
+    s.next(f"at {moments[0]} quiet")
+
+
+def becomes_full(s):
+    s.note("a lane is full once 262,145 bytes wait after a message, heads and all, and not at 262,144")
+    sockets(s, [1], [[]], [[]])
+    s.fill(0, BEFORE_FULL, "sent")
+    s.fill(1, FULLEST, "sent, full")
+    s.fill(0, 0, "sent, full")
+    s.taken(0, 129)
+
+    s.note("so it is after several messages; what the wire took doesn't count, and what waits of the 101 does")
+    sockets(s, [1], [[]], [[]], [[1, 0]])
+    for lane, last, said in ((0, 65502, "sent"), (1, 65503, "sent, full")):
+        for _ in range(3):
+            s.fill(lane, 65536, "sent")
+        s.fill(lane, last, said)
+    s.fill(2, FULLEST, "sent")
+    s.taken(2, 130)
+    for count, said in ((BEFORE_FULL - 119, "sent"), (FULLEST - 119, "sent, full")):
+        s.wire(0, [upgrade("/hub").data], [10], [upgrade("/hub")])
+        s.start([1])
+        s.next(f"at 1 request 0 GET /hub ? - {ACCEPT} kept -")
+        s.reply(0, 101, accept=ACCEPT)
+        s.fill(0, count, said)
+        s.taken(0, 10)
+
+    s.note("1,048,576 bytes may wait on a full lane, and with more it is lost, and not full")
+    sockets(s, [1], [[]])
+    for said in ("sent", "sent, full", "sent, full", "sent, full"):
+        s.fill(0, BEFORE_FULL, said)
+    s.next("at 1 quiet")
+    s.shuts(0)
+    s.fill(0, 0, "sent")
+    s.shuts(1)
+    s.fill(0, 0, "sent")
+    s.next("at 1 lost 0")
+    s.waited(0)
+    s.next("at 1 quiet")
+    s.waited(100)
+    s.shuts(1)
+
+    s.note("no lane is full that is shut, gone or none, or that is no WebSocket; one stays so if it can't send, as the text is none")
+    sockets(s, [1], [[]], [[]])
+    for lane in (0, 1):
+        s.fill(lane, FULLEST, "sent, full")
+    s.send(0, b"\xff", True, "sent, full")
+    s.fill(0, 0, "sent, full")
+    s.shut(1)
+    s.fill(1, FULLEST, "sent")
+    s.next("at 1 lost 0")
+    s.fill(0, FULLEST, "sent")
+    s.wire(0, [], [])
+    s.start([1])
+    for _ in range(2):
+        s.fill(0, FULLEST, "sent")
+        s.next("at 1 quiet")
+
+
+def drains(s):
+    s.note("a full lane has drained once 65,536 bytes wait, and not at 65,537: it is heard once, in its next turn, for which no wire waits")
+    sockets(s, [1], [[0, 196608, 0, 1, 0, 65000, 0, 0, 0, 1 << 20]])
+    s.fill(0, FULLEST, "sent, full")
+    for taken in (129 + 196608, 129 + 196609):
+        s.next("at 1 quiet")
+        s.waited(100)
+        s.taken(0, taken)
+    s.next("at 1 drained 0")
+    s.waited(0)
+    s.taken(0, 129 + 196609 + 65000)
+    s.fill(0, 0, "sent")
+    for taken in (129 + 196609 + 65000, 129 + 262147):
+        s.next("at 1 quiet")
+        s.waited(100)
+        s.taken(0, taken)
+
+    s.note("so is a lane of which all is written, and it may be full again, which is heard again")
+    sockets(s, [1], [[0, 1 << 20, 0, 1 << 20]])
+    for _ in range(2):
+        s.fill(0, FULLEST, "sent, full")
+        s.next("at 1 quiet")
+        s.next("at 1 drained 0")
+        s.waited(0)
+    s.next("at 1 quiet")
+    s.waited(100)
+    s.taken(0, 129 + 2 * 262145)
+
+    s.note("a message after which 65,536 bytes wait is answered by false, and nothing more is heard of it; at 65,537 the lane stays full")
+    sockets(s, [1], [[0, 196610, 0, 3, 0, 0, 0, 0, 0, 1 << 20]])
+    s.fill(0, FULLEST, "sent, full")
+    s.fill(0, 0, "sent, full")
+    s.fill(0, 0, "sent")
+    for _ in range(2):
+        s.next("at 1 quiet")
+        s.waited(100)
+    s.fill(0, 196598, "sent")
+    s.fill(0, 0, "sent, full")
+    s.next("at 1 quiet")
+    s.next("at 1 drained 0")
+    s.waited(0)
+
+    s.note("so it is where it had drained before the message, and wasn't heard")
+    sockets(s, [1], [[0, 196609, 0, 0, 2, 0]], [[0, 196609, 0, 2, 0]])
+    s.fill(0, FULLEST, "sent, full")
+    s.fill(1, FULLEST, "sent, full")
+    s.next("at 1 quiet")
+    s.fill(0, 0, "sent, full")
+    s.fill(1, 0, "sent")
+    s.next("at 1 quiet")
+    s.waited(100)
+    s.next("at 1 drained 0")
+    s.waited(0)
+    s.next("at 1 quiet")
+    s.waited(100)
+
+
+def ends_full(s):
+    s.note("of a lane that has drained nothing is heard once it was shut")
+    sockets(s, [1], [[0, 196609, 0, 1 << 20]], [[0, 0, 0, 1 << 20]])
+    s.fill(0, FULLEST, "sent, full")
+    s.fill(1, FULLEST, "sent, full")
+    s.next("at 1 quiet")
+    s.shut(0)
+    s.shut(1)
+    s.shuts(1)
+    for shuts in (2, 2):
+        s.next("at 1 quiet")
+        s.waited(100)
+        s.shuts(shuts)
+    s.taken(0, 129 + 262145 + 4)
+    s.taken(1, 129 + 262145 + 4)
+
+    s.note("nor once it is lost, and it is heard before what comes after it: the end, and a write that fails")
+    sockets(s, [1], [[0, 0], "*", "!"], [[0, 196609, 0], "*", "!"])
+    s.fill(0, FULLEST, "sent, full")
+    s.fill(1, FULLEST, "sent, full")
+    s.next("at 1 quiet")
+    s.next("at 1 lost 0")
+    s.waited(0)
+    s.next("at 1 drained 1")
+    s.next("at 1 lost 1")
+    s.next("at 1 quiet")
+    s.shuts(2)
+    for failing in (15, 13):
+        # The call of number 13 is the write of a message after the lane has drained, or a poll, and 15 is the write once that is heard.
+        sockets(s, [1], [[0, 196609, 0]], failing=[failing])
+        s.fill(0, FULLEST, "sent, full")
+        s.next("at 1 quiet")
+        if failing == 13:
+            s.fill(0, 0, "sent")
+        else:
+            s.next("at 1 drained 0")
+        s.shuts(1)
+        s.next("at 1 lost 0")
+        s.next("at 1 quiet")
+
+
+def stalls(s):
+    s.note("a full lane on which nothing is written for 30,000 ms from its first turn on is lost, in the turn after the one that finds so")
+    sockets(s, [1000, 5000, 34999, 35000, 35000], [[]])
+    s.fill(0, FULLEST, "sent, full")
+    for now in (5000, 34999, 35000):
+        s.next(f"at {now} quiet")
+        s.waited(100)
+        s.fill(0, 0, "sent, full")
+    s.shuts(0)
+    s.next("at 35000 lost 0")
+    s.waited(100)
+    s.shuts(1)
+    s.fill(0, 0, "sent")
+    s.next("at 35000 quiet")
+    s.shuts(1)
+    s.taken(0, 129)
+
+    s.note("its time begins anew with each turn after something was written, also if that was after the turn that found it late")
+    sockets(s, [1, 1, 30000, 59999, 60000, 70000, 99999, 100000, 100000], [[0, 0, 1, 0, 0, 0, 1, 0]])
+    s.fill(0, FULLEST, "sent, full")
+    for now in (1, 30000, 59999, 60000):
+        s.next(f"at {now} quiet")
+    s.taken(0, 130)
+    s.fill(0, 0, "sent, full")
+    s.taken(0, 131)
+    for now in (70000, 99999, 100000):
+        s.next(f"at {now} quiet")
+    s.next("at 100000 lost 0")
+    s.shuts(1)
+
+    s.note("calls in which another lane is heard are no turns: its time doesn't begin with them, but what is written in them counts")
+    a, b, c, d = [message(2, data) for data in (b"a", b"b", b"c", b"d")]
+    names = [1, 1, None, None, None, 1, None, None, 1, None]
+    moments = [1, 40000, 80000, 80000, 109999, 110000, 110000, 140000, 170000, 170000, 170000]
+    sockets(s, moments, [[0, 0, 0, 0, 0, 0, 1, 0]], [[], [a, b], "*", "*", [c], "*", [d]], names=names)
+    s.fill(0, FULLEST, "sent, full")
+    s.next("at 40000 bytes 1 61")
+    s.next("at 80000 bytes 1 62")
+    for now in (80000, 109999, 110000):
+        s.next(f"at {now} quiet")
+    s.next("at 110000 bytes 1 63")
+    s.taken(0, 130)
+    for now in (140000, 170000):
+        s.next(f"at {now} quiet")
+    s.next("at 170000 bytes 1 64")
+    s.shuts(0)
+    s.next("at 170000 lost 0")
+    s.shuts(1)
+
+    s.note("one that was late and has drained is heard as drained, and one that isn't full may be silent for as long as it likes")
+    sockets(s, [1, 1, 30001, 30001, 90000, 150000], [[0, 0, 0, 196611, 0]])
+    s.fill(0, FULLEST, "sent, full")
+    for now in (1, 30001):
+        s.next(f"at {now} quiet")
+    s.fill(0, 0, "sent")
+    for now in (30001, 90000, 150000):
+        s.next(f"at {now} quiet")
+    sockets(s, [1, 1, 30001, 30001, 30001], [[0, 0, 0, 196609, 0]], [[], "*", "*", [a]], names=[None, None, 1, None])
+    s.fill(0, FULLEST, "sent, full")
+    for now in (1, 30001):
+        s.next(f"at {now} quiet")
+    s.next("at 30001 bytes 1 61")
+    s.next("at 30001 drained 0")
+    s.waited(0)
+
+    s.note("a full lane is read and heard as any other, and what it says itself waits behind the messages")
+    sockets(s, [1], [[0], [a, ping(b"?")], [b, closing(1000)]])
+    s.fill(0, FULLEST, "sent, full")
+    for heard in ("bytes 0 61", "quiet", "bytes 0 62"):
+        s.next(f"at 1 {heard}")
+        s.fill(0, 0, "sent, full")
+    s.next("at 1 lost 0")
+    s.fill(0, 0, "sent")
+    s.next("at 1 quiet")
+
+
 def conversation(rng):
     """Items of one client, and whether its upgrade is to be accepted."""
     items = []
@@ -773,15 +1115,62 @@ def at_random(s, seed, steps=60):
                 # After an upgrade that was declined the frames would be read as requests, of which a conversation says nothing.
                 s.reply(lane.number, 500)
         s.next()
+        s.waited()
     for wire in range(5):
         s.written(wire)
 
 
+def payload_for(count):
+    """How many bytes a message of a server has whose frame has this many, or None if none has."""
+    return next((count - head for head in (2, 4, 10) if count >= head and len(frame(2, bytes(count - head), None)) == count), None)
+
+
+def to_the_byte(rng, lane):
+    """A message after which as many bytes wait as a lane may have that isn't full, or that has drained, or one more."""
+    writes = lane.wire.writes
+    takes = sum(writes[:writes.index(0)] if 0 in writes else writes)
+    wanted = rng.choice([FULL, DRAINED]) + rng.randrange(2) + takes - len(lane.out)
+    return payload_for(wanted) if 0 < wanted < 2 * FULL else None
+
+
+def full_at_random(s, seed, steps=60):
+    """WebSockets that are full, drain, stall and are lost."""
+    rng = random.Random(f"full {seed}")
+    s.note(f"full lanes at random, from {seed}")
+    wires = []
+    for _ in range(rng.randrange(1, 4)):
+        writes = [rng.choice([0, 0, 0, 0, 1, 1000, 65536, 196608, 196609]) for _ in range(rng.randrange(2 * steps))]
+        reads = [[message(2, rng.randbytes(2)) for _ in range(rng.randrange(1, 4))] if rng.random() < 0.3 else "*" for _ in range(steps)]
+        wires.append([writes, *reads, *["!"] * (rng.random() < 0.3)])
+    moments = [1]
+    for _ in range(steps):
+        moments.append(moments[-1] + rng.choice([0, 0, 1, 9999, 10000, 30000]))
+    names = [rng.choice([None, 0, 1, 2]) for _ in range(steps)] if seed % 2 else ()
+    sockets(s, moments, *wires, names=names, failing=[100 + rng.randrange(300) for _ in range(rng.choice([0, 0, 2]))])
+    left = 3000000
+    for _ in range(steps):
+        for lane in list(s.door.lanes):
+            act = rng.random()
+            count = to_the_byte(rng, lane) if act < 0.2 else rng.choice([0, 1, 65536, BEFORE_FULL]) if act < 0.4 else None
+            if count is not None and count < left:
+                s.fill(lane.number, count)
+                left -= count
+            elif act > 0.99:
+                s.shut(lane.number)
+        s.next()
+        s.waited()
+    for wire in range(len(wires)):
+        s.taken(wire)
+    s.shuts()
+
+
 def script(seeds):
     s = Script()
-    by_hand(s)
+    for part in (by_hand, becomes_full, drains, ends_full, stalls):
+        part(s)
     for seed in seeds:
         at_random(s, seed)
+        full_at_random(s, seed)
     return s
 
 
@@ -798,6 +1187,7 @@ def session(seed):
     """A random session."""
     s = Script()
     at_random(s, int(seed), 200)
+    full_at_random(s, int(seed), 200)
     return s
 
 

@@ -14,10 +14,13 @@
 //! door MOMENTS FAILING               a door over wires that poll these moments, and fail at the calls of these numbers
 //! next WAIT                          what is heard
 //! reply LANE STATUS KIND BODY ACCEPT     a reply that can be sent; KIND is `none`, `json` or `octets`
-//! send LANE KIND BYTES               KIND is `text` or `octets`
+//! send LANE KIND BYTES               KIND is `text` or `octets`; answered by `sent, full` if the lane is full after it, and else by `sent`
 //! fill LANE COUNT                    so many bytes 0 are sent
 //! shut LANE
 //! written WIRE                       what was written on a wire
+//! taken WIRE                         how many bytes were written on it
+//! waited                             how long the wires were to wait at most in the last poll
+//! shuts                              how often a wire was shut
 //! ```
 #![tactic(auto)]
 

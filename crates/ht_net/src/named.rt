@@ -1,4 +1,4 @@
-//! Wires in memory that name one of them after each poll, as a script says.
+//! Wires in memory that name one of them after each poll, as a script says, and tell what they were asked.
 
 ghost use Rattle.std.specs.Prelude.{◌≡◌};
 ghost use Rattle.hw_door.specs.Ledger.{trace_of};
@@ -13,6 +13,10 @@ pub struct NamedWires {
     names: Vec<Option<u64>>,
     // How many polls there were.
     polls: usize,
+    // How long the last of them was to wait at most.
+    waited: u64,
+    // How often a wire was shut.
+    shuts: u64,
 }
 
 impl NamedWires {
@@ -22,12 +26,24 @@ impl NamedWires {
             wires,
             names,
             polls: 0,
+            waited: 0,
+            shuts: 0,
         }
     }
 
     /// What was written on a wire.
     pub fn written(&self, wire: u64) -> &[u8] {
         self.wires.written(wire)
+    }
+
+    /// How long the wires were to wait at most in the last poll, or 0 before the first.
+    pub fn waited(&self) -> u64 {
+        self.waited
+    }
+
+    /// How often a wire was shut.
+    pub fn shuts(&self) -> u64 {
+        self.shuts
     }
 }
 
@@ -42,6 +58,7 @@ impl Wires for NamedWires {
 
     fn poll(&mut self, wait: u64) -> Result<u64, Failed> {
         self.polls = self.polls.saturating_add(1);
+        self.waited = wait;
         self.wires.poll(wait)
     }
 
@@ -62,6 +79,7 @@ impl Wires for NamedWires {
     }
 
     fn shut(&mut self, wire: u64) {
+        self.shuts = self.shuts.saturating_add(1);
         self.wires.shut(wire);
     }
 

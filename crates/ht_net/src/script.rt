@@ -172,8 +172,8 @@ impl Bench {
     }
 
     fn send_bytes(&mut self, lane: u64, bytes: &[u8], is_text: bool) -> Result<String, Stop> {
-        self.door.send(lane, bytes, is_text).map_err(stop_of)?;
-        self.told("sent")
+        let is_full = self.door.send(lane, bytes, is_text).map_err(stop_of)?;
+        self.told(if is_full { "sent, full" } else { "sent" })
     }
 
     fn shut(&mut self, words: &str) -> Result<String, Stop> {
@@ -184,6 +184,21 @@ impl Bench {
     fn written(&mut self, words: &str) -> Result<String, Stop> {
         let bytes = shown(self.alloc, self.door.wires().written(number(words)?))?;
         Ok(format!(in self.alloc; "written {bytes}")?)
+    }
+
+    fn taken(&mut self, words: &str) -> Result<String, Stop> {
+        let count = self.door.wires().written(number(words)?).len();
+        Ok(format!(in self.alloc; "taken {count}")?)
+    }
+
+    fn waited(&self) -> Result<String, Stop> {
+        let wait = self.door.wires().waited();
+        Ok(format!(in self.alloc; "waited {wait}")?)
+    }
+
+    fn shuts(&self) -> Result<String, Stop> {
+        let count = self.door.wires().shuts();
+        Ok(format!(in self.alloc; "shuts {count}")?)
     }
 }
 
@@ -200,6 +215,9 @@ impl Play for Bench {
             "fill" => self.fill(rest),
             "shut" => self.shut(rest),
             "written" => self.written(rest),
+            "taken" => self.taken(rest),
+            "waited" => self.waited(),
+            "shuts" => self.shuts(),
             _ => Err(Stop::Refused),
         }
     }

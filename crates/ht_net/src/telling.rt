@@ -57,6 +57,7 @@ fn event(alloc: Global, event: &Event) -> Result<String, Stop> {
         Event::Response { lane, .. } => Ok(format!(in alloc; "response {lane}")?),
         Event::Upgraded { lane } => Ok(format!(in alloc; "upgraded {lane}")?),
         Event::Lost { lane } => Ok(format!(in alloc; "lost {lane}")?),
+        Event::Drained { lane } => Ok(format!(in alloc; "drained {lane}")?),
         Event::Quiet => Ok(String::from_str(alloc, "quiet")?),
     }
 }

@@ -24,6 +24,7 @@ use Rattle.hw_net.specs.Sessions as session
 use Rattle.hw_net.specs.Sessions.{Call, Session, answers_in, answers_of, request_on, requests_on, HeardRequests, RequestsAreAsked, RefusalsAreDeserved}
 use Rattle.hw_net.specs.Trace.{Reads, Gives, Chooses, bytes_of}
 use Rattle.hw_net.specs.Turn.{Hears, Falls, Passes, Settles, Loses, LosesAt, TurnsLive, TurnsAt, Listens, Replies, PutsAt, Sends, Shuts}
+use Rattle.hw_net.proofs.Fullness.{by-fullness, SaysPut}
 use Rattle.hw_net.proofs.Moves.{ActsAt, has-of}
 use Rattle.hw_net.proofs.Owning.{is_on}
 use Rattle.hw_net.proofs.Shares.{share, read-append, read-share, same}
@@ -220,7 +221,11 @@ live-asked now x y mine own h bytes requests k =
 listens-asked : (now : ℕ) (x y : Lane) (mine : List Answer) (own : Option Event) → Listens now x y mine own → Asked x y mine (requests_in x.wire own)
 listens-asked now x y mine own h = go x.stage h where
   go : (s : Stage) → TurnsAt s now x y mine own → Asked x y mine (requests_in x.wire own)
-  go Live h = live-asked now x y mine own h
+  go Live h = by-fullness (λ (l : Lane). Asked x l mine (requests_in x.wire own)) now x y mine own
+      (λ d e s. nothing-more x y mine (requests_in x.wire own) (says-silent now (record x { full = None }) y mine s) (ap (λ o. requests_in x.wire o) e))
+      (λ s f. nothing-more x y mine (requests_in x.wire own) (falls-silent x y mine own f) (ap (λ o. requests_in x.wire o) f.1))
+      (λ mid t. live-asked now x mid mine own t)
+      h
   go Lost h = nothing-more x y mine (requests_in x.wire own) (passes-silent x _ y mine _ own refl h) (ap (λ o. requests_in x.wire o) h.1)
   go Closing h = nothing-more x y mine (requests_in x.wire own) (says-silent now x y mine h.1) (ap (λ o. requests_in x.wire o) h.0)
   go Over h = nothing-more x y mine (requests_in x.wire own) (passes-silent x x y mine _ own refl h) (ap (λ o. requests_in x.wire o) h.1)
@@ -266,10 +271,10 @@ put-heard true (Socket websocket_state) bytes text before after is_put e h all r
 put-heard true (Http http_state) bytes text before after is_put e h all requests k = subst (λ (l : Lane). HeardIn all requests l.protocol) (sym h.1) k
 put-heard false protocol bytes text before after is_put e h all requests k = subst (λ (l : Lane). HeardIn all requests l.protocol) (sym h.1) k
 
-pub sends-silent : (bytes : List ℕ) (text : Bool) (before after : Lane) (answers : List Answer) → Sends bytes text before after answers → Silent before after answers
-sends-silent bytes text before after answers h = then-silent before h.0 after answers (put-heard (is_live before.stage) before.protocol bytes text before h.0 h.1 refl h.2) (go h.0 h.1 h.3) where
-  go : (mid : Lane) (b : Bool) → Chooses b (SaysMore mid after answers) ((answers ≡ []) × (after ≡ mid)) → Silent mid after answers
-  go mid true h = more-silent mid after answers h
+pub sends-silent : (now : ℕ) (bytes : List ℕ) (text : Bool) (before after : Lane) (answers : List Answer) → Sends now bytes text before after answers → Silent before after answers
+sends-silent now bytes text before after answers h = then-silent before h.0 after answers (put-heard (is_live before.stage) before.protocol bytes text before h.0 h.1 refl h.2) (go h.0 h.1 h.3) where
+  go : (mid : Lane) (b : Bool) → SaysPut now b mid after answers → Silent mid after answers
+  go mid true h = subst (λ (l : Lane). Silent mid l answers) (sym h.2) (more-silent mid h.0 answers h.1)
   go mid false h = still-silent mid after answers h.0 h.1
 
 pub shuts-silent : (now : ℕ) (before after : Lane) (answers : List Answer) → Shuts now before after answers → Silent before after answers
@@ -296,14 +301,14 @@ moves-asked : (call : Call) (x y : Lane) → Moves call x y → Asked x y (share
 moves-asked (session.heard what answers) x y h = heeds-asked what.now what.event x y (share x.wire answers) h
 moves-asked (session.replied lane reply answers) x y h =
     nothing-more x y (share x.wire answers) [] (at-silent lane (Replies h.0 reply) x y (share x.wire answers) (replies-silent h.0 reply x y (share x.wire answers)) h.1) refl
-moves-asked (session.sent lane bytes text answers) x y h =
-    nothing-more x y (share x.wire answers) [] (at-silent lane (Sends bytes text) x y (share x.wire answers) (sends-silent bytes text x y (share x.wire answers)) h) refl
+moves-asked (session.sent lane bytes text full answers) x y h =
+    nothing-more x y (share x.wire answers) [] (at-silent lane (Sends h.0 bytes text) x y (share x.wire answers) (sends-silent h.0 bytes text x y (share x.wire answers)) h.1) refl
 moves-asked (session.shut lane answers) x y h = nothing-more x y (share x.wire answers) [] (at-silent lane (Shuts h.0) x y (share x.wire answers) (shuts-silent h.0 x y (share x.wire answers)) h.1) refl
 
 pub requests-more : (wire : ℕ) (call : Call) (calls : List Call) → requests_on wire (call ∷ calls) ≡ requests_on wire calls ++ requests_by wire call
 requests-more wire (session.heard what answers) calls = refl
 requests-more wire (session.replied lane reply answers) calls = sym (append-nil (requests_on wire calls))
-requests-more wire (session.sent lane bytes text answers) calls = sym (append-nil (requests_on wire calls))
+requests-more wire (session.sent lane bytes text full answers) calls = sym (append-nil (requests_on wire calls))
 requests-more wire (session.shut lane answers) calls = sym (append-nil (requests_on wire calls))
 
 pub read-more : (wire : ℕ) (calls : List Call) (call : Call) → read_on wire (answers_of (call ∷ calls)) ≡ read_on wire (answers_of calls) ++ read_on wire (share wire (answers_in call))
@@ -400,7 +405,11 @@ listens-refused now x y mine own refusal bytes requests h e k = go x.stage h whe
   never f = absurd (cc f)
 
   go : (s : Stage) → TurnsAt s now x y mine own → Deserves (bytes ++ read_on x.wire mine) requests refusal
-  go Live h = live-refused now x y mine own refusal bytes requests h e k
+  go Live h = by-fullness (λ (l : Lane). Deserves (bytes ++ read_on x.wire mine) requests refusal) now x y mine own
+      (λ d f s. never (sym (ap (λ o. refusal_in o) f) ∙ e))
+      (λ s f. never (sym (ap (λ o. refusal_in o) f.1) ∙ e))
+      (λ mid t. live-refused now x mid mine own refusal bytes requests t e k)
+      h
   go Lost h = never (sym (ap (λ o. refusal_in o) h.1) ∙ e)
   go Closing h = never (sym (ap (λ o. refusal_in o) h.0) ∙ e)
   go Over h = never (sym (ap (λ o. refusal_in o) h.1) ∙ e)

@@ -2,6 +2,7 @@
 use Rattle.std.proofs.Common.{◌≡◌, ◌≤◌, ◌<◌, ◌-◌, ◌==◌, ◌||◌, ◌++◌, ◌∷◌, [], ℕ, Bool, true, false, List, length, Option, None, Some, refl, sym, ap, ◌∙◌, subst, arith, inl, inr}
 use Rattle.hw_lanes.specs.declared.http.Reply.{Reply}
 use Rattle.hw_door.specs.declared.heard.Event.{Event}
+use Rattle.hw_door.specs.declared.heard.Event.TheVariants as event
 use Rattle.hw_door.specs.Traffic.{Answer}
 use Rattle.hw_socket.specs.Lane as socket
 use Rattle.hw_socket.specs.Masks.{Written}
@@ -12,11 +13,12 @@ use Rattle.hw_net.specs.declared.protocol.Protocol.TheVariants.{Http, Socket}
 use Rattle.hw_net.specs.declared.protocol.Stage.{Stage}
 use Rattle.hw_net.specs.declared.protocol.Stage.TheVariants.{Live, Lost, Closing, Over}
 use Rattle.hw_net.specs.Bounds.{has_wire, IsWithin, EachIs, AreWithin, IsInTime, NextIsWithin, NextIsInTime, RepliesAreWithin, SendsAreWithin, ShutsAreWithin}
-use Rattle.hw_net.specs.Door.{HearsAll}
+use Rattle.hw_net.specs.Door.{ListensOrRests, ListenOrRest, Searches}
 use Rattle.hw_net.specs.Lane.{Lane, waits, frames_of, after_end, owes, is_live, after_reply, protocol_after_shut}
 use Rattle.hw_net.specs.Saying.{WritesOut, DropsOrWrites, Says, SaysAt, SaysMore, must_end, has_closed_long, is_too_much}
 use Rattle.hw_net.specs.Trace.{Chooses}
 use Rattle.hw_net.specs.Turn.{Turns, TurnsAt, TurnAll, Loses, LosesAt, Replies, PutsAt, Puts, Sends, Shuts, AtLane}
+use Rattle.hw_net.proofs.Fullness.{by-fullness, SaysPut}
 
 never : true ≡ false → ⊥
 never e = absurd (cc e)
@@ -86,7 +88,11 @@ turn-within : (now : ℕ) (trace : Option Event) (before after : Lane) (answers 
 turn-within now (Some event) before after answers heard h = says-within now before after answers h.1
 turn-within now None before after answers heard h = go before.stage refl h where
   go : (s : Stage) → before.stage ≡ s → TurnsAt s now before after answers heard → IsWithin after
-  go Live e h = loses-within h.trace h.said after heard h.loses (says-within now h.settled h.said h.written h.says)
+  go Live e h = by-fullness IsWithin now before after answers heard
+      (λ d said s. says-within now (record before { full = None }) after answers s)
+      (λ s f. shut-within after (ap (λ (l : Lane). has_wire l.stage) f.2))
+      (λ mid t. loses-within t.trace t.said mid heard t.loses (says-within now t.settled t.said t.written t.says))
+      h
   go Lost e h = shut-within after (ap (λ (l : Lane). has_wire l.stage) h.2)
   go Closing e h = says-within now before after answers h.1
   go Over e h = shut-within after (ap (λ (l : Lane). has_wire l.stage) h.2 ∙ ap has_wire e)
@@ -104,8 +110,19 @@ both-are : (Is : Lane → Type 0) (xs ys : List Lane) → EachIs Is xs → EachI
 both-are Is [] ys h k = k
 both-are Is (x ∷ xs) ys h k = (h.0, both-are Is xs ys h.1 k)
 
-all-leave : (now : ℕ) (Is : Lane → Type 0) (from : ℕ) (before after : List Lane) (answers : List Answer) (heard : Option Event) → TurnsLeave now Is → HearsAll now from before after answers heard → EachIs Is after
-all-leave now Is from before after answers heard each h =
+-- each lane that rests is as it would be after a turn in which it only writes
+parts-leave : (now : ℕ) (Is : Lane → Type 0) (lanes after : List Lane) (answers : List Answer) → TurnsLeave now Is → ListenOrRest now lanes after answers → EachIs Is after
+parts-leave now Is [] after answers each h = subst (λ (l : List Lane). EachIs Is l) (sym h.0) tt
+parts-leave now Is (lane ∷ lanes) after answers each h = subst (λ (l : List Lane). EachIs Is l) (sym h.4) (go h.6, parts-leave now Is lanes h.1 h.3 each h.7) where
+  go : ListensOrRests now lane h.0 h.2 → Is h.0
+  go (inl one) = each None lane h.0 h.2 None one
+  go (inr rest) = subst Is (sym rest.1) (each (Some event.Quiet) lane lane [] (Some event.Quiet) (refl, rest.0.silent))
+
+all-leave : (now : ℕ) (Is : Lane → Type 0) (from : ℕ) (before after : List Lane) (answers : List Answer) (heard : Option Event) → TurnsLeave now Is → Searches now from before after answers heard → EachIs Is after
+all-leave now Is from before after answers heard each (inr r) =
+    subst (λ (l : List Lane). EachIs Is l) (sym r.order)
+    (both-are Is r.last r.first (parts-leave now Is _ r.last r.answers_last each r.parts_last) (parts-leave now Is _ r.first r.answers_first each r.parts_first))
+all-leave now Is from before after answers heard each (inl h) =
     subst (λ (l : List Lane). EachIs Is l) (sym h.order)
     (both-are Is h.last h.first (turns-leave now Is h.trace _ h.last h.answers_last heard each h.turns_last) (turns-leave now Is None _ h.first h.answers_first h.trace each h.turns_first))
 
@@ -171,7 +188,11 @@ turn-time : (now : ℕ) (trace : Option Event) (before after : Lane) (answers : 
 turn-time now (Some event) before after answers heard h = says-time now before after answers h.1
 turn-time now None before after answers heard h = go before.stage refl h where
   go : (s : Stage) → before.stage ≡ s → TurnsAt s now before after answers heard → IsInTime now after
-  go Live e h = loses-time now h.trace h.said after heard h.loses (says-time now h.settled h.said h.written h.says)
+  go Live e h = by-fullness (IsInTime now) now before after answers heard
+      (λ d said s. says-time now (record before { full = None }) after answers s)
+      (λ s f. over-time now after (ap (λ (l : Lane). l.stage) f.2))
+      (λ mid t. loses-time now t.trace t.said mid heard t.loses (says-time now t.settled t.said t.written t.says))
+      h
   go Lost e h = over-time now after (ap (λ (l : Lane). l.stage) h.2)
   go Closing e h = says-time now before after answers h.1
   go Over e h = over-time now after (ap (λ (l : Lane). l.stage) h.2 ∙ e)
@@ -225,14 +246,14 @@ unput true (Socket websocket_state) bytes text before after e h =
 unput true (Http http_state) bytes text before after e h = (ap (λ (l : Lane). l.stage) h.1, ap waits h.1)
 unput false protocol bytes text before after e h = (ap (λ (l : Lane). l.stage) h.1, ap waits h.1)
 
-send-within : (bytes : List ℕ) (text : Bool) (before after : Lane) (answers : List Answer) → Sends bytes text before after answers → IsWithin before → IsWithin after
-send-within bytes text before after answers h k = go h.0 h.1 h.2 h.3 where
-  go : (mid : Lane) (b : Bool) → Puts bytes text before mid b → Chooses b (SaysMore mid after answers) ((answers ≡ []) × (after ≡ mid)) → IsWithin after
-  go mid true p h = more-within mid after answers h
+send-within : (now : ℕ) (bytes : List ℕ) (text : Bool) (before after : Lane) (answers : List Answer) → Sends now bytes text before after answers → IsWithin before → IsWithin after
+send-within now bytes text before after answers h k = go h.0 h.1 h.2 h.3 where
+  go : (mid : Lane) (b : Bool) → Puts bytes text before mid b → SaysPut now b mid after answers → IsWithin after
+  go mid true p h = subst IsWithin (sym h.2) (more-within mid h.0 answers h.1)
   go mid false p h =
       let u = unput (is_live before.stage) before.protocol bytes text before mid refl p in
       same-within mid after h.1 (λ has. subst (λ (l : List ℕ). length l ≤ MOST_UNWRITTEN) (sym u.1) (k (sym (ap has_wire u.0) ∙ has)))
 
 pub sends-within : SendsAreWithin
-sends-within lane bytes text before after answers h k =
-    at-within lane (Sends bytes text) before.lanes after.lanes answers (send-within bytes text) h.0 k
+sends-within lane now bytes text before after answers h k =
+    at-within lane (Sends now bytes text) before.lanes after.lanes answers (send-within now bytes text) h.0 k

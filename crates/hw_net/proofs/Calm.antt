@@ -1,5 +1,5 @@
 -- Lanes that are calm: a read that gives nothing leaves them as they are, and is their turn.
-use Rattle.std.proofs.Common.{◌≡◌, ◌<◌, ◌++◌, ◌∷◌, [], ℕ, List, Bool, true, false, Option, None, Some, Result, Ok, Err, IfOk, option_map, set, get_or, refl, sym, ap, ◌∙◌, subst, inl, inr, arith, length, take}
+use Rattle.std.proofs.Common.{◌≡◌, ◌<◌, ◌++◌, ◌∷◌, [], ◌&&◌, ◌⊎◌, ℕ, List, Bool, true, false, Option, None, Some, Result, Ok, Err, IfOk, option_map, set, get_or, refl, sym, ap, ◌∙◌, subst, inl, inr, arith, length, take}
 use Rattle.std.proofs.lemmas.List.{append-nil, get_or_default}
 use Rattle.hw_door.specs.declared.heard.Event.{Event}
 use Rattle.hw_door.specs.Traffic.{Answer}
@@ -7,7 +7,7 @@ use Rattle.hw_socket.specs.Lane as socket
 use Rattle.hw_socket.specs.Reading.{Feeds, Takes}
 use Rattle.hw_socket.specs.declared.vocabulary.SocketRead.TheVariants as read
 use Rattle.hw_net.specs.declared.first_read.FirstRead.{FirstRead}
-use Rattle.hw_net.specs.declared.first_read.FirstRead.TheVariants.{NothingRead, Read}
+use Rattle.hw_net.specs.declared.first_read.FirstRead.TheVariants.{Unread, NothingRead, Read}
 use Rattle.hw_net.specs.declared.limits.TheConstants.{PIECE}
 use Rattle.hw_net.specs.declared.input.Input.{Input}
 use Rattle.hw_net.specs.declared.input.Input.TheVariants as input
@@ -16,12 +16,12 @@ use Rattle.hw_net.specs.declared.protocol.Protocol.TheVariants.{Http, Socket}
 use Rattle.hw_net.specs.declared.protocol.Stage.{Stage}
 use Rattle.hw_net.specs.declared.protocol.Stage.TheVariants.{Live}
 use Rattle.hw_net.specs.FirstReads.{ReadsFirst, ReadsFirstAt, IsCalmLane, IsCalmProtocol}
-use Rattle.hw_net.specs.Lane.{Lane, waits, frames_of, is_late, after_hearing}
+use Rattle.hw_net.specs.Lane.{Lane, waits, frames_of, is_late, is_live, is_drained, has_drained, is_stalled, has_stalled, after_hearing, after_turn, full_after_turn}
 use Rattle.hw_net.specs.Lanes.{DoesHere}
 use Rattle.hw_net.specs.Tally.{has_unwritten, has_unwritten_by}
 use Rattle.hw_net.specs.WebSocketState.{WebSocketState, HearsWebSocket, ReadsInto, Finds, IsCalm, room_of}
 use Rattle.hw_net.specs.Trace.{Chooses, Reads, Gives, Tells}
-use Rattle.hw_net.specs.Turn.{Hears, Settles, LosesAt, TurnsLive, TurnsAt, Listens}
+use Rattle.hw_net.specs.Turn.{Hears, Settles, LosesAt, Drains, Falls, TurnsLive, TurnsByFullness, TurnsAt, Listens}
 use Rattle.hw_net.proofs.WebSocketFacts.{room-wants_read, input-of}
 use Rattle.hw_net.proofs.Telling.{tells-none}
 use Rattle.hw_net.proofs.Walking.{silent}
@@ -77,6 +77,10 @@ nothing-unwritten lane calm =
     let none : waits lane ≡ [] = ap (λ (l : List ℕ). l ++ frames_of lane.protocol) calm.out ∙ frameless lane.protocol calm.protocol in
     ap (λ (s : Stage). has_unwritten_by s (length (waits lane))) calm.live ∙ ap (λ (l : List ℕ). has_unwritten_by Live (length l)) none
 
+first-of : (b : Bool) (A B : Type 0) → b ≡ true → A → Chooses b A B
+first-of true A B e h = h
+first-of false A B e h = absurd (cc e)
+
 second : (b : Bool) (A B : Type 0) → b ≡ false → B → Chooses b A B
 second true A B e h = absurd (cc e)
 second false A B e h = h
@@ -88,12 +92,40 @@ calm-hearing lane calm = go lane.protocol refl calm where
   go (Http http_state) e calm = absurd calm
   go (Socket websocket_state) e calm = ap (λ (t : Protocol). record lane { protocol = t }) (sym e)
 
--- the turn of a calm lane whose wire gave nothing
-pub calm-listens : (now : ℕ) (lane : Lane) (first : List Answer) (buf : List ℕ) → ReadsFirst lane first buf NothingRead → Listens now lane lane first None
-calm-listens now lane first buf h =
-    let calm = h.0 in
-    let settles : Settles now lane lane [] input.Nothing None = second (is_late now lane.since lane.protocol) _ _ (in-time now lane.since lane.protocol calm.protocol) (refl, refl, refl) in
-    let loses : LosesAt lane.stage lane lane None = subst (λ (s : Stage). LosesAt s lane lane None) (sym calm.live) (refl, refl) in
+-- a lane that isn't full has neither drained nor stalled
+not-drained : (lane : Lane) → lane.full ≡ None → is_drained lane ≡ false
+not-drained lane e = ap (λ f. is_live lane.stage && has_drained f (length (waits lane))) e ∙ go (is_live lane.stage) where
+  go : (b : Bool) → (b && false) ≡ false
+  go true = refl
+  go false = refl
+
+not-stalled : (lane : Lane) → lane.full ≡ None → is_stalled lane ≡ false
+not-stalled lane e = ap has_stalled e
+
+-- a lane that is full isn't read by a first look
+unread : (lane : Lane) (first : List Answer) (buf : List ℕ) (first_look : FirstRead) → ReadsFirst lane first buf first_look → (first ≡ []) ⊎ (lane.full ≡ None)
+unread lane first buf Unread h = inl h
+unread lane first buf NothingRead h = inr h.0.full
+unread lane first buf (Read got) h = inr h.0.full
+
+unread-drained : (lane : Lane) (first : List Answer) (buf : List ℕ) (first_look : FirstRead) → ReadsFirst lane first buf first_look → is_drained lane ≡ true → first ≡ []
+unread-drained lane first buf first_look h drained = go (unread lane first buf first_look h) where
+  go : (first ≡ []) ⊎ (lane.full ≡ None) → first ≡ []
+  go (inl none) = none
+  go (inr e) = absurd (cc (sym drained ∙ not-drained lane e))
+
+unread-stalled : (lane : Lane) (first : List Answer) (buf : List ℕ) (first_look : FirstRead) → ReadsFirst lane first buf first_look → is_stalled lane ≡ true → first ≡ []
+unread-stalled lane first buf first_look h stalled = go (unread lane first buf first_look h) where
+  go : (first ≡ []) ⊎ (lane.full ≡ None) → first ≡ []
+  go (inl none) = none
+  go (inr e) = absurd (cc (sym stalled ∙ not-stalled lane e))
+
+-- the turn of a live lane that isn't full nor overdue, and has nothing to write, if it hears nothing and that leaves it as it is
+pub quiet-listens : (now : ℕ) (lane : Lane) (first : List Answer) → lane.stage ≡ Live → lane.full ≡ None → has_unwritten lane ≡ false → is_late now lane.since lane.protocol ≡ false →
+    Hears lane.wire lane.protocol lane.protocol first input.Nothing → after_hearing lane.protocol lane ≡ lane → Listens now lane lane first None
+quiet-listens now lane first live unfull unwritten in_time hears hearing =
+    let settles : Settles now lane lane [] input.Nothing None = second (is_late now lane.since lane.protocol) _ _ in_time (refl, refl, refl) in
+    let loses : LosesAt lane.stage lane lane None = subst (λ (s : Stage). LosesAt s lane lane None) (sym live) (refl, refl) in
     let turns : TurnsLive now lane lane first None = record {
       input = input.Nothing;
       protocol = lane.protocol;
@@ -104,12 +136,20 @@ calm-listens now lane first buf h =
       shut = [];
       written = [];
       all = sym (append-nil first);
-      hears = calm-input lane first buf h;
-      settles = subst (λ (l : Lane). Settles now l lane [] input.Nothing None) (sym (calm-hearing lane calm.protocol)) settles;
-      says = silent now lane (nothing-unwritten lane calm);
+      hears = hears;
+      settles = subst (λ (l : Lane). Settles now l lane [] input.Nothing None) (sym hearing) settles;
+      says = silent now lane unwritten;
       loses = loses;
     } in
-    subst (λ (s : Stage). TurnsAt s now lane lane first None) (sym calm.live) turns
+    let still : lane ≡ after_turn now lane = ap (λ f. record lane { full = f }) (unfull ∙ ap (full_after_turn now) (sym unfull)) in
+    let on : TurnsByFullness now lane lane first None = second (is_drained lane) _ _ (not-drained lane unfull) (second (is_stalled lane) _ _ (not-stalled lane unfull) (lane, turns, still)) in
+    subst (λ (s : Stage). TurnsAt s now lane lane first None) (sym live) on
+
+-- the turn of a calm lane whose wire gave nothing
+pub calm-listens : (now : ℕ) (lane : Lane) (first : List Answer) (buf : List ℕ) → ReadsFirst lane first buf NothingRead → Listens now lane lane first None
+calm-listens now lane first buf h =
+    let calm = h.0 in
+    quiet-listens now lane first calm.live calm.full (nothing-unwritten lane calm) (in-time now lane.since lane.protocol calm.protocol) (calm-input lane first buf h) (calm-hearing lane calm.protocol)
 
 -- ---- what calls that end with this come to
 
@@ -129,9 +169,32 @@ after-first_look (Ok heard) trace before protocol buf first_look got e h = λ fi
     ([], tells-none trace, subst (λ (l : List Answer). Hears before.wire before.protocol protocol l heard) (sym (append-nil first)) k)
 after-first_look (Err why) trace before protocol buf first_look got e h = h
 
--- the turn of a live lane
+-- the turn of a live lane that has drained
+pub drained-turns : (a b : Option (List Answer)) (now : ℕ) (before after : Lane) (buf : List ℕ) (first_look : FirstRead) (heard : Option Event) → is_drained before ≡ true →
+    ((answers : List Answer) × Tells a b answers × Drains now before after answers heard) →
+    (first : List Answer) → ReadsFirst before first buf first_look → (answers : List Answer) × Tells a b answers × TurnsByFullness now before after (first ++ answers) heard
+drained-turns a b now before after buf first_look heard drained h first reads_first =
+    let turns : TurnsByFullness now before after h.0 heard = first-of (is_drained before) _ _ drained h.2 in
+    (h.0, h.1, subst (λ (l : List Answer). TurnsByFullness now before after (l ++ h.0) heard) (sym (unread-drained before first buf first_look reads_first drained)) turns)
+
+-- of one that has stalled
+pub stalled-turns : (a b : Option (List Answer)) (now : ℕ) (before after : Lane) (buf : List ℕ) (first_look : FirstRead) (heard : Option Event) → is_drained before ≡ false → is_stalled before ≡ true →
+    ((answers : List Answer) × Tells a b answers × Falls before after answers heard) →
+    (first : List Answer) → ReadsFirst before first buf first_look → (answers : List Answer) × Tells a b answers × TurnsByFullness now before after (first ++ answers) heard
+stalled-turns a b now before after buf first_look heard more stalled h first reads_first =
+    let turns : TurnsByFullness now before after h.0 heard = second (is_drained before) _ _ more (first-of (is_stalled before) _ _ stalled h.2) in
+    (h.0, h.1, subst (λ (l : List Answer). TurnsByFullness now before after (l ++ h.0) heard) (sym (unread-stalled before first buf first_look reads_first stalled)) turns)
+
+-- of any other
+pub on-turns : (a b : Option (List Answer)) (now : ℕ) (before mid after : Lane) (first : List Answer) (heard : Option Event) → is_drained before ≡ false → is_stalled before ≡ false →
+    ((answers : List Answer) × Tells a b answers × TurnsLive now before mid (first ++ answers) heard) → after ≡ after_turn now mid →
+    (answers : List Answer) × Tells a b answers × TurnsByFullness now before after (first ++ answers) heard
+on-turns a b now before mid after first heard more moves h e =
+    (h.0, h.1, second (is_drained before) _ _ more (second (is_stalled before) _ _ moves (mid, h.2, e)))
+
+-- of any live lane
 pub live-turns : {E : Type 0} (r : Result (Option Event) E) (a b : Option (List Answer)) (now : ℕ) (before after : Lane) (buf : List ℕ) (first_look : FirstRead) → before.stage ≡ Live →
-    IfOk r (λ heard. (first : List Answer) → ReadsFirst before first buf first_look → (answers : List Answer) × Tells a b answers × TurnsLive now before after (first ++ answers) heard) →
+    IfOk r (λ heard. (first : List Answer) → ReadsFirst before first buf first_look → (answers : List Answer) × Tells a b answers × TurnsByFullness now before after (first ++ answers) heard) →
     IfOk r (λ heard. (first : List Answer) → ReadsFirst before first buf first_look → (answers : List Answer) × Tells a b answers × Listens now before after (first ++ answers) heard)
 live-turns (Ok heard) a b now before after buf first_look live h = λ first reads_first.
     let k = h first reads_first in

@@ -21,6 +21,7 @@ use Rattle.hw_net.specs.Sessions.{Call, Session, answers_in, answers_of, is_abou
 use Rattle.hw_net.specs.Trace.{Chooses}
 use Rattle.hw_net.specs.Turn.{Falls, Passes, Settles, Loses, LosesAt, TurnsLive, TurnsAt, Listens, Replies, Puts, PutsAt, Sends, Shuts}
 use Rattle.hw_net.proofs.Ends.{Ends, writes-end, hears-unshut, writes-unshut, one-shut, dropped-or-end}
+use Rattle.hw_net.proofs.Fullness.{by-fullness, SaysPut}
 use Rattle.hw_net.proofs.Moves.{Has, Without, has-of, contains-of}
 use Rattle.hw_net.proofs.Numbering.{replied-wire, put-wire}
 use Rattle.hw_net.proofs.Owed.{by-number}
@@ -326,7 +327,16 @@ more-ends wire before after mine ended c = record { ends = c.ends; last = c.last
 listens-close : (now : ℕ) (x y : Lane) (mine : List Answer) (own : Option Event) → Listens now x y mine own → Closes x.wire x.stage y.stage mine (ends_in x.wire own)
 listens-close now x y mine own h = go x.stage refl h where
   go : (s : Stage) → x.stage ≡ s → TurnsAt s now x y mine own → Closes x.wire x.stage y.stage mine (ends_in x.wire own)
-  go Live e h = live-close now x y mine own e h
+  go Live e h = by-fullness (λ (l : Lane). Closes x.wire x.stage l.stage mine (ends_in x.wire own)) now x y mine own
+      (λ d f s. more-ends x.wire x.stage y.stage mine (ends_in x.wire own) (says-close now (record x { full = None }) y mine s))
+      (λ s f. record {
+        ends = inl (ap (λ l. was_shut_in x.wire l) f.0 ∙ one-shut x.wire, ap (λ (l : Lane). has_wire l.stage) f.2);
+        last = subst (λ (l : List Answer). ShutLast x.wire l) (sym f.0) (shut-alone x.wire);
+        none = λ k. absurd (cc (sym k ∙ ap has_wire e));
+        done = λ d. inr (ap (λ o. ends_in x.wire o) f.1 ∙ same x.wire);
+      })
+      (λ mid t. live-close now x mid mine own e t)
+      h
   go Lost e h = record {
     ends = inr (ap (λ l. was_shut_in x.wire l) h.0, ap (λ (l : Lane). has_wire l.stage) h.2 ∙ sym (ap has_wire e));
     last = subst (λ (l : List Answer). ShutLast x.wire l) (sym h.0) tt;
@@ -343,6 +353,7 @@ unended wire (event.Bytes at bytes) h = refl
 unended wire (event.Response at status body) h = refl
 unended wire (event.Upgraded at) h = refl
 unended wire (event.Lost at) h = h
+unended wire (event.Drained at) h = refl
 unended wire event.Quiet h = refl
 
 heard-ends : (wire : ℕ) (own : Option Event) (what : Event) → IsHeard wire own what → is_end_on wire what ≡ ends_in wire own
@@ -391,12 +402,13 @@ put-stage true (Socket websocket_state) bytes text x mid is_put h = (ap (λ (l :
 put-stage true (Http http_state) bytes text x mid is_put h = (ap (λ (l : Lane). l.stage) h.1, λ e. refl)
 put-stage false protocol bytes text x mid is_put h = (ap (λ (l : Lane). l.stage) h.1, λ e. absurd (cc (sym h.0 ∙ e)))
 
-sends-close : (bytes : List ℕ) (text : Bool) (x y : Lane) (mine : List Answer) → Sends bytes text x y mine → Closes x.wire x.stage y.stage mine false
-sends-close bytes text x y mine h = go h.0 h.1 h.2 h.3 where
-  go : (mid : Lane) (b : Bool) → Puts bytes text x mid b → Chooses b (SaysMore mid y mine) ((mine ≡ []) × (y ≡ mid)) → Closes x.wire x.stage y.stage mine false
+sends-close : (now : ℕ) (bytes : List ℕ) (text : Bool) (x y : Lane) (mine : List Answer) → Sends now bytes text x y mine → Closes x.wire x.stage y.stage mine false
+sends-close now bytes text x y mine h = go h.0 h.1 h.2 h.3 where
+  go : (mid : Lane) (b : Bool) → Puts bytes text x mid b → SaysPut now b mid y mine → Closes x.wire x.stage y.stage mine false
   go mid true p s =
       let put = put-stage (is_live x.stage) x.protocol bytes text x mid true p in
-      moved-close x mid y mine (put-wire (is_live x.stage) x.protocol bytes text x mid true p) put.0 (more-close mid y mine (ap has_wire put.0 ∙ live-has x.stage (put.1 refl)) s)
+      subst (λ (l : Lane). Closes x.wire x.stage l.stage mine false) (sym s.2)
+      (moved-close x mid s.0 mine (put-wire (is_live x.stage) x.protocol bytes text x mid true p) put.0 (more-close mid s.0 mine (ap has_wire put.0 ∙ live-has x.stage (put.1 refl)) s.1))
   go mid false p s = idles x.wire x.stage y.stage mine s.0 (ap (λ (l : Lane). l.stage) s.1 ∙ (put-stage (is_live x.stage) x.protocol bytes text x mid false p).0)
 
 shuts-close : (now : ℕ) (x y : Lane) (mine : List Answer) → Shuts now x y mine → Closes x.wire x.stage y.stage mine true
@@ -419,7 +431,7 @@ shuts-close now x y mine h = go (is_live x.stage) refl h where
 abbrev ends_by : ℕ → Call → Bool
 ends_by wire (session.heard what answers) = is_end_on wire what.event
 ends_by wire (session.replied at reply answers) = false
-ends_by wire (session.sent at bytes text answers) = false
+ends_by wire (session.sent at bytes text full answers) = false
 ends_by wire (session.shut at answers) = at == wire
 
 moves-close : (call : Call) (x y : Lane) → Moves call x y → Closes x.wire x.stage y.stage (share x.wire (answers_in call)) (ends_by x.wire call)
@@ -427,9 +439,9 @@ moves-close (session.heard what answers) x y h = heeds-close what.now what.event
 moves-close (session.replied at reply answers) x y h =
     by-number at (Replies h.0 reply) x y (share x.wire answers) (λ b. Closes x.wire x.stage y.stage (share x.wire answers) false)
     (replies-close h.0 reply x y (share x.wire answers)) (λ e f. idles x.wire x.stage y.stage (share x.wire answers) f (ap (λ (l : Lane). l.stage) e)) h.1
-moves-close (session.sent at bytes text answers) x y h =
-    by-number at (Sends bytes text) x y (share x.wire answers) (λ b. Closes x.wire x.stage y.stage (share x.wire answers) false)
-    (sends-close bytes text x y (share x.wire answers)) (λ e f. idles x.wire x.stage y.stage (share x.wire answers) f (ap (λ (l : Lane). l.stage) e)) h
+moves-close (session.sent at bytes text full answers) x y h =
+    by-number at (Sends h.0 bytes text) x y (share x.wire answers) (λ b. Closes x.wire x.stage y.stage (share x.wire answers) false)
+    (sends-close h.0 bytes text x y (share x.wire answers)) (λ e f. idles x.wire x.stage y.stage (share x.wire answers) f (ap (λ (l : Lane). l.stage) e)) h.1
 moves-close (session.shut at answers) x y h =
     by-number at (Shuts h.0) x y (share x.wire answers) (λ b. Closes x.wire x.stage y.stage (share x.wire answers) b)
     (shuts-close h.0 x y (share x.wire answers)) (λ e f. idles x.wire x.stage y.stage (share x.wire answers) f (ap (λ (l : Lane). l.stage) e)) h.1
@@ -437,7 +449,7 @@ moves-close (session.shut at answers) x y h =
 done-more : (wire : ℕ) (call : Call) (calls : List Call) → came_in wire (answers_of (call ∷ calls)) ≡ true → is_done_on wire (call ∷ calls) ≡ (ends_by wire call || is_done_on wire calls)
 done-more wire (session.heard what answers) calls came = refl
 done-more wire (session.replied at reply answers) calls came = refl
-done-more wire (session.sent at bytes text answers) calls came = refl
+done-more wire (session.sent at bytes text full answers) calls came = refl
 done-more wire (session.shut at answers) calls came =
     ap (λ b. ((at == wire) && b) || is_done_on wire calls) came ∙ ap (λ b. b || is_done_on wire calls) (and-true (at == wire)) where
       and-true : (a : Bool) → (a && true) ≡ a

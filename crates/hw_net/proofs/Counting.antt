@@ -22,6 +22,7 @@ use Rattle.hw_net.specs.Trace.{Chooses}
 use Rattle.hw_net.specs.Turn.{Hears, Falls, Passes, Settles, Loses, LosesAt, TurnsLive, TurnsAt, Listens, Replies, PutsAt, Sends, Shuts}
 use Rattle.hw_net.proofs.Asked.{requests_in, settles-requests, loses-requests, heard-requests, requests_by, requests-more}
 use Rattle.hw_net.proofs.Ends.{writes-end, speaks-busy, replied-owes, Ends, dropped-or-end, continue-busy}
+use Rattle.hw_net.proofs.Fullness.{by-fullness, SaysPut}
 use Rattle.hw_net.proofs.Owed.{IsOwed, step-owed, new-owed, by-number, replies_by, replies-more}
 use Rattle.hw_net.proofs.Owning.{is_on}
 use Rattle.hw_net.proofs.Shares.{same}
@@ -169,7 +170,11 @@ quiet-even x y wire own l e f = even-lives x y _ _ l (ap (λ (l : List Request).
 listens-even : (now : ℕ) (x y : Lane) (mine : List Answer) (own : Option Event) → Listens now x y mine own → StaysEven x y (length (requests_in x.wire own)) (length (refusals_in x.wire own))
 listens-even now x y mine own h = go x.stage refl h where
   go : (s : Stage) → x.stage ≡ s → TurnsAt s now x y mine own → StaysEven x y (length (requests_in x.wire own)) (length (refusals_in x.wire own))
-  go Live e h = live-even now x y mine own h
+  go Live e h = by-fullness (λ (l : Lane). StaysEven x l (length (requests_in x.wire own)) (length (refusals_in x.wire own))) now x y mine own
+      (λ d f s. quiet-even x y x.wire own (says-live now (record x { full = None }) y mine s) (ap (λ o. requests_in x.wire o) f) (ap (λ o. refusals_in x.wire o) f))
+      (λ s f. gone x (record x { stage = Over }) y _ _ f.2 refl)
+      (λ mid t. live-even now x mid mine own t)
+      h
   go Lost e h = gone x (record x { stage = Over }) y _ _ h.2 refl
   go Closing e h = quiet-even x y x.wire own (says-live now x y mine h.1) (ap (λ o. requests_in x.wire o) h.0) (ap (λ o. refusals_in x.wire o) h.0)
   go Over e h = gone x x y _ _ h.2 (ap is_live e)
@@ -214,10 +219,10 @@ put-lives true (Socket websocket_state) bytes text x mid is_put e h = λ alive.
 put-lives true (Http http_state) bytes text x mid is_put e h = same-lives x mid h.1
 put-lives false protocol bytes text x mid is_put e h = same-lives x mid h.1
 
-sends-live : (bytes : List ℕ) (text : Bool) (x y : Lane) (mine : List Answer) → Sends bytes text x y mine → Lives x y
-sends-live bytes text x y mine h = lives-on x h.0 y (put-lives (is_live x.stage) x.protocol bytes text x h.0 h.1 refl h.2) (go h.0 h.1 h.3) where
-  go : (mid : Lane) (b : Bool) → Chooses b (SaysMore mid y mine) ((mine ≡ []) × (y ≡ mid)) → Lives mid y
-  go mid true h = more-live mid y mine h
+sends-live : (now : ℕ) (bytes : List ℕ) (text : Bool) (x y : Lane) (mine : List Answer) → Sends now bytes text x y mine → Lives x y
+sends-live now bytes text x y mine h = lives-on x h.0 y (put-lives (is_live x.stage) x.protocol bytes text x h.0 h.1 refl h.2) (go h.0 h.1 h.3) where
+  go : (mid : Lane) (b : Bool) → SaysPut now b mid y mine → Lives mid y
+  go mid true h = subst (λ (l : Lane). Lives mid l) (sym h.2) (more-live mid h.0 mine h.1)
   go mid false h = same-lives mid y h.1
 
 shuts-live : (now : ℕ) (x y : Lane) (mine : List Answer) → Shuts now x y mine → Lives x y
@@ -233,9 +238,9 @@ moves-even (session.heard what answers) x y h = heeds-even what.now what.event x
 moves-even (session.replied at reply answers) x y h =
     by-number at (Replies h.0 reply) x y _ (λ b. StaysEven x y 0 (length (if b && owes x then reply ∷ [] else [])))
     (replies-even h.0 reply x y _) (λ e f. even-lives x y 0 0 (same-lives x y e) refl refl) h.1
-moves-even (session.sent at bytes text answers) x y h =
-    by-number at (Sends bytes text) x y _ (λ b. StaysEven x y 0 0)
-    (λ s. even-lives x y 0 0 (sends-live bytes text x y _ s) refl refl) (λ e f. even-lives x y 0 0 (same-lives x y e) refl refl) h
+moves-even (session.sent at bytes text full answers) x y h =
+    by-number at (Sends h.0 bytes text) x y _ (λ b. StaysEven x y 0 0)
+    (λ s. even-lives x y 0 0 (sends-live h.0 bytes text x y _ s) refl refl) (λ e f. even-lives x y 0 0 (same-lives x y e) refl refl) h.1
 moves-even (session.shut at answers) x y h =
     by-number at (Shuts h.0) x y _ (λ b. StaysEven x y 0 0)
     (λ s. even-lives x y 0 0 (shuts-live h.0 x y _ s) refl refl) (λ e f. even-lives x y 0 0 (same-lives x y e) refl refl) h.1
@@ -281,11 +286,13 @@ listens-free now x y mine own request h e = go x.stage refl h where
   never f = absurd (cc (sym f ∙ e))
 
   go : (s : Stage) → x.stage ≡ s → TurnsAt s now x y mine own → IsFree x
-  go Live f h = (
-    ap is_live f,
-    hears-free x.wire x.protocol h.protocol h.read h.input request h.hears
-        (sym (loses-requests x.wire h.trace h.said y own h.loses ∙ settles-requests now (after_hearing h.protocol x) h.settled h.shut h.input h.trace h.settles) ∙ e),
-  )
+  go Live f h = by-fullness (λ (l : Lane). IsFree x) now x y mine own (λ d g s. never (ap (λ o. requests_in x.wire o) g)) (λ s g. never (ap (λ o. requests_in x.wire o) g.1)) turned h where
+    turned : (mid : Lane) → TurnsLive now x mid mine own → IsFree x
+    turned mid t = (
+      ap is_live f,
+      hears-free x.wire x.protocol t.protocol t.read t.input request t.hears
+          (sym (loses-requests x.wire t.trace t.said mid own t.loses ∙ settles-requests now (after_hearing t.protocol x) t.settled t.shut t.input t.trace t.settles) ∙ e),
+    )
   go Lost f h = never (ap (λ o. requests_in x.wire o) h.1)
   go Closing f h = never (ap (λ o. requests_in x.wire o) h.0)
   go Over f h = never (ap (λ o. requests_in x.wire o) h.1)

@@ -17,6 +17,7 @@ use Rattle.hw_net.specs.Saying.{Writes, WritesOut, DropsOrWrites, SpeaksAs, Says
 use Rattle.hw_net.specs.Sessions.{was_shut_in, is_request_on}
 use Rattle.hw_net.specs.Trace.{Reads, Gives, Chooses}
 use Rattle.hw_net.specs.Turn.{Hears, Falls, Passes, Settles, Loses, LosesAt, TurnsLive, TurnsAt, Listens, Replies, PutsAt, Sends, Shuts}
+use Rattle.hw_net.proofs.Fullness.{by-fullness, SaysPut}
 use Rattle.hw_net.proofs.Owning.{settles-keeps}
 use Rattle.hw_net.proofs.Shares.{shut-append, same}
 use Rattle.hw_net.proofs.Walks.{IsHeard, Heeds, not-request}
@@ -269,7 +270,11 @@ listens-owes now x y mine own h = go x.stage refl h where
   unowed s e f r k = k ∙ sym (ap (λ b. not (was_shut_in x.wire mine) && (b || owes x)) r ∙ ap (λ b. not (was_shut_in x.wire mine) && b) (idle x s e f) ∙ none-owed (was_shut_in x.wire mine))
 
   go : (s : Stage) → x.stage ≡ s → TurnsAt s now x y mine own → OwesAfter x y mine (is_request_in x.wire own)
-  go Live e h = live-owes now x y mine own e h ∙ ap (λ b. not (was_shut_in x.wire mine) && (is_request_in x.wire own || b)) (sym (ap (λ s. is_live s && is_busy x.protocol) e))
+  go Live e h = by-fullness (λ (l : Lane). OwesAfter x l mine (is_request_in x.wire own)) now x y mine own
+      (λ d f s. says-owes now (record x { full = None }) y mine s ∙ ap (λ o. not (was_shut_in x.wire mine) && (is_request_in x.wire o || owes x)) (sym f))
+      (λ s f. falls-owes x x y mine own (is_request_in x.wire own || owes x) refl f)
+      (λ mid t. live-owes now x mid mine own e t ∙ ap (λ b. not (was_shut_in x.wire mine) && (is_request_in x.wire own || b)) (sym (ap (λ s. is_live s && is_busy x.protocol) e)))
+      h
   go Lost e h = unowed Lost e refl (ap (λ o. is_request_in x.wire o) h.1) (ap owes h.2)
   go Closing e h = says-owes now x y mine h.1 ∙ ap (λ o. not (was_shut_in x.wire mine) && (is_request_in x.wire o || owes x)) (sym h.0)
   go Over e h = unowed Over e refl (ap (λ o. is_request_in x.wire o) h.1) (ap owes h.2 ∙ idle x Over e refl)
@@ -317,11 +322,11 @@ puts-owe true (Socket websocket_state) bytes text x mid is_put e h =
 puts-owe true (Http http_state) bytes text x mid is_put e h = (ap owes h.1, inl h.0)
 puts-owe false protocol bytes text x mid is_put e h = (ap owes h.1, inl h.0)
 
-pub sends-owe : (bytes : List ℕ) (text : Bool) (x y : Lane) (mine : List Answer) → Sends bytes text x y mine → owes y ≡ owes x
-sends-owe bytes text x y mine h = go h.0 h.1 (puts-owe (is_live x.stage) x.protocol bytes text x h.0 h.1 refl h.2) h.3 where
-  go : (mid : Lane) (b : Bool) → (owes mid ≡ owes x) × ((b ≡ false) ⊎ (owes x ≡ false)) → Chooses b (SaysMore mid y mine) ((mine ≡ []) × (y ≡ mid)) → owes y ≡ owes x
+pub sends-owe : (now : ℕ) (bytes : List ℕ) (text : Bool) (x y : Lane) (mine : List Answer) → Sends now bytes text x y mine → owes y ≡ owes x
+sends-owe now bytes text x y mine h = go h.0 h.1 (puts-owe (is_live x.stage) x.protocol bytes text x h.0 h.1 refl h.2) h.3 where
+  go : (mid : Lane) (b : Bool) → (owes mid ≡ owes x) × ((b ≡ false) ⊎ (owes x ≡ false)) → SaysPut now b mid y mine → owes y ≡ owes x
   go mid true (e, inl f) h = absurd (cc f)
-  go mid true (e, inr f) h = more-owes mid y mine h ∙ ap (λ b. not (was_shut_in mid.wire mine) && b) (e ∙ f) ∙ none-owed (was_shut_in mid.wire mine) ∙ sym f
+  go mid true (e, inr f) h = ap owes h.2 ∙ more-owes mid h.0 mine h.1 ∙ ap (λ b. not (was_shut_in mid.wire mine) && b) (e ∙ f) ∙ none-owed (was_shut_in mid.wire mine) ∙ sym f
   go mid false (e, f) h = ap owes h.1 ∙ e
 
 pub shuts-owe : (now : ℕ) (x y : Lane) (mine : List Answer) → Shuts now x y mine → owes y ≡ false

@@ -1,15 +1,18 @@
 -- What a search finds among lanes whose numbers rise.
-use Rattle.std.proofs.Common.{◌≡◌, ◌<◌, ◌≤◌, ◌+◌, ◌==◌, ◌∷◌, [], ℕ, zero, suc, Bool, true, false, List, None, Some, Result, Ok, Err, refl, sym, ap, arith, length, get_or, ltb, leb, position}
-use Rattle.std.specs.List.{position_or_len}
+use Rattle.std.proofs.Common.{◌≡◌, ◌<◌, ◌≤◌, ◌+◌, ◌==◌, ◌∷◌, [], ℕ, zero, suc, Bool, true, false, not, cond, ◌&&◌, ◌||◌, List, None, Some, Result, Ok, Err, refl, sym, ap, ◌∙◌, subst, arith, length, get_or, ltb, leb, position}
+use Rattle.std.specs.List.{list_any, position_or_len}
 use Rattle.std.specs.Result.{result_ok}
 use Rattle.std.specs.List.Sorted.{IsSearchInRange, IsBinarySearchResult, IsNonDecreasingBy, IsPartitionPoint, IsPartitionedBy}
 use Rattle.std.specs.Ordering.{nat_cmp, ordering_index}
 use Rattle.std.proofs.lemmas.Cmp.{ranked}
+use Rattle.std.proofs.lemmas.List.{get_or-map}
 use Rattle.std.proofs.lemmas.List.Sums.{position_or_len_is}
 use Rattle.std.proofs.lemmas.Bool.Decides.{nat_tests}
-use Rattle.hw_net.specs.Door.{index_of_first}
-use Rattle.hw_net.specs.Lane.{Lane, wires_of}
+use Rattle.hw_net.specs.Door.{index_of_first, is_full_at}
+use Rattle.hw_net.specs.Lane.{Lane, wires_of, is_full}
 use Rattle.hw_net.specs.Rising.{IsRising}
+use Rattle.hw_net.proofs.Places.{is_of, is-at, is-nowhere}
+use Rattle.hw_net.proofs.Walking.{same-length}
 
 -- each number is no lower than that from which on they rise
 no-lower : (from bound : ℕ) (lanes : List Lane) (j : ℕ) (d : Lane) → IsRising from bound (wires_of lanes) → j < length lanes → from ≤ (get_or lanes j d).wire
@@ -36,9 +39,6 @@ compared-rise : (wire from bound : ℕ) (lanes : List Lane) → IsRising from bo
 compared-rise wire from bound lanes h i j d le within =
     let no_less : (get_or lanes i d).wire ≤ (get_or lanes j d).wire = never-falls from bound lanes h i j d le within in
     grind (arith, nat_tests)
-
-abbrev is_of : ℕ → Lane → Bool
-is_of wire lane = lane.wire == wire
 
 position-at : (p : Lane → Bool) (lanes : List Lane) (at : ℕ) → position_or_len p lanes ≡ at → at < length lanes → position p lanes ≡ Some at
 position-at p lanes at e lt = grind (arith, e, lt)
@@ -83,3 +83,72 @@ first-from from (first ∷ lanes) at within s =
     let here : at < length all → is_from (get_or all at first) ≡ true = λ lt. grind (arith, nat_tests, s.1 at first (omega arith) lt) in
     let len : position_or_len is_from all ≡ at = position_or_len_is is_from all at first within before here in
     grind (arith, len, within)
+
+-- ---- the lane of a number that is full
+
+only-first : (a b rest : Bool) → a ≡ true → rest ≡ false → ((a && b) || rest) ≡ b
+only-first true true rest e none = refl
+only-first true false rest e none = none
+only-first false b rest e none = cc e
+
+not-first : (a b rest full : Bool) → a ≡ false → rest ≡ full → ((a && b) || rest) ≡ full
+not-first true b rest full e more = cc e
+not-first false b rest full e more = more
+
+-- no lane has a lower number
+none-below : (wire from bound : ℕ) (lanes : List Lane) → wire < from → IsRising from bound (wires_of lanes) → is_full_at wire lanes ≡ false
+none-below wire from bound [] lt h = refl
+none-below wire from bound (lane ∷ lanes) lt h =
+    let other : (lane.wire == wire) ≡ false = grind (arith, nat_tests, lt, h.0) in
+    not-first (lane.wire == wire) (is_full lane) (is_full_at wire lanes) false other (none-below wire (lane.wire + 1) bound lanes (omega (arith, lt, h.0)) h.1)
+
+-- the lane of a number is the only one
+pub only-full : (wire from bound : ℕ) (lanes : List Lane) (index : ℕ) (d : Lane) → IsRising from bound (wires_of lanes) → index < length lanes → (get_or lanes index d).wire ≡ wire →
+    is_full_at wire lanes ≡ is_full (get_or lanes index d)
+only-full wire from bound [] index d h lt here = absurd (omega (arith, lt))
+only-full wire from bound (lane ∷ lanes) zero d h lt here =
+    only-first (lane.wire == wire) (is_full lane) (is_full_at wire lanes) (grind (arith, nat_tests, here)) (none-below wire (lane.wire + 1) bound lanes (omega (arith, here)) h.1)
+only-full wire from bound (lane ∷ lanes) (suc index) d h lt here =
+    let higher : lane.wire + 1 ≤ (get_or lanes index d).wire = no-lower (lane.wire + 1) bound lanes index d h.1 (omega (arith, lt)) in
+    let other : (lane.wire == wire) ≡ false = grind (arith, nat_tests, higher, here) in
+    not-first (lane.wire == wire) (is_full lane) (is_full_at wire lanes) (is_full (get_or lanes index d)) other
+    (only-full wire (lane.wire + 1) bound lanes index d h.1 (omega (arith, lt)) here)
+
+-- a search that found no lane
+nowhere-full : (wire : ℕ) (lanes : List Lane) → length lanes ≤ position_or_len (is_of wire) lanes → is_full_at wire lanes ≡ false
+nowhere-full wire [] h = refl
+nowhere-full wire (lane ∷ lanes) h = go (lane.wire == wire) h (nowhere-full wire lanes) where
+  go : (b : Bool) → suc (length lanes) ≤ cond (not b) (1 + position_or_len (is_of wire) lanes) 0 → (length lanes ≤ position_or_len (is_of wire) lanes → is_full_at wire lanes ≡ false) →
+      ((b && is_full lane) || is_full_at wire lanes) ≡ false
+  go true h more = absurd (omega (arith, h))
+  go false h more = more (omega (arith, h))
+
+pub none-full : (wire : ℕ) (lanes : List Lane) → position (is_of wire) lanes ≡ None → is_full_at wire lanes ≡ false
+none-full wire lanes e = nowhere-full wire lanes (is-nowhere wire lanes e)
+
+-- a search that found this place
+numbered : (wire : ℕ) (lanes : List Lane) (index : ℕ) (d : Lane) → position_or_len (is_of wire) lanes ≡ index → index < length lanes → (get_or lanes index d).wire ≡ wire
+numbered wire [] index d e lt = absurd (omega (arith, lt))
+numbered wire (lane ∷ lanes) zero d e lt = go (lane.wire == wire) refl e where
+  go : (b : Bool) → (lane.wire == wire) ≡ b → cond (not b) (1 + position_or_len (is_of wire) lanes) 0 ≡ 0 → lane.wire ≡ wire
+  go true same e = grind (arith, nat_tests, same)
+  go false same e = absurd (omega (arith, e))
+numbered wire (lane ∷ lanes) (suc index) d e lt = go (lane.wire == wire) e (numbered wire lanes index d) where
+  go : (b : Bool) → cond (not b) (1 + position_or_len (is_of wire) lanes) 0 ≡ suc index → (position_or_len (is_of wire) lanes ≡ index → index < length lanes → (get_or lanes index d).wire ≡ wire) →
+      (get_or lanes index d).wire ≡ wire
+  go true e more = absurd (omega (arith, e))
+  go false e more = more (omega (arith, e)) (omega (arith, lt))
+
+-- the lane there is the only one of its number, as it is after it was given a message
+pub full-there : (wire bound : ℕ) (lanes after : List Lane) (index : ℕ) (full : Bool) → IsRising 0 bound (wires_of lanes) → wires_of after ≡ wires_of lanes → position (is_of wire) lanes ≡ Some index →
+    ((lane : Lane) → full ≡ is_full (get_or after index lane)) → full ≡ is_full_at wire after
+full-there wire bound lanes [] index full h same e answer = absurd (omega (arith, (is-at wire lanes index e).1, same-length [] lanes same))
+full-there wire bound lanes (first ∷ rest) index full h same e answer =
+    let after = first ∷ rest in
+    let wire_at = λ (l : Lane). l.wire in
+    let found = is-at wire lanes index e in
+    let within : index < length after = omega (arith, found.1, same-length after lanes same) in
+    let kept : (get_or after index first).wire ≡ (get_or lanes index first).wire =
+    sym (get_or-map wire_at after index first first.wire within) ∙ ap (λ l. get_or l index first.wire) same ∙ get_or-map wire_at lanes index first first.wire found.1 in
+    let here : (get_or after index first).wire ≡ wire = kept ∙ numbered wire lanes index first found.0 found.1 in
+    answer first ∙ sym (only-full wire 0 bound after index first (subst (λ l. IsRising 0 bound l) (sym same) h) within here)

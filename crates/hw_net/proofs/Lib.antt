@@ -1,6 +1,7 @@
 pub mod HttpFacts
 pub mod Bounding
 pub mod Findings
+pub mod Fullness
 pub mod Numbering
 pub mod Places
 pub mod Sayings
@@ -24,6 +25,9 @@ pub mod Counting
 pub mod Closings
 pub mod Losses
 pub mod Shifts
+pub mod Fillings
 pub mod Sockets
 pub mod Reaching
 pub mod Halting
+pub mod Resting
+pub mod Searching

@@ -14,7 +14,7 @@ use Rattle.hw_net.specs.declared.protocol.Stage.{Stage}
 use Rattle.hw_net.specs.declared.protocol.Stage.TheVariants.{Live, Lost, Closing, Over}
 use Rattle.hw_net.specs.Bounds.{has_wire}
 use Rattle.hw_net.specs.Door.{new_lane}
-use Rattle.hw_net.specs.Lane.{Lane, waits, is_live, owes, is_overdue, after_end, after_reply, protocol_after_shut, after_hearing}
+use Rattle.hw_net.specs.Lane.{Lane, waits, is_live, owes, is_overdue, is_stalled, after_end, after_reply, protocol_after_shut, after_hearing}
 use Rattle.hw_net.specs.Saying.{Writes, WritesOut, DropsOrWrites, Says, SaysAt, SaysMore, must_end, has_closed_long, is_too_much}
 use Rattle.hw_net.specs.Sessions as session
 use Rattle.hw_net.specs.Sessions.{Call, Session, Does, answers_in, answers_of, broke_in, IsGone, IsSpoiled, IsLostRightly, LossesHaveCauses}
@@ -22,6 +22,7 @@ use Rattle.hw_net.specs.Trace.{Reads, Gives, Chooses}
 use Rattle.hw_net.specs.Turn.{Hears, Falls, Passes, Settles, Loses, LosesAt, TurnsLive, TurnsAt, Listens, Replies, Puts, PutsAt, Sends, Shuts}
 use Rattle.hw_net.proofs.Asked.{Silent, gives-bytes, live-reads, settles-silent, says-silent}
 use Rattle.hw_net.proofs.Closings.{or-true, replied-stage, put-stage, live-has, owes-live}
+use Rattle.hw_net.proofs.Fullness.{by-fullness, SaysPut}
 use Rattle.hw_net.proofs.Moves.{Has, contains-of}
 use Rattle.hw_net.proofs.Numbering.{replied-wire, put-wire}
 use Rattle.hw_net.proofs.Owed.{by-number}
@@ -162,7 +163,11 @@ live-breaks now x y mine own live h lost = go h.trace h.loses where
 listens-break : (now : ℕ) (x y : Lane) (mine : List Answer) (own : Option Event) → Listens now x y mine own → Breaks x y mine
 listens-break now x y mine own h = go x.stage refl h where
   go : (s : Stage) → x.stage ≡ s → TurnsAt s now x y mine own → Breaks x y mine
-  go Live e h = λ lost. inl (live-breaks now x y mine own e h lost)
+  go Live e h = λ lost. inl (by-fullness (λ (l : Lane). l.stage ≡ Lost → Cause x.wire mine l) now x y mine own
+      (λ d f s was. writes-break (record x { full = None }) y mine (ap has_wire e) (subst (λ (t : Stage). SaysAt t now (record x { full = None }) y mine) e s) was)
+      (λ s f was. unlost y.stage Over (ap (λ (l : Lane). l.stage) f.2) refl was)
+      (λ mid t was. live-breaks now x mid mine own e t was)
+      h lost)
   go Lost e h = λ lost. unlost y.stage Over (ap (λ (l : Lane). l.stage) h.2) refl lost
   go Closing e h = says-break now x y mine h.1
   go Over e h = λ lost. inr h.2
@@ -181,17 +186,18 @@ replies-break now reply x y mine h = go (owes x) refl h where
   go false e h = λ lost. inr h.1
 
 -- a message that isn't put leaves the stage, and what waits
-sends-break : (bytes : List ℕ) (text : Bool) (x y : Lane) (mine : List Answer) → Sends bytes text x y mine → Breaks x y mine
-sends-break bytes text x y mine h = go h.0 h.1 h.2 h.3 where
+sends-break : (now : ℕ) (bytes : List ℕ) (text : Bool) (x y : Lane) (mine : List Answer) → Sends now bytes text x y mine → Breaks x y mine
+sends-break now bytes text x y mine h = go h.0 h.1 h.2 h.3 where
   unput : (live : Bool) (protocol : Protocol) (mid : Lane) → is_live x.stage ≡ live → PutsAt live protocol bytes text x mid false → y ≡ mid → Breaks x y mine
   unput true (Socket websocket_state) mid e p f = λ lost. unlost y.stage x.stage (ap (λ (l : Lane). l.stage) (f ∙ p.2)) (has-unlost x.stage (live-has x.stage e)) lost
   unput true (Http http_state) mid e p f = λ lost. inr (f ∙ p.1)
   unput false protocol mid e p f = λ lost. inr (f ∙ p.1)
 
-  go : (mid : Lane) (b : Bool) → Puts bytes text x mid b → Chooses b (SaysMore mid y mine) ((mine ≡ []) × (y ≡ mid)) → Breaks x y mine
+  go : (mid : Lane) (b : Bool) → Puts bytes text x mid b → SaysPut now b mid y mine → Breaks x y mine
   go mid true p s = λ lost.
       let put = put-stage (is_live x.stage) x.protocol bytes text x mid true p in
-      inl (subst (λ n. Cause n mine y) (put-wire (is_live x.stage) x.protocol bytes text x mid true p) (more-break mid y mine (ap has_wire put.0 ∙ live-has x.stage (put.1 refl)) s lost))
+      inl (subst (λ (l : Lane). Cause x.wire mine l) (sym s.2) (subst (λ n. Cause n mine s.0) (put-wire (is_live x.stage) x.protocol bytes text x mid true p)
+      (more-break mid s.0 mine (ap has_wire put.0 ∙ live-has x.stage (put.1 refl)) s.1 (sym (ap (λ (l : Lane). l.stage) s.2) ∙ lost))))
   go mid false p s = unput (is_live x.stage) x.protocol mid refl p s.1
 
 shuts-break : (now : ℕ) (x y : Lane) (mine : List Answer) → Shuts now x y mine → Breaks x y mine
@@ -206,8 +212,8 @@ moves-break : (call : Call) (x y : Lane) → Moves call x y → Breaks x y (shar
 moves-break (session.heard what answers) x y h = heeds-break what.now what.event x y (share x.wire answers) h
 moves-break (session.replied at reply answers) x y h =
     by-number at (Replies h.0 reply) x y (share x.wire answers) (λ b. Breaks x y (share x.wire answers)) (replies-break h.0 reply x y (share x.wire answers)) (λ e f lost. inr e) h.1
-moves-break (session.sent at bytes text answers) x y h =
-    by-number at (Sends bytes text) x y (share x.wire answers) (λ b. Breaks x y (share x.wire answers)) (sends-break bytes text x y (share x.wire answers)) (λ e f lost. inr e) h
+moves-break (session.sent at bytes text full answers) x y h =
+    by-number at (Sends h.0 bytes text) x y (share x.wire answers) (λ b. Breaks x y (share x.wire answers)) (sends-break h.0 bytes text x y (share x.wire answers)) (λ e f lost. inr e) h.1
 moves-break (session.shut at answers) x y h =
     by-number at (Shuts h.0) x y (share x.wire answers) (λ b. Breaks x y (share x.wire answers)) (shuts-break h.0 x y (share x.wire answers)) (λ e f lost. inr e) h.1
 
@@ -339,9 +345,9 @@ live-shows now x y mine own live loss h = go h.trace refl h.loses where
       (λ o. over-said now h.settled h.said y h.written o h.says k.1)
   go None e k = at h.said.stage refl k
 
--- the loss of a lane that heard it: shown in this call, or the cause of a lane whose wire was shut before
+-- the loss of a lane that heard it: shown in this call, or the lane stalled, or the cause of a lane whose wire was shut before
 abbrev Heard-loss : ℕ → Lane → Lane → List Answer → Type 0
-Heard-loss now x y mine = ShowsOf x.wire x.protocol mine y now ⊎ ((x.stage ≡ Lost) × (waits y ≡ waits x))
+Heard-loss now x y mine = ShowsOf x.wire x.protocol mine y now ⊎ ((is_stalled y ≡ true) ⊎ ((x.stage ≡ Lost) × (waits y ≡ waits x)))
 
 listens-loss : (now : ℕ) (x y : Lane) (mine : List Answer) (own : Option Event) → is_loss own ≡ true → Listens now x y mine own → Heard-loss now x y mine
 listens-loss now x y mine own loss h = go x.stage refl h where
@@ -349,8 +355,12 @@ listens-loss now x y mine own loss h = go x.stage refl h where
   never e = absurd (cc (sym (ap is_loss e) ∙ loss))
 
   go : (s : Stage) → x.stage ≡ s → TurnsAt s now x y mine own → Heard-loss now x y mine
-  go Live e h = inl (live-shows now x y mine own e loss h)
-  go Lost e h = inr (e, ap waits h.2)
+  go Live e h = by-fullness (λ (l : Lane). Heard-loss now x l mine) now x y mine own
+      (λ d f s. absurd (cc (sym (ap is_loss f) ∙ loss)))
+      (λ s f. inr (inl (ap (λ (l : Lane). is_stalled l) f.2 ∙ s)))
+      (λ mid t. inl (live-shows now x mid mine own e loss t))
+      h
+  go Lost e h = inr (inr (e, ap waits h.2))
   go Closing e h = never h.0
   go Over e h = never h.1
 
@@ -378,7 +388,7 @@ loss-cause now what answers calls x y before after bound has wire were caused h 
   broke e = (y, contains-of after y has, wire, inl (subst (λ n. broke_in n (answers_of (session.heard what answers ∷ calls)) ≡ true) (sym wire) e))
 
   much : is_too_much (length (waits y)) ≡ true → (lane : Lane) × Contains after lane × (lane.wire ≡ x.wire) × IsLostRightly now (answers_of (session.heard what answers ∷ calls)) lane
-  much e = (y, contains-of after y has, wire, inr (inr e))
+  much e = (y, contains-of after y has, wire, inr (inr (inr e)))
 
   ended : IsGone (read_on x.wire (share x.wire answers)) x.protocol ⊎ IsSpoiled x.protocol → Has before x ⊎ IsNew bound x →
       (lane : Lane) × Contains before lane × (lane.wire ≡ x.wire) × (IsGone (read_on x.wire answers) lane.protocol ⊎ IsSpoiled lane.protocol)
@@ -396,7 +406,8 @@ loss-cause now what answers calls x y before after bound has wire were caused h 
   go (inl (inr (inl e))) = inl (y, contains-of after y has, wire, inr (inl e))
   go (inl (inr (inr (inl e)))) = inl (much e)
   go (inl (inr (inr (inr g)))) = inr (ended g were)
-  go (inr k) = inl (earlier k.1 (caused k.0))
+  go (inr (inl e)) = inl (y, contains-of after y has, wire, inr (inr (inl e)))
+  go (inr (inr k)) = inl (earlier k.1 (caused k.0))
 
 pub losses-have-causes : LossesHaveCauses
 losses-have-causes what answers calls bound bound_after before after h d wire e =

@@ -3,8 +3,8 @@ use Rattle.std.proofs.Common.{◌≡◌, ◌⊎◌, ◌≤◌, ◌<◌, ◌==◌
 use Rattle.std.proofs.lemmas.List.{map-append}
 use Rattle.hw_door.specs.declared.heard.Event.{Event}
 use Rattle.hw_door.specs.declared.heard.Event.TheVariants as event
-use Rattle.hw_door.specs.Traffic.{Answer}
-use Rattle.hw_net.specs.Door.{HearsAll, kept, index_of_first}
+use Rattle.hw_door.specs.Traffic.{Answer, none_ready}
+use Rattle.hw_net.specs.Door.{ListensOrRests, ListenOrRest, Searches, kept, index_of_first}
 use Rattle.hw_net.specs.Lane.{Lane, wires_of, is_over}
 use Rattle.hw_net.specs.Rising.{IsRising}
 use Rattle.hw_net.specs.Trace.{Chooses}
@@ -174,6 +174,7 @@ off-other v w (event.Bytes at bytes) h k = other at v w h k
 off-other v w (event.Response at status body) h k = other at v w h k
 off-other v w (event.Upgraded at) h k = other at v w h k
 off-other v w (event.Lost at) h k = other at v w h k
+off-other v w (event.Drained at) h k = other at v w h k
 off-other v w event.Quiet h k = refl
 
 pub off-if : (v w : ℕ) (heard : Option Event) → IsOn v heard → (v == w) ≡ false → IsOff w heard
@@ -312,13 +313,131 @@ parted-wires now lanes front back after last first a b trace heard whole order h
     ap wires_of order ∙ map-append (λ (l : Lane). l.wire) last first ∙ ap (λ l. l ++ wires_of first) (wires-turn now trace heard front last b k)
     ∙ ap (λ l. wires_of front ++ l) (wires-turn now None trace back first a h) ∙ sym (map-append (λ (l : Lane). l.wire) front back) ∙ ap wires_of (sym whole)
 
-pub hears-wires : (now from : ℕ) (lanes after : List Lane) (answers : List Answer) (heard : Option Event) → HearsAll now from lanes after answers heard → wires_of after ≡ wires_of lanes
-hears-wires now from lanes after answers heard h =
+-- ---- a search in which lanes rest
+
+part-keeps : (now : ℕ) (x y : Lane) (mine : List Answer) → ListensOrRests now x y mine → Keeps x y mine
+part-keeps now x y mine (inl h) = turns-keeps now None x y mine None h
+part-keeps now x y mine (inr h) = (ap (λ (l : Lane). l.wire) h.1, subst (λ (l : List Answer). AreOwn x.wire l) (sym h.2) tt)
+
+part-turned : (now : ℕ) (x y : Lane) (mine : List Answer) → ListensOrRests now x y mine → Turned now None x y mine
+part-turned now x y mine (inl h) = inl (None, h, tt)
+part-turned now x y mine (inr h) =
+    inr (subst (λ (l : Lane). Says now x l mine) (sym h.1) (subst (λ (l : List Answer). Says now x x l) (sym h.2) h.0.silent), tt)
+
+pub parts-joined : (now : ℕ) (xs xs_after ys ys_after : List Lane) (a b : List Answer) → ListenOrRest now xs xs_after a → ListenOrRest now ys ys_after b → ListenOrRest now (xs ++ ys) (xs_after ++ ys_after) (a ++ b)
+parts-joined now [] xs_after ys ys_after a b h k =
+    subst (λ (l : List Lane). ListenOrRest now ys (l ++ ys_after) (a ++ b)) (sym h.0) (subst (λ (l : List Answer). ListenOrRest now ys ys_after (l ++ b)) (sym h.1) k)
+parts-joined now (x ∷ xs) xs_after ys ys_after a b h k = (
+  h.0,
+  h.1 ++ ys_after,
+  h.2,
+  h.3 ++ b,
+  ap (λ (l : List Lane). l ++ ys_after) h.4,
+  ap (λ (l : List Answer). l ++ b) h.5 ∙ append_assoc h.2 h.3 b,
+  h.6,
+  parts-joined now xs h.1 ys ys_after h.3 b h.7 k,
+)
+
+parts-wires : (now : ℕ) (lanes after : List Lane) (answers : List Answer) → ListenOrRest now lanes after answers → wires_of after ≡ wires_of lanes
+parts-wires now [] after answers h = ap wires_of h.0
+parts-wires now (lane ∷ lanes) after answers h =
+    ap wires_of h.4 ∙ ap (λ l. h.0.wire ∷ l) (parts-wires now lanes h.1 h.3 h.7) ∙ ap (λ n. n ∷ wires_of lanes) (part-keeps now lane h.0 h.2 h.6).0
+
+parts-off : (now : ℕ) (lanes after : List Lane) (answers : List Answer) (wire : ℕ) → ListenOrRest now lanes after answers → Without wire lanes → share wire answers ≡ []
+parts-off now [] after answers wire h off = ap (λ l. share wire l) h.1
+parts-off now (lane ∷ lanes) after answers wire h off =
+    ap (λ l. share wire l) h.5 ∙ share-append wire h.2 h.3
+    ∙ ap (λ l. l ++ share wire h.3) (off-share lane.wire wire h.2 (off lane (inl refl)) (part-keeps now lane h.0 h.2 h.6).1)
+    ∙ parts-off now lanes h.1 h.3 wire h.7 (λ x has. off x (inr has))
+
+parts-in : (now : ℕ) (lanes after : List Lane) (answers : List Answer) → ListenOrRest now lanes after answers → AreDistinct lanes → (x y : Lane) → Pair lanes after x y → TurnedIn now None answers x y
+parts-in now [] after answers h distinct x y p = absurd p
+parts-in now (lane ∷ lanes) after answers h distinct x y p = go (subst (λ (l : List Lane). Pair (lane ∷ lanes) l x y) h.4 p) (parts-in now lanes h.1 h.3 h.7 distinct.1 x y) where
+  own : AreOwn lane.wire h.2
+  own = (part-keeps now lane h.0 h.2 h.6).1
+
+  shares : (wire : ℕ) → share wire answers ≡ share wire h.2 ++ share wire h.3
+  shares wire = ap (λ l. share wire l) h.5 ∙ share-append wire h.2 h.3
+
+  mine : share lane.wire answers ≡ h.2
+  mine = shares lane.wire ∙ ap (λ l. l ++ share lane.wire h.3) (own-share lane.wire h.2 own) ∙ ap (λ l. h.2 ++ l) (parts-off now lanes h.1 h.3 lane.wire h.7 distinct.0) ∙ append-nil h.2
+
+  here : TurnedIn now None answers lane h.0
+  here = subst (λ (l : List Answer). Turned now None lane h.0 l) (sym mine) (part-turned now lane h.0 h.2 h.6)
+
+  go : ((lane ≡ x) × (h.0 ≡ y)) ⊎ Pair lanes h.1 x y → (Pair lanes h.1 x y → TurnedIn now None h.3 x y) → TurnedIn now None answers x y
+  go (inl e) again = subst (λ (l : Lane). TurnedIn now None answers x l) e.1 (subst (λ (l : Lane). TurnedIn now None answers l h.0) e.0 here)
+  go (inr q) again = subst (λ (l : List Answer). Turned now None x y l) (sym rest) (again q) where
+    rest : share x.wire answers ≡ share x.wire h.3
+    rest = shares x.wire ∙ ap (λ l. l ++ share x.wire h.3) (off-share lane.wire x.wire h.2 (turned x.wire lane.wire (distinct.0 x (pair-first lanes h.1 x y q))) own)
+
+parts-back : (now : ℕ) (lanes after : List Lane) (answers : List Answer) → ListenOrRest now lanes after answers → (y : Lane) → Has after y → (x : Lane) × Pair lanes after x y
+parts-back now [] after answers h y has = absurd (subst (λ (l : List Lane). Has l y) h.0 has)
+parts-back now (lane ∷ lanes) after answers h y has = go (subst (λ (l : List Lane). Has l y) h.4 has) (parts-back now lanes h.1 h.3 h.7 y) where
+  go : (h.0 ≡ y) ⊎ Has h.1 y → (Has h.1 y → (x : Lane) × Pair lanes h.1 x y) → (x : Lane) × Pair (lane ∷ lanes) after x y
+  go (inl e) again = (lane, subst (λ (l : List Lane). Pair (lane ∷ lanes) l lane y) (sym h.4) (inl (refl, e)))
+  go (inr k) again = let p = again k in (p.0, subst (λ (l : List Lane). Pair (lane ∷ lanes) l p.0 y) (sym h.4) (inr p.1))
+
+parts-on : (now : ℕ) (lanes after : List Lane) (answers : List Answer) → ListenOrRest now lanes after answers → (x : Lane) → Has lanes x → (y : Lane) × Pair lanes after x y
+parts-on now [] after answers h x has = absurd has
+parts-on now (lane ∷ lanes) after answers h x has = go has (parts-on now lanes h.1 h.3 h.7 x) where
+  go : (lane ≡ x) ⊎ Has lanes x → (Has lanes x → (y : Lane) × Pair lanes h.1 x y) → (y : Lane) × Pair (lane ∷ lanes) after x y
+  go (inl e) again = (h.0, subst (λ (l : List Lane). Pair (lane ∷ lanes) l x h.0) (sym h.4) (inl (e, refl)))
+  go (inr k) again = let p = again k in (p.0, subst (λ (l : List Lane). Pair (lane ∷ lanes) l x p.0) (sym h.4) (inr p.1))
+
+-- that the wires told it is about none of them
+told-share : (wire : ℕ) (a b : List Answer) → share wire (a ++ (b ++ none_ready ∷ [])) ≡ share wire (a ++ b)
+told-share wire a b =
+    share-append wire a (b ++ none_ready ∷ []) ∙ ap (λ l. share wire a ++ l) (share-append wire b (none_ready ∷ []) ∙ append-nil (share wire b)) ∙ sym (share-append wire a b)
+
+rests-sweeps : (now : ℕ) (lanes front back after last first : List Lane) (answers a b : List Answer) (heard : Option Event) → heard ≡ None → lanes ≡ front ++ back → after ≡ last ++ first →
+    answers ≡ a ++ (b ++ none_ready ∷ []) → ListenOrRest now back first a → ListenOrRest now front last b → AreDistinct lanes → Sweeps now lanes after answers heard
+rests-sweeps now lanes front back after last first answers a b heard unheard whole order all h k distinct = subst (λ (o : Option Event). Sweeps now lanes after answers o) (sym unheard) (record {
+  back = λ y has. let p = parts-back now (back ++ front) (first ++ last) (a ++ b) parts y (has-rotated last first y (subst (λ (l : List Lane). Has l y) order has)) in
+      (p.0, was p.0 (pair-first (back ++ front) (first ++ last) p.0 y p.1), within p.0 y (parts-in now (back ++ front) (first ++ last) (a ++ b) parts turning p.0 y p.1));
+  on = λ x has. let p = parts-on now (back ++ front) (first ++ last) (a ++ b) parts x (has-rotated front back x (subst (λ (l : List Lane). Has l x) whole has)) in
+      (p.0, become p.0 (pair-last (back ++ front) (first ++ last) x p.0 p.1), within x p.0 (parts-in now (back ++ front) (first ++ last) (a ++ b) parts turning x p.0 p.1));
+  off = λ wire without. (shares wire ∙ parts-off now (back ++ front) (first ++ last) (a ++ b) wire parts (λ z has. without z (was z has)), tt);
+}) where
+  parts : ListenOrRest now (back ++ front) (first ++ last) (a ++ b)
+  parts = parts-joined now back first front last a b h k
+
+  turning : AreDistinct (back ++ front)
+  turning = distinct-rotated front back (subst (λ (l : List Lane). AreDistinct l) whole distinct)
+
+  was : (x : Lane) → Has (back ++ front) x → Has lanes x
+  was x has = subst (λ (l : List Lane). Has l x) (sym whole) (has-rotated back front x has)
+
+  become : (y : Lane) → Has (first ++ last) y → Has after y
+  become y has = subst (λ (l : List Lane). Has l y) (sym order) (has-rotated first last y has)
+
+  shares : (wire : ℕ) → share wire answers ≡ share wire (a ++ b)
+  shares wire = ap (λ l. share wire l) all ∙ told-share wire a b
+
+  within : (x y : Lane) → TurnedIn now None (a ++ b) x y → TurnedIn now None answers x y
+  within x y t = subst (λ (l : List Answer). Turned now None x y l) (sym (shares x.wire)) t
+
+rests-wires : (now : ℕ) (lanes front back after last first : List Lane) (a b : List Answer) → lanes ≡ front ++ back → after ≡ last ++ first → ListenOrRest now back first a → ListenOrRest now front last b →
+    wires_of after ≡ wires_of lanes
+rests-wires now lanes front back after last first a b whole order h k =
+    ap wires_of order ∙ map-append (λ (l : Lane). l.wire) last first ∙ ap (λ l. l ++ wires_of first) (parts-wires now front last b k)
+    ∙ ap (λ l. wires_of front ++ l) (parts-wires now back first a h) ∙ sym (map-append (λ (l : Lane). l.wire) front back) ∙ ap wires_of (sym whole)
+
+-- ---- a call of `next`, as a search of either kind
+
+pub hears-wires : (now from : ℕ) (lanes after : List Lane) (answers : List Answer) (heard : Option Event) → Searches now from lanes after answers heard → wires_of after ≡ wires_of lanes
+hears-wires now from lanes after answers heard (inr r) =
+    rests-wires now lanes (take (index_of_first from lanes) lanes) (drop (index_of_first from lanes) lanes) after r.last r.first r.answers_first r.answers_last
+    (sym (take-append-drop (index_of_first from lanes) lanes)) r.order r.parts_first r.parts_last
+hears-wires now from lanes after answers heard (inl h) =
     parted-wires now lanes (take (index_of_first from lanes) lanes) (drop (index_of_first from lanes) lanes) after h.last h.first h.answers_first h.answers_last h.trace heard
     (sym (take-append-drop (index_of_first from lanes) lanes)) h.order h.turns_first h.turns_last
 
-pub sweeps : (now from : ℕ) (lanes after : List Lane) (answers : List Answer) (heard : Option Event) → HearsAll now from lanes after answers heard → AreDistinct lanes → Sweeps now lanes after answers heard
-sweeps now from lanes after answers heard h distinct =
+pub sweeps : (now from : ℕ) (lanes after : List Lane) (answers : List Answer) (heard : Option Event) → Searches now from lanes after answers heard → AreDistinct lanes → Sweeps now lanes after answers heard
+sweeps now from lanes after answers heard (inr r) distinct =
+    rests-sweeps now lanes (take (index_of_first from lanes) lanes) (drop (index_of_first from lanes) lanes) after r.last r.first answers r.answers_first r.answers_last heard
+    r.unheard (sym (take-append-drop (index_of_first from lanes) lanes)) r.order r.all r.parts_first r.parts_last distinct
+sweeps now from lanes after answers heard (inl h) distinct =
     parted-sweeps now lanes (take (index_of_first from lanes) lanes) (drop (index_of_first from lanes) lanes) after h.last h.first answers h.answers_first h.answers_last h.trace heard
     (sym (take-append-drop (index_of_first from lanes) lanes)) h.order h.all h.turns_first h.turns_last distinct
 
@@ -339,7 +458,7 @@ unchosen : (b : Bool) (A B : Type 0) → b ≡ false → B → Chooses b A B
 unchosen true A B e a = absurd (cc e)
 unchosen false A B e a = a
 
-same-wire : (a b c : ℕ) → (a == b) ≡ true → (c == a) ≡ false → (c == b) ≡ false
+pub same-wire : (a b c : ℕ) → (a == b) ≡ true → (c == a) ≡ false → (c == b) ≡ false
 same-wire a b c h k = grind (arith, h, k)
 
 other-wire : (a b c : ℕ) → (a == b) ≡ true → (b == c) ≡ false → (a == c) ≡ false

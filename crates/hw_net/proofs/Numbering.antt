@@ -15,6 +15,7 @@ use Rattle.hw_net.specs.Saying.{WritesOut, SaysMore, is_too_much}
 use Rattle.hw_net.specs.Trace.{Chooses}
 use Rattle.hw_net.specs.Turn.{Replies, PutsAt, Sends, Shuts, AtLane}
 use Rattle.hh_http.specs.Texts.{reply_text}
+use Rattle.hw_net.proofs.Fullness.{SaysPut}
 
 pub lower : (from least bound : ℕ) (wires : List ℕ) → least ≤ from → IsRising from bound wires → IsRising least bound wires
 lower from least bound [] le h = omega (arith, le, h)
@@ -82,14 +83,14 @@ put-wire true (Socket websocket_state) bytes text before after is_put h = ap (λ
 put-wire true (Http http_state) bytes text before after is_put h = ap (λ (l : Lane). l.wire) h.1
 put-wire false protocol bytes text before after is_put h = ap (λ (l : Lane). l.wire) h.1
 
-pub send-wire : (bytes : List ℕ) (text : Bool) (before after : Lane) (answers : List Answer) → Sends bytes text before after answers → after.wire ≡ before.wire
-send-wire bytes text before after answers h = go h.0 h.1 h.3 ∙ put-wire (is_live before.stage) before.protocol bytes text before h.0 h.1 h.2 where
-  go : (mid : Lane) (b : Bool) → Chooses b (SaysMore mid after answers) ((answers ≡ []) × (after ≡ mid)) → after.wire ≡ mid.wire
-  go mid true h = more-wire mid after answers h
+pub send-wire : (now : ℕ) (bytes : List ℕ) (text : Bool) (before after : Lane) (answers : List Answer) → Sends now bytes text before after answers → after.wire ≡ before.wire
+send-wire now bytes text before after answers h = go h.0 h.1 h.3 ∙ put-wire (is_live before.stage) before.protocol bytes text before h.0 h.1 h.2 where
+  go : (mid : Lane) (b : Bool) → SaysPut now b mid after answers → after.wire ≡ mid.wire
+  go mid true h = ap (λ (l : Lane). l.wire) h.2 ∙ more-wire mid h.0 answers h.1
   go mid false h = ap (λ (l : Lane). l.wire) h.1
 
 pub sends-keep : SendsKeepNumbers
-sends-keep lane bytes text before after answers h = at-wires lane (Sends bytes text) before.lanes after.lanes answers (send-wire bytes text) h.0
+sends-keep lane now bytes text before after answers h = at-wires lane (Sends now bytes text) before.lanes after.lanes answers (send-wire now bytes text) h.0
 
 pub shut-wire : (now : ℕ) (before after : Lane) (answers : List Answer) → Shuts now before after answers → after.wire ≡ before.wire
 shut-wire now before after answers h = go (is_live before.stage) h where

@@ -37,9 +37,9 @@ owed-here (session.heard what answers) calls x y k h =
 owed-here (session.replied at reply answers) calls x y k h =
     by-number at (Replies h.0 reply) x y (share x.wire answers) (λ b. owes y ≡ (not b && is_owed_on x.wire calls))
     (replies-owe h.0 reply x y (share x.wire answers)) (λ e f. ap owes e ∙ k) h.1
-owed-here (session.sent at bytes text answers) calls x y k h =
-    by-number at (Sends bytes text) x y (share x.wire answers) (λ b. owes y ≡ is_owed_on x.wire calls)
-    (λ s. sends-owe bytes text x y (share x.wire answers) s ∙ k) (λ e f. ap owes e ∙ k) h
+owed-here (session.sent at bytes text full answers) calls x y k h =
+    by-number at (Sends h.0 bytes text) x y (share x.wire answers) (λ b. owes y ≡ is_owed_on x.wire calls)
+    (λ s. sends-owe h.0 bytes text x y (share x.wire answers) s ∙ k) (λ e f. ap owes e ∙ k) h.1
 owed-here (session.shut at answers) calls x y k h =
     by-number at (Shuts h.0) x y (share x.wire answers) (λ b. owes y ≡ (not b && is_owed_on x.wire calls))
     (shuts-owe h.0 x y (share x.wire answers)) (λ e f. ap owes e ∙ k) h.1
@@ -54,11 +54,11 @@ new-owed calls now wire h = sym h.owed
 abbrev pub replies_by : ℕ → Bool → Call → List Reply
 replies_by wire owed (session.heard what answers) = refusal_on wire what.event
 replies_by wire owed (session.replied at reply answers) = if (at == wire) && owed then reply ∷ [] else []
-replies_by wire owed (session.sent at bytes text answers) = []
+replies_by wire owed (session.sent at bytes text full answers) = []
 replies_by wire owed (session.shut at answers) = []
 
 pub replies-more : (call : Call) (calls : List Call) (x : Lane) → IsOwed calls x → replies_on x.wire (call ∷ calls) ≡ replies_on x.wire calls ++ replies_by x.wire (owes x) call
 replies-more (session.heard what answers) calls x k = refl
 replies-more (session.replied at reply answers) calls x k = ap (λ b. replies_on x.wire calls ++ (if (at == x.wire) && b then reply ∷ [] else [])) (sym k)
-replies-more (session.sent at bytes text answers) calls x k = sym (append-nil (replies_on x.wire calls))
+replies-more (session.sent at bytes text full answers) calls x k = sym (append-nil (replies_on x.wire calls))
 replies-more (session.shut at answers) calls x k = sym (append-nil (replies_on x.wire calls))

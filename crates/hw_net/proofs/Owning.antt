@@ -15,6 +15,7 @@ use Rattle.hw_net.specs.Saying.{Writes, WritesOut, DropsOrWrites, Says, SaysAt, 
 use Rattle.hw_net.specs.Sessions.{is_about}
 use Rattle.hw_net.specs.Trace.{Reads, Gives, Chooses}
 use Rattle.hw_net.specs.Turn.{Hears, Falls, Passes, Settles, Loses, LosesAt, TurnsLive, TurnsAt, Listens, Turns, Replies, Puts, Sends, Shuts}
+use Rattle.hw_net.proofs.Fullness.{by-fullness, SaysPut}
 use Rattle.hw_net.proofs.Numbering.{reply-wire, send-wire, shut-wire, replied-wire, put-wire}
 use Rattle.hw_net.proofs.Shares.{AreOwn, own-append, same}
 
@@ -26,6 +27,7 @@ is_on lane (event.Bytes at bytes) = at == lane
 is_on lane (event.Response at status body) = at == lane
 is_on lane (event.Upgraded at) = at == lane
 is_on lane (event.Lost at) = at == lane
+is_on lane (event.Drained at) = at == lane
 is_on lane event.Quiet = false
 
 -- if it is heard on any lane, it is on this one
@@ -158,7 +160,11 @@ live-keeps now before after answers heard h =
 pub listens-keeps : (now : ℕ) (before after : Lane) (answers : List Answer) (heard : Option Event) → Listens now before after answers heard → Keeps before after answers × IsOn before.wire heard
 listens-keeps now before after answers heard h = go before.stage h where
   go : (s : Stage) → TurnsAt s now before after answers heard → Settled before after answers heard
-  go Live h = live-keeps now before after answers heard h
+  go Live h = by-fullness (λ (l : Lane). Settled before l answers heard) now before after answers heard
+      (λ d e s. (says-keeps now (record before { full = None }) after answers s, on-own before.wire heard (event.Drained before.wire) (same before.wire) e))
+      (λ s f. falls-keeps before after answers heard f)
+      (λ mid t. live-keeps now before mid answers heard t)
+      h
   go Lost h = passes-keeps before (record before { stage = Over }) after answers (event.Lost before.wire) heard refl (same before.wire) h
   go Closing h = (says-keeps now before after answers h.1, subst (λ (o : Option Event). IsOn before.wire o) (sym h.0) tt)
   go Over h = (still-keeps before after answers h.0 h.2, subst (λ (o : Option Event). IsOn before.wire o) (sym h.1) tt)
@@ -178,10 +184,10 @@ replies-keeps now reply before after answers h = (reply-wire now reply before af
   go true h = more-own before.wire (after_reply now reply before) after answers (replied-wire now reply before) h
   go false h = to-own before.wire [] answers h.0 tt
 
-pub sends-keeps : (bytes : List ℕ) (text : Bool) (before after : Lane) (answers : List Answer) → Sends bytes text before after answers → Keeps before after answers
-sends-keeps bytes text before after answers h = (send-wire bytes text before after answers h, go h.0 h.1 h.2 h.3) where
-  go : (mid : Lane) (b : Bool) → Puts bytes text before mid b → Chooses b (SaysMore mid after answers) ((answers ≡ []) × (after ≡ mid)) → AreOwn before.wire answers
-  go mid true p h = more-own before.wire mid after answers (put-wire (is_live before.stage) before.protocol bytes text before mid true p) h
+pub sends-keeps : (now : ℕ) (bytes : List ℕ) (text : Bool) (before after : Lane) (answers : List Answer) → Sends now bytes text before after answers → Keeps before after answers
+sends-keeps now bytes text before after answers h = (send-wire now bytes text before after answers h, go h.0 h.1 h.2 h.3) where
+  go : (mid : Lane) (b : Bool) → Puts bytes text before mid b → SaysPut now b mid after answers → AreOwn before.wire answers
+  go mid true p h = more-own before.wire mid h.0 answers (put-wire (is_live before.stage) before.protocol bytes text before mid true p) h.1
   go mid false p h = to-own before.wire [] answers h.0 tt
 
 pub shuts-keeps : (now : ℕ) (before after : Lane) (answers : List Answer) → Shuts now before after answers → Keeps before after answers

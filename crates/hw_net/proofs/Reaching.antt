@@ -8,7 +8,7 @@ use Rattle.hw_door.specs.declared.heard.Event.{Event}
 use Rattle.hw_door.specs.declared.heard.Event.TheVariants as event
 use Rattle.hw_door.specs.declared.heard.Heard.{Heard}
 use Rattle.hw_door.specs.Traffic.{Answer, polled, accepted}
-use Rattle.hw_net.specs.Door.{DoorState, HearsAll, HearsNext, kept, with_accepted, time_to_wait, index_of_first, lane_of, number_after, from_after}
+use Rattle.hw_net.specs.Door.{DoorState, Searches, HearsNext, kept, with_accepted, time_to_wait, index_of_first, lane_of, number_after, from_after}
 use Rattle.hw_net.specs.Lane.{Lane, wires_of, is_over}
 use Rattle.hw_net.specs.Reaching.{is_before, passes_over, HasListened, OthersListen, PassesOver, AllPassOver, nexts, came_among, arrivals, LanesAreReached}
 use Rattle.hw_net.specs.Rising.{IsRising}
@@ -100,6 +100,7 @@ on-lane wire (event.Bytes at bytes) h = equal at wire h
 on-lane wire (event.Response at status body) h = equal at wire h
 on-lane wire (event.Upgraded at) h = equal at wire h
 on-lane wire (event.Lost at) h = equal at wire h
+on-lane wire (event.Drained at) h = equal at wire h
 on-lane wire event.Quiet h = absurd (cc h)
 
 abbrev HeardOn : List Lane → Event → Type 0
@@ -114,8 +115,9 @@ heard-on now (lane ∷ lanes) after answers heard h = go h.0 h.7 h.8 (heard-on n
       let same : heard ≡ mid = cc (keep now mid lanes h.2 h.4 (Some heard) all) in
       (lane, inl refl, ap lane_of same ∙ on-lane lane.wire mid (listens-keeps now lane h.1 h.3 (Some mid) one).1)
 
-all-heard-on : (now begin : ℕ) (before after : List Lane) (answers : List Answer) (heard : Event) → HearsAll now begin before after answers (Some heard) → HeardOn before heard
-all-heard-on now begin before after answers heard h = go h.trace h.turns_first h.turns_last where
+all-heard-on : (now begin : ℕ) (before after : List Lane) (answers : List Answer) (heard : Event) → Searches now begin before after answers (Some heard) → HeardOn before heard
+all-heard-on now begin before after answers heard (inr r) = absurd (cc r.unheard)
+all-heard-on now begin before after answers heard (inl h) = go h.trace h.turns_first h.turns_last where
   at : ℕ
   at = index_of_first begin before
 
@@ -174,7 +176,7 @@ next-nears lane wait what answers before after h below over =
     let lanes = with_accepted what.now h.wire (kept before.lanes) in
     let same : in_front after.from lane (wires_of after.lanes) ≡ in_front after.from lane (wires_of lanes) = ap (λ l. in_front after.from lane l) (hears-wires what.now h.begin lanes after.lanes h.turns h.trace h.hears) in
     let heard_on : (heard : Event) → h.trace ≡ Some heard → Among (wires_of lanes) (lane_of heard) = λ heard e.
-    (let found = all-heard-on what.now h.begin lanes after.lanes h.turns heard (subst (λ (o : Option Event). HearsAll what.now h.begin lanes after.lanes h.turns o) e h.hears) in
+    (let found = all-heard-on what.now h.begin lanes after.lanes h.turns heard (subst (λ (o : Option Event). Searches what.now h.begin lanes after.lanes h.turns o) e h.hears) in
     subst (λ n. Among (wires_of lanes) n) (sym found.2) (among lanes found.0 found.1)) in
     let step = advances before.from before.named h.begin after.named after.from lane h.trace (wires_of lanes) below h.begins h.from over heard_on in
     let grown : in_front before.from lane (wires_of lanes) ≤ in_front before.from lane (wires_of (kept before.lanes)) + came_among answers =
@@ -193,8 +195,8 @@ call-nears lane (session.heard what answers) calls bound bound_after before afte
     let step = next-nears lane d.0 what answers before after d.1 below d.3 in omega (arith, step)
 call-nears lane (session.replied at reply answers) calls bound bound_after before after below d =
     let same = stays lane before after (replies-keep at before.moment reply before after answers d.0) d.0.1 d.0.2 in omega (arith, same)
-call-nears lane (session.sent at bytes text answers) calls bound bound_after before after below d =
-    let same = stays lane before after (sends-keep at bytes text before after answers d.0) d.0.1 d.0.2 in omega (arith, same)
+call-nears lane (session.sent at bytes text full answers) calls bound bound_after before after below d =
+    let same = stays lane before after (sends-keep at before.moment bytes text before after answers d.0) d.0.1 d.0.2 in omega (arith, same)
 call-nears lane (session.shut at answers) calls bound bound_after before after below d =
     let same = stays lane before after (shuts-keep at before.moment before after answers d.0) d.0.1 d.0.2 in omega (arith, same)
 

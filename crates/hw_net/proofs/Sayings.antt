@@ -1,33 +1,67 @@
 -- What a lane writes, and one turn of a live lane, put together from their parts.
-use Rattle.std.proofs.Common.{◌≡◌, ◌≢◌, ℕ, List, [], ◌∷◌, ◌++◌, Bool, true, false, Option, length, refl, sym, ap, subst, ◌∙◌, append_assoc}
+use Rattle.std.proofs.Common.{◌≡◌, ◌≢◌, ℕ, List, [], ◌∷◌, ◌++◌, Bool, true, false, Option, length, ltb, refl, sym, ap, subst, ◌∙◌, append_assoc}
 use Rattle.hw_door.specs.declared.heard.Event.{Event}
 use Rattle.hw_door.specs.Traffic.{Answer, was_shut}
 use Rattle.hw_net.specs.declared.input.Input.{Input}
 use Rattle.hw_net.specs.Trace.{Tells}
-use Rattle.hw_net.specs.Lane.{Lane, waits, after_end, after_hearing}
-use Rattle.hw_net.specs.Saying.{Writes, WritesOut, Says, IsLaneStill, must_end}
-use Rattle.hw_net.specs.Turn.{Hears, Settles, Loses, TurnsLive}
-use Rattle.hw_net.proofs.Telling.{tells-more}
+use Rattle.hw_net.specs.Lane.{Lane, waits, after_end, after_hearing, after_message, full_after_write}
+use Rattle.hw_net.specs.Saying.{Writes, WritesOut, Says, SaysMore, IsLaneStill, must_end}
+use Rattle.hw_net.specs.Turn.{Hears, Settles, Loses, TurnsLive, Puts, Sends}
+use Rattle.hw_net.proofs.Telling.{tells-more, tells-none}
 use Rattle.hw_net.proofs.Writings.{HasDone, writes-both, writes-first, left-of-failed}
 
+-- the lane with what was written noted
+abbrev pub noted : Lane → Lane → Lane
+noted before written = record written { full = full_after_write (ltb (length (waits written)) (length (waits before))) before.full }
+
 -- what waited was written, and then the wire was shut
-pub said-ended : (a b c : Option (List Answer)) (before mid : Lane) (whole : Bool) → HasDone a b before.wire (waits before) (waits mid) whole → IsLaneStill before mid → mid.stage ≡ before.stage →
-    must_end mid.stage (length (waits mid)) whole ≡ true → Tells b c (was_shut mid.wire ∷ []) →
+pub said-ended : (a b c : Option (List Answer)) (before written mid : Lane) (whole : Bool) → HasDone a b before.wire (waits before) (waits written) whole → IsLaneStill before written →
+    written.stage ≡ before.stage → mid ≡ noted before written → must_end written.stage (length (waits written)) whole ≡ true → Tells b c (was_shut written.wire ∷ []) →
     (answers : List Answer) × Tells a c answers × WritesOut before (record mid { stage = after_end mid.stage }) answers
-said-ended a b c before mid whole h still same must shut =
-    let ends : must_end before.stage (length (waits mid)) whole ≡ true = subst (λ s. must_end s (length (waits mid)) whole ≡ true) same must in
-    let trace : Tells a c (h.0 ++ was_shut mid.wire ∷ []) = tells-more a b c h.0 (was_shut mid.wire ∷ []) h.1 shut in (
+said-ended a b c before written mid whole h still same e must shut =
+    let ends : must_end before.stage (length (waits written)) whole ≡ true = subst (λ s. must_end s (length (waits written)) whole ≡ true) same must in
+    let trace : Tells a c (h.0 ++ was_shut written.wire ∷ []) = tells-more a b c h.0 (was_shut written.wire ∷ []) h.1 shut in
+    let writes : WritesOut before (record (noted before written) { stage = after_end written.stage }) (h.0 ++ was_shut before.wire ∷ []) = record {
+      sent = h.0;
+      is_whole = whole;
+      writes = h.2;
+      still = record { wire = still.wire; since = still.since; protocol = still.protocol };
+      full = refl;
+      ends = λ m. (refl, ap after_end same);
+      stays = λ m. cc (sym ends ∙ m);
+    } in (
       h.0 ++ was_shut before.wire ∷ [],
       subst (λ w. Tells a c (h.0 ++ was_shut w ∷ [])) still.wire trace,
-      record {
-        sent = h.0;
-        is_whole = whole;
-        writes = h.2;
-        still = record { wire = still.wire; since = still.since; protocol = still.protocol };
-        ends = λ m. (refl, ap after_end same);
-        stays = λ m. cc (sym ends ∙ m);
-      },
+      subst (λ (l : Lane). WritesOut before (record l { stage = after_end l.stage }) (h.0 ++ was_shut before.wire ∷ [])) (sym e) writes,
     )
+
+-- what waited was written, and the wire stays
+pub said-stays : (a b : Option (List Answer)) (before written mid : Lane) (whole : Bool) → HasDone a b before.wire (waits before) (waits written) whole → IsLaneStill before written →
+    written.stage ≡ before.stage → mid ≡ noted before written → must_end written.stage (length (waits written)) whole ≡ false →
+    (answers : List Answer) × Tells a b answers × WritesOut before mid answers
+said-stays a b before written mid whole h still same e must =
+    let stays : must_end before.stage (length (waits written)) whole ≡ false = subst (λ s. must_end s (length (waits written)) whole ≡ false) same must in
+    let writes : WritesOut before (noted before written) h.0 = record {
+      sent = h.0;
+      is_whole = whole;
+      writes = h.2;
+      still = record { wire = still.wire; since = still.since; protocol = still.protocol };
+      full = refl;
+      ends = λ m. cc (sym stays ∙ m);
+      stays = λ m. (refl, same);
+    } in
+    (h.0, h.1, subst (λ (l : Lane). WritesOut before l h.0) (sym e) writes)
+
+-- a message was added, what waits was written, and the message counts
+pub sent-more : (a b : Option (List Answer)) (now : ℕ) (bytes : List ℕ) (text : Bool) (before mid said after : Lane) → Puts bytes text before mid true →
+    ((answers : List Answer) × Tells a b answers × SaysMore mid said answers) → after ≡ after_message now said →
+    (answers : List Answer) × Tells a b answers × Sends now bytes text before after answers
+sent-more a b now bytes text before mid said after put h e = (h.0, h.1, (mid, true, put, (said, h.2, e)))
+
+-- no message was added
+pub sent-none : (a : Option (List Answer)) (now : ℕ) (bytes : List ℕ) (text : Bool) (before after : Lane) → Puts bytes text before after false →
+    (answers : List Answer) × Tells a a answers × Sends now bytes text before after answers
+sent-none a now bytes text before after put = ([], tells-none a, (after, false, put, (refl, refl)))
 
 -- not all of the replies was written
 pub done-first : (a b : Option (List Answer)) (wire : ℕ) (out more left : List ℕ) (whole : Bool) → HasDone a b wire out left whole → left ≢ [] → HasDone a b wire (out ++ more) (left ++ more) whole

@@ -1,6 +1,6 @@
 -- A lane's share of what the wires answer: the answers about its wire.
 use Rattle.std.proofs.Common.{◌≡◌, ◌==◌, ◌||◌, ◌++◌, ◌∷◌, [], ℕ, Bool, true, false, List, None, Some, refl, sym, ap, ◌∙◌, arith, append_assoc, if◌then◌else◌}
-use Rattle.hw_door.specs.Traffic.{Answer, polled, poll_failed, accepted, accept_failed, connected, connect_failed, bytes_in, not_yet, ended, read_failed, bytes_out, write_failed, was_shut, read_on, written_on}
+use Rattle.hw_door.specs.Traffic.{Answer, polled, poll_failed, accepted, accept_failed, connected, connect_failed, bytes_in, not_yet, ended, read_failed, bytes_out, write_failed, was_shut, none_ready, read_on, written_on}
 use Rattle.hw_net.specs.Sessions.{is_about, was_shut_in, broke_in, came_in}
 
 abbrev pub share : ℕ → List Answer → List Answer
@@ -41,6 +41,7 @@ about-other v w (read_failed at) h k = other at v w h k
 about-other v w (bytes_out at bytes) h k = other at v w h k
 about-other v w (write_failed at) h k = other at v w h k
 about-other v w (was_shut at) h k = other at v w h k
+about-other v w none_ready h k = absurd (no h)
 
 -- ---- lists of answers
 
@@ -103,6 +104,7 @@ read-skip w (read_failed at) xs e = refl
 read-skip w (bytes_out at bytes) xs e = refl
 read-skip w (write_failed at) xs e = refl
 read-skip w (was_shut at) xs e = refl
+read-skip w none_ready xs e = refl
 
 read-both : (w : ℕ) (a : Answer) (xs ys : List Answer) → read_on w xs ≡ read_on w ys → read_on w (a ∷ xs) ≡ read_on w (a ∷ ys)
 read-both w (polled wait now) xs ys e = e
@@ -118,6 +120,7 @@ read-both w (read_failed at) xs ys e = e
 read-both w (bytes_out at bytes) xs ys e = e
 read-both w (write_failed at) xs ys e = e
 read-both w (was_shut at) xs ys e = e
+read-both w none_ready xs ys e = e
 
 pub read-share : (w : ℕ) (xs : List Answer) → read_on w xs ≡ read_on w (share w xs)
 read-share w xs = same-share (read_on w) w (read-skip w) (read-both w) xs
@@ -137,6 +140,7 @@ read-append w (read_failed at ∷ xs) ys = read-append w xs ys
 read-append w (bytes_out at bytes ∷ xs) ys = read-append w xs ys
 read-append w (write_failed at ∷ xs) ys = read-append w xs ys
 read-append w (was_shut at ∷ xs) ys = read-append w xs ys
+read-append w (none_ready ∷ xs) ys = read-append w xs ys
 
 -- ---- written
 
@@ -154,6 +158,7 @@ written-skip w (read_failed at) xs e = refl
 written-skip w (bytes_out at bytes) xs e = rw e refl
 written-skip w (write_failed at) xs e = refl
 written-skip w (was_shut at) xs e = refl
+written-skip w none_ready xs e = refl
 
 written-both : (w : ℕ) (a : Answer) (xs ys : List Answer) → written_on w xs ≡ written_on w ys → written_on w (a ∷ xs) ≡ written_on w (a ∷ ys)
 written-both w (polled wait now) xs ys e = e
@@ -169,6 +174,7 @@ written-both w (read_failed at) xs ys e = e
 written-both w (bytes_out at bytes) xs ys e = ap (λ l. if at == w then bytes ++ l else l) e
 written-both w (write_failed at) xs ys e = e
 written-both w (was_shut at) xs ys e = e
+written-both w none_ready xs ys e = e
 
 pub written-share : (w : ℕ) (xs : List Answer) → written_on w xs ≡ written_on w (share w xs)
 written-share w xs = same-share (written_on w) w (written-skip w) (written-both w) xs
@@ -188,6 +194,7 @@ written-append w (read_failed at ∷ xs) ys = written-append w xs ys
 written-append w (bytes_out at bytes ∷ xs) ys = join (at == w) bytes (written_on w (xs ++ ys)) (written_on w xs) (written_on w ys) (written-append w xs ys)
 written-append w (write_failed at ∷ xs) ys = written-append w xs ys
 written-append w (was_shut at ∷ xs) ys = written-append w xs ys
+written-append w (none_ready ∷ xs) ys = written-append w xs ys
 
 -- ---- shut
 
@@ -205,6 +212,7 @@ shut-skip w (read_failed at) xs e = refl
 shut-skip w (bytes_out at bytes) xs e = refl
 shut-skip w (write_failed at) xs e = refl
 shut-skip w (was_shut at) xs e = rw e refl
+shut-skip w none_ready xs e = refl
 
 shut-both : (w : ℕ) (a : Answer) (xs ys : List Answer) → was_shut_in w xs ≡ was_shut_in w ys → was_shut_in w (a ∷ xs) ≡ was_shut_in w (a ∷ ys)
 shut-both w (polled wait now) xs ys e = e
@@ -220,6 +228,7 @@ shut-both w (read_failed at) xs ys e = e
 shut-both w (bytes_out at bytes) xs ys e = e
 shut-both w (write_failed at) xs ys e = e
 shut-both w (was_shut at) xs ys e = ap (λ l. (at == w) || l) e
+shut-both w none_ready xs ys e = e
 
 pub shut-share : (w : ℕ) (xs : List Answer) → was_shut_in w xs ≡ was_shut_in w (share w xs)
 shut-share w xs = same-share (was_shut_in w) w (shut-skip w) (shut-both w) xs
@@ -239,6 +248,7 @@ shut-append w (read_failed at ∷ xs) ys = shut-append w xs ys
 shut-append w (bytes_out at bytes ∷ xs) ys = shut-append w xs ys
 shut-append w (write_failed at ∷ xs) ys = shut-append w xs ys
 shut-append w (was_shut at ∷ xs) ys = either (at == w) (was_shut_in w (xs ++ ys)) (was_shut_in w xs) (was_shut_in w ys) (shut-append w xs ys)
+shut-append w (none_ready ∷ xs) ys = shut-append w xs ys
 
 -- ---- broke
 
@@ -256,6 +266,7 @@ broke-skip w (read_failed at) xs e = rw e refl
 broke-skip w (bytes_out at bytes) xs e = refl
 broke-skip w (write_failed at) xs e = rw e refl
 broke-skip w (was_shut at) xs e = refl
+broke-skip w none_ready xs e = refl
 
 broke-both : (w : ℕ) (a : Answer) (xs ys : List Answer) → broke_in w xs ≡ broke_in w ys → broke_in w (a ∷ xs) ≡ broke_in w (a ∷ ys)
 broke-both w (polled wait now) xs ys e = e
@@ -271,6 +282,7 @@ broke-both w (read_failed at) xs ys e = ap (λ l. (at == w) || l) e
 broke-both w (bytes_out at bytes) xs ys e = e
 broke-both w (write_failed at) xs ys e = ap (λ l. (at == w) || l) e
 broke-both w (was_shut at) xs ys e = e
+broke-both w none_ready xs ys e = e
 
 pub broke-share : (w : ℕ) (xs : List Answer) → broke_in w xs ≡ broke_in w (share w xs)
 broke-share w xs = same-share (broke_in w) w (broke-skip w) (broke-both w) xs
@@ -290,6 +302,7 @@ broke-append w (read_failed at ∷ xs) ys = either (at == w) (broke_in w (xs ++ 
 broke-append w (bytes_out at bytes ∷ xs) ys = broke-append w xs ys
 broke-append w (write_failed at ∷ xs) ys = either (at == w) (broke_in w (xs ++ ys)) (broke_in w xs) (broke_in w ys) (broke-append w xs ys)
 broke-append w (was_shut at ∷ xs) ys = broke-append w xs ys
+broke-append w (none_ready ∷ xs) ys = broke-append w xs ys
 
 -- ---- came
 
@@ -309,3 +322,4 @@ came-append w (read_failed at ∷ xs) ys = came-append w xs ys
 came-append w (bytes_out at bytes ∷ xs) ys = came-append w xs ys
 came-append w (write_failed at ∷ xs) ys = came-append w xs ys
 came-append w (was_shut at ∷ xs) ys = came-append w xs ys
+came-append w (none_ready ∷ xs) ys = came-append w xs ys

@@ -33,6 +33,7 @@ use Rattle.hw_net.specs.Turn.{Hears, Falls, Passes, Settles, Loses, LosesAt, Tur
 use Rattle.hw_net.proofs.Asked.{HeardIn, IsAsked, step-asked, new-asked, requests_by, requests-more, requests_in, settles-requests, loses-requests, heard-requests, gives-bytes, live-reads, settles-silent, says-silent, read-more, replies-silent, sends-silent, shuts-silent}
 use Rattle.hw_net.proofs.Counting.{Lives, writes-live, dropped-or-live}
 use Rattle.hw_net.proofs.Ends.{dead}
+use Rattle.hw_net.proofs.Fullness.{by-fullness, SaysPut}
 use Rattle.hw_net.proofs.Moves.{has-of}
 use Rattle.hw_net.proofs.Numbering.{replied-wire, put-wire}
 use Rattle.hw_net.proofs.Owed.{by-number, replies_by, replies-more}
@@ -413,7 +414,12 @@ listens-bear now x y mine own h = go x.stage refl h where
   nothing o e f = (ap (λ o. requests_in x.wire o) e ∙ f.0, ap (λ o. messages_in x.wire o) e ∙ f.1, ap (λ o. refusals_in x.wire o) e ∙ f.2)
 
   go : (s : Stage) → x.stage ≡ s → TurnsAt s now x y mine own → Bears x y mine (requests_in x.wire own) (messages_in x.wire own) (refusals_in x.wire own)
-  go Live e h = live-bears now x y mine own e h
+  go Live e h = by-fullness (λ (l : Lane). Bears x l mine (requests_in x.wire own) (messages_in x.wire own) (refusals_in x.wire own)) now x y mine own
+      (λ d f s. quiet (says-glide now (record x { full = None }) y mine s) ((says-silent now (record x { full = None }) y mine s).0 x.wire) (nothing (Some (event.Drained x.wire)) f (refl, refl, refl)))
+      (λ s f. quiet (stage-glides x y mine (ap (λ l. written_on x.wire l) f.0) (ap waits f.2) (ap (λ (l : Lane). l.protocol) f.2) (λ k. absurd (cc (sym (ap (λ (l : Lane). is_live l.stage) f.2) ∙ k))))
+      (ap (λ l. read_on x.wire l) f.0) (nothing (Some (event.Lost x.wire)) f.1 (refl, refl, refl)))
+      (λ mid t. live-bears now x mid mine own e t)
+      h
   go Lost e h = quiet (stage-glides x y mine (ap (λ l. written_on x.wire l) h.0) (ap waits h.2) (ap (λ (l : Lane). l.protocol) h.2) (λ k. absurd (cc (sym (ap (λ (l : Lane). is_live l.stage) h.2) ∙ k))))
       (ap (λ l. read_on x.wire l) h.0) (nothing (Some (event.Lost x.wire)) h.1 (refl, refl, refl))
   go Closing e h = quiet (says-glide now x y mine h.1) ((says-silent now x y mine h.1).0 x.wire) (nothing None h.0 (refl, refl, refl))
@@ -494,14 +500,14 @@ put-borne true (Socket websocket_state) bytes text x mid is_put e h from written
 put-borne true (Http http_state) bytes text x mid is_put e h from written requests messages replies b = becomes from written requests messages replies mid x h.1 b
 put-borne false protocol bytes text x mid is_put e h from written requests messages replies b = becomes from written requests messages replies mid x h.1 b
 
-sends-glide : (bytes : List ℕ) (text : Bool) (x y : Lane) (mine : List Answer) → Sends bytes text x y mine → Glides x y mine
-sends-glide bytes text x y mine h from written requests messages replies b = go h.0 h.1 h.2 h.3 where
-  go : (mid : Lane) (c : Bool) → Puts bytes text x mid c → Chooses c (SaysMore mid y mine) ((mine ≡ []) × (y ≡ mid)) → IsBorne from (written ++ written_on x.wire mine) requests messages replies y
+sends-glide : (now : ℕ) (bytes : List ℕ) (text : Bool) (x y : Lane) (mine : List Answer) → Sends now bytes text x y mine → Glides x y mine
+sends-glide now bytes text x y mine h from written requests messages replies b = go h.0 h.1 h.2 h.3 where
+  go : (mid : Lane) (c : Bool) → Puts bytes text x mid c → SaysPut now c mid y mine → IsBorne from (written ++ written_on x.wire mine) requests messages replies y
   go mid c p s =
       let put = put-borne (is_live x.stage) x.protocol bytes text x mid c refl p from written requests messages replies b in
       subst (λ n. IsBorne from (written ++ written_on n mine) requests messages replies y) (put-wire (is_live x.stage) x.protocol bytes text x mid c p) (rest c s put) where
-        rest : (c : Bool) → Chooses c (SaysMore mid y mine) ((mine ≡ []) × (y ≡ mid)) → IsBorne from written requests messages replies mid → IsBorne from (written ++ written_on mid.wire mine) requests messages replies y
-        rest true s put = more-glide mid y mine s from written requests messages replies put
+        rest : (c : Bool) → SaysPut now c mid y mine → IsBorne from written requests messages replies mid → IsBorne from (written ++ written_on mid.wire mine) requests messages replies y
+        rest true s put = subst (λ (l : Lane). IsBorne from (written ++ written_on mid.wire mine) requests messages replies l) (sym s.2) (more-glide mid s.0 mine s.1 from written requests messages replies put)
         rest false s put = same-glides mid y mine s.0 s.1 from written requests messages replies put
 
 shut-borne : (x : Lane) (protocol : Protocol) (from written : List ℕ) (requests : List Request) (messages : List (List ℕ)) (replies : List Reply) → Borne (is_live x.stage) from (written ++ (x.out ++ frames_of protocol)) requests messages replies protocol →
@@ -528,7 +534,7 @@ messages_by wire _ = []
 messages-more : (wire : ℕ) (call : Call) (calls : List Call) → messages_on wire (call ∷ calls) ≡ messages_on wire calls ++ messages_by wire call
 messages-more wire (session.heard what answers) calls = refl
 messages-more wire (session.replied lane reply answers) calls = sym (append-nil (messages_on wire calls))
-messages-more wire (session.sent lane bytes text answers) calls = sym (append-nil (messages_on wire calls))
+messages-more wire (session.sent lane bytes text full answers) calls = sym (append-nil (messages_on wire calls))
 messages-more wire (session.shut lane answers) calls = sym (append-nil (messages_on wire calls))
 
 -- what a lane heard and said before, it does after a call with what this adds
@@ -553,10 +559,10 @@ moves-bear (session.replied at reply answers) x y from written requests messages
           subst (λ (l : List ℕ). IsBorne l (written ++ written_on x.wire (share x.wire answers)) (requests ++ []) (messages ++ []) said y) (sym (ap (λ l. from ++ l) e ∙ append-nil from))
           (subst (λ (l : List Request). IsBorne from (written ++ written_on x.wire (share x.wire answers)) l (messages ++ []) said y) (sym (append-nil requests))
           (subst (λ (l : List (List ℕ)). IsBorne from (written ++ written_on x.wire (share x.wire answers)) requests l said y) (sym (append-nil messages)) k))
-moves-bear (session.sent at bytes text answers) x y from written requests messages replies h asks wrote b =
-    by-number at (Sends bytes text) x y (share x.wire answers) (λ c. BearsAt x y (share x.wire answers) from written requests messages replies [] [] [])
-    (λ s. glides-bear x y (share x.wire answers) [] [] [] (sends-glide bytes text x y (share x.wire answers) s) ((sends-silent bytes text x y (share x.wire answers) s).0 x.wire) refl refl refl from written requests messages replies b)
-    (λ e f. glides-bear x y (share x.wire answers) [] [] [] (same-glides x y (share x.wire answers) f e) (ap (λ l. read_on x.wire l) f) refl refl refl from written requests messages replies b) h
+moves-bear (session.sent at bytes text full answers) x y from written requests messages replies h asks wrote b =
+    by-number at (Sends h.0 bytes text) x y (share x.wire answers) (λ c. BearsAt x y (share x.wire answers) from written requests messages replies [] [] [])
+    (λ s. glides-bear x y (share x.wire answers) [] [] [] (sends-glide h.0 bytes text x y (share x.wire answers) s) ((sends-silent h.0 bytes text x y (share x.wire answers) s).0 x.wire) refl refl refl from written requests messages replies b)
+    (λ e f. glides-bear x y (share x.wire answers) [] [] [] (same-glides x y (share x.wire answers) f e) (ap (λ l. read_on x.wire l) f) refl refl refl from written requests messages replies b) h.1
 moves-bear (session.shut at answers) x y from written requests messages replies h asks wrote b =
     by-number at (Shuts h.0) x y (share x.wire answers) (λ c. BearsAt x y (share x.wire answers) from written requests messages replies [] [] [])
     (λ s. glides-bear x y (share x.wire answers) [] [] [] (shuts-glide h.0 x y (share x.wire answers) s) ((shuts-silent h.0 x y (share x.wire answers) s).0 x.wire) refl refl refl from written requests messages replies b)

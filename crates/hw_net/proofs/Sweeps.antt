@@ -4,7 +4,7 @@ use Rattle.std.proofs.lemmas.List.{append-nil, map-append, map-set, set-get_or}
 use Rattle.hw_net.proofs.Telling.{tells-more}
 use Rattle.hw_door.specs.declared.heard.Event.{Event}
 use Rattle.hw_door.specs.Traffic.{Answer, polled, accepted}
-use Rattle.hw_net.specs.Door.{HearsAll, HearsTurns, HearsNext, IsNumbered, KeepsLanes, kept, time_to_wait, with_accepted, new_lane}
+use Rattle.hw_net.specs.Door.{Searches, HearsTurns, HearsNext, IsNumbered, KeepsLanes, kept, time_to_wait, with_accepted, new_lane}
 use Rattle.hw_net.specs.Lane.{Lane, wires_of}
 use Rattle.hw_net.specs.Trace.{Tells}
 
@@ -36,7 +36,7 @@ hears-next a b c d wait now from before after_from named after_named lanes kept_
         all = refl;
         moment = p.2;
         begins = h.2.2;
-        hears = subst (λ (l : List Lane). HearsAll now h.2.1 l after h.0 h.2.0) grown h.2.3;
+        hears = subst (λ (l : List Lane). Searches now h.2.1 l after h.0 h.2.0) grown h.2.3;
         event_is = h.2.4;
         from = h.2.5;
         later = refl;

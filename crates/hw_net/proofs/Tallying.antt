@@ -1,13 +1,14 @@
 -- The tally of lanes of which one changes, one comes, or those that are over go.
-use Rattle.std.proofs.Common.{◌≡◌, ◌<◌, ◌≤◌, ◌+◌, ◌^◌, ◌++◌, ◌∷◌, [], ℕ, zero, suc, Bool, true, false, not, cond, ◌||◌, List, refl, sym, ap, ◌∙◌, subst, arith, length, set, get_or, ltb}
+use Rattle.std.proofs.Common.{◌≡◌, ◌<◌, ◌≤◌, ◌+◌, ◌^◌, ◌++◌, ◌∷◌, [], ℕ, zero, suc, Bool, true, false, not, cond, ◌&&◌, ◌||◌, List, refl, sym, ap, ◌∙◌, subst, arith, length, set, get_or, ltb}
 use Rattle.std.specs.Int.{from_bool}
-use Rattle.std.specs.List.{list_any}
+use Rattle.std.specs.List.{All, list_any}
+use Rattle.std.proofs.lemmas.List.Elements.{All-nil, All-cons}
 use Rattle.hw_net.specs.declared.protocol.Stage.{Stage}
 use Rattle.hw_net.specs.declared.protocol.Stage.TheVariants.{Live, Lost, Closing, Over}
 use Rattle.hw_net.specs.declared.tally.Tally.{Tally}
 use Rattle.hw_net.specs.Door.{kept}
-use Rattle.hw_net.specs.Lane.{Lane, waits, is_over, is_awake, is_awake_by}
-use Rattle.hw_net.specs.Tally.{Has, HasRoom, has_unwritten, has_unwritten_by, with_lane, tally_of}
+use Rattle.hw_net.specs.Lane.{Lane, waits, is_live, is_over, is_awake, is_awake_by, has_drained}
+use Rattle.hw_net.specs.Tally.{Has, HasRoom, has_unwritten, has_unwritten_by, is_restless, only_waits_by, with_lane, tally_of}
 
 at-most-one : (b : Bool) → from_bool b ≤ 1
 at-most-one true = omega arith
@@ -18,25 +19,27 @@ pub at-counted : (lanes : List Lane) (index : ℕ) (lane : Lane) → index < len
 at-counted [] index lane lt same = absurd (omega (arith, lt))
 at-counted (first ∷ lanes) zero lane lt same =
     subst (λ (l : Lane). Has l (with_lane first (tally_of lanes))) same
-    (record { over = omega arith; awake = omega arith; writers = omega arith })
+    (record { over = omega arith; awake = omega arith; writers = omega arith; restless = omega arith })
 at-counted (first ∷ lanes) (suc index) lane lt same =
     let h = at-counted lanes index lane (omega (arith, lt)) same in
-    record { over = omega (arith, h.over); awake = omega (arith, h.awake); writers = omega (arith, h.writers) }
+    record { over = omega (arith, h.over); awake = omega (arith, h.awake); writers = omega (arith, h.writers); restless = omega (arith, h.restless) }
 
 -- no kind has more than there are lanes
 pub record IsWithin (tally : Tally) (count : ℕ) : Type 0 where
   pub over : tally.over ≤ count
   pub awake : tally.awake ≤ count
   pub writers : tally.writers ≤ count
+  pub restless : tally.restless ≤ count
 
 pub all-within : (lanes : List Lane) → IsWithin (tally_of lanes) (length lanes)
-all-within [] = record { over = omega arith; awake = omega arith; writers = omega arith }
+all-within [] = record { over = omega arith; awake = omega arith; writers = omega arith; restless = omega arith }
 all-within (lane ∷ lanes) =
     let h = all-within lanes in
     record {
       over = omega (arith, h.over, at-most-one (is_over lane.stage));
       awake = omega (arith, h.awake, at-most-one (is_awake lane));
       writers = omega (arith, h.writers, at-most-one (has_unwritten lane));
+      restless = omega (arith, h.restless, at-most-one (is_restless lane));
     }
 
 -- there is room for one lane more, as all lanes stand in memory
@@ -44,7 +47,7 @@ pub room-for-one : (lanes : List Lane) (tally : Tally) → tally ≡ tally_of la
 room-for-one lanes tally is lt =
     let h = all-within lanes in
     subst (λ (t : Tally). HasRoom t) (sym is)
-    (record { over = omega (arith, h.over, lt); awake = omega (arith, h.awake, lt); writers = omega (arith, h.writers, lt) })
+    (record { over = omega (arith, h.over, lt); awake = omega (arith, h.awake, lt); writers = omega (arith, h.writers, lt); restless = omega (arith, h.restless, lt) })
 
 -- so there is after a lane was taken out
 pub room-again : (lanes : List Lane) (lane : Lane) (tally rest : Tally) → tally ≡ tally_of lanes → tally ≡ with_lane lane rest → length lanes + 1 < 2 ^ 64 → HasRoom rest
@@ -55,24 +58,26 @@ room-again lanes lane tally rest is out lt =
       over = omega (arith, h.over, lt, ap (λ (t : Tally). t.over) same);
       awake = omega (arith, h.awake, lt, ap (λ (t : Tally). t.awake) same);
       writers = omega (arith, h.writers, lt, ap (λ (t : Tally). t.writers) same);
+      restless = omega (arith, h.restless, lt, ap (λ (t : Tally). t.restless) same);
     }
 
-abbrev make : ℕ → ℕ → ℕ → Tally
-make over awake writers = record { over = over; awake = awake; writers = writers }
+abbrev make : ℕ → ℕ → ℕ → ℕ → Tally
+make over awake writers restless = record { over = over; awake = awake; writers = writers; restless = restless }
 
 -- two tallies that have as many of each kind are one
-tally-same : (a b : Tally) → a.over ≡ b.over → a.awake ≡ b.awake → a.writers ≡ b.writers → a ≡ b
-tally-same a b o w l = ap (λ n. make n a.awake a.writers) o ∙ ap (λ n. make b.over n a.writers) w ∙ ap (λ n. make b.over b.awake n) l
+tally-same : (a b : Tally) → a.over ≡ b.over → a.awake ≡ b.awake → a.writers ≡ b.writers → a.restless ≡ b.restless → a ≡ b
+tally-same a b o w l r =
+    ap (λ n. make n a.awake a.writers a.restless) o ∙ ap (λ n. make b.over n a.writers a.restless) w ∙ ap (λ n. make b.over b.awake n a.restless) l ∙ ap (λ n. make b.over b.awake b.writers n) r
 
 -- one lane is changed at its place
 swapped : (lanes : List Lane) (index : ℕ) (lane next : Lane) → index < length lanes → get_or lanes index lane ≡ lane → with_lane lane (tally_of (set lanes index next)) ≡ with_lane next (tally_of lanes)
 swapped [] index lane next lt same = absurd (omega (arith, lt))
 swapped (first ∷ lanes) zero lane next lt same =
     subst (λ (l : Lane). with_lane l (with_lane next (tally_of lanes)) ≡ with_lane next (with_lane first (tally_of lanes))) same
-    (tally-same _ _ (omega arith) (omega arith) (omega arith))
+    (tally-same _ _ (omega arith) (omega arith) (omega arith) (omega arith))
 swapped (first ∷ lanes) (suc index) lane next lt same =
     let h = swapped lanes index lane next (omega (arith, lt)) same in
-    tally-same _ _ (omega (arith, ap (λ (t : Tally). t.over) h)) (omega (arith, ap (λ (t : Tally). t.awake) h)) (omega (arith, ap (λ (t : Tally). t.writers) h))
+    tally-same _ _ (omega (arith, ap (λ (t : Tally). t.over) h)) (omega (arith, ap (λ (t : Tally). t.awake) h)) (omega (arith, ap (λ (t : Tally). t.writers) h)) (omega (arith, ap (λ (t : Tally). t.restless) h))
 
 -- a lane is taken out, changed and put in again
 pub put-again : (lanes : List Lane) (index : ℕ) (lane next : Lane) (tally rest after : Tally) → index < length lanes → get_or lanes index lane ≡ lane → tally ≡ tally_of lanes → tally ≡ with_lane lane rest →
@@ -84,13 +89,14 @@ put-again lanes index lane next tally rest after lt same is out put =
     (omega (arith, ap (λ (t : Tally). t.over) h, ap (λ (t : Tally). t.over) e))
     (omega (arith, ap (λ (t : Tally). t.awake) h, ap (λ (t : Tally). t.awake) e))
     (omega (arith, ap (λ (t : Tally). t.writers) h, ap (λ (t : Tally). t.writers) e))
+    (omega (arith, ap (λ (t : Tally). t.restless) h, ap (λ (t : Tally). t.restless) e))
 
 -- a lane comes after the others
 pub one-more : (lanes : List Lane) (lane : Lane) → tally_of (lanes ++ lane ∷ []) ≡ with_lane lane (tally_of lanes)
 one-more [] lane = refl
 one-more (first ∷ lanes) lane =
     let h = one-more lanes lane in
-    tally-same _ _ (omega (arith, ap (λ (t : Tally). t.over) h)) (omega (arith, ap (λ (t : Tally). t.awake) h)) (omega (arith, ap (λ (t : Tally). t.writers) h))
+    tally-same _ _ (omega (arith, ap (λ (t : Tally). t.over) h)) (omega (arith, ap (λ (t : Tally). t.awake) h)) (omega (arith, ap (λ (t : Tally). t.writers) h)) (omega (arith, ap (λ (t : Tally). t.restless) h))
 
 -- ---- lanes that are over
 
@@ -110,13 +116,19 @@ pub none-goes : (lanes : List Lane) (tally : Tally) → tally ≡ tally_of lanes
 none-goes lanes tally is e = none-over lanes (subst (λ (t : Tally). t.over ≤ 0) is (grind (arith, e)))
 
 -- a lane that is over is of no other kind
-over-only : (lane : Lane) → is_over lane.stage ≡ true → (is_awake lane ≡ false) × (has_unwritten lane ≡ false)
+over-only : (lane : Lane) → is_over lane.stage ≡ true → (is_awake lane ≡ false) × (has_unwritten lane ≡ false) × (is_restless lane ≡ false)
 over-only lane e = go lane.stage e where
-  go : (s : Stage) → is_over s ≡ true → (is_awake_by s lane.protocol ≡ false) × (has_unwritten_by s (length (waits lane)) ≡ false)
+  awake : Stage → Bool
+  awake s = is_awake_by s lane.protocol || (is_live s && has_drained lane.full (length (waits lane)))
+
+  writes : Stage → Bool
+  writes s = has_unwritten_by s (length (waits lane))
+
+  go : (s : Stage) → is_over s ≡ true → (awake s ≡ false) × (writes s ≡ false) × ((awake s || (writes s || not (only_waits_by s lane.protocol))) ≡ false)
   go Live e = cc e
   go Lost e = cc e
   go Closing e = cc e
-  go Over e = (refl, refl)
+  go Over e = (refl, refl, refl)
 
 -- those that are over go
 pub over-go : (lanes : List Lane) → record (tally_of lanes) { over = 0 } ≡ tally_of (kept lanes)
@@ -129,10 +141,12 @@ over-go (lane ∷ lanes) = go (is_over lane.stage) refl (over-go lanes) where
       tally-same _ _ (ap (λ (t : Tally). t.over) k)
       (omega (arith, ap (λ (t : Tally). t.awake) k, ap from_bool only.0))
       (omega (arith, ap (λ (t : Tally). t.writers) k, ap from_bool only.1))
+      (omega (arith, ap (λ (t : Tally). t.restless) k, ap from_bool only.2))
   go false e k =
       tally-same _ _ (omega (arith, ap (λ (t : Tally). t.over) k, ap from_bool e))
       (omega (arith, ap (λ (t : Tally). t.awake) k))
       (omega (arith, ap (λ (t : Tally). t.writers) k))
+      (omega (arith, ap (λ (t : Tally). t.restless) k))
 
 -- ---- lanes of which something may be heard at once
 
@@ -143,3 +157,18 @@ some-awake (lane ∷ lanes) = go (is_awake lane) (some-awake lanes) where
   go : (b : Bool) → ltb 0 (tally_of lanes).awake ≡ list_any is_awake lanes → ltb 0 ((tally_of lanes).awake + from_bool b) ≡ (b || list_any is_awake lanes)
   go true k = grind arith
   go false k = grind (arith, k)
+
+-- ---- lanes that rest
+
+unrestless : (b : Bool) → from_bool b ≤ 0 → b ≡ false
+unrestless true h = absurd (omega (arith, h))
+unrestless false h = refl
+
+at-peace : (lanes : List Lane) → (tally_of lanes).restless ≤ 0 → All (λ (lane : Lane). is_restless lane ≡ false) lanes
+at-peace [] h = All-nil (λ (lane : Lane). is_restless lane ≡ false)
+at-peace (lane ∷ lanes) h =
+    All-cons (λ (l : Lane). is_restless l ≡ false) lane lanes (unrestless (is_restless lane) (omega (arith, h))) (at-peace lanes (omega (arith, h)))
+
+-- if none is counted, none is restless
+pub none-restless : (lanes : List Lane) (tally : Tally) → tally ≡ tally_of lanes → ltb 0 tally.restless ≡ false → All (λ (lane : Lane). is_restless lane ≡ false) lanes
+none-restless lanes tally is e = at-peace lanes (subst (λ (t : Tally). t.restless ≤ 0) is (grind (arith, e)))

@@ -1,7 +1,7 @@
 -- What several calls on wires tell, one after the other.
 use Rattle.std.proofs.Common.{List, [], ◌∷◌, ◌++◌, Option, None, Some, sym, ap, ◌∙◌, append_assoc}
 use Rattle.std.proofs.lemmas.List.{append-nil}
-use Rattle.hw_door.specs.Calls.{Adds}
+use Rattle.hw_door.specs.Calls.{Adds, AddsSome}
 use Rattle.hw_door.specs.Traffic.{Answer}
 use Rattle.hw_net.specs.Trace.{Tells}
 
@@ -10,6 +10,12 @@ adds-tells None None x h = tt
 adds-tells (Some m) None x h = tt
 adds-tells None (Some n) x h = absurd h
 adds-tells (Some m) (Some n) x h = h
+
+pub adds-some-tells : (a b : Option (List Answer)) (xs : List Answer) → AddsSome a b xs → Tells a b xs
+adds-some-tells None None xs h = tt
+adds-some-tells (Some m) None xs h = tt
+adds-some-tells None (Some n) xs h = absurd h
+adds-some-tells (Some m) (Some n) xs h = h
 
 pub tells-none : (a : Option (List Answer)) → Tells a a []
 tells-none None = tt

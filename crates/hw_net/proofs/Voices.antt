@@ -24,6 +24,7 @@ use Rattle.hw_net.specs.Trace.{Reads, Gives, Chooses, bytes_of}
 use Rattle.hw_net.specs.Turn.{Hears, Falls, Passes, Settles, Loses, LosesAt, TurnsLive, TurnsAt, Listens, Replies, Puts, PutsAt, Sends, Shuts}
 use Rattle.hw_net.proofs.Appends.{Grows, grows-none, grows-on, takes-grows, feeds-grows, shut-grows, says-grows}
 use Rattle.hw_net.proofs.Ends.{dead}
+use Rattle.hw_net.proofs.Fullness.{by-fullness, SaysPut}
 use Rattle.hw_net.proofs.Moves.{ActsAt, has-of}
 use Rattle.hw_net.proofs.Numbering.{replied-wire, put-wire}
 use Rattle.hw_net.proofs.Owed.{IsOwed, step-owed, new-owed, by-number, replies_by, replies-more}
@@ -350,7 +351,11 @@ passes-pour x mid y mine trace heard e f h = still-pours x y mine (ap (λ l. wri
 listens-say : (now : ℕ) (x y : Lane) (mine : List Answer) (own : Option Event) → Listens now x y mine own → SaysIn x y mine (refusals_in x.wire own)
 listens-say now x y mine own h = go x.stage h where
   go : (s : Stage) → TurnsAt s now x y mine own → SaysIn x y mine (refusals_in x.wire own)
-  go Live h = live-says now x y mine own h
+  go Live h = by-fullness (λ (l : Lane). SaysIn x l mine (refusals_in x.wire own)) now x y mine own
+      (λ d f s. pours-say x y mine (refusals_in x.wire own) (says-pour now (record x { full = None }) y mine s) (ap (λ o. refusals_in x.wire o) f))
+      (λ s f. pours-say x y mine (refusals_in x.wire own) (still-pours x y mine (ap (λ l. written_on x.wire l) f.0) (ap waits f.2) (ap (λ (l : Lane). l.protocol) f.2)) (ap (λ o. refusals_in x.wire o) f.1))
+      (λ mid t. live-says now x mid mine own t)
+      h
   go Lost h = pours-say x y mine (refusals_in x.wire own) (passes-pour x (record x { stage = Over }) y mine _ own refl refl h) (ap (λ o. refusals_in x.wire o) h.1)
   go Closing h = pours-say x y mine (refusals_in x.wire own) (says-pour now x y mine h.1) (ap (λ o. refusals_in x.wire o) h.0)
   go Over h = pours-say x y mine (refusals_in x.wire own) (passes-pour x x y mine _ own refl refl h) (ap (λ o. refusals_in x.wire o) h.1)
@@ -405,14 +410,14 @@ put-voiced true (Socket websocket_state) bytes text x mid is_put e h written rep
 put-voiced true (Http http_state) bytes text x mid is_put e h written replies v = becomes written replies mid x h.1 v
 put-voiced false protocol bytes text x mid is_put e h written replies v = becomes written replies mid x h.1 v
 
-sends-pour : (bytes : List ℕ) (text : Bool) (x y : Lane) (mine : List Answer) → Sends bytes text x y mine → Pours x y mine
-sends-pour bytes text x y mine h written replies v = go h.0 h.1 h.2 h.3 where
-  go : (mid : Lane) (b : Bool) → Puts bytes text x mid b → Chooses b (SaysMore mid y mine) ((mine ≡ []) × (y ≡ mid)) → IsVoiced (written ++ written_on x.wire mine) replies y
+sends-pour : (now : ℕ) (bytes : List ℕ) (text : Bool) (x y : Lane) (mine : List Answer) → Sends now bytes text x y mine → Pours x y mine
+sends-pour now bytes text x y mine h written replies v = go h.0 h.1 h.2 h.3 where
+  go : (mid : Lane) (b : Bool) → Puts bytes text x mid b → SaysPut now b mid y mine → IsVoiced (written ++ written_on x.wire mine) replies y
   go mid b p s =
       let put = put-voiced (is_live x.stage) x.protocol bytes text x mid b refl p written replies v in
       subst (λ n. IsVoiced (written ++ written_on n mine) replies y) (put-wire (is_live x.stage) x.protocol bytes text x mid b p) (rest b s put) where
-        rest : (b : Bool) → Chooses b (SaysMore mid y mine) ((mine ≡ []) × (y ≡ mid)) → IsVoiced written replies mid → IsVoiced (written ++ written_on mid.wire mine) replies y
-        rest true s put = more-pour mid y mine s written replies put
+        rest : (b : Bool) → SaysPut now b mid y mine → IsVoiced written replies mid → IsVoiced (written ++ written_on mid.wire mine) replies y
+        rest true s put = subst (λ (l : Lane). IsVoiced (written ++ written_on mid.wire mine) replies l) (sym s.2) (more-pour mid s.0 mine s.1 written replies put)
         rest false s put = same-pours mid y mine s.0 s.1 written replies put
 
 shut-voiced : (protocol : Protocol) (written out : List ℕ) (replies : List Reply) → Voiced (written ++ (out ++ frames_of protocol)) replies protocol → Voiced (written ++ (out ++ frames_of (protocol_after_shut protocol))) replies (protocol_after_shut protocol)
@@ -435,9 +440,9 @@ by-wire wire x y mine reply now h =
 moves-say : (call : Call) (x y : Lane) → Moves call x y → SaysIn x y (share x.wire (answers_in call)) (replies_by x.wire (owes x) call)
 moves-say (session.heard what answers) x y h = heeds-say what.now what.event x y (share x.wire answers) h
 moves-say (session.replied at reply answers) x y h = by-wire at x y (share x.wire answers) reply h.0 h.1
-moves-say (session.sent at bytes text answers) x y h =
-    by-number at (Sends bytes text) x y (share x.wire answers) (λ b. SaysIn x y (share x.wire answers) [])
-    (λ s. pours-say x y (share x.wire answers) [] (sends-pour bytes text x y (share x.wire answers) s) refl) (λ e f. pours-say x y (share x.wire answers) [] (same-pours x y (share x.wire answers) f e) refl) h
+moves-say (session.sent at bytes text full answers) x y h =
+    by-number at (Sends h.0 bytes text) x y (share x.wire answers) (λ b. SaysIn x y (share x.wire answers) [])
+    (λ s. pours-say x y (share x.wire answers) [] (sends-pour h.0 bytes text x y (share x.wire answers) s) refl) (λ e f. pours-say x y (share x.wire answers) [] (same-pours x y (share x.wire answers) f e) refl) h.1
 moves-say (session.shut at answers) x y h =
     by-number at (Shuts h.0) x y (share x.wire answers) (λ b. SaysIn x y (share x.wire answers) [])
     (λ s. pours-say x y (share x.wire answers) [] (shuts-pour h.0 x y (share x.wire answers) s) refl) (λ e f. pours-say x y (share x.wire answers) [] (same-pours x y (share x.wire answers) f e) refl) h.1

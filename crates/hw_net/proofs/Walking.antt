@@ -1,5 +1,5 @@
 -- Walks over the lanes of some places, put together from their parts.
-use Rattle.std.proofs.Common.{◌≡◌, ◌<◌, ◌≤◌, ◌+◌, ◌-◌, ◌++◌, ◌∷◌, [], ℕ, zero, suc, Bool, true, false, List, Option, None, Some, Result, Ok, Err, IfOk, refl, sym, ap, ◌∙◌, subst, append_assoc, arith, length, take, drop, set, get_or, ltb}
+use Rattle.std.proofs.Common.{◌≡◌, ◌<◌, ◌≤◌, ◌+◌, ◌-◌, ◌++◌, ◌∷◌, [], ℕ, zero, suc, Bool, true, false, ◌||◌, List, Option, None, Some, Result, Ok, Err, IfOk, refl, sym, ap, ◌∙◌, subst, append_assoc, arith, length, take, drop, set, get_or, ltb}
 use Rattle.std.proofs.lemmas.List.{append-nil, length-drop, length-map, get_or-drop, take_more, take_more_set, take_all, take-take, take-set-le, drop_more, drop-drop, drop-set-lt, drop-set-add, drop-take, take-append-drop, nil_from_length, set-get_or}
 use Rattle.std.specs.Int.{from_bool}
 use Rattle.hw_door.specs.declared.heard.Event.{Event}
@@ -13,7 +13,8 @@ use Rattle.hw_net.specs.declared.protocol.Stage.{Stage}
 use Rattle.hw_net.specs.declared.protocol.Stage.TheVariants.{Live, Lost, Closing, Over}
 use Rattle.hw_net.specs.Door.{HearsAll, index_of_first}
 use Rattle.hw_net.specs.FirstReads.{ReadsFirst, ReadsFirstAt}
-use Rattle.hw_net.specs.Lane.{Lane, waits, wires_of}
+use Rattle.hw_net.specs.declared.full.Fullness.{Fullness}
+use Rattle.hw_net.specs.Lane.{Lane, waits, wires_of, full_after_write}
 use Rattle.hw_net.specs.Lanes.{DoesHere}
 use Rattle.hw_net.specs.Saying.{WritesOut, Says, SaysAt, SpeaksAs, must_end}
 use Rattle.hw_net.specs.Tally.{has_unwritten, has_unwritten_by, tally_of}
@@ -151,7 +152,7 @@ speaks-here a b c now begin index all cur after le within inside h k = (
 )
 
 -- two parts of the places, one after the other
-split : (begin mid end : ℕ) (lanes : List Lane) → begin ≤ mid → mid ≤ end → between begin end lanes ≡ between begin mid lanes ++ between mid end lanes
+pub split : (begin mid end : ℕ) (lanes : List Lane) → begin ≤ mid → mid ≤ end → between begin end lanes ≡ between begin mid lanes ++ between mid end lanes
 split begin mid end lanes le lt = go (mid - begin) (end - mid) mid end (omega (arith, le)) (omega (arith, lt)) where
   parts : (a b : ℕ) (l : List Lane) → take (a + b) l ≡ take a l ++ take b (drop a l)
   parts zero b l = let e : 0 + b ≡ b = omega arith in ap (λ n. take n l) e
@@ -174,10 +175,10 @@ same-before begin end a b le same = go (end - begin) end (omega (arith, le)) sam
       let cuts : (l : List Lane) → between begin at l ≡ drop begin (take at l) = λ l. ap (λ n. between begin n l) e ∙ cut begin count l ∙ sym (drop-take begin count l) ∙ ap (λ n. drop begin (take n l)) (sym e) in
       cuts a ∙ ap (λ (l : List Lane). drop begin l) same ∙ sym (cuts b)
 
-same-after : (begin end : ℕ) (a b : List Lane) → drop begin a ≡ drop begin b → between begin end a ≡ between begin end b
+pub same-after : (begin end : ℕ) (a b : List Lane) → drop begin a ≡ drop begin b → between begin end a ≡ between begin end b
 same-after begin end a b same = ap (λ (l : List Lane). take (end - begin) l) same
 
-later : (begin end : ℕ) (a b : List Lane) → begin ≤ end → drop begin a ≡ drop begin b → drop end a ≡ drop end b
+pub later : (begin end : ℕ) (a b : List Lane) → begin ≤ end → drop begin a ≡ drop begin b → drop end a ≡ drop end b
 later begin end a b le same = go (end - begin) end (omega (arith, le)) where
   go : (count at : ℕ) → at ≡ begin + count → drop at a ≡ drop at b
   go count at e =
@@ -237,6 +238,10 @@ hears-walks now from index all cur after first last trace heard here same w v =
 never : true ≡ false → ⊥
 never e = absurd (cc e)
 
+or-none : (b : Bool) → b ≡ (b || false)
+or-none true = refl
+or-none false = refl
+
 nothing-waits : (n : ℕ) → ltb 0 n ≡ false → n ≡ 0
 nothing-waits n e = grind (arith, e)
 
@@ -244,6 +249,16 @@ nothing-waits n e = grind (arith, e)
 spoken : (protocol : Protocol) → SpeaksAs protocol protocol
 spoken (Http http_state) = refl
 spoken (Socket websocket_state) = refl
+
+-- nothing was written, so nothing counts as written
+unwritten : (n : ℕ) (full : Option Fullness) → full ≡ full_after_write (ltb n n) full
+unwritten n full = subst (λ b. full ≡ full_after_write b full) (sym none) (go full) where
+  none : ltb n n ≡ false
+  none = grind arith
+
+  go : (full : Option Fullness) → full ≡ full_after_write false full
+  go None = refl
+  go (Some full) = ap (λ b. Some (record full { has_written = b })) (or-none full.has_written)
 
 -- a lane on which nothing waits says nothing
 pub silent : (now : ℕ) (lane : Lane) → has_unwritten lane ≡ false → Says now lane lane []
@@ -257,6 +272,7 @@ silent now lane e = go lane.stage e refl where
         is_whole = true;
         writes = (empty, empty, refl);
         still = record { wire = refl; since = refl; protocol = spoken lane.protocol };
+        full = unwritten (length (waits lane)) lane.full;
         ends = λ must. absurd (never (sym must ∙ stays));
         stays = λ _. (refl, refl);
       }

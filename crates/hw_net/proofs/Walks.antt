@@ -5,17 +5,17 @@ use Rattle.hw_door.specs.declared.heard.Event.{Event}
 use Rattle.hw_door.specs.declared.heard.Event.TheVariants as event
 use Rattle.hw_door.specs.declared.heard.Heard.{Heard}
 use Rattle.hw_door.specs.Traffic.{Answer, polled, accepted}
-use Rattle.hw_net.specs.Door.{DoorState, HearsNext, IsNumbered, kept, time_to_wait, with_accepted, new_lane}
-use Rattle.hw_net.specs.Lane.{Lane, wires_of, refusal_of}
+use Rattle.hw_net.specs.Door.{DoorState, HearsNext, IsNumbered, kept, time_to_wait, with_accepted, new_lane, is_full_at}
+use Rattle.hw_net.specs.Lane.{Lane, wires_of, refusal_of, is_full}
 use Rattle.hw_net.specs.Rising.{IsRising}
 use Rattle.hw_net.specs.Saying.{Says}
-use Rattle.hw_net.specs.Sessions.{Call, heard, replied, sent, shut, Does, Session, answers_in, answers_of, request_on, requests_on, message_on, messages_on, is_request_on, is_owed_on, refusal_on, replies_on, was_shut_in, came_in}
+use Rattle.hw_net.specs.Sessions.{Call, heard, replied, sent, shut, Does, Session, answers_in, answers_of, request_on, requests_on, message_on, messages_on, is_request_on, is_owed_on, refusal_on, replies_on, was_shut_in, came_in, is_drained_on, was_full_on}
 use Rattle.hw_net.specs.Trace.{Chooses}
 use Rattle.hw_net.specs.Turn.{Listens, Replies, Sends, Shuts}
-use Rattle.hw_net.proofs.Moves.{Has, Without, IsOff, Fits, Turned, TurnedIn, Sweeps, sweeps, hears-wires, EachKeeps, ActsAt, Spreads, spreads, has-part, has-kept, rising-distinct, rising-without}
+use Rattle.hw_net.proofs.Moves.{Has, Without, AreDistinct, same-wire, IsOff, Fits, Turned, TurnedIn, Sweeps, sweeps, hears-wires, EachKeeps, ActsAt, Spreads, spreads, has-part, has-kept, rising-distinct, rising-without}
 use Rattle.hw_net.proofs.Numbering.{numbers-rise, replies-keep, sends-keep, shuts-keep}
 use Rattle.hw_net.proofs.Owning.{is_on, says-keeps, listens-keeps, replies-keeps, sends-keeps, shuts-keeps}
-use Rattle.hw_net.proofs.Shares.{share, share-append, came-append, equal, same}
+use Rattle.hw_net.proofs.Shares.{share, share-append, came-append, equal, same, turned}
 
 -- what a lane hears is the event, and if it hears nothing, the event isn't on it
 abbrev pub IsHeard : ℕ → Option Event → Event → Type 0
@@ -31,7 +31,8 @@ Heeds now what x y mine =
 abbrev pub Moves : Call → Lane → Lane → Type 0
 Moves (heard what answers) x y = Heeds what.now what.event x y (share x.wire answers)
 Moves (replied lane reply answers) x y = (moment : ℕ) × ActsAt lane (Replies moment reply) x y (share x.wire answers)
-Moves (sent lane bytes text answers) x y = ActsAt lane (Sends bytes text) x y (share x.wire answers)
+Moves (sent lane bytes text full answers) x y =
+    (moment : ℕ) × ActsAt lane (Sends moment bytes text) x y (share x.wire answers) × ((x.wire == lane) ≡ true → full ≡ is_full y)
 Moves (shut lane answers) x y = (moment : ℕ) × ActsAt lane (Shuts moment) x y (share x.wire answers)
 
 at-wire : (wire : ℕ) (Does : Lane → Lane → List Answer → Type 0) (x y : Lane) (mine : List Answer) → EachKeeps Does → ActsAt wire Does x y mine → y.wire ≡ x.wire
@@ -45,12 +46,13 @@ pub moves-wire : (call : Call) (x y : Lane) → Moves call x y → y.wire ≡ x.
 moves-wire (heard what answers) x y (inl h) = (listens-keeps what.now x y (share x.wire answers) h.0 h.1).0.0
 moves-wire (heard what answers) x y (inr h) = (says-keeps what.now x y (share x.wire answers) h.0).0
 moves-wire (replied lane reply answers) x y h = at-wire lane (Replies h.0 reply) x y (share x.wire answers) (replies-keeps h.0 reply) h.1
-moves-wire (sent lane bytes text answers) x y h = at-wire lane (Sends bytes text) x y (share x.wire answers) (sends-keeps bytes text) h
+moves-wire (sent lane bytes text full answers) x y h = at-wire lane (Sends h.0 bytes text) x y (share x.wire answers) (sends-keeps h.0 bytes text) h.1
 moves-wire (shut lane answers) x y h = at-wire lane (Shuts h.0) x y (share x.wire answers) (shuts-keeps h.0) h.1
 
--- a call isn't heard on a lane
+-- a call isn't heard on a lane, nor told that it is full
 abbrev pub IsElsewhere : ℕ → Call → Type 0
 IsElsewhere wire (heard what answers) = is_on wire what.event ≡ false
+IsElsewhere wire (sent lane bytes text full answers) = (lane == wire) ≡ true → full ≡ false
 IsElsewhere wire _ = Unit {0}
 
 -- a lane is new: its number is none of those that came before
@@ -151,8 +153,34 @@ next-steps what answers bound bound_after before after d rise =
 
 -- ---- the steps of the other calls
 
+-- no lane of this number is full, or the one that has it is the one
+full-off : (wire : ℕ) (lanes : List Lane) → Without wire lanes → is_full_at wire lanes ≡ false
+full-off wire [] off = refl
+full-off wire (lane ∷ lanes) off =
+    ap (λ b. (b && is_full lane) || is_full_at wire lanes) (off lane (inl refl)) ∙ full-off wire lanes (λ x has. off x (inr has))
+
+full-at : (wire : ℕ) (lanes : List Lane) (y : Lane) → AreDistinct lanes → Has lanes y → (y.wire == wire) ≡ true → is_full_at wire lanes ≡ is_full y
+full-at wire [] y distinct has e = absurd has
+full-at wire (lane ∷ lanes) y distinct (inl f) e =
+    let here : (lane.wire == wire) ≡ true = ap (λ (l : Lane). l.wire == wire) f ∙ e in
+    ap (λ b. (b && is_full lane) || is_full_at wire lanes) here
+    ∙ ap (λ b. is_full lane || b) (full-off wire lanes (λ x has. same-wire lane.wire wire x.wire here (distinct.0 x has))) ∙ or-false (is_full lane) ∙ ap (λ (l : Lane). is_full l) f where
+      or-false : (b : Bool) → (b || false) ≡ b
+      or-false true = refl
+      or-false false = refl
+full-at wire (lane ∷ lanes) y distinct (inr has) e =
+    ap (λ b. (b && is_full lane) || is_full_at wire lanes) (same-wire y.wire wire lane.wire e (turned y.wire lane.wire (distinct.0 y has)))
+    ∙ full-at wire lanes y distinct.1 has e
+
+still-without : (wire w : ℕ) (Does : Lane → Lane → List Answer → Type 0) (lanes after : List Lane) (answers : List Answer) → EachKeeps Does → Spreads wire Does lanes after answers → (wire == w) ≡ true → Without w lanes →
+    Without wire after
+still-without wire w Does lanes after answers each spread e without y has =
+    let p = spread.back y has in
+    subst (λ n. (n == wire) ≡ false) (sym (at-wire wire Does p.0 y (share p.0.wire answers) each p.2))
+    (subst (λ n. (p.0.wire == n) ≡ false) (sym (equal wire w e)) (without p.0 p.1))
+
 at-steps : (call : Call) (wire : ℕ) (Does : Lane → Lane → List Answer → Type 0) (answers : List Answer) (bound bound_after : ℕ) (before after : DoorState) → answers_in call ≡ answers →
-    ((x y : Lane) → ActsAt wire Does x y (share x.wire answers) → Moves call x y) → ((w : ℕ) → IsElsewhere w call) → Spreads wire Does before.lanes after.lanes answers →
+    ((x y : Lane) → Has after.lanes y → ActsAt wire Does x y (share x.wire answers) → Moves call x y) → ((w : ℕ) → Without w before.lanes → IsElsewhere w call) → Spreads wire Does before.lanes after.lanes answers →
     IsRising 0 bound (wires_of before.lanes) → wires_of after.lanes ≡ wires_of before.lanes → bound_after ≡ bound → Steps call bound bound_after before after
 at-steps call wire Does answers bound bound_after before after all moves elsewhere spread rise same e = record {
   lanes = before.lanes;
@@ -161,23 +189,28 @@ at-steps call wire Does answers bound bound_after before after all moves elsewhe
   rise = subst (λ n. IsRising 0 n (wires_of before.lanes)) (sym e) rise;
   risen = subst (λ n. IsRising 0 n (wires_of after.lanes)) (sym e) (subst (λ (l : List ℕ). IsRising 0 bound l) (sym same) rise);
   bounds = omega (arith, e);
-  back = λ y has. let p = spread.back y has in (p.0, p.1, moves p.0 y p.2);
-  on = λ x has. let p = spread.on x has in (p.0, p.1, moves x p.0 p.2);
-  off = λ w without. (ap (λ l. share w l) all ∙ spread.off w without, elsewhere w);
+  back = λ y has. let p = spread.back y has in (p.0, p.1, moves p.0 y has p.2);
+  on = λ x has. let p = spread.on x has in (p.0, p.1, moves x p.0 p.1 p.2);
+  off = λ w without. (ap (λ l. share w l) all ∙ spread.off w without, elsewhere w without);
 }
 
 pub steps : (call : Call) (bound bound_after : ℕ) (before after : DoorState) → Does call bound bound_after before after → IsRising 0 bound (wires_of before.lanes) → Steps call bound bound_after before after
 steps (heard what answers) bound bound_after before after d rise = next-steps what answers bound bound_after before after d rise
 steps (replied lane reply answers) bound bound_after before after d rise =
-    at-steps (replied lane reply answers) lane (Replies before.moment reply) answers bound bound_after before after refl (λ x y k. (before.moment, k)) (λ w. tt)
+    at-steps (replied lane reply answers) lane (Replies before.moment reply) answers bound bound_after before after refl (λ x y has k. (before.moment, k)) (λ w without. tt)
     (spreads lane (Replies before.moment reply) before.lanes after.lanes answers (replies-keeps before.moment reply) d.0.0 (rising-distinct 0 bound before.lanes rise))
     rise (replies-keep lane before.moment reply before after answers d.0) d.1
-steps (sent lane bytes text answers) bound bound_after before after d rise =
-    at-steps (sent lane bytes text answers) lane (Sends bytes text) answers bound bound_after before after refl (λ x y k. k) (λ w. tt)
-    (spreads lane (Sends bytes text) before.lanes after.lanes answers (sends-keeps bytes text) d.0.0 (rising-distinct 0 bound before.lanes rise))
-    rise (sends-keep lane bytes text before after answers d.0) d.1
+steps (sent lane bytes text full answers) bound bound_after before after d rise =
+    let each = sends-keeps before.moment bytes text in
+    let same = sends-keep lane before.moment bytes text before after answers d.0 in
+    let spread = spreads lane (Sends before.moment bytes text) before.lanes after.lanes answers each d.0.0 (rising-distinct 0 bound before.lanes rise) in
+    let distinct = rising-distinct 0 bound after.lanes (subst (λ (l : List ℕ). IsRising 0 bound l) (sym same) rise) in
+    at-steps (sent lane bytes text full answers) lane (Sends before.moment bytes text) answers bound bound_after before after refl
+    (λ x y has k. (before.moment, k, λ e. d.1 ∙ full-at lane after.lanes y distinct has (ap (λ n. n == lane) (at-wire lane (Sends before.moment bytes text) x y (share x.wire answers) each k) ∙ e)))
+    (λ w without e. d.1 ∙ full-off lane after.lanes (still-without lane w (Sends before.moment bytes text) before.lanes after.lanes answers each spread e without))
+    spread rise same d.2
 steps (shut lane answers) bound bound_after before after d rise =
-    at-steps (shut lane answers) lane (Shuts before.moment) answers bound bound_after before after refl (λ x y k. (before.moment, k)) (λ w. tt)
+    at-steps (shut lane answers) lane (Shuts before.moment) answers bound bound_after before after refl (λ x y has k. (before.moment, k)) (λ w without. tt)
     (spreads lane (Shuts before.moment) before.lanes after.lanes answers (shuts-keeps before.moment) d.0.0 (rising-distinct 0 bound before.lanes rise))
     rise (shuts-keep lane before.moment before after answers d.0) d.1
 
@@ -197,6 +230,7 @@ unrequested wire (event.Bytes at bytes) h = refl
 unrequested wire (event.Response at status body) h = refl
 unrequested wire (event.Upgraded at) h = refl
 unrequested wire (event.Lost at) h = refl
+unrequested wire (event.Drained at) h = refl
 unrequested wire event.Quiet h = refl
 
 pub not-request : (wire : ℕ) (what : Event) → is_on wire what ≡ false → is_request_on wire what ≡ false
@@ -206,6 +240,7 @@ not-request wire (event.Bytes at bytes) h = refl
 not-request wire (event.Response at status body) h = refl
 not-request wire (event.Upgraded at) h = refl
 not-request wire (event.Lost at) h = refl
+not-request wire (event.Drained at) h = refl
 not-request wire event.Quiet h = refl
 
 pub unrefused : (wire : ℕ) (what : Event) → is_on wire what ≡ false → refusal_on wire what ≡ []
@@ -215,6 +250,7 @@ unrefused wire (event.Bytes at bytes) h = refl
 unrefused wire (event.Response at status body) h = refl
 unrefused wire (event.Upgraded at) h = refl
 unrefused wire (event.Lost at) h = refl
+unrefused wire (event.Drained at) h = refl
 unrefused wire event.Quiet h = refl
 
 pub unheard : (wire : ℕ) (what : Event) → is_on wire what ≡ false → message_on wire what ≡ []
@@ -224,6 +260,7 @@ unheard wire (event.Bytes at bytes) h = ap (λ b. if b then bytes ∷ [] else []
 unheard wire (event.Response at status body) h = refl
 unheard wire (event.Upgraded at) h = refl
 unheard wire (event.Lost at) h = refl
+unheard wire (event.Drained at) h = refl
 unheard wire event.Quiet h = refl
 
 -- nothing was heard or said on a lane, and its wire wasn't called
@@ -233,6 +270,7 @@ pub record IsUntouched (wire : ℕ) (calls : List Call) : Type 0 where
   pub messages : messages_on wire calls ≡ []
   pub replies : replies_on wire calls ≡ []
   pub owed : is_owed_on wire calls ≡ false
+  pub full : was_full_on wire calls ≡ false
 
 and-false : (a : Bool) → (a && false) ≡ false
 and-false true = refl
@@ -246,19 +284,19 @@ untouched-owed wire (heard what answers) calls off e =
     ap (λ b. not (was_shut_in wire answers) && (b || is_owed_on wire calls)) (not-request wire what.event off) ∙ ap (λ b. not (was_shut_in wire answers) && b) e
     ∙ and-false (not (was_shut_in wire answers))
 untouched-owed wire (replied at reply answers) calls off e = ap (λ b. not (at == wire) && b) e ∙ and-false (not (at == wire))
-untouched-owed wire (sent at bytes text answers) calls off e = e
+untouched-owed wire (sent at bytes text full answers) calls off e = e
 untouched-owed wire (shut at answers) calls off e = ap (λ b. not (at == wire) && b) e ∙ and-false (not (at == wire))
 
 untouched-requests : (wire : ℕ) (call : Call) (calls : List Call) → IsElsewhere wire call → requests_on wire calls ≡ [] → requests_on wire (call ∷ calls) ≡ []
 untouched-requests wire (heard what answers) calls off e = joined (requests_on wire calls) (request_on wire what.event) e (unrequested wire what.event off)
 untouched-requests wire (replied at reply answers) calls off e = e
-untouched-requests wire (sent at bytes text answers) calls off e = e
+untouched-requests wire (sent at bytes text full answers) calls off e = e
 untouched-requests wire (shut at answers) calls off e = e
 
 untouched-messages : (wire : ℕ) (call : Call) (calls : List Call) → IsElsewhere wire call → messages_on wire calls ≡ [] → messages_on wire (call ∷ calls) ≡ []
 untouched-messages wire (heard what answers) calls off e = joined (messages_on wire calls) (message_on wire what.event) e (unheard wire what.event off)
 untouched-messages wire (replied at reply answers) calls off e = e
-untouched-messages wire (sent at bytes text answers) calls off e = e
+untouched-messages wire (sent at bytes text full answers) calls off e = e
 untouched-messages wire (shut at answers) calls off e = e
 
 untouched-replies : (wire : ℕ) (call : Call) (calls : List Call) → IsElsewhere wire call → is_owed_on wire calls ≡ false → replies_on wire calls ≡ [] → replies_on wire (call ∷ calls) ≡ []
@@ -266,11 +304,20 @@ untouched-replies wire (heard what answers) calls off owed e = joined (replies_o
 untouched-replies wire (replied at reply answers) calls off owed e =
     joined (replies_on wire calls) (if (at == wire) && is_owed_on wire calls then reply ∷ [] else []) e
     (ap (λ b. if (at == wire) && b then reply ∷ [] else []) owed ∙ ap (λ b. if b then reply ∷ [] else []) (and-false (at == wire)))
-untouched-replies wire (sent at bytes text answers) calls off owed e = e
+untouched-replies wire (sent at bytes text full answers) calls off owed e = e
 untouched-replies wire (shut at answers) calls off owed e = e
 
+untouched-full : (wire : ℕ) (call : Call) (calls : List Call) → IsElsewhere wire call → was_full_on wire calls ≡ false → was_full_on wire (call ∷ calls) ≡ false
+untouched-full wire (heard what answers) calls off e = ap (λ b. not (is_drained_on wire what.event) && b) e ∙ and-false (not (is_drained_on wire what.event))
+untouched-full wire (replied at reply answers) calls off e = e
+untouched-full wire (sent at bytes text full answers) calls off e = go (at == wire) off where
+  go : (b : Bool) → (b ≡ true → full ≡ false) → (if b then full else was_full_on wire calls) ≡ false
+  go true off = off refl
+  go false off = e
+untouched-full wire (shut at answers) calls off e = e
+
 pub untouched : (calls : List Call) (bound : ℕ) (now : DoorState) (wire : ℕ) → Session calls bound now → bound ≤ wire → IsUntouched wire calls
-untouched [] bound now wire h le = record { answers = refl; requests = refl; messages = refl; replies = refl; owed = refl }
+untouched [] bound now wire h le = record { answers = refl; requests = refl; messages = refl; replies = refl; owed = refl; full = refl }
 untouched (call ∷ calls) bound now wire h le =
     let step = steps-in call calls bound now h in
     let before = untouched calls h.0 h.1 wire h.2 (omega (arith, step.bounds, le)) in
@@ -281,6 +328,7 @@ untouched (call ∷ calls) bound now wire h le =
       messages = untouched-messages wire call calls off.1 before.messages;
       replies = untouched-replies wire call calls off.1 before.owed before.replies;
       owed = untouched-owed wire call calls off.1 before.owed;
+      full = untouched-full wire call calls off.1 before.full;
     }
 
 -- ---- all lanes

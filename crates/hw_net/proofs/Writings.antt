@@ -4,7 +4,7 @@ use Rattle.std.proofs.lemmas.List.{append-nil, take-append-drop}
 use Rattle.hw_door.specs.Calls.{Adds}
 use Rattle.hw_net.specs.Trace.{Tells}
 use Rattle.hw_net.proofs.Telling.{tells-one-more}
-use Rattle.hw_door.specs.Traffic.{Answer, polled, poll_failed, accepted, accept_failed, connected, connect_failed, bytes_in, not_yet, ended, read_failed, bytes_out, write_failed, was_shut}
+use Rattle.hw_door.specs.Traffic.{Answer, polled, poll_failed, accepted, accept_failed, connected, connect_failed, bytes_in, not_yet, ended, read_failed, bytes_out, write_failed, was_shut, none_ready}
 use Rattle.hw_net.specs.Saying.{Writes}
 
 -- the writes so far took some of what waits, so that whatever more writes leave, all of them leave
@@ -86,6 +86,7 @@ writes-both wire xs ys (bytes_out at (c ∷ cs) ∷ ones) bs left is_whole w v =
 writes-both wire xs ys (write_failed at ∷ []) bs left is_whole w v = cc w.3
 writes-both wire xs ys (write_failed at ∷ a ∷ ones) bs left is_whole w v = absurd w
 writes-both wire xs ys (was_shut at ∷ ones) bs left is_whole w v = absurd w
+writes-both wire xs ys (none_ready ∷ ones) bs left is_whole w v = absurd w
 
 some-more : (xs ys : List ℕ) → xs ≢ [] → xs ++ ys ≢ []
 some-more [] ys some = λ e. some refl
@@ -111,6 +112,7 @@ writes-first wire xs ys (bytes_out at (c ∷ cs) ∷ ones) left is_whole w some 
 writes-first wire xs ys (write_failed at ∷ []) left is_whole w some = (w.0, some-more xs ys w.1, ap (λ (l : List ℕ). l ++ ys) w.2, w.3)
 writes-first wire xs ys (write_failed at ∷ a ∷ ones) left is_whole w some = absurd w
 writes-first wire xs ys (was_shut at ∷ ones) left is_whole w some = absurd w
+writes-first wire xs ys (none_ready ∷ ones) left is_whole w some = absurd w
 
 -- a write that failed left something
 pub left-of-failed : (wire : ℕ) (xs : List ℕ) (ones : List Answer) (left : List ℕ) → Writes wire xs ones left false → left ≢ []
@@ -131,3 +133,4 @@ left-of-failed wire xs (bytes_out at (c ∷ cs) ∷ ones) left w = left-of-faile
 left-of-failed wire xs (write_failed at ∷ []) left w = λ e. w.1 (sym w.2 ∙ e)
 left-of-failed wire xs (write_failed at ∷ a ∷ ones) left w = absurd w
 left-of-failed wire xs (was_shut at ∷ ones) left w = absurd w
+left-of-failed wire xs (none_ready ∷ ones) left w = absurd w

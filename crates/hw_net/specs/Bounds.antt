@@ -39,7 +39,7 @@ RepliesAreWithin = (lane now : ℕ) (reply : Reply) (before after : DoorState) (
     → AreWithin before.lanes → AreWithin after.lanes
 
 abbrev pub SendsAreWithin : Type 0
-SendsAreWithin = (lane : ℕ) (bytes : List ℕ) (text : Bool) (before after : DoorState) (answers : List Answer) → DoesAt lane (Sends bytes text) before after answers
+SendsAreWithin = (lane now : ℕ) (bytes : List ℕ) (text : Bool) (before after : DoorState) (answers : List Answer) → DoesAt lane (Sends now bytes text) before after answers
     → AreWithin before.lanes → AreWithin after.lanes
 
 abbrev pub ShutsAreWithin : Type 0

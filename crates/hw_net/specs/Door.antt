@@ -1,17 +1,18 @@
 -- What a door does in one call.
-use Rattle.std.specs.Prelude.{◌≡◌, ◌==◌, ◌⊎◌, ◌<◌, ◌≤◌, ◌+◌, ◌-◌, ◌^◌, ℕ, false, true, not, nat_le, max, if◌then◌else◌, List, [], ◌∷◌, ◌++◌, filter, take, drop, length, Option, None, Some, position, unwrap_or, option_to_list}
+use Rattle.std.specs.Prelude.{◌≡◌, ◌==◌, ◌&&◌, ◌⊎◌, ◌<◌, ◌≤◌, ◌+◌, ◌-◌, ◌^◌, ℕ, Bool, false, true, not, nat_le, max, if◌then◌else◌, List, [], ◌∷◌, ◌++◌, filter, take, drop, length, Option, None, Some, position, unwrap_or, option_to_list}
 use Rattle.std.specs.List.{list_any}
 use Rattle.hw_door.specs.declared.heard.Heard.{Heard}
 use Rattle.hw_door.specs.declared.heard.Event.{Event}
 use Rattle.hw_door.specs.declared.heard.Event.TheVariants as event
-use Rattle.hw_door.specs.Traffic.{Answer, polled, accepted, poll_failed, accept_failed}
+use Rattle.hw_door.specs.Traffic.{Answer, polled, accepted, poll_failed, accept_failed, not_yet, none_ready}
 use Rattle.hh_http.specs.Lane.{at_start}
 use Rattle.hw_net.specs.declared.limits.TheConstants.{MOST_NAMED}
 use Rattle.hw_net.specs.declared.protocol.Protocol.TheVariants.{Http}
 use Rattle.hw_net.specs.declared.protocol.Stage.TheVariants.{Live}
 use Rattle.hw_net.specs.declared.door.NetDoor.{NetDoor}
-use Rattle.hw_net.specs.Lane.{Lane, is_over, is_awake, wires_of}
-use Rattle.hw_net.specs.Turn.{TurnAll, AtLane}
+use Rattle.hw_net.specs.Lane.{Lane, is_over, is_awake, is_full, wires_of}
+use Rattle.hw_net.specs.Saying.{Says}
+use Rattle.hw_net.specs.Turn.{Listens, TurnAll, AtLane}
 
 -- the lanes, the number from which on they come first in the next search that begins with no named one, how many searches in a row began
 -- with a named one, and the moment of what was heard last
@@ -39,6 +40,7 @@ new_lane now wire = record {
   });
   out = [];
   stage = Live;
+  full = None;
 }
 
 -- the lanes with that of the wire that was accepted, if one was
@@ -76,6 +78,7 @@ lane_of (event.Bytes lane bytes) = lane
 lane_of (event.Response lane status body) = lane
 lane_of (event.Upgraded lane) = lane
 lane_of (event.Lost lane) = lane
+lane_of (event.Drained lane) = lane
 lane_of event.Quiet = 0
 
 -- a search begins at this number: that from which on lanes come first, or any other, though only so many times in a row
@@ -107,8 +110,48 @@ pub record HearsAll (now : ℕ) (from : ℕ) (before after : List Lane) (answers
   pub turns_first : TurnAll now None (drop (index_of_first from before) before) first answers_first trace
   pub turns_last : TurnAll now trace (take (index_of_first from before) before) last answers_last heard
 
+-- a wire wasn't read, or gave nothing
+abbrev pub IsNothing : ℕ → List Answer → Type 0
+IsNothing wire answers = (answers ≡ []) ⊎ (answers ≡ not_yet wire ∷ [])
+
+-- a lane rests at a moment: a turn in which its wire gives nothing would hear nothing and leave it as it is, and it has nothing to write
+pub record RestsAt (now : ℕ) (lane : Lane) : Type 0 where
+  pub answers : List Answer
+  pub nothing : IsNothing lane.wire answers
+  pub quiet : Listens now lane lane answers None
+  pub silent : Says now lane lane []
+
+-- a lane listens and hears nothing, or it rests and isn't asked
+abbrev pub ListensOrRests : ℕ → Lane → Lane → List Answer → Type 0
+ListensOrRests now before after answers = Listens now before after answers None ⊎ (RestsAt now before × (after ≡ before) × (answers ≡ []))
+
+-- the same of lanes, the first first
+abbrev pub ListenOrRest : ℕ → List Lane → List Lane → List Answer → Type 0
+ListenOrRest now [] after answers = (after ≡ []) × (answers ≡ [])
+ListenOrRest now (lane ∷ lanes) after answers =
+    (next : Lane) × (rest : List Lane) × (first : List Answer) × (more : List Answer)
+    × (after ≡ next ∷ rest) × (answers ≡ first ++ more) × ListensOrRests now lane next first × ListenOrRest now lanes rest more
+
+-- Nothing is heard: the lanes take their turns at this moment, those from this number on first, but for some that rest, and then the wires told
+-- that none of them has anything to give.
+pub record RestsAll (now : ℕ) (from : ℕ) (before after : List Lane) (answers : List Answer) (heard : Option Event) : Type 0 where
+  pub first : List Lane
+  pub last : List Lane
+  pub answers_first : List Answer
+  pub answers_last : List Answer
+  pub all : answers ≡ answers_first ++ (answers_last ++ none_ready ∷ [])
+  pub order : after ≡ last ++ first
+  pub unheard : heard ≡ None
+  pub parts_first : ListenOrRest now (drop (index_of_first from before) before) first answers_first
+  pub parts_last : ListenOrRest now (take (index_of_first from before) before) last answers_last
+
+-- a search: the lanes take their turns, or all that don't rest
+abbrev pub Searches : ℕ → ℕ → List Lane → List Lane → List Answer → Option Event → Type 0
+Searches now from before after answers heard = HearsAll now from before after answers heard ⊎ RestsAll now from before after answers heard
+
 -- One `next` that was handed this wait: one poll, which is handed the same, or 0 if something may be heard at once, one accept, and then a
--- turn of each lane, from the one whose turn it is, or from any other. Nothing is heard only if each lane was listened to and gave nothing.
+-- turn of each lane, from the one whose turn it is, or from any other. Nothing is heard only if each lane was listened to and gave nothing, or
+-- rests, and the wires told in the end that none of them has anything to give.
 pub record HearsNext (wait : ℕ) (before after : DoorState) (answers : List Answer) (heard : Heard) : Type 0 where
   pub now : ℕ
   pub wire : Option ℕ
@@ -118,7 +161,7 @@ pub record HearsNext (wait : ℕ) (before after : DoorState) (answers : List Ans
   pub all : answers ≡ polled (time_to_wait wait (kept before.lanes)) now ∷ accepted wire ∷ turns
   pub moment : heard.now ≡ max now before.moment
   pub begins : Begins before begin after.named
-  pub hears : HearsAll heard.now begin (with_accepted heard.now wire (kept before.lanes)) after.lanes turns trace
+  pub hears : Searches heard.now begin (with_accepted heard.now wire (kept before.lanes)) after.lanes turns trace
   pub event_is : heard.event ≡ unwrap_or trace event.Quiet
   pub from : after.from ≡ from_after after.named before.from trace
   pub later : after.moment ≡ heard.now
@@ -129,6 +172,10 @@ FailsNext wait before answers =
     (answers ≡ poll_failed (time_to_wait wait (kept before.lanes)) ∷ [])
     ⊎ ((now : ℕ) × (answers ≡ polled (time_to_wait wait (kept before.lanes)) now ∷ accept_failed ∷ []))
 
+-- the lane of this number is full, if there is one
+abbrev pub is_full_at : ℕ → List Lane → Bool
+is_full_at wire lanes = list_any (λ (lane : Lane). (lane.wire == wire) && is_full lane) lanes
+
 -- a call on the lane of this number, which does this there
 abbrev pub DoesAt : ℕ → (Lane → Lane → List Answer → Type 0) → DoorState → DoorState → List Answer → Type 0
 DoesAt lane Does before after answers =
@@ -137,5 +184,5 @@ DoesAt lane Does before after answers =
 -- the turns of all lanes, which end with this event
 abbrev pub HearsTurns : ℕ → DoorState → DoorState → List Answer → Event → Type 0
 HearsTurns now before after answers heard =
-    (trace : Option Event) × (begin : ℕ) × Begins before begin after.named × HearsAll now begin before.lanes after.lanes answers trace
+    (trace : Option Event) × (begin : ℕ) × Begins before begin after.named × Searches now begin before.lanes after.lanes answers trace
     × (heard ≡ unwrap_or trace event.Quiet) × (after.from ≡ from_after after.named before.from trace) × (after.moment ≡ before.moment)

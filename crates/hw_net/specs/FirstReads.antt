@@ -1,5 +1,5 @@
 -- What a first look at a lane gives, before its turn.
-use Rattle.std.specs.Prelude.{◌≡◌, ◌≤◌, ℕ, List, [], ◌∷◌, Some, IfSome, ⊤, take, option_map, slice_index_or}
+use Rattle.std.specs.Prelude.{◌≡◌, ◌≤◌, ℕ, List, [], ◌∷◌, None, Some, IfSome, ⊤, take, option_map, slice_index_or}
 use Rattle.hw_door.specs.Traffic.{Answer}
 use Rattle.hw_net.specs.declared.first_read.FirstRead.{FirstRead}
 use Rattle.hw_net.specs.declared.first_read.FirstRead.TheVariants.{Unread, NothingRead, Read}
@@ -20,6 +20,7 @@ pub record IsCalmLane (lane : Lane) : Type 0 where
   pub live : lane.stage ≡ Live
   pub protocol : IsCalmProtocol lane.protocol
   pub out : lane.out ≡ []
+  pub full : lane.full ≡ None
 
 -- a look: the wire is read only of a calm lane, and what it gave stands in front of the buffer then
 abbrev pub ReadsFirst : Lane → List Answer → List ℕ → FirstRead → Type 0

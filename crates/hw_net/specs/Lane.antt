@@ -1,5 +1,5 @@
 -- One lane of a door.
-use Rattle.std.specs.Prelude.{◌==◌, ◌-◌, ◌&&◌, ◌||◌, ℕ, Bool, true, false, not, nat_le, if◌then◌else◌, List, [], ◌++◌, map, None}
+use Rattle.std.specs.Prelude.{◌==◌, ◌-◌, ◌&&◌, ◌||◌, ℕ, Bool, true, false, not, nat_le, nat_lt, if◌then◌else◌, List, [], ◌++◌, length, map, Option, None, Some, is_some}
 use Rattle.hw_lanes.specs.declared.http.Refusal.{Refusal}
 use Rattle.hw_lanes.specs.declared.http.Reply.{Reply}
 use Rattle.hw_lanes.specs.declared.http.BodyKind.TheVariants as kind
@@ -7,7 +7,8 @@ use Rattle.hh_http.specs.Texts.{continue_text, reply_text}
 use Rattle.hw_socket.specs.Lane.{fresh_lane}
 use Rattle.hw_socket.specs.Sending.{after_shut}
 use Rattle.hw_socket.specs.declared.vocabulary.SocketSide.TheVariants as side
-use Rattle.hw_net.specs.declared.limits.TheConstants.{MOST_WAIT, SWITCHING}
+use Rattle.hw_net.specs.declared.limits.TheConstants.{MOST_BEFORE_FULL, MOST_DRAINED, MOST_STALLED, MOST_WAIT, SWITCHING}
+use Rattle.hw_net.specs.declared.full.Fullness.{Fullness}
 use Rattle.hw_net.specs.HttpState.{HttpStateView, is_awake as http_is_awake}
 use Rattle.hw_net.specs.declared.protocol.Protocol.{Protocol}
 use Rattle.hw_net.specs.declared.protocol.Protocol.TheVariants.{Http, Socket}
@@ -15,13 +16,14 @@ use Rattle.hw_net.specs.declared.protocol.Stage.{Stage}
 use Rattle.hw_net.specs.declared.protocol.Stage.TheVariants.{Live, Lost, Closing, Over}
 
 -- a lane: the number of its wire, which is its own; since when it waits for a whole request, or closes; what it speaks; what was replied
--- and isn't written; and how far it is
+-- and isn't written; how far it is; and how long it is full, if it is
 pub record Lane : Type 0 where
   pub wire : ℕ
   pub since : ℕ
   pub protocol : Protocol
   pub out : List ℕ
   pub stage : Stage
+  pub full : Option Fullness
 
 -- the numbers of lanes, in order
 abbrev pub wires_of : List Lane → List ℕ
@@ -65,8 +67,50 @@ is_awake_by Lost protocol = true
 is_awake_by Closing protocol = false
 is_awake_by Over protocol = false
 
+-- a lane that is full has so little left to write that it isn't any more
+abbrev pub has_drained : Option Fullness → ℕ → Bool
+has_drained full unwritten = is_some full && nat_le unwritten MOST_DRAINED
+
+abbrev pub is_drained : Lane → Bool
+is_drained lane = is_live lane.stage && has_drained lane.full (length (waits lane))
+
 abbrev pub is_awake : Lane → Bool
-is_awake lane = is_awake_by lane.stage lane.protocol
+is_awake lane = is_awake_by lane.stage lane.protocol || is_drained lane
+
+-- a lane that the door says is full
+abbrev pub is_full : Lane → Bool
+is_full lane = is_live lane.stage && is_some lane.full
+
+-- it is full, nothing had been written on its wire for too long in its last turn, and nothing was since
+abbrev pub has_stalled : Option Fullness → Bool
+has_stalled None = false
+has_stalled (Some full) = full.is_late && not full.has_written
+
+abbrev pub is_stalled : Lane → Bool
+is_stalled lane = has_stalled lane.full
+
+-- once some bytes were written, or none
+abbrev pub full_after_write : Bool → Option Fullness → Option Fullness
+full_after_write some None = None
+full_after_write some (Some full) = Some (record full { has_written = full.has_written || some })
+
+-- after a turn at this moment: what was written till then counts from it, and if nothing was, it may have been so for too long
+abbrev pub full_after_turn : ℕ → Option Fullness → Option Fullness
+full_after_turn now None = None
+full_after_turn now (Some full) =
+    if full.has_written then Some (record { since = now; has_written = false; is_late = false })
+    else Some (record full { is_late = nat_le MOST_STALLED (now - full.since) })
+
+abbrev pub after_turn : ℕ → Lane → Lane
+after_turn now lane = record lane { full = full_after_turn now lane.full }
+
+-- after a message at this moment, with so much unwritten: a lane is full from too much on until little is left. Its time counts from its next turn
+abbrev pub full_after_message : ℕ → ℕ → Option Fullness → Option Fullness
+full_after_message now unwritten None = if nat_lt MOST_BEFORE_FULL unwritten then Some (record { since = now; has_written = true; is_late = false }) else None
+full_after_message now unwritten (Some full) = if nat_le unwritten MOST_DRAINED then None else Some full
+
+abbrev pub after_message : ℕ → Lane → Lane
+after_message now lane = record lane { full = full_after_message now (length (waits lane)) lane.full }
 
 -- a lane of requests has waited for too long
 abbrev pub is_late : ℕ → ℕ → Protocol → Bool

@@ -6,6 +6,7 @@ pub mod WebSocketState
 pub mod Lane
 pub mod FirstReads
 pub mod Tally
+pub mod Resting
 pub mod Lanes
 pub mod Rising
 pub mod Parts

@@ -9,6 +9,18 @@ piece = 4096
 abbrev pub most_unwritten : ℕ
 most_unwritten = 1048576
 
+-- a WebSocket lane is full after a message if more bytes than this wait there to be written: 256 KiB
+abbrev pub most_before_full : ℕ
+most_before_full = 262144
+
+-- and it isn't any more once at most this many do: 64 KiB
+abbrev pub most_drained : ℕ
+most_drained = 65536
+
+-- how many milliseconds a lane that is full may stay without anything being written on its wire
+abbrev pub most_stalled : ℕ
+most_stalled = 30000
+
 -- how many milliseconds a lane may wait for a whole request
 abbrev pub most_wait : ℕ
 most_wait = 30000

@@ -18,7 +18,7 @@ RepliesKeepNumbers = (lane now : ℕ) (reply : Reply) (before after : DoorState)
     → wires_of after.lanes ≡ wires_of before.lanes
 
 abbrev pub SendsKeepNumbers : Type 0
-SendsKeepNumbers = (lane : ℕ) (bytes : List ℕ) (text : Bool) (before after : DoorState) (answers : List Answer) → DoesAt lane (Sends bytes text) before after answers
+SendsKeepNumbers = (lane now : ℕ) (bytes : List ℕ) (text : Bool) (before after : DoorState) (answers : List Answer) → DoesAt lane (Sends now bytes text) before after answers
     → wires_of after.lanes ≡ wires_of before.lanes
 
 abbrev pub ShutsKeepNumbers : Type 0

@@ -63,7 +63,7 @@ arrivals [] = 0
 arrivals (call ∷ calls) = arrivals calls + came_among (answers_in call)
 
 -- Calls one after the other, in any state of a door, pass a lane over in fewer of `next` than 65 for each lane that is there, itself
--- among them, or comes meanwhile. So it listens in the next one at the latest.
+-- among them, or comes meanwhile. So it listens in the next one at the latest, or rests there.
 abbrev pub LanesAreReached : Type 0
 LanesAreReached =
     (calls : List Call) (bound bound_after : ℕ) (before after : DoorState) (lane : Lane) → AllPassOver lane.wire calls bound bound_after before after

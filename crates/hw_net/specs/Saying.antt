@@ -7,7 +7,7 @@ use Rattle.hw_net.specs.declared.protocol.Protocol.TheVariants.{Http, Socket}
 use Rattle.hw_net.specs.declared.protocol.Stage.{Stage}
 use Rattle.hw_net.specs.declared.protocol.Stage.TheVariants.{Live, Lost, Closing, Over}
 use Rattle.hw_net.specs.Trace.{Chooses}
-use Rattle.hw_net.specs.Lane.{Lane, waits, after_end}
+use Rattle.hw_net.specs.Lane.{Lane, waits, after_end, full_after_write}
 
 -- writes on the wire took the front of what waits, until nothing waits, or the wire took nothing or failed: what is left then, and
 -- whether it didn't fail
@@ -49,6 +49,7 @@ pub record WritesOut (before after : Lane) (answers : List Answer) : Type 0 wher
   pub is_whole : Bool
   pub writes : Writes before.wire (waits before) sent (waits after) is_whole
   pub still : IsLaneStill before after
+  pub full : after.full ≡ full_after_write (nat_lt (length (waits after)) (length (waits before))) before.full
   pub ends : must_end before.stage (length (waits after)) is_whole ≡ true
       → (answers ≡ sent ++ was_shut before.wire ∷ []) × (after.stage ≡ after_end before.stage)
   pub stays : must_end before.stage (length (waits after)) is_whole ≡ false → (answers ≡ sent) × (after.stage ≡ before.stage)

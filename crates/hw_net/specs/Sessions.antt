@@ -20,8 +20,8 @@ use Rattle.hw_net.specs.declared.protocol.Stage.TheVariants.{Lost, Over}
 use Rattle.hw_net.specs.declared.protocol.Protocol.{Protocol}
 use Rattle.hw_net.specs.declared.protocol.Protocol.TheVariants.{Http, Socket}
 use Rattle.hw_net.specs.Bounds.{has_wire}
-use Rattle.hw_net.specs.Door.{DoorState, HearsNext, KeepsLanes, DoesAt}
-use Rattle.hw_net.specs.Lane.{Lane, waits, is_live, refusal_of, is_overdue}
+use Rattle.hw_net.specs.Door.{DoorState, HearsNext, KeepsLanes, DoesAt, is_full_at}
+use Rattle.hw_net.specs.Lane.{Lane, waits, is_full, is_live, refusal_of, is_overdue, is_stalled}
 use Rattle.hw_net.specs.Saying.{is_too_much}
 use Rattle.hw_net.specs.Turn.{Replies, Sends, Shuts}
 
@@ -29,7 +29,7 @@ use Rattle.hw_net.specs.Turn.{Replies, Sends, Shuts}
 pub data Call : Type 0 where
   heard : Heard → List Answer → Call
   replied : ℕ → Reply → List Answer → Call
-  sent : ℕ → List ℕ → Bool → List Answer → Call
+  sent : ℕ → List ℕ → Bool → Bool → List Answer → Call
   shut : ℕ → List Answer → Call
 
 -- what a call does to a door, and to the bound below which lie all numbers of wires that came
@@ -38,8 +38,8 @@ Does (heard what answers) bound bound_after before after =
     (wait : ℕ) × HearsNext wait before after answers what × KeepsLanes bound bound_after before.lanes after.lanes
 Does (replied lane reply answers) bound bound_after before after =
     DoesAt lane (Replies before.moment reply) before after answers × (bound_after ≡ bound)
-Does (sent lane bytes text answers) bound bound_after before after =
-    DoesAt lane (Sends bytes text) before after answers × (bound_after ≡ bound)
+Does (sent lane bytes text full answers) bound bound_after before after =
+    DoesAt lane (Sends before.moment bytes text) before after answers × (full ≡ is_full_at lane after.lanes) × (bound_after ≡ bound)
 Does (shut lane answers) bound bound_after before after =
     DoesAt lane (Shuts before.moment) before after answers × (bound_after ≡ bound)
 
@@ -54,7 +54,7 @@ Session (call ∷ calls) bound now =
 abbrev pub answers_in : Call → List Answer
 answers_in (heard what answers) = answers
 answers_in (replied lane reply answers) = answers
-answers_in (sent lane bytes text answers) = answers
+answers_in (sent lane bytes text full answers) = answers
 answers_in (shut lane answers) = answers
 
 -- in all calls, in order
@@ -144,7 +144,7 @@ abbrev pub is_owed_on : ℕ → List Call → Bool
 is_owed_on lane [] = false
 is_owed_on lane (heard what answers ∷ calls) = not (was_shut_in lane answers) && (is_request_on lane what.event || is_owed_on lane calls)
 is_owed_on lane (replied at reply answers ∷ calls) = not (at == lane) && is_owed_on lane calls
-is_owed_on lane (sent at bytes text answers ∷ calls) = is_owed_on lane calls
+is_owed_on lane (sent at bytes text full answers ∷ calls) = is_owed_on lane calls
 is_owed_on lane (shut at answers ∷ calls) = not (at == lane) && is_owed_on lane calls
 
 -- the door's own reply to what is no request, if this is one of this lane
@@ -241,11 +241,11 @@ abbrev pub IsSpoiled : Protocol → Type 0
 IsSpoiled (Http http_state) = ⊥
 IsSpoiled (Socket websocket_state) = websocket_state.lost_bytes ≡ true
 
--- why a lane is lost, by what the wires answered so far, and by how it is left: its wire broke, it waited for a request for too long,
--- or too much waits on it
+-- why a lane is lost, by what the wires answered so far, and by how it is left: its wire broke, it waited for a request for too long, it
+-- was full for too long with nothing written, or too much waits on it
 abbrev pub IsLostRightly : ℕ → List Answer → Lane → Type 0
 IsLostRightly now answers lane =
-    (broke_in lane.wire answers ≡ true) ⊎ (is_overdue now lane ≡ true) ⊎ (is_too_much (length (waits lane)) ≡ true)
+    (broke_in lane.wire answers ≡ true) ⊎ (is_overdue now lane ≡ true) ⊎ (is_stalled lane ≡ true) ⊎ (is_too_much (length (waits lane)) ≡ true)
 
 -- A lane that is heard as lost is so for one of these causes, or it is a WebSocket that is gone with what was read in this call, or is
 -- spoiled.
@@ -256,6 +256,31 @@ LossesHaveCauses =
     → (wire : ℕ) → what.event ≡ event.Lost wire
     → ((lane : Lane) × Contains after.lanes lane × (lane.wire ≡ wire) × IsLostRightly what.now (answers_of (heard what answers ∷ calls)) lane)
     ⊎ ((lane : Lane) × Contains before.lanes lane × (lane.wire ≡ wire) × (IsGone (read_on wire answers) lane.protocol ⊎ IsSpoiled lane.protocol))
+
+-- ---- lanes that are full
+
+abbrev pub is_drained_on : ℕ → Event → Bool
+is_drained_on lane (event.Drained at) = at == lane
+is_drained_on lane _ = false
+
+-- the last message that was sent there was answered so that the lane is full, and it wasn't heard as drained since
+abbrev pub was_full_on : ℕ → List Call → Bool
+was_full_on lane [] = false
+was_full_on lane (heard what answers ∷ calls) = not (is_drained_on lane what.event) && was_full_on lane calls
+was_full_on lane (sent at bytes text full answers ∷ calls) = if at == lane then full else was_full_on lane calls
+was_full_on lane (_ ∷ calls) = was_full_on lane calls
+
+-- each live lane is full exactly if that was told last
+abbrev pub FullnessIsTold : Type 0
+FullnessIsTold =
+    (calls : List Call) (bound : ℕ) (now : DoorState) → Session calls bound now
+    → (lane : Lane) → Contains now.lanes lane → is_live lane.stage ≡ true → is_full lane ≡ was_full_on lane.wire calls
+
+-- and a lane is heard as drained only if it was
+abbrev pub DrainedWereFull : Type 0
+DrainedWereFull =
+    (what : Heard) (answers : List Answer) (calls : List Call) (bound : ℕ) (now : DoorState) → Session (heard what answers ∷ calls) bound now
+    → (lane : ℕ) → what.event ≡ event.Drained lane → was_full_on lane calls ≡ true
 
 -- ---- what WebSockets do
 

@@ -18,7 +18,7 @@ use Rattle.hw_net.specs.declared.protocol.Stage.TheVariants.{Live, Lost, Closing
 use Rattle.hw_net.specs.Trace.{Chooses}
 use Rattle.hw_net.specs.HttpState.{HearsHttp}
 use Rattle.hw_net.specs.WebSocketState.{HearsWebSocket}
-use Rattle.hw_net.specs.Lane.{Lane, is_live, owes, is_overdue, refusal_of, protocol_after_shut, after_hearing, after_reply}
+use Rattle.hw_net.specs.Lane.{Lane, is_live, is_drained, is_stalled, owes, is_overdue, refusal_of, protocol_after_shut, after_hearing, after_message, after_reply, after_turn}
 use Rattle.hw_net.specs.Saying.{WritesOut, Says, SaysMore}
 
 -- ---- hearing
@@ -82,8 +82,22 @@ pub record TurnsLive (now : ℕ) (before after : Lane) (answers : List Answer) (
   pub says : Says now settled said written
   pub loses : Loses trace said after heard
 
+-- a lane that was full isn't any more, which is heard, and what is left is written
+abbrev pub Drains : ℕ → Lane → Lane → List Answer → Option Event → Type 0
+Drains now before after answers heard = (heard ≡ Some (event.Drained before.wire)) × Says now (record before { full = None }) after answers
+
+-- a live lane takes its turn, and then what was written on it counts from this moment
+abbrev pub TurnsOn : ℕ → Lane → Lane → List Answer → Option Event → Type 0
+TurnsOn now before after answers heard = (mid : Lane) × TurnsLive now before mid answers heard × (after ≡ after_turn now mid)
+
+-- one that is full and has drained, or has stalled, says so and hears nothing else
+abbrev pub TurnsByFullness : ℕ → Lane → Lane → List Answer → Option Event → Type 0
+TurnsByFullness now before after answers heard =
+    Chooses (is_drained before) (Drains now before after answers heard)
+    (Chooses (is_stalled before) (Falls before after answers heard) (TurnsOn now before after answers heard))
+
 abbrev pub TurnsAt : Stage → ℕ → Lane → Lane → List Answer → Option Event → Type 0
-TurnsAt Live now before after answers heard = TurnsLive now before after answers heard
+TurnsAt Live now before after answers heard = TurnsByFullness now before after answers heard
 TurnsAt Lost now before after answers heard = Passes (record before { stage = Over }) after answers (Some (event.Lost before.wire)) heard
 TurnsAt Closing now before after answers heard = (heard ≡ None) × Says now before after answers
 TurnsAt Over now before after answers heard = Passes before after answers None heard
@@ -121,11 +135,12 @@ PutsAt false protocol bytes text before after is_put = (is_put ≡ false) × (af
 abbrev pub Puts : List ℕ → Bool → Lane → Lane → Bool → Type 0
 Puts bytes text before after is_put = PutsAt (is_live before.stage) before.protocol bytes text before after is_put
 
--- a lane is given a message: if that was added, what waits is written, and else nothing is said
-abbrev pub Sends : List ℕ → Bool → Lane → Lane → List Answer → Type 0
-Sends bytes text before after answers =
+-- a lane is given a message at this moment: if that was added, what waits is written, and the lane is full if too much is left; and else
+-- nothing is said
+abbrev pub Sends : ℕ → List ℕ → Bool → Lane → Lane → List Answer → Type 0
+Sends now bytes text before after answers =
     (mid : Lane) × (is_put : Bool) × Puts bytes text before mid is_put
-    × Chooses is_put (SaysMore mid after answers) ((answers ≡ []) × (after ≡ mid))
+    × Chooses is_put ((said : Lane) × SaysMore mid said answers × (after ≡ after_message now said)) ((answers ≡ []) × (after ≡ mid))
 
 -- a live lane is shut at this moment: a WebSocket says that it ends, and the lane is heard no more
 abbrev pub Shuts : ℕ → Lane → Lane → List Answer → Type 0

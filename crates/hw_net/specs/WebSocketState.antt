@@ -32,9 +32,11 @@ websocket_state_code =
 abbrev pub IsWaiting : Lane → Type 0
 IsWaiting lane = Steps lane lane (Some read.NotYet)
 
--- what holds of every WebSocket here: one that rests waits for more bytes, unless it is gone
-abbrev pub IsWebSocketState : Lane → Bool → Type 0
-IsWebSocketState lane is_drained = is_drained ≡ true → lane.ending ≡ None → IsWaiting lane
+-- what holds of every WebSocket here: one that heard all messages that came waits for more bytes, unless it is gone or lost some. A new one,
+-- which may have been fed with some already, counts as one whose last read was full.
+abbrev pub IsWebSocketState : Lane → Bool → Bool → Bool → Type 0
+IsWebSocketState lane wants_read last_read_was_full lost_bytes =
+    wants_read ≡ true → last_read_was_full ≡ false → lost_bytes ≡ false → lane.ending ≡ None → IsWaiting lane
 
 -- nothing is to be heard before more bytes come, and nothing to be written
 pub record IsCalm (websocket_state : WebSocketState) : Type 0 where

@@ -4,9 +4,10 @@ ghost use Rattle.std.specs.Prelude.{◌≡◌, ◌≤◌, ◌+◌, ◌∷◌, []
 ghost use Rattle.hd_facts.specs.Counts.{Rose};
 ghost use Rattle.hw_lanes.specs.Replies.{IsReply};
 ghost use Rattle.hw_door.specs.declared.heard.Given.TheVariants as say;
+ghost use Rattle.hw_door.specs.Calls as calls;
 ghost use Rattle.hw_door.specs.Calls.{HasFaultCause, IsCaused, Hears, Says, IsLater};
 ghost use Rattle.hw_door.specs.Traffic.{Answer, polled, poll_failed, accepted, accept_failed, was_shut};
-ghost use Rattle.hw_net.specs.Door.{HearsNext, HearsAll, FailsNext, IsNumbered, KeepsLanes, DoesAt, HearsTurns, Begins, state_of, kept, time_to_wait, with_accepted, next_from, from_after};
+ghost use Rattle.hw_net.specs.Door.{HearsNext, Searches, FailsNext, IsNumbered, KeepsLanes, DoesAt, HearsTurns, Begins, state_of, kept, time_to_wait, is_full_at, with_accepted, next_from, from_after};
 ghost use Rattle.hw_net.specs.Halting.{HaltsAll, HaltsNext};
 ghost use Rattle.hw_net.specs.Lane.{wires_of};
 ghost use Rattle.hw_net.specs.Rising.{IsRising};
@@ -26,7 +27,8 @@ use std::marker::Model;
 ///
 /// Each `next` gives the lanes their turns until one hears something, from the one on whose turn it is: the first after the one that was
 /// heard last so. If the wires name one that is ready, the turns begin there, though at most [`MOST_NAMED`] times in a row, so that each
-/// lane listens, whatever they name ([`lanes_are_reached`](crate::lanes_are_reached)).
+/// lane listens, whatever they name ([`lanes_are_reached`](crate::lanes_are_reached)). Lanes that rest aren't asked while the wires tell that
+/// none of them has anything to give.
 ///
 /// The wires wait in `poll` unless a lane may have more at once. So they have to tell of what comes on a wire after a read that gave less than
 /// there was room for.
@@ -217,7 +219,7 @@ impl<W: Wires + Drop> NetDoor<W> {
         }
     }
 
-    /// A turn of each lane, from the one whose turn it is, or from a named one.
+    /// A turn of each lane, from the one whose turn it is, or from a named one, unless all rest.
     fn hear(&mut self, now: u64) -> Result<Event, AllocError>
         ensures hears { IfOk result (λ event. (answers : List Answer) × Tells (W.trace self.old.wires) (W.trace self.new.wires) answers
             × HearsTurns now (state_of self.old) (state_of self.new) answers event) }
@@ -231,6 +233,7 @@ impl<W: Wires + Drop> NetDoor<W> {
     {
         let begin = self.begin();
         let Some(event) = self.turn_from(begin, now)? else {
+            self.lanes.renew_due(now);
             return Ok(Event::Quiet);
         };
         self.remember(&event);
@@ -240,7 +243,7 @@ impl<W: Wires + Drop> NetDoor<W> {
     /// A turn of each lane, those from this number on first.
     fn turn_from(&mut self, begin: u64, now: u64) -> Result<Option<Event>, AllocError>
         ensures hears { IfOk result (λ trace. (answers : List Answer) × Tells (W.trace self.old.wires) (W.trace self.new.wires) answers
-            × HearsAll now begin self.old.lanes.items self.new.lanes.items answers trace) }
+            × Searches now begin self.old.lanes.items self.new.lanes.items answers trace) }
         ensures halts { OnErr result ((answers : List Answer) × Tells (W.trace self.old.wires) (W.trace self.new.wires) answers
             × HaltsAll now begin self.old.lanes.items self.new.lanes.items answers) }
         ensures others_unchanged { self.new ≡ record self.old { wires = self.new.wires; lanes = self.new.lanes } }
@@ -262,6 +265,7 @@ fn next_lane(event: &Event) -> u64
         Event::Response { lane, .. } => *lane,
         Event::Upgraded { lane } => *lane,
         Event::Lost { lane } => *lane,
+        Event::Drained { lane } => *lane,
         Event::Quiet => 0,
     };
     if lane == u64::MAX { 0 } else { lane + 1 }
@@ -312,21 +316,23 @@ impl<W: Wires + Drop> Door for NetDoor<W> {
         Ok(())
     }
 
-    fn send(&mut self, lane: u64, bytes: &[u8], text: bool) -> Result<(), DoorError>
-        ensures given { Says None None (λ done. say.Bytes lane bytes.now text) result }
+    fn send(&mut self, lane: u64, bytes: &[u8], text: bool) -> Result<bool, DoorError>
+        ensures given { calls.Sends None None (say.Bytes lane bytes.now text) result }
         ensures others_unchanged { self.new.moment ≡ self.old.moment }
         ensures cause { HasFaultCause self.old.faults self.new.faults result }
         ensures sent { OnOk result ((answers : List Answer) × Tells (W.trace self.old.wires) (W.trace self.new.wires) answers
-            × DoesAt lane (Sends bytes.now text) (state_of self.old) (state_of self.new) answers) }
+            × DoesAt lane (Sends self.old.moment bytes.now text) (state_of self.old) (state_of self.new) answers) }
+        ensures answer { IfOk result (λ full. full ≡ is_full_at lane self.new.lanes.items) }
         ensures memory { IfErr result (λ e. e ≡ DoorError.NoMemory) }
         ensures bound { W.wires self.new.wires ≡ W.wires self.old.wires }
         ensures unchanged { OnErr result ((state_of self.new ≡ state_of self.old) × (W.trace self.new.wires ≡ W.trace self.old.wires)) }
     {
         let Some(index) = self.lanes.index_of(lane) else {
-            return Ok(());
+            return Ok(false);
         };
-        self.lanes.send(index, &mut self.wires, bytes, text)?;
-        Ok(())
+        let now = self.moment;
+        let is_full = self.lanes.send(index, &mut self.wires, bytes, text, now)?;
+        Ok(is_full)
     }
 
     fn shut(&mut self, lane: u64) -> Result<(), DoorError>

@@ -1,12 +1,12 @@
 //! A lane while it is one of requests. It knows nothing of what is written.
 
-ghost use Rattle.std.specs.Prelude.{◌≡◌, ◌≤◌, ◌||◌, ◌++◌, List, ℕ, false, true, length, IfOk, OnErr};
+ghost use Rattle.std.specs.Prelude.{◌≡◌, ◌≤◌, ◌||◌, ◌++◌, List, ℕ, false, true, not, length, IfOk, OnErr};
 ghost use Rattle.hw_lanes.specs.declared.http.Request.{Request};
 ghost use Rattle.hh_http.specs.Asks.{Asks};
 ghost use Rattle.hh_http.specs.Lane.{at_start, room};
 ghost use Rattle.hw_door.specs.Traffic.{Answer};
 ghost use Rattle.hw_net.specs.Halting.{HaltsHttp};
-ghost use Rattle.hw_net.specs.HttpState.{HearsHttp, ReadsInto, Finds, room_of, requests_of, is_awake};
+ghost use Rattle.hw_net.specs.HttpState.{HearsHttp, ReadsInto, Finds, room_of, requests_of, is_awake, IsHttpState};
 ghost use Rattle.hw_net.specs.Lane.{says_continue};
 ghost use Rattle.hw_net.specs.Trace.{Tells};
 
@@ -199,6 +199,13 @@ impl HttpState {
         self.awaits_continue && !self.continued
     }
 
+    /// Whether a turn may hear nothing but what comes: no 100 is due.
+    pub fn only_waits(&self) -> bool
+        ensures { result ≡ not self.now.awaits_continue }
+    {
+        !self.awaits_continue
+    }
+
     /// The 100 that was to be said was, if one was to be.
     pub fn note_continue(&mut self)
         ensures { self.new ≡ record self.old { awaits_continue = false; continued = self.old.awaits_continue || self.old.continued } }
@@ -212,6 +219,13 @@ impl HttpState {
         ensures { result ≡ self.now.busy }
     {
         self.busy
+    }
+
+    /// What holds of every lane of requests holds of this one. It does nothing.
+    pub fn is_sound(&self)
+        ensures { IsHttpState self.now.lane self.now.busy self.now.has_unparsed }
+    {
+        let _lane = &self.lane;
     }
 
     /// The bytes that were read and belong to no request that was heard.

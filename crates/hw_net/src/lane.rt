@@ -1,22 +1,24 @@
 //! One lane of a door: what it hears in a turn, and what it says.
 
-ghost use Rattle.std.specs.Prelude.{◌≡◌, ◌≤◌, ◌++◌, ◌∷◌, [], if◌then◌else◌, List, true, length, IfOk, IfSome, OnOk, OnErr};
+ghost use Rattle.std.specs.Prelude.{◌≡◌, ◌<◌, ◌≤◌, ◌-◌, ◌&&◌, ◌++◌, ◌∷◌, [], if◌then◌else◌, ℕ, List, Some, true, false, not, nat_le, length, IfOk, IfSome, OnOk, OnErr};
 ghost use Rattle.hw_lanes.specs.Replies.{IsReply};
 ghost use Rattle.hh_http.specs.Texts.{continue_text, reply_text};
 ghost use Rattle.hw_door.specs.Traffic.{Answer, was_shut};
 ghost use Rattle.hw_net.specs.Door.{new_lane};
 ghost use Rattle.hw_net.specs.FirstReads.{ReadsFirst, IsCalmLane, IsWithin};
 ghost use Rattle.hw_net.specs.Halting.{Halts, HaltsIn, IsDue, IsLasting};
-ghost use Rattle.hw_net.specs.Lane.{waits, frames_of, is_over, is_awake, is_overdue, owes, refusal_of, after_end, after_hearing, after_reply, protocol_after_shut, protocol_after_reply, new_socket, rest_of};
+ghost use Rattle.hw_net.specs.Lane.{waits, frames_of, is_over, is_awake, is_awake_by, is_drained, is_stalled, is_full, is_overdue, owes, refusal_of, full_after_write, after_end, after_hearing, after_message, after_reply, after_turn, protocol_after_shut, protocol_after_reply, new_socket, rest_of};
 ghost use Rattle.hw_net.specs.Saying.{Writes, WritesOut, DropsOrWrites, Says, SaysMore, SpeaksAs, IsLaneStill, must_end, has_closed_long};
-ghost use Rattle.hw_net.specs.Tally.{has_unwritten};
+ghost use Rattle.hw_net.specs.Resting.{IsKnown};
+ghost use Rattle.hw_net.specs.Tally.{has_unwritten, is_restless, only_waits_by};
 ghost use Rattle.hw_net.specs.Trace.{Tells};
-ghost use Rattle.hw_net.specs.Turn.{Hears, Settles, IsRightInput, TurnsLive, Listens, Loses, LosesAt, Replies, Puts, Sends, Shuts};
+ghost use Rattle.hw_net.specs.Turn.{Hears, Settles, IsRightInput, TurnsLive, TurnsByFullness, Drains, Falls, Listens, Loses, LosesAt, Replies, Puts, Sends, Shuts};
 
 use crate::first_read::FirstRead;
+use crate::full::{Fullness, full_after_message, full_after_turn, full_after_write, has_stalled};
 use crate::http_state::HttpState;
 use crate::input::Input;
-use crate::limits::{MOST_CLOSING, MOST_UNWRITTEN, MOST_WAIT, PIECE, SWITCHING};
+use crate::limits::{MOST_CLOSING, MOST_DRAINED, MOST_UNWRITTEN, MOST_WAIT, PIECE, SWITCHING};
 use crate::protocol::{Protocol, Stage};
 use crate::reading::read_piece;
 use crate::refusing::refusal_reply;
@@ -39,6 +41,16 @@ fn must_end(stage: Stage, unwritten: usize, is_whole: bool) -> bool
         Stage::Closing => !is_whole || unwritten == 0 || unwritten > MOST_UNWRITTEN,
         Stage::Over => false,
     }
+}
+
+/// The moment before which a lane isn't late that waits for a request since this one. One that owes a reply never is.
+fn due_of(since: u64, is_busy: bool) -> u64
+    ensures { (now : ℕ) → now < result → (not is_busy && nat_le MOST_WAIT (now - since)) ≡ false }
+{
+    if is_busy {
+        return u64::MAX;
+    }
+    since.saturating_add(MOST_WAIT)
 }
 
 /// Appends a 100, if one is to be said.
@@ -64,6 +76,8 @@ pub struct NetLane {
     // What was replied and isn't written. What a WebSocket has to write comes after it.
     out: Vec<u8>,
     stage: Stage,
+    // How long it is full, if it is.
+    full: Option<Fullness>,
 }
 
 impl Model for NetLane {
@@ -71,7 +85,7 @@ impl Model for NetLane {
 
     ghost Value = { Lane };
 
-    ghost view = { λ a. record { wire = a.wire; since = a.since; protocol = a.protocol; out = a.out.items; stage = a.stage } };
+    ghost view = { λ a. record { wire = a.wire; since = a.since; protocol = a.protocol; out = a.out.items; stage = a.stage; full = a.full } };
 }
 
 impl NetLane {
@@ -86,6 +100,7 @@ impl NetLane {
             protocol: Protocol::Http(HttpState::start(alloc)?),
             out: Vec::new(alloc),
             stage: Stage::Live,
+            full: None,
         })
     }
 
@@ -105,6 +120,13 @@ impl NetLane {
     pub fn is_awake(&self) -> bool
         ensures { result ≡ is_awake self.now }
     {
+        self.may_hear() || self.is_drained()
+    }
+
+    /// Whether a message, a request or the loss of the lane may be heard at once.
+    fn may_hear(&self) -> bool
+        ensures { result ≡ is_awake_by self.now.stage self.now.protocol }
+    {
         match self.stage {
             Stage::Live => match &self.protocol {
                 Protocol::Http(http_state) => http_state.is_awake(),
@@ -116,6 +138,27 @@ impl NetLane {
         }
     }
 
+    /// Whether the lane was full, and has little left to write.
+    fn is_drained(&self) -> bool
+        ensures { result ≡ is_drained self.now }
+    {
+        self.stage == Stage::Live && self.full.is_some() && self.unwritten() <= MOST_DRAINED
+    }
+
+    /// Whether the lane is full, and nothing was written on its wire for too long.
+    fn is_stalled(&self) -> bool
+        ensures { result ≡ is_stalled self.now }
+    {
+        has_stalled(self.full)
+    }
+
+    /// Whether so much waits that nothing more should be sent until the lane has drained.
+    fn is_full(&self) -> bool
+        ensures { result ≡ is_full self.now }
+    {
+        self.stage == Stage::Live && self.full.is_some()
+    }
+
     /// Whether there may be something to write.
     pub fn has_unwritten(&self) -> bool
         ensures { result ≡ has_unwritten self.now }
@@ -125,6 +168,44 @@ impl NetLane {
             Stage::Lost => false,
             Stage::Closing => true,
             Stage::Over => false,
+        }
+    }
+
+    /// Whether something may be heard or written before more bytes come, and not only that the lane is overdue.
+    pub fn is_restless(&self) -> bool
+        ensures { result ≡ is_restless self.now }
+    {
+        self.is_awake() || self.has_unwritten() || !self.only_waits()
+    }
+
+    /// Whether a live lane hears nothing but what comes.
+    fn only_waits(&self) -> bool
+        ensures { result ≡ only_waits_by self.now.stage self.now.protocol }
+    {
+        match self.stage {
+            Stage::Live => match &self.protocol {
+                Protocol::Http(http_state) => http_state.only_waits(),
+                Protocol::Socket(websocket_state) => websocket_state.only_waits(),
+            },
+            Stage::Lost => true,
+            Stage::Closing => true,
+            Stage::Over => true,
+        }
+    }
+
+    /// The moment before which the lane isn't overdue. The other fact is what holds of all that lanes speak.
+    pub fn due(&self) -> u64
+        ensures { IsKnown result self.now }
+    {
+        match &self.protocol {
+            Protocol::Http(http_state) => {
+                http_state.is_sound();
+                due_of(self.since, http_state.is_busy())
+            }
+            Protocol::Socket(websocket_state) => {
+                websocket_state.is_sound();
+                u64::MAX
+            }
         }
     }
 
@@ -148,7 +229,10 @@ impl NetLane {
         match &self.protocol {
             Protocol::Http(_) => false,
             Protocol::Socket(websocket_state) => {
-                self.stage == Stage::Live && self.out.is_empty() && websocket_state.is_idle()
+                self.stage == Stage::Live
+                    && self.out.is_empty()
+                    && self.full.is_none()
+                    && websocket_state.is_idle()
             }
         }
     }
@@ -198,7 +282,67 @@ impl NetLane {
         }
     }
 
+    /// The turn of a live lane: one that was full and has drained, or has stalled, says so and hears nothing else.
     fn turn_live<W: Wires>(
+        &mut self,
+        first_look: FirstRead,
+        wires: &mut W,
+        buf: &mut [u8],
+        now: u64,
+    ) -> Result<Option<Event>, AllocError>
+        requires buffer { length buf.old ≡ PIECE }
+        requires count { IsWithin first_look }
+        requires live { self.old.stage ≡ Stage.Live }
+        ensures turned { IfOk result (λ heard. (first : List Answer) → ReadsFirst self.old first buf.old first_look
+            → (answers : List Answer) × Tells (W.trace wires.old) (W.trace wires.new) answers × TurnsByFullness now self.old self.new (first ++ answers) heard) }
+        ensures halts { OnErr result ((first : List Answer) → ReadsFirst self.old first buf.old first_look
+            → (answers : List Answer) × Tells (W.trace wires.old) (W.trace wires.new) answers × Halts self.old self.new (first ++ answers)) }
+        ensures wires { W.wires wires.new ≡ W.wires wires.old }
+        ensures lane { self.new.wire ≡ self.old.wire }
+    {
+        if self.is_drained() {
+            return Ok(Some(self.drain(wires, now)));
+        }
+        if self.is_stalled() {
+            return Ok(Some(self.fall(wires)));
+        }
+        let heard = self.turn_on(first_look, wires, buf, now)?;
+        self.note_turn(now);
+        Ok(heard)
+    }
+
+    /// The lane isn't full any more, which is heard, and what is left is written.
+    fn drain<W: Wires>(&mut self, wires: &mut W, now: u64) -> Event
+        ensures drained { (answers : List Answer) × Tells (W.trace wires.old) (W.trace wires.new) answers
+            × Drains now self.old self.new answers (Some result) }
+        ensures wires { W.wires wires.new ≡ W.wires wires.old }
+        ensures lane { self.new.wire ≡ self.old.wire }
+    {
+        self.full = None;
+        self.say(wires, now);
+        Event::Drained { lane: self.wire }
+    }
+
+    /// Shuts the wire of a live lane, whose loss is heard now.
+    fn fall<W: Wires>(&mut self, wires: &mut W) -> Event
+        ensures fallen { (answers : List Answer) × Tells (W.trace wires.old) (W.trace wires.new) answers
+            × Falls self.old self.new answers (Some result) }
+        ensures wires { W.wires wires.new ≡ W.wires wires.old }
+        ensures lane { self.new.wire ≡ self.old.wire }
+    {
+        self.end(wires);
+        self.tell_loss()
+    }
+
+    /// What was written till now counts from now.
+    fn note_turn(&mut self, now: u64)
+        ensures { self.new ≡ after_turn now self.old }
+    {
+        self.full = full_after_turn(self.full, now);
+    }
+
+    /// The turn of a live lane that neither has drained nor has stalled.
+    fn turn_on<W: Wires>(
         &mut self,
         first_look: FirstRead,
         wires: &mut W,
@@ -345,10 +489,7 @@ impl NetLane {
                 Ok(Some(Event::Refused { lane, refusal }))
             }
             Input::Message(bytes) => Ok(Some(Event::Bytes { lane, bytes })),
-            Input::Broken => {
-                self.end(wires);
-                Ok(Some(self.tell_loss()))
-            }
+            Input::Broken => Ok(Some(self.fall(wires))),
             Input::Gone => {
                 self.part(now)?;
                 Ok(Some(Event::Lost { lane }))
@@ -367,8 +508,7 @@ impl NetLane {
         if !self.is_overdue(now) {
             return None;
         }
-        self.end(wires);
-        Some(self.tell_loss())
+        Some(self.fall(wires))
     }
 
     fn is_overdue(&self, now: u64) -> bool
@@ -485,11 +625,20 @@ impl NetLane {
         ensures wires { W.wires wires.new ≡ W.wires wires.old }
         ensures lane { self.new.wire ≡ self.old.wire }
     {
+        let waited = self.unwritten();
         let is_whole = self.write(wires);
         let unwritten = self.unwritten();
+        self.note_write(unwritten < waited);
         if must_end(self.stage, unwritten, is_whole) {
             self.end(wires);
         }
+    }
+
+    /// A write took something, or nothing.
+    fn note_write(&mut self, has_written: bool)
+        ensures { self.new ≡ record self.old { full = full_after_write has_written self.old.full } }
+    {
+        self.full = full_after_write(self.full, has_written);
     }
 
     /// Writes what waits. The answer is false if the wire failed.
@@ -498,6 +647,7 @@ impl NetLane {
             × Writes self.old.wire (waits self.old) answers (waits self.new) result }
         ensures others_unchanged { IsLaneStill self.old self.new }
         ensures stage { self.new.stage ≡ self.old.stage }
+        ensures full { self.new.full ≡ self.old.full }
         ensures wires { W.wires wires.new ≡ W.wires wires.old }
     {
         if !write_bytes(wires, self.wire, &mut self.out) {
@@ -604,23 +754,33 @@ impl NetLane {
         Ok(())
     }
 
-    /// Sends a message, if the lane is a WebSocket that can.
+    /// Sends a message, if the lane is a WebSocket that can. The answer is whether the lane is full now.
     pub fn send<W: Wires>(
         &mut self,
         wires: &mut W,
         bytes: &[u8],
         text: bool,
-    ) -> Result<(), AllocError>
+        now: u64,
+    ) -> Result<bool, AllocError>
         ensures sent { OnOk result ((answers : List Answer) × Tells (W.trace wires.old) (W.trace wires.new) answers
-            × Sends bytes.now text self.old self.new answers) }
+            × Sends now bytes.now text self.old self.new answers) }
+        ensures answer { IfOk result (λ full. full ≡ is_full self.new) }
         ensures unchanged { OnErr result ((self.new ≡ self.old) × (W.trace wires.new ≡ W.trace wires.old)) }
         ensures wires { W.wires wires.new ≡ W.wires wires.old }
         ensures lane { self.new.wire ≡ self.old.wire }
     {
         if self.put(bytes, text)? {
             self.say_more(wires);
+            self.note_message(now);
         }
-        Ok(())
+        Ok(self.is_full())
+    }
+
+    /// A message was written as far as the wire took it.
+    fn note_message(&mut self, now: u64)
+        ensures { self.new ≡ after_message now self.old }
+    {
+        self.full = full_after_message(self.full, self.unwritten(), now);
     }
 
     /// Adds a message to what waits, if the lane is a WebSocket that can send it. The answer is whether it was.

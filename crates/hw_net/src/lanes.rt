@@ -1,14 +1,14 @@
 //! The lanes of a door, in the order in which they came, and the tally of them. What changes a lane is a call of this file, which keeps
 //! the tally right.
 
-ghost use Rattle.std.specs.Prelude.{◌≡◌, ◌<◌, ◌==◌, ◌++◌, ◌∷◌, [], List, length, nat_lt, position, IfOk, IfErr, OnOk, OnErr};
+ghost use Rattle.std.specs.Prelude.{◌≡◌, ◌<◌, ◌==◌, ◌++◌, ◌∷◌, [], List, true, length, nat_lt, position, slice_index_or, Contains, IfOk, IfErr, OnOk, OnErr};
 ghost use Rattle.std.specs.List.{list_any};
 ghost use Rattle.hw_lanes.specs.Replies.{IsReply};
 ghost use Rattle.hw_door.specs.Traffic.{Answer};
-ghost use Rattle.hw_net.specs.Door.{kept, index_of_first};
+ghost use Rattle.hw_net.specs.Door.{RestsAt, kept, index_of_first};
 ghost use Rattle.hw_net.specs.FirstReads.{ReadsFirstAt, IsWithin};
 ghost use Rattle.hw_net.specs.Halting.{Halts};
-ghost use Rattle.hw_net.specs.Lane.{Lane, is_awake, wires_of};
+ghost use Rattle.hw_net.specs.Lane.{Lane, is_awake, is_full, wires_of};
 ghost use Rattle.hw_net.specs.Lanes.{DoesHere};
 ghost use Rattle.hw_net.specs.Rising.{Rise};
 ghost use Rattle.hw_net.specs.Saying.{Says};
@@ -31,18 +31,19 @@ use std::marker::Model;
 pub struct Lanes {
     items: Vec<NetLane>,
     tally: Tally,
+    // No lane is overdue before this moment.
+    due: u64,
 }
 
 impl Model for Lanes {
-    ghost use Rattle.std.specs.Prelude.{◌≡◌};
     ghost use Rattle.hw_net.specs.Lanes.{LanesState};
-    ghost use Rattle.hw_net.specs.Tally.{tally_of};
+    ghost use Rattle.hw_net.specs.Resting.{AreKept};
 
     ghost Value = { LanesState };
 
     ghost view = { λ l. record { items = l.items.items } };
 
-    ghost invariant = { λ l. l.tally ≡ tally_of l.items.items };
+    ghost invariant = { λ l. AreKept l.tally l.due l.items.items };
 }
 
 impl Lanes {
@@ -53,6 +54,7 @@ impl Lanes {
         Lanes {
             items: Vec::new(alloc),
             tally: Tally::start(),
+            due: u64::MAX,
         }
     }
 
@@ -76,6 +78,27 @@ impl Lanes {
         self.tally.has_writers()
     }
 
+    /// Whether each lane is known to rest at this moment.
+    pub fn may_rest(&self, now: u64) -> bool
+        ensures { result ≡ true → (lane : Lane) → Contains self.now.items lane → RestsAt now lane }
+    {
+        now < self.due && !self.tally.has_restless()
+    }
+
+    /// Works out anew before which moment no lane is overdue, if that which was known has come.
+    pub fn renew_due(&mut self, now: u64)
+        ensures { self.new.items ≡ self.old.items }
+    {
+        if now < self.due {
+            return;
+        }
+        let mut due = u64::MAX;
+        for index in 0..self.items.len() {
+            due = due.min(self.items[index].due());
+        }
+        self.due = due;
+    }
+
     /// Forgets the lanes that are over.
     pub fn clear(&mut self)
         ensures { self.new.items ≡ kept self.old.items }
@@ -93,7 +116,9 @@ impl Lanes {
     {
         let index = self.items.len();
         self.items.push(lane)?;
-        self.tally.enter(&self.items[index]);
+        let lane = &self.items[index];
+        self.tally.enter(lane);
+        self.due = self.due.min(lane.due());
         Ok(())
     }
 
@@ -151,6 +176,7 @@ impl Lanes {
         self.tally.leave(lane);
         let heard = lane.turn(first_look, wires, buf, now);
         self.tally.enter(lane);
+        self.due = self.due.min(lane.due());
         heard
     }
 
@@ -169,6 +195,7 @@ impl Lanes {
         self.tally.leave(lane);
         lane.say(wires, now);
         self.tally.enter(lane);
+        self.due = self.due.min(lane.due());
     }
 
     /// Replies on the lane of this place.
@@ -192,29 +219,33 @@ impl Lanes {
         self.tally.leave(lane);
         let replied = lane.reply(wires, reply, now);
         self.tally.enter(lane);
+        self.due = self.due.min(lane.due());
         replied
     }
 
-    /// Sends a message on the lane of this place.
+    /// Sends a message on the lane of this place. The answer is whether the lane is full now.
     pub fn send<W: Wires>(
         &mut self,
         index: usize,
         wires: &mut W,
         bytes: &[u8],
         text: bool,
-    ) -> Result<(), AllocError>
+        now: u64,
+    ) -> Result<bool, AllocError>
         requires { index < length self.old.items }
         ensures sent { OnOk result ((answers : List Answer)
             × Tells (W.trace wires.old) (W.trace wires.new) answers
-            × DoesHere index (Sends bytes.now text) self.old.items self.new.items answers) }
+            × DoesHere index (Sends now bytes.now text) self.old.items self.new.items answers) }
+        ensures answer { IfOk result (λ full. (lane : Lane) → full ≡ is_full (slice_index_or self.new.items index lane)) }
         ensures unchanged { OnErr result ((self.new.items ≡ self.old.items) × (W.trace wires.new ≡ W.trace wires.old)) }
         ensures wires { W.wires wires.new ≡ W.wires wires.old }
         ensures lanes { wires_of self.new.items ≡ wires_of self.old.items }
     {
         let lane = &mut self.items[index];
         self.tally.leave(lane);
-        let sent = lane.send(wires, bytes, text);
+        let sent = lane.send(wires, bytes, text, now);
         self.tally.enter(lane);
+        self.due = self.due.min(lane.due());
         sent
     }
 
@@ -237,6 +268,7 @@ impl Lanes {
         self.tally.leave(lane);
         let ended = lane.shut(wires, now);
         self.tally.enter(lane);
+        self.due = self.due.min(lane.due());
         ended
     }
 }

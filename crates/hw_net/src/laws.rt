@@ -2,17 +2,23 @@
 
 ghost use Rattle.std.specs.Prelude.{◌≡◌};
 ghost use Rattle.hw_net.specs.Bounds.{NextIsWithin, NextIsInTime, RepliesAreWithin, SendsAreWithin, ShutsAreWithin};
-ghost use Rattle.hw_net.specs.Limits.{piece, most_unwritten, most_wait, most_closing, most_named, switching};
+ghost use Rattle.hw_net.specs.Limits.{piece, most_unwritten, most_before_full, most_drained, most_stalled, most_wait, most_closing, most_named, switching};
 ghost use Rattle.hw_net.specs.Numbers.{NumbersRise, RepliesKeepNumbers, SendsKeepNumbers, ShutsKeepNumbers};
 ghost use Rattle.hw_net.specs.Reaching.{OthersListen, LanesAreReached};
-ghost use Rattle.hw_net.specs.Sessions.{RequestsAreAsked, RefusalsAreDeserved, RepliesAreWritten, RequestsWaitForReplies, WiresAreShutForACause, WiresAreShutOnce, LanesHaveWires, LossesHaveCauses, SocketsAreCarried};
+ghost use Rattle.hw_net.specs.Sessions.{RequestsAreAsked, RefusalsAreDeserved, RepliesAreWritten, RequestsWaitForReplies, WiresAreShutForACause, WiresAreShutOnce, LanesHaveWires, LossesHaveCauses, FullnessIsTold, DrainedWereFull, SocketsAreCarried};
 
-use crate::limits::{MOST_CLOSING, MOST_NAMED, MOST_UNWRITTEN, MOST_WAIT, PIECE, SWITCHING};
+use crate::limits::{
+    MOST_BEFORE_FULL, MOST_CLOSING, MOST_DRAINED, MOST_NAMED, MOST_STALLED, MOST_UNWRITTEN,
+    MOST_WAIT, PIECE, SWITCHING,
+};
 
 /// The constants are the numbers of the definitions.
 pub fn limits_are_named()
     ensures read { PIECE ≡ piece }
     ensures unwritten { MOST_UNWRITTEN ≡ most_unwritten }
+    ensures full { MOST_BEFORE_FULL ≡ most_before_full }
+    ensures drained { MOST_DRAINED ≡ most_drained }
+    ensures stalled { MOST_STALLED ≡ most_stalled }
     ensures wait { MOST_WAIT ≡ most_wait }
     ensures closing { MOST_CLOSING ≡ most_closing }
     ensures named { MOST_NAMED ≡ most_named }
@@ -66,13 +72,22 @@ pub fn wires_are_shut_for_a_cause()
 {}
 
 /// A lane is heard as lost only for one of the causes: its wire ended or failed, its WebSocket is gone, it waited for a request for
-/// 30,000 ms, more than 1,048,576 bytes would wait, or memory was out when it was read.
+/// 30,000 ms, it was full and nothing could be written on its wire for 30,000 ms, more than 1,048,576 bytes would wait, or memory was out
+/// when it was read.
 pub fn losses_have_causes()
     ensures { LossesHaveCauses }
 {}
 
-/// A lane listens in each search that doesn't pass it over, as one does that hears a lane before it. Calls one after the other, in any
-/// state of a door, do so in fewer of `next` than 65 for each lane that is there or comes meanwhile, whatever the wires name.
+/// In any session a live lane is full exactly if the answer to the last message sent there was so and it wasn't heard as drained since;
+/// and it is heard as drained only if it was full.
+pub fn fullness_is_told()
+    ensures full { FullnessIsTold }
+    ensures drained { DrainedWereFull }
+{}
+
+/// A lane listens in each search that doesn't pass it over, as one does that hears a lane before it, unless lanes rest in it. Calls one after
+/// the other, in any state of a door, pass it over in fewer of `next` than 65 for each lane that is there or comes meanwhile, whatever the wires
+/// name.
 pub fn lanes_are_reached()
     ensures listens { OthersListen }
     ensures reached { LanesAreReached }

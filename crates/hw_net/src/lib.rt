@@ -21,13 +21,26 @@
 //!       or more than 1 MiB would wait                   its turn: `Lost`
 //! live -------------------------------------> lost ------------------------------------> over
 //!
-//!       the wire ended or a read failed, no whole request came in 30 s, or memory was
-//!       out for bytes that a WebSocket had read: `Lost`
+//!       the wire ended or a read failed, no whole request came in 30 s, nothing could be
+//!       written in 30 s while it was full, or memory was out for bytes that a WebSocket
+//!       had read: `Lost`
 //! live --------------------------------------------------------------------------------> over
+//!
+//! A live WebSocket whose wire takes less than is sent becomes full:
+//!
+//!           more than 256 KiB wait after a message: `send` answers true
+//! not full -------------------------------------------------------------> full
+//!    ^                                                                     |
+//!    +---------------------------------------------------------------------+
+//!       at most 64 KiB wait: in its turn `Drained`, or after a further
+//!       message, to which `send` answers false
 //! ```
 //!
 //! A lane that is closing isn't read any more, but writes what waits. The wire is shut where a lane becomes lost, and else where it is
 //! over. The next call of `next` forgets a lane that is over.
+//!
+//! On a full lane the caller sends nothing more until it hears `Drained`. It may, but the lane is lost once more than 1 MiB would wait. A full
+//! lane is read and heard as any other.
 //!
 //! ```text
 //! let mut door = NetDoor::start(alloc, wires);
@@ -35,7 +48,12 @@
 //!     let heard = door.next(wait)?;                        // waits for at most so many milliseconds
 //!     match heard.event {
 //!         Event::Request { lane, request } => door.reply(lane, reply_to(request))?,
-//!         Event::Bytes { lane, bytes } => door.send(lane, answer_to(bytes), true)?,
+//!         Event::Bytes { lane, bytes } => {
+//!             if door.send(lane, answer_to(bytes), true)? {
+//!                 pause(lane);                             // it is full: send no more there
+//!             }
+//!         }
+//!         Event::Drained { lane } => resume(lane),
 //!         Event::Refused { lane, .. } => forget(lane),     // it was answered, and nothing more is heard of it
 //!         Event::Lost { lane } => forget(lane),
 //!         _ => {}                                          // `Quiet`: nothing came in that time
@@ -47,10 +65,12 @@
 //!
 //! - `start` takes no memory, and has no lanes.
 //! - `next` polls once, accepts one connection at most, and gives the lanes their turns until one hears something, which is what all bytes
-//!   of that lane say. It is `Quiet` only if each lane was listened to, loses no lane, and fails only where `poll` or `accept` did.
+//!   of that lane say. It is `Quiet` only if each lane was listened to, or rests, and the wires told in the end that none of them has
+//!   anything to give. It loses no lane, and fails only where `poll` or `accept` did.
 //!   A request whose head expects a 100 (RFC 9110, section 10.1.1) gets one, once, before all else, if its body isn't whole then.
 //! - `reply` puts the text of the reply behind what waits, if a request waits for it.
-//! - `send` puts the frame of a message behind what waits, if the lane is a live WebSocket that isn't gone.
+//! - `send` puts the frame of a message behind what waits, if the lane is a live WebSocket that isn't gone. Its answer is whether the lane is
+//!   full then, and over whole sessions that stays so until `Drained` or another answer ([`fullness_is_told`]).
 //! - `shut` puts a close frame behind what waits, if the lane is a live WebSocket, and the wire is shut once all is written, or in the
 //!   first `next` from 30,000 ms on, which drops what waits then ([`closing_ends`]).
 //!
@@ -58,7 +78,7 @@
 //! out of memory cuts one lane's turn short, which holds what was read, or is to be heard as lost; the others stand as they were or listened. Over whole
 //! sessions, in which no call was out of memory, what is heard is what was read, what was written and waits is what was replied, in
 //! order, and a wire is shut once, for a cause: [`requests_are_asked`], [`replies_are_written`] and the laws beside them. In any calls each
-//! lane listens sooner or later, whatever the wires name ([`lanes_are_reached`]).
+//! lane listens sooner or later, or rests, whatever the wires name ([`lanes_are_reached`]).
 //!
 //! The crate doesn't know what a request means, what a message says, sockets, nor clocks: moments are those that the wires polled.
 #![tactic(auto)]
@@ -66,6 +86,7 @@
 mod door;
 mod finding;
 mod first_read;
+mod full;
 mod http_state;
 mod input;
 mod lane;
@@ -82,8 +103,11 @@ mod writing;
 
 pub use door::NetDoor;
 pub use laws::{
-    closing_ends, lanes_are_bounded, lanes_are_reached, limits_are_named, losses_have_causes,
-    numbers_rise, replies_are_written, requests_are_asked, requests_wait_for_replies,
-    sockets_are_carried, wires_are_shut_for_a_cause,
+    closing_ends, fullness_is_told, lanes_are_bounded, lanes_are_reached, limits_are_named,
+    losses_have_causes, numbers_rise, replies_are_written, requests_are_asked,
+    requests_wait_for_replies, sockets_are_carried, wires_are_shut_for_a_cause,
 };
-pub use limits::{MOST_CLOSING, MOST_NAMED, MOST_UNWRITTEN, MOST_WAIT};
+pub use limits::{
+    MOST_BEFORE_FULL, MOST_CLOSING, MOST_DRAINED, MOST_NAMED, MOST_STALLED, MOST_UNWRITTEN,
+    MOST_WAIT,
+};

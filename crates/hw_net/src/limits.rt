@@ -6,6 +6,15 @@ pub const PIECE: usize = 4_096;
 /// The most bytes that may wait on a lane to be written: 1 MiB.
 pub const MOST_UNWRITTEN: usize = 1_048_576;
 
+/// A WebSocket lane is full after a message if more bytes than this wait there to be written: 256 KiB.
+pub const MOST_BEFORE_FULL: usize = 262_144;
+
+/// A lane that is full isn't any more once at most this many bytes wait there: 64 KiB.
+pub const MOST_DRAINED: usize = 65_536;
+
+/// How many milliseconds a lane that is full may stay without anything being written on its wire.
+pub const MOST_STALLED: u64 = 30_000;
+
 /// How many milliseconds a lane may wait for a whole request, since it was accepted or since its last reply.
 pub const MOST_WAIT: u64 = 30_000;
 

@@ -15,6 +15,8 @@ pub struct Tally {
     awake: usize,
     // Lanes that may have something to write.
     writers: usize,
+    // Lanes on which something may be heard or written before more bytes come there, and not only that they are overdue.
+    restless: usize,
 }
 
 impl Tally {
@@ -26,6 +28,7 @@ impl Tally {
             over: 0,
             awake: 0,
             writers: 0,
+            restless: 0,
         }
     }
 
@@ -37,6 +40,7 @@ impl Tally {
         self.over += usize::from(lane.is_over());
         self.awake += usize::from(lane.is_awake());
         self.writers += usize::from(lane.has_unwritten());
+        self.restless += usize::from(lane.is_restless());
     }
 
     /// Counts this lane no more.
@@ -47,6 +51,7 @@ impl Tally {
         self.over -= usize::from(lane.is_over());
         self.awake -= usize::from(lane.is_awake());
         self.writers -= usize::from(lane.has_unwritten());
+        self.restless -= usize::from(lane.is_restless());
     }
 
     /// Counts the lanes that are over no more.
@@ -72,5 +77,11 @@ impl Tally {
         ensures { result ≡ nat_lt 0 self.now.writers }
     {
         self.writers > 0
+    }
+
+    pub fn has_restless(&self) -> bool
+        ensures { result ≡ nat_lt 0 self.now.restless }
+    {
+        self.restless > 0
     }
 }

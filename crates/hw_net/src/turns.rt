@@ -1,13 +1,13 @@
 //! One call's turns of the lanes, in their order.
 
-ghost use Rattle.std.specs.Prelude.{◌≡◌, ◌≤◌, List, None, Some, length, IfOk, IfSome, IfNone, OnErr};
-ghost use Rattle.hw_door.specs.Traffic.{Answer};
-ghost use Rattle.hw_net.specs.Door.{HearsAll};
+ghost use Rattle.std.specs.Prelude.{◌≡◌, ◌⊎◌, ◌≤◌, List, None, true, length, Contains, IfOk, OnErr};
+ghost use Rattle.hw_door.specs.Traffic.{Answer, ready_answer};
+ghost use Rattle.hw_net.specs.Door.{RestsAt, Searches};
 ghost use Rattle.hw_net.specs.Halting.{HaltsWithin, HaltsAll};
-ghost use Rattle.hw_net.specs.Lane.{wires_of};
+ghost use Rattle.hw_net.specs.Lane.{Lane, wires_of};
 ghost use Rattle.hw_net.specs.Rising.{Rise};
 ghost use Rattle.hw_net.specs.Trace.{Tells};
-ghost use Rattle.hw_net.specs.Walks.{Walks, Speak};
+ghost use Rattle.hw_net.specs.Walks.{Walks, Speak, RestsWithin, Ends};
 
 use crate::first_read::FirstRead;
 use crate::lanes::Lanes;
@@ -15,14 +15,27 @@ use crate::limits::PIECE;
 use hw_door::{Event, Wires};
 use std::alloc::AllocError;
 
-/// What was heard first, and the place after that lane.
+/// How turns of some lanes ended.
 #[derive(Drop)]
-struct Found {
-    event: Event,
-    next: usize,
+pub enum Course {
+    /// This was heard first, and the place after that lane.
+    Heard { event: Event, next: usize },
+    /// Each lane had its turn, and nothing was heard.
+    Quiet,
+    /// Nothing was heard, and the other lanes needn't be asked, as all rest.
+    Rests,
 }
 
-/// Turns of the lanes of these places, the first first, until one hears something.
+/// Whether all lanes rest, and the wires tell that none of them has anything to give.
+fn all_rest<W: Wires>(lanes: &Lanes, wires: &mut W, now: u64) -> bool
+    ensures told { Tells (W.trace wires.old) (W.trace wires.new) (ready_answer result) }
+    ensures rest { result ≡ true → (lane : Lane) → Contains lanes.now.items lane → RestsAt now lane }
+    ensures wires { W.wires wires.new ≡ W.wires wires.old }
+{
+    lanes.may_rest(now) && wires.none_ready()
+}
+
+/// Turns of the lanes of these places, the first first, until one hears something, or all rest.
 fn turn_until<W: Wires>(
     lanes: &mut Lanes,
     begin: usize,
@@ -30,16 +43,11 @@ fn turn_until<W: Wires>(
     wires: &mut W,
     buf: &mut [u8],
     now: u64,
-) -> Result<Option<Found>, AllocError>
+) -> Result<Course, AllocError>
     requires buffer { length buf.old ≡ PIECE }
     requires order { begin ≤ end }
     requires places { end ≤ length lanes.old.items }
-    ensures found { IfOk result (λ found. IfSome found (λ at. (begin ≤ at.next) × (at.next ≤ end)
-        × ((answers : List Answer) × Tells (W.trace wires.old) (W.trace wires.new) answers
-        × Walks now None begin at.next lanes.old.items lanes.new.items answers (Some at.event)))) }
-    ensures quiet { IfOk result (λ found. IfNone found ((answers : List Answer)
-        × Tells (W.trace wires.old) (W.trace wires.new) answers
-        × Walks now None begin end lanes.old.items lanes.new.items answers None)) }
+    ensures ended { IfOk result (Ends (W.trace wires.old) (W.trace wires.new) now begin end lanes.old.items lanes.new.items) }
     ensures halts { OnErr result ((answers : List Answer) × Tells (W.trace wires.old) (W.trace wires.new) answers
         × HaltsWithin now begin end lanes.old.items lanes.new.items answers) }
     ensures buffer { length buf.new ≡ PIECE }
@@ -47,18 +55,21 @@ fn turn_until<W: Wires>(
     ensures lanes { wires_of lanes.new.items ≡ wires_of lanes.old.items }
 {
     for index in begin..end {
+        if all_rest(lanes, wires, now) {
+            return Ok(Course::Rests);
+        }
         let first_look = lanes.read_first(index, wires, buf);
         if first_look == FirstRead::NothingRead {
             continue;
         }
         if let Some(event) = lanes.turn(index, first_look, wires, buf, now)? {
-            return Ok(Some(Found {
+            return Ok(Course::Heard {
                 event,
                 next: index + 1,
-            }));
+            });
         }
     }
-    Ok(None)
+    Ok(Course::Quiet)
 }
 
 /// The lanes of these places write what waits. None is looked at if nothing waits on any lane.
@@ -78,36 +89,38 @@ fn say_all<W: Wires>(lanes: &mut Lanes, begin: usize, end: usize, wires: &mut W,
     }
 }
 
-/// Turns of the lanes of these places, the first first. Once an event was heard, the others only write what waits.
-fn turn_all<W: Wires>(
+/// Turns of the lanes before this place, after those from it on had theirs, in which nothing was heard. Once an event is heard, the others only
+/// write what waits.
+fn turn_last<W: Wires>(
     lanes: &mut Lanes,
-    begin: usize,
     end: usize,
     wires: &mut W,
     buf: &mut [u8],
     now: u64,
 ) -> Result<Option<Event>, AllocError>
     requires buffer { length buf.old ≡ PIECE }
-    requires order { begin ≤ end }
     requires places { end ≤ length lanes.old.items }
-    ensures turned { IfOk result (λ heard. (answers : List Answer)
-        × Tells (W.trace wires.old) (W.trace wires.new) answers
-        × Walks now None begin end lanes.old.items lanes.new.items answers heard) }
+    ensures turned { IfOk result (λ heard. (answers : List Answer) × Tells (W.trace wires.old) (W.trace wires.new) answers
+        × (Walks now None 0 end lanes.old.items lanes.new.items answers heard
+        ⊎ ((heard ≡ None) × RestsWithin now 0 end lanes.old.items lanes.new.items answers))) }
     ensures halts { OnErr result ((answers : List Answer) × Tells (W.trace wires.old) (W.trace wires.new) answers
-        × HaltsWithin now begin end lanes.old.items lanes.new.items answers) }
-    ensures buffer { length buf.new ≡ PIECE }
+        × HaltsWithin now 0 end lanes.old.items lanes.new.items answers) }
     ensures wires { W.wires wires.new ≡ W.wires wires.old }
     ensures lanes { wires_of lanes.new.items ≡ wires_of lanes.old.items }
 {
-    let Some(found) = turn_until(lanes, begin, end, wires, buf, now)? else {
-        return Ok(None);
-    };
-    say_all(lanes, found.next, end, wires, now);
-    Ok(Some(found.event))
+    match turn_until(lanes, 0, end, wires, buf, now)? {
+        Course::Heard { event, next } => {
+            say_all(lanes, next, end, wires, now);
+            Ok(Some(event))
+        }
+        Course::Quiet => Ok(None),
+        Course::Rests => Ok(None),
+    }
 }
 
-/// A turn of each lane: first those from the first that has this number or a greater one on, then those before it.
-pub fn turn_from<W: Wires>(
+/// A turn of each lane: first those from the first that has this number or a greater one on, then those before it. Once all rest, no other lane
+/// is asked.
+fn turn_each<W: Wires>(
     lanes: &mut Lanes,
     from: u64,
     wires: &mut W,
@@ -115,7 +128,7 @@ pub fn turn_from<W: Wires>(
 ) -> Result<Option<Event>, AllocError>
     requires { Rise (wires_of lanes.old.items) }
     ensures hears { IfOk result (λ trace. (answers : List Answer) × Tells (W.trace wires.old) (W.trace wires.new) answers
-        × HearsAll now from lanes.old.items lanes.new.items answers trace) }
+        × Searches now from lanes.old.items lanes.new.items answers trace) }
     ensures halts { OnErr result ((answers : List Answer) × Tells (W.trace wires.old) (W.trace wires.new) answers
         × HaltsAll now from lanes.old.items lanes.new.items answers) }
     ensures wires { W.wires wires.new ≡ W.wires wires.old }
@@ -124,9 +137,34 @@ pub fn turn_from<W: Wires>(
     let index = lanes.index_of_first(from);
     let end = lanes.len();
     let mut buf = [0; PIECE];
-    let Some(event) = turn_all(lanes, index, end, wires, &mut buf, now)? else {
-        return turn_all(lanes, 0, index, wires, &mut buf, now);
-    };
-    say_all(lanes, 0, index, wires, now);
-    Ok(Some(event))
+    match turn_until(lanes, index, end, wires, &mut buf, now)? {
+        Course::Heard { event, next } => {
+            say_all(lanes, next, end, wires, now);
+            say_all(lanes, 0, index, wires, now);
+            Ok(Some(event))
+        }
+        Course::Quiet => turn_last(lanes, index, wires, &mut buf, now),
+        Course::Rests => Ok(None),
+    }
+}
+
+/// A turn of each lane, those from this number on first, unless all rest.
+pub fn turn_from<W: Wires>(
+    lanes: &mut Lanes,
+    from: u64,
+    wires: &mut W,
+    now: u64,
+) -> Result<Option<Event>, AllocError>
+    requires { Rise (wires_of lanes.old.items) }
+    ensures hears { IfOk result (λ trace. (answers : List Answer) × Tells (W.trace wires.old) (W.trace wires.new) answers
+        × Searches now from lanes.old.items lanes.new.items answers trace) }
+    ensures halts { OnErr result ((answers : List Answer) × Tells (W.trace wires.old) (W.trace wires.new) answers
+        × HaltsAll now from lanes.old.items lanes.new.items answers) }
+    ensures wires { W.wires wires.new ≡ W.wires wires.old }
+    ensures lanes { wires_of lanes.new.items ≡ wires_of lanes.old.items }
+{
+    if all_rest(lanes, wires, now) {
+        return Ok(None);
+    }
+    turn_each(lanes, from, wires, now)
 }

@@ -1,6 +1,6 @@
 //! A lane while it is a WebSocket. It knows nothing of when it is written.
 
-ghost use Rattle.std.specs.Prelude.{◌≡◌, ◌≤◌, ◌||◌, ◌∷◌, [], ℕ, List, true, false, not, length, take, option_map, IfOk, IfSome, OnOk, OnErr};
+ghost use Rattle.std.specs.Prelude.{◌≡◌, ◌≤◌, ◌&&◌, ◌||◌, ◌∷◌, [], ℕ, List, true, false, not, length, take, is_some, option_map, IfOk, IfSome, OnOk, OnErr};
 ghost use Rattle.hw_door.specs.Traffic.{Answer};
 ghost use Rattle.hw_socket.specs.Reading.{Feeds, Loses};
 ghost use Rattle.hw_socket.specs.Sending as sending;
@@ -8,7 +8,7 @@ ghost use Rattle.hw_socket.specs.Sending.{after_shut};
 ghost use Rattle.hw_net.specs.declared.limits.TheConstants.{PIECE};
 ghost use Rattle.hw_net.specs.Halting.{HaltsSocket};
 ghost use Rattle.hw_net.specs.Saying.{Writes};
-ghost use Rattle.hw_net.specs.WebSocketState.{HearsWebSocket, ReadsInto, Finds, IsCalm};
+ghost use Rattle.hw_net.specs.WebSocketState.{HearsWebSocket, ReadsInto, Finds, IsCalm, IsWebSocketState};
 ghost use Rattle.hw_net.specs.Trace.{Tells, Reads};
 ghost use Rattle.hw_net.specs.Turn.{IsRightInput};
 
@@ -29,8 +29,6 @@ pub struct WebSocketState {
     wants_read: bool,
     // The last read filled the room that it had, or there was none.
     last_read_was_full: bool,
-    // All messages that came were heard, and since then no byte came and none was sent.
-    is_drained: bool,
     // Bytes that were read are lost, as memory was out.
     lost_bytes: bool,
 }
@@ -44,7 +42,7 @@ impl Model for WebSocketState {
 
     ghost view = { λ t. record { lane = t.lane; wants_read = t.wants_read; last_read_was_full = t.last_read_was_full; lost_bytes = t.lost_bytes } };
 
-    ghost invariant = { λ t. IsWebSocketState t.lane t.is_drained };
+    ghost invariant = { λ t. IsWebSocketState t.lane t.wants_read t.last_read_was_full t.lost_bytes };
 }
 
 impl WebSocketState {
@@ -56,7 +54,6 @@ impl WebSocketState {
             lane,
             wants_read: true,
             last_read_was_full: true,
-            is_drained: false,
             lost_bytes: false,
         }
     }
@@ -126,12 +123,21 @@ impl WebSocketState {
     pub fn is_idle(&self) -> bool
         ensures { result ≡ true → IsCalm self.now }
     {
-        self.wants_read
-            && self.is_drained
-            && !self.last_read_was_full
-            && !self.lost_bytes
-            && self.lane.ending().is_none()
-            && self.lane.out().is_empty()
+        !self.is_awake() && self.only_waits() && self.lane.out().is_empty()
+    }
+
+    /// Whether a turn may hear nothing but what comes: bytes weren't lost, and the WebSocket isn't gone.
+    pub fn only_waits(&self) -> bool
+        ensures { result ≡ (not self.now.lost_bytes && not (is_some self.now.lane.ending)) }
+    {
+        !self.lost_bytes && self.lane.ending().is_none()
+    }
+
+    /// What holds of every WebSocket here holds of this one. It does nothing.
+    pub fn is_sound(&self)
+        ensures { IsWebSocketState self.now.lane self.now.wants_read self.now.last_read_was_full self.now.lost_bytes }
+    {
+        let _lane = &self.lane;
     }
 
     /// Adds a message to what is to be written. The answer is whether it was.
@@ -140,7 +146,6 @@ impl WebSocketState {
         ensures unchanged { OnErr result (self.new ≡ self.old) }
         ensures others_unchanged { self.new ≡ record self.old { lane = self.new.lane } }
     {
-        self.is_drained = false;
         self.lane.send(bytes, text)
     }
 
@@ -176,17 +181,14 @@ impl WebSocketState {
         ensures whole { OnOk result (self.new.lost_bytes ≡ self.old.lost_bytes) }
         ensures lost { OnErr result (self.new ≡ record self.old { last_read_was_full = true; lost_bytes = true }) }
     {
-        self.last_read_was_full = count == buf.len();
         let piece = &buf[..count];
-        if piece.is_empty() {
-            return Ok(());
-        }
-        self.is_drained = false;
-        if self.lane.feed(piece).is_err() {
+        if !piece.is_empty() && self.lane.feed(piece).is_err() {
             self.lost_bytes = true;
             self.last_read_was_full = true;
             return Err(AllocError);
         }
+        self.last_read_was_full = count == buf.len();
+        self.wants_read = false;
         Ok(())
     }
 
@@ -197,12 +199,10 @@ impl WebSocketState {
         ensures whole { self.new.lost_bytes ≡ self.old.lost_bytes }
     {
         self.wants_read = false;
-        self.is_drained = false;
         match self.lane.read()? {
             SocketRead::Payload(bytes) => Ok(Input::Message(bytes)),
             SocketRead::NotYet => {
                 self.wants_read = true;
-                self.is_drained = true;
                 Ok(Input::Nothing)
             }
             SocketRead::Gone => Ok(Input::Gone),

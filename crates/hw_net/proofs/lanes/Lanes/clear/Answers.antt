@@ -1,16 +1,22 @@
-use Rattle.std.proofs.Common.{rules, not, ◌≡◌, sym, ap, ◌∙◌, List, false, ltb}
+use Rattle.std.proofs.Common.{rules, not, ◌≡◌, sym, ap, ◌∙◌, subst, List, false, ltb}
+use Rattle.std.specs.List.{All}
 use Rattle.std.proofs.lemmas.Fn.{filter_same}
 use Rattle.hw_net.specs.declared.tally.Tally.{Tally}
 use Rattle.hw_net.specs.Door.{kept}
 use Rattle.hw_net.specs.Lane.{Lane, is_over}
+use Rattle.hw_net.specs.Resting.{IsKnown}
 use Rattle.hw_net.specs.Tally.{tally_of}
+use Rattle.hw_net.proofs.Resting.{known-kept}
 use Rattle.hw_net.proofs.Tallying.{none-goes, over-go}
 use Rattle.hw_net.proofs.lanes.Lanes.clear.Goals as goal
 
 pub invariant_of-self : goal.invariant_of-self
 invariant_of-self c =
     let same : c.retain.new.self.items ≡ kept c.self.inside.items.items = filter_same _ (λ (lane : Lane). not (is_over lane.stage)) _ (λ x b f' k. search rules) _ _ c.retain.ensures.filtered in
-    c.forget_over.ensures ∙ ap (λ (t : Tally). record t { over = 0 }) c.self.invariant ∙ over-go c.self.inside.items.items ∙ ap (λ (l : List Lane). tally_of l) (sym same)
+    record {
+      counted = c.forget_over.ensures ∙ ap (λ (t : Tally). record t { over = 0 }) c.self.invariant.counted ∙ over-go c.self.inside.items.items ∙ ap (λ (l : List Lane). tally_of l) (sym same);
+      known = subst (All (IsKnown c.self.inside.due)) (sym same) (known-kept c.self.inside.due c.self.inside.items.items c.self.invariant.known);
+    }
 
 pub returns-then-has_over : goal.returns-then-has_over
 returns-then-has_over c =
@@ -20,4 +26,4 @@ returns-then-has_over c =
 pub returns-else-has_over : goal.returns-else-has_over
 returns-else-has_over c =
     let none : ltb 0 c.self.inside.tally.over ≡ false = search rules in
-    rw (← c.self.view_is) (sym (none-goes c.self.inside.items.items c.self.inside.tally c.self.invariant none))
+    rw (← c.self.view_is) (sym (none-goes c.self.inside.items.items c.self.inside.tally c.self.invariant.counted none))

@@ -7,4 +7,4 @@ use Rattle.hw_net.proofs.lanes.Lanes.has_awake.Goals as goal
 
 pub returns : goal.returns
 returns c =
-    c.has_awake.ensures ∙ ap (λ (t : Tally). ltb 0 t.awake) c.self.invariant ∙ some-awake c.self.inside.items.items ∙ ap (λ l. list_any is_awake l.items) c.self.view_is
+    c.has_awake.ensures ∙ ap (λ (t : Tally). ltb 0 t.awake) c.self.invariant.counted ∙ some-awake c.self.inside.items.items ∙ ap (λ l. list_any is_awake l.items) c.self.view_is

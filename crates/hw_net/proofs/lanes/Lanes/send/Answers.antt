@@ -1,5 +1,6 @@
 use Rattle.std.proofs.Common.{rules, ◌≡◌, ◌<◌, ◌+◌, ◌^◌, ◌∙◌, length, get_or}
 use Rattle.hw_net.proofs.Sweeps.{wires-kept}
+use Rattle.hw_net.proofs.Resting.{known-again}
 use Rattle.hw_net.proofs.Tallying.{at-counted, room-again, put-again}
 use Rattle.hw_net.proofs.lanes.Lanes.send.Goals as goal
 
@@ -7,19 +8,22 @@ pub leave-requires : goal.leave-requires
 leave-requires g c =
     let found : get_or c.self.inside.items.items c.args.index c.index_mut-lane.result.now ≡ c.index_mut-lane.result.now = search rules in
     let within : c.args.index < length c.self.inside.items.items = search rules in
-    rw c.self.invariant (at-counted c.self.inside.items.items c.args.index c.index_mut-lane.result.now within found)
+    rw c.self.invariant.counted (at-counted c.self.inside.items.items c.args.index c.index_mut-lane.result.now within found)
 
 pub enter-requires : goal.enter-requires
 enter-requires g c =
     let small : length c.self.inside.items.items + 1 < 2 ^ 64 = search rules in
-    room-again c.self.inside.items.items c.index_mut-lane.result.now c.self.inside.tally c.leave.new.self c.self.invariant c.leave.ensures small
+    room-again c.self.inside.items.items c.index_mut-lane.result.now c.self.inside.tally c.leave.new.self c.self.invariant.counted c.leave.ensures small
 
 pub invariant_of-self : goal.invariant_of-self
 invariant_of-self g c =
     let found : get_or c.self.inside.items.items c.args.index c.index_mut-lane.result.now ≡ c.index_mut-lane.result.now = search rules in
     let within : c.args.index < length c.self.inside.items.items = search rules in
-    put-again c.self.inside.items.items c.args.index c.index_mut-lane.result.now c.send-sent.new.self c.self.inside.tally c.leave.new.self c.enter.new.self within found
-    c.self.invariant c.leave.ensures c.enter.ensures
+    record {
+      counted = put-again c.self.inside.items.items c.args.index c.index_mut-lane.result.now c.send-sent.new.self c.self.inside.tally c.leave.new.self c.enter.new.self within found
+          c.self.invariant.counted c.leave.ensures c.enter.ensures;
+      known = known-again c.self.inside.due _ _ c.self.inside.items.items c.args.index c.send-sent.new.self (search rules) (search rules) c.self.invariant.known c.due.ensures;
+    }
 
 pub returns-clause-lanes : goal.returns-clause-lanes
 returns-clause-lanes g c =

@@ -1,0 +1,26 @@
+-- What is known of each lane while it stands among others.
+use Rattle.std.specs.Prelude.{◌≡◌, ◌<◌, ℕ, false, List}
+use Rattle.std.specs.List.{All}
+use Rattle.hw_net.specs.declared.protocol.Protocol.{Protocol}
+use Rattle.hw_net.specs.declared.protocol.Protocol.TheVariants.{Http, Socket}
+use Rattle.hw_net.specs.declared.tally.Tally.{Tally}
+use Rattle.hw_net.specs.HttpState.{IsHttpState}
+use Rattle.hw_net.specs.Lane.{Lane, is_overdue}
+use Rattle.hw_net.specs.Tally.{tally_of}
+use Rattle.hw_net.specs.WebSocketState.{IsWebSocketState}
+
+-- what holds of all that lanes speak
+abbrev pub IsSound : Protocol → Type 0
+IsSound (Http http_state) = IsHttpState http_state.lane http_state.busy http_state.has_unparsed
+IsSound (Socket websocket_state) =
+    IsWebSocketState websocket_state.lane websocket_state.wants_read websocket_state.last_read_was_full websocket_state.lost_bytes
+
+-- that, and that the lane isn't overdue before this moment
+pub record IsKnown (due : ℕ) (lane : Lane) : Type 0 where
+  pub sound : IsSound lane.protocol
+  pub in_time : (now : ℕ) → now < due → is_overdue now lane ≡ false
+
+-- the lanes are counted, and none is overdue before this moment
+pub record AreKept (tally : Tally) (due : ℕ) (lanes : List Lane) : Type 0 where
+  pub counted : tally ≡ tally_of lanes
+  pub known : All (IsKnown due) lanes
