@@ -9,6 +9,9 @@ pub const MOST_WIRES: u64 = 1 << 48;
 /// How many polls in a row that don't wait may leave the system unasked.
 pub const MOST_UNASKED: u64 = 32;
 
+/// How many writes in a row on a wire aren't made, as they would wait by what the system told last.
+pub const MOST_UNMADE: u32 = 63;
+
 /// How many events one poll takes at most.
 pub const EVENTS: usize = 1_024;
 

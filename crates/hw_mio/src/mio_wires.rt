@@ -34,7 +34,8 @@ use std::time::{Duration, Instant};
 /// shut, or `accept` failed, as the caller may have left that wire unread for this. Of polls that don't wait only each 33rd asks the system
 /// for events.
 ///
-/// The wires that are named are those of which a read may give something, or of which the last read did, in the order of their slots.
+/// The wires that are named are those of which a read may give something, or of which the last read did, in the order of their slots. None of them
+/// has anything to give (`none_ready`) if no read would ask the system. That is known without looking at any.
 ///
 /// `shut` ends what is written, but not the connection: what still comes is read and dropped, until the peer ends too, for at most 2 s
 /// and 1 MiB. So the peer gets all that was written before, though it had sent bytes that were never read. The wire's number is gone
@@ -346,6 +347,16 @@ impl<'a, R: Net + Clock> Wires for MioWires<'a, R> {
             Shut::Ending => self.endings.add(wire, self.moment, &mut self.table),
         }
         self.eager_polls = EAGER_POLLS;
+    }
+
+    /// A wire on which no event told of anything that is still to be read answers a read with `NotYet`, without asking the system. After true no
+    /// wire is named for what its last read gave.
+    fn none_ready(&mut self) -> bool {
+        if self.table.has_readable() {
+            return false;
+        }
+        self.table.forget_ready();
+        true
     }
 
     fn ready_after(&self, wire: u64) -> Option<u64> {

@@ -3,7 +3,7 @@
 ghost use Rattle.std.specs.Prelude.{◌≤◌, length, IfOk};
 ghost use Rattle.hw_door.specs.Traffic.{CountsWithin};
 
-use crate::limits::{MOST_DROPPED, PIECE};
+use crate::limits::{MOST_DROPPED, MOST_UNMADE, PIECE};
 use crate::refusal::{was_interrupted, would_wait};
 use hw_door::WireRead;
 use mio::event::Event;
@@ -21,6 +21,8 @@ pub struct Live {
     is_readable: bool,
     // A write may take something: from an event until a write that would wait.
     is_writable: bool,
+    // How many writes in a row weren't made, as they would have waited.
+    unmade: u32,
     // An event told that the wire is over, so a read may meet its end.
     is_closing: bool,
     // The peer's end was read.
@@ -35,6 +37,7 @@ impl Live {
             stream,
             is_readable: is_ready,
             is_writable: is_ready,
+            unmade: 0,
             is_closing: false,
             has_ended: false,
         }
@@ -86,9 +89,12 @@ impl Live {
     fn write_socket(&mut self, bytes: &[u8]) -> io::Result<usize>
         ensures { IfOk result (λ count. count ≤ length bytes.now) }
     {
-        if !self.is_writable {
+        // The system tells of room only once much of it is free, which on a slow line may take minutes.
+        if !self.is_writable && self.unmade < MOST_UNMADE {
+            self.unmade = self.unmade.saturating_add(1);
             return Ok(0);
         }
+        self.unmade = 0;
         match self.stream.write(bytes) {
             Ok(count) => Ok(count),
             Err(error) if would_wait(&error) => {

@@ -159,6 +159,13 @@ impl Table {
         self.readable > 0
     }
 
+    /// No wire is ready any more, as a read may give something of none.
+    pub fn forget_ready(&mut self)
+        ensures { self.new ≡ self.old }
+    {
+        self.ready.clear();
+    }
+
     /// The wire in the first slot after that of this one, in a circle, of which a read may give something or the last one did.
     pub fn next_ready(&self, wire: u64) -> Option<u64> {
         let at = self.ready.next_after(slot_of(wire))?;
