@@ -98,6 +98,8 @@ impl<M: Message> MessageLane<M> {
 
     /// The next message, or `None` if the bytes held are the beginning of one, or the lane is at its end. After `Refused` the lane is
     /// spent: it takes no more bytes and answers the same again.
+    /// Once a message was handed out the lane holds no more memory than for [`MOST_HEAD`] bytes, what came after the message among them,
+    /// unless there is none to move these to.
     pub(crate) fn next(&mut self) -> Result<Option<M>, HttpError>
         ensures answers { self.old.spent ≡ None → self.old.ended ≡ false → Answers M.grammar self.old self.new result }
         ensures repeats { Repeats self.old self.new result }
