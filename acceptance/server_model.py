@@ -1,12 +1,16 @@
-"""A server of rooms over plain lists, as slow as it likes: what it says at each event. It speaks JSON alone, and knows versions 1 and 2.
+"""A server of rooms over plain lists, as slow as it likes: what it says at each event. It speaks JSON alone, and knows versions 1 and 2. Of
+calculations it knows `Count`.
 
-It is told events as `(now, kind, lane, ...)` and answers with a list of lines, each one thing that is said. Its ends are written after HubProtocol.md
-("Overview", for the handshake, Ack and Sequence); its lives and its table of requests are the server's own rules, as `docs/serving.md` says them."""
+It is told events as `(now, kind, lane, ...)` and answers with a list of lines, each one thing that is said; then it is told of each message whether
+its lane is full. Its ends are written after HubProtocol.md ("Overview", for the handshake, Ack and Sequence); its lives, its table of requests and
+what an end holds are the server's own rules, as `docs/serving.md` and `docs/delivery.md` say them."""
 import base64
 import json
 
 LIVES, HELD, PING, SILENCE = 30000, 90000, 15000, 30000
 MOST_GROUPS = 256
+MOST_FRAMED = 32768 + 5  # bytes of a frame and its framing, for which there is to be room before a job goes on
+USUAL = (1024, 100000)  # messages and framed bytes that an end holds
 
 
 def compact(message): return json.dumps(message, sort_keys=True, separators=(",", ":"))
@@ -18,7 +22,8 @@ def token_of(draw, conn): return base64.urlsafe_b64encode(bytes([draw]) * 16 + c
 class End:
     """The server's end of one connection."""
 
-    def __init__(self, reconnect):
+    def __init__(self, reconnect, most):
+        self.most_messages, self.most_bytes = most
         self.reconnect, self.shaken, self.version, self.closed, self.farewell, self.answer = reconnect, False, 0, False, None, None
         self.sent, self.acked, self.lent, self.processed = [], 0, 0, 0
         self.link, self.links = None, 0
@@ -26,6 +31,11 @@ class End:
 
     @property
     def kept(self): return self.shaken and self.reconnect and self.version == 2
+
+    def has_room(self, size):
+        """Whether a message of so many bytes may be held beside those that the other end may not have, or that aren't written yet."""
+        held = self.sent[self.acked if self.kept else self.lent:]
+        return len(held) < self.most_messages and sum(len(text) + 1 for text in held) + size <= self.most_bytes
 
     def attach(self, now):
         self.links += 1
@@ -133,11 +143,18 @@ class Conn:
         return since.get(self.standing())
 
 
+def lane_of(word):
+    """The lane of a message that is said, and None of what is none."""
+    kind, lane, *_ = word.split(" ")
+    return int(lane) if kind in ("text", "bytes") else None
+
+
 class Server:
-    def __init__(self, keeper_fails, lots_fail, users):
+    def __init__(self, keeper_fails, lots_fail, users, most=USUAL):
+        self.most = most
         self.conns, self.order, self.joined, self.users, self.rows = {}, [], [], users, []
         self.keeper_fails, self.lots_fail, self.asked, self.drawn, self.draw = keeper_fails, lots_fail, 0, 0, 0
-        self.last, self.refused = {}, set()
+        self.last, self.refused, self.full = {}, set(), set()
 
     # ---- what is said
 
@@ -161,6 +178,8 @@ class Server:
             self.refused.discard(lane)
         if kind == "refused":
             self.refused.add(lane)
+        if kind in ("request", "drained"):
+            self.full.discard(lane)
         self.expire()
         if kind == "request":
             self.request(lane, what)
@@ -177,6 +196,10 @@ class Server:
         for number in sorted(self.conns):
             self.tell(self.conns[number])
         return self.said
+
+    def note_sent(self, lane, full):
+        """The door's answer to a message."""
+        (self.full.add if full else self.full.discard)(lane)
 
     def expire(self):
         for number in sorted(self.conns):
@@ -301,7 +324,7 @@ class Server:
 
     def begin(self, conn, reconnect):
         if conn.end is None:
-            conn.end = End(reconnect)
+            conn.end = End(reconnect, self.most)
             self.order.append(conn.number)
 
     def stand(self, lane, conn, r, reconnect):
@@ -428,18 +451,23 @@ class Server:
         target, args = message["target"], message["arguments"]
         job = {"id": message.get("invocationId"), "deeds": [], "ending": {"error": "Unknown method."}}
         deeds = {"Join": lambda r: [("join", r)], "Leave": lambda r: [("leave", r)], "Post": lambda r, t: [("log", r, t), ("post", r, t)],
-                 "Tell": lambda u, t: [("tell", u, t)], "History": lambda r, n: [("history", r, n)]}
+                 "Tell": lambda u, t: [("tell", u, t)], "History": lambda r, n: [("history", r, n)],
+                 "Count": lambda n: [("item", k) for k in range(1, n + 1)]}
         if target in deeds:
             job.update(deeds=deeds[target](*args), ending={})
         conn.jobs.append(job)
 
     def send(self, conn, text): conn.end.sent.append(text)
 
+    def may_turn(self, conn): return self.up(conn) and conn.end.has_room(MOST_FRAMED)
+
+    def idle(self): return not any(conn.jobs and self.may_turn(conn) for conn in self.conns.values())
+
     def round(self):
         for number in sorted(self.conns):
             conn = self.conns[number]
             for job in list(conn.jobs):
-                if not self.up(conn):
+                if not self.may_turn(conn):
                     break
                 if job["deeds"]:
                     self.carry(conn, job)
@@ -450,7 +478,9 @@ class Server:
 
     def carry(self, conn, job):
         deed = job["deeds"].pop(0)
-        if deed[0] == "join" and (deed[1], conn.number) not in self.joined:
+        if deed[0] == "item":
+            self.send(conn, compact({"type": 2, "invocationId": job["id"], "item": deed[1]}))
+        elif deed[0] == "join" and (deed[1], conn.number) not in self.joined:
             if sum(k == conn.number for _, k in self.joined) < MOST_GROUPS:
                 self.joined.append((deed[1], conn.number))
             else:
@@ -477,7 +507,11 @@ class Server:
         for number in members:
             conn = self.conns[number]
             if self.up(conn) and conn.end.shaken:
-                self.send(conn, compact({"type": 1, "target": target, "arguments": list(arguments)}))
+                text = compact({"type": 1, "target": target, "arguments": list(arguments)})
+                if conn.end.has_room(len(text) + 1):
+                    self.send(conn, text)
+                else:
+                    self.close(conn, "Too slow.")
 
     # ---- what is due
 
@@ -496,6 +530,8 @@ class Server:
             return
         if conn.socket is not None:
             lane = conn.socket
+            if lane in self.full and not conn.end.closed:
+                return
             text = self.lend_all(conn)
             if text:
                 self.said.append(f"text {lane} {text}")

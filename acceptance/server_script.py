@@ -11,7 +11,7 @@ import subprocess
 import sys
 
 import committed
-from server_model import Server, compact, token_of
+from server_model import USUAL, Server, compact, lane_of, token_of
 
 
 # the most bytes that an end of a server may hold
@@ -19,6 +19,10 @@ MOST_RESEND_BYTES = 524288
 
 SESSIONS = 150
 STEPS = 60
+# how much the ends of a session's server hold: as they usually do, few messages, or few bytes beside those of a frame that is to come
+ROOMS = [USUAL, USUAL, (1, 32773), (2, 65546), (4, 100000), (8, 33000)]
+# one in so many lanes is full after a message
+FILLS = [0, 0, 6, 2, 1]
 
 SHAKE = '{"protocol":"json","version":1}|'
 SHAKE_2 = '{"protocol":"json","version":2}|'
@@ -28,6 +32,12 @@ RECONNECT = NEGOTIATE + "&useStatefulReconnect=true"
 
 def call(number, target, *arguments):
     return compact({"type": 1, "invocationId": str(number), "target": target, "arguments": list(arguments)}) + "|"
+
+
+def stream(number, count): return compact({"type": 4, "invocationId": str(number), "target": "Count", "arguments": [count]}) + "|"
+
+
+def item(number, value): return compact({"type": 2, "invocationId": str(number), "item": value}) + "|"
 
 
 def notify(target, *arguments): return compact({"type": 1, "target": target, "arguments": list(arguments)}) + "|"
@@ -246,12 +256,230 @@ note a door that fails
 server - - - => a server
 hear 0 request 1 GET /hub upgrade=k => to be heard
 hear 0 text 1 {SHAKE} => to be heard
-serve 5 - => served: reply 1 101 None accept k; text 1 {{}}|
+serve 5 - - => served: reply 1 101 None accept k; text 1 {{}}|
 hear 0 text 1 {call(1, "Join", "r")} => to be heard
 hear 0 quiet => to be heard
-serve 3 2 => the door failed: -
-serve 1 0 => the door failed: -
-serve 1 - => served: -
+serve 3 2 - => the door failed: -
+serve 1 0 - => the door failed: -
+serve 1 - - => served: -
+"""
+
+
+def full_lanes():
+    """Lanes that are full, on which nothing is said of a connection that is open, until they have drained."""
+    seq, close, ping = '{"sequenceId":1,"type":9}|', compact({"type": 7}) + "|", compact({"type": 6}) + "|"
+    slow, posted, told = compact({"type": 7, "error": "Too slow."}) + "|", notify("Posted", "r", "1", "hi"), notify("Posted", "r", "1", "you")
+    token = f"reply 1 200 Json {body(1, FIRST, True)}"
+    plain = f"""server - - - => a server
+0 request 1 GET /hub upgrade=k => reply 1 101 None accept k
+full 1 0 text 1 {SHAKE} => text 1 {{}}|"""
+    granted = f"""server - - - => a server
+0 request 1 {RECONNECT} => {token}
+0 {socket(2, FIRST)} => reply 2 101 None accept k
+full 2 0 text 2 {SHAKE_2} => text 2 {{}}|"""
+    member = f"""server - - - => a server
+0 request 1 GET /hub upgrade=k => reply 1 101 None accept k
+0 text 1 {SHAKE} => text 1 {{}}|
+0 request 2 GET /hub upgrade=k => reply 2 101 None accept k
+0 text 2 {SHAKE}{notify("Join", "r")} => text 2 {{}}|
+0 quiet => -"""
+    return f"""
+note on a full lane what is due waits, in order, until it has drained
+{plain}
+0 text 1 {call(1, "Join", "r")}{call(2, "Leave", "r")} => -
+0 quiet => -
+0 quiet => -
+idle => true
+0 drained 1 => text 1 {ended(1)}{ended(2)}
+0 quiet => -
+note a lane that is full again says no more
+{plain}
+0 text 1 {call(1, "Join", "r")} => -
+0 quiet => -
+full 1 0 drained 1 => text 1 {ended(1)}
+0 text 1 {call(2, "Leave", "r")} => -
+0 quiet => -
+0 drained 1 => text 1 {ended(2)}
+note a lane that is drained without having been full, and one that nobody has
+{plain}
+0 drained 1 => -
+0 drained 1 => -
+0 drained 7 => -
+0 text 1 {call(1, "Join", "r")} => -
+0 quiet => text 1 {ended(1)}
+note one lane is full, and another isn't
+{member}
+full 2 0 text 1 {notify("Post", "r", "hi")} => -
+full 2 0 quiet => text 2 {posted}
+0 text 1 {notify("Post", "r", "you")}{call(1, "History", "r", 9)} => -
+0 quiet => text 1 {ended(1, result=["hi", "you"])}
+0 drained 1 => -
+0 drained 2 => text 2 {told}
+note one message fills two lanes
+{member}
+0 text 1 {notify("Join", "r")} => -
+0 quiet => -
+0 text 1 {notify("Post", "r", "hi")} => -
+full 1,2 0 quiet => text 1 {posted}; text 2 {posted}
+0 text 1 {notify("Post", "r", "you")} => -
+0 quiet => -
+0 drained 2 => text 2 {told}
+0 drained 1 => text 1 {told}
+note a stream waits for its reader while its end holds a message
+resend 1 32773 => so much
+{plain}
+0 text 1 {stream(1, 3)} => -
+0 quiet => -
+idle => true
+0 drained 1 => text 1 {item(1, 1)}
+idle => false
+full 1 0 quiet => text 1 {item(1, 2)}
+idle => false
+0 quiet => -
+idle => true
+9000 quiet => -
+9000 drained 1 => text 1 {item(1, 3)}
+9000 quiet => text 1 {ended(1)}
+note another stream goes on meanwhile
+{plain}
+0 request 2 GET /hub upgrade=k => reply 2 101 None accept k
+0 text 2 {SHAKE} => text 2 {{}}|
+0 text 1 {stream(1, 2)} => -
+0 text 2 {stream(1, 2)} => text 2 {item(1, 1)}
+0 quiet => text 2 {item(1, 2)}
+0 quiet => text 2 {ended(1)}
+0 drained 1 => text 1 {item(1, 1)}
+0 quiet => text 1 {item(1, 2)}
+0 quiet => text 1 {ended(1)}
+note a stream waits where its end has no room for any frame
+resend 9 32900 => so much
+{plain}
+0 text 1 {stream(1, 9)} => -
+0 quiet => -
+0 quiet => -
+idle => false
+0 quiet => -
+idle => true
+0 quiet => -
+0 drained 1 => text 1 {"".join(item(1, n) for n in range(1, 5))}
+resend 1024 100000 => so much
+note on a full lane no Ping is said
+{plain}
+15000 quiet => -
+16000 drained 1 => text 1 {ping}
+note after a full lane has drained, what is due stands in place of a Ping
+{plain}
+0 text 1 {call(1, "Join", "r")} => -
+15000 quiet => -
+15000 drained 1 => text 1 {ended(1)}
+29999 quiet => -
+30000 quiet => shut 1
+note a silence on a full lane
+{plain}
+29999 quiet => -
+30000 quiet => shut 1
+30000 drained 1 => -
+note what comes on a full lane is heard
+{plain}
+29000 text 1 {ping} => -
+58999 quiet => -
+59000 quiet => shut 1
+note a full lane that is lost
+{plain}
+0 text 1 {call(1, "Join", "r")} => -
+0 lost 1 => -
+0 drained 1 => -
+0 request 1 GET /hub upgrade=k => reply 1 101 None accept k
+0 text 1 {SHAKE} => text 1 {{}}|
+note a connection that can be resumed says no Ack on a full lane
+{granted}
+0 text 2 {call(1, "Join", "r")} => -
+0 quiet => -
+0 drained 2 => text 2 {acked(1)}{ended(1)}
+note its full lane is lost, and it goes on on another
+{granted}
+0 text 2 {call(1, "Join", "r")} => -
+0 lost 2 => -
+0 quiet => -
+0 {socket(3, FIRST, "l")} => reply 3 101 None accept l; text 3 {seq}{acked(1)}{ended(1)}
+0 drained 2 => -
+note it goes on on another while its lane is full
+{granted}
+0 text 2 {call(1, "Join", "r")} => -
+0 quiet => -
+0 {socket(3, FIRST, "l")} => shut 2; reply 3 101 None accept l; text 3 {seq}{acked(1)}{ended(1)}
+note the other lane is full from its first message on
+{granted}
+full 3 0 {socket(3, FIRST, "l")} => shut 2; reply 3 101 None accept l; text 3 {seq}
+0 text 3 {seq}{call(1, "Join", "r")} => -
+0 quiet => -
+0 drained 2 => -
+0 drained 3 => text 3 {acked(1)}{ended(1)}
+note a silence on a full lane, and a resumption in time
+{granted}
+0 text 2 {call(1, "Join", "r")} => -
+30000 quiet => shut 2
+59999 {socket(3, FIRST)} => reply 3 101 None accept k; text 3 {seq}{acked(1)}{ended(1)}
+note a Close on a full lane: what is due is said
+{plain}
+0 text 1 {call(1, "Join", "r")} => -
+0 quiet => -
+full 1 0 text 1 {close} => text 1 {ended(1)}; shut 1
+0 drained 1 => -
+note an Ack too far on a full lane
+{granted}
+0 text 2 {acked(9)} => text 2 {compact({"type": 7, "error": "Protocol error."})}|; shut 2
+note a member on a full lane is too slow where its end has no room
+resend 1 32773 => so much
+{member}
+0 text 1 {notify("Post", "r", "hi")} => -
+full 2 0 quiet => text 2 {posted}
+0 text 1 {notify("Post", "r", "you")} => -
+0 quiet => -
+0 text 1 {notify("Post", "r", "hi")} => -
+0 quiet => text 2 {told}{slow}; shut 2
+0 text 1 {notify("Post", "r", "hi")} => -
+0 quiet => -
+note a member with room is not, by bytes
+resend 9 32900 => so much
+{member}
+0 text 1 {notify("Post", "r", "hi")} => -
+full 2 0 quiet => text 2 {posted}
+0 text 1 {notify("Post", "r", "x" * 32000)} => -
+0 quiet => -
+0 text 1 {notify("Post", "r", "x" * (900 - 2 * len(notify("Posted", "r", "1", ""))))} => -
+0 quiet => -
+0 text 1 {notify("Post", "r", "")} => -
+0 quiet => text 2 {notify("Posted", "r", "1", "x" * 32000)}{notify("Posted", "r", "1", "x" * (900 - 2 * len(notify("Posted", "r", "1", ""))))}{slow}; shut 2
+resend 1024 100000 => so much
+note a poll is answered while its poster's lane is full
+{plain}
+0 request 2 {NEGOTIATE} => reply 2 200 Json {body(2, token_of(0, 2), False)}
+0 request 3 GET /hub?id={token_of(0, 2)} => reply 3 200 None
+0 request 4 GET /hub?id={token_of(0, 2)} => -
+full 4 0 request 5 POST /hub?id={token_of(0, 2)} body={SHAKE}{notify("Join", "r")} => reply 5 200 None; reply 4 200 Octets {{}}|
+0 request 4 GET /hub?id={token_of(0, 2)} => -
+0 text 1 {notify("Post", "r", "hi")} => -
+0 quiet => reply 4 200 Octets {posted}
+note a lane of a connection that is gone is another's, and isn't full
+{plain}
+full 1 0 text 1 {close} => shut 1
+0 request 1 GET /hub upgrade=k => reply 1 101 None accept k
+0 text 1 {SHAKE}{call(1, "Join", "r")} => text 1 {{}}|
+0 quiet => text 1 {ended(1)}
+note a door that fails at a message: the answer to the one before it is noted
+server - - - => a server
+hear 0 request 1 GET /hub upgrade=k => to be heard
+hear 0 text 1 {SHAKE}{notify("Join", "r")} => to be heard
+hear 0 request 2 GET /hub upgrade=k => to be heard
+hear 0 text 2 {SHAKE}{notify("Join", "r")} => to be heard
+hear 0 text 1 {notify("Post", "r", "hi")} => to be heard
+hear 0 quiet => to be heard
+serve 7 11 2 => the door failed: reply 1 101 None accept k; text 1 {{}}|; reply 2 101 None accept k; text 2 {{}}|; text 1 {posted}
+hear 0 text 2 {notify("Post", "r", "you")} => to be heard
+hear 0 quiet => to be heard
+hear 0 drained 1 => to be heard
+serve 3 - - => served: text 2 {notify("Posted", "r", "2", "you")}; text 1 {notify("Posted", "r", "2", "you")}
 """
 
 
@@ -307,7 +535,7 @@ def asks(method, path, query=None, upgrade=None, text=""):
 
 
 def door_sessions():
-    """Each a list of lines with their events: a room, a token and its socket, and polls."""
+    """Each a list of lines with their events: a room, a token and its socket, polls, and a stream on a lane that drains now and then."""
     join, post, close = call(1, "Join", "r"), call(2, "Post", "r", "hi"), compact({"type": 7}) + "|"
     version, named = {"negotiateVersion": "1"}, {"id": FIRST}
     quiet = ("0 quiet", 0, "quiet")
@@ -322,35 +550,66 @@ def door_sessions():
     polls += [(f"0 request 5 POST /hub?id={FIRST} body={sent}", 0, "request", 5, asks("POST", "/hub", named, None, sent)),
               (f"0 request 6 DELETE /hub?id={FIRST}", 0, "request", 6, asks("DELETE", "/hub", named)),
               (f"0 request 7 GET /hub?id={FIRST}", 0, "request", 7, asks("GET", "/hub", named))]
-    return [room, token, polls]
+    drained = [("0 drained 1", 0, "drained", 1)]
+    going_on = stream(3, 3)
+    streams = [*room[:2], (f"0 text 1 {going_on}", 0, "text", 1, going_on), quiet, *drained, quiet, *drained, quiet, *drained, *drained]
+    return [room, token, polls, streams]
+
+
+def calls_of(events, filling):
+    """The calls of a door at which this is heard and whose lanes are full after these of its messages: what is given in each, or None."""
+    server, calls, messages = Server([], [], []), [], 0
+    for _line, now, *event in events:
+        said = server.hear(now, *event)
+        calls += [None] + said
+        for lane in filter(None, map(lane_of, said)):
+            server.note_sent(lane, messages in filling)
+            messages += 1
+    return calls, messages
+
+
+def with_door(events, calls, failing, filling):
+    """The lines of a session with a door, whose call of this number fails, if there is one."""
+    given = [word for word in calls[:failing] if word]
+    served = "served" if failing == len(calls) else "the door failed"
+    filled = ",".join(map(str, filling)) or "-"
+    return ["server - - - => a server"] + [f"hear {line} => to be heard" for line, *_ in events] + [
+        f"serve {len(events)} {failing} {filled} => {served}: {'; '.join(given) or '-'}"]
 
 
 def doors():
-    """A door that fails at each of its calls in turn: what it was given before stands."""
+    """A door that fails at each of its calls in turn: what it was given before stands. And one whose lanes are full after some of its messages."""
     lines = []
     for events in door_sessions():
-        server, calls = Server([], [], []), []
-        for _line, now, *event in events:
-            calls += [None] + server.hear(now, *event)
+        calls, messages = calls_of(events, [])
         for failing in range(len(calls) + 1):
-            lines += [f"note a door that fails at call {failing}", "server - - - => a server"] + [f"hear {line} => to be heard" for line, *_ in events]
-            given = [word for word in calls[:failing] if word]
-            lines.append(f"serve {len(events)} {failing} => {'served' if failing == len(calls) else 'the door failed'}: {'; '.join(given) or '-'}")
+            lines += [f"note a door that fails at call {failing}"] + with_door(events, calls, failing, [])
+        for filling in [[message] for message in range(messages)] + [[*range(messages)]]:
+            calls, _messages = calls_of(events, filling)
+            lines += [f"note a door of lanes that are full after the messages {filling}"] + with_door(events, calls, len(calls), filling)
     return "\n".join(lines)
 
 
 class Play:
     """A session beside a model of the server."""
 
-    def __init__(self, title, keeper_fails, lots_fail):
-        self.server, self.now, self.lane, self.number = Server(keeper_fails, lots_fail, ["Ann", "Bob"]), 0, 0, 0
+    def __init__(self, title, keeper_fails, lots_fail, most=USUAL):
+        self.server, self.now, self.lane, self.number = Server(keeper_fails, lots_fail, ["Ann", "Bob"], most), 0, 0, 0
         comma = [",".join(map(str, fails)) or "-" for fails in (keeper_fails, lots_fail)]
-        self.lines = [f"note {title}", f"server {comma[0]} {comma[1]} Ann,Bob => a server"]
+        self.lines = [f"note {title}", f"resend {most[0]} {most[1]} => so much", f"server {comma[0]} {comma[1]} Ann,Bob => a server"]
 
     def hear(self, line, *event):
-        said = self.server.hear(self.now, *event)
-        self.lines.append(f"{self.now} {line} => {'; '.join(said) or '-'}")
+        """An event, and then what the door answers to each message that is said."""
+        said, full = self.server.hear(self.now, *event), self.filled()
+        for lane in filter(None, map(lane_of, said)):
+            self.server.note_sent(lane, lane in full)
+        filled = f"full {','.join(map(str, full))} " if full else ""
+        self.lines.append(f"{filled}{self.now} {line} => {'; '.join(said) or '-'}")
         return said
+
+    def filled(self):
+        """The lanes that are full after a message that is said now."""
+        return []
 
     def request(self, method, path, query=None, upgrade=None, bearer=None, shut=False, text=""):
         self.lane += 1
@@ -400,7 +659,28 @@ class Draw(Play):
     def __init__(self, seed):
         self.random = random.Random(seed)
         self.fails = [sorted(self.random.sample(range(14), self.random.randrange(3))), sorted(self.random.sample(range(5), self.random.randrange(2)))]
-        super().__init__(f"session {seed}", *self.fails)
+        self.fills, self.is_busy = self.random.choice(FILLS), self.random.randrange(2) == 0
+        super().__init__(f"session {seed}", *self.fails, self.random.choice(ROOMS))
+        if self.is_busy:
+            for _member in range(3):
+                self.join()
+
+    def filled(self): return [lane for lane in range(1, self.lane + 1) if self.fills and self.random.randrange(self.fills) == 0]
+
+    def join(self):
+        """One more member of a room, if there is a token for it."""
+        shake, made = SHAKE, len(self.server.conns)
+        if self.random.randrange(2):
+            self.request("GET", "/hub", None, "k")
+        else:
+            shake = SHAKE_2
+            self.request("POST", "/hub/negotiate", {"negotiateVersion": "1", "useStatefulReconnect": "true"})
+            if len(self.server.conns) == made:
+                return
+            self.request("GET", "/hub", {"id": self.server.conns[made + 1].token}, "k")
+        self.text(self.lane, shake + notify("Join", "r"))
+
+    def text(self, lane, text): self.hear(f"text {lane} {text}", "text", lane, text)
 
     def conn(self):
         some = [conn for conn in self.server.conns.values() if not conn.gone or self.random.randrange(8) == 0]
@@ -430,7 +710,10 @@ class Draw(Play):
         return self.message() + (self.message() if what == 6 else "")
 
     def message(self):
-        room, text = self.random.choice("rst"), self.random.choice(["hi", "there", "x"])
+        room, text = self.random.choice("rrrs" if self.is_busy else "rst"), self.random.choice(["hi", "there", "x"])
+        if self.random.randrange(8) == 0:
+            self.number += 1
+            return stream(self.number, self.random.randrange(6))
         target = self.random.choice(["Join", "Join", "Leave", "Post", "Post", "Post", "Tell", "History", "Away"])
         arguments = {"Join": [room], "Leave": [room], "Post": [room, text], "Tell": [self.random.choice(["Ann", "Bob"]), text],
                      "History": [room, self.random.randrange(4)], "Away": []}[target]
@@ -447,9 +730,14 @@ class Draw(Play):
         self.now += self.random.choice([0, 0, 0, 0, 1, 10, 500, 4000, 14000, 16000, 29999, 30000] if self.random.randrange(4) == 0 else [0, 1])
         what = self.random.randrange(24)
         conn = self.standing()
-        if what < 9 and conn:
-            text = self.frames(conn)
-            self.hear(f"text {conn.socket} {text}", "text", conn.socket, text)
+        if self.server.full and self.random.randrange(6) == 0:
+            lane = self.random.choice(sorted(self.server.full))
+            self.hear(f"drained {lane}", "drained", lane)
+            return
+        if self.random.randrange(12) == 0:
+            self.lines.append(f"idle => {str(self.server.idle()).lower()}")
+        if (what < 9 or (self.is_busy and self.random.randrange(2))) and conn:
+            self.text(conn.socket, self.frames(conn))
         elif what < 12 and len(self.server.conns) < 7:
             bearer = self.random.choice([None, None, "Ann", "Bob", "Eve"])
             if self.random.randrange(3) == 0:
@@ -476,6 +764,9 @@ class Draw(Play):
                     self.hear(f"refused {lane} 400", "refused", lane)
                 else:
                     self.hear(f"lost {lane}", "lost", lane)
+        elif what < 22 and self.lane and self.random.randrange(6) == 0:
+            lane = self.random.randrange(1, self.lane + 2)
+            self.hear(f"drained {lane}", "drained", lane)
         elif what < 22 and self.random.randrange(6) == 0:
             self.request(self.random.choice(["GET", "PUT"]), self.random.choice(["/hub", "/", "/hub/"]))
         else:
@@ -490,7 +781,7 @@ def session(seed):
 
 
 def made():
-    return committed.pairs("\n".join([rows().strip(), by_life(), doors(), stores(), *(session(seed) for seed in range(SESSIONS))]))
+    return committed.pairs("\n".join([rows().strip(), full_lanes().strip(), by_life(), doors(), stores(), *(session(seed) for seed in range(SESSIONS))]))
 
 
 def at_random(seed, count, program):

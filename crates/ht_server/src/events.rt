@@ -36,6 +36,7 @@ fn event_of(alloc: Global, words: &str) -> Result<Event, Stop> {
             Ok(Event::Bytes { lane, bytes })
         }
         "lost" => Ok(Event::Lost { lane }),
+        "drained" => Ok(Event::Drained { lane }),
         "refused" => {
             let status = rest.parse::<u16>().ok().ok_or(Stop::Refused)?;
             let refusal = Refusal {

@@ -1,5 +1,5 @@
-//! Has a server of rooms hear the events of its input, and prints what it says: a program to test `hub_server` by. Its input and the output
-//! that is wanted are those of `acceptance/server_script.py`, where each line stands beside what it wants.
+//! Has a server of rooms and calculations hear the events of its input, and prints what it says: a program to test `hub_server` by. Its input
+//! and the output that is wanted are those of `acceptance/server_script.py`, where each line stands beside what it wants.
 //!
 //! A line is one action, and a line that is none is refused. If memory is out, the program prints `no memory` and ends with status 7.
 //!
@@ -14,11 +14,15 @@
 //! NOW text LANE TEXT               a message; each `|` of its text stands for a separator
 //! NOW bytes LANE DIGITS            a message of these bytes
 //! NOW lost LANE                    the lane was lost
+//! NOW drained LANE                 the lane was full, and isn't any more
 //! NOW refused LANE STATUS          the door refused a request there
 //! NOW quiet                        nothing
+//! full LANES NOW EVENT             one of these events: the door answers to messages for these lanes that they are full. To all other
+//!                                  messages it answers that their lanes aren't
 //! idle                             whether no job is due
 //! hear EVENT                       the event is kept for the next `serve`
-//! serve TURNS FAILING              the server serves so many turns through a door that hears these, and fails at these of its calls
+//! serve TURNS FAILING FILLING      the server serves so many turns through a door that hears these, fails at these of its calls, and whose
+//!                                  lanes are full after these of its messages
 //! ```
 #![tactic(auto)]
 

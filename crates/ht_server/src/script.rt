@@ -2,18 +2,18 @@
 
 use crate::events::heard_of;
 use crate::show::{all_given, all_said};
-use hd_server::LiveLimit;
+use hd_server::{LiveLimit, Said};
 use hk_keeper::MemoryKeeper;
 use ht_forms::never_falls;
 use ht_kit::{Play, Stop, count, first_word, number, numbers};
-use hub_rooms::RoomsHub;
+use hub_demo::ServeHub;
 use hub_server::{ResendLimits, ServeFault, Server, serve};
 use hv_value::Text;
 use hw_door::{Heard, MemoryDoor, MemoryLots};
 use std::alloc::{AllocError, Global};
 use std::mem;
 
-/// A server of rooms, with its keeper and its lots.
+/// A server of rooms and calculations, with its keeper and its lots.
 #[derive(Drop)]
 pub struct Bench {
     alloc: Global,
@@ -21,8 +21,8 @@ pub struct Bench {
     resend: ResendLimits,
     /// How many connections of the next server may live.
     live: LiveLimit,
-    server: Server<RoomsHub>,
-    hub: RoomsHub,
+    server: Server<ServeHub>,
+    hub: ServeHub,
     keeper: MemoryKeeper,
     lots: MemoryLots,
     heard: Vec<Heard>,
@@ -38,7 +38,7 @@ impl Bench {
             resend,
             live,
             server: Server::start(alloc, Text::of(alloc, "/hub")?, resend, live)?,
-            hub: RoomsHub,
+            hub: ServeHub::new(),
             keeper: MemoryKeeper::start(alloc, Vec::new(alloc), Vec::new(alloc))?,
             lots: MemoryLots::start(Vec::new(alloc), Vec::new(alloc)),
             heard: Vec::new(alloc),
@@ -78,8 +78,8 @@ impl Bench {
         Ok(String::from_str(self.alloc, answer)?)
     }
 
-    /// The server hears an event, and says something.
-    fn step(&mut self, words: &str) -> Result<String, Stop> {
+    /// The server hears an event, says something, and notes the door's answers: of these lanes that they are full.
+    fn step(&mut self, full: &[u64], words: &str) -> Result<String, Stop> {
         let heard = heard_of(self.alloc, words)?;
         let said = self.server.step(
             self.alloc,
@@ -88,7 +88,24 @@ impl Bench {
             &mut self.keeper,
             &mut self.lots,
         )?;
+        self.note_answers(&said, full);
         Ok(all_said(self.alloc, &said)?)
+    }
+
+    /// The server notes an answer to each message that it said.
+    fn note_answers(&mut self, said: &[Said], full: &[u64]) {
+        for word in said {
+            if let Said::Bytes { lane, .. } = word {
+                let is_full = full.iter().any(|number| number == lane);
+                self.server.note_sent(*lane, is_full);
+            }
+        }
+    }
+
+    fn step_filling(&mut self, words: &str) -> Result<String, Stop> {
+        let (lanes, rest) = first_word(words);
+        let full = numbers(self.alloc, lanes)?;
+        self.step(&full, rest)
     }
 
     fn hear(&mut self, words: &str) -> Result<String, Stop> {
@@ -99,12 +116,13 @@ impl Bench {
 
     fn serve(&mut self, words: &str) -> Result<String, Stop> {
         let alloc = self.alloc;
-        let (turns, failing) = first_word(words);
+        let (turns, rest) = first_word(words);
+        let (failing, filling) = first_word(rest);
         let heard = mem::replace(&mut self.heard, Vec::new(alloc));
         if !never_falls(&heard) {
             return Err(Stop::Refused);
         }
-        let mut door = MemoryDoor::start(heard, numbers(alloc, failing)?);
+        let mut door = MemoryDoor::start(heard, numbers(alloc, failing)?, numbers(alloc, filling)?);
         let served = serve(
             alloc,
             &mut self.server,
@@ -133,7 +151,8 @@ impl Play for Bench {
             "idle" => Ok(format!(in self.alloc; "{}", self.server.idle())?),
             "hear" => self.hear(rest),
             "serve" => self.serve(rest),
-            _ => self.step(line),
+            "full" => self.step_filling(rest),
+            _ => self.step(&[], line),
         }
     }
 }

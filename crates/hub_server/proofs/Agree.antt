@@ -233,7 +233,7 @@ agree_on c (Works (Does k m)) g h p x = let r : SameButMoves g h = x.rest in rec
     clock = r.clock;
     words = r.words;
     user = r.user;
-    lanes = λ l. let y : SameLane l g h = r.lanes l in record { shut = y.shut; refused = y.refused; taken = y.taken };
+    lanes = λ l. let y : SameLane l g h = r.lanes l in record { shut = y.shut; refused = y.refused; full = y.full; taken = y.taken };
   };
   moved = λ j. ap (λ (ms : List PeerEvent). if j == k then m ∷ ms else ms) (x.moved j);
 }
@@ -247,7 +247,7 @@ agree_on c (Works (Goes k)) g h p x = let r : SameButMoves g h = x.rest in recor
     clock = r.clock;
     words = r.words;
     user = r.user;
-    lanes = λ l. let y : SameLane l g h = r.lanes l in record { shut = y.shut; refused = y.refused; taken = y.taken };
+    lanes = λ l. let y : SameLane l g h = r.lanes l in record { shut = y.shut; refused = y.refused; full = y.full; taken = y.taken };
   };
   moved = x.moved;
 }
@@ -261,7 +261,7 @@ agree_on c (Notes (LaneLost k lane now)) g h p x = let r : SameButMoves g h = x.
     clock = r.clock;
     words = r.words;
     user = r.user;
-    lanes = λ l. let y : SameLane l g h = r.lanes l in record { shut = y.shut; refused = y.refused; taken = y.taken };
+    lanes = λ l. let y : SameLane l g h = r.lanes l in record { shut = y.shut; refused = y.refused; full = y.full; taken = y.taken };
   };
   moved = x.moved;
 }
@@ -275,7 +275,7 @@ agree_on c (Notes (Removed k)) g h p x = let r : SameButMoves g h = x.rest in re
     clock = r.clock;
     words = r.words;
     user = r.user;
-    lanes = λ l. let y : SameLane l g h = r.lanes l in record { shut = y.shut; refused = y.refused; taken = y.taken };
+    lanes = λ l. let y : SameLane l g h = r.lanes l in record { shut = y.shut; refused = y.refused; full = y.full; taken = y.taken };
   };
   moved = x.moved;
 }
@@ -289,7 +289,7 @@ agree_on c (Says (say.Shut lane)) g h p x = let r : SameButMoves g h = x.rest in
     clock = r.clock;
     words = ap (λ (ws : List Said). ws ++ say.Shut lane ∷ []) r.words;
     user = r.user;
-    lanes = λ l. let y : SameLane l g h = r.lanes l in record { shut = y.shut; refused = y.refused; taken = y.taken };
+    lanes = λ l. let y : SameLane l g h = r.lanes l in record { shut = y.shut; refused = y.refused; full = y.full; taken = y.taken };
   };
   moved = x.moved;
 }
@@ -320,7 +320,7 @@ agree_swap c k (Works (Does j x)) m h e p = record {
     clock = refl;
     words = refl;
     user = λ i. refl;
-    lanes = λ l. record { shut = refl; refused = refl; taken = λ t. t };
+    lanes = λ l. record { shut = refl; refused = refl; full = refl; taken = λ t. t };
   };
   moved = λ i. swap_moves (i == k) (i == j) m x (moves i (work h))
       (λ f g. both_ways (c == k) e (eq-eqb c k (sym p ∙ sym (eqb-true i j g) ∙ eqb-true i k f)));
@@ -335,7 +335,7 @@ agree_swap c k (Works (Goes j)) m h e p = record {
     clock = refl;
     words = refl;
     user = λ i. refl;
-    lanes = λ l. record { shut = refl; refused = refl; taken = λ t. t };
+    lanes = λ l. record { shut = refl; refused = refl; full = refl; taken = λ t. t };
   };
   moved = λ i. refl;
 }
@@ -349,7 +349,7 @@ agree_swap c k (Notes (LaneLost j lane now)) m h e p = record {
     clock = refl;
     words = refl;
     user = λ i. refl;
-    lanes = λ l. record { shut = refl; refused = refl; taken = λ t. t };
+    lanes = λ l. record { shut = refl; refused = refl; full = refl; taken = λ t. t };
   };
   moved = λ i. refl;
 }
@@ -363,7 +363,7 @@ agree_swap c k (Notes (Removed j)) m h e p = record {
     clock = refl;
     words = refl;
     user = λ i. refl;
-    lanes = λ l. record { shut = refl; refused = refl; taken = λ t. t };
+    lanes = λ l. record { shut = refl; refused = refl; full = refl; taken = λ t. t };
   };
   moved = λ i. refl;
 }
@@ -377,7 +377,7 @@ agree_swap c k (Says (say.Shut lane)) m h e p = record {
     clock = refl;
     words = refl;
     user = λ i. refl;
-    lanes = λ l. record { shut = refl; refused = refl; taken = λ t. t };
+    lanes = λ l. record { shut = refl; refused = refl; full = refl; taken = λ t. t };
   };
   moved = λ i. refl;
 }

@@ -13,7 +13,7 @@ use Rattle.hd_server.specs.declared.vocabulary.Said.{Said}
 use Rattle.hd_server.specs.Lives.{ConnectionEvent, Negotiated, Opened, Socketed, Polled, Answered, LaneLost, Ended, Expired, Removed}
 use Rattle.hd_server.specs.Lives.{made, is_made, is_removed, socket_of, lost_at, poll_of, poll_ended, ended_at, only_polls, ends_then}
 use Rattle.hd_server.specs.Machine.{Connects, Does, Goes, settings_of, has_gone, is_open_at, moves}
-use Rattle.hd_server.specs.Doings.{ServerEvent, Hears, Learns, Draws, Notes, Works, Says}
+use Rattle.hd_server.specs.Doings.{ServerEvent, Hears, Learns, Draws, Notes, Works, Says, Sees}
 use Rattle.hd_server.specs.Doings.{notes, work, moment, name_now, user_of, history, history_with, config_of, config_with, has_peer, is_up}
 use Rattle.hd_server.specs.Doings.{may_resume}
 use Rattle.hub_server.specs.Lanes.{Unsettled, is_at, poll_lane}
@@ -191,6 +191,9 @@ alike_draws drawn c h = alike_noted c (Draws drawn ∷ h) h refl refl refl refl 
 
 pub alike_says : (x : Said) (c : ℕ) (h : List ServerEvent) → Alike c (Says x ∷ h) h
 alike_says x c h = alike_noted c (Says x ∷ h) h refl refl refl refl refl
+
+pub alike_sees : (lane : ℕ) (full : Bool) (c : ℕ) (h : List ServerEvent) → Alike c (Sees lane full ∷ h) h
+alike_sees lane full c h = alike_noted c (Sees lane full ∷ h) h refl refl refl refl refl
 
 -- ---- doings of another connection
 

@@ -14,7 +14,7 @@ use Rattle.hd_server.specs.Machine.{MachineEvent, greatest, is_there, moves}
 use Rattle.hd_server.specs.Doings.{ServerEvent, Notes, config_of, has_closed, has_peer, history, moment, notes, work}
 use Rattle.hd_server.specs.Lives.{Answered, Ended}
 use Rattle.hd_server.specs.Plans.{Setup, bare_reply, removing_conn, replying, shutting}
-use Rattle.hd_server.specs.Serves.{AreAllDue, AreDueOn, all_flushing, ending, flushing, flushing_on, flushing_some_poll}
+use Rattle.hd_server.specs.Serves.{AreAllDue, AreDueBy, AreDueOn, all_flushing, ending, flushing, flushing_on, flushing_some_poll, is_withheld}
 use Rattle.hp_peer.specs.declared.peer.Peer.{Peer}
 use Rattle.hub_machine.specs.declared.machine.Machine.{Machine}
 use Rattle.hub_machine.specs.declared.idle_set.IdlePeer.{IdlePeer}
@@ -119,8 +119,13 @@ mute_asleep s m c h z there held = record {
         ap (λ k. due k (history c h)) is.config_is ∙ ap (λ k. due is.settings.config k) is.history_is
         ∙ ap (λ (t : Settings). due t.config (steps t (moves c (work h)))) same ∙ (let may = z.may in may.unsaid)
 
+    -- whether its lane is full or not
+    either_way : (b : Bool) → AreDueBy b c [] h
+    either_way true = refl
+    either_way false = (tt, none)
+
     due_by : (o : Option ℕ) (p : Option (ℕ × ℕ)) → AreDueOn s c o p [] h
-    due_by (Some lane) p = (tt, none)
+    due_by (Some lane) p = either_way (is_withheld c lane h)
     due_by None (Some p) = inl none
     due_by None None = refl
 

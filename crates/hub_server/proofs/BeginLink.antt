@@ -181,6 +181,7 @@ ready {H} {Job} hub s before old k resumable at is_last h st come can =
         waits = come.waits;
         last = come.last;
         unrefused = come.unrefused;
+        empty = come.empty;
         nobody = λ c. at_same {H = H} {Job = Job} hub s before old k resumable h st can.known new at c (c == k) refl ∙ come.nobody c;
       };
       opens = λ t e.

@@ -141,12 +141,13 @@ module _ {H Job : Type 0} (hub : Hub Job) (s : Setup) (before : List Said) (v : 
     socketed = λ l e. ap (is_this l) socket_now ∙ e;
   }
 
-  own_lane : IsOf k at (record { conn = k; polls = false; is_last = is_last; is_refused = false }) g
+  own_lane : IsOf k at (record { conn = k; polls = false; is_last = is_last; is_refused = false; is_full = false }) g
   own_lane = record {
     conn = refl;
     polls = sym (ap not (ap (is_this at) socket_now ∙ eq-eqb at at refl));
     last = ready.come.last;
     refused = sym ready.come.unrefused;
+    full = sym ready.come.empty;
     taken = or_left (is_upgraded at g) (awaits_reply at g)
         (or_left ((at == at) && (101 == 101)) (is_upgraded at g2) (and_from (at == at) (101 == 101) (eq-eqb at at refl) refl));
   }
@@ -185,7 +186,7 @@ module _ {H Job : Type 0} (hub : Hub Job) (s : Setup) (before : List Said) (v : 
       → (mid : Server H Job) → CutsLane {H = H} {Job = Job} (socket_of k (notes h)) (record v { machine = machine }) mid
       → (f : Front) → IsNoted mid.front f k (Socketed k at mid.moment)
       → (lanes : BTreeMap ℕ Lane) → Updates nat_cmp mid.lanes lanes at
-      (Some (record { conn = k; polls = false; is_last = is_last; is_refused = false }))
+      (Some (record { conn = k; polls = false; is_last = is_last; is_refused = false; is_full = false }))
       → (words : List Said) → words ≡ mid.words ++ say.Reply at (socket_reply (Some accept)) ∷ []
       → Standing {H = H} hub s settled before (record mid { front = f; lanes = lanes; words = words }) g
   stands_now machine stands mid cut f noted lanes enters words says = record {
@@ -196,7 +197,7 @@ module _ {H Job : Type 0} (hub : Hub Job) (s : Setup) (before : List Said) (v : 
         (subst (λ x. StandsFront s.live x (notes h)) (sym cut.front) st.front) ready.made);
     callers = λ c. ap (λ m. get nat_cmp m c) cut.callers ∙ st.callers c;
     lanes = λ l. goes_over k at (socket_of k (notes h)) g h over ready.come.nobody
-        (record { conn = k; polls = false; is_last = is_last; is_refused = false }) own_lane
+        (record { conn = k; polls = false; is_last = is_last; is_refused = false; is_full = false }) own_lane
         v.lanes mid.lanes lanes (λ l. lane_wider (conn_of k) settled (get nat_cmp v.lanes l) l h (λ e. e) (st.lanes l)) cut.lanes enters l;
     begun = st.begun;
     orderly = λ c. each c (c == k) refl;

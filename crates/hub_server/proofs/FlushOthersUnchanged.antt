@@ -11,10 +11,10 @@ use Rattle.hd_server.specs.declared.vocabulary.Said.TheVariants as say
 use Rattle.hd_server.specs.Numbers.{held_for}
 use Rattle.hd_server.specs.Lives.{Answered, Ended, Removed, ended_at, is_polling, poll_ended, poll_of, socket_of}
 use Rattle.hd_server.specs.Machine.{Does, Goes}
-use Rattle.hd_server.specs.Doings.{ServerEvent, Notes, Works, Says, notes, moment, config_of, has_closed, has_peer, history, wants_shut, was_refused}
+use Rattle.hd_server.specs.Doings.{ServerEvent, Notes, Works, Says, notes, moment, config_of, has_closed, has_peer, history, is_full, wants_shut, was_refused}
 use Rattle.hd_server.specs.Plans.{Setup, bare_reply, frames_reply, ends_lane, removing_conn, onto, replying, shutting}
-use Rattle.hd_server.specs.Serves.{AreDueOn, LendsAll, LendsUpTo, all_of, bytes_of, ending, is_text, lending, flushing, flushing_on, flushing_poll}
-use Rattle.hd_server.specs.Serves.{flushing_some_poll, writing}
+use Rattle.hd_server.specs.Serves.{AreDueBy, AreDueOn, LendsAll, LendsUpTo, all_of, bytes_of, ending, is_text, lending, flushing, flushing_on, flushing_poll}
+use Rattle.hd_server.specs.Serves.{flushing_some_poll, is_withheld, writing}
 use Rattle.hub_server.proofs.Alike.{Alike, alike_refl, alike_trans, alike_does, alike_goes, alike_note, alike_says, config_alike, history_alike}
 use Rattle.hub_server.proofs.Alike.{there_alike}
 use Rattle.hub_server.proofs.Answering.{replying_same}
@@ -109,25 +109,26 @@ pub record Unheard (g h : List ServerEvent) : Type 0 where
   pub clock : moment g ≡ moment h
   pub shut : (lane : ℕ) → wants_shut lane g ≡ wants_shut lane h
   pub refused : (lane : ℕ) → was_refused lane g ≡ was_refused lane h
+  pub full : (lane : ℕ) → is_full lane g ≡ is_full lane h
 
 pub unheard_same : (h : List ServerEvent) → Unheard h h
-unheard_same h = record { clock = refl; shut = λ lane. refl; refused = λ lane. refl }
+unheard_same h = record { clock = refl; shut = λ lane. refl; refused = λ lane. refl; full = λ lane. refl }
 
 pub unheard_then : (f g h : List ServerEvent) → Unheard f g → Unheard g h → Unheard f h
 unheard_then f g h x y = record {
   clock = x.clock ∙ y.clock;
   shut = λ lane. x.shut lane ∙ y.shut lane;
-  refused = λ lane. x.refused lane
-      ∙ y.refused lane;
+  refused = λ lane. x.refused lane ∙ y.refused lane;
+  full = λ lane. x.full lane ∙ y.full lane;
 }
 
 one_unheard : (k : ℕ) (d : ServerEvent) (h : List ServerEvent) → Tells k d → Unheard (d ∷ h) h
-one_unheard k (Works (Does x (Plain (Step_of (Lent f))))) h e = record { clock = refl; shut = λ lane. refl; refused = λ lane. refl }
-one_unheard k (Works (Goes x)) h e = record { clock = refl; shut = λ lane. refl; refused = λ lane. refl }
-one_unheard k (Notes (Answered x lane now)) h e = record { clock = refl; shut = λ lane. refl; refused = λ lane. refl }
-one_unheard k (Notes (Ended x now)) h e = record { clock = refl; shut = λ lane. refl; refused = λ lane. refl }
-one_unheard k (Notes (Removed x)) h e = record { clock = refl; shut = λ lane. refl; refused = λ lane. refl }
-one_unheard k (Says x) h e = record { clock = refl; shut = λ lane. refl; refused = λ lane. refl }
+one_unheard k (Works (Does x (Plain (Step_of (Lent f))))) h e = record { clock = refl; shut = λ lane. refl; refused = λ lane. refl; full = λ lane. refl }
+one_unheard k (Works (Goes x)) h e = record { clock = refl; shut = λ lane. refl; refused = λ lane. refl; full = λ lane. refl }
+one_unheard k (Notes (Answered x lane now)) h e = record { clock = refl; shut = λ lane. refl; refused = λ lane. refl; full = λ lane. refl }
+one_unheard k (Notes (Ended x now)) h e = record { clock = refl; shut = λ lane. refl; refused = λ lane. refl; full = λ lane. refl }
+one_unheard k (Notes (Removed x)) h e = record { clock = refl; shut = λ lane. refl; refused = λ lane. refl; full = λ lane. refl }
+one_unheard k (Says x) h e = record { clock = refl; shut = λ lane. refl; refused = λ lane. refl; full = λ lane. refl }
 one_unheard k d h e = absurd e
 
 pub all_unheard : (k : ℕ) (ds h : List ServerEvent) → AllTell k ds → Unheard (onto ds h) h
@@ -244,6 +245,9 @@ module _ (s : Setup) (now c : ℕ) (g h : List ServerEvent) (alike : Alike c g h
   pub same_flushing : (pieces : List (List LinkFrame)) → flushing_on s now c (socket_of c (notes g)) pieces g ≡ flushing s now c pieces h
   same_flushing pieces = ap (λ (o : Option ℕ). flushing_on s now c o pieces g) alike.socket ∙ same_on (socket_of c (notes h)) pieces
 
+  same_withheld : (lane : ℕ) → is_withheld c lane g ≡ is_withheld c lane h
+  same_withheld lane = ap (λ (b : Bool). b && not (has_closed c g)) (unheard.full lane) ∙ ap (λ (b : Bool). is_full lane h && not b) same_closed
+
   -- and the same is due there
   same_due_on : (o : Option ℕ) (poll : Option (ℕ × ℕ)) (pieces : List (List LinkFrame)) → AreDueOn s c o poll pieces g → AreDueOn s c o poll pieces h
   same_due_on o poll pieces x = go o poll x
@@ -256,8 +260,12 @@ module _ (s : Setup) (now c : ℕ) (g h : List ServerEvent) (alike : Alike c g h
       some fs y = subst (λ k. LendsUpTo s.wire k (history c h) 0 fs) (config_alike c g h alike)
           (subst (λ xs. LendsUpTo s.wire (config_of c g) xs 0 fs) (history_alike c g h alike) y)
 
+      by : (b : Bool) → AreDueBy b c pieces g → AreDueBy b c pieces h
+      by true y = y
+      by false y = (y.0, all (all_of pieces) y.1)
+
       go : (o : Option ℕ) (poll : Option (ℕ × ℕ)) → AreDueOn s c o poll pieces g → AreDueOn s c o poll pieces h
-      go (Some lane) poll y = (y.0, all (all_of pieces) y.1)
+      go (Some lane) poll y = by (is_withheld c lane h) (subst (λ b. AreDueBy b c pieces g) (same_withheld lane) y)
       go None (Some p) y = some (all_of pieces) y
       go None None y = y
 

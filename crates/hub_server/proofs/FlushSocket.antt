@@ -2,6 +2,8 @@
 use Rattle.std.proofs.Common.{◌≡◌, ℕ, Bool, true, false, not, ◌||◌, List, [], ◌∷◌, ◌++◌, Option, Some, None}
 use Rattle.std.proofs.Common.{refl, sym, ap, subst, ◌∙◌, arith}
 use Rattle.std.specs.Prelude.{if◌then◌else◌, ◌&&◌}
+use Rattle.std.specs.Ordering.{nat_cmp}
+use Rattle.std.specs.BTreeMap.{get}
 use Rattle.std.proofs.lemmas.Bool.{both_ways, eq-eqb, true≢false}
 use Rattle.std.proofs.lemmas.List.{append-nil}
 use Rattle.hd_delivery.specs.Due.{due}
@@ -13,15 +15,16 @@ use Rattle.hd_server.specs.declared.vocabulary.Said.{Said}
 use Rattle.hd_server.specs.declared.vocabulary.Said.TheVariants as say
 use Rattle.hd_server.specs.Lives.{poll_of, socket_of}
 use Rattle.hd_server.specs.Machine.{MachineEvent, moves, settings_of}
-use Rattle.hd_server.specs.Doings.{ServerEvent, Says, config_of, config_with, has_closed, has_peer, history, history_with, notes, was_refused, work}
+use Rattle.hd_server.specs.Doings.{ServerEvent, Says, config_of, config_with, has_closed, has_peer, history, history_with, is_full, notes, was_refused, work}
 use Rattle.hd_server.specs.Plans.{Setup, removing_conn, onto, shutting}
-use Rattle.hd_server.specs.Serves.{AreNonempty, LendsAll, all_of, bytes_of, is_text, lending, flushing_socket, writing}
+use Rattle.hd_server.specs.Serves.{AreDueBy, AreNonempty, LendsAll, all_of, bytes_of, is_text, is_withheld, lending, flushing_socket, writing}
 use Rattle.hub_machine.specs.declared.machine.Machine.{Machine}
+use Rattle.hub_server.specs.declared.lane.Lane.{Lane}
 use Rattle.hub_server.specs.declared.server.Server.{Server}
 use Rattle.hub_machine.specs.Machines.{OfConn, StandsMachine}
 use Rattle.hub_machine.specs.Traffic.{IsServers, LendsDue, is_any}
 use Rattle.hub_server.specs.Connections.{Frees, IsKnown}
-use Rattle.hub_server.specs.Lanes.{Unsettled, is_at, poll_lane, settled}
+use Rattle.hub_server.specs.Lanes.{HasLane, IsLane, Unsettled, is_at, poll_lane, settled}
 use Rattle.hub_server.specs.Servers.{IsRested, OfEach, Standing}
 use Rattle.hub_server.specs.Flushes.{FlushesOne, Writes}
 use Rattle.hub_server.proofs.LaneKept.{standing_shuts, standing_tells}
@@ -117,6 +120,52 @@ shuts_one {H} {Job} hub s u before v words lane h r e f are x = go (was_refused 
         subst (λ (ws : List Said). Standing {H = H} hub s u before (record v { words = ws }) (Says (say.Shut lane) ∷ h)) (sym are)
         (standing_shuts {H = H} {Job = Job} hub s u before v lane h x)
 
+-- ---- the lane is full
+
+and_none : (b : Bool) → (b && false) ≡ false
+and_none true = refl
+and_none false = refl
+
+module _ {H Job : Type 0} (hub : Hub Job) (s : Setup) (u : Unsettled) (before : List Said) (v : Server H Job) (c lane : ℕ) (h : List ServerEvent)
+    (x : Standing {H = H} hub s u before v h) (there : has_peer c h ≡ true) where
+  -- nothing is withheld of a connection that is closed
+  pub closed_tells : (r : Bool) → r ≡ true → OfConn {H = H} hub v.machine c (λ w t k. r ≡ is_shut t k) → false ≡ is_withheld c lane h
+  closed_tells r e of =
+      let closed : has_closed c h ≡ true = sym (closed_is {H = H} {Job = Job} hub s u before v c h x there r of) ∙ e in
+      sym (ap (λ (b : Bool). is_full lane h && not b) closed ∙ and_none (is_full lane h))
+
+  -- of one that is open what is due is withheld if its lane is full
+  pub full_withholds : (r : Bool) (kept : Lane) → r ≡ false → OfConn {H = H} hub v.machine c (λ w t k. r ≡ is_shut t k)
+      → Some kept ≡ get nat_cmp v.lanes lane → kept.is_full ≡ is_withheld c lane h
+  full_withholds r kept e of is =
+      let closed : has_closed c h ≡ false = sym (closed_is {H = H} {Job = Job} hub s u before v c h x there r of) ∙ e in
+      let has : HasLane u kept lane h = subst (λ o. IsLane u o lane h) (sym is) (x.lanes lane) in
+      has.full ∙ sym (and_all (is_full lane h)) ∙ sym (ap (λ (b : Bool). is_full lane h && not b) closed)
+    where
+      and_all : (b : Bool) → (b && true) ≡ b
+      and_all true = refl
+      and_all false = refl
+
+  -- what is due stays due
+  pub tells_withheld : u ≡ settled → is_withheld c lane h ≡ true → FlushesOne {H = H} hub s before v c (Some lane) (poll_of c (notes h)) h
+  tells_withheld calm full = record {
+    pieces = [];
+    due = subst (λ b. AreDueBy b c [] h) (sym full) refl;
+    stands = subst (λ g. Standing {H = H} hub s settled before v g) (sym after) (subst (λ w. Standing {H = H} hub s w before v h) calm x);
+    rested = subst (λ g. IsRested c g) (sym after) (λ at off. up_there c h at unclosed);
+  }
+    where
+      unclosed : has_closed c h ≡ false
+      unclosed = go (is_full lane h) (has_closed c h) full
+        where
+          go : (a b : Bool) → (a && not b) ≡ true → b ≡ false
+          go true true e = absurd (true≢false (sym e))
+          go true false e = refl
+          go false b e = absurd (true≢false (sym e))
+
+      after : onto (flushing_socket s c lane [] h) h ≡ h
+      after = ap (λ (b : Bool). onto (if b then shutting lane h ++ removing_conn c h else []) h) unclosed
+
 -- ---- the connection has told
 
 pub settled_writes : {H Job : Type 0} (hub : Hub Job) (s : Setup) (u : Unsettled) (before : List Said) (v : Server H Job) (c lane : ℕ)
@@ -132,7 +181,11 @@ at_socket lane c h there on =
     ∙ ap (λ (b : Bool). b || is_this lane (poll_lane c (notes h))) (eq-eqb lane lane refl)
 
 module _ {H Job : Type 0} (hub : Hub Job) (s : Setup) (before : List Said) (v : Server H Job) (c lane : ℕ) (h : List ServerEvent)
-    (w : Writes {H = H} hub s settled before v c lane h) (there : has_peer c h ≡ true) (on : socket_of c (notes h) ≡ Some lane) where
+    (w : Writes {H = H} hub s settled before v c lane h) (there : has_peer c h ≡ true) (on : socket_of c (notes h) ≡ Some lane)
+    (free : is_withheld c lane h ≡ false) where
+  due_now : AreDueBy (is_withheld c lane h) c w.pieces h
+  due_now = subst (λ b. AreDueBy b c w.pieces h) (sym free) (w.some, w.due)
+
   mild : Mild c (onto (lending c (all_of w.pieces) ++ writing s c lane w.pieces h) h) h
   mild = subst (λ g. Mild c g h) (sym (onto_append (lending c (all_of w.pieces)) (writing s c lane w.pieces h) h))
       (mild_then c (onto (writing s c lane w.pieces h) (onto (lending c (all_of w.pieces)) h)) (onto (lending c (all_of w.pieces)) h) h
@@ -145,7 +198,7 @@ module _ {H Job : Type 0} (hub : Hub Job) (s : Setup) (before : List Said) (v : 
       → FlushesOne {H = H} hub s before (record v { machine = m }) c (Some lane) (poll_of c (notes h)) h
   tells_open r m e of rests = record {
     pieces = w.pieces;
-    due = (w.some, w.due);
+    due = due_now;
     stands = subst (λ g. Standing {H = H} hub s settled before (record v { machine = m }) g) (sym after)
         (standing_rests {H = H} {Job = Job} hub s settled before v c (onto (lending c (all_of w.pieces) ++ writing s c lane w.pieces h) h) w.stands
         (mild.there ∙ there) m nothing rests);
@@ -182,7 +235,7 @@ module _ {H Job : Type 0} (hub : Hub Job) (s : Setup) (before : List Said) (v : 
       → FlushesOne {H = H} hub s before new c (Some lane) (poll_of c (notes h)) h
   tells_closed r mid new e of shuts frees = record {
     pieces = w.pieces;
-    due = (w.some, w.due);
+    due = due_now;
     stands = subst (λ g. Standing {H = H} hub s settled before new g) (sym after) freed.stands;
     rested = subst (λ g. IsRested c g) (sym after)
         (λ at. absurd (both_ways (has_peer c (onto (removing_conn c (onto (shutting lane base) base)) (onto (shutting lane base) base)))

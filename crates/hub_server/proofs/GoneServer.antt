@@ -369,6 +369,7 @@ reply_lane lane reply h l x is = go (l == lane) refl x is
       polls = has.polls;
       last = has.last;
       refused = has.refused;
+      full = has.full;
       taken = or_left (l == lane) _ e;
     }
     go false e x is = lane_wider settled (lane_of (Some lane)) x l (Says (say.Reply lane reply) ∷ h) (λ f. absurd (both_ways false refl f))

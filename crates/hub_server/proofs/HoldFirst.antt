@@ -13,7 +13,7 @@ use Rattle.hd_server.specs.declared.vocabulary.Said.{Said}
 use Rattle.hd_server.specs.Lives.{Polled, Answered, socket_of, lost_at, poll_of, poll_ended, is_made, is_polling}
 use Rattle.hd_server.specs.declared.vocabulary.Outcome.TheVariants.{FirstPoll}
 use Rattle.hd_server.specs.Machine.{Does}
-use Rattle.hd_server.specs.Doings.{ServerEvent, Notes, notes, work, moment, has_peer, history, wants_shut, was_refused}
+use Rattle.hd_server.specs.Doings.{ServerEvent, Notes, notes, work, moment, has_peer, history, is_full, wants_shut, was_refused}
 use Rattle.hd_server.specs.Plans.{PendingRequest, Setup, attaching, bare_reply, connecting, onto, replying, request_plan, step}
 use Rattle.hd_server.specs.Serves.{FeedsOne}
 use Rattle.hn_server_front.specs.Calls.{IsNoted}
@@ -48,12 +48,13 @@ bare_begun s k resumable h known o unpeered = connecting_cases (IsBare k) settle
 pub record KeepsLanes (g h : List ServerEvent) : Type 0 where
   pub shut : (l : ℕ) → wants_shut l g ≡ wants_shut l h
   pub refused : (l : ℕ) → was_refused l g ≡ was_refused l h
+  pub full : (l : ℕ) → is_full l g ≡ is_full l h
 
 pub begun_keeps : (s : Setup) (k : ℕ) (resumable : Bool) (h : List ServerEvent) → IsKnown k h → IsOrderly settled k h
     → KeepsLanes (onto (connecting s k resumable h) h) h
 begun_keeps s k resumable h known o = connecting_cases (λ g. KeepsLanes g h) settled s k resumable h known o
-    (λ e. record { shut = λ l. refl; refused = λ l. refl })
-    (λ e. record { shut = λ l. refl; refused = λ l. refl })
+    (λ e. record { shut = λ l. refl; refused = λ l. refl; full = λ l. refl })
+    (λ e. record { shut = λ l. refl; refused = λ l. refl; full = λ l. refl })
 
 -- a link begins
 module _ {H Job : Type 0} (hub : Hub Job) (s : Setup) (before : List Said) (v : Server H Job) (k : ℕ) (h : List ServerEvent)
@@ -157,6 +158,7 @@ module _ {H Job : Type 0} (hub : Hub Job) (s : Setup) (before : List Said) (v : 
     waits = come.waits;
     last = come.last;
     unrefused = come.unrefused;
+    empty = come.empty;
     nobody = λ c. at_same at c (c == k) refl ∙ come.nobody c;
   }
 

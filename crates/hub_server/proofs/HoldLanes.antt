@@ -6,7 +6,7 @@ use Rattle.std.proofs.lemmas.Bool.{both_ways, eq-eqb, eqb-true, false_from_ne_tr
 use Rattle.std.specs.Cmp.{unsigned_tied}
 use Rattle.hd_delivery.specs.Histories.{is_this}
 use Rattle.hd_server.specs.Lives.{socket_of}
-use Rattle.hd_server.specs.Doings.{ServerEvent, notes, wants_shut, was_refused}
+use Rattle.hd_server.specs.Doings.{ServerEvent, notes, is_full, wants_shut, was_refused}
 use Rattle.hub_server.specs.declared.lane.Lane.{Lane}
 use Rattle.hub_server.specs.Lanes.{HasLane, IsLane, IsNobodys, is_at, is_taken, settled}
 use Rattle.hub_server.proofs.Alike.{Alike, at_alike}
@@ -29,6 +29,7 @@ pub record IsOf (k at : ℕ) (x : Lane) (g : List ServerEvent) : Type 0 where
   pub polls : x.polls ≡ not (is_this at (socket_of k (notes g)))
   pub last : x.is_last ≡ wants_shut at g
   pub refused : x.is_refused ≡ was_refused at g
+  pub full : x.is_full ≡ is_full at g
   pub taken : is_taken at g ≡ true
 
 -- nothing is kept of the older lane
@@ -59,6 +60,7 @@ module _ (k at : ℕ) (older : Option ℕ) (g h : List ServerEvent) (m : Goes_ov
     polls = of.polls ∙ ap (λ c. not (is_this at (socket_of c (notes g)))) (sym of.conn);
     last = of.last;
     refused = of.refused;
+    full = of.full;
     taken = of.taken;
   }
     where

@@ -8,7 +8,7 @@ use Rattle.hd_calls.specs.Peers.{PeerEvent}
 use Rattle.hd_server.specs.declared.vocabulary.Said.TheVariants as say
 use Rattle.hd_server.specs.Lives.{ConnectionEvent, Answered, socket_of, lost_at, poll_of, is_removed, is_made}
 use Rattle.hd_server.specs.Machine.{has_gone, settings_of}
-use Rattle.hd_server.specs.Doings.{ServerEvent, Notes, Says, notes, work, moment, awaits_reply, has_peer, wants_shut, was_refused}
+use Rattle.hd_server.specs.Doings.{ServerEvent, Notes, Says, notes, work, moment, awaits_reply, has_peer, is_full, wants_shut, was_refused}
 use Rattle.hd_server.specs.Plans.{bare_reply, ending_held, ending_poll, onto, replying}
 use Rattle.hd_server.specs.Serves.{FeedsOne, moving}
 use Rattle.hub_server.specs.Lanes.{is_at, poll_lane}
@@ -26,13 +26,23 @@ pub record IsMoved (g h : List ServerEvent) : Type 0 where
   pub moment : moment g ≡ moment h
   pub shut : (l : ℕ) → wants_shut l g ≡ wants_shut l h
   pub refused : (l : ℕ) → was_refused l g ≡ was_refused l h
+  pub full : (l : ℕ) → is_full l g ≡ is_full l h
   pub waits : (l : ℕ) → awaits_reply l g ≡ awaits_reply l h
   pub settings : (c : ℕ) → settings_of c (work g) ≡ settings_of c (work h)
   pub gone : (c : ℕ) → has_gone c (work g) ≡ has_gone c (work h)
 
 moved_by : (k : ℕ) (ms : List PeerEvent) (h : List ServerEvent) → IsMoved (moving k ms h) h
 moved_by k [] h =
-    record { notes = refl; moment = refl; shut = λ l. refl; refused = λ l. refl; waits = λ l. refl; settings = λ c. refl; gone = λ c. refl }
+    record {
+      notes = refl;
+      moment = refl;
+      shut = λ l. refl;
+      refused = λ l. refl;
+      full = λ l. refl;
+      waits = λ l. refl;
+      settings = λ c. refl;
+      gone = λ c. refl;
+    }
 moved_by k (m ∷ ms) h =
     let x = moved_by k ms h in
     record {
@@ -40,6 +50,7 @@ moved_by k (m ∷ ms) h =
       moment = x.moment;
       shut = λ l. x.shut l;
       refused = λ l. x.refused l;
+      full = λ l. x.full l;
       waits = λ l. x.waits l;
       settings = λ c. x.settings c;
       gone = λ c. x.gone c;
@@ -63,6 +74,7 @@ come_moved at is_last g h x come = record {
   waits = x.waits at ∙ come.waits;
   last = come.last ∙ sym (x.shut at);
   unrefused = x.refused at ∙ come.unrefused;
+  empty = x.full at ∙ come.empty;
   nobody = λ c. at_moved g h x at c ∙ come.nobody c;
 }
 
@@ -96,7 +108,8 @@ pub record IsStill (k at : ℕ) (is_last : Bool) (h g : List ServerEvent) : Type
 
 module _ (k at : ℕ) (is_last : Bool) (now : ℕ) (h mid : List ServerEvent) (p : ℕ × ℕ) (can : CanHold k h) (come : HasCome at is_last h)
     (held : poll_of k (notes h) ≡ Some p) (same : (c : ℕ) → Alike c mid h) (waits : awaits_reply at mid ≡ awaits_reply at h)
-    (shut : wants_shut at mid ≡ wants_shut at h) (refused : was_refused at mid ≡ was_refused at h) (moments : moment mid ≡ moment h) where
+    (shut : wants_shut at mid ≡ wants_shut at h) (refused : was_refused at mid ≡ was_refused at h) (full : is_full at mid ≡ is_full at h)
+    (moments : moment mid ≡ moment h) where
   abbrev g : List ServerEvent
   g = Notes (Answered k p.0 now) ∷ mid
 
@@ -124,8 +137,8 @@ module _ (k at : ℕ) (is_last : Bool) (now : ℕ) (h mid : List ServerEvent) (p
     come = record {
       waits = waits ∙ come.waits;
       last = come.last ∙ sym shut;
-      unrefused = refused
-          ∙ come.unrefused;
+      unrefused = refused ∙ come.unrefused;
+      empty = full ∙ come.empty;
       nobody = λ c. nobody c (c == k) refl;
     };
     can = record {
@@ -150,8 +163,8 @@ ended_still k at is_last now h can come = ended_cases (IsStill k at is_last h) k
     (λ e. record { come = come; can = can; moment = refl })
     (λ p e. still_answered k at is_last now h (Says (say.Reply p.0 (bare_reply 204)) ∷ h) p can come e
     (λ c. alike_says (say.Reply p.0 (bare_reply 204)) c h)
-    (cond-false (at == p.0) false (awaits_reply at h) (elsewhere k at is_last h p can come e)) refl refl refl)
+    (cond-false (at == p.0) false (awaits_reply at h) (elsewhere k at is_last h p can come e)) refl refl refl refl)
     (λ p e. still_answered k at is_last now h (Says (say.Shut p.0) ∷ Says (say.Reply p.0 last_empty) ∷ h) p can come e
     (λ c. alike_trans c (Says (say.Shut p.0) ∷ Says (say.Reply p.0 last_empty) ∷ h) (Says (say.Reply p.0 last_empty) ∷ h) h
     (alike_says (say.Shut p.0) c (Says (say.Reply p.0 last_empty) ∷ h)) (alike_says (say.Reply p.0 last_empty) c h))
-    (cond-false (at == p.0) false (awaits_reply at h) (elsewhere k at is_last h p can come e)) refl refl refl)
+    (cond-false (at == p.0) false (awaits_reply at h) (elsewhere k at is_last h p can come e)) refl refl refl refl)

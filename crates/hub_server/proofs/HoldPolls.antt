@@ -154,7 +154,8 @@ pub polled_stands : {H Job : Type 0} (hub : Hub Job) (s : Setup) (u : Unsettled)
     (is_last : Bool) (h : List ServerEvent)
     → Standing {H = H} hub s u before old h → u ≡ settled → HasCome at is_last h → CanHold k h
     → CutsLane {H = H} {Job = Job} (poll_lane k (notes h)) old mid → (f : Front) → IsNoted mid.front f k (Polled k at mid.moment)
-    → (lanes : BTreeMap ℕ Lane) → Updates nat_cmp mid.lanes lanes at (Some (record { conn = k; polls = true; is_last = is_last; is_refused = false }))
+    → (lanes : BTreeMap ℕ Lane) → Updates nat_cmp mid.lanes lanes at
+    (Some (record { conn = k; polls = true; is_last = is_last; is_refused = false; is_full = false }))
     → Standing {H = H} hub s u before (record mid { front = f; lanes = lanes }) (Notes (Polled k at (moment h)) ∷ h)
 polled_stands {H} {Job} hub s u before old mid k at is_last h st is come can cut f noted lanes enters =
     subst (λ w. Standing {H = H} hub s w before (record mid { front = f; lanes = lanes }) g) (sym is) (record {
@@ -165,12 +166,13 @@ polled_stands {H} {Job} hub s u before old mid k at is_last h st is come can cut
           (subst (λ x. StandsFront s.live x (notes h)) (sym cut.front) st.front) can.known.made);
       callers = λ c. ap (λ m. get nat_cmp m c) cut.callers ∙ st.callers c;
       lanes = λ l. goes_over k at (poll_lane k (notes h)) g h (polls_over k at (moment h) h can.there can.unsocketed) come.nobody
-          (record { conn = k; polls = true; is_last = is_last; is_refused = false })
+          (record { conn = k; polls = true; is_last = is_last; is_refused = false; is_full = false })
           (record {
             conn = refl;
             polls = sym (ap (λ (o : Option ℕ). not (is_this at o)) can.unsocketed);
             last = come.last;
             refused = sym come.unrefused;
+            full = sym come.empty;
             taken = or_right (is_upgraded at h) (awaits_reply at h) come.waits;
           })
           old.lanes mid.lanes lanes (λ l. subst (λ w. IsLane w (get nat_cmp old.lanes l) l h) is (st.lanes l)) cut.lanes enters l;

@@ -15,7 +15,7 @@ use Rattle.hd_server.specs.declared.vocabulary.Said.TheVariants as say
 use Rattle.hd_server.specs.Lives.{ConnectionEvent, socket_of, lost_at, is_polling}
 use Rattle.hd_server.specs.Machine.{MachineEvent}
 use Rattle.hd_server.specs.Doings.{ServerEvent, Learns, Draws, Notes, Works, Says}
-use Rattle.hd_server.specs.Doings.{notes, moment, said, awaits_reply, history, is_upgraded, wants_shut, was_refused}
+use Rattle.hd_server.specs.Doings.{notes, moment, said, awaits_reply, history, is_full, is_upgraded, wants_shut, was_refused}
 use Rattle.hd_server.specs.Plans.{Setup}
 use Rattle.hub_server.specs.declared.lane.Lane.{Lane}
 use Rattle.hub_server.specs.declared.server.Server.{Server}
@@ -27,37 +27,44 @@ use Rattle.hub_server.proofs.Alike.{alike_learns, alike_draws, alike_says, order
 pub record SameLane (lane : ℕ) (g h : List ServerEvent) : Type 0 where
   pub shut : wants_shut lane g ≡ wants_shut lane h
   pub refused : was_refused lane g ≡ was_refused lane h
+  pub full : is_full lane g ≡ is_full lane h
   pub taken : is_taken lane h ≡ true → is_taken lane g ≡ true
 
 pub same_lane_refl : (lane : ℕ) (h : List ServerEvent) → SameLane lane h h
-same_lane_refl lane h = record { shut = refl; refused = refl; taken = λ e. e }
+same_lane_refl lane h = record { shut = refl; refused = refl; full = refl; taken = λ e. e }
 
 pub same_lane_trans : (lane : ℕ) (f g h : List ServerEvent) → SameLane lane f g → SameLane lane g h → SameLane lane f h
-same_lane_trans lane f g h x y = record { shut = x.shut ∙ y.shut; refused = x.refused ∙ y.refused; taken = λ e. x.taken (y.taken e) }
+same_lane_trans lane f g h x y = record {
+  shut = x.shut ∙ y.shut;
+  refused = x.refused ∙ y.refused;
+  full = x.full ∙ y.full;
+  taken = λ e. x.taken (y.taken e);
+}
 
 pub same_lane_note : (lane : ℕ) (n : ConnectionEvent) (h : List ServerEvent) → SameLane lane (Notes n ∷ h) h
-same_lane_note lane n h = record { shut = refl; refused = refl; taken = λ e. e }
+same_lane_note lane n h = record { shut = refl; refused = refl; full = refl; taken = λ e. e }
 
 pub same_lane_works : (lane : ℕ) (x : MachineEvent) (h : List ServerEvent) → SameLane lane (Works x ∷ h) h
-same_lane_works lane x h = record { shut = refl; refused = refl; taken = λ e. e }
+same_lane_works lane x h = record { shut = refl; refused = refl; full = refl; taken = λ e. e }
 
 pub same_lane_learns : (lane : ℕ) (asked : Asked) (h : List ServerEvent) → SameLane lane (Learns asked ∷ h) h
-same_lane_learns lane asked h = record { shut = refl; refused = refl; taken = λ e. e }
+same_lane_learns lane asked h = record { shut = refl; refused = refl; full = refl; taken = λ e. e }
 
 pub same_lane_draws : (lane : ℕ) (drawn : Option (List ℕ)) (h : List ServerEvent) → SameLane lane (Draws drawn ∷ h) h
-same_lane_draws lane drawn h = record { shut = refl; refused = refl; taken = λ e. e }
+same_lane_draws lane drawn h = record { shut = refl; refused = refl; full = refl; taken = λ e. e }
 
 pub same_lane_shut : (lane k : ℕ) (h : List ServerEvent) → SameLane lane (Says (say.Shut k) ∷ h) h
-same_lane_shut lane k h = record { shut = refl; refused = refl; taken = λ e. e }
+same_lane_shut lane k h = record { shut = refl; refused = refl; full = refl; taken = λ e. e }
 
 pub same_lane_bytes : (lane k : ℕ) (bytes : List ℕ) (text : Bool) (h : List ServerEvent) → SameLane lane (Says (say.Bytes k bytes text) ∷ h) h
-same_lane_bytes lane k bytes text h = record { shut = refl; refused = refl; taken = λ e. e }
+same_lane_bytes lane k bytes text h = record { shut = refl; refused = refl; full = refl; taken = λ e. e }
 
 -- a reply there leaves what is on other lanes
 pub same_lane_reply : (lane k : ℕ) (reply : Reply) (h : List ServerEvent) → (lane == k) ≡ false → SameLane lane (Says (say.Reply k reply) ∷ h) h
 same_lane_reply lane k reply h e = record {
   shut = refl;
   refused = refl;
+  full = refl;
   taken = λ t.
       ap (λ (b : Bool). ((b && (reply.status == 101)) || is_upgraded lane h) || (if b then false else awaits_reply lane h)) e ∙ t;
 }
@@ -73,6 +80,7 @@ lane_kept u (Some x) lane g h same at socket l = record {
   polls = l.polls ∙ ap not (sym (socket x.conn));
   last = l.last ∙ sym same.shut;
   refused = l.refused ∙ sym same.refused;
+  full = l.full ∙ sym same.full;
   taken = elim (or_cases (is_this lane u.lane) (is_taken lane h) l.taken) [
     | inl e ↦ or_left (is_this lane u.lane) (is_taken lane g) e
     | inr e ↦ or_right (is_this lane u.lane) (is_taken lane g) (same.taken e)
@@ -90,6 +98,7 @@ lane_wider u v (Some x) lane h wider l = record {
   polls = l.polls;
   last = l.last;
   refused = l.refused;
+  full = l.full;
   taken = elim (or_cases (is_this lane u.lane) (is_taken lane h) l.taken) [
     | inl e ↦ or_left (is_this lane v.lane) (is_taken lane h) (wider e)
     | inr e ↦ or_right (is_this lane v.lane) (is_taken lane h) e

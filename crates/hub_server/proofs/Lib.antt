@@ -26,6 +26,7 @@ pub mod Gone
 pub mod GoneServer
 pub mod ServeWent
 pub mod ServeMoment
+pub mod ServeSeen
 pub mod ServeRun
 pub mod FeedServer
 pub mod TickSteps
@@ -37,6 +38,7 @@ pub mod ExpireNotes
 pub mod ExpireAll
 pub mod ExpireOne
 pub mod StepHears
+pub mod StepSees
 pub mod StepExpired
 pub mod StepWent
 pub mod HoldFirst

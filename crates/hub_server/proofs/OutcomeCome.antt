@@ -9,7 +9,7 @@ use Rattle.hd_calls.specs.Peers.{PeerEvent}
 use Rattle.hd_server.specs.declared.vocabulary.Said.TheVariants as say
 use Rattle.hd_server.specs.Lives.{Answered, Removed, is_polling, poll_ended, poll_of, socket_of}
 use Rattle.hd_server.specs.Machine.{MachineEvent, Does, Goes, has_gone, is_open, is_there, settings_of}
-use Rattle.hd_server.specs.Doings.{ServerEvent, Notes, Says, Works, awaits_reply, has_peer, is_up, notes, wants_shut, was_refused, work}
+use Rattle.hd_server.specs.Doings.{ServerEvent, Notes, Says, Works, awaits_reply, has_peer, is_full, is_up, notes, wants_shut, was_refused, work}
 use Rattle.hd_server.specs.Plans.{Setup, PendingRequest, bare_reply, closing, ends_lane, ending_held, ending_poll, removing_conn, onto, replying, shutting_some, standing_on, step}
 use Rattle.hd_server.specs.Serves.{FeedsOne, moving}
 use Rattle.hub_server.specs.Lanes.{IsNobodys, is_at, poll_lane}
@@ -25,16 +25,18 @@ pub record Stays (lane : ℕ) (g h : List ServerEvent) : Type 0 where
   pub awaits : awaits_reply lane g ≡ awaits_reply lane h
   pub shut : wants_shut lane g ≡ wants_shut lane h
   pub refused : was_refused lane g ≡ was_refused lane h
+  pub full : is_full lane g ≡ is_full lane h
   pub nobody : IsNobodys lane h → IsNobodys lane g
 
 pub stays_same : (lane : ℕ) (h : List ServerEvent) → Stays lane h h
-stays_same lane h = record { awaits = refl; shut = refl; refused = refl; nobody = λ n. n }
+stays_same lane h = record { awaits = refl; shut = refl; refused = refl; full = refl; nobody = λ n. n }
 
 pub stays_then : (lane : ℕ) (f g h : List ServerEvent) → Stays lane f g → Stays lane g h → Stays lane f h
 stays_then lane f g h a b = record {
   awaits = a.awaits ∙ b.awaits;
   shut = a.shut ∙ b.shut;
   refused = a.refused ∙ b.refused;
+  full = a.full ∙ b.full;
   nobody = λ n. a.nobody (b.nobody n);
 }
 
@@ -43,6 +45,7 @@ come_stays lane is_last g h s come = record {
   waits = s.awaits ∙ come.waits;
   last = come.last ∙ sym s.shut;
   unrefused = s.refused ∙ come.unrefused;
+  empty = s.full ∙ come.empty;
   nobody = s.nobody come.nobody;
 }
 
@@ -53,23 +56,24 @@ replying_stays lane reply g h s = replying_same lane reply g h s.shut s.refused
 -- ---- one doing
 
 stays_does : (lane k : ℕ) (m : PeerEvent) (h : List ServerEvent) → Stays lane (Works (Does k m) ∷ h) h
-stays_does lane k m h = record { awaits = refl; shut = refl; refused = refl; nobody = λ n. n }
+stays_does lane k m h = record { awaits = refl; shut = refl; refused = refl; full = refl; nobody = λ n. n }
 
 pub stays_lets : (lane k : ℕ) (h : List ServerEvent) → Stays lane (Notes (Removed k) ∷ h) h
-stays_lets lane k h = record { awaits = refl; shut = refl; refused = refl; nobody = λ n. n }
+stays_lets lane k h = record { awaits = refl; shut = refl; refused = refl; full = refl; nobody = λ n. n }
 
 pub stays_shut : (lane k : ℕ) (h : List ServerEvent) → Stays lane (Says (say.Shut k) ∷ h) h
-stays_shut lane k h = record { awaits = refl; shut = refl; refused = refl; nobody = λ n. n }
+stays_shut lane k h = record { awaits = refl; shut = refl; refused = refl; full = refl; nobody = λ n. n }
 
 stays_reply : (lane k : ℕ) (reply : Reply) (h : List ServerEvent) → (lane == k) ≡ false → Stays lane (Says (say.Reply k reply) ∷ h) h
 stays_reply lane k reply h e =
-    record { awaits = cond-false (lane == k) false (awaits_reply lane h) e; shut = refl; refused = refl; nobody = λ n. n }
+    record { awaits = cond-false (lane == k) false (awaits_reply lane h) e; shut = refl; refused = refl; full = refl; nobody = λ n. n }
 
 pub stays_goes : (lane k : ℕ) (h : List ServerEvent) → Stays lane (Works (Goes k) ∷ h) h
 stays_goes lane k h = record {
   awaits = refl;
   shut = refl;
   refused = refl;
+  full = refl;
   nobody = λ n c. fewer (is_some (settings_of c (work h))) (c == k) (has_gone c (work h)) _ (n c);
 }
   where
@@ -83,6 +87,7 @@ stays_answered lane k l now h = record {
   awaits = refl;
   shut = refl;
   refused = refl;
+  full = refl;
   nobody = λ n c. fewer (has_peer c h) (is_this lane (socket_of c (notes h)))
       ((c == k) && is_this l (option_map (λ p. p.0) (poll_of c (notes h)))) (poll_of c (notes h)) (n c);
 }

@@ -37,7 +37,7 @@ module _ {H Job : Type 0} (hub : Hub Job) (s : Setup) (before : List Said) (new 
         went = went_same at h after (first_quiet s (moment h) (event.Lost lane) None None h h);
       }
 
-  -- what only a client hears, and what was refused, changes nothing
+  -- what only a client hears, what was refused, and what has drained, changes nothing
   pub heard_refusal : (lane : ℕ) (refusal : LaneRefusal) → Standing {H = H} hub s settled before new h → Handles {H = H} hub s before new at at
       (event.Refused lane refusal) h
   heard_refusal lane refusal st = record {
@@ -58,6 +58,14 @@ module _ {H Job : Type 0} (hub : Hub Job) (s : Setup) (before : List Said) (new 
 
   pub heard_upgrade : (lane : ℕ) → Standing {H = H} hub s settled before new h → Handles {H = H} hub s before new at at (event.Upgraded lane) h
   heard_upgrade lane st = record {
+    after = h;
+    is_handled = record { name = None; drawn = None; of_sixteen = tt; follows = record { fed = h; feeds = refl; is = refl } };
+    stands = st;
+    went = went_same at h h (quiet_refl h);
+  }
+
+  pub heard_drain : (lane : ℕ) → Standing {H = H} hub s settled before new h → Handles {H = H} hub s before new at at (event.Drained lane) h
+  heard_drain lane st = record {
     after = h;
     is_handled = record { name = None; drawn = None; of_sixteen = tt; follows = record { fed = h; feeds = refl; is = refl } };
     stands = st;

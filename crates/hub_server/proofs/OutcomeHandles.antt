@@ -71,7 +71,7 @@ name_learned bearer text name who h none is = go bearer text name ∙ sym (ap na
 module _ (text : Option (List ℕ)) (name : Option (Option (List ℕ))) (h : List ServerEvent) where
   pub learned_come : (lane : ℕ) (is_last : Bool) → HasCome lane is_last h → HasCome lane is_last (onto (learning text name) h)
   learned_come lane is_last c = learned (HasCome lane is_last) text name h c
-      (λ t. record { waits = c.waits; last = c.last; unrefused = c.unrefused; nobody = c.nobody })
+      (λ t. record { waits = c.waits; last = c.last; unrefused = c.unrefused; empty = c.empty; nobody = c.nobody })
 
   pub learned_rested : (c : ℕ) → IsRested c h → IsRested c (onto (learning text name) h)
   learned_rested c r = learned (IsRested c) text name h r (λ t. r)

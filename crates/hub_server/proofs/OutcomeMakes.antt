@@ -11,7 +11,7 @@ use Rattle.hd_server.specs.declared.vocabulary.Said.{Said}
 use Rattle.hd_server.specs.Lives.{ConnectionEvent, Answered, Ended, Expired, LaneLost, Removed, Negotiated, Opened, Polled, Socketed, is_removed, is_made, is_opened, made, negotiated_at, poll_ended}
 use Rattle.hd_server.specs.Texts.{token_of}
 use Rattle.hd_server.specs.Machine.{has_gone, settings_of}
-use Rattle.hd_server.specs.Doings.{ServerEvent, Draws, Hears, Learns, Notes, Says, Works, name_now, notes, user_of, work}
+use Rattle.hd_server.specs.Doings.{ServerEvent, Draws, Hears, Learns, Notes, Says, Sees, Works, name_now, notes, user_of, work}
 use Rattle.hd_server.specs.Plans.{Setup}
 use Rattle.hn_server_front.specs.declared.front.Front.{Front}
 use Rattle.hn_server_front.specs.Stands as front
@@ -80,9 +80,9 @@ lane_makes : (told : Option (List ℕ × Bool)) (u : Unsettled) (k now lane : �
 lane_makes None u k now lane None h n = n
 lane_makes (Some told) u k now lane None h n = n
 lane_makes None u k now lane (Some x) h l =
-    record { at = l.at; only = l.only; polls = l.polls; last = l.last; refused = l.refused; taken = l.taken }
+    record { at = l.at; only = l.only; polls = l.polls; last = l.last; refused = l.refused; full = l.full; taken = l.taken }
 lane_makes (Some told) u k now lane (Some x) h l =
-    record { at = l.at; only = l.only; polls = l.polls; last = l.last; refused = l.refused; taken = l.taken }
+    record { at = l.at; only = l.only; polls = l.polls; last = l.last; refused = l.refused; full = l.full; taken = l.taken }
 
 -- ---- who called
 
@@ -195,6 +195,7 @@ nobodys c (Learns asked ∷ h) o n = nobodys c h o n
 nobodys c (Draws drawn ∷ h) o n = nobodys c h o n
 nobodys c (Works happening ∷ h) o n = nobodys c h o n
 nobodys c (Says said ∷ h) o n = nobodys c h o n
+nobodys c (Sees lane full ∷ h) o n = nobodys c h o n
 
 -- a name is entered, or none is
 pub named : {H Job : Type 0} (hub : Hub Job) (s : Setup) (u : Unsettled) (before : List Said) (v : Server H Job) (h : List ServerEvent)
@@ -283,13 +284,16 @@ noted_open f n c now at next same st =
 -- the request still waits
 pub come_made : (told : Option (List ℕ × Bool)) (k now lane : ℕ) (is_last : Bool) (h : List ServerEvent) → HasCome lane is_last h
     → HasCome lane is_last (Notes (making told k now) ∷ h)
-come_made None k now lane is_last h come = record { waits = come.waits; last = come.last; unrefused = come.unrefused; nobody = come.nobody }
-come_made (Some told) k now lane is_last h come = record { waits = come.waits; last = come.last; unrefused = come.unrefused; nobody = come.nobody }
+come_made None k now lane is_last h come =
+    record { waits = come.waits; last = come.last; unrefused = come.unrefused; empty = come.empty; nobody = come.nobody }
+come_made (Some told) k now lane is_last h come =
+    record { waits = come.waits; last = come.last; unrefused = come.unrefused; empty = come.empty; nobody = come.nobody }
 
 -- so it does where lots were asked
 pub come_drawn : (drawn : Option (List ℕ)) (lane : ℕ) (is_last : Bool) (h : List ServerEvent) → HasCome lane is_last h
     → HasCome lane is_last (Draws drawn ∷ h)
-come_drawn drawn lane is_last h come = record { waits = come.waits; last = come.last; unrefused = come.unrefused; nobody = come.nobody }
+come_drawn drawn lane is_last h come =
+    record { waits = come.waits; last = come.last; unrefused = come.unrefused; empty = come.empty; nobody = come.nobody }
 
 -- ---- what was said and unsaid
 

@@ -9,7 +9,7 @@ use Rattle.hd_rooms.specs.declared.vocabulary.Asked.{Asked}
 use Rattle.hd_server.specs.declared.vocabulary.Said.{Said}
 use Rattle.hd_server.specs.Lives.{is_removed, socket_of}
 use Rattle.hd_server.specs.Machine.{MachineEvent, Does, Rounds, Carries, IsRound, has_gone, settings_of}
-use Rattle.hd_server.specs.Doings.{ServerEvent, Works, notes, work, asked, said, moment, wants_shut, was_refused, user_of, peer, history, history_with}
+use Rattle.hd_server.specs.Doings.{ServerEvent, Works, notes, work, asked, said, moment, is_full, wants_shut, was_refused, user_of, peer, history, history_with}
 use Rattle.hd_server.specs.Doings.{config_of, has_peer}
 use Rattle.hd_server.specs.Plans.{Setup}
 use Rattle.hub_server.specs.declared.lane.Lane.{Lane}
@@ -36,6 +36,7 @@ record Whirls (g h : List ServerEvent) : Type 0 where
   user : (c : ℕ) → user_of c g ≡ user_of c h
   shut : (lane : ℕ) → wants_shut lane g ≡ wants_shut lane h
   refused : (lane : ℕ) → was_refused lane g ≡ was_refused lane h
+  full : (lane : ℕ) → is_full lane g ≡ is_full lane h
   taken : (lane : ℕ) → is_taken lane g ≡ is_taken lane h
   quiet : (c last : ℕ) → Quietly (settings_of c (work h)) last (peer c g) (peer c h)
 
@@ -49,6 +50,7 @@ whirls_same h = record {
   user = λ c. refl;
   shut = λ lane. refl;
   refused = λ lane. refl;
+  full = λ lane. refl;
   taken = λ lane. refl;
   quiet = λ c last. quietly_same (settings_of c (work h)) last (peer c h);
 }
@@ -63,6 +65,7 @@ whirls_then f g h a b = record {
   user = λ c. a.user c ∙ b.user c;
   shut = λ lane. a.shut lane ∙ b.shut lane;
   refused = λ lane. a.refused lane ∙ b.refused lane;
+  full = λ lane. a.full lane ∙ b.full lane;
   taken = λ lane. a.taken lane ∙ b.taken lane;
   quiet = λ c last. quietly_then (settings_of c (work h)) last (peer c f) (peer c g) (peer c h)
       (subst (λ s. Quietly s last (peer c f) (peer c g)) (b.settings c) (a.quiet c last)) (b.quiet c last);
@@ -78,6 +81,7 @@ whirls_at (Does k m) h q = record {
   user = λ c. refl;
   shut = λ lane. refl;
   refused = λ lane. refl;
+  full = λ lane. refl;
   taken = λ lane. refl;
   quiet = λ c last. quiet_at (settings_of c (work h)) last c (Does k m) (work h) refl q;
 }
@@ -90,6 +94,7 @@ whirls_at (Rounds now) h q = record {
   user = λ c. refl;
   shut = λ lane. refl;
   refused = λ lane. refl;
+  full = λ lane. refl;
   taken = λ lane. refl;
   quiet = λ c last. quiet_at (settings_of c (work h)) last c (Rounds now) (work h) refl q;
 }
@@ -102,6 +107,7 @@ whirls_at (Carries k j d fates asked) h q = record {
   user = λ c. refl;
   shut = λ lane. refl;
   refused = λ lane. refl;
+  full = λ lane. refl;
   taken = λ lane. refl;
   quiet = λ c last. quiet_at (settings_of c (work h)) last c (Carries k j d fates asked) (work h) refl q;
 }
@@ -146,6 +152,7 @@ lane_same u (Some x) lane g h a is = record {
   polls = is.polls ∙ ap (λ n. not (is_this lane (socket_of x.conn n))) (sym a.noted);
   last = is.last ∙ sym (a.shut lane);
   refused = is.refused ∙ sym (a.refused lane);
+  full = is.full ∙ sym (a.full lane);
   taken = ap (λ b. is_this lane u.lane || b) (a.taken lane) ∙ is.taken;
 }
 

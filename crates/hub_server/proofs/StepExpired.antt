@@ -13,8 +13,8 @@ use Rattle.hd_server.specs.declared.vocabulary.Life.TheVariants.{Unknown, Fresh,
 use Rattle.hd_server.specs.Lives.{ConnectionEvent, Negotiated, Opened, Socketed, Polled, Answered, LaneLost, Ended, Expired, Removed}
 use Rattle.hd_server.specs.Lives.{is_removed, is_opened, is_polling, ended_at, lost_at, negotiated_at, overdue, socket_of, standing, when}
 use Rattle.hd_server.specs.Machine.{Connects, Does, Goes, Rounds, Carries, has_gone, settings_of}
-use Rattle.hd_server.specs.Doings.{ServerEvent, Hears, Learns, Draws, Notes, Works, Says}
-use Rattle.hd_server.specs.Doings.{notes, work, awaits_reply, has_peer, is_up, name_now, wants_shut, was_refused}
+use Rattle.hd_server.specs.Doings.{ServerEvent, Hears, Learns, Draws, Notes, Works, Says, Sees}
+use Rattle.hd_server.specs.Doings.{notes, work, awaits_reply, has_peer, is_full, is_up, name_now, wants_shut, was_refused}
 use Rattle.hd_server.specs.Plans.{onto, closing, dropping, expiring, expiries}
 use Rattle.hub_server.specs.Lanes.{IsNobodys, is_at, poll_lane}
 use Rattle.hub_server.specs.Servers.{IsRested}
@@ -55,6 +55,7 @@ pub record Wanes (g h : List ServerEvent) : Type 0 where
   pub waits : (lane : ℕ) → awaits_reply lane g ≡ awaits_reply lane h
   pub shut : (lane : ℕ) → wants_shut lane g ≡ wants_shut lane h
   pub refused : (lane : ℕ) → was_refused lane g ≡ was_refused lane h
+  pub full : (lane : ℕ) → is_full lane g ≡ is_full lane h
   pub name : name_now g ≡ name_now h
   pub polls : (c : ℕ) → is_polling c (notes g) ≡ is_polling c (notes h)
   pub there : (c : ℕ) → has_peer c g ≡ true → has_peer c h ≡ true
@@ -65,6 +66,7 @@ wanes_refl h = record {
   waits = λ lane. refl;
   shut = λ lane. refl;
   refused = λ lane. refl;
+  full = λ lane. refl;
   name = refl;
   polls = λ c. refl;
   there = λ c e. e;
@@ -76,6 +78,7 @@ wanes_trans f g h x y = record {
   waits = λ lane. x.waits lane ∙ y.waits lane;
   shut = λ lane. x.shut lane ∙ y.shut lane;
   refused = λ lane. x.refused lane ∙ y.refused lane;
+  full = λ lane. x.full lane ∙ y.full lane;
   name = x.name ∙ y.name;
   polls = λ c. x.polls c ∙ y.polls c;
   there = λ c e. y.there c (x.there c e);
@@ -97,6 +100,7 @@ one_wanes (Hears now event) h a = absurd a
 one_wanes (Learns ask) h a = absurd a
 one_wanes (Draws drawn) h a = absurd a
 one_wanes (Says x) h a = absurd a
+one_wanes (Sees lane full) h a = absurd a
 one_wanes (Works (Connects c t user)) h a = absurd a
 one_wanes (Works (Rounds now)) h a = absurd a
 one_wanes (Works (Carries c j d fates ask)) h a = absurd a
@@ -112,6 +116,7 @@ one_wanes (Notes (Expired c now)) h a = record {
   waits = λ lane. refl;
   shut = λ lane. refl;
   refused = λ lane. refl;
+  full = λ lane. refl;
   name = refl;
   polls = λ c. refl;
   there = λ c e. e;
@@ -121,6 +126,7 @@ one_wanes (Works (Does k m)) h a = record {
   waits = λ lane. refl;
   shut = λ lane. refl;
   refused = λ lane. refl;
+  full = λ lane. refl;
   name = refl;
   polls = λ c. refl;
   there = λ c e. e;
@@ -130,6 +136,7 @@ one_wanes (Works (Goes k)) h a = record {
   waits = λ lane. refl;
   shut = λ lane. refl;
   refused = λ lane. refl;
+  full = λ lane. refl;
   name = refl;
   polls = λ c. refl;
   there = λ c. was_there (is_some (settings_of c (work h))) (c == k) (has_gone c (work h));

@@ -4,7 +4,7 @@ use Rattle.std.proofs.Common.{refl, sym, ap, subst, ◌∙◌}
 use Rattle.std.specs.Prelude.{if◌then◌else◌}
 use Rattle.std.specs.Ordering.{nat_cmp}
 use Rattle.std.specs.BTreeMap.{BTreeMap, UpdatesBy, WritesThrough, get}
-use Rattle.std.proofs.lemmas.Bool.{both_ways, eq-eqb, eqb-true, false_from_ne_true}
+use Rattle.std.proofs.lemmas.Bool.{both_ways, eqb-true}
 use Rattle.std.specs.Cmp.{unsigned_tied}
 use Rattle.hw_lanes.specs.declared.http.Refusal.{Refusal as LaneRefusal}
 use Rattle.hw_lanes.specs.declared.http.Request.{Request}
@@ -12,7 +12,7 @@ use Rattle.hd_calls.specs.Hubs.{Hub}
 use Rattle.hw_door.specs.declared.heard.Event.{Event}
 use Rattle.hw_door.specs.declared.heard.Event.TheVariants as event
 use Rattle.hd_server.specs.declared.vocabulary.Said.{Said}
-use Rattle.hd_server.specs.Doings.{ServerEvent, Hears, moment, awaits_reply, is_upgraded, wants_shut, was_refused}
+use Rattle.hd_server.specs.Doings.{ServerEvent, Hears, moment, awaits_reply, is_full, is_upgraded, wants_shut, was_refused}
 use Rattle.hd_server.specs.Plans.{Setup}
 use Rattle.hd_server.specs.Serves.{IsFree}
 use Rattle.hub_server.specs.declared.lane.Lane.{Lane}
@@ -22,10 +22,12 @@ use Rattle.hub_server.specs.Servers.{Standing}
 use Rattle.hub_server.specs.Steps.{lost_in}
 use Rattle.hub_server.proofs.Alike.{alike_hears, orderly_alike}
 use Rattle.hub_server.proofs.LaneKept.{orderly_wider}
+use Rattle.hub_server.proofs.StepSees.{other_way, seen_lane}
 
 -- what is kept of a lane then
 abbrev pub heard_lane : Event → ℕ → Option Lane → Option Lane
 heard_lane (event.Refused lane refusal) k (Some x) = Some (record x { is_refused = (k == lane) || x.is_refused })
+heard_lane (event.Drained lane) k o = seen_lane lane false k o
 heard_lane _ k o = o
 
 -- a lane that could be on no request's way has nobody
@@ -40,6 +42,7 @@ heard_is (event.Bytes lane bytes) now k None h free l = λ c. l c
 heard_is (event.Response lane status body) now k None h free l = λ c. l c
 heard_is (event.Upgraded lane) now k None h free l = λ c. l c
 heard_is (event.Lost lane) now k None h free l = λ c. l c
+heard_is (event.Drained lane) now k None h free l = λ c. l c
 heard_is event.Quiet now k None h free l = λ c. l c
 heard_is (event.Request lane r) now k (Some x) h free l = go (k == lane) refl
   where
@@ -51,6 +54,7 @@ heard_is (event.Request lane r) now k (Some x) h free l = go (k == lane) refl
       polls = l.polls;
       last = l.last ∙ sym (ap (λ b. if b then r.shut else wants_shut k h) e);
       refused = l.refused ∙ sym (ap (λ b. if b then false else was_refused k h) e);
+      full = l.full ∙ sym (ap (λ b. if b then false else is_full k h) e);
       taken = ap (λ b. is_upgraded k h || (b || awaits_reply k h)) e ∙ l.taken;
     }
 heard_is (event.Refused lane refusal) now k (Some x) h free l = record {
@@ -59,6 +63,7 @@ heard_is (event.Refused lane refusal) now k (Some x) h free l = record {
   polls = l.polls;
   last = l.last;
   refused = ap (λ b. (k == lane) || b) l.refused;
+  full = l.full;
   taken = l.taken;
 }
 heard_is (event.Bytes lane bytes) now k (Some x) h free l = record {
@@ -67,6 +72,7 @@ heard_is (event.Bytes lane bytes) now k (Some x) h free l = record {
   polls = l.polls;
   last = l.last;
   refused = l.refused;
+  full = l.full;
   taken = l.taken;
 }
 heard_is (event.Response lane status body) now k (Some x) h free l = record {
@@ -75,6 +81,7 @@ heard_is (event.Response lane status body) now k (Some x) h free l = record {
   polls = l.polls;
   last = l.last;
   refused = l.refused;
+  full = l.full;
   taken = l.taken;
 }
 heard_is (event.Upgraded lane) now k (Some x) h free l = record {
@@ -83,6 +90,7 @@ heard_is (event.Upgraded lane) now k (Some x) h free l = record {
   polls = l.polls;
   last = l.last;
   refused = l.refused;
+  full = l.full;
   taken = l.taken;
 }
 heard_is (event.Lost lane) now k (Some x) h free l = record {
@@ -91,18 +99,29 @@ heard_is (event.Lost lane) now k (Some x) h free l = record {
   polls = l.polls;
   last = l.last;
   refused = l.refused;
+  full = l.full;
   taken = go (k == lane) l.taken;
 }
   where
     go : (b : Bool) → is_taken k h ≡ true → (b || ((if b then false else is_upgraded k h) || (if b then false else awaits_reply k h))) ≡ true
     go true e = refl
     go false e = e
+heard_is (event.Drained lane) now k (Some x) h free l = record {
+  at = l.at;
+  only = l.only;
+  polls = l.polls;
+  last = l.last;
+  refused = l.refused;
+  full = ap (λ b. if k == lane then false else b) l.full;
+  taken = l.taken;
+}
 heard_is event.Quiet now k (Some x) h free l = record {
   at = l.at;
   only = l.only;
   polls = l.polls;
   last = l.last;
   refused = l.refused;
+  full = l.full;
   taken = l.taken;
 }
 
@@ -131,9 +150,6 @@ nobody_comes now lane r None h free l = λ c. l c
 nobody_comes now lane r (Some x) h free l = absurd (both_ways (is_taken lane h) (free_is lane lane x h refl free.0 free.1) l.taken)
 
 -- ---- what the door did with a lane
-
-other_way : (k lane : ℕ) → (k == lane) ≡ false → (lane == k) ≡ false
-other_way k lane e = false_from_ne_true (lane == k) (λ z. both_ways (k == lane) e (eq-eqb k lane (sym (eqb-true lane k z))))
 
 not_there : (lane : ℕ) (refusal : LaneRefusal) (k : ℕ) (o : Option Lane) → (k == lane) ≡ false → heard_lane (event.Refused lane refusal) k o ≡ o
 not_there lane refusal k None e = refl
@@ -164,11 +180,13 @@ refused_none m n lane refusal k at same = ap (λ l. get nat_cmp l k) same ∙ go
         none ∙ ap (heard_lane (event.Refused lane refusal) k) (sym none)
     go false e = sym (not_there lane refusal k (get nat_cmp m k) e)
 
-pub unrefused : (e : Event) (k : ℕ) (o : Option Lane) → ((lane : ℕ) (refusal : LaneRefusal) → e ≡ event.Refused lane refusal → ⊥) → o ≡ heard_lane e k o
-unrefused (event.Request lane r) k o n = refl
-unrefused (event.Refused lane refusal) k o n = absurd (n lane refusal refl)
-unrefused (event.Bytes lane bytes) k o n = refl
-unrefused (event.Response lane status body) k o n = refl
-unrefused (event.Upgraded lane) k o n = refl
-unrefused (event.Lost lane) k o n = refl
-unrefused event.Quiet k o n = refl
+pub untouched : (e : Event) (k : ℕ) (o : Option Lane) → ((lane : ℕ) (refusal : LaneRefusal) → e ≡ event.Refused lane refusal → ⊥)
+    → ((lane : ℕ) → e ≡ event.Drained lane → ⊥) → o ≡ heard_lane e k o
+untouched (event.Request lane r) k o n m = refl
+untouched (event.Refused lane refusal) k o n m = absurd (n lane refusal refl)
+untouched (event.Bytes lane bytes) k o n m = refl
+untouched (event.Response lane status body) k o n m = refl
+untouched (event.Upgraded lane) k o n m = refl
+untouched (event.Lost lane) k o n m = refl
+untouched (event.Drained lane) k o n m = absurd (m lane refl)
+untouched event.Quiet k o n m = refl

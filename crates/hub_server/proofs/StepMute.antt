@@ -19,7 +19,7 @@ use Rattle.hd_server.specs.declared.vocabulary.Outcome.{Outcome}
 use Rattle.hd_server.specs.declared.vocabulary.Outcome.TheVariants.{Refusal, NewToken, PlainSocket, TokenSocket, FirstPoll, NextPoll, LastPoll, Posting, Deletion}
 use Rattle.hd_server.specs.Table.{outcome}
 use Rattle.hd_server.specs.Machine.{MachineEvent, Does, Goes, Connects, Rounds, Carries, settings_of, connections}
-use Rattle.hd_server.specs.Doings.{ServerEvent, Hears, Notes, Works, Says, Learns, Draws, notes, work, moment, asked, draws}
+use Rattle.hd_server.specs.Doings.{ServerEvent, Hears, Notes, Works, Says, Sees, Learns, Draws, notes, work, moment, asked, draws}
 use Rattle.hd_server.specs.Doings.{was_refused, history, config_of, has_closed, has_peer, is_up, may_resume}
 use Rattle.hd_server.specs.Plans.{Plan, Setup, PendingRequest, onto, connecting, attaching, closing, dropping, removing_conn, expiring, expiries, bare_reply}
 use Rattle.hd_server.specs.Plans.{frames_reply, socket_reply, token_reply, refusal_reply, shutting, ends_lane, replying, ending_poll, ending_held, standing_on, shutting_some, removing_some, giving_way, new_token, new_plain}
@@ -214,6 +214,7 @@ one_quiet (Works (Rounds now)) h a = absurd a
 one_quiet (Works (Carries c j d fates ask)) h a = absurd a
 one_quiet (Works (Goes c)) h a = record { at = refl; asks = refl; draws = refl }
 one_quiet (Says x) h a = record { at = refl; asks = refl; draws = refl }
+one_quiet (Sees lane full) h a = absurd a
 
 onto_quiet : (ds h : List ServerEvent) → AreMute ds → Quiet (onto ds h) h
 onto_quiet [] h a = quiet_refl h

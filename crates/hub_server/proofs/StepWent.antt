@@ -15,7 +15,7 @@ use Rattle.hw_door.specs.declared.heard.Heard.{Heard}
 use Rattle.hd_server.specs.declared.vocabulary.Said.{Said}
 use Rattle.hd_server.specs.Table.{asks_keeper}
 use Rattle.hd_server.specs.Machine.{MachineEvent, Rounds, IsRound, connections}
-use Rattle.hd_server.specs.Doings.{ServerEvent, Hears, Draws, Works, work, moment, asked, awaits_reply, said, wants_shut, was_refused}
+use Rattle.hd_server.specs.Doings.{ServerEvent, Hears, Draws, Works, work, moment, asked, awaits_reply, said, is_full, wants_shut, was_refused}
 use Rattle.hd_server.specs.Plans.{Setup, asks_lots, learning, onto, plan, questions}
 use Rattle.hd_server.specs.Serves.{IsFed, IsFree, all_flushing, ticks}
 use Rattle.hub_server.specs.declared.server.Server.{Server}
@@ -43,6 +43,7 @@ can_handle {H} hub s before v now (event.Request lane r) h stands free =
         waits = wanes.waits lane ∙ ap (λ b. b || awaits_reply lane h) same;
         last = sym (wanes.shut lane ∙ ap (λ b. if b then r.shut else wants_shut lane h) same);
         unrefused = wanes.refused lane ∙ ap (λ b. if b then false else was_refused lane h) same;
+        empty = wanes.full lane ∙ ap (λ b. if b then false else is_full lane h) same;
         nobody = nobody_wanes lane (expired_by heard) heard wanes (nobody_comes now lane r (get nat_cmp v.lanes lane) h free (stands.lanes lane));
       },
       wanes.name,
@@ -52,6 +53,7 @@ can_handle {H} hub s before v now (event.Bytes lane bytes) h stands free = tt
 can_handle {H} hub s before v now (event.Response lane status body) h stands free = tt
 can_handle {H} hub s before v now (event.Upgraded lane) h stands free = tt
 can_handle {H} hub s before v now (event.Lost lane) h stands free = tt
+can_handle {H} hub s before v now (event.Drained lane) h stands free = tt
 can_handle {H} hub s before v now event.Quiet h stands free = tt
 
 -- ---- moments
@@ -71,6 +73,7 @@ questions_at s now (event.Bytes lane bytes) name drawn h = refl
 questions_at s now (event.Response lane status body) name drawn h = refl
 questions_at s now (event.Upgraded lane) name drawn h = refl
 questions_at s now (event.Lost lane) name drawn h = refl
+questions_at s now (event.Drained lane) name drawn h = refl
 questions_at s now event.Quiet name drawn h = refl
 
 -- an event is handled at its moment

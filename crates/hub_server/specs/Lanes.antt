@@ -2,7 +2,7 @@
 use Rattle.std.specs.Prelude.{◌≡◌, ℕ, Bool, true, false, not, ◌&&◌, ◌||◌, List, Option, Some, None, option_map}
 use Rattle.hd_delivery.specs.Histories.{is_this}
 use Rattle.hd_server.specs.Lives.{ConnectionEvent, poll_of, socket_of}
-use Rattle.hd_server.specs.Doings.{ServerEvent, notes, awaits_reply, has_peer, is_upgraded, wants_shut, was_refused}
+use Rattle.hd_server.specs.Doings.{ServerEvent, notes, awaits_reply, has_peer, is_full, is_upgraded, wants_shut, was_refused}
 use Rattle.hub_server.specs.declared.lane.Lane.{Lane}
 
 -- the lane of the poll that is held
@@ -42,6 +42,7 @@ pub record HasLane (u : Unsettled) (x : Lane) (lane : ℕ) (h : List ServerEvent
   pub polls : x.polls ≡ not (is_this lane (socket_of x.conn (notes h)))
   pub last : x.is_last ≡ wants_shut lane h
   pub refused : x.is_refused ≡ was_refused lane h
+  pub full : x.is_full ≡ is_full lane h
   pub taken : (is_this lane u.lane || is_taken lane h) ≡ true
 
 -- no connection is on the lane

@@ -11,7 +11,8 @@ use Rattle.hw_door.specs.Calls.{Trace}
 use Rattle.hd_server.specs.declared.vocabulary.Said.{Said}
 use Rattle.hd_server.specs.Doings.{ServerEvent, moment}
 use Rattle.hd_server.specs.Plans.{Setup}
-use Rattle.hd_server.specs.Serving.{ServesOn, given_as}
+use Rattle.hd_server.specs.Serves.{given_as, lanes_sent, seeing}
+use Rattle.hd_server.specs.Serving.{ServesOn}
 use Rattle.hub_server.specs.declared.server.Server.{Server}
 use Rattle.hub_server.specs.declared.serving.ServeFault.{ServeFault}
 use Rattle.hub_server.specs.declared.serving.ServeFault.TheVariants as fault
@@ -31,28 +32,33 @@ IsCausedBy before now (Err fault.NoMemory) = now ≡ before
 
 -- ---- what a door tells
 
--- it was given this too
-abbrev pub GivesMore : Option Trace → Option Trace → List Given → Type 0
-GivesMore None None given = Unit {0}
-GivesMore (Some before) (Some now) given = (now.heard ≡ before.heard) × (now.waits ≡ before.waits) × (now.given ≡ before.given ++ given)
-GivesMore _ _ given = ⊥
+-- it was given this too, and answered this to the messages among it
+abbrev pub GivesMore : Option Trace → Option Trace → List Given → List Bool → Type 0
+GivesMore None None given full = Unit {0}
+GivesMore (Some before) (Some now) given full =
+    (now.heard ≡ before.heard) × (now.waits ≡ before.waits) × (now.given ≡ before.given ++ given) × (now.full ≡ before.full ++ full)
+GivesMore _ _ given full = ⊥
 
--- these were heard too, each after its wait, and this was given
-abbrev pub TellsMore : Option Trace → Option Trace → List Heard → List ℕ → List Given → Type 0
-TellsMore None None heard waits given = Unit {0}
-TellsMore (Some before) (Some now) heard waits given =
-    (now.heard ≡ before.heard ++ heard) × (now.waits ≡ before.waits ++ waits) × (now.given ≡ before.given ++ given)
-TellsMore _ _ heard waits given = ⊥
+-- these were heard too, each after its wait, this was given, and this was answered to the messages among it
+abbrev pub TellsMore : Option Trace → Option Trace → List Heard → List ℕ → List Given → List Bool → Type 0
+TellsMore None None heard waits given full = Unit {0}
+TellsMore (Some before) (Some now) heard waits given full =
+    (now.heard ≡ before.heard ++ heard) × (now.waits ≡ before.waits ++ waits) × (now.given ≡ before.given ++ given) × (now.full ≡ before.full ++ full)
+TellsMore _ _ heard waits given full = ⊥
 
 -- all of these words are given; after a fault, a first part of them but not all
 abbrev pub IsGiven : Bool → List Given → List Given → Type 0
 IsGiven true given whole = given ≡ whole
 IsGiven false given whole = (next : Given) × IsPrefix (given ++ next ∷ []) whole
 
-pub record GivesAll (before now : Option Trace) (words : List Said) (ok : Bool) : Type 0 where
+-- so the door is, and the server has seen what that answered to each message
+pub record GivesAll {H Job : Type 0} (hub : Hub Job) (old new : Server H Job) (before now : Option Trace) (words : List Said) (ok : Bool) : Type 0 where
   pub given : List Given
-  pub trace : GivesMore before now given
+  pub full : List Bool
+  pub trace : GivesMore before now given full
   pub all : IsGiven ok given (map given_as words)
+  pub each : length full ≡ length (lanes_sent given)
+  pub sees : (s : Setup) (h : List ServerEvent) → StandsServer hub s old h → StandsServer hub s new (seeing (lanes_sent given) full h)
 
 -- ---- a whole run
 
@@ -80,13 +86,15 @@ IfMemoryEnds (Some fault.NoMemory) Ended after = Ended after
 IfMemoryEnds (Some fault.Door) Ended after = ⊥
 IfMemoryEnds None Ended after = ⊥
 
--- These were heard, and this given, until all turns were done, or a fault came. For all doings for which the server stood, it was given as the
--- server does. After a fault the last event may be answered in part; and only if memory ran out may it be done in part.
+-- These were heard, this given, and this answered to the messages among it, until all turns were done, or a fault came. For all doings for which
+-- the server stood, it was given as the server does. After a fault the last event may be answered in part; and only if memory ran out may it be
+-- done in part.
 pub record HasServed {H Job : Type 0} (hub : Hub Job) (old new : Server H Job) (at since : Outside) (before now : Option Trace) (first last turns : ℕ) (why : Option ServeFault) : Type 0 where
   pub heard : List Heard
   pub waits : List ℕ
   pub given : List Given
-  pub trace : TellsMore before now heard waits given
+  pub full : List Bool
+  pub trace : TellsMore before now heard waits given full
   pub count : AreTurns why turns (length heard)
   pub serves : (s : Setup) (h : List ServerEvent) → StandsServer hub s old h → moment h ≤ first
-      → ServesOn hub s (is_some why) (AtEnd hub s new at since last h) (IfMemoryEnds why (HasEnded new at last h)) h heard waits given
+      → ServesOn hub s (is_some why) (AtEnd hub s new at since last h) (IfMemoryEnds why (HasEnded new at last h)) h heard waits given full

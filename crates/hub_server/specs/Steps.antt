@@ -10,7 +10,7 @@ use Rattle.hw_door.specs.declared.heard.Heard.{Heard}
 use Rattle.hd_server.specs.declared.vocabulary.Said.{Said}
 use Rattle.hd_server.specs.Machine.{MachineEvent, Rounds, IsRound, connections}
 use Rattle.hd_server.specs.Lives.{overdue}
-use Rattle.hd_server.specs.Doings.{ServerEvent, Works, notes, work, moment, asked, draws, said, name_now, awaits_reply, wants_shut, was_refused}
+use Rattle.hd_server.specs.Doings.{ServerEvent, Works, notes, work, moment, asked, draws, said, name_now, awaits_reply, is_full, wants_shut, was_refused}
 use Rattle.hd_server.specs.Plans.{Plan, Setup, expiries, onto, plan, questions}
 use Rattle.hd_server.specs.Serves.{AreAllDue, IsDraw, IsFed, IsTurn, all_flushing}
 use Rattle.hub_server.specs.declared.server.Server.{Server}
@@ -93,6 +93,7 @@ pub record HasCome (lane : ℕ) (is_last : Bool) (h : List ServerEvent) : Type 0
   pub waits : awaits_reply lane h ≡ true
   pub last : is_last ≡ wants_shut lane h
   pub unrefused : was_refused lane h ≡ false
+  pub empty : is_full lane h ≡ false
   pub nobody : IsNobodys lane h
 
 abbrev pub CanHandle : Event → List ServerEvent → Type 0

@@ -61,6 +61,7 @@ impl<H: Hub> Server<H> {
             polls: false,
             is_last: at.is_last,
             is_refused: false,
+            is_full: false,
         };
         self.lanes.insert(at.lane, lane)?;
         let reply = Reply {
@@ -151,6 +152,7 @@ impl<H: Hub> Server<H> {
             polls: true,
             is_last: at.is_last,
             is_refused: false,
+            is_full: false,
         };
         self.lanes.insert(at.lane, lane)?;
         Ok(())

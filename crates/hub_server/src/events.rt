@@ -56,6 +56,7 @@ impl<H: Hub> Server<H> {
                 body: _,
             } => Ok(()),
             Event::Upgraded { lane: _ } => Ok(()),
+            Event::Drained { lane: _ } => Ok(()),
             Event::Quiet => Ok(()),
         }
     }

@@ -4,7 +4,7 @@ ghost use Rattle.std.specs.Prelude.{◌≡◌, ◌+◌, ℕ, List, OnOk, Some as
 ghost use Rattle.hd_server.specs.Doings.{ServerEvent, has_peer, moment, notes, was_refused};
 ghost use Rattle.hd_server.specs.Lives.{is_polling, poll_of, socket_of};
 ghost use Rattle.hd_server.specs.Plans.{frames_reply, onto, shutting};
-ghost use Rattle.hd_server.specs.Serves.{ending, ticking, ticks};
+ghost use Rattle.hd_server.specs.Serves.{ending, is_withheld, ticking, ticks};
 ghost use Rattle.hj_jobs.specs.Meaning.{meaning};
 ghost use Rattle.hd_server.specs.Numbers.{held_for};
 ghost use Rattle.hub_server.specs.Lanes.{is_at, settled};
@@ -129,11 +129,14 @@ impl<H: Hub> Server<H> {
         }
     }
 
-    /// On a socket: in one message, if anything is due.
+    /// On a socket: in one message, if anything is due, unless the lane is full and the connection open.
     fn flush_socket(&mut self, alloc: Global, conn: u64, lane: u64) -> Result<(), AllocError>
         ensures { OnOk result (OfEach (meaning H.begin_of H.step_of) self.old (λ s u before h. u ≡ settled → has_peer conn h ≡ true → socket_of conn (notes h) ≡ Given lane →
             FlushesOne (meaning H.begin_of H.step_of) s before self.new conn (Given lane) (poll_of conn (notes h)) h)) }
     {
+        if self.withholds(conn, lane) {
+            return Ok(());
+        }
         self.write(alloc, conn, lane)?;
         if !self.machine.is_closed(conn) {
             return self.machine.park(conn);
@@ -141,6 +144,19 @@ impl<H: Hub> Server<H> {
         self.shut(lane)?;
         self.remove_conn(conn);
         Ok(())
+    }
+
+    /// Whether what is due on the socket stays due: its lane is full, and the connection open.
+    fn withholds(&self, conn: u64, lane: u64) -> bool
+        ensures { OfEach (meaning H.begin_of H.step_of) self.now (λ s u before h. has_peer conn h ≡ true → is_at lane conn h ≡ true → result ≡ is_withheld conn lane h) }
+    {
+        if self.machine.is_closed(conn) {
+            return false;
+        }
+        match self.lanes.get(&lane) {
+            Some(kept) => kept.is_full,
+            None => false,
+        }
     }
 
     /// What is due is written there.

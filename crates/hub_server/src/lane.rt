@@ -10,4 +10,6 @@ pub struct Lane {
     pub(crate) is_last: bool,
     /// The door has shut it.
     pub(crate) is_refused: bool,
+    /// The door answered to the last message that it is full, and hasn't said since that it has drained.
+    pub(crate) is_full: bool,
 }

@@ -2,7 +2,7 @@
 
 ghost use Rattle.std.specs.Prelude.{◌≡◌, ◌<◌, ◌∷◌, ℕ, List, [], true, is_err, IfOk, OnOk, OnErr};
 ghost use Rattle.hw_lanes.specs.Replies.{IsReply};
-ghost use Rattle.hd_server.specs.Doings.{Hears, ServerEvent, has_peer, has_closed, history, may_resume, is_up, moment, name_now, notes, work};
+ghost use Rattle.hd_server.specs.Doings.{Hears, Sees, ServerEvent, has_peer, has_closed, history, may_resume, is_up, moment, name_now, notes, work};
 ghost use Rattle.hd_server.specs.Plans.{Setup};
 ghost use Rattle.hd_server.specs.Serves.{IsTurn, MayBeHeard};
 ghost use Rattle.hd_server.specs.Serving.{is_idle};
@@ -142,16 +142,35 @@ impl<H: Hub> Server<H> {
         Ok(())
     }
 
+    /// Notes that the door took a message for this lane, and answered whether the lane is full now. On a lane that is full nothing more is said of a
+    /// connection that is open, until it has drained.
+    pub fn note_sent(&mut self, lane: u64, full: bool)
+        ensures sees { (s : Setup) (h : List ServerEvent) → StandsServer (meaning H.begin_of H.step_of) s self.old h → StandsServer (meaning H.begin_of H.step_of) s self.new (Sees lane full ∷ h) }
+        ensures ended { self.new.is_ended ≡ self.old.is_ended }
+    {
+        if let Some(kept) = self.lanes.get_mut(&lane) {
+            kept.is_full = full;
+        }
+    }
+
     /// The event is heard: of lanes that have connections, what the door did with them is noted.
     fn hear(&mut self, now: u64, event: &Event)
         ensures { OfEach (meaning H.begin_of H.step_of) self.old (λ s u before h. u ≡ settled → MayBeHeard (record { now = now; event = event.now }) h →
             Standing (meaning H.begin_of H.step_of) s (lane_of (lost_in event.now)) before self.new (Hears now event.now ∷ h)) }
     {
         self.moment = now;
-        if let Event::Refused { lane, refusal: _ } = event {
-            if let Some(kept) = self.lanes.get_mut(lane) {
-                kept.is_refused = true;
+        match event {
+            Event::Refused { lane, refusal: _ } => {
+                if let Some(kept) = self.lanes.get_mut(lane) {
+                    kept.is_refused = true;
+                }
             }
+            Event::Drained { lane } => {
+                if let Some(kept) = self.lanes.get_mut(lane) {
+                    kept.is_full = false;
+                }
+            }
+            _ => {}
         }
     }
 

@@ -92,32 +92,41 @@ fn turn<D: Door, H: Hub, K: Keeper, L: Lots>(
     let wait = if server.idle() { MOST_WAIT } else { 0 };
     let heard = door.next(wait)?;
     let words = server.step(alloc, heard, hub, keeper, lots)?;
-    give_all(door, words)
+    give_all(server, door, words)
 }
 
-/// The door is given all that is said, in order.
-fn give_all<D: Door>(door: &mut D, words: Vec<Said>) -> Result<(), ServeFault>
+/// The door is given all that is said, in order, and the server notes what it answers to messages.
+fn give_all<D: Door, H: Hub>(
+    server: &mut Server<H>,
+    door: &mut D,
+    words: Vec<Said>,
+) -> Result<(), ServeFault>
     requires { AreReplies words.items }
-    ensures given { GivesAll (D.trace door.old) (D.trace door.new) words.items (is_ok result) }
+    ensures given { GivesAll (meaning H.begin_of H.step_of) server.old server.new (D.trace door.old) (D.trace door.new) words.items (is_ok result) }
+    ensures ended { server.new.is_ended ≡ server.old.is_ended }
     ensures others_unchanged { D.moment door.new ≡ D.moment door.old }
     ensures cause { IsCausedBy (D.faults door.old) (D.faults door.new) result }
 {
     for word in words {
-        give(door, word)?;
+        give(server, door, word)?;
     }
     Ok(())
 }
 
 /// The door is given this to say.
-fn give<D: Door>(door: &mut D, word: Said) -> Result<(), ServeFault>
+fn give<D: Door, H: Hub>(server: &mut Server<H>, door: &mut D, word: Said) -> Result<(), ServeFault>
     requires { AreReplies (word ∷ []) }
-    ensures given { GivesAll (D.trace door.old) (D.trace door.new) (word ∷ []) (is_ok result) }
+    ensures given { GivesAll (meaning H.begin_of H.step_of) server.old server.new (D.trace door.old) (D.trace door.new) (word ∷ []) (is_ok result) }
+    ensures ended { server.new.is_ended ≡ server.old.is_ended }
     ensures others_unchanged { D.moment door.new ≡ D.moment door.old }
     ensures cause { IsCausedBy (D.faults door.old) (D.faults door.new) result }
 {
     match word {
         Said::Reply { lane, reply } => door.reply(lane, reply)?,
-        Said::Bytes { lane, bytes, text } => door.send(lane, bytes.bytes(), text)?,
+        Said::Bytes { lane, bytes, text } => {
+            let full = door.send(lane, bytes.bytes(), text)?;
+            server.note_sent(lane, full);
+        }
         Said::Shut { lane } => door.shut(lane)?,
     }
     Ok(())

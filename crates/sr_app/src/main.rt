@@ -133,7 +133,7 @@ fn run_unheard(rt: &HostRuntime, words: &[String]) -> Result<u8, AllocError> {
     run_over(
         rt,
         words,
-        &mut MemoryDoor::start(Vec::new(alloc), Vec::new(alloc)),
+        &mut MemoryDoor::start(Vec::new(alloc), Vec::new(alloc), Vec::new(alloc)),
     )
 }
 

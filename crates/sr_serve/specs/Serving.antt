@@ -1,11 +1,11 @@
 -- What the command `serve` does with what is outside: its output, its door, its keeper and its lots.
-use Rattle.std.specs.Prelude.{◌≡◌, ◌⊎◌, ◌≤◌, ℕ, List, [], ◌∷◌, ◌++◌, length, take, codes, option_map, Option, Some, None, is_some, IfSome, Result, Ok, Err}
+use Rattle.std.specs.Prelude.{◌≡◌, ◌⊎◌, ◌≤◌, ℕ, Bool, List, [], ◌∷◌, ◌++◌, length, take, codes, option_map, Option, Some, None, is_some, IfSome, Result, Ok, Err}
 use Rattle.std.specs.Fmt.{decimal}
 use Rattle.std.specs.Io.KnownBytes.{Appends}
 use Rattle.hd_facts.specs.Counts.{Rose}
 use Rattle.hd_rooms.specs.declared.vocabulary.Asked.{Asked}
 use Rattle.hd_rooms.specs.declared.vocabulary.Asked.TheVariants as ask
-use Rattle.hd_rooms.specs.Kept.{Content, row_count}
+use Rattle.hd_rooms.specs.Kept.{row_count}
 use Rattle.hk_keeper.specs.declared.keeper.KeepError.{KeepError}
 use Rattle.hk_keeper.specs.declared.keeper.KeepError.TheVariants as keep
 use Rattle.hw_door.specs.declared.heard.Given.{Given}
@@ -61,8 +61,8 @@ pub record IsCut (at : Outside) (last : ℕ) (h : List ServerEvent) : Type 0 whe
   pub until : Outside
   pub served : IsServed at until last h
 
--- The line of the rows was written. A server of this base, whose ends hold so much, heard these, each after its wait, and gave this: all of its turns, or as many as
--- there were until this fault
+-- The line of the rows was written. A server of this base, whose ends hold so much, heard these, each after its wait, gave this, and saw what was
+-- answered to the messages among it: all of its turns, or as many as there were until this fault
 pub record Serves (base : List ℕ) (resend : ResendLimits) (live turns : ℕ) (why : Option ServeFault) (before now : Environment) : Type 0 where
   pub rows : ℕ
   pub are_rows : IfSome before.kept.holds (λ content. rows ≡ row_count content.rows)
@@ -70,10 +70,11 @@ pub record Serves (base : List ℕ) (resend : ResendLimits) (live turns : ℕ) (
   pub heard : List Heard
   pub waits : List ℕ
   pub given : List Given
-  pub trace : TellsMore before.trace now.trace heard waits given
+  pub full : List Bool
+  pub trace : TellsMore before.trace now.trace heard waits given full
   pub count : AreTurns why turns (length heard)
   pub serves : (s : Setup) → IsSetup s base resend live → ServesOn serve_hub s (is_some why)
-      (IsServed (counted rows before.kept) now.kept now.heard_at) (IfMemoryEnds why (IsCut (counted rows before.kept) now.heard_at)) [] heard waits given
+      (IsServed (counted rows before.kept) now.kept now.heard_at) (IfMemoryEnds why (IsCut (counted rows before.kept) now.heard_at)) [] heard waits given full
 
 -- a first part of the line of the rows was written
 pub record BreaksOff (before now : Environment) : Type 0 where

@@ -9,7 +9,7 @@ ghost use Rattle.sr_serve.specs.declared.serving.ServeError.TheVariants as end;
 
 use hd_server::LiveLimit;
 use hk_keeper::{KeepError, Keeper};
-use hub_demo::{ServeHub, ServeJob};
+use hub_demo::ServeHub;
 use hub_server::{ResendLimits, ServeFault, Server, serve};
 use hv_value::Text;
 use hw_door::{Door, Lots};
@@ -109,7 +109,6 @@ pub fn serve_hub<K: Sink, D: Door, R: Keeper, L: Lots>(
     ensures no_memory { result ≡ Err end.NoMemory → (out.new ≡ out.old) ⊎ ((rows : ℕ) × Appends (K.holds out.old) (K.holds out.new) (serving_line rows)) }
     ensures unheard { (result ≡ Err end.Keeper) ⊎ (result ≡ Err end.Write) → (door.new ≡ door.old) × (lots.new ≡ lots.old) }
 {
-    hd_server::servers_are_peers::<ServeJob>();
     hd_delivery::delivery_over_bytes();
     let rows = keeper.rows()?;
     let mut server = Server::start(alloc, base, resend, live)?;

@@ -2,6 +2,7 @@ use Rattle.std.proofs.Common.{◌≡◌, [], ◌∷◌, ◌++◌, true, arith, r
 use Rattle.std.specs.Vec.Iter.{into_iter_items}
 use Rattle.std.proofs.lemmas.Grind.{common_steps}
 use Rattle.std.proofs.lemmas.List.{append_assoc}
+use Rattle.hj_jobs.specs.Meaning.{meaning}
 use Rattle.hub_server.specs.Serving.{GivesAll}
 use Rattle.hub_server.specs.Words.{AreReplies}
 use Rattle.hub_server.proofs.ServeRun.{caused_same, first_reply, gives_more, gives_short, gives_start, later_replies, unok}
@@ -11,7 +12,10 @@ pub loop-word-init : goal.loop-word-init
 loop-word-init g c = record {
   are = c.into_iter-word-iterator.ensures.into_iter_gives.0;
   replies = subst AreReplies (sym c.into_iter-word-iterator.ensures.into_iter_gives.0) c.requires;
-  given = gives_start (g.D.Door.trace c.args.door.now);
+  given =
+      gives_start {H = g.row.H.Denot} {Job = g.row.H-Job.Denot} (meaning g.H.Hub.begin_of g.H.Hub.step_of) c.args.server.now
+      (g.D.Door.trace c.args.door.now);
+  ended = refl;
   still = refl;
   unfailed = refl;
 }
@@ -27,22 +31,30 @@ loop-word-preserved g c = record {
       ∙ ap (λ l. c.loop-word.yielded ++ l) (sym c.in-Some.ensures.steps.0) ∙ c.loop-word.invariant.are;
   replies = later_replies c.in-Some.word (into_iter_items c.next.new.self) (subst AreReplies c.in-Some.ensures.steps.0 c.loop-word.invariant.replies);
   given =
-      gives_more (g.D.Door.trace c.args.door.now) (g.D.Door.trace c.loop-word.door) (g.D.Door.trace c.give.new.door) c.loop-word.yielded
+      gives_more {H = g.row.H.Denot} {Job = g.row.H-Job.Denot} (meaning g.H.Hub.begin_of g.H.Hub.step_of) c.args.server.now c.loop-word.server
+      c.give.new.server (g.D.Door.trace c.args.door.now) (g.D.Door.trace c.loop-word.door) (g.D.Door.trace c.give.new.door) c.loop-word.yielded
       (c.in-Some.word ∷ [])
       c.loop-word.invariant.given c.in_ok-give.ensures.given;
+  ended = c.give.ensures.ended ∙ c.loop-word.invariant.ended;
   still = c.in_ok-give.ensures.others_unchanged ∙ c.loop-word.invariant.still;
   unfailed = c.in_ok-give.ensures.cause ∙ c.loop-word.invariant.unfailed;
 }
 
 pub returns-in_err-give-clause-given : goal.returns-in_err-give-clause-given
 returns-in_err-give-clause-given g c =
-    subst (λ ok. GivesAll (g.D.Door.trace c.args.door.now) (g.D.Door.trace c.give.new.door) c.args.words.items ok)
+    subst (λ ok. GivesAll {H = g.row.H.Denot} (meaning g.H.Hub.begin_of g.H.Hub.step_of) c.args.server.now c.give.new.server
+    (g.D.Door.trace c.args.door.now) (g.D.Door.trace c.give.new.door) c.args.words.items ok)
     (sym (unok c.from_residual.result c.from_residual.ensures.0))
-    (subst (λ l. GivesAll (g.D.Door.trace c.args.door.now) (g.D.Door.trace c.give.new.door) l _)
+    (subst (λ l. GivesAll {H = g.row.H.Denot} (meaning g.H.Hub.begin_of g.H.Hub.step_of) c.args.server.now c.give.new.server
+    (g.D.Door.trace c.args.door.now) (g.D.Door.trace c.give.new.door) l _)
     (ap (λ l. c.loop-word.yielded ++ l) (sym c.in-Some.ensures.steps.0) ∙ c.loop-word.invariant.are)
-    (gives_short (g.D.Door.trace c.args.door.now) (g.D.Door.trace c.loop-word.door) (g.D.Door.trace c.give.new.door) c.loop-word.yielded
+    (gives_short {H = g.row.H.Denot} {Job = g.row.H-Job.Denot} (meaning g.H.Hub.begin_of g.H.Hub.step_of) c.args.server.now c.loop-word.server
+    c.give.new.server (g.D.Door.trace c.args.door.now) (g.D.Door.trace c.loop-word.door) (g.D.Door.trace c.give.new.door) c.loop-word.yielded
     (c.in-Some.word ∷ [])
     (into_iter_items c.next.new.self) c.loop-word.invariant.given c.in_err-give.ensures.given))
+
+pub returns-in_err-give-clause-ended : goal.returns-in_err-give-clause-ended
+returns-in_err-give-clause-ended g c = c.give.ensures.ended ∙ c.loop-word.invariant.ended
 
 pub returns-in_err-give-clause-others_unchanged : goal.returns-in_err-give-clause-others_unchanged
 returns-in_err-give-clause-others_unchanged g c = c.in_err-give.ensures.others_unchanged ∙ c.loop-word.invariant.still
@@ -55,7 +67,11 @@ returns-in_err-give-clause-cause g c =
 pub returns-clause-given : goal.returns-clause-given
 returns-clause-given g c =
     let all : c.loop-word.yielded ≡ c.args.words.items = grind (arith, common_steps) in
-    subst (λ l. GivesAll (g.D.Door.trace c.args.door.now) (g.D.Door.trace c.loop-word.door) l true) all c.loop-word.invariant.given
+    subst (λ l. GivesAll {H = g.row.H.Denot} (meaning g.H.Hub.begin_of g.H.Hub.step_of) c.args.server.now c.loop-word.server
+    (g.D.Door.trace c.args.door.now) (g.D.Door.trace c.loop-word.door) l true) all c.loop-word.invariant.given
+
+pub returns-clause-ended : goal.returns-clause-ended
+returns-clause-ended g c = c.loop-word.invariant.ended
 
 pub returns-clause-others_unchanged : goal.returns-clause-others_unchanged
 returns-clause-others_unchanged g c = c.loop-word.invariant.still

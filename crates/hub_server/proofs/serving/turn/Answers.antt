@@ -30,7 +30,7 @@ returns-in_err-heard-clause-cause g c =
 pub returns-in_err-words-clause-served : goal.returns-in_err-words-clause-served
 returns-in_err-words-clause-served g c =
     same_served c.from_residual-in_err-words.result fault.NoMemory c.from_residual-in_err-words.ensures.1
-    (served_ended {H = g.row.H.Denot} {Job = g.row.H-Job.Denot} (meaning g.H.Hub.begin_of g.H.Hub.step_of) c.args.server.now c.step.new.self
+    (served_ended {H = g.row.H.Denot} {Job = g.row.H-Job.Denot} (meaning g.H.Hub.begin_of g.H.Hub.step_of) c.args.server.now c.step.new.self c.step.new.self
     (outside (g.K.Keeper.holds c.args.keeper.now) (g.K.Keeper.answers c.args.keeper.now) (g.K.Keeper.faults c.args.keeper.now)
     (g.L.Lots.drawn c.args.lots.now) (g.L.Lots.faults c.args.lots.now))
     (outside (g.K.Keeper.holds c.step.new.keeper) (g.K.Keeper.answers c.step.new.keeper) (g.K.Keeper.faults c.step.new.keeper)
@@ -54,7 +54,7 @@ returns-in_err-words-clause-cause g c =
 
 pub returns-clause-served : goal.returns-clause-served
 returns-clause-served g c =
-    served_answer {H = g.row.H.Denot} {Job = g.row.H-Job.Denot} (meaning g.H.Hub.begin_of g.H.Hub.step_of) c.args.server.now c.step.new.self
+    served_answer {H = g.row.H.Denot} {Job = g.row.H-Job.Denot} (meaning g.H.Hub.begin_of g.H.Hub.step_of) c.args.server.now c.step.new.self c.give_all.new.server
     (outside (g.K.Keeper.holds c.args.keeper.now) (g.K.Keeper.answers c.args.keeper.now) (g.K.Keeper.faults c.args.keeper.now)
     (g.L.Lots.drawn c.args.lots.now) (g.L.Lots.faults c.args.lots.now))
     (outside (g.K.Keeper.holds c.step.new.keeper) (g.K.Keeper.answers c.step.new.keeper) (g.K.Keeper.faults c.step.new.keeper)

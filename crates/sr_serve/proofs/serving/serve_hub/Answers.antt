@@ -1,8 +1,7 @@
-use Rattle.std.proofs.Common.{◌≡◌, ◌∙◌, sym, refl, inl, inr, ⊎_elim, ap, Some, None, Err}
+use Rattle.std.proofs.Common.{◌≡◌, refl, inl, inr, ⊎_elim, ap, Some, None, Err}
 use Rattle.std.proofs.lemmas.Result.{err_from_is_err_and}
-use Rattle.hub_server.specs.Steps.{outside}
 use Rattle.sr_serve.specs.declared.serving.ServeError.TheVariants as end
-use Rattle.sr_serve.specs.Serving.{error_of_server, environment}
+use Rattle.sr_serve.specs.Serving.{error_of_server}
 use Rattle.sr_serve.proofs.Served.{counted_by, not_keeper, not_write, serves_by, serving_failed}
 use Rattle.sr_serve.proofs.serving.serve_hub.Goals as goal
 
@@ -31,7 +30,7 @@ returns-in_err-serve-clause-ends g c =
     let rows = c.in_ok-rows.ensures in
     let kept = counted_by c.in_ok-rows.rows _ _ _ _ _ _ (g.L.Lots.drawn c.args.lots.now) (g.L.Lots.faults c.args.lots.now) rows.unchanged rows.noted rows.cause in
     rw (p.1, p.2) (serving_failed c.args.base c.args.resend c.args.live c.args.turns _ _ c.in_err-serve.field-0.0
-    (serves_by c.servers_are_peers.ensures c.delivery_over_bytes.ensures c.args.base c.args.resend c.args.live c.args.turns c.in_ok-rows.rows (Some c.in_err-serve.field-0.0) _ _ _ _ _ rows.count
+    (serves_by c.delivery_over_bytes.ensures c.args.base c.args.resend c.args.live c.args.turns c.in_ok-rows.rows (Some c.in_err-serve.field-0.0) _ _ _ _ _ rows.count
     c.in_ok-tell_rows.ensures.told kept c.in_ok-server.ensures c.in_err-serve.ensures.served)
     (c.in_ok-tell_rows.ensures.unfailed (λ is. cc)) c.in_err-serve.ensures.cause)
 
@@ -52,7 +51,7 @@ pub returns-clause-ends : goal.returns-clause-ends
 returns-clause-ends g c =
     let rows = c.in_ok-rows.ensures in
     let kept = counted_by c.in_ok-rows.rows _ _ _ _ _ _ (g.L.Lots.drawn c.args.lots.now) (g.L.Lots.faults c.args.lots.now) rows.unchanged rows.noted rows.cause in (
-      serves_by c.servers_are_peers.ensures c.delivery_over_bytes.ensures c.args.base c.args.resend c.args.live c.args.turns c.in_ok-rows.rows None _ _ _ _ _ rows.count
+      serves_by c.delivery_over_bytes.ensures c.args.base c.args.resend c.args.live c.args.turns c.in_ok-rows.rows None _ _ _ _ _ rows.count
           c.in_ok-tell_rows.ensures.told kept c.in_ok-server.ensures c.in_ok-serve.ensures.served,
       c.in_ok-tell_rows.ensures.unfailed (λ is. cc),
       c.in_ok-serve.ensures.cause,

@@ -48,6 +48,7 @@ returns g c = record {
         waits = is_ready.come.waits;
         last = is_ready.come.last;
         unrefused = is_ready.come.unrefused;
+        empty = is_ready.come.empty;
         nobody = λ c. is_ready.come.nobody c;
       } in
       let waits = come_moved at c.args.at.is_last fed.after h2 moved has_come in

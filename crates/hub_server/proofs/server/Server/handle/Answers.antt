@@ -5,7 +5,7 @@ use Rattle.hub_server.specs.Lanes.{lane_of, settled}
 use Rattle.hub_server.specs.Servers.{Standing}
 use Rattle.hub_server.specs.Steps.{Handles, outside, lost_in}
 use Rattle.hub_server.specs.Events.{HasHeardBytes}
-use Rattle.hub_server.proofs.OutcomeEvents.{heard_bytes, heard_nothing, heard_refusal, heard_response, heard_upgrade, lost_lane}
+use Rattle.hub_server.proofs.OutcomeEvents.{heard_bytes, heard_drain, heard_nothing, heard_refusal, heard_response, heard_upgrade, lost_lane}
 use Rattle.hub_server.proofs.server.Server.handle.Goals as goal
 
 pub returns-in-Bytes : goal.returns-in-Bytes
@@ -61,6 +61,16 @@ returns-in-Upgraded g c s before h st rests can none =
     (heard_upgrade {H = g.row.H.Denot} {Job = g.row.H-Job.Denot} hub s before c.args.self.now at
     h c.in-Upgraded.lane (subst (λ e. Standing {H = g.row.H.Denot} {Job = g.row.H-Job.Denot} hub s (lane_of (lost_in e)) before c.args.self.now h)
     c.in-Upgraded.is st))
+
+pub returns-in-Drained : goal.returns-in-Drained
+returns-in-Drained g c s before h st rests can none =
+    let hub = meaning g.H.Hub.begin_of g.H.Hub.step_of in
+    let at = outside (g.K.Keeper.holds c.args.keeper.now) (g.K.Keeper.answers c.args.keeper.now) (g.K.Keeper.faults c.args.keeper.now)
+    (g.L.Lots.drawn c.args.lots.now) (g.L.Lots.faults c.args.lots.now) in
+    subst (λ e. Handles {H = g.row.H.Denot} {Job = g.row.H-Job.Denot} hub s before c.args.self.now at at e h) (sym c.in-Drained.is)
+    (heard_drain {H = g.row.H.Denot} {Job = g.row.H-Job.Denot} hub s before c.args.self.now at
+    h c.in-Drained.lane (subst (λ e. Standing {H = g.row.H.Denot} {Job = g.row.H-Job.Denot} hub s (lane_of (lost_in e)) before c.args.self.now h)
+    c.in-Drained.is st))
 
 pub returns : goal.returns
 returns g c s before h st rests can none =
