@@ -18,16 +18,6 @@ pub fn text_in(value: &Value) -> Result<Option<Text>, AllocError>
     }
 }
 
-/// A copy of the list that the value is, if it is one.
-pub fn items_in(value: &Value) -> Result<Option<Items>, AllocError>
-    ensures { IfOk result (λ o. o ≡ items_of (tree value.now)) }
-{
-    match value {
-        Value::List(items) => Ok(Some(items.copy()?)),
-        _ => Ok(None),
-    }
-}
-
 /// The whole number from 0 to 2^64 - 1 that the value is, if it is one.
 pub fn number_in(value: &Value) -> Option<u64>
     ensures { result ≡ number_of (tree value.now) }

@@ -32,8 +32,7 @@ mod laws;
 mod message;
 
 pub use fields::{
-    headers_in, into_headers, into_items, into_text, into_texts, items_in, number_in, text_in,
-    texts_in,
+    headers_in, into_headers, into_items, into_text, into_texts, number_in, text_in, texts_in,
 };
 pub use headers::Headers;
 pub use kind::Kind;

@@ -1,11 +1,10 @@
 //! The jobs of hubs: what each does at its turns.
 
 use crate::report::push_act;
-use crate::words::{text, value};
+use crate::words::{call_kind, ending, text, value};
 use hd_calls::{Act, Call, CallKind, Input};
 use hj_jobs::Hub;
 use ht_kit::{Stop, count_of_32_bits, first_word, number};
-use ht_words::{call_kind, ending};
 use hub_calc::{
     CalcHub, ClientHub, clients_answer, methods_do_their_work, nothing_is_handed_up, only_ask_asks,
     refusals_have_an_order, sums_add_up,
@@ -167,7 +166,7 @@ fn input(alloc: Global, words: &str) -> Result<Input, Stop> {
         }),
         "uploaded" => Ok(stream_end(None)),
         "broken" => Ok(stream_end(Some(text(alloc, rest)?))),
-        "asked" => Ok(Input::Asked(ending(alloc, rest, value)?)),
+        "asked" => Ok(Input::Asked(ending(alloc, rest)?)),
         "done" => Ok(Input::Done(value(alloc, rest)?)),
         "failed" => Ok(Input::Failed),
         _ => Err(Stop::Refused),
