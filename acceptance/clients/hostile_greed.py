@@ -17,7 +17,7 @@ import threading
 import time
 
 from hostile_http import LATE, NEGOTIATE, SILENCE
-from raw import Ended, Hub, Raw
+from raw import PING_TEXT, Ended, Hub, Raw
 from serving import Serving
 
 MIB = 1_024  # KiB
@@ -215,8 +215,8 @@ def descriptors(server):
 
 
 def never_reading(server):
-    """Clients that read nothing: of streams, for which they are cut off, and of answers, until some wait at the server; then they say
-    Close. The lanes end though nobody reads what is left, and nobody closes them."""
+    """Clients that read nothing, but say Pings: of streams, which wait for them until they are cut off; and of answers, until some wait at the
+    server; then they say Close. The lanes end though nobody reads what is left, and nobody closes them."""
     had = descriptors(server)
     deaf = [deaf_client(server.port, STREAMS) for _ in range(16)]
     ending = [deaf_client(server.port, []) for _ in range(12)]
@@ -225,12 +225,13 @@ def never_reading(server):
         client.say('{"type":7}')
     time.sleep(5)
     waited, began = descriptors(server) - had, time.monotonic()
-    while descriptors(server) > had and time.monotonic() < began + SILENCE + LATE - 5:
-        time.sleep(0.1)
+    while descriptors(server) > had and time.monotonic() < began + 2 * SILENCE + LATE:
+        time.sleep(1)
+        ping_all(deaf)
     open_ones = descriptors(server) - had
     for client in deaf + ending:
         client.close()
-    return f"{'lanes' if waited >= len(ending) else waited} wait, and {open_ones} after half a minute"
+    return f"{'lanes' if waited >= len(ending) else waited} wait, and {open_ones} after a minute"
 
 
 def fill(port, clients):
@@ -257,6 +258,12 @@ def queued(port):
             if int(ours.split(":")[1], 16) == port:
                 queues[int(theirs.split(":")[1], 16)] = int(sizes.split(":")[0], 16)
     return queues
+
+
+def ping_all(clients):
+    for client in clients:
+        with contextlib.suppress(OSError):
+            client.say(PING_TEXT)
 
 
 STREAMS = ['{"type":4,"invocationId":"%d","target":"Count","arguments":[1000000]}' % n for n in range(8)]
@@ -316,4 +323,4 @@ GREEDY_CASES = [
     ("300 members without a socket, and 90,000 bytes for each", f"None, one copy, {{(3, 1000)}}, {FINE}", *members_away(300)),
     ("10,000 tokens that nobody uses", f"[200], 5, {FINE}", *flood(10_000)),
 ]
-SLOW_GREEDY_CASES = [("28 clients that never read", f"lanes wait, and 0 after half a minute, {FINE}", never_reading, 0)]
+SLOW_GREEDY_CASES = [("28 clients that never read", f"lanes wait, and 0 after a minute, {FINE}", never_reading, 0)]

@@ -63,22 +63,31 @@ def with_the_upgrade(port):
 
 
 def never_reads(port):
-    """A client calls and calls, and reads no answer: it is cut off, and others are served meanwhile."""
-    deaf, other = Hub(port), Hub(port)
-    other.shake()
+    """A client calls and calls, and reads no answer: soon it has said as much as is kept for it, no more is read, and half a minute later it is
+    cut off. Others are served meanwhile."""
+    began = time.monotonic()
+    deaf = Hub(port, timeout=SILENCE + LATE)
     deaf.socket.setsockopt(socket.SOL_SOCKET, socket.SO_RCVBUF, 4_096)
     deaf.send(frame(TEXT, HANDSHAKE))
-    echo = frame(TEXT, record('{"type":1,"invocationId":"1","target":"Echo","arguments":["%s"]}' % ("x" * 30_000)))
     for number in range(1, 1_000):
+        call = '{"type":1,"invocationId":"%d","target":"Echo","arguments":["%s"]}' % (number, "x" * 30_000)
         try:
-            deaf.send(echo)
+            deaf.send(frame(TEXT, record(call)))
         except socket.timeout:
-            return "not read any more"
+            return "not cut off"
         except OSError:
-            return f"cut off, {other.call('Add', 2, 3).get('result')}"
-        if number % 10 == 0 and other.call("Add", 1, 1).get("result") != 2:
-            return "the other isn't served"
-    return "never cut off"
+            return f"cut off {on_time(began)}"
+        if number % 10 == 0 and not is_served(port):
+            return "another isn't served"
+    return "all is read"
+
+
+def is_served(port):
+    other = Hub(port)
+    other.shake()
+    result = other.call("Add", 1, 1).get("result")
+    other.close()
+    return result == 2
 
 
 def only_socket_pings(port):
@@ -102,9 +111,12 @@ def only_upgraded(port):
 
 def closed_on_time(hub, began):
     status, end = hub.closing()
+    return f"{status}, {end} {on_time(began)}"
+
+
+def on_time(began):
     took = time.monotonic() - began
-    on_time = SILENCE - 0.5 <= took <= SILENCE + LATE
-    return f"{status}, {end} {'on time' if on_time else f'after {took:.1f} s'}"
+    return "on time" if SILENCE - 0.5 <= took <= SILENCE + LATE else f"after {took:.1f} s"
 
 
 SOCKET_CASES = [
@@ -145,10 +157,10 @@ SOCKET_CASES = [
     ("frames after a close", "1000, ended", closed(frame(CLOSE, b"\x03\xe8") + frame(TEXT, HANDSHAKE))),
     ("a frame in single bytes", "{}", single_bytes),
     ("a frame that comes with the upgrade", "101, {}", with_the_upgrade),
-    ("a client that never reads", "cut off, 5", never_reads),
 ]
 
 SLOW_SOCKET_CASES = [
     ("a socket that says nothing", "1000, ended on time", only_upgraded),
     ("a socket's pings alone", "1000, ended on time", only_socket_pings),
+    ("a client that calls and never reads", "cut off on time", never_reads),
 ]

@@ -36,10 +36,14 @@ def frame(opcode, payload=b"", fin=True, masked=True, reserved=0, size=None):
 
 
 class Raw:
-    """A TCP connection to the server."""
+    """A TCP connection to the server, for which the system holds about `unread` bytes that nobody has read."""
 
-    def __init__(self, port, timeout=TIMEOUT):
-        self.socket = socket.create_connection((HOST, port), timeout=timeout)
+    def __init__(self, port, timeout=TIMEOUT, unread=None):
+        self.socket = socket.socket()
+        self.socket.settimeout(timeout)
+        if unread:
+            self.socket.setsockopt(socket.SOL_SOCKET, socket.SO_RCVBUF, unread)
+        self.socket.connect((HOST, port))
         self.socket.setsockopt(socket.IPPROTO_TCP, socket.TCP_NODELAY, 1)
         self.host = f"{HOST}:{port}"
         self.rest = b""
@@ -143,8 +147,8 @@ def record(text):
 class Hub(Raw):
     """A socket of the hub, whose frames are JSON. They are read one by one, in whatever messages they came."""
 
-    def __init__(self, port, target="/hub", timeout=TIMEOUT, fields=()):
-        super().__init__(port, timeout)
+    def __init__(self, port, target="/hub", timeout=TIMEOUT, fields=(), unread=None):
+        super().__init__(port, timeout, unread)
         self.frames = deque()
         self.status = self.upgrade(target, fields=fields)
 

@@ -7,6 +7,7 @@ import socket
 import subprocess
 import sys
 import tempfile
+import threading
 
 HOST = "127.0.0.1"
 PORTS = range(10_000, 32_768)  # Linux gives connections those from 32,768 on
@@ -14,6 +15,8 @@ START = 60  # seconds until it serves
 TURNS = 50_000_000  # it ends by itself some day, should the test be killed
 MOST_LIVE = 10_000  # connections, if --live doesn't say
 OTHER_DESCRIPTORS = 64  # of a server, beside those of its connections
+# a process that is begun has the port that another thread looks at until it is the program
+BEGINNING = threading.Lock()
 
 
 def free_port():
@@ -41,11 +44,12 @@ class Serving:
         self.program, self.options, self.address_space = program, options, address_space
 
     def __enter__(self):
-        self.port = free_port()
-        self.base = f"http://{HOST}:{self.port}/hub"
         self.errors = tempfile.TemporaryFile()
-        command = [self.program, "serve", "--port", str(self.port), "--turns", str(TURNS), *self.options]
-        self.process = subprocess.Popen(command, stdout=subprocess.PIPE, stderr=self.errors)
+        with BEGINNING:
+            self.port = free_port()
+            command = [self.program, "serve", "--port", str(self.port), "--turns", str(TURNS), *self.options]
+            self.process = subprocess.Popen(command, stdout=subprocess.PIPE, stderr=self.errors)
+        self.base = f"http://{HOST}:{self.port}/hub"
         if self.address_space:
             resource.prlimit(self.process.pid, resource.RLIMIT_AS, (self.address_space * 1_024,) * 2)
         ready, _, _ = select.select([self.process.stdout], [], [], START)
