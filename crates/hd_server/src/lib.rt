@@ -9,8 +9,8 @@
 //! - `Plans`, `Serves`: what a server does at one event (`IsTurn`), and at any list of events (`Serves`).
 //! - `Serving`: how long it lets its door wait, and what it gives it to say (`ServesOn`).
 //!
-//! Proved (`Laws`): each connection of a server does what a peer can do by itself; after an event nothing is due on a socket or a held
-//! poll; at most as many connections live as the server was begun with; each request has at most one reply, and none waits for one but
+//! Proved (`Laws`): each connection of a server does what a peer can do by itself; after an event nothing is due on a socket
+//! whose lane isn't full, or a held poll; at most as many connections live as the server was begun with; each request has at most one reply, and none waits for one but
 //! held polls; a deed is told to each member once, by what its end can send; a connection is in 256 groups at most; a socket that names a
 //! token is answered by its life; a moment that has come comes once;
 //! the body of a poll is bounded if its frames are; an idle tick changes nothing that is said or read then. The rows of the table and

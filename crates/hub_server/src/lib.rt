@@ -3,6 +3,7 @@
 //! ```text
 //! let mut server = Server::start(alloc, base, ResendLimits::usual())?;     // no connections yet; `base` is a path, such as `/hub`
 //! let said = server.step(alloc, heard, &hub, &mut keeper, &mut lots)?;     // an event is heard, and this is said of it
+//! server.note_sent(lane, door.send(lane, bytes, text)?);                   // of each message of it: whether its lane is full now
 //! serve(alloc, &mut server, &hub, &mut door, &mut keeper, &mut lots, 1000)?;   // the same for a thousand events of a door
 //! ```
 //!

@@ -10,7 +10,9 @@
 //! let heard = door.next(wait)?;                     // waits for at most so many milliseconds
 //! match heard.event {
 //!     Event::Request { lane, request } => door.reply(lane, reply_to(request))?,
-//!     Event::Bytes { lane, bytes } => door.send(lane, answer_to(bytes), true)?,
+//!     Event::Bytes { lane, bytes } => {
+//!         let full = door.send(lane, answer_to(bytes), true)?;     // if it is, send no more until `Event::Drained { lane }`
+//!     }
 //!     ..
 //! }
 //! ```
