@@ -47,6 +47,7 @@ use hm_codec::{FrameWhy, frame_is_of_image, framing};
 use hm_message::{Codec, Message, Read, image_is_its_image, message_image_is_as_deep};
 use hq_resend::{Frame, Limits, PushError};
 use hs_shake::{Shake, ShakeError, response};
+use json::Scratch;
 use std::alloc::{AllocError, Global};
 
 /// One end of a hub connection, across its links.
@@ -190,11 +191,28 @@ impl End {
         ensures failed { IfErr result (Fails self.old self.new) }
         ensures limits { limits_of self.new ≡ limits_of self.old }
     {
+        let mut scratch = Scratch::new(alloc);
+        self.next_in(alloc, &mut scratch)
+    }
+
+    /// [`End::next`] for whoever reads many frames: the reader of JSON works in `scratch`, whose 16 KB are cleared when it is made and
+    /// not again. What it holds counts for nothing, before and after, so one serves all ends of a thread; it keeps room for the longest
+    /// frame that was read with it.
+    pub fn next_in(
+        &mut self,
+        alloc: Global,
+        scratch: &mut Scratch,
+    ) -> Result<Option<Got>, NextError>
+        ensures ok { IfOk result (Gives self.old self.new) }
+        ensures fits { IfOk result (λ next. IfSome next HasFit) }
+        ensures failed { IfErr result (Fails self.old self.new) }
+        ensures limits { limits_of self.new ≡ limits_of self.old }
+    {
         if !self.is_reading() {
             return Ok(None);
         }
         if self.session.agreed.is_some() {
-            self.next_frame(alloc)
+            self.next_frame(alloc, scratch)
         } else {
             self.next_handshake(alloc)
         }
@@ -364,7 +382,7 @@ impl End {
     }
 
     /// Reads a frame after the handshake.
-    fn next_frame(&mut self, alloc: Global) -> Result<Option<Got>, NextError>
+    fn next_frame(&mut self, alloc: Global, scratch: &mut Scratch) -> Result<Option<Got>, NextError>
         requires reading { IsReading self.old }
         requires shaken { is_some self.old.session.agreed ≡ true }
         ensures ok { IfOk result (Gives self.old self.new) }
@@ -375,7 +393,7 @@ impl End {
         facts_hold();
         next_is_read();
         wire_is_sound();
-        match read_wire_message(alloc, self.session.codec, &self.splitter) {
+        match read_wire_message(alloc, self.session.codec, scratch, &self.splitter) {
             Ok(None) => Ok(None),
             Ok(Some(read)) => match self.take(read) {
                 Ok(got) => Ok(Some(got)),

@@ -10,7 +10,8 @@
 //! ```
 //!
 //! There are four kinds of calls: what you tell it ([`End::attach`], `detach`, `feed`, `tick`, `close`), what you ask of it
-//! ([`End::send`], [`End::send_shared`] of what [`spell`] gave), what it tells you ([`End::next`], [`End::next_out`]), and getters.
+//! ([`End::send`], [`End::send_shared`] of what [`spell`] gave), what it tells you ([`End::next`] or [`End::next_in`],
+//! [`End::next_out`]), and getters.
 //!
 //! ```text
 //! end.attach(now)?;                                  // a link begins
@@ -28,7 +29,8 @@
 //! end.detach(now);                                   // the link is lost
 //! ```
 //!
-//! Memory is taken by `start`, `next`, `send` and `spell` alone, and by `send_shared` for a further owner of its frame.
+//! Memory is taken by `start`, `next`, `next_in`, `send` and `spell` alone, and by `send_shared` for a further owner of its
+//! frame.
 //!
 //! Proved: an end stands for its history (`specs/Stands.antt`), of which `hd_delivery` speaks. Each call makes the step that is
 //! named in its contract, or leaves the history as it was: `next` gives what the next frame makes and `next_out` what is due. So

@@ -11,6 +11,9 @@ use std::alloc::{AllocError, Global};
 use std::marker::Model;
 use std::sync::ledger::{Blank, Book, Ledger, Share};
 
+/// Most frames have fewer bytes: for these the vector in which they are written takes its memory once.
+const USUAL_FRAME: usize = 256;
+
 /// How many messages were spelled. It takes no bytes, and only [`spell`] counts.
 #[derive(Drop)]
 pub struct Steps<L: Ledger> {
@@ -94,7 +97,7 @@ pub(crate) fn frame_of(alloc: Global, codec: Codec, message: &Message) -> Result
     ensures { IfOk result (λ frame. IsSpelled codec message.now frame) }
 {
     frame_is_of_image();
-    let mut bytes = Vec::new(alloc);
+    let mut bytes = Vec::with_capacity(alloc, USUAL_FRAME)?;
     write_message(alloc, codec, message, &mut bytes)?;
     let frame = Frame::of(alloc, &bytes)?;
     Ok(frame)

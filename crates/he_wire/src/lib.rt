@@ -4,18 +4,19 @@
 //! splitter. What it says of itself it writes on a [`ControlBuffer`], which takes no memory after its start.
 //!
 //! ```text
-//! match read_first(alloc, side, &splitter)? {      // once, on the first link
+//! match read_handshake(alloc, side, &splitter)? {  // once, on the first link
 //!     None => { .. }                              // feed the splitter more
-//!     Some(greeting) => { ..; splitter.pass(); splitter.reframe(hm_codec::framing(codec)); }
+//!     Some(handshake) => { ..; splitter.pass(); splitter.reframe(hm_codec::framing(codec)); }
 //! }
-//! match read_later(alloc, codec, &splitter) {
+//! let mut scratch = Scratch::new(alloc);          // of `json`: one for all links of a thread
+//! match read_wire_message(alloc, codec, &mut scratch, &splitter) {
 //!     Ok(None) => { .. }                          // feed the splitter more
 //!     Ok(Some(read)) => { ..; splitter.pass(); }
 //!     Err(LinkFault::Refused { at, why }) => { .. }
 //!     Err(LinkFault::NoMemory) => { .. }          // the frame still stands there
 //! }
-//! slate.write(codec, Control::Ack { upto });
-//! // slate.bytes() is what to put on the link
+//! control_buffer.write(codec, Control::Ack { upto });
+//! // control_buffer.bytes() is what to put on the link
 //! ```
 //!
 //! The theorem on two ends over bytes (`hd_delivery`) speaks of any wire: functions that spell frames and read them.

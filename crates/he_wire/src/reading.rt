@@ -10,9 +10,10 @@ ghost use Rattle.he_wire.specs.Gives.{Begins, GivesLater, GivesFirst, TellsWireL
 use crate::laws::reads_once;
 use hd_delivery::Side;
 use hf_split::{SplitFault, Splitter};
-use hm_codec::{FrameError, FrameWhy, read_message};
+use hm_codec::{FrameError, FrameWhy, read_message_in};
 use hm_message::{Codec, Read};
 use hs_shake::{Shake, ShakeError, read_request, read_response};
+use json::Scratch;
 use std::alloc::Global;
 use std::error::Error;
 use std::fmt;
@@ -115,9 +116,13 @@ impl From<ShakeError> for HandshakeFault {
 ///
 /// The splitter cuts in the codec's framing, else nothing is said of the answer. A place is a number of bytes of the link, as
 /// [`Splitter::place`] gives it. After `NoMemory` the same call may succeed.
+///
+/// `scratch` is the memory of the reader of JSON. What it holds counts for nothing, so one serves all links of a thread; it keeps
+/// room for the longest frame that was read with it.
 pub fn read_wire_message(
     alloc: Global,
     codec: Codec,
+    scratch: &mut Scratch,
     splitter: &Splitter,
 ) -> Result<Option<Read>, LinkFault>
     ensures reads { splitter.now.framing ≡ framing_of codec → GivesLater codec splitter.now result }
@@ -129,7 +134,7 @@ pub fn read_wire_message(
     let at = splitter.place();
     match splitter.frame() {
         Ok(None) => Ok(None),
-        Ok(Some((_, frame))) => match read_message(alloc, codec, frame) {
+        Ok(Some((_, frame))) => match read_message_in(alloc, codec, scratch, frame) {
             Ok(read) => Ok(Some(read)),
             Err(FrameError::Refused(why)) => Err(LinkFault::Refused { at, why }),
             Err(FrameError::NoMemory) => Err(LinkFault::NoMemory),

@@ -25,6 +25,7 @@ use hi_calls::ids_are_of_a_side;
 use hj_jobs::{AcceptError, Hub, InputError};
 use hm_message::{Ending, Headers, Message, values_are_trees};
 use hv_value::{Items, Text, Texts, Value};
+use json::Scratch;
 use std::alloc::{AllocError, Global};
 
 impl<H: Hub> Peer<H> {
@@ -39,11 +40,29 @@ impl<H: Hub> Peer<H> {
         ensures turns { self.new.stalled ≡ self.old.stalled }
         ensures whole { self.new.jobs.prepared ≡ self.old.jobs.prepared }
     {
+        let mut scratch = Scratch::new(alloc);
+        self.take_in(alloc, &mut scratch, hub, now)
+    }
+
+    /// [`Peer::take`] for whoever serves many peers: the reader of JSON works in `scratch`, as [`End::next_in`](he_end::End::next_in) has it.
+    /// What it holds counts for nothing, before and after, so one serves all peers of a thread.
+    pub fn take_in(
+        &mut self,
+        alloc: Global,
+        scratch: &mut Scratch,
+        hub: &H,
+        now: u64,
+    ) -> Result<Option<Did>, PeerError>
+        ensures ok { IfOk result (λ told. OfEach (meaning H.begin_of H.step_of) self.old (λ t h. Takes (meaning H.begin_of H.step_of) t h self.new now told)) }
+        ensures refused { IfErr result (λ e. OfEach (meaning H.begin_of H.step_of) self.old (λ t h. IsUntaken (meaning H.begin_of H.step_of) t h self.new e)) }
+        ensures turns { self.new.stalled ≡ self.old.stalled }
+        ensures whole { self.new.jobs.prepared ≡ self.old.jobs.prepared }
+    {
         wire_is_sound();
         if let Some(message) = self.waiting.take() {
             return Ok(Some(self.handle(alloc, hub, now, message)?));
         }
-        match self.end.next(alloc) {
+        match self.end.next_in(alloc, scratch) {
             Ok(None) => Ok(None),
             Ok(Some(got)) => match got {
                 Got::Message(message) => Ok(Some(self.handle(alloc, hub, now, message)?)),

@@ -1,9 +1,9 @@
 //! A peer: one end of a hub connection with the calls that its side makes and the jobs of the calls that come (HubProtocol.md of ASP.NET
 //! Core, "Invocations", "Streaming", "Upload streaming").
 //!
-//! There are four kinds of calls: those of its end ([`Peer::attach`], `detach`, `feed`, `tick`, `close`, `next_out`), what its user asks of it
-//! ([`Peer::call`], `cancel`, `upload_item`, `upload_end`, `send_spelled`), what comes ([`Peer::take`]), what its jobs want
-//! (`begin_round`, [`Peer::step_job`], `answer`, `due`), and what is lost with a closed end (`lost_call`).
+//! There are five kinds of calls: those of its end ([`Peer::attach`], `detach`, `feed`, `tick`, `close`, `next_out`), what its user asks of it
+//! ([`Peer::call`], `cancel`, `upload_item`, `upload_end`, `send_spelled`), what comes ([`Peer::take`] or [`Peer::take_in`]), what its jobs
+//! want (`begin_round`, [`Peer::step_job`], `answer`, `due`), and what is lost with a closed end (`lost_call`).
 //!
 //! ```text
 //! peer.attach(now)?;                                     // a link begins
