@@ -1,5 +1,5 @@
 -- No request is refused with 405 whose method a 405 of its path allows.
-use Rattle.std.proofs.Common.{◌≡◌, ℕ, Bool, true, false, List, [], ◌∷◌, ◌++◌, length, length-append, arith, refl, sym, ap, ◌∙◌}
+use Rattle.std.proofs.Common.{◌≡◌, ℕ, Bool, true, false, List, [], ◌∷◌, ◌++◌, length, length-append, arith, refl, ap}
 use Rattle.std.specs.Prelude.{◌==◌, not, ◌&&◌, ◌||◌, codes}
 use Rattle.std.proofs.lemmas.Bool.{and_parts, both_ways, eq-eqb}
 use Rattle.hm_message.specs.Same.{same_text}
@@ -9,7 +9,7 @@ use Rattle.hw_lanes.specs.declared.http.ReplyField.TheVariants.{AllowPost}
 use Rattle.hw_lanes.specs.declared.http.Request.{Request}
 use Rattle.hd_server.specs.declared.vocabulary.Life.{Life}
 use Rattle.hd_server.specs.declared.vocabulary.Life.TheVariants.{Unknown, Fresh, Socket, Lost, Polling, Ending}
-use Rattle.hd_server.specs.Table.{Facts, Outcome, Refusal, is_base, is_negotiate, is_socket, has_id, has_version, same_method, is_entry, is_unauthorized, is_keepers_fault, socket_outcome, poll_outcome, post_outcome, delete_outcome, method_outcome, outcome}
+use Rattle.hd_server.specs.Table.{Outcome, Refusal, is_base, is_negotiate, is_socket, has_id, has_version, same_method, is_entry, is_unauthorized, is_keepers_fault, socket_outcome, poll_outcome, post_outcome, delete_outcome, method_outcome}
 use Rattle.hd_server.specs.Plans.{allowed_at}
 use Rattle.hd_server.specs.Laws.{AllowedAreServed, allows}
 use Rattle.hd_server.proofs.OrderlyPlans.{row}

@@ -1,9 +1,8 @@
 -- What one connection says changes nothing of another, and leaves nothing due on its socket.
 use Rattle.std.proofs.Common.{inl, inr, ⊎_elim, refl, ap, subst, sym, ◌∙◌, ◌≡◌, ℕ, Bool, true, false, List, [], ◌∷◌, ◌++◌, Option, Some, None, suc, zero, arith, ◌<◌, ◌≤◌}
 use Rattle.std.specs.Prelude.{◌⊎◌, not, ◌&&◌, ◌||◌, ◌==◌, filter, is_some, option_map, nat_le, max, ◌+◌, if◌then◌else◌}
-use Rattle.std.proofs.lemmas.Bool.{leb-true, leb-false, and_parts, or_parts, not-true, eqb-true, eq-eqb}
+use Rattle.std.proofs.lemmas.Bool.{leb-true, leb-false, and_parts, or_parts, or_right, not-true, eqb-true, eq-eqb}
 use Rattle.std.specs.Cmp.{nat_eq_equiv}
-use Rattle.hw_lanes.specs.declared.http.Reply.{Reply}
 use Rattle.hd_delivery.specs.Frames.{LinkFrame}
 use Rattle.hd_delivery.specs.Histories.{Lent, is_this}
 use Rattle.hd_delivery.specs.Due.{due}
@@ -11,12 +10,15 @@ use Rattle.hd_delivery.specs.Bytes.{Does as Step_of}
 use Rattle.hd_calls.specs.Peers.{PeerEvent, Plain, Settings}
 use Rattle.hd_server.specs.declared.vocabulary.Said.TheVariants as say
 use Rattle.hd_server.specs.Numbers.{held_for}
-use Rattle.hd_server.specs.Lives.{Negotiated, Opened, Socketed, Polled, Answered, LaneLost, Ended, Expired, Removed, socket_of, poll_of, is_polling, ended_at, numbers_to}
-use Rattle.hd_server.specs.Machine.{MachineEvent, Does, Goes, Connects, Rounds, Carries, moves, settings_of, has_gone, is_there, connections, greatest}
-use Rattle.hd_server.specs.Doings.{ServerEvent, Hears, Learns, Draws, Notes, Works, Says, Sees, notes, work, was_refused, is_full, peer, history_with, history, config_with, config_of, has_peer, has_closed}
-use Rattle.hd_server.specs.Plans.{Setup, onto, step, dropping, removing_conn, shutting, ends_lane, reply_on, replying, bare_reply, frames_reply}
-use Rattle.hd_server.specs.Serves.{lending, writing, all_of, bytes_of, is_text, flushing_socket, flushing_poll, flushing_some_poll, ending, flushing_on, flushing, all_flushing, AreDueBy, AreDueOn, AreDue, AreAllDue, LendsAll, LendsUpTo}
+use Rattle.hd_server.specs.Lives.{Polled, Answered, LaneLost, Ended, Removed, socket_of, poll_of, numbers_to}
+use Rattle.hd_server.specs.Machine.{MachineEvent, Does, Goes, Connects, moves, settings_of, has_gone, is_there, connections, greatest}
+use Rattle.hd_server.specs.Doings.{ServerEvent, Notes, Works, Says, notes, work, is_full, peer, history_with, history, config_with, config_of, has_peer, has_closed}
+use Rattle.hd_server.specs.Plans.{Setup, onto, step, removing_conn, shutting, replying, bare_reply, frames_reply}
+use Rattle.hd_server.specs.Serves.{lending, writing, all_of, bytes_of, is_text, flushing_socket, flushing_poll, ending, flushing_on, flushing, all_flushing, AreDueBy, AreDueOn, AreDue, AreAllDue, LendsAll, LendsUpTo}
+use Rattle.hd_server.specs.Parts.{Each, IsFlush}
 use Rattle.hd_server.specs.Laws.{is_full_some, NothingIsLeft}
+use Rattle.hd_server.proofs.Each.{either_way, each_join, each_when, each_replying, each_removing, each_ending, each_lending}
+use Rattle.hd_server.proofs.PartsOfTurns.{poll_flush, flushing_is}
 
 -- a connection is one of these
 abbrev pub is_in : ℕ → List ℕ → Bool
@@ -26,68 +28,6 @@ is_in c (k ∷ ks) = (c == k) || is_in c ks
 abbrev pub AreApart : List ℕ → Type 0
 AreApart [] = Unit {0}
 AreApart (c ∷ cs) = (is_in c cs ≡ false) × AreApart cs
-
--- ---- what a connection does when it tells
-
-abbrev pub Tells : ℕ → ServerEvent → Type 0
-Tells k (Works (Does c (Plain (Step_of (Lent f))))) = c ≡ k
-Tells k (Works (Goes c)) = c ≡ k
-Tells k (Notes (Answered c lane now)) = c ≡ k
-Tells k (Notes (Ended c now)) = c ≡ k
-Tells k (Notes (Removed c)) = c ≡ k
-Tells k (Says x) = Unit {0}
-Tells k _ = ⊥
-
-abbrev pub AllTell : ℕ → List ServerEvent → Type 0
-AllTell k [] = Unit {0}
-AllTell k (d ∷ ds) = Tells k d × AllTell k ds
-
-join_tell : (k : ℕ) (xs ys : List ServerEvent) → AllTell k xs → AllTell k ys → AllTell k (xs ++ ys)
-join_tell k [] ys a b = b
-join_tell k (x ∷ xs) ys a b = (a.0, join_tell k xs ys a.1 b)
-
-either_tell : (k : ℕ) (b : Bool) (xs ys : List ServerEvent) → AllTell k xs → AllTell k ys → AllTell k (if b then xs else ys)
-either_tell k true xs ys a b = a
-either_tell k false xs ys a b = b
-
-lending_tells : (k : ℕ) (fs : List LinkFrame) → AllTell k (lending k fs)
-lending_tells k [] = tt
-lending_tells k (f ∷ fs) = (refl, lending_tells k fs)
-
-writing_tells : (k : ℕ) (s : Setup) (lane : ℕ) (pieces : List (List LinkFrame)) (h : List ServerEvent) → AllTell k (writing s k lane pieces h)
-writing_tells k s lane [] h = tt
-writing_tells k s lane (p ∷ ps) h = (tt, writing_tells k s lane ps h)
-
-letting_tells : (k : ℕ) (h : List ServerEvent) → AllTell k (removing_conn k h)
-letting_tells k h = join_tell k _ _ (either_tell k (has_peer k h) (Works (Goes k) ∷ []) [] (refl, tt) tt) (refl, tt)
-
-shutting_tells : (k lane : ℕ) (h : List ServerEvent) → AllTell k (shutting lane h)
-shutting_tells k lane h = either_tell k (was_refused lane h) [] (Says (say.Shut lane) ∷ []) tt (tt, tt)
-
-replying_tells : (k lane : ℕ) (reply : Reply) (h : List ServerEvent) → AllTell k (replying lane reply h)
-replying_tells k lane reply h = (tt, either_tell k (ends_lane lane reply.status h) (Says (say.Shut lane) ∷ []) [] (tt, tt) tt)
-
-poll_tells : (s : Setup) (now k : ℕ) (p : ℕ × ℕ) (fs : List LinkFrame) (h : List ServerEvent) → AllTell k (flushing_poll s now k p fs h)
-poll_tells s now k p [] h =
-    either_tell k (has_closed k h) _ _ (join_tell k (replying p.0 (bare_reply 204) h) _ (replying_tells k p.0 (bare_reply 204) h) (letting_tells k h))
-    (either_tell k (nat_le (p.1 + held_for) now) _ [] (join_tell k (replying p.0 (bare_reply 200) h) (Notes (Answered k p.0 now) ∷ []) (replying_tells k p.0 (bare_reply 200) h) (refl, tt)) tt)
-poll_tells s now k p (f ∷ fs) h =
-    join_tell k (lending k (f ∷ fs) ++ replying p.0 (frames_reply (bytes_of s k (f ∷ fs) h)) h) (Notes (Answered k p.0 now) ∷ [])
-    (join_tell k (lending k (f ∷ fs)) _ (lending_tells k (f ∷ fs)) (replying_tells k p.0 (frames_reply (bytes_of s k (f ∷ fs) h)) h)) (refl, tt)
-
-some_poll_tells : (s : Setup) (now k : ℕ) (o : Option (ℕ × ℕ)) (fs : List LinkFrame) (h : List ServerEvent) → AllTell k (flushing_some_poll s now k o fs h)
-some_poll_tells s now k None fs h = tt
-some_poll_tells s now k (Some p) fs h = poll_tells s now k p fs h
-
-pub flushing_tells : (s : Setup) (now k : ℕ) (o : Option ℕ) (pieces : List (List LinkFrame)) (h : List ServerEvent) → AllTell k (flushing_on s now k o pieces h)
-flushing_tells s now k (Some lane) pieces h =
-    join_tell k (lending k (all_of pieces) ++ writing s k lane pieces h) _
-    (join_tell k (lending k (all_of pieces)) _ (lending_tells k (all_of pieces)) (writing_tells k s lane pieces h))
-    (either_tell k (has_closed k h) (shutting lane h ++ removing_conn k h) [] (join_tell k (shutting lane h) _ (shutting_tells k lane h) (letting_tells k h)) tt)
-flushing_tells s now k None pieces h =
-    either_tell k (is_polling k (notes h)) _ _
-    (join_tell k (ending now k h) _ (either_tell k (has_closed k h && not (is_some (ended_at k (notes h)))) (Notes (Ended k now) ∷ []) [] (refl, tt) tt) (some_poll_tells s now k (poll_of k (notes h)) (all_of pieces) h))
-    (either_tell k (has_closed k h) (removing_conn k h) [] (letting_tells k h) tt)
 
 -- ---- of another connection all stays the same
 
@@ -110,7 +50,7 @@ same_then c f g h a b = record {
   same_poll = b.same_poll ∙ a.same_poll;
 }
 
-one_same : (c k : ℕ) (d : ServerEvent) (h : List ServerEvent) → (c == k) ≡ false → Tells k d → Same c h (d ∷ h)
+one_same : (c k : ℕ) (d : ServerEvent) (h : List ServerEvent) → (c == k) ≡ false → IsFlush k d → Same c h (d ∷ h)
 one_same c k (Works (Does x (Plain (Step_of (Lent f))))) h n e =
     let other : (c == x) ≡ false = ap (λ y. c == y) e ∙ n in
     record { same_moves = ap (λ b. if b then Plain (Step_of (Lent f)) ∷ moves c (work h) else moves c (work h)) other; same_settings = refl; same_gone = refl; same_socket = refl; same_poll = refl }
@@ -131,7 +71,7 @@ one_same c k (Notes (Removed x)) h n e = record { same_moves = refl; same_settin
 one_same c k (Says x) h n e = record { same_moves = refl; same_settings = refl; same_gone = refl; same_socket = refl; same_poll = refl }
 one_same c k d h n e = absurd e
 
-pub all_same : (c k : ℕ) (ds h : List ServerEvent) → (c == k) ≡ false → AllTell k ds → Same c h (onto ds h)
+pub all_same : (c k : ℕ) (ds h : List ServerEvent) → (c == k) ≡ false → Each (IsFlush k) ds → Same c h (onto ds h)
 all_same c k [] h n a = same_itself c h
 all_same c k (d ∷ ds) h n a = same_then c h (d ∷ h) (onto ds (d ∷ h)) (one_same c k d h n a.0) (all_same c k ds (d ∷ h) n a.1)
 
@@ -143,11 +83,7 @@ record Kept (c : ℕ) (h g : List ServerEvent) : Type 0 where
   kept_socket : socket_of c (notes g) ≡ socket_of c (notes h)
   kept_full : (lane : ℕ) → is_full lane g ≡ is_full lane h
 
-or_right : (a b : Bool) → b ≡ true → (a || b) ≡ true
-or_right true b e = refl
-or_right false b e = e
-
-one_kept : (c k : ℕ) (d : ServerEvent) (h : List ServerEvent) → Tells k d → Kept c h (d ∷ h)
+one_kept : (c k : ℕ) (d : ServerEvent) (h : List ServerEvent) → IsFlush k d → Kept c h (d ∷ h)
 one_kept c k (Works (Does x (Plain (Step_of (Lent f))))) h e = record { kept_settings = refl; kept_gone = λ g. g; kept_socket = refl; kept_full = λ lane. refl }
 one_kept c k (Works (Goes x)) h e = record { kept_settings = refl; kept_gone = λ g. or_right (c == x) (has_gone c (work h)) g; kept_socket = refl; kept_full = λ lane. refl }
 one_kept c k (Notes (Answered x lane now)) h e = record { kept_settings = refl; kept_gone = λ g. g; kept_socket = refl; kept_full = λ lane. refl }
@@ -156,17 +92,20 @@ one_kept c k (Notes (Removed x)) h e = record { kept_settings = refl; kept_gone 
 one_kept c k (Says x) h e = record { kept_settings = refl; kept_gone = λ g. g; kept_socket = refl; kept_full = λ lane. refl }
 one_kept c k d h e = absurd e
 
-all_kept : (c k : ℕ) (ds h : List ServerEvent) → AllTell k ds → Kept c h (onto ds h)
-all_kept c k [] h a = record { kept_settings = refl; kept_gone = λ g. g; kept_socket = refl; kept_full = λ lane. refl }
-all_kept c k (d ∷ ds) h a =
-    let x = one_kept c k d h a.0 in
-    let y = all_kept c k ds (d ∷ h) a.1 in
-    record {
-      kept_settings = y.kept_settings ∙ x.kept_settings;
-      kept_gone = λ g. y.kept_gone (x.kept_gone g);
-      kept_socket = y.kept_socket ∙ x.kept_socket;
-      kept_full = λ lane. y.kept_full lane ∙ x.kept_full lane;
-    }
+kept_itself : (c : ℕ) (h : List ServerEvent) → Kept c h h
+kept_itself c h = record { kept_settings = refl; kept_gone = λ g. g; kept_socket = refl; kept_full = λ lane. refl }
+
+kept_then : (c : ℕ) (f g h : List ServerEvent) → Kept c f g → Kept c g h → Kept c f h
+kept_then c f g h a b = record {
+  kept_settings = b.kept_settings ∙ a.kept_settings;
+  kept_gone = λ e. b.kept_gone (a.kept_gone e);
+  kept_socket = b.kept_socket ∙ a.kept_socket;
+  kept_full = λ lane. b.kept_full lane ∙ a.kept_full lane;
+}
+
+all_kept : (c k : ℕ) (ds h : List ServerEvent) → Each (IsFlush k) ds → Kept c h (onto ds h)
+all_kept c k [] h a = kept_itself c h
+all_kept c k (d ∷ ds) h a = kept_then c h (d ∷ h) (onto ds (d ∷ h)) (one_kept c k d h a.0) (all_kept c k ds (d ∷ h) a.1)
 
 onto_append : (xs ys h : List ServerEvent) → onto (xs ++ ys) h ≡ onto ys (onto xs h)
 onto_append [] ys h = refl
@@ -174,19 +113,13 @@ onto_append (x ∷ xs) ys h = onto_append xs ys (x ∷ h)
 
 -- what all these say leaves another as it is, and drops nothing of what stays
 rest_kept : (s : Setup) (now c : ℕ) (cs : List ℕ) (all : List (List (List LinkFrame))) (h g : List ServerEvent) → Kept c g (onto (all_flushing s now cs all h) g)
-rest_kept s now c [] all h g = record { kept_settings = refl; kept_gone = λ e. e; kept_socket = refl; kept_full = λ lane. refl }
-rest_kept s now c (k ∷ cs) [] h g = record { kept_settings = refl; kept_gone = λ e. e; kept_socket = refl; kept_full = λ lane. refl }
+rest_kept s now c [] all h g = kept_itself c g
+rest_kept s now c (k ∷ cs) [] h g = kept_itself c g
 rest_kept s now c (k ∷ cs) (p ∷ more) h g =
     let mine = flushing s now k p h in
-    let x = all_kept c k mine g (flushing_tells s now k (socket_of k (notes h)) p h) in
-    let y = rest_kept s now c cs more h (onto mine g) in
     subst (λ z. Kept c g z) (sym (onto_append mine (all_flushing s now cs more h) g))
-    (record {
-      kept_settings = y.kept_settings ∙ x.kept_settings;
-      kept_gone = λ e. y.kept_gone (x.kept_gone e);
-      kept_socket = y.kept_socket ∙ x.kept_socket;
-      kept_full = λ lane. y.kept_full lane ∙ x.kept_full lane;
-    })
+    (kept_then c g (onto mine g) (onto (all_flushing s now cs more h) (onto mine g))
+    (all_kept c k mine g (flushing_is s now k h (socket_of k (notes h)) p)) (rest_kept s now c cs more h (onto mine g)))
 
 rest_same : (s : Setup) (now c : ℕ) (cs : List ℕ) (all : List (List (List LinkFrame))) (h g : List ServerEvent) → is_in c cs ≡ false
     → Same c g (onto (all_flushing s now cs all h) g)
@@ -197,7 +130,7 @@ rest_same s now c (k ∷ cs) (p ∷ more) h g n =
     let mine = flushing s now k p h in
     subst (λ z. Same c g z) (sym (onto_append mine (all_flushing s now cs more h) g))
     (same_then c g (onto mine g) (onto (all_flushing s now cs more h) (onto mine g))
-    (all_same c k mine g parts.0 (flushing_tells s now k (socket_of k (notes h)) p h)) (rest_same s now c cs more h (onto mine g) parts.1))
+    (all_same c k mine g parts.0 (flushing_is s now k h (socket_of k (notes h)) p)) (rest_same s now c cs more h (onto mine g) parts.1))
 
 -- what is due looks at the settings and the moves alone
 due_of : (c : ℕ) (h g : List ServerEvent) → settings_of c (work g) ≡ settings_of c (work h) → moves c (work g) ≡ moves c (work h)
@@ -285,7 +218,7 @@ module _ (t : ℕ → Bool) where
     by true f g = rw (f, g) refl
     by false f g = g
 
-  apart-filter : (xs : List ℕ) → AreApart xs → AreApart (filter t xs)
+  pub apart-filter : (xs : List ℕ) → AreApart xs → AreApart (filter t xs)
   apart-filter [] a = tt
   apart-filter (x ∷ xs) a = by (t x) (apart-filter xs a.1) where
     by : (b : Bool) → AreApart (filter t xs) → AreApart (if b then x ∷ filter t xs else filter t xs)
@@ -358,18 +291,6 @@ own_tells s c lane t pieces h g same e there l = by (has_closed c h) where
 
 -- ---- without a socket
 
-abbrev AllAre : (ServerEvent → Type 0) → List ServerEvent → Type 0
-AllAre P [] = Unit {0}
-AllAre P (d ∷ ds) = P d × AllAre P ds
-
-join_all : (P : ServerEvent → Type 0) (xs ys : List ServerEvent) → AllAre P xs → AllAre P ys → AllAre P (xs ++ ys)
-join_all P [] ys a b = b
-join_all P (x ∷ xs) ys a b = (a.0, join_all P xs ys a.1 b)
-
-either_all : (P : ServerEvent → Type 0) (b : Bool) (xs ys : List ServerEvent) → AllAre P xs → AllAre P ys → AllAre P (if b then xs else ys)
-either_all P true xs ys a b = a
-either_all P false xs ys a b = b
-
 -- what makes no step of an end
 abbrev IsStill : ServerEvent → Type 0
 IsStill (Works (Goes c)) = Unit {0}
@@ -382,83 +303,37 @@ IsUnpolled (Notes (Ended c now)) = Unit {0}
 IsUnpolled (Notes note) = ⊥
 IsUnpolled d = Unit {0}
 
-still_moves : (c : ℕ) (ds g : List ServerEvent) → AllAre IsStill ds → moves c (work (onto ds g)) ≡ moves c (work g)
+still_moves : (c : ℕ) (ds g : List ServerEvent) → Each IsStill ds → moves c (work (onto ds g)) ≡ moves c (work g)
 still_moves c [] g a = refl
 still_moves c (Works (Goes k) ∷ ds) g a = still_moves c ds (Works (Goes k) ∷ g) a.1
-still_moves c (Works (Connects k t user) ∷ ds) g a = absurd a.0
-still_moves c (Works (Does k m) ∷ ds) g a = absurd a.0
-still_moves c (Works (Rounds now) ∷ ds) g a = absurd a.0
-still_moves c (Works (Carries k j d fates ask) ∷ ds) g a = absurd a.0
-still_moves c (Notes note ∷ ds) g a = still_moves c ds (Notes note ∷ g) a.1
-still_moves c (Says x ∷ ds) g a = still_moves c ds (Says x ∷ g) a.1
-still_moves c (Hears now event ∷ ds) g a = still_moves c ds (Hears now event ∷ g) a.1
-still_moves c (Learns ask ∷ ds) g a = still_moves c ds (Learns ask ∷ g) a.1
-still_moves c (Draws drawn ∷ ds) g a = still_moves c ds (Draws drawn ∷ g) a.1
-still_moves c (Sees lane full ∷ ds) g a = still_moves c ds (Sees lane full ∷ g) a.1
+still_moves c (Works x ∷ ds) g a = absurd a.0
+still_moves c (d ∷ ds) g a = still_moves c ds (d ∷ g) a.1
 
-unpolled : (c : ℕ) (ds g : List ServerEvent) → AllAre IsUnpolled ds → poll_of c (notes (onto ds g)) ≡ poll_of c (notes g)
+unpolled : (c : ℕ) (ds g : List ServerEvent) → Each IsUnpolled ds → poll_of c (notes (onto ds g)) ≡ poll_of c (notes g)
 unpolled c [] g a = refl
 unpolled c (Notes (Ended k now) ∷ ds) g a = unpolled c ds (Notes (Ended k now) ∷ g) a.1
-unpolled c (Notes (Negotiated k token reconnect now) ∷ ds) g a = absurd a.0
-unpolled c (Notes (Opened k now) ∷ ds) g a = absurd a.0
-unpolled c (Notes (Socketed k lane now) ∷ ds) g a = absurd a.0
-unpolled c (Notes (Polled k lane now) ∷ ds) g a = absurd a.0
-unpolled c (Notes (Answered k lane now) ∷ ds) g a = absurd a.0
-unpolled c (Notes (LaneLost k lane now) ∷ ds) g a = absurd a.0
-unpolled c (Notes (Expired k now) ∷ ds) g a = absurd a.0
-unpolled c (Notes (Removed k) ∷ ds) g a = absurd a.0
-unpolled c (Works x ∷ ds) g a = unpolled c ds (Works x ∷ g) a.1
-unpolled c (Says x ∷ ds) g a = unpolled c ds (Says x ∷ g) a.1
-unpolled c (Hears now event ∷ ds) g a = unpolled c ds (Hears now event ∷ g) a.1
-unpolled c (Learns ask ∷ ds) g a = unpolled c ds (Learns ask ∷ g) a.1
-unpolled c (Draws drawn ∷ ds) g a = unpolled c ds (Draws drawn ∷ g) a.1
-unpolled c (Sees lane full ∷ ds) g a = unpolled c ds (Sees lane full ∷ g) a.1
+unpolled c (Notes note ∷ ds) g a = absurd a.0
+unpolled c (d ∷ ds) g a = unpolled c ds (d ∷ g) a.1
 
 -- a poll that isn't held isn't held once more was told
 none_held : (b : Bool) (o : Option (ℕ × ℕ)) → o ≡ None → (if b then None else o) ≡ None
 none_held true o e = refl
 none_held false o e = e
 
-stays_none : (c k : ℕ) (ds g : List ServerEvent) → AllTell k ds → poll_of c (notes g) ≡ None → poll_of c (notes (onto ds g)) ≡ None
+stays_none : (c k : ℕ) (ds g : List ServerEvent) → Each (IsFlush k) ds → poll_of c (notes g) ≡ None → poll_of c (notes (onto ds g)) ≡ None
 stays_none c k [] g a e = e
 stays_none c k (Notes (Answered x lane now) ∷ ds) g a e =
     stays_none c k ds (Notes (Answered x lane now) ∷ g) a.1 (none_held ((c == x) && is_this lane (option_map (λ poll. poll.0) (poll_of c (notes g)))) (poll_of c (notes g)) e)
-stays_none c k (Notes (Ended x now) ∷ ds) g a e = stays_none c k ds (Notes (Ended x now) ∷ g) a.1 e
-stays_none c k (Notes (Removed x) ∷ ds) g a e = stays_none c k ds (Notes (Removed x) ∷ g) a.1 e
-stays_none c k (Notes (Negotiated x token reconnect now) ∷ ds) g a e = absurd a.0
-stays_none c k (Notes (Opened x now) ∷ ds) g a e = absurd a.0
-stays_none c k (Notes (Socketed x lane now) ∷ ds) g a e = absurd a.0
 stays_none c k (Notes (Polled x lane now) ∷ ds) g a e = absurd a.0
 stays_none c k (Notes (LaneLost x lane now) ∷ ds) g a e = absurd a.0
-stays_none c k (Notes (Expired x now) ∷ ds) g a e = absurd a.0
-stays_none c k (Works x ∷ ds) g a e = stays_none c k ds (Works x ∷ g) a.1 e
-stays_none c k (Says x ∷ ds) g a e = stays_none c k ds (Says x ∷ g) a.1 e
-stays_none c k (Hears now event ∷ ds) g a e = absurd a.0
-stays_none c k (Learns ask ∷ ds) g a e = absurd a.0
-stays_none c k (Draws drawn ∷ ds) g a e = absurd a.0
-stays_none c k (Sees lane full ∷ ds) g a e = absurd a.0
+stays_none c k (d ∷ ds) g a e = stays_none c k ds (d ∷ g) a.1 e
 
-shutting_all : (P : ServerEvent → Type 0) (lane : ℕ) (h : List ServerEvent) → P (Says (say.Shut lane)) → AllAre P (shutting lane h)
-shutting_all P lane h p = either_all P (was_refused lane h) [] (Says (say.Shut lane) ∷ []) tt (p, tt)
-
-replying_all : (P : ServerEvent → Type 0) (lane : ℕ) (reply : Reply) (h : List ServerEvent) → P (Says (say.Reply lane (reply_on lane reply h))) → P (Says (say.Shut lane)) → AllAre P (replying lane reply h)
-replying_all P lane reply h p q =
-    (p, either_all P (ends_lane lane reply.status h) (Says (say.Shut lane) ∷ []) [] (q, tt) tt)
-
-ending_all : (P : ServerEvent → Type 0) (now c : ℕ) (h : List ServerEvent) → P (Notes (Ended c now)) → AllAre P (ending now c h)
-ending_all P now c h p = either_all P (has_closed c h && not (is_some (ended_at c (notes h)))) (Notes (Ended c now) ∷ []) [] (p, tt) tt
-
-lending_unpolled : (c : ℕ) (fs : List LinkFrame) → AllAre IsUnpolled (lending c fs)
-lending_unpolled c [] = tt
-lending_unpolled c (f ∷ fs) = (tt, lending_unpolled c fs)
-
-empty_still : (s : Setup) (now c : ℕ) (poll : ℕ × ℕ) (h : List ServerEvent) → AllAre IsStill (flushing_poll s now c poll [] h)
+empty_still : (s : Setup) (now c : ℕ) (poll : ℕ × ℕ) (h : List ServerEvent) → Each IsStill (flushing_poll s now c poll [] h)
 empty_still s now c poll h =
-    either_all IsStill (has_closed c h) _ _
-    (join_all IsStill (replying poll.0 (bare_reply 204) h) (removing_conn c h) (replying_all IsStill poll.0 (bare_reply 204) h tt tt)
-    (join_all IsStill (dropping c h) (Notes (Removed c) ∷ []) (either_all IsStill (has_peer c h) (Works (Goes c) ∷ []) [] (tt, tt) tt) (tt, tt)))
-    (either_all IsStill (nat_le (poll.1 + held_for) now) _ []
-    (join_all IsStill (replying poll.0 (bare_reply 200) h) (Notes (Answered c poll.0 now) ∷ []) (replying_all IsStill poll.0 (bare_reply 200) h tt tt) (tt, tt)) tt)
+    either_way (Each IsStill) (has_closed c h) _ _
+    (each_join IsStill (replying poll.0 (bare_reply 204) h) (removing_conn c h) (each_replying IsStill poll.0 (bare_reply 204) h tt tt) (each_removing IsStill c h tt tt))
+    (each_when IsStill (nat_le (poll.1 + held_for) now) (replying poll.0 (bare_reply 200) h ++ Notes (Answered c poll.0 now) ∷ [])
+    (each_join IsStill (replying poll.0 (bare_reply 200) h) (Notes (Answered c poll.0 now) ∷ []) (each_replying IsStill poll.0 (bare_reply 200) h tt tt) (tt, tt)))
 
 -- a poll that is held, by what is due
 held_tells : (s : Setup) (now c : ℕ) (poll : ℕ × ℕ) (fs : List LinkFrame) (h g : List ServerEvent) → Same c h g → socket_of c (notes h) ≡ None
@@ -467,9 +342,8 @@ held_tells : (s : Setup) (now c : ℕ) (poll : ℕ × ℕ) (fs : List LinkFrame)
 held_tells s now c poll [] h g same sock held l =
     let words : List ServerEvent = ending now c h ++ flushing_poll s now c poll [] h in
     let nothing : due (config_of c h) (history c h) ≡ None = ⊎_elim (λ e. e) (λ over. absurd (let no : ⊥ = omega (arith, over) in no)) l in
-    let all_still = join_all IsStill (ending now c h) (flushing_poll s now c poll [] h) (ending_all IsStill now c h tt) (empty_still s now c poll h) in
-    let all_tell = join_tell c (ending now c h) (flushing_poll s now c poll [] h)
-    (either_tell c (has_closed c h && not (is_some (ended_at c (notes h)))) (Notes (Ended c now) ∷ []) [] (refl, tt) tt) (poll_tells s now c poll [] h) in
+    let all_still = each_join IsStill (ending now c h) (flushing_poll s now c poll [] h) (each_ending IsStill now c h tt) (empty_still s now c poll h) in
+    let all_tell = each_join (IsFlush c) (ending now c h) (flushing_poll s now c poll [] h) (each_ending (IsFlush c) now c h refl) (poll_flush s now c h poll []) in
     inr (inl (due_of c h (onto words g) ((all_kept c c words g all_tell).kept_settings ∙ same.same_settings) (still_moves c words g all_still ∙ same.same_moves) nothing))
 held_tells s now c poll (f ∷ fs) h g same sock held l =
     let reply : List ServerEvent = replying poll.0 (frames_reply (bytes_of s c (f ∷ fs) h)) h in
@@ -479,10 +353,9 @@ held_tells s now c poll (f ∷ fs) h g same sock held l =
     = onto_append (ending now c h) words g ∙ onto_append (lending c (f ∷ fs) ++ reply) (Notes (Answered c poll.0 now) ∷ []) (onto (ending now c h) g) in
     let still_held : poll_of c (notes before) ≡ Some poll
     = unpolled c (lending c (f ∷ fs) ++ reply) (onto (ending now c h) g)
-    (join_all IsUnpolled (lending c (f ∷ fs)) reply (lending_unpolled c (f ∷ fs)) (replying_all IsUnpolled poll.0 (frames_reply (bytes_of s c (f ∷ fs) h)) h tt tt))
-    ∙ unpolled c (ending now c h) g (ending_all IsUnpolled now c h tt) ∙ same.same_poll ∙ held in
-    let all_tell = join_tell c (ending now c h) words
-    (either_tell c (has_closed c h && not (is_some (ended_at c (notes h)))) (Notes (Ended c now) ∷ []) [] (refl, tt) tt) (poll_tells s now c poll (f ∷ fs) h) in
+    (each_join IsUnpolled (lending c (f ∷ fs)) reply (each_lending IsUnpolled c (f ∷ fs) (λ x. tt)) (each_replying IsUnpolled poll.0 (frames_reply (bytes_of s c (f ∷ fs) h)) h tt tt))
+    ∙ unpolled c (ending now c h) g (each_ending IsUnpolled now c h tt) ∙ same.same_poll ∙ held in
+    let all_tell = each_join (IsFlush c) (ending now c h) words (each_ending (IsFlush c) now c h refl) (poll_flush s now c h poll (f ∷ fs)) in
     let no_socket : socket_of c (notes (onto (ending now c h ++ words) g)) ≡ None
     = (all_kept c c (ending now c h ++ words) g all_tell).kept_socket ∙ same.same_socket ∙ sock in
     let no_poll : poll_of c (notes (onto (ending now c h ++ words) g)) ≡ None
@@ -496,7 +369,7 @@ by_poll : (s : Setup) (now c : ℕ) (pieces : List (List LinkFrame)) (h g : List
     → Same c h g → socket_of c (notes h) ≡ None → AreDueOn s c None o pieces h → IsDone c (onto (flushing_on s now c None pieces h) g)
 by_poll s now c pieces h g None e same sock d =
     let words : List ServerEvent = flushing_on s now c None pieces h in
-    let tells : AllTell c words = flushing_tells s now c None pieces h in
+    let tells : Each (IsFlush c) words = flushing_is s now c h None pieces in
     let no_socket : socket_of c (notes (onto words g)) ≡ None = (all_kept c c words g tells).kept_socket ∙ same.same_socket ∙ sock in
     let no_poll : poll_of c (notes (onto words g)) ≡ None = stays_none c c words g tells (same.same_poll ∙ sym e) in
     inr (inr (rw (no_socket, no_poll) refl))
@@ -526,7 +399,7 @@ walk s now c t (k ∷ cs) [] h g d apart i same te there free = absurd d
 walk s now c t (k ∷ cs) (p ∷ more) h g d apart i same te there free =
     subst (λ z. IsDone c z) (sym (onto_append (flushing s now k p h) (all_flushing s now cs more h) g))
     (by (c == k) refl i (λ f j. walk s now c t cs more h (onto (flushing s now k p h) g) d.1 apart.1 j
-    (same_then c h g (onto (flushing s now k p h) g) same (all_same c k (flushing s now k p h) g f (flushing_tells s now k (socket_of k (notes h)) p h))) te there free)) where
+    (same_then c h g (onto (flushing s now k p h) g) same (all_same c k (flushing s now k p h) g f (flushing_is s now k h (socket_of k (notes h)) p))) te there free)) where
       by : (b : Bool) → (c == k) ≡ b → (b || is_in c cs) ≡ true
           → ((c == k) ≡ false → is_in c cs ≡ true → IsDone c (onto (all_flushing s now cs more h) (onto (flushing s now k p h) g)))
           → IsDone c (onto (all_flushing s now cs more h) (onto (flushing s now k p h) g))

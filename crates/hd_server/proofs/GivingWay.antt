@@ -1,18 +1,18 @@
 -- The connection that gives way makes room for another.
-use Rattle.std.proofs.Common.{refl, ap, sym, ◌∙◌, ◌≡◌, ℕ, suc, ◌<◌, ◌≤◌, Bool, true, false, List, [], ◌∷◌, ◌++◌, length, find, Option, Some, None, arith, if◌then◌else◌}
-use Rattle.std.specs.Prelude.{◌==◌, not, is_some, ◌&&◌, ◌||◌, nat_le}
+use Rattle.std.proofs.Common.{refl, ap, sym, ◌∙◌, ◌≡◌, ℕ, ◌<◌, ◌≤◌, Bool, true, false, List, [], ◌∷◌, ◌++◌, length, find, Option, Some, None, arith, if◌then◌else◌}
+use Rattle.std.specs.Prelude.{◌==◌, not, is_some, ◌&&◌}
 use Rattle.std.proofs.lemmas.Bool.{eq-eqb, or_parts, or_left, or_right, leb-false, lt-leb}
 use Rattle.hd_server.specs.declared.vocabulary.Life.{Life}
 use Rattle.hd_server.specs.declared.vocabulary.Life.TheVariants.{Unknown, Fresh, Socket, Lost, Polling, Ending}
 use Rattle.hd_server.specs.Numbers.{most_connections}
-use Rattle.hd_server.specs.Lives.{ConnectionEvent, Removed, AreInOrder, HasRoom, first_fresh, gives_way, is_busy, is_fresh, is_full, is_known, is_removed, last_moment, life_of, live, made, numbers_to}
+use Rattle.hd_server.specs.Lives.{ConnectionEvent, Removed, AreInOrder, first_fresh, gives_way, is_busy, is_fresh, is_full, is_known, is_removed, last_moment, life_of, live, made, numbers_to}
 use Rattle.hd_server.specs.Machine.{Goes}
-use Rattle.hd_server.specs.Doings.{ServerEvent, Notes, Works, notes, has_peer}
+use Rattle.hd_server.specs.Doings.{ServerEvent, Notes, Works, has_peer}
 use Rattle.hd_server.specs.Plans.{onto, removing_conn, removing_some}
 use Rattle.hd_server.proofs.Flushing.{is_in}
 use Rattle.hd_server.proofs.Few.{all_few, fewer_by_one, of_gone, removed_unknown}
 use Rattle.hd_server.proofs.OrderlyNotes.{IsWithin, in_numbers}
-use Rattle.hd_server.proofs.OrderlyDoings.{either_way}
+use Rattle.hd_server.proofs.Each.{either_way}
 
 found : (p : ℕ → Bool) (xs : List ℕ) (c : ℕ) → find p xs ≡ Some c → (p c ≡ true) × (is_in c xs ≡ true)
 found p [] c e = absurd (cc)

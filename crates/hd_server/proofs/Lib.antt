@@ -5,6 +5,8 @@ pub mod SocketAnswers
 pub mod Rows
 pub mod Allowed
 pub mod Tests
+pub mod Each
+pub mod PartsOfTurns
 pub mod Flushing
 pub mod Seeing
 pub mod Further

@@ -9,10 +9,11 @@ use Rattle.hd_server.specs.Machine.{MachineEvent, Rounds, Owed, NothingOwed, Owe
 use Rattle.hd_server.specs.Doings.{ServerEvent, Hears, Works, notes, work, moment, has_peer}
 use Rattle.hd_server.specs.Plans.{Setup, plan}
 use Rattle.hd_server.specs.Serves.{IsFed, IsTurn, Serves}
+use Rattle.hd_server.specs.Parts.{Each}
 use Rattle.hd_server.specs.Laws.{ServersNoteInOrder}
 use Rattle.hd_server.proofs.Seeing.{Stays, one_stays}
 use Rattle.hd_server.proofs.OrderlyNotes.{Known}
-use Rattle.hd_server.proofs.OrderlyDoings.{Settled, IsQuiet, AreQuiet, quiet_settled_after}
+use Rattle.hd_server.proofs.OrderlyDoings.{Settled, IsQuiet, quiet_settled_after}
 use Rattle.hd_server.proofs.OrderlyEach.{ticked_settled, told_settled}
 use Rattle.hd_server.proofs.OrderlyPlans.{plan_settled, asked_settled}
 use Rattle.hd_server.proofs.OrderlyExpiries.{expired_settled}
@@ -25,7 +26,7 @@ module _ (now : ℕ) where
   turn_quiet (OwesCall c j) h x (m, settled, e) = subst (λ y. IsQuiet (Works y)) (sym e) tt
   turn_quiet NothingOwed h x (c, j, call, since, turn, what, next, at, told, e) = subst (λ y. IsQuiet (Works y)) (sym e) tt
 
-  pub round_quiet : (xs h : List MachineEvent) → GoesOn now xs h → AreQuiet (map Works xs)
+  pub round_quiet : (xs h : List MachineEvent) → GoesOn now xs h → Each IsQuiet (map Works xs)
   round_quiet [] h e = tt
   round_quiet (x ∷ xs) h e = (turn_quiet (owed (xs ++ h)) (xs ++ h) x e.1, round_quiet xs h e.0)
 

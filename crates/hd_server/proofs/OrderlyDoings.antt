@@ -1,14 +1,14 @@
 -- What is done of one connection that is known is noted in order, and changes nothing of another.
 use Rattle.std.proofs.Common.{refl, ap, subst, sym, ◌∙◌, ◌≡◌, ℕ, suc, ◌<◌, ◌≤◌, Bool, true, false, List, [], ◌∷◌, ◌++◌, Some, arith, if◌then◌else◌}
-use Rattle.std.specs.Prelude.{◌==◌, not, is_some, map, ◌&&◌, ◌||◌}
+use Rattle.std.specs.Prelude.{◌==◌, not, is_some, ◌&&◌, ◌||◌}
+use Rattle.std.proofs.Math.Bool.{and-false}
 use Rattle.std.proofs.lemmas.Bool.{eqb-true, eq-eqb}
-use Rattle.hw_lanes.specs.declared.http.Reply.{Reply}
-use Rattle.hd_calls.specs.Peers.{PeerEvent}
 use Rattle.hd_server.specs.Lives.{ConnectionEvent, Negotiated, Opened, Socketed, Polled, Answered, LaneLost, Ended, Expired, Removed, AreInOrder, MayBeNoted, made, is_removed, is_known, HasRoom, standing, life_of, last_moment}
-use Rattle.hd_server.specs.Machine.{Connects, Does, Rounds, Carries, Goes, settings_of, has_gone}
-use Rattle.hd_server.specs.declared.vocabulary.Said.TheVariants as say
-use Rattle.hd_server.specs.Doings.{ServerEvent, Learns, Draws, Notes, Works, Says, Sees, notes, work, moment, user_of, was_refused, has_peer}
-use Rattle.hd_server.specs.Plans.{Setup, onto, connecting, peer_settings, removing_conn, shutting, ends_lane, replying}
+use Rattle.hd_server.specs.Machine.{Connects, Goes, settings_of, has_gone}
+use Rattle.hd_server.specs.Doings.{ServerEvent, Notes, Works, notes, work, moment, user_of, has_peer, Hears}
+use Rattle.hd_server.specs.Plans.{Setup, onto, connecting, peer_settings, removing_conn}
+use Rattle.hd_server.specs.Parts.{Each}
+use Rattle.hd_server.proofs.Each.{either_way}
 use Rattle.hd_server.proofs.OrderlyNotes.{subject, IsOf, NonePast, Known, within, none_past_still, another_stands, another_stays, life_of_known, still_socketed, still_polled, still_answered, still_lost, still_ended, once_opened, once_negotiated}
 
 -- what holds after the moments that have come are noted
@@ -61,29 +61,14 @@ pub in_turn : (P : List ServerEvent → Type 0) (xs ys g : List ServerEvent) →
 in_turn P [] ys g p = p
 in_turn P (x ∷ xs) ys g p = in_turn P xs ys (x ∷ g) p
 
-pub either_way : {A : Type 0} (P : A → Type 0) (b : Bool) (x y : A) → P x → P y → P (if b then x else y)
-either_way P true x y p q = p
-either_way P false x y p q = q
-
 -- ---- what is noted nowhere
 
 abbrev pub IsQuiet : ServerEvent → Type 0
-IsQuiet (Learns ask) = Unit {0}
-IsQuiet (Draws drawn) = Unit {0}
-IsQuiet (Says x) = Unit {0}
-IsQuiet (Sees lane full) = Unit {0}
-IsQuiet (Works (Does c m)) = Unit {0}
-IsQuiet (Works (Rounds now)) = Unit {0}
-IsQuiet (Works (Carries c j d fates ask)) = Unit {0}
-IsQuiet _ = ⊥
-
-abbrev pub AreQuiet : List ServerEvent → Type 0
-AreQuiet [] = Unit {0}
-AreQuiet (d ∷ ds) = IsQuiet d × AreQuiet ds
-
-pub quiet_both : (xs ys : List ServerEvent) → AreQuiet xs → AreQuiet ys → AreQuiet (xs ++ ys)
-quiet_both [] ys a b = b
-quiet_both (x ∷ xs) ys a b = (a.0, quiet_both xs ys a.1 b)
+IsQuiet (Hears now event) = ⊥
+IsQuiet (Notes note) = ⊥
+IsQuiet (Works (Connects c t user)) = ⊥
+IsQuiet (Works (Goes c)) = ⊥
+IsQuiet _ = Unit {0}
 
 record Unmoved (g x : List ServerEvent) : Type 0 where
   same_notes : notes x ≡ notes g
@@ -91,14 +76,11 @@ record Unmoved (g x : List ServerEvent) : Type 0 where
   same_moment : moment x ≡ moment g
 
 one_quiet : (d : ServerEvent) (g : List ServerEvent) → IsQuiet d → Unmoved g (d ∷ g)
-one_quiet (Learns ask) g e = record { same_notes = refl; same_peers = λ k. refl; same_moment = refl }
-one_quiet (Draws drawn) g e = record { same_notes = refl; same_peers = λ k. refl; same_moment = refl }
-one_quiet (Says x) g e = record { same_notes = refl; same_peers = λ k. refl; same_moment = refl }
-one_quiet (Sees lane full) g e = record { same_notes = refl; same_peers = λ k. refl; same_moment = refl }
-one_quiet (Works (Does c m)) g e = record { same_notes = refl; same_peers = λ k. refl; same_moment = refl }
-one_quiet (Works (Rounds now)) g e = record { same_notes = refl; same_peers = λ k. refl; same_moment = refl }
-one_quiet (Works (Carries c j d fates ask)) g e = record { same_notes = refl; same_peers = λ k. refl; same_moment = refl }
-one_quiet d g e = absurd e
+one_quiet (Hears now event) g e = absurd e
+one_quiet (Notes note) g e = absurd e
+one_quiet (Works (Connects c t user)) g e = absurd e
+one_quiet (Works (Goes c)) g e = absurd e
+one_quiet d g e = record { same_notes = refl; same_peers = λ k. refl; same_moment = refl }
 
 unmoved_then : (f g x : List ServerEvent) → Unmoved f g → Unmoved g x → Unmoved f x
 unmoved_then f g x a b = record {
@@ -110,11 +92,11 @@ unmoved_then f g x a b = record {
 unmoved_same : (g : List ServerEvent) → Unmoved g g
 unmoved_same g = record { same_notes = refl; same_peers = λ k. refl; same_moment = refl }
 
-unmoved_onto : (ds g : List ServerEvent) → AreQuiet ds → Unmoved g (onto ds g)
+unmoved_onto : (ds g : List ServerEvent) → Each IsQuiet ds → Unmoved g (onto ds g)
 unmoved_onto [] g a = unmoved_same g
 unmoved_onto (d ∷ ds) g a = unmoved_then g (d ∷ g) (onto ds (d ∷ g)) (one_quiet d g a.0) (unmoved_onto ds (d ∷ g) a.1)
 
-unmoved_after : (ds g : List ServerEvent) → AreQuiet ds → Unmoved g (ds ++ g)
+unmoved_after : (ds g : List ServerEvent) → Each IsQuiet ds → Unmoved g (ds ++ g)
 unmoved_after [] g a = unmoved_same g
 unmoved_after (d ∷ ds) g a = unmoved_then g (ds ++ g) (d ∷ ds ++ g) (unmoved_after ds g a.1) (one_quiet d (ds ++ g) a.0)
 
@@ -136,39 +118,28 @@ lively_still now c g x a s k = record {
   stays = a.same_peers c;
 }
 
-pub quiet_settled : {most : ℕ} (now : ℕ) (ds g : List ServerEvent) → AreQuiet ds → Settled most now g → Settled most now (onto ds g)
+pub quiet_settled : {most : ℕ} (now : ℕ) (ds g : List ServerEvent) → Each IsQuiet ds → Settled most now g → Settled most now (onto ds g)
 quiet_settled now ds g a s = settled_still now g (onto ds g) (unmoved_onto ds g a) s
 
-pub quiet_settled_after : {most : ℕ} (now : ℕ) (ds g : List ServerEvent) → AreQuiet ds → Settled most now g → Settled most now (ds ++ g)
+pub quiet_settled_after : {most : ℕ} (now : ℕ) (ds g : List ServerEvent) → Each IsQuiet ds → Settled most now g → Settled most now (ds ++ g)
 quiet_settled_after now ds g a s = settled_still now g (ds ++ g) (unmoved_after ds g a) s
 
-pub quiet_notes : (ds g : List ServerEvent) → AreQuiet ds → notes (onto ds g) ≡ notes g
+pub quiet_notes : (ds g : List ServerEvent) → Each IsQuiet ds → notes (onto ds g) ≡ notes g
 quiet_notes ds g a = (unmoved_onto ds g a).same_notes
 
-pub quiet_notes_after : (ds g : List ServerEvent) → AreQuiet ds → notes (ds ++ g) ≡ notes g
+pub quiet_notes_after : (ds g : List ServerEvent) → Each IsQuiet ds → notes (ds ++ g) ≡ notes g
 quiet_notes_after ds g a = (unmoved_after ds g a).same_notes
 
-pub quiet_lively : {most : ℕ} (now c : ℕ) (ds g : List ServerEvent) → AreQuiet ds → Settled most now g → Known c (notes g) → Lively most now c g (onto ds g)
+pub quiet_lively : {most : ℕ} (now c : ℕ) (ds g : List ServerEvent) → Each IsQuiet ds → Settled most now g → Known c (notes g) → Lively most now c g (onto ds g)
 quiet_lively now c ds g a s k = lively_still now c g (onto ds g) (unmoved_onto ds g a) s k
 
-pub parted_quiet : {most : ℕ} (now c : ℕ) (ds g x : List ServerEvent) → AreQuiet ds → Parted most now c g x → Parted most now c g (onto ds x)
+pub parted_quiet : {most : ℕ} (now c : ℕ) (ds g x : List ServerEvent) → Each IsQuiet ds → Parted most now c g x → Parted most now c g (onto ds x)
 parted_quiet now c ds g x a p =
     let u = unmoved_onto ds x a in
     record {
       settled = settled_still now x (onto ds x) u p.settled;
       others = record { stand = λ k e. ap (standing k) u.same_notes ∙ p.others.stand k e; there = λ k e. u.same_peers k ∙ p.others.there k e };
     }
-
-pub shutting_quiet : (lane : ℕ) (h : List ServerEvent) → AreQuiet (shutting lane h)
-shutting_quiet lane h = either_way AreQuiet (was_refused lane h) [] _ tt (tt, tt)
-
-pub replying_quiet : (lane : ℕ) (reply : Reply) (h : List ServerEvent) → AreQuiet (replying lane reply h)
-replying_quiet lane reply h =
-    (tt, either_way AreQuiet (ends_lane lane reply.status h) (Says (say.Shut lane) ∷ []) [] (tt, tt) tt)
-
-pub moves_quiet : (c : ℕ) (ms : List PeerEvent) → AreQuiet (map (λ m. Works (Does c m)) ms)
-moves_quiet c [] = tt
-moves_quiet c (m ∷ ms) = (tt, moves_quiet c ms)
 
 -- ---- one note of one that is known
 
@@ -275,10 +246,6 @@ module _ {most : ℕ} (now c : ℕ) (g : List ServerEvent) (s : Settled most now
           absurd (let no : ⊥ = omega (arith, over, same, was.1) in no)
       by x over false e = another_stays x (Removed c) (notes g) e ∙ s.made_first x over
 
-and_false : (b : Bool) → (b && false) ≡ false
-and_false true = refl
-and_false false = refl
-
 module _ {most : ℕ} (now c : ℕ) (g : List ServerEvent) (s : Settled most now g) (k : Known c (notes g)) where
   -- its peer goes
   goes : Settled most now (Works (Goes c) ∷ g)
@@ -292,13 +259,13 @@ module _ {most : ℕ} (now c : ℕ) (g : List ServerEvent) (s : Settled most now
   }
     where
       by : (x : ℕ) (b : Bool) → (is_some (settings_of x (work g)) && not (b || has_gone x (work g))) ≡ true → has_peer x g ≡ true
-      by x true e = absurd (let z : false ≡ true = sym (and_false (is_some (settings_of x (work g)))) ∙ e in cc)
+      by x true e = absurd (let z : false ≡ true = sym (and-false (is_some (settings_of x (work g)))) ∙ e in cc)
       by x false e = e
 
   pub lets_go : (h : List ServerEvent) → has_peer c g ≡ has_peer c h → Parted most now c g (onto (removing_conn c h) g)
   lets_go h same = by (has_peer c h) same where
     dropped : has_peer c (Works (Goes c) ∷ g) ≡ false
-    dropped = rw (eq-eqb c c refl) (and_false (is_some (settings_of c (work g))))
+    dropped = rw (eq-eqb c c refl) (and-false (is_some (settings_of c (work g))))
 
     by : (b : Bool) → has_peer c g ≡ b → Parted most now c g (onto ((if b then Works (Goes c) ∷ [] else []) ++ Notes (Removed c) ∷ []) g)
     by true e =

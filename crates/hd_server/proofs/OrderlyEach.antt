@@ -2,7 +2,7 @@
 use Rattle.std.proofs.Common.{refl, ap, sym, ◌∙◌, ◌≡◌, ℕ, Bool, true, false, List, [], ◌∷◌, ◌++◌, Option, Some, None, filter, if◌then◌else◌}
 use Rattle.std.specs.Prelude.{◌==◌, ◌+◌, not, is_some, nat_le, ◌&&◌, ◌||◌}
 use Rattle.std.specs.List.{flat_map}
-use Rattle.std.proofs.lemmas.Bool.{eqb-true, eq-eqb, or_parts, or_left, or_right}
+use Rattle.std.proofs.lemmas.Bool.{eqb-true, eq-eqb, or_left, or_right}
 use Rattle.hd_delivery.specs.Frames.{LinkFrame}
 use Rattle.hd_delivery.specs.Histories.{Ticked, Silenced, present_link, is_silence}
 use Rattle.hd_server.specs.Numbers.{held_for}
@@ -11,9 +11,11 @@ use Rattle.hd_server.specs.Machine.{connections, greatest, is_there}
 use Rattle.hd_server.specs.Doings.{ServerEvent, Notes, notes, work, history, config_of, has_peer, has_closed, may_resume}
 use Rattle.hd_server.specs.Plans.{Setup, onto, step, removing_conn, losing, shutting, replying, bare_reply, frames_reply}
 use Rattle.hd_server.specs.Serves.{lending, writing, all_of, bytes_of, flushing_socket, flushing_poll, flushing_some_poll, ending, flushing_without, flushing_on, flushing, all_flushing, silenced, ticking, ticks}
-use Rattle.hd_server.proofs.Flushing.{is_in, AreApart, numbers_apart}
+use Rattle.hd_server.specs.Parts.{Each}
+use Rattle.hd_server.proofs.Each.{either_way, each_join, each_shutting, each_replying, each_lending, each_writing}
+use Rattle.hd_server.proofs.Flushing.{is_in, AreApart, apart-filter, numbers_apart}
 use Rattle.hd_server.proofs.OrderlyNotes.{Known}
-use Rattle.hd_server.proofs.OrderlyDoings.{Settled, Parted, Lively, AreQuiet, quiet_both, quiet_lively, shutting_quiet, replying_quiet, either_way, in_turn, lively_same, lively_then, parted_of, parted_then, parted_quiet, answering, lane_losing, now_ending, lets_go}
+use Rattle.hd_server.proofs.OrderlyDoings.{Settled, Parted, Lively, quiet_lively, in_turn, lively_same, lively_then, parted_of, parted_then, parted_quiet, answering, lane_losing, now_ending, lets_go, IsQuiet}
 
 -- doings after which a connection is known as before
 abbrev pub Keeps : ℕ → ℕ → ℕ → List ServerEvent → Type 0
@@ -23,7 +25,7 @@ Keeps most now c ds = (g : List ServerEvent) → Settled most now g → Known c 
 abbrev pub Fits : ℕ → ℕ → ℕ → List ServerEvent → List ServerEvent → Type 0
 Fits most now c h ds = (g : List ServerEvent) → Settled most now g → Known c (notes g) → has_peer c g ≡ has_peer c h → Parted most now c g (onto ds g)
 
-pub keeps_quiet : {most : ℕ} (now c : ℕ) (ds : List ServerEvent) → AreQuiet ds → Keeps most now c ds
+pub keeps_quiet : {most : ℕ} (now c : ℕ) (ds : List ServerEvent) → Each IsQuiet ds → Keeps most now c ds
 keeps_quiet now c ds a g s k = quiet_lively now c ds g a s k
 
 pub keeps_both : {most : ℕ} (now c : ℕ) (ds es : List ServerEvent) → Keeps most now c ds → Keeps most now c es → Keeps most now c (ds ++ es)
@@ -61,23 +63,15 @@ fits_losing {most} now c lane h =
 
 -- ---- what is told
 
-pub lending_quiet : (c : ℕ) (fs : List LinkFrame) → AreQuiet (lending c fs)
-lending_quiet c [] = tt
-lending_quiet c (f ∷ fs) = (tt, lending_quiet c fs)
-
-pub writing_quiet : (s : Setup) (c lane : ℕ) (pieces : List (List LinkFrame)) (h : List ServerEvent) → AreQuiet (writing s c lane pieces h)
-writing_quiet s c lane [] h = tt
-writing_quiet s c lane (p ∷ ps) h = (tt, writing_quiet s c lane ps h)
-
 module _ {most : ℕ} (s : Setup) (now c : ℕ) (h : List ServerEvent) where
   on_socket : (lane : ℕ) (pieces : List (List LinkFrame)) → Fits most now c h (flushing_socket s c lane pieces h)
   on_socket lane pieces =
       let last : List ServerEvent = if has_closed c h then shutting lane h ++ removing_conn c h else [] in
       fits_after now c h (lending c (all_of pieces) ++ writing s c lane pieces h) last
       (keeps_quiet now c (lending c (all_of pieces) ++ writing s c lane pieces h)
-      (quiet_both (lending c (all_of pieces)) (writing s c lane pieces h) (lending_quiet c (all_of pieces)) (writing_quiet s c lane pieces h)))
+      (each_join IsQuiet (lending c (all_of pieces)) (writing s c lane pieces h) (each_lending IsQuiet c (all_of pieces) (λ x. tt)) (each_writing IsQuiet s c lane pieces h (λ bytes text. tt))))
       (either_way (Fits most now c h) (has_closed c h) (shutting lane h ++ removing_conn c h) []
-      (fits_after now c h (shutting lane h) (removing_conn c h) (keeps_quiet now c (shutting lane h) (shutting_quiet lane h)) (fits_leaving now c h))
+      (fits_after now c h (shutting lane h) (removing_conn c h) (keeps_quiet now c (shutting lane h) (each_shutting IsQuiet lane h tt)) (fits_leaving now c h))
       (fits_kept now c h [] (keeps_none now c)))
 
   on_poll : (poll : ℕ × ℕ) (fs : List LinkFrame) → Fits most now c h (flushing_poll s now c poll fs h)
@@ -85,17 +79,17 @@ module _ {most : ℕ} (s : Setup) (now c : ℕ) (h : List ServerEvent) where
       let answers : List ServerEvent = replying poll.0 (bare_reply 200) h ++ Notes (Answered c poll.0 now) ∷ [] in
       either_way (Fits most now c h) (has_closed c h) (replying poll.0 (bare_reply 204) h ++ removing_conn c h) (if nat_le (poll.1 + held_for) now then answers else [])
       (fits_after now c h (replying poll.0 (bare_reply 204) h) (removing_conn c h)
-      (keeps_quiet now c (replying poll.0 (bare_reply 204) h) (replying_quiet poll.0 (bare_reply 204) h)) (fits_leaving now c h))
+      (keeps_quiet now c (replying poll.0 (bare_reply 204) h) (each_replying IsQuiet poll.0 (bare_reply 204) h tt tt)) (fits_leaving now c h))
       (either_way (Fits most now c h) (nat_le (poll.1 + held_for) now) answers []
       (fits_kept now c h answers (keeps_both now c (replying poll.0 (bare_reply 200) h) (Notes (Answered c poll.0 now) ∷ [])
-      (keeps_quiet now c (replying poll.0 (bare_reply 200) h) (replying_quiet poll.0 (bare_reply 200) h)) (keeps_answer now c poll.0)))
+      (keeps_quiet now c (replying poll.0 (bare_reply 200) h) (each_replying IsQuiet poll.0 (bare_reply 200) h tt tt)) (keeps_answer now c poll.0)))
       (fits_kept now c h [] (keeps_none now c)))
   on_poll poll (f ∷ fs) =
       let reply : List ServerEvent = replying poll.0 (frames_reply (bytes_of s c (f ∷ fs) h)) h in
       fits_kept now c h (lending c (f ∷ fs) ++ reply ++ Notes (Answered c poll.0 now) ∷ [])
       (keeps_both now c (lending c (f ∷ fs) ++ reply) (Notes (Answered c poll.0 now) ∷ [])
       (keeps_quiet now c (lending c (f ∷ fs) ++ reply)
-      (quiet_both (lending c (f ∷ fs)) reply (lending_quiet c (f ∷ fs)) (replying_quiet poll.0 (frames_reply (bytes_of s c (f ∷ fs) h)) h)))
+      (each_join IsQuiet (lending c (f ∷ fs)) reply (each_lending IsQuiet c (f ∷ fs) (λ x. tt)) (each_replying IsQuiet poll.0 (frames_reply (bytes_of s c (f ∷ fs) h)) h tt tt)))
       (keeps_answer now c poll.0))
 
   on_some_poll : (o : Option (ℕ × ℕ)) (fs : List LinkFrame) → Fits most now c h (flushing_some_poll s now c o fs h)
@@ -127,7 +121,7 @@ silent_fits {most} now c h (Some lane) =
     both : Fits most now c h (losing c lane now h ++ shutting lane h)
     both g s k e =
         in_turn (Parted most now c g) (losing c lane now h) (shutting lane h) g
-        (parted_quiet now c (shutting lane h) g (onto (losing c lane now h) g) (shutting_quiet lane h) (fits_losing now c lane h g s k e))
+        (parted_quiet now c (shutting lane h) g (onto (losing c lane now h) g) (each_shutting IsQuiet lane h tt) (fits_losing now c lane h g s k e))
 
 tick_fits : {most : ℕ} (now c : ℕ) (h : List ServerEvent) → Fits most now c h (ticking now c h)
 tick_fits {most} now c h =
@@ -181,20 +175,6 @@ walk_told {most} s now h (c ∷ cs) (pieces ∷ more) g apart ready ok =
 -- ---- all connections
 
 module _ (t : ℕ → Bool) where
-  out-filter : (c : ℕ) (xs : List ℕ) → is_in c xs ≡ false → is_in c (filter t xs) ≡ false
-  out-filter c [] e = refl
-  out-filter c (x ∷ xs) e = let parts = or_parts (c == x) (is_in c xs) e in by (t x) parts.0 (out-filter c xs parts.1) where
-    by : (b : Bool) → (c == x) ≡ false → is_in c (filter t xs) ≡ false → is_in c (if b then x ∷ filter t xs else filter t xs) ≡ false
-    by true f g = rw (f, g) refl
-    by false f g = g
-
-  pub apart-filter : (xs : List ℕ) → AreApart xs → AreApart (filter t xs)
-  apart-filter [] a = tt
-  apart-filter (x ∷ xs) a = by (t x) (apart-filter xs a.1) where
-    by : (b : Bool) → AreApart (filter t xs) → AreApart (if b then x ∷ filter t xs else filter t xs)
-    by true g = (out-filter x xs a.0, g)
-    by false g = g
-
   pub passes : (c : ℕ) (xs : List ℕ) → is_in c (filter t xs) ≡ true → t c ≡ true
   passes c [] e = absurd (cc)
   passes c (x ∷ xs) e = by (t x) refl e (passes c xs) where

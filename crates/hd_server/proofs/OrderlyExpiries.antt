@@ -10,11 +10,12 @@ use Rattle.hd_server.specs.Lives.{Expired, AreInOrder, made, is_removed, is_know
 use Rattle.hd_server.specs.Machine.{Goes, settings_of}
 use Rattle.hd_server.specs.Doings.{ServerEvent, Notes, Works, notes, work, moment, has_peer, is_up}
 use Rattle.hd_server.specs.Plans.{onto, closing, dropping, expiring, expiries}
-use Rattle.hd_server.proofs.Flushing.{is_in, AreApart, numbers_apart}
+use Rattle.hd_server.proofs.Each.{either_way}
+use Rattle.hd_server.proofs.Flushing.{is_in, AreApart, numbers_apart, apart-filter}
 use Rattle.hd_server.proofs.Once.{moments_come_once}
 use Rattle.hd_server.proofs.OrderlyNotes.{Known, first_within, none_past, another_stands, another_stays, polling_expires}
-use Rattle.hd_server.proofs.OrderlyDoings.{Settled, either_way, in_turn}
-use Rattle.hd_server.proofs.OrderlyEach.{is_other, apart-filter}
+use Rattle.hd_server.proofs.OrderlyDoings.{Settled, in_turn}
+use Rattle.hd_server.proofs.OrderlyEach.{is_other}
 
 -- what holds while these are still to expire, and are as they were after h
 record Expires (most now : ℕ) (h : List ServerEvent) (cs : List ℕ) (g : List ServerEvent) : Type 0 where

@@ -5,7 +5,6 @@ use Rattle.std.proofs.lemmas.Bool.{eq-eqb, or_left, or_right}
 use Rattle.hw_lanes.specs.declared.http.Method.{Method}
 use Rattle.hw_lanes.specs.declared.http.Method.TheVariants.{Get, Post, Delete, Other}
 use Rattle.hw_lanes.specs.declared.http.Request.{Request}
-use Rattle.hd_delivery.specs.declared.vocabulary.Reason.{Reason}
 use Rattle.hd_delivery.specs.declared.vocabulary.Reason.TheVariants as reason
 use Rattle.hd_delivery.specs.Histories.{Detached, is_this}
 use Rattle.hw_door.specs.declared.heard.Event.{Event}
@@ -15,14 +14,17 @@ use Rattle.hd_server.specs.declared.vocabulary.Life.TheVariants.{Unknown, Fresh,
 use Rattle.hd_server.specs.Lives.{Negotiated, Opened, Socketed, Polled, Answered, HasRoom, gives_way, is_known, is_busy, is_resumable_promise, life_of_some, made, numbers_to, poll_of, socket_of}
 use Rattle.hd_server.specs.Numbers.{most_connections}
 use Rattle.hd_server.specs.Texts.{token_of, negotiate_body}
-use Rattle.hd_server.specs.Table.{Facts, Outcome, Refusal, NewToken, PlainSocket, TokenSocket, FirstPoll, NextPoll, LastPoll, Posting, Deletion, is_base, is_negotiate, is_socket, has_id, has_version, same_method, is_entry, is_unauthorized, is_keepers_fault, asks_keeper, socket_outcome, poll_outcome, post_outcome, delete_outcome, method_outcome, named_outcome, outcome}
+use Rattle.hd_server.specs.Table.{Facts, Outcome, Refusal, NewToken, PlainSocket, TokenSocket, FirstPoll, NextPoll, LastPoll, Posting, Deletion, is_base, is_negotiate, is_socket, has_id, has_version, same_method, is_entry, is_unauthorized, is_keepers_fault, socket_outcome, poll_outcome, post_outcome, delete_outcome, method_outcome, named_outcome, outcome}
 use Rattle.hd_server.specs.Machine.{connections, greatest, is_there}
-use Rattle.hd_server.specs.Doings.{ServerEvent, Notes, notes, work, is_up}
-use Rattle.hd_server.specs.Plans.{Setup, onto, step, connecting, attaching, closing, removing_conn, bare_reply, socket_reply, token_reply, refusal_reply, replying, ending_poll, ending_held, learning, asks_lots, questions, standing_on, shutting_some, request_plan, conn_on, poller_on, losing, losing_lane, named_conn, facts, plan, giving_way, removing_some}
+use Rattle.hd_server.specs.Doings.{ServerEvent, Notes, notes, work, Learns, Draws}
+use Rattle.hd_server.specs.Plans.{Setup, onto, step, connecting, attaching, closing, removing_conn, bare_reply, socket_reply, token_reply, refusal_reply, replying, ending_poll, ending_held, questions, standing_on, shutting_some, request_plan, conn_on, poller_on, losing, losing_lane, named_conn, facts, plan, giving_way, removing_some}
 use Rattle.hd_server.specs.Serves.{IsFed}
+use Rattle.hd_server.specs.Parts.{Each, IsQuestion}
+use Rattle.hd_server.proofs.PartsOfTurns.{questions_are}
+use Rattle.hd_server.proofs.Each.{either_way, each_so, each_shutting_some, each_replying, each_closing, each_move}
 use Rattle.hd_server.proofs.Flushing.{is_in}
 use Rattle.hd_server.proofs.OrderlyNotes.{Known, known_of_life}
-use Rattle.hd_server.proofs.OrderlyDoings.{Settled, Parted, Lively, AreQuiet, quiet_both, quiet_settled, quiet_settled_after, quiet_notes_after, quiet_lively, shutting_quiet, replying_quiet, moves_quiet, either_way, in_turn, socketing, polling, answering, lane_losing, connects, connecting_notes, negotiating, opening, opened_known}
+use Rattle.hd_server.proofs.OrderlyDoings.{Settled, Parted, Lively, quiet_settled, quiet_settled_after, quiet_notes_after, quiet_lively, in_turn, socketing, polling, answering, lane_losing, connects, connecting_notes, negotiating, opening, opened_known, IsQuiet}
 use Rattle.hd_server.proofs.GivingWay.{either_room, has_room, makes_room, not_last, removed_so, unused}
 use Rattle.hd_server.proofs.OrderlyEach.{Keeps, keeps_quiet, keeps_both, keeps_answer, keeps_none, fits_after, fits_leaving, fits_losing, passes}
 
@@ -124,11 +126,11 @@ outcome_right base r f =
 
 fed_settled : {most : ℕ} (now : ℕ) (o : Option (ℕ × List ℕ)) (h after : List ServerEvent) → IsFed now o h after → Settled most now h → Settled most now after
 fed_settled {most} now None h after e s = subst (Settled most now) (sym e) s
-fed_settled {most} now (Some f) h after one s = subst (Settled most now) (sym one.are) (quiet_settled_after now _ h (moves_quiet f.0 one.moves) s)
+fed_settled {most} now (Some f) h after one s = subst (Settled most now) (sym one.are) (quiet_settled_after now _ h (each_move IsQuiet f.0 one.moves (λ m. tt)) s)
 
 fed_notes : (now : ℕ) (o : Option (ℕ × List ℕ)) (h after : List ServerEvent) → IsFed now o h after → notes after ≡ notes h
 fed_notes now None h after e = ap notes e
-fed_notes now (Some f) h after one = ap notes one.are ∙ quiet_notes_after _ h (moves_quiet f.0 one.moves)
+fed_notes now (Some f) h after one = ap notes one.are ∙ quiet_notes_after _ h (each_move IsQuiet f.0 one.moves (λ m. tt))
 
 -- ---- requests
 
@@ -150,21 +152,14 @@ stands {most} now lane c r s reconnect h g live =
     let begun : IsLive most now c x = begins now c s reconnect h g live in
     let reply = replying lane (socket_reply r.upgrade) h in
     in_turn (Settled most now) (connecting s c reconnect h ++ attaching c now h) (Notes (Socketed c lane now) ∷ reply) g
-    (quiet_settled now reply (Notes (Socketed c lane now) ∷ x) (replying_quiet lane (socket_reply r.upgrade) h)
+    (quiet_settled now reply (Notes (Socketed c lane now) ∷ x) (each_replying IsQuiet lane (socket_reply r.upgrade) h tt tt)
     (socketing now c x begun.0 begun.1 lane).settled)
-
-shuts_some : (o : Option ℕ) (h : List ServerEvent) → AreQuiet (shutting_some o h)
-shuts_some None h = tt
-shuts_some (Some lane) h = shutting_quiet lane h
 
 poll_ends : {most : ℕ} (c now : ℕ) (o : Option (ℕ × ℕ)) (h : List ServerEvent) → Keeps most now c (ending_poll c now o h)
 poll_ends c now None h = keeps_none now c
 poll_ends c now (Some poll) h =
     keeps_both now c (replying poll.0 (bare_reply 204) h) (Notes (Answered c poll.0 now) ∷ [])
-    (keeps_quiet now c (replying poll.0 (bare_reply 204) h) (replying_quiet poll.0 (bare_reply 204) h)) (keeps_answer now c poll.0)
-
-closes : (c : ℕ) (why : Reason) (h : List ServerEvent) → AreQuiet (closing c why h)
-closes c why h = either_way AreQuiet (is_up c h) _ [] (tt, tt) tt
+    (keeps_quiet now c (replying poll.0 (bare_reply 204) h) (each_replying IsQuiet poll.0 (bare_reply 204) h tt tt)) (keeps_answer now c poll.0)
 
 -- after one gave way there is room, unless the server is busy
 pub gave_way : (s : Setup) (now : ℕ) (h : List ServerEvent) → Settled s.live now h → Settled s.live now (onto (giving_way s now h) h)
@@ -193,10 +188,10 @@ module _ (s : Setup) (now lane : ℕ) (r : Request) (drawn : Option (List ℕ)) 
       let ended : List ServerEvent = ending_held c now h ++ closing c reason.Done h in
       let keeps : Keeps s.live now c ended
       = keeps_both now c (ending_held c now h) (closing c reason.Done h) (poll_ends c now (poll_of c (notes h)) h)
-      (keeps_quiet now c (closing c reason.Done h) (closes c reason.Done h)) in
+      (keeps_quiet now c (closing c reason.Done h) (each_closing IsQuiet c reason.Done h tt)) in
       let left : Parted s.live now c h (onto (ended ++ removing_conn c h) h) = fits_after now c h ended (removing_conn c h) keeps (fits_leaving now c h) h ok k refl in
       in_turn (Settled s.live now) (ended ++ removing_conn c h) (replying lane (bare_reply 202) h) h
-      (quiet_settled now (replying lane (bare_reply 202) h) (onto (ended ++ removing_conn c h) h) (replying_quiet lane (bare_reply 202) h) left.settled)
+      (quiet_settled now (replying lane (bare_reply 202) h) (onto (ended ++ removing_conn c h) h) (each_replying IsQuiet lane (bare_reply 202) h tt tt) left.settled)
 
   request_settled : (life : Life) (busy : Bool) → (is_known life ≡ true → Known c (notes h)) → (busy ≡ false → is_busy s.live now (notes h) ≡ false)
       → (out : Outcome) → IsRight life busy out → (fed : List ServerEvent)
@@ -204,7 +199,7 @@ module _ (s : Setup) (now lane : ℕ) (r : Request) (drawn : Option (List ℕ)) 
       (onto (request_plan s (record { now = now; lane = lane; request = r }) drawn c h out).first h) fed
       → Settled s.live now (onto (request_plan s (record { now = now; lane = lane; request = r }) drawn c h out).last fed)
   request_settled life busy known room (Refusal status) right fed e =
-      subst (Settled s.live now) (sym e) (quiet_settled now (replying lane (refusal_reply s.base r status) h) h (replying_quiet lane (refusal_reply s.base r status) h) ok)
+      subst (Settled s.live now) (sym e) (quiet_settled now (replying lane (refusal_reply s.base r status) h) h (each_replying IsQuiet lane (refusal_reply s.base r status) h tt tt) ok)
   request_settled life busy known room (NewToken reconnect) right fed e =
       let g : List ServerEvent = onto (giving_way s now h) h in
       let k : ℕ = suc (made (notes g)) in
@@ -212,7 +207,7 @@ module _ (s : Setup) (now lane : ℕ) (r : Request) (drawn : Option (List ℕ)) 
       let reply : List ServerEvent = replying lane (token_reply (negotiate_body k token reconnect)) g in
       subst (Settled s.live now) (sym e)
       (in_turn (Settled s.live now) (giving_way s now h) (Notes (Negotiated k token reconnect now) ∷ reply) h
-      (quiet_settled now reply (Notes (Negotiated k token reconnect now) ∷ g) (replying_quiet lane (token_reply (negotiate_body k token reconnect)) g)
+      (quiet_settled now reply (Notes (Negotiated k token reconnect now) ∷ g) (each_replying IsQuiet lane (token_reply (negotiate_body k token reconnect)) g tt tt)
       (negotiating now g (gave_way s now h ok) (room_for_next s now h ok (room right)) token reconnect)))
   request_settled life busy known room PlainSocket right fed e =
       let g : List ServerEvent = onto (giving_way s now h) h in
@@ -225,7 +220,7 @@ module _ (s : Setup) (now lane : ℕ) (r : Request) (drawn : Option (List ℕ)) 
       (stands now lane k r s false x x (opening now g ok_g free, opened_known now g ok_g free)))
   request_settled life busy known room TokenSocket right fed e =
       let shut : List ServerEvent = shutting_some (socket_of c (notes h)) h in
-      let after_it : Lively s.live now c h (onto shut h) = quiet_lively now c shut h (shuts_some (socket_of c (notes h)) h) ok (known right) in
+      let after_it : Lively s.live now c h (onto shut h) = quiet_lively now c shut h (each_shutting_some IsQuiet (socket_of c (notes h)) h (λ l. tt)) ok (known right) in
       subst (Settled s.live now) (sym e)
       (in_turn (Settled s.live now) shut (standing_on s (record { now = now; lane = lane; request = r }) c (is_resumable_promise c (notes h)) h) h
       (stands now lane c r s (is_resumable_promise c (notes h)) h (onto shut h) (after_it.settled, after_it.known)))
@@ -237,7 +232,7 @@ module _ (s : Setup) (now lane : ℕ) (r : Request) (drawn : Option (List ℕ)) 
       let polls = polling now c fed ate still lane in
       let answers = answering now c (Notes (Polled c lane now) ∷ fed) polls.settled polls.known lane in
       quiet_settled now (replying lane (bare_reply 200) h) (Notes (Answered c lane now) ∷ Notes (Polled c lane now) ∷ fed)
-      (replying_quiet lane (bare_reply 200) h) answers.settled
+      (each_replying IsQuiet lane (bare_reply 200) h tt tt) answers.settled
   request_settled life busy known room NextPoll right fed e =
       let begun : List ServerEvent = onto (ending_held c now h) h in
       let live : Lively s.live now c h begun = poll_ends c now (poll_of c (notes h)) h h ok (known right) in
@@ -246,7 +241,7 @@ module _ (s : Setup) (now lane : ℕ) (r : Request) (drawn : Option (List ℕ)) 
       (polling now c fed ate still lane).settled
   request_settled life busy known room LastPoll right fed e = subst (Settled s.live now) (sym e) (polling now c h ok (known right) lane).settled
   request_settled life busy known room Posting right fed e =
-      quiet_settled now (replying lane (bare_reply 200) h) fed (replying_quiet lane (bare_reply 200) h) (fed_settled now (Some (c, r.body)) h fed e ok)
+      quiet_settled now (replying lane (bare_reply 200) h) fed (each_replying IsQuiet lane (bare_reply 200) h tt tt) (fed_settled now (Some (c, r.body)) h fed e ok)
   request_settled life busy known room Deletion right fed e = subst (Settled s.live now) (sym e) (deletes (known right))
 
 -- the connection that is named is known if its life is
@@ -293,15 +288,14 @@ plan_settled s now heard name drawn h fed ok e = subst (Settled s.live now) (sym
 
 -- ---- questions
 
-learns : (o : Option (List ℕ)) (name : Option (Option (List ℕ))) → AreQuiet (learning o name)
-learns None name = tt
-learns (Some token) name = (tt, tt)
+question_quiet : (d : ServerEvent) → IsQuestion d → IsQuiet d
+question_quiet (Learns ask) e = tt
+question_quiet (Draws drawn) e = tt
+question_quiet d e = absurd e
 
 pub asks : (s : Setup) (now : ℕ) (e : Event) (name : Option (Option (List ℕ))) (drawn : Option (List ℕ)) (h : List ServerEvent)
-    → AreQuiet (questions s now e name drawn h)
-asks s now (event.Request lane r) name drawn h =
-    quiet_both (learning (asks_keeper s.base r) name) _ (learns (asks_keeper s.base r) name) (either_way AreQuiet (asks_lots s now r name h) _ [] (tt, tt) tt)
-asks s now e name drawn h = tt
+    → Each IsQuiet (questions s now e name drawn h)
+asks s now e name drawn h = each_so IsQuestion IsQuiet question_quiet (questions s now e name drawn h) (questions_are s now e name drawn h)
 
 pub asked_settled : {most : ℕ} (s : Setup) (now : ℕ) (e : Event) (name : Option (Option (List ℕ))) (drawn : Option (List ℕ)) (h : List ServerEvent) → Settled most now h
     → Settled most now (onto (questions s now e name drawn h) h)

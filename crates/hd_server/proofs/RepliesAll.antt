@@ -14,11 +14,12 @@ use Rattle.hd_server.specs.Machine.{Rounds, connections, has_gone, settings_of}
 use Rattle.hd_server.specs.Doings.{ServerEvent, Hears, Works, Sees, notes, work, moment, has_peer}
 use Rattle.hd_server.specs.Plans.{Setup, onto, expiries, questions, conn_on, poller_on, losing_lane, named_conn, facts, plan, giving_way}
 use Rattle.hd_server.specs.Serves.{IsFed, IsFree, IsTurn, Serves, ticks, all_flushing}
+use Rattle.hd_server.specs.Parts.{Each}
 use Rattle.hd_server.specs.Laws.{EachRequestIsAnswered}
 use Rattle.hd_server.proofs.Flushing.{is_in}
 use Rattle.hd_server.proofs.Seeing.{Stays, one_stays}
 use Rattle.hd_server.proofs.OrderlyNotes.{Known, known_of_life, once_opened, within}
-use Rattle.hd_server.proofs.OrderlyDoings.{Settled, AreQuiet}
+use Rattle.hd_server.proofs.OrderlyDoings.{Settled, IsQuiet}
 use Rattle.hd_server.proofs.OrderlyExpiries.{expired_settled}
 use Rattle.hd_server.proofs.OrderlyPlans.{asks, asked_settled, named_known, plan_settled, gave_way}
 use Rattle.hd_server.proofs.Orderly.{nothing_done, orderly_stays, round_quiet}
@@ -228,7 +229,7 @@ module _ {Job : Type 0} (hub : Hub Job) (s : Setup) (now : ℕ) (e : Event) (h a
       = subst (Seats None None) (sym turn.has_ticked)
       (less_seats None None turn.handled (onto ticking turn.handled) (less_onto ticking turn.handled (ticks_less now turn.handled)) handled) in
       let begun : List ServerEvent = Works (Rounds now) ∷ turn.ticked in
-      let words : AreQuiet (map Works turn.round) = round_quiet now turn.round (Rounds now ∷ work turn.ticked) turn.rounds.each in
+      let words : Each IsQuiet (map Works turn.round) = round_quiet now turn.round (Rounds now ∷ work turn.ticked) turn.rounds.each in
       let stepped : Seats None None turn.stepped
       = subst (Seats None None) (sym turn.has_stepped)
       (less_seats None None begun (map Works turn.round ++ begun) (less_after (map Works turn.round) begun (works_less turn.round words))

@@ -10,13 +10,14 @@ use Rattle.hd_server.specs.Lives.{ConnectionEvent, Negotiated, Opened, Socketed,
 use Rattle.hd_server.specs.Machine.{Goes}
 use Rattle.hd_server.specs.Doings.{ServerEvent, Notes, Works, notes, has_peer}
 use Rattle.hd_server.specs.Plans.{onto, closing, dropping, expiring, expiries}
+use Rattle.hd_server.proofs.Each.{either_way, each_closing}
 use Rattle.hd_server.proofs.Few.{standing_same}
-use Rattle.hd_server.proofs.Flushing.{numbers_apart}
+use Rattle.hd_server.proofs.Flushing.{numbers_apart, apart-filter}
 use Rattle.hd_server.proofs.OrderlyNotes.{Known, gone_unknown, in_numbers}
-use Rattle.hd_server.proofs.OrderlyDoings.{in_turn, either_way}
-use Rattle.hd_server.proofs.OrderlyEach.{apart-filter, passes}
+use Rattle.hd_server.proofs.OrderlyDoings.{in_turn, IsQuiet}
+use Rattle.hd_server.proofs.OrderlyEach.{passes}
 use Rattle.hd_server.proofs.RepliesOwn.{Alike, alike_same, own_alike, quiet_onto}
-use Rattle.hd_server.proofs.RepliesPhases.{closing_quiet, each_own, expired_gone, expires_own, expiring_one, kept_in}
+use Rattle.hd_server.proofs.RepliesPhases.{each_own, expired_gone, expires_own, expiring_one, kept_in}
 use Rattle.hd_server.proofs.RepliesOwnFlushed.{Both, Done, done_alike}
 
 -- one whose last poll ended holds none
@@ -66,7 +67,7 @@ module _ (now : ℕ) (h : List ServerEvent) where
     by : (life : Life) → standing c (notes h) ≡ life → Done c (onto (expiring now life c h) g)
     by Polling i =
         let none = held_or_ended c (notes h) (past_ended c now (notes h) i past) in
-        let b = quiet_onto c (closing c reason.Expired h) g (closing_quiet c reason.Expired h) in
+        let b = quiet_onto c (closing c reason.Expired h) g (each_closing IsQuiet c reason.Expired h tt) in
         in_turn (Done c) (closing c reason.Expired h) (Notes (Expired c now) ∷ []) g (λ u f. b.same_notes.of_poll ∙ a.same_notes.of_poll ∙ none)
     by Unknown i = drops (λ f. absurd (let z : Unknown ≡ Polling = sym i ∙ f in cc))
     by Fresh i = drops (λ f. absurd (let z : Fresh ≡ Polling = sym i ∙ f in cc))

@@ -12,11 +12,14 @@ use Rattle.hd_server.specs.Machine.{Goes, settings_of, has_gone}
 use Rattle.hd_server.specs.Doings.{ServerEvent, Notes, Works, Says, notes, work, has_peer, has_closed}
 use Rattle.hd_server.specs.Plans.{Setup, onto, removing_conn, shutting, ends_lane, reply_on, shutting_after, replying, bare_reply, frames_reply}
 use Rattle.hd_server.specs.Serves.{lending, writing, all_of, bytes_of, flushing_socket, flushing_poll, flushing_some_poll, ending, flushing_without, flushing_on, flushing, all_flushing}
-use Rattle.hd_server.proofs.Flushing.{is_in, AreApart, Same, all_same, flushing_tells}
-use Rattle.hd_server.proofs.OrderlyDoings.{in_turn, either_way}
+use Rattle.hd_server.specs.Parts.{Each}
+use Rattle.hd_server.proofs.PartsOfTurns.{flushing_is}
+use Rattle.hd_server.proofs.Each.{either_way, each_join, each_shutting, each_shutting_after, each_lending, each_writing, each_removing}
+use Rattle.hd_server.proofs.Flushing.{is_in, AreApart, Same, all_same}
+use Rattle.hd_server.proofs.OrderlyDoings.{in_turn}
 use Rattle.hd_server.proofs.OrderlyEach.{is_other}
 use Rattle.hd_server.proofs.RepliesSent.{bare_sent, frames_sent, plain_200, plain_204, sent_on}
-use Rattle.hd_server.proofs.RepliesLanes.{Holds, calm_then, calm_holds, AreCalm, calm_onto, calm_both, shutting_calm, letting_calm, shutting_after_calm, answered, parted}
+use Rattle.hd_server.proofs.RepliesLanes.{Holds, calm_then, calm_holds, calm_onto, answered, parted, IsCalm}
 
 -- ---- one that goes has no peer
 
@@ -43,7 +46,7 @@ answers_held asks c poll now h g ok there mine reply sent =
     in_turn (Holds asks None) (replying poll.0 reply h) (Notes (Answered c poll.0 now) ∷ []) g
     (let x : List ServerEvent = Says (say.Reply poll.0 (reply_on poll.0 reply h)) ∷ g in
     answered asks None g ok c poll.0 poll.1 there mine refl (reply_on poll.0 reply h) (sent_on poll.0 reply h sent)
-    (onto (shutting_after poll.0 reply h) x) (calm_onto (shutting_after poll.0 reply h) x (shutting_after_calm poll.0 reply h)) now)
+    (onto (shutting_after poll.0 reply h) x) (calm_onto (shutting_after poll.0 reply h) x (each_shutting_after IsCalm poll.0 reply h tt)) now)
 
 -- the poll is answered, and the connection goes
 answers_leaving : (asks : Option ℕ) (c : ℕ) (poll : ℕ × ℕ) (h g : List ServerEvent) → Holds asks None g → has_peer c g ≡ true → has_peer c h ≡ true
@@ -52,33 +55,25 @@ answers_leaving : (asks : Option ℕ) (c : ℕ) (poll : ℕ × ℕ) (h g : List 
 answers_leaving asks c poll h g ok there was mine reply sent =
     let x : List ServerEvent = Says (say.Reply poll.0 (reply_on poll.0 reply h)) ∷ g in
     let y : List ServerEvent = onto (shutting_after poll.0 reply h) x in
-    let to_y = calm_onto (shutting_after poll.0 reply h) x (shutting_after_calm poll.0 reply h) in
-    let to_z = calm_onto (removing_conn c h) y (letting_calm c h) in
+    let to_y = calm_onto (shutting_after poll.0 reply h) x (each_shutting_after IsCalm poll.0 reply h tt) in
+    let to_z = calm_onto (removing_conn c h) y (each_removing IsCalm c h tt tt) in
     in_turn (Holds asks None) (replying poll.0 reply h) (removing_conn c h) g
     (parted asks None g ok c poll.0 poll.1 there mine refl (reply_on poll.0 reply h) (sent_on poll.0 reply h sent) (onto (removing_conn c h) y) (calm_then x y (onto (removing_conn c h) y) to_y to_z)
     (left_alone c h y (shut_peer c poll.0 reply h x ∙ there ∙ sym was)))
 
 -- ---- what one connection says
 
-lending_calm : (c : ℕ) (fs : List LinkFrame) → AreCalm (lending c fs)
-lending_calm c [] = tt
-lending_calm c (f ∷ fs) = (tt, lending_calm c fs)
-
 lending_peer : (c k : ℕ) (fs : List LinkFrame) (g : List ServerEvent) → has_peer k (onto (lending c fs) g) ≡ has_peer k g
 lending_peer c k [] g = refl
 lending_peer c k (f ∷ fs) g = lending_peer c k fs _
 
-writing_calm : (s : Setup) (c lane : ℕ) (pieces : List (List LinkFrame)) (h : List ServerEvent) → AreCalm (writing s c lane pieces h)
-writing_calm s c lane [] h = tt
-writing_calm s c lane (p ∷ ps) h = (tt, writing_calm s c lane ps h)
-
 module _ (s : Setup) (now c : ℕ) (h : List ServerEvent) (was : has_peer c h ≡ true) where
-  on_socket : (lane : ℕ) (pieces : List (List LinkFrame)) → AreCalm (flushing_socket s c lane pieces h)
+  on_socket : (lane : ℕ) (pieces : List (List LinkFrame)) → Each IsCalm (flushing_socket s c lane pieces h)
   on_socket lane pieces =
-      calm_both (lending c (all_of pieces) ++ writing s c lane pieces h) (if has_closed c h then shutting lane h ++ removing_conn c h else [])
-      (calm_both (lending c (all_of pieces)) (writing s c lane pieces h) (lending_calm c (all_of pieces)) (writing_calm s c lane pieces h))
-      (either_way AreCalm (has_closed c h) (shutting lane h ++ removing_conn c h) []
-      (calm_both (shutting lane h) (removing_conn c h) (shutting_calm lane h) (letting_calm c h)) tt)
+      each_join IsCalm (lending c (all_of pieces) ++ writing s c lane pieces h) (if has_closed c h then shutting lane h ++ removing_conn c h else [])
+      (each_join IsCalm (lending c (all_of pieces)) (writing s c lane pieces h) (each_lending IsCalm c (all_of pieces) (λ x. tt)) (each_writing IsCalm s c lane pieces h (λ bytes text. tt)))
+      (either_way (Each IsCalm) (has_closed c h) (shutting lane h ++ removing_conn c h) []
+      (each_join IsCalm (shutting lane h) (removing_conn c h) (each_shutting IsCalm lane h tt) (each_removing IsCalm c h tt tt)) tt)
 
   on_poll : (poll : ℕ × ℕ) (fs : List LinkFrame) (g : List ServerEvent) → Holds None None g → has_peer c g ≡ true → poll_of c (notes g) ≡ Some poll
       → Holds None None (onto (flushing_poll s now c poll fs h) g)
@@ -92,7 +87,7 @@ module _ (s : Setup) (now c : ℕ) (h : List ServerEvent) (was : has_peer c h �
   on_poll poll (f ∷ fs) g ok there mine =
       let reply : Reply = frames_reply (bytes_of s c (f ∷ fs) h) in
       let lent : List ServerEvent = onto (lending c (f ∷ fs)) g in
-      let calm = calm_onto (lending c (f ∷ fs)) g (lending_calm c (f ∷ fs)) in
+      let calm = calm_onto (lending c (f ∷ fs)) g (each_lending IsCalm c (f ∷ fs) (λ x. tt)) in
       let ok_then = calm_holds None None g lent calm ok in
       let there_then : has_peer c lent ≡ true = lending_peer c c (f ∷ fs) g ∙ there in
       let mine_then : poll_of c (notes lent) ≡ Some poll = calm.same_polls c ∙ mine in
@@ -123,7 +118,7 @@ module _ (s : Setup) (now c : ℕ) (h : List ServerEvent) (was : has_peer c h �
       (calm_holds None None g (Notes (Ended c now) ∷ g) (calm_onto (Notes (Ended c now) ∷ []) g (tt, tt)) ok) there mine)
       (on_some_poll (poll_of c (notes h)) fs g ok there mine)))
       (either_way (λ ds. Holds None None (onto ds g)) (has_closed c h) (removing_conn c h) []
-      (calm_holds None None g (onto (removing_conn c h) g) (calm_onto (removing_conn c h) g (letting_calm c h)) ok) ok)
+      (calm_holds None None g (onto (removing_conn c h) g) (calm_onto (removing_conn c h) g (each_removing IsCalm c h tt tt)) ok) ok)
 
   tells_on : (o : Option ℕ) (pieces : List (List LinkFrame)) (g : List ServerEvent) → Holds None None g → has_peer c g ≡ true
       → poll_of c (notes g) ≡ poll_of c (notes h) → Holds None None (onto (flushing_on s now c o pieces h) g)
@@ -147,7 +142,7 @@ further_waiting s now c cs pieces h g out ready k i =
     let words : List ServerEvent = flushing s now c pieces h in
     let other = is_other c k cs out i in
     let was = ready k (or_right (k == c) (is_in k cs) i) in
-    let same = all_same k c words g other (flushing_tells s now c (socket_of c (notes h)) pieces h) in
+    let same = all_same k c words g other (flushing_is s now c h (socket_of c (notes h)) pieces) in
     (was.0, same_peer k g (onto words g) same ∙ was.1, same.same_poll ∙ was.2)
 
 pub all_told : (s : Setup) (now : ℕ) (h : List ServerEvent) (cs : List ℕ) (all : List (List (List LinkFrame))) (g : List ServerEvent) → AreApart cs

@@ -1,18 +1,18 @@
 -- Which lanes wait for a reply: those on which a poll is held.
 use Rattle.std.proofs.Common.{refl, ap, subst, sym, ◌∙◌, ◌≡◌, ℕ, Bool, true, false, List, [], ◌∷◌, ◌++◌, Option, Some, None, if◌then◌else◌}
-use Rattle.std.specs.Prelude.{◌==◌, not, is_some, map, option_map, ◌&&◌, ◌||◌}
+use Rattle.std.specs.Prelude.{◌==◌, not, is_some, option_map, ◌&&◌, ◌||◌}
+use Rattle.std.proofs.Math.Bool.{and-false}
 use Rattle.std.proofs.lemmas.Bool.{eqb-true, eq-eqb}
 use Rattle.hw_lanes.specs.declared.http.Reply.{Reply}
 use Rattle.hw_lanes.specs.Replies.{IsReply}
 use Rattle.hd_delivery.specs.Histories.{is_this}
-use Rattle.hd_calls.specs.Peers.{PeerEvent}
 use Rattle.hd_server.specs.declared.vocabulary.Said.TheVariants as say
-use Rattle.hd_server.specs.Lives.{Negotiated, Opened, Socketed, Answered, Ended, Expired, Removed, poll_of}
-use Rattle.hd_server.specs.Machine.{Does, Rounds, Carries, Goes, settings_of, has_gone}
-use Rattle.hd_server.specs.Doings.{ServerEvent, Learns, Draws, Notes, Works, Says, Sees, notes, work, awaits_reply, was_refused, has_peer}
-use Rattle.hd_server.specs.Plans.{onto, dropping, removing_conn, shutting, ends_lane, shutting_after}
+use Rattle.hd_server.specs.Lives.{Answered, poll_of, Polled, LaneLost}
+use Rattle.hd_server.specs.Machine.{Goes, settings_of, has_gone, Connects}
+use Rattle.hd_server.specs.Doings.{ServerEvent, Notes, Works, Says, notes, work, awaits_reply, has_peer, Hears}
+use Rattle.hd_server.specs.Plans.{onto}
+use Rattle.hd_server.specs.Parts.{Each}
 use Rattle.hd_server.specs.Laws.{AreAwaited}
-use Rattle.hd_server.proofs.OrderlyDoings.{either_way}
 
 -- ---- what holds of lanes
 
@@ -61,83 +61,37 @@ calm_holds asks lost g x a ok = record {
 }
 
 abbrev pub IsCalm : ServerEvent → Type 0
-IsCalm (Learns ask) = Unit {0}
-IsCalm (Draws drawn) = Unit {0}
-IsCalm (Says (say.Bytes lane bytes text)) = Unit {0}
-IsCalm (Says (say.Shut lane)) = Unit {0}
-IsCalm (Sees lane full) = Unit {0}
-IsCalm (Works (Does c m)) = Unit {0}
-IsCalm (Works (Rounds now)) = Unit {0}
-IsCalm (Works (Carries c j d fates ask)) = Unit {0}
-IsCalm (Works (Goes c)) = Unit {0}
-IsCalm (Notes (Negotiated c token reconnect now)) = Unit {0}
-IsCalm (Notes (Opened c now)) = Unit {0}
-IsCalm (Notes (Socketed c lane now)) = Unit {0}
-IsCalm (Notes (Ended c now)) = Unit {0}
-IsCalm (Notes (Expired c now)) = Unit {0}
-IsCalm (Notes (Removed c)) = Unit {0}
-IsCalm _ = ⊥
-
-abbrev pub AreCalm : List ServerEvent → Type 0
-AreCalm [] = Unit {0}
-AreCalm (d ∷ ds) = IsCalm d × AreCalm ds
-
-and_false : (b : Bool) → (b && false) ≡ false
-and_false true = refl
-and_false false = refl
+IsCalm (Hears now event) = ⊥
+IsCalm (Says (say.Reply lane reply)) = ⊥
+IsCalm (Works (Connects c t user)) = ⊥
+IsCalm (Notes (Polled c lane now)) = ⊥
+IsCalm (Notes (Answered c lane now)) = ⊥
+IsCalm (Notes (LaneLost c lane now)) = ⊥
+IsCalm _ = Unit {0}
 
 pub not_gone : (c k : ℕ) (g : List ServerEvent) → has_peer c (Works (Goes k) ∷ g) ≡ true → has_peer c g ≡ true
 not_gone c k g e = by (c == k) e where
   by : (b : Bool) → (is_some (settings_of c (work g)) && not (b || has_gone c (work g))) ≡ true → has_peer c g ≡ true
-  by true f = absurd (let z : false ≡ true = sym (and_false (is_some (settings_of c (work g)))) ∙ f in cc)
+  by true f = absurd (let z : false ≡ true = sym (and-false (is_some (settings_of c (work g)))) ∙ f in cc)
   by false f = f
 
 one_calm : (d : ServerEvent) (g : List ServerEvent) → IsCalm d → Calm g (d ∷ g)
-one_calm (Learns ask) g e = record { same_polls = λ c. refl; fewer = λ c p e f. f; same_waits = λ lane. refl; told_still = λ t. t }
-one_calm (Draws drawn) g e = record { same_polls = λ c. refl; fewer = λ c p e f. f; same_waits = λ lane. refl; told_still = λ t. t }
-one_calm (Says (say.Bytes lane bytes text)) g e = record { same_polls = λ c. refl; fewer = λ c p e f. f; same_waits = λ lane. refl; told_still = λ t. t }
-one_calm (Says (say.Shut lane)) g e = record { same_polls = λ c. refl; fewer = λ c p e f. f; same_waits = λ lane. refl; told_still = λ t. t }
-one_calm (Sees lane full) g e = record { same_polls = λ c. refl; fewer = λ c p e f. f; same_waits = λ lane. refl; told_still = λ t. t }
-one_calm (Works (Does c m)) g e = record { same_polls = λ c. refl; fewer = λ c p e f. f; same_waits = λ lane. refl; told_still = λ t. t }
-one_calm (Works (Rounds now)) g e = record { same_polls = λ c. refl; fewer = λ c p e f. f; same_waits = λ lane. refl; told_still = λ t. t }
-one_calm (Works (Carries c j d fates ask)) g e = record { same_polls = λ c. refl; fewer = λ c p e f. f; same_waits = λ lane. refl; told_still = λ t. t }
+one_calm (Hears now event) g e = absurd e
+one_calm (Says (say.Reply lane reply)) g e = absurd e
+one_calm (Works (Connects c t user)) g e = absurd e
 one_calm (Works (Goes k)) g e = record { same_polls = λ c. refl; fewer = λ c p e f. not_gone c k g f; same_waits = λ lane. refl; told_still = λ t. t }
-one_calm (Notes (Negotiated c token reconnect now)) g e =
-    record { same_polls = λ c. refl; fewer = λ c p e f. f; same_waits = λ lane. refl; told_still = λ t. t }
-one_calm (Notes (Opened c now)) g e = record { same_polls = λ c. refl; fewer = λ c p e f. f; same_waits = λ lane. refl; told_still = λ t. t }
-one_calm (Notes (Socketed c lane now)) g e = record { same_polls = λ c. refl; fewer = λ c p e f. f; same_waits = λ lane. refl; told_still = λ t. t }
-one_calm (Notes (Ended c now)) g e = record { same_polls = λ c. refl; fewer = λ c p e f. f; same_waits = λ lane. refl; told_still = λ t. t }
-one_calm (Notes (Expired c now)) g e = record { same_polls = λ c. refl; fewer = λ c p e f. f; same_waits = λ lane. refl; told_still = λ t. t }
-one_calm (Notes (Removed c)) g e = record { same_polls = λ c. refl; fewer = λ c p e f. f; same_waits = λ lane. refl; told_still = λ t. t }
-one_calm d g e = absurd e
+one_calm (Notes (Polled c lane now)) g e = absurd e
+one_calm (Notes (Answered c lane now)) g e = absurd e
+one_calm (Notes (LaneLost c lane now)) g e = absurd e
+one_calm d g e = record { same_polls = λ c. refl; fewer = λ c p e f. f; same_waits = λ lane. refl; told_still = λ t. t }
 
-pub calm_onto : (ds g : List ServerEvent) → AreCalm ds → Calm g (onto ds g)
+pub calm_onto : (ds g : List ServerEvent) → Each IsCalm ds → Calm g (onto ds g)
 calm_onto [] g a = calm_same g
 calm_onto (d ∷ ds) g a = calm_then g (d ∷ g) (onto ds (d ∷ g)) (one_calm d g a.0) (calm_onto ds (d ∷ g) a.1)
 
-pub calm_after : (ds g : List ServerEvent) → AreCalm ds → Calm g (ds ++ g)
+pub calm_after : (ds g : List ServerEvent) → Each IsCalm ds → Calm g (ds ++ g)
 calm_after [] g a = calm_same g
 calm_after (d ∷ ds) g a = calm_then g (ds ++ g) (d ∷ ds ++ g) (calm_after ds g a.1) (one_calm d (ds ++ g) a.0)
-
-pub calm_both : (xs ys : List ServerEvent) → AreCalm xs → AreCalm ys → AreCalm (xs ++ ys)
-calm_both [] ys a b = b
-calm_both (x ∷ xs) ys a b = (a.0, calm_both xs ys a.1 b)
-
-pub shutting_calm : (lane : ℕ) (h : List ServerEvent) → AreCalm (shutting lane h)
-shutting_calm lane h = either_way AreCalm (was_refused lane h) [] _ tt (tt, tt)
-
-pub dropping_calm : (c : ℕ) (h : List ServerEvent) → AreCalm (dropping c h)
-dropping_calm c h = either_way AreCalm (has_peer c h) _ [] (tt, tt) tt
-
-pub letting_calm : (c : ℕ) (h : List ServerEvent) → AreCalm (removing_conn c h)
-letting_calm c h = calm_both (dropping c h) _ (dropping_calm c h) (tt, tt)
-
-pub moves_calm : (c : ℕ) (ms : List PeerEvent) → AreCalm (map (λ m. Works (Does c m)) ms)
-moves_calm c [] = tt
-moves_calm c (m ∷ ms) = (tt, moves_calm c ms)
-
-pub shutting_after_calm : (lane : ℕ) (reply : Reply) (h : List ServerEvent) → AreCalm (shutting_after lane reply h)
-shutting_after_calm lane reply h = either_way AreCalm (ends_lane lane reply.status h) (Says (say.Shut lane) ∷ []) [] (tt, tt) tt
 
 -- ---- a reply to a request that is answered just now
 

@@ -10,15 +10,16 @@ use Rattle.hd_delivery.specs.Bytes.{Does as Step_of}
 use Rattle.hd_calls.specs.declared.vocabulary.Deed.{Deed}
 use Rattle.hd_calls.specs.Hubs.{Invoked}
 use Rattle.hd_delivery.specs.declared.vocabulary.Reason.TheVariants.{Slow}
-use Rattle.hd_calls.specs.Peers.{PeerEvent, Settings, Answers, Calls, Plain, add, byte_steps, codec, step_of, steps}
+use Rattle.hd_calls.specs.Peers.{PeerEvent, Settings, Answers, Calls, Plain, add, byte_steps, codec, step_of}
 use Rattle.hd_calls.specs.Peers as peers
 use Rattle.hd_server.specs.Lives.{ConnectionEvent, Negotiated, Opened, Socketed, Polled, Answered, LaneLost, Ended, Expired, Removed, made, is_known, is_polling, socket_of, lost_at, poll_of, poll_ended, ended_at}
 use Rattle.hd_server.specs.Machine.{Connects, Does, Rounds, Carries, Goes, DeliveryOutcome, Got, TooSlow, PassedOver, settings_of, has_gone, is_there, with_fate, outcome_in, notifies, notice_of, answer_to}
-use Rattle.hd_server.specs.Doings.{ServerEvent, Hears, Learns, Draws, Notes, Works, Says, Sees, notes, work, peer, history_with, config_with, has_peer, has_closed}
+use Rattle.hd_server.specs.Doings.{ServerEvent, Hears, Notes, Works, notes, work, peer, history_with, config_with, has_peer, has_closed}
 use Rattle.hd_server.specs.Plans.{onto}
+use Rattle.hd_server.specs.Parts.{Each}
 use Rattle.hd_server.proofs.Few.{IsSame, conn_of, same_of_another, standing_same}
 use Rattle.hd_server.proofs.OrderlyNotes.{Known}
-use Rattle.hd_server.proofs.OrderlyDoings.{IsQuiet, AreQuiet}
+use Rattle.hd_server.proofs.OrderlyDoings.{IsQuiet}
 
 -- ---- what is closed stays closed
 
@@ -124,14 +125,10 @@ alike_then k f g x a b = record {
 }
 
 quiet_alike : (k : ℕ) (d : ServerEvent) (g : List ServerEvent) → IsQuiet d → Alike k g (d ∷ g)
-quiet_alike k (Learns ask) g e =
-    record { same_notes = notes_same k (notes g); more = omega arith; same_settings = refl; same_gone = refl; closed_still = λ f. f }
-quiet_alike k (Draws drawn) g e =
-    record { same_notes = notes_same k (notes g); more = omega arith; same_settings = refl; same_gone = refl; closed_still = λ f. f }
-quiet_alike k (Says x) g e =
-    record { same_notes = notes_same k (notes g); more = omega arith; same_settings = refl; same_gone = refl; closed_still = λ f. f }
-quiet_alike k (Sees lane full) g e =
-    record { same_notes = notes_same k (notes g); more = omega arith; same_settings = refl; same_gone = refl; closed_still = λ f. f }
+quiet_alike k (Hears now event) g e = absurd e
+quiet_alike k (Notes note) g e = absurd e
+quiet_alike k (Works (Connects c t user)) g e = absurd e
+quiet_alike k (Works (Goes c)) g e = absurd e
 quiet_alike k (Works (Does c m)) g e = record {
   same_notes = notes_same k (notes g);
   more = omega arith;
@@ -156,7 +153,8 @@ quiet_alike k (Works (Carries c j d fates ask)) g e = record {
       let m : List PeerEvent = with_fate d o (outcome_in k fates) (peer k g) in
       either_shut o (k == c) (Answers j (answer_to c d ask (work g))) m (fate_shut d o (outcome_in k fates) (peer k g) f);
 }
-quiet_alike k d g e = absurd e
+quiet_alike k d g e =
+    record { same_notes = notes_same k (notes g); more = omega arith; same_settings = refl; same_gone = refl; closed_still = λ f. f }
 
 -- doings of one connection
 abbrev pub IsOne : ℕ → ServerEvent → Type 0
@@ -164,10 +162,6 @@ IsOne c (Works (Goes k)) = k ≡ c
 IsOne c (Works (Connects k t user)) = k ≡ c
 IsOne c (Notes n) = conn_of n ≡ c
 IsOne c d = IsQuiet d
-
-abbrev pub AreOne : ℕ → List ServerEvent → Type 0
-AreOne c [] = Unit {0}
-AreOne c (d ∷ ds) = IsOne c d × AreOne c ds
 
 more_made : (n : ConnectionEvent) (h : List ConnectionEvent) → made h ≤ made (n ∷ h)
 more_made (Negotiated c token reconnect m) h = omega arith
@@ -208,25 +202,18 @@ one_alike c k (Notes x) g n e = record {
   same_gone = refl;
   closed_still = λ f. f;
 }
-one_alike c k (Works (Does x m)) g n e = quiet_alike k (Works (Does x m)) g e
-one_alike c k (Works (Rounds now)) g n e = quiet_alike k (Works (Rounds now)) g e
-one_alike c k (Works (Carries x j d fates ask)) g n e = quiet_alike k (Works (Carries x j d fates ask)) g e
-one_alike c k (Learns ask) g n e = quiet_alike k (Learns ask) g e
-one_alike c k (Draws drawn) g n e = quiet_alike k (Draws drawn) g e
-one_alike c k (Says x) g n e = quiet_alike k (Says x) g e
-one_alike c k (Sees lane full) g n e = quiet_alike k (Sees lane full) g e
-one_alike c k (Hears now event) g n e = absurd e
+one_alike c k d g n e = quiet_alike k d g e
 
-pub others_alike : (c k : ℕ) (ds g : List ServerEvent) → (k == c) ≡ false → AreOne c ds → Alike k g (onto ds g)
+pub others_alike : (c k : ℕ) (ds g : List ServerEvent) → (k == c) ≡ false → Each (IsOne c) ds → Alike k g (onto ds g)
 others_alike c k [] g n a = alike_same k g
 others_alike c k (d ∷ ds) g n a =
     alike_then k g (d ∷ g) (onto ds (d ∷ g)) (one_alike c k d g n a.0) (others_alike c k ds (d ∷ g) n a.1)
 
-pub quiet_onto : (k : ℕ) (ds g : List ServerEvent) → AreQuiet ds → Alike k g (onto ds g)
+pub quiet_onto : (k : ℕ) (ds g : List ServerEvent) → Each IsQuiet ds → Alike k g (onto ds g)
 quiet_onto k [] g a = alike_same k g
 quiet_onto k (d ∷ ds) g a = alike_then k g (d ∷ g) (onto ds (d ∷ g)) (quiet_alike k d g a.0) (quiet_onto k ds (d ∷ g) a.1)
 
-pub quiet_after : (k : ℕ) (ds g : List ServerEvent) → AreQuiet ds → Alike k g (ds ++ g)
+pub quiet_after : (k : ℕ) (ds g : List ServerEvent) → Each IsQuiet ds → Alike k g (ds ++ g)
 quiet_after k [] g a = alike_same k g
 quiet_after k (d ∷ ds) g a = alike_then k g (ds ++ g) (d ∷ ds ++ g) (quiet_after k ds g a.1) (quiet_alike k d (ds ++ g) a.0)
 

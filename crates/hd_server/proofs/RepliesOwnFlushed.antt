@@ -4,21 +4,22 @@ use Rattle.std.specs.Prelude.{◌==◌, not, is_some, nat_le, option_map, ◌+�
 use Rattle.std.proofs.lemmas.Bool.{eqb-true, eq-eqb, or_left, or_right, and_parts}
 use Rattle.hw_lanes.specs.declared.http.Reply.{Reply}
 use Rattle.hd_delivery.specs.Frames.{LinkFrame}
-use Rattle.hd_delivery.specs.Histories.{Lent, is_this}
-use Rattle.hd_delivery.specs.Bytes.{Does as Step_of}
-use Rattle.hd_calls.specs.Peers.{Plain}
+use Rattle.hd_delivery.specs.Histories.{is_this}
 use Rattle.hd_server.specs.Numbers.{held_for}
 use Rattle.hd_server.specs.Lives.{Answered, Ended, Removed, ended_at, is_known, is_removed, is_polling, made, poll_ended, poll_of, socket_of}
 use Rattle.hd_server.specs.Machine.{Does, Goes}
 use Rattle.hd_server.specs.Doings.{ServerEvent, Notes, Works, Says, notes, has_peer, has_closed}
 use Rattle.hd_server.specs.Plans.{Setup, onto, removing_conn, shutting, replying, bare_reply, frames_reply}
 use Rattle.hd_server.specs.Serves.{AreAllDue, lending, writing, all_of, bytes_of, flushing_socket, flushing_poll, flushing_some_poll, ending, flushing_without, flushing_on, flushing, all_flushing}
+use Rattle.hd_server.specs.Parts.{Each, IsFlush}
+use Rattle.hd_server.proofs.PartsOfTurns.{flushing_is}
+use Rattle.hd_server.proofs.Each.{either_way, each_so, each_join, each_shutting, each_replying, each_lending, each_writing}
 use Rattle.hd_server.proofs.Few.{standing_same}
-use Rattle.hd_server.proofs.Flushing.{is_in, AreApart, Tells, AllTell, flushing_tells}
+use Rattle.hd_server.proofs.Flushing.{is_in, AreApart}
 use Rattle.hd_server.proofs.OrderlyNotes.{Known, gone_unknown, still_ended}
-use Rattle.hd_server.proofs.OrderlyDoings.{AreQuiet, quiet_both, in_turn, either_way, shutting_quiet, replying_quiet}
-use Rattle.hd_server.proofs.OrderlyEach.{is_other, lending_quiet, writing_quiet}
-use Rattle.hd_server.proofs.RepliesOwn.{Alike, alike_then, AreOne, IsOne, others_alike, quiet_onto, known_alike, own_alike, Own, own_answered, own_ended}
+use Rattle.hd_server.proofs.OrderlyDoings.{in_turn, IsQuiet}
+use Rattle.hd_server.proofs.OrderlyEach.{is_other}
+use Rattle.hd_server.proofs.RepliesOwn.{Alike, alike_then, IsOne, others_alike, quiet_onto, known_alike, own_alike, Own, own_answered, own_ended}
 use Rattle.hd_server.proofs.RepliesPhases.{removed_own}
 
 -- one that ends holds no poll
@@ -77,22 +78,22 @@ module _ (s : Setup) (now c : ℕ) (h : List ServerEvent) (known : Known c (note
     on_socket : (lane : ℕ) (pieces : List (List LinkFrame)) → socket_of c (notes h) ≡ Some lane → Both c (onto (flushing_socket s c lane pieces h) g)
     on_socket lane pieces e =
         let words : List ServerEvent = lending c (all_of pieces) ++ writing s c lane pieces h in
-        let q : AreQuiet words
-        = quiet_both (lending c (all_of pieces)) (writing s c lane pieces h) (lending_quiet c (all_of pieces)) (writing_quiet s c lane pieces h) in
+        let q : Each IsQuiet words
+        = each_join IsQuiet (lending c (all_of pieces)) (writing s c lane pieces h) (each_lending IsQuiet c (all_of pieces) (λ x. tt)) (each_writing IsQuiet s c lane pieces h (λ bytes text. tt)) in
         let y : List ServerEvent = onto words g in
         let b = quiet_onto c words g q in
         let own_y : Own c y = own_alike c g y b o in
         in_turn (Both c) words (if has_closed c h then shutting lane h ++ removing_conn c h else []) g
         (either_way (λ ds. Both c (onto ds y)) (has_closed c h) (shutting lane h ++ removing_conn c h) []
         (in_turn (Both c) (shutting lane h) (removing_conn c h) y
-        (let d = quiet_onto c (shutting lane h) y (shutting_quiet lane h) in
+        (let d = quiet_onto c (shutting lane h) y (each_shutting IsQuiet lane h tt) in
         both_gone c h (onto (shutting lane h) y) (own_alike c y (onto (shutting lane h) y) d own_y) (omega (arith, old_now, b.more, d.more))))
         (own_y, done_stands c y own_y (ap is_some (b.same_notes.of_socket ∙ a.same_notes.of_socket ∙ e))))
 
   -- what is said to a poll
   module _ (poll : ℕ × ℕ) (g : List ServerEvent) (o : Own c g) (u : Known c (notes g)) (later : c ≤ made (notes g)) (held : poll_of c (notes g) ≡ Some poll)
       (open_done_now : has_closed c h ≡ false → Done c g) where
-    answers_it : (ds : List ServerEvent) → AreQuiet ds → Both c (onto (ds ++ Notes (Answered c poll.0 now) ∷ []) g)
+    answers_it : (ds : List ServerEvent) → Each IsQuiet ds → Both c (onto (ds ++ Notes (Answered c poll.0 now) ∷ []) g)
     answers_it ds q =
         let y : List ServerEvent = onto ds g in
         let b = quiet_onto c ds g q in
@@ -102,7 +103,7 @@ module _ (s : Setup) (now c : ℕ) (h : List ServerEvent) (known : Known c (note
           λ v e. answered_none c now poll y (b.same_notes.of_poll ∙ held),
         )
 
-    leaves_it : (ds : List ServerEvent) → AreQuiet ds → Both c (onto (ds ++ removing_conn c h) g)
+    leaves_it : (ds : List ServerEvent) → Each IsQuiet ds → Both c (onto (ds ++ removing_conn c h) g)
     leaves_it ds q =
         let y : List ServerEvent = onto ds g in
         let b = quiet_onto c ds g q in
@@ -113,15 +114,15 @@ module _ (s : Setup) (now c : ℕ) (h : List ServerEvent) (known : Known c (note
       by : (b : Bool) → has_closed c h ≡ b
           → Both c (onto (if b then replying poll.0 (bare_reply 204) h ++ removing_conn c h
           else (if nat_le (poll.1 + held_for) now then replying poll.0 (bare_reply 200) h ++ Notes (Answered c poll.0 now) ∷ [] else [])) g)
-      by true e = leaves_it (replying poll.0 (bare_reply 204) h) (replying_quiet poll.0 (bare_reply 204) h)
+      by true e = leaves_it (replying poll.0 (bare_reply 204) h) (each_replying IsQuiet poll.0 (bare_reply 204) h tt tt)
       by false e =
           either_way (λ ds. Both c (onto ds g)) (nat_le (poll.1 + held_for) now)
           (replying poll.0 (bare_reply 200) h ++ Notes (Answered c poll.0 now) ∷ []) []
-          (answers_it (replying poll.0 (bare_reply 200) h) (replying_quiet poll.0 (bare_reply 200) h)) (o, open_done_now e)
+          (answers_it (replying poll.0 (bare_reply 200) h) (each_replying IsQuiet poll.0 (bare_reply 200) h tt tt)) (o, open_done_now e)
     on_poll (f ∷ fs) =
         let reply : Reply = frames_reply (bytes_of s c (f ∷ fs) h) in
         answers_it (lending c (f ∷ fs) ++ replying poll.0 reply h)
-        (quiet_both (lending c (f ∷ fs)) (replying poll.0 reply h) (lending_quiet c (f ∷ fs)) (replying_quiet poll.0 reply h))
+        (each_join IsQuiet (lending c (f ∷ fs)) (replying poll.0 reply h) (each_lending IsQuiet c (f ∷ fs) (λ x. tt)) (each_replying IsQuiet poll.0 reply h tt tt))
 
   some_poll : (p : Option (ℕ × ℕ)) (fs : List LinkFrame) (g : List ServerEvent) → Own c g → Known c (notes g) → c ≤ made (notes g)
       → poll_of c (notes g) ≡ p → (has_closed c h ≡ false → Done c g)
@@ -164,18 +165,14 @@ module _ (s : Setup) (now c : ℕ) (h : List ServerEvent) (known : Known c (note
 
 -- ---- one after the other
 
-tell_is_one : (c : ℕ) (d : ServerEvent) → Tells c d → IsOne c d
-tell_is_one c (Works (Does k (Plain (Step_of (Lent f))))) e = tt
-tell_is_one c (Works (Goes k)) e = e
-tell_is_one c (Notes (Answered k lane now)) e = e
-tell_is_one c (Notes (Ended k now)) e = e
-tell_is_one c (Notes (Removed k)) e = e
-tell_is_one c (Says x) e = tt
-tell_is_one c d e = absurd e
-
-tells_one : (c : ℕ) (ds : List ServerEvent) → AllTell c ds → AreOne c ds
-tells_one c [] a = tt
-tells_one c (d ∷ ds) a = (tell_is_one c d a.0, tells_one c ds a.1)
+flush_is_one : (c : ℕ) (d : ServerEvent) → IsFlush c d → IsOne c d
+flush_is_one c (Works (Does k m)) e = tt
+flush_is_one c (Works (Goes k)) e = e
+flush_is_one c (Notes (Answered k lane now)) e = e
+flush_is_one c (Notes (Ended k now)) e = e
+flush_is_one c (Notes (Removed k)) e = e
+flush_is_one c (Says x) e = tt
+flush_is_one c d e = absurd e
 
 module _ (s : Setup) (now : ℕ) (h : List ServerEvent) (own : (k : ℕ) → Own k h) where
   pub told_own : (cs : List ℕ) (all : List (List (List LinkFrame))) (g : List ServerEvent) → AreAllDue s cs all h → AreApart cs
@@ -194,7 +191,7 @@ module _ (s : Setup) (now : ℕ) (h : List ServerEvent) (own : (k : ℕ) → Own
       others : (j : ℕ) → (j == c) ≡ false → Alike j g (onto (flushing s now c pieces h) g)
       others j e =
           others_alike c j (flushing s now c pieces h) g e
-          (tells_one c (flushing s now c pieces h) (flushing_tells s now c (socket_of c (notes h)) pieces h))
+          (each_so (IsFlush c) (IsOne c) (flush_is_one c) (flushing s now c pieces h) (flushing_is s now c h (socket_of c (notes h)) pieces))
 
       mine_now : Both c (onto (flushing s now c pieces h) g)
       mine_now =

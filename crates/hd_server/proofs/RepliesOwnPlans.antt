@@ -13,30 +13,32 @@ use Rattle.hd_server.specs.Texts.{token_of, negotiate_body}
 use Rattle.hd_server.specs.Table.{Outcome, Refusal, NewToken, PlainSocket, TokenSocket, FirstPoll, NextPoll, LastPoll, Posting, Deletion}
 use Rattle.hd_server.specs.Machine.{Connects, settings_of, has_gone}
 use Rattle.hd_server.specs.Doings.{ServerEvent, Notes, Works, notes, work, user_of, has_peer, may_resume}
-use Rattle.hd_server.specs.Plans.{Setup, onto, step, connecting, attaching, closing, removing_conn, losing, peer_settings, bare_reply, socket_reply, token_reply, refusal_reply, replying, ending_poll, ending_held, standing_on, shutting_some, request_plan, giving_way, removing_some}
+use Rattle.hd_server.specs.Plans.{Setup, onto, step, connecting, attaching, closing, removing_conn, losing, peer_settings, bare_reply, socket_reply, token_reply, refusal_reply, replying, ending_poll, ending_held, standing_on, shutting_some, request_plan, giving_way}
 use Rattle.hd_server.specs.Serves.{IsFed}
+use Rattle.hd_server.specs.Parts.{Each}
+use Rattle.hd_server.proofs.Each.{either_way, each_join, each_shutting_some, each_replying, each_ending_poll, each_connecting, each_closing, each_removing, each_losing, each_move}
 use Rattle.hd_server.proofs.Few.{standing_same}
 use Rattle.hd_server.proofs.OrderlyNotes.{Known, still_polled, still_answered}
-use Rattle.hd_server.proofs.OrderlyDoings.{AreQuiet, in_turn, either_way, replying_quiet, shutting_quiet, moves_quiet}
+use Rattle.hd_server.proofs.OrderlyDoings.{in_turn, IsQuiet}
 use Rattle.hd_server.proofs.RepliesSent.{IsSent}
-use Rattle.hd_server.proofs.RepliesOwn.{Alike, AreOne, others_alike, quiet_onto, quiet_after, peer_alike, own_alike, Own, own_opened, own_negotiated, own_connects, own_socketed, own_polled, own_answered, own_lost}
-use Rattle.hd_server.proofs.RepliesPhases.{quiet_one, one_both, letting_one, removed_own, polls_of, fresh_of, ending_of, closing_quiet}
-use Rattle.hd_server.proofs.GivingWay.{either_room, removed_so, unused}
+use Rattle.hd_server.proofs.RepliesOwn.{Alike, others_alike, quiet_onto, quiet_after, peer_alike, own_alike, Own, own_opened, own_negotiated, own_connects, own_socketed, own_polled, own_answered, own_lost, IsOne}
+use Rattle.hd_server.proofs.RepliesPhases.{quiet_one, removed_own, polls_of, fresh_of, ending_of}
+use Rattle.hd_server.proofs.GivingWay.{either_room, unused}
 
 -- a part of one connection, after which each holds what it held
-all_after : (c : ℕ) (ds g : List ServerEvent) → AreOne c ds → ((k : ℕ) → Own k g) → Own c (onto ds g) → (k : ℕ) → Own k (onto ds g)
+all_after : (c : ℕ) (ds g : List ServerEvent) → Each (IsOne c) ds → ((k : ℕ) → Own k g) → Own c (onto ds g) → (k : ℕ) → Own k (onto ds g)
 all_after c ds g one all own k = by (k == c) refl where
   by : (b : Bool) → (k == c) ≡ b → Own k (onto ds g)
   by false e = own_alike k g (onto ds g) (others_alike c k ds g e one) (all k)
   by true e = subst (λ i. Own i (onto ds g)) (sym (eqb-true k c e)) own
 
-all_quiet : (ds g : List ServerEvent) → AreQuiet ds → ((k : ℕ) → Own k g) → (k : ℕ) → Own k (onto ds g)
+all_quiet : (ds g : List ServerEvent) → Each IsQuiet ds → ((k : ℕ) → Own k g) → (k : ℕ) → Own k (onto ds g)
 all_quiet ds g q all k = own_alike k g (onto ds g) (quiet_onto k ds g q) (all k)
 
 pub all_fed : (now : ℕ) (o : Option (ℕ × List ℕ)) (h after : List ServerEvent) → IsFed now o h after → ((k : ℕ) → Own k h) → (k : ℕ) → Own k after
 all_fed now None h after e all k = subst (Own k) (sym e) (all k)
 all_fed now (Some f) h after one all k =
-    subst (Own k) (sym one.are) (own_alike k h _ (quiet_after k _ h (moves_quiet f.0 one.moves)) (all k))
+    subst (Own k) (sym one.are) (own_alike k h _ (quiet_after k _ h (each_move IsQuiet f.0 one.moves (λ m. tt))) (all k))
 
 -- ---- a peer begins
 
@@ -80,20 +82,17 @@ module _ (s : Setup) (now c : ℕ) (reconnect : Bool) (h g : List ServerEvent) (
       = own_socketed c x b.own (subst (λ n. c ≤ made n) (sym b.same_notes) old) (subst (Known c) (sym b.same_notes) known) lane now b.peer_is
       (ap (is_polling c) b.same_notes ∙ none) in
       in_turn (Own c) (connecting s c reconnect h ++ attaching c now h) (Notes (Socketed c lane now) ∷ reply) g
-      (own_alike c y (onto reply y) (quiet_onto c reply y (replying_quiet lane (socket_reply r.upgrade) h)) own_y)
+      (own_alike c y (onto reply y) (quiet_onto c reply y (each_replying IsQuiet lane (socket_reply r.upgrade) h tt tt)) own_y)
 
-connecting_one : (s : Setup) (c : ℕ) (reconnect : Bool) (h : List ServerEvent) → AreOne c (connecting s c reconnect h)
-connecting_one s c reconnect h = either_way (AreOne c) (is_some (settings_of c (work h))) [] _ tt (refl, tt)
-
-begins_one : (s : Setup) (now c : ℕ) (reconnect : Bool) (h : List ServerEvent) → AreOne c (connecting s c reconnect h ++ attaching c now h)
-begins_one s now c reconnect h = one_both c (connecting s c reconnect h) (attaching c now h) (connecting_one s c reconnect h) (tt, tt)
+begins_one : (s : Setup) (now c : ℕ) (reconnect : Bool) (h : List ServerEvent) → Each (IsOne c) (connecting s c reconnect h ++ attaching c now h)
+begins_one s now c reconnect h = each_join (IsOne c) (connecting s c reconnect h) (attaching c now h) (each_connecting (IsOne c) s c reconnect h (λ t user. refl)) (tt, tt)
 
 stands_one : (s : Setup) (now lane c : ℕ) (r : Request) (reconnect : Bool) (h : List ServerEvent)
-    → AreOne c (standing_on s (record { now = now; lane = lane; request = r }) c reconnect h)
+    → Each (IsOne c) (standing_on s (record { now = now; lane = lane; request = r }) c reconnect h)
 stands_one s now lane c r reconnect h =
-    one_both c (connecting s c reconnect h ++ attaching c now h) (Notes (Socketed c lane now) ∷ replying lane (socket_reply r.upgrade) h)
+    each_join (IsOne c) (connecting s c reconnect h ++ attaching c now h) (Notes (Socketed c lane now) ∷ replying lane (socket_reply r.upgrade) h)
     (begins_one s now c reconnect h)
-    (refl, quiet_one c (replying lane (socket_reply r.upgrade) h) (replying_quiet lane (socket_reply r.upgrade) h))
+    (refl, quiet_one c (replying lane (socket_reply r.upgrade) h) (each_replying IsQuiet lane (socket_reply r.upgrade) h tt tt))
 
 -- ---- lives
 
@@ -122,10 +121,6 @@ not_polling c h o known life e f g u = by (is_polling c (notes h)) refl where
       absurd (polls_life (is_removed c (notes h)) (ended_at c (notes h)) (socket_of c (notes h)) (lost_at c (notes h)) (is_polling c (notes h))
       (is_opened c (notes h) || is_some (negotiated_at c (notes h))) none.0 none.1 i life e f g u)
 
-shuts_some_quiet : (o : Option ℕ) (h : List ServerEvent) → AreQuiet (shutting_some o h)
-shuts_some_quiet None h = tt
-shuts_some_quiet (Some lane) h = shutting_quiet lane h
-
 -- what stays when a poll that is held ends
 record Stays (c : ℕ) (g x : List ServerEvent) : Type 0 where
   own : Own c x
@@ -141,7 +136,7 @@ ends_own c now None h g o known old =
 ends_own c now (Some poll) h g o known old =
     let reply : List ServerEvent = replying poll.0 (bare_reply 204) h in
     let y : List ServerEvent = onto reply g in
-    let a = quiet_onto c reply g (replying_quiet poll.0 (bare_reply 204) h) in
+    let a = quiet_onto c reply g (each_replying IsQuiet poll.0 (bare_reply 204) h tt tt) in
     let known_y : Known c (notes y) = ap is_known (standing_same c (notes y) (notes g) a.same_notes) ∙ known in
     in_turn (Stays c g) reply (Notes (Answered c poll.0 now) ∷ []) g
     (record {
@@ -153,23 +148,14 @@ ends_own c now (Some poll) h g o known old =
       same_loss = a.same_notes.of_loss;
     })
 
-ends_one : (c now : ℕ) (p : Option (ℕ × ℕ)) (h : List ServerEvent) → AreOne c (ending_poll c now p h)
-ends_one c now None h = tt
-ends_one c now (Some poll) h =
-    one_both c (replying poll.0 (bare_reply 204) h) (Notes (Answered c poll.0 now) ∷ [])
-    (quiet_one c (replying poll.0 (bare_reply 204) h) (replying_quiet poll.0 (bare_reply 204) h)) (refl, tt)
-
 -- ---- a lane that is lost
-
-losing_one : (c lane now : ℕ) (h : List ServerEvent) → AreOne c (losing c lane now h)
-losing_one c lane now h = either_way (AreOne c) (may_resume c h) (Notes (LaneLost c lane now) ∷ []) (removing_conn c h) (refl, tt) (letting_one c h)
 
 pub loses_own : (c lane now : ℕ) (h : List ServerEvent) → Known c (notes h) → c ≤ made (notes h) → ((k : ℕ) → Own k h)
     → (k : ℕ) → Own k (onto (step c (Detached now) ∷ losing c lane now h) h)
 loses_own c lane now h known old all k =
     let x : List ServerEvent = step c (Detached now) ∷ h in
     let all_x = all_quiet (step c (Detached now) ∷ []) h (tt, tt) all in
-    all_after c (losing c lane now h) x (losing_one c lane now h) all_x
+    all_after c (losing c lane now h) x (each_losing (IsOne c) c lane now h refl refl refl) all_x
     (either_way (λ ds. Own c (onto ds x)) (may_resume c h) (Notes (LaneLost c lane now) ∷ []) (removing_conn c h)
     (own_lost c x (all_x c) old known lane now) (removed_own c h x (all_x c) old)) k
 
@@ -186,7 +172,7 @@ module _ (s : Setup) (now lane : ℕ) (r : Request) (drawn : Option (List ℕ)) 
   gave_own : (k : ℕ) → Own k (onto (giving_way s now h) h)
   gave_own =
       either_room (λ g. (k : ℕ) → Own k g) (gives_way s.live now (notes h)) h h all
-      (λ gone e. all_after gone (removing_conn gone h) h (letting_one gone h) all
+      (λ gone e. all_after gone (removing_conn gone h) h (each_removing (IsOne gone) gone h refl refl) all
       (removed_own gone h h (all gone) (unused s.live now (notes h) gone e).made_so.1))
 
   pub request_own : (life : Life) → (is_known life ≡ true → (standing c (notes h) ≡ life) × (c ≤ made (notes h)))
@@ -195,7 +181,7 @@ module _ (s : Setup) (now lane : ℕ) (r : Request) (drawn : Option (List ℕ)) 
       (onto (request_plan s (record { now = now; lane = lane; request = r }) drawn c h out).first h) fed
       → (k : ℕ) → Own k (onto (request_plan s (record { now = now; lane = lane; request = r }) drawn c h out).last fed)
   request_own life named (Refusal status) right fed e k =
-      subst (Own k) (sym e) (all_quiet (replying lane (refusal_reply s.base r status) h) h (replying_quiet lane (refusal_reply s.base r status) h) all k)
+      subst (Own k) (sym e) (all_quiet (replying lane (refusal_reply s.base r status) h) h (each_replying IsQuiet lane (refusal_reply s.base r status) h tt tt) all k)
   request_own life named (NewToken reconnect) right fed e k =
       let room : List ServerEvent = giving_way s now h in
       let g : List ServerEvent = onto room h in
@@ -205,7 +191,7 @@ module _ (s : Setup) (now lane : ℕ) (r : Request) (drawn : Option (List ℕ)) 
       let reply = token_reply (negotiate_body n token reconnect) in
       subst (Own k) (sym e)
       (in_turn (Own k) room (Notes (Negotiated n token reconnect now) ∷ replying lane reply g) h
-      (all_quiet (replying lane reply g) x (replying_quiet lane reply g)
+      (all_quiet (replying lane reply g) x (each_replying IsQuiet lane reply g tt tt)
       (all_after n (Notes (Negotiated n token reconnect now) ∷ []) g (refl, tt) gave_own (own_negotiated n g (gave_own n) token reconnect now refl)) k))
   request_own life named PlainSocket right fed e k =
       let room : List ServerEvent = giving_way s now h in
@@ -225,8 +211,8 @@ module _ (s : Setup) (now lane : ℕ) (r : Request) (drawn : Option (List ℕ)) 
       let known_life : is_known life ≡ true = by life right.1.2 in
       let n = named known_life in
       let known : Known c (notes h) = ap is_known n.0 ∙ known_life in
-      let a = quiet_onto c shut h (shuts_some_quiet (socket_of c (notes h)) h) in
-      let all_x = all_quiet shut h (shuts_some_quiet (socket_of c (notes h)) h) all in
+      let a = quiet_onto c shut h (each_shutting_some IsQuiet (socket_of c (notes h)) h (λ l. tt)) in
+      let all_x = all_quiet shut h (each_shutting_some IsQuiet (socket_of c (notes h)) h (λ l. tt)) all in
       let known_x : Known c (notes x) = ap is_known (standing_same c (notes x) (notes h) a.same_notes) ∙ known in
       let life_x : standing c (notes x) ≡ life = standing_same c (notes x) (notes h) a.same_notes ∙ n.0 in
       subst (Own k) (sym e)
@@ -253,7 +239,7 @@ module _ (s : Setup) (now lane : ℕ) (r : Request) (drawn : Option (List ℕ)) 
       let begun : List ServerEvent = onto first h in
       let all_begun = all_after c first h (begins_one s now c false h) all b.own in
       let all_fed_now = all_fed now (Some (c, [])) begun fed e all_begun in
-      let a : Alike c begun fed = subst (Alike c begun) (sym e.are) (quiet_after c _ begun (moves_quiet c e.moves)) in
+      let a : Alike c begun fed = subst (Alike c begun) (sym e.are) (quiet_after c _ begun (each_move IsQuiet c e.moves (λ m. tt))) in
       let same : notes begun ≡ notes h = b.same_notes in
       let known_fed : Known c (notes fed) = ap is_known (standing_same c (notes fed) (notes begun) a.same_notes ∙ ap (standing c) same) ∙ known in
       let old_fed : c ≤ made (notes fed) = (let m : made (notes begun) ≡ made (notes h) = ap made same in omega (arith, n.1, a.more, m)) in
@@ -265,7 +251,7 @@ module _ (s : Setup) (now lane : ℕ) (r : Request) (drawn : Option (List ℕ)) 
       let polled : Own c x = own_polled c fed (all_fed_now c) old_fed known_fed lane now peer_fed socket_fed loss_fed in
       let y : List ServerEvent = Notes (Answered c lane now) ∷ x in
       let answered : Own c y = own_answered c x polled old_fed (still_polled c (notes fed) lane now known_fed) lane now in
-      all_quiet (replying lane (bare_reply 200) h) y (replying_quiet lane (bare_reply 200) h)
+      all_quiet (replying lane (bare_reply 200) h) y (each_replying IsQuiet lane (bare_reply 200) h tt tt)
       (all_after c (Notes (Polled c lane now) ∷ Notes (Answered c lane now) ∷ []) fed (refl, (refl, tt)) all_fed_now answered) k
   request_own life named NextPoll right fed e k =
       let n = named (ap is_known right) in
@@ -274,9 +260,9 @@ module _ (s : Setup) (now lane : ℕ) (r : Request) (drawn : Option (List ℕ)) 
       let first : List ServerEvent = ending_held c now h in
       let begun : List ServerEvent = onto first h in
       let stays = ends_own c now (poll_of c (notes h)) h h (all c) known n.1 in
-      let all_begun = all_after c first h (ends_one c now (poll_of c (notes h)) h) all stays.own in
+      let all_begun = all_after c first h (each_ending_poll (IsOne c) c now (poll_of c (notes h)) h (λ l. tt) (λ l. tt) (λ l. refl)) all stays.own in
       let all_fed_now = all_fed now (Some (c, [])) begun fed e all_begun in
-      let a : Alike c begun fed = subst (Alike c begun) (sym e.are) (quiet_after c _ begun (moves_quiet c e.moves)) in
+      let a : Alike c begun fed = subst (Alike c begun) (sym e.are) (quiet_after c _ begun (each_move IsQuiet c e.moves (λ m. tt))) in
       let polls = polls_of c (notes h) lives in
       let known_fed : Known c (notes fed) = ap is_known (standing_same c (notes fed) (notes begun) a.same_notes) ∙ stays.known in
       all_after c (Notes (Polled c lane now) ∷ []) fed (refl, tt) all_fed_now
@@ -293,7 +279,7 @@ module _ (s : Setup) (now lane : ℕ) (r : Request) (drawn : Option (List ℕ)) 
       subst (Own k) (sym e)
       (all_after c (Notes (Polled c lane now) ∷ []) h (refl, tt) all (own_polled c h o n.1 known lane now (o.there known polls) none.0 none.1) k)
   request_own life named Posting right fed e k =
-      all_quiet (replying lane (bare_reply 200) h) fed (replying_quiet lane (bare_reply 200) h) (all_fed now (Some (c, r.body)) h fed e all) k
+      all_quiet (replying lane (bare_reply 200) h) fed (each_replying IsQuiet lane (bare_reply 200) h tt tt) (all_fed now (Some (c, r.body)) h fed e all) k
   request_own life named Deletion right fed e k =
       let known_life : is_known life ≡ true = right in
       let n = named known_life in
@@ -301,14 +287,14 @@ module _ (s : Setup) (now lane : ℕ) (r : Request) (drawn : Option (List ℕ)) 
       let polls : List ServerEvent = ending_held c now h in
       let x : List ServerEvent = onto polls h in
       let stays = ends_own c now (poll_of c (notes h)) h h (all c) known n.1 in
-      let all_x = all_after c polls h (ends_one c now (poll_of c (notes h)) h) all stays.own in
+      let all_x = all_after c polls h (each_ending_poll (IsOne c) c now (poll_of c (notes h)) h (λ l. tt) (λ l. tt) (λ l. refl)) all stays.own in
       let y : List ServerEvent = onto (closing c reason.Done h) x in
-      let a = quiet_onto c (closing c reason.Done h) x (closing_quiet c reason.Done h) in
-      let all_y = all_quiet (closing c reason.Done h) x (closing_quiet c reason.Done h) all_x in
+      let a = quiet_onto c (closing c reason.Done h) x (each_closing IsQuiet c reason.Done h tt) in
+      let all_y = all_quiet (closing c reason.Done h) x (each_closing IsQuiet c reason.Done h tt) all_x in
       let z : List ServerEvent = onto (removing_conn c h) y in
-      let all_z = all_after c (removing_conn c h) y (letting_one c h) all_y (removed_own c h y (all_y c) (omega (arith, n.1, stays.more, a.more))) in
+      let all_z = all_after c (removing_conn c h) y (each_removing (IsOne c) c h refl refl) all_y (removed_own c h y (all_y c) (omega (arith, n.1, stays.more, a.more))) in
       subst (Own k) (sym e)
       (in_turn (Own k) (polls ++ closing c reason.Done h ++ removing_conn c h) (replying lane (bare_reply 202) h) h
       (in_turn (λ w. Own k (onto (replying lane (bare_reply 202) h) w)) (polls ++ closing c reason.Done h) (removing_conn c h) h
       (in_turn (λ w. Own k (onto (replying lane (bare_reply 202) h) (onto (removing_conn c h) w))) polls (closing c reason.Done h) h
-      (all_quiet (replying lane (bare_reply 202) h) z (replying_quiet lane (bare_reply 202) h) all_z k))))
+      (all_quiet (replying lane (bare_reply 202) h) z (each_replying IsQuiet lane (bare_reply 202) h tt tt) all_z k))))

@@ -10,73 +10,57 @@ use Rattle.hd_delivery.specs.Bytes.{Does as Step_of}
 use Rattle.hd_calls.specs.Peers.{PeerEvent, Plain, Settings}
 use Rattle.hd_server.specs.declared.vocabulary.Life.{Life}
 use Rattle.hd_server.specs.declared.vocabulary.Life.TheVariants.{Unknown, Fresh, Socket, Lost, Polling, Ending}
+use Rattle.hd_server.specs.declared.vocabulary.Said.TheVariants as say
 use Rattle.hd_server.specs.Lives.{ConnectionEvent, LaneLost, Expired, Removed, ended_at, is_known, is_removed, is_opened, is_polling, lost_at, made, negotiated_at, socket_of, standing, when}
-use Rattle.hd_server.specs.Machine.{Does, Goes, Rounds, Carries, connections, settings_of, has_gone, is_open_at}
-use Rattle.hd_server.specs.Doings.{ServerEvent, Learns, Draws, Notes, Works, Says, Sees, notes, work, peer, history, config_of, has_peer, has_closed, may_resume, is_up}
+use Rattle.hd_server.specs.Machine.{Does, Goes, connections, settings_of, has_gone, is_open_at, Connects}
+use Rattle.hd_server.specs.Doings.{ServerEvent, Notes, Works, Says, notes, work, peer, history, config_of, has_peer, has_closed, may_resume, is_up}
 use Rattle.hd_server.specs.Plans.{onto, step, closing, dropping, removing_conn, expiring, losing, shutting}
 use Rattle.hd_server.specs.Serves.{silenced, ticking, ticks}
+use Rattle.hd_server.specs.Parts.{Each, IsExpiry, IsTick}
+use Rattle.hd_server.proofs.PartsOfTurns.{expiring_is, ticking_is}
+use Rattle.hd_server.proofs.Each.{either_way, each_so, each_shutting, each_closing}
 use Rattle.hd_server.proofs.Few.{standing_same}
 use Rattle.hd_server.proofs.Flushing.{is_in, AreApart}
 use Rattle.hd_server.proofs.OrderlyNotes.{Known, gone_unknown}
-use Rattle.hd_server.proofs.OrderlyDoings.{IsQuiet, AreQuiet, in_turn, either_way, shutting_quiet}
+use Rattle.hd_server.proofs.OrderlyDoings.{IsQuiet, in_turn}
 use Rattle.hd_server.proofs.OrderlyEach.{is_other, passes}
-use Rattle.hd_server.proofs.RepliesOwn.{Alike, alike_same, alike_then, AreOne, IsOne, others_alike, quiet_onto, peer_alike, own_alike, Own, Shut, own_unknown, own_expired, own_lost}
+use Rattle.hd_server.proofs.RepliesOwn.{Alike, alike_same, alike_then, IsOne, others_alike, quiet_onto, peer_alike, own_alike, Own, Shut, own_unknown, own_expired, own_lost}
 
 -- ---- doings of one
 
 quiet_is_one : (c : ℕ) (d : ServerEvent) → IsQuiet d → IsOne c d
-quiet_is_one c (Learns ask) e = e
-quiet_is_one c (Draws drawn) e = e
-quiet_is_one c (Says x) e = e
-quiet_is_one c (Sees lane full) e = e
-quiet_is_one c (Works (Does k m)) e = e
-quiet_is_one c (Works (Rounds now)) e = e
-quiet_is_one c (Works (Carries k j d fates ask)) e = e
-quiet_is_one c d e = absurd e
+quiet_is_one c (Notes note) e = absurd e
+quiet_is_one c (Works (Connects k t user)) e = absurd e
+quiet_is_one c (Works (Goes k)) e = absurd e
+quiet_is_one c d e = e
 
-pub quiet_one : (c : ℕ) (ds : List ServerEvent) → AreQuiet ds → AreOne c ds
-quiet_one c [] a = tt
-quiet_one c (d ∷ ds) a = (quiet_is_one c d a.0, quiet_one c ds a.1)
+pub quiet_one : (c : ℕ) (ds : List ServerEvent) → Each IsQuiet ds → Each (IsOne c) ds
+quiet_one c ds a = each_so IsQuiet (IsOne c) (quiet_is_one c) ds a
 
-pub one_both : (c : ℕ) (xs ys : List ServerEvent) → AreOne c xs → AreOne c ys → AreOne c (xs ++ ys)
-one_both c [] ys a b = b
-one_both c (x ∷ xs) ys a b = (a.0, one_both c xs ys a.1 b)
+expiry_is_one : (c : ℕ) (d : ServerEvent) → IsExpiry c d → IsOne c d
+expiry_is_one c (Works (Does k m)) e = tt
+expiry_is_one c (Works (Goes k)) e = e
+expiry_is_one c (Notes (Expired k now)) e = e
+expiry_is_one c d e = absurd e
 
-dropping_one : (c : ℕ) (h : List ServerEvent) → AreOne c (dropping c h)
-dropping_one c h = either_way (AreOne c) (has_peer c h) _ [] (refl, tt) tt
+tick_is_one : (c : ℕ) (d : ServerEvent) → IsTick c d → IsOne c d
+tick_is_one c (Works (Does k m)) e = tt
+tick_is_one c (Works (Goes k)) e = e
+tick_is_one c (Notes (LaneLost k lane now)) e = e
+tick_is_one c (Notes (Removed k)) e = e
+tick_is_one c (Says (say.Shut lane)) e = tt
+tick_is_one c d e = absurd e
 
-pub letting_one : (c : ℕ) (h : List ServerEvent) → AreOne c (removing_conn c h)
-letting_one c h = one_both c (dropping c h) (Notes (Removed c) ∷ []) (dropping_one c h) (refl, tt)
+pub expiring_one : (now : ℕ) (life : Life) (c : ℕ) (h : List ServerEvent) → Each (IsOne c) (expiring now life c h)
+expiring_one now life c h = each_so (IsExpiry c) (IsOne c) (expiry_is_one c) (expiring now life c h) (expiring_is now life c h)
 
-pub closing_quiet : (c : ℕ) (why : Reason) (h : List ServerEvent) → AreQuiet (closing c why h)
-closing_quiet c why h = either_way AreQuiet (is_up c h) _ [] (tt, tt) tt
-
-pub expiring_one : (now : ℕ) (life : Life) (c : ℕ) (h : List ServerEvent) → AreOne c (expiring now life c h)
-expiring_one now Polling c h =
-    one_both c (closing c reason.Expired h) (Notes (Expired c now) ∷ [])
-    (quiet_one c (closing c reason.Expired h) (closing_quiet c reason.Expired h)) (refl, tt)
-expiring_one now life c h = one_both c (dropping c h) (Notes (Expired c now) ∷ []) (dropping_one c h) (refl, tt)
-
-losing_one : (c lane now : ℕ) (h : List ServerEvent) → AreOne c (losing c lane now h)
-losing_one c lane now h = either_way (AreOne c) (may_resume c h) (Notes (LaneLost c lane now) ∷ []) (removing_conn c h) (refl, tt) (letting_one c h)
-
-silenced_one : (c : ℕ) (o : Option ℕ) (now : ℕ) (h : List ServerEvent) → AreOne c (silenced c o now h)
-silenced_one c None now h = (tt, tt)
-silenced_one c (Some lane) now h =
-    one_both c (step c (Silenced now) ∷ losing c lane now h) (shutting lane h) (tt, losing_one c lane now h)
-    (quiet_one c (shutting lane h) (shutting_quiet lane h))
-
-ticking_one : (now c : ℕ) (h : List ServerEvent) → AreOne c (ticking now c h)
-ticking_one now c h =
-    either_way (AreOne c) (is_some (present_link (history c h)))
-    (if is_silence (config_of c h) now (history c h) then silenced c (socket_of c (notes h)) now h else step c (Ticked now) ∷ []) []
-    (either_way (AreOne c) (is_silence (config_of c h) now (history c h)) (silenced c (socket_of c (notes h)) now h) (step c (Ticked now) ∷ [])
-    (silenced_one c (socket_of c (notes h)) now h) (tt, tt)) tt
+ticking_one : (now c : ℕ) (h : List ServerEvent) → Each (IsOne c) (ticking now c h)
+ticking_one now c h = each_so (IsTick c) (IsOne c) (tick_is_one c) (ticking now c h) (ticking_is now c h)
 
 -- ---- one after the other
 
 module _ (P : ℕ → List ServerEvent → Type 0) (move : (k : ℕ) (g x : List ServerEvent) → Alike k g x → P k g → P k x) (f : ℕ → List ServerEvent) (h : List ServerEvent)
-    (one : (c : ℕ) → AreOne c (f c)) where
+    (one : (c : ℕ) → Each (IsOne c) (f c)) where
   pub each_own : (cs : List ℕ) (g : List ServerEvent) → AreApart cs
       → ((c : ℕ) (x : List ServerEvent) → is_in c cs ≡ true → Alike c h x → P c x → P c (onto (f c) x))
       → ((k : ℕ) → is_in k cs ≡ true → Alike k h g) → ((k : ℕ) → P k g) → (k : ℕ) → P k (onto (flat_map f cs) g)
@@ -216,7 +200,7 @@ module _ (now : ℕ) (h : List ServerEvent) where
         let known : Known c (notes g) = ap is_known lives in
         let polls = polls_of c (notes g) lives in
         let y : List ServerEvent = onto (closing c reason.Expired h) g in
-        let b = quiet_onto c (closing c reason.Expired h) g (closing_quiet c reason.Expired h) in
+        let b = quiet_onto c (closing c reason.Expired h) g (each_closing IsQuiet c reason.Expired h tt) in
         let there : has_peer c h ≡ true = sym (peer_alike c h g a) ∙ o.there known polls.0 in
         let still : standing c (notes y) ≡ Polling = standing_same c (notes y) (notes g) b.same_notes ∙ lives in
         in_turn (Own c) (closing c reason.Expired h) (Notes (Expired c now) ∷ []) g
@@ -261,7 +245,7 @@ module _ (now : ℕ) (h : List ServerEvent) where
           let b = quiet_onto c (step c (Silenced now) ∷ []) g (tt, tt) in
           let y : List ServerEvent = onto (losing c lane now h) x in
           in_turn (Own c) (step c (Silenced now) ∷ losing c lane now h) (shutting lane h) g
-          (own_alike c y (onto (shutting lane h) y) (quiet_onto c (shutting lane h) y (shutting_quiet lane h))
+          (own_alike c y (onto (shutting lane h) y) (quiet_onto c (shutting lane h) y (each_shutting IsQuiet lane h tt))
           (lost_own c lane x (alike_then c h g x a b) (own_alike c g x b o) u old))
 
       ticks_one : (c : ℕ) (g : List ServerEvent) → Alike c h g → Own c g → Known c (notes h) → c ≤ made (notes h) → Own c (onto (ticking now c h) g)

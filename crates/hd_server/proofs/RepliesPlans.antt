@@ -5,7 +5,6 @@ use Rattle.std.proofs.lemmas.Bool.{eqb-true, eq-eqb}
 use Rattle.hw_lanes.specs.declared.http.Request.{Request}
 use Rattle.hw_lanes.specs.declared.http.Reply.{Reply}
 use Rattle.hw_lanes.specs.Replies.{IsReply}
-use Rattle.hd_delivery.specs.declared.vocabulary.Reason.{Reason}
 use Rattle.hd_delivery.specs.declared.vocabulary.Reason.TheVariants as reason
 use Rattle.hd_delivery.specs.Histories.{is_this}
 use Rattle.hd_server.specs.declared.vocabulary.Life.{Life}
@@ -15,20 +14,22 @@ use Rattle.hd_server.specs.Lives.{Negotiated, Opened, Socketed, Polled, Answered
 use Rattle.hd_server.specs.Texts.{token_of, negotiate_body}
 use Rattle.hd_server.specs.Table.{Outcome, Refusal, NewToken, PlainSocket, TokenSocket, FirstPoll, NextPoll, LastPoll, Posting, Deletion, is_socket}
 use Rattle.hd_server.specs.Machine.{Connects, settings_of, has_gone}
-use Rattle.hd_server.specs.Doings.{ServerEvent, Notes, Works, Says, notes, work, awaits_reply, user_of, has_peer, is_up}
-use Rattle.hd_server.specs.Plans.{Setup, onto, connecting, attaching, closing, removing_conn, peer_settings, bare_reply, socket_reply, token_reply, refusal_reply, reply_on, shutting_after, replying, ending_poll, ending_held, standing_on, shutting_some, request_plan, giving_way, removing_some}
+use Rattle.hd_server.specs.Doings.{ServerEvent, Notes, Works, Says, notes, work, awaits_reply, user_of, has_peer}
+use Rattle.hd_server.specs.Plans.{Setup, onto, connecting, attaching, closing, removing_conn, peer_settings, bare_reply, socket_reply, token_reply, refusal_reply, reply_on, shutting_after, replying, ending_poll, ending_held, standing_on, shutting_some, request_plan, giving_way}
 use Rattle.hd_server.specs.Serves.{IsFed}
-use Rattle.hd_server.proofs.OrderlyDoings.{in_turn, either_way}
+use Rattle.hd_server.specs.Parts.{Each}
+use Rattle.hd_server.proofs.Each.{each_join, each_shutting_some, each_shutting_after, each_closing, each_removing, each_move}
+use Rattle.hd_server.proofs.OrderlyDoings.{in_turn}
 use Rattle.hd_server.proofs.RepliesSent.{IsSent, bare_sent, refusal_sent, sent_on, token_sent, socket_sent, plain_200, plain_202, plain_204}
-use Rattle.hd_server.proofs.RepliesLanes.{Held, Holds, Calm, calm_same, calm_then, calm_holds, AreCalm, calm_onto, calm_after, calm_both, shutting_calm, letting_calm, moves_calm, shutting_after_calm, replied}
+use Rattle.hd_server.proofs.RepliesLanes.{Held, Holds, Calm, calm_same, calm_then, calm_holds, calm_onto, calm_after, replied, IsCalm}
 use Rattle.hd_server.proofs.RepliesFlushed.{answers_held}
-use Rattle.hd_server.proofs.GivingWay.{either_room, removed_so, unused}
+use Rattle.hd_server.proofs.GivingWay.{either_room, removed_so}
 
 -- ---- single parts
 
 pub fed_calm : (now : ℕ) (o : Option (ℕ × List ℕ)) (h after : List ServerEvent) → IsFed now o h after → Calm h after
 fed_calm now None h after e = subst (Calm h) (sym e) (calm_same h)
-fed_calm now (Some f) h after one = subst (Calm h) (sym one.are) (calm_after _ h (moves_calm f.0 one.moves))
+fed_calm now (Some f) h after one = subst (Calm h) (sym one.are) (calm_after _ h (each_move IsCalm f.0 one.moves (λ m. tt)))
 
 -- a peer begins of one that holds no poll
 connects_calm : (s : Setup) (c : ℕ) (reconnect : Bool) (h g : List ServerEvent) → (is_some (settings_of c (work h)) ≡ false → poll_of c (notes g) ≡ None)
@@ -111,14 +112,7 @@ replies_now : (lane : ℕ) (reply : Reply) (h g : List ServerEvent) → IsReply 
 replies_now lane reply h g sent ok =
     let x : List ServerEvent = Says (say.Reply lane (reply_on lane reply h)) ∷ g in
     calm_holds None None x (onto (replying lane reply h) g)
-    (calm_onto (shutting_after lane reply h) x (shutting_after_calm lane reply h)) (replied lane None (reply_on lane reply h) g (sent_on lane reply h sent) ok)
-
-pub closing_calm : (c : ℕ) (why : Reason) (h : List ServerEvent) → AreCalm (closing c why h)
-closing_calm c why h = either_way AreCalm (is_up c h) _ [] (tt, tt) tt
-
-shuts_some_calm : (o : Option ℕ) (h : List ServerEvent) → AreCalm (shutting_some o h)
-shuts_some_calm None h = tt
-shuts_some_calm (Some lane) h = shutting_calm lane h
+    (calm_onto (shutting_after lane reply h) x (each_shutting_after IsCalm lane reply h tt)) (replied lane None (reply_on lane reply h) g (sent_on lane reply h sent) ok)
 
 begins_calm : (s : Setup) (now c : ℕ) (reconnect : Bool) (h g : List ServerEvent) → (is_some (settings_of c (work h)) ≡ false → poll_of c (notes g) ≡ None)
     → Calm g (onto (connecting s c reconnect h ++ attaching c now h) g)
@@ -153,7 +147,7 @@ ended_none c now (Some poll) h g e =
     still : poll_of c (notes y) ≡ Some poll
     still =
         (calm_onto (shutting_after poll.0 (bare_reply 204) h) (Says (say.Reply poll.0 (reply_on poll.0 (bare_reply 204) h)) ∷ g)
-        (shutting_after_calm poll.0 (bare_reply 204) h)).same_polls c ∙ e
+        (each_shutting_after IsCalm poll.0 (bare_reply 204) h tt)).same_polls c ∙ e
 
 ends_holds : (asks : Option ℕ) (c now : ℕ) (o : Option (ℕ × ℕ)) (h g : List ServerEvent) → Holds asks None g → poll_of c (notes g) ≡ o
     → (is_some o ≡ true → has_peer c g ≡ true) → Holds asks None (onto (ending_poll c now o h) g)
@@ -184,7 +178,7 @@ module _ (s : Setup) (now lane : ℕ) (r : Request) (drawn : Option (List ℕ)) 
   gave : Holds (Some lane) None (onto (giving_way s now h) h)
   gave =
       either_room (Holds (Some lane) None) (gives_way s.live now (notes h)) h h ok
-      (λ k e. calm_holds (Some lane) None h (onto (removing_conn k h) h) (calm_onto (removing_conn k h) h (letting_calm k h)) ok)
+      (λ k e. calm_holds (Some lane) None h (onto (removing_conn k h) h) (calm_onto (removing_conn k h) h (each_removing IsCalm k h tt tt)) ok)
 
   next_none : poll_of (suc (made (notes (onto (giving_way s now h) h)))) (notes (onto (giving_way s now h) h)) ≡ None
   next_none =
@@ -219,7 +213,7 @@ module _ (s : Setup) (now lane : ℕ) (r : Request) (drawn : Option (List ℕ)) 
       (calm_holds (Some lane) None g x (calm_onto (Notes (Opened k now) ∷ []) g (tt, tt)) gave)))
   request_holds TokenSocket right fed e =
       let shut : List ServerEvent = shutting_some (socket_of c (notes h)) h in
-      let calm = calm_onto shut h (shuts_some_calm (socket_of c (notes h)) h) in
+      let calm = calm_onto shut h (each_shutting_some IsCalm (socket_of c (notes h)) h (λ l. tt)) in
       subst (Holds None None) (sym e)
       (in_turn (Holds None None) shut (standing_on s (record { now = now; lane = lane; request = r }) c (is_resumable_promise c (notes h)) h) h
       (stands_holds s now lane c r (is_resumable_promise c (notes h)) h (onto shut h) right.0 (λ z. calm.same_polls c ∙ n.never_begun (known_but life right.1.2) z)
@@ -243,12 +237,12 @@ module _ (s : Setup) (now lane : ℕ) (r : Request) (drawn : Option (List ℕ)) 
   request_holds Deletion right fed e =
       let polls : List ServerEvent = ending_held c now h in
       let ends : List ServerEvent = closing c reason.Done h ++ removing_conn c h in
-      let calm : AreCalm ends = calm_both (closing c reason.Done h) (removing_conn c h) (closing_calm c reason.Done h) (letting_calm c h) in
+      let calm : Each IsCalm ends = each_join IsCalm (closing c reason.Done h) (removing_conn c h) (each_closing IsCalm c reason.Done h tt) (each_removing IsCalm c h tt tt) in
       let ended : Holds (Some lane) None (onto polls h) = ends_holds (Some lane) c now (poll_of c (notes h)) h h ok refl (n.polls_there right) in
       let y : List ServerEvent = onto (closing c reason.Done h) (onto polls h) in
       let z : List ServerEvent = onto (removing_conn c h) y in
-      let at_y = calm_holds (Some lane) None (onto polls h) y (calm_onto (closing c reason.Done h) (onto polls h) (closing_calm c reason.Done h)) ended in
-      let at_z = calm_holds (Some lane) None y z (calm_onto (removing_conn c h) y (letting_calm c h)) at_y in
+      let at_y = calm_holds (Some lane) None (onto polls h) y (calm_onto (closing c reason.Done h) (onto polls h) (each_closing IsCalm c reason.Done h tt)) ended in
+      let at_z = calm_holds (Some lane) None y z (calm_onto (removing_conn c h) y (each_removing IsCalm c h tt tt)) at_y in
       subst (Holds None None) (sym e)
       (in_turn (Holds None None) (polls ++ closing c reason.Done h ++ removing_conn c h) (replying lane (bare_reply 202) h) h
       (in_turn (λ x. Holds None None (onto (replying lane (bare_reply 202) h) x)) (polls ++ closing c reason.Done h) (removing_conn c h) h

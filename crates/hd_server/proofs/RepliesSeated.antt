@@ -18,14 +18,16 @@ use Rattle.hd_server.specs.Machine.{Connects, connections, settings_of, has_gone
 use Rattle.hd_server.specs.Doings.{ServerEvent, Hears, Notes, Works, Says, notes, work, may_resume, is_upgraded, user_of, has_peer}
 use Rattle.hd_server.specs.Plans.{Setup, onto, step, connecting, attaching, closing, removing_conn, losing, losing_lane, conn_on, poller_on, named_conn, facts, plan, peer_settings, bare_reply, socket_reply, token_reply, refusal_reply, shutting_after, replying, ending_held, standing_on, shutting_some, request_plan, giving_way, removing_some}
 use Rattle.hd_server.specs.Serves.{IsFed, IsFree}
+use Rattle.hd_server.specs.Parts.{Each}
+use Rattle.hd_server.proofs.Each.{either_way, each_join, each_shutting_some, each_shutting_after, each_replying, each_ending_poll, each_closing, each_removing, each_losing, each_move}
 use Rattle.hd_server.proofs.Flushing.{is_in}
-use Rattle.hd_server.proofs.OrderlyDoings.{AreQuiet, in_turn, either_way, quiet_notes, shutting_quiet}
+use Rattle.hd_server.proofs.OrderlyDoings.{in_turn, quiet_notes, IsQuiet}
 use Rattle.hd_server.proofs.RepliesSent.{IsSent, outcome_sent}
 use Rattle.hd_server.proofs.RepliesFlushed.{left_alone}
 use Rattle.hd_server.proofs.RepliesTurns.{finds, finds_none, on_this, there_of}
 use Rattle.hd_server.proofs.RepliesHandled.{Hearing}
-use Rattle.hd_server.proofs.RepliesSeats.{Seats, Less, less_same, less_then, less_seats, AreLess, less_onto, less_after, less_both, shuts_some_less, shut_after_less, replying_less, letting_less, closing_less, moves_less, losing_less, poll_ends_less, unasked, poll_seats, stand_seats}
-use Rattle.hd_server.proofs.GivingWay.{either_room, removed_so, unused}
+use Rattle.hd_server.proofs.RepliesSeats.{Seats, Less, less_same, less_then, less_seats, less_onto, less_after, unasked, poll_seats, stand_seats, IsLess}
+use Rattle.hd_server.proofs.GivingWay.{either_room, removed_so}
 
 -- it stands nowhere and holds no poll
 abbrev pub IsOff : ℕ → List ServerEvent → Type 0
@@ -74,12 +76,12 @@ stands_seats s now lane c r reconnect h g none ok =
     let reply : Reply = socket_reply r.upgrade in
     let y : List ServerEvent = Says (say.Reply lane reply) ∷ Notes (Socketed c lane now) ∷ x in
     in_turn (Seats None None) (connecting s c reconnect h ++ attaching c now h) (Notes (Socketed c lane now) ∷ replying lane reply h) g
-    (less_seats None None y (onto (shutting_after lane reply h) y) (less_onto (shutting_after lane reply h) y (shut_after_less lane reply h))
+    (less_seats None None y (onto (shutting_after lane reply h) y) (less_onto (shutting_after lane reply h) y (each_shutting_after IsLess lane reply h tt))
     (stand_seats c lane now reply x refl (less_seats (Some lane) None g x (begins_less s now c reconnect h g none) ok)))
 
 fed_less : (now : ℕ) (o : Option (ℕ × List ℕ)) (h after : List ServerEvent) → IsFed now o h after → Less h after
 fed_less now None h after e = subst (Less h) (sym e) (less_same h)
-fed_less now (Some f) h after one = subst (Less h) (sym one.are) (less_after _ h (moves_less f.0 one.moves))
+fed_less now (Some f) h after one = subst (Less h) (sym one.are) (less_after _ h (each_move IsLess f.0 one.moves (λ m. tt)))
 
 -- ---- a request
 
@@ -97,21 +99,17 @@ known_but Lost f = refl
 known_but Polling f = refl
 known_but Ending f = refl
 
-shuts_some_quiet : (o : Option ℕ) (h : List ServerEvent) → AreQuiet (shutting_some o h)
-shuts_some_quiet None h = tt
-shuts_some_quiet (Some lane) h = shutting_quiet lane h
-
 module _ (s : Setup) (now lane : ℕ) (r : Request) (drawn : Option (List ℕ)) (c : ℕ) (h : List ServerEvent) (life : Life) (ok : Seats (Some lane) None h)
     (named : is_known life ≡ true → is_some (settings_of c (work h)) ≡ false → IsOff c h) (next : IsOff (suc (made (notes h))) h) where
   -- where none comes onto a lane
-  answers : (ds : List ServerEvent) → AreLess ds → Seats None None (onto ds h)
+  answers : (ds : List ServerEvent) → Each IsLess ds → Seats None None (onto ds h)
   answers ds a = unasked lane None (onto ds h) (less_seats (Some lane) None h (onto ds h) (less_onto ds h a) ok)
 
-  gives_less : AreLess (giving_way s now h)
+  gives_less : Each IsLess (giving_way s now h)
   gives_less = by (gives_way s.live now (notes h)) where
-    by : (o : Option ℕ) → AreLess (removing_some o h)
+    by : (o : Option ℕ) → Each IsLess (removing_some o h)
     by None = tt
-    by (Some k) = letting_less k h
+    by (Some k) = each_removing IsLess k h tt tt
 
   -- the next connection after one gave way
   next_still : IsOff (suc (made (notes (onto (giving_way s now h) h)))) (onto (giving_way s now h) h)
@@ -125,7 +123,7 @@ module _ (s : Setup) (now lane : ℕ) (r : Request) (drawn : Option (List ℕ)) 
       → Seats None None (onto (request_plan s (record { now = now; lane = lane; request = r }) drawn c h out).last fed)
   request_seats (Refusal status) right fed e =
       subst (Seats None None) (sym e)
-      (answers (replying lane (refusal_reply s.base r status) h) (replying_less lane (refusal_reply s.base r status) h (no_upgrade status right.1)))
+      (answers (replying lane (refusal_reply s.base r status) h) (each_replying IsLess lane (refusal_reply s.base r status) h (no_upgrade status right.1) tt))
   request_seats (NewToken reconnect) right fed e =
       let room : List ServerEvent = giving_way s now h in
       let g : List ServerEvent = onto room h in
@@ -134,7 +132,7 @@ module _ (s : Setup) (now lane : ℕ) (r : Request) (drawn : Option (List ℕ)) 
       let reply : Reply = token_reply (negotiate_body k token reconnect) in
       let told : List ServerEvent = Notes (Negotiated k token reconnect now) ∷ replying lane reply g in
       subst (Seats None None) (sym e)
-      (answers (room ++ told) (less_both room told gives_less (tt, replying_less lane reply g refl)))
+      (answers (room ++ told) (each_join IsLess room told gives_less (tt, each_replying IsLess lane reply g refl tt)))
   request_seats PlainSocket right fed e =
       let room : List ServerEvent = giving_way s now h in
       let g : List ServerEvent = onto room h in
@@ -147,38 +145,38 @@ module _ (s : Setup) (now lane : ℕ) (r : Request) (drawn : Option (List ℕ)) 
       (less_seats (Some lane) None h g (less_onto room h gives_less) ok))))
   request_seats TokenSocket right fed e =
       let shut : List ServerEvent = shutting_some (socket_of c (notes h)) h in
-      let same : notes (onto shut h) ≡ notes h = quiet_notes shut h (shuts_some_quiet (socket_of c (notes h)) h) in
+      let same : notes (onto shut h) ≡ notes h = quiet_notes shut h (each_shutting_some IsQuiet (socket_of c (notes h)) h (λ l. tt)) in
       subst (Seats None None) (sym e)
       (in_turn (Seats None None) shut (standing_on s (record { now = now; lane = lane; request = r }) c (is_resumable_promise c (notes h)) h) h
       (stands_seats s now lane c r (is_resumable_promise c (notes h)) h (onto shut h)
       (λ z. let off = named (known_but life right.1.2) z in (ap (socket_of c) same ∙ off.0, ap (poll_of c) same ∙ off.1))
-      (less_seats (Some lane) None h (onto shut h) (less_onto shut h (shuts_some_less (socket_of c (notes h)) h)) ok)))
+      (less_seats (Some lane) None h (onto shut h) (less_onto shut h (each_shutting_some IsLess (socket_of c (notes h)) h (λ l. tt))) ok)))
   request_seats FirstPoll right fed e =
       let begun : List ServerEvent = onto (connecting s c false h ++ attaching c now h) h in
       let less = less_then h begun fed (begins_less s now c false h h (named (ap is_known right))) (fed_less now (Some (c, [])) begun fed e) in
       let x : List ServerEvent = Notes (Polled c lane now) ∷ fed in
       let last : List ServerEvent = Notes (Answered c lane now) ∷ replying lane (bare_reply 200) h in
-      less_seats None None x (onto last x) (less_onto last x (tt, replying_less lane (bare_reply 200) h refl))
+      less_seats None None x (onto last x) (less_onto last x (tt, each_replying IsLess lane (bare_reply 200) h refl tt))
       (poll_seats c lane now fed (less_seats (Some lane) None h fed less ok))
   request_seats NextPoll right fed e =
       let begun : List ServerEvent = onto (ending_held c now h) h in
-      let less = less_then h begun fed (less_onto (ending_held c now h) h (poll_ends_less c now (poll_of c (notes h)) h))
+      let less = less_then h begun fed (less_onto (ending_held c now h) h (each_ending_poll IsLess c now (poll_of c (notes h)) h (λ l. refl) (λ l. tt) (λ l. tt)))
       (fed_less now (Some (c, [])) begun fed e) in
       poll_seats c lane now fed (less_seats (Some lane) None h fed less ok)
   request_seats LastPoll right fed e = subst (Seats None None) (sym e) (poll_seats c lane now h ok)
   request_seats Posting right fed e =
       let last : List ServerEvent = replying lane (bare_reply 200) h in
-      let less = less_then h fed (onto last fed) (fed_less now (Some (c, r.body)) h fed e) (less_onto last fed (replying_less lane (bare_reply 200) h refl)) in
+      let less = less_then h fed (onto last fed) (fed_less now (Some (c, r.body)) h fed e) (less_onto last fed (each_replying IsLess lane (bare_reply 200) h refl tt)) in
       unasked lane None (onto last fed) (less_seats (Some lane) None h (onto last fed) less ok)
   request_seats Deletion right fed e =
       let polls : List ServerEvent = ending_held c now h in
       let ends : List ServerEvent = polls ++ closing c reason.Done h in
       subst (Seats None None) (sym e)
       (answers (ends ++ removing_conn c h ++ replying lane (bare_reply 202) h)
-      (less_both (ends ++ removing_conn c h) (replying lane (bare_reply 202) h)
-      (less_both ends (removing_conn c h)
-      (less_both polls (closing c reason.Done h) (poll_ends_less c now (poll_of c (notes h)) h) (closing_less c reason.Done h)) (letting_less c h))
-      (replying_less lane (bare_reply 202) h refl)))
+      (each_join IsLess (ends ++ removing_conn c h) (replying lane (bare_reply 202) h)
+      (each_join IsLess ends (removing_conn c h)
+      (each_join IsLess polls (closing c reason.Done h) (each_ending_poll IsLess c now (poll_of c (notes h)) h (λ l. refl) (λ l. tt) (λ l. tt)) (each_closing IsLess c reason.Done h tt)) (each_removing IsLess c h tt tt))
+      (each_replying IsLess lane (bare_reply 202) h refl tt)))
 
 -- ---- a lane that is lost
 
@@ -227,7 +225,7 @@ module _ (now lane : ℕ) (h : List ServerEvent) (among : (k : ℕ) → has_peer
       let there = there_of h c found.1 in
       let stands = on_this lane (socket_of c (notes h)) found.0 in
       let y : List ServerEvent = onto (losing c lane now h) (step c (Detached now) ∷ h) in
-      let less : Less h y = less_onto (step c (Detached now) ∷ losing c lane now h) h (tt, losing_less c lane now h) in
+      let less : Less h y = less_onto (step c (Detached now) ∷ losing c lane now h) h (tt, each_losing IsLess c lane now h tt tt tt) in
       found_seats lane y (λ k p i.
       let was = less.socket k lane p i in
       let same : k ≡ c = ok.alone k c lane was.0 there was.1 stands in

@@ -8,9 +8,10 @@ use Rattle.hd_server.specs.Machine.{Rounds, connections}
 use Rattle.hd_server.specs.Doings.{ServerEvent, Works, notes, work, has_peer}
 use Rattle.hd_server.specs.Plans.{Setup, onto}
 use Rattle.hd_server.specs.Serves.{IsTurn, ticks}
+use Rattle.hd_server.specs.Parts.{Each}
 use Rattle.hd_server.proofs.Flushing.{is_in}
 use Rattle.hd_server.proofs.OrderlyNotes.{Known, within}
-use Rattle.hd_server.proofs.OrderlyDoings.{Settled, AreQuiet, quiet_settled_after}
+use Rattle.hd_server.proofs.OrderlyDoings.{Settled, quiet_settled_after, IsQuiet}
 use Rattle.hd_server.proofs.OrderlyEach.{passes, all_apart, ticked_settled, told_settled}
 use Rattle.hd_server.proofs.Orderly.{IsOrderly, orderly_then, round_quiet}
 use Rattle.hd_server.proofs.RepliesLanes.{Holds, calm_holds, calm_onto, calm_after}
@@ -52,7 +53,7 @@ module _ {Job : Type 0} (hub : Hub Job) (s : Setup) (now : ℕ) (e : Event) (h a
   ticked_ok : Settled s.live now turn.ticked
   ticked_ok = subst (Settled s.live now) (sym turn.has_ticked) (ticked_settled now turn.handled ok)
 
-  words : AreQuiet (map Works turn.round)
+  words : Each IsQuiet (map Works turn.round)
   words = round_quiet now turn.round (Rounds now ∷ work turn.ticked) turn.rounds.each
 
   stepped_ok : Settled s.live now turn.stepped

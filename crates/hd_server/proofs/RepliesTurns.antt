@@ -3,24 +3,22 @@ use Rattle.std.proofs.Common.{refl, ap, subst, sym, ◌∙◌, ◌≡◌, ℕ, B
 use Rattle.std.specs.Prelude.{◌==◌, is_some, map, find, unwrap_or, option_map, ◌&&◌, ◌||◌}
 use Rattle.std.specs.List.{flat_map}
 use Rattle.std.proofs.lemmas.Bool.{eqb-true, eq-eqb, or_left, or_right}
-use Rattle.hd_delivery.specs.declared.vocabulary.Reason.TheVariants as reason
 use Rattle.hd_delivery.specs.Histories.{Detached, Ticked, Silenced, is_this, present_link, is_silence}
 use Rattle.hw_lanes.specs.declared.http.Request.{Request}
 use Rattle.hw_door.specs.declared.heard.Event.{Event}
 use Rattle.hw_door.specs.declared.heard.Event.TheVariants as event
-use Rattle.hd_server.specs.declared.vocabulary.Life.{Life}
-use Rattle.hd_server.specs.declared.vocabulary.Life.TheVariants.{Polling}
-use Rattle.hd_server.specs.Lives.{LaneLost, standing, overdue, poll_of, socket_of}
-use Rattle.hd_server.specs.Table.{asks_keeper}
-use Rattle.hd_server.specs.Machine.{MachineEvent, Does, Rounds, Carries, connections}
-use Rattle.hd_server.specs.Doings.{ServerEvent, Hears, Notes, Works, notes, work, awaits_reply, history, config_of, has_peer, may_resume}
-use Rattle.hd_server.specs.Plans.{Setup, onto, step, closing, dropping, removing_conn, expiring, expiries, losing, losing_lane, conn_on, poller_on, learning, asks_lots, questions, shutting}
+use Rattle.hd_server.specs.Lives.{LaneLost, poll_of, socket_of, Expired}
+use Rattle.hd_server.specs.Machine.{MachineEvent, Does, connections, Connects, Goes}
+use Rattle.hd_server.specs.Doings.{ServerEvent, Hears, Notes, Works, notes, work, awaits_reply, history, config_of, has_peer, may_resume, Learns, Draws}
+use Rattle.hd_server.specs.Plans.{Setup, onto, step, removing_conn, expiries, losing, losing_lane, conn_on, poller_on, questions, shutting}
 use Rattle.hd_server.specs.Serves.{silenced, ticking, ticks}
+use Rattle.hd_server.specs.Parts.{Each, IsOfAny, IsExpiry, IsQuestion}
+use Rattle.hd_server.proofs.PartsOfTurns.{expiries_are, questions_are}
+use Rattle.hd_server.proofs.Each.{either_way, each_so, each_shutting, each_removing}
 use Rattle.hd_server.proofs.Flushing.{is_in}
-use Rattle.hd_server.proofs.OrderlyDoings.{AreQuiet, in_turn, either_way}
+use Rattle.hd_server.proofs.OrderlyDoings.{in_turn, IsQuiet}
 use Rattle.hd_server.proofs.OrderlyEach.{passes}
-use Rattle.hd_server.proofs.RepliesLanes.{Held, Holds, Calm, calm_same, calm_then, calm_holds, AreCalm, calm_onto, calm_both, shutting_calm, letting_calm, dropping_calm}
-use Rattle.hd_server.proofs.RepliesPlans.{closing_calm}
+use Rattle.hd_server.proofs.RepliesLanes.{Held, Holds, Calm, calm_same, calm_then, calm_holds, calm_onto, IsCalm}
 
 -- ---- an event is heard
 
@@ -92,7 +90,7 @@ loss_calm c lane now g none = record { same_polls = λ k. by k (k == c) refl; fe
 losing_calm : (c lane now : ℕ) (h g : List ServerEvent) → ((t : ℕ) → poll_of c (notes g) ≡ Some (lane, t) → ⊥) → Calm g (onto (losing c lane now h) g)
 losing_calm c lane now h g none =
     either_way (λ ds. Calm g (onto ds g)) (may_resume c h) (Notes (LaneLost c lane now) ∷ []) (removing_conn c h)
-    (loss_calm c lane now g none) (calm_onto (removing_conn c h) g (letting_calm c h))
+    (loss_calm c lane now g none) (calm_onto (removing_conn c h) g (each_removing IsCalm c h tt tt))
 
 -- the poll that is held on a lane is lost with it
 poll_lost : (c lane now since : ℕ) (g : List ServerEvent) → has_peer c g ≡ true → poll_of c (notes g) ≡ Some (lane, since)
@@ -192,35 +190,28 @@ module _ (now lane : ℕ) (h : List ServerEvent) (apart : Apart h) (none : await
 
 -- ---- moments, questions, ticks, rounds
 
-expires_calm : (now : ℕ) (life : Life) (c : ℕ) (h : List ServerEvent) → AreCalm (expiring now life c h)
-expires_calm now Polling c h = calm_both (closing c reason.Expired h) _ (closing_calm c reason.Expired h) (tt, tt)
-expires_calm now life c h = calm_both (dropping c h) _ (dropping_calm c h) (tt, tt)
+calm_expiry : (d : ServerEvent) → IsOfAny IsExpiry d → IsCalm d
+calm_expiry (Works (Does c m)) e = tt
+calm_expiry (Works (Goes c)) e = tt
+calm_expiry (Notes (Expired c now)) e = tt
+calm_expiry d e = absurd e.1
 
-each_calm : (f : ℕ → List ServerEvent) (cs : List ℕ) → ((c : ℕ) → AreCalm (f c)) → AreCalm (flat_map f cs)
-each_calm f [] a = tt
-each_calm f (c ∷ cs) a = calm_both (f c) (flat_map f cs) (a c) (each_calm f cs a)
+calm_question : (d : ServerEvent) → IsQuestion d → IsCalm d
+calm_question (Learns ask) e = tt
+calm_question (Draws drawn) e = tt
+calm_question d e = absurd e
 
-pub expiries_calm : (now : ℕ) (h : List ServerEvent) → AreCalm (expiries now h)
-expiries_calm now h =
-    each_calm (λ c. expiring now (standing c (notes h)) c h) (overdue now (notes h)) (λ c. expires_calm now (standing c (notes h)) c h)
-
-learning_calm : (o : Option (List ℕ)) (name : Option (Option (List ℕ))) → AreCalm (learning o name)
-learning_calm None name = tt
-learning_calm (Some token) name = (tt, tt)
+pub expiries_calm : (now : ℕ) (h : List ServerEvent) → Each IsCalm (expiries now h)
+expiries_calm now h = each_so (IsOfAny IsExpiry) IsCalm calm_expiry (expiries now h) (expiries_are now h)
 
 pub questions_calm : (s : Setup) (now : ℕ) (e : Event) (name : Option (Option (List ℕ))) (drawn : Option (List ℕ)) (h : List ServerEvent)
-    → AreCalm (questions s now e name drawn h)
-questions_calm s now (event.Request lane r) name drawn h =
-    calm_both (learning (asks_keeper s.base r) name) _ (learning_calm (asks_keeper s.base r) name)
-    (either_way AreCalm (asks_lots s now r name h) _ [] (tt, tt) tt)
-questions_calm s now e name drawn h = tt
+    → Each IsCalm (questions s now e name drawn h)
+questions_calm s now e name drawn h = each_so IsQuestion IsCalm calm_question (questions s now e name drawn h) (questions_are s now e name drawn h)
 
-pub works_calm : (xs : List MachineEvent) → AreQuiet (map Works xs) → AreCalm (map Works xs)
+pub works_calm : (xs : List MachineEvent) → Each IsQuiet (map Works xs) → Each IsCalm (map Works xs)
 works_calm [] a = tt
-works_calm (Does c m ∷ xs) a = (tt, works_calm xs a.1)
-works_calm (Rounds now ∷ xs) a = (tt, works_calm xs a.1)
-works_calm (Carries c j d fates ask ∷ xs) a = (tt, works_calm xs a.1)
-works_calm (x ∷ xs) a = absurd a.0
+works_calm (Connects c t user ∷ xs) a = absurd a.0
+works_calm (x ∷ xs) a = (tt, works_calm xs a.1)
 
 tick_calm : (now c : ℕ) (h g : List ServerEvent) → ((lane t : ℕ) → socket_of c (notes h) ≡ Some lane → poll_of c (notes g) ≡ Some (lane, t) → ⊥)
     → Calm g (onto (ticking now c h) g)
@@ -238,7 +229,7 @@ tick_calm now c h g none =
         in_turn (Calm g) (step c (Silenced now) ∷ losing c lane now h) (shutting lane h) g
         (calm_then g y (onto (shutting lane h) y)
         (calm_then g x y (calm_onto (step c (Silenced now) ∷ []) g (tt, tt)) (losing_calm c lane now h x (λ t i. none lane t e i)))
-        (calm_onto (shutting lane h) y (shutting_calm lane h)))
+        (calm_onto (shutting lane h) y (each_shutting IsCalm lane h tt)))
 
 pub ticks_calm : (now : ℕ) (h : List ServerEvent) → ((c lane t : ℕ) → is_in c (connections (work h)) ≡ true → socket_of c (notes h) ≡ Some lane
     → poll_of c (notes h) ≡ Some (lane, t) → ⊥) → Calm h (onto (ticks now h) h)

@@ -1,6 +1,6 @@
 -- What the rows of the table tell of a request, and to whom lots matter.
-use Rattle.std.proofs.Common.{refl, ap, sym, subst, ◌∙◌, ◌≡◌, ℕ, Bool, true, false, List, inl, inr}
-use Rattle.std.specs.Prelude.{◌⊎◌, ◌==◌, not, ◌&&◌, ◌||◌, if◌then◌else◌}
+use Rattle.std.proofs.Common.{refl, ap, sym, ◌∙◌, ◌≡◌, ℕ, Bool, true, false, List}
+use Rattle.std.specs.Prelude.{◌==◌, not, ◌&&◌, ◌||◌, if◌then◌else◌}
 use Rattle.std.proofs.lemmas.Bool.{and_parts}
 use Rattle.std.specs.List.{list_any}
 use Rattle.hw_lanes.specs.declared.http.Method.{Method}
@@ -9,7 +9,7 @@ use Rattle.hw_lanes.specs.declared.http.Request.{Request}
 use Rattle.hw_lanes.specs.Replies.{IsReply, statuses}
 use Rattle.hd_server.specs.declared.vocabulary.Life.{Life}
 use Rattle.hd_server.specs.declared.vocabulary.Life.TheVariants.{Unknown, Fresh, Socket, Lost, Polling, Ending}
-use Rattle.hd_server.specs.Table.{Facts, Outcome, Refusal, NewToken, PlainSocket, TokenSocket, FirstPoll, NextPoll, LastPoll, Posting, Deletion}
+use Rattle.hd_server.specs.Table.{Facts, Outcome, Refusal, NewToken, PlainSocket}
 use Rattle.hd_server.specs.Table.{asks_reconnect, is_base, is_negotiate, is_socket, has_id, has_version, same_method, is_entry, is_unauthorized, is_keepers_fault, socket_outcome, poll_outcome, post_outcome, delete_outcome, method_outcome, named_outcome, outcome}
 use Rattle.hd_server.specs.Plans.{bare_reply, makes_token}
 use Rattle.hd_server.specs.Laws.{HasWay, LotsMatterToTokens, OutcomesSuit, Suits}

@@ -1,6 +1,6 @@
 -- What holds of these definitions, in their own words.
-use Rattle.std.specs.Prelude.{◌≡◌, ◌↔◌, ◌⊎◌, ℕ, ◌+◌, ◌^◌, ◌<◌, ◌≤◌, ◌||◌, map, reverse, Bool, true, false, nat_le, List, [], ◌∷◌, ◌++◌, length, nat_eq, Option, None, Some, is_some, All, if◌then◌else◌}
-use Rattle.std.specs.List.{IsDistinct}
+use Rattle.std.specs.Prelude.{◌≡◌, ◌↔◌, ◌⊎◌, ℕ, ◌+◌, ◌^◌, ◌<◌, ◌≤◌, ◌||◌, map, reverse, Bool, true, false, List, [], ◌∷◌, ◌++◌, length, nat_eq, Option, None, Some, is_some, All, if◌then◌else◌}
+use Rattle.std.specs.List.{IsDistinct, flat_map}
 use Rattle.hv_value.specs.Tree.{Tree}
 use Rattle.hm_message.specs.declared.message.Message.{Message}
 use Rattle.hm_message.specs.Message.{Fits}
@@ -9,7 +9,7 @@ use Rattle.hw_lanes.specs.declared.http.Method.TheVariants.{Get, Post, Delete}
 use Rattle.hw_lanes.specs.declared.http.ReplyField.{ReplyField}
 use Rattle.hw_lanes.specs.declared.http.ReplyField.TheVariants.{AllowPost, AllowGetPostDelete}
 use Rattle.hw_lanes.specs.declared.http.Request.{Request}
-use Rattle.hd_delivery.specs.Numbers.{most_framing, ping_after}
+use Rattle.hd_delivery.specs.Numbers.{most_framing}
 use Rattle.hd_delivery.specs.Histories.{EndEvent, Ticked, Config, codec_of, present_link, sent_messages, processed_messages, held_messages, moment, heard_moment, written_moment, is_silence, state}
 use Rattle.hd_delivery.specs.Frames.{LinkFrame}
 use Rattle.hd_delivery.specs.Due.{due, is_quiet, is_unseen}
@@ -32,13 +32,15 @@ use Rattle.hd_server.specs.Machine.{MachineEvent, Does, IsRound, DeliveryOutcome
 use Rattle.hd_rooms.specs.Registry.{count_of, most_groups}
 use Rattle.hd_server.specs.Machine.{registry}
 use Rattle.hw_lanes.specs.Replies.{IsReply}
+use Rattle.hd_server.specs.declared.vocabulary.Life.{Life}
 use Rattle.hd_server.specs.declared.vocabulary.Life.TheVariants.{Fresh, Polling, Ending}
 use Rattle.hd_server.specs.declared.vocabulary.Said.TheVariants as say
 use Rattle.hd_server.specs.Doings.{ServerEvent, Says, notes, work, hears, asked, draws, said, seen, history, awaits_reply, config_of, has_peer, is_full}
 use Rattle.hd_facts.specs.Prefixes.{IsPrefix}
 use Rattle.hd_server.specs.Doings.{moment as moment_heard}
-use Rattle.hd_server.specs.Plans.{Setup, allowed_at, bare_reply, makes_token}
-use Rattle.hd_server.specs.Serves.{LendsUpTo, IsFree, IsTurn, Serves, given_as}
+use Rattle.hd_server.specs.Plans.{Setup, allowed_at, bare_reply, makes_token, expiring, expiries, questions, plan}
+use Rattle.hd_server.specs.Serves.{LendsUpTo, IsFree, IsTurn, Serves, given_as, ticking, flushing_on, all_flushing}
+use Rattle.hd_server.specs.Parts.{Each, IsOfAny, IsExpiry, IsQuestion, IsPlanned, IsTick, IsFlush}
 use Rattle.hd_server.specs.Serving.{ServesOn}
 use Rattle.hw_door.specs.declared.heard.Given.{Given}
 
@@ -167,6 +169,26 @@ abbrev pub IdleTicksAreUnseen : Type 0
 IdleTicksAreUnseen = (c : Config) (now : ℕ) (h : List EndEvent) → is_unseen c now h ≡ true → TellSame c now (Ticked now ∷ h) h
 
 -- ---- turns
+
+-- of which events each part of a turn consists. What a moment has ended, a tick and what is said have nothing that a plan may not have
+pub record PartsOfTurns : Type 0 where
+  pub expiring_is : (now : ℕ) (life : Life) (c : ℕ) (h : List ServerEvent) → Each (IsExpiry c) (expiring now life c h)
+  pub expiries_are : (now : ℕ) (h : List ServerEvent) → Each (IsOfAny IsExpiry) (expiries now h)
+  pub questions_are : (s : Setup) (now : ℕ) (event : Event) (name : Option (Option (List ℕ))) (drawn : Option (List ℕ)) (h : List ServerEvent)
+      → Each IsQuestion (questions s now event name drawn h)
+  pub first_is : (s : Setup) (now : ℕ) (event : Event) (name : Option (Option (List ℕ))) (drawn : Option (List ℕ)) (h : List ServerEvent)
+      → Each IsPlanned (plan s now event name drawn h).first
+  pub last_is : (s : Setup) (now : ℕ) (event : Event) (name : Option (Option (List ℕ))) (drawn : Option (List ℕ)) (h : List ServerEvent)
+      → Each IsPlanned (plan s now event name drawn h).last
+  pub ticking_is : (now c : ℕ) (h : List ServerEvent) → Each (IsTick c) (ticking now c h)
+  pub ticks_are : (now : ℕ) (cs : List ℕ) (h : List ServerEvent) → Each (IsOfAny IsTick) (flat_map (λ c. ticking now c h) cs)
+  pub flushing_is : (s : Setup) (now c : ℕ) (lane : Option ℕ) (pieces : List (List LinkFrame)) (h : List ServerEvent)
+      → Each (IsFlush c) (flushing_on s now c lane pieces h)
+  pub all_flushing_is : (s : Setup) (now : ℕ) (cs : List ℕ) (pieces : List (List (List LinkFrame))) (h : List ServerEvent)
+      → Each (IsOfAny IsFlush) (all_flushing s now cs pieces h)
+  pub expiry_planned : (x : ServerEvent) → IsOfAny IsExpiry x → IsPlanned x
+  pub tick_planned : (x : ServerEvent) → IsOfAny IsTick x → IsPlanned x
+  pub flush_planned : (x : ServerEvent) → IsOfAny IsFlush x → IsPlanned x
 
 -- what was done before an event stays, the event is heard once, and no answer to a message is seen yet
 pub record GoesFurther (now : ℕ) (event : Event) (h after : List ServerEvent) : Type 0 where

@@ -8,6 +8,7 @@ pub mod Machine
 pub mod Doings
 pub mod Plans
 pub mod Serves
+pub mod Parts
 pub mod Serving
 pub mod Plain
 pub mod Sessions

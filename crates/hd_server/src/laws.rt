@@ -2,7 +2,7 @@
 
 ghost use Rattle.std.specs.Prelude.{◌≡◌, ◌+◌};
 ghost use Rattle.hd_delivery.specs.Numbers.{most_framing};
-ghost use Rattle.hd_server.specs.Laws.{AllowedAreServed, BodiesAreBounded, ConnectionsInOrder, EachMemberOnce, EachRequestIsAnswered, FatesAreRefusals, FewLive, GroupsAreFew, IdleTicksAreUnseen, LivesAreSettled, LotsMatterToTokens, MomentsComeOnce, NothingIsLeft, OutcomesSuit, ServedIsServes, ServersArePeers, ServersHaveFew, ServersNoteInOrder, SocketsByLife, TokensDiffer, TurnsAreTested, TurnsGoFurther, WhatIsToldGrows};
+ghost use Rattle.hd_server.specs.Laws.{AllowedAreServed, BodiesAreBounded, ConnectionsInOrder, EachMemberOnce, EachRequestIsAnswered, FatesAreRefusals, FewLive, GroupsAreFew, IdleTicksAreUnseen, LivesAreSettled, LotsMatterToTokens, MomentsComeOnce, NothingIsLeft, OutcomesSuit, PartsOfTurns, ServedIsServes, ServersArePeers, ServersHaveFew, ServersNoteInOrder, SocketsByLife, TokensDiffer, TurnsAreTested, TurnsGoFurther, WhatIsToldGrows};
 ghost use Rattle.hd_server.specs.Numbers.{most_before_last, most_connections, most_frame, most_held, most_held_bytes, most_live, most_polled, most_wait, lives_for, held_for};
 
 use crate::vocabulary::{
@@ -91,6 +91,12 @@ pub fn nothing_left<Job>()
 /// An event is heard once in its turn, and what was done before stays.
 pub fn turns_go_further<Job>()
     ensures { TurnsGoFurther Job }
+{}
+
+/// Of which events each part of a turn consists: what a moment has ended, what is asked, what is planned, and what a connection does as
+/// it ticks and as it says what is due.
+pub fn parts_of_turns()
+    ensures { PartsOfTurns }
 {}
 
 /// What was heard, asked, drawn, said and answered to messages is told as lists that only grow.

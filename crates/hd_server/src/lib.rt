@@ -7,6 +7,7 @@
 //! - `Machine`: the peers of a server, round by round, and the deeds that their jobs hand up.
 //! - `Doings`: what a server did, as one list, and what is read off it.
 //! - `Plans`, `Serves`: what a server does at one event (`IsTurn`), and at any list of events (`Serves`).
+//! - `Parts`: of which events each part of a turn consists.
 //! - `Serving`: how long it lets its door wait, and what it gives it to say (`ServesOn`).
 //!
 //! Proved (`Laws`): each connection of a server does what a peer can do by itself; after an event nothing is due on a socket
@@ -29,8 +30,9 @@ pub use laws::{
     allowed_are_served, bodies_are_bounded, broadcasts_once, connections_in_order,
     each_request_is_answered, fates_are_refusals, few_live, groups_are_few, idle_ticks,
     lives_are_settled, lots_matter_to_tokens, moments_come_once, nothing_left, numbers_are_named,
-    outcomes_suit, served_is_serves, servers_are_peers, servers_have_few, servers_note_in_order,
-    sockets_by_life, tokens_differ, turns_are_tested, turns_go_further, what_is_told_grows,
+    outcomes_suit, parts_of_turns, served_is_serves, servers_are_peers, servers_have_few,
+    servers_note_in_order, sockets_by_life, tokens_differ, turns_are_tested, turns_go_further,
+    what_is_told_grows,
 };
 pub use lives::{connections, fresh_tokens, known_tokens, polls, sockets, tokens};
 pub use sessions::{
