@@ -7,6 +7,7 @@ ghost use Rattle.websocket.specs.View.{Returns, KeepsRest, IfMessage, GivesError
 ghost use Rattle.hw_socket.specs.Messages.{role_of};
 ghost use Rattle.hw_socket.specs.Reading.{Leaves};
 
+use crate::front::drop_first;
 use crate::outbox::Outbox;
 use std::alloc::{AllocError, Global};
 use std::marker::Model;
@@ -61,7 +62,7 @@ impl Inbox {
         ensures { self.new ≡ self.old }
     {
         if self.start > 0 {
-            self.fed.drain(..self.start);
+            drop_first(&mut self.fed, self.start);
             self.start = 0;
         }
     }

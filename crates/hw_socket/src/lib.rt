@@ -25,6 +25,7 @@
 //! without IO.
 #![tactic(auto)]
 
+mod front;
 mod inbox;
 mod lane;
 mod laws;

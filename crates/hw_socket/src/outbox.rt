@@ -12,6 +12,7 @@ ghost use Rattle.hw_socket.specs.Closing.{closed, after_close};
 ghost use Rattle.hw_socket.specs.Messages.{role_of};
 ghost use Rattle.hw_socket.specs.Reading.{Leaves};
 
+use crate::front::drop_first;
 use crate::vocabulary::SocketSide;
 use sha1::Sha1;
 use std::alloc::{AllocError, Global};
@@ -66,7 +67,7 @@ impl Outbox {
         requires { count ≤ length self.old.bytes }
         ensures { self.new ≡ record self.old { bytes = drop count self.old.bytes } }
     {
-        self.bytes.drain(..count);
+        drop_first(&mut self.bytes, count);
     }
 
     /// Appends a frame that is a whole message.
