@@ -144,4 +144,8 @@ impl Dialer for MemoryDialer {
     {
         self.script.say(Given::Shut { lane })
     }
+
+    fn flush(&mut self)
+        ensures { self.new ≡ self.old }
+    {}
 }

@@ -108,4 +108,8 @@ impl Door for MemoryDoor {
     {
         self.script.say(Given::Shut { lane })
     }
+
+    fn flush(&mut self)
+        ensures { self.new ≡ self.old }
+    {}
 }

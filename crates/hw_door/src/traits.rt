@@ -1,6 +1,6 @@
 //! The traits of the outside in whole requests and replies: lots that are drawn, doors that a server hears through, dialers for a client.
 
-ghost use Rattle.std.specs.Prelude.{◌≡◌, ◌≢◌, ℕ, List, Option, None};
+ghost use Rattle.std.specs.Prelude.{◌≡◌, ◌≢◌, ℕ, Bool, true, List, Option, None};
 ghost use Rattle.std.specs.Result.{result_ok};
 ghost use Rattle.hd_facts.specs.Counts.{HasCause};
 ghost use Rattle.hw_lanes.specs.Replies.{IsReply};
@@ -34,7 +34,8 @@ pub trait Lots {
 /// What a server hears through, and says through.
 ///
 /// An implementation tells by `trace` what was heard and what it was given to say, or `None` if nobody can know it, as at a socket; by
-/// `moment` the moment of what was heard last, 0 before the first; and by `faults` how often it has failed, as [`Lots`] do.
+/// `moment` the moment of what was heard last, 0 before the first; by `faults` how often it has failed, as [`Lots`] do; and by `is_flushed` that
+/// nothing was asked of it since the last `flush`, or true where what it says never waits or nobody can know.
 ///
 /// In each call, `cause` says that it fails only if the count of faults rose in it. After an error the moment and what it tells are as
 /// before; out of memory the count is as before too.
@@ -42,6 +43,8 @@ pub trait Door {
     ghost trace: { Self → Option Trace } = { λ _. None };
 
     ghost moment: { Self → ℕ };
+
+    ghost is_flushed: { Self → Bool } = { λ _. true };
 
     ghost faults: { Self → ℕ };
 
@@ -71,11 +74,19 @@ pub trait Door {
         ensures given { Says (trace self.old) (trace self.new) (λ done. say.Shut lane) result }
         ensures others_unchanged { moment self.new ≡ moment self.old }
         ensures cause { HasFaultCause (faults self.old) (faults self.new) result };
+
+    /// Writes what was said on lanes that aren't shut and isn't written yet, as far as the other side takes it now. What a door says may wait, so
+    /// that several messages go out at once; whoever hears nothing more calls this last. A door that says all at once does nothing.
+    fn flush(&mut self)
+        ensures flushed { is_flushed self.new ≡ true }
+        ensures trace { trace self.new ≡ trace self.old }
+        ensures others_unchanged { moment self.new ≡ moment self.old }
+        ensures unfailed { faults self.new ≡ faults self.old };
 }
 
 /// What a client asks through, and hears through.
 ///
-/// It tells what a [`Door`] tells, its asks among what it was given; and by `lanes` a bound below which each lane lies that it answered.
+/// It tells what a [`Door`] tells, its asks among what it was given, and whether it is flushed; and by `lanes` a bound below which each lane lies that it answered.
 /// `cause`, and what is as before after an error, are as at a [`Door`].
 pub trait Dialer {
     ghost trace: { Self → Option Trace } = { λ _. None };
@@ -83,6 +94,8 @@ pub trait Dialer {
     ghost moment: { Self → ℕ };
 
     ghost lanes: { Self → ℕ };
+
+    ghost is_flushed: { Self → Bool } = { λ _. true };
 
     ghost faults: { Self → ℕ };
 
@@ -122,4 +135,13 @@ pub trait Dialer {
         ensures others_unchanged { moment self.new ≡ moment self.old }
         ensures lanes { lanes self.new ≡ lanes self.old }
         ensures cause { HasFaultCause (faults self.old) (faults self.new) result };
+
+    /// Writes what was said on lanes that aren't shut and isn't written yet, as far as the other side takes it now. What a dialer says may wait, so
+    /// that several messages go out at once; whoever hears nothing more calls this last. A dialer that says all at once does nothing.
+    fn flush(&mut self)
+        ensures flushed { is_flushed self.new ≡ true }
+        ensures trace { trace self.new ≡ trace self.old }
+        ensures others_unchanged { moment self.new ≡ moment self.old }
+        ensures lanes { lanes self.new ≡ lanes self.old }
+        ensures unfailed { faults self.new ≡ faults self.old };
 }
