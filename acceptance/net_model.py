@@ -24,6 +24,9 @@ CLOSING = 30000
 FULL = 1 << 18
 DRAINED = 1 << 16
 STALLED = 30000
+# What is sent waits to be written while less than so many bytes do, and through at most so many calls of `next`.
+GATHERED_BYTES = 1 << 16
+GATHERED = 31
 # How long each call of `next` may wait.
 PATIENCE = 100
 PHRASES = {101: "Switching Protocols", 200: "OK", 202: "Accepted", 204: "No Content", 400: "Bad Request", 401: "Unauthorized", 404: "Not Found",
@@ -137,6 +140,11 @@ class Full:
             self.is_late = now - self.since >= STALLED
 
 
+def waits(lane):
+    """Something waits to be written on a live lane."""
+    return lane.stage == "live" and bool(lane.out)
+
+
 class Lane:
     def __init__(self, number, wire, now):
         self.number, self.wire, self.since = number, wire, now
@@ -154,6 +162,7 @@ class Lane:
         self.stage = "live"
         self.closed_at = None    # since when it closes
         self.full = None
+        self.has_waited = False  # something waited there after the action before
 
 
 class Failed(Exception):
@@ -163,8 +172,14 @@ class Failed(Exception):
 class Door:
     def __init__(self, moments, wires, failing, names=()):
         self.moments, self.wires, self.failing, self.names = list(moments), wires, set(failing), list(names)
-        self.calls = self.moment = self.heard_at = self.given = self.first = self.named = self.waited = self.shuts = 0
+        self.calls = self.moment = self.heard_at = self.given = self.first = self.waited = self.shuts = 0
+        # What the wires name now, which was heard last or, where nothing was, began a search by its name, and how many in a row began so.
+        self.named, self.last_wire, self.searches_by_name = (), 0, 0
         self.lanes = []
+        # Since the last flush: whether there was a `send`, and how many calls of `next`.
+        self.has_sent, self.gathered = False, 0
+        # Where something began to wait since nothing did: the lane, and how many there were.
+        self.began = []
 
     # ---- the wires
 
@@ -173,9 +188,9 @@ class Door:
         if self.calls - 1 in self.failing:
             raise Failed
 
-    def poll(self):
-        self.name = self.names.pop(0) if self.names else None
-        self.waited = 0 if any(map(self.is_awake, self.lanes)) else PATIENCE
+    def poll(self, wait):
+        self.named = self.names.pop(0) if self.names else ()
+        self.waited = 0 if any(map(self.is_awake, self.lanes)) else wait
         self.call()
         if self.moments:
             self.moment = self.moments.pop(0)
@@ -185,6 +200,10 @@ class Door:
         if self.given < len(self.wires) and self.wires[self.given].since <= self.moment:
             self.lanes.append(Lane(self.given, self.wires[self.given], self.moment))
             self.given += 1
+
+    def ready_after(self, number):
+        """The next that is named after this one, in an order that goes round, or None."""
+        return min(self.named, key=lambda name: (name <= number, name), default=None)
 
     def read(self, lane, room):
         self.call()
@@ -390,23 +409,60 @@ class Door:
 
     # ---- the door
 
+    def note_waiting(self):
+        """After each action on a lane: it is noted where something began to wait."""
+        for lane in self.lanes:
+            if waits(lane) and not lane.has_waited:
+                self.began.append((lane, len(self.lanes)))
+            lane.has_waited = waits(lane)
+
+    def flush(self):
+        """Each live lane writes what waits, in the order in which that began, once for each time that it did; or if it did more often than
+        there were lanes, in the order of all."""
+        self.has_sent, self.gathered = False, 0
+        if not any(map(waits, self.lanes)):
+            return
+        is_short = all(place < lanes for place, (_, lanes) in enumerate(self.began))
+        for lane in [lane for lane, _ in self.began] if is_short else self.lanes:
+            if waits(lane):
+                self.write_out(lane)
+        if not any(map(waits, self.lanes)):
+            self.began = []
+        self.note_waiting()
+
+    def may_gather(self):
+        """Whether what was sent may wait for longer: the wires name another one than was heard last."""
+        return (self.has_sent and any(map(waits, self.lanes)) and self.gathered < GATHERED
+                and self.ready_after(self.last_wire) not in (None, self.last_wire))
+
     def next(self):
+        wait = PATIENCE
+        if self.may_gather():
+            self.gathered, wait = self.gathered + 1, 0
+        else:
+            self.flush()
         self.lanes = [lane for lane in self.lanes if lane.stage != "over"]
         try:
-            self.poll()
+            self.poll(wait)
             self.accept()
         except Failed:
+            self.flush()
             return "failed"
-        event = None
-        by_name = self.name is not None and self.named < NAMED
-        self.named = self.named + 1 if by_name else 0
-        begin = self.name if by_name else self.first
+        event, name = None, self.ready_after(self.last_wire)
+        by_name = name is not None and self.searches_by_name < NAMED
+        if by_name:
+            self.last_wire, self.searches_by_name = name, self.searches_by_name + 1
+        else:
+            self.searches_by_name = 0
+        begin = name if by_name else self.first
         for lane in sorted(self.lanes, key=lambda lane: (lane.number < begin, lane.number)):
             if event is None:
                 event = self.turn(lane)
-                if event and not by_name:
-                    self.first = lane.number + 1
-            else:
+                self.note_waiting()
+                if event:
+                    self.last_wire = lane.number
+                    self.first = self.first if by_name else lane.number + 1
+            elif lane.stage == "closing":
                 self.say(lane)
         self.heard_at = self.moment
         return f"at {self.moment} {event or 'quiet'}"
@@ -430,9 +486,11 @@ class Door:
         else:
             lane.busy, lane.since = False, self.heard_at
         self.more(lane)
+        self.note_waiting()
 
     def send(self, number, data, text):
         """Answers whether the lane is full then."""
+        self.has_sent = True
         lane = self.find(number)
         if lane and lane.socket and not lane.gone:
             if text and not is_text(data):
@@ -443,7 +501,9 @@ class Door:
 
     def send_frame(self, lane, data):
         self.add(lane, data)
-        self.more(lane)
+        if len(lane.out) >= GATHERED_BYTES:
+            self.more(lane)
+        self.note_waiting()
         if lane.full is None and len(lane.out) > FULL:
             lane.full = Full()
         elif self.has_drained(lane):
@@ -457,6 +517,7 @@ class Door:
             self.add(lane, frame(8, (lane.gone or 1000).to_bytes(2, "big"), None))
         self.close(lane, self.heard_at)
         self.write_out(lane)
+        self.note_waiting()
 
 
 def is_text(data):
@@ -486,8 +547,9 @@ class Script:
         self.say(f"wire {since} {words} {','.join(map(str, writes)) or '-'}", "to be given")
 
     def name(self, names):
-        self.names = list(names)
-        self.say(f"names {','.join('*' if name is None else str(name) for name in names)}", "to be named")
+        """What is named after each poll: a number, some that rise, or None."""
+        self.names = [() if name is None else (name,) if isinstance(name, int) else name for name in names]
+        self.say(f"names {','.join('+'.join(map(str, named)) or '*' for named in self.names)}", "to be named")
 
     def start(self, moments, failing=()):
         self.door, self.wires, self.names = Door(moments, self.wires, failing, self.names), [], []
@@ -518,6 +580,10 @@ class Script:
     def shut(self, lane):
         self.door.shut(lane)
         self.say(f"shut {lane}", "shut")
+
+    def flush(self):
+        self.door.flush()
+        self.say("flush", "flushed")
 
     def written(self, wire, answer=None):
         data = self.door.wires[wire].written if wire < self.door.given else b""
@@ -570,6 +636,8 @@ def by_hand(s):
     said = s.next()
     assert said == "at 1000 bytes 0 " + items[2].heard.hex(), said
     s.send(0, b"{}\x1e", True)
+    s.written(0, upgraded)
+    s.flush()
     s.written(0, upgraded + bytes.fromhex("81037b7d1e"))
     s.next("at 1000 lost 0")
     s.written(0, upgraded + bytes.fromhex("81037b7d1e" "880203e8"))
@@ -753,7 +821,8 @@ def by_hand(s):
         s.written(lane, b"HTT")
     for lane, path in ((0, 1), (1, 3), (2, 5)):
         s.next(f"at 1 request {lane} GET /{path} ? - - kept -")
-    s.written(0, b"HTTP/1.1 204 No Content\r\n\r\n")
+        for wire in range(3):
+            s.written(wire, b"HTTP/1.1 204 No Content\r\n\r\n")
 
     s.note("the lane that is named is heard first, and the order of all goes on where it was")
     asked = [request("GET", f"/{i}") for i in range(8)]
@@ -808,15 +877,17 @@ UPGRADED = reply_text(101, accept=ACCEPT)
 assert len(UPGRADED) == 129
 
 
-def sockets(s, moments, *wires, names=(), failing=()):
+def sockets(s, moments, *wires, names=(), failing=(), others=()):
     """A door with a WebSocket on each wire: what its writes take after the 101, and then what its further reads give, a list of items each, or
-    `*` or `!`. Until the door hears nothing more it is at the first moment."""
+    `*` or `!`. Until the door hears nothing more it is at the first moment. From the moment 2 on others come, with a request each."""
     if names:
         s.name([None] * (len(wires) + 1) + list(names))
     for writes, *reads in wires:
         items = [upgrade("/hub"), *(item for read in reads if not isinstance(read, str) for item in read)]
         data = [read if isinstance(read, str) else talk(*read) for read in reads]
         s.wire(0, [items[0].data, "*", *data], [len(UPGRADED), *writes], items)
+    for item in others:
+        s.wire(2, [item.data], [], [item])
     s.start(moments[:1] * len(wires) + moments, failing)
     for lane in range(len(wires)):
         s.next(f"at {moments[0]} request {lane} GET /hub ? - {ACCEPT} kept -")
@@ -882,7 +953,8 @@ def becomes_full(s):
 
 def drains(s):
     s.note("a full lane has drained once 65,536 bytes wait, and not at 65,537: it is heard once, in its next turn, for which no wire waits")
-    sockets(s, [1], [[0, 196608, 0, 1, 0, 65000, 0, 0, 0, 1 << 20]])
+    # One write is tried of the message, and in each call one before the poll, and one after the lane's turn if something is left.
+    sockets(s, [1], [[0, 196608, 0, 0, 0, 1, 0, 0, 65000, 0, 0, 0, 1 << 20]])
     s.fill(0, FULLEST, "sent, full")
     for taken in (129 + 196608, 129 + 196609):
         s.next("at 1 quiet")
@@ -897,8 +969,28 @@ def drains(s):
         s.waited(100)
         s.taken(0, taken)
 
+    s.note("where so much is written before the poll it is heard in that call, and after a flush in the next")
+    sockets(s, [1], [[0, 196608, 0, 0, 1, 0]], [[0, 0, 0, 196609, 0]])
+    for lane in (0, 1):
+        s.fill(lane, FULLEST, "sent, full")
+    s.next("at 1 quiet")
+    s.waited(100)
+    s.next("at 1 drained 0")
+    s.waited(0)
+    s.taken(0, 129 + 196609)
+    s.taken(1, 129 + 196609)
+    s.next("at 1 drained 1")
+    s.waited(0)
+    sockets(s, [1], [[0, 196609, 0]])
+    s.fill(0, FULLEST, "sent, full")
+    s.flush()
+    s.next("at 1 drained 0")
+    s.waited(0)
+    s.next("at 1 quiet")
+    s.waited(100)
+
     s.note("so is a lane of which all is written, and it may be full again, which is heard again")
-    sockets(s, [1], [[0, 1 << 20, 0, 1 << 20]])
+    sockets(s, [1], [[0, 0, 1 << 20, 0, 0, 1 << 20]])
     for _ in range(2):
         s.fill(0, FULLEST, "sent, full")
         s.next("at 1 quiet")
@@ -909,7 +1001,7 @@ def drains(s):
     s.taken(0, 129 + 2 * 262145)
 
     s.note("a message after which 65,536 bytes wait is answered by false, and nothing more is heard of it; at 65,537 the lane stays full")
-    sockets(s, [1], [[0, 196610, 0, 3, 0, 0, 0, 0, 0, 1 << 20]])
+    sockets(s, [1], [[0, 196610, 0, 3, 0, 0, 0, 0, 0, 0, 0, 0, 1 << 20]])
     s.fill(0, FULLEST, "sent, full")
     s.fill(0, 0, "sent, full")
     s.fill(0, 0, "sent")
@@ -922,13 +1014,16 @@ def drains(s):
     s.next("at 1 drained 0")
     s.waited(0)
 
-    s.note("so it is where it had drained before the message, and wasn't heard")
-    sockets(s, [1], [[0, 196609, 0, 0, 2, 0]], [[0, 196609, 0, 2, 0]])
-    s.fill(0, FULLEST, "sent, full")
-    s.fill(1, FULLEST, "sent, full")
+    s.note("so it is where it had drained before the message, and wasn't heard; nothing is written of one after which 65,535 wait")
+    sockets(s, [1], [[0, 0, 196609, 0, 0, 0, 2, 0]], [[0, 0, 196609, 0, 2, 0]], [[0, 0, 196612, 0, 1]])
+    for lane in range(3):
+        s.fill(lane, FULLEST, "sent, full")
     s.next("at 1 quiet")
     s.fill(0, 0, "sent, full")
     s.fill(1, 0, "sent")
+    s.fill(2, 0, "sent")
+    s.taken(1, 129 + 196609 + 2)
+    s.taken(2, 129 + 196612)
     s.next("at 1 quiet")
     s.waited(100)
     s.next("at 1 drained 0")
@@ -939,7 +1034,7 @@ def drains(s):
 
 def ends_full(s):
     s.note("of a lane that has drained nothing is heard once it was shut")
-    sockets(s, [1], [[0, 196609, 0, 1 << 20]], [[0, 0, 0, 1 << 20]])
+    sockets(s, [1], [[0, 0, 196609, 0, 1 << 20]], [[0, 0, 0, 0, 1 << 20]])
     s.fill(0, FULLEST, "sent, full")
     s.fill(1, FULLEST, "sent, full")
     s.next("at 1 quiet")
@@ -954,7 +1049,7 @@ def ends_full(s):
     s.taken(1, 129 + 262145 + 4)
 
     s.note("nor once it is lost, and it is heard before what comes after it: the end, and a write that fails")
-    sockets(s, [1], [[0, 0], "*", "!"], [[0, 196609, 0], "*", "!"])
+    sockets(s, [1], [[0, 0, 0, 0], "*", "!"], [[0, 0, 196609, 0], "*", "!"])
     s.fill(0, FULLEST, "sent, full")
     s.fill(1, FULLEST, "sent, full")
     s.next("at 1 quiet")
@@ -964,18 +1059,24 @@ def ends_full(s):
     s.next("at 1 lost 1")
     s.next("at 1 quiet")
     s.shuts(2)
-    for failing in (15, 13):
-        # The call of number 13 is the write of a message after the lane has drained, or a poll, and 15 is the write once that is heard.
-        sockets(s, [1], [[0, 196609, 0]], failing=[failing])
+    for failing in (17, 14):
+        # The call of number 14 is the write of a message after the lane has drained, or before a poll, and 17 is the write once that is heard.
+        sockets(s, [1], [[0, 0, 196609, 0, 0]], failing=[failing])
         s.fill(0, FULLEST, "sent, full")
         s.next("at 1 quiet")
-        if failing == 13:
+        if failing == 14:
             s.fill(0, 0, "sent")
         else:
             s.next("at 1 drained 0")
         s.shuts(1)
         s.next("at 1 lost 0")
         s.next("at 1 quiet")
+    sockets(s, [1], [[0, 0, 196609, 0]], failing=[14])
+    s.fill(0, FULLEST, "sent, full")
+    s.next("at 1 quiet")
+    s.next("at 1 lost 0")
+    s.waited(0)
+    s.shuts(1)
 
 
 def stalls(s):
@@ -996,7 +1097,9 @@ def stalls(s):
     s.taken(0, 129)
 
     s.note("its time begins anew with each turn after something was written, also if that was after the turn that found it late")
-    sockets(s, [1, 1, 30000, 59999, 60000, 70000, 99999, 100000, 100000], [[0, 0, 1, 0, 0, 0, 1, 0]])
+    moments = [1, 1, 30000, 59999, 60000, 70000, 99999, 100000, 100001, 130000, 130001, 130001]
+    # Two writes are tried in each call, and one of the second message: they take 1 at 30,000, with that message, and before the poll at 100,001.
+    sockets(s, moments, [[0, 0, 0, 0, 1, 0, 0, 0, 0, 0, 1, 0, 0, 0, 0, 0, 0, 0, 1, 0]])
     s.fill(0, FULLEST, "sent, full")
     for now in (1, 30000, 59999, 60000):
         s.next(f"at {now} quiet")
@@ -1005,14 +1108,19 @@ def stalls(s):
     s.taken(0, 131)
     for now in (70000, 99999, 100000):
         s.next(f"at {now} quiet")
-    s.next("at 100000 lost 0")
+    s.taken(0, 131)
+    for now in (100001, 130000, 130001):
+        s.next(f"at {now} quiet")
+        s.taken(0, 132)
+    s.next("at 130001 lost 0")
     s.shuts(1)
 
     s.note("calls in which another lane is heard are no turns: its time doesn't begin with them, but what is written in them counts")
     a, b, c, d = [message(2, data) for data in (b"a", b"b", b"c", b"d")]
     names = [1, 1, None, None, None, 1, None, None, 1, None]
     moments = [1, 40000, 80000, 80000, 109999, 110000, 110000, 140000, 170000, 170000, 170000]
-    sockets(s, moments, [[0, 0, 0, 0, 0, 0, 1, 0]], [[], [a, b], "*", "*", [c], "*", [d]], names=names)
+    # Where the other is heard one write is tried of this lane, before the poll, and two where nothing is: in the call that hears c it takes 1.
+    sockets(s, moments, [[0, 0, 0, 0, 0, 0, 0, 0, 0, 1, 0]], [[], [a, b], "*", "*", [c], "*", [d]], names=names)
     s.fill(0, FULLEST, "sent, full")
     s.next("at 40000 bytes 1 61")
     s.next("at 80000 bytes 1 62")
@@ -1028,14 +1136,14 @@ def stalls(s):
     s.shuts(1)
 
     s.note("one that was late and has drained is heard as drained, and one that isn't full may be silent for as long as it likes")
-    sockets(s, [1, 1, 30001, 30001, 90000, 150000], [[0, 0, 0, 196611, 0]])
+    sockets(s, [1, 1, 30001, 30001, 90000, 150000], [[0, 0, 0, 0, 0, 196611, 0]])
     s.fill(0, FULLEST, "sent, full")
     for now in (1, 30001):
         s.next(f"at {now} quiet")
     s.fill(0, 0, "sent")
     for now in (30001, 90000, 150000):
         s.next(f"at {now} quiet")
-    sockets(s, [1, 1, 30001, 30001, 30001], [[0, 0, 0, 196609, 0]], [[], "*", "*", [a]], names=[None, None, 1, None])
+    sockets(s, [1, 1, 30001, 30001, 30001], [[0, 0, 0, 0, 0, 196609, 0]], [[], "*", "*", [a]], names=[None, None, 1, None])
     s.fill(0, FULLEST, "sent, full")
     for now in (1, 30001):
         s.next(f"at {now} quiet")
@@ -1052,6 +1160,234 @@ def stalls(s):
     s.next("at 1 lost 0")
     s.fill(0, 0, "sent")
     s.next("at 1 quiet")
+
+
+ASKED = request("GET", "/")
+
+
+def beside(s, writes, names, failing=()):
+    """A door with a WebSocket, whose writes take so much after the 101, and for each name a wire that comes in a call of its own: its request
+    is heard, from the lane 1 on, and isn't replied to. So no lane is awake, and the WebSocket has no turn where one of these is named."""
+    sockets(s, [1, 2], [writes], names=names, failing=failing, others=[ASKED] * len(names))
+
+
+def asks(lane):
+    return f"at 2 request {lane} GET / ? - - kept -"
+
+
+def waits_for_a_call(s):
+    s.note("what is sent waits for a flush or the next call, and all that waits on a lane goes out in one write")
+    sockets(s, [1], [[6, 3]])
+    s.flush()
+    s.send(0, b"a", False, "sent")
+    s.send(0, b"b", True, "sent")
+    s.written(0, UPGRADED)
+    for _ in range(2):
+        s.flush()
+        s.written(0, UPGRADED + bytes.fromhex("820161" "810162"))
+    s.send(0, b"c", False, "sent")
+    s.taken(0, 129 + 6)
+    s.next("at 1 quiet")
+    s.waited(100)
+    s.written(0, UPGRADED + bytes.fromhex("820161" "810162" "820163"))
+
+    s.note("65,535 bytes wait, and 65,536 are written at once, in several messages too; what the wire leaves waits with what is sent next")
+    sockets(s, [1], [[65535]], [[65536]], [[65536]], [[1, 0, 65538]])
+    s.fill(0, 65531, "sent")
+    s.fill(1, 65532, "sent")
+    s.fill(2, 65529, "sent")
+    s.taken(2, 129)
+    s.fill(2, 1, "sent")
+    s.fill(3, 65532, "sent")
+    for lane, taken in enumerate((0, 65536, 65536, 1)):
+        s.taken(lane, 129 + taken)
+    s.fill(3, 1, "sent")
+    s.taken(3, 129 + 65539)
+    s.flush()
+    for lane, taken in enumerate((65535, 65536, 65536, 65539)):
+        s.taken(lane, 129 + taken)
+
+    s.note("a flush on a wire that takes nothing leaves what waits, and none writes on a lane that was shut")
+    sockets(s, [1], [[0, 2, 0, 1]], [[0, 7]])
+    s.send(1, b"a", False, "sent")
+    s.shut(1)
+    s.send(0, b"a", False, "sent")
+    for taken in (0, 2, 3):
+        s.flush()
+        s.taken(0, 129 + taken)
+        s.taken(1, 129)
+    s.shuts(0)
+    s.next("at 1 quiet")
+    s.taken(1, 129 + 3 + 4)
+    s.shuts(1)
+
+    s.note("a shut takes along what waited, and on another lane it goes on waiting")
+    sockets(s, [1], [[7]], [[3]])
+    s.send(0, b"a", False, "sent")
+    s.send(1, b"b", False, "sent")
+    s.shut(0)
+    s.written(0, UPGRADED + bytes.fromhex("820161" "880203e8"))
+    s.shuts(1)
+    s.taken(1, 129)
+    s.flush()
+    s.taken(1, 129 + 3)
+
+    s.note("so does a reply, which is flushed as messages are where the wire didn't take it")
+    s.wire(0, [ASKED.data, ASKED.data], [3, 0, 5, 0, 0, 0, 46], [ASKED] * 2)
+    s.start([1])
+    for taken in (3, 2 * 27):
+        s.next("at 1 request 0 GET / ? - - kept -")
+        s.reply(0, 204)
+        s.taken(0, taken)
+        s.flush()
+        s.taken(0, max(8, taken))
+
+
+def fails_to_write(s):
+    s.note("a flush whose write fails ends the lane, which is heard as lost in the next call, or in the one that flushed")
+    # The call of number 7 is the first after the WebSocket is there.
+    for flushes in (True, False):
+        sockets(s, [1], [[3]], failing=[7])
+        s.send(0, b"a", False, "sent")
+        if flushes:
+            s.flush()
+            s.shuts(1)
+            s.send(0, b"b", False, "sent")
+            s.flush()
+        s.next("at 1 lost 0")
+        s.waited(0)
+        s.shuts(1)
+        s.taken(0, 129)
+        s.next("at 1 quiet")
+
+    s.note("the others are written all the same, each in the order in which something began to wait there")
+    for failed, other in ((0, 1), (1, 0)):
+        # With two wires it is that of number 12.
+        sockets(s, [1], [[3]], [[3]], failing=[12])
+        for lane in (failed, other):
+            s.send(lane, b"a", False, "sent")
+        s.flush()
+        s.shuts(1)
+        s.taken(failed, 129)
+        s.taken(other, 129 + 3)
+        s.next(f"at 1 lost {failed}")
+
+    s.note("a call that fails writes what waits: what was sent before it, and what the write before the poll left")
+    # The first call is 7 to 9. In the second nothing is written first: 10 is the poll, 11 accepts, and the write is 11 or 12.
+    for failing in (10, 11):
+        beside(s, [3, 3], [(1, 99), (1, 99), (2, 99)], failing=[failing])
+        s.next(asks(1))
+        s.send(0, b"a", False, "sent")
+        s.next("failed")
+        s.waited(0)
+        s.taken(0, 129 + 3)
+        s.send(0, b"b", False, "sent")
+        s.next(asks(2))
+        s.waited(0)
+        s.taken(0, 129 + 3)
+    for failing in (8, 9):
+        sockets(s, [1], [[0, 3]], failing=[failing])
+        s.send(0, b"a", False, "sent")
+        s.next("failed")
+        s.waited(100)
+        s.taken(0, 129 + 3)
+    # 7 and 9 write, and 8 is the poll.
+    sockets(s, [1], [[0, 3]], failing=[8, 9])
+    s.send(0, b"a", False, "sent")
+    s.next("failed")
+    s.shuts(1)
+    s.next("at 1 lost 0")
+    s.waited(0)
+    s.taken(0, 129)
+
+
+def gathers(s):
+    s.note("while the wires name another one a call writes nothing first, and its poll doesn't wait: 31 in a row after a flush, and then one writes")
+    beside(s, [3, 96, 3], [(lane, 99) for lane in range(1, 36)])
+    s.next(asks(1))
+    s.waited(100)
+    s.send(0, b"a", False, "sent")
+    s.next(asks(2))
+    s.waited(0)
+    s.taken(0, 129)
+    s.flush()
+    s.taken(0, 129 + 3)
+    for lane in range(3, 34):
+        s.send(0, b"a", False, "sent")
+        s.next(asks(lane))
+        s.waited(0)
+        s.taken(0, 129 + 3)
+    s.send(0, b"a", False, "sent")
+    s.next(asks(34))
+    s.waited(100)
+    s.taken(0, 129 + 3 + 96)
+    s.send(0, b"a", False, "sent")
+    s.next(asks(35))
+    s.waited(0)
+    s.taken(0, 129 + 3 + 96)
+
+    s.note("a lane on which nothing is heard in its own turn writes there, so nothing waits after a quiet call")
+    s.next("at 2 quiet")
+    s.waited(0)
+    s.taken(0, 129 + 3 + 96 + 3)
+
+    s.note("so it is with the calls after one message: 31 write nothing")
+    beside(s, [3], [(lane, 99) for lane in range(1, 34)])
+    s.next(asks(1))
+    s.send(0, b"a", False, "sent")
+    for lane in range(2, 33):
+        s.next(asks(lane))
+        s.waited(0)
+        s.taken(0, 129)
+    s.next(asks(33))
+    s.waited(100)
+    s.taken(0, 129 + 3)
+
+    s.note("nothing is gathered where none is named, or only the one that was heard last; where another is, it may be one of no lane")
+    for name, wait, taken in ((None, 100, 3), (0, 0, 0), (1, 100, 3), (99, 0, 0)):
+        beside(s, [3], [name, (2, 99)])
+        s.next(asks(1))
+        s.send(0, b"a", False, "sent")
+        s.next(asks(2))
+        s.waited(wait)
+        s.taken(0, 129 + taken)
+    # The call of number 7 is the first poll after the WebSocket is there, after which this is named and nothing is searched.
+    for name, wait, taken in ((0, 100, 3), (5, 0, 0)):
+        beside(s, [3], [name, (1, 99)], failing=[7])
+        s.next("failed")
+        s.send(0, b"a", False, "sent")
+        s.next(asks(1))
+        s.waited(wait)
+        s.taken(0, 129 + taken)
+
+    s.note("nor where nothing was sent since the last flush, though something waits, or where all was written at once")
+    beside(s, [0, 0, 3, 65536, 3], [(lane, 99) for lane in range(1, 7)])
+    s.next(asks(1))
+    s.send(0, b"a", False, "sent")
+    s.flush()
+    for lane, taken in ((2, 0), (3, 3)):
+        s.next(asks(lane))
+        s.waited(100)
+        s.taken(0, 129 + taken)
+    s.fill(0, 65532, "sent")
+    s.taken(0, 129 + 3 + 65536)
+    s.next(asks(4))
+    s.waited(100)
+    s.send(0, b"a", False, "sent")
+    s.next(asks(5))
+    s.waited(0)
+    s.taken(0, 129 + 3 + 65536)
+
+    s.note("where another lane is heard a WebSocket that closes goes on writing, and one that doesn't waits")
+    beside(s, [0, 3, 0, 4], [(1, 99), (2, 99), (3, 99)])
+    s.next(asks(1))
+    s.send(0, b"a", False, "sent")
+    s.next(asks(2))
+    s.taken(0, 129)
+    s.shut(0)
+    s.taken(0, 129)
+    s.next(asks(3))
+    s.taken(0, 129 + 3)
 
 
 def conversation(rng):
@@ -1084,6 +1420,10 @@ def pieces(rng, data):
     return reads + ["!"] * (rng.random() < 0.4)
 
 
+def names_at_random(rng, steps):
+    return [rng.choice([None, 0, 1, 2, 3, 9, (0, 9), (1, 9), (2, 9), (0, 1, 2, 3)]) for _ in range(steps)]
+
+
 def at_random(s, seed, steps=60):
     rng = random.Random(seed)
     s.note(f"at random, from {seed}")
@@ -1095,7 +1435,7 @@ def at_random(s, seed, steps=60):
         s.wire(moment, pieces(rng, talk(*items)), writes, items)
     moments = sorted(rng.randrange(rng.choice([100, 100000])) for _ in range(steps))
     if seed % 2:
-        s.name([rng.choice([None, 0, 1, 2, 3, 9]) for _ in range(steps)])
+        s.name(names_at_random(rng, steps))
     s.start(moments, [rng.randrange(200) for _ in range(rng.choice([0, 0, 1, 5]))])
     for _ in range(steps):
         for lane in list(s.door.lanes):
@@ -1114,6 +1454,8 @@ def at_random(s, seed, steps=60):
             elif act > 0.96 and not (lane.busy and lane.asked.upgrade):
                 # After an upgrade that was declined the frames would be read as requests, of which a conversation says nothing.
                 s.reply(lane.number, 500)
+        if rng.random() < 0.1:
+            s.flush()
         s.next()
         s.waited()
     for wire in range(5):
@@ -1126,10 +1468,10 @@ def payload_for(count):
 
 
 def to_the_byte(rng, lane):
-    """A message after which as many bytes wait as a lane may have that isn't full, or that has drained, or one more."""
+    """A message after which as many bytes wait as a lane may have that isn't full, has drained, or is gathered, or one more."""
     writes = lane.wire.writes
     takes = sum(writes[:writes.index(0)] if 0 in writes else writes)
-    wanted = rng.choice([FULL, DRAINED]) + rng.randrange(2) + takes - len(lane.out)
+    wanted = rng.choice([FULL, DRAINED, GATHERED_BYTES - 1]) + rng.randrange(2) + takes - len(lane.out)
     return payload_for(wanted) if 0 < wanted < 2 * FULL else None
 
 
@@ -1145,7 +1487,7 @@ def full_at_random(s, seed, steps=60):
     moments = [1]
     for _ in range(steps):
         moments.append(moments[-1] + rng.choice([0, 0, 1, 9999, 10000, 30000]))
-    names = [rng.choice([None, 0, 1, 2]) for _ in range(steps)] if seed % 2 else ()
+    names = names_at_random(rng, steps) if seed % 2 else ()
     sockets(s, moments, *wires, names=names, failing=[100 + rng.randrange(300) for _ in range(rng.choice([0, 0, 2]))])
     left = 3000000
     for _ in range(steps):
@@ -1157,6 +1499,8 @@ def full_at_random(s, seed, steps=60):
                 left -= count
             elif act > 0.99:
                 s.shut(lane.number)
+        if rng.random() < 0.1:
+            s.flush()
         s.next()
         s.waited()
     for wire in range(len(wires)):
@@ -1164,13 +1508,45 @@ def full_at_random(s, seed, steps=60):
     s.shuts()
 
 
+def crowded_at_random(s, seed, steps=60):
+    """WebSockets of which the first two speak nearly always, and are named by turns, so what is sent to others is gathered."""
+    rng = random.Random(f"crowded {seed}")
+    s.note(f"a crowd at random, from {seed}")
+    wires = []
+    for lane in range(rng.randrange(3, 6)):
+        writes = [rng.choice([0, 0, 1, 100, 1 << 20, 1 << 20]) for _ in range(steps)]
+        said = 1 if lane < 2 else 0.1
+        reads = [[message(2, rng.randbytes(1)) for _ in range(6)] if rng.random() < said else "*" for _ in range(steps // 6)]
+        wires.append([writes, *reads])
+    names = [(0, 1) if rng.random() < 0.99 else rng.choice([None, 0, (2, 9)]) for _ in range(steps)]
+    failing = [100 + rng.randrange(10 * steps) for _ in range(rng.choice([0, 0, 1]))]
+    sockets(s, [1], *wires, names=names, failing=failing)
+    for _ in range(steps):
+        for _ in range(rng.randrange(3)):
+            lane = rng.choice(s.door.lanes) if s.door.lanes else None
+            count = to_the_byte(rng, lane) if lane and rng.random() < 0.05 else rng.randrange(3)
+            if lane and count is not None and rng.random() < 0.9:
+                s.fill(lane.number, count)
+            elif lane and rng.random() < 0.02:
+                s.shut(lane.number)
+        if rng.random() < 0.02:
+            s.flush()
+        s.next()
+        s.waited()
+        s.taken(rng.randrange(len(wires)))
+    for wire in range(len(wires)):
+        s.taken(wire)
+    s.shuts()
+
+
 def script(seeds):
     s = Script()
-    for part in (by_hand, becomes_full, drains, ends_full, stalls):
+    for part in (by_hand, waits_for_a_call, fails_to_write, gathers, becomes_full, drains, ends_full, stalls):
         part(s)
     for seed in seeds:
         at_random(s, seed)
         full_at_random(s, seed)
+        crowded_at_random(s, seed)
     return s
 
 
@@ -1188,6 +1564,7 @@ def session(seed):
     s = Script()
     at_random(s, int(seed), 200)
     full_at_random(s, int(seed), 200)
+    crowded_at_random(s, int(seed), 200)
     return s
 
 

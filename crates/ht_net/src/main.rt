@@ -10,13 +10,15 @@
 //! wire MOMENT READS WRITES           is given by the wires of the door that starts next: the moment from which it may be accepted, what
 //!                                    its reads give (bytes with a comma between two, in which `*` is nothing yet and `!` the end), and
 //!                                    the list of how many bytes its writes take
-//! names NAMES                        the wires of the door that starts next name these after its polls: a number each, or `*` for none
+//! names NAMES                        the wires of the door that starts next name these after its polls: rising numbers each, with a `+`
+//!                                    between two, or `*` for none. Asked for one, they tell the next, and after the last the first
 //! door MOMENTS FAILING               a door over wires that poll these moments, and fail at the calls of these numbers
 //! next WAIT                          what is heard
 //! reply LANE STATUS KIND BODY ACCEPT     a reply that can be sent; KIND is `none`, `json` or `octets`
 //! send LANE KIND BYTES               KIND is `text` or `octets`; answered by `sent, full` if the lane is full after it, and else by `sent`
 //! fill LANE COUNT                    so many bytes 0 are sent
 //! shut LANE
+//! flush                              what waits on live lanes is written
 //! written WIRE                       what was written on a wire
 //! taken WIRE                         how many bytes were written on it
 //! waited                             how long the wires were to wait at most in the last poll

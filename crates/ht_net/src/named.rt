@@ -1,4 +1,4 @@
-//! Wires in memory that name one of them after each poll, as a script says, and tell what they were asked.
+//! Wires in memory that name some of them after each poll, as a script says, and tell what they were asked.
 
 ghost use Rattle.std.specs.Prelude.{◌≡◌};
 ghost use Rattle.hw_door.specs.Ledger.{trace_of};
@@ -6,11 +6,11 @@ ghost use Rattle.hw_door.specs.Ledger.{trace_of};
 use hw_door::{MemoryWires, WireRead, Wires};
 use hw_io::Failed;
 
-/// Wires in memory, and what they name after each poll: a number, which need be that of no wire, or nothing.
+/// Wires in memory, and what they name after each poll: numbers that rise, none of which need be that of a wire.
 #[derive(Drop)]
 pub struct NamedWires {
     wires: MemoryWires,
-    names: Vec<Option<u64>>,
+    names: Vec<Vec<u64>>,
     // How many polls there were.
     polls: usize,
     // How long the last of them was to wait at most.
@@ -20,8 +20,8 @@ pub struct NamedWires {
 }
 
 impl NamedWires {
-    /// These wires, which name this after each poll.
-    pub fn start(wires: MemoryWires, names: Vec<Option<u64>>) -> NamedWires {
+    /// These wires, which name these after each poll.
+    pub fn start(wires: MemoryWires, names: Vec<Vec<u64>>) -> NamedWires {
         NamedWires {
             wires,
             names,
@@ -84,6 +84,12 @@ impl Wires for NamedWires {
     }
 
     fn ready_after(&self, wire: u64) -> Option<u64> {
-        *self.names.get(self.polls.checked_sub(1)?)?
+        let names = self.names.get(self.polls.checked_sub(1)?)?;
+        for &name in names {
+            if name > wire {
+                return Some(name);
+            }
+        }
+        names.first().copied()
     }
 }

@@ -25,20 +25,31 @@ const CALLS: usize = 100_000;
 pub struct Bench {
     alloc: Global,
     wires: Vec<MemoryWire>,
-    names: Vec<Option<u64>>,
+    names: Vec<Vec<u64>>,
     door: NetDoor<NamedWires>,
 }
 
-fn names_of(alloc: Global, word: &str) -> Result<Vec<Option<u64>>, Stop> {
+fn names_of(alloc: Global, word: &str) -> Result<Vec<Vec<u64>>, Stop> {
     let mut names = Vec::new(alloc);
     for part in word.split(',') {
-        names.push(if part == "*" {
-            None
-        } else {
-            Some(number(part)?)
-        })?;
+        names.push(names_after_poll(alloc, part)?)?;
     }
     Ok(names)
+}
+
+/// What is named after one poll.
+fn names_after_poll(alloc: Global, word: &str) -> Result<Vec<u64>, Stop> {
+    let mut names = Vec::new(alloc);
+    if word != "*" {
+        for part in word.split('+') {
+            names.push(number(part)?)?;
+        }
+    }
+    if is_rising(&names) {
+        Ok(names)
+    } else {
+        Err(Stop::Refused)
+    }
 }
 
 /// Whether a reply may have this status.
@@ -181,6 +192,11 @@ impl Bench {
         self.told("shut")
     }
 
+    fn flush(&mut self) -> Result<String, Stop> {
+        self.door.flush();
+        self.told("flushed")
+    }
+
     fn written(&mut self, words: &str) -> Result<String, Stop> {
         let bytes = shown(self.alloc, self.door.wires().written(number(words)?))?;
         Ok(format!(in self.alloc; "written {bytes}")?)
@@ -214,6 +230,7 @@ impl Play for Bench {
             "send" => self.send(rest),
             "fill" => self.fill(rest),
             "shut" => self.shut(rest),
+            "flush" => self.flush(),
             "written" => self.written(rest),
             "taken" => self.taken(rest),
             "waited" => self.waited(),

@@ -1,5 +1,5 @@
 -- In a session the requests heard on a lane are those of all bytes read on its wire.
-use Rattle.std.proofs.Common.{◌≡◌, ◌==◌, ◌++◌, ◌∷◌, [], ℕ, Bool, true, false, if◌then◌else◌, List, Option, None, Some, refl, sym, ap, ◌∙◌, subst, inl, inr, append-nil, append_assoc, length}
+use Rattle.std.proofs.Common.{◌≡◌, ◌==◌, ◌++◌, ◌∷◌, [], ℕ, Bool, true, false, if◌then◌else◌, List, Option, None, Some, refl, sym, ap, ◌∙◌, subst, ◌⊎◌, inl, inr, append-nil, append_assoc, length}
 use Rattle.hw_lanes.specs.declared.http.Refusal.{Refusal}
 use Rattle.hw_lanes.specs.declared.http.Reply.{Reply}
 use Rattle.hw_lanes.specs.declared.http.Request.{Request}
@@ -19,11 +19,12 @@ use Rattle.hw_net.specs.declared.protocol.Stage.TheVariants.{Live, Lost, Closing
 use Rattle.hw_net.specs.HttpState.{HttpStateView, requests_of}
 use Rattle.hw_net.specs.Door.{new_lane}
 use Rattle.hw_net.specs.Lane.{Lane, waits, after_reply, owes, is_live, is_overdue, protocol_after_shut, protocol_after_reply, new_socket, rest_of, after_hearing, protocol_after_continue}
-use Rattle.hw_net.specs.Saying.{Writes, WritesOut, DropsOrWrites, SpeaksAs, Says, SaysAt, SaysMore, must_end, has_closed_long, is_too_much}
+use Rattle.hw_net.specs.Saying.{Writes, WritesOut, DropsOrWrites, SpeaksAs, Says, SaysAt, SaysMore, GathersOrSays, must_end, has_closed_long, is_too_much}
 use Rattle.hw_net.specs.Sessions as session
 use Rattle.hw_net.specs.Sessions.{Call, Session, answers_in, answers_of, request_on, requests_on, HeardRequests, RequestsAreAsked, RefusalsAreDeserved}
 use Rattle.hw_net.specs.Trace.{Reads, Gives, Chooses, bytes_of}
 use Rattle.hw_net.specs.Turn.{Hears, Falls, Passes, Settles, Loses, LosesAt, TurnsLive, TurnsAt, Listens, Replies, PutsAt, Sends, Shuts}
+use Rattle.hw_net.proofs.Bystanders.{SaysOrStays, Stays, gathered-says}
 use Rattle.hw_net.proofs.Fullness.{by-fullness, SaysPut}
 use Rattle.hw_net.proofs.Moves.{ActsAt, has-of}
 use Rattle.hw_net.proofs.Owning.{is_on}
@@ -88,6 +89,16 @@ says-silent now before after answers h = go before.stage h where
 pub more-silent : (before after : Lane) (answers : List Answer) → SaysMore before after answers → Silent before after answers
 more-silent before after answers h = dropped-or-silent (is_too_much (length (waits before))) before after answers h
 
+pub bystander-silent : (now : ℕ) (before after : Lane) (answers : List Answer) → SaysOrStays now before after answers → Silent before after answers
+bystander-silent now before after answers (inl h) = says-silent now before after answers h
+bystander-silent now before after answers (inr h) = still-silent before after answers h.1 h.0
+
+gathered-silent : (before after : Lane) (answers : List Answer) → GathersOrSays before after answers → Silent before after answers
+gathered-silent before after answers h = go (gathered-says before after answers h) where
+  go : SaysMore before after answers ⊎ Stays before after answers → Silent before after answers
+  go (inl k) = more-silent before after answers k
+  go (inr k) = still-silent before after answers k.1 k.0
+
 -- ---- hearing
 
 got-read : (wire at : ℕ) (bytes piece : List ℕ) → at ≡ wire → piece ≡ bytes → (if at == wire then bytes ++ [] else []) ≡ piece
@@ -104,9 +115,6 @@ pub gives-bytes : (wire room : ℕ) (answers : List Answer) (got : Option (List 
 gives-bytes wire room [] got h = sym (ap bytes_of h)
 gives-bytes wire room (answer ∷ []) got h = reads-bytes wire room answer got h.1
 gives-bytes wire room (answer ∷ next ∷ more) got h = absurd h
-
-no-requests : (wire : ℕ) (before after : Protocol) (answers : List Answer) (got : Option (List ℕ)) → List ℕ
-no-requests wire before after answers got = []
 
 hears-asked : (wire : ℕ) (before after : Protocol) (answers : List Answer) (what : Input) (bytes : List ℕ) (requests : List Request) → Hears wire before after answers what → HeardIn bytes requests before →
     HeardIn (bytes ++ read_on wire answers) (requests ++ requests_of what) after
@@ -236,7 +244,7 @@ heard-requests wire (Some trace) what h = ap (λ v. request_on wire v) h
 
 heeds-asked : (now : ℕ) (what : Event) (x y : Lane) (mine : List Answer) → Heeds now what x y mine → Asked x y mine (request_on x.wire what)
 heeds-asked now what x y mine (inl h) = subst (λ (l : List Request). Asked x y mine l) (sym (heard-requests x.wire h.0 what h.2)) (listens-asked now x y mine h.0 h.1)
-heeds-asked now what x y mine (inr h) = nothing-more x y mine (request_on x.wire what) (says-silent now x y mine h.0) (unrequested x.wire what h.1)
+heeds-asked now what x y mine (inr h) = nothing-more x y mine (request_on x.wire what) (bystander-silent now x y mine h.0) (unrequested x.wire what h.1)
 
 -- ---- saying
 
@@ -274,7 +282,7 @@ put-heard false protocol bytes text before after is_put e h all requests k = sub
 pub sends-silent : (now : ℕ) (bytes : List ℕ) (text : Bool) (before after : Lane) (answers : List Answer) → Sends now bytes text before after answers → Silent before after answers
 sends-silent now bytes text before after answers h = then-silent before h.0 after answers (put-heard (is_live before.stage) before.protocol bytes text before h.0 h.1 refl h.2) (go h.0 h.1 h.3) where
   go : (mid : Lane) (b : Bool) → SaysPut now b mid after answers → Silent mid after answers
-  go mid true h = subst (λ (l : Lane). Silent mid l answers) (sym h.2) (more-silent mid h.0 answers h.1)
+  go mid true h = subst (λ (l : Lane). Silent mid l answers) (sym h.2) (gathered-silent mid h.0 answers h.1)
   go mid false h = still-silent mid after answers h.0 h.1
 
 pub shuts-silent : (now : ℕ) (before after : Lane) (answers : List Answer) → Shuts now before after answers → Silent before after answers
@@ -304,12 +312,14 @@ moves-asked (session.replied lane reply answers) x y h =
 moves-asked (session.sent lane bytes text full answers) x y h =
     nothing-more x y (share x.wire answers) [] (at-silent lane (Sends h.0 bytes text) x y (share x.wire answers) (sends-silent h.0 bytes text x y (share x.wire answers)) h.1) refl
 moves-asked (session.shut lane answers) x y h = nothing-more x y (share x.wire answers) [] (at-silent lane (Shuts h.0) x y (share x.wire answers) (shuts-silent h.0 x y (share x.wire answers)) h.1) refl
+moves-asked (session.wrote lane answers) x y h = nothing-more x y (share x.wire answers) [] (bystander-silent 0 x y (share x.wire answers) h) refl
 
 pub requests-more : (wire : ℕ) (call : Call) (calls : List Call) → requests_on wire (call ∷ calls) ≡ requests_on wire calls ++ requests_by wire call
 requests-more wire (session.heard what answers) calls = refl
 requests-more wire (session.replied lane reply answers) calls = sym (append-nil (requests_on wire calls))
 requests-more wire (session.sent lane bytes text full answers) calls = sym (append-nil (requests_on wire calls))
 requests-more wire (session.shut lane answers) calls = sym (append-nil (requests_on wire calls))
+requests-more wire (session.wrote lane answers) calls = sym (append-nil (requests_on wire calls))
 
 pub read-more : (wire : ℕ) (calls : List Call) (call : Call) → read_on wire (answers_of (call ∷ calls)) ≡ read_on wire (answers_of calls) ++ read_on wire (share wire (answers_in call))
 read-more wire calls call = read-append wire (answers_of calls) (answers_in call) ∙ ap (λ l. read_on wire (answers_of calls) ++ l) (read-share wire (answers_in call))

@@ -1,5 +1,5 @@
 -- After what a lane does in a call no more waits on it than may, and for no longer once it closes.
-use Rattle.std.proofs.Common.{◌≡◌, ◌≤◌, ◌<◌, ◌-◌, ◌==◌, ◌||◌, ◌++◌, ◌∷◌, [], ℕ, Bool, true, false, List, length, Option, None, Some, refl, sym, ap, ◌∙◌, subst, arith, inl, inr}
+use Rattle.std.proofs.Common.{◌≡◌, ◌≤◌, ◌<◌, ◌-◌, ◌==◌, ◌||◌, ◌++◌, ◌∷◌, [], ℕ, Bool, true, false, not, cond, List, length, Option, None, Some, refl, sym, ap, ◌∙◌, subst, arith, inl, inr, ◌⊎◌, take, drop, take-append-drop}
 use Rattle.hw_lanes.specs.declared.http.Reply.{Reply}
 use Rattle.hw_door.specs.declared.heard.Event.{Event}
 use Rattle.hw_door.specs.declared.heard.Event.TheVariants as event
@@ -12,13 +12,16 @@ use Rattle.hw_net.specs.declared.protocol.Protocol.{Protocol}
 use Rattle.hw_net.specs.declared.protocol.Protocol.TheVariants.{Http, Socket}
 use Rattle.hw_net.specs.declared.protocol.Stage.{Stage}
 use Rattle.hw_net.specs.declared.protocol.Stage.TheVariants.{Live, Lost, Closing, Over}
-use Rattle.hw_net.specs.Bounds.{has_wire, IsWithin, EachIs, AreWithin, IsInTime, NextIsWithin, NextIsInTime, RepliesAreWithin, SendsAreWithin, ShutsAreWithin}
-use Rattle.hw_net.specs.Door.{ListensOrRests, ListenOrRest, Searches}
-use Rattle.hw_net.specs.Lane.{Lane, waits, frames_of, after_end, owes, is_live, after_reply, protocol_after_shut}
-use Rattle.hw_net.specs.Saying.{WritesOut, DropsOrWrites, Says, SaysAt, SaysMore, must_end, has_closed_long, is_too_much}
+use Rattle.hw_net.specs.Bounds.{has_wire, IsWithin, EachIs, AreWithin, IsInTime, NextIsWithin, NextIsInTime, FailsAreWithin, FlushesAreWithin, RepliesAreWithin, SendsAreWithin, ShutsAreWithin}
+use Rattle.hw_net.specs.Door.{DoorState, ListensOrRests, ListenOrRest, Searches, index_of_first, kept, new_lane, with_accepted}
+use Rattle.hw_net.specs.Flushing.{Gathers, WriteEach}
+use Rattle.hw_net.specs.Lane.{Lane, waits, frames_of, after_end, owes, is_live, is_over, after_reply, protocol_after_shut}
+use Rattle.hw_net.specs.Saying.{WritesOut, DropsOrWrites, Says, SaysAt, SaysIfEnded, SaysIfEndedAt, SaysMore, GathersOrSays, WritesIfLive, WritesIfLiveAt, must_end, has_closed_long, is_gathered, is_too_much}
 use Rattle.hw_net.specs.Trace.{Chooses}
 use Rattle.hw_net.specs.Turn.{Turns, TurnsAt, TurnAll, Loses, LosesAt, Replies, PutsAt, Puts, Sends, Shuts, AtLane}
+use Rattle.hw_net.proofs.Bystanders.{SaysOrStays, ended-says, live-says}
 use Rattle.hw_net.proofs.Fullness.{by-fullness, SaysPut}
+use Rattle.hw_net.proofs.Moves.{Has, has-front, has-back, has-part, has-kept}
 
 never : true ≡ false → ⊥
 never e = absurd (cc e)
@@ -33,7 +36,7 @@ second : (a b : Bool) → (a || b) ≡ false → b ≡ false
 second true b e = absurd (never e)
 second false b e = e
 
-not-more : (n : ℕ) → is_too_much n ≡ false → n ≤ MOST_UNWRITTEN
+pub not-more : (n : ℕ) → is_too_much n ≡ false → n ≤ MOST_UNWRITTEN
 not-more n e = grind (arith, e)
 
 little : (s : Stage) (n : ℕ) (whole : Bool) → has_wire s ≡ true → must_end s n whole ≡ false → n ≤ MOST_UNWRITTEN
@@ -70,6 +73,10 @@ says-within now before after answers h = go before.stage refl h where
   go Closing e h = dropped-or-within (has_closed_long now before.since) before after answers h
   go Over e h = shut-within after (ap (λ (l : Lane). has_wire l.stage) h.1 ∙ ap has_wire e)
 
+bystander-within : (now : ℕ) (before after : Lane) (answers : List Answer) → IsWithin before → SaysOrStays now before after answers → IsWithin after
+bystander-within now before after answers k (inl h) = says-within now before after answers h
+bystander-within now before after answers k (inr h) = same-within before after h.0 k
+
 more-within : (before after : Lane) (answers : List Answer) → SaysMore before after answers → IsWithin after
 more-within before after answers h = dropped-or-within (is_too_much (length (waits before))) before after answers h
 
@@ -84,9 +91,9 @@ loses-within None before after heard h k = go before.stage h where
   go Closing h = same-within before after h.1 k
   go Over h = same-within before after h.1 k
 
-turn-within : (now : ℕ) (trace : Option Event) (before after : Lane) (answers : List Answer) (heard : Option Event) → Turns now trace before after answers heard → IsWithin after
-turn-within now (Some event) before after answers heard h = says-within now before after answers h.1
-turn-within now None before after answers heard h = go before.stage refl h where
+pub turn-within : (now : ℕ) (trace : Option Event) (before after : Lane) (answers : List Answer) (heard : Option Event) → IsWithin before → Turns now trace before after answers heard → IsWithin after
+turn-within now (Some event) before after answers heard k h = bystander-within now before after answers k (ended-says now before after answers h.1)
+turn-within now None before after answers heard k h = go before.stage refl h where
   go : (s : Stage) → before.stage ≡ s → TurnsAt s now before after answers heard → IsWithin after
   go Live e h = by-fullness IsWithin now before after answers heard
       (λ d said s. says-within now (record before { full = None }) after answers s)
@@ -97,37 +104,65 @@ turn-within now None before after answers heard h = go before.stage refl h where
   go Closing e h = says-within now before after answers h.1
   go Over e h = shut-within after (ap (λ (l : Lane). has_wire l.stage) h.2 ∙ ap has_wire e)
 
--- each turn leaves a lane of which this holds
-abbrev TurnsLeave : ℕ → (Lane → Type 0) → Type 0
-TurnsLeave now Is = (trace : Option Event) (before after : Lane) (answers : List Answer) (heard : Option Event) → Turns now trace before after answers heard → Is after
+-- each turn of a lane of which the one held leaves one of which the other holds
+abbrev pub TurnsLeave : ℕ → (Lane → Type 0) → (Lane → Type 0) → Type 0
+TurnsLeave now Was Is =
+    (trace : Option Event) (before after : Lane) (answers : List Answer) (heard : Option Event) → Was before → Turns now trace before after answers heard → Is after
 
-turns-leave : (now : ℕ) (Is : Lane → Type 0) (trace : Option Event) (lanes after : List Lane) (answers : List Answer) (heard : Option Event) → TurnsLeave now Is → TurnAll now trace lanes after answers heard → EachIs Is after
-turns-leave now Is trace [] after answers heard each h = subst (λ (l : List Lane). EachIs Is l) (sym h.0) tt
-turns-leave now Is trace (lane ∷ lanes) after answers heard each h =
-    subst (λ (l : List Lane). EachIs Is l) (sym h.5) (each trace lane h.1 h.3 h.0 h.7, turns-leave now Is h.0 lanes h.2 h.4 heard each h.8)
+abbrev pub EachWas : (Lane → Type 0) → List Lane → Type 0
+EachWas Was lanes = (lane : Lane) → Has lanes lane → Was lane
 
-both-are : (Is : Lane → Type 0) (xs ys : List Lane) → EachIs Is xs → EachIs Is ys → EachIs Is (xs ++ ys)
+pub turns-leave : (now : ℕ) (Was Is : Lane → Type 0) (trace : Option Event) (lanes after : List Lane) (answers : List Answer) (heard : Option Event) → TurnsLeave now Was Is → EachWas Was lanes →
+    TurnAll now trace lanes after answers heard → EachIs Is after
+turns-leave now Was Is trace [] after answers heard each were h = subst (λ (l : List Lane). EachIs Is l) (sym h.0) tt
+turns-leave now Was Is trace (lane ∷ lanes) after answers heard each were h =
+    subst (λ (l : List Lane). EachIs Is l) (sym h.5)
+    (each trace lane h.1 h.3 h.0 (were lane (inl refl)) h.7, turns-leave now Was Is h.0 lanes h.2 h.4 heard each (λ x has. were x (inr has)) h.8)
+
+pub both-are : (Is : Lane → Type 0) (xs ys : List Lane) → EachIs Is xs → EachIs Is ys → EachIs Is (xs ++ ys)
 both-are Is [] ys h k = k
 both-are Is (x ∷ xs) ys h k = (h.0, both-are Is xs ys h.1 k)
 
+silent-ended : (now : ℕ) (lane : Lane) → Says now lane lane [] → SaysIfEnded now lane lane []
+silent-ended now lane h = go lane.stage h where
+  go : (s : Stage) → SaysAt s now lane lane [] → SaysIfEndedAt s now lane lane []
+  go Live h = (refl, refl)
+  go Lost h = h
+  go Closing h = h
+  go Over h = h
+
 -- each lane that rests is as it would be after a turn in which it only writes
-parts-leave : (now : ℕ) (Is : Lane → Type 0) (lanes after : List Lane) (answers : List Answer) → TurnsLeave now Is → ListenOrRest now lanes after answers → EachIs Is after
-parts-leave now Is [] after answers each h = subst (λ (l : List Lane). EachIs Is l) (sym h.0) tt
-parts-leave now Is (lane ∷ lanes) after answers each h = subst (λ (l : List Lane). EachIs Is l) (sym h.4) (go h.6, parts-leave now Is lanes h.1 h.3 each h.7) where
-  go : ListensOrRests now lane h.0 h.2 → Is h.0
-  go (inl one) = each None lane h.0 h.2 None one
-  go (inr rest) = subst Is (sym rest.1) (each (Some event.Quiet) lane lane [] (Some event.Quiet) (refl, rest.0.silent))
+parts-leave : (now : ℕ) (Was Is : Lane → Type 0) (lanes after : List Lane) (answers : List Answer) → TurnsLeave now Was Is → EachWas Was lanes → ListenOrRest now lanes after answers → EachIs Is after
+parts-leave now Was Is [] after answers each were h = subst (λ (l : List Lane). EachIs Is l) (sym h.0) tt
+parts-leave now Was Is (lane ∷ lanes) after answers each were h =
+    subst (λ (l : List Lane). EachIs Is l) (sym h.4) (go h.6, parts-leave now Was Is lanes h.1 h.3 each (λ x has. were x (inr has)) h.7) where
+      go : ListensOrRests now lane h.0 h.2 → Is h.0
+      go (inl one) = each None lane h.0 h.2 None (were lane (inl refl)) one
+      go (inr rest) = subst Is (sym rest.1) (each (Some event.Quiet) lane lane [] (Some event.Quiet) (were lane (inl refl)) (refl, silent-ended now lane rest.0.silent))
 
-all-leave : (now : ℕ) (Is : Lane → Type 0) (from : ℕ) (before after : List Lane) (answers : List Answer) (heard : Option Event) → TurnsLeave now Is → Searches now from before after answers heard → EachIs Is after
-all-leave now Is from before after answers heard each (inr r) =
-    subst (λ (l : List Lane). EachIs Is l) (sym r.order)
-    (both-are Is r.last r.first (parts-leave now Is _ r.last r.answers_last each r.parts_last) (parts-leave now Is _ r.first r.answers_first each r.parts_first))
-all-leave now Is from before after answers heard each (inl h) =
-    subst (λ (l : List Lane). EachIs Is l) (sym h.order)
-    (both-are Is h.last h.first (turns-leave now Is h.trace _ h.last h.answers_last heard each h.turns_last) (turns-leave now Is None _ h.first h.answers_first h.trace each h.turns_first))
+all-leave : (now : ℕ) (Was Is : Lane → Type 0) (from : ℕ) (before after : List Lane) (answers : List Answer) (heard : Option Event) → TurnsLeave now Was Is → EachWas Was before →
+    Searches now from before after answers heard → EachIs Is after
+all-leave now Was Is from before after answers heard each were h = go h where
+  index : ℕ
+  index = index_of_first from before
 
-pub next-within : NextIsWithin
-next-within wait before after answers heard h = all-leave heard.now IsWithin h.begin _ after.lanes h.turns h.trace (turn-within heard.now) h.hears
+  whole : take index before ++ drop index before ≡ before
+  whole = take-append-drop index before
+
+  front : EachWas Was (take index before)
+  front x has = were x (subst (λ (l : List Lane). Has l x) whole (has-front (take index before) (drop index before) x has))
+
+  back : EachWas Was (drop index before)
+  back x has = were x (subst (λ (l : List Lane). Has l x) whole (has-back (take index before) (drop index before) x has))
+
+  go : Searches now from before after answers heard → EachIs Is after
+  go (inr r) =
+      subst (λ (l : List Lane). EachIs Is l) (sym r.order)
+      (both-are Is r.last r.first (parts-leave now Was Is _ r.last r.answers_last each front r.parts_last) (parts-leave now Was Is _ r.first r.answers_first each back r.parts_first))
+  go (inl h) =
+      subst (λ (l : List Lane). EachIs Is l) (sym h.order)
+      (both-are Is h.last h.first (turns-leave now Was Is h.trace _ h.last h.answers_last heard each front h.turns_last)
+      (turns-leave now Was Is None _ h.first h.answers_first h.trace each back h.turns_first))
 
 -- ---- how long a lane closes
 
@@ -184,9 +219,21 @@ loses-time now None before after heard h k = go before.stage h where
   go Closing h = same-time now before after h.1 k
   go Over h = same-time now before after h.1 k
 
-turn-time : (now : ℕ) (trace : Option Event) (before after : Lane) (answers : List Answer) (heard : Option Event) → Turns now trace before after answers heard → IsInTime now after
-turn-time now (Some event) before after answers heard h = says-time now before after answers h.1
-turn-time now None before after answers heard h = go before.stage refl h where
+-- a live lane doesn't close
+bystander-time : (now : ℕ) (before after : Lane) (answers : List Answer) → SaysIfEnded now before after answers → IsInTime now after
+bystander-time now before after answers h = go before.stage refl h where
+  said : (s : Stage) → before.stage ≡ s → SaysAt s now before after answers → IsInTime now after
+  said s e h = says-time now before after answers (subst (λ (s : Stage). SaysAt s now before after answers) (sym e) h)
+
+  go : (s : Stage) → before.stage ≡ s → SaysIfEndedAt s now before after answers → IsInTime now after
+  go Live e h = same-time now before after h.1 (not-late now before (λ closes. cc (sym e ∙ closes)))
+  go Lost e h = said Lost e h
+  go Closing e h = said Closing e h
+  go Over e h = said Over e h
+
+turn-time : (now : ℕ) (trace : Option Event) (before after : Lane) (answers : List Answer) (heard : Option Event) → Unit {0} → Turns now trace before after answers heard → IsInTime now after
+turn-time now (Some event) before after answers heard k h = bystander-time now before after answers h.1
+turn-time now None before after answers heard k h = go before.stage refl h where
   go : (s : Stage) → before.stage ≡ s → TurnsAt s now before after answers heard → IsInTime now after
   go Live e h = by-fullness (IsInTime now) now before after answers heard
       (λ d said s. says-time now (record before { full = None }) after answers s)
@@ -198,7 +245,9 @@ turn-time now None before after answers heard h = go before.stage refl h where
   go Over e h = over-time now after (ap (λ (l : Lane). l.stage) h.2 ∙ e)
 
 pub next-in-time : NextIsInTime
-next-in-time wait before after answers heard h = all-leave heard.now (IsInTime heard.now) h.begin _ after.lanes h.turns h.trace (turn-time heard.now) h.hears
+next-in-time wait gathering gathering_after before after answers heard h =
+    let n = h.hears in
+    all-leave heard.now (λ lane. Unit {0}) (IsInTime heard.now) n.begin _ after.lanes n.turns n.trace (turn-time heard.now) (λ lane has. tt) n.hears
 
 -- ---- saying
 
@@ -211,6 +260,56 @@ at-within wire Does (lane ∷ lanes) after answers each h k = go (lane.wire == w
       AtLane wire Does lanes rest said → AreWithin lanes → AreWithin rest) → AreWithin after
   go true h again = subst (λ (l : List Lane). AreWithin l) (sym h.1) (each lane h.0 answers h.2 k.0, k.1)
   go false h again = subst (λ (l : List Lane). AreWithin l) (sym h.1) (k.0, again h.0 answers each h.2 k.1)
+
+live-within : (before after : Lane) (answers : List Answer) → WritesIfLive before after answers → IsWithin before → IsWithin after
+live-within before after answers h k = bystander-within 0 before after answers k (live-says 0 before after answers h)
+
+-- so it is of a live lane however much waited
+pub live-written : (before after : Lane) (answers : List Answer) → WritesIfLive before after answers → IsWithin before ⊎ (before.stage ≡ Live) → IsWithin after
+live-written before after answers h (inl k) = live-within before after answers h k
+live-written before after answers h (inr live) = writes-within before after answers (subst (λ (s : Stage). WritesIfLiveAt s before after answers) live h)
+
+each-within : (wires : List ℕ) (lanes after : List Lane) (answers : List Answer) → WriteEach wires lanes after answers → AreWithin lanes → AreWithin after
+each-within [] lanes after answers h k = subst (λ (l : List Lane). AreWithin l) (sym h.0) k
+each-within (wire ∷ wires) lanes after answers h k = each-within wires h.0 after h.2 h.5 (at-within wire WritesIfLive lanes h.0 h.1 live-within h.4 k)
+
+pub flushes-within : FlushesAreWithin
+flushes-within before after answers h k = each-within h.flushes.wires before.lanes after.lanes answers h.flushes.writes k
+
+pub gathers-within : (wait gathering gathering_after wait_after : ℕ) (before after : DoorState) (answers : List Answer) → Gathers wait gathering before after answers gathering_after wait_after → AreWithin before.lanes → AreWithin after.lanes
+gathers-within wait gathering gathering_after wait_after before after answers (inl h) k = subst (λ (d : DoorState). AreWithin d.lanes) (sym h.1) k
+gathers-within wait gathering gathering_after wait_after before after answers (inr h) k = flushes-within before after answers h.0 k
+
+pub each-of : (lanes : List Lane) → AreWithin lanes → EachWas IsWithin lanes
+each-of [] k lane has = absurd has
+each-of (first ∷ lanes) k lane (inl e) = subst IsWithin e k.0
+each-of (first ∷ lanes) k lane (inr has) = each-of lanes k.1 lane has
+
+pub with-within : (now : ℕ) (wire : Option ℕ) (lanes : List Lane) → EachWas IsWithin lanes → EachWas IsWithin (with_accepted now wire (kept lanes))
+with-within now None lanes were lane has = were lane (has-kept lanes lane has)
+with-within now (Some wire) lanes were lane has = go (has-part (kept lanes) (new_lane now wire ∷ []) lane has) where
+  go : Has (kept lanes) lane ⊎ Has (new_lane now wire ∷ []) lane → IsWithin lane
+  go (inl k) = were lane (has-kept lanes lane k)
+  go (inr (inl e)) = subst IsWithin e (λ there. omega arith)
+  go (inr (inr k)) = absurd k
+
+pub next-within : NextIsWithin
+next-within wait gathering gathering_after before after answers heard h k =
+    let n = h.hears in
+    let were = each-of h.mid.lanes (gathers-within wait gathering gathering_after h.wait_after before h.mid h.first h.gathers k) in
+    all-leave heard.now IsWithin IsWithin n.begin _ after.lanes n.turns n.trace (turn-within heard.now) (with-within heard.now n.wire h.mid.lanes were) n.hears
+
+pub kept-within : (lanes : List Lane) → AreWithin lanes → AreWithin (kept lanes)
+kept-within [] k = tt
+kept-within (lane ∷ lanes) k = go (not (is_over lane.stage)) (kept-within lanes k.1) where
+  go : (b : Bool) → AreWithin (kept lanes) → AreWithin (cond b (lane ∷ kept lanes) (kept lanes))
+  go true more = (k.0, more)
+  go false more = more
+
+pub fails-within : FailsAreWithin
+fails-within wait gathering before after answers h k =
+    let gathered = gathers-within wait gathering h.gathering_after h.wait_after before h.mid h.first h.gathers k in
+    flushes-within (record h.mid { lanes = kept h.mid.lanes }) after h.last h.flushes (kept-within h.mid.lanes gathered)
 
 reply-within : (now : ℕ) (reply : Reply) (before after : Lane) (answers : List Answer) → Replies now reply before after answers → IsWithin before → IsWithin after
 reply-within now reply before after answers h k = go (owes before) h where
@@ -246,10 +345,19 @@ unput true (Socket websocket_state) bytes text before after e h =
 unput true (Http http_state) bytes text before after e h = (ap (λ (l : Lane). l.stage) h.1, ap waits h.1)
 unput false protocol bytes text before after e h = (ap (λ (l : Lane). l.stage) h.1, ap waits h.1)
 
+is-little : (n : ℕ) → is_gathered n ≡ true → n ≤ MOST_UNWRITTEN
+is-little n e = grind (arith, e)
+
+gathered-within : (before after : Lane) (answers : List Answer) → GathersOrSays before after answers → IsWithin after
+gathered-within before after answers h = go (is_gathered (length (waits before))) refl h where
+  go : (b : Bool) → is_gathered (length (waits before)) ≡ b → Chooses b ((answers ≡ []) × (after ≡ before)) (SaysMore before after answers) → IsWithin after
+  go true e h = same-within before after h.1 (λ has. is-little (length (waits before)) e)
+  go false e h = more-within before after answers h
+
 send-within : (now : ℕ) (bytes : List ℕ) (text : Bool) (before after : Lane) (answers : List Answer) → Sends now bytes text before after answers → IsWithin before → IsWithin after
 send-within now bytes text before after answers h k = go h.0 h.1 h.2 h.3 where
   go : (mid : Lane) (b : Bool) → Puts bytes text before mid b → SaysPut now b mid after answers → IsWithin after
-  go mid true p h = subst IsWithin (sym h.2) (more-within mid h.0 answers h.1)
+  go mid true p h = subst IsWithin (sym h.2) (gathered-within mid h.0 answers h.1)
   go mid false p h =
       let u = unput (is_live before.stage) before.protocol bytes text before mid refl p in
       same-within mid after h.1 (λ has. subst (λ (l : List ℕ). length l ≤ MOST_UNWRITTEN) (sym u.1) (k (sym (ap has_wire u.0) ∙ has)))

@@ -15,11 +15,12 @@ use Rattle.hw_net.specs.declared.protocol.Stage.TheVariants.{Live, Lost, Closing
 use Rattle.hw_net.specs.Bounds.{has_wire}
 use Rattle.hw_net.specs.Door.{DoorState, new_lane}
 use Rattle.hw_net.specs.Lane.{Lane, waits, is_live, is_busy, owes, is_overdue, after_end, after_reply, protocol_after_shut, protocol_after_reply, new_socket, rest_of, after_hearing}
-use Rattle.hw_net.specs.Saying.{WritesOut, DropsOrWrites, Says, SaysAt, SaysMore, must_end, has_closed_long, is_too_much}
+use Rattle.hw_net.specs.Saying.{WritesOut, DropsOrWrites, Says, SaysAt, SaysMore, GathersOrSays, must_end, has_closed_long, is_too_much}
 use Rattle.hw_net.specs.Sessions as session
 use Rattle.hw_net.specs.Sessions.{Call, Session, answers_in, answers_of, is_about, are_about, was_shut_in, came_in, is_end_on, is_done_on, LanesHaveWires, WiresAreShutOnce, WiresAreShutForACause}
 use Rattle.hw_net.specs.Trace.{Chooses}
 use Rattle.hw_net.specs.Turn.{Falls, Passes, Settles, Loses, LosesAt, TurnsLive, TurnsAt, Listens, Replies, Puts, PutsAt, Sends, Shuts}
+use Rattle.hw_net.proofs.Bystanders.{SaysOrStays, Stays, gathered-says}
 use Rattle.hw_net.proofs.Ends.{Ends, writes-end, hears-unshut, writes-unshut, one-shut, dropped-or-end}
 use Rattle.hw_net.proofs.Fullness.{by-fullness, SaysPut}
 use Rattle.hw_net.proofs.Moves.{Has, Without, has-of, contains-of}
@@ -185,6 +186,16 @@ says-close now x y mine h = go x.stage refl h where
 
 more-close : (x y : Lane) (mine : List Answer) → has_wire x.stage ≡ true → SaysMore x y mine → Closes x.wire x.stage y.stage mine false
 more-close x y mine has h = dropped-or-close (is_too_much (length (waits x))) x y mine has h
+
+bystander-close : (now : ℕ) (x y : Lane) (mine : List Answer) → SaysOrStays now x y mine → Closes x.wire x.stage y.stage mine false
+bystander-close now x y mine (inl h) = says-close now x y mine h
+bystander-close now x y mine (inr h) = idles x.wire x.stage y.stage mine h.1 (ap (λ (l : Lane). l.stage) h.0)
+
+gathered-close : (x y : Lane) (mine : List Answer) → has_wire x.stage ≡ true → GathersOrSays x y mine → Closes x.wire x.stage y.stage mine false
+gathered-close x y mine has h = go (gathered-says x y mine h) where
+  go : SaysMore x y mine ⊎ Stays x y mine → Closes x.wire x.stage y.stage mine false
+  go (inl k) = more-close x y mine has k
+  go (inr k) = idles x.wire x.stage y.stage mine k.1 (ap (λ (l : Lane). l.stage) k.0)
 
 -- ---- turns
 
@@ -362,7 +373,7 @@ heard-ends wire (Some trace) what h = ap (λ v. is_end_on wire v) h
 
 heeds-close : (now : ℕ) (what : Event) (x y : Lane) (mine : List Answer) → Heeds now what x y mine → Closes x.wire x.stage y.stage mine (is_end_on x.wire what)
 heeds-close now what x y mine (inl h) = subst (λ b. Closes x.wire x.stage y.stage mine b) (sym (heard-ends x.wire h.0 what h.2)) (listens-close now x y mine h.0 h.1)
-heeds-close now what x y mine (inr h) = more-ends x.wire x.stage y.stage mine (is_end_on x.wire what) (says-close now x y mine h.0)
+heeds-close now what x y mine (inr h) = more-ends x.wire x.stage y.stage mine (is_end_on x.wire what) (bystander-close now x y mine h.0)
 
 -- ---- saying
 
@@ -408,7 +419,7 @@ sends-close now bytes text x y mine h = go h.0 h.1 h.2 h.3 where
   go mid true p s =
       let put = put-stage (is_live x.stage) x.protocol bytes text x mid true p in
       subst (λ (l : Lane). Closes x.wire x.stage l.stage mine false) (sym s.2)
-      (moved-close x mid s.0 mine (put-wire (is_live x.stage) x.protocol bytes text x mid true p) put.0 (more-close mid s.0 mine (ap has_wire put.0 ∙ live-has x.stage (put.1 refl)) s.1))
+      (moved-close x mid s.0 mine (put-wire (is_live x.stage) x.protocol bytes text x mid true p) put.0 (gathered-close mid s.0 mine (ap has_wire put.0 ∙ live-has x.stage (put.1 refl)) s.1))
   go mid false p s = idles x.wire x.stage y.stage mine s.0 (ap (λ (l : Lane). l.stage) s.1 ∙ (put-stage (is_live x.stage) x.protocol bytes text x mid false p).0)
 
 shuts-close : (now : ℕ) (x y : Lane) (mine : List Answer) → Shuts now x y mine → Closes x.wire x.stage y.stage mine true
@@ -433,6 +444,7 @@ ends_by wire (session.heard what answers) = is_end_on wire what.event
 ends_by wire (session.replied at reply answers) = false
 ends_by wire (session.sent at bytes text full answers) = false
 ends_by wire (session.shut at answers) = at == wire
+ends_by wire (session.wrote at answers) = false
 
 moves-close : (call : Call) (x y : Lane) → Moves call x y → Closes x.wire x.stage y.stage (share x.wire (answers_in call)) (ends_by x.wire call)
 moves-close (session.heard what answers) x y h = heeds-close what.now what.event x y (share x.wire answers) h
@@ -445,11 +457,13 @@ moves-close (session.sent at bytes text full answers) x y h =
 moves-close (session.shut at answers) x y h =
     by-number at (Shuts h.0) x y (share x.wire answers) (λ b. Closes x.wire x.stage y.stage (share x.wire answers) b)
     (shuts-close h.0 x y (share x.wire answers)) (λ e f. idles x.wire x.stage y.stage (share x.wire answers) f (ap (λ (l : Lane). l.stage) e)) h.1
+moves-close (session.wrote at answers) x y h = bystander-close 0 x y (share x.wire answers) h
 
 done-more : (wire : ℕ) (call : Call) (calls : List Call) → came_in wire (answers_of (call ∷ calls)) ≡ true → is_done_on wire (call ∷ calls) ≡ (ends_by wire call || is_done_on wire calls)
 done-more wire (session.heard what answers) calls came = refl
 done-more wire (session.replied at reply answers) calls came = refl
 done-more wire (session.sent at bytes text full answers) calls came = refl
+done-more wire (session.wrote at answers) calls came = refl
 done-more wire (session.shut at answers) calls came =
     ap (λ b. ((at == wire) && b) || is_done_on wire calls) came ∙ ap (λ b. b || is_done_on wire calls) (and-true (at == wire)) where
       and-true : (a : Bool) → (a && true) ≡ a

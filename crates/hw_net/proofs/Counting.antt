@@ -1,5 +1,5 @@
 -- In a session a request is heard on a lane only once each one before it there was replied to.
-use Rattle.std.proofs.Common.{◌≡◌, ◌==◌, ◌&&◌, ◌+◌, ◌++◌, ◌∷◌, [], ℕ, Bool, true, false, if◌then◌else◌, List, Option, None, Some, refl, sym, ap, ◌∙◌, subst, inl, inr, arith, length}
+use Rattle.std.proofs.Common.{◌≡◌, ◌==◌, ◌&&◌, ◌+◌, ◌++◌, ◌∷◌, [], ℕ, Bool, true, false, if◌then◌else◌, List, Option, None, Some, refl, sym, ap, ◌∙◌, subst, ◌⊎◌, inl, inr, arith, length}
 use Rattle.hw_lanes.specs.declared.http.Reply.{Reply}
 use Rattle.hw_lanes.specs.declared.http.Request.{Request}
 use Rattle.hh_http.specs.Texts.{reply_text}
@@ -15,12 +15,13 @@ use Rattle.hw_net.specs.declared.protocol.Stage.TheVariants.{Live, Lost, Closing
 use Rattle.hw_net.specs.HttpState.{HttpStateView, requests_of}
 use Rattle.hw_net.specs.Door.{new_lane}
 use Rattle.hw_net.specs.Lane.{Lane, waits, is_live, is_busy, owes, is_overdue, after_end, after_reply, protocol_after_shut, protocol_after_reply, new_socket, rest_of, after_hearing}
-use Rattle.hw_net.specs.Saying.{WritesOut, DropsOrWrites, Says, SaysAt, SaysMore, has_closed_long, is_too_much}
+use Rattle.hw_net.specs.Saying.{WritesOut, DropsOrWrites, Says, SaysAt, SaysMore, GathersOrSays, has_closed_long, is_too_much}
 use Rattle.hw_net.specs.Sessions as session
 use Rattle.hw_net.specs.Sessions.{Call, Session, requests_on, replies_on, request_on, refusal_on, RequestsWaitForReplies}
 use Rattle.hw_net.specs.Trace.{Chooses}
 use Rattle.hw_net.specs.Turn.{Hears, Falls, Passes, Settles, Loses, LosesAt, TurnsLive, TurnsAt, Listens, Replies, PutsAt, Sends, Shuts}
 use Rattle.hw_net.proofs.Asked.{requests_in, settles-requests, loses-requests, heard-requests, requests_by, requests-more}
+use Rattle.hw_net.proofs.Bystanders.{SaysOrStays, Stays, gathered-says}
 use Rattle.hw_net.proofs.Ends.{writes-end, speaks-busy, replied-owes, Ends, dropped-or-end, continue-busy}
 use Rattle.hw_net.proofs.Fullness.{by-fullness, SaysPut}
 use Rattle.hw_net.proofs.Owed.{IsOwed, step-owed, new-owed, by-number, replies_by, replies-more}
@@ -84,6 +85,16 @@ says-live now x y answers h = go x.stage h where
 
 pub more-live : (x y : Lane) (answers : List Answer) → SaysMore x y answers → Lives x y
 more-live x y answers h = dropped-or-live (is_too_much (length (waits x))) x y answers h
+
+pub bystander-live : (now : ℕ) (x y : Lane) (answers : List Answer) → SaysOrStays now x y answers → Lives x y
+bystander-live now x y answers (inl h) = says-live now x y answers h
+bystander-live now x y answers (inr h) = same-lives x y h.0
+
+gathered-live : (x y : Lane) (answers : List Answer) → GathersOrSays x y answers → Lives x y
+gathered-live x y answers h = go (gathered-says x y answers h) where
+  go : SaysMore x y answers ⊎ Stays x y answers → Lives x y
+  go (inl k) = more-live x y answers k
+  go (inr k) = same-lives x y k.0
 
 lives-on : (x y z : Lane) → Lives x y → Lives y z → Lives x z
 lives-on x y z f g live = let a = g live in let b = f a.0 in (b.0, a.1 ∙ b.1)
@@ -184,7 +195,7 @@ heeds-even now what x y mine (inl h) =
     subst (λ (l : List Request). StaysEven x y (length l) (length (refusal_on x.wire what))) (sym (heard-requests x.wire h.0 what h.2))
     (subst (λ (l : List Reply). StaysEven x y (length (requests_in x.wire h.0)) (length l)) (sym (heard-refusals x.wire h.0 what h.2)) (listens-even now x y mine h.0 h.1))
 heeds-even now what x y mine (inr h) =
-    even-lives x y _ _ (says-live now x y mine h.0) (ap (λ (l : List Request). length l) (unrequested x.wire what h.1)) (ap (λ (l : List Reply). length l) (unrefused x.wire what h.1))
+    even-lives x y _ _ (bystander-live now x y mine h.0) (ap (λ (l : List Request). length l) (unrequested x.wire what h.1)) (ap (λ (l : List Reply). length l) (unrefused x.wire what h.1))
 
 -- ---- saying
 
@@ -222,7 +233,7 @@ put-lives false protocol bytes text x mid is_put e h = same-lives x mid h.1
 sends-live : (now : ℕ) (bytes : List ℕ) (text : Bool) (x y : Lane) (mine : List Answer) → Sends now bytes text x y mine → Lives x y
 sends-live now bytes text x y mine h = lives-on x h.0 y (put-lives (is_live x.stage) x.protocol bytes text x h.0 h.1 refl h.2) (go h.0 h.1 h.3) where
   go : (mid : Lane) (b : Bool) → SaysPut now b mid y mine → Lives mid y
-  go mid true h = subst (λ (l : Lane). Lives mid l) (sym h.2) (more-live mid h.0 mine h.1)
+  go mid true h = subst (λ (l : Lane). Lives mid l) (sym h.2) (gathered-live mid h.0 mine h.1)
   go mid false h = same-lives mid y h.1
 
 shuts-live : (now : ℕ) (x y : Lane) (mine : List Answer) → Shuts now x y mine → Lives x y
@@ -244,6 +255,7 @@ moves-even (session.sent at bytes text full answers) x y h =
 moves-even (session.shut at answers) x y h =
     by-number at (Shuts h.0) x y _ (λ b. StaysEven x y 0 0)
     (λ s. even-lives x y 0 0 (shuts-live h.0 x y _ s) refl refl) (λ e f. even-lives x y 0 0 (same-lives x y e) refl refl) h.1
+moves-even (session.wrote at answers) x y h = even-lives x y 0 0 (bystander-live 0 x y _ h) refl refl
 
 abbrev AreEven : List Call → Lane → Type 0
 AreEven calls lane = IsOwed calls lane × IsEven (length (requests_on lane.wire calls)) (length (replies_on lane.wire calls)) lane

@@ -13,10 +13,11 @@ use Rattle.hw_net.specs.declared.protocol.Stage.{Stage}
 use Rattle.hw_net.specs.declared.protocol.Stage.TheVariants.{Live, Lost, Closing, Over}
 use Rattle.hw_net.specs.HttpState.{HttpStateView}
 use Rattle.hw_net.specs.Lane.{Lane, waits, is_live, is_busy, owes, is_overdue, after_end, after_reply, protocol_after_shut, protocol_after_reply, new_socket, rest_of, after_hearing, protocol_after_continue}
-use Rattle.hw_net.specs.Saying.{Writes, WritesOut, DropsOrWrites, SpeaksAs, Says, SaysAt, SaysMore, must_end, has_closed_long, is_too_much}
+use Rattle.hw_net.specs.Saying.{Writes, WritesOut, DropsOrWrites, SpeaksAs, Says, SaysAt, SaysMore, GathersOrSays, must_end, has_closed_long, is_too_much}
 use Rattle.hw_net.specs.Sessions.{was_shut_in, is_request_on}
 use Rattle.hw_net.specs.Trace.{Reads, Gives, Chooses}
 use Rattle.hw_net.specs.Turn.{Hears, Falls, Passes, Settles, Loses, LosesAt, TurnsLive, TurnsAt, Listens, Replies, PutsAt, Sends, Shuts}
+use Rattle.hw_net.proofs.Bystanders.{SaysOrStays, Stays, gathered-says}
 use Rattle.hw_net.proofs.Fullness.{by-fullness, SaysPut}
 use Rattle.hw_net.proofs.Owning.{settles-keeps}
 use Rattle.hw_net.proofs.Shares.{shut-append, same}
@@ -69,23 +70,9 @@ writes-end before after answers w = go (must_end before.stage (length (waits aft
     (w.stays e).1,
   )
 
-still-end : (before after : Lane) (answers : List Answer) → answers ≡ [] → after ≡ before → Ends before.wire before.stage after.stage answers
-still-end before after answers e f = inr (ap (λ l. was_shut_in before.wire l) e, ap (λ (l : Lane). l.stage) f)
-
 pub dropped-or-end : (is_dropped : Bool) (before after : Lane) (answers : List Answer) → DropsOrWrites is_dropped before after answers → Ends before.wire before.stage after.stage answers
 dropped-or-end true before after answers h = inl (ap (λ l. was_shut_in before.wire l) h.0 ∙ one-shut before.wire, ap (λ (l : Lane). l.stage) h.1)
 dropped-or-end false before after answers h = writes-end before after answers h
-
-pub says-end : (now : ℕ) (before after : Lane) (answers : List Answer) → Says now before after answers → Ends before.wire before.stage after.stage answers
-says-end now before after answers h = go before.stage h where
-  go : (s : Stage) → SaysAt s now before after answers → Ends before.wire before.stage after.stage answers
-  go Live h = writes-end before after answers h
-  go Lost h = still-end before after answers h.0 h.1
-  go Closing h = dropped-or-end (has_closed_long now before.since) before after answers h
-  go Over h = still-end before after answers h.0 h.1
-
-pub more-end : (before after : Lane) (answers : List Answer) → SaysMore before after answers → Ends before.wire before.stage after.stage answers
-more-end before after answers h = dropped-or-end (is_too_much (length (waits before))) before after answers h
 
 -- ---- whether a reply is owed
 
@@ -131,6 +118,16 @@ says-owes now before after answers h = go before.stage h where
 
 pub more-owes : (before after : Lane) (answers : List Answer) → SaysMore before after answers → KeepsOwing before after answers
 more-owes before after answers h = dropped-or-owes (is_too_much (length (waits before))) before after answers h
+
+pub bystander-owes : (now : ℕ) (before after : Lane) (answers : List Answer) → SaysOrStays now before after answers → KeepsOwing before after answers
+bystander-owes now before after answers (inl h) = says-owes now before after answers h
+bystander-owes now before after answers (inr h) = still-owes before after answers h.1 h.0
+
+gathered-owes : (before after : Lane) (answers : List Answer) → GathersOrSays before after answers → KeepsOwing before after answers
+gathered-owes before after answers h = go (gathered-says before after answers h) where
+  go : SaysMore before after answers ⊎ Stays before after answers → KeepsOwing before after answers
+  go (inl k) = more-owes before after answers k
+  go (inr k) = still-owes before after answers k.1 k.0
 
 -- ---- hearing
 
@@ -285,7 +282,7 @@ heard-request wire (Some trace) what h = ap (λ v. is_request_on wire v) h
 
 pub heeds-owes : (now : ℕ) (what : Event) (x y : Lane) (mine : List Answer) → Heeds now what x y mine → OwesAfter x y mine (is_request_on x.wire what)
 heeds-owes now what x y mine (inl h) = subst (λ b. OwesAfter x y mine b) (sym (heard-request x.wire h.0 what h.2)) (listens-owes now x y mine h.0 h.1)
-heeds-owes now what x y mine (inr h) = says-owes now x y mine h.0 ∙ ap (λ b. not (was_shut_in x.wire mine) && (b || owes x)) (sym (not-request x.wire what h.1))
+heeds-owes now what x y mine (inr h) = bystander-owes now x y mine h.0 ∙ ap (λ b. not (was_shut_in x.wire mine) && (b || owes x)) (sym (not-request x.wire what h.1))
 
 -- ---- saying
 
@@ -326,7 +323,7 @@ pub sends-owe : (now : ℕ) (bytes : List ℕ) (text : Bool) (x y : Lane) (mine 
 sends-owe now bytes text x y mine h = go h.0 h.1 (puts-owe (is_live x.stage) x.protocol bytes text x h.0 h.1 refl h.2) h.3 where
   go : (mid : Lane) (b : Bool) → (owes mid ≡ owes x) × ((b ≡ false) ⊎ (owes x ≡ false)) → SaysPut now b mid y mine → owes y ≡ owes x
   go mid true (e, inl f) h = absurd (cc f)
-  go mid true (e, inr f) h = ap owes h.2 ∙ more-owes mid h.0 mine h.1 ∙ ap (λ b. not (was_shut_in mid.wire mine) && b) (e ∙ f) ∙ none-owed (was_shut_in mid.wire mine) ∙ sym f
+  go mid true (e, inr f) h = ap owes h.2 ∙ gathered-owes mid h.0 mine h.1 ∙ ap (λ b. not (was_shut_in mid.wire mine) && b) (e ∙ f) ∙ none-owed (was_shut_in mid.wire mine) ∙ sym f
   go mid false (e, f) h = ap owes h.1 ∙ e
 
 pub shuts-owe : (now : ℕ) (x y : Lane) (mine : List Answer) → Shuts now x y mine → owes y ≡ false

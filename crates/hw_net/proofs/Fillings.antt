@@ -18,8 +18,9 @@ use Rattle.hw_net.specs.Sessions as session
 use Rattle.hw_net.specs.Sessions.{Call, is_drained_on, was_full_on, FullnessIsTold, DrainedWereFull}
 use Rattle.hw_net.specs.Trace.{Chooses}
 use Rattle.hw_net.specs.Turn.{Falls, Passes, Settles, Loses, LosesAt, TurnsLive, TurnsAt, Listens, Replies, Sends, Shuts}
+use Rattle.hw_net.proofs.Bystanders.{SaysOrStays}
 use Rattle.hw_net.proofs.Closings.{owes-live}
-use Rattle.hw_net.proofs.Counting.{Lives, same-lives, writes-live, says-live}
+use Rattle.hw_net.proofs.Counting.{Lives, same-lives, writes-live, says-live, bystander-live}
 use Rattle.hw_net.proofs.Fullness.{by-fullness}
 use Rattle.hw_net.proofs.Moves.{ActsAt, has-of}
 use Rattle.hw_net.proofs.Owed.{swapped}
@@ -60,6 +61,10 @@ says-full now x y mine h = go x.stage h where
   go Lost h = full-same x y h.1
   go Closing h = dropped-or-full (has_closed_long now x.since) x y mine h
   go Over h = full-same x y h.1
+
+bystander-full : (now : ℕ) (x y : Lane) (mine : List Answer) → SaysOrStays now x y mine → IsAsFull x y
+bystander-full now x y mine (inl h) = says-full now x y mine h
+bystander-full now x y mine (inr h) = full-same x y h.0
 
 more-full : (x y : Lane) (mine : List Answer) → SaysMore x y mine → IsAsFull x y
 more-full x y mine h = dropped-or-full (is_too_much (length (waits x))) x y mine h
@@ -157,7 +162,7 @@ heard-drained wire (Some trace) what h = ap (λ v. is_drained_on wire v) h
 
 heeds-full : (now : ℕ) (what : Event) (x y : Lane) (mine : List Answer) → Heeds now what x y mine → FullAfter x y (is_drained_on x.wire what)
 heeds-full now what x y mine (inl h) = subst (λ b. FullAfter x y b) (sym (heard-drained x.wire h.0 what h.2)) (listens-full now x y mine h.0 h.1)
-heeds-full now what x y mine (inr h) = lives-full x y (is_drained_on x.wire what) (says-live now x y mine h.0) (says-full now x y mine h.0) (unheard-drained x.wire what h.1)
+heeds-full now what x y mine (inr h) = lives-full x y (is_drained_on x.wire what) (bystander-live now x y mine h.0) (bystander-full now x y mine h.0) (unheard-drained x.wire what h.1)
 
 -- ---- saying
 
@@ -210,6 +215,8 @@ told-here (session.sent at bytes text full answers) calls x y k h live =
       go false s told = told-still calls x y k (lives-full x y false (same-lives x y s.0) (full-same x y s.0) refl) live
 told-here (session.shut at answers) calls x y k h live =
     told-still calls x y k (at-full at (Shuts h.0) x y (share x.wire answers) (shuts-full h.0 x y (share x.wire answers)) h.1) live
+told-here (session.wrote at answers) calls x y k h live =
+    told-still calls x y k (lives-full x y false (bystander-live 0 x y (share x.wire answers) h) (bystander-full 0 x y (share x.wire answers) h) refl) live
 
 step-told : (call : Call) (calls : List Call) (x y : Lane) → IsTold calls x → Moves call x y → IsTold (call ∷ calls) y
 step-told call calls x y k h live = told-here call calls x y k h live ∙ ap (λ n. was_full_on n (call ∷ calls)) (sym (moves-wire call x y h))

@@ -11,6 +11,8 @@ use Rattle.std.proofs.lemmas.Bool.Decides.{nat_tests}
 use Rattle.hw_net.specs.Door.{index_of_first, is_full_at}
 use Rattle.hw_net.specs.Lane.{Lane, wires_of, is_full}
 use Rattle.hw_net.specs.Rising.{IsRising}
+use Rattle.hw_net.specs.Tally.{is_writer}
+use Rattle.hw_net.specs.Writers.{is_writer_at}
 use Rattle.hw_net.proofs.Places.{is_of, is-at, is-nowhere}
 use Rattle.hw_net.proofs.Walking.{same-length}
 
@@ -84,47 +86,69 @@ first-from from (first ∷ lanes) at within s =
     let len : position_or_len is_from all ≡ at = position_or_len_is is_from all at first within before here in
     grind (arith, len, within)
 
--- ---- the lane of a number that is full
+-- ---- the lane of a number
+
+-- the lane of this number is such a one
+abbrev any_at : (Lane → Bool) → ℕ → List Lane → Bool
+any_at is wire lanes = list_any (λ (lane : Lane). (lane.wire == wire) && is lane) lanes
 
 only-first : (a b rest : Bool) → a ≡ true → rest ≡ false → ((a && b) || rest) ≡ b
 only-first true true rest e none = refl
 only-first true false rest e none = none
 only-first false b rest e none = cc e
 
-not-first : (a b rest full : Bool) → a ≡ false → rest ≡ full → ((a && b) || rest) ≡ full
-not-first true b rest full e more = cc e
-not-first false b rest full e more = more
+not-first : (a b rest other : Bool) → a ≡ false → rest ≡ other → ((a && b) || rest) ≡ other
+not-first true b rest other e more = cc e
+not-first false b rest other e more = more
 
 -- no lane has a lower number
-none-below : (wire from bound : ℕ) (lanes : List Lane) → wire < from → IsRising from bound (wires_of lanes) → is_full_at wire lanes ≡ false
-none-below wire from bound [] lt h = refl
-none-below wire from bound (lane ∷ lanes) lt h =
+none-below : (is : Lane → Bool) (wire from bound : ℕ) (lanes : List Lane) → wire < from → IsRising from bound (wires_of lanes) → any_at is wire lanes ≡ false
+none-below is wire from bound [] lt h = refl
+none-below is wire from bound (lane ∷ lanes) lt h =
     let other : (lane.wire == wire) ≡ false = grind (arith, nat_tests, lt, h.0) in
-    not-first (lane.wire == wire) (is_full lane) (is_full_at wire lanes) false other (none-below wire (lane.wire + 1) bound lanes (omega (arith, lt, h.0)) h.1)
+    not-first (lane.wire == wire) (is lane) (any_at is wire lanes) false other (none-below is wire (lane.wire + 1) bound lanes (omega (arith, lt, h.0)) h.1)
 
 -- the lane of a number is the only one
-pub only-full : (wire from bound : ℕ) (lanes : List Lane) (index : ℕ) (d : Lane) → IsRising from bound (wires_of lanes) → index < length lanes → (get_or lanes index d).wire ≡ wire →
-    is_full_at wire lanes ≡ is_full (get_or lanes index d)
-only-full wire from bound [] index d h lt here = absurd (omega (arith, lt))
-only-full wire from bound (lane ∷ lanes) zero d h lt here =
-    only-first (lane.wire == wire) (is_full lane) (is_full_at wire lanes) (grind (arith, nat_tests, here)) (none-below wire (lane.wire + 1) bound lanes (omega (arith, here)) h.1)
-only-full wire from bound (lane ∷ lanes) (suc index) d h lt here =
+pub only-one : (is : Lane → Bool) (wire from bound : ℕ) (lanes : List Lane) (index : ℕ) (d : Lane) → IsRising from bound (wires_of lanes) → index < length lanes → (get_or lanes index d).wire ≡ wire →
+    any_at is wire lanes ≡ is (get_or lanes index d)
+only-one is wire from bound [] index d h lt here = absurd (omega (arith, lt))
+only-one is wire from bound (lane ∷ lanes) zero d h lt here =
+    only-first (lane.wire == wire) (is lane) (any_at is wire lanes) (grind (arith, nat_tests, here)) (none-below is wire (lane.wire + 1) bound lanes (omega (arith, here)) h.1)
+only-one is wire from bound (lane ∷ lanes) (suc index) d h lt here =
     let higher : lane.wire + 1 ≤ (get_or lanes index d).wire = no-lower (lane.wire + 1) bound lanes index d h.1 (omega (arith, lt)) in
     let other : (lane.wire == wire) ≡ false = grind (arith, nat_tests, higher, here) in
-    not-first (lane.wire == wire) (is_full lane) (is_full_at wire lanes) (is_full (get_or lanes index d)) other
-    (only-full wire (lane.wire + 1) bound lanes index d h.1 (omega (arith, lt)) here)
+    not-first (lane.wire == wire) (is lane) (any_at is wire lanes) (is (get_or lanes index d)) other
+    (only-one is wire (lane.wire + 1) bound lanes index d h.1 (omega (arith, lt)) here)
+
+-- the place of a lane is found by its number
+pub only-place : (wire from bound : ℕ) (lanes : List Lane) (index : ℕ) (d : Lane) → IsRising from bound (wires_of lanes) → index < length lanes → (get_or lanes index d).wire ≡ wire →
+    position_or_len (is_of wire) lanes ≡ index
+only-place wire from bound [] index d h lt here = absurd (omega (arith, lt))
+only-place wire from bound (lane ∷ lanes) zero d h lt here = go (lane.wire == wire) (grind (arith, nat_tests, here)) where
+  go : (b : Bool) → b ≡ true → cond (not b) (1 + position_or_len (is_of wire) lanes) 0 ≡ 0
+  go true e = refl
+  go false e = cc e
+only-place wire from bound (lane ∷ lanes) (suc index) d h lt here =
+    let higher : lane.wire + 1 ≤ (get_or lanes index d).wire = no-lower (lane.wire + 1) bound lanes index d h.1 (omega (arith, lt)) in
+    go (lane.wire == wire) (grind (arith, nat_tests, higher, here)) (only-place wire (lane.wire + 1) bound lanes index d h.1 (omega (arith, lt)) here) where
+      go : (b : Bool) → b ≡ false → position_or_len (is_of wire) lanes ≡ index → cond (not b) (1 + position_or_len (is_of wire) lanes) 0 ≡ suc index
+      go true e more = cc e
+      go false e more = omega (arith, more)
 
 -- a search that found no lane
-nowhere-full : (wire : ℕ) (lanes : List Lane) → length lanes ≤ position_or_len (is_of wire) lanes → is_full_at wire lanes ≡ false
-nowhere-full wire [] h = refl
-nowhere-full wire (lane ∷ lanes) h = go (lane.wire == wire) h (nowhere-full wire lanes) where
-  go : (b : Bool) → suc (length lanes) ≤ cond (not b) (1 + position_or_len (is_of wire) lanes) 0 → (length lanes ≤ position_or_len (is_of wire) lanes → is_full_at wire lanes ≡ false) →
-      ((b && is_full lane) || is_full_at wire lanes) ≡ false
+none-past : (is : Lane → Bool) (wire : ℕ) (lanes : List Lane) → length lanes ≤ position_or_len (is_of wire) lanes → any_at is wire lanes ≡ false
+none-past is wire [] h = refl
+none-past is wire (lane ∷ lanes) h = go (lane.wire == wire) h (none-past is wire lanes) where
+  go : (b : Bool) → suc (length lanes) ≤ cond (not b) (1 + position_or_len (is_of wire) lanes) 0 → (length lanes ≤ position_or_len (is_of wire) lanes → any_at is wire lanes ≡ false) →
+      ((b && is lane) || any_at is wire lanes) ≡ false
   go true h more = absurd (omega (arith, h))
   go false h more = more (omega (arith, h))
 
+pub none-there : (is : Lane → Bool) (wire : ℕ) (lanes : List Lane) → position (is_of wire) lanes ≡ None → any_at is wire lanes ≡ false
+none-there is wire lanes e = none-past is wire lanes (is-nowhere wire lanes e)
+
 pub none-full : (wire : ℕ) (lanes : List Lane) → position (is_of wire) lanes ≡ None → is_full_at wire lanes ≡ false
-none-full wire lanes e = nowhere-full wire lanes (is-nowhere wire lanes e)
+none-full = none-there is_full
 
 -- a search that found this place
 numbered : (wire : ℕ) (lanes : List Lane) (index : ℕ) (d : Lane) → position_or_len (is_of wire) lanes ≡ index → index < length lanes → (get_or lanes index d).wire ≡ wire
@@ -139,6 +163,16 @@ numbered wire (lane ∷ lanes) (suc index) d e lt = go (lane.wire == wire) e (nu
   go true e more = absurd (omega (arith, e))
   go false e more = more (omega (arith, e)) (omega (arith, lt))
 
+-- the lane of the place that was found is one on which something waits, or isn't
+pub writer-there : (wire bound : ℕ) (lanes : List Lane) (index : ℕ) (lane : Lane) → IsRising 0 bound (wires_of lanes) → position (is_of wire) lanes ≡ Some index → get_or lanes index lane ≡ lane →
+    is_writer lane ≡ is_writer_at wire lanes
+writer-there wire bound lanes index lane h e at =
+    let found = is-at wire lanes index e in
+    ap is_writer (sym at) ∙ sym (only-one is_writer wire 0 bound lanes index lane h found.1 (numbered wire lanes index lane found.0 found.1))
+
+pub no-writer : (wire : ℕ) (lanes : List Lane) → position (is_of wire) lanes ≡ None → is_writer_at wire lanes ≡ false
+no-writer = none-there is_writer
+
 -- the lane there is the only one of its number, as it is after it was given a message
 pub full-there : (wire bound : ℕ) (lanes after : List Lane) (index : ℕ) (full : Bool) → IsRising 0 bound (wires_of lanes) → wires_of after ≡ wires_of lanes → position (is_of wire) lanes ≡ Some index →
     ((lane : Lane) → full ≡ is_full (get_or after index lane)) → full ≡ is_full_at wire after
@@ -151,4 +185,4 @@ full-there wire bound lanes (first ∷ rest) index full h same e answer =
     let kept : (get_or after index first).wire ≡ (get_or lanes index first).wire =
     sym (get_or-map wire_at after index first first.wire within) ∙ ap (λ l. get_or l index first.wire) same ∙ get_or-map wire_at lanes index first first.wire found.1 in
     let here : (get_or after index first).wire ≡ wire = kept ∙ numbered wire lanes index first found.0 found.1 in
-    answer first ∙ sym (only-full wire 0 bound after index first (subst (λ l. IsRising 0 bound l) (sym same) h) within here)
+    answer first ∙ sym (only-one is_full wire 0 bound after index first (subst (λ l. IsRising 0 bound l) (sym same) h) within here)

@@ -4,7 +4,7 @@ use Rattle.hw_door.specs.declared.heard.Event.{Event}
 use Rattle.hw_door.specs.declared.heard.Event.TheVariants as event
 use Rattle.hw_door.specs.Traffic.{Answer}
 use Rattle.hw_net.specs.Lane.{Lane, is_drained, is_stalled, after_message, after_turn}
-use Rattle.hw_net.specs.Saying.{Says, SaysMore}
+use Rattle.hw_net.specs.Saying.{Says, GathersOrSays}
 use Rattle.hw_net.specs.Trace.{Chooses}
 use Rattle.hw_net.specs.Turn.{Drains, Falls, TurnsLive, TurnsOn, TurnsByFullness}
 
@@ -24,4 +24,4 @@ by-fullness Is now before after answers heard drained fell turned h = go (is_dra
 -- what is said once a message was put, or not
 abbrev pub SaysPut : ℕ → Bool → Lane → Lane → List Answer → Type 0
 SaysPut now is_put mid after answers =
-    Chooses is_put ((said : Lane) × SaysMore mid said answers × (after ≡ after_message now said)) ((answers ≡ []) × (after ≡ mid))
+    Chooses is_put ((said : Lane) × GathersOrSays mid said answers × (after ≡ after_message now said)) ((answers ≡ []) × (after ≡ mid))

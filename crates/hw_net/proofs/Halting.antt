@@ -13,6 +13,7 @@ use Rattle.hw_net.specs.declared.first_read.FirstRead.{FirstRead}
 use Rattle.hw_net.specs.declared.first_read.FirstRead.TheVariants.{Read}
 use Rattle.hw_net.specs.declared.protocol.Protocol.{Protocol}
 use Rattle.hw_net.specs.declared.protocol.Protocol.TheVariants.{Http, Socket}
+use Rattle.hw_net.specs.declared.protocol.Stage.TheVariants.{Live}
 use Rattle.hw_net.specs.Door.{Begins, kept, time_to_wait, with_accepted, index_of_first}
 use Rattle.hw_net.specs.FirstReads.{ReadsFirst, ReadsFirstAt, IsCalmProtocol}
 use Rattle.hw_net.specs.Halting.{HaltsHttp, HaltsSocket, HaltsIn, Halts, HaltsWithin, HaltsAll, HaltsNext, IsDue, IsLasting}
@@ -148,25 +149,26 @@ socket-in (Err why) a b wire protocol before after e h = (h.0, h.1, subst (λ (p
 
 pub halts-hearing : (a b : Option (List Answer)) (before heard : Lane) (first : List Answer) →
     ((answers : List Answer) × Tells a b answers × HaltsIn before.wire before.protocol heard.protocol (first ++ answers)) → heard ≡ record before { protocol = heard.protocol } →
-    (answers : List Answer) × Tells a b answers × Halts before heard (first ++ answers)
-halts-hearing a b before heard first h e = (h.0, h.1, (heard.protocol, h.2, inl e))
+    before.stage ≡ Live → (answers : List Answer) × Tells a b answers × Halts before heard (first ++ answers)
+halts-hearing a b before heard first h e live = (h.0, h.1, (heard.protocol, h.2, inl e, live))
 
 pub halts-saying : (a b : Option (List Answer)) (before heard said : Lane) (input : Input) (first : List Answer) →
     ((answers : List Answer) × Tells a b answers × Hears before.wire before.protocol heard.protocol (first ++ answers) input) → heard ≡ record before { protocol = heard.protocol } →
-    (said ≡ heard) × IsDue heard.protocol → (answers : List Answer) × Tells a b answers × Halts before said (first ++ answers)
-halts-saying a b before heard said input first h e due =
-    (h.0, h.1, (heard.protocol, due-halts before.wire before.protocol heard.protocol (first ++ h.0) input h.2 due.1, inl (due.0 ∙ e)))
+    (said ≡ heard) × IsDue heard.protocol → before.stage ≡ Live → (answers : List Answer) × Tells a b answers × Halts before said (first ++ answers)
+halts-saying a b before heard said input first h e due live =
+    (h.0, h.1, (heard.protocol, due-halts before.wire before.protocol heard.protocol (first ++ h.0) input h.2 due.1, inl (due.0 ∙ e), live))
 
 pub halts-taking : (a b c : Option (List Answer)) (before heard said taken : Lane) (input : Input) (first : List Answer) →
     ((answers : List Answer) × Tells a b answers × Hears before.wire before.protocol heard.protocol (first ++ answers) input) → heard ≡ record before { protocol = heard.protocol } →
-    said ≡ after_hearing heard.protocol heard → (taken ≡ said) × (c ≡ b) × IsLasting input → (answers : List Answer) × Tells a c answers × Halts before taken (first ++ answers)
-halts-taking a b c before heard said taken input first h e s lasts = (
+    said ≡ after_hearing heard.protocol heard → (taken ≡ said) × (c ≡ b) × IsLasting input → before.stage ≡ Live → (answers : List Answer) × Tells a c answers × Halts before taken (first ++ answers)
+halts-taking a b c before heard said taken input first h e s lasts live = (
   h.0,
   subst (λ (o : Option (List Answer)). Tells a o h.0) (sym lasts.1) h.1,
   (
     heard.protocol,
     lasting-halts before.wire before.protocol heard.protocol (first ++ h.0) input h.2 lasts.2,
     inr (lasts.0 ∙ s ∙ ap (λ (l : Lane). after_hearing heard.protocol l) e),
+    live,
   ),
 )
 

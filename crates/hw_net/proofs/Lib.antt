@@ -2,6 +2,7 @@ pub mod HttpFacts
 pub mod Bounding
 pub mod Findings
 pub mod Fullness
+pub mod Bystanders
 pub mod Numbering
 pub mod Places
 pub mod Sayings
@@ -18,10 +19,12 @@ pub mod Moves
 pub mod Walks
 pub mod Asked
 pub mod Ends
+pub mod FlushCalls
 pub mod Appends
 pub mod Owed
 pub mod Voices
 pub mod Counting
+pub mod CutShort
 pub mod Closings
 pub mod Losses
 pub mod Shifts
@@ -31,3 +34,4 @@ pub mod Reaching
 pub mod Halting
 pub mod Resting
 pub mod Searching
+pub mod Gathering

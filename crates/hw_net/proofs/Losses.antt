@@ -15,12 +15,13 @@ use Rattle.hw_net.specs.declared.protocol.Stage.TheVariants.{Live, Lost, Closing
 use Rattle.hw_net.specs.Bounds.{has_wire}
 use Rattle.hw_net.specs.Door.{new_lane}
 use Rattle.hw_net.specs.Lane.{Lane, waits, is_live, owes, is_overdue, is_stalled, after_end, after_reply, protocol_after_shut, after_hearing}
-use Rattle.hw_net.specs.Saying.{Writes, WritesOut, DropsOrWrites, Says, SaysAt, SaysMore, must_end, has_closed_long, is_too_much}
+use Rattle.hw_net.specs.Saying.{Writes, WritesOut, DropsOrWrites, Says, SaysAt, SaysMore, GathersOrSays, must_end, has_closed_long, is_too_much}
 use Rattle.hw_net.specs.Sessions as session
 use Rattle.hw_net.specs.Sessions.{Call, Session, Does, answers_in, answers_of, broke_in, IsGone, IsSpoiled, IsLostRightly, LossesHaveCauses}
 use Rattle.hw_net.specs.Trace.{Reads, Gives, Chooses}
 use Rattle.hw_net.specs.Turn.{Hears, Falls, Passes, Settles, Loses, LosesAt, TurnsLive, TurnsAt, Listens, Replies, Puts, PutsAt, Sends, Shuts}
 use Rattle.hw_net.proofs.Asked.{Silent, gives-bytes, live-reads, settles-silent, says-silent}
+use Rattle.hw_net.proofs.Bystanders.{SaysOrStays, Stays, gathered-says}
 use Rattle.hw_net.proofs.Closings.{or-true, replied-stage, put-stage, live-has, owes-live}
 use Rattle.hw_net.proofs.Fullness.{by-fullness, SaysPut}
 use Rattle.hw_net.proofs.Moves.{Has, contains-of}
@@ -103,6 +104,16 @@ more-break x y mine has h = go (is_too_much (length (waits x))) refl h where
   go true e h lost = inr (ap (λ (l : Lane). is_too_much (length (waits l))) h.1 ∙ e)
   go false e h lost = writes-break x y mine has h lost
 
+bystander-break : (now : ℕ) (x y : Lane) (mine : List Answer) → SaysOrStays now x y mine → Breaks x y mine
+bystander-break now x y mine (inl h) = says-break now x y mine h
+bystander-break now x y mine (inr h) = λ lost. inr h.0
+
+gathered-break : (x y : Lane) (mine : List Answer) → has_wire x.stage ≡ true → GathersOrSays x y mine → y.stage ≡ Lost → Cause x.wire mine y
+gathered-break x y mine has h lost = go (gathered-says x y mine h) where
+  go : SaysMore x y mine ⊎ Stays x y mine → Cause x.wire mine y
+  go (inl k) = more-break x y mine has k lost
+  go (inr k) = unlost y.stage x.stage (ap (λ (l : Lane). l.stage) k.0) (has-unlost x.stage has) lost
+
 -- ---- turns
 
 -- a lane that settled has its wire, or it is over
@@ -174,7 +185,7 @@ listens-break now x y mine own h = go x.stage refl h where
 
 heeds-break : (now : ℕ) (what : Event) (x y : Lane) (mine : List Answer) → Heeds now what x y mine → Breaks x y mine
 heeds-break now what x y mine (inl h) = listens-break now x y mine h.0 h.1
-heeds-break now what x y mine (inr h) = says-break now x y mine h.0
+heeds-break now what x y mine (inr h) = bystander-break now x y mine h.0
 
 -- ---- saying
 
@@ -197,7 +208,7 @@ sends-break now bytes text x y mine h = go h.0 h.1 h.2 h.3 where
   go mid true p s = λ lost.
       let put = put-stage (is_live x.stage) x.protocol bytes text x mid true p in
       inl (subst (λ (l : Lane). Cause x.wire mine l) (sym s.2) (subst (λ n. Cause n mine s.0) (put-wire (is_live x.stage) x.protocol bytes text x mid true p)
-      (more-break mid s.0 mine (ap has_wire put.0 ∙ live-has x.stage (put.1 refl)) s.1 (sym (ap (λ (l : Lane). l.stage) s.2) ∙ lost))))
+      (gathered-break mid s.0 mine (ap has_wire put.0 ∙ live-has x.stage (put.1 refl)) s.1 (sym (ap (λ (l : Lane). l.stage) s.2) ∙ lost))))
   go mid false p s = unput (is_live x.stage) x.protocol mid refl p s.1
 
 shuts-break : (now : ℕ) (x y : Lane) (mine : List Answer) → Shuts now x y mine → Breaks x y mine
@@ -216,6 +227,7 @@ moves-break (session.sent at bytes text full answers) x y h =
     by-number at (Sends h.0 bytes text) x y (share x.wire answers) (λ b. Breaks x y (share x.wire answers)) (sends-break h.0 bytes text x y (share x.wire answers)) (λ e f lost. inr e) h.1
 moves-break (session.shut at answers) x y h =
     by-number at (Shuts h.0) x y (share x.wire answers) (λ b. Breaks x y (share x.wire answers)) (shuts-break h.0 x y (share x.wire answers)) (λ e f lost. inr e) h.1
+moves-break (session.wrote at answers) x y h = bystander-break 0 x y (share x.wire answers) h
 
 broke-more : (wire : ℕ) (calls : List Call) (call : Call) → broke_in wire (answers_of (call ∷ calls)) ≡ (broke_in wire (answers_of calls) || broke_in wire (share wire (answers_in call)))
 broke-more wire calls call = broke-append wire (answers_of calls) (answers_in call) ∙ ap (λ b. broke_in wire (answers_of calls) || b) (broke-share wire (answers_in call))
@@ -245,11 +257,6 @@ new-caused : (calls : List Call) (now wire : ℕ) → IsUntouched wire calls →
 new-caused calls now wire h lost = unlost Live Live refl refl lost
 
 -- ---- the loss that is heard
-
--- what the lane shows that heard its loss, or what it was before
-abbrev Shows : ℕ → Lane → Lane → List Answer → Type 0
-Shows now x y mine =
-    (broke_in x.wire mine ≡ true) ⊎ (is_overdue now y ≡ true) ⊎ (is_too_much (length (waits y)) ≡ true) ⊎ IsGone (read_on x.wire mine) x.protocol ⊎ IsSpoiled x.protocol
 
 reads-broke : (wire room : ℕ) (answer : Answer) → Reads wire room answer None → broke_in wire (answer ∷ []) ≡ true
 reads-broke wire room (ended at) h = broke-here at wire h

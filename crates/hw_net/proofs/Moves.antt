@@ -9,7 +9,7 @@ use Rattle.hw_net.specs.Lane.{Lane, wires_of, is_over}
 use Rattle.hw_net.specs.Rising.{IsRising}
 use Rattle.hw_net.specs.Trace.{Chooses}
 use Rattle.hw_net.specs.Turn.{Listens, Turns, TurnAll, AtLane}
-use Rattle.hw_net.specs.Saying.{Says}
+use Rattle.hw_net.proofs.Bystanders.{SaysOrStays, ended-says}
 use Rattle.hw_net.proofs.Owning.{is_on, IsOn, Keeps, listens-keeps, turns-keeps}
 use Rattle.hw_net.proofs.Shares.{AreOwn, share, share-append, own-share, off-share, turned, other}
 
@@ -161,10 +161,10 @@ abbrev pub Fits : ℕ → Option Event → Option Event → Type 0
 Fits wire None heard = IsOff wire heard
 Fits wire (Some trace) heard = heard ≡ Some trace
 
--- a turn in a call in which this is heard: the lane listened, or it only wrote
+-- a turn in a call in which this is heard: the lane listened, or it only wrote, if it did anything
 abbrev pub Turned : ℕ → Option Event → Lane → Lane → List Answer → Type 0
 Turned now heard x y mine =
-    ((own : Option Event) × Listens now x y mine own × Fits x.wire own heard) ⊎ (Says now x y mine × IsOff x.wire heard)
+    ((own : Option Event) × Listens now x y mine own × Fits x.wire own heard) ⊎ (SaysOrStays now x y mine × IsOff x.wire heard)
 
 -- on another lane it isn't
 off-other : (v w : ℕ) (heard : Event) → is_on v heard ≡ true → (v == w) ≡ false → is_on w heard ≡ false
@@ -205,7 +205,7 @@ first-turn : (now : ℕ) (trace mid heard : Option Event) (lane next : Lane) (la
 first-turn now None None heard lane next lanes rest mine more one all off is = inl (None, one, off-event now None lanes rest more heard lane.wire all off tt)
 first-turn now None (Some mid) heard lane next lanes rest mine more one all off is = inl (Some mid, one, keep now mid lanes rest more heard all)
 first-turn now (Some trace) mid heard lane next lanes rest mine more one all off is =
-    inr (one.1, subst (λ (o : Option Event). IsOff lane.wire o) (sym (keep now trace lanes rest more heard (subst (λ (o : Option Event). TurnAll now o lanes rest more heard) one.0 all))) is)
+    inr (ended-says now lane next mine one.1, subst (λ (o : Option Event). IsOff lane.wire o) (sym (keep now trace lanes rest more heard (subst (λ (o : Option Event). TurnAll now o lanes rest more heard) one.0 all))) is)
 
 mid-off : (now : ℕ) (trace mid : Option Event) (lane next : Lane) (lanes : List Lane) (mine : List Answer) → Turns now trace lane next mine mid → Without lane.wire lanes → ((z : Lane) → Has (lane ∷ lanes) z → IsOff z.wire trace) →
     (z : Lane) → Has lanes z → IsOff z.wire mid
@@ -321,8 +321,7 @@ part-keeps now x y mine (inr h) = (ap (λ (l : Lane). l.wire) h.1, subst (λ (l 
 
 part-turned : (now : ℕ) (x y : Lane) (mine : List Answer) → ListensOrRests now x y mine → Turned now None x y mine
 part-turned now x y mine (inl h) = inl (None, h, tt)
-part-turned now x y mine (inr h) =
-    inr (subst (λ (l : Lane). Says now x l mine) (sym h.1) (subst (λ (l : List Answer). Says now x x l) (sym h.2) h.0.silent), tt)
+part-turned now x y mine (inr h) = inr (inr (h.1, h.2), tt)
 
 pub parts-joined : (now : ℕ) (xs xs_after ys ys_after : List Lane) (a b : List Answer) → ListenOrRest now xs xs_after a → ListenOrRest now ys ys_after b → ListenOrRest now (xs ++ ys) (xs_after ++ ys_after) (a ++ b)
 parts-joined now [] xs_after ys ys_after a b h k =

@@ -1,20 +1,23 @@
 -- The numbers of lanes rise, and stay as they are in all calls but `next`.
-use Rattle.std.proofs.Common.{◌≡◌, ◌≤◌, ◌+◌, ◌==◌, ◌++◌, ◌∷◌, [], ℕ, Bool, true, false, not, cond, List, Option, None, Some, refl, sym, ap, ◌∙◌, subst, arith, option_to_list, length, if◌then◌else◌}
+use Rattle.std.proofs.Common.{◌≡◌, ◌≤◌, ◌+◌, ◌==◌, ◌++◌, ◌∷◌, [], ℕ, Bool, true, false, not, cond, List, Option, None, Some, refl, sym, ap, ◌∙◌, subst, arith, option_to_list, length, if◌then◌else◌, ◌⊎◌, inl, inr}
 use Rattle.std.proofs.lemmas.List.{append-nil}
 use Rattle.hw_lanes.specs.declared.http.Reply.{Reply}
 use Rattle.hw_door.specs.Traffic.{Answer, was_shut}
 use Rattle.hw_net.specs.declared.limits.TheConstants.{SWITCHING}
-use Rattle.hw_net.specs.declared.protocol.Stage.TheVariants.{Closing}
+use Rattle.hw_net.specs.declared.protocol.Stage.{Stage}
+use Rattle.hw_net.specs.declared.protocol.Stage.TheVariants.{Live, Lost, Closing, Over}
 use Rattle.hw_net.specs.declared.protocol.Protocol.{Protocol}
 use Rattle.hw_net.specs.declared.protocol.Protocol.TheVariants.{Http, Socket}
 use Rattle.hw_net.specs.Door.{IsNumbered, kept}
+use Rattle.hw_net.specs.Flushing.{WriteEach}
 use Rattle.hw_net.specs.Lane.{Lane, wires_of, waits, is_over, is_live, owes, after_end, after_reply, protocol_after_shut, protocol_after_reply, new_socket, rest_of}
-use Rattle.hw_net.specs.Numbers.{NumbersRise, RepliesKeepNumbers, SendsKeepNumbers, ShutsKeepNumbers}
+use Rattle.hw_net.specs.Numbers.{NumbersRise, FlushesKeepNumbers, RepliesKeepNumbers, SendsKeepNumbers, ShutsKeepNumbers}
 use Rattle.hw_net.specs.Rising.{IsRising}
-use Rattle.hw_net.specs.Saying.{WritesOut, SaysMore, is_too_much}
+use Rattle.hw_net.specs.Saying.{WritesOut, WritesIfLive, WritesIfLiveAt, SaysMore, is_too_much}
 use Rattle.hw_net.specs.Trace.{Chooses}
 use Rattle.hw_net.specs.Turn.{Replies, PutsAt, Sends, Shuts, AtLane}
 use Rattle.hh_http.specs.Texts.{reply_text}
+use Rattle.hw_net.proofs.Bystanders.{Stays, gathered-says}
 use Rattle.hw_net.proofs.Fullness.{SaysPut}
 
 pub lower : (from least bound : ℕ) (wires : List ℕ) → least ≤ from → IsRising from bound wires → IsRising least bound wires
@@ -56,6 +59,25 @@ at-wires wire Does (lane ∷ lanes) after answers each h = go (lane.wire == wire
   go true h again = ap wires_of h.1 ∙ ap (λ n. n ∷ wires_of lanes) (each lane h.0 answers h.2)
   go false h again = ap wires_of h.1 ∙ ap (λ l. lane.wire ∷ l) (again h.0 answers each h.2)
 
+-- a flush writes on some lanes, one after the other
+live-wire : (before after : Lane) (answers : List Answer) → WritesIfLive before after answers → after.wire ≡ before.wire
+live-wire before after answers h = go before.stage h where
+  go : (s : Stage) → WritesIfLiveAt s before after answers → after.wire ≡ before.wire
+  go Live h = h.still.wire
+  go Lost h = ap (λ (l : Lane). l.wire) h.1
+  go Closing h = ap (λ (l : Lane). l.wire) h.1
+  go Over h = ap (λ (l : Lane). l.wire) h.1
+
+pub writes-keep : (wire : ℕ) (lanes after : List Lane) (answers : List Answer) → AtLane wire WritesIfLive lanes after answers → wires_of after ≡ wires_of lanes
+writes-keep wire lanes after answers h = at-wires wire WritesIfLive lanes after answers live-wire h
+
+each-keeps : (wires : List ℕ) (lanes after : List Lane) (answers : List Answer) → WriteEach wires lanes after answers → wires_of after ≡ wires_of lanes
+each-keeps [] lanes after answers h = ap wires_of h.0
+each-keeps (wire ∷ wires) lanes after answers h = each-keeps wires h.0 after h.2 h.5 ∙ writes-keep wire lanes h.0 h.1 h.4
+
+pub flushes-keep : FlushesKeepNumbers
+flushes-keep before after answers h = each-keeps h.flushes.wires before.lanes after.lanes answers h.flushes.writes
+
 pub more-wire : (before after : Lane) (answers : List Answer) → SaysMore before after answers → after.wire ≡ before.wire
 more-wire before after answers h = go (is_too_much (length (waits before))) h where
   go : (b : Bool) → Chooses b ((answers ≡ was_shut before.wire ∷ []) × (after ≡ record before { stage = after_end before.stage })) (WritesOut before after answers) → after.wire ≡ before.wire
@@ -85,8 +107,12 @@ put-wire false protocol bytes text before after is_put h = ap (λ (l : Lane). l.
 
 pub send-wire : (now : ℕ) (bytes : List ℕ) (text : Bool) (before after : Lane) (answers : List Answer) → Sends now bytes text before after answers → after.wire ≡ before.wire
 send-wire now bytes text before after answers h = go h.0 h.1 h.3 ∙ put-wire (is_live before.stage) before.protocol bytes text before h.0 h.1 h.2 where
+  said : (mid next : Lane) → SaysMore mid next answers ⊎ Stays mid next answers → next.wire ≡ mid.wire
+  said mid next (inl k) = more-wire mid next answers k
+  said mid next (inr k) = ap (λ (l : Lane). l.wire) k.0
+
   go : (mid : Lane) (b : Bool) → SaysPut now b mid after answers → after.wire ≡ mid.wire
-  go mid true h = ap (λ (l : Lane). l.wire) h.2 ∙ more-wire mid h.0 answers h.1
+  go mid true h = ap (λ (l : Lane). l.wire) h.2 ∙ said mid h.0 (gathered-says mid h.0 answers h.1)
   go mid false h = ap (λ (l : Lane). l.wire) h.1
 
 pub sends-keep : SendsKeepNumbers

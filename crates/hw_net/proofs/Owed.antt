@@ -8,7 +8,7 @@ use Rattle.hw_net.specs.Sessions as session
 use Rattle.hw_net.specs.Sessions.{Call, answers_in, is_owed_on, is_request_on, was_shut_in, refusal_on, replies_on}
 use Rattle.hw_net.specs.Trace.{Chooses}
 use Rattle.hw_net.specs.Turn.{Replies, Sends, Shuts}
-use Rattle.hw_net.proofs.Ends.{heeds-owes, replies-owe, sends-owe, shuts-owe}
+use Rattle.hw_net.proofs.Ends.{bystander-owes, heeds-owes, replies-owe, sends-owe, shuts-owe}
 use Rattle.hw_net.proofs.Moves.{ActsAt}
 use Rattle.hw_net.proofs.Shares.{share, shut-share, turned, equal, same}
 use Rattle.hw_net.proofs.Walks.{Moves, moves-wire, IsUntouched}
@@ -43,6 +43,9 @@ owed-here (session.sent at bytes text full answers) calls x y k h =
 owed-here (session.shut at answers) calls x y k h =
     by-number at (Shuts h.0) x y (share x.wire answers) (λ b. owes y ≡ (not b && is_owed_on x.wire calls))
     (shuts-owe h.0 x y (share x.wire answers)) (λ e f. ap owes e ∙ k) h.1
+owed-here (session.wrote at answers) calls x y k h =
+    bystander-owes 0 x y (share x.wire answers) h
+    ∙ ap (λ b. not b && owes x) (sym (shut-share x.wire answers)) ∙ ap (λ b. not (was_shut_in x.wire answers) && b) k
 
 pub step-owed : (call : Call) (calls : List Call) (x y : Lane) → IsOwed calls x → Moves call x y → IsOwed (call ∷ calls) y
 step-owed call calls x y k h = owed-here call calls x y k h ∙ ap (λ n. is_owed_on n (call ∷ calls)) (sym (moves-wire call x y h))
@@ -56,9 +59,11 @@ replies_by wire owed (session.heard what answers) = refusal_on wire what.event
 replies_by wire owed (session.replied at reply answers) = if (at == wire) && owed then reply ∷ [] else []
 replies_by wire owed (session.sent at bytes text full answers) = []
 replies_by wire owed (session.shut at answers) = []
+replies_by wire owed (session.wrote at answers) = []
 
 pub replies-more : (call : Call) (calls : List Call) (x : Lane) → IsOwed calls x → replies_on x.wire (call ∷ calls) ≡ replies_on x.wire calls ++ replies_by x.wire (owes x) call
 replies-more (session.heard what answers) calls x k = refl
 replies-more (session.replied at reply answers) calls x k = ap (λ b. replies_on x.wire calls ++ (if (at == x.wire) && b then reply ∷ [] else [])) (sym k)
 replies-more (session.sent at bytes text full answers) calls x k = sym (append-nil (replies_on x.wire calls))
 replies-more (session.shut at answers) calls x k = sym (append-nil (replies_on x.wire calls))
+replies-more (session.wrote at answers) calls x k = sym (append-nil (replies_on x.wire calls))

@@ -1,5 +1,5 @@
 -- A lane keeps its number, and what it does is told of its own wire and heard on it.
-use Rattle.std.proofs.Common.{◌≡◌, ◌==◌, ◌++◌, ◌∷◌, [], ℕ, Bool, true, false, List, Option, None, Some, refl, sym, ap, ◌∙◌, subst, length}
+use Rattle.std.proofs.Common.{◌≡◌, ◌==◌, ◌++◌, ◌∷◌, [], ℕ, Bool, true, false, List, Option, None, Some, refl, sym, ap, ◌∙◌, subst, length, ◌⊎◌, inl, inr}
 use Rattle.hw_lanes.specs.declared.http.Reply.{Reply}
 use Rattle.hw_door.specs.declared.heard.Event.{Event}
 use Rattle.hw_door.specs.declared.heard.Event.TheVariants as event
@@ -11,10 +11,11 @@ use Rattle.hw_net.specs.declared.protocol.Protocol.TheVariants.{Http, Socket}
 use Rattle.hw_net.specs.declared.protocol.Stage.{Stage}
 use Rattle.hw_net.specs.declared.protocol.Stage.TheVariants.{Live, Lost, Closing, Over}
 use Rattle.hw_net.specs.Lane.{Lane, waits, after_reply, owes, is_live, is_overdue, protocol_after_shut, after_hearing}
-use Rattle.hw_net.specs.Saying.{Writes, WritesOut, DropsOrWrites, Says, SaysAt, SaysMore, must_end, has_closed_long, is_too_much}
+use Rattle.hw_net.specs.Saying.{Writes, WritesOut, DropsOrWrites, Says, SaysAt, SaysMore, WritesIfLive, must_end, has_closed_long, is_too_much}
 use Rattle.hw_net.specs.Sessions.{is_about}
 use Rattle.hw_net.specs.Trace.{Reads, Gives, Chooses}
 use Rattle.hw_net.specs.Turn.{Hears, Falls, Passes, Settles, Loses, LosesAt, TurnsLive, TurnsAt, Listens, Turns, Replies, Puts, Sends, Shuts}
+use Rattle.hw_net.proofs.Bystanders.{Stays, SaysOrStays, ended-says, live-says, gathered-says}
 use Rattle.hw_net.proofs.Fullness.{by-fullness, SaysPut}
 use Rattle.hw_net.proofs.Numbering.{reply-wire, send-wire, shut-wire, replied-wire, put-wire}
 use Rattle.hw_net.proofs.Shares.{AreOwn, own-append, same}
@@ -83,6 +84,13 @@ says-keeps now before after answers h = go before.stage h where
   go Lost h = still-keeps before after answers h.0 h.1
   go Closing h = dropped-or-keeps (has_closed_long now before.since) before after answers h
   go Over h = still-keeps before after answers h.0 h.1
+
+pub bystander-keeps : (now : ℕ) (before after : Lane) (answers : List Answer) → SaysOrStays now before after answers → Keeps before after answers
+bystander-keeps now before after answers (inl h) = says-keeps now before after answers h
+bystander-keeps now before after answers (inr h) = still-keeps before after answers h.1 h.0
+
+pub live-writes-keeps : (before after : Lane) (answers : List Answer) → WritesIfLive before after answers → Keeps before after answers
+live-writes-keeps before after answers h = bystander-keeps 0 before after answers (live-says 0 before after answers h)
 
 more-keeps : (before after : Lane) (answers : List Answer) → SaysMore before after answers → Keeps before after answers
 more-keeps before after answers h = dropped-or-keeps (is_too_much (length (waits before))) before after answers h
@@ -171,7 +179,7 @@ listens-keeps now before after answers heard h = go before.stage h where
 
 pub turns-keeps : (now : ℕ) (trace : Option Event) (before after : Lane) (answers : List Answer) (heard : Option Event) → Turns now trace before after answers heard → Keeps before after answers
 turns-keeps now None before after answers heard h = (listens-keeps now before after answers heard h).0
-turns-keeps now (Some trace) before after answers heard h = says-keeps now before after answers h.1
+turns-keeps now (Some trace) before after answers heard h = bystander-keeps now before after answers (ended-says now before after answers h.1)
 
 -- ---- saying
 
@@ -187,7 +195,10 @@ replies-keeps now reply before after answers h = (reply-wire now reply before af
 pub sends-keeps : (now : ℕ) (bytes : List ℕ) (text : Bool) (before after : Lane) (answers : List Answer) → Sends now bytes text before after answers → Keeps before after answers
 sends-keeps now bytes text before after answers h = (send-wire now bytes text before after answers h, go h.0 h.1 h.2 h.3) where
   go : (mid : Lane) (b : Bool) → Puts bytes text before mid b → SaysPut now b mid after answers → AreOwn before.wire answers
-  go mid true p h = more-own before.wire mid h.0 answers (put-wire (is_live before.stage) before.protocol bytes text before mid true p) h.1
+  go mid true p h = said (gathered-says mid h.0 answers h.1) where
+    said : SaysMore mid h.0 answers ⊎ Stays mid h.0 answers → AreOwn before.wire answers
+    said (inl k) = more-own before.wire mid h.0 answers (put-wire (is_live before.stage) before.protocol bytes text before mid true p) k
+    said (inr k) = to-own before.wire [] answers k.1 tt
   go mid false p h = to-own before.wire [] answers h.0 tt
 
 pub shuts-keeps : (now : ℕ) (before after : Lane) (answers : List Answer) → Shuts now before after answers → Keeps before after answers

@@ -16,7 +16,7 @@ use Rattle.hw_net.specs.Sessions.{Call, answers_in}
 use Rattle.hw_net.specs.Sessions as session
 use Rattle.hw_net.specs.Turn.{Listens, Turns, TurnAll}
 use Rattle.hw_net.proofs.Moves.{Has, has-of, contains-of, has-part, has-back, has-front, rising-within, hears-wires, keep}
-use Rattle.hw_net.proofs.Numbering.{lower, replies-keep, sends-keep, shuts-keep}
+use Rattle.hw_net.proofs.Numbering.{lower, writes-keep, replies-keep, sends-keep, shuts-keep}
 use Rattle.hw_net.proofs.Owning.{is_on, listens-keeps}
 use Rattle.hw_net.proofs.Shares.{equal}
 use Rattle.hw_net.proofs.Walks.{wires-with}
@@ -199,6 +199,8 @@ call-nears lane (session.sent at bytes text full answers) calls bound bound_afte
     let same = stays lane before after (sends-keep at before.moment bytes text before after answers d.0) d.0.1 d.0.2 in omega (arith, same)
 call-nears lane (session.shut at answers) calls bound bound_after before after below d =
     let same = stays lane before after (shuts-keep at before.moment before after answers d.0) d.0.1 d.0.2 in omega (arith, same)
+call-nears lane (session.wrote at answers) calls bound bound_after before after below d =
+    let same = stays lane before after (writes-keep at before.lanes after.lanes answers d.0.0) d.0.1 d.0.2 in omega (arith, same)
 
 calls-near : (lane : ℕ) (calls : List Call) (bound bound_after : ℕ) (before after : DoorState) → lane < 2 ^ 64 → AllPassOver lane calls bound bound_after before after →
     away lane after + nexts calls ≤ away lane before + 65 * arrivals calls

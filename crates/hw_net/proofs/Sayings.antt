@@ -5,7 +5,7 @@ use Rattle.hw_door.specs.Traffic.{Answer, was_shut}
 use Rattle.hw_net.specs.declared.input.Input.{Input}
 use Rattle.hw_net.specs.Trace.{Tells}
 use Rattle.hw_net.specs.Lane.{Lane, waits, after_end, after_hearing, after_message, full_after_write}
-use Rattle.hw_net.specs.Saying.{Writes, WritesOut, Says, SaysMore, IsLaneStill, must_end}
+use Rattle.hw_net.specs.Saying.{Writes, WritesOut, Says, GathersOrSays, IsLaneStill, must_end}
 use Rattle.hw_net.specs.Turn.{Hears, Settles, Loses, TurnsLive, Puts, Sends}
 use Rattle.hw_net.proofs.Telling.{tells-more, tells-none}
 use Rattle.hw_net.proofs.Writings.{HasDone, writes-both, writes-first, left-of-failed}
@@ -52,9 +52,9 @@ said-stays a b before written mid whole h still same e must =
     } in
     (h.0, h.1, subst (λ (l : Lane). WritesOut before l h.0) (sym e) writes)
 
--- a message was added, what waits was written, and the message counts
+-- a message was added, what waits is gathered or was written, and the message counts
 pub sent-more : (a b : Option (List Answer)) (now : ℕ) (bytes : List ℕ) (text : Bool) (before mid said after : Lane) → Puts bytes text before mid true →
-    ((answers : List Answer) × Tells a b answers × SaysMore mid said answers) → after ≡ after_message now said →
+    ((answers : List Answer) × Tells a b answers × GathersOrSays mid said answers) → after ≡ after_message now said →
     (answers : List Answer) × Tells a b answers × Sends now bytes text before after answers
 sent-more a b now bytes text before mid said after put h e = (h.0, h.1, (mid, true, put, (said, h.2, e)))
 

@@ -1,5 +1,5 @@
 -- In a session a lane that became a WebSocket carries a fresh one, call by call.
-use Rattle.std.proofs.Common.{◌≡◌, ◌==◌, ◌&&◌, ◌++◌, ◌∷◌, [], ℕ, Bool, true, false, if◌then◌else◌, List, Option, None, Some, refl, sym, ap, ◌∙◌, subst, inl, inr, append-nil, append_assoc, length}
+use Rattle.std.proofs.Common.{◌≡◌, ◌==◌, ◌&&◌, ◌++◌, ◌∷◌, [], ℕ, Bool, true, false, if◌then◌else◌, List, Option, None, Some, refl, sym, ap, ◌∙◌, subst, ◌⊎◌, inl, inr, append-nil, append_assoc, length}
 use Rattle.hw_lanes.specs.declared.http.Reply.{Reply}
 use Rattle.hw_lanes.specs.declared.http.Request.{Request}
 use Rattle.hh_http.specs.Asks.{Asks}
@@ -24,13 +24,14 @@ use Rattle.hw_net.specs.declared.protocol.Stage.TheVariants.{Live, Lost, Closing
 use Rattle.hw_net.specs.HttpState.{HttpStateView, requests_of}
 use Rattle.hw_net.specs.Door.{new_lane}
 use Rattle.hw_net.specs.Lane.{Lane, waits, frames_of, is_live, is_busy, owes, is_overdue, after_reply, protocol_after_shut, protocol_after_reply, new_socket, rest_of, after_hearing}
-use Rattle.hw_net.specs.Saying.{WritesOut, DropsOrWrites, SpeaksAs, Says, SaysAt, SaysMore, must_end, has_closed_long, is_too_much}
+use Rattle.hw_net.specs.Saying.{WritesOut, DropsOrWrites, SpeaksAs, Says, SaysAt, SaysMore, GathersOrSays, must_end, has_closed_long, is_too_much}
 use Rattle.hw_net.specs.Sessions as session
 use Rattle.hw_net.specs.Sessions.{Call, Session, answers_in, answers_of, requests_on, replies_on, continue_of, message_on, messages_on, IsCarried, CarriesSocket, SocketsAreCarried}
 use Rattle.hw_net.specs.WebSocketState.{WebSocketState, Gets}
 use Rattle.hw_net.specs.Trace.{Chooses, bytes_of}
 use Rattle.hw_net.specs.Turn.{Hears, Falls, Passes, Settles, Loses, LosesAt, TurnsLive, TurnsAt, Listens, Replies, Puts, PutsAt, Sends, Shuts}
-use Rattle.hw_net.proofs.Asked.{HeardIn, IsAsked, step-asked, new-asked, requests_by, requests-more, requests_in, settles-requests, loses-requests, heard-requests, gives-bytes, live-reads, settles-silent, says-silent, read-more, replies-silent, sends-silent, shuts-silent}
+use Rattle.hw_net.proofs.Asked.{HeardIn, IsAsked, step-asked, new-asked, requests_by, requests-more, requests_in, settles-requests, loses-requests, heard-requests, gives-bytes, live-reads, settles-silent, says-silent, bystander-silent, read-more, replies-silent, sends-silent, shuts-silent}
+use Rattle.hw_net.proofs.Bystanders.{SaysOrStays, Stays, gathered-says}
 use Rattle.hw_net.proofs.Counting.{Lives, writes-live, dropped-or-live}
 use Rattle.hw_net.proofs.Ends.{dead}
 use Rattle.hw_net.proofs.Fullness.{by-fullness, SaysPut}
@@ -234,6 +235,16 @@ says-glide now x y mine h = go x.stage h where
 more-glide : (x y : Lane) (mine : List Answer) → SaysMore x y mine → Glides x y mine
 more-glide x y mine h = dropped-or-glide (is_too_much (length (waits x))) x y mine h
 
+bystander-glide : (now : ℕ) (x y : Lane) (mine : List Answer) → SaysOrStays now x y mine → Glides x y mine
+bystander-glide now x y mine (inl h) = says-glide now x y mine h
+bystander-glide now x y mine (inr h) = same-glides x y mine h.1 h.0
+
+gathered-glide : (x y : Lane) (mine : List Answer) → GathersOrSays x y mine → Glides x y mine
+gathered-glide x y mine h = go (gathered-says x y mine h) where
+  go : SaysMore x y mine ⊎ Stays x y mine → Glides x y mine
+  go (inl k) = more-glide x y mine k
+  go (inr k) = same-glides x y mine k.1 k.0
+
 -- ---- hearing
 
 abbrev messages_of : Input → List (List ℕ)
@@ -432,7 +443,7 @@ heeds-bear now what x y mine (inl h) =
     (subst (λ (l : List (List ℕ)). Bears x y mine (requests_in x.wire h.0) l (session.refusal_on x.wire what)) (sym (heard-messages x.wire h.0 what h.2))
     (subst (λ (l : List Reply). Bears x y mine (requests_in x.wire h.0) (messages_in x.wire h.0) l) (sym (heard-refusals x.wire h.0 what h.2)) (listens-bear now x y mine h.0 h.1)))
 heeds-bear now what x y mine (inr h) =
-    glides-bear x y mine (session.request_on x.wire what) (message_on x.wire what) (session.refusal_on x.wire what) (says-glide now x y mine h.0) ((says-silent now x y mine h.0).0 x.wire)
+    glides-bear x y mine (session.request_on x.wire what) (message_on x.wire what) (session.refusal_on x.wire what) (bystander-glide now x y mine h.0) ((bystander-silent now x y mine h.0).0 x.wire)
     (unrequested x.wire what h.1) (unheard x.wire what h.1) (unrefused x.wire what h.1)
 
 -- ---- saying
@@ -507,7 +518,7 @@ sends-glide now bytes text x y mine h from written requests messages replies b =
       let put = put-borne (is_live x.stage) x.protocol bytes text x mid c refl p from written requests messages replies b in
       subst (λ n. IsBorne from (written ++ written_on n mine) requests messages replies y) (put-wire (is_live x.stage) x.protocol bytes text x mid c p) (rest c s put) where
         rest : (c : Bool) → SaysPut now c mid y mine → IsBorne from written requests messages replies mid → IsBorne from (written ++ written_on mid.wire mine) requests messages replies y
-        rest true s put = subst (λ (l : Lane). IsBorne from (written ++ written_on mid.wire mine) requests messages replies l) (sym s.2) (more-glide mid s.0 mine s.1 from written requests messages replies put)
+        rest true s put = subst (λ (l : Lane). IsBorne from (written ++ written_on mid.wire mine) requests messages replies l) (sym s.2) (gathered-glide mid s.0 mine s.1 from written requests messages replies put)
         rest false s put = same-glides mid y mine s.0 s.1 from written requests messages replies put
 
 shut-borne : (x : Lane) (protocol : Protocol) (from written : List ℕ) (requests : List Request) (messages : List (List ℕ)) (replies : List Reply) → Borne (is_live x.stage) from (written ++ (x.out ++ frames_of protocol)) requests messages replies protocol →
@@ -536,6 +547,7 @@ messages-more wire (session.heard what answers) calls = refl
 messages-more wire (session.replied lane reply answers) calls = sym (append-nil (messages_on wire calls))
 messages-more wire (session.sent lane bytes text full answers) calls = sym (append-nil (messages_on wire calls))
 messages-more wire (session.shut lane answers) calls = sym (append-nil (messages_on wire calls))
+messages-more wire (session.wrote lane answers) calls = sym (append-nil (messages_on wire calls))
 
 -- what a lane heard and said before, it does after a call with what this adds
 abbrev BearsAt : Lane → Lane → List Answer → List ℕ → List ℕ → List Request → List (List ℕ) → List Reply → List Request → List (List ℕ) → List Reply → Type 0
@@ -567,6 +579,8 @@ moves-bear (session.shut at answers) x y from written requests messages replies 
     by-number at (Shuts h.0) x y (share x.wire answers) (λ c. BearsAt x y (share x.wire answers) from written requests messages replies [] [] [])
     (λ s. glides-bear x y (share x.wire answers) [] [] [] (shuts-glide h.0 x y (share x.wire answers) s) ((shuts-silent h.0 x y (share x.wire answers) s).0 x.wire) refl refl refl from written requests messages replies b)
     (λ e f. glides-bear x y (share x.wire answers) [] [] [] (same-glides x y (share x.wire answers) f e) (ap (λ l. read_on x.wire l) f) refl refl refl from written requests messages replies b) h.1
+moves-bear (session.wrote at answers) x y from written requests messages replies h asks wrote b =
+    glides-bear x y (share x.wire answers) [] [] [] (bystander-glide 0 x y (share x.wire answers) h) ((bystander-silent 0 x y (share x.wire answers) h).0 x.wire) refl refl refl from written requests messages replies b
 
 abbrev BorneAt : ℕ → List Call → Lane → Type 0
 BorneAt wire calls lane = IsBorne (read_on wire (answers_of calls)) (written_on wire (answers_of calls)) (requests_on wire calls) (messages_on wire calls) (replies_on wire calls) lane

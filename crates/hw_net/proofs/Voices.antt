@@ -1,5 +1,5 @@
 -- In a session what was written on a lane's wire, and then what waits, is what was said there.
-use Rattle.std.proofs.Common.{◌≡◌, ◌==◌, ◌&&◌, ◌||◌, not, ◌++◌, ◌∷◌, [], ℕ, Bool, true, false, if◌then◌else◌, List, Option, None, Some, refl, sym, ap, ◌∙◌, subst, inl, inr, append-nil, append_assoc, length}
+use Rattle.std.proofs.Common.{◌≡◌, ◌==◌, ◌&&◌, ◌||◌, not, ◌++◌, ◌∷◌, [], ℕ, Bool, true, false, if◌then◌else◌, List, Option, None, Some, refl, sym, ap, ◌∙◌, subst, ◌⊎◌, inl, inr, append-nil, append_assoc, length}
 use Rattle.hw_lanes.specs.declared.http.Reply.{Reply}
 use Rattle.hh_http.specs.Texts.{continue_text, reply_text}
 use Rattle.hw_door.specs.declared.heard.Event.{Event}
@@ -16,7 +16,7 @@ use Rattle.hw_net.specs.declared.protocol.Stage.TheVariants.{Live, Lost, Closing
 use Rattle.hw_net.specs.Door.{new_lane}
 use Rattle.hw_net.specs.HttpState.{HttpStateView}
 use Rattle.hw_net.specs.Lane.{Lane, waits, frames_of, is_live, owes, is_overdue, refusal_of, after_end, after_reply, protocol_after_shut, protocol_after_reply, new_socket, rest_of, says_continue, protocol_after_continue, out_after_continue, after_hearing}
-use Rattle.hw_net.specs.Saying.{Writes, WritesOut, DropsOrWrites, SpeaksAs, Says, SaysAt, SaysMore, must_end, has_closed_long, is_too_much}
+use Rattle.hw_net.specs.Saying.{Writes, WritesOut, DropsOrWrites, SpeaksAs, Says, SaysAt, SaysMore, GathersOrSays, must_end, has_closed_long, is_too_much}
 use Rattle.hw_net.specs.Sessions as session
 use Rattle.hw_net.specs.Sessions.{Call, Session, answers_in, answers_of, refusal_on, replies_on, continue_of, AreTextsOf, WroteReplies, RepliesAreWritten}
 use Rattle.hw_net.specs.WebSocketState.{WebSocketState, Gets}
@@ -24,6 +24,7 @@ use Rattle.hw_net.specs.Trace.{Reads, Gives, Chooses, bytes_of}
 use Rattle.hw_net.specs.Turn.{Hears, Falls, Passes, Settles, Loses, LosesAt, TurnsLive, TurnsAt, Listens, Replies, Puts, PutsAt, Sends, Shuts}
 use Rattle.hw_net.proofs.Appends.{Grows, grows-none, grows-on, takes-grows, feeds-grows, shut-grows, says-grows}
 use Rattle.hw_net.proofs.Ends.{dead}
+use Rattle.hw_net.proofs.Bystanders.{SaysOrStays, Stays, gathered-says}
 use Rattle.hw_net.proofs.Fullness.{by-fullness, SaysPut}
 use Rattle.hw_net.proofs.Moves.{ActsAt, has-of}
 use Rattle.hw_net.proofs.Numbering.{replied-wire, put-wire}
@@ -105,6 +106,16 @@ says-pour now before after answers h = go before.stage h where
 
 more-pour : (before after : Lane) (answers : List Answer) → SaysMore before after answers → Pours before after answers
 more-pour before after answers h = dropped-or-pour (is_too_much (length (waits before))) before after answers h
+
+bystander-pour : (now : ℕ) (before after : Lane) (answers : List Answer) → SaysOrStays now before after answers → Pours before after answers
+bystander-pour now before after answers (inl h) = says-pour now before after answers h
+bystander-pour now before after answers (inr h) = same-pours before after answers h.1 h.0
+
+gathered-pour : (before after : Lane) (answers : List Answer) → GathersOrSays before after answers → Pours before after answers
+gathered-pour before after answers h = go (gathered-says before after answers h) where
+  go : SaysMore before after answers ⊎ Stays before after answers → Pours before after answers
+  go (inl k) = more-pour before after answers k
+  go (inr k) = same-pours before after answers k.1 k.0
 
 -- ---- frames and replies that are added
 
@@ -366,7 +377,7 @@ heard-refusals wire (Some trace) what h = ap (λ v. refusal_on wire v) h
 
 heeds-say : (now : ℕ) (what : Event) (x y : Lane) (mine : List Answer) → Heeds now what x y mine → SaysIn x y mine (refusal_on x.wire what)
 heeds-say now what x y mine (inl h) = subst (λ (l : List Reply). SaysIn x y mine l) (sym (heard-refusals x.wire h.0 what h.2)) (listens-say now x y mine h.0 h.1)
-heeds-say now what x y mine (inr h) = pours-say x y mine (refusal_on x.wire what) (says-pour now x y mine h.0) (unrefused x.wire what h.1)
+heeds-say now what x y mine (inr h) = pours-say x y mine (refusal_on x.wire what) (bystander-pour now x y mine h.0) (unrefused x.wire what h.1)
 
 -- ---- saying
 
@@ -417,7 +428,7 @@ sends-pour now bytes text x y mine h written replies v = go h.0 h.1 h.2 h.3 wher
       let put = put-voiced (is_live x.stage) x.protocol bytes text x mid b refl p written replies v in
       subst (λ n. IsVoiced (written ++ written_on n mine) replies y) (put-wire (is_live x.stage) x.protocol bytes text x mid b p) (rest b s put) where
         rest : (b : Bool) → SaysPut now b mid y mine → IsVoiced written replies mid → IsVoiced (written ++ written_on mid.wire mine) replies y
-        rest true s put = subst (λ (l : Lane). IsVoiced (written ++ written_on mid.wire mine) replies l) (sym s.2) (more-pour mid s.0 mine s.1 written replies put)
+        rest true s put = subst (λ (l : Lane). IsVoiced (written ++ written_on mid.wire mine) replies l) (sym s.2) (gathered-pour mid s.0 mine s.1 written replies put)
         rest false s put = same-pours mid y mine s.0 s.1 written replies put
 
 shut-voiced : (protocol : Protocol) (written out : List ℕ) (replies : List Reply) → Voiced (written ++ (out ++ frames_of protocol)) replies protocol → Voiced (written ++ (out ++ frames_of (protocol_after_shut protocol))) replies (protocol_after_shut protocol)
@@ -446,6 +457,7 @@ moves-say (session.sent at bytes text full answers) x y h =
 moves-say (session.shut at answers) x y h =
     by-number at (Shuts h.0) x y (share x.wire answers) (λ b. SaysIn x y (share x.wire answers) [])
     (λ s. pours-say x y (share x.wire answers) [] (shuts-pour h.0 x y (share x.wire answers) s) refl) (λ e f. pours-say x y (share x.wire answers) [] (same-pours x y (share x.wire answers) f e) refl) h.1
+moves-say (session.wrote at answers) x y h = pours-say x y (share x.wire answers) [] (bystander-pour 0 x y (share x.wire answers) h) refl
 
 pub written-more : (wire : ℕ) (calls : List Call) (call : Call) → written_on wire (answers_of (call ∷ calls)) ≡ written_on wire (answers_of calls) ++ written_on wire (share wire (answers_in call))
 written-more wire calls call = written-append wire (answers_of calls) (answers_in call) ∙ ap (λ l. written_on wire (answers_of calls) ++ l) (written-share wire (answers_in call))

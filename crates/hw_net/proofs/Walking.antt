@@ -1,7 +1,8 @@
 -- Walks over the lanes of some places, put together from their parts.
-use Rattle.std.proofs.Common.{◌≡◌, ◌<◌, ◌≤◌, ◌+◌, ◌-◌, ◌++◌, ◌∷◌, [], ℕ, zero, suc, Bool, true, false, ◌||◌, List, Option, None, Some, Result, Ok, Err, IfOk, refl, sym, ap, ◌∙◌, subst, append_assoc, arith, length, take, drop, set, get_or, ltb}
+use Rattle.std.proofs.Common.{◌≡◌, ◌<◌, ◌≤◌, ◌+◌, ◌-◌, ◌++◌, ◌∷◌, [], ℕ, zero, suc, Bool, true, false, ◌||◌, List, Option, None, Some, Result, Ok, Err, IfOk, refl, sym, ap, ◌∙◌, subst, append_assoc, arith, length, take, drop, set, get_or, ltb, Contains}
 use Rattle.std.proofs.lemmas.List.{append-nil, length-drop, length-map, get_or-drop, take_more, take_more_set, take_all, take-take, take-set-le, drop_more, drop-drop, drop-set-lt, drop-set-add, drop-take, take-append-drop, nil_from_length, set-get_or}
-use Rattle.std.specs.Int.{from_bool}
+use Rattle.std.specs.List.{All}
+use Rattle.std.proofs.lemmas.List.Elements.{All-drop, All-head, All-tail, All-take, Contains-get_or}
 use Rattle.hw_door.specs.declared.heard.Event.{Event}
 use Rattle.hw_door.specs.Traffic.{Answer}
 use Rattle.hw_net.specs.declared.first_read.FirstRead.{FirstRead}
@@ -16,8 +17,8 @@ use Rattle.hw_net.specs.FirstReads.{ReadsFirst, ReadsFirstAt}
 use Rattle.hw_net.specs.declared.full.Fullness.{Fullness}
 use Rattle.hw_net.specs.Lane.{Lane, waits, wires_of, full_after_write}
 use Rattle.hw_net.specs.Lanes.{DoesHere}
-use Rattle.hw_net.specs.Saying.{WritesOut, Says, SaysAt, SpeaksAs, must_end}
-use Rattle.hw_net.specs.Tally.{has_unwritten, has_unwritten_by, tally_of}
+use Rattle.hw_net.specs.Saying.{WritesOut, Says, SaysAt, SaysIfEnded, SaysIfEndedAt, SpeaksAs, must_end}
+use Rattle.hw_net.specs.Tally.{has_unwritten, has_unwritten_by, is_closing}
 use Rattle.hw_net.specs.Trace.{Tells}
 use Rattle.hw_net.specs.Turn.{Listens, Turns, TurnAll}
 use Rattle.hw_net.specs.Walks.{Walks, Speak, between}
@@ -140,9 +141,9 @@ walks-still a b c now begin index all cur buf first_look le within inside listen
     let same : set cur index lane ≡ cur = ap (λ (l : Lane). set cur index l) (sym look.2.1) ∙ set-get_or cur index lane in
     (h.0 ++ look.0, tells-more a b c h.0 look.0 h.1 look.1, subst (λ (l : List Lane). Walks now None begin (index + 1) all l (h.0 ++ look.0) None) same walked)
 
--- and of lanes that write what waits
+-- and of lanes that write what waits, if they are heard no more
 pub speaks-here : (a b c : Option (List Answer)) (now begin index : ℕ) (all cur after : List Lane) → begin ≤ index → index < length all → index < length cur →
-    ((answers : List Answer) × Tells a b answers × Speak now begin index all cur answers) → ((answers : List Answer) × Tells b c answers × DoesHere index (Says now) cur after answers) →
+    ((answers : List Answer) × Tells a b answers × Speak now begin index all cur answers) → ((answers : List Answer) × Tells b c answers × DoesHere index (SaysIfEnded now) cur after answers) →
     (answers : List Answer) × Tells a c answers × Speak now begin (index + 1) all after answers
 speaks-here a b c now begin index all cur after le within inside h k = (
   h.0 ++ k.0,
@@ -283,32 +284,28 @@ silent now lane e = go lane.stage e refl where
   go Closing e is = absurd (never e)
   go Over e is = (refl, refl)
 
-nothing-unwritten : (b : Bool) → from_bool b ≤ 0 → b ≡ false
-nothing-unwritten true h = absurd (omega (arith, h))
-nothing-unwritten false h = refl
+-- one that doesn't close says nothing once another was heard
+pub still-unless-closing : (now : ℕ) (lane : Lane) → is_closing lane.stage ≡ false → SaysIfEnded now lane lane []
+still-unless-closing now lane e = go lane.stage e where
+  go : (s : Stage) → is_closing s ≡ false → SaysIfEndedAt s now lane lane []
+  go Live e = (refl, refl)
+  go Lost e = (refl, refl)
+  go Closing e = absurd (never e)
+  go Over e = (refl, refl)
 
--- lanes of which none lags take their turns and stay as they are
-silent-turns : (now : ℕ) (trace : Event) (lanes : List Lane) → (tally_of lanes).writers ≤ 0 → TurnAll now (Some trace) lanes lanes [] (Some trace)
+abbrev IsOpen : Lane → Type 0
+IsOpen lane = is_closing lane.stage ≡ false
+
+-- lanes of which none closes take their turns and stay as they are
+silent-turns : (now : ℕ) (trace : Event) (lanes : List Lane) → All IsOpen lanes → TurnAll now (Some trace) lanes lanes [] (Some trace)
 silent-turns now trace [] h = (refl, refl, refl)
 silent-turns now trace (lane ∷ lanes) h =
-    let lane_is : has_unwritten lane ≡ false = nothing-unwritten (has_unwritten lane) (omega (arith, h)) in
-    (Some trace, lane, lanes, [], [], refl, refl, (refl, silent now lane lane_is), silent-turns now trace lanes (omega (arith, h)))
+    (Some trace, lane, lanes, [], [], refl, refl, (refl, still-unless-closing now lane (All-head IsOpen lane lanes h)), silent-turns now trace lanes (All-tail IsOpen lane lanes h))
 
-fewer-after : (n : ℕ) (lanes : List Lane) → (tally_of (drop n lanes)).writers ≤ (tally_of lanes).writers
-fewer-after zero lanes = omega arith
-fewer-after (suc n) [] = omega arith
-fewer-after (suc n) (lane ∷ lanes) = omega (arith, fewer-after n lanes)
-
-fewer-before : (n : ℕ) (lanes : List Lane) → (tally_of (take n lanes)).writers ≤ (tally_of lanes).writers
-fewer-before zero lanes = omega arith
-fewer-before (suc n) [] = omega arith
-fewer-before (suc n) (lane ∷ lanes) = omega (arith, fewer-before n lanes)
-
-pub silent-walk : (now begin end : ℕ) (lanes : List Lane) → ltb 0 (tally_of lanes).writers ≡ false → Speak now begin end lanes lanes []
-silent-walk now begin end lanes e trace =
-    let none : (tally_of lanes).writers ≡ 0 = nothing-waits (tally_of lanes).writers e in
-    let few : (tally_of (between begin end lanes)).writers ≤ 0 = omega (arith, none, fewer-after begin lanes, fewer-before (end - begin) (drop begin lanes)) in
-    record { front = refl; back = refl; turns = silent-turns now trace (between begin end lanes) few }
+pub silent-walk : (now begin end : ℕ) (lanes : List Lane) → ((lane : Lane) → Contains lanes lane → is_closing lane.stage ≡ false) → Speak now begin end lanes lanes []
+silent-walk now begin end lanes none trace =
+    let all : All IsOpen lanes = λ k d lt. none (get_or lanes k d) (Contains-get_or lanes k d lt) in
+    record { front = refl; back = refl; turns = silent-turns now trace (between begin end lanes) (All-take IsOpen (end - begin) (drop begin lanes) (All-drop IsOpen begin lanes all)) }
 
 -- ---- parts of a call on wires, put together
 
@@ -336,13 +333,3 @@ pub hears-or-fails : {E : Type 0} (a b c : Option (List Answer)) (now from index
     IfOk r (λ heard. (answers : List Answer) × Tells a c answers × HearsAll now from all after answers heard)
 hears-or-fails a b c now from index all cur after (Ok heard) here same h k = hears-both a b c now from index all cur after None heard here same h k
 hears-or-fails a b c now from index all cur after (Err why) here same h k = k
-
--- a lane on which nothing waits, where it stands
-pub says-nothing : (now : ℕ) (lanes : List Lane) (index : ℕ) (lane : Lane) → get_or lanes index lane ≡ lane → has_unwritten lane ≡ false → DoesHere index (Says now) lanes lanes []
-says-nothing now lanes index lane found e = record {
-  lane = lane;
-  next = lane;
-  at = found;
-  order = sym (ap (λ (l : Lane). set lanes index l) (sym found) ∙ set-get_or lanes index lane);
-  does = silent now lane e;
-}

@@ -8,13 +8,14 @@ use Rattle.hw_door.specs.Traffic.{Answer, polled, accepted}
 use Rattle.hw_net.specs.Door.{DoorState, HearsNext, IsNumbered, kept, time_to_wait, with_accepted, new_lane, is_full_at}
 use Rattle.hw_net.specs.Lane.{Lane, wires_of, refusal_of, is_full}
 use Rattle.hw_net.specs.Rising.{IsRising}
-use Rattle.hw_net.specs.Saying.{Says}
-use Rattle.hw_net.specs.Sessions.{Call, heard, replied, sent, shut, Does, Session, answers_in, answers_of, request_on, requests_on, message_on, messages_on, is_request_on, is_owed_on, refusal_on, replies_on, was_shut_in, came_in, is_drained_on, was_full_on}
+use Rattle.hw_net.specs.Saying.{WritesIfLive}
+use Rattle.hw_net.specs.Sessions.{Call, heard, replied, sent, shut, wrote, Does, Session, answers_in, answers_of, request_on, requests_on, message_on, messages_on, is_request_on, is_owed_on, refusal_on, replies_on, was_shut_in, came_in, is_drained_on, was_full_on}
 use Rattle.hw_net.specs.Trace.{Chooses}
 use Rattle.hw_net.specs.Turn.{Listens, Replies, Sends, Shuts}
+use Rattle.hw_net.proofs.Bystanders.{SaysOrStays, live-says}
 use Rattle.hw_net.proofs.Moves.{Has, Without, AreDistinct, same-wire, IsOff, Fits, Turned, TurnedIn, Sweeps, sweeps, hears-wires, EachKeeps, ActsAt, Spreads, spreads, has-part, has-kept, rising-distinct, rising-without}
-use Rattle.hw_net.proofs.Numbering.{numbers-rise, replies-keep, sends-keep, shuts-keep}
-use Rattle.hw_net.proofs.Owning.{is_on, says-keeps, listens-keeps, replies-keeps, sends-keeps, shuts-keeps}
+use Rattle.hw_net.proofs.Numbering.{numbers-rise, writes-keep, replies-keep, sends-keep, shuts-keep}
+use Rattle.hw_net.proofs.Owning.{is_on, bystander-keeps, live-writes-keeps, listens-keeps, replies-keeps, sends-keeps, shuts-keeps}
 use Rattle.hw_net.proofs.Shares.{share, share-append, came-append, equal, same, turned}
 
 -- what a lane hears is the event, and if it hears nothing, the event isn't on it
@@ -22,10 +23,10 @@ abbrev pub IsHeard : ℕ → Option Event → Event → Type 0
 IsHeard wire None what = is_on wire what ≡ false
 IsHeard wire (Some trace) what = what ≡ trace
 
--- a lane's part of a `next`: it listened, or it only wrote
+-- a lane's part of a `next`: it listened, or it only wrote, if it did anything
 abbrev pub Heeds : ℕ → Event → Lane → Lane → List Answer → Type 0
 Heeds now what x y mine =
-    ((own : Option Event) × Listens now x y mine own × IsHeard x.wire own what) ⊎ (Says now x y mine × (is_on x.wire what ≡ false))
+    ((own : Option Event) × Listens now x y mine own × IsHeard x.wire own what) ⊎ (SaysOrStays now x y mine × (is_on x.wire what ≡ false))
 
 -- a lane's part of a call
 abbrev pub Moves : Call → Lane → Lane → Type 0
@@ -34,6 +35,7 @@ Moves (replied lane reply answers) x y = (moment : ℕ) × ActsAt lane (Replies 
 Moves (sent lane bytes text full answers) x y =
     (moment : ℕ) × ActsAt lane (Sends moment bytes text) x y (share x.wire answers) × ((x.wire == lane) ≡ true → full ≡ is_full y)
 Moves (shut lane answers) x y = (moment : ℕ) × ActsAt lane (Shuts moment) x y (share x.wire answers)
+Moves (wrote lane answers) x y = SaysOrStays 0 x y (share x.wire answers)
 
 at-wire : (wire : ℕ) (Does : Lane → Lane → List Answer → Type 0) (x y : Lane) (mine : List Answer) → EachKeeps Does → ActsAt wire Does x y mine → y.wire ≡ x.wire
 at-wire wire Does x y mine each h = go (x.wire == wire) h where
@@ -44,10 +46,11 @@ at-wire wire Does x y mine each h = go (x.wire == wire) h where
 -- a lane keeps its number
 pub moves-wire : (call : Call) (x y : Lane) → Moves call x y → y.wire ≡ x.wire
 moves-wire (heard what answers) x y (inl h) = (listens-keeps what.now x y (share x.wire answers) h.0 h.1).0.0
-moves-wire (heard what answers) x y (inr h) = (says-keeps what.now x y (share x.wire answers) h.0).0
+moves-wire (heard what answers) x y (inr h) = (bystander-keeps what.now x y (share x.wire answers) h.0).0
 moves-wire (replied lane reply answers) x y h = at-wire lane (Replies h.0 reply) x y (share x.wire answers) (replies-keeps h.0 reply) h.1
 moves-wire (sent lane bytes text full answers) x y h = at-wire lane (Sends h.0 bytes text) x y (share x.wire answers) (sends-keeps h.0 bytes text) h.1
 moves-wire (shut lane answers) x y h = at-wire lane (Shuts h.0) x y (share x.wire answers) (shuts-keeps h.0) h.1
+moves-wire (wrote lane answers) x y h = (bystander-keeps 0 x y (share x.wire answers) h).0
 
 -- a call isn't heard on a lane, nor told that it is full
 abbrev pub IsElsewhere : ℕ → Call → Type 0
@@ -179,6 +182,13 @@ still-without wire w Does lanes after answers each spread e without y has =
     subst (λ n. (n == wire) ≡ false) (sym (at-wire wire Does p.0 y (share p.0.wire answers) each p.2))
     (subst (λ n. (p.0.wire == n) ≡ false) (sym (equal wire w e)) (without p.0 p.1))
 
+-- what a flush does on a lane
+wrote-at : (wire : ℕ) (x y : Lane) (mine : List Answer) → ActsAt wire WritesIfLive x y mine → SaysOrStays 0 x y mine
+wrote-at wire x y mine h = go (x.wire == wire) h where
+  go : (b : Bool) → Chooses b (WritesIfLive x y mine) ((y ≡ x) × (mine ≡ [])) → SaysOrStays 0 x y mine
+  go true h = live-says 0 x y mine h
+  go false h = inr h
+
 at-steps : (call : Call) (wire : ℕ) (Does : Lane → Lane → List Answer → Type 0) (answers : List Answer) (bound bound_after : ℕ) (before after : DoorState) → answers_in call ≡ answers →
     ((x y : Lane) → Has after.lanes y → ActsAt wire Does x y (share x.wire answers) → Moves call x y) → ((w : ℕ) → Without w before.lanes → IsElsewhere w call) → Spreads wire Does before.lanes after.lanes answers →
     IsRising 0 bound (wires_of before.lanes) → wires_of after.lanes ≡ wires_of before.lanes → bound_after ≡ bound → Steps call bound bound_after before after
@@ -213,6 +223,10 @@ steps (shut lane answers) bound bound_after before after d rise =
     at-steps (shut lane answers) lane (Shuts before.moment) answers bound bound_after before after refl (λ x y has k. (before.moment, k)) (λ w without. tt)
     (spreads lane (Shuts before.moment) before.lanes after.lanes answers (shuts-keeps before.moment) d.0.0 (rising-distinct 0 bound before.lanes rise))
     rise (shuts-keep lane before.moment before after answers d.0) d.1
+steps (wrote lane answers) bound bound_after before after d rise =
+    at-steps (wrote lane answers) lane WritesIfLive answers bound bound_after before after refl (λ x y has k. wrote-at lane x y (share x.wire answers) k) (λ w without. tt)
+    (spreads lane WritesIfLive before.lanes after.lanes answers live-writes-keeps d.0.0 (rising-distinct 0 bound before.lanes rise))
+    rise (writes-keep lane before.lanes after.lanes answers d.0.0) d.1
 
 pub rises : (calls : List Call) (bound : ℕ) (now : DoorState) → Session calls bound now → IsRising 0 bound (wires_of now.lanes)
 rises [] bound now h = subst (λ (d : DoorState). IsRising 0 bound (wires_of d.lanes)) (sym h) (omega arith)
@@ -286,18 +300,21 @@ untouched-owed wire (heard what answers) calls off e =
 untouched-owed wire (replied at reply answers) calls off e = ap (λ b. not (at == wire) && b) e ∙ and-false (not (at == wire))
 untouched-owed wire (sent at bytes text full answers) calls off e = e
 untouched-owed wire (shut at answers) calls off e = ap (λ b. not (at == wire) && b) e ∙ and-false (not (at == wire))
+untouched-owed wire (wrote at answers) calls off e = ap (λ b. not (was_shut_in wire answers) && b) e ∙ and-false (not (was_shut_in wire answers))
 
 untouched-requests : (wire : ℕ) (call : Call) (calls : List Call) → IsElsewhere wire call → requests_on wire calls ≡ [] → requests_on wire (call ∷ calls) ≡ []
 untouched-requests wire (heard what answers) calls off e = joined (requests_on wire calls) (request_on wire what.event) e (unrequested wire what.event off)
 untouched-requests wire (replied at reply answers) calls off e = e
 untouched-requests wire (sent at bytes text full answers) calls off e = e
 untouched-requests wire (shut at answers) calls off e = e
+untouched-requests wire (wrote at answers) calls off e = e
 
 untouched-messages : (wire : ℕ) (call : Call) (calls : List Call) → IsElsewhere wire call → messages_on wire calls ≡ [] → messages_on wire (call ∷ calls) ≡ []
 untouched-messages wire (heard what answers) calls off e = joined (messages_on wire calls) (message_on wire what.event) e (unheard wire what.event off)
 untouched-messages wire (replied at reply answers) calls off e = e
 untouched-messages wire (sent at bytes text full answers) calls off e = e
 untouched-messages wire (shut at answers) calls off e = e
+untouched-messages wire (wrote at answers) calls off e = e
 
 untouched-replies : (wire : ℕ) (call : Call) (calls : List Call) → IsElsewhere wire call → is_owed_on wire calls ≡ false → replies_on wire calls ≡ [] → replies_on wire (call ∷ calls) ≡ []
 untouched-replies wire (heard what answers) calls off owed e = joined (replies_on wire calls) (refusal_on wire what.event) e (unrefused wire what.event off)
@@ -306,6 +323,7 @@ untouched-replies wire (replied at reply answers) calls off owed e =
     (ap (λ b. if (at == wire) && b then reply ∷ [] else []) owed ∙ ap (λ b. if b then reply ∷ [] else []) (and-false (at == wire)))
 untouched-replies wire (sent at bytes text full answers) calls off owed e = e
 untouched-replies wire (shut at answers) calls off owed e = e
+untouched-replies wire (wrote at answers) calls off owed e = e
 
 untouched-full : (wire : ℕ) (call : Call) (calls : List Call) → IsElsewhere wire call → was_full_on wire calls ≡ false → was_full_on wire (call ∷ calls) ≡ false
 untouched-full wire (heard what answers) calls off e = ap (λ b. not (is_drained_on wire what.event) && b) e ∙ and-false (not (is_drained_on wire what.event))
@@ -315,6 +333,7 @@ untouched-full wire (sent at bytes text full answers) calls off e = go (at == wi
   go true off = off refl
   go false off = e
 untouched-full wire (shut at answers) calls off e = e
+untouched-full wire (wrote at answers) calls off e = e
 
 pub untouched : (calls : List Call) (bound : ℕ) (now : DoorState) (wire : ℕ) → Session calls bound now → bound ≤ wire → IsUntouched wire calls
 untouched [] bound now wire h le = record { answers = refl; requests = refl; messages = refl; replies = refl; owed = refl; full = refl }

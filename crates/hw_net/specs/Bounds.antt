@@ -6,8 +6,10 @@ use Rattle.hw_door.specs.Traffic.{Answer}
 use Rattle.hw_net.specs.declared.limits.TheConstants.{MOST_CLOSING, MOST_UNWRITTEN}
 use Rattle.hw_net.specs.declared.protocol.Stage.{Stage}
 use Rattle.hw_net.specs.declared.protocol.Stage.TheVariants.{Live, Lost, Closing, Over}
-use Rattle.hw_net.specs.Door.{DoorState, HearsNext, DoesAt}
-use Rattle.hw_net.specs.Lane.{Lane, waits}
+use Rattle.hw_net.specs.Door.{DoorState, DoesAt}
+use Rattle.hw_net.specs.Flushing.{FailsGathered, FlushesDoor, HaltsGathered, HearsGathered}
+use Rattle.hw_net.specs.Lane.{Lane, waits, wires_of}
+use Rattle.hw_net.specs.Rising.{Rise}
 use Rattle.hw_net.specs.Turn.{Replies, Sends, Shuts}
 
 -- the wire of a lane wasn't shut
@@ -29,11 +31,25 @@ EachIs Is (lane ∷ lanes) = Is lane × EachIs Is lanes
 abbrev pub AreWithin : List Lane → Type 0
 AreWithin lanes = EachIs IsWithin lanes
 
--- after each `next` no more waits than may, whatever did before it
+-- after each `next` no more waits than may, if so it was before
 abbrev pub NextIsWithin : Type 0
-NextIsWithin = (wait : ℕ) (before after : DoorState) (answers : List Answer) (heard : Heard) → HearsNext wait before after answers heard → AreWithin after.lanes
+NextIsWithin = (wait gathering gathering_after : ℕ) (before after : DoorState) (answers : List Answer) (heard : Heard)
+    → HearsGathered wait gathering before after answers heard gathering_after → AreWithin before.lanes → AreWithin after.lanes
 
--- the other calls keep it so
+-- one that fails keeps it so
+abbrev pub FailsAreWithin : Type 0
+FailsAreWithin = (wait gathering : ℕ) (before after : DoorState) (answers : List Answer)
+    → FailsGathered wait gathering before after answers → AreWithin before.lanes → AreWithin after.lanes
+
+-- One that is out of memory does too, if no number comes twice. What its cut turn put behind what waits may be too much, and then the last flush drops that.
+abbrev pub HaltsAreWithin : Type 0
+HaltsAreWithin = (wait gathering : ℕ) (before after : DoorState) (answers : List Answer)
+    → HaltsGathered wait gathering before after answers → Rise (wires_of after.lanes) → AreWithin before.lanes → AreWithin after.lanes
+
+-- the other calls keep it so too
+abbrev pub FlushesAreWithin : Type 0
+FlushesAreWithin = (before after : DoorState) (answers : List Answer) → FlushesDoor before after answers → AreWithin before.lanes → AreWithin after.lanes
+
 abbrev pub RepliesAreWithin : Type 0
 RepliesAreWithin = (lane now : ℕ) (reply : Reply) (before after : DoorState) (answers : List Answer) → DoesAt lane (Replies now reply) before after answers
     → AreWithin before.lanes → AreWithin after.lanes
@@ -52,5 +68,5 @@ IsInTime now lane = lane.stage ≡ Closing → now - lane.since < MOST_CLOSING
 
 -- so it is of each lane after each `next`, whatever did before it
 abbrev pub NextIsInTime : Type 0
-NextIsInTime = (wait : ℕ) (before after : DoorState) (answers : List Answer) (heard : Heard) → HearsNext wait before after answers heard
-    → EachIs (IsInTime heard.now) after.lanes
+NextIsInTime = (wait gathering gathering_after : ℕ) (before after : DoorState) (answers : List Answer) (heard : Heard)
+    → HearsGathered wait gathering before after answers heard gathering_after → EachIs (IsInTime heard.now) after.lanes

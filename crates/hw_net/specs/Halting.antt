@@ -11,6 +11,7 @@ use Rattle.hw_net.specs.declared.input.Input.{Input}
 use Rattle.hw_net.specs.declared.input.Input.TheVariants as input
 use Rattle.hw_net.specs.declared.protocol.Protocol.{Protocol}
 use Rattle.hw_net.specs.declared.protocol.Protocol.TheVariants.{Http, Socket}
+use Rattle.hw_net.specs.declared.protocol.Stage.TheVariants.{Live}
 use Rattle.hw_net.specs.Door.{DoorState, Begins, kept, time_to_wait, with_accepted, index_of_first}
 use Rattle.hw_net.specs.HttpState.{HttpStateView, room_of as http_room}
 use Rattle.hw_net.specs.Lane.{Lane, says_continue, after_hearing}
@@ -40,11 +41,11 @@ HaltsIn wire (Http before) (Http after) answers = HaltsHttp wire before after an
 HaltsIn wire (Socket before) (Socket after) answers = HaltsSocket wire before after answers
 HaltsIn wire _ _ answers = ⊥
 
--- A turn that memory cut short: nothing is written, and what waits still does, perhaps with a 100 behind it. The lane is as live as before.
+-- A turn of a live lane that memory cut short: nothing is written, and what waits still does, perhaps with a 100 behind it. The lane stays live.
 abbrev pub Halts : Lane → Lane → List Answer → Type 0
 Halts before after answers =
     (protocol : Protocol) × HaltsIn before.wire before.protocol protocol answers
-    × ((after ≡ record before { protocol = protocol }) ⊎ (after ≡ after_hearing protocol before))
+    × ((after ≡ record before { protocol = protocol }) ⊎ (after ≡ after_hearing protocol before)) × (before.stage ≡ Live)
 
 -- a 100 is to be said
 abbrev pub IsDue : Protocol → Type 0

@@ -6,6 +6,7 @@ pub mod WebSocketState
 pub mod Lane
 pub mod FirstReads
 pub mod Tally
+pub mod Writers
 pub mod Resting
 pub mod Lanes
 pub mod Rising
@@ -15,6 +16,7 @@ pub mod Turn
 pub mod Walks
 pub mod Door
 pub mod Halting
+pub mod Flushing
 pub mod Bounds
 pub mod Numbers
 pub mod Sessions

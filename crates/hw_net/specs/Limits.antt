@@ -9,6 +9,14 @@ piece = 4096
 abbrev pub most_unwritten : ℕ
 most_unwritten = 1048576
 
+-- what waits on a WebSocket lane is gathered only as long as it is less than this: 64 KiB
+abbrev pub most_gathered_bytes : ℕ
+most_gathered_bytes = 65536
+
+-- what waits is written before so many events are heard after it was said
+abbrev pub most_gathered : ℕ
+most_gathered = 32
+
 -- a WebSocket lane is full after a message if more bytes than this wait there to be written: 256 KiB
 abbrev pub most_before_full : ℕ
 most_before_full = 262144

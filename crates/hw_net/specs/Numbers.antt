@@ -3,6 +3,7 @@ use Rattle.std.specs.Prelude.{◌≡◌, ℕ, Bool, List}
 use Rattle.hw_lanes.specs.declared.http.Reply.{Reply}
 use Rattle.hw_door.specs.Traffic.{Answer}
 use Rattle.hw_net.specs.Door.{DoorState, KeepsLanes, DoesAt}
+use Rattle.hw_net.specs.Flushing.{FlushesDoor}
 use Rattle.hw_net.specs.Lane.{Lane, wires_of}
 use Rattle.hw_net.specs.Rising.{IsRising}
 use Rattle.hw_net.specs.Turn.{Replies, Sends, Shuts}
@@ -13,6 +14,9 @@ NumbersRise = (bound bound_after : ℕ) (before after : List Lane) → IsRising 
     → IsRising 0 bound_after (wires_of after)
 
 -- the other calls leave the numbers
+abbrev pub FlushesKeepNumbers : Type 0
+FlushesKeepNumbers = (before after : DoorState) (answers : List Answer) → FlushesDoor before after answers → wires_of after.lanes ≡ wires_of before.lanes
+
 abbrev pub RepliesKeepNumbers : Type 0
 RepliesKeepNumbers = (lane now : ℕ) (reply : Reply) (before after : DoorState) (answers : List Answer) → DoesAt lane (Replies now reply) before after answers
     → wires_of after.lanes ≡ wires_of before.lanes

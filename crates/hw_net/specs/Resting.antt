@@ -8,6 +8,8 @@ use Rattle.hw_net.specs.HttpState.{IsHttpState}
 use Rattle.hw_net.specs.Lane.{Lane, is_overdue}
 use Rattle.hw_net.specs.Tally.{tally_of}
 use Rattle.hw_net.specs.WebSocketState.{IsWebSocketState}
+use Rattle.hw_net.specs.Writers.{IsListOf}
+use Rattle.hw_net.specs.declared.writers.Writers.{Writers}
 
 -- what holds of all that lanes speak
 abbrev pub IsSound : Protocol → Type 0
@@ -20,7 +22,8 @@ pub record IsKnown (due : ℕ) (lane : Lane) : Type 0 where
   pub sound : IsSound lane.protocol
   pub in_time : (now : ℕ) → now < due → is_overdue now lane ≡ false
 
--- the lanes are counted, and none is overdue before this moment
-pub record AreKept (tally : Tally) (due : ℕ) (lanes : List Lane) : Type 0 where
+-- the lanes are counted, none is overdue before this moment, and those that have something to write are listed
+pub record AreKept (tally : Tally) (due : ℕ) (writers : Writers) (lanes : List Lane) : Type 0 where
   pub counted : tally ≡ tally_of lanes
   pub known : All (IsKnown due) lanes
+  pub listed : IsListOf writers lanes

@@ -1,7 +1,7 @@
 -- What a lane writes.
 use Rattle.std.specs.Prelude.{◌≡◌, ◌≢◌, ◌==◌, ◌||◌, ◌-◌, ℕ, Bool, true, false, not, nat_le, nat_lt, List, [], ◌∷◌, ◌++◌, length}
 use Rattle.hw_door.specs.Traffic.{Answer, bytes_out, write_failed, was_shut}
-use Rattle.hw_net.specs.declared.limits.TheConstants.{MOST_CLOSING, MOST_UNWRITTEN}
+use Rattle.hw_net.specs.declared.limits.TheConstants.{MOST_CLOSING, MOST_GATHERED_BYTES, MOST_UNWRITTEN}
 use Rattle.hw_net.specs.declared.protocol.Protocol.{Protocol}
 use Rattle.hw_net.specs.declared.protocol.Protocol.TheVariants.{Http, Socket}
 use Rattle.hw_net.specs.declared.protocol.Stage.{Stage}
@@ -76,6 +76,30 @@ SaysAt Over now before after answers = (answers ≡ []) × (after ≡ before)
 abbrev pub Says : ℕ → Lane → Lane → List Answer → Type 0
 Says now before after answers = SaysAt before.stage now before after answers
 
+-- a lane in a call that heard another: what waits on a live one still does
+abbrev pub SaysIfEndedAt : Stage → ℕ → Lane → Lane → List Answer → Type 0
+SaysIfEndedAt Live now before after answers = (answers ≡ []) × (after ≡ before)
+SaysIfEndedAt stage now before after answers = SaysAt stage now before after answers
+
+abbrev pub SaysIfEnded : ℕ → Lane → Lane → List Answer → Type 0
+SaysIfEnded now before after answers = SaysIfEndedAt before.stage now before after answers
+
 -- after more was added to what waits: if it is too much the wire is shut and the lane is lost, and else what waits is written
 abbrev pub SaysMore : Lane → Lane → List Answer → Type 0
 SaysMore before after answers = DropsOrWrites (is_too_much (length (waits before))) before after answers
+
+-- a lane in a flush: a live one writes what waits
+abbrev pub WritesIfLiveAt : Stage → Lane → Lane → List Answer → Type 0
+WritesIfLiveAt Live before after answers = WritesOut before after answers
+WritesIfLiveAt stage before after answers = (answers ≡ []) × (after ≡ before)
+
+abbrev pub WritesIfLive : Lane → Lane → List Answer → Type 0
+WritesIfLive before after answers = WritesIfLiveAt before.stage before after answers
+
+-- so little waits that it is gathered with what is said later
+abbrev pub is_gathered : ℕ → Bool
+is_gathered unwritten = nat_lt unwritten MOST_GATHERED_BYTES
+
+-- after a message was added to what waits: nothing is written yet if it is gathered, and else as after anything that is added
+abbrev pub GathersOrSays : Lane → Lane → List Answer → Type 0
+GathersOrSays before after answers = Chooses (is_gathered (length (waits before))) ((answers ≡ []) × (after ≡ before)) (SaysMore before after answers)

@@ -21,8 +21,9 @@ use Rattle.hw_net.specs.declared.protocol.Protocol.{Protocol}
 use Rattle.hw_net.specs.declared.protocol.Protocol.TheVariants.{Http, Socket}
 use Rattle.hw_net.specs.Bounds.{has_wire}
 use Rattle.hw_net.specs.Door.{DoorState, HearsNext, KeepsLanes, DoesAt, is_full_at}
+use Rattle.hw_net.specs.Flushing.{FlushesDoor, HearsGathered}
 use Rattle.hw_net.specs.Lane.{Lane, waits, is_full, is_live, refusal_of, is_overdue, is_stalled}
-use Rattle.hw_net.specs.Saying.{is_too_much}
+use Rattle.hw_net.specs.Saying.{WritesIfLive, is_too_much}
 use Rattle.hw_net.specs.Turn.{Replies, Sends, Shuts}
 
 -- a call that answered Ok, with what the wires answered in it
@@ -31,6 +32,8 @@ pub data Call : Type 0 where
   replied : ℕ → Reply → List Answer → Call
   sent : ℕ → List ℕ → Bool → Bool → List Answer → Call
   shut : ℕ → List Answer → Call
+  -- what waited on this lane was written: a call of `flush`, and one of `next` that flushes first, are several of these
+  wrote : ℕ → List Answer → Call
 
 -- what a call does to a door, and to the bound below which lie all numbers of wires that came
 abbrev pub Does : Call → ℕ → ℕ → DoorState → DoorState → Type 0
@@ -42,6 +45,8 @@ Does (sent lane bytes text full answers) bound bound_after before after =
     DoesAt lane (Sends before.moment bytes text) before after answers × (full ≡ is_full_at lane after.lanes) × (bound_after ≡ bound)
 Does (shut lane answers) bound bound_after before after =
     DoesAt lane (Shuts before.moment) before after answers × (bound_after ≡ bound)
+Does (wrote lane answers) bound bound_after before after =
+    DoesAt lane WritesIfLive before after answers × (bound_after ≡ bound)
 
 -- all calls of a door since it started, the latest first, and how they leave it
 abbrev pub Session : List Call → ℕ → DoorState → Type 0
@@ -56,6 +61,7 @@ answers_in (heard what answers) = answers
 answers_in (replied lane reply answers) = answers
 answers_in (sent lane bytes text full answers) = answers
 answers_in (shut lane answers) = answers
+answers_in (wrote lane answers) = answers
 
 -- in all calls, in order
 abbrev pub answers_of : List Call → List Answer
@@ -97,6 +103,28 @@ broke_in wire (ended at ∷ answers) = (at == wire) || broke_in wire answers
 broke_in wire (read_failed at ∷ answers) = (at == wire) || broke_in wire answers
 broke_in wire (write_failed at ∷ answers) = (at == wire) || broke_in wire answers
 broke_in wire (answer ∷ answers) = broke_in wire answers
+
+-- ---- what waits and is written later
+
+-- each of these calls writes on one lane what waits there
+abbrev pub AreWrites : List Call → Type 0
+AreWrites [] = ⊤
+AreWrites (wrote lane answers ∷ calls) = AreWrites calls
+AreWrites (_ ∷ calls) = ⊥
+
+-- a flush is such calls
+abbrev pub FlushesAreCalls : Type 0
+FlushesAreCalls =
+    (calls : List Call) (bound : ℕ) (before after : DoorState) (answers : List Answer) → Session calls bound before → FlushesDoor before after answers
+    → (writes : List Call) × AreWrites writes × Session (writes ++ calls) bound after × (answers_of (writes ++ calls) ≡ answers_of calls ++ answers)
+
+-- a call of `next` is such calls, or none, and then one that hears this
+abbrev pub NextIsCalls : Type 0
+NextIsCalls =
+    (calls : List Call) (bound bound_after wait gathering gathering_after : ℕ) (before after : DoorState) (answers : List Answer) (what : Heard)
+    → Session calls bound before → HearsGathered wait gathering before after answers what gathering_after → KeepsLanes bound bound_after before.lanes after.lanes
+    → (writes : List Call) × (last : List Answer) × AreWrites writes × Session (heard what last ∷ (writes ++ calls)) bound_after after
+    × (answers_of (heard what last ∷ (writes ++ calls)) ≡ answers_of calls ++ answers)
 
 -- ---- what was heard on a lane
 
@@ -146,6 +174,7 @@ is_owed_on lane (heard what answers ∷ calls) = not (was_shut_in lane answers) 
 is_owed_on lane (replied at reply answers ∷ calls) = not (at == lane) && is_owed_on lane calls
 is_owed_on lane (sent at bytes text full answers ∷ calls) = is_owed_on lane calls
 is_owed_on lane (shut at answers ∷ calls) = not (at == lane) && is_owed_on lane calls
+is_owed_on lane (wrote at answers ∷ calls) = not (was_shut_in lane answers) && is_owed_on lane calls
 
 -- the door's own reply to what is no request, if this is one of this lane
 abbrev pub refusal_on : ℕ → Event → List Reply

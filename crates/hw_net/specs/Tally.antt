@@ -6,7 +6,7 @@ use Rattle.hw_net.specs.declared.protocol.Protocol.TheVariants.{Http, Socket}
 use Rattle.hw_net.specs.declared.protocol.Stage.{Stage}
 use Rattle.hw_net.specs.declared.protocol.Stage.TheVariants.{Live, Lost, Closing, Over}
 use Rattle.hw_net.specs.declared.tally.Tally.{Tally}
-use Rattle.hw_net.specs.Lane.{Lane, waits, is_over, is_awake}
+use Rattle.hw_net.specs.Lane.{Lane, waits, is_live, is_over, is_awake}
 
 -- a lane may have something to write: its wire is there and something waits, or it is shut once nothing waits
 abbrev pub has_unwritten_by : Stage → ℕ → Bool
@@ -17,6 +17,17 @@ has_unwritten_by Over unwritten = false
 
 abbrev pub has_unwritten : Lane → Bool
 has_unwritten lane = has_unwritten_by lane.stage (length (waits lane))
+
+-- a live lane on which something waits to be written
+abbrev pub is_writer : Lane → Bool
+is_writer lane = is_live lane.stage && nat_lt 0 (length (waits lane))
+
+-- a lane that is heard no more, and whose wire is there until it has written what waits
+abbrev pub is_closing : Stage → Bool
+is_closing Live = false
+is_closing Lost = false
+is_closing Closing = true
+is_closing Over = false
 
 -- a live lane hears nothing but what comes: no 100 is due, or the WebSocket isn't gone and lost no bytes
 abbrev pub only_waits_by : Stage → Protocol → Bool
@@ -31,14 +42,15 @@ abbrev pub is_restless : Lane → Bool
 is_restless lane = is_awake lane || (has_unwritten lane || not (only_waits_by lane.stage lane.protocol))
 
 abbrev pub no_lanes : Tally
-no_lanes = record { over = 0; awake = 0; writers = 0; restless = 0 }
+no_lanes = record { over = 0; awake = 0; writers = 0; closing = 0; restless = 0 }
 
 -- one lane more
 abbrev pub with_lane : Lane → Tally → Tally
 with_lane lane tally = record {
   over = tally.over + from_bool (is_over lane.stage);
   awake = tally.awake + from_bool (is_awake lane);
-  writers = tally.writers + from_bool (has_unwritten lane);
+  writers = tally.writers + from_bool (is_writer lane);
+  closing = tally.closing + from_bool (is_closing lane.stage);
   restless = tally.restless + from_bool (is_restless lane);
 }
 
@@ -46,7 +58,8 @@ with_lane lane tally = record {
 pub record Has (lane : Lane) (tally : Tally) : Type 0 where
   pub over : from_bool (is_over lane.stage) ≤ tally.over
   pub awake : from_bool (is_awake lane) ≤ tally.awake
-  pub writers : from_bool (has_unwritten lane) ≤ tally.writers
+  pub writers : from_bool (is_writer lane) ≤ tally.writers
+  pub closing : from_bool (is_closing lane.stage) ≤ tally.closing
   pub restless : from_bool (is_restless lane) ≤ tally.restless
 
 -- one lane more can be counted
@@ -54,6 +67,7 @@ pub record HasRoom (tally : Tally) : Type 0 where
   pub over : tally.over + 1 < 2 ^ 64
   pub awake : tally.awake + 1 < 2 ^ 64
   pub writers : tally.writers + 1 < 2 ^ 64
+  pub closing : tally.closing + 1 < 2 ^ 64
   pub restless : tally.restless + 1 < 2 ^ 64
 
 -- that of these lanes

@@ -19,7 +19,7 @@ use Rattle.hw_net.specs.Trace.{Chooses}
 use Rattle.hw_net.specs.HttpState.{HearsHttp}
 use Rattle.hw_net.specs.WebSocketState.{HearsWebSocket}
 use Rattle.hw_net.specs.Lane.{Lane, is_live, is_drained, is_stalled, owes, is_overdue, refusal_of, protocol_after_shut, after_hearing, after_message, after_reply, after_turn}
-use Rattle.hw_net.specs.Saying.{WritesOut, Says, SaysMore}
+use Rattle.hw_net.specs.Saying.{WritesOut, Says, SaysIfEnded, SaysMore, GathersOrSays}
 
 -- ---- hearing
 
@@ -106,10 +106,10 @@ TurnsAt Over now before after answers heard = Passes before after answers None h
 abbrev pub Listens : ℕ → Lane → Lane → List Answer → Option Event → Type 0
 Listens now before after answers heard = TurnsAt before.stage now before after answers heard
 
--- a lane's turn in a call in which this was heard: once something was, it only writes
+-- a lane's turn in a call in which this was heard: once something was, it only writes, and that only if it is heard no more
 abbrev pub Turns : ℕ → Option Event → Lane → Lane → List Answer → Option Event → Type 0
 Turns now None before after answers heard = Listens now before after answers heard
-Turns now (Some trace) before after answers heard = (heard ≡ Some trace) × Says now before after answers
+Turns now (Some trace) before after answers heard = (heard ≡ Some trace) × SaysIfEnded now before after answers
 
 -- the turns of lanes, the first first
 abbrev pub TurnAll : ℕ → Option Event → List Lane → List Lane → List Answer → Option Event → Type 0
@@ -135,12 +135,12 @@ PutsAt false protocol bytes text before after is_put = (is_put ≡ false) × (af
 abbrev pub Puts : List ℕ → Bool → Lane → Lane → Bool → Type 0
 Puts bytes text before after is_put = PutsAt (is_live before.stage) before.protocol bytes text before after is_put
 
--- a lane is given a message at this moment: if that was added, what waits is written, and the lane is full if too much is left; and else
--- nothing is said
+-- a lane is given a message at this moment: if that was added, what waits is gathered or written, and the lane is full if too much is left; and
+-- else nothing is said
 abbrev pub Sends : ℕ → List ℕ → Bool → Lane → Lane → List Answer → Type 0
 Sends now bytes text before after answers =
     (mid : Lane) × (is_put : Bool) × Puts bytes text before mid is_put
-    × Chooses is_put ((said : Lane) × SaysMore mid said answers × (after ≡ after_message now said)) ((answers ≡ []) × (after ≡ mid))
+    × Chooses is_put ((said : Lane) × GathersOrSays mid said answers × (after ≡ after_message now said)) ((answers ≡ []) × (after ≡ mid))
 
 -- a live lane is shut at this moment: a WebSocket says that it ends, and the lane is heard no more
 abbrev pub Shuts : ℕ → Lane → Lane → List Answer → Type 0

@@ -19,7 +19,8 @@ pub record Walks (now : ℕ) (trace : Option Event) (begin end : ℕ) (before af
   pub back : drop end after ≡ drop end before
   pub turns : TurnAll now trace (between begin end before) (between begin end after) answers heard
 
--- the lanes of these places write what waits at this moment: so they do in any call in which something was heard
+-- Those of the lanes of these places that are heard no more write what waits at this moment, and the others stay as they are. So it is in any call in
+-- which something was heard.
 abbrev pub Speak : ℕ → ℕ → ℕ → List Lane → List Lane → List Answer → Type 0
 Speak now begin end before after answers = (trace : Event) → Walks now (Some trace) begin end before after answers (Some trace)
 

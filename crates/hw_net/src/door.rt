@@ -7,7 +7,8 @@ ghost use Rattle.hw_door.specs.declared.heard.Given.TheVariants as say;
 ghost use Rattle.hw_door.specs.Calls as calls;
 ghost use Rattle.hw_door.specs.Calls.{HasFaultCause, IsCaused, Hears, Says, IsLater};
 ghost use Rattle.hw_door.specs.Traffic.{Answer, polled, poll_failed, accepted, accept_failed, was_shut};
-ghost use Rattle.hw_net.specs.Door.{HearsNext, Searches, FailsNext, IsNumbered, KeepsLanes, DoesAt, HearsTurns, Begins, state_of, kept, time_to_wait, is_full_at, with_accepted, next_from, from_after};
+ghost use Rattle.hw_net.specs.Door.{HearsNext, Searches, FailsNext, IsNumbered, KeepsLanes, DoesAt, HearsTurns, Begins, state_of, kept, time_to_wait, is_full_at, lane_of, with_accepted, next_from, from_after};
+ghost use Rattle.hw_net.specs.Flushing.{FailsGathered, FlushesDoor, Gathers, HaltsGathered, HearsGathered};
 ghost use Rattle.hw_net.specs.Halting.{HaltsAll, HaltsNext};
 ghost use Rattle.hw_net.specs.Lane.{wires_of};
 ghost use Rattle.hw_net.specs.Rising.{IsRising};
@@ -16,7 +17,7 @@ ghost use Rattle.hw_net.specs.Turn.{Replies, Sends, Shuts};
 
 use crate::lane::NetLane;
 use crate::lanes::Lanes;
-use crate::limits::MOST_NAMED;
+use crate::limits::{MOST_GATHERED, MOST_NAMED, PIECE};
 use crate::turns::turn_from;
 use hw_door::{Door, DoorError, Event, Heard, Wires};
 use hw_lanes::Reply;
@@ -41,14 +42,22 @@ pub struct NetDoor<W: Wires + Drop> {
     from: u64,
     // How many searches in a row began with a lane that was named.
     named: u64,
-    // The wire that was named last, or 0.
-    last_named: u64,
+    // The wire that was heard last, or, if nothing was, the one with which a search began that was named. 0 before both.
+    last_wire: u64,
     moment: u64,
     faults: u64,
+    // How many calls of `next` in a row didn't flush before they heard.
+    gathering: u64,
+    // A message was sent since the last flush.
+    has_sent: bool,
+    // What wires are read into, kept because a new one would have to be cleared in each search.
+    buf: [u8; PIECE],
 }
 
 // The numbers of the lanes rise, and the wires answer no number again, so a lane is found by its number in few steps.
 impl<W: Wires + Drop> Model for NetDoor<W> {
+    ghost use Rattle.std.specs.Prelude.{◌<◌};
+    ghost use Rattle.hw_net.specs.declared.limits.TheConstants.{MOST_GATHERED};
     ghost use Rattle.hw_net.specs.Lane.{wires_of};
     ghost use Rattle.hw_net.specs.Parts.{DoorParts};
     ghost use Rattle.hw_net.specs.Rising.{IsRising};
@@ -62,9 +71,10 @@ impl<W: Wires + Drop> Model for NetDoor<W> {
       named = d.named;
       moment = d.moment;
       faults = d.faults;
+      gathering = d.gathering;
     } };
 
-    ghost invariant = { λ d. IsRising 0 (W.wires d.wires) (wires_of d.lanes.items) };
+    ghost invariant = { λ d. IsRising 0 (W.wires d.wires) (wires_of d.lanes.items) × (d.gathering < MOST_GATHERED) };
 }
 
 impl<W: Wires + Drop> NetDoor<W> {
@@ -73,6 +83,7 @@ impl<W: Wires + Drop> NetDoor<W> {
         ensures state { state_of result ≡ record { lanes = []; from = 0; named = 0; moment = 0 } }
         ensures wires { result.wires ≡ wires }
         ensures faults { result.faults ≡ 0 }
+        ensures gathering { result.gathering ≡ 0 }
     {
         NetDoor {
             alloc,
@@ -80,9 +91,12 @@ impl<W: Wires + Drop> NetDoor<W> {
             lanes: Lanes::start(alloc),
             from: 0,
             named: 0,
-            last_named: 0,
+            last_wire: 0,
             moment: 0,
             faults: 0,
+            gathering: 0,
+            has_sent: false,
+            buf: [0; PIECE],
         }
     }
 
@@ -111,6 +125,7 @@ impl<W: Wires + Drop> NetDoor<W> {
         ensures named { self.new.named ≡ self.old.named }
         ensures moment { self.new.moment ≡ self.old.moment }
         ensures faults { self.new.faults ≡ self.old.faults }
+        ensures gathering { self.new.gathering ≡ self.old.gathering }
     {
         self.lanes.clear();
     }
@@ -149,6 +164,7 @@ impl<W: Wires + Drop> NetDoor<W> {
         ensures from { self.new.from ≡ self.old.from }
         ensures named { self.new.named ≡ self.old.named }
         ensures moment { self.new.moment ≡ self.old.moment }
+        ensures gathering { self.new.gathering ≡ self.old.gathering }
         ensures cause { HasFaultCause self.old.faults self.new.faults result }
         ensures lanes { IfErr result (λ e. self.new.lanes.items ≡ self.old.lanes.items) }
         ensures bound { W.wires self.old.wires ≤ W.wires self.new.wires }
@@ -172,6 +188,7 @@ impl<W: Wires + Drop> NetDoor<W> {
         ensures named { self.new.named ≡ self.old.named }
         ensures moment { self.new.moment ≡ self.old.moment }
         ensures faults { self.new.faults ≡ self.old.faults }
+        ensures gathering { self.new.gathering ≡ self.old.gathering }
         ensures lanes { IfErr result (λ e. self.new.lanes.items ≡ self.old.lanes.items) }
         ensures bound { W.wires self.new.wires ≡ W.wires self.old.wires }
     {
@@ -200,20 +217,22 @@ impl<W: Wires + Drop> NetDoor<W> {
         ensures others_unchanged { self.new ≡ record self.old { named = self.new.named } }
     {
         if self.named < MOST_NAMED
-            && let Some(wire) = self.wires.ready_after(self.last_named)
+            && let Some(wire) = self.wires.ready_after(self.last_wire)
         {
             self.named += 1;
-            self.last_named = wire;
+            self.last_wire = wire;
             return wire;
         }
         self.named = 0;
         self.from
     }
 
-    /// What is remembered of this event: the lane that was heard comes last, if it was come upon in the order of all.
+    /// What is remembered of this event: the wires are asked for a name after the lane that was heard, and it comes last, if it was come upon in the
+    /// order of all.
     fn remember(&mut self, event: &Event)
         ensures { self.new ≡ record self.old { from = from_after self.old.named self.old.from (Some event.now) } }
     {
+        self.last_wire = lane_of(event);
         if self.named == 0 {
             self.from = next_lane(event);
         }
@@ -228,6 +247,7 @@ impl<W: Wires + Drop> NetDoor<W> {
         ensures from { OnErr result (self.new.from ≡ self.old.from) }
         ensures moment { self.new.moment ≡ self.old.moment }
         ensures faults { self.new.faults ≡ self.old.faults }
+        ensures gathering { self.new.gathering ≡ self.old.gathering }
         ensures lanes { wires_of self.new.lanes.items ≡ wires_of self.old.lanes.items }
         ensures bound { W.wires self.new.wires ≡ W.wires self.old.wires }
     {
@@ -250,7 +270,79 @@ impl<W: Wires + Drop> NetDoor<W> {
         ensures lanes { wires_of self.new.lanes.items ≡ wires_of self.old.lanes.items }
         ensures bound { W.wires self.new.wires ≡ W.wires self.old.wires }
     {
-        turn_from(&mut self.lanes, begin, &mut self.wires, now)
+        turn_from(&mut self.lanes, begin, &mut self.wires, &mut self.buf, now)
+    }
+
+    /// Whether more may be sent at once: a message was since the last flush, and the wires name another one that is ready than was heard last. Most wires
+    /// go on naming that one, as it may have more; if that counted, the reply to a lone message would be written a call late.
+    fn expects_more(&self) -> bool {
+        self.has_sent
+            && match self.wires.ready_after(self.last_wire) {
+                Some(wire) => wire != self.last_wire,
+                None => false,
+            }
+    }
+
+    /// What a call of `next` does first: what waits on live lanes goes on waiting while more may be sent at once, though not for too many calls, or
+    /// all of it is written. The answer is how long the wires may wait then.
+    fn gather(&mut self, wait: u64) -> u64
+        ensures gathers { (answers : List Answer) × Tells (W.trace self.old.wires) (W.trace self.new.wires) answers
+            × Gathers wait self.old.gathering (state_of self.old) (state_of self.new) answers self.new.gathering result }
+        ensures faults { self.new.faults ≡ self.old.faults }
+        ensures moment { self.new.moment ≡ self.old.moment }
+        ensures lanes { wires_of (kept self.new.lanes.items) ≡ wires_of (kept self.old.lanes.items) }
+        ensures bound { W.wires self.new.wires ≡ W.wires self.old.wires }
+        ensures wire_faults { W.faults self.old.wires ≤ W.faults self.new.wires }
+    {
+        let goes_on = self.gathering + 1 < MOST_GATHERED
+            && self.lanes.has_writers()
+            && self.expects_more();
+        if goes_on {
+            self.gathering += 1;
+            return 0;
+        }
+        self.write_gathered();
+        wait
+    }
+
+    /// Writes all that waits on live lanes.
+    fn write_gathered(&mut self)
+        ensures flushed { (answers : List Answer) × Tells (W.trace self.old.wires) (W.trace self.new.wires) answers
+            × FlushesDoor (state_of self.old) (state_of self.new) answers }
+        ensures gathering { self.new.gathering ≡ 0 }
+        ensures faults { self.new.faults ≡ self.old.faults }
+        ensures moment { self.new.moment ≡ self.old.moment }
+        ensures lanes { wires_of (kept self.new.lanes.items) ≡ wires_of (kept self.old.lanes.items) }
+        ensures numbers { wires_of self.new.lanes.items ≡ wires_of self.old.lanes.items }
+        ensures bound { W.wires self.new.wires ≡ W.wires self.old.wires }
+        ensures wire_faults { W.faults self.old.wires ≤ W.faults self.new.wires }
+    {
+        self.lanes.flush(self.alloc, &mut self.wires);
+        self.gathering = 0;
+        self.has_sent = false;
+    }
+
+    /// Hears what happens next.
+    fn hear_next(&mut self, wait: u64) -> Result<Heard, DoorError>
+        ensures heard { Hears None None wait result }
+        ensures later { IsLater self.old.moment self.new.moment result }
+        ensures cause { HasFaultCause self.old.faults self.new.faults result }
+        ensures hears { IfOk result (λ heard. (answers : List Answer) × Tells (W.trace self.old.wires) (W.trace self.new.wires) answers
+            × HearsNext wait (state_of self.old) (state_of self.new) answers heard) }
+        ensures fails { result ≡ Err DoorError.Failed → Rose (W.faults self.old.wires) (W.faults self.new.wires)
+            × ((answers : List Answer) × Tells (W.trace self.old.wires) (W.trace self.new.wires) answers × FailsNext wait (state_of self.old) answers) }
+        ensures fallen { result ≡ Err DoorError.Failed → state_of self.new ≡ record (state_of self.old) { lanes = kept self.old.lanes.items } }
+        ensures halts { result ≡ Err DoorError.NoMemory → (answers : List Answer) × Tells (W.trace self.old.wires) (W.trace self.new.wires) answers
+            × HaltsNext wait (state_of self.old) (state_of self.new) answers }
+        ensures lanes { KeepsLanes (W.wires self.old.wires) (W.wires self.new.wires) self.old.lanes.items self.new.lanes.items }
+        ensures gathering { self.new.gathering ≡ self.old.gathering }
+    {
+        self.clear();
+        let now = self.poll(wait)?;
+        self.accept(now)?;
+        let event = self.hear(now)?;
+        self.moment = now;
+        Ok(Heard { now, event })
     }
 }
 
@@ -258,7 +350,14 @@ impl<W: Wires + Drop> NetDoor<W> {
 fn next_lane(event: &Event) -> u64
     ensures { result ≡ next_from 0 (Some event.now) }
 {
-    let lane = match event {
+    let lane = lane_of(event);
+    if lane == u64::MAX { 0 } else { lane + 1 }
+}
+
+fn lane_of(event: &Event) -> u64
+    ensures { result ≡ lane_of event.now }
+{
+    match event {
         Event::Request { lane, .. } => *lane,
         Event::Refused { lane, .. } => *lane,
         Event::Bytes { lane, .. } => *lane,
@@ -267,8 +366,7 @@ fn next_lane(event: &Event) -> u64
         Event::Lost { lane } => *lane,
         Event::Drained { lane } => *lane,
         Event::Quiet => 0,
-    };
-    if lane == u64::MAX { 0 } else { lane + 1 }
+    }
 }
 
 impl<W: Wires + Drop> Door for NetDoor<W> {
@@ -281,26 +379,38 @@ impl<W: Wires + Drop> Door for NetDoor<W> {
         ensures later { IsLater self.old.moment self.new.moment result }
         ensures cause { HasFaultCause self.old.faults self.new.faults result }
         ensures hears { IfOk result (λ heard. (answers : List Answer) × Tells (W.trace self.old.wires) (W.trace self.new.wires) answers
-            × HearsNext wait (state_of self.old) (state_of self.new) answers heard) }
+            × HearsGathered wait self.old.gathering (state_of self.old) (state_of self.new) answers heard self.new.gathering) }
         ensures fails { result ≡ Err DoorError.Failed → Rose (W.faults self.old.wires) (W.faults self.new.wires)
-            × ((answers : List Answer) × Tells (W.trace self.old.wires) (W.trace self.new.wires) answers × FailsNext wait (state_of self.old) answers) }
-        ensures fallen { result ≡ Err DoorError.Failed → state_of self.new ≡ record (state_of self.old) { lanes = kept self.old.lanes.items } }
+            × ((answers : List Answer) × Tells (W.trace self.old.wires) (W.trace self.new.wires) answers
+            × FailsGathered wait self.old.gathering (state_of self.old) (state_of self.new) answers) }
         ensures halts { result ≡ Err DoorError.NoMemory → (answers : List Answer) × Tells (W.trace self.old.wires) (W.trace self.new.wires) answers
-            × HaltsNext wait (state_of self.old) (state_of self.new) answers }
+            × HaltsGathered wait self.old.gathering (state_of self.old) (state_of self.new) answers }
         ensures lanes { KeepsLanes (W.wires self.old.wires) (W.wires self.new.wires) self.old.lanes.items self.new.lanes.items }
     {
-        self.clear();
-        let now = self.poll(wait)?;
-        self.accept(now)?;
-        let event = self.hear(now)?;
-        self.moment = now;
-        Ok(Heard { now, event })
+        let wait = self.gather(wait);
+        let heard = self.hear_next(wait);
+        if heard.is_err() {
+            self.write_gathered();
+        }
+        heard
+    }
+
+    fn flush(&mut self)
+        ensures others_unchanged { self.new.moment ≡ self.old.moment }
+        ensures unfailed { self.new.faults ≡ self.old.faults }
+        ensures flushed { (answers : List Answer) × Tells (W.trace self.old.wires) (W.trace self.new.wires) answers
+            × FlushesDoor (state_of self.old) (state_of self.new) answers }
+        ensures gathering { self.new.gathering ≡ 0 }
+        ensures bound { W.wires self.new.wires ≡ W.wires self.old.wires }
+    {
+        self.write_gathered();
     }
 
     fn reply(&mut self, lane: u64, reply: Reply) -> Result<(), DoorError>
         requires { IsReply reply }
         ensures given { Says None None (λ done. say.Reply lane reply) result }
         ensures others_unchanged { self.new.moment ≡ self.old.moment }
+        ensures gathering { self.new.gathering ≡ self.old.gathering }
         ensures cause { HasFaultCause self.old.faults self.new.faults result }
         ensures replied { OnOk result ((answers : List Answer) × Tells (W.trace self.old.wires) (W.trace self.new.wires) answers
             × DoesAt lane (Replies self.old.moment reply) (state_of self.old) (state_of self.new) answers) }
@@ -319,6 +429,7 @@ impl<W: Wires + Drop> Door for NetDoor<W> {
     fn send(&mut self, lane: u64, bytes: &[u8], text: bool) -> Result<bool, DoorError>
         ensures given { calls.Sends None None (say.Bytes lane bytes.now text) result }
         ensures others_unchanged { self.new.moment ≡ self.old.moment }
+        ensures gathering { self.new.gathering ≡ self.old.gathering }
         ensures cause { HasFaultCause self.old.faults self.new.faults result }
         ensures sent { OnOk result ((answers : List Answer) × Tells (W.trace self.old.wires) (W.trace self.new.wires) answers
             × DoesAt lane (Sends self.old.moment bytes.now text) (state_of self.old) (state_of self.new) answers) }
@@ -332,12 +443,14 @@ impl<W: Wires + Drop> Door for NetDoor<W> {
         };
         let now = self.moment;
         let is_full = self.lanes.send(index, &mut self.wires, bytes, text, now)?;
+        self.has_sent = true;
         Ok(is_full)
     }
 
     fn shut(&mut self, lane: u64) -> Result<(), DoorError>
         ensures given { Says None None (λ done. say.Shut lane) result }
         ensures others_unchanged { self.new.moment ≡ self.old.moment }
+        ensures gathering { self.new.gathering ≡ self.old.gathering }
         ensures cause { HasFaultCause self.old.faults self.new.faults result }
         ensures shut { OnOk result ((answers : List Answer) × Tells (W.trace self.old.wires) (W.trace self.new.wires) answers
             × DoesAt lane (Shuts self.old.moment) (state_of self.old) (state_of self.new) answers) }

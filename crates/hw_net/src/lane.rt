@@ -8,9 +8,9 @@ ghost use Rattle.hw_net.specs.Door.{new_lane};
 ghost use Rattle.hw_net.specs.FirstReads.{ReadsFirst, IsCalmLane, IsWithin};
 ghost use Rattle.hw_net.specs.Halting.{Halts, HaltsIn, IsDue, IsLasting};
 ghost use Rattle.hw_net.specs.Lane.{waits, frames_of, is_over, is_awake, is_awake_by, is_drained, is_stalled, is_full, is_overdue, owes, refusal_of, full_after_write, after_end, after_hearing, after_message, after_reply, after_turn, protocol_after_shut, protocol_after_reply, new_socket, rest_of};
-ghost use Rattle.hw_net.specs.Saying.{Writes, WritesOut, DropsOrWrites, Says, SaysMore, SpeaksAs, IsLaneStill, must_end, has_closed_long};
+ghost use Rattle.hw_net.specs.Saying.{Writes, WritesOut, WritesIfLive, DropsOrWrites, Says, SaysIfEnded, SaysMore, GathersOrSays, SpeaksAs, IsLaneStill, must_end, has_closed_long};
 ghost use Rattle.hw_net.specs.Resting.{IsKnown};
-ghost use Rattle.hw_net.specs.Tally.{has_unwritten, is_restless, only_waits_by};
+ghost use Rattle.hw_net.specs.Tally.{has_unwritten, is_closing, is_restless, is_writer, only_waits_by};
 ghost use Rattle.hw_net.specs.Trace.{Tells};
 ghost use Rattle.hw_net.specs.Turn.{Hears, Settles, IsRightInput, TurnsLive, TurnsByFullness, Drains, Falls, Listens, Loses, LosesAt, Replies, Puts, Sends, Shuts};
 
@@ -18,7 +18,9 @@ use crate::first_read::FirstRead;
 use crate::full::{Fullness, full_after_message, full_after_turn, full_after_write, has_stalled};
 use crate::http_state::HttpState;
 use crate::input::Input;
-use crate::limits::{MOST_CLOSING, MOST_DRAINED, MOST_UNWRITTEN, MOST_WAIT, PIECE, SWITCHING};
+use crate::limits::{
+    MOST_CLOSING, MOST_DRAINED, MOST_GATHERED_BYTES, MOST_UNWRITTEN, MOST_WAIT, PIECE, SWITCHING,
+};
 use crate::protocol::{Protocol, Stage};
 use crate::reading::read_piece;
 use crate::refusing::refusal_reply;
@@ -157,6 +159,20 @@ impl NetLane {
         ensures { result ≡ is_full self.now }
     {
         self.stage == Stage::Live && self.full.is_some()
+    }
+
+    /// Whether the lane is live, and something waits to be written.
+    pub fn is_writer(&self) -> bool
+        ensures { result ≡ is_writer self.now }
+    {
+        self.stage == Stage::Live && self.unwritten() > 0
+    }
+
+    /// Whether the lane is heard no more, and its wire is there until all is written.
+    pub fn is_closing(&self) -> bool
+        ensures { result ≡ is_closing self.now.stage }
+    {
+        self.stage == Stage::Closing
     }
 
     /// Whether there may be something to write.
@@ -575,6 +591,7 @@ impl NetLane {
         ensures shut { Tells (W.trace wires.old) (W.trace wires.new) (was_shut self.old.wire ∷ []) }
         ensures ended { self.new ≡ record self.old { stage = after_end self.old.stage } }
         ensures wires { W.wires wires.new ≡ W.wires wires.old }
+        ensures faults { W.faults wires.old ≤ W.faults wires.new }
     {
         wires.shut(self.wire);
         self.stage = match self.stage {
@@ -597,6 +614,29 @@ impl NetLane {
             Stage::Lost => {}
             Stage::Closing => self.drop_or_write(wires, self.has_closed_long(now)),
             Stage::Over => {}
+        }
+    }
+
+    /// The same in a call in which another lane was heard: what waits on a live lane still does.
+    pub fn say_if_ended<W: Wires>(&mut self, wires: &mut W, now: u64)
+        ensures said { (answers : List Answer) × Tells (W.trace wires.old) (W.trace wires.new) answers × SaysIfEnded now self.old self.new answers }
+        ensures wires { W.wires wires.new ≡ W.wires wires.old }
+        ensures lane { self.new.wire ≡ self.old.wire }
+    {
+        if self.stage == Stage::Closing {
+            self.say(wires, now);
+        }
+    }
+
+    /// A live lane writes what waits.
+    pub fn write_if_live<W: Wires>(&mut self, wires: &mut W)
+        ensures written { (answers : List Answer) × Tells (W.trace wires.old) (W.trace wires.new) answers × WritesIfLive self.old self.new answers }
+        ensures wires { W.wires wires.new ≡ W.wires wires.old }
+        ensures faults { W.faults wires.old ≤ W.faults wires.new }
+        ensures lane { self.new.wire ≡ self.old.wire }
+    {
+        if self.stage == Stage::Live {
+            self.write_out(wires);
         }
     }
 
@@ -623,6 +663,7 @@ impl NetLane {
     fn write_out<W: Wires>(&mut self, wires: &mut W)
         ensures said { (answers : List Answer) × Tells (W.trace wires.old) (W.trace wires.new) answers × WritesOut self.old self.new answers }
         ensures wires { W.wires wires.new ≡ W.wires wires.old }
+        ensures faults { W.faults wires.old ≤ W.faults wires.new }
         ensures lane { self.new.wire ≡ self.old.wire }
     {
         let waited = self.unwritten();
@@ -649,6 +690,7 @@ impl NetLane {
         ensures stage { self.new.stage ≡ self.old.stage }
         ensures full { self.new.full ≡ self.old.full }
         ensures wires { W.wires wires.new ≡ W.wires wires.old }
+        ensures faults { W.faults wires.old ≤ W.faults wires.new }
     {
         if !write_bytes(wires, self.wire, &mut self.out) {
             return false;
@@ -666,6 +708,7 @@ impl NetLane {
         ensures protocol { SpeaksAs self.old.protocol self.new.protocol }
         ensures others_unchanged { self.new ≡ record self.old { protocol = self.new.protocol } }
         ensures wires { W.wires wires.new ≡ W.wires wires.old }
+        ensures faults { W.faults wires.old ≤ W.faults wires.new }
     {
         match &mut self.protocol {
             Protocol::Http(_) => true,
@@ -770,13 +813,24 @@ impl NetLane {
         ensures lane { self.new.wire ≡ self.old.wire }
     {
         if self.put(bytes, text)? {
-            self.say_more(wires);
+            self.gather_or_say(wires);
             self.note_message(now);
         }
         Ok(self.is_full())
     }
 
-    /// A message was written as far as the wire took it.
+    /// After a message more waits: nothing is written yet if that is little, so that it goes out with what is said later.
+    fn gather_or_say<W: Wires>(&mut self, wires: &mut W)
+        ensures said { (answers : List Answer) × Tells (W.trace wires.old) (W.trace wires.new) answers × GathersOrSays self.old self.new answers }
+        ensures wires { W.wires wires.new ≡ W.wires wires.old }
+        ensures lane { self.new.wire ≡ self.old.wire }
+    {
+        if self.unwritten() >= MOST_GATHERED_BYTES {
+            self.say_more(wires);
+        }
+    }
+
+    /// A message was added, and written as far as the wire took it unless it is gathered.
     fn note_message(&mut self, now: u64)
         ensures { self.new ≡ after_message now self.old }
     {

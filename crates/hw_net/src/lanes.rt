@@ -1,30 +1,34 @@
 //! The lanes of a door, in the order in which they came, and the tally of them. What changes a lane is a call of this file, which keeps
 //! the tally right.
 
-ghost use Rattle.std.specs.Prelude.{◌≡◌, ◌<◌, ◌==◌, ◌++◌, ◌∷◌, [], List, true, length, nat_lt, position, slice_index_or, Contains, IfOk, IfErr, OnOk, OnErr};
+ghost use Rattle.std.specs.Prelude.{◌≡◌, ◌<◌, ◌≤◌, ◌==◌, ◌++◌, ◌∷◌, [], List, true, false, length, nat_lt, position, slice_index_or, Contains, IfOk, IfErr, OnOk, OnErr};
 ghost use Rattle.std.specs.List.{list_any};
 ghost use Rattle.hw_lanes.specs.Replies.{IsReply};
 ghost use Rattle.hw_door.specs.Traffic.{Answer};
 ghost use Rattle.hw_net.specs.Door.{RestsAt, kept, index_of_first};
 ghost use Rattle.hw_net.specs.FirstReads.{ReadsFirstAt, IsWithin};
+ghost use Rattle.hw_net.specs.Flushing.{Flushes, HasWriter, WriteEach};
 ghost use Rattle.hw_net.specs.Halting.{Halts};
 ghost use Rattle.hw_net.specs.Lane.{Lane, is_awake, is_full, wires_of};
 ghost use Rattle.hw_net.specs.Lanes.{DoesHere};
 ghost use Rattle.hw_net.specs.Rising.{Rise};
-ghost use Rattle.hw_net.specs.Saying.{Says};
-ghost use Rattle.hw_net.specs.Tally.{tally_of};
+ghost use Rattle.hw_net.specs.Saying.{SaysIfEnded, WritesIfLive};
+ghost use Rattle.hw_net.specs.Tally.{is_closing};
 ghost use Rattle.hw_net.specs.Trace.{Tells};
-ghost use Rattle.hw_net.specs.Turn.{Listens, Replies, Sends, Shuts};
+ghost use Rattle.hw_net.specs.Turn.{AtLane, Listens, Replies, Sends, Shuts};
+ghost use Rattle.hw_net.specs.Writers.{AreWriters};
 
 use crate::finding::{index_of, index_of_first};
 use crate::first_read::FirstRead;
 use crate::lane::NetLane;
 use crate::limits::PIECE;
 use crate::tally::Tally;
+use crate::writers::Writers;
 use hw_door::{Event, Wires};
 use hw_lanes::Reply;
 use std::alloc::{AllocError, Global};
 use std::marker::Model;
+use std::mem::replace;
 
 /// Lanes, and how many there are of each kind.
 #[derive(Drop)]
@@ -33,6 +37,7 @@ pub struct Lanes {
     tally: Tally,
     // No lane is overdue before this moment.
     due: u64,
+    writers: Writers,
 }
 
 impl Model for Lanes {
@@ -43,7 +48,7 @@ impl Model for Lanes {
 
     ghost view = { λ l. record { items = l.items.items } };
 
-    ghost invariant = { λ l. AreKept l.tally l.due l.items.items };
+    ghost invariant = { λ l. AreKept l.tally l.due l.writers l.items.items };
 }
 
 impl Lanes {
@@ -55,6 +60,7 @@ impl Lanes {
             items: Vec::new(alloc),
             tally: Tally::start(),
             due: u64::MAX,
+            writers: Writers::start(alloc),
         }
     }
 
@@ -71,11 +77,19 @@ impl Lanes {
         self.tally.has_awake()
     }
 
-    /// Whether some lane may have something to write.
+    /// Whether something waits to be written on a live lane.
     pub fn has_writers(&self) -> bool
-        ensures { result ≡ nat_lt 0 (tally_of self.now.items).writers }
+        ensures some { result ≡ true → HasWriter self.now.items }
+        ensures none { result ≡ false → AreWriters [] self.now.items }
     {
         self.tally.has_writers()
+    }
+
+    /// Whether some lane is heard no more, and its wire is there until all is written.
+    pub fn has_closing(&self) -> bool
+        ensures { result ≡ false → (lane : Lane) → Contains self.now.items lane → is_closing lane.stage ≡ false }
+    {
+        self.tally.has_closing()
     }
 
     /// Whether each lane is known to rest at this moment.
@@ -119,10 +133,10 @@ impl Lanes {
         let lane = &self.items[index];
         self.tally.enter(lane);
         self.due = self.due.min(lane.due());
+        self.writers.list(lane, false, index);
         Ok(())
     }
 
-    /// Where the lane of this number is.
     pub fn index_of(&self, wire: u64) -> Option<usize>
         requires { Rise (wires_of self.now.items) }
         ensures { result ≡ position (λ (lane : Lane). lane.wire == wire) self.now.items }
@@ -150,7 +164,6 @@ impl Lanes {
         self.items[index].read_first(wires, buf)
     }
 
-    /// A turn of the lane of this place, after this first look at it.
     pub fn turn<W: Wires>(
         &mut self,
         index: usize,
@@ -172,33 +185,116 @@ impl Lanes {
         ensures wires { W.wires wires.new ≡ W.wires wires.old }
         ensures lanes { wires_of self.new.items ≡ wires_of self.old.items }
     {
+        let most = self.items.len();
         let lane = &mut self.items[index];
+        let was_writer = lane.is_writer();
         self.tally.leave(lane);
         let heard = lane.turn(first_look, wires, buf, now);
         self.tally.enter(lane);
         self.due = self.due.min(lane.due());
+        self.writers.list(lane, was_writer, most);
         heard
     }
 
-    /// The lane of this place writes what waits.
-    pub fn say<W: Wires>(&mut self, index: usize, wires: &mut W, now: u64)
+    /// The lane of this place writes what waits, if it is heard no more.
+    pub fn say_if_ended<W: Wires>(&mut self, index: usize, wires: &mut W, now: u64)
         requires { index < length self.old.items }
         ensures said { (answers : List Answer) × Tells (W.trace wires.old) (W.trace wires.new) answers
-            × DoesHere index (Says now) self.old.items self.new.items answers }
+            × DoesHere index (SaysIfEnded now) self.old.items self.new.items answers }
         ensures wires { W.wires wires.new ≡ W.wires wires.old }
         ensures lanes { wires_of self.new.items ≡ wires_of self.old.items }
     {
-        if !self.items[index].has_unwritten() {
+        if !self.items[index].is_closing() {
             return;
         }
         let lane = &mut self.items[index];
         self.tally.leave(lane);
-        lane.say(wires, now);
+        lane.say_if_ended(wires, now);
         self.tally.enter(lane);
         self.due = self.due.min(lane.due());
     }
 
-    /// Replies on the lane of this place.
+    fn write_if_live<W: Wires>(&mut self, index: usize, wires: &mut W)
+        requires { index < length self.old.items }
+        ensures written { (answers : List Answer) × Tells (W.trace wires.old) (W.trace wires.new) answers
+            × DoesHere index WritesIfLive self.old.items self.new.items answers }
+        ensures wires { W.wires wires.new ≡ W.wires wires.old }
+        ensures faults { W.faults wires.old ≤ W.faults wires.new }
+        ensures lanes { wires_of self.new.items ≡ wires_of self.old.items }
+    {
+        if !self.items[index].is_writer() {
+            return;
+        }
+        let lane = &mut self.items[index];
+        self.tally.leave(lane);
+        lane.write_if_live(wires);
+        self.tally.enter(lane);
+        self.due = self.due.min(lane.due());
+    }
+
+    /// The live lane of this number writes what waits, if there is one.
+    fn write_at<W: Wires>(&mut self, wire: u64, wires: &mut W)
+        requires { Rise (wires_of self.old.items) }
+        ensures written { (answers : List Answer) × Tells (W.trace wires.old) (W.trace wires.new) answers
+            × AtLane wire WritesIfLive self.old.items self.new.items answers }
+        ensures wires { W.wires wires.new ≡ W.wires wires.old }
+        ensures faults { W.faults wires.old ≤ W.faults wires.new }
+        ensures lanes { wires_of self.new.items ≡ wires_of self.old.items }
+    {
+        if let Some(index) = self.index_of(wire) {
+            self.write_if_live(index, wires);
+        }
+    }
+
+    fn write_each<W: Wires>(&mut self, listed: &[u64], wires: &mut W)
+        requires { Rise (wires_of self.old.items) }
+        ensures written { (answers : List Answer) × Tells (W.trace wires.old) (W.trace wires.new) answers
+            × WriteEach listed.now self.old.items self.new.items answers }
+        ensures wires { W.wires wires.new ≡ W.wires wires.old }
+        ensures faults { W.faults wires.old ≤ W.faults wires.new }
+        ensures lanes { wires_of self.new.items ≡ wires_of self.old.items }
+    {
+        for &wire in listed {
+            self.write_at(wire, wires);
+        }
+    }
+
+    fn write_all<W: Wires>(&mut self, wires: &mut W)
+        requires { Rise (wires_of self.old.items) }
+        ensures written { (answers : List Answer) × Tells (W.trace wires.old) (W.trace wires.new) answers
+            × WriteEach (wires_of self.old.items) self.old.items self.new.items answers }
+        ensures wires { W.wires wires.new ≡ W.wires wires.old }
+        ensures faults { W.faults wires.old ≤ W.faults wires.new }
+        ensures lanes { wires_of self.new.items ≡ wires_of self.old.items }
+    {
+        for index in 0..self.items.len() {
+            self.write_if_live(index, wires);
+        }
+    }
+
+    /// Each live lane on which something waits writes it.
+    pub fn flush<W: Wires>(&mut self, alloc: Global, wires: &mut W)
+        requires { Rise (wires_of self.old.items) }
+        ensures flushed { (answers : List Answer) × Tells (W.trace wires.old) (W.trace wires.new) answers
+            × Flushes self.old.items self.new.items answers }
+        ensures wires { W.wires wires.new ≡ W.wires wires.old }
+        ensures faults { W.faults wires.old ≤ W.faults wires.new }
+        ensures lanes { wires_of self.new.items ≡ wires_of self.old.items }
+    {
+        if !self.has_writers() {
+            return;
+        }
+        if !self.writers.is_whole {
+            self.write_all(wires);
+            self.writers.renew(&self.items);
+            return;
+        }
+        let listed = replace(&mut self.writers, Writers::unknown(alloc));
+        self.write_each(&listed.wires, wires);
+        self.writers = listed;
+        self.writers.keep(&self.items);
+    }
+
     pub fn reply<W: Wires>(
         &mut self,
         index: usize,
@@ -215,11 +311,14 @@ impl Lanes {
         ensures wires { W.wires wires.new ≡ W.wires wires.old }
         ensures lanes { wires_of self.new.items ≡ wires_of self.old.items }
     {
+        let most = self.items.len();
         let lane = &mut self.items[index];
+        let was_writer = lane.is_writer();
         self.tally.leave(lane);
         let replied = lane.reply(wires, reply, now);
         self.tally.enter(lane);
         self.due = self.due.min(lane.due());
+        self.writers.list(lane, was_writer, most);
         replied
     }
 
@@ -241,11 +340,14 @@ impl Lanes {
         ensures wires { W.wires wires.new ≡ W.wires wires.old }
         ensures lanes { wires_of self.new.items ≡ wires_of self.old.items }
     {
+        let most = self.items.len();
         let lane = &mut self.items[index];
+        let was_writer = lane.is_writer();
         self.tally.leave(lane);
         let sent = lane.send(wires, bytes, text, now);
         self.tally.enter(lane);
         self.due = self.due.min(lane.due());
+        self.writers.list(lane, was_writer, most);
         sent
     }
 
@@ -264,11 +366,14 @@ impl Lanes {
         ensures wires { W.wires wires.new ≡ W.wires wires.old }
         ensures lanes { wires_of self.new.items ≡ wires_of self.old.items }
     {
+        let most = self.items.len();
         let lane = &mut self.items[index];
+        let was_writer = lane.is_writer();
         self.tally.leave(lane);
         let ended = lane.shut(wires, now);
         self.tally.enter(lane);
         self.due = self.due.min(lane.due());
+        self.writers.list(lane, was_writer, most);
         ended
     }
 }

@@ -1,21 +1,23 @@
 //! What crates above cite of the definitions. No function here does anything: its contract is the law.
 
 ghost use Rattle.std.specs.Prelude.{◌≡◌};
-ghost use Rattle.hw_net.specs.Bounds.{NextIsWithin, NextIsInTime, RepliesAreWithin, SendsAreWithin, ShutsAreWithin};
-ghost use Rattle.hw_net.specs.Limits.{piece, most_unwritten, most_before_full, most_drained, most_stalled, most_wait, most_closing, most_named, switching};
-ghost use Rattle.hw_net.specs.Numbers.{NumbersRise, RepliesKeepNumbers, SendsKeepNumbers, ShutsKeepNumbers};
+ghost use Rattle.hw_net.specs.Bounds.{FailsAreWithin, FlushesAreWithin, HaltsAreWithin, NextIsWithin, NextIsInTime, RepliesAreWithin, SendsAreWithin, ShutsAreWithin};
+ghost use Rattle.hw_net.specs.Limits.{piece, most_unwritten, most_gathered, most_gathered_bytes, most_before_full, most_drained, most_stalled, most_wait, most_closing, most_named, switching};
+ghost use Rattle.hw_net.specs.Numbers.{FlushesKeepNumbers, NumbersRise, RepliesKeepNumbers, SendsKeepNumbers, ShutsKeepNumbers};
 ghost use Rattle.hw_net.specs.Reaching.{OthersListen, LanesAreReached};
-ghost use Rattle.hw_net.specs.Sessions.{RequestsAreAsked, RefusalsAreDeserved, RepliesAreWritten, RequestsWaitForReplies, WiresAreShutForACause, WiresAreShutOnce, LanesHaveWires, LossesHaveCauses, FullnessIsTold, DrainedWereFull, SocketsAreCarried};
+ghost use Rattle.hw_net.specs.Sessions.{FlushesAreCalls, NextIsCalls, RequestsAreAsked, RefusalsAreDeserved, RepliesAreWritten, RequestsWaitForReplies, WiresAreShutForACause, WiresAreShutOnce, LanesHaveWires, LossesHaveCauses, FullnessIsTold, DrainedWereFull, SocketsAreCarried};
 
 use crate::limits::{
-    MOST_BEFORE_FULL, MOST_CLOSING, MOST_DRAINED, MOST_NAMED, MOST_STALLED, MOST_UNWRITTEN,
-    MOST_WAIT, PIECE, SWITCHING,
+    MOST_BEFORE_FULL, MOST_CLOSING, MOST_DRAINED, MOST_GATHERED, MOST_GATHERED_BYTES, MOST_NAMED,
+    MOST_STALLED, MOST_UNWRITTEN, MOST_WAIT, PIECE, SWITCHING,
 };
 
 /// The constants are the numbers of the definitions.
 pub fn limits_are_named()
     ensures read { PIECE ≡ piece }
     ensures unwritten { MOST_UNWRITTEN ≡ most_unwritten }
+    ensures gathered { MOST_GATHERED ≡ most_gathered }
+    ensures gathered_bytes { MOST_GATHERED_BYTES ≡ most_gathered_bytes }
     ensures full { MOST_BEFORE_FULL ≡ most_before_full }
     ensures drained { MOST_DRAINED ≡ most_drained }
     ensures stalled { MOST_STALLED ≡ most_stalled }
@@ -28,6 +30,9 @@ pub fn limits_are_named()
 /// After each call no more waits on a lane than may, unless its wire was shut.
 pub fn lanes_are_bounded()
     ensures next { NextIsWithin }
+    ensures fails { FailsAreWithin }
+    ensures halts { HaltsAreWithin }
+    ensures flushed { FlushesAreWithin }
     ensures replied { RepliesAreWithin }
     ensures sent { SendsAreWithin }
     ensures shut { ShutsAreWithin }
@@ -41,9 +46,17 @@ pub fn closing_ends()
 /// The numbers of lanes rise in the order in which the lanes came, so no two lanes have one number.
 pub fn numbers_rise()
     ensures next { NumbersRise }
+    ensures flushed { FlushesKeepNumbers }
     ensures replied { RepliesKeepNumbers }
     ensures sent { SendsKeepNumbers }
     ensures shut { ShutsKeepNumbers }
+{}
+
+/// A flush is calls of a session, each of which writes what waits on one lane. A call of `next` is such calls, or none, and then one that hears. So
+/// what holds in any session holds whatever is gathered.
+pub fn flushes_are_calls()
+    ensures flushed { FlushesAreCalls }
+    ensures next { NextIsCalls }
 {}
 
 /// In any session the requests heard on a lane are those of all bytes read on its wire, in whatever pieces, and what is refused

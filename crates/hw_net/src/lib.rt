@@ -64,21 +64,25 @@
 //! Proved, of each call, by the answers that the wires gave in it:
 //!
 //! - `start` takes no memory, and has no lanes.
-//! - `next` polls once, accepts one connection at most, and gives the lanes their turns until one hears something, which is what all bytes
-//!   of that lane say. It is `Quiet` only if each lane was listened to, or rests, and the wires told in the end that none of them has
-//!   anything to give. It loses no lane, and fails only where `poll` or `accept` did.
+//! - `next` begins with a flush, or goes on gathering and doesn't wait, for less than 32 calls in a row. It polls once, accepts one connection at
+//!   most, and gives the lanes their turns until one hears something, which is what all bytes of that lane say. It is `Quiet` only if each lane
+//!   was listened to, or rests, and the wires told in the end that none of them has anything to give. It loses no lane, and fails only where `poll`
+//!   or `accept` did. Before it answers an error it flushes.
 //!   A request whose head expects a 100 (RFC 9110, section 10.1.1) gets one, once, before all else, if its body isn't whole then.
-//! - `reply` puts the text of the reply behind what waits, if a request waits for it.
-//! - `send` puts the frame of a message behind what waits, if the lane is a live WebSocket that isn't gone. Its answer is whether the lane is
-//!   full then, and over whole sessions that stays so until `Drained` or another answer ([`fullness_is_told`]).
-//! - `shut` puts a close frame behind what waits, if the lane is a live WebSocket, and the wire is shut once all is written, or in the
+//! - `reply` puts the text of the reply behind what waits, if a request waits for it, and writes.
+//! - `send` puts the frame of a message behind what waits, if the lane is a live WebSocket that isn't gone. The message is gathered: it is written
+//!   by the next flush, or here once 65,536 bytes wait. The answer is whether the lane is full then, and over whole sessions that stays so until
+//!   `Drained` or another answer ([`fullness_is_told`]).
+//! - `flush` writes what waits on live lanes.
+//! - `shut` puts a close frame behind what waits, if the lane is a live WebSocket, and writes. The wire is shut once all is written, or in the
 //!   first `next` from 30,000 ms on, which drops what waits then ([`closing_ends`]).
 //!
-//! The last three write as far as the wire takes it, leave all other lanes as they are, and change nothing when memory is out. A `next` that is
-//! out of memory cuts one lane's turn short, which holds what was read, or is to be heard as lost; the others stand as they were or listened. Over whole
-//! sessions, in which no call was out of memory, what is heard is what was read, what was written and waits is what was replied, in
-//! order, and a wire is shut once, for a cause: [`requests_are_asked`], [`replies_are_written`] and the laws beside them. In any calls each
-//! lane listens sooner or later, or rests, whatever the wires name ([`lanes_are_reached`]).
+//! What is written is so as far as the wire takes it. `reply`, `send` and `shut` leave all other lanes as they are, and change nothing when memory
+//! is out. A `next` that is out of memory cuts one lane's turn short, which holds what was read, or is to be heard as lost; the others stand as
+//! they were, listened or wrote. Over whole sessions, in which no call was out of memory, what is heard is what was read, what was written and
+//! waits is what was replied, in order, and a wire is shut once, for a cause: [`requests_are_asked`], [`replies_are_written`] and the laws beside
+//! them; a flush counts there as writes of one lane each ([`flushes_are_calls`]). In any calls each lane listens sooner or later, or rests,
+//! whatever the wires name ([`lanes_are_reached`]).
 //!
 //! The crate doesn't know what a request means, what a message says, sockets, nor clocks: moments are those that the wires polled.
 #![tactic(auto)]
@@ -99,15 +103,16 @@ mod refusing;
 mod tally;
 mod turns;
 mod websocket_state;
+mod writers;
 mod writing;
 
 pub use door::NetDoor;
 pub use laws::{
-    closing_ends, fullness_is_told, lanes_are_bounded, lanes_are_reached, limits_are_named,
-    losses_have_causes, numbers_rise, replies_are_written, requests_are_asked,
+    closing_ends, flushes_are_calls, fullness_is_told, lanes_are_bounded, lanes_are_reached,
+    limits_are_named, losses_have_causes, numbers_rise, replies_are_written, requests_are_asked,
     requests_wait_for_replies, sockets_are_carried, wires_are_shut_for_a_cause,
 };
 pub use limits::{
-    MOST_BEFORE_FULL, MOST_CLOSING, MOST_DRAINED, MOST_NAMED, MOST_STALLED, MOST_UNWRITTEN,
-    MOST_WAIT,
+    MOST_BEFORE_FULL, MOST_CLOSING, MOST_DRAINED, MOST_GATHERED, MOST_GATHERED_BYTES, MOST_NAMED,
+    MOST_STALLED, MOST_UNWRITTEN, MOST_WAIT,
 };

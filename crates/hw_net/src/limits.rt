@@ -9,6 +9,12 @@ pub const MOST_UNWRITTEN: usize = 1_048_576;
 /// A WebSocket lane is full after a message if more bytes than this wait there to be written: 256 KiB.
 pub const MOST_BEFORE_FULL: usize = 262_144;
 
+/// With so many bytes that wait a WebSocket lane isn't gathered any longer: what waits there is written at once. 64 KiB.
+pub const MOST_GATHERED_BYTES: usize = 65_536;
+
+/// What waits is written before so many events are heard after it was said.
+pub const MOST_GATHERED: u64 = 32;
+
 /// A lane that is full isn't any more once at most this many bytes wait there: 64 KiB.
 pub const MOST_DRAINED: usize = 65_536;
 

@@ -13,8 +13,10 @@ pub struct Tally {
     over: usize,
     // Lanes of which something may be heard at once.
     awake: usize,
-    // Lanes that may have something to write.
+    // Live lanes on which something waits to be written.
     writers: usize,
+    // Lanes that are heard no more, and whose wire is still there.
+    closing: usize,
     // Lanes on which something may be heard or written before more bytes come there, and not only that they are overdue.
     restless: usize,
 }
@@ -28,6 +30,7 @@ impl Tally {
             over: 0,
             awake: 0,
             writers: 0,
+            closing: 0,
             restless: 0,
         }
     }
@@ -39,7 +42,8 @@ impl Tally {
     {
         self.over += usize::from(lane.is_over());
         self.awake += usize::from(lane.is_awake());
-        self.writers += usize::from(lane.has_unwritten());
+        self.writers += usize::from(lane.is_writer());
+        self.closing += usize::from(lane.is_closing());
         self.restless += usize::from(lane.is_restless());
     }
 
@@ -50,7 +54,8 @@ impl Tally {
     {
         self.over -= usize::from(lane.is_over());
         self.awake -= usize::from(lane.is_awake());
-        self.writers -= usize::from(lane.has_unwritten());
+        self.writers -= usize::from(lane.is_writer());
+        self.closing -= usize::from(lane.is_closing());
         self.restless -= usize::from(lane.is_restless());
     }
 
@@ -77,6 +82,12 @@ impl Tally {
         ensures { result ≡ nat_lt 0 self.now.writers }
     {
         self.writers > 0
+    }
+
+    pub fn has_closing(&self) -> bool
+        ensures { result ≡ nat_lt 0 self.now.closing }
+    {
+        self.closing > 0
     }
 
     pub fn has_restless(&self) -> bool

@@ -72,8 +72,8 @@ fn turn_until<W: Wires>(
     Ok(Course::Quiet)
 }
 
-/// The lanes of these places write what waits. None is looked at if nothing waits on any lane.
-fn say_all<W: Wires>(lanes: &mut Lanes, begin: usize, end: usize, wires: &mut W, now: u64)
+/// Those of the lanes of these places that are heard no more write what waits. None is looked at if there is no such lane.
+fn say_ended<W: Wires>(lanes: &mut Lanes, begin: usize, end: usize, wires: &mut W, now: u64)
     requires order { begin ≤ end }
     requires places { end ≤ length lanes.old.items }
     ensures said { (answers : List Answer) × Tells (W.trace wires.old) (W.trace wires.new) answers
@@ -81,16 +81,16 @@ fn say_all<W: Wires>(lanes: &mut Lanes, begin: usize, end: usize, wires: &mut W,
     ensures wires { W.wires wires.new ≡ W.wires wires.old }
     ensures lanes { wires_of lanes.new.items ≡ wires_of lanes.old.items }
 {
-    if !lanes.has_writers() {
+    if !lanes.has_closing() {
         return;
     }
     for index in begin..end {
-        lanes.say(index, wires, now);
+        lanes.say_if_ended(index, wires, now);
     }
 }
 
 /// Turns of the lanes before this place, after those from it on had theirs, in which nothing was heard. Once an event is heard, the others only
-/// write what waits.
+/// write what waits, if they are heard no more.
 fn turn_last<W: Wires>(
     lanes: &mut Lanes,
     end: usize,
@@ -110,7 +110,7 @@ fn turn_last<W: Wires>(
 {
     match turn_until(lanes, 0, end, wires, buf, now)? {
         Course::Heard { event, next } => {
-            say_all(lanes, next, end, wires, now);
+            say_ended(lanes, next, end, wires, now);
             Ok(Some(event))
         }
         Course::Quiet => Ok(None),
@@ -124,9 +124,11 @@ fn turn_each<W: Wires>(
     lanes: &mut Lanes,
     from: u64,
     wires: &mut W,
+    buf: &mut [u8],
     now: u64,
 ) -> Result<Option<Event>, AllocError>
-    requires { Rise (wires_of lanes.old.items) }
+    requires buffer { length buf.old ≡ PIECE }
+    requires order { Rise (wires_of lanes.old.items) }
     ensures hears { IfOk result (λ trace. (answers : List Answer) × Tells (W.trace wires.old) (W.trace wires.new) answers
         × Searches now from lanes.old.items lanes.new.items answers trace) }
     ensures halts { OnErr result ((answers : List Answer) × Tells (W.trace wires.old) (W.trace wires.new) answers
@@ -136,14 +138,13 @@ fn turn_each<W: Wires>(
 {
     let index = lanes.index_of_first(from);
     let end = lanes.len();
-    let mut buf = [0; PIECE];
-    match turn_until(lanes, index, end, wires, &mut buf, now)? {
+    match turn_until(lanes, index, end, wires, buf, now)? {
         Course::Heard { event, next } => {
-            say_all(lanes, next, end, wires, now);
-            say_all(lanes, 0, index, wires, now);
+            say_ended(lanes, next, end, wires, now);
+            say_ended(lanes, 0, index, wires, now);
             Ok(Some(event))
         }
-        Course::Quiet => turn_last(lanes, index, wires, &mut buf, now),
+        Course::Quiet => turn_last(lanes, index, wires, buf, now),
         Course::Rests => Ok(None),
     }
 }
@@ -153,9 +154,11 @@ pub fn turn_from<W: Wires>(
     lanes: &mut Lanes,
     from: u64,
     wires: &mut W,
+    buf: &mut [u8],
     now: u64,
 ) -> Result<Option<Event>, AllocError>
-    requires { Rise (wires_of lanes.old.items) }
+    requires buffer { length buf.old ≡ PIECE }
+    requires order { Rise (wires_of lanes.old.items) }
     ensures hears { IfOk result (λ trace. (answers : List Answer) × Tells (W.trace wires.old) (W.trace wires.new) answers
         × Searches now from lanes.old.items lanes.new.items answers trace) }
     ensures halts { OnErr result ((answers : List Answer) × Tells (W.trace wires.old) (W.trace wires.new) answers
@@ -166,5 +169,5 @@ pub fn turn_from<W: Wires>(
     if all_rest(lanes, wires, now) {
         return Ok(None);
     }
-    turn_each(lanes, from, wires, now)
+    turn_each(lanes, from, wires, buf, now)
 }

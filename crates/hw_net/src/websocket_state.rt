@@ -170,6 +170,7 @@ impl WebSocketState {
             × Writes wire self.old.lane.out.bytes answers self.new.lane.out.bytes result }
         ensures others_unchanged { self.new ≡ record self.old { lane = record self.old.lane { out = record self.old.lane.out { bytes = self.new.lane.out.bytes } } } }
         ensures wires { W.wires wires.new ≡ W.wires wires.old }
+        ensures faults { W.faults wires.old ≤ W.faults wires.new }
     {
         write_frames(wires, wire, &mut self.lane)
     }

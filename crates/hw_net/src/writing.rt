@@ -1,6 +1,6 @@
 //! Writes on a wire, as far as it takes them now.
 
-ghost use Rattle.std.specs.Prelude.{◌≡◌, List};
+ghost use Rattle.std.specs.Prelude.{◌≡◌, ◌≤◌, List};
 ghost use Rattle.hw_door.specs.Traffic.{Answer};
 ghost use Rattle.hw_net.specs.Saying.{Writes};
 ghost use Rattle.hw_net.specs.Trace.{Tells};
@@ -13,6 +13,7 @@ pub fn write_bytes<W: Wires>(wires: &mut W, wire: u64, bytes: &mut Vec<u8>) -> b
     ensures writes { (answers : List Answer) × Tells (W.trace wires.old) (W.trace wires.new) answers
         × Writes wire bytes.old.items answers bytes.new.items result }
     ensures wires { W.wires wires.new ≡ W.wires wires.old }
+    ensures faults { W.faults wires.old ≤ W.faults wires.new }
 {
     while !bytes.is_empty() {
         match wires.write(wire, bytes) {
@@ -32,6 +33,7 @@ pub fn write_frames<W: Wires>(wires: &mut W, wire: u64, lane: &mut SocketLane) -
         × Writes wire lane.old.out.bytes answers lane.new.out.bytes result }
     ensures others_unchanged { lane.new ≡ record lane.old { out = record lane.old.out { bytes = lane.new.out.bytes } } }
     ensures wires { W.wires wires.new ≡ W.wires wires.old }
+    ensures faults { W.faults wires.old ≤ W.faults wires.new }
 {
     while !lane.out().is_empty() {
         match wires.write(wire, lane.out()) {

@@ -13,13 +13,13 @@ returns-in-Heard-clause-hears g c =
     let trace = g.W.Wires.trace in
     let all = c.args.lanes.now.items in
     let cur = c.turn_until.new.lanes.items in
-    let spoken = c.say_all.new.lanes.items in
+    let spoken = c.say_ended.new.lanes.items in
     let end_is : c.len-end.result ≡ length all = search rules in
     let ended = subst (λ n. Ends (trace c.args.wires.now) (trace c.turn_until.new.wires) c.args.now c.index_of_first-index.result n all cur (course.Heard c.in-Heard.event c.in-Heard.next)) end_is
     (rw c.in-Heard.is at c.in_ok-event.ensures.ended) in
-    let said = subst (λ n. (answers : List Answer) × Tells (trace c.turn_until.new.wires) (trace c.say_all.new.wires) answers × Speak c.args.now c.in-Heard.next n cur spoken answers) end_is c.say_all.ensures.said in
-    each-heard (trace c.args.wires.now) (trace c.turn_until.new.wires) (trace c.say_all.new.wires) (trace c.say_all-in-Heard.new.wires) c.args.now c.args.from c.index_of_first-index.result all cur spoken
-    c.say_all-in-Heard.new.lanes.items c.in-Heard.event c.in-Heard.next c.index_of_first-index.ensures (same-length spoken all (search rules)) ended said c.say_all-in-Heard.ensures.said
+    let said = subst (λ n. (answers : List Answer) × Tells (trace c.turn_until.new.wires) (trace c.say_ended.new.wires) answers × Speak c.args.now c.in-Heard.next n cur spoken answers) end_is c.say_ended.ensures.said in
+    each-heard (trace c.args.wires.now) (trace c.turn_until.new.wires) (trace c.say_ended.new.wires) (trace c.say_ended-in-Heard.new.wires) c.args.now c.args.from c.index_of_first-index.result all cur spoken
+    c.say_ended-in-Heard.new.lanes.items c.in-Heard.event c.in-Heard.next c.index_of_first-index.ensures (same-length spoken all (search rules)) ended said c.say_ended-in-Heard.ensures.said
 
 pub returns-in-Quiet-clause-hears : goal.returns-in-Quiet-clause-hears
 returns-in-Quiet-clause-hears g c =

@@ -15,6 +15,7 @@ loop-wires-preserved g c =
       go-on (trace c.args.wires.now) (trace c.loop-wires.wires) (trace c.write.new.self) c.args.wire c.in-Ok.count c.args.bytes.now.items c.loop-wires.bytes.items c.deref.result.now
           _ c.loop-wires.invariant.0 (search rules) (search rules) (search rules) c.in-Ok.ensures.trace (search rules),
       search rules,
+      search rules,
     )
 
 pub returns-in-Err-clause-writes : goal.returns-in-Err-clause-writes

@@ -16,6 +16,7 @@ loop-wires-preserved g c =
           c.drop_out.new.self.out.bytes c.loop-wires.invariant.0 (search rules) (search rules) (search rules) c.in-Ok.ensures.trace (search rules),
       search rules,
       search rules,
+      search rules,
     )
 
 pub returns-in-Err-clause-writes : goal.returns-in-Err-clause-writes

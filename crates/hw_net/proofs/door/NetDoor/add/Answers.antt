@@ -15,4 +15,4 @@ invariant_of-self g c =
     let wires = ap (λ (l : List Lane). wires_of l) after ∙ map_push (λ (l : Lane). l.wire) before c.in-Ok.lane ∙ ap (λ (l : Lane). wires_of before ++ l.wire ∷ []) lane in
     let rising : IsRising 0 c.args.wire (wires_of before) = rw (← c.self.view_is) at c.requires.later in
     let within = rw (← c.self.view_is) at c.requires.bound in
-    subst (λ l. IsRising 0 bound l) (sym wires) (come-rise 0 c.args.wire bound c.args.wire (wires_of before) (omega arith) within rising)
+    (subst (λ l. IsRising 0 bound l) (sym wires) (come-rise 0 c.args.wire bound c.args.wire (wires_of before) (omega arith) within rising), c.self.invariant.1)

@@ -19,5 +19,5 @@ returns-clause-sent g c =
 
 pub returns-clause-answer : goal.returns-clause-answer
 returns-clause-answer g c =
-    full-there c.args.lane (g.W.Wires.wires c.self.inside.wires) c.self.inside.lanes.items c.send.new.self.items c.in-Some.index c.in_ok-is_full.is_full c.self.invariant c.send.ensures.lanes (search rules)
+    full-there c.args.lane (g.W.Wires.wires c.self.inside.wires) c.self.inside.lanes.items c.send.new.self.items c.in-Some.index c.in_ok-is_full.is_full c.self.invariant.0 c.send.ensures.lanes (search rules)
     c.in_ok-is_full.ensures.answer

@@ -10,8 +10,8 @@ returns-clause-sent g c =
       | then-branch w ↦
           let is_put : c.in_ok-put.field-0 ≡ true = search rules in
           let put = rw is_put at c.in_ok-put.ensures.put in
-          rw (w.wires-is, w.self-is) (sent-more (trace c.args.wires.now) (trace w.say_more.new.wires) c.args.now c.args.bytes.now c.args.text c.args.self.now c.put.new.self w.say_more.new.self w.note_message.new.self put
-          w.say_more.ensures.said w.note_message.ensures)
+          rw (w.wires-is, w.self-is) (sent-more (trace c.args.wires.now) (trace w.gather_or_say.new.wires) c.args.now c.args.bytes.now c.args.text c.args.self.now c.put.new.self w.gather_or_say.new.self w.note_message.new.self put
+          w.gather_or_say.ensures.said w.note_message.ensures)
       | else-branch w ↦
           let is_put : c.in_ok-put.field-0 ≡ false = search rules in
           let put = rw is_put at c.in_ok-put.ensures.put in

@@ -6,6 +6,8 @@ use Rattle.hw_net.specs.Door.{kept}
 use Rattle.hw_net.specs.Lane.{Lane, is_over}
 use Rattle.hw_net.specs.Resting.{IsKnown}
 use Rattle.hw_net.specs.Tally.{tally_of}
+use Rattle.hw_net.specs.Writers.{IsListOf}
+use Rattle.hw_net.proofs.Gathering.{listed-kept}
 use Rattle.hw_net.proofs.Resting.{known-kept}
 use Rattle.hw_net.proofs.Tallying.{none-goes, over-go}
 use Rattle.hw_net.proofs.lanes.Lanes.clear.Goals as goal
@@ -16,6 +18,7 @@ invariant_of-self c =
     record {
       counted = c.forget_over.ensures ∙ ap (λ (t : Tally). record t { over = 0 }) c.self.invariant.counted ∙ over-go c.self.inside.items.items ∙ ap (λ (l : List Lane). tally_of l) (sym same);
       known = subst (All (IsKnown c.self.inside.due)) (sym same) (known-kept c.self.inside.due c.self.inside.items.items c.self.invariant.known);
+      listed = subst (IsListOf c.self.inside.writers) (sym same) (listed-kept c.self.inside.writers c.self.inside.items.items c.self.invariant.listed);
     }
 
 pub returns-then-has_over : goal.returns-then-has_over

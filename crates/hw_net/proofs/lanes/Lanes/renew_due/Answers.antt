@@ -16,4 +16,5 @@ invariant_of-self c =
     record {
       counted = c.self.invariant.counted;
       known = subst (All (IsKnown c.loop-index.due)) (take_all c.loop-index.index c.self.inside.items.items past) c.loop-index.invariant;
+      listed = c.self.invariant.listed;
     }

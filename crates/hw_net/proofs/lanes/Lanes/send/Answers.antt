@@ -1,4 +1,5 @@
 use Rattle.std.proofs.Common.{rules, ◌≡◌, ◌<◌, ◌+◌, ◌^◌, ◌∙◌, length, get_or}
+use Rattle.hw_net.proofs.Gathering.{listed-again}
 use Rattle.hw_net.proofs.Sweeps.{wires-kept}
 use Rattle.hw_net.proofs.Resting.{known-again}
 use Rattle.hw_net.proofs.Tallying.{at-counted, room-again, put-again}
@@ -23,6 +24,8 @@ invariant_of-self g c =
       counted = put-again c.self.inside.items.items c.args.index c.index_mut-lane.result.now c.send-sent.new.self c.self.inside.tally c.leave.new.self c.enter.new.self within found
           c.self.invariant.counted c.leave.ensures c.enter.ensures;
       known = known-again c.self.inside.due _ _ c.self.inside.items.items c.args.index c.send-sent.new.self (search rules) (search rules) c.self.invariant.known c.due.ensures;
+      listed = listed-again c.self.inside.writers c.list.new.self c.self.inside.items.items c.args.index c.index_mut-lane.result.now c.send-sent.new.self c.is_writer-was_writer.result within found (search rules) (search rules)
+          c.self.invariant.listed c.list.ensures;
     }
 
 pub returns-clause-lanes : goal.returns-clause-lanes

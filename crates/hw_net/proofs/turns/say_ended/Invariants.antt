@@ -3,7 +3,7 @@ use Rattle.hw_door.specs.Traffic.{Answer}
 use Rattle.hw_net.specs.Lane.{wires_of}
 use Rattle.hw_net.specs.Trace.{Tells}
 use Rattle.hw_net.specs.Walks.{Speak}
-use Rattle.hw_net.proofs.turns.say_all.Given as goal
+use Rattle.hw_net.proofs.turns.say_ended.Given as goal
 
 abbrev pub invariant-loop-index : goal.invariant-loop-index
 invariant-loop-index g l =
