@@ -235,14 +235,14 @@ pub begins : {H Job : Type 0} (hub : Hub Job) (old mid : Machine H Job) (r : Reg
     → StandsMachine {H = H} hub old w → settings_of c w ≡ None → 0 < c → mid ≡ record old { registry = r } → Updates nat_cmp mid.peers ps c (Some p)
     → AddsOne mid.idle_set taken now (btree_map_len mid.peers) (btree_map_len ps) c → Stands {H = H} hub t p []
     → NamesIn {H = H} {Job = Job} old mid c user
-    → StandsMachine {H = H} hub (record { peers = ps; registry = mid.registry; idle_set = now }) (Connects c t user ∷ w)
+    → StandsMachine {H = H} hub (record mid { peers = ps; idle_set = now }) (Connects c t user ∷ w)
 begins {H} {Job} hub old mid r taken now ps w c t user p s fresh from_one kept updates adds stands names =
-    let new : Machine H Job = record { peers = ps; registry = mid.registry; idle_set = now } in
+    let new : Machine H Job = record mid { peers = ps; idle_set = now } in
     connects {H = H} {Job = Job} hub old new w c t user p s fresh from_one
     (put old new c p (subst (λ m. Updates nat_cmp m.peers ps c (Some p)) kept updates)) taken
     (subst (λ m. AddsOne m.idle_set taken now (btree_map_len m.peers) (btree_map_len ps) c) kept adds) stands (renames user names)
   where
     renames : (o : Option (List ℕ)) → NamesIn {H = H} {Job = Job} old mid c o
-        → NamesIn {H = H} {Job = Job} old (record { peers = ps; registry = mid.registry; idle_set = now }) c o
+        → NamesIn {H = H} {Job = Job} old (record mid { peers = ps; idle_set = now }) c o
     renames None e = e
     renames (Some u) e = e

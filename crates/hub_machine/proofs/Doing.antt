@@ -1,9 +1,9 @@
 -- What moves of one connection's peer change in what the machine stands for.
-use Rattle.std.proofs.Common.{◌≡◌, ℕ, ◌==◌, Bool, true, false, not, ◌&&◌, List, [], ◌∷◌, ◌++◌, Option, Some, None, is_some, refl, sym, ap, subst, ◌∙◌, arith}
+use Rattle.std.proofs.Common.{◌≡◌, ℕ, ◌==◌, Bool, true, false, not, ◌&&◌, List, [], ◌∷◌, ◌++◌, Option, Some, None, is_some, refl, sym, ap, subst, ◌∙◌, true≢false, arith}
 use Rattle.std.specs.Prelude.{if◌then◌else◌}
 use Rattle.std.specs.BTreeMap.{btree_map_len}
 use Rattle.std.specs.Vec.{vec_capacity}
-use Rattle.std.proofs.lemmas.Bool.{eqb-true, eq-eqb, cond-true, cond-false, cond_both, both_ways}
+use Rattle.std.proofs.lemmas.Bool.{and_parts, eqb-true, eq-eqb, cond-true, cond-false, cond_both, both_ways}
 use Rattle.hd_delivery.specs.declared.vocabulary.Got.TheVariants as gives
 use Rattle.hd_delivery.specs.Histories.{EndEvent, Detached, Took, Failed, Silenced, Closed, Config, is_closed, is_resumable}
 use Rattle.hd_delivery.specs.Bytes.{Wire, ByteStep, Bytes, Does as Step_of, in_frames}
@@ -184,6 +184,14 @@ index_stays old new keeps i = record {
       ∙ ap (λ o. is_some (peer_at new c) && not (is_some o)) (sym (idle_peer_stays old new c keeps.idle_set));
   room = let e = keeps.count in let f = ap (λ s. vec_capacity s.awake.numbers) keeps.idle_set in let l = i.room in omega (arith, e, f, l);
 }
+
+-- one that is listed as awake doesn't sleep
+pub listed_is_awake : {H Job : Type 0} (m : Machine H Job) (c : ℕ) → IsIndexed {H = H} m → is_awake_in m.idle_set c ≡ true → idle_peer_at m c ≡ None
+listed_is_awake m c index e = by (idle_peer_at m c) refl (and_parts _ _ (sym (index.awake c) ∙ e)).1
+  where
+    by : (o : Option IdlePeer) → idle_peer_at m c ≡ o → not (is_some o) ≡ true → o ≡ None
+    by None f g = refl
+    by (Some idle_peer) f g = absurd (true≢false (sym g))
 
 -- the machine has this peer at the connection, and is as it was at others
 pub record PutsPeer {H Job : Type 0} (old new : Machine H Job) (c : ℕ) (p : Peer H Job) : Type 0 where

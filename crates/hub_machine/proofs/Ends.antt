@@ -10,11 +10,11 @@ use Rattle.hd_calls.specs.Peers.{PeerEvent, Settings, is_shut}
 use Rattle.hg_groups.specs.Standing.{StandsRegistry}
 use Rattle.hd_server.specs.Machine.{MachineEvent, moves, registry}
 use Rattle.hp_peer.specs.declared.peer.Peer.{Peer}
-use Rattle.hp_peer.specs.Stands.{Stands}
+use Rattle.hp_peer.specs.Stands.{OfEach, Stands}
 use Rattle.hub_machine.specs.declared.machine.Machine.{Machine}
 use Rattle.hub_machine.specs.declared.idle_set.IdlePeer.{IdlePeer}
 use Rattle.hub_machine.specs.Machines.{IsAsItWas, IsKeptAs, IsPeerOf, StandsMachine, idle_peer_at, peer_at, settings_there}
-use Rattle.hub_machine.specs.Calls.{ClosesOut, doing}
+use Rattle.hub_machine.specs.Calls.{ClosesOut, ClosesOutIf, doing}
 use Rattle.hub_machine.proofs.Doing.{KeepsIdleSet, PutsPeer, awake_is, index_stays, kept_stays, stands_closing, stands_on}
 
 -- ---- a peer that is lent
@@ -70,6 +70,14 @@ unstood {H} {Job} hub m w c t s there at =
 
 -- ---- a call of its end
 
+-- it leaves everything if its end is closed, since this says whether
+pub closes_if : {H Job : Type 0} (hub : Hub Job) (old : Machine H Job) (c : ℕ) (was p : Peer H Job) → Some was ≡ peer_at old c
+    → (ps : BTreeMap ℕ (Peer H Job)) → WritesThrough nat_cmp (nat_cmp c) old.peers p ps → (new : Machine H Job) (over : Bool)
+    → ClosesOutIf {H = H} hub (record old { peers = ps }) new c over → OfEach {H = H} hub p (λ t h. over ≡ is_shut t h)
+    → ClosesOut {H = H} hub (record old { peers = ps }) new c
+closes_if {H} {Job} hub old c was p at ps through new over out says =
+    out p (written {H = H} {Job = Job} old (record old { peers = ps }) c was p at through).at says
+
 module _ {H Job : Type 0} (hub : Hub Job) (old : Machine H Job) (w : List MachineEvent) (c : ℕ) (t : Settings) (was p : Peer H Job) (ms : List PeerEvent)
     (s : StandsMachine {H = H} hub old w) (there : settings_there c w ≡ Some t) (at : Some was ≡ peer_at old c) (awake : idle_peer_at old c ≡ None)
     (ps : BTreeMap ℕ (Peer H Job)) (through : WritesThrough nat_cmp (nat_cmp c) old.peers p ps)
@@ -100,6 +108,12 @@ module _ {H Job : Type 0} (hub : Hub Job) (old : Machine H Job) (w : List Machin
       (λ e. out.unshut p t (ms ++ moves c w) puts.at now e ∙ kept)
       (λ e l r. out.shut p t (ms ++ moves c w) puts.at now e l (subst (λ x. StandsRegistry x l) (sym kept) r))
 
+  -- the same where this says whether its end is closed
+  pub closes_out_if : (new : Machine H Job) (over : Bool) → ClosesOutIf {H = H} hub (record old { peers = ps }) new c over
+      → OfEach {H = H} hub p (λ t h. over ≡ is_shut t h) → StandsMachine {H = H} hub new (doing c ms w)
+  closes_out_if new over out says =
+      closes_out (record old { peers = ps }) new refl (closes_if {H = H} {Job = Job} hub old c was p at ps through new over out says)
+
   -- it is as closed as it was
   pub goes_on : is_shut t (ms ++ moves c w) ≡ is_shut t (moves c w) → StandsMachine {H = H} hub (record old { peers = ps }) (doing c ms w)
   goes_on same =
@@ -124,6 +138,13 @@ unchanged {H} hub old new peers keeps kept = record {
     from_one = s.from_one;
   };
 }
+
+-- nothing but the memory in which JSON is read is other than it was
+pub scratched : {H Job : Type 0} (hub : Hub Job) (old new : Machine H Job) → new.peers ≡ old.peers → new.idle_set ≡ old.idle_set
+    → new.registry ≡ old.registry → (w : List MachineEvent) → StandsMachine {H = H} hub old w → StandsMachine {H = H} hub new w
+scratched {H} {Job} hub old new peers idle_set kept =
+    (unchanged {H = H} {Job = Job} hub old new (λ c. ap (λ m. get nat_cmp m c) peers)
+    (record { idle_set = idle_set; count = ap (λ m. btree_map_len m) peers; there = λ k. ap (λ m. is_some (get nat_cmp m k)) peers }) kept).stands
 
 -- the peer that was lent is what it was
 pub written_same : {H Job : Type 0} (hub : Hub Job) (old : Machine H Job) (c : ℕ) (was p : Peer H Job) (ps : BTreeMap ℕ (Peer H Job))

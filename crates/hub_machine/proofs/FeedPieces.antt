@@ -1,4 +1,4 @@
--- How one connection's end is fed piece by piece.
+-- How a peer is fed piece by piece.
 use Rattle.std.proofs.Common.{inl, inr, ◌≡◌, ◌⊎◌, ℕ, ◌+◌, ◌-◌, ◌<◌, ◌≤◌, Bool, true, false, not, ◌&&◌, List, [], ◌∷◌, ◌++◌, length, take, drop}
 use Rattle.std.proofs.Common.{Option, Some, None, is_some, refl, sym, ap, ◌∙◌, subst, arith, append_assoc, length-take}
 use Rattle.std.specs.Prelude.{min}
@@ -12,14 +12,13 @@ use Rattle.he_end.specs.Calls.{taken_at}
 use Rattle.he_wire.specs.Laws.{WireIsSound}
 use Rattle.hd_calls.specs.Hubs.{Hub}
 use Rattle.hd_calls.specs.Peers.{PeerEvent, Plain, Settings, byte_steps, is_shut, steps}
-use Rattle.hd_server.specs.Machine.{MachineEvent, Does, moves}
 use Rattle.hd_server.specs.Serves.{Feeds, TakesAll, can_feed, next_piece, unread_on}
-use Rattle.hub_machine.specs.declared.machine.Machine.{Machine}
-use Rattle.hub_machine.specs.Machines.{StandsMachine, settings_there}
-use Rattle.hub_machine.specs.Calls.{doing}
-use Rattle.hub_machine.specs.Traffic.{FeedsBytes, FeedsPiece, IsClear, IsPiece, TakesWhole}
-use Rattle.hub_machine.proofs.Doing.{moves_done}
-use Rattle.hub_machine.proofs.FeedAt.{doing_twice, history_there, sound_there}
+use Rattle.hp_peer.specs.declared.peer.Peer.{Peer}
+use Rattle.hp_peer.specs.Stands.{Stands}
+use Rattle.hub_machine.specs.PeerTraffic.{FeedsPeer, FeedsPiece, IsPiece, TakesWhole}
+use Rattle.hub_machine.specs.Traffic.{IsClear}
+use Rattle.hub_machine.proofs.Doing.{peer_is}
+use Rattle.hub_machine.proofs.Lags.{is_sound}
 
 -- ---- one piece
 
@@ -39,11 +38,8 @@ fed_there t h e = by (present_link (steps t h)) refl (is_shut t h) refl e
     by (Some l) at true shut e = absurd (cc)
     by None at b shut e = absurd (cc)
 
-module _ (room : TakenHasRoom) (sound : WireIsSound) {H Job : Type 0} (hub : Hub Job) (m : Machine H Job) (w : List MachineEvent) (c : ℕ) (t : Settings)
-    (s : StandsMachine {H = H} hub m w) (there : settings_there c w ≡ Some t) (clear : IsClear t (moves c w)) (bytes : List ℕ) (n : ℕ) where
-  abbrev h : List PeerEvent
-  h = moves c w
-
+module _ (room : TakenHasRoom) (sound : WireIsSound) {H Job : Type 0} (hub : Hub Job) (t : Settings) (h : List PeerEvent) (was : Peer H Job)
+    (s : Stands {H = H} hub t was h) (clear : IsClear t h) (bytes : List ℕ) (n : ℕ) where
   abbrev piece : List ℕ
   piece = take n bytes
 
@@ -55,8 +51,8 @@ module _ (room : TakenHasRoom) (sound : WireIsSound) {H Job : Type 0} (hub : Hub
     has_room =
         room t.limits t.wire t.config (byte_steps t h) l
         (record {
-          sound = sound_there {H = H} {Job = Job} hub m w c t s there sound;
-          is_history = history_there {H = H} {Job = Job} hub m w c t s there;
+          sound = is_sound {H = H} {Job = Job} hub t was h s sound;
+          is_history = (peer_is {H = H} {Job = Job} hub t was h s).is_history;
           here = at;
         })
         live clear.taken
@@ -75,9 +71,8 @@ module _ (room : TakenHasRoom) (sound : WireIsSound) {H Job : Type 0} (hub : Hub
     has_some : 0 < length bytes → 0 < length piece
     has_some some = let r = has_room.room in let f = as_much in omega (arith, some, length-take n bytes)
 
-    pub piece_taken : (new : Machine H Job) (now : ℕ) → can_feed t h ≡ true
-        → TakesWhole {H = H} hub new c (Does c (Plain (Bytes piece)) ∷ w) t (Plain (Bytes piece) ∷ h) now
-        → FeedsPiece {H = H} hub new c w t h now n bytes
+    pub piece_taken : (new : Peer H Job) (now : ℕ) → can_feed t h ≡ true → TakesWhole {H = H} hub t (Plain (Bytes piece) ∷ h) new now
+        → FeedsPiece {H = H} hub t h new now n bytes
     piece_taken new now can whole =
         let fed : PeerEvent = Plain (Bytes piece) in
         let same : (whole.moves ++ fed ∷ []) ++ h ≡ whole.moves ++ fed ∷ h = append_assoc whole.moves (fed ∷ []) h in
@@ -86,42 +81,31 @@ module _ (room : TakenHasRoom) (sound : WireIsSound) {H Job : Type 0} (hub : Hub
           moves = whole.moves ++ fed ∷ [];
           how = inr (record { live = can; next = is_next; some = has_some; takes = takes });
           clear = record { handled = takes.none_waits; taken = takes.none_left };
-          stands = subst (λ y. StandsMachine {H = H} hub new y) (doing_twice c whole.moves (fed ∷ []) w) whole.stands;
+          stands = subst (λ y. Stands {H = H} hub t new y) (sym same) whole.stands;
         }
 
 -- nothing can be fed
-pub none_fed : {H Job : Type 0} (hub : Hub Job) (m : Machine H Job) (w : List MachineEvent) (c : ℕ) (t : Settings) (now : ℕ) (bytes : List ℕ)
-    → StandsMachine {H = H} hub m w → IsClear t (moves c w) → can_feed t (moves c w) ≡ false → FeedsPiece {H = H} hub m c w t (moves c w) now 0 bytes
-none_fed hub m w c t now bytes s clear can = record { moves = []; how = inl (can, refl, refl); clear = clear; stands = s }
-
--- what is told of one more
-pub piece_at : {H Job : Type 0} (hub : Hub Job) (new : Machine H Job) (c : ℕ) (w : List MachineEvent) (t : Settings) (now n : ℕ) (bytes : List ℕ)
-    (ms : List PeerEvent)
-    → IsClear t (ms ++ moves c w)
-    → (IsClear t (moves c (doing c ms w)) → FeedsPiece {H = H} hub new c (doing c ms w) t (moves c (doing c ms w)) now n bytes)
-    → FeedsPiece {H = H} hub new c (doing c ms w) t (ms ++ moves c w) now n bytes
-piece_at {H} hub new c w t now n bytes ms clear fed =
-    subst (λ h. FeedsPiece {H = H} hub new c (doing c ms w) t h now n bytes) (moves_done c ms w)
-    (fed (subst (λ h. IsClear t h) (sym (moves_done c ms w)) clear))
+pub none_fed : {H Job : Type 0} (hub : Hub Job) (t : Settings) (h : List PeerEvent) (p : Peer H Job) (now : ℕ) (bytes : List ℕ)
+    → Stands {H = H} hub t p h → IsClear t h → can_feed t h ≡ false → FeedsPiece {H = H} hub t h p now 0 bytes
+none_fed hub t h p now bytes s clear can = record { moves = []; how = inl (can, refl, refl); clear = clear; stands = s }
 
 -- ---- piece by piece
 
 -- so many of the bytes were fed, and whatever is fed then comes after that
-pub record HasFed {H Job : Type 0} (hub : Hub Job) (new : Machine H Job) (c : ℕ) (w : List MachineEvent) (t : Settings) (h : List PeerEvent) (now : ℕ)
-    (bytes : List ℕ) (at : ℕ) : Type 0 where
+pub record HasFed {H Job : Type 0} (hub : Hub Job) (t : Settings) (h : List PeerEvent) (new : Peer H Job) (now : ℕ) (bytes : List ℕ)
+    (at : ℕ) : Type 0 where
   pub moves : List PeerEvent
   pub onward : (after : List PeerEvent) (ps : List (List ℕ)) → Feeds t now true (drop at bytes) ps (moves ++ h) after
       → (qs : List (List ℕ)) × Feeds t now false bytes qs h after
   pub clear : IsClear t (moves ++ h)
-  pub stands : StandsMachine {H = H} hub new (doing c moves w)
+  pub stands : Stands hub t new (moves ++ h)
 
 take_length : (n : ℕ) (bytes : List ℕ) → n ≤ length bytes → length (take n bytes) ≡ n
 take_length n bytes few = omega (arith, few, length-take n bytes)
 
-module _ {H Job : Type 0} (hub : Hub Job) (c : ℕ) (w : List MachineEvent) (t : Settings) (h : List PeerEvent) (now : ℕ) (bytes : List ℕ) where
+module _ {H Job : Type 0} (hub : Hub Job) (t : Settings) (h : List PeerEvent) (now : ℕ) (bytes : List ℕ) where
   -- the first piece
-  pub fed_first : (new : Machine H Job) (n : ℕ) → n ≤ length bytes → FeedsPiece {H = H} hub new c w t h now n bytes
-      → HasFed {H = H} hub new c w t h now bytes n
+  pub fed_first : (new : Peer H Job) (n : ℕ) → n ≤ length bytes → FeedsPiece {H = H} hub t h new now n bytes → HasFed {H = H} hub t h new now bytes n
   fed_first new n few fed = record { moves = fed.moves; onward = onward fed.how; clear = fed.clear; stands = fed.stands }
     where
       onward : ((can_feed t h ≡ false) × (n ≡ 0) × (fed.moves ≡ [])) ⊎ IsPiece t h now bytes (take n bytes) (fed.moves ++ h)
@@ -144,18 +128,18 @@ module _ {H Job : Type 0} (hub : Hub Job) (c : ℕ) (w : List MachineEvent) (t :
         ),
       )
 
-  module _ (old new : Machine H Job) (at n : ℕ) (has : HasFed {H = H} hub old c w t h now bytes at) (rest : List ℕ) (is : rest ≡ drop at bytes)
-      (fed : FeedsPiece {H = H} hub new c (doing c has.moves w) t (has.moves ++ h) now n rest) where
+  module _ (old new : Peer H Job) (at n : ℕ) (has : HasFed {H = H} hub t h old now bytes at) (rest : List ℕ) (is : rest ≡ drop at bytes)
+      (fed : FeedsPiece {H = H} hub t (has.moves ++ h) new now n rest) where
     abbrev x : List PeerEvent
     x = has.moves ++ h
 
     -- a further one
-    pub fed_more : n ≤ length rest → 0 < length rest → 0 < n → HasFed {H = H} hub new c w t h now bytes (at + n)
+    pub fed_more : n ≤ length rest → 0 < length rest → 0 < n → HasFed {H = H} hub t h new now bytes (at + n)
     fed_more few left some = record {
       moves = fed.moves ++ has.moves;
       onward = λ after ps feeds. onward fed.how after ps (subst (λ y. Feeds t now true (drop (at + n) bytes) ps y after) same feeds);
       clear = subst (λ y. IsClear t y) (sym same) fed.clear;
-      stands = subst (λ y. StandsMachine {H = H} hub new y) (doing_twice c fed.moves has.moves w) fed.stands;
+      stands = subst (λ y. Stands {H = H} hub t new y) (sym same) fed.stands;
     }
       where
         same : (fed.moves ++ has.moves) ++ h ≡ fed.moves ++ x
@@ -178,11 +162,11 @@ module _ {H Job : Type 0} (hub : Hub Job) (c : ℕ) (w : List MachineEvent) (t :
             ))
 
     -- it took no more
-    pub fed_stopped : 0 < length rest → n ≡ 0 → FeedsBytes {H = H} hub new c w t h now false bytes
+    pub fed_stopped : 0 < length rest → n ≡ 0 → FeedsPeer {H = H} hub t h new now bytes
     fed_stopped left none = stopped fed.how
       where
         stopped : ((can_feed t x ≡ false) × (n ≡ 0) × (fed.moves ≡ [])) ⊎ IsPiece t x now rest (take n rest) (fed.moves ++ x)
-            → FeedsBytes {H = H} hub new c w t h now false bytes
+            → FeedsPeer {H = H} hub t h new now bytes
         stopped (inl (can, zero_fed, unmoved)) =
             let all = has.onward x [] (inl can, refl) in
             record {
@@ -190,13 +174,12 @@ module _ {H Job : Type 0} (hub : Hub Job) (c : ℕ) (w : List MachineEvent) (t :
               moves = has.moves;
               feeds = all.1;
               clear = has.clear;
-              stands = subst (λ ms. StandsMachine {H = H} hub new (doing c ms (doing c has.moves w))) unmoved fed.stands;
+              stands = subst (λ ms. Stands {H = H} hub t new (ms ++ x)) unmoved fed.stands;
             }
         stopped (inr one) = absurd (let some = one.some left in omega (arith, some, none, length-take n rest))
 
   -- all of them are fed
-  pub fed_all : (new : Machine H Job) (at : ℕ) → length bytes ≤ at → HasFed {H = H} hub new c w t h now bytes at
-      → FeedsBytes {H = H} hub new c w t h now false bytes
+  pub fed_all : (new : Peer H Job) (at : ℕ) → length bytes ≤ at → HasFed {H = H} hub t h new now bytes at → FeedsPeer {H = H} hub t h new now bytes
   fed_all new at end has =
       let all = has.onward (has.moves ++ h) [] (inr (refl, drop_all at bytes end), refl) in
       record { pieces = all.0; moves = has.moves; feeds = all.1; clear = has.clear; stands = has.stands }

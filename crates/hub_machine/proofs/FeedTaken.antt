@@ -1,4 +1,4 @@
--- What one connection's end takes, one after another, until nothing is left.
+-- What a peer takes, one after another, until nothing is left.
 use Rattle.std.proofs.Common.{inl, inr, ◌≡◌, ◌⊎◌, ℕ, zero, suc, ◌+◌, ◌-◌, ◌^◌, ◌<◌, ◌≤◌, Bool, true, false, ◌&&◌, List, [], ◌∷◌, ◌++◌, length, Option}
 use Rattle.std.proofs.Common.{Some, None, option_map, refl, sym, ap, ◌∙◌, subst, arith, append_assoc, if◌then◌else◌, true≢false}
 use Rattle.std.proofs.lemmas.Bool.{eq-eqb}
@@ -18,20 +18,16 @@ use Rattle.hd_delivery.specs.Bounds.{most_frame}
 use Rattle.hd_calls.specs.Hubs.{Hub}
 use Rattle.hd_calls.specs.Peers.{Effect, Begins, InUse, TooMany, Brings, Feeds, Flood, Marks, Nothing, PeerEvent, Plain, Reads, Handles, Settings, add}
 use Rattle.hd_calls.specs.Peers.{byte_steps, is_shut, reason_of, shuts, steps, waiting}
-use Rattle.hd_server.specs.Machine.{MachineEvent, moves}
-use Rattle.hd_server.specs.Machine as machine
 use Rattle.hd_server.specs.Serves.{is_taking}
 use Rattle.hp_peer.specs.declared.did.Did.{Did}
 use Rattle.hp_peer.specs.declared.did.Did.TheVariants as did
 use Rattle.hp_peer.specs.declared.errors.PeerError.{PeerError}
 use Rattle.hp_peer.specs.declared.errors.PeerError.TheVariants as error
-use Rattle.hp_peer.specs.Taking.{IsNext, IsToldAs}
-use Rattle.hub_machine.specs.declared.machine.Machine.{Machine}
-use Rattle.hub_machine.specs.Machines.{StandsMachine}
-use Rattle.hub_machine.specs.Calls.{HasHandled, HasRead, IsUnhandled, IsUntaken, OfNextHere, Takes, doing}
-use Rattle.hub_machine.specs.Traffic.{TakesOne, TakesWhole}
-use Rattle.hub_machine.proofs.Doing.{moves_done, shut_stays}
-use Rattle.hub_machine.proofs.FeedAt.{doing_twice}
+use Rattle.hp_peer.specs.declared.peer.Peer.{Peer}
+use Rattle.hp_peer.specs.Stands.{Stands}
+use Rattle.hp_peer.specs.Taking.{HasHandled, HasRead, IsNext, IsToldAs, IsUnhandled, IsUntaken, OfNext, Takes}
+use Rattle.hub_machine.specs.PeerTraffic.{TakesOne, TakesWhole}
+use Rattle.hub_machine.proofs.Doing.{shut_stays}
 
 -- ---- what is taken
 
@@ -64,17 +60,16 @@ abbrev IsOne : Settings → List PeerEvent → List PeerEvent → Type 0
 IsOne t x ms = ((waiting x ≡ None → ⊥) × ComesTo t (ms ++ x) (byte_steps t x))
     ⊎ ((s : EndEvent) × IsNext t x s × ComesTo t (ms ++ x) (Step_of s ∷ byte_steps t x))
 
-pub record HasTakenOne {H Job : Type 0} (hub : Hub Job) (new : Machine H Job) (c : ℕ) (w : List MachineEvent) (t : Settings) (x : List PeerEvent)
-    (now : ℕ) : Type 0 where
+pub record HasTakenOne {H Job : Type 0} (hub : Hub Job) (t : Settings) (x : List PeerEvent) (new : Peer H Job) (now : ℕ) : Type 0 where
   pub moves : List PeerEvent
   pub each : list_all (is_taking now) moves ≡ true
   pub rests : waiting (moves ++ x) ≡ None
   pub one : IsOne t x moves
-  pub stands : StandsMachine {H = H} hub new (doing c moves w)
+  pub stands : Stands hub t new (moves ++ x)
 
-module _ {H Job : Type 0} (hub : Hub Job) (new : Machine H Job) (c : ℕ) (w : List MachineEvent) (t : Settings) (x : List PeerEvent) (now : ℕ) where
+module _ {H Job : Type 0} (hub : Hub Job) (t : Settings) (x : List PeerEvent) (new : Peer H Job) (now : ℕ) where
   -- no message
-  read : (s : EndEvent) → is_taking now (Plain (Step_of s)) ≡ true → HasRead {H = H} hub new c w t x s → HasTakenOne {H = H} hub new c w t x now
+  read : (s : EndEvent) → is_taking now (Plain (Step_of s)) ≡ true → HasRead {H = H} hub t x new s → HasTakenOne {H = H} hub t x new now
   read s takes has = record {
     moves = Plain (Step_of s) ∷ [];
     each = ap (λ b. b && true) takes;
@@ -84,8 +79,8 @@ module _ {H Job : Type 0} (hub : Hub Job) (new : Machine H Job) (c : ℕ) (w : L
   }
 
   -- a message that waited
-  handled : (m : Message) (e : Effect) → waiting x ≡ Some m → is_taking now (Handles m e) ≡ true
-      → StandsMachine {H = H} hub new (machine.Does c (Handles m e) ∷ w) → HasTakenOne {H = H} hub new c w t x now
+  handled : (m : Message) (e : Effect) → waiting x ≡ Some m → is_taking now (Handles m e) ≡ true → Stands {H = H} hub t new (Handles m e ∷ x)
+      → HasTakenOne {H = H} hub t x new now
   handled m e waits takes stands = record {
     moves = Handles m e ∷ [];
     each = ap (λ b. b && true) takes;
@@ -99,7 +94,7 @@ module _ {H Job : Type 0} (hub : Hub Job) (new : Machine H Job) (c : ℕ) (w : L
 
   -- a message that was read
   read_handled : (m : Message) (e : Effect) → IsNext t x (Took (gives.Message m)) → is_taking now (Handles m e) ≡ true
-      → StandsMachine {H = H} hub new (machine.Does c (Handles m e) ∷ machine.Does c (Reads m) ∷ w) → HasTakenOne {H = H} hub new c w t x now
+      → Stands {H = H} hub t new (Handles m e ∷ Reads m ∷ x) → HasTakenOne {H = H} hub t x new now
   read_handled m e next takes stands = record {
     moves = Handles m e ∷ Reads m ∷ [];
     each = ap (λ b. b && true) takes;
@@ -108,21 +103,21 @@ module _ {H Job : Type 0} (hub : Hub Job) (new : Machine H Job) (c : ℕ) (w : L
     stands = stands;
   }
 
-  by_next : (Holds : Message → List PeerEvent → Type 0) (effect : (m : Message) (read : List PeerEvent) → Holds m read → Effect)
-      → ((m : Message) (read : List PeerEvent) (has : Holds m read) → (is_taking now (Handles m (effect m read has)) ≡ true)
-      × StandsMachine {H = H} hub new (machine.Does c (Handles m (effect m read has)) ∷ doing c read w))
-      → (o : Option Message) → waiting x ≡ o → OfNextHere t x o Holds → HasTakenOne {H = H} hub new c w t x now
-  by_next Holds effect each (Some m) e has = handled m (effect m [] has) e (each m [] has).0 (each m [] has).1
+  by_next : (Holds : Message → List PeerEvent → Type 0) (effect : (m : Message) (y : List PeerEvent) → Holds m y → Effect)
+      → ((m : Message) (y : List PeerEvent) (has : Holds m y) → (is_taking now (Handles m (effect m y has)) ≡ true)
+      × Stands {H = H} hub t new (Handles m (effect m y has) ∷ y))
+      → (o : Option Message) → waiting x ≡ o → OfNext t x o Holds → HasTakenOne {H = H} hub t x new now
+  by_next Holds effect each (Some m) e has = handled m (effect m x has) e (each m x has).0 (each m x has).1
   by_next Holds effect each None e has =
-      let of_read = each has.0 (Reads has.0 ∷ []) has.2 in
-      read_handled has.0 (effect has.0 (Reads has.0 ∷ []) has.2) has.1 of_read.0 of_read.1
+      let of_read = each has.0 (Reads has.0 ∷ x) has.2 in
+      read_handled has.0 (effect has.0 (Reads has.0 ∷ x) has.2) has.1 of_read.0 of_read.1
 
-  of_told : (told : Did) → OfNextHere t x (waiting x) (HasHandled {H = H} hub new c w x now told) → HasTakenOne {H = H} hub new c w t x now
+  of_told : (told : Did) → OfNext t x (waiting x) (HasHandled {H = H} hub t new now told) → HasTakenOne {H = H} hub t x new now
   of_told told has =
-      by_next (HasHandled {H = H} hub new c w x now told) (λ m read h. h.effect)
-      (λ m read h. (told_taking (read ++ x) now m h.effect told h.told_as, h.stands)) (waiting x) refl has
+      by_next (HasHandled {H = H} hub t new now told) (λ m y h. h.effect)
+      (λ m y h. (told_taking y now m h.effect told h.told_as, h.stands)) (waiting x) refl has
 
-  took : (told : Did) → Takes {H = H} hub new c w t x now (Some told) → HasTakenOne {H = H} hub new c w t x now
+  took : (told : Did) → Takes {H = H} hub t x new now (Some told) → HasTakenOne {H = H} hub t x new now
   took (did.Other got) has = read (Took got) refl has
   took (did.Began job id target arguments) has = of_told (did.Began job id target arguments) has
   took (did.Item call value) has = of_told (did.Item call value) has
@@ -131,24 +126,23 @@ module _ {H Job : Type 0} (hub : Hub Job) (new : Machine H Job) (c : ℕ) (w : L
   took (did.Cancelled id) has = of_told (did.Cancelled id) has
   took (did.Unknown id) has = of_told (did.Unknown id) has
 
-  refused : (e : PeerError) → (e ≡ error.NoMemory → ⊥) → IsUntaken {H = H} hub new c w t x e → HasTakenOne {H = H} hub new c w t x now
+  refused : (e : PeerError) → (e ≡ error.NoMemory → ⊥) → IsUntaken {H = H} hub t x new e → HasTakenOne {H = H} hub t x new now
   refused (error.Next e) some has = read (Failed has.0) refl has.2
   refused (error.InUse id) some has =
-      by_next (IsUnhandled {H = H} hub new c w t x (error.InUse id)) (λ m read h. InUse h.call) (λ m read h. (refl, h.stands)) (waiting x) refl has
+      by_next (IsUnhandled {H = H} hub t new (error.InUse id)) (λ m y h. InUse h.call) (λ m y h. (refl, h.stands)) (waiting x) refl has
   refused error.TooMany some has =
-      by_next (IsUnhandled {H = H} hub new c w t x error.TooMany) (λ m read h. TooMany h.call) (λ m read h. (refl, h.stands)) (waiting x) refl has
+      by_next (IsUnhandled {H = H} hub t new error.TooMany) (λ m y h. TooMany h.call) (λ m y h. (refl, h.stands)) (waiting x) refl has
   refused error.Flood some has =
-      by_next (IsUnhandled {H = H} hub new c w t x error.Flood) (λ m read h. Flood) (λ m read h. (refl, h)) (waiting x) refl has
+      by_next (IsUnhandled {H = H} hub t new error.Flood) (λ m y h. Flood) (λ m y h. (refl, h)) (waiting x) refl has
   refused error.NoMemory some has = absurd (some refl)
 
-  taken_one : TakesOne {H = H} hub new c w t x now true → HasTakenOne {H = H} hub new c w t x now
+  taken_one : TakesOne {H = H} hub t x new now true → HasTakenOne {H = H} hub t x new now
   taken_one (inl (told, has)) = took told has
   taken_one (inr (e, some, has)) = refused e some has
 
 -- ---- so many are taken
 
-pub record HasTaken {H Job : Type 0} (hub : Hub Job) (new : Machine H Job) (c : ℕ) (w : List MachineEvent) (t : Settings) (h : List PeerEvent)
-    (now n : ℕ) : Type 0 where
+pub record HasTaken {H Job : Type 0} (hub : Hub Job) (t : Settings) (h : List PeerEvent) (new : Peer H Job) (now n : ℕ) : Type 0 where
   pub moves : List PeerEvent
   pub each : list_all (is_taking now) moves ≡ true
   pub rests : 0 < n → waiting (moves ++ h) ≡ None
@@ -156,7 +150,7 @@ pub record HasTaken {H Job : Type 0} (hub : Hub Job) (new : Machine H Job) (c : 
   pub follow : Follow (taking t.wire t.config) (byte_steps t h) taken
   pub few : n ≤ suc (length taken)
   pub are : ComesTo t (moves ++ h) (taken ++ byte_steps t h)
-  pub stands : StandsMachine {H = H} hub new (doing c moves w)
+  pub stands : Stands hub t new (moves ++ h)
 
 all_append : (p : PeerEvent → Bool) (xs ys : List PeerEvent) → list_all p xs ≡ true → list_all p ys ≡ true → list_all p (xs ++ ys) ≡ true
 all_append p [] ys a b = b
@@ -171,9 +165,9 @@ live_of : (b : Bool) (o : Option EndEvent) (s : EndEvent) → (if b then None el
 live_of true o s e = absurd (cc)
 live_of false o s e = refl
 
-module _ {H Job : Type 0} (hub : Hub Job) (c : ℕ) (w : List MachineEvent) (t : Settings) (h : List PeerEvent) (now : ℕ) where
-  pub taken_none : (m : Machine H Job) → StandsMachine {H = H} hub m w → HasTaken {H = H} hub m c w t h now 0
-  taken_none m stands = record {
+module _ {H Job : Type 0} (hub : Hub Job) (t : Settings) (h : List PeerEvent) (now : ℕ) where
+  pub taken_none : (p : Peer H Job) → Stands {H = H} hub t p h → HasTaken {H = H} hub t h p now 0
+  taken_none p stands = record {
     moves = [];
     each = refl;
     rests = λ some. absurd (omega (arith, some));
@@ -184,13 +178,13 @@ module _ {H Job : Type 0} (hub : Hub Job) (c : ℕ) (w : List MachineEvent) (t :
     stands = stands;
   }
 
-  module _ (old new : Machine H Job) (n : ℕ) (has : HasTaken {H = H} hub old c w t h now n) where
+  module _ (old new : Peer H Job) (n : ℕ) (has : HasTaken {H = H} hub t h old now n) where
     abbrev x : List PeerEvent
     x = has.moves ++ h
 
-    more : (one : HasTakenOne {H = H} hub new c (doing c has.moves w) t x now) (taken : List ByteStep)
+    more : (one : HasTakenOne {H = H} hub t x new now) (taken : List ByteStep)
         → Follow (taking t.wire t.config) (byte_steps t h) taken
-        → n + 1 ≤ suc (length taken) → ComesTo t (one.moves ++ x) (taken ++ byte_steps t h) → HasTaken {H = H} hub new c w t h now (n + 1)
+        → n + 1 ≤ suc (length taken) → ComesTo t (one.moves ++ x) (taken ++ byte_steps t h) → HasTaken {H = H} hub t h new now (n + 1)
     more one taken follow few are = record {
       moves = one.moves ++ has.moves;
       each = all_append (is_taking now) one.moves has.moves one.each has.each;
@@ -199,7 +193,7 @@ module _ {H Job : Type 0} (hub : Hub Job) (c : ℕ) (w : List MachineEvent) (t :
       follow = follow;
       few = few;
       are = subst (λ y. ComesTo t y (taken ++ byte_steps t h)) (sym (append_assoc one.moves has.moves h)) are;
-      stands = subst (λ y. StandsMachine {H = H} hub new y) (doing_twice c one.moves has.moves w) one.stands;
+      stands = subst (λ y. Stands {H = H} hub t new y) (sym (append_assoc one.moves has.moves h)) one.stands;
     }
 
     -- nothing was taken before
@@ -227,7 +221,7 @@ module _ {H Job : Type 0} (hub : Hub Job) (c : ℕ) (w : List MachineEvent) (t :
     next_end ms s same (inl e) = inl (e ∙ ap (λ y. Step_of s ∷ y) same)
     next_end ms s same (inr shut) = inr shut
 
-    by_one : (one : HasTakenOne {H = H} hub new c (doing c has.moves w) t x now) → IsOne t x one.moves → HasTaken {H = H} hub new c w t h now (n + 1)
+    by_one : (one : HasTakenOne {H = H} hub t x new now) → IsOne t x one.moves → HasTaken {H = H} hub t h new now (n + 1)
     by_one one (inl (waits, are)) =
         let none = first waits in
         more one has.taken has.follow (omega (arith, none)) (same_end one.moves has.are are)
@@ -237,13 +231,13 @@ module _ {H Job : Type 0} (hub : Hub Job) (c : ℕ) (w : List MachineEvent) (t :
         more one (Step_of s ∷ has.taken) (has.follow, sym (ap (taking t.wire t.config) same) ∙ ap (option_map Step_of) next)
         (omega (arith, few)) (next_end one.moves s same are)
 
-    pub taken_more : TakesOne {H = H} hub new c (doing c has.moves w) t x now true → HasTaken {H = H} hub new c w t h now (n + 1)
+    pub taken_more : TakesOne {H = H} hub t x new now true → HasTaken {H = H} hub t h new now (n + 1)
     taken_more takes =
-        let one = taken_one {H = H} {Job = Job} hub new c (doing c has.moves w) t x now takes in
+        let one = taken_one {H = H} {Job = Job} hub t x new now takes in
         by_one one one.one
 
     -- nothing is left
-    pub taken_all : TakesOne {H = H} hub new c (doing c has.moves w) t x now false → TakesWhole {H = H} hub new c w t h now
+    pub taken_all : TakesOne {H = H} hub t x new now false → TakesWhole {H = H} hub t h new now
     taken_all none = record {
       moves = has.moves;
       takes = record { taken = has.moves; are = refl; each = has.each; none_waits = none.0; none_left = none.1 };
@@ -251,25 +245,20 @@ module _ {H Job : Type 0} (hub : Hub Job) (c : ℕ) (w : List MachineEvent) (t :
     }
 
 -- what is told of one more
-pub takes_at : {H Job : Type 0} (hub : Hub Job) (new : Machine H Job) (c : ℕ) (w : List MachineEvent) (t : Settings) (now : ℕ) (ms : List PeerEvent)
-    (more so : Bool) → more ≡ so
-    → TakesOne {H = H} hub new c (doing c ms w) t (moves c (doing c ms w)) now more
-    → TakesOne {H = H} hub new c (doing c ms w) t (ms ++ moves c w) now so
-takes_at {H} hub new c w t now ms more so is takes =
-    subst (λ h. TakesOne {H = H} hub new c (doing c ms w) t h now so) (moves_done c ms w)
-    (subst (λ b. TakesOne {H = H} hub new c (doing c ms w) t (moves c (doing c ms w)) now b) is takes)
+pub takes_so : {H Job : Type 0} (hub : Hub Job) (t : Settings) (h : List PeerEvent) (new : Peer H Job) (now : ℕ) (more so : Bool) → more ≡ so
+    → TakesOne {H = H} hub t h new now more → TakesOne {H = H} hub t h new now so
+takes_so {H} hub t h new now more so is takes = subst (λ b. TakesOne {H = H} hub t h new now b) is takes
 
 -- what is refused is taken
-pub refused_one : {H Job : Type 0} (hub : Hub Job) (new : Machine H Job) (c : ℕ) (w : List MachineEvent) (t : Settings) (h : List PeerEvent) (now : ℕ)
-    (e f : PeerError) → e ≡ f
-    → (f ≡ error.NoMemory → ⊥) → IsUntaken {H = H} hub new c w t h e → TakesOne {H = H} hub new c w t h now true
-refused_one {H} hub new c w t h now e f is some has = inr (f, some, subst (λ x. IsUntaken {H = H} hub new c w t h x) is has)
+pub refused_one : {H Job : Type 0} (hub : Hub Job) (t : Settings) (h : List PeerEvent) (new : Peer H Job) (now : ℕ) (e f : PeerError) → e ≡ f
+    → (f ≡ error.NoMemory → ⊥) → IsUntaken {H = H} hub t h new e → TakesOne {H = H} hub t h new now true
+refused_one {H} hub t h new now e f is some has = inr (f, some, subst (λ x. IsUntaken {H = H} hub t h new x) is has)
 
 -- what is taken is less than 64 bits count
-pub taken_end : {H Job : Type 0} (hub : Hub Job) (m : Machine H Job) (c : ℕ) (w : List MachineEvent) (t : Settings) (h : List PeerEvent) (now n : ℕ)
+pub taken_end : {H Job : Type 0} (hub : Hub Job) (t : Settings) (h : List PeerEvent) (p : Peer H Job) (now n : ℕ)
     → TakesFew → IsSoundWire t.limits t.wire → IsHistory t.limits t.wire t.config (byte_steps t h) → t.limits.frame ≤ most_frame
-    → HasTaken {H = H} hub m c w t h now n → 2 ^ 64 - 1 ≤ n → TakesWhole {H = H} hub m c w t h now
-taken_end hub m c w t h now n few sound history most has over =
+    → HasTaken {H = H} hub t h p now n → 2 ^ 64 - 1 ≤ n → TakesWhole {H = H} hub t h p now
+taken_end hub t h p now n few sound history most has over =
     let all = few t.limits t.wire t.config (byte_steps t h) has.taken sound history has.follow in
     let many = has.few in
     absurd (omega (arith, all, many, most, over))

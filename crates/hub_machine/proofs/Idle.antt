@@ -20,7 +20,8 @@ use Rattle.hub_machine.specs.declared.idle_set.IdlePeer.{IdlePeer}
 use Rattle.hub_machine.specs.Machines.{IsPeerOf, StandsMachine, idle_peer_at, peer_at, settings_there}
 use Rattle.hub_machine.specs.Rounds.{has_turn}
 use Rattle.hub_machine.specs.Spreads.{is_listed}
-use Rattle.hub_machine.proofs.Doing.{awake_is}
+use Rattle.hub_machine.proofs.Doing.{awake_is, listed_is_awake}
+use Rattle.hub_machine.proofs.Listed.{in_at}
 use Rattle.hub_machine.proofs.Numbers.{in_listed, listed_at}
 use Rattle.hub_machine.proofs.RoundNumbers.{none_next}
 use Rattle.hub_machine.proofs.TurnFirst.{IsHere, find_both, find_last, from_one, here_of, within}
@@ -138,16 +139,6 @@ module _ {H Job : Type 0} (hub : Hub Job) (tested : TurnsAreTested) (m : Machine
 
 -- ---- the loop
 
--- what has a place is in the list
-in_at : (k : ℕ) (cs : List ℕ) → k < length cs → is_in (get_or cs k 0) cs ≡ true
-in_at k [] l = absurd (omega (arith, l))
-in_at zero (c ∷ cs) l = ap (λ b. b || is_in c cs) (eq-eqb c c refl)
-in_at (suc k) (c ∷ cs) l = later (get_or cs k 0 == c) (is_in (get_or cs k 0) cs) (in_at k cs (omega (arith, l)))
-  where
-    later : (a b : Bool) → b ≡ true → (a || b) ≡ true
-    later true b e = refl
-    later false b e = e
-
 -- the connection would have no turn
 abbrev pub IsIdleAt : {H Job : Type 0} → Hub Job → Machine H Job → ℕ → Type 0
 IsIdleAt hub m c = (w : List MachineEvent) (now : ℕ) → StandsMachine hub m w → has_turn c (Rounds now ∷ w) ≡ false
@@ -165,12 +156,7 @@ module _ {H Job : Type 0} (hub : Hub Job) (tested : TurnsAreTested) (m : Machine
   -- each that is listed is awake
   awake_at : (w : List MachineEvent) (i : ℕ) → StandsMachine {H = H} hub m w → i < length conns → idle_peer_at m (get_or conns i 0) ≡ None
   awake_at w i s l =
-      by (idle_peer_at m (get_or conns i 0)) refl
-      (and_parts _ _ (sym (s.index.awake (get_or conns i 0)) ∙ ap (λ cs. is_in (get_or conns i 0) cs) (sym are) ∙ in_at i conns l)).1
-    where
-      by : (o : Option IdlePeer) → idle_peer_at m (get_or conns i 0) ≡ o → not (is_some o) ≡ true → o ≡ None
-      by None e f = refl
-      by (Some idle_peer) e f = absurd (true≢false (sym f))
+      listed_is_awake {H = H} {Job = Job} m (get_or conns i 0) s.index (ap (λ cs. is_in (get_or conns i 0) cs) (sym are) ∙ in_at i conns l)
 
   -- the next one would have none
   pub idle_more : (i : ℕ) (due : Bool) → i < length conns → AreIdleTo {H = H} hub m conns i → TellsTurn {H = H} hub m (get_or conns i 0) due

@@ -3,7 +3,10 @@ use Rattle.std.proofs.Common.{◌≡◌, ℕ, List, [], Option, Some, None, IfSo
 use Rattle.hd_calls.specs.Hubs.{Hub}
 use Rattle.hd_calls.specs.Peers.{PeerEvent, Settings}
 use Rattle.hd_calls.specs.Rules.{IsPeer}
+use Rattle.hd_delivery.specs.Bytes.{IsSoundWire}
 use Rattle.hd_server.specs.Machine.{MachineEvent, moves}
+use Rattle.he_end.specs.Stands.{limits_of}
+use Rattle.he_wire.specs.Laws.{WireIsSound}
 use Rattle.hp_peer.specs.declared.peer.Peer.{Peer}
 use Rattle.hp_peer.specs.Stands.{Stands}
 use Rattle.hub_machine.specs.declared.machine.Machine.{Machine}
@@ -19,6 +22,15 @@ pub record Lags {H Job : Type 0} (hub : Hub Job) (t : Settings) (p : Peer H Job)
   pub same : SameButTime t before h
   pub peer : IsPeer hub t h
 
+-- it doesn't where its peer stands for what the connection did
+abbrev pub at_once : {H Job : Type 0} (hub : Hub Job) (t : Settings) (p : Peer H Job) (h : List PeerEvent) → Stands {H = H} hub t p h → Lags {H = H} hub t p h
+at_once {H} {Job} hub t p h s = record { before = h; stands = s; same = idle_same t h [] refl; peer = peer_is {H = H} {Job = Job} hub t p h s }
+
+-- its wire is sound
+pub is_sound : {H Job : Type 0} (hub : Hub Job) (t : Settings) (p : Peer H Job) (h : List PeerEvent) → Stands {H = H} hub t p h → WireIsSound
+    → IsSoundWire t.limits t.wire
+is_sound hub t p h s sound = subst (λ l. IsSoundWire l t.wire) (sym s.limits) (sound (limits_of p.end) t.wire s.end.house)
+
 -- what holds of none that isn't there, and of each that is there by its peer, holds of each
 pub kept_either : {H Job : Type 0} (hub : Hub Job) (clock : ℕ) (P : Option Settings → Option (Peer H Job) → Type 0) (idle_peer : Option IdlePeer)
     (o : Option Settings) (h : List PeerEvent) (p : Option (Peer H Job)) → P None None
@@ -27,7 +39,7 @@ kept_either {H} {Job} hub clock P None None h None none there x = none
 kept_either {H} {Job} hub clock P None None h (Some q) none there x = absurd x
 kept_either {H} {Job} hub clock P None (Some t) h None none there x = absurd x
 kept_either {H} {Job} hub clock P None (Some t) h (Some q) none there x =
-    there t q (record { before = h; stands = x; same = idle_same t h [] refl; peer = peer_is {H = H} {Job = Job} hub t q h x })
+    there t q (at_once {H = H} {Job = Job} hub t q h x)
 kept_either {H} {Job} hub clock P (Some idle_peer) (Some t) h (Some q) none there x =
     there t q (record { before = x.before; stands = x.stood; same = slept_same {H = H} {Job = Job} hub clock idle_peer t q h x; peer = x.peer })
 kept_either {H} {Job} hub clock P (Some idle_peer) (Some t) h None none there x = absurd x

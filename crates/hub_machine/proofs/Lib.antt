@@ -12,6 +12,7 @@ pub mod Ends
 pub mod Lags
 pub mod Open
 pub mod Numbers
+pub mod Listed
 pub mod Unmoved
 pub mod Asks
 pub mod TurnPrompt
@@ -25,6 +26,7 @@ pub mod Begun
 pub mod BegunGone
 pub mod Took
 pub mod TookSaid
+pub mod TickThere
 pub mod RoundCarried
 pub mod RoundNumbers
 pub mod RoundTurned
@@ -41,7 +43,6 @@ pub mod Lagging
 pub mod Waking
 pub mod Passing
 pub mod RoundWritesText
-pub mod FeedAt
 pub mod FeedTaken
 pub mod FeedPieces
 pub mod SaysSome

@@ -44,3 +44,7 @@ open_then opens false kept asked e f g = g
 pub shut_then : (opens shut kept : Bool) → opens ≡ not shut → opens ≡ false → opens ≡ (not shut && kept)
 shut_then opens true kept e f = f
 shut_then opens false kept e f = absurd (cc)
+
+-- whether it is open and kept, by what says the same of both
+pub as_kept : (a b k l : Bool) → a ≡ b → k ≡ l → (not b && l) ≡ (not a && k)
+as_kept a b k l e f = ap (λ x. not x && l) (sym e) ∙ ap (λ x. not a && x) (sym f)

@@ -1,4 +1,4 @@
--- What one connection's end says, frame by frame, until nothing is due or a body is full.
+-- What a peer says, frame by frame, until nothing is due or a body is full.
 use Rattle.std.proofs.Common.{inl, inr, ◌≡◌, ◌⊎◌, ℕ, ◌+◌, ◌-◌, ◌^◌, ◌<◌, ◌≤◌, Bool, true, false, List, [], ◌∷◌, ◌++◌, map, reverse, length, drop}
 use Rattle.std.proofs.Common.{Option, Some, None, option_map, refl, sym, ap, ◌∙◌, subst, arith, append_assoc, length-drop, length-append}
 use Rattle.std.proofs.Common.{if◌then◌else◌}
@@ -15,15 +15,13 @@ use Rattle.hd_delivery.specs.Following.{Follow}
 use Rattle.hd_delivery.specs.Alone.{writing}
 use Rattle.hd_delivery.specs.AloneLaws.{WritesFew}
 use Rattle.hd_calls.specs.Hubs.{Hub}
-use Rattle.hd_calls.specs.Peers.{PeerEvent, Plain, Settings, byte_steps, codec, steps}
+use Rattle.hd_calls.specs.Peers.{PeerEvent, Plain, Settings, byte_steps, codec, is_shut, steps}
 use Rattle.hd_server.specs.Numbers.{most_before_last}
-use Rattle.hd_server.specs.Machine.{MachineEvent, moves}
 use Rattle.hd_server.specs.Serves.{LendsAll, LendsUpTo}
-use Rattle.hub_machine.specs.declared.machine.Machine.{Machine}
-use Rattle.hub_machine.specs.Machines.{StandsMachine}
-use Rattle.hub_machine.specs.Calls.{HasSaid, doing}
-use Rattle.hub_machine.specs.Traffic.{LendsDue, LendsSome, is_any, lends}
-use Rattle.hub_machine.proofs.Doing.{moves_done}
+use Rattle.hp_peer.specs.declared.peer.Peer.{Peer}
+use Rattle.hp_peer.specs.Stands.{Stands}
+use Rattle.hub_machine.specs.PeerTraffic.{SaysAll, SaysBody, SaysOne}
+use Rattle.hub_machine.specs.Traffic.{is_any, lends}
 
 -- ---- frames that are lent
 
@@ -85,27 +83,31 @@ lends_more fs f =
     ap reverse (map-append (λ g. Plain (Step_of (Lent g))) fs (f ∷ []))
     ∙ reverse-append (map (λ g. Plain (Step_of (Lent g))) fs) (Plain (Step_of (Lent f)) ∷ [])
 
+-- they close no end
+pub shut_lends : (t : Settings) (h : List PeerEvent) (fs : List LinkFrame) → is_shut t (lends fs ++ h) ≡ is_shut t h
+shut_lends t h [] = refl
+shut_lends t h (f ∷ fs) =
+    let step : PeerEvent = Plain (Step_of (Lent f)) in
+    ap (λ ms. is_shut t (ms ++ h)) (reverse-append (step ∷ []) (map (λ g. Plain (Step_of (Lent g))) fs))
+    ∙ (ap (is_shut t) (append_assoc (lends fs) (step ∷ []) h) ∙ shut_lends t (step ∷ h) fs)
+
 spelled_more : (spell : LinkFrame → List ℕ) (fs : List LinkFrame) (f : LinkFrame) → flat_map spell (fs ++ f ∷ []) ≡ flat_map spell fs ++ spell f
 spelled_more spell fs f = flat_map-append spell fs (f ∷ []) ∙ ap (λ x. flat_map spell fs ++ x) (append-nil (spell f))
 
 -- what is told of one more
-pub said_at : {H Job : Type 0} (hub : Hub Job) (new : Machine H Job) (c : ℕ) (w : List MachineEvent) (t : Settings) (ms : List PeerEvent)
-    (before now : List ℕ) (more so : Bool) → more ≡ so
-    → HasSaid {H = H} hub new c (doing c ms w) t (moves c (doing c ms w)) more before now
-    → HasSaid {H = H} hub new c (doing c ms w) t (ms ++ moves c w) so before now
-said_at {H} hub new c w t ms before now more so is said =
-    subst (λ h. HasSaid {H = H} hub new c (doing c ms w) t h so before now) (moves_done c ms w)
-    (subst (λ b. HasSaid {H = H} hub new c (doing c ms w) t (moves c (doing c ms w)) b before now) is said)
+pub said_so : {H Job : Type 0} (hub : Hub Job) (t : Settings) (h : List PeerEvent) (new : Peer H Job) (before now : List ℕ) (more so : Bool) → more ≡ so
+    → SaysOne {H = H} hub t h new more before now → SaysOne {H = H} hub t h new so before now
+said_so {H} hub t h new before now more so is said = subst (λ b. SaysOne {H = H} hub t h new b before now) is said
 
 -- ---- so many were said
 
-pub record HasLent {H Job : Type 0} (hub : Hub Job) (new : Machine H Job) (c : ℕ) (w : List MachineEvent) (t : Settings) (h : List PeerEvent) (any : Bool)
-    (before now : List ℕ) (n : ℕ) : Type 0 where
+pub record HasLent {H Job : Type 0} (hub : Hub Job) (t : Settings) (h : List PeerEvent) (new : Peer H Job) (any : Bool) (before now : List ℕ)
+    (n : ℕ) : Type 0 where
   pub frames : List LinkFrame
   pub due : AreDue t.config (steps t h) frames
   pub some : any ≡ is_any frames
   pub bytes : now ≡ before ++ spelling_of t.wire (codec t h) frames
-  pub stands : StandsMachine {H = H} hub new (doing c (lends frames) w)
+  pub stands : Stands hub t new (lends frames ++ h)
   pub after : steps t (lends frames ++ h) ≡ lent_after frames (steps t h)
   pub same_codec : codec t (lends frames ++ h) ≡ codec t h
   pub lent : List ByteStep
@@ -113,9 +115,9 @@ pub record HasLent {H Job : Type 0} (hub : Hub Job) (new : Machine H Job) (c : �
   pub are : byte_steps t (lends frames ++ h) ≡ lent ++ byte_steps t h
   pub many : length lent ≡ n
 
-module _ {H Job : Type 0} (hub : Hub Job) (c : ℕ) (w : List MachineEvent) (t : Settings) (h : List PeerEvent) (before : List ℕ) where
-  pub lent_none : (m : Machine H Job) → StandsMachine {H = H} hub m w → HasLent {H = H} hub m c w t h false before before 0
-  lent_none m stands = record {
+module _ {H Job : Type 0} (hub : Hub Job) (t : Settings) (h : List PeerEvent) (before : List ℕ) where
+  pub lent_none : (p : Peer H Job) → Stands {H = H} hub t p h → HasLent {H = H} hub t h p false before before 0
+  lent_none p stands = record {
     frames = [];
     due = tt;
     some = refl;
@@ -129,15 +131,14 @@ module _ {H Job : Type 0} (hub : Hub Job) (c : ℕ) (w : List MachineEvent) (t :
     many = refl;
   }
 
-  module _ (old new : Machine H Job) (any : Bool) (mid now : List ℕ) (n : ℕ) (has : HasLent {H = H} hub old c w t h any before mid n) where
+  module _ (old new : Peer H Job) (any : Bool) (mid now : List ℕ) (n : ℕ) (has : HasLent {H = H} hub t h old any before mid n) where
     abbrev x : List PeerEvent
     x = lends has.frames ++ h
 
     next_due : (o : Option LinkFrame) → due t.config (steps t x) ≡ o → due t.config (lent_after has.frames (steps t h)) ≡ o
     next_due o e = sym (ap (due t.config) has.after) ∙ e
 
-    pub lent_more : HasSaid {H = H} hub new c (doing c (lends has.frames) w) t x true mid now
-        → HasLent {H = H} hub new c w t h true before now (n + 1)
+    pub lent_more : SaysOne {H = H} hub t x new true mid now → HasLent {H = H} hub t h new true before now (n + 1)
     lent_more said =
         let f = said.0 in
         let all = has.frames ++ f ∷ [] in
@@ -153,7 +154,7 @@ module _ {H Job : Type 0} (hub : Hub Job) (c : ℕ) (w : List MachineEvent) (t :
               ∙ (ap (λ y. y ++ spell f) has.bytes
               ∙ (append_assoc before (spelling_of t.wire (codec t h) has.frames) (spell f)
               ∙ ap (λ y. before ++ y) (sym (spelled_more spell has.frames f)))));
-          stands = subst (λ ms. StandsMachine {H = H} hub new (doing c ms w)) (sym ls) said.3;
+          stands = subst (λ ms. Stands {H = H} hub t new (ms ++ h)) (sym ls) said.3;
           after = ap (λ ms. steps t (ms ++ h)) ls ∙ (ap (λ y. Lent f ∷ y) has.after ∙ sym (after_more (steps t h) has.frames f));
           same_codec = ap (λ ms. codec t (ms ++ h)) ls ∙ has.same_codec;
           lent = Step_of (Lent f) ∷ has.lent;
@@ -163,7 +164,7 @@ module _ {H Job : Type 0} (hub : Hub Job) (c : ℕ) (w : List MachineEvent) (t :
         }
 
     -- nothing more is due
-    pub lent_all : HasSaid {H = H} hub new c (doing c (lends has.frames) w) t x false mid now → LendsDue {H = H} hub new c w t h any before now
+    pub lent_all : SaysOne {H = H} hub t x new false mid now → SaysAll {H = H} hub t h new any before now
     lent_all said = record {
       frames = has.frames;
       due = due_all t.config (steps t h) has.frames has.due (next_due None said.0);
@@ -174,23 +175,22 @@ module _ {H Job : Type 0} (hub : Hub Job) (c : ℕ) (w : List MachineEvent) (t :
 
 -- ---- up to the size of a body
 
-pub record HasLentUpTo {H Job : Type 0} (hub : Hub Job) (new : Machine H Job) (c : ℕ) (w : List MachineEvent) (t : Settings) (h : List PeerEvent) (any : Bool)
-    (now : List ℕ) (n : ℕ) : Type 0 where
-  pub has : HasLent {H = H} hub new c w t h any [] now n
+pub record HasLentUpTo {H Job : Type 0} (hub : Hub Job) (t : Settings) (h : List PeerEvent) (new : Peer H Job) (any : Bool) (now : List ℕ)
+    (n : ℕ) : Type 0 where
+  pub has : HasLent {H = H} hub t h new any [] now n
   pub room : HadRoom t.wire t.config (steps t h) 0 has.frames
   pub size : length now ≡ sized t.wire t.config (steps t h) 0 has.frames
 
-module _ {H Job : Type 0} (hub : Hub Job) (c : ℕ) (w : List MachineEvent) (t : Settings) (h : List PeerEvent) where
-  pub some_none : (m : Machine H Job) (body : List ℕ) → body ≡ [] → StandsMachine {H = H} hub m w → HasLentUpTo {H = H} hub m c w t h false body 0
+module _ {H Job : Type 0} (hub : Hub Job) (t : Settings) (h : List PeerEvent) where
+  pub some_none : (p : Peer H Job) (body : List ℕ) → body ≡ [] → Stands {H = H} hub t p h → HasLentUpTo {H = H} hub t h p false body 0
   unfolding lent_none
-  some_none m body empty stands =
-      subst (λ b. HasLentUpTo {H = H} hub m c w t h false b 0) (sym empty)
-      (record { has = lent_none {H = H} {Job = Job} hub c w t h [] m stands; room = tt; size = refl })
+  some_none p body empty stands =
+      subst (λ b. HasLentUpTo {H = H} hub t h p false b 0) (sym empty)
+      (record { has = lent_none {H = H} {Job = Job} hub t h [] p stands; room = tt; size = refl })
 
-  module _ (old new : Machine H Job) (any : Bool) (mid now : List ℕ) (n : ℕ) (up : HasLentUpTo {H = H} hub old c w t h any mid n) where
-    pub some_more : length mid ≤ most_before_last
-        → HasSaid {H = H} hub new c (doing c (lends up.has.frames) w) t (lends up.has.frames ++ h) true mid now
-        → HasLentUpTo {H = H} hub new c w t h true now (n + 1)
+  module _ (old new : Peer H Job) (any : Bool) (mid now : List ℕ) (n : ℕ) (up : HasLentUpTo {H = H} hub t h old any mid n) where
+    pub some_more : length mid ≤ most_before_last → SaysOne {H = H} hub t (lends up.has.frames ++ h) new true mid now
+        → HasLentUpTo {H = H} hub t h new true now (n + 1)
     unfolding lent_more
     some_more few said =
         let frames = up.has.frames in
@@ -201,13 +201,12 @@ module _ {H Job : Type 0} (hub : Hub Job) (c : ℕ) (w : List MachineEvent) (t :
         ap length said.2 ∙ (length-append mid (t.wire.spell (codec t (lends frames ++ h)) said.0)
         ∙ ap (λ k. length mid + length (t.wire.spell k said.0)) codecs) in
         record {
-          has = lent_more {H = H} {Job = Job} hub c w t h [] old new any mid now n up.has said;
+          has = lent_more {H = H} {Job = Job} hub t h [] old new any mid now n up.has said;
           room = room_more t.wire t.config (steps t h) 0 frames said.0 up.room (subst (λ k. k ≤ most_before_last) size few);
           size = long ∙ (ap (λ k. k + length (spell said.0)) size ∙ sym (size_more t.wire t.config (steps t h) 0 frames said.0));
         }
 
-    pub some_all : HasSaid {H = H} hub new c (doing c (lends up.has.frames) w) t (lends up.has.frames ++ h) false mid now
-        → LendsSome {H = H} hub new c w t h any now
+    pub some_all : SaysOne {H = H} hub t (lends up.has.frames ++ h) new false mid now → SaysBody {H = H} hub t h new any now
     some_all said =
         let has = up.has in
         record {
@@ -219,10 +218,9 @@ module _ {H Job : Type 0} (hub : Hub Job) (c : ℕ) (w : List MachineEvent) (t :
         }
 
   -- the body is full
-  pub some_full : (m : Machine H Job) (any : Bool) (now : List ℕ) (n : ℕ) → HasLentUpTo {H = H} hub m c w t h any now n
-      → most_before_last < length now
-      → LendsSome {H = H} hub m c w t h any now
-  some_full m any now n up full =
+  pub some_full : (p : Peer H Job) (any : Bool) (now : List ℕ) (n : ℕ) → HasLentUpTo {H = H} hub t h p any now n → most_before_last < length now
+      → SaysBody {H = H} hub t h p any now
+  some_full p any now n up full =
       let has = up.has in
       record {
         frames = has.frames;
@@ -239,10 +237,9 @@ shorter true n m xs = omega (arith, length-drop n xs)
 shorter false n m xs = omega (arith, length-drop m xs)
 
 -- what is due is less than 64 bits count
-lent_few : {H Job : Type 0} (hub : Hub Job) (m : Machine H Job) (c : ℕ) (w : List MachineEvent) (t : Settings) (h : List PeerEvent) (any : Bool)
-    (before now : List ℕ) (n : ℕ)
-    → WritesFew → FactsHold → IsHistory t.limits t.wire t.config (byte_steps t h) → HasLent {H = H} hub m c w t h any before now n → n < 2 ^ 64 - 1
-lent_few hub m c w t h any before now n few facts history has =
+lent_few : {H Job : Type 0} (hub : Hub Job) (t : Settings) (h : List PeerEvent) (p : Peer H Job) (any : Bool) (before now : List ℕ) (n : ℕ)
+    → WritesFew → FactsHold → IsHistory t.limits t.wire t.config (byte_steps t h) → HasLent {H = H} hub t h p any before now n → n < 2 ^ 64 - 1
+lent_few hub t h p any before now n few facts history has =
     let k = steps t h in
     let all = few t.limits t.wire t.config (byte_steps t h) has.lent history has.follow in
     let sent = (facts t.limits t.wire t.config (byte_steps t h) history).sent_are_few in
@@ -251,16 +248,14 @@ lent_few hub m c w t h any before now n few facts history has =
     let many = has.many in
     omega (arith, all, sent, held, many)
 
-pub lent_end : {H Job : Type 0} (hub : Hub Job) (m : Machine H Job) (c : ℕ) (w : List MachineEvent) (t : Settings) (h : List PeerEvent) (any : Bool)
-    (before now : List ℕ) (n : ℕ)
-    → WritesFew → FactsHold → IsHistory t.limits t.wire t.config (byte_steps t h) → HasLent {H = H} hub m c w t h any before now n → 2 ^ 64 - 1 ≤ n
-    → LendsDue {H = H} hub m c w t h any before now
-lent_end {H} {Job} hub m c w t h any before now n few facts history has over =
-    absurd (let less = lent_few {H = H} {Job = Job} hub m c w t h any before now n few facts history has in omega (arith, less, over))
+pub lent_end : {H Job : Type 0} (hub : Hub Job) (t : Settings) (h : List PeerEvent) (p : Peer H Job) (any : Bool) (before now : List ℕ) (n : ℕ)
+    → WritesFew → FactsHold → IsHistory t.limits t.wire t.config (byte_steps t h) → HasLent {H = H} hub t h p any before now n → 2 ^ 64 - 1 ≤ n
+    → SaysAll {H = H} hub t h p any before now
+lent_end {H} {Job} hub t h p any before now n few facts history has over =
+    absurd (let less = lent_few {H = H} {Job = Job} hub t h p any before now n few facts history has in omega (arith, less, over))
 
-pub some_end : {H Job : Type 0} (hub : Hub Job) (m : Machine H Job) (c : ℕ) (w : List MachineEvent) (t : Settings) (h : List PeerEvent) (any : Bool)
-    (now : List ℕ) (n : ℕ)
-    → WritesFew → FactsHold → IsHistory t.limits t.wire t.config (byte_steps t h) → HasLentUpTo {H = H} hub m c w t h any now n → 2 ^ 64 - 1 ≤ n
-    → LendsSome {H = H} hub m c w t h any now
-some_end {H} {Job} hub m c w t h any now n few facts history up over =
-    absurd (let less = lent_few {H = H} {Job = Job} hub m c w t h any [] now n few facts history up.has in omega (arith, less, over))
+pub some_end : {H Job : Type 0} (hub : Hub Job) (t : Settings) (h : List PeerEvent) (p : Peer H Job) (any : Bool) (now : List ℕ) (n : ℕ)
+    → WritesFew → FactsHold → IsHistory t.limits t.wire t.config (byte_steps t h) → HasLentUpTo {H = H} hub t h p any now n → 2 ^ 64 - 1 ≤ n
+    → SaysBody {H = H} hub t h p any now
+some_end {H} {Job} hub t h p any now n few facts history up over =
+    absurd (let less = lent_few {H = H} {Job = Job} hub t h p any [] now n few facts history up.has in omega (arith, less, over))

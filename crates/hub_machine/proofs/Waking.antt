@@ -40,7 +40,7 @@ module _ {H Job : Type 0} (hub : Hub Job) (old : Machine H Job) (c : ℕ) (p q :
     (wakes : IsKept old.idle_set → HasPlace old.idle_set.awake c → Changes old.idle_set ss c None true)
     (catches : (t : Settings) (h : List PeerEvent) → Sleeps {H = H} hub old.idle_set.clock idle_peer t p h → Stands {H = H} hub t q h) where
   abbrev awoken : Machine H Job
-  awoken = record { peers = ps; registry = old.registry; idle_set = ss }
+  awoken = record old { peers = ps; idle_set = ss }
 
   puts : PutsPeer {H = H} old (record old { peers = ps }) c q
   puts = written {H = H} {Job = Job} old (record old { peers = ps }) c p q at through

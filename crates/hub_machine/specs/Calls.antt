@@ -20,7 +20,7 @@ use Rattle.hp_peer.specs.declared.did.Did.TheVariants as did
 use Rattle.hp_peer.specs.declared.peer.Peer.{Peer}
 use Rattle.hp_peer.specs.declared.errors.PeerError.{PeerError}
 use Rattle.hp_peer.specs.declared.errors.PeerError.TheVariants as error
-use Rattle.hp_peer.specs.Stands.{Stands}
+use Rattle.hp_peer.specs.Stands.{OfEach, Stands}
 use Rattle.hp_peer.specs.Taking.{IsNext, IsToldAs}
 use Rattle.hub_machine.specs.declared.machine.Machine.{Machine}
 use Rattle.hub_machine.specs.Machines.{StandsMachine, peer_at}
@@ -94,8 +94,13 @@ HasSaid hub new c w t h true before now =
 pub record ClosesOut {H Job : Type 0} (hub : Hub Job) (old new : Machine H Job) (c : ℕ) : Type 0 where
   pub peers : new.peers ≡ old.peers
   pub idle_set : new.idle_set ≡ old.idle_set
+  pub scratch : new.scratch ≡ old.scratch
   pub shut : (p : Peer H Job) (t : Settings) (h : List PeerEvent) → peer_at old c ≡ Some p → Stands hub t p h → is_shut t h ≡ true
       → (l : Lists) → StandsRegistry old.registry l → StandsRegistry new.registry (gone l c)
   pub unshut : (p : Peer H Job) (t : Settings) (h : List PeerEvent) → peer_at old c ≡ Some p → Stands hub t p h → is_shut t h ≡ false
       → new.registry ≡ old.registry
   pub absent : peer_at old c ≡ None → new.registry ≡ old.registry
+
+-- the same where this says whether the end of its peer is closed
+abbrev pub ClosesOutIf : {H Job : Type 0} → Hub Job → Machine H Job → Machine H Job → ℕ → Bool → Type 0
+ClosesOutIf {H} {Job} hub old new c shut = (p : Peer H Job) → peer_at old c ≡ Some p → OfEach hub p (λ t h. shut ≡ is_shut t h) → ClosesOut hub old new c

@@ -9,4 +9,5 @@ pub mod Rounds
 pub mod Carrying
 pub mod Calls
 pub mod Traffic
+pub mod PeerTraffic
 pub mod Laws

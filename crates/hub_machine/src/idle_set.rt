@@ -67,6 +67,13 @@ impl IdleSet {
         self.awake.add(conn);
     }
 
+    /// Whether a connection is listed as awake.
+    pub(crate) fn is_awake(&self, conn: u64) -> bool
+        ensures { IsKept self.now → result ≡ true → is_awake_in self.now conn ≡ true }
+    {
+        self.awake.numbers().binary_search(&conn).is_ok()
+    }
+
     /// A connection is there no more.
     pub(crate) fn forget(&mut self, conn: u64)
         ensures { IsKept self.old → Changes self.old self.new conn None false }

@@ -15,15 +15,17 @@ ghost use Rattle.hd_server.specs.Machine.{Connects, Does, Goes, MachineEvent, se
 ghost use Rattle.hj_jobs.specs.Meaning.{meaning};
 ghost use Rattle.hp_peer.specs.Stands.{settings};
 ghost use Rattle.hub_machine.specs.Machines.{IsAsItWas, OfConn, peer_at, settings_there, StandsMachine};
-ghost use Rattle.hub_machine.specs.Calls.{ClosesOut, HasSaid, IsUntaken, Takes};
+ghost use Rattle.hub_machine.specs.Calls.{ClosesOut, ClosesOutIf, HasSaid, IsUntaken, Takes};
 
 use crate::idle_set::IdleSet;
-use hd_delivery::{Reason, Side, State};
+use crate::peer_traffic::{is_over, say_one};
+use hd_delivery::{Reason, Side};
 use he_end::{AttachError, Config};
 use hg_groups::Registry;
 use hj_jobs::Hub;
 use hp_peer::{Did, Peer, PeerError};
 use hv_value::Text;
+use json::Scratch;
 use std::alloc::{AllocError, Global};
 use std::collections::BTreeMap;
 
@@ -40,6 +42,8 @@ pub struct Machine<H: Hub> {
     pub(crate) peers: BTreeMap<u64, Peer<H>>,
     pub(crate) registry: Registry,
     pub(crate) idle_set: IdleSet,
+    /// Where the reader of JSON works. What it holds counts for nothing.
+    pub(crate) scratch: Scratch,
 }
 
 impl<H: Hub> Machine<H> {
@@ -51,6 +55,7 @@ impl<H: Hub> Machine<H> {
             peers: BTreeMap::new(alloc),
             registry: Registry::start(alloc)?,
             idle_set: IdleSet::start(alloc),
+            scratch: Scratch::new(alloc),
         })
     }
 
@@ -214,11 +219,7 @@ impl<H: Hub> Machine<H> {
         let Some(peer) = self.peers.get_mut(&conn) else {
             return Ok(false);
         };
-        let Some(bytes) = peer.next_out() else {
-            return Ok(false);
-        };
-        out.extend_from_slice(bytes)?;
-        Ok(true)
+        say_one(peer, out)
     }
 
     /// A connection whose end is closed leaves its groups, and is no user's any more.
@@ -228,7 +229,15 @@ impl<H: Hub> Machine<H> {
         let Some(peer) = self.peers.get(&conn) else {
             return;
         };
-        if peer.end().state() == State::Closed {
+        let over = is_over(peer);
+        self.close_out_if(conn, over);
+    }
+
+    /// The same of one whose end is closed if this says so.
+    pub(crate) fn close_out_if(&mut self, conn: u64, over: bool)
+        ensures { ClosesOutIf (meaning H.begin_of H.step_of) self.old self.new conn over }
+    {
+        if over {
             self.registry.gone(conn);
         }
     }

@@ -10,6 +10,7 @@ ghost use Rattle.hub_machine.specs.KeeperState.{keeper_state};
 ghost use Rattle.hub_machine.specs.Rounds.{AreNumbers, HasBegun, HasRound, HasTurned, InRound, IsCountOfJobs, Steps as StepsTo, has_turn};
 
 use crate::machine::Machine;
+use crate::peer_traffic::is_over;
 use hd_calls::Deed;
 use hd_server::turns_are_tested;
 use he_end::Steps;
@@ -147,12 +148,13 @@ impl<H: Hub> Machine<H> {
             StepsTo (meaning H.begin_of H.step_of) self.new now w r conn found) }
     {
         turns_are_tested();
-        self.wake(conn);
+        self.ensure_awake(conn);
         let Some(peer) = self.peers.get_mut(&conn) else {
             return Ok(None);
         };
         let found = peer.step_job(alloc, hub, now)?;
-        self.close_out(conn);
+        let over = is_over(peer);
+        self.close_out_if(conn, over);
         Ok(found)
     }
 }

@@ -8,7 +8,7 @@ ghost use Rattle.hv_value.specs.SortedSet.{IsFirstPast};
 ghost use Rattle.hj_jobs.specs.Meaning.{meaning};
 ghost use Rattle.hub_machine.specs.MachineView.{MachineView, StandsFor};
 ghost use Rattle.hub_machine.specs.Delivers.{codec_at};
-ghost use Rattle.hub_machine.specs.Machines.{OfConn, StandsMachine, is_awake_at, idle_peer_at, peer_at};
+ghost use Rattle.hub_machine.specs.Machines.{IsIndexed, OfConn, StandsMachine, is_awake_at, idle_peer_at, peer_at};
 ghost use Rattle.hub_machine.specs.Rounds.{AreNumbers};
 ghost use Rattle.hub_machine.specs.Sleeping.{AreTimely, HasPassed, IsDrowsy, NoneRings};
 
@@ -45,6 +45,19 @@ impl<H: Hub> Machine<H> {
         }
     }
 
+    /// As `wake`, at once for one that is listed as awake.
+    pub(crate) fn ensure_awake(&mut self, conn: u64)
+        ensures stands { (w : List MachineEvent) → StandsMachine (meaning H.begin_of H.step_of) self.old w → StandsMachine (meaning H.begin_of H.step_of) self.new w }
+        ensures stands_for { (a : MachineView) → StandsFor (meaning H.begin_of H.step_of) self.old a → StandsFor (meaning H.begin_of H.step_of) self.new a }
+        ensures awake { IsIndexed self.old → idle_peer_at self.new conn ≡ Absent ⊎ peer_at self.new conn ≡ Absent }
+        ensures absent { peer_at self.old conn ≡ Absent → self.new ≡ self.old }
+    {
+        if self.idle_set.is_awake(conn) {
+            return;
+        }
+        self.wake(conn);
+    }
+
     /// A connection of which nothing is due on its link falls asleep, if it may: its end is open, and on no link or ticked with the others; no
     /// job is due, nor had a turn in this round.
     pub fn park(&mut self, conn: u64) -> Result<(), AllocError>
@@ -63,7 +76,7 @@ impl<H: Hub> Machine<H> {
             IsDrowsy self.now conn idle_peer t h)) }
     {
         let peer = self.peers.get(&conn)?;
-        if self.idle_set.idle_peers.contains_key(&conn) {
+        if !self.idle_set.is_awake(conn) {
             return None;
         }
         if peer.end().state() == State::Closed || peer.due() || !peer.at_start() {

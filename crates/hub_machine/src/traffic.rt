@@ -1,22 +1,31 @@
 //! What one connection's end is fed, and what it says.
 
-ghost use Rattle.std.specs.Prelude.{◌≡◌, ◌≤◌, ◌&&◌, not, OnOk, IfOk, is_some, true, false, [], length, None as Absent};
+ghost use Rattle.std.specs.Prelude.{◌≡◌, ◌≤◌, ◌&&◌, not, OnOk, IfOk, is_some, true, false, [], None as Absent};
+ghost use Rattle.hd_delivery.specs.Histories as of;
 ghost use Rattle.hd_delivery.specs.Histories.{is_resumable, present_link};
-ghost use Rattle.hd_calls.specs.Peers.{codec, is_shut, steps};
-ghost use Rattle.hd_server.specs.Serves.{can_feed, is_text};
-ghost use Rattle.hd_server.specs.Machine.{MachineEvent, connections};
+ghost use Rattle.hd_calls.specs.Peers.{is_shut, steps};
+ghost use Rattle.hd_server.specs.Serves.{is_text};
 ghost use Rattle.hj_jobs.specs.Meaning.{meaning};
-ghost use Rattle.hd_delivery.specs.Bounds.{most_frame};
-ghost use Rattle.hub_machine.specs.Machines.{OfConn, StandsMachine, peer_at};
-ghost use Rattle.hub_machine.specs.Traffic.{FeedsBytes, FeedsPiece, IsClear, LendsDue, LendsSome, TakesOne, TakesWhole, IsServers};
+ghost use Rattle.hub_machine.specs.Machines.{OfConn, peer_at};
+ghost use Rattle.hub_machine.specs.Traffic.{FeedsBytes, HasTicked, IsClear, LendsDue, LendsSome, IsServers};
 
 use crate::machine::Machine;
-use hd_delivery::State;
-use hd_server::MOST_BEFORE_LAST;
+use crate::peer_traffic::{
+    feed_peer, is_attached, is_over, may_resume, say_body, say_due, says_texts,
+};
 use hj_jobs::Hub;
-use hm_message::Codec;
-use hp_peer::PeerError;
 use std::alloc::{AllocError, Global};
+
+/// What one connection said.
+#[derive(Clone, Copy, Debug, PartialEq, Eq)]
+pub struct Spoken {
+    /// Something was due.
+    pub any: bool,
+    /// What it says are texts.
+    pub text: bool,
+    /// Its end is closed.
+    pub closed: bool,
+}
 
 impl<H: Hub> Machine<H> {
     // ---- what it is
@@ -27,7 +36,7 @@ impl<H: Hub> Machine<H> {
         ensures absent { peer_at self.now conn ≡ Absent → result ≡ false }
     {
         match self.peers.get(&conn) {
-            Some(peer) => peer.end().is_attached(),
+            Some(peer) => is_attached(peer),
             None => false,
         }
     }
@@ -38,7 +47,7 @@ impl<H: Hub> Machine<H> {
         ensures absent { peer_at self.now conn ≡ Absent → result ≡ false }
     {
         match self.peers.get(&conn) {
-            Some(peer) => peer.end().state() == State::Closed,
+            Some(peer) => is_over(peer),
             None => false,
         }
     }
@@ -49,7 +58,7 @@ impl<H: Hub> Machine<H> {
         ensures absent { peer_at self.now conn ≡ Absent → result ≡ false }
     {
         match self.peers.get(&conn) {
-            Some(peer) => peer.end().state() != State::Closed && peer.end().is_resumable(),
+            Some(peer) => may_resume(peer),
             None => false,
         }
     }
@@ -59,7 +68,7 @@ impl<H: Hub> Machine<H> {
         ensures { OfConn (meaning H.begin_of H.step_of) self.now conn (λ w t h. IsServers t h → result ≡ is_text t.config (steps t h)) }
     {
         match self.peers.get(&conn) {
-            Some(peer) => peer.end().codec() != Some(Codec::Pack),
+            Some(peer) => says_texts(peer),
             None => true,
         }
     }
@@ -78,89 +87,40 @@ impl<H: Hub> Machine<H> {
         ensures { OnOk result (OfConn (meaning H.begin_of H.step_of) self.old conn (λ w t h. IsClear t h →
             FeedsBytes (meaning H.begin_of H.step_of) self.new conn w t h now false bytes.now)) }
     {
-        let mut at = self.feed_piece(alloc, hub, conn, now, bytes)?;
-        while at < bytes.len() {
-            let fed = self.feed_piece(alloc, hub, conn, now, &bytes[at..])?;
-            if fed == 0 {
-                // It takes no more.
-                return Ok(());
-            }
-            at += fed;
-        }
-        Ok(())
-    }
-
-    /// The end is fed as many of these bytes as it takes, and every whole frame is taken. Answers how many it took: none if it can't be fed.
-    fn feed_piece(
-        &mut self,
-        alloc: Global,
-        hub: &H,
-        conn: u64,
-        now: u64,
-        bytes: &[u8],
-    ) -> Result<usize, AllocError>
-        ensures within { IfOk result (λ fed. fed ≤ length bytes.now) }
-        ensures fed { IfOk result (λ fed. OfConn (meaning H.begin_of H.step_of) self.old conn (λ w t h. IsClear t h →
-            FeedsPiece (meaning H.begin_of H.step_of) self.new conn w t h now fed bytes.now)) }
-    {
-        hd_delivery::taken_has_room();
-        he_wire::wire_is_sound();
-        if !self.can_feed(conn) {
-            return Ok(0);
-        }
-        let fed = self.feed(conn, bytes);
-        self.take_all(alloc, hub, conn, now)?;
-        Ok(fed)
-    }
-
-    /// Whether the end of a connection is open, and stands on a link.
-    fn can_feed(&self, conn: u64) -> bool
-        ensures there { OfConn (meaning H.begin_of H.step_of) self.now conn (λ w t h. result ≡ can_feed t h) }
-        ensures absent { peer_at self.now conn ≡ Absent → result ≡ false }
-    {
-        self.is_attached(conn) && !self.is_closed(conn)
-    }
-
-    /// Whole frames are taken until none is left.
-    fn take_all(&mut self, alloc: Global, hub: &H, conn: u64, now: u64) -> Result<(), AllocError>
-        ensures { OnOk result (OfConn (meaning H.begin_of H.step_of) self.old conn (λ w t h.
-            TakesWhole (meaning H.begin_of H.step_of) self.new conn w t h now)) }
-    {
-        hd_delivery::takes_few();
-        he_wire::wire_is_sound();
-        self.frames_are_few(conn);
-        for _taken in 0..u64::MAX {
-            if !self.take_one(alloc, hub, conn, now)? {
-                return Ok(());
-            }
-        }
-        Ok(())
-    }
-
-    /// The message that waits is handled or, if none does, the next whole frame is taken, which may close the end. False if there is none.
-    fn take_one(&mut self, alloc: Global, hub: &H, conn: u64, now: u64) -> Result<bool, AllocError>
-        ensures { IfOk result (λ more. OfConn (meaning H.begin_of H.step_of) self.old conn (λ w t h.
-            TakesOne (meaning H.begin_of H.step_of) self.new conn w t h now more)) }
-    {
-        match self.take(alloc, hub, conn, now) {
-            Ok(Some(_told)) => Ok(true),
-            Ok(None) => Ok(false),
-            Err(PeerError::NoMemory) => Err(AllocError),
-            Err(PeerError::Next(_why)) => Ok(true),
-            Err(PeerError::InUse(_id)) => Ok(true),
-            Err(PeerError::TooMany) => Ok(true),
-            Err(PeerError::Flood) => Ok(true),
-        }
-    }
-
-    /// The limits of an end are in range, so that it has fewer frames to take than 64 bits count.
-    fn frames_are_few(&self, conn: u64)
-        ensures { OfConn (meaning H.begin_of H.step_of) self.now conn (λ w t h. t.limits.frame ≤ most_frame) }
-    {
-        let Some(peer) = self.peers.get(&conn) else {
-            return;
+        self.ensure_awake(conn);
+        let Some(peer) = self.peers.get_mut(&conn) else {
+            return Ok(());
         };
-        let _ = peer.end().limits().frame();
+        feed_peer(alloc, &mut self.scratch, hub, peer, now, bytes)?;
+        let over = is_over(peer);
+        self.close_out_if(conn, over);
+        Ok(())
+    }
+
+    // ---- moments that come
+
+    /// A moment came, at a connection that stands on a link. A silence, by which the link is lost, is answered by whether the connection may be
+    /// resumed.
+    pub fn tick_there(&mut self, conn: u64, now: u64) -> Option<bool>
+        ensures ticked { OfConn (meaning H.begin_of H.step_of) self.old conn (λ w t h. of.moment (steps t h) ≤ now →
+            HasTicked (meaning H.begin_of H.step_of) self.new conn w t h now result) }
+        ensures absent { peer_at self.old conn ≡ Absent → (result ≡ Absent) × (self.new ≡ self.old) }
+    {
+        self.ensure_awake(conn);
+        let Some(peer) = self.peers.get_mut(&conn) else {
+            return None;
+        };
+        if !is_attached(peer) {
+            return None;
+        }
+        let granted = may_resume(peer);
+        let silent = peer.tick(now);
+        let over = is_over(peer);
+        self.close_out_if(conn, over);
+        if silent {
+            return Some(granted);
+        }
+        None
     }
 
     // ---- what is said
@@ -170,16 +130,11 @@ impl<H: Hub> Machine<H> {
         ensures { IfOk result (λ any. OfConn (meaning H.begin_of H.step_of) self.old conn (λ w t h.
             LendsDue (meaning H.begin_of H.step_of) self.new conn w t h any out.old.items out.new.items)) }
     {
-        hd_delivery::facts_hold();
-        hd_delivery::writes_few();
-        let mut any = false;
-        for _said in 0..u64::MAX {
-            if !self.say(conn, out)? {
-                return Ok(any);
-            }
-            any = true;
-        }
-        Ok(any)
+        self.ensure_awake(conn);
+        let Some(peer) = self.peers.get_mut(&conn) else {
+            return Ok(false);
+        };
+        say_due(peer, out)
     }
 
     /// The body of a poll's reply: what is due, up to the frame with which it is full. True exactly if there was any.
@@ -187,19 +142,32 @@ impl<H: Hub> Machine<H> {
         ensures { IfOk result (λ any. OfConn (meaning H.begin_of H.step_of) self.old conn (λ w t h. body.old.items ≡ [] →
             LendsSome (meaning H.begin_of H.step_of) self.new conn w t h any body.new.items)) }
     {
-        hd_delivery::facts_hold();
-        hd_delivery::writes_few();
-        hd_server::numbers_are_named();
-        let mut any = false;
-        for _said in 0..u64::MAX {
-            if body.len() > MOST_BEFORE_LAST {
-                return Ok(any);
-            }
-            if !self.say(conn, body)? {
-                return Ok(any);
-            }
-            any = true;
-        }
-        Ok(any)
+        self.ensure_awake(conn);
+        let Some(peer) = self.peers.get_mut(&conn) else {
+            return Ok(false);
+        };
+        say_body(peer, body)
+    }
+
+    /// Appends all that is due, and tells what `say_all`, `is_text` and, after it, `is_closed` would.
+    pub fn speak(&mut self, conn: u64, out: &mut Vec<u8>) -> Result<Spoken, AllocError>
+        ensures lent { IfOk result (λ spoken. OfConn (meaning H.begin_of H.step_of) self.old conn (λ w t h.
+            LendsDue (meaning H.begin_of H.step_of) self.new conn w t h spoken.any out.old.items out.new.items)) }
+        ensures text { IfOk result (λ spoken. OfConn (meaning H.begin_of H.step_of) self.old conn (λ w t h.
+            IsServers t h → spoken.text ≡ is_text t.config (steps t h))) }
+        ensures closed { IfOk result (λ spoken. OfConn (meaning H.begin_of H.step_of) self.new conn (λ w t h. spoken.closed ≡ is_shut t h)) }
+    {
+        self.ensure_awake(conn);
+        let Some(peer) = self.peers.get_mut(&conn) else {
+            return Ok(Spoken {
+                any: false,
+                text: true,
+                closed: false,
+            });
+        };
+        let text = says_texts(peer);
+        let any = say_due(peer, out)?;
+        let closed = is_over(peer);
+        Ok(Spoken { any, text, closed })
     }
 }

@@ -13,7 +13,7 @@ pub returns-clause-gone : goal.returns-clause-gone
 returns-clause-gone g c w t s there =
     let hub = meaning g.H.Hub.begin_of g.H.Hub.step_of in
     goes {H = g.row.H.Denot} {Job = g.row.H-Job.Denot} hub c.args.self.now
-    (record { peers = c.remove.new.self; registry = c.gone.new.self; idle_set = c.forget.new.self }) w c.args.conn t s there c.remove.ensures.updates
+    (record c.args.self.now { peers = c.remove.new.self; registry = c.gone.new.self; idle_set = c.forget.new.self }) w c.args.conn t s there c.remove.ensures.updates
     (let l = c.remove.ensures.len in omega (arith, l)) c.forget.ensures c.gone.ensures
 
 pub returns-clause-none : goal.returns-clause-none

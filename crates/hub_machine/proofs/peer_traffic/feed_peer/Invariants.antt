@@ -1,15 +1,15 @@
 use Rattle.std.proofs.Common.{length, ◌-◌, ◌≤◌}
 use Rattle.hj_jobs.specs.Meaning.{meaning}
-use Rattle.hub_machine.specs.Machines.{OfConn}
+use Rattle.hp_peer.specs.Stands.{OfEach}
 use Rattle.hub_machine.specs.Traffic.{IsClear}
 use Rattle.hub_machine.proofs.FeedPieces.{HasFed}
-use Rattle.hub_machine.proofs.machine.Machine.feed_all.Given as goal
+use Rattle.hub_machine.proofs.peer_traffic.feed_peer.Given as goal
 
 abbrev pub invariant-loop-at : goal.invariant-loop-at
 invariant-loop-at g l = record {
   within : l.at ≤ length l.bytes;
-  fed : OfConn {H = g.row.H.Denot} (meaning g.H.Hub.begin_of g.H.Hub.step_of) l.fn.self l.conn (λ w t h. IsClear t h →
-      HasFed {H = g.row.H.Denot} (meaning g.H.Hub.begin_of g.H.Hub.step_of) l.self l.conn w t h l.now l.bytes l.at);
+  fed : OfEach {H = g.row.H.Denot} (meaning g.H.Hub.begin_of g.H.Hub.step_of) l.fn.peer (λ t h. IsClear t h →
+      HasFed {H = g.row.H.Denot} (meaning g.H.Hub.begin_of g.H.Hub.step_of) t h l.peer l.now l.bytes l.at);
 }
 
 abbrev pub decreases-loop-at : goal.decreases-loop-at

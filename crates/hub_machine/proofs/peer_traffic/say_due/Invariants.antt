@@ -1,0 +1,8 @@
+use Rattle.hj_jobs.specs.Meaning.{meaning}
+use Rattle.hp_peer.specs.Stands.{OfEach}
+use Rattle.hub_machine.proofs.SaysSome.{HasLent}
+use Rattle.hub_machine.proofs.peer_traffic.say_due.Given as goal
+
+abbrev pub invariant-loop-said : goal.invariant-loop-said
+invariant-loop-said g l = OfEach {H = g.row.H.Denot} (meaning g.H.Hub.begin_of g.H.Hub.step_of) l.fn.peer (λ t h.
+    HasLent {H = g.row.H.Denot} (meaning g.H.Hub.begin_of g.H.Hub.step_of) t h l.peer l.any l.fn.out.items l.out.items l._said)
