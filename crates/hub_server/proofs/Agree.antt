@@ -1,12 +1,12 @@
 -- Two lists of doings that tell a server the same of all that it remembers: it stands for one exactly if it stands for the other.
-use Rattle.std.proofs.Common.{◌≡◌, ◌≤◌, ℕ, ◌==◌, Bool, true, false, not, ◌&&◌, ◌||◌, List, [], ◌∷◌, ◌++◌, Option, Some, None, is_some}
+use Rattle.std.proofs.Common.{◌≡◌, ◌≤◌, ℕ, ◌==◌, Bool, true, false, not, ◌&&◌, ◌||◌, List, [], ◌∷◌, ◌++◌, Option, None, is_some}
 use Rattle.std.proofs.Common.{refl, sym, ap, subst, ◌∙◌, arith}
 use Rattle.std.specs.Prelude.{if◌then◌else◌}
 use Rattle.std.specs.Ordering.{nat_cmp}
 use Rattle.std.specs.BTreeMap.{get}
 use Rattle.std.proofs.lemmas.Bool.{both_ways, eq-eqb, eqb-true}
 use Rattle.std.proofs.lemmas.List.Elements.{filter_agree}
-use Rattle.hd_delivery.specs.Histories.{is_this, is_silence, present_link}
+use Rattle.hd_delivery.specs.Histories.{is_this}
 use Rattle.hd_calls.specs.Hubs.{Hub}
 use Rattle.hd_calls.specs.Peers.{PeerEvent, Settings}
 use Rattle.hd_calls.specs.Rules.{IsPeer}
@@ -16,10 +16,9 @@ use Rattle.hd_server.specs.declared.vocabulary.Said.{Said}
 use Rattle.hd_server.specs.declared.vocabulary.Said.TheVariants as say
 use Rattle.hd_server.specs.Lives.{LaneLost, Removed, ConnectionEvent, is_removed, socket_of}
 use Rattle.hd_server.specs.Machine.{Does, Goes, has_gone, is_open, is_open_at, joined, moves, of_open, registry, settings_of, user_pairs}
-use Rattle.hd_server.specs.Doings.{ServerEvent, Notes, Works, Says, notes, work, moment, said, user_of, config_of, has_peer, history, may_resume}
-use Rattle.hd_server.specs.Doings.{was_refused}
-use Rattle.hd_server.specs.Plans.{Setup, removing_conn, losing, onto, shutting}
-use Rattle.hd_server.specs.Serves.{silenced, ticking}
+use Rattle.hd_server.specs.Doings.{ServerEvent, Notes, Works, Says, notes, work, moment, said, user_of, has_peer}
+use Rattle.hd_server.specs.Plans.{Setup, onto}
+use Rattle.hd_server.specs.Parts.{Each, IsOfAny, IsTick}
 use Rattle.hub_machine.specs.declared.machine.Machine.{Machine}
 use Rattle.hub_server.specs.declared.server.Server.{Server}
 use Rattle.hub_machine.specs.Machines.{IsKeptAs, IsStranger, StandsMachine, idle_peer_at, peer_at, settings_there}
@@ -167,62 +166,8 @@ standing_agrees {H} {Job} hub s u before v g h x st = let r : SameButMoves g h =
 
 -- ---- doings by which an end ticks
 
--- this is one, and if it is a move of a peer it is this connection's
-abbrev pub IsPart : ℕ → ServerEvent → Type 0
-IsPart c (Works (Does k m)) = k ≡ c
-IsPart c (Works (Goes k)) = Unit {0}
-IsPart c (Notes (LaneLost k lane now)) = Unit {0}
-IsPart c (Notes (Removed k)) = Unit {0}
-IsPart c (Says (say.Shut lane)) = Unit {0}
-IsPart c _ = ⊥
-
-abbrev pub AreParts : ℕ → List ServerEvent → Type 0
-AreParts c [] = Unit {0}
-AreParts c (d ∷ ds) = IsPart c d × AreParts c ds
-
--- of any connections
-abbrev pub AreAnyParts : List ServerEvent → Type 0
-AreAnyParts [] = Unit {0}
-AreAnyParts (d ∷ ds) = ((c : ℕ) × IsPart c d) × AreAnyParts ds
-
-pub any_parts : (c : ℕ) (ds : List ServerEvent) → AreParts c ds → AreAnyParts ds
-any_parts c [] p = tt
-any_parts c (d ∷ ds) p = ((c, p.0), any_parts c ds p.1)
-
-pub any_join : (xs ys : List ServerEvent) → AreAnyParts xs → AreAnyParts ys → AreAnyParts (xs ++ ys)
-any_join [] ys a b = b
-any_join (x ∷ xs) ys a b = (a.0, any_join xs ys a.1 b)
-
-parts_join : (c : ℕ) (xs ys : List ServerEvent) → AreParts c xs → AreParts c ys → AreParts c (xs ++ ys)
-parts_join c [] ys a b = b
-parts_join c (x ∷ xs) ys a b = (a.0, parts_join c xs ys a.1 b)
-
-parts_either : (c : ℕ) (b : Bool) (xs ys : List ServerEvent) → AreParts c xs → AreParts c ys → AreParts c (if b then xs else ys)
-parts_either c true xs ys x y = x
-parts_either c false xs ys x y = y
-
-pub ticking_parts : (now c : ℕ) (h : List ServerEvent) → AreParts c (ticking now c h)
-ticking_parts now c h =
-    parts_either c (is_some (present_link (history c h))) _ []
-    (parts_either c (is_silence (config_of c h) now (history c h)) _ _ (silent (socket_of c (notes h))) (refl, tt)) tt
-  where
-    goes : AreParts c (removing_conn c h)
-    goes = parts_join c (if has_peer c h then Works (Goes c) ∷ [] else []) (Notes (Removed c) ∷ [])
-        (parts_either c (has_peer c h) (Works (Goes c) ∷ []) [] (tt, tt) tt) (tt, tt)
-
-    loses : (lane : ℕ) → AreParts c (losing c lane now h)
-    loses lane = parts_either c (may_resume c h) (Notes (LaneLost c lane now) ∷ []) (removing_conn c h) (tt, tt) goes
-
-    silent : (o : Option ℕ) → AreParts c (silenced c o now h)
-    silent None = (refl, tt)
-    silent (Some lane) = (
-      refl,
-      parts_join c (losing c lane now h) (shutting lane h) (loses lane)
-          (parts_either c (was_refused lane h) [] (Says (say.Shut lane) ∷ []) tt (tt, tt)),
-    )
-
 -- what agreed before it agrees after it
-agree_on : (c : ℕ) (d : ServerEvent) (g h : List ServerEvent) → IsPart c d → Agree g h → Agree (d ∷ g) (d ∷ h)
+agree_on : (c : ℕ) (d : ServerEvent) (g h : List ServerEvent) → IsTick c d → Agree g h → Agree (d ∷ g) (d ∷ h)
 agree_on c (Works (Does k m)) g h p x = let r : SameButMoves g h = x.rest in record {
   rest = record {
     settings = r.settings;
@@ -295,7 +240,7 @@ agree_on c (Says (say.Shut lane)) g h p x = let r : SameButMoves g h = x.rest in
 }
 agree_on c d g h p x = absurd p
 
-pub agree_onto : (ds g h : List ServerEvent) → AreAnyParts ds → Agree g h → Agree (onto ds g) (onto ds h)
+pub agree_onto : (ds g h : List ServerEvent) → Each (IsOfAny IsTick) ds → Agree g h → Agree (onto ds g) (onto ds h)
 agree_onto [] g h p x = x
 agree_onto (d ∷ ds) g h p x = agree_onto ds (d ∷ g) (d ∷ h) p.1 (agree_on p.0.0 d g h p.0.1 x)
 
@@ -308,7 +253,7 @@ swap_moves true true x y ms apart = absurd (apart refl refl)
 swap_moves true false x y ms apart = refl
 swap_moves false b x y ms apart = refl
 
-agree_swap : (c k : ℕ) (d : ServerEvent) (m : PeerEvent) (h : List ServerEvent) → (c == k) ≡ false → IsPart c d
+agree_swap : (c k : ℕ) (d : ServerEvent) (m : PeerEvent) (h : List ServerEvent) → (c == k) ≡ false → IsTick c d
     → Agree (Works (Does k m) ∷ d ∷ h) (d ∷ Works (Does k m) ∷ h)
 agree_swap c k (Works (Does j x)) m h e p = record {
   rest = record {
@@ -383,11 +328,15 @@ agree_swap c k (Says (say.Shut lane)) m h e p = record {
 }
 agree_swap c k d m h e p = absurd p
 
+each_of_any : (c : ℕ) (ds : List ServerEvent) → Each (IsTick c) ds → Each (IsOfAny IsTick) ds
+each_of_any c [] p = tt
+each_of_any c (d ∷ ds) p = ((c, p.0), each_of_any c ds p.1)
+
 -- a move of another connection comes before these, or after them
-pub agree_past : (c k : ℕ) (m : PeerEvent) (ds h : List ServerEvent) → (c == k) ≡ false → AreParts c ds
+pub agree_past : (c k : ℕ) (m : PeerEvent) (ds h : List ServerEvent) → (c == k) ≡ false → Each (IsTick c) ds
     → Agree (Works (Does k m) ∷ onto ds h) (onto ds (Works (Does k m) ∷ h))
 agree_past c k m [] h e p = agree_refl (Works (Does k m) ∷ h)
 agree_past c k m (d ∷ ds) h e p =
     agree_trans (Works (Does k m) ∷ onto ds (d ∷ h)) (onto ds (Works (Does k m) ∷ d ∷ h)) (onto ds (d ∷ Works (Does k m) ∷ h))
     (agree_past c k m ds (d ∷ h) e p.1)
-    (agree_onto ds (Works (Does k m) ∷ d ∷ h) (d ∷ Works (Does k m) ∷ h) (any_parts c ds p.1) (agree_swap c k d m h e p.0))
+    (agree_onto ds (Works (Does k m) ∷ d ∷ h) (d ∷ Works (Does k m) ∷ h) (each_of_any c ds p.1) (agree_swap c k d m h e p.0))

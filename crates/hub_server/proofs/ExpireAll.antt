@@ -4,7 +4,7 @@ use Rattle.std.proofs.Common.{refl, sym, ap, subst, ◌∙◌, arith}
 use Rattle.std.specs.List.{flat_map}
 use Rattle.hd_calls.specs.Hubs.{Hub}
 use Rattle.hd_server.specs.declared.vocabulary.Said.{Said}
-use Rattle.hd_server.specs.Laws.{MomentsComeOnce}
+use Rattle.hd_server.specs.Laws.{MomentsComeOnce, PartsOfTurns}
 use Rattle.hd_server.specs.Numbers.{most_connections}
 use Rattle.hd_server.specs.Lives.{deadline, is_past, made, overdue, standing}
 use Rattle.hd_server.specs.Doings.{ServerEvent, moment, notes}
@@ -19,20 +19,15 @@ use Rattle.hub_server.specs.Steps.{NoneOverdue, expired_by}
 use Rattle.hub_server.proofs.Alike.{Alike, alike_refl, alike_trans}
 use Rattle.hub_server.proofs.Conns.{first_is_listed, later_listed, not_first, rising_rest, rising_to}
 use Rattle.hub_server.proofs.OntoAlike.{onto_append}
-use Rattle.hub_server.proofs.ExpireNotes.{apart_expiring, expiring_same, few_overdue, life_other, notes_expiring}
-use Rattle.hub_server.proofs.TickApart.{Apart}
+use Rattle.hub_server.proofs.ExpireNotes.{expiring_same, few_overdue, life_other, notes_expiring}
+use Rattle.hub_server.proofs.TickApart.{Apart, apart_expiring}
+use Rattle.hub_server.proofs.StepMute.{expiries_quiet}
 
 -- ---- by the definitions alone
 
 -- what is done about a connection, as all was at first
 abbrev done : List ServerEvent → ℕ → List ServerEvent
 done h c = expiring (moment h) (standing c (notes h)) c h
-
-same_moment_all : (h : List ServerEvent) (cs : List ℕ) (g : List ServerEvent) → moment (onto (flat_map (done h) cs) g) ≡ moment g
-same_moment_all h [] g = refl
-same_moment_all h (c ∷ cs) g =
-    let a = apart_expiring (moment h) (standing c (notes h)) c h g in
-    ap moment (onto_append (done h c) (flat_map (done h) cs) g) ∙ same_moment_all h cs (onto (done h c) g) ∙ a.same_moment
 
 none_left : MomentsComeOnce → (h : List ServerEvent) (cs : List ℕ) (g : List ServerEvent) → overdue (moment h) (notes g) ≡ cs
     → overdue (moment h) (notes (onto (flat_map (done h) cs) g)) ≡ []
@@ -43,9 +38,9 @@ none_left once h (c ∷ cs) g e =
     (ap (overdue (moment h)) (notes_expiring (moment h) (standing c (notes h)) c h g) ∙ once c cs (moment h) (notes g) e)
 
 -- none is overdue any more
-pub none_overdue : MomentsComeOnce → (h : List ServerEvent) → NoneOverdue (expired_by h)
-none_overdue once h =
-    ap (λ m. overdue m (notes (expired_by h))) (same_moment_all h (overdue (moment h) (notes h)) h)
+pub none_overdue : MomentsComeOnce → PartsOfTurns → (h : List ServerEvent) → NoneOverdue (expired_by h)
+none_overdue once parts h =
+    ap (λ m. overdue m (notes (expired_by h))) (expiries_quiet parts (moment h) h h).at
     ∙ none_left once h (overdue (moment h) (notes h)) h refl
 
 -- ---- the loop
@@ -84,11 +79,11 @@ module _ {H Job : Type 0} (hub : Hub Job) (old : Server H Job) where
   )
 
   -- one more comes to its moment
-  one : MomentsComeOnce → (mid new : Server H Job) (i : ℕ) (s : Setup) (u : Unsettled) (before : List Said) (h : List ServerEvent) (c : ℕ) (rest : List ℕ)
+  one : MomentsComeOnce → PartsOfTurns → (mid new : Server H Job) (i : ℕ) (s : Setup) (u : Unsettled) (before : List Said) (h : List ServerEvent) (c : ℕ) (rest : List ℕ)
       (x : ExpiresSo {H = H} hub s u before mid i (c ∷ rest) h)
       → Standing {H = H} hub s u before new (onto (expiring (moment x.so_far) (standing c (notes x.so_far)) c x.so_far) x.so_far)
       → ExpiresSo {H = H} hub s u before new (i + 1) rest h
-  one once mid new i s u before h c rest x st = record {
+  one once parts mid new i s u before h c rest x st = record {
     so_far = onto (done h c) x.so_far;
     stands =
         subst (λ xs. Standing {H = H} hub s u before new (onto xs x.so_far))
@@ -107,12 +102,12 @@ module _ {H Job : Type 0} (hub : Hub Job) (old : Server H Job) where
   }
     where
       goes : Apart c (onto (done h c) x.so_far) x.so_far
-      goes = apart_expiring (moment h) (standing c (notes h)) c h x.so_far
+      goes = apart_expiring parts (moment h) (standing c (notes h)) c h x.so_far
 
-  pub expires_on : MomentsComeOnce → (mid new : Server H Job) (i : ℕ) (more : Bool) → more ≡ true
+  pub expires_on : MomentsComeOnce → PartsOfTurns → (mid new : Server H Job) (i : ℕ) (more : Bool) → more ≡ true
       → OfEach {H = H} hub mid (λ s u before h. u.conn ≡ None → Expires {H = H} hub s u before new h more)
       → ExpireSoFar mid i → ExpireSoFar new (i + 1)
-  expires_on once mid new i more is next so = λ s u before h st free. on s u before h free (so s u before h st free)
+  expires_on once parts mid new i more is next so = λ s u before h st free. on s u before h free (so s u before h st free)
     where
       on : (s : Setup) (u : Unsettled) (before : List Said) (h : List ServerEvent) → u.conn ≡ None
           → (left : List ℕ) × ExpiresSo {H = H} hub s u before mid i left h
@@ -128,7 +123,7 @@ module _ {H Job : Type 0} (hub : Hub Job) (old : Server H Job) where
               (first : ExpiresFirst {H = H} hub s u before new x.so_far) → left ≡ first.conn ∷ first.rest
               → ExpiresSo {H = H} hub s u before new (i + 1) first.rest h
           step_on s u before h left x first same =
-              one once mid new i s u before h first.conn first.rest (record {
+              one once parts mid new i s u before h first.conn first.rest (record {
                 so_far = x.so_far;
                 stands = x.stands;
                 same_moment = x.same_moment;

@@ -13,12 +13,11 @@ use Rattle.hd_server.specs.Lives.{ConnectionEvent, Expired, deadline, ended_at, 
 use Rattle.hd_server.specs.Lives.{made, negotiated_at, numbers_to, only_polls, overdue, past, since, socket_of, standing, when}
 use Rattle.hd_server.specs.Machine.{Goes}
 use Rattle.hd_server.specs.Doings.{ServerEvent, Notes, Works, has_peer, is_up, notes}
-use Rattle.hd_server.specs.Plans.{closing, dropping, expiring, onto, step}
+use Rattle.hd_server.specs.Plans.{dropping, expiring, onto, step}
 use Rattle.hd_delivery.specs.Histories.{Closed}
 use Rattle.hub_machine.specs.Spreads.{is_listed}
 use Rattle.hub_server.proofs.Alike.{Alike, there_alike, up_alike}
 use Rattle.hub_server.proofs.Conns.{first_is_listed, listed_filter, listed_last, to_within}
-use Rattle.hub_server.proofs.TickApart.{Apart, apart_closing, apart_dropping, apart_expired, apart_parts}
 
 -- ---- lives
 
@@ -152,23 +151,6 @@ notes_expiring now life c of g = by life
     by Lost = dropped (has_peer c of)
     by Polling = closed (is_up c of)
     by Ending = dropped (has_peer c of)
-
-pub apart_expiring : (now : ℕ) (life : Life) (c : ℕ) (of g : List ServerEvent) → Apart c (onto (expiring now life c of) g) g
-apart_expiring now life c of g = by life
-  where
-    dropped : Apart c (onto (dropping c of ++ Notes (Expired c now) ∷ []) g) g
-    dropped = apart_parts c (dropping c of) (Notes (Expired c now) ∷ []) g (apart_dropping c (has_peer c of) g)
-        (apart_expired c now (onto (dropping c of) g))
-
-    by : (life : Life) → Apart c (onto (expiring now life c of) g) g
-    by Unknown = dropped
-    by Fresh = dropped
-    by (Socket l) = dropped
-    by Lost = dropped
-    by Polling =
-        apart_parts c (closing c reason.Expired of) (Notes (Expired c now) ∷ []) g (apart_closing c reason.Expired (is_up c of) g)
-        (apart_expired c now (onto (closing c reason.Expired of) g))
-    by Ending = dropped
 
 -- the same after what left the connection as it was
 pub expiring_same : (now : ℕ) (life : Life) (c : ℕ) (g h : List ServerEvent) → Alike c g h → expiring now life c g ≡ expiring now life c h

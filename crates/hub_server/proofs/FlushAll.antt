@@ -11,6 +11,7 @@ use Rattle.hd_server.specs.Machine.{connections, greatest, is_there}
 use Rattle.hd_server.specs.Doings.{ServerEvent, has_peer, moment, notes, work}
 use Rattle.hd_server.specs.Plans.{Setup, onto}
 use Rattle.hd_server.specs.Serves.{AreAllDue, AreDue, all_flushing, flushing, flushing_on}
+use Rattle.hd_server.specs.Laws.{PartsOfTurns}
 use Rattle.hub_machine.specs.declared.machine.Machine.{Machine}
 use Rattle.hub_server.specs.declared.server.Server.{Server}
 use Rattle.hub_machine.specs.Laws.{ConnectionsAreNumbered}
@@ -26,7 +27,7 @@ use Rattle.hub_server.proofs.Asleep.{IsMute, SaidByAll, awake_are, awake_there, 
 use Rattle.hub_server.proofs.OntoAlike.{onto_append}
 use Rattle.hub_server.proofs.Listed.{listed_last}
 use Rattle.hub_server.proofs.Rising.{left_at, rising_rest}
-use Rattle.hub_server.proofs.FlushOthersUnchanged.{Unheard, all_alike, all_unheard, same_due, same_flushing, flushing_tells, unheard_same, unheard_then}
+use Rattle.hub_server.proofs.FlushOthersUnchanged.{Unheard, all_alike, all_unheard, same_due, same_flushing, unheard_same, unheard_then}
 
 -- ---- lists of connections
 
@@ -60,15 +61,15 @@ due_last s c p h (k ∷ cs) [] x y = absurd x
 due_last s c p h (k ∷ cs) (q ∷ all) x y = (x.0, due_last s c p h cs all x.1 y)
 
 -- nothing is heard meanwhile
-all_unheard_then : (s : Setup) (now : ℕ) (cs : List ℕ) (all : List (List (List LinkFrame))) (h g : List ServerEvent)
+all_unheard_then : PartsOfTurns → (s : Setup) (now : ℕ) (cs : List ℕ) (all : List (List (List LinkFrame))) (h g : List ServerEvent)
     → Unheard (onto (all_flushing s now cs all h) g) g
-all_unheard_then s now [] all h g = unheard_same g
-all_unheard_then s now (k ∷ cs) [] h g = unheard_same g
-all_unheard_then s now (k ∷ cs) (p ∷ all) h g =
+all_unheard_then parts s now [] all h g = unheard_same g
+all_unheard_then parts s now (k ∷ cs) [] h g = unheard_same g
+all_unheard_then parts s now (k ∷ cs) (p ∷ all) h g =
     let mine : List ServerEvent = flushing s now k p h in
     subst (λ f. Unheard f g) (sym (onto_append mine (all_flushing s now cs all h) g))
     (unheard_then (onto (all_flushing s now cs all h) (onto mine g)) (onto mine g) g
-    (all_unheard_then s now cs all h (onto mine g)) (all_unheard k mine g (flushing_tells s now k (socket_of k (notes h)) p h)))
+    (all_unheard_then parts s now cs all h (onto mine g)) (all_unheard k mine g (parts.flushing_is s now k (socket_of k (notes h)) p h)))
 
 -- ---- the loop
 
@@ -104,7 +105,7 @@ abbrev pub TellsFrom : {H Job : Type 0} → Hub Job → Server H Job → Server 
 TellsFrom {H} hub old new c = OfEach {H = H} hub old (λ s u before h. u ≡ settled → has_peer c h ≡ true →
     FlushesOne {H = H} hub s before new c (socket_of c (notes h)) (poll_of c (notes h)) h)
 
-module _ {H Job : Type 0} (hub : Hub Job) (s : Setup) (before : List Said) (old new : Server H Job) (conns : List ℕ) (c : ℕ) (cs : List ℕ)
+module _ {H Job : Type 0} (parts : PartsOfTurns) (hub : Hub Job) (s : Setup) (before : List Said) (old new : Server H Job) (conns : List ℕ) (c : ℕ) (cs : List ℕ)
     (h : List ServerEvent)
     (p : ToldSome {H = H} hub s before old conns (c ∷ cs) h) (there : has_peer c h ≡ true) (tells : TellsFrom {H = H} hub old new c) where
   unlisted : is_listed c p.done ≡ false
@@ -118,7 +119,7 @@ module _ {H Job : Type 0} (hub : Hub Job) (s : Setup) (before : List Said) (old 
   alike = p.others c unlisted
 
   unheard : Unheard (onto (all_flushing s (moment h) p.done p.pieces h) h) h
-  unheard = all_unheard_then s (moment h) p.done p.pieces h h
+  unheard = all_unheard_then parts s (moment h) p.done p.pieces h h
 
   told : FlushesOne {H = H} hub s before new c (socket_of c (notes (onto (all_flushing s (moment h) p.done p.pieces h) h)))
       (poll_of c (notes (onto (all_flushing s (moment h) p.done p.pieces h) h))) (onto (all_flushing s (moment h) p.done p.pieces h) h)
@@ -146,7 +147,7 @@ module _ {H Job : Type 0} (hub : Hub Job) (s : Setup) (before : List Said) (old 
       → Alike k (onto (flushing s (moment h) c told.pieces h) (onto (all_flushing s (moment h) p.done p.pieces h) h))
       (onto (all_flushing s (moment h) p.done p.pieces h) h)
   other k e = all_alike k c (flushing s (moment h) c told.pieces h) (onto (all_flushing s (moment h) p.done p.pieces h) h) e
-      (flushing_tells s (moment h) c (socket_of c (notes h)) told.pieces h)
+      (parts.flushing_is s (moment h) c (socket_of c (notes h)) told.pieces h)
 
   rested_each : (k : ℕ) (b : Bool) → (k == c) ≡ b → (is_listed k p.done || b) ≡ true
       → IsRested k (onto (flushing s (moment h) c told.pieces h) (onto (all_flushing s (moment h) p.done p.pieces h) h))
@@ -195,11 +196,11 @@ module _ {H Job : Type 0} (hub : Hub Job) (s : Setup) (before : List Said) (old 
   }
 
 -- one more connection has told
-pub one_told : {H Job : Type 0} (hub : Hub Job) (s : Setup) (before : List Said) (old new : Server H Job) (conns : List ℕ) (i : ℕ) (h : List ServerEvent)
+pub one_told : {H Job : Type 0} → PartsOfTurns → (hub : Hub Job) (s : Setup) (before : List Said) (old new : Server H Job) (conns : List ℕ) (i : ℕ) (h : List ServerEvent)
     → i < length conns → ((k : ℕ) → is_listed k conns ≡ true → has_peer k h ≡ true) → ToldSome {H = H} hub s before old conns (drop i conns) h
     → TellsFrom {H = H} hub old new (get_or conns i 0) → ToldSome {H = H} hub s before new conns (drop (i + 1) conns) h
-one_told {H} {Job} hub s before old new conns i h l known p tells =
-    told_more {H = H} {Job = Job} hub s before old new conns c (drop (i + 1) conns) h q (known c (listed conns (q.done) q.are)) tells
+one_told {H} {Job} parts hub s before old new conns i h l known p tells =
+    told_more {H = H} {Job = Job} parts hub s before old new conns c (drop (i + 1) conns) h q (known c (listed conns (q.done) q.are)) tells
   where
     c : ℕ
     c = get_or conns i 0

@@ -20,6 +20,7 @@ use Rattle.hn_server_front.specs.declared.front.Front.{Front}
 use Rattle.hn_server_front.specs.Calls as calls
 use Rattle.hn_server_front.specs.Entries.{held_as}
 use Rattle.hn_server_front.specs.Stands as stands
+use Rattle.hd_server.specs.Laws.{PartsOfTurns}
 use Rattle.hub_machine.specs.declared.machine.Machine.{Machine}
 use Rattle.hub_server.specs.declared.server.Server.{Server}
 use Rattle.hub_machine.specs.Machines.{OfConn, StandsMachine}
@@ -30,7 +31,7 @@ use Rattle.hub_server.specs.Flushes.{FlushesOne, FlushesPoll}
 use Rattle.hub_server.proofs.LaneKept.{lane_kept, same_lane_note}
 use Rattle.hub_server.proofs.OntoAlike.{onto_append}
 use Rattle.hub_server.proofs.FlushSaid.{closed_is, gone_after, is_one, standing_rests, up_there}
-use Rattle.hub_server.proofs.FlushOthersUnchanged.{all_polls, flushing_tells}
+use Rattle.hub_server.proofs.FlushOthersUnchanged.{all_polls}
 use Rattle.hub_server.proofs.FrontNoted.{noted_front}
 
 -- of what holds once all is well something else follows
@@ -157,7 +158,7 @@ module _ {H Job : Type 0} (hub : Hub Job) (s : Setup) (u : Unsettled) (before : 
 
 module _ {H Job : Type 0} (hub : Hub Job) (s : Setup) (before : List Said) (v : Server H Job) (c : ℕ) (h : List ServerEvent)
     (x : Standing {H = H} hub s settled before v (onto (ending (moment h) c h) h)) (there : has_peer c h ≡ true)
-    (polls : is_polling c (notes h) ≡ true) where
+    (polls : is_polling c (notes h) ≡ true) (parts : PartsOfTurns) where
   -- what its ending leaves
   record Left (g : List ServerEvent) : Type 0 where
     noted : poll_of c (notes g) ≡ poll_of c (notes h)
@@ -179,7 +180,7 @@ module _ {H Job : Type 0} (hub : Hub Job) (s : Setup) (before : List Said) (v : 
 
   rested_polling : (pieces : List (List LinkFrame)) → IsRested c (onto (flushing_on s (moment h) c None pieces h) h)
   rested_polling pieces = λ at off. absurd (both_ways (is_polling c (notes (onto (flushing_on s (moment h) c None pieces h) h))) off
-      (all_polls c c (flushing_on s (moment h) c None pieces h) h (flushing_tells s (moment h) c None pieces h) polls))
+      (all_polls c c (flushing_on s (moment h) c None pieces h) h (parts.flushing_is s (moment h) c None pieces h) polls))
 
   told_is : (o : Option (ℕ × ℕ)) (pieces : List (List LinkFrame)) → poll_of c (notes h) ≡ o
       → onto (flushing_on s (moment h) c None pieces h) h ≡ onto (flushing_some_poll s (moment h) c o (all_of pieces) h)

@@ -9,88 +9,20 @@ use Rattle.hd_delivery.specs.Bytes.{Does as Step_of, spelling_of}
 use Rattle.hd_calls.specs.Peers.{Plain}
 use Rattle.hd_server.specs.declared.vocabulary.Said.TheVariants as say
 use Rattle.hd_server.specs.Numbers.{held_for}
-use Rattle.hd_server.specs.Lives.{Answered, Ended, Removed, ended_at, is_polling, poll_ended, poll_of, socket_of}
+use Rattle.hd_server.specs.Lives.{Answered, Ended, LaneLost, Polled, Removed, ended_at, is_polling, poll_ended, poll_of, socket_of}
 use Rattle.hd_server.specs.Machine.{Does, Goes}
-use Rattle.hd_server.specs.Doings.{ServerEvent, Notes, Works, Says, notes, moment, config_of, has_closed, has_peer, history, is_full, wants_shut, was_refused}
-use Rattle.hd_server.specs.Plans.{Setup, bare_reply, frames_reply, ends_lane, removing_conn, onto, replying, shutting}
+use Rattle.hd_server.specs.Doings.{ServerEvent, Hears, Notes, Works, Says, Sees, notes, moment, config_of, has_closed, history, is_full, wants_shut, was_refused}
+use Rattle.hd_server.specs.Plans.{Setup, bare_reply, frames_reply, removing_conn, onto, replying, shutting}
 use Rattle.hd_server.specs.Serves.{AreDueBy, AreDueOn, LendsAll, LendsUpTo, all_of, bytes_of, ending, is_text, lending, flushing, flushing_on, flushing_poll}
 use Rattle.hd_server.specs.Serves.{flushing_some_poll, is_withheld, writing}
+use Rattle.hd_server.specs.Parts.{Each, IsFlush}
 use Rattle.hub_server.proofs.Alike.{Alike, alike_refl, alike_trans, alike_does, alike_goes, alike_note, alike_says, config_alike, history_alike}
 use Rattle.hub_server.proofs.Alike.{there_alike}
 use Rattle.hub_server.proofs.Answering.{replying_same}
 
--- ---- what a connection does when it tells
-
-abbrev pub Tells : ℕ → ServerEvent → Type 0
-Tells k (Works (Does c (Plain (Step_of (Lent f))))) = c ≡ k
-Tells k (Works (Goes c)) = c ≡ k
-Tells k (Notes (Answered c lane now)) = c ≡ k
-Tells k (Notes (Ended c now)) = c ≡ k
-Tells k (Notes (Removed c)) = c ≡ k
-Tells k (Says x) = Unit {0}
-Tells k _ = ⊥
-
-abbrev pub AllTell : ℕ → List ServerEvent → Type 0
-AllTell k [] = Unit {0}
-AllTell k (d ∷ ds) = Tells k d × AllTell k ds
-
-join_tell : (k : ℕ) (xs ys : List ServerEvent) → AllTell k xs → AllTell k ys → AllTell k (xs ++ ys)
-join_tell k [] ys a b = b
-join_tell k (x ∷ xs) ys a b = (a.0, join_tell k xs ys a.1 b)
-
-either_tell : (k : ℕ) (b : Bool) (xs ys : List ServerEvent) → AllTell k xs → AllTell k ys → AllTell k (if b then xs else ys)
-either_tell k true xs ys a b = a
-either_tell k false xs ys a b = b
-
-lending_tells : (k : ℕ) (fs : List LinkFrame) → AllTell k (lending k fs)
-lending_tells k [] = tt
-lending_tells k (f ∷ fs) = (refl, lending_tells k fs)
-
-writing_tells : (k : ℕ) (s : Setup) (lane : ℕ) (pieces : List (List LinkFrame)) (h : List ServerEvent) → AllTell k (writing s k lane pieces h)
-writing_tells k s lane [] h = tt
-writing_tells k s lane (p ∷ ps) h = (tt, writing_tells k s lane ps h)
-
-letting_tells : (k : ℕ) (h : List ServerEvent) → AllTell k (removing_conn k h)
-letting_tells k h = join_tell k _ _ (either_tell k (has_peer k h) (Works (Goes k) ∷ []) [] (refl, tt) tt) (refl, tt)
-
-shutting_tells : (k lane : ℕ) (h : List ServerEvent) → AllTell k (shutting lane h)
-shutting_tells k lane h = either_tell k (was_refused lane h) [] (Says (say.Shut lane) ∷ []) tt (tt, tt)
-
-replying_tells : (k lane : ℕ) (reply : Reply) (h : List ServerEvent) → AllTell k (replying lane reply h)
-replying_tells k lane reply h = (
-  tt,
-  either_tell k (ends_lane lane reply.status h) (Says (say.Shut lane) ∷ []) [] (tt, tt) tt,
-)
-
-poll_tells : (s : Setup) (now k : ℕ) (p : ℕ × ℕ) (fs : List LinkFrame) (h : List ServerEvent) → AllTell k (flushing_poll s now k p fs h)
-poll_tells s now k p [] h =
-    either_tell k (has_closed k h) _ _ (join_tell k (replying p.0 (bare_reply 204) h) _ (replying_tells k p.0 (bare_reply 204) h) (letting_tells k h))
-    (either_tell k (nat_le (p.1 + held_for) now) _ [] (join_tell k (replying p.0 (bare_reply 200) h) (Notes (Answered k p.0 now) ∷ [])
-    (replying_tells k p.0 (bare_reply 200) h) (refl, tt)) tt)
-poll_tells s now k p (f ∷ fs) h =
-    join_tell k (lending k (f ∷ fs) ++ replying p.0 (frames_reply (bytes_of s k (f ∷ fs) h)) h) (Notes (Answered k p.0 now) ∷ [])
-    (join_tell k (lending k (f ∷ fs)) _ (lending_tells k (f ∷ fs)) (replying_tells k p.0 (frames_reply (bytes_of s k (f ∷ fs) h)) h)) (refl, tt)
-
-some_poll_tells : (s : Setup) (now k : ℕ) (o : Option (ℕ × ℕ)) (fs : List LinkFrame) (h : List ServerEvent) → AllTell k (flushing_some_poll s now k o fs h)
-some_poll_tells s now k None fs h = tt
-some_poll_tells s now k (Some p) fs h = poll_tells s now k p fs h
-
-pub flushing_tells : (s : Setup) (now k : ℕ) (o : Option ℕ) (pieces : List (List LinkFrame)) (h : List ServerEvent)
-    → AllTell k (flushing_on s now k o pieces h)
-flushing_tells s now k (Some lane) pieces h =
-    join_tell k (lending k (all_of pieces) ++ writing s k lane pieces h) _
-    (join_tell k (lending k (all_of pieces)) _ (lending_tells k (all_of pieces)) (writing_tells k s lane pieces h))
-    (either_tell k (has_closed k h) (shutting lane h ++ removing_conn k h) [] (join_tell k (shutting lane h) _ (shutting_tells k lane h)
-    (letting_tells k h)) tt)
-flushing_tells s now k None pieces h =
-    either_tell k (is_polling k (notes h)) _ _
-    (join_tell k (ending now k h) _ (either_tell k (has_closed k h && not (is_some (ended_at k (notes h)))) (Notes (Ended k now) ∷ []) []
-    (refl, tt) tt) (some_poll_tells s now k (poll_of k (notes h)) (all_of pieces) h))
-    (either_tell k (has_closed k h) (removing_conn k h) [] (letting_tells k h) tt)
-
 -- ---- of another connection all stays the same
 
-one_alike : (c k : ℕ) (d : ServerEvent) (h : List ServerEvent) → (c == k) ≡ false → Tells k d → Alike c (d ∷ h) h
+one_alike : (c k : ℕ) (d : ServerEvent) (h : List ServerEvent) → (c == k) ≡ false → IsFlush k d → Alike c (d ∷ h) h
 one_alike c k (Works (Does x (Plain (Step_of (Lent f))))) h n e = alike_does c x (Plain (Step_of (Lent f))) h (ap (λ y. c == y) e ∙ n)
 one_alike c k (Works (Goes x)) h n e = alike_goes c x h (ap (λ y. c == y) e ∙ n)
 one_alike c k (Notes (Answered x lane now)) h n e = alike_note (Answered x lane now) c h (ap (λ y. c == y) e ∙ n) tt
@@ -99,7 +31,7 @@ one_alike c k (Notes (Removed x)) h n e = alike_note (Removed x) c h (ap (λ y. 
 one_alike c k (Says x) h n e = alike_says x c h
 one_alike c k d h n e = absurd e
 
-pub all_alike : (c k : ℕ) (ds h : List ServerEvent) → (c == k) ≡ false → AllTell k ds → Alike c (onto ds h) h
+pub all_alike : (c k : ℕ) (ds h : List ServerEvent) → (c == k) ≡ false → Each (IsFlush k) ds → Alike c (onto ds h) h
 all_alike c k [] h n a = alike_refl c h
 all_alike c k (d ∷ ds) h n a = alike_trans c (onto ds (d ∷ h)) (d ∷ h) h (all_alike c k ds (d ∷ h) n a.1) (one_alike c k d h n a.0)
 
@@ -122,16 +54,12 @@ unheard_then f g h x y = record {
   full = λ lane. x.full lane ∙ y.full lane;
 }
 
-one_unheard : (k : ℕ) (d : ServerEvent) (h : List ServerEvent) → Tells k d → Unheard (d ∷ h) h
-one_unheard k (Works (Does x (Plain (Step_of (Lent f))))) h e = record { clock = refl; shut = λ lane. refl; refused = λ lane. refl; full = λ lane. refl }
-one_unheard k (Works (Goes x)) h e = record { clock = refl; shut = λ lane. refl; refused = λ lane. refl; full = λ lane. refl }
-one_unheard k (Notes (Answered x lane now)) h e = record { clock = refl; shut = λ lane. refl; refused = λ lane. refl; full = λ lane. refl }
-one_unheard k (Notes (Ended x now)) h e = record { clock = refl; shut = λ lane. refl; refused = λ lane. refl; full = λ lane. refl }
-one_unheard k (Notes (Removed x)) h e = record { clock = refl; shut = λ lane. refl; refused = λ lane. refl; full = λ lane. refl }
-one_unheard k (Says x) h e = record { clock = refl; shut = λ lane. refl; refused = λ lane. refl; full = λ lane. refl }
-one_unheard k d h e = absurd e
+one_unheard : (k : ℕ) (d : ServerEvent) (h : List ServerEvent) → IsFlush k d → Unheard (d ∷ h) h
+one_unheard k (Hears now event) h e = absurd e
+one_unheard k (Sees lane full) h e = absurd e
+one_unheard k d h e = record { clock = refl; shut = λ lane. refl; refused = λ lane. refl; full = λ lane. refl }
 
-pub all_unheard : (k : ℕ) (ds h : List ServerEvent) → AllTell k ds → Unheard (onto ds h) h
+pub all_unheard : (k : ℕ) (ds h : List ServerEvent) → Each (IsFlush k) ds → Unheard (onto ds h) h
 all_unheard k [] h a = unheard_same h
 all_unheard k (d ∷ ds) h a = unheard_then (onto ds (d ∷ h)) (d ∷ h) h (all_unheard k ds (d ∷ h) a.1) (one_unheard k d h a.0)
 
@@ -142,17 +70,14 @@ ends_poll : {A B : Type 0} (b : Bool) (p : Option A) (now : B) (q : Option B) �
 ends_poll true p now q e = refl
 ends_poll false p now q e = e
 
-one_polls : (c k : ℕ) (d : ServerEvent) (h : List ServerEvent) → Tells k d → is_polling c (notes h) ≡ true → is_polling c (notes (d ∷ h)) ≡ true
-one_polls c k (Works (Does x (Plain (Step_of (Lent f))))) h t e = e
-one_polls c k (Works (Goes x)) h t e = e
+one_polls : (c k : ℕ) (d : ServerEvent) (h : List ServerEvent) → IsFlush k d → is_polling c (notes h) ≡ true → is_polling c (notes (d ∷ h)) ≡ true
 one_polls c k (Notes (Answered x lane now)) h t e =
     ends_poll ((c == x) && is_this lane (option_map (λ (p : ℕ × ℕ). p.0) (poll_of c (notes h)))) (poll_of c (notes h)) now (poll_ended c (notes h)) e
-one_polls c k (Notes (Ended x now)) h t e = e
-one_polls c k (Notes (Removed x)) h t e = e
-one_polls c k (Says x) h t e = e
-one_polls c k d h t e = absurd t
+one_polls c k (Notes (Polled x lane now)) h t e = absurd t
+one_polls c k (Notes (LaneLost x lane now)) h t e = absurd t
+one_polls c k d h t e = e
 
-pub all_polls : (c k : ℕ) (ds h : List ServerEvent) → AllTell k ds → is_polling c (notes h) ≡ true → is_polling c (notes (onto ds h)) ≡ true
+pub all_polls : (c k : ℕ) (ds h : List ServerEvent) → Each (IsFlush k) ds → is_polling c (notes h) ≡ true → is_polling c (notes (onto ds h)) ≡ true
 all_polls c k [] h t e = e
 all_polls c k (d ∷ ds) h t e = all_polls c k ds (d ∷ h) t.1 (one_polls c k d h t.0 e)
 

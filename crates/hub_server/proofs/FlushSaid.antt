@@ -18,6 +18,7 @@ use Rattle.hd_server.specs.Doings.{ServerEvent, Notes, Works, Says, config_of, c
 use Rattle.hd_server.specs.Doings.{notes, peer, wants_shut, was_refused, work}
 use Rattle.hd_server.specs.Plans.{Setup, ends_lane, removing_conn, onto, replying, shutting}
 use Rattle.hd_server.specs.Serves.{LendsAll, LendsUpTo, bytes_of, is_text, lending, writing}
+use Rattle.hd_server.specs.Parts.{Each}
 use Rattle.hub_machine.specs.declared.machine.Machine.{Machine}
 use Rattle.hub_server.specs.declared.server.Server.{Server}
 use Rattle.hub_machine.specs.Machines.{OfConn, StandsMachine, settings_there}
@@ -30,10 +31,9 @@ use Rattle.hub_server.proofs.FlushLends.{HasLent, all_lent, standing_lends, ther
 
 -- ---- only words
 
-abbrev pub AllSay : List ServerEvent → Type 0
-AllSay [] = Unit {0}
-AllSay (Says x ∷ ds) = AllSay ds
-AllSay (_ ∷ ds) = ⊥
+abbrev pub IsWord : ServerEvent → Type 0
+IsWord (Says x) = Unit {0}
+IsWord _ = ⊥
 
 -- of the connection this stays
 pub record Mild (c : ℕ) (g h : List ServerEvent) : Type 0 where
@@ -60,10 +60,10 @@ mild_then c f g h x y = record {
   shut = λ lane. x.shut lane ∙ y.shut lane;
 }
 
-pub mild_says : (c : ℕ) (ds h : List ServerEvent) → AllSay ds → Mild c (onto ds h) h
+pub mild_says : (c : ℕ) (ds h : List ServerEvent) → Each IsWord ds → Mild c (onto ds h) h
 mild_says c [] h a = mild_same c h
-mild_says c (Says x ∷ ds) h a = mild_then c (onto ds (Says x ∷ h)) (Says x ∷ h) h (mild_says c ds (Says x ∷ h) a) (mild_one c x h)
-mild_says c (_ ∷ ds) h a = absurd a
+mild_says c (Says x ∷ ds) h a = mild_then c (onto ds (Says x ∷ h)) (Says x ∷ h) h (mild_says c ds (Says x ∷ h) a.1) (mild_one c x h)
+mild_says c (d ∷ ds) h a = absurd a.0
 
 pub mild_lends : (c : ℕ) (fs : List LinkFrame) (h : List ServerEvent) → Mild c (onto (lending c fs) h) h
 mild_lends c fs h =
@@ -77,25 +77,25 @@ mild_lends c fs h =
       shut = λ lane. (x.lane lane).shut;
     }
 
-pub writing_says : (s : Setup) (c lane : ℕ) (pieces : List (List LinkFrame)) (h : List ServerEvent) → AllSay (writing s c lane pieces h)
+pub writing_says : (s : Setup) (c lane : ℕ) (pieces : List (List LinkFrame)) (h : List ServerEvent) → Each IsWord (writing s c lane pieces h)
 writing_says s c lane [] h = tt
-writing_says s c lane (p ∷ ps) h = writing_says s c lane ps h
+writing_says s c lane (p ∷ ps) h = (tt, writing_says s c lane ps h)
 
 -- nobody did anything by them
-pub work_says : (ds h : List ServerEvent) → AllSay ds → work (onto ds h) ≡ work h
+pub work_says : (ds h : List ServerEvent) → Each IsWord ds → work (onto ds h) ≡ work h
 work_says [] h a = refl
-work_says (Says x ∷ ds) h a = work_says ds (Says x ∷ h) a
-work_says (_ ∷ ds) h a = absurd a
+work_says (Says x ∷ ds) h a = work_says ds (Says x ∷ h) a.1
+work_says (d ∷ ds) h a = absurd a.0
 
-either_says : (b : Bool) (xs ys : List ServerEvent) → AllSay xs → AllSay ys → AllSay (if b then xs else ys)
+either_says : (b : Bool) (xs ys : List ServerEvent) → Each IsWord xs → Each IsWord ys → Each IsWord (if b then xs else ys)
 either_says true xs ys a b = a
 either_says false xs ys a b = b
 
-pub shutting_says : (lane : ℕ) (h : List ServerEvent) → AllSay (shutting lane h)
-shutting_says lane h = either_says (was_refused lane h) [] (Says (say.Shut lane) ∷ []) tt tt
+pub shutting_says : (lane : ℕ) (h : List ServerEvent) → Each IsWord (shutting lane h)
+shutting_says lane h = either_says (was_refused lane h) [] (Says (say.Shut lane) ∷ []) tt (tt, tt)
 
-pub replying_says : (lane : ℕ) (reply : Reply) (h : List ServerEvent) → AllSay (replying lane reply h)
-replying_says lane reply h = either_says (ends_lane lane reply.status h) (Says (say.Shut lane) ∷ []) [] tt tt
+pub replying_says : (lane : ℕ) (reply : Reply) (h : List ServerEvent) → Each IsWord (replying lane reply h)
+replying_says lane reply h = (tt, either_says (ends_lane lane reply.status h) (Says (say.Shut lane) ∷ []) [] (tt, tt) tt)
 
 -- ---- what follows of it
 

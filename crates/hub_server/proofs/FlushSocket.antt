@@ -122,29 +122,23 @@ shuts_one {H} {Job} hub s u before v words lane h r e f are x = go (was_refused 
 
 -- ---- the lane is full
 
-and_none : (b : Bool) → (b && false) ≡ false
-and_none true = refl
-and_none false = refl
-
 module _ {H Job : Type 0} (hub : Hub Job) (s : Setup) (u : Unsettled) (before : List Said) (v : Server H Job) (c lane : ℕ) (h : List ServerEvent)
     (x : Standing {H = H} hub s u before v h) (there : has_peer c h ≡ true) where
-  -- nothing is withheld of a connection that is closed
-  pub closed_tells : (r : Bool) → r ≡ true → OfConn {H = H} hub v.machine c (λ w t k. r ≡ is_shut t k) → false ≡ is_withheld c lane h
-  closed_tells r e of =
-      let closed : has_closed c h ≡ true = sym (closed_is {H = H} {Job = Job} hub s u before v c h x there r of) ∙ e in
-      sym (ap (λ (b : Bool). is_full lane h && not b) closed ∙ and_none (is_full lane h))
-
-  -- of one that is open what is due is withheld if its lane is full
-  pub full_withholds : (r : Bool) (kept : Lane) → r ≡ false → OfConn {H = H} hub v.machine c (λ w t k. r ≡ is_shut t k)
-      → Some kept ≡ get nat_cmp v.lanes lane → kept.is_full ≡ is_withheld c lane h
-  full_withholds r kept e of is =
-      let closed : has_closed c h ≡ false = sym (closed_is {H = H} {Job = Job} hub s u before v c h x there r of) ∙ e in
+  full_now : (kept : Lane) (b : Bool) → Some kept ≡ get nat_cmp v.lanes lane → kept.is_full ≡ b → is_full lane h ≡ b
+  full_now kept b is e =
       let has : HasLane u kept lane h = subst (λ o. IsLane u o lane h) (sym is) (x.lanes lane) in
-      has.full ∙ sym (and_all (is_full lane h)) ∙ sym (ap (λ (b : Bool). is_full lane h && not b) closed)
-    where
-      and_all : (b : Bool) → (b && true) ≡ b
-      and_all true = refl
-      and_all false = refl
+      sym has.full ∙ e
+
+  -- nothing is withheld on a lane that isn't full
+  pub empty_tells : (kept : Lane) → Some kept ≡ get nat_cmp v.lanes lane → kept.is_full ≡ false → false ≡ is_withheld c lane h
+  empty_tells kept is e = sym (ap (λ (b : Bool). b && not (has_closed c h)) (full_now kept false is e))
+
+  -- on one that is full, what is due is withheld of a connection that is open
+  pub full_withholds : (kept : Lane) → Some kept ≡ get nat_cmp v.lanes lane → kept.is_full ≡ true → (r : Bool)
+      → OfConn {H = H} hub v.machine c (λ w t k. r ≡ is_shut t k) → not r ≡ is_withheld c lane h
+  full_withholds kept is e r of =
+      ap not (closed_is {H = H} {Job = Job} hub s u before v c h x there r of)
+      ∙ sym (ap (λ (b : Bool). b && not (has_closed c h)) (full_now kept true is e))
 
   -- what is due stays due
   pub tells_withheld : u ≡ settled → is_withheld c lane h ≡ true → FlushesOne {H = H} hub s before v c (Some lane) (poll_of c (notes h)) h

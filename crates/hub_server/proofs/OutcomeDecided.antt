@@ -12,7 +12,7 @@ use Rattle.hd_server.specs.declared.vocabulary.Life.TheVariants.{Unknown, Fresh,
 use Rattle.hd_server.specs.declared.vocabulary.Outcome.{Outcome}
 use Rattle.hd_server.specs.declared.vocabulary.Outcome.TheVariants.{Refusal, NewToken, PlainSocket, TokenSocket, FirstPoll, NextPoll, LastPoll, Posting, Deletion}
 use Rattle.hd_server.specs.declared.vocabulary.Said.{Said}
-use Rattle.hd_server.specs.Laws.{LivesAreSettled, LotsMatterToTokens, OutcomesSuit, Suits}
+use Rattle.hd_server.specs.Laws.{LivesAreSettled, LotsMatterToTokens, OutcomesSuit, Suits, PartsOfTurns}
 use Rattle.hd_server.specs.Lives.{ConnectionEvent, conn_with, is_busy, is_known, is_made, known_conn, life, life_of, life_of_some}
 use Rattle.hd_server.specs.Table.{Facts, asks_keeper, id_in, is_base, is_keepers_fault, is_unauthorized, outcome, socket_outcome}
 use Rattle.hd_server.specs.Doings.{ServerEvent, moment, name_now, notes}
@@ -169,7 +169,7 @@ module _ (s : Setup) (r : Request) (to : Route) (routed : RoutesTo s.base r to) 
 -- ---- of any doings for which the server stood
 
 module _ {H Job : Type 0} (hub : Hub Job) (old new : Server H Job) (lane : ℕ) (r : Request) (base : List ℕ) (read : base ≡ old.base) (to : Route)
-    (routed : RoutesTo base r to) (lots : LotsMatterToTokens) (suits : OutcomesSuit) (law : LivesAreSettled) (who : Caller)
+    (routed : RoutesTo base r to) (lots : LotsMatterToTokens) (parts : PartsOfTurns) (suits : OutcomesSuit) (law : LivesAreSettled) (who : Caller)
     (holds holds_now : Option Content) (answers answers_now : Option (List Asked)) (faults faults_now : ℕ)
     (told told_now : Option (List (Option (List ℕ)))) (failures failures_now : ℕ)
     (called : IsCaller (text_asked (is_entry_at to) r.bearer) r.bearer who holds answers faults holds_now answers_now faults_now)
@@ -211,7 +211,7 @@ module _ {H Job : Type 0} (hub : Hub Job) (old new : Server H Job) (lane : ℕ) 
         (subst (λ (k : ℕ). IsSeen s.live f k out g) (sym conn_is)
         (seen_so s r to routed_so who name called_so.is (moment h) g named named_is resumable granted out is suits_so law at (learned_none text name h none)
         (made (notes g) st_g.front.stands))) in
-        handled {H = H} {Job = Job} hub s before new lane r h lots who holds holds_now answers answers_now faults faults_now told told_now
+        handled {H = H} {Job = Job} hub s before new lane r h lots parts who holds holds_now answers answers_now faults faults_now told told_now
         failures failures_now called_so out is
         (for_conn {H = H} {Job = Job} hub s before new o conn (unwrap_or (named_conn r g) 0) told failures told_now failures_now g out
         (λ e. conn_is ∙ ap (λ (n : Option ℕ). unwrap_or n 0)

@@ -6,6 +6,7 @@ use Rattle.hw_door.specs.declared.heard.Event.TheVariants as event
 use Rattle.hd_server.specs.declared.vocabulary.Said.{Said}
 use Rattle.hd_server.specs.Doings.{ServerEvent, moment}
 use Rattle.hd_server.specs.Plans.{Setup, conn_on, losing_lane, onto, poller_on}
+use Rattle.hd_server.specs.Laws.{PartsOfTurns}
 use Rattle.hub_server.specs.declared.server.Server.{Server}
 use Rattle.hub_server.specs.Lanes.{settled}
 use Rattle.hub_server.specs.Servers.{Standing}
@@ -26,15 +27,15 @@ module _ {H Job : Type 0} (hub : Hub Job) (s : Setup) (before : List Said) (new 
   }
 
   -- a lane was lost
-  pub lost_lane : (lane : ℕ) → Standing {H = H} hub s settled before new (onto (losing_lane (conn_on lane h) (poller_on lane h) lane (moment h) h) h)
+  pub lost_lane : PartsOfTurns → (lane : ℕ) → Standing {H = H} hub s settled before new (onto (losing_lane (conn_on lane h) (poller_on lane h) lane (moment h) h) h)
       → Handles {H = H} hub s before new at at (event.Lost lane) h
-  lost_lane lane st =
+  lost_lane law lane st =
       let after : List ServerEvent = onto (losing_lane (conn_on lane h) (poller_on lane h) lane (moment h) h) h in
       record {
         after = after;
         is_handled = record { name = None; drawn = None; of_sixteen = tt; follows = record { fed = after; feeds = refl; is = refl } };
         stands = st;
-        went = went_same at h after (first_quiet s (moment h) (event.Lost lane) None None h h);
+        went = went_same at h after (first_quiet law s (moment h) (event.Lost lane) None None h h);
       }
 
   -- what only a client hears, what was refused, and what has drained, changes nothing

@@ -12,7 +12,7 @@ use Rattle.hd_server.specs.declared.vocabulary.Caller.{Caller}
 use Rattle.hd_server.specs.declared.vocabulary.Outcome.{Outcome}
 use Rattle.hd_server.specs.declared.vocabulary.Outcome.TheVariants.{Refusal, NewToken, PlainSocket, TokenSocket, FirstPoll, NextPoll, LastPoll, Posting, Deletion}
 use Rattle.hd_server.specs.declared.vocabulary.Said.{Said}
-use Rattle.hd_server.specs.Laws.{LotsMatterToTokens}
+use Rattle.hd_server.specs.Laws.{LotsMatterToTokens, PartsOfTurns}
 use Rattle.hd_server.specs.Lives.{is_busy, life_of_some}
 use Rattle.hd_server.specs.Table.{asks_keeper, id_in, outcome}
 use Rattle.hd_server.specs.Doings.{ServerEvent, Draws, Learns, asked, draws, may_resume, moment, name_now, notes}
@@ -140,7 +140,7 @@ token_follows s o drawn c h true reconnect = record
 token_follows s o drawn c h false reconnect = record { fed = onto (request_plan s o drawn 0 h (Refusal 500)).first h; feeds = refl; is = refl }
 
 module _ {H Job : Type 0} (hub : Hub Job) (s : Setup) (before : List Said) (new : Server H Job) (lane : ℕ) (r : Request) (h : List ServerEvent)
-    (lots : LotsMatterToTokens) (who : Caller) (holds holds_now : Option Content) (answers answers_now : Option (List Asked)) (faults faults_now : ℕ)
+    (lots : LotsMatterToTokens) (parts : PartsOfTurns) (who : Caller) (holds holds_now : Option Content) (answers answers_now : Option (List Asked)) (faults faults_now : ℕ)
     (told told_now : Option (List (Option (List ℕ)))) (failures failures_now : ℕ)
     (called : IsCaller (asks_keeper s.base r) r.bearer who holds answers faults holds_now answers_now faults_now) where
   -- once the keeper was asked
@@ -176,7 +176,7 @@ module _ {H Job : Type 0} (hub : Hub Job) (s : Setup) (before : List Said) (new 
       → Standing {H = H} hub s settled before new after → AddsAll told told_now drew → CountsDraws failures drew failures_now → IsHandledNow
   handled_by drawn b after drew sixteen e drew_so asks_so own st adds counts =
       let g : List ServerEvent = onto (if b then Draws drawn ∷ [] else []) known in
-      let quiet : Quiet after g = follows_quiet s (event.Request lane r) called.name drawn (moment h) g after own in
+      let quiet : Quiet after g = follows_quiet parts s (event.Request lane r) called.name drawn (moment h) g after own in
       record {
         after = after;
         is_handled = record {

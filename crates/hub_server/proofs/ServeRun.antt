@@ -19,6 +19,7 @@ use Rattle.hd_server.specs.Doings.{ServerEvent, Sees, moment}
 use Rattle.hd_server.specs.Plans.{Setup}
 use Rattle.hd_server.specs.Serves.{IsFree, IsSeen, given_as, lanes_sent, seeing}
 use Rattle.hd_server.specs.Serving.{IsAnswered, IsCutShort, IsGivenWhole, ServesOn, wait_for}
+use Rattle.hd_server.specs.Laws.{PartsOfTurns}
 use Rattle.hub_server.specs.declared.server.Server.{Server}
 use Rattle.hub_server.specs.declared.serving.ServeFault.{ServeFault}
 use Rattle.hub_server.specs.declared.serving.ServeFault.TheVariants as fault
@@ -353,13 +354,13 @@ module _ {H Job : Type 0} (hub : Hub Job) (old mid new : Server H Job) (at since
   }
 
   -- what was heard is answered, in part at least
-  pub served_answer : {A : Type 0} (r : Result A ServeFault) (words : List Said) → b ≡ option_map (with_heard wait e) a → (first ≤ e.now) × (last ≡ e.now)
+  pub served_answer : {A : Type 0} → PartsOfTurns → (r : Result A ServeFault) (words : List Said) → b ≡ option_map (with_heard wait e) a → (first ≤ e.now) × (last ≡ e.now)
       → ((s : Setup) (h : List ServerEvent) → StandsServer {H = H} hub s old h → (moment h ≤ e.now) × IsFree e.event h
       → HasTurn {H = H} hub s mid at since e h words)
       → ((s : Setup) (h : List ServerEvent) → StandsServer {H = H} hub s old h → wait ≡ wait_for h)
       → GivesAll {H = H} hub mid new b c words (is_ok r)
       → HasServed {H = H} hub old new at since a c first last 1 (result_err r)
-  served_answer {A} r words heard later turned waited gives = record {
+  served_answer {A} parts r words heard later turned waited gives = record {
     heard = e ∷ [];
     waits = wait ∷ [];
     given = gives.given;
@@ -388,7 +389,7 @@ module _ {H Job : Type 0} (hub : Hub Job) (old mid new : Server H Job) (at since
         went = went_seen at since h t.after (lanes_sent given) full t.went;
         timely =
             let k = later.1 in
-            let m = turn_moment hub s e.now e.event h t.after t.turn in
+            let m = turn_moment parts hub s e.now e.event h t.after t.turn in
             let n = moment_seen (lanes_sent given) full t.after in
             omega (arith, k, m, n);
       }
@@ -490,6 +491,14 @@ pub served_count : {H Job : Type 0} {hub : Hub Job} {x y : Server H Job} {at sin
     → HasServed {H = H} {Job = Job} hub x y at since a b first last n why → HasServed {H = H} {Job = Job} hub x y at since a b first last turns why
 served_count {H} {Job} {hub} {x} {y} {at} {since} {a} {b} {first} {last} {why} n turns same f =
     subst (λ k. HasServed {H = H} {Job = Job} hub x y at since a b first last k why) same f
+
+-- the door is flushed, which changes nothing of what it tells
+pub served_flushed : {H Job : Type 0} {hub : Hub Job} {x y : Server H Job} {at since : Outside} {a b c : Option Trace} {first last end turns : ℕ}
+    {why : Option ServeFault} → c ≡ b → end ≡ last → HasServed {H = H} {Job = Job} hub x y at since a b first last turns why
+    → HasServed {H = H} {Job = Job} hub x y at since a c first end turns why
+served_flushed {H} {Job} {hub} {x} {y} {at} {since} {a} {b} {c} {first} {last} {end} {turns} {why} same late f =
+    subst (λ t. HasServed {H = H} {Job = Job} hub x y at since a t first end turns why) (sym same)
+    (subst (λ n. HasServed {H = H} {Job = Job} hub x y at since a b first n turns why) (sym late) f)
 
 -- after whatever fault, and after this one
 pub err_served : {H Job A : Type 0} {hub : Hub Job} {x y : Server H Job} {at since : Outside} {a b : Option Trace} {first last turns : ℕ}

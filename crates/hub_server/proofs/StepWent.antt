@@ -1,5 +1,5 @@
 -- The parts of a turn, put together.
-use Rattle.std.proofs.Common.{◌≡◌, ℕ, ◌==◌, Bool, true, false, ◌||◌, List, [], ◌∷◌, ◌++◌, Option, Some, None}
+use Rattle.std.proofs.Common.{◌≡◌, ℕ, ◌==◌, true, false, ◌||◌, List, [], ◌∷◌, ◌++◌, Option, Some, None}
 use Rattle.std.proofs.Common.{refl, sym, ap, subst, ◌∙◌}
 use Rattle.std.specs.Prelude.{map, option_map, if◌then◌else◌}
 use Rattle.std.specs.Ordering.{nat_cmp}
@@ -13,11 +13,11 @@ use Rattle.hw_door.specs.declared.heard.Event.{Event}
 use Rattle.hw_door.specs.declared.heard.Event.TheVariants as event
 use Rattle.hw_door.specs.declared.heard.Heard.{Heard}
 use Rattle.hd_server.specs.declared.vocabulary.Said.{Said}
-use Rattle.hd_server.specs.Table.{asks_keeper}
 use Rattle.hd_server.specs.Machine.{MachineEvent, Rounds, IsRound, connections}
-use Rattle.hd_server.specs.Doings.{ServerEvent, Hears, Draws, Works, work, moment, asked, awaits_reply, said, is_full, wants_shut, was_refused}
-use Rattle.hd_server.specs.Plans.{Setup, asks_lots, learning, onto, plan, questions}
+use Rattle.hd_server.specs.Doings.{ServerEvent, Hears, Works, work, moment, asked, awaits_reply, said, is_full, wants_shut, was_refused}
+use Rattle.hd_server.specs.Plans.{Setup, onto, plan, questions}
 use Rattle.hd_server.specs.Serves.{IsFed, IsFree, all_flushing, ticks}
+use Rattle.hd_server.specs.Laws.{PartsOfTurns}
 use Rattle.hub_server.specs.declared.server.Server.{Server}
 use Rattle.hub_server.specs.Lanes.{lane_of, settled}
 use Rattle.hub_server.specs.Servers.{IsRested, Standing}
@@ -25,19 +25,19 @@ use Rattle.hub_server.specs.Steps.{AddsAll, Outside, CanHandle, CountsDraws, Fol
 use Rattle.hub_server.specs.Steps.{TurnsTo, expired_by, lost_in}
 use Rattle.hub_server.proofs.StepHears.{nobody_comes}
 use Rattle.hub_server.proofs.StepExpired.{expiries_rest, expiries_wane, nobody_wanes}
-use Rattle.hub_server.proofs.StepMute.{expiries_quiet, fed_quiet, first_quiet, last_quiet, round_at, round_draws, tells_quiet, ticks_quiet}
+use Rattle.hub_server.proofs.StepMute.{expiries_quiet, fed_quiet, first_quiet, last_quiet, questions_at, round_at, round_draws, tells_quiet, ticks_quiet}
 use Rattle.hub_server.proofs.Alike.{alike_hears, rested_alike}
 
 -- ---- before the event is handled
 
-pub rested_still : (now : ℕ) (e : Event) (h : List ServerEvent) → ((c : ℕ) → IsRested c h) → (c : ℕ) → IsRested c (expired_by (Hears now e ∷ h))
-rested_still now e h rested c = expiries_rest now c (Hears now e ∷ h) (rested_alike c (Hears now e ∷ h) h (alike_hears now e c h) (rested c))
+pub rested_still : PartsOfTurns → (now : ℕ) (e : Event) (h : List ServerEvent) → ((c : ℕ) → IsRested c h) → (c : ℕ) → IsRested c (expired_by (Hears now e ∷ h))
+rested_still law now e h rested c = expiries_rest law now c (Hears now e ∷ h) (rested_alike c (Hears now e ∷ h) h (alike_hears now e c h) (rested c))
 
-pub can_handle : {H Job : Type 0} (hub : Hub Job) (s : Setup) (before : List Said) (v : Server H Job) (now : ℕ) (e : Event) (h : List ServerEvent)
+pub can_handle : {H Job : Type 0} → PartsOfTurns → (hub : Hub Job) (s : Setup) (before : List Said) (v : Server H Job) (now : ℕ) (e : Event) (h : List ServerEvent)
     → Standing {H = H} hub s settled before v h → IsFree e h → CanHandle e (expired_by (Hears now e ∷ h))
-can_handle {H} hub s before v now (event.Request lane r) h stands free =
+can_handle {H} law hub s before v now (event.Request lane r) h stands free =
     let heard : List ServerEvent = Hears now (event.Request lane r) ∷ h in
-    let wanes = expiries_wane now heard heard in
+    let wanes = expiries_wane law now heard heard in
     let same : (lane == lane) ≡ true = eq-eqb lane lane refl in (
       record {
         waits = wanes.waits lane ∙ ap (λ b. b || awaits_reply lane h) same;
@@ -48,33 +48,15 @@ can_handle {H} hub s before v now (event.Request lane r) h stands free =
       },
       wanes.name,
     )
-can_handle {H} hub s before v now (event.Refused lane status) h stands free = tt
-can_handle {H} hub s before v now (event.Bytes lane bytes) h stands free = tt
-can_handle {H} hub s before v now (event.Response lane status body) h stands free = tt
-can_handle {H} hub s before v now (event.Upgraded lane) h stands free = tt
-can_handle {H} hub s before v now (event.Lost lane) h stands free = tt
-can_handle {H} hub s before v now (event.Drained lane) h stands free = tt
-can_handle {H} hub s before v now event.Quiet h stands free = tt
+can_handle {H} law hub s before v now (event.Refused lane status) h stands free = tt
+can_handle {H} law hub s before v now (event.Bytes lane bytes) h stands free = tt
+can_handle {H} law hub s before v now (event.Response lane status body) h stands free = tt
+can_handle {H} law hub s before v now (event.Upgraded lane) h stands free = tt
+can_handle {H} law hub s before v now (event.Lost lane) h stands free = tt
+can_handle {H} law hub s before v now (event.Drained lane) h stands free = tt
+can_handle {H} law hub s before v now event.Quiet h stands free = tt
 
 -- ---- moments
-
-asking_at : (token : Option (List ℕ)) (name : Option (Option (List ℕ))) (b : Bool) (drawn : Option (List ℕ)) (h : List ServerEvent)
-    → moment (onto (learning token name ++ (if b then Draws drawn ∷ [] else [])) h) ≡ moment h
-asking_at None name true drawn h = refl
-asking_at None name false drawn h = refl
-asking_at (Some token) name true drawn h = refl
-asking_at (Some token) name false drawn h = refl
-
-questions_at : (s : Setup) (now : ℕ) (e : Event) (name : Option (Option (List ℕ))) (drawn : Option (List ℕ)) (h : List ServerEvent)
-    → moment (onto (questions s now e name drawn h) h) ≡ moment h
-questions_at s now (event.Request lane r) name drawn h = asking_at (asks_keeper s.base r) name (asks_lots s now r name h) drawn h
-questions_at s now (event.Refused lane status) name drawn h = refl
-questions_at s now (event.Bytes lane bytes) name drawn h = refl
-questions_at s now (event.Response lane status body) name drawn h = refl
-questions_at s now (event.Upgraded lane) name drawn h = refl
-questions_at s now (event.Lost lane) name drawn h = refl
-questions_at s now (event.Drained lane) name drawn h = refl
-questions_at s now event.Quiet name drawn h = refl
 
 -- an event is handled at its moment
 record HandledAt (s : Setup) (now : ℕ) (e : Event) (name : Option (Option (List ℕ))) (drawn : Option (List ℕ)) (h after : List ServerEvent) : Type 0 where
@@ -85,14 +67,14 @@ record HandledAt (s : Setup) (now : ℕ) (e : Event) (name : Option (Option (Lis
   is : after ≡ onto (plan s now e name drawn asks).last fed
   at : moment after ≡ now
 
-handled_at : (s : Setup) (now : ℕ) (e : Event) (h after : List ServerEvent) (x : IsHandled s e h after) → moment h ≡ now
+handled_at : PartsOfTurns → (s : Setup) (now : ℕ) (e : Event) (h after : List ServerEvent) (x : IsHandled s e h after) → moment h ≡ now
     → HandledAt s now e x.name x.drawn h after
-handled_at s now e h after x at =
+handled_at law s now e h after x at =
     let follows = subst (λ n. Follows (plan s n e x.name x.drawn (onto (questions s n e x.name x.drawn h) h))
     (onto (questions s n e x.name x.drawn h) h) after) at x.follows in
     let asks : List ServerEvent = onto (questions s now e x.name x.drawn h) h in
     let p = plan s now e x.name x.drawn asks in
-    let asks_at : moment asks ≡ now = questions_at s now e x.name x.drawn h ∙ at in
+    let asks_at : moment asks ≡ now = questions_at law s now e x.name x.drawn h h ∙ at in
     let feeds = subst (λ n. IsFed n p.food (onto p.first asks) follows.fed) asks_at follows.feeds in
     record {
       asks = asks;
@@ -100,8 +82,8 @@ handled_at s now e h after x at =
       fed = follows.fed;
       feeds = feeds;
       is = follows.is;
-      at = ap moment follows.is ∙ (last_quiet s now e x.name x.drawn asks follows.fed).at
-          ∙ (fed_quiet now p.food (onto p.first asks) follows.fed feeds).at ∙ (first_quiet s now e x.name x.drawn asks asks).at ∙ asks_at;
+      at = ap moment follows.is ∙ (last_quiet law s now e x.name x.drawn asks follows.fed).at
+          ∙ (fed_quiet now p.food (onto p.first asks) follows.fed feeds).at ∙ (first_quiet law s now e x.name x.drawn asks asks).at ∙ asks_at;
     }
 
 -- ---- the whole of it
@@ -118,26 +100,26 @@ ticked h = onto (ticks (moment h) h) h
 abbrev pub rounded : List MachineEvent → List ServerEvent → List ServerEvent
 rounded round h = map Works round ++ Works (Rounds (moment h)) ∷ h
 
-pub turns_to : {H Job : Type 0} (hub : Hub Job) (s : Setup) (before : List Said) (v w x : Server H Job) (at mid since : Outside) (now : ℕ) (e : Event)
+pub turns_to : {H Job : Type 0} → PartsOfTurns → (hub : Hub Job) (s : Setup) (before : List Said) (v w x : Server H Job) (at mid since : Outside) (now : ℕ) (e : Event)
     (h : List ServerEvent)
     (handled : Handles {H = H} hub s before v at mid e (expired_by (Hears now e ∷ h)))
     (turned : IsRounded {H = H} hub s settled before w mid.holds mid.answers mid.faults since.holds since.answers since.faults (ticked handled.after))
     → IsFlushed {H = H} hub s before x (rounded turned.on.round (ticked handled.after))
     → since.drawn ≡ mid.drawn → since.failures ≡ mid.failures → AnswersJoin
     → TurnsTo {H = H} hub s before x at since (record { now = now; event = e }) h
-turns_to {H} hub s before v w x at mid since now e h handled turned told drawn failures join =
+turns_to {H} law hub s before v w x at mid since now e h handled turned told drawn failures join =
     let heard : List ServerEvent = Hears now e ∷ h in
     let expired : List ServerEvent = expired_by heard in
-    let waned = expiries_quiet now heard heard in
+    let waned = expiries_quiet law now heard heard in
     let a : List ServerEvent = handled.after in
-    let by = handled_at s now e expired a handled.is_handled waned.at in
+    let by = handled_at law s now e expired a handled.is_handled waned.at in
     let t : List ServerEvent = ticked a in
-    let tick = ticks_quiet (moment a) a a in
+    let tick = ticks_quiet law (moment a) a a in
     let at_t : moment t ≡ now = tick.at ∙ by.at in
     let round = turned.on.round in
     let r : List ServerEvent = rounded round t in
     let at_r : moment r ≡ now = round_at round (Works (Rounds (moment t)) ∷ t) ∙ at_t in
-    let tells = tells_quiet s (moment r) (connections (work r)) told.pieces r r in
+    let tells = tells_quiet law s (moment r) (connections (work r)) told.pieces r r in
     let after : List ServerEvent = onto (all_flushing s (moment r) (connections (work r)) told.pieces r) r in
     record {
       after = after;
@@ -188,7 +170,7 @@ turns_to {H} hub s before v w x at mid since now e h handled turned told drawn f
 
 -- ---- one part after the other
 
-module _ {H Job : Type 0} (hub : Hub Job) (s : Setup) (before : List Said) (v1 v2 v3 v4 v5 x : Server H Job) (at mid since : Outside) (now : ℕ)
+module _ {H Job : Type 0} (law : PartsOfTurns) (hub : Hub Job) (s : Setup) (before : List Said) (v1 v2 v3 v4 v5 x : Server H Job) (at mid since : Outside) (now : ℕ)
     (e : Event)
     (h : List ServerEvent) (drawn : since.drawn ≡ mid.drawn) (failures : since.failures ≡ mid.failures) (join : AnswersJoin)
     (tell : (g : List ServerEvent) → Standing {H = H} hub s settled before v5 g → IsFlushed {H = H} hub s before x g) where
@@ -196,7 +178,7 @@ module _ {H Job : Type 0} (hub : Hub Job) (s : Setup) (before : List Said) (v1 v
       → IsRounded {H = H} hub s settled before v5 mid.holds mid.answers mid.faults since.holds since.answers since.faults (ticked handled.after)
       → TurnsTo {H = H} hub s before x at since (record { now = now; event = e }) h
   from_rounded handled turned =
-      turns_to {H = H} hub s before v3 v5 x at mid since now e h handled turned
+      turns_to {H = H} law hub s before v3 v5 x at mid since now e h handled turned
       (tell (rounded turned.on.round (ticked handled.after)) turned.on.stands) drawn failures join
 
   from_handled : ((g : List ServerEvent) → Standing {H = H} hub s settled before v3 g → Standing {H = H} hub s settled before v4 (ticked g))
@@ -218,7 +200,7 @@ module _ {H Job : Type 0} (hub : Hub Job) (s : Setup) (before : List Said) (v1 v
       → CanHandle e (expired_by (Hears now e ∷ h))
       → TurnsTo {H = H} hub s before x at since (record { now = now; event = e }) h
   turns_through tick turn handle expire over heard rested can =
-      from_handled tick turn (handle (expired_by (Hears now e ∷ h)) (expire (Hears now e ∷ h) heard) (rested_still now e h rested) can
+      from_handled tick turn (handle (expired_by (Hears now e ∷ h)) (expire (Hears now e ∷ h) heard) (rested_still law now e h rested) can
       (over (Hears now e ∷ h) heard))
 
 -- ---- between events

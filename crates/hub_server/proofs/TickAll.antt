@@ -8,6 +8,7 @@ use Rattle.hd_server.specs.Machine.{MachineEvent}
 use Rattle.hd_server.specs.Doings.{ServerEvent, work, moment, has_peer}
 use Rattle.hd_server.specs.Plans.{Setup, onto}
 use Rattle.hd_server.specs.Serves.{ticking, ticks}
+use Rattle.hd_server.specs.Laws.{PartsOfTurns}
 use Rattle.hub_machine.specs.declared.machine.Machine.{Machine}
 use Rattle.hub_server.specs.declared.server.Server.{Server}
 use Rattle.hub_machine.specs.Laws.{ConnectionsAreNumbered}
@@ -45,11 +46,11 @@ module _ {H Job : Type 0} (hub : Hub Job) (old : Server H Job) (conns : List ℕ
   TickSoFar new i = OfEach {H = H} hub old (λ s u before h. u ≡ settled → TicksSo {H = H} hub s u before new (drop i conns) h)
 
   -- one more ticks
-  one : (mid new : Server H Job) (c : ℕ) (rest : List ℕ) → OfEach {H = H} hub mid (λ s u before h. u ≡ settled → has_peer c h ≡ true →
+  one : PartsOfTurns → (mid new : Server H Job) (c : ℕ) (rest : List ℕ) → OfEach {H = H} hub mid (λ s u before h. u ≡ settled → has_peer c h ≡ true →
       Standing {H = H} hub s u before new (onto (ticking (moment h) c h) h))
       → (s : Setup) (u : Unsettled) (before : List Said) (h : List ServerEvent) → u ≡ settled
       → TicksSo {H = H} hub s u before mid (c ∷ rest) h → TicksSo {H = H} hub s u before new rest h
-  one mid new c rest ticks_one s u before h sound x = record {
+  one parts mid new c rest ticks_one s u before h sound x = record {
     so_far = onto (ticking (moment h) c h) x.so_far;
     stands =
         subst (λ xs. Standing {H = H} hub s u before new (onto xs x.so_far))
@@ -69,14 +70,14 @@ module _ {H Job : Type 0} (hub : Hub Job) (old : Server H Job) (conns : List ℕ
       own = x.alike c (first_is_listed c rest)
 
       goes : Apart c (onto (ticking (moment h) c h) x.so_far) x.so_far
-      goes = apart_ticking c (moment h) h x.so_far
+      goes = apart_ticking parts c (moment h) h x.so_far
 
-  pub ticks_on : (mid new : Server H Job) (i : ℕ) → i < length conns
+  pub ticks_on : PartsOfTurns → (mid new : Server H Job) (i : ℕ) → i < length conns
       → OfEach {H = H} hub mid (λ s u before h. u ≡ settled → has_peer (get_or conns i 0) h ≡ true →
       Standing {H = H} hub s u before new (onto (ticking (moment h) (get_or conns i 0) h) h))
       → TickSoFar mid i → TickSoFar new (i + 1)
-  ticks_on mid new i more ticks_one so = λ s u before h st sound.
-      one mid new (get_or conns i 0) (drop (i + 1) conns) ticks_one s u before h sound
+  ticks_on parts mid new i more ticks_one so = λ s u before h st sound.
+      one parts mid new (get_or conns i 0) (drop (i + 1) conns) ticks_one s u before h sound
       (subst (λ cs. TicksSo {H = H} hub s u before mid cs h) (left_at conns i more) (so s u before h st sound))
 
   -- none is left
@@ -88,7 +89,7 @@ module _ {H Job : Type 0} (hub : Hub Job) (old : Server H Job) (conns : List ℕ
       (subst (λ cs. Agree (onto (ticks (moment h) h) h) (onto (flat_map (λ c. ticking (moment h) c h) cs) x.so_far)) none x.whole) x.stands
 
   -- those that sleep have passed the moment, and those that are awake are left to tick
-  module _ (law : ConnectionsAreNumbered) (m now_on : Machine H Job)
+  module _ (law : ConnectionsAreNumbered) (parts : PartsOfTurns) (m now_on : Machine H Job)
       (rings : (w : List MachineEvent) → StandsMachine {H = H} hub old.machine w → StandsMachine {H = H} hub m w)
       (none : (w : List MachineEvent) → StandsMachine {H = H} hub old.machine w → NoneRings {H = H} m old.moment)
       (known : (w : List MachineEvent) → StandsMachine {H = H} hub m w → AreNumbers {H = H} m conns)
@@ -104,7 +105,7 @@ module _ {H Job : Type 0} (hub : Hub Job) (old : Server H Job) (conns : List ℕ
       alike = λ k e. alike_passed {H = H} {Job = Job} law hub s u before old m now_on h st rung none_now passes_now k (numbers.are k ∙ e);
       there = λ k e. awake_there {H = H} {Job = Job} hub m (work h) k rung (numbers.are k ∙ e);
       rise = numbers.rise;
-      whole = all_ticked {H = H} {Job = Job} law hub s u before old m now_on h st rung none_now passes_now conns numbers;
+      whole = all_ticked {H = H} {Job = Job} law hub s u before old m now_on h st rung none_now passes_now parts conns numbers;
     }
       where
         rung : StandsMachine {H = H} hub m (work h)

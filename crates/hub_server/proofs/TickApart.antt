@@ -1,21 +1,20 @@
 -- Doings of one connection, that leave every other one and all lanes as they are.
-use Rattle.std.proofs.Common.{◌≡◌, ℕ, ◌==◌, Bool, true, false, List, [], ◌∷◌, ◌++◌, Option, Some, None, is_some}
-use Rattle.std.proofs.Common.{refl, sym, ap, subst, ◌∙◌}
+use Rattle.std.proofs.Common.{◌≡◌, ℕ, ◌==◌, Bool, false, List, [], ◌∷◌, ◌++◌, Option, Some, None, is_some}
+use Rattle.std.proofs.Common.{refl, ap, ◌∙◌}
 use Rattle.std.specs.Prelude.{if◌then◌else◌}
-use Rattle.hd_delivery.specs.declared.vocabulary.Reason.{Reason}
-use Rattle.hd_delivery.specs.Histories.{EndEvent, Closed, Silenced, Ticked, is_silence, present_link}
-use Rattle.hd_delivery.specs.Bytes.{Does as Step_of}
-use Rattle.hd_calls.specs.Peers.{Plain}
+use Rattle.hd_delivery.specs.Histories.{Silenced, Ticked, is_silence, present_link}
 use Rattle.hd_server.specs.declared.vocabulary.Said.TheVariants as say
+use Rattle.hd_server.specs.declared.vocabulary.Life.{Life}
 use Rattle.hd_server.specs.Lives.{Expired, LaneLost, Removed, socket_of}
 use Rattle.hd_server.specs.Machine.{Does, Goes}
-use Rattle.hd_server.specs.Doings.{ServerEvent, Notes, Works, Says, notes, moment, config_of, has_peer, history, may_resume, was_refused}
-use Rattle.hd_server.specs.Plans.{dropping, removing_conn, losing, onto, shutting, step}
+use Rattle.hd_server.specs.Doings.{ServerEvent, Notes, Works, Says, notes, moment, config_of, history, may_resume}
+use Rattle.hd_server.specs.Plans.{expiring, removing_conn, losing, onto, shutting, step}
 use Rattle.hd_server.specs.Serves.{silenced, ticking}
+use Rattle.hd_server.specs.Parts.{Each, IsExpiry, IsTick}
+use Rattle.hd_server.specs.Laws.{PartsOfTurns}
 use Rattle.hub_server.proofs.Alike.{Alike, alike_refl, alike_trans, alike_does, alike_goes, alike_note, alike_says, config_alike, granted_alike}
 use Rattle.hub_server.proofs.Alike.{history_alike, there_alike}
 use Rattle.hub_server.proofs.LaneKept.{SameLane, same_lane_note, same_lane_refl, same_lane_shut, same_lane_trans, same_lane_works}
-use Rattle.hub_server.proofs.OntoAlike.{onto_append}
 
 pub record Apart (c : ℕ) (g h : List ServerEvent) : Type 0 where
   pub others : (k : ℕ) → (k == c) ≡ false → Alike k g h
@@ -32,86 +31,52 @@ apart_then c f g h x y = record {
   same_moment = x.same_moment ∙ y.same_moment;
 }
 
-pub apart_step : (c : ℕ) (x : EndEvent) (h : List ServerEvent) → Apart c (step c x ∷ h) h
-apart_step c x h = record {
-  others = λ k e. alike_does k c (Plain (Step_of x)) h e;
-  lanes = λ l. same_lane_works l (Does c (Plain (Step_of x))) h;
+-- one event of those that a connection does as it ticks, and as its moment has come
+tick_apart : (c : ℕ) (d : ServerEvent) (h : List ServerEvent) → IsTick c d → Apart c (d ∷ h) h
+tick_apart c (Works (Does k m)) h p = record {
+  others = λ j e. alike_does j k m h (ap (λ n. j == n) p ∙ e);
+  lanes = λ l. same_lane_works l (Does k m) h;
   same_moment = refl;
 }
-
-pub apart_goes : (c : ℕ) (h : List ServerEvent) → Apart c (Works (Goes c) ∷ h) h
-apart_goes c h = record { others = λ k e. alike_goes k c h e; lanes = λ l. same_lane_works l (Goes c) h; same_moment = refl }
-
-pub apart_lost : (c lane now : ℕ) (h : List ServerEvent) → Apart c (Notes (LaneLost c lane now) ∷ h) h
-apart_lost c lane now h = record {
-  others = λ k e. alike_note (LaneLost c lane now) k h e tt;
-  lanes = λ l. same_lane_note l (LaneLost c lane now) h;
+tick_apart c (Works (Goes k)) h p = record {
+  others = λ j e. alike_goes j k h (ap (λ n. j == n) p ∙ e);
+  lanes = λ l. same_lane_works l (Goes k) h;
   same_moment = refl;
 }
-
-pub apart_freed : (c : ℕ) (h : List ServerEvent) → Apart c (Notes (Removed c) ∷ h) h
-apart_freed c h = record { others = λ k e. alike_note (Removed c) k h e tt; lanes = λ l. same_lane_note l (Removed c) h; same_moment = refl }
-
-pub apart_expired : (c now : ℕ) (h : List ServerEvent) → Apart c (Notes (Expired c now) ∷ h) h
-apart_expired c now h = record {
-  others = λ k e. alike_note (Expired c now) k h e tt;
-  lanes = λ l. same_lane_note l (Expired c now) h;
+tick_apart c (Notes (LaneLost k lane now)) h p = record {
+  others = λ j e. alike_note (LaneLost k lane now) j h (ap (λ n. j == n) p ∙ e) tt;
+  lanes = λ l. same_lane_note l (LaneLost k lane now) h;
   same_moment = refl;
 }
+tick_apart c (Notes (Removed k)) h p = record {
+  others = λ j e. alike_note (Removed k) j h (ap (λ n. j == n) p ∙ e) tt;
+  lanes = λ l. same_lane_note l (Removed k) h;
+  same_moment = refl;
+}
+tick_apart c (Says (say.Shut lane)) h p =
+    record { others = λ k e. alike_says (say.Shut lane) k h; lanes = λ l. same_lane_shut l lane h; same_moment = refl }
+tick_apart c d h p = absurd p
 
-pub apart_says : (c lane : ℕ) (h : List ServerEvent) → Apart c (Says (say.Shut lane) ∷ h) h
-apart_says c lane h = record { others = λ k e. alike_says (say.Shut lane) k h; lanes = λ l. same_lane_shut l lane h; same_moment = refl }
+expiry_apart : (c : ℕ) (d : ServerEvent) (h : List ServerEvent) → IsExpiry c d → Apart c (d ∷ h) h
+expiry_apart c (Works (Does k m)) h p = tick_apart c (Works (Does k m)) h p
+expiry_apart c (Works (Goes k)) h p = tick_apart c (Works (Goes k)) h p
+expiry_apart c (Notes (Expired k now)) h p = record {
+  others = λ j e. alike_note (Expired k now) j h (ap (λ n. j == n) p ∙ e) tt;
+  lanes = λ l. same_lane_note l (Expired k now) h;
+  same_moment = refl;
+}
+expiry_apart c d h p = absurd p
 
--- one part after another
-pub apart_parts : (c : ℕ) (xs ys h : List ServerEvent) → Apart c (onto xs h) h → Apart c (onto ys (onto xs h)) (onto xs h) → Apart c (onto (xs ++ ys) h) h
-apart_parts c xs ys h x y = subst (λ g. Apart c g h) (sym (onto_append xs ys h)) (apart_then c (onto ys (onto xs h)) (onto xs h) h y x)
+apart_onto : (P : ServerEvent → Type 0) (c : ℕ) → ((d : ServerEvent) (h : List ServerEvent) → P d → Apart c (d ∷ h) h)
+    → (ds h : List ServerEvent) → Each P ds → Apart c (onto ds h) h
+apart_onto P c one [] h a = apart_same c h
+apart_onto P c one (d ∷ ds) h a = apart_then c (onto ds (d ∷ h)) (d ∷ h) h (apart_onto P c one ds (d ∷ h) a.1) (one d h a.0)
 
--- ---- ends
+pub apart_ticking : PartsOfTurns → (c now : ℕ) (of h : List ServerEvent) → Apart c (onto (ticking now c of) h) h
+apart_ticking law c now of h = apart_onto (IsTick c) c (tick_apart c) (ticking now c of) h (law.ticking_is now c of)
 
-pub apart_dropping : (c : ℕ) (b : Bool) (h : List ServerEvent) → Apart c (onto (if b then Works (Goes c) ∷ [] else []) h) h
-apart_dropping c true h = apart_goes c h
-apart_dropping c false h = apart_same c h
-
-pub apart_closing : (c : ℕ) (why : Reason) (b : Bool) (h : List ServerEvent) → Apart c (onto (if b then step c (Closed why false) ∷ [] else []) h) h
-apart_closing c why true h = apart_step c (Closed why false) h
-apart_closing c why false h = apart_same c h
-
-pub apart_removing_conn : (c : ℕ) (of h : List ServerEvent) → Apart c (onto (removing_conn c of) h) h
-apart_removing_conn c of h =
-    apart_parts c (dropping c of) (Notes (Removed c) ∷ []) h (apart_dropping c (has_peer c of) h) (apart_freed c (onto (dropping c of) h))
-
--- ---- ticks
-
-apart_losing : (c lane now : ℕ) (of h : List ServerEvent) → Apart c (onto (losing c lane now of) h) h
-apart_losing c lane now of h = by (may_resume c of)
-  where
-    by : (b : Bool) → Apart c (onto (if b then Notes (LaneLost c lane now) ∷ [] else removing_conn c of) h) h
-    by true = apart_lost c lane now h
-    by false = apart_removing_conn c of h
-
-apart_shutting : (c lane : ℕ) (of h : List ServerEvent) → Apart c (onto (shutting lane of) h) h
-apart_shutting c lane of h = by (was_refused lane of)
-  where
-    by : (b : Bool) → Apart c (onto (if b then [] else Says (say.Shut lane) ∷ []) h) h
-    by true = apart_same c h
-    by false = apart_says c lane h
-
-apart_silenced : (c now : ℕ) (of h : List ServerEvent) (o : Option ℕ) → Apart c (onto (silenced c o now of) h) h
-apart_silenced c now of h None = apart_step c (Silenced now) h
-apart_silenced c now of h (Some lane) =
-    apart_then c (onto (losing c lane now of ++ shutting lane of) (step c (Silenced now) ∷ h)) (step c (Silenced now) ∷ h) h
-    (apart_parts c (losing c lane now of) (shutting lane of) (step c (Silenced now) ∷ h) (apart_losing c lane now of (step c (Silenced now) ∷ h))
-    (apart_shutting c lane of (onto (losing c lane now of) (step c (Silenced now) ∷ h))))
-    (apart_step c (Silenced now) h)
-
-pub apart_ticking : (c now : ℕ) (of h : List ServerEvent) → Apart c (onto (ticking now c of) h) h
-apart_ticking c now of h = by (is_some (present_link (history c of))) (is_silence (config_of c of) now (history c of))
-  where
-    by : (attached silent : Bool)
-        → Apart c (onto (if attached then (if silent then silenced c (socket_of c (notes of)) now of else step c (Ticked now) ∷ []) else []) h) h
-    by false silent = apart_same c h
-    by true false = apart_step c (Ticked now) h
-    by true true = apart_silenced c now of h (socket_of c (notes of))
+pub apart_expiring : PartsOfTurns → (now : ℕ) (life : Life) (c : ℕ) (of h : List ServerEvent) → Apart c (onto (expiring now life c of) h) h
+apart_expiring law now life c of h = apart_onto (IsExpiry c) c (expiry_apart c) (expiring now life c of) h (law.expiring_is now life c of)
 
 -- ---- a tick after what left the connection as it was
 

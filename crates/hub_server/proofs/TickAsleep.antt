@@ -26,8 +26,10 @@ use Rattle.hub_server.specs.Servers.{IsOrderly, Standing}
 use Rattle.hub_machine.specs.IdleSet.{deadline_in}
 use Rattle.hub_machine.specs.Sleeping.{AreTimely, HasPassed, NoneRings}
 use Rattle.hub_machine.specs.Spreads.{is_listed}
-use Rattle.hub_server.proofs.Agree.{Agree, AreAnyParts, AreParts, SameButMoves, agree_onto, agree_past, agree_refl, agree_trans}
-use Rattle.hub_server.proofs.Agree.{any_join, any_parts, same_alike, same_but_moves_refl, same_but_moves_trans, standing_same, ticking_parts}
+use Rattle.hd_server.specs.Parts.{Each, IsOfAny, IsTick}
+use Rattle.hd_server.specs.Laws.{PartsOfTurns}
+use Rattle.hub_server.proofs.Agree.{Agree, SameButMoves, agree_onto, agree_past, agree_refl, agree_trans}
+use Rattle.hub_server.proofs.Agree.{same_alike, same_but_moves_refl, same_but_moves_trans, standing_same}
 use Rattle.hub_server.proofs.Alike.{Alike, alike_does, orderly_alike}
 use Rattle.hub_server.proofs.Asleep.{IsAsleep, asleep, awake_are}
 use Rattle.hub_server.proofs.Calm.{orderly_ticked}
@@ -39,7 +41,8 @@ use Rattle.hub_server.proofs.TickSteps.{IsBegun, begun_here}
 -- ---- in another order
 
 -- of these numbers those that pass one test do what they do, and some of the others make a move
-module _ (t : ℕ → List ServerEvent) (parts : (c : ℕ) → AreParts c (t c)) (q p r a : ℕ → Bool) (m : PeerEvent)
+module _ (t : ℕ → List ServerEvent) (parts : (c : ℕ) → Each (IsTick c) (t c)) (any : (cs : List ℕ) → Each (IsOfAny IsTick) (flat_map t cs))
+    (q p r a : ℕ → Bool) (m : PeerEvent)
     (whole : (c : ℕ) → q c ≡ (p c || r c)) (apart : (c : ℕ) → p c ≡ true → r c ≡ false)
     (plain : (c : ℕ) → r c ≡ true → t c ≡ (if a c then Works (Does c m) ∷ [] else [])) where
   abbrev those : (ℕ → Bool) → List ℕ → List ServerEvent
@@ -49,11 +52,7 @@ module _ (t : ℕ → List ServerEvent) (parts : (c : ℕ) → AreParts c (t c))
   abbrev MayPass : List ServerEvent → List ℕ → Type 0
   MayPass ds cs = (b : List ServerEvent) → Agree (onto (those r cs) (onto ds b)) (onto ds (onto (those r cs) b))
 
-  any_all : (cs : List ℕ) → AreAnyParts (flat_map t cs)
-  any_all [] = tt
-  any_all (c ∷ cs) = any_join (t c) (flat_map t cs) (any_parts c (t c) (parts c)) (any_all cs)
-
-  may_pass : (c : ℕ) (ds : List ServerEvent) → AreParts c ds → p c ≡ true → (cs : List ℕ) → MayPass ds cs
+  may_pass : (c : ℕ) (ds : List ServerEvent) → Each (IsTick c) ds → p c ≡ true → (cs : List ℕ) → MayPass ds cs
   may_pass c ds of is [] b = agree_refl (onto ds b)
   may_pass c ds of is (k ∷ cs) b = by (may_pass c ds of is cs) (r k) refl
     where
@@ -70,7 +69,7 @@ module _ (t : ℕ → List ServerEvent) (parts : (c : ℕ) → AreParts c (t c))
       one later e true =
           agree_trans (onto after (Works (Does k m) ∷ onto ds b)) (onto after (onto ds (Works (Does k m) ∷ b)))
           (onto ds (onto after (Works (Does k m) ∷ b)))
-          (agree_onto after (Works (Does k m) ∷ onto ds b) (onto ds (Works (Does k m) ∷ b)) (any_all (filter r cs))
+          (agree_onto after (Works (Does k m) ∷ onto ds b) (onto ds (Works (Does k m) ∷ b)) (any (filter r cs))
           (agree_past c k m ds b (other e) of))
           (later (Works (Does k m) ∷ b))
 
@@ -110,7 +109,7 @@ module _ (t : ℕ → List ServerEvent) (parts : (c : ℕ) → AreParts c (t c))
           (subst (λ g. Agree (onto all (onto (t c) b)) g) (sym (onto_append (t c) first (onto after b)))
           (agree_trans (onto all (onto (t c) b)) (onto first (onto after (onto (t c) b))) (onto first (onto (t c) (onto after b)))
           (later (onto (t c) b))
-          (agree_onto first (onto after (onto (t c) b)) (onto (t c) (onto after b)) (any_all (filter p cs)) (may_pass c (t c) (parts c) e cs b))))
+          (agree_onto first (onto after (onto (t c) b)) (onto (t c) (onto after b)) (any (filter p cs)) (may_pass c (t c) (parts c) e cs b))))
       by later false e true f =
           subst (λ g. Agree g (onto first (onto (t c ++ after) b))) (sym (onto_append (t c) all b))
           (subst (λ g. Agree (onto all (onto (t c) b)) (onto first g)) (sym (onto_append (t c) after b)) (later (onto (t c) b)))
@@ -339,15 +338,15 @@ module _ {H Job : Type 0} (law : ConnectionsAreNumbered) (hub : Hub Job) (s : Se
       no_idle_peer false o f = absurd (true≢false (sym f))
 
   -- once those that are awake have ticked too, all have ticked
-  pub all_ticked : (conns : List ℕ) → AreNumbers {H = H} m conns
+  pub all_ticked : PartsOfTurns → (conns : List ℕ) → AreNumbers {H = H} m conns
       → Agree (onto (ticks (moment h) h) h) (onto (flat_map (λ c. ticking (moment h) c h) conns) (passed_by {H = H} m h))
-  all_ticked conns known =
+  all_ticked parts conns known =
       subst (λ cs. Agree (onto (ticks (moment h) h) h) (onto (flat_map (λ c. ticking (moment h) c h) cs) (passed_by {H = H} m h)))
       (sym (awake_are {H = H} {Job = Job} law hub m (work h) conns rung known))
       (subst (λ xs. Agree (onto (ticks (moment h) h) h)
       (onto (flat_map (λ c. ticking (moment h) c h) (filter (λ k. is_awake_at m k) numbers)) (onto xs h)))
       (plain_all (filter (sleeps_at {H = H} m) numbers) (λ c l. sleeps_listed c l))
-      (may_come_first (λ c. ticking (moment h) c h) (λ c. ticking_parts (moment h) c h) (λ c. is_there c (work h)) (λ c. is_awake_at m c)
+      (may_come_first (λ c. ticking (moment h) c h) (λ c. parts.ticking_is (moment h) c h) (λ cs. parts.ticks_are (moment h) cs h) (λ c. is_there c (work h)) (λ c. is_awake_at m c)
       (sleeps_at {H = H} m) (rests_at {H = H} m) (Plain (Step_of (Ticked (moment h)))) whole apart ticks_so numbers h))
     where
       sleeps_listed : (c : ℕ) → is_listed c (filter (sleeps_at {H = H} m) numbers) ≡ true → sleeps_at {H = H} m c ≡ true

@@ -4,11 +4,11 @@ use Rattle.std.proofs.Common.{refl, sym, ap, subst, ◌∙◌, arith}
 use Rattle.std.specs.Prelude.{if◌then◌else◌}
 use Rattle.std.specs.Ordering.{nat_cmp}
 use Rattle.std.specs.BTreeMap.{get}
-use Rattle.std.proofs.lemmas.Bool.{eqb-true, eq-eqb}
+use Rattle.std.proofs.lemmas.Bool.{and_parts, eqb-true, eq-eqb}
 use Rattle.hd_delivery.specs.Histories.{EndEvent, Silenced, Detached, is_closed, is_resumable, is_this, present_link}
 use Rattle.hd_delivery.specs.Bytes.{Does as Step_of}
 use Rattle.hd_calls.specs.Hubs.{Hub}
-use Rattle.hd_calls.specs.Peers.{PeerEvent, Plain, Settings, steps}
+use Rattle.hd_calls.specs.Peers.{PeerEvent, Plain, Settings, is_shut, steps}
 use Rattle.hd_server.specs.declared.vocabulary.Said.{Said}
 use Rattle.hd_server.specs.Lives.{socket_of}
 use Rattle.hd_server.specs.Machine.{Does, has_gone, is_open_at, moves, settings_of}
@@ -110,6 +110,13 @@ granted_off : (here : Bool) (o : Option Settings) (now : ℕ) (ms : List PeerEve
     → granted_with here o (Plain (Step_of (Detached now)) ∷ ms) ≡ granted_with here o ms
 granted_off here None now ms = refl
 granted_off here (Some t) now ms = granted_by here (is_resumable t.config (steps t ms)) (is_closed t.config (steps t ms))
+
+pub granted_begun : (c : ℕ) (h : List ServerEvent) (t : IsBegun c h) → has_peer c h ≡ true
+    → (not (is_shut t.settings (peer c h)) && is_resumable t.settings.config (steps t.settings (peer c h))) ≡ may_resume c h
+granted_begun c h t there =
+    let here = and_parts (is_some (settings_of c (work h))) (not (has_gone c (work h))) there in
+    ap (λ b. granted_with b (Some t.settings) (peer c h)) (sym here.1)
+    ∙ ap (λ o. granted_with (not (has_gone c (work h))) o (peer c h)) (sym t.begun)
 
 -- the loss of its link doesn't change that
 pub silent_granted : (c now : ℕ) (h : List ServerEvent) → may_resume c (step c (Silenced now) ∷ h) ≡ may_resume c h

@@ -37,6 +37,7 @@ impl<H: Hub> Server<H> {
             (outside (K.holds keeper.new) (K.answers keeper.new) (K.faults keeper.new) (L.drawn lots.new) (L.faults lots.new))
             event h) }
     {
+        hd_server::parts_of_turns();
         match event {
             Event::Request { lane, request } => {
                 self.on_request(alloc, lane, request, hub, keeper, lots)
@@ -111,6 +112,7 @@ impl<H: Hub> Server<H> {
         ensures over { OfEach (meaning H.begin_of H.step_of) self.old (λ s u before h. NoneOverdue (expired_by h)) }
     {
         hd_server::moments_come_once();
+        hd_server::parts_of_turns();
         for _expired in 0..u64::MAX {
             if !self.expire_next() {
                 return;

@@ -1,6 +1,7 @@
 //! Ticks, and what is said at the end of an event, connection by connection.
 
-ghost use Rattle.std.specs.Prelude.{◌≡◌, ◌+◌, ℕ, List, OnOk, Some as Given, None as Absent, nat_le, true, not};
+ghost use Rattle.std.specs.Prelude.{◌≡◌, ◌+◌, ℕ, List, IfOk, OnOk, Some as Given, None as Absent, nat_le, true, not};
+ghost use Rattle.hd_calls.specs.Peers.{is_shut};
 ghost use Rattle.hd_server.specs.Doings.{ServerEvent, has_peer, moment, notes, was_refused};
 ghost use Rattle.hd_server.specs.Lives.{is_polling, poll_of, socket_of};
 ghost use Rattle.hd_server.specs.Plans.{frames_reply, onto, shutting};
@@ -8,7 +9,7 @@ ghost use Rattle.hd_server.specs.Serves.{ending, is_withheld, ticking, ticks};
 ghost use Rattle.hj_jobs.specs.Meaning.{meaning};
 ghost use Rattle.hd_server.specs.Numbers.{held_for};
 ghost use Rattle.hub_server.specs.Lanes.{is_at, settled};
-ghost use Rattle.hub_machine.specs.Machines.{idle_peer_at};
+ghost use Rattle.hub_machine.specs.Machines.{OfConn, idle_peer_at};
 ghost use Rattle.hub_server.specs.Servers.{OfEach, Standing};
 ghost use Rattle.hub_server.specs.Steps.{IsFlushed};
 ghost use Rattle.hub_server.specs.Flushes.{FlushesOne, FlushesPoll, Writes};
@@ -30,6 +31,7 @@ impl<H: Hub> Server<H> {
             Standing (meaning H.begin_of H.step_of) s u before self.new (onto (ticks (moment h) h) h))) }
     {
         hub_machine::connections_are_numbered();
+        hd_server::parts_of_turns();
         self.machine.wake_expired(alloc, self.moment)?;
         let conns = self.machine.awake(alloc)?;
         self.machine.advance_clock(self.moment);
@@ -44,13 +46,9 @@ impl<H: Hub> Server<H> {
         ensures { OnOk result (OfEach (meaning H.begin_of H.step_of) self.old (λ s u before h. u ≡ settled → has_peer conn h ≡ true →
             Standing (meaning H.begin_of H.step_of) s u before self.new (onto (ticking (moment h) conn h) h))) }
     {
-        if !self.machine.is_attached(conn) {
+        let Some(granted) = self.machine.tick_there(conn, self.moment) else {
             return Ok(());
-        }
-        let granted = self.may_resume(conn);
-        if !self.machine.tick(conn, self.moment) {
-            return Ok(());
-        }
+        };
         let Some(lane) = self.front.lane(conn) else {
             return Ok(());
         };
@@ -92,6 +90,7 @@ impl<H: Hub> Server<H> {
             IsFlushed (meaning H.begin_of H.step_of) s before self.new h)) }
     {
         hub_machine::connections_are_numbered();
+        hd_server::parts_of_turns();
         self.wake_pollers();
         let conns = self.machine.awake(alloc)?;
         for &conn in &conns {
@@ -137,8 +136,7 @@ impl<H: Hub> Server<H> {
         if self.withholds(conn, lane) {
             return Ok(());
         }
-        self.write(alloc, conn, lane)?;
-        if !self.machine.is_closed(conn) {
+        if !self.write(alloc, conn, lane)? {
             return self.machine.park(conn);
         }
         self.shut(lane)?;
@@ -150,27 +148,28 @@ impl<H: Hub> Server<H> {
     fn withholds(&self, conn: u64, lane: u64) -> bool
         ensures { OfEach (meaning H.begin_of H.step_of) self.now (λ s u before h. has_peer conn h ≡ true → is_at lane conn h ≡ true → result ≡ is_withheld conn lane h) }
     {
-        if self.machine.is_closed(conn) {
+        let Some(kept) = self.lanes.get(&lane) else {
+            return false;
+        };
+        if !kept.is_full {
             return false;
         }
-        match self.lanes.get(&lane) {
-            Some(kept) => kept.is_full,
-            None => false,
-        }
+        !self.machine.is_closed(conn)
     }
 
-    /// What is due is written there.
-    fn write(&mut self, alloc: Global, conn: u64, lane: u64) -> Result<(), AllocError>
-        ensures { OnOk result (OfEach (meaning H.begin_of H.step_of) self.old (λ s u before h. has_peer conn h ≡ true →
+    /// What is due is written there. True exactly if the end is closed.
+    fn write(&mut self, alloc: Global, conn: u64, lane: u64) -> Result<bool, AllocError>
+        ensures closed { IfOk result (λ closed. OfConn (meaning H.begin_of H.step_of) self.new.machine conn (λ w t k. closed ≡ is_shut t k)) }
+        ensures written { OnOk result (OfEach (meaning H.begin_of H.step_of) self.old (λ s u before h. has_peer conn h ≡ true →
             Writes (meaning H.begin_of H.step_of) s u before self.new conn lane h)) }
     {
-        let text = self.machine.is_text(conn);
         let mut bytes = Vec::new(alloc);
-        if !self.machine.say_all(conn, &mut bytes)? {
-            return Ok(());
+        let spoken = self.machine.speak(conn, &mut bytes)?;
+        if !spoken.any {
+            return Ok(spoken.closed);
         }
-        self.words.bytes(lane, Vec8::from_vec(bytes), text)?;
-        Ok(())
+        self.words.bytes(lane, Vec8::from_vec(bytes), spoken.text)?;
+        Ok(spoken.closed)
     }
 
     /// Of one that polls: by the poll that it holds. If it is closed, its token is ending.
@@ -178,6 +177,7 @@ impl<H: Hub> Server<H> {
         ensures { OnOk result (OfEach (meaning H.begin_of H.step_of) self.old (λ s u before h. u ≡ settled → has_peer conn h ≡ true → socket_of conn (notes h) ≡ Absent →
             is_polling conn (notes h) ≡ true → FlushesOne (meaning H.begin_of H.step_of) s before self.new conn Absent (poll_of conn (notes h)) h)) }
     {
+        hd_server::parts_of_turns();
         self.end_poller(conn);
         match self.front.held(conn) {
             Some(held) => self.flush_poll(alloc, conn, held),

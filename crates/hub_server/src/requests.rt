@@ -62,6 +62,7 @@ impl<H: Hub> Server<H> {
     {
         hd_server::outcomes_suit();
         hd_server::lots_matter_to_tokens();
+        hd_server::parts_of_turns();
         hd_server::lives_are_settled();
         let at_base = self.is_at_base(&request);
         let base = self.base.as_str().as_bytes();

@@ -132,6 +132,7 @@ impl<H: Hub> Server<H> {
             heard h) }
     {
         hd_rooms::answers_join();
+        hd_server::parts_of_turns();
         let Heard { now, event } = heard;
         self.hear(now, &event);
         self.expire();

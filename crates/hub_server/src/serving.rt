@@ -49,8 +49,31 @@ impl From<DoorError> for ServeFault {
 /// server does at each before it hears the next.
 ///
 /// A fault of the door ends it. What the door was given before stands; the event that was heard last may be answered in part. A fault of the
-/// keeper or the lots ends nothing.
+/// keeper or the lots ends nothing. At the end the door is flushed.
 pub fn serve<D: Door, H: Hub, K: Keeper, L: Lots>(
+    alloc: Global,
+    server: &mut Server<H>,
+    hub: &H,
+    door: &mut D,
+    keeper: &mut K,
+    lots: &mut L,
+    turns: u64,
+) -> Result<(), ServeFault>
+    ensures served { HasServed (meaning H.begin_of H.step_of) server.old server.new
+        (outside (K.holds keeper.old) (K.answers keeper.old) (K.faults keeper.old) (L.drawn lots.old) (L.faults lots.old))
+        (outside (K.holds keeper.new) (K.answers keeper.new) (K.faults keeper.new) (L.drawn lots.new) (L.faults lots.new))
+        (D.trace door.old) (D.trace door.new) (D.moment door.old) (D.moment door.new) turns (result_err result) }
+    ensures ended { server.old.is_ended ≡ true → (is_ok result ≡ (turns == 0)) × (server.new.is_ended ≡ true) }
+    ensures cause { IsCausedBy (D.faults door.old) (D.faults door.new) result }
+    ensures flushed { D.is_flushed door.new ≡ true }
+{
+    let served = serve_turns(alloc, server, hub, door, keeper, lots, turns);
+    door.flush();
+    served
+}
+
+/// The events, one after the other.
+fn serve_turns<D: Door, H: Hub, K: Keeper, L: Lots>(
     alloc: Global,
     server: &mut Server<H>,
     hub: &H,
@@ -89,6 +112,7 @@ fn turn<D: Door, H: Hub, K: Keeper, L: Lots>(
     ensures ended { server.old.is_ended ≡ true → (is_ok result ≡ false) × (server.new.is_ended ≡ true) }
     ensures cause { IsCausedBy (D.faults door.old) (D.faults door.new) result }
 {
+    hd_server::parts_of_turns();
     let wait = if server.idle() { MOST_WAIT } else { 0 };
     let heard = door.next(wait)?;
     let words = server.step(alloc, heard, hub, keeper, lots)?;

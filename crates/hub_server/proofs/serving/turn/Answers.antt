@@ -60,7 +60,7 @@ returns-clause-served g c =
     (outside (g.K.Keeper.holds c.step.new.keeper) (g.K.Keeper.answers c.step.new.keeper) (g.K.Keeper.faults c.step.new.keeper)
     (g.L.Lots.drawn c.step.new.lots) (g.L.Lots.faults c.step.new.lots))
     (g.D.Door.trace c.args.door.now) (g.D.Door.trace c.next.new.self) (g.D.Door.trace c.give_all.new.door) (g.D.Door.moment c.args.door.now)
-    (g.D.Door.moment c.give_all.new.door) c.if-idle.wait c.in_ok-heard.heard c.give_all.result c.in_ok-words.words.items
+    (g.D.Door.moment c.give_all.new.door) c.if-idle.wait c.in_ok-heard.heard c.parts_of_turns.ensures c.give_all.result c.in_ok-words.words.items
     c.in_ok-heard.ensures.heard (c.in_ok-heard.ensures.later.0, c.give_all.ensures.others_unchanged ∙ c.in_ok-heard.ensures.later.1)
     c.in_ok-words.ensures.turn
     (λ s h stands. elim c.if-idle.branch [

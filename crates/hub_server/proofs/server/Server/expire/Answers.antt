@@ -12,11 +12,11 @@ returns-then-not-expire_next-clause-expired g c =
     c.expire_next.result c.if-not-expire_next.true c.expire_next.ensures c.loop-expired.invariant
 
 pub returns-then-not-expire_next-clause-over : goal.returns-then-not-expire_next-clause-over
-returns-then-not-expire_next-clause-over g c = λ s u before h st. none_overdue c.moments_come_once.ensures h
+returns-then-not-expire_next-clause-over g c = λ s u before h st. none_overdue c.moments_come_once.ensures c.parts_of_turns.ensures h
 
 pub loop-expired-preserved : goal.loop-expired-preserved
 loop-expired-preserved g c =
-    expires_on {H = g.row.H.Denot} (meaning g.H.Hub.begin_of g.H.Hub.step_of) c.args.self.now c.moments_come_once.ensures
+    expires_on {H = g.row.H.Denot} (meaning g.H.Hub.begin_of g.H.Hub.step_of) c.args.self.now c.moments_come_once.ensures c.parts_of_turns.ensures
     c.loop-expired.self c.expire_next.new.self c.loop-expired._expired c.expire_next.result c.if-not-expire_next.false c.expire_next.ensures
     c.loop-expired.invariant
 
@@ -26,4 +26,4 @@ returns-clause-expired g c =
     c.loop-expired-test.false c.loop-expired.invariant
 
 pub returns-clause-over : goal.returns-clause-over
-returns-clause-over g c = λ s u before h st. none_overdue c.moments_come_once.ensures h
+returns-clause-over g c = λ s u before h st. none_overdue c.moments_come_once.ensures c.parts_of_turns.ensures h

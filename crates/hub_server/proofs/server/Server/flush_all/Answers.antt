@@ -22,7 +22,7 @@ loop-conn-preserved g c s u before h x calm =
     let stands = c.wake_pollers.ensures.stands s u before h x in
     let numbers = subst (λ cs. AreNumbers {H = g.row.H.Denot} v.machine cs) (sym c.deref-conn-items.ensures.value)
     (c.in_ok-conns.ensures (work h) stands.machine) in
-    one_told {H = g.row.H.Denot} {Job = g.row.H-Job.Denot} hub s before c.loop-conn.self c.flush.new.self c.deref-conn-items.result.now
+    one_told {H = g.row.H.Denot} {Job = g.row.H-Job.Denot} c.parts_of_turns.ensures hub s before c.loop-conn.self c.flush.new.self c.deref-conn-items.result.now
     c.loop-conn.conn-index h c.loop-conn-test.true
     (λ k e. awake_there {H = g.row.H.Denot} {Job = g.row.H-Job.Denot} hub v.machine (work h) k stands.machine (numbers.are k ∙ e))
     (c.loop-conn.invariant s u before h x calm) c.in_ok-flush.ensures

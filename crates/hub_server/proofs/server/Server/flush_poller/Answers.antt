@@ -13,7 +13,7 @@ returns-in-Some g c = on_ok c.flush_poll.result _ _ (λ tells s u before h x cal
     tells_held {H = g.row.H.Denot} {Job = g.row.H-Job.Denot} hub s before c.end_poller.new.self c.args.conn h
     (subst (λ w. Standing {H = g.row.H.Denot} hub s w before c.end_poller.new.self (onto (ending (moment h) c.args.conn h) h)) calm
     (c.end_poller.ensures s u before h x there polls))
-    there polls c.held.result c.in-Some.held c.flush_poll.new.self c.held.ensures c.in-Some.is tells) c.flush_poll.ensures
+    there polls c.parts_of_turns.ensures c.held.result c.in-Some.held c.flush_poll.new.self c.held.ensures c.in-Some.is tells) c.flush_poll.ensures
 
 pub returns-in-None : goal.returns-in-None
 returns-in-None g c s u before h x calm there off polls =
@@ -21,4 +21,4 @@ returns-in-None g c s u before h x calm there off polls =
     tells_nothing {H = g.row.H.Denot} {Job = g.row.H-Job.Denot} hub s before c.end_poller.new.self c.args.conn h
     (subst (λ w. Standing {H = g.row.H.Denot} hub s w before c.end_poller.new.self (onto (ending (moment h) c.args.conn h) h)) calm
     (c.end_poller.ensures s u before h x there polls))
-    there polls c.held.result c.held.ensures c.in-None.is
+    there polls c.parts_of_turns.ensures c.held.result c.held.ensures c.in-None.is

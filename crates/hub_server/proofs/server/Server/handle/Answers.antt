@@ -27,7 +27,7 @@ returns-in-Lost g c s before h st rests can none =
     let at = outside (g.K.Keeper.holds c.args.keeper.now) (g.K.Keeper.answers c.args.keeper.now) (g.K.Keeper.faults c.args.keeper.now)
     (g.L.Lots.drawn c.args.lots.now) (g.L.Lots.faults c.args.lots.now) in
     subst (λ e. Handles {H = g.row.H.Denot} {Job = g.row.H-Job.Denot} hub s before c.on_loss.new.self at at e h) (sym c.in-Lost.is)
-    (lost_lane {H = g.row.H.Denot} {Job = g.row.H-Job.Denot} hub s before c.on_loss.new.self at h c.in-Lost.lane
+    (lost_lane {H = g.row.H.Denot} {Job = g.row.H-Job.Denot} hub s before c.on_loss.new.self at h c.parts_of_turns.ensures c.in-Lost.lane
     (c.on_loss.ensures s _ before h (subst (λ e. Standing {H = g.row.H.Denot} {Job = g.row.H-Job.Denot} hub s (lane_of (lost_in e)) before
     c.args.self.now h) c.in-Lost.is st) refl))
 

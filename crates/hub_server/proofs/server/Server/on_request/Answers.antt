@@ -29,7 +29,7 @@ returns g c =
       handled = on_ok_weaker c.carry_out.result (λ f.
           handled_there {H = g.row.H.Denot} {Job = g.row.H-Job.Denot} hub c.args.self.now c.carry_out.new.self c.args.lane r
           c.as_bytes-base.result.now (c.as_bytes-base.ensures.value ∙ c.as_str.ensures) c.in_ok-route.route c.in_ok-route.ensures
-          c.lots_matter_to_tokens.ensures c.outcomes_suit.ensures c.lives_are_settled.ensures caller
+          c.lots_matter_to_tokens.ensures c.parts_of_turns.ensures c.outcomes_suit.ensures c.lives_are_settled.ensures caller
           (g.K.Keeper.holds was) (g.K.Keeper.holds now) (g.K.Keeper.answers was) (g.K.Keeper.answers now)
           (g.K.Keeper.faults was) (g.K.Keeper.faults now) (g.L.Lots.drawn c.args.lots.now) (g.L.Lots.drawn c.carry_out.new.lots)
           (g.L.Lots.faults c.args.lots.now) (g.L.Lots.faults c.carry_out.new.lots) called

@@ -8,7 +8,7 @@ use Rattle.hub_server.proofs.server.Server.tick_all.Goals as goal
 pub loop-conn-init : goal.loop-conn-init
 loop-conn-init g c =
     ticks_begin {H = g.row.H.Denot} {Job = g.row.H-Job.Denot} (meaning g.H.Hub.begin_of g.H.Hub.step_of) c.args.self.now
-    c.deref-conn-items.result.now c.connections_are_numbered.ensures c.wake_expired.new.self c.advance_clock.new.self
+    c.deref-conn-items.result.now c.connections_are_numbered.ensures c.parts_of_turns.ensures c.wake_expired.new.self c.advance_clock.new.self
     c.in_ok-wake_expired.ensures.stands c.in_ok-wake_expired.ensures.rung
     (λ w s. subst (λ cs. AreNumbers {H = g.row.H.Denot} c.wake_expired.new.self cs) (sym c.deref-conn-items.ensures.value) (c.in_ok-conns.ensures w s))
     c.advance_clock.ensures.passed
@@ -16,7 +16,7 @@ loop-conn-init g c =
 pub loop-conn-preserved : goal.loop-conn-preserved
 loop-conn-preserved g c =
     ticks_on {H = g.row.H.Denot} (meaning g.H.Hub.begin_of g.H.Hub.step_of) c.args.self.now c.deref-conn-items.result.now
-    c.loop-conn.self c.tick.new.self c.loop-conn.conn-index c.loop-conn-test.true c.in_ok-tick.ensures c.loop-conn.invariant
+    c.parts_of_turns.ensures c.loop-conn.self c.tick.new.self c.loop-conn.conn-index c.loop-conn-test.true c.in_ok-tick.ensures c.loop-conn.invariant
 
 pub returns : goal.returns
 returns g c =

@@ -9,7 +9,7 @@ pub returns : goal.returns
 returns g c = record {
   turn = λ s before h stands rested may.
       let hub = meaning g.H.Hub.begin_of g.H.Hub.step_of in
-      turns_through {H = g.row.H.Denot} {Job = g.row.H-Job.Denot} hub s before c.hear.new.self c.expire.new.self c.handle.new.self c.tick_all.new.self
+      turns_through {H = g.row.H.Denot} {Job = g.row.H-Job.Denot} c.parts_of_turns.ensures hub s before c.hear.new.self c.expire.new.self c.handle.new.self c.tick_all.new.self
       c.round.new.self c.flush_all.new.self
       (outside (g.K.Keeper.holds c.args.keeper.now) (g.K.Keeper.answers c.args.keeper.now) (g.K.Keeper.faults c.args.keeper.now)
       (g.L.Lots.drawn c.args.lots.now) (g.L.Lots.faults c.args.lots.now))
@@ -26,5 +26,5 @@ returns g c = record {
       (λ f x. c.expire.ensures.over s (lane_of (lost_in c.args.heard.event)) before f x)
       (c.hear.ensures s settled before h stands refl may)
       rested
-      (can_handle {H = g.row.H.Denot} {Job = g.row.H-Job.Denot} hub s before c.args.self.now c.args.heard.now c.args.heard.event h stands may.1);
+      (can_handle {H = g.row.H.Denot} {Job = g.row.H-Job.Denot} c.parts_of_turns.ensures hub s before c.args.self.now c.args.heard.now c.args.heard.event h stands may.1);
 }

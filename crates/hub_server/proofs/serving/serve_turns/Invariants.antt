@@ -2,7 +2,7 @@ use Rattle.std.proofs.Common.{◌≡◌, true, None}
 use Rattle.hj_jobs.specs.Meaning.{meaning}
 use Rattle.hub_server.specs.Serving.{HasServed}
 use Rattle.hub_server.specs.Steps.{outside}
-use Rattle.hub_server.proofs.serving.serve.Given as goal
+use Rattle.hub_server.proofs.serving.serve_turns.Given as goal
 
 abbrev pub invariant-loop-turn : goal.invariant-loop-turn
 invariant-loop-turn g l = record {
