@@ -1,10 +1,12 @@
 #!/usr/bin/env python3
-"""Measures `sr serve` beside two other servers of the same hub protocol under load, in one run. It is no test.
+"""Measures `sr serve` beside three other servers of the same hub protocol under load, in one run. It is no test.
 
     bench/serve.py [--runs N] [--seconds S] [--connections K] [--idle I] [--members M] [--items N] [--hold H] [--only MEASURE].. PROGRAM
 
-The others are bench/serve/node_server.mjs (Node with Debian's node-ws) and bench/serve/python_server.py (Debian's python3-websockets
-and asyncio). bench/serve/load.c, built by `cc -O2`, is the client of all three:
+The others are bench/serve/node_server.mjs (Node with Debian's node-ws), bench/serve/go_server.go (Debian's golang-go and
+golang-github-gorilla-websocket-dev, with GOMAXPROCS=1) and bench/serve/python_server.py (Debian's python3-websockets and asyncio).
+bench/serve/load.c, built by `cc -O2`, is the client of all. Where there are two processors or more each server is pinned to the last one,
+and the client to the one before it:
 
 - echo: K connections, each with one Echo of 100 bytes in flight for S seconds.
 - lone: the same of one connection.
@@ -70,12 +72,30 @@ def python_with_websockets():
     return None
 
 
-def servers(program):
+def pinned(place):
+    """Words that pin a command to the last processor, or to one so far before it, where there are two or more."""
+    count = os.cpu_count()
+    return ["taskset", "-c", str(count - 1 - place)] if count > 1 and shutil.which("taskset") else []
+
+
+def go_server(folder):
+    """The server in Go, built in a folder, or why it can't be."""
+    go, program = shutil.which("go"), os.path.join(folder, "go_server")
+    if not go:
+        return [], "golang isn't installed"
+    settings = {"GO111MODULE": "off", "GOPATH": "/usr/share/gocode", "GOCACHE": os.path.join(folder, "cache"), "GOFLAGS": ""}
+    made = subprocess.run([go, "build", "-o", program, str(FOLDER / "go_server.go")], env=os.environ | settings, stderr=subprocess.PIPE, text=True)
+    return [program], "" if made.returncode == 0 else f"go_server.go doesn't build: {made.stderr.strip().splitlines()[-1]}"
+
+
+def servers(program, folder):
     node, python = shutil.which("node"), python_with_websockets()
+    go, no_go = go_server(folder)
     has_ws = node and subprocess.run([node, "-e", "try { require('ws') } catch { require('/usr/share/nodejs/ws') }"], stderr=subprocess.DEVNULL).returncode == 0
     return [
         Server("sr", [program]),
         Server("node", [node, str(FOLDER / "node_server.mjs")], "" if has_ws else "node with the package ws isn't installed"),
+        Server("go", go, no_go),
         Server("python", [python, str(FOLDER / "python_server.py")], "" if python else "python3-websockets isn't installed"),
     ]
 
@@ -121,7 +141,7 @@ def processor_us(process):
 @contextlib.contextmanager
 def started(command):
     """A server that says that it serves, and the end of it."""
-    process = subprocess.Popen(command, stdout=subprocess.PIPE, text=True)
+    process = subprocess.Popen([*pinned(0), *command], stdout=subprocess.PIPE, text=True, env=os.environ | {"GOMAXPROCS": "1"})
     try:
         if not process.stdout.readline().startswith("serving"):
             raise SystemExit(f"{command} doesn't serve")
@@ -136,7 +156,7 @@ def run(load, server, measure):
     port = free_port()
     with started(server.command(port, *measure.options)) as process:
         before = resident(process)
-        client = subprocess.Popen([load, str(port), *measure.words], stdout=subprocess.PIPE, text=True)
+        client = subprocess.Popen([*pinned(1), load, str(port), *measure.words], stdout=subprocess.PIPE, text=True)
         told = json.loads(client.stdout.readline() or "{}")
         memory, began = resident(process) - before, processor_us(process)
         told |= json.loads(client.stdout.readline() or "{}")
@@ -180,12 +200,12 @@ def main():
     parser.add_argument("--only", action="append", help="a measure by its name; more than once for several")
     parser.add_argument("program")
     asked = parser.parse_args()
-    present = servers(asked.program)
-    for server in present:
-        if server.missing:
-            print(f"{server.name} is left out: {server.missing}")
-    present = [server for server in present if not server.missing]
     with tempfile.TemporaryDirectory() as folder:
+        present = servers(asked.program, folder)
+        for server in present:
+            if server.missing:
+                print(f"{server.name} is left out: {server.missing}")
+        present = [server for server in present if not server.missing]
         load = built(folder, "load")
         for name, measure in measures(asked).items():
             if asked.only and name not in asked.only:
