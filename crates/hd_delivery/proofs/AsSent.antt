@@ -58,7 +58,7 @@ shaken_once c h e = both (λ o. may_shake o ≡ false) (is_closed c h) None (nex
     on None = refl
     on (Some l) = found (next_number c h l) (slice_get (fed_frames l h) (taken_count l h))
 
-not_again : (c : Config) (h : List EndEvent) (codec : Codec) (version : ℕ) → is_shaken h ≡ true → processes c h ≡ Some (Took (Shaken codec version)) → ⊥
+pub not_again : (c : Config) (h : List EndEvent) (codec : Codec) (version : ℕ) → is_shaken h ≡ true → processes c h ≡ Some (Took (Shaken codec version)) → ⊥
 not_again c h codec version e p = let q : may_shake (processes c h) ≡ true = ap may_shake p in let r = shaken_once c h e in absurd (cc)
 
 -- ---- one end in a world
@@ -117,7 +117,7 @@ module _ (limits : Limits) (wire : Wire) (c oc : Config) where
 
 -- ---- worlds
 
-none_sent : (m : Message) → Contains [] m → ⊥
+pub none_sent : (m : Message) → Contains [] m → ⊥
 none_sent m at = let lt = at.1 in absurd (omega arith)
 
 module _ (limits : Side → Limits) (wire : Wire) (t : Terms) where

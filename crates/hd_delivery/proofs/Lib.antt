@@ -22,6 +22,7 @@ pub mod NextCut
 pub mod Unread
 pub mod LinkSteps
 pub mod AsSent
+pub mod Short
 pub mod TestsAndPrefixes
 pub mod TakenFrames
 pub mod Writes

@@ -1,17 +1,18 @@
 -- What crates above cite of the histories that one end can make.
-use Rattle.std.specs.Prelude.{◌≡◌, ℕ, ◌+◌, ◌<◌, ◌≤◌, Bool, true, false, max, ◌&&◌, ◌||◌, ◌==◌, List, [], ◌∷◌, ◌++◌, length, drop, slice_get, Some, None}
+use Rattle.std.specs.Prelude.{◌≡◌, ℕ, ◌+◌, ◌<◌, ◌≤◌, Bool, true, false, max, ◌&&◌, ◌||◌, ◌==◌, List, [], ◌∷◌, ◌++◌, length, drop, slice_get, Contains, Some, None}
+use Rattle.hm_message.specs.declared.message.Codec.{Codec}
 use Rattle.hm_message.specs.declared.message.Message.{Message}
 use Rattle.hd_delivery.specs.declared.vocabulary.Got.{Got}
 use Rattle.hd_delivery.specs.declared.vocabulary.Reason.{Reason}
 use Rattle.hd_delivery.specs.declared.vocabulary.Side.{Side}
 use Rattle.hd_delivery.specs.declared.vocabulary.Side.TheVariants.{Client, Server}
 use Rattle.hd_delivery.specs.Numbers.{most_messages, most_framing}
-use Rattle.hd_delivery.specs.Frames.{LinkFrame, count, number, told_count, most_told}
+use Rattle.hd_delivery.specs.Frames.{LinkFrame, Refusal, Strange, count, number, told_count, most_told}
 use Rattle.hd_delivery.specs.Histories.{Config, EndEvent, Attached, Detached, Fed, Took, Failed, Sent, Lent, Ticked, Silenced, Closed, Fault, is_this, present_link, was_on, first_link, link_count, fed_frames, lent_frames, taken_count, read_frames, sent_messages, processed_messages, acked_count, written_place, most_lent, is_shaken, agreed_version, codec_of, can_keep, is_resumable, is_closed}
-use Rattle.hd_delivery.specs.Due.{has_close, farewell, answer}
+use Rattle.hd_delivery.specs.Due.{has_close, farewell, answer, due}
 use Rattle.hd_delivery.specs.Processes.{processes}
-use Rattle.hd_delivery.specs.Worlds.{Limits, Terms, config, Event, client_of, server_of}
-use Rattle.hd_delivery.specs.Bytes.{Wire, IsSoundWire, ByteStep, Bytes, Does, in_frames, read_count, unread, IsWorldOverBytes}
+use Rattle.hd_delivery.specs.Worlds.{Limits, CanBeSent, Terms, config, Event, client_of, server_of}
+use Rattle.hd_delivery.specs.Bytes.{Reads, Wire, sizes_of, IsFaithful, IsSoundWire, ByteStep, Bytes, Does, in_frames, read_count, unread, IsWorldOverBytes}
 use Rattle.hd_delivery.specs.OneHistory.{IsHistory, next_reader, frame_of_reading, size_of_reading}
 use Rattle.hd_delivery.specs.Laws.{IsInOrder}
 
@@ -154,3 +155,25 @@ UnreadBegins = (wire : Wire) (c : Config) (h : List ByteStep) (l now : ℕ) → 
 abbrev pub UnreadIsBounded : Type 0
 UnreadIsBounded = (limits : Limits) (wire : Wire) (c : Config) (h : List ByteStep) (l : ℕ) → StandsThere limits wire c h l
     → length (unread wire c l h) ≤ limits.frame + most_framing
+
+-- ---- what one end says
+
+-- each message that an end sent can be sent in the codec that it speaks
+abbrev pub SentCanBeSent : Type 0
+SentCanBeSent = (limits : Limits) (wire : Wire) (c : Config) (h : List ByteStep) → IsHistory limits wire c h
+    → (m : Message) → Contains (sent_messages (in_frames wire c h)) m → CanBeSent limits (sizes_of wire) (codec_of c (in_frames wire c h)) m
+
+-- these bytes are no more than the greatest frame with its framing
+abbrev pub IsWithin : Limits → List ℕ → Type 0
+IsWithin limits bytes = length bytes ≤ limits.frame + most_framing
+
+-- nor are those of the answer to a handshake that is refused
+abbrev pub AnswersAreShort : Limits → Wire → Type 0
+AnswersAreShort limits wire = (side : Side) (bytes why text : List ℕ) (size : ℕ) → wire.first side bytes ≡ Reads (Strange why text) size
+    → (codec : Codec) → IsWithin limits (wire.spell codec (Refusal text))
+
+-- nor are those of anything that an end has to say, over a wire that is sound and faithful
+abbrev pub DueIsShort : Type 0
+DueIsShort = (limits : Limits) (wire : Wire) (c : Config) (h : List ByteStep) (f : LinkFrame) → IsSoundWire limits wire
+    → ((codec : Codec) → IsFaithful limits wire codec c.version []) → AnswersAreShort limits wire
+    → IsHistory limits wire c h → due c (in_frames wire c h) ≡ Some f → IsWithin limits (wire.spell (codec_of c (in_frames wire c h)) f)

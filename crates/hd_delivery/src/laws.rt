@@ -2,7 +2,7 @@
 
 ghost use Rattle.std.specs.Prelude.{◌≡◌};
 ghost use Rattle.hd_delivery.specs.Bounds.{least_frame, most_bytes, most_count, most_frame};
-ghost use Rattle.hd_delivery.specs.HistoryLaws.{FactsHold, FramesCount, HistoriesAreInOrder, LinksGrow, NextIsRead, UnreadBegins, UnreadGrows, UnreadIsBounded, UnreadMoves, UnreadStays, UnusedIsUntouched, WorldsAreHistories};
+ghost use Rattle.hd_delivery.specs.HistoryLaws.{DueIsShort, FactsHold, FramesCount, HistoriesAreInOrder, LinksGrow, NextIsRead, SentCanBeSent, UnreadBegins, UnreadGrows, UnreadIsBounded, UnreadMoves, UnreadStays, UnusedIsUntouched, WorldsAreHistories};
 ghost use Rattle.hd_delivery.specs.Laws.{AllIsRead, HoldsAsSent, CutsGrow, FedIsCut, FedIsUnseen, FedIsWhole, SequencedIsNumbered};
 ghost use Rattle.hd_delivery.specs.Numbers.{most_framing, most_messages, ping_after, silence_after};
 
@@ -89,6 +89,17 @@ pub fn unread_begins()
 /// The bytes that aren't dealt with are never more than a frame and its framing.
 pub fn unread_is_bounded()
     ensures { UnreadIsBounded }
+{}
+
+/// Each message that an end sent can be sent, in the codec that the end speaks: it fits, and its frame is within the limit.
+pub fn sent_can_be_sent()
+    ensures { SentCanBeSent }
+{}
+
+/// What an end has to say has no more bytes than the greatest frame with its framing, if the wire is sound and faithful, and
+/// what answers a refused handshake has no more.
+pub fn due_is_short()
+    ensures { DueIsShort }
 {}
 
 /// The constants are the numbers of the definitions.

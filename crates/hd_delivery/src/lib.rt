@@ -33,10 +33,10 @@ pub use alone::{
     taking_drops, unused_is_empty, writes_few,
 };
 pub use laws::{
-    all_is_read, cuts_grow, delivery_as_sent, facts_hold, fed_is_cut, fed_is_unseen, fed_is_whole,
-    frames_count, histories_are_in_order, links_grow, next_is_read, numbers_are_named,
-    sequenced_is_numbered, unread_begins, unread_grows, unread_is_bounded, unread_moves,
-    unread_stays, unused_is_untouched, worlds_are_histories,
+    all_is_read, cuts_grow, delivery_as_sent, due_is_short, facts_hold, fed_is_cut, fed_is_unseen,
+    fed_is_whole, frames_count, histories_are_in_order, links_grow, next_is_read,
+    numbers_are_named, sent_can_be_sent, sequenced_is_numbered, unread_begins, unread_grows,
+    unread_is_bounded, unread_moves, unread_stays, unused_is_untouched, worlds_are_histories,
 };
 pub use limits::{LEAST_FRAME, Limits, MOST_BYTES, MOST_COUNT, MOST_FRAME};
 pub use one_end::{alone_over_bytes, closings, first_frames, moments, numbers};

@@ -6,3 +6,4 @@ pub mod JsonControls
 pub mod PackControls
 pub mod Sizes
 pub mod Tellings
+pub mod Short

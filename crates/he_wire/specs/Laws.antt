@@ -1,5 +1,5 @@
 -- What holds of the wire.
-use Rattle.std.specs.Prelude.{◌≡◌, ◌≤◌, ℕ, ℤ, List, [], codes, length}
+use Rattle.std.specs.Prelude.{◌≡◌, ◌≤◌, ℕ, ℤ, List, [], Some, codes, length}
 use Rattle.hf_split.specs.declared.framing.Framing.TheVariants.{Record}
 use Rattle.hf_split.specs.declared.splitter.SplitFault.TheVariants.{TooLong, BadLength}
 use Rattle.hf_split.specs.Cuts.{Spelled, BeginsWith, IsTooLong, IsBadLength, IsWaiting}
@@ -17,9 +17,13 @@ use Rattle.hs_shake.specs.Words.{shake_words}
 use Rattle.hs_shake.specs.declared.shake.ShakeError.{ShakeError}
 use Rattle.hd_delivery.specs.declared.vocabulary.Side.{Side}
 use Rattle.hd_delivery.specs.declared.vocabulary.Side.TheVariants.{Client, Server}
-use Rattle.hd_delivery.specs.Frames.{Request, Response, Refusal, Foreign, Strange, frame_of}
+use Rattle.hd_delivery.specs.Frames.{LinkFrame, Request, Response, Refusal, Foreign, Strange, frame_of}
+use Rattle.hd_delivery.specs.Histories.{Config, codec_of}
+use Rattle.hd_delivery.specs.Due.{due}
 use Rattle.hd_delivery.specs.Worlds.{Limits}
-use Rattle.hd_delivery.specs.Bytes.{Wire, Reading, Waits, Reads, Refuses, Stops, IsRead, IsFaithful, IsSoundWire}
+use Rattle.hd_delivery.specs.Bytes.{Wire, Reading, Waits, Reads, Refuses, Stops, IsRead, IsFaithful, IsSoundWire, ByteStep, in_frames}
+use Rattle.hd_delivery.specs.OneHistory.{IsHistory}
+use Rattle.hd_delivery.specs.HistoryLaws.{IsWithin}
 use Rattle.he_wire.specs.Readings.{ReadsFirst, ReadsLater}
 use Rattle.he_wire.specs.Spelling.{spelling, with_separator}
 use Rattle.he_wire.specs.Wires.{IsHouseWire, AreSaid}
@@ -85,3 +89,9 @@ abbrev pub AnswersAreRead : Type 0
 AnswersAreRead = (limits : Limits) (wire : Wire) (codec : Codec) (e : ShakeError)
     → shortest_limit ≤ limits.frame → IsAnswered e → IsHouseWire limits.frame wire
     → IsRead (wire.first Client) (wire.spell codec (Refusal (refusal_text e))) (Strange (codes "Refused") [])
+
+-- what an end has to say over such a wire is no more than the greatest frame with its framing
+abbrev pub SaysNoMore : Type 0
+SaysNoMore = (limits : Limits) (wire : Wire) (c : Config) (h : List ByteStep) (f : LinkFrame)
+    → shortest_limit ≤ limits.frame → IsVersion c.version → IsHouseWire limits.frame wire
+    → IsHistory limits wire c h → due c (in_frames wire c h) ≡ Some f → IsWithin limits (wire.spell (codec_of c (in_frames wire c h)) f)

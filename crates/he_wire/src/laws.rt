@@ -1,7 +1,7 @@
 //! What holds of the wire. Each function only calls other laws, and its contract is the law.
 ghost use Rattle.std.specs.Prelude.{◌≡◌};
 ghost use Rattle.he_wire.specs.Controls.{most_control};
-ghost use Rattle.he_wire.specs.Laws.{AnswersAreRead, AnswersAreSpelled, BytesAreRead, HasWire, ReadsOnce, WireIsFaithful, WireIsSound};
+ghost use Rattle.he_wire.specs.Laws.{AnswersAreRead, AnswersAreSpelled, BytesAreRead, HasWire, ReadsOnce, SaysNoMore, WireIsFaithful, WireIsSound};
 
 use crate::control_buffer::MOST_CONTROL;
 
@@ -96,4 +96,16 @@ pub fn answers_are_read()
     hs_shake::refusals_are_read();
     hs_shake::texts_are_plain();
     hs_shake::texts_are_short();
+}
+
+/// What an end has to say, whatever it did, has no more bytes than the greatest frame with its framing, if a frame may have 256
+/// bytes.
+pub fn says_no_more()
+    ensures { SaysNoMore }
+{
+    hd_delivery::due_is_short();
+    hs_shake::texts_are_short();
+    answers_are_spelled();
+    wire_is_faithful();
+    wire_is_sound();
 }

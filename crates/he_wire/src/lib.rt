@@ -41,7 +41,7 @@ mod size;
 pub use control_buffer::{Control, ControlBuffer, MOST_CONTROL};
 pub use laws::{
     answers_are_read, answers_are_spelled, bytes_are_read, has_wire, numbers_are_named, reads_once,
-    wire_is_faithful, wire_is_sound,
+    says_no_more, wire_is_faithful, wire_is_sound,
 };
 pub use reading::{Handshake, HandshakeFault, LinkFault, read_handshake, read_wire_message};
 pub use size::unframed_size;

@@ -123,7 +123,7 @@ byte_length x =
     (cond (nat_lt x 32) (92 ∷ 117 ∷ 48 ∷ 48 ∷ digit_char (x / 16) ∷ digit_char (x % 16) ∷ []) (x ∷ [])) P (λ _. omega arith)
     (λ _. cond_both (nat_lt x 32) (92 ∷ 117 ∷ 48 ∷ 48 ∷ digit_char (x / 16) ∷ digit_char (x % 16) ∷ []) (x ∷ []) P (λ _. omega arith) (λ _. omega arith))
 
-escape_length : (s : List ℕ) → length (escape s) ≤ most_of_escape * length s
+pub escape_length : (s : List ℕ) → length (escape s) ≤ most_of_escape * length s
 escape_length [] = omega arith
 escape_length (x ∷ s) = omega (arith, length-append (escape_byte x) (escape s), byte_length x, escape_length s)
 
@@ -184,7 +184,7 @@ json_short (CancelInvocation headers id) h = absurd h
 
 -- ---- in MessagePack
 
-int_length : (n : ℕ) → length (int_text (pos n)) ≤ 9
+pub int_length : (n : ℕ) → length (int_text (pos n)) ≤ 9
 unfolding int_text
 int_length n =
     let P : List ℕ → Type 0 = λ s. length s ≤ 9 in
@@ -193,7 +193,7 @@ int_length n =
     (λ _. cond_both (nat_lt n (2 ^ 16)) _ _ P (λ _. omega arith)
     (λ _. cond_both (nat_lt n (2 ^ 32)) _ _ P (λ _. omega arith) (λ _. omega arith))))
 
-head_length : (n : ℕ) → length (text_head n) ≤ 5
+pub head_length : (n : ℕ) → length (text_head n) ≤ 5
 unfolding text_head
 head_length n =
     let P : List ℕ → Type 0 = λ s. length s ≤ 5 in
@@ -201,7 +201,7 @@ head_length n =
     (λ _. cond_both (nat_lt n (2 ^ 8)) _ _ P (λ _. omega arith)
     (λ _. cond_both (nat_lt n (2 ^ 16)) _ _ P (λ _. omega arith) (λ _. omega arith)))
 
-list_length : (n : ℕ) → length (list_head n) ≤ 5
+pub list_length : (n : ℕ) → length (list_head n) ≤ 5
 unfolding list_head
 list_length n =
     let P : List ℕ → Type 0 = λ s. length s ≤ 5 in

@@ -1,9 +1,12 @@
 -- What holds of all frames and all messages.
-use Rattle.std.specs.Prelude.{◌≡◌, ◌<◌, ◌≤◌, ◌+◌, ◌*◌, ◌^◌, ℕ, List, length, Some, MatchOption, ⊤}
+use Rattle.std.specs.Prelude.{◌≡◌, ◌<◌, ◌≤◌, ◌+◌, ◌*◌, ◌^◌, ℕ, List, [], length, Some, MatchOption, ⊤}
 use Rattle.std.specs.Str.{IsUtf8}
+use Rattle.json.specs.Print.{escape}
 use Rattle.hm_message.specs.declared.message.Codec.{Codec}
+use Rattle.hm_message.specs.declared.message.Codec.TheVariants.{Json, Pack}
 use Rattle.hm_message.specs.declared.message.Message.{Message}
-use Rattle.hm_message.specs.declared.message.Message.TheVariants.{Ping, Close, Ack, Sequence}
+use Rattle.hm_message.specs.declared.message.Message.TheVariants.{Completion, Ping, Close, Ack, Sequence}
+use Rattle.hm_message.specs.declared.message.Ending.TheVariants.{Error}
 use Rattle.hm_message.specs.Meaning.{HasOneMeaning}
 use Rattle.hm_message.specs.Trees.{AreInRange}
 use Rattle.hm_codec.specs.Frames.{Says, Unknown, Why, frame_of, said_again, HasSpelling, IsSaid}
@@ -54,3 +57,19 @@ most_of_escape = 6
 -- its frame is short
 abbrev pub ControlsAreShort : Type 0
 ControlsAreShort = (codec : Codec) (m : Message) → IsControl m → length (frame_of codec m) ≤ most_of_control + most_of_escape * error_length m
+
+-- ---- completions with an error
+
+-- how many bytes a text has in a frame, but for what stands around it
+abbrev pub text_size : Codec → List ℕ → ℕ
+text_size Json s = length (escape s)
+text_size Pack s = length s
+
+-- the greatest number of bytes that stand in the frame of a Completion with an error beside its two texts, if it has no headers
+abbrev pub most_of_error : ℕ
+most_of_error = 48
+
+-- such a frame is short
+pub record ErrorsAreShort : Type 0 where
+  pub frame : (codec : Codec) (id error : List ℕ) → length (frame_of codec (Completion [] id (Error error))) ≤ most_of_error + (text_size codec id + text_size codec error)
+  pub text : (codec : Codec) (s : List ℕ) → text_size codec s ≤ most_of_escape * length s

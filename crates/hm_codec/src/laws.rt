@@ -1,5 +1,5 @@
 //! What holds of all frames and all messages. A law is a function that does nothing: its contract is what counts.
-ghost use Rattle.hm_codec.specs.Laws.{ControlsAreSaid, ControlsAreShort, FrameIsOfImage, FramesHaveOneMeaning};
+ghost use Rattle.hm_codec.specs.Laws.{ControlsAreSaid, ControlsAreShort, ErrorsAreShort, FrameIsOfImage, FramesHaveOneMeaning};
 
 use hv_json::text_has_no_control;
 
@@ -31,4 +31,10 @@ pub fn controls_are_said()
 /// The frame of a message that is not sequenced has at most 128 bytes, and six for each byte of its error.
 pub fn controls_are_short()
     ensures { ControlsAreShort }
+{}
+
+/// The frame of a Completion with an error and without headers has at most 48 bytes beside its id and its error, and of
+/// each of these texts at most six for each byte.
+pub fn errors_are_short()
+    ensures { ErrorsAreShort }
 {}

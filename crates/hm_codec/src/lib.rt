@@ -24,7 +24,9 @@ mod reading;
 mod why;
 mod writing;
 
-pub use laws::{controls_are_said, controls_are_short, frame_is_of_image, one_meaning};
+pub use laws::{
+    controls_are_said, controls_are_short, errors_are_short, frame_is_of_image, one_meaning,
+};
 pub use reading::{read_message, read_message_in};
 pub use why::{FrameError, FrameWhy};
 pub use writing::{framing, write_message, write_message_in};
