@@ -89,7 +89,7 @@ arguments_again ts = rw (trees_in-images ts) refl
 in_range : (n : ℕ) → n < 2 ^ 64 → number_in (int (pos n)) ≡ Some n
 in_range n h = let e : nat_lt n (2 ^ 64) ≡ true = lt-ltb _ _ h in rw e refl
 
-number_again : (n : ℕ) → n < 2 ^ 64 → needed field.SequenceId number_in (Some (int (pos n))) ≡ Ok n
+pub number_again : (n : ℕ) → n < 2 ^ 64 → needed field.SequenceId number_in (Some (int (pos n))) ≡ Ok n
 number_again n h = rw (in_range n h) refl
 
 received_again : (n : Option ℕ) → AreInRange n → option_and_then number_in (option_map image (number_at n)) ≡ n

@@ -5,3 +5,5 @@ pub mod Depths
 pub mod Again
 pub mod Puts
 pub mod Images
+pub mod ShortFrames
+pub mod Called

@@ -6,3 +6,4 @@ pub mod Frame
 pub mod ExactlyOne
 pub mod Laws
 pub mod Written
+pub mod Calls

@@ -22,10 +22,12 @@
 //! The crate doesn't know MessagePack, separators, handshakes, nor what a message is answered with.
 #![tactic(auto)]
 
+mod calls;
 mod laws;
 mod properties;
 mod reading;
 mod refusal;
+mod short_frames;
 mod writing;
 
 pub use laws::{frame_is_of_image, one_meaning, written_is_said};

@@ -11,11 +11,13 @@ ghost use Rattle.hm_json.specs.Refusals.{MemoryOr};
 ghost use Rattle.hm_json.specs.Says.{SaysOf, UnknownOf, WhyOf, Says, Unknown, Why, Holds, Ends, IsMessage, IsUnknown, IsFaulty};
 ghost use Rattle.hm_message.specs.Reads.{MessageIs, UnknownIs};
 
+use crate::calls::{begins_as_call, call};
 use crate::properties::{
     flag, headers, number, optional_text, property, take_any, take_items, take_property, text,
     texts, whole,
 };
 use crate::refusal::Refusal;
+use crate::short_frames::short_message;
 use hm_message::{Ending, Field, Kind, Message, Read, number_in, values_are_trees};
 use hv_json::read_value_in;
 use hv_value::{Entries, Text, Value};
@@ -175,9 +177,8 @@ fn said(alloc: Global, object: Entries) -> Result<Read, Refusal>
     Ok(Read::Message(message))
 }
 
-/// As [`read_message`], with a scratch that is kept from frame to frame, so that whoever reads many
-/// makes it once. Nothing of what it holds is read again.
-pub fn read_message_in(alloc: Global, scratch: &mut Scratch, frame: &[u8]) -> Result<Read, Refusal>
+/// What a frame says, whichever it is.
+fn read_any(alloc: Global, scratch: &mut Scratch, frame: &[u8]) -> Result<Read, Refusal>
     ensures message { IfOk result (λ r. MessageIs r (λ m. Says frame.now m × Fits m)) }
     ensures unknown { IfOk result (λ r. UnknownIs r (λ n. Unknown frame.now n)) }
     ensures refused { IfErr result (λ e. MemoryOr e (Why frame.now e)) }
@@ -186,6 +187,34 @@ pub fn read_message_in(alloc: Global, scratch: &mut Scratch, frame: &[u8]) -> Re
     match value {
         Value::Map(object) => said(alloc, object),
         _ => Err(Refusal::NotObject),
+    }
+}
+
+/// What a frame says that isn't a short one.
+fn read_long(alloc: Global, scratch: &mut Scratch, frame: &[u8]) -> Result<Read, Refusal>
+    ensures message { IfOk result (λ r. MessageIs r (λ m. Says frame.now m × Fits m)) }
+    ensures unknown { IfOk result (λ r. UnknownIs r (λ n. Unknown frame.now n)) }
+    ensures refused { IfErr result (λ e. MemoryOr e (Why frame.now e)) }
+{
+    if !begins_as_call(frame) {
+        return read_any(alloc, scratch, frame);
+    }
+    match call(alloc, scratch, frame)? {
+        Some(message) => Ok(Read::Message(message)),
+        None => read_any(alloc, scratch, frame),
+    }
+}
+
+/// As [`read_message`], with a scratch that is kept from frame to frame, so that whoever reads many
+/// makes it once. Nothing of what it holds is read again.
+pub fn read_message_in(alloc: Global, scratch: &mut Scratch, frame: &[u8]) -> Result<Read, Refusal>
+    ensures message { IfOk result (λ r. MessageIs r (λ m. Says frame.now m × Fits m)) }
+    ensures unknown { IfOk result (λ r. UnknownIs r (λ n. Unknown frame.now n)) }
+    ensures refused { IfErr result (λ e. MemoryOr e (Why frame.now e)) }
+{
+    match short_message(alloc, frame)? {
+        Some(message) => Ok(Read::Message(message)),
+        None => read_long(alloc, scratch, frame),
     }
 }
 
@@ -200,6 +229,12 @@ pub fn read_message(alloc: Global, frame: &[u8]) -> Result<Read, Refusal>
     ensures unknown { IfOk result (λ r. UnknownIs r (λ n. Unknown frame.now n)) }
     ensures refused { IfErr result (λ e. MemoryOr e (Why frame.now e)) }
 {
-    let mut scratch = Scratch::new(alloc);
-    read_message_in(alloc, &mut scratch, frame)
+    // No scratch is made for what needs none: it is 16 KiB.
+    match short_message(alloc, frame)? {
+        Some(message) => Ok(Read::Message(message)),
+        None => {
+            let mut scratch = Scratch::new(alloc);
+            read_long(alloc, &mut scratch, frame)
+        }
+    }
 }

@@ -6,3 +6,4 @@ mod Turns
 mod Again
 mod Control
 mod Printed
+mod Objects

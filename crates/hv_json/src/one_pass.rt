@@ -16,7 +16,7 @@ use thiserror::Error;
 
 /// Why the quick reading gives no value.
 #[derive(Clone, Copy, Debug, Drop, PartialEq, Eq, Error)]
-pub(crate) enum Fallback {
+pub enum Fallback {
     /// It is for the slower reading to say what it is. The text may also have a value.
     #[error("the quick reading leaves it to the slower one")]
     Other,

@@ -1,5 +1,5 @@
 use Rattle.hm_json.proofs.Faults.{message_of_value, unknown_of_value, refused_of_value}
-use Rattle.hm_json.proofs.reading.read_message_in.Goals as goal
+use Rattle.hm_json.proofs.reading.read_any.Goals as goal
 
 pub returns-in-Map-clause-message : goal.returns-in-Map-clause-message
 returns-in-Map-clause-message c =
