@@ -1,3 +1,4 @@
+pub mod Buffers
 pub mod Effects
 pub mod Endings
 pub mod Hearing

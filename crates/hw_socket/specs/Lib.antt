@@ -1,3 +1,4 @@
+pub mod Buffers
 pub mod Calls
 pub mod Closing
 pub mod Lane

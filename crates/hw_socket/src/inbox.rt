@@ -4,10 +4,11 @@ ghost use Rattle.std.specs.Prelude.{◌≡◌, ◌≤◌, ◌++◌, [], length, 
 ghost use Rattle.websocket.specs.Connection.{read_step, failed_connection};
 ghost use Rattle.websocket.specs.Content.{IsReceivedInside};
 ghost use Rattle.websocket.specs.View.{Returns, KeepsRest, IfMessage, GivesError};
+ghost use Rattle.hw_socket.specs.Buffers.{IsLean};
 ghost use Rattle.hw_socket.specs.Messages.{role_of};
 ghost use Rattle.hw_socket.specs.Reading.{Leaves};
 
-use crate::front::drop_first;
+use crate::front::{drop_first, empty, trim};
 use crate::outbox::Outbox;
 use std::alloc::{AllocError, Global};
 use std::marker::Model;
@@ -23,13 +24,14 @@ pub struct Inbox {
 }
 
 impl Model for Inbox {
-    ghost use Rattle.std.specs.Prelude.{◌≤◌, ℕ, List, drop, length};
+    ghost use Rattle.std.specs.Prelude.{◌≤◌, ℕ, List, drop, length, vec_capacity};
+    ghost use Rattle.hw_socket.specs.Buffers.{IsLean};
 
     ghost Value = { List ℕ };
 
     ghost view = { λ i. drop i.start i.fed.items };
 
-    ghost invariant = { λ i. i.start ≤ length i.fed.items };
+    ghost invariant = { λ i. (i.start ≤ length i.fed.items) × IsLean (drop i.start i.fed.items) (vec_capacity i.fed) };
 }
 
 impl Inbox {
@@ -53,33 +55,38 @@ impl Inbox {
         ensures fed { OnOk result (self.new ≡ self.old ++ piece.now) }
         ensures unchanged { OnErr result (self.new ≡ self.old) }
     {
-        self.compact();
-        self.fed.extend_from_slice(piece)
+        // Forgets what was taken.
+        drop_first(&mut self.fed, self.start);
+        self.start = 0;
+        let fed = self.fed.extend_from_slice(piece);
+        trim(&mut self.fed);
+        fed
     }
 
-    // Forgets what was taken.
-    fn compact(&mut self)
-        ensures { self.new ≡ self.old }
-    {
-        if self.start > 0 {
-            drop_first(&mut self.fed, self.start);
-            self.start = 0;
-        }
-    }
-
-    /// Takes the first `count` bytes out.
+    /// Takes the first `count` bytes out. Once all are taken, what a long message made it reserve is given back.
     pub fn take(&mut self, count: usize)
         requires { count ≤ length self.old }
         ensures { self.new ≡ drop count self.old }
     {
         self.start += count;
+        if self.start == self.fed.len() {
+            empty(&mut self.fed);
+            self.start = 0;
+        }
     }
 
     pub fn clear(&mut self)
         ensures { self.new ≡ [] }
     {
-        self.fed.clear();
+        empty(&mut self.fed);
         self.start = 0;
+    }
+
+    /// How many bytes it reserves.
+    pub fn reserved(&self) -> usize
+        ensures { IsLean self.now result }
+    {
+        self.fed.capacity()
     }
 
     /// Lets the protocol read one frame, which is unmasked in place and stays until it is taken.

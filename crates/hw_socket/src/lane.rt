@@ -1,9 +1,10 @@
 //! The lane: what is fed to it, read from it, sent by it and to be written for it.
 
-ghost use Rattle.std.specs.Prelude.{◌≡◌, ◌≤◌, ◌≢◌, [], if◌then◌else◌, None, Some, Ok, true, false, take, drop, length, IfOk, IfSome, OnOk, OnErr, option_map, IsUtf8};
+ghost use Rattle.std.specs.Prelude.{◌≡◌, ◌≤◌, ◌≢◌, ◌*◌, [], if◌then◌else◌, None, Some, Ok, true, false, take, drop, length, IfOk, IfSome, OnOk, OnErr, option_map, IsUtf8};
 ghost use Rattle.websocket.specs.Connection.{closing_state, check_close, IsDoneSending};
 ghost use Rattle.websocket.specs.CloseCode.{close_code_number};
 ghost use Rattle.websocket.specs.Content.{received_content, IsReceivedInside, IsWithinLimit};
+ghost use Rattle.hw_socket.specs.Buffers.{most_reserved};
 ghost use Rattle.hw_socket.specs.Closing.{status_of, ending_of};
 ghost use Rattle.hw_socket.specs.Lane.{Lane, fresh_lane, limits};
 ghost use Rattle.hw_socket.specs.Messages.{role_of, AreWithin, IsData};
@@ -88,6 +89,13 @@ impl SocketLane {
         ensures left { Drops self.old (take count self.old.out.bytes) self.new }
     {
         self.outbox.drop_front(count);
+    }
+
+    /// How many bytes its buffers reserve. A lane that holds none and has none to write gives back what long messages made it reserve.
+    pub fn reserved(&self) -> usize
+        ensures { self.now.unread ≡ [] → self.now.out.bytes ≡ [] → result ≤ 2 * most_reserved }
+    {
+        self.inbox.reserved().saturating_add(self.outbox.reserved())
     }
 
     /// Why the lane is gone, if it is.

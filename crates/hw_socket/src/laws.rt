@@ -1,9 +1,11 @@
 //! What crates above cite of the definitions. No function here does anything: its contract is the law.
 
 ghost use Rattle.std.specs.Prelude.{◌≡◌};
+ghost use Rattle.hw_socket.specs.Buffers.{most_reserved};
 ghost use Rattle.hw_socket.specs.Limits.{most_message, most_frame};
 ghost use Rattle.hw_socket.specs.Sessions.{ClientsAreHeard, ServersAreHeard, EndsOnce, WritesFrames, SessionsAreHeard};
 
+use crate::front::MOST_RESERVED;
 use crate::vocabulary::{MOST_FRAME, MOST_MESSAGE};
 
 /// What a client's lane sent is what a server's lane reads, message by message, in whatever pieces its bytes come.
@@ -37,4 +39,5 @@ pub fn sessions_are_heard()
 pub fn limits_are_named()
     ensures message { MOST_MESSAGE ≡ most_message }
     ensures frame { MOST_FRAME ≡ most_frame }
+    ensures reserved { MOST_RESERVED ≡ most_reserved }
 {}

@@ -19,7 +19,7 @@
 //! Proved: each read takes the frames that the protocol finds in the bytes fed, and says by which its answer came; pings are answered,
 //! with masks that a seed determines; a lane writes one close frame at most, with the status that belongs to its end, and nothing after
 //! it; what one side sends is what the other reads, in whatever pieces its bytes leave and come, and whatever else is done with both
-//! lanes.
+//! lanes; a lane that holds nothing gives back what long messages made it reserve.
 //!
 //! The crate doesn't know sockets, clocks, the opening handshake, nor what a message says. It stands on the kit's `websocket`, the protocol
 //! without IO.
@@ -32,6 +32,7 @@ mod laws;
 mod outbox;
 mod vocabulary;
 
+pub use front::{MOST_RESERVED, empty};
 pub use lane::SocketLane;
 pub use laws::{
     clients_are_heard, lanes_end_once, lanes_write_frames, limits_are_named, servers_are_heard,

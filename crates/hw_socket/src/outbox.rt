@@ -8,11 +8,12 @@ ghost use Rattle.websocket.specs.FrameHeader.{IsMask};
 ghost use Rattle.websocket.specs.Mask.{apply_mask};
 ghost use Rattle.websocket.specs.View.{Returns, KeepsRest, IfMessage, GivesError};
 ghost use Rattle.hw_socket.specs.Masks.{key_of, mask_of, after_frame, after_reply, with_mask, IsShort};
+ghost use Rattle.hw_socket.specs.Buffers.{IsLean};
 ghost use Rattle.hw_socket.specs.Closing.{closed, after_close};
 ghost use Rattle.hw_socket.specs.Messages.{role_of};
 ghost use Rattle.hw_socket.specs.Reading.{Leaves};
 
-use crate::front::drop_first;
+use crate::front::{drop_first, trim};
 use crate::vocabulary::SocketSide;
 use sha1::Sha1;
 use std::alloc::{AllocError, Global};
@@ -36,6 +37,8 @@ pub struct Outbox {
 }
 
 impl Model for Outbox {
+    ghost use Rattle.std.specs.Prelude.{vec_capacity};
+    ghost use Rattle.hw_socket.specs.Buffers.{IsLean};
     ghost use Rattle.hw_socket.specs.Masks.{Written, written_code};
 
     ghost Value = { Written };
@@ -43,6 +46,8 @@ impl Model for Outbox {
     ghost coded = { written_code };
 
     ghost view = { λ o. record { side = o.side; frames = o.frames; bytes = o.bytes.items } };
+
+    ghost invariant = { λ o. IsLean o.bytes.items (vec_capacity o.bytes) };
 }
 
 impl Outbox {
@@ -62,12 +67,19 @@ impl Outbox {
         &self.bytes
     }
 
-    /// Drops the first `count` bytes.
+    /// Drops the first `count` bytes. Once none is left, what long messages made it reserve is given back.
     pub fn drop_front(&mut self, count: usize)
         requires { count ≤ length self.old.bytes }
         ensures { self.new ≡ record self.old { bytes = drop count self.old.bytes } }
     {
         drop_first(&mut self.bytes, count);
+    }
+
+    /// How many bytes it reserves.
+    pub fn reserved(&self) -> usize
+        ensures { IsLean self.now.bytes result }
+    {
+        self.bytes.capacity()
     }
 
     /// Appends a frame that is a whole message.
@@ -77,7 +89,9 @@ impl Outbox {
         ensures unchanged { OnErr result (self.new ≡ self.old) }
     {
         let header = FrameHeader::new(opcode, mask(self.side, self.frames));
-        write_frame(&header, payload, &mut self.bytes)?;
+        let written = write_frame(&header, payload, &mut self.bytes);
+        trim(&mut self.bytes);
+        written?;
         self.frames = self.frames.wrapping_add(1);
         Ok(())
     }
@@ -100,7 +114,9 @@ impl Outbox {
     {
         let from = self.bytes.len();
         // The library's clauses don't say which key a frame takes, so the frame is given its own here.
-        let status = context.read(input, &mut self.bytes, &mut NoMask)?;
+        let read = context.read(input, &mut self.bytes, &mut NoMask);
+        trim(&mut self.bytes);
+        let status = read?;
         self.seal(from);
         Ok(status)
     }
@@ -118,7 +134,9 @@ impl Outbox {
     {
         let from = self.bytes.len();
         let frame = CloseFrame { code, reason: "" };
-        context.close(Some(frame), &mut self.bytes, &mut NoMask)?;
+        let closed = context.close(Some(frame), &mut self.bytes, &mut NoMask);
+        trim(&mut self.bytes);
+        closed?;
         self.seal(from);
         Ok(())
     }
