@@ -18,7 +18,7 @@ use Rattle.he_end.specs.Remembers.{Remembers, answer_text, close_of}
 use Rattle.he_end.specs.Says.{IsDue}
 use Rattle.he_end.specs.Stands.{Stands, limits_of}
 use Rattle.he_end.proofs.Ends.{lent}
-use Rattle.he_end.specs.Calls.{HasLent, Lends, AreDue, Said}
+use Rattle.he_end.specs.Calls.{HasLent, Lends, AreDue, Names, Said}
 
 -- the frame that the session names
 pub record Named (c : Config) (k : List EndEvent) (o : Option LinkFrame) (d : NextFrame) : Type 0 where
@@ -61,9 +61,6 @@ pub on_control_buffer : (wire : Wire) (c : Config) (e : End) (h : List ByteStep)
 on_control_buffer wire c e h bytes st = record { house = st.house; history = st.history; remembers = st.remembers; most = st.most; reads = st.reads; said = st.said }
 
 -- ---- by what the session named
-
-abbrev pub Names : End → Option NextFrame → Type 0
-Names e answer = (c : Config) (k : List EndEvent) → Remembers c e.session k → IsDue c k (due c k) answer
 
 module _ (e : End) (answer : Option NextFrame) (owes : Names e answer) (d : NextFrame) (is : answer ≡ Some d) where
   abbrev pub the_named : (wire : Wire) (c : Config) (h : List ByteStep) → Stands wire c e h → Named c (in_frames wire c h) (due c (in_frames wire c h)) d

@@ -33,6 +33,7 @@ use Rattle.he_end.specs.declared.errors.SendError.TheVariants as send
 use Rattle.he_end.specs.declared.end.End.{End}
 use Rattle.he_end.specs.Says.{Awaits, answer_at, IsDue, frame_read}
 use Rattle.he_end.specs.declared.next_frame.NextFrame.{NextFrame}
+use Rattle.he_end.specs.Remembers.{Remembers}
 use Rattle.he_end.specs.Stands.{Stands, limits_of}
 
 -- of every history for which the end stood
@@ -114,6 +115,10 @@ Lends old new = OfEach old (λ wire c h. HasLent wire c h new (due c (in_frames 
 -- the bytes are those of what is due
 abbrev pub AreDue : End → Option (List ℕ) → Type 0
 AreDue e bytes = OfEach e (λ wire c h. let k = in_frames wire c h in bytes ≡ option_map (wire.spell (codec_of c k)) (due c k))
+
+-- this is what the session names as due
+abbrev pub Names : End → Option NextFrame → Type 0
+Names e named = (c : of.Config) (k : List EndEvent) → Remembers c e.session k → IsDue c k (due c k) named
 
 -- this was due, in the session's name for it, and is said now
 abbrev pub Said : End → End → NextFrame → Type 0

@@ -23,7 +23,7 @@ ghost use Rattle.he_wire.specs.Controls.{frame_of_control};
 ghost use Rattle.he_wire.specs.Gives.{Begins};
 ghost use Rattle.he_end.specs.Stands.{Stands, begun, limits_of, is_client};
 ghost use Rattle.he_end.specs.Spoken.{spoken_in};
-ghost use Rattle.he_end.specs.Calls.{OfEach, taken_at, Said, IsReading, Takes, Greets, Refuses, FailsAt, Gives, Fails, IsSpelled, Sends, RefusesToSend, Lends, AreDue};
+ghost use Rattle.he_end.specs.Calls.{OfEach, taken_at, Said, IsReading, Takes, Greets, Refuses, FailsAt, Gives, Fails, IsSpelled, Sends, RefusesToSend, Lends, AreDue, Names};
 ghost use Rattle.he_end.specs.EndLending.{EndsAs};
 ghost use Rattle.hm_message.specs.Reads.{MessageIs};
 
@@ -223,9 +223,22 @@ impl End {
         ensures* after { sem 𝓛 (EndsAs self.entry (λ e. (limits_of e ≡ limits_of self.old) × Lends self.old e)) }
         ensures bytes { AreDue self.old (option_map (λ bytes. bytes.now) result) }
     {
+        let Some(named) = self.session.due() else {
+            self.session.let_go();
+            return None;
+        };
+        self.say_due(named)
+    }
+
+    /// Says what the session named as due, and lends its bytes.
+    fn say_due(&mut self, named: NextFrame) -> Option<&[u8]>
+        requires { Names self.old (Some named) }
+        ensures* after { sem 𝓛 (EndsAs self.entry (λ e. (limits_of e ≡ limits_of self.old) × Lends self.old e)) }
+        ensures bytes { AreDue self.old (option_map (λ bytes. bytes.now) result) }
+    {
         facts_hold();
         unread_stays();
-        match self.session.due()? {
+        match named {
             NextFrame::Message => self.session.say_message(),
             NextFrame::Request => {
                 self.say_request();

@@ -202,6 +202,13 @@ impl Session {
         }
     }
 
+    /// Nothing is due: of what was said, only what is kept stays in memory.
+    pub fn let_go(&mut self)
+        ensures { self.new ≡ self.old }
+    {
+        self.ring.written_is_done();
+    }
+
     /// This, which was due and is no message, is said.
     pub fn say(&mut self, said: NextFrame)
         ensures said { (c : Config) (k : List EndEvent) (f : LinkFrame) → Remembers c self.old k →
