@@ -9,6 +9,7 @@ pub mod Counted
 pub mod Heavy
 pub mod Taken
 pub mod Told
+pub mod LastWords
 pub mod Two
 pub mod JobSaid
 pub mod JobActs

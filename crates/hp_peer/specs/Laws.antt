@@ -9,7 +9,7 @@ use Rattle.hd_calls.specs.Peers.{PeerEvent, Settings}
 use Rattle.hd_calls.specs.Rules.{IsPeer}
 use Rattle.hd_calls.specs.Ledgers.{Keeps, EndsAfterClose}
 use Rattle.hd_calls.specs.Laws.{IsBounded}
-use Rattle.hd_calls.specs.PeerWorlds.{Pair, settings, ends, BothOnce}
+use Rattle.hd_calls.specs.PeerWorlds.{Pair, settings, ends, AllEnded, BothOnce, IsIdle}
 use Rattle.hp_peer.specs.declared.peer.Peer.{Peer}
 use Rattle.hp_peer.specs.Stands.{Stands}
 
@@ -33,8 +33,13 @@ pub record IsWorldOf {C S ClientJob ServerJob : Type 0} (hc : Hub ClientJob) (hs
   pub client_stands : Stands hc (settings Client p) client (client_of w)
   pub server_stands : Stands hs (settings Server p) server (server_of w)
 
+-- once nothing is left to say, to read or to do, each call of both with an id has ended, and its caller was given all that its job answered
+pub record AllEnd (p : Pair) (w : List (Event PeerEvent)) : Type 0 where
+  pub of_client : IsIdle p w → AllEnded (settings Server p) (client_of w) (server_of w)
+  pub of_server : IsIdle p w → AllEnded (settings Client p) (server_of w) (client_of w)
+
 -- In every such world what each end has processed is a first part of what the other sent, each call that was processed begins one job, and its
--- caller is given what that job answers.
+-- caller is given what that job answers: all of it, and one ending, once nothing is left to do.
 abbrev pub CallOnce : {C S ClientJob ServerJob : Type 0} → Hub ClientJob → Hub ServerJob → Peer C ClientJob → Peer S ServerJob → Type 0
 CallOnce hc hs client server = (p : Pair) (w : List (Event PeerEvent)) → IsWorldOf hc hs client server p w
-    → DeliveryOverBytes p.wire p.terms (ends p w) × BothOnce hc hs p w
+    → DeliveryOverBytes p.wire p.terms (ends p w) × BothOnce hc hs p w × AllEnd p w

@@ -7,6 +7,7 @@ use crate::peer::Peer;
 use hd_calls::{calls_once_as_sent, ids_are_drawn, peers_are_bounded, peers_keep};
 use he_wire::wire_is_faithful;
 use hj_jobs::Hub;
+use hm_codec::errors_are_short;
 
 /// Whatever a peer stands for: it is what a peer can do by itself, its ledgers are legal, each of its live calls ends once after its end
 /// is closed, and its bounds are kept.
@@ -25,6 +26,8 @@ pub fn peers_call_once<C: Hub, S: Hub>(client: &Peer<C>, server: &Peer<S>)
 {
     calls_once_as_sent::<C::Job, S::Job>();
     ids_are_drawn();
+    // So the error for what is too long has room in a frame.
+    errors_are_short();
     wire_is_faithful();
     // Limits are in range, so handshakes and control frames have room in a frame.
     let _ = client.end.limits().frame();

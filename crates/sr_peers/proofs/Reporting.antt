@@ -77,6 +77,7 @@ follows_once peers once p actions r follows =
       };
       delivers = both.0;
       once = both.1;
+      ended = both.2;
     }
 
 -- and of a script it has its report

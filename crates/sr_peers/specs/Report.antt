@@ -6,6 +6,7 @@ use Rattle.hd_delivery.specs.Bytes.{Wire, DeliveryOverBytes}
 use Rattle.he_wire.specs.Wires.{IsHouseWire}
 use Rattle.hd_calls.specs.Peers.{PeerEvent}
 use Rattle.hd_calls.specs.PeerWorlds.{Pair, BothOnce, IsPeerWorld, ends}
+use Rattle.hp_peer.specs.Laws.{AllEnd}
 use Rattle.hub_calc.specs.Table.{calc_hub}
 use Rattle.hub_calc.specs.Client.{client_hub}
 use Rattle.sr_script.specs.declared.action.Action.{Action}
@@ -25,6 +26,7 @@ pub record IsOnce (p : Pair) (actions : List Action) (r : Run) : Type 0 where
   pub is_run : IsRunOf p actions r
   pub delivers : DeliveryOverBytes p.wire p.terms (ends p (world_of r))
   pub once : BothOnce client_hub calc_hub p (world_of r)
+  pub ended : AllEnd p (world_of r)
 
 -- the two lines of how both ends stand
 abbrev pub standing_lines : Pair → List (Event PeerEvent) → List ℕ
