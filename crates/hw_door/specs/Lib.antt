@@ -1,4 +1,6 @@
 pub mod Calls
+pub mod DoorCalls
+pub mod DoorLaws
 pub mod Draws
 pub mod Ledger
 pub mod Lines

@@ -8,6 +8,8 @@ use Rattle.hw_door.specs.declared.heard.Given.TheVariants as given
 use Rattle.hw_door.specs.declared.error.DoorError.{DoorError}
 use Rattle.hw_door.specs.declared.error.DoorError.TheVariants.{Failed, NoMemory}
 use Rattle.hw_door.specs.Calls.{Trace, with_heard, with_said, with_full, is_listed}
+use Rattle.hw_door.specs.DoorCalls.{DoorCall}
+use Rattle.hw_door.specs.DoorCalls as call
 
 -- what is left to be heard, what it tells, the moment heard last, the numbers of the calls that are to fail, those of the messages that
 -- leave their lanes full, the number of the next call, and the count of faults
@@ -90,3 +92,16 @@ is_ask (given.Shut lane) = false
 -- how often it was asked
 abbrev pub asks_of : MemoryScript → ℕ
 asks_of script = count_by is_ask script.trace.given
+
+-- One call of a door in memory: it hears what is next and says all that it is given, with the answers that it was made with, and fails at the
+-- calls that are to fail and at no others.
+abbrev pub CallsMemory : DoorCall → MemoryScript → MemoryScript → Type 0
+CallsMemory (call.heard wait what) before after =
+    (what ≡ next_of before.left before.moment) × (ScriptFails before → ⊥) × (after ≡ after_next wait (Ok what) before)
+CallsMemory (call.given what is_said) before after =
+    (is_said ≡ true) × (ScriptFails before → ⊥)
+    × (after ≡ record before { trace = with_said what before.trace; calls = one_more before.calls })
+CallsMemory (call.sent what is_said full) before after =
+    (is_said ≡ true) × (ScriptFails before → ⊥) × (full ≡ fills before) × (after ≡ after_sending what (Ok full) before)
+CallsMemory call.flushed before after = after ≡ before
+CallsMemory (call.failed asked why) before after = (why ≡ Failed → ScriptFails before) × (after ≡ after_error why before)

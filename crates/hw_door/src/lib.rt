@@ -18,7 +18,8 @@
 //! ```
 //!
 //! Proved: a call fails only if the count of faults rose in it, moments never fall, a lane is answered once, and the forms in memory
-//! give exactly what they were made with and keep exactly what they were given. Wires tell what each call answered, in order.
+//! give exactly what they were made with and keep exactly what they were given. Each call of a door leads from its state before to its state
+//! after, as it was answered. Wires tell what each call answered, in order.
 //!
 //! The crate doesn't know how a request is spelled, what is done with one, sockets, nor clocks.
 #![tactic(auto)]

@@ -1,10 +1,12 @@
 //! A door in memory, for tests.
 
-ghost use Rattle.std.specs.Prelude.{◌≡◌, ℕ, IfOk, Some};
+ghost use Rattle.std.specs.Prelude.{◌≡◌, ℕ, Bool, [], ◌∷◌, IfOk, refl};
 ghost use Rattle.hw_lanes.specs.Replies.{IsReply};
 ghost use Rattle.hw_door.specs.declared.heard.Given.TheVariants as say;
-ghost use Rattle.hw_door.specs.Calls.{HasFaultCause, Hears, Says, Sends, IsLater};
-ghost use Rattle.hw_door.specs.Memory.{MemoryScript, NeverFalls, ScriptFails, FailsIf, script_of, next_of, fills, after_next, after_saying, after_sending};
+ghost use Rattle.hw_door.specs.Calls.{HasFaultCause, IsLater};
+ghost use Rattle.hw_door.specs.DoorCalls.{Chain, heard_call, given_call, sent_call, flushed};
+ghost use Rattle.hw_door.specs.DoorLaws.{chain_joins};
+ghost use Rattle.hw_door.specs.Memory.{CallsMemory, MemoryScript, NeverFalls, ScriptFails, FailsIf, script_of, next_of, fills, after_next, after_saying, after_sending};
 
 use crate::error::DoorError;
 use crate::heard::{Given, Heard};
@@ -18,6 +20,8 @@ use std::marker::Model;
 ///
 /// The calls are counted from 0, those that fail among them, and not those that are out of memory. The count holds 64 bits and stays
 /// at 2^64 - 1.
+///
+/// What it is after calls says nothing of which was heard before which was given: it keeps a list of each.
 #[derive(Drop)]
 pub struct MemoryDoor {
     script: Scripted,
@@ -53,7 +57,11 @@ impl MemoryDoor {
 }
 
 impl Door for MemoryDoor {
-    ghost trace = { λ d. Some d.trace };
+    ghost Goes = { Chain CallsMemory };
+
+    ghost stays = { λ s. refl };
+
+    ghost joins = { chain_joins CallsMemory };
 
     ghost moment = { λ d. d.moment };
 
@@ -62,7 +70,7 @@ impl Door for MemoryDoor {
     /// Gives what is heard next, and once nothing is left `Quiet` at the moment heard last. It fails exactly at the calls that are to
     /// fail.
     fn next(&mut self, wait: u64) -> Result<Heard, DoorError>
-        ensures heard { Hears (Some self.old.trace) (Some self.new.trace) wait result }
+        ensures heard { Chain CallsMemory self.old (heard_call wait result ∷ []) self.new }
         ensures later { IsLater self.old.moment self.new.moment result }
         ensures cause { HasFaultCause self.old.faults self.new.faults result }
         ensures gives { IfOk result (λ heard. heard ≡ next_of self.old.left self.old.moment) }
@@ -75,7 +83,7 @@ impl Door for MemoryDoor {
     /// Keeps the reply. It fails exactly at the calls that are to fail.
     fn reply(&mut self, lane: u64, reply: Reply) -> Result<(), DoorError>
         requires { IsReply reply }
-        ensures given { Says (Some self.old.trace) (Some self.new.trace) (λ done. say.Reply lane reply) result }
+        ensures given { (is_said : Bool) × Chain CallsMemory self.old (given_call (say.Reply lane reply) is_said result ∷ []) self.new }
         ensures others_unchanged { self.new.moment ≡ self.old.moment }
         ensures cause { HasFaultCause self.old.faults self.new.faults result }
         ensures fails { FailsIf (ScriptFails self.old) result }
@@ -87,7 +95,7 @@ impl Door for MemoryDoor {
     /// Keeps a copy of the message. It fails exactly at the calls that are to fail, and its lane is full exactly after the messages that are to
     /// fill it.
     fn send(&mut self, lane: u64, bytes: &[u8], text: bool) -> Result<bool, DoorError>
-        ensures given { Sends (Some self.old.trace) (Some self.new.trace) (say.Bytes lane bytes.now text) result }
+        ensures given { (is_said : Bool) × Chain CallsMemory self.old (sent_call (say.Bytes lane bytes.now text) is_said result ∷ []) self.new }
         ensures others_unchanged { self.new.moment ≡ self.old.moment }
         ensures cause { HasFaultCause self.old.faults self.new.faults result }
         ensures fails { FailsIf (ScriptFails self.old) result }
@@ -100,7 +108,7 @@ impl Door for MemoryDoor {
 
     /// Keeps that the lane was shut. It fails exactly at the calls that are to fail.
     fn shut(&mut self, lane: u64) -> Result<(), DoorError>
-        ensures given { Says (Some self.old.trace) (Some self.new.trace) (λ done. say.Shut lane) result }
+        ensures given { (is_said : Bool) × Chain CallsMemory self.old (given_call (say.Shut lane) is_said result ∷ []) self.new }
         ensures others_unchanged { self.new.moment ≡ self.old.moment }
         ensures cause { HasFaultCause self.old.faults self.new.faults result }
         ensures fails { FailsIf (ScriptFails self.old) result }
@@ -110,6 +118,7 @@ impl Door for MemoryDoor {
     }
 
     fn flush(&mut self)
-        ensures { self.new ≡ self.old }
+        ensures goes { Chain CallsMemory self.old (flushed ∷ []) self.new }
+        ensures unchanged { self.new ≡ self.old }
     {}
 }

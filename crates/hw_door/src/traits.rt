@@ -1,10 +1,11 @@
 //! The traits of the outside in whole requests and replies: lots that are drawn, doors that a server hears through, dialers for a client.
 
-ghost use Rattle.std.specs.Prelude.{◌≡◌, ◌≢◌, ℕ, Bool, true, List, Option, None};
+ghost use Rattle.std.specs.Prelude.{◌≡◌, ◌≢◌, ℕ, Bool, true, List, [], ◌∷◌, ◌++◌, Option, None};
 ghost use Rattle.std.specs.Result.{result_ok};
 ghost use Rattle.hd_facts.specs.Counts.{HasCause};
 ghost use Rattle.hw_lanes.specs.Replies.{IsReply};
 ghost use Rattle.hw_door.specs.declared.heard.Given.TheVariants as say;
+ghost use Rattle.hw_door.specs.DoorCalls.{DoorCall, heard_call, given_call, sent_call, flushed};
 ghost use Rattle.hw_door.specs.Calls.{Trace, Adds, HasFaultCause, Hears, Says, Sends, IsLater, IsNewLane};
 
 use crate::error::DoorError;
@@ -33,14 +34,15 @@ pub trait Lots {
 
 /// What a server hears through, and says through.
 ///
-/// An implementation tells by `trace` what was heard and what it was given to say, or `None` if nobody can know it, as at a socket; by
-/// `moment` the moment of what was heard last, 0 before the first; by `faults` how often it has failed, as [`Lots`] do; and by `is_flushed` that
-/// nothing was asked of it since the last `flush`, or true where what it says never waits or nobody can know.
+/// An implementation tells by `Goes` which calls, as they were answered, lead in order from one state to another. The empty list leads from each state
+/// to itself (`stays`), and lists that lead on one after the other do so joined (`joins`). Where nobody can know anything of the calls, any list
+/// leads anywhere. It tells by `moment` the moment of what was heard last, 0 before the first; by `faults` how often it has failed, as [`Lots`] do; and by `is_flushed` that nothing was asked of it since the
+/// last `flush`, or true where what it says never waits or nobody can know.
 ///
-/// In each call, `cause` says that it fails only if the count of faults rose in it. After an error the moment and what it tells are as
-/// before; out of memory the count is as before too.
+/// In each call, `cause` says that it fails only if the count of faults rose in it. After an error the moment is as before; out of memory the
+/// count is as before too.
 pub trait Door {
-    ghost trace: { Self → Option Trace } = { λ _. None };
+    ghost Goes: { Self → List DoorCall → Self → Type 0 };
 
     ghost moment: { Self → ℕ };
 
@@ -50,14 +52,14 @@ pub trait Door {
 
     /// Hears what happens next, and waits for that at most `wait` milliseconds. Its moment is never before that of what was heard last.
     fn next(&mut self, wait: u64) -> Result<Heard, DoorError>
-        ensures heard { Hears (trace self.old) (trace self.new) wait result }
+        ensures heard { Goes self.old (heard_call wait result ∷ []) self.new }
         ensures later { IsLater (moment self.old) (moment self.new) result }
         ensures cause { HasFaultCause (faults self.old) (faults self.new) result };
 
     /// Replies to the request that the lane waits for. On a lane that is broken this is Ok, and nothing is said.
     fn reply(&mut self, lane: u64, reply: Reply) -> Result<(), DoorError>
         requires { IsReply reply }
-        ensures given { Says (trace self.old) (trace self.new) (λ done. say.Reply lane reply) result }
+        ensures given { (is_said : Bool) × Goes self.old (given_call (say.Reply lane reply) is_said result ∷ []) self.new }
         ensures others_unchanged { moment self.new ≡ moment self.old }
         ensures cause { HasFaultCause (faults self.old) (faults self.new) result };
 
@@ -65,13 +67,13 @@ pub trait Door {
     /// nothing more should be sent, though it may be, until [`Drained`](crate::Event::Drained) is heard of the lane or a later message is answered
     /// with false. Neither comes of a lane that is shut or lost. On a lane that is broken this is Ok, and nothing is said.
     fn send(&mut self, lane: u64, bytes: &[u8], text: bool) -> Result<bool, DoorError>
-        ensures given { Sends (trace self.old) (trace self.new) (say.Bytes lane bytes.now text) result }
+        ensures given { (is_said : Bool) × Goes self.old (sent_call (say.Bytes lane bytes.now text) is_said result ∷ []) self.new }
         ensures others_unchanged { moment self.new ≡ moment self.old }
         ensures cause { HasFaultCause (faults self.old) (faults self.new) result };
 
     /// Ends the lane, once what it was given before is said.
     fn shut(&mut self, lane: u64) -> Result<(), DoorError>
-        ensures given { Says (trace self.old) (trace self.new) (λ done. say.Shut lane) result }
+        ensures given { (is_said : Bool) × Goes self.old (given_call (say.Shut lane) is_said result ∷ []) self.new }
         ensures others_unchanged { moment self.new ≡ moment self.old }
         ensures cause { HasFaultCause (faults self.old) (faults self.new) result };
 
@@ -79,15 +81,20 @@ pub trait Door {
     /// that several messages go out at once; whoever hears nothing more calls this last. A door that says all at once does nothing.
     fn flush(&mut self)
         ensures flushed { is_flushed self.new ≡ true }
-        ensures trace { trace self.new ≡ trace self.old }
+        ensures goes { Goes self.old (flushed ∷ []) self.new }
         ensures others_unchanged { moment self.new ≡ moment self.old }
         ensures unfailed { faults self.new ≡ faults self.old };
+
+    ghost stays: { (s : Self) → Goes s [] s };
+
+    ghost joins: { (a b c : Self) (x y : List DoorCall) → Goes a x b → Goes b y c → Goes a (x ++ y) c };
 }
 
 /// What a client asks through, and hears through.
 ///
-/// It tells what a [`Door`] tells, its asks among what it was given, and whether it is flushed; and by `lanes` a bound below which each lane lies that it answered.
-/// `cause`, and what is as before after an error, are as at a [`Door`].
+/// An implementation tells by `trace` what was heard and what it was given to say, its asks among that, or `None` if nobody can know it, as at a
+/// socket; by `lanes` a bound below which each lane lies that it answered; and by `moment`, `faults` and `is_flushed` what a [`Door`] does.
+/// `cause` is as at a [`Door`]. After an error the moment and what it tells are as before; out of memory the count of faults is as before too.
 pub trait Dialer {
     ghost trace: { Self → Option Trace } = { λ _. None };
 
