@@ -96,10 +96,10 @@ gathered-live x y answers h = go (gathered-says x y answers h) where
   go (inl k) = more-live x y answers k
   go (inr k) = same-lives x y k.0
 
-lives-on : (x y z : Lane) → Lives x y → Lives y z → Lives x z
+pub lives-on : (x y z : Lane) → Lives x y → Lives y z → Lives x z
 lives-on x y z f g live = let a = g live in let b = f a.0 in (b.0, a.1 ∙ b.1)
 
-loses-live : (trace : Option Event) (x y : Lane) (heard : Option Event) → Loses trace x y heard → Lives x y
+pub loses-live : (trace : Option Event) (x y : Lane) (heard : Option Event) → Loses trace x y heard → Lives x y
 loses-live (Some here) x y heard h = same-lives x y h.1
 loses-live None x y heard h = go x.stage h where
   go : (s : Stage) → LosesAt s x y heard → Lives x y
@@ -199,7 +199,7 @@ heeds-even now what x y mine (inr h) =
 
 -- ---- saying
 
-live-busy : (x : Lane) → is_live x.stage ≡ true → owes x ≡ is_busy x.protocol
+pub live-busy : (x : Lane) → is_live x.stage ≡ true → owes x ≡ is_busy x.protocol
 live-busy x e = ap (λ b. b && is_busy x.protocol) e
 
 -- a lane after its reply is live as it was, and not busy
@@ -230,13 +230,13 @@ put-lives true (Socket websocket_state) bytes text x mid is_put e h = λ alive.
 put-lives true (Http http_state) bytes text x mid is_put e h = same-lives x mid h.1
 put-lives false protocol bytes text x mid is_put e h = same-lives x mid h.1
 
-sends-live : (now : ℕ) (bytes : List ℕ) (text : Bool) (x y : Lane) (mine : List Answer) → Sends now bytes text x y mine → Lives x y
+pub sends-live : (now : ℕ) (bytes : List ℕ) (text : Bool) (x y : Lane) (mine : List Answer) → Sends now bytes text x y mine → Lives x y
 sends-live now bytes text x y mine h = lives-on x h.0 y (put-lives (is_live x.stage) x.protocol bytes text x h.0 h.1 refl h.2) (go h.0 h.1 h.3) where
   go : (mid : Lane) (b : Bool) → SaysPut now b mid y mine → Lives mid y
   go mid true h = subst (λ (l : Lane). Lives mid l) (sym h.2) (gathered-live mid h.0 mine h.1)
   go mid false h = same-lives mid y h.1
 
-shuts-live : (now : ℕ) (x y : Lane) (mine : List Answer) → Shuts now x y mine → Lives x y
+pub shuts-live : (now : ℕ) (x y : Lane) (mine : List Answer) → Shuts now x y mine → Lives x y
 shuts-live now x y mine h = go (is_live x.stage) h where
   go : (b : Bool) → Chooses b (WritesOut (record x { since = now; protocol = protocol_after_shut x.protocol; stage = Closing }) y mine) ((mine ≡ []) × (y ≡ x)) → Lives x y
   go true h = λ live. absurd (cc ((writes-live (record x { since = now; protocol = protocol_after_shut x.protocol; stage = Closing }) y mine h live).0))
@@ -281,13 +281,18 @@ new-even calls now wire h = (
       omega (arith, none, unsaid),
 )
 
--- a lane on which a request is heard is live, and not busy
-abbrev IsFree : Lane → Type 0
-IsFree x = (is_live x.stage ≡ true) × (is_busy x.protocol ≡ false)
+abbrev pub is_socket : Protocol → Bool
+is_socket (Http http_state) = false
+is_socket (Socket websocket_state) = true
 
-hears-free : (wire : ℕ) (before after : Protocol) (answers : List Answer) (what : Input) (request : Request) → Hears wire before after answers what → requests_of what ≡ request ∷ [] → is_busy before ≡ false
-hears-free wire (Http before) (Http after) answers (input.Request trace) request h e = h.is_input.1
-hears-free wire (Socket before) (Socket after) answers (input.Request trace) request h e = refl
+-- a lane on which a request is heard is live, not busy, and no WebSocket
+abbrev pub IsFree : Lane → Type 0
+IsFree x = (is_live x.stage ≡ true) × (is_busy x.protocol ≡ false) × (is_socket x.protocol ≡ false)
+
+hears-free : (wire : ℕ) (before after : Protocol) (answers : List Answer) (what : Input) (request : Request) → Hears wire before after answers what → requests_of what ≡ request ∷ [] →
+    (is_busy before ≡ false) × (is_socket before ≡ false)
+hears-free wire (Http before) (Http after) answers (input.Request trace) request h e = (h.is_input.1, refl)
+hears-free wire (Socket before) (Socket after) answers (input.Request trace) request h e = absurd h.is_input
 hears-free wire (Http before) (Socket after) answers (input.Request trace) request h e = absurd h
 hears-free wire (Socket before) (Http after) answers (input.Request trace) request h e = absurd h
 hears-free wire before after answers _ request h e = absurd (cc e)
@@ -300,16 +305,15 @@ listens-free now x y mine own request h e = go x.stage refl h where
   go : (s : Stage) → x.stage ≡ s → TurnsAt s now x y mine own → IsFree x
   go Live f h = by-fullness (λ (l : Lane). IsFree x) now x y mine own (λ d g s. never (ap (λ o. requests_in x.wire o) g)) (λ s g. never (ap (λ o. requests_in x.wire o) g.1)) turned h where
     turned : (mid : Lane) → TurnsLive now x mid mine own → IsFree x
-    turned mid t = (
-      ap is_live f,
-      hears-free x.wire x.protocol t.protocol t.read t.input request t.hears
-          (sym (loses-requests x.wire t.trace t.said mid own t.loses ∙ settles-requests now (after_hearing t.protocol x) t.settled t.shut t.input t.trace t.settles) ∙ e),
-    )
+    turned mid t =
+        let free = hears-free x.wire x.protocol t.protocol t.read t.input request t.hears
+        (sym (loses-requests x.wire t.trace t.said mid own t.loses ∙ settles-requests now (after_hearing t.protocol x) t.settled t.shut t.input t.trace t.settles) ∙ e) in
+        (ap is_live f, free.0, free.1)
   go Lost f h = never (ap (λ o. requests_in x.wire o) h.1)
   go Closing f h = never (ap (λ o. requests_in x.wire o) h.0)
   go Over f h = never (ap (λ o. requests_in x.wire o) h.1)
 
-heeds-free : (now : ℕ) (what : Event) (x y : Lane) (mine : List Answer) (request : Request) → Heeds now what x y mine → request_on x.wire what ≡ request ∷ [] → IsFree x
+pub heeds-free : (now : ℕ) (what : Event) (x y : Lane) (mine : List Answer) (request : Request) → Heeds now what x y mine → request_on x.wire what ≡ request ∷ [] → IsFree x
 heeds-free now what x y mine request (inl h) e = listens-free now x y mine h.0 request h.1 (sym (heard-requests x.wire h.0 what h.2) ∙ e)
 heeds-free now what x y mine request (inr h) e = absurd (cc (sym (unrequested x.wire what h.1) ∙ e))
 

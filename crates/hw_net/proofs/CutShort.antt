@@ -1,19 +1,18 @@
 -- After a call that memory cut short no more waits on a lane than may: what its last flush leaves.
-use Rattle.std.proofs.Common.{◌≡◌, ◌⊎◌, ◌<◌, ◌≤◌, ◌-◌, ◌+◌, ◌==◌, ◌&&◌, ◌++◌, ◌∷◌, [], ℕ, zero, suc, Bool, true, false, List, Option, None, Some, refl, sym, ap, ◌∙◌, subst, arith, inl, inr, length, get_or, set, ltb, take, drop, max, take-append-drop, Contains}
+use Rattle.std.proofs.Common.{◌≡◌, ◌⊎◌, ◌<◌, ◌≤◌, ◌-◌, ◌+◌, ◌==◌, ◌&&◌, ◌++◌, ◌∷◌, [], ℕ, zero, suc, Bool, true, false, List, Option, None, refl, sym, ap, ◌∙◌, subst, arith, inl, inr, length, get_or, set, ltb, take, drop, max, take-append-drop, Contains}
 use Rattle.std.proofs.lemmas.Bool.Decides.{nat_tests}
 use Rattle.std.proofs.lemmas.List.{drop-drop}
 use Rattle.hw_door.specs.declared.heard.Event.{Event}
 use Rattle.hw_door.specs.Traffic.{Answer}
-use Rattle.hw_net.specs.declared.limits.TheConstants.{MOST_UNWRITTEN}
 use Rattle.hw_net.specs.declared.protocol.Stage.{Stage}
-use Rattle.hw_net.specs.declared.protocol.Stage.TheVariants.{Live, Lost, Closing, Over}
+use Rattle.hw_net.specs.declared.protocol.Stage.TheVariants.{Live}
 use Rattle.hw_net.specs.Bounds.{IsWithin, EachIs, AreWithin, HaltsAreWithin}
 use Rattle.hw_net.specs.Door.{DoorState, index_of_first, kept, with_accepted}
 use Rattle.hw_net.specs.Flushing.{WriteEach}
 use Rattle.hw_net.specs.Halting.{Halts, HaltsAll, HaltsNext, HaltsWithin}
 use Rattle.hw_net.specs.Lane.{Lane, after_hearing, waits, wires_of, is_live}
 use Rattle.hw_net.specs.Rising.{IsRising}
-use Rattle.hw_net.specs.Saying.{WritesIfLive, WritesIfLiveAt, is_too_much}
+use Rattle.hw_net.specs.Saying.{WritesIfLive, is_too_much}
 use Rattle.hw_net.specs.Tally.{is_writer}
 use Rattle.hw_net.specs.Trace.{Chooses}
 use Rattle.hw_net.specs.Turn.{AtLane}
@@ -21,7 +20,7 @@ use Rattle.hw_net.specs.Walks.{Walks, between}
 use Rattle.hw_net.specs.Writers.{AreWriters}
 use Rattle.hw_net.proofs.Bounding.{EachWas, both-are, each-of, gathers-within, kept-within, live-written, not-more, turns-leave, turn-within, with-within}
 use Rattle.hw_net.proofs.Moves.{Has}
-use Rattle.hw_net.proofs.Numbering.{flushes-keep, lower, writes-keep}
+use Rattle.hw_net.proofs.Numbering.{flushes-keep, writes-keep}
 
 -- ---- turns of the lanes of some places
 

@@ -276,7 +276,7 @@ listens-owes now x y mine own h = go x.stage refl h where
   go Closing e h = says-owes now x y mine h.1 ∙ ap (λ o. not (was_shut_in x.wire mine) && (is_request_in x.wire o || owes x)) (sym h.0)
   go Over e h = unowed Over e refl (ap (λ o. is_request_in x.wire o) h.1) (ap owes h.2 ∙ idle x Over e refl)
 
-heard-request : (wire : ℕ) (own : Option Event) (what : Event) → IsHeard wire own what → is_request_on wire what ≡ is_request_in wire own
+pub heard-request : (wire : ℕ) (own : Option Event) (what : Event) → IsHeard wire own what → is_request_on wire what ≡ is_request_in wire own
 heard-request wire None what h = not-request wire what h
 heard-request wire (Some trace) what h = ap (λ v. is_request_on wire v) h
 

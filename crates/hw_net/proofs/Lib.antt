@@ -20,10 +20,13 @@ pub mod Walks
 pub mod Asked
 pub mod Ends
 pub mod FlushCalls
+pub mod Chaining
+pub mod Goings
 pub mod Appends
 pub mod Owed
 pub mod Voices
 pub mod Counting
+pub mod Awaiting
 pub mod CutShort
 pub mod Closings
 pub mod Losses

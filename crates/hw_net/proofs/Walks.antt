@@ -1,19 +1,19 @@
 -- What holds of each lane in all sessions: it holds of each new one, and each call keeps it.
-use Rattle.std.proofs.Common.{◌≡◌, ◌⊎◌, ◌≤◌, ◌==◌, ◌&&◌, ◌||◌, ◌++◌, ◌∷◌, [], ℕ, Bool, true, false, not, if◌then◌else◌, List, Option, None, Some, refl, sym, ap, ◌∙◌, subst, inl, inr, arith, append-nil, unwrap_or, option_to_list}
+use Rattle.std.proofs.Common.{◌≡◌, ◌⊎◌, ◌≤◌, ◌==◌, ◌&&◌, ◌||◌, ◌++◌, ◌∷◌, [], ℕ, Bool, true, false, not, cond, if◌then◌else◌, List, Option, None, Some, refl, sym, ap, ◌∙◌, subst, inl, inr, arith, append-nil, unwrap_or, option_to_list}
 use Rattle.std.proofs.lemmas.List.{map-append, append_cancel_left}
 use Rattle.hw_door.specs.declared.heard.Event.{Event}
 use Rattle.hw_door.specs.declared.heard.Event.TheVariants as event
 use Rattle.hw_door.specs.declared.heard.Heard.{Heard}
 use Rattle.hw_door.specs.Traffic.{Answer, polled, accepted}
 use Rattle.hw_net.specs.Door.{DoorState, HearsNext, IsNumbered, kept, time_to_wait, with_accepted, new_lane, is_full_at}
-use Rattle.hw_net.specs.Lane.{Lane, wires_of, refusal_of, is_full}
+use Rattle.hw_net.specs.Lane.{Lane, wires_of, refusal_of, is_full, is_over}
 use Rattle.hw_net.specs.Rising.{IsRising}
 use Rattle.hw_net.specs.Saying.{WritesIfLive}
 use Rattle.hw_net.specs.Sessions.{Call, heard, replied, sent, shut, wrote, Does, Session, answers_in, answers_of, request_on, requests_on, message_on, messages_on, is_request_on, is_owed_on, refusal_on, replies_on, was_shut_in, came_in, is_drained_on, was_full_on}
 use Rattle.hw_net.specs.Trace.{Chooses}
 use Rattle.hw_net.specs.Turn.{Listens, Replies, Sends, Shuts}
 use Rattle.hw_net.proofs.Bystanders.{SaysOrStays, live-says}
-use Rattle.hw_net.proofs.Moves.{Has, Without, AreDistinct, same-wire, IsOff, Fits, Turned, TurnedIn, Sweeps, sweeps, hears-wires, EachKeeps, ActsAt, Spreads, spreads, has-part, has-kept, rising-distinct, rising-without}
+use Rattle.hw_net.proofs.Moves.{Has, Without, AreDistinct, same-wire, IsOff, Fits, Turned, TurnedIn, Sweeps, sweeps, hears-wires, EachKeeps, ActsAt, Spreads, spreads, has-front, has-part, has-kept, rising-distinct, rising-without}
 use Rattle.hw_net.proofs.Numbering.{numbers-rise, writes-keep, replies-keep, sends-keep, shuts-keep}
 use Rattle.hw_net.proofs.Owning.{is_on, bystander-keeps, live-writes-keeps, listens-keeps, replies-keeps, sends-keeps, shuts-keeps}
 use Rattle.hw_net.proofs.Shares.{share, share-append, came-append, equal, same, turned}
@@ -70,11 +70,25 @@ pub record Steps (call : Call) (bound bound_after : ℕ) (before after : DoorSta
   pub rise : IsRising 0 bound_after (wires_of lanes)
   pub risen : IsRising 0 bound_after (wires_of after.lanes)
   pub bounds : bound ≤ bound_after
+  pub still : (x : Lane) → Has before.lanes x → is_over x.stage ≡ false → Has lanes x
   pub back : (y : Lane) → Has after.lanes y → (x : Lane) × Has lanes x × Moves call x y
   pub on : (x : Lane) → Has lanes x → (y : Lane) × Has after.lanes y × Moves call x y
   pub off : (wire : ℕ) → Without wire lanes → (share wire (answers_in call) ≡ []) × IsElsewhere wire call
 
 -- ---- the steps of `next`
+
+kept-has : (lanes : List Lane) (x : Lane) → Has lanes x → is_over x.stage ≡ false → Has (kept lanes) x
+kept-has [] x has e = absurd has
+kept-has (lane ∷ lanes) x has e = go (not (is_over lane.stage)) refl has (λ k. kept-has lanes x k e) where
+  go : (b : Bool) → not (is_over lane.stage) ≡ b → (lane ≡ x) ⊎ Has lanes x → (Has lanes x → Has (kept lanes) x) → Has (cond b (lane ∷ kept lanes) (kept lanes)) x
+  go true f (inl k) again = inl k
+  go true f (inr k) again = inr (again k)
+  go false f (inl k) again = absurd (cc (sym f ∙ ap (λ (l : Lane). not (is_over l.stage)) k ∙ ap not e))
+  go false f (inr k) again = again k
+
+with-has : (now : ℕ) (came : Option ℕ) (lanes : List Lane) (x : Lane) → Has lanes x → Has (with_accepted now came lanes) x
+with-has now None lanes x has = has
+with-has now (Some wire) lanes x has = has-front lanes (new_lane now wire ∷ []) x has
 
 off-event : (wire : ℕ) (trace : Option Event) → IsOff wire trace → is_on wire (unwrap_or trace event.Quiet) ≡ false
 off-event wire None h = refl
@@ -131,6 +145,7 @@ next-with what answers bound bound_after wait before after h numbered risen rise
   rise = rises;
   risen = risen;
   bounds = numbered-rises bound bound_after h.wire numbered;
+  still = λ x has e. with-has what.now h.wire (kept before.lanes) x (kept-has before.lanes x has e);
   back = λ y has. let p = sweep.back y has in (p.0, p.1, moved p.0 y p.2);
   on = λ x has. let p = sweep.on x has in (p.0, p.1, moved x p.0 p.2);
   off = λ wire without. let p = sweep.off wire without in
@@ -199,6 +214,7 @@ at-steps call wire Does answers bound bound_after before after all moves elsewhe
   rise = subst (λ n. IsRising 0 n (wires_of before.lanes)) (sym e) rise;
   risen = subst (λ n. IsRising 0 n (wires_of after.lanes)) (sym e) (subst (λ (l : List ℕ). IsRising 0 bound l) (sym same) rise);
   bounds = omega (arith, e);
+  still = λ x has f. has;
   back = λ y has. let p = spread.back y has in (p.0, p.1, moves p.0 y has p.2);
   on = λ x has. let p = spread.on x has in (p.0, p.1, moves x p.0 p.1 p.2);
   off = λ w without. (ap (λ l. share w l) all ∙ spread.off w without, elsewhere w without);
@@ -293,7 +309,7 @@ and-false false = refl
 joined : {A : Type 0} (xs ys : List A) → xs ≡ [] → ys ≡ [] → xs ++ ys ≡ []
 joined xs ys e f = ap (λ l. l ++ ys) e ∙ f
 
-untouched-owed : (wire : ℕ) (call : Call) (calls : List Call) → IsElsewhere wire call → is_owed_on wire calls ≡ false → is_owed_on wire (call ∷ calls) ≡ false
+pub untouched-owed : (wire : ℕ) (call : Call) (calls : List Call) → IsElsewhere wire call → is_owed_on wire calls ≡ false → is_owed_on wire (call ∷ calls) ≡ false
 untouched-owed wire (heard what answers) calls off e =
     ap (λ b. not (was_shut_in wire answers) && (b || is_owed_on wire calls)) (not-request wire what.event off) ∙ ap (λ b. not (was_shut_in wire answers) && b) e
     ∙ and-false (not (was_shut_in wire answers))

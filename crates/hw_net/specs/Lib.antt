@@ -20,4 +20,6 @@ pub mod Flushing
 pub mod Bounds
 pub mod Numbers
 pub mod Sessions
+pub mod Chains
+pub mod Awaited
 pub mod Reaching

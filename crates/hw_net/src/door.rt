@@ -1,12 +1,14 @@
 //! The door: all lanes, and the wires that they stand on.
 
-ghost use Rattle.std.specs.Prelude.{◌≡◌, ◌≤◌, ◌+◌, ◌∷◌, [], ℕ, List, Option, None, Some, Err, IfOk, IfErr, IfSome, IfNone, OnOk, OnErr, if◌then◌else◌, max};
+ghost use Rattle.std.specs.Prelude.{◌≡◌, ◌≤◌, ◌+◌, ◌∷◌, [], ℕ, Bool, List, Option, None, Some, Err, IfOk, IfErr, IfSome, IfNone, OnOk, OnErr, if◌then◌else◌, max, refl};
 ghost use Rattle.hd_facts.specs.Counts.{Rose};
 ghost use Rattle.hw_lanes.specs.Replies.{IsReply};
 ghost use Rattle.hw_door.specs.declared.heard.Given.TheVariants as say;
-ghost use Rattle.hw_door.specs.Calls as calls;
-ghost use Rattle.hw_door.specs.Calls.{HasFaultCause, IsCaused, Hears, Says, IsLater};
+ghost use Rattle.hw_door.specs.Calls.{HasFaultCause, IsCaused, IsLater};
+ghost use Rattle.hw_door.specs.DoorCalls.{Chain, heard_call, given_call, sent_call, flushed};
+ghost use Rattle.hw_door.specs.DoorLaws.{chain_joins};
 ghost use Rattle.hw_door.specs.Traffic.{Answer, polled, poll_failed, accepted, accept_failed, was_shut};
+ghost use Rattle.hw_net.specs.Chains.{CallsNet};
 ghost use Rattle.hw_net.specs.Door.{HearsNext, Searches, FailsNext, IsNumbered, KeepsLanes, DoesAt, HearsTurns, Begins, state_of, kept, time_to_wait, is_full_at, lane_of, with_accepted, next_from, from_after};
 ghost use Rattle.hw_net.specs.Flushing.{FailsGathered, FlushesDoor, Gathers, HaltsGathered, HearsGathered};
 ghost use Rattle.hw_net.specs.Halting.{HaltsAll, HaltsNext};
@@ -324,7 +326,6 @@ impl<W: Wires + Drop> NetDoor<W> {
 
     /// Hears what happens next.
     fn hear_next(&mut self, wait: u64) -> Result<Heard, DoorError>
-        ensures heard { Hears None None wait result }
         ensures later { IsLater self.old.moment self.new.moment result }
         ensures cause { HasFaultCause self.old.faults self.new.faults result }
         ensures hears { IfOk result (λ heard. (answers : List Answer) × Tells (W.trace self.old.wires) (W.trace self.new.wires) answers
@@ -370,12 +371,18 @@ fn lane_of(event: &Event) -> u64
 }
 
 impl<W: Wires + Drop> Door for NetDoor<W> {
+    ghost Goes = { Chain (CallsNet W.trace W.wires W.faults) };
+
+    ghost stays = { λ s. refl };
+
+    ghost joins = { chain_joins (CallsNet W.trace W.wires W.faults) };
+
     ghost moment = { λ d. d.moment };
 
     ghost faults = { λ d. d.faults };
 
     fn next(&mut self, wait: u64) -> Result<Heard, DoorError>
-        ensures heard { Hears None None wait result }
+        ensures heard { Chain (CallsNet W.trace W.wires W.faults) self.old (heard_call wait result ∷ []) self.new }
         ensures later { IsLater self.old.moment self.new.moment result }
         ensures cause { HasFaultCause self.old.faults self.new.faults result }
         ensures hears { IfOk result (λ heard. (answers : List Answer) × Tells (W.trace self.old.wires) (W.trace self.new.wires) answers
@@ -396,6 +403,7 @@ impl<W: Wires + Drop> Door for NetDoor<W> {
     }
 
     fn flush(&mut self)
+        ensures goes { Chain (CallsNet W.trace W.wires W.faults) self.old (flushed ∷ []) self.new }
         ensures others_unchanged { self.new.moment ≡ self.old.moment }
         ensures unfailed { self.new.faults ≡ self.old.faults }
         ensures flushed { (answers : List Answer) × Tells (W.trace self.old.wires) (W.trace self.new.wires) answers
@@ -408,7 +416,7 @@ impl<W: Wires + Drop> Door for NetDoor<W> {
 
     fn reply(&mut self, lane: u64, reply: Reply) -> Result<(), DoorError>
         requires { IsReply reply }
-        ensures given { Says None None (λ done. say.Reply lane reply) result }
+        ensures given { (is_said : Bool) × Chain (CallsNet W.trace W.wires W.faults) self.old (given_call (say.Reply lane reply) is_said result ∷ []) self.new }
         ensures others_unchanged { self.new.moment ≡ self.old.moment }
         ensures gathering { self.new.gathering ≡ self.old.gathering }
         ensures cause { HasFaultCause self.old.faults self.new.faults result }
@@ -427,7 +435,7 @@ impl<W: Wires + Drop> Door for NetDoor<W> {
     }
 
     fn send(&mut self, lane: u64, bytes: &[u8], text: bool) -> Result<bool, DoorError>
-        ensures given { calls.Sends None None (say.Bytes lane bytes.now text) result }
+        ensures given { (is_said : Bool) × Chain (CallsNet W.trace W.wires W.faults) self.old (sent_call (say.Bytes lane bytes.now text) is_said result ∷ []) self.new }
         ensures others_unchanged { self.new.moment ≡ self.old.moment }
         ensures gathering { self.new.gathering ≡ self.old.gathering }
         ensures cause { HasFaultCause self.old.faults self.new.faults result }
@@ -448,7 +456,7 @@ impl<W: Wires + Drop> Door for NetDoor<W> {
     }
 
     fn shut(&mut self, lane: u64) -> Result<(), DoorError>
-        ensures given { Says None None (λ done. say.Shut lane) result }
+        ensures given { (is_said : Bool) × Chain (CallsNet W.trace W.wires W.faults) self.old (given_call (say.Shut lane) is_said result ∷ []) self.new }
         ensures others_unchanged { self.new.moment ≡ self.old.moment }
         ensures gathering { self.new.gathering ≡ self.old.gathering }
         ensures cause { HasFaultCause self.old.faults self.new.faults result }

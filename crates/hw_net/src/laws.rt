@@ -1,16 +1,20 @@
 //! What crates above cite of the definitions. No function here does anything: its contract is the law.
 
 ghost use Rattle.std.specs.Prelude.{◌≡◌};
+ghost use Rattle.hw_net.specs.Awaited.{RequestsAreFree};
 ghost use Rattle.hw_net.specs.Bounds.{FailsAreWithin, FlushesAreWithin, HaltsAreWithin, NextIsWithin, NextIsInTime, RepliesAreWithin, SendsAreWithin, ShutsAreWithin};
+ghost use Rattle.hw_net.specs.Chains.{CallsAreASession, CallsSplit};
 ghost use Rattle.hw_net.specs.Limits.{piece, most_unwritten, most_gathered, most_gathered_bytes, most_before_full, most_drained, most_stalled, most_wait, most_closing, most_named, switching};
 ghost use Rattle.hw_net.specs.Numbers.{FlushesKeepNumbers, NumbersRise, RepliesKeepNumbers, SendsKeepNumbers, ShutsKeepNumbers};
 ghost use Rattle.hw_net.specs.Reaching.{OthersListen, LanesAreReached};
 ghost use Rattle.hw_net.specs.Sessions.{FlushesAreCalls, NextIsCalls, RequestsAreAsked, RefusalsAreDeserved, RepliesAreWritten, RequestsWaitForReplies, WiresAreShutForACause, WiresAreShutOnce, LanesHaveWires, LossesHaveCauses, FullnessIsTold, DrainedWereFull, SocketsAreCarried};
 
+use crate::door::NetDoor;
 use crate::limits::{
     MOST_BEFORE_FULL, MOST_CLOSING, MOST_DRAINED, MOST_GATHERED, MOST_GATHERED_BYTES, MOST_NAMED,
     MOST_STALLED, MOST_UNWRITTEN, MOST_WAIT, PIECE, SWITCHING,
 };
+use hw_door::{Door, Wires};
 
 /// The constants are the numbers of the definitions.
 pub fn limits_are_named()
@@ -59,6 +63,14 @@ pub fn flushes_are_calls()
     ensures next { NextIsCalls }
 {}
 
+/// The calls by which a door that was just started goes anywhere are a session, if none of `next` failed: it heard and was given the same, in order, and
+/// over wires that tell, its answers are what they told meanwhile. So what holds in any session holds of all that was heard through the door and given to
+/// it, up to the first call of `next` that fails.
+pub fn calls_are_a_session<W: Wires + Drop>()
+    ensures session { CallsAreASession ⟦<NetDoor<W> as Door>⟧.Goes W.trace W.wires }
+    ensures split { CallsSplit ⟦<NetDoor<W> as Door>⟧.Goes }
+{}
+
 /// In any session the requests heard on a lane are those of all bytes read on its wire, in whatever pieces, and what is refused
 /// there is what these leave.
 pub fn requests_are_asked()
@@ -75,6 +87,11 @@ pub fn replies_are_written()
 /// A request is heard on a lane only once each one before it there was replied to.
 pub fn requests_wait_for_replies()
     ensures { RequestsWaitForReplies }
+{}
+
+/// To a caller that replies only where a reply is awaited, a request is heard only on a lane where none is and that was given no upgrade.
+pub fn requests_are_free()
+    ensures { RequestsAreFree }
 {}
 
 /// A wire is shut only if its lane is heard no more but for its loss, and only once, and then nothing is read or written on it.

@@ -81,7 +81,8 @@
 //! is out. A `next` that is out of memory cuts one lane's turn short, which holds what was read, or is to be heard as lost; the others stand as
 //! they were, listened or wrote. Over whole sessions, in which no call was out of memory, what is heard is what was read, what was written and
 //! waits is what was replied, in order, and a wire is shut once, for a cause: [`requests_are_asked`], [`replies_are_written`] and the laws beside
-//! them; a flush counts there as writes of one lane each ([`flushes_are_calls`]). In any calls each lane listens sooner or later, or rests,
+//! them; a flush counts there as writes of one lane each ([`flushes_are_calls`]). The calls of a door that was just started are such a session if
+//! none of `next` failed ([`calls_are_a_session`]). In any calls each lane listens sooner or later, or rests,
 //! whatever the wires name ([`lanes_are_reached`]).
 //!
 //! The crate doesn't know what a request means, what a message says, sockets, nor clocks: moments are those that the wires polled.
@@ -108,9 +109,10 @@ mod writing;
 
 pub use door::NetDoor;
 pub use laws::{
-    closing_ends, flushes_are_calls, fullness_is_told, lanes_are_bounded, lanes_are_reached,
-    limits_are_named, losses_have_causes, numbers_rise, replies_are_written, requests_are_asked,
-    requests_wait_for_replies, sockets_are_carried, wires_are_shut_for_a_cause,
+    calls_are_a_session, closing_ends, flushes_are_calls, fullness_is_told, lanes_are_bounded,
+    lanes_are_reached, limits_are_named, losses_have_causes, numbers_rise, replies_are_written,
+    requests_are_asked, requests_are_free, requests_wait_for_replies, sockets_are_carried,
+    wires_are_shut_for_a_cause,
 };
 pub use limits::{
     MOST_BEFORE_FULL, MOST_CLOSING, MOST_DRAINED, MOST_GATHERED, MOST_GATHERED_BYTES, MOST_NAMED,

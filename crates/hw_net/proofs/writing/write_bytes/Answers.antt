@@ -29,4 +29,5 @@ returns-clause-writes g c =
     let trace = g.W.Wires.trace in
     let zero : length c.loop-wires.bytes.items ≡ 0 = search rules in
     let none : c.loop-wires.bytes.items ≡ [] = none-left c.loop-wires.bytes.items zero in
-    stop-empty (trace c.args.wires.now) (trace c.loop-wires.wires) c.args.wire c.args.bytes.now.items c.loop-wires.bytes.items c.loop-wires.invariant.0 none
+    rw c.empty.ensures.empty
+    (rw none at (stop-empty (trace c.args.wires.now) (trace c.loop-wires.wires) c.args.wire c.args.bytes.now.items c.loop-wires.bytes.items c.loop-wires.invariant.0 none))

@@ -1,6 +1,7 @@
-use Rattle.std.proofs.Common.{rules}
+use Rattle.std.proofs.Common.{rules, refl}
 use Rattle.hw_net.specs.Door.{state_of}
 use Rattle.hw_net.proofs.Sweeps.{gathered-fails, gathered-halts, gathered-hears, rose-within}
+use Rattle.hw_net.proofs.Goings.{keeps-on, hears-goes, fails-goes}
 use Rattle.hw_net.proofs.door.NetDoorDoor.next.Goals as goal
 
 pub returns-then-is_err-clause-fails : goal.returns-then-is_err-clause-fails
@@ -28,3 +29,17 @@ returns-else-is_err-clause-hears g c =
     rw c.hear_next-heard.ensures.gathering (gathered-hears c.hear_next-heard.result (trace c.args.self.now.wires) (trace c.gather-wait.new.self.wires) (trace c.hear_next-heard.new.self.wires) c.args.wait c.gather-wait.result
     c.args.self.now.gathering c.gather-wait.new.self.gathering (state_of c.args.self.now) (state_of c.gather-wait.new.self) (state_of c.hear_next-heard.new.self) c.gather-wait.ensures.gathers
     c.hear_next-heard.ensures.hears)
+
+pub returns-then-is_err-clause-heard : goal.returns-then-is_err-clause-heard
+returns-then-is_err-clause-heard g c =
+    let bound = g.W.Wires.wires in
+    fails-goes g.W.Wires.trace g.W.Wires.wires g.W.Wires.faults c.args.wait c.hear_next-heard.result c.args.self.now c.write_gathered.new.self (search rules) (returns-then-is_err-clause-fails g c) (returns-then-is_err-clause-halts g c)
+    (keeps-on (bound c.args.self.now.wires) (bound c.gather-wait.new.self.wires) (bound c.hear_next-heard.new.self.wires) (bound c.write_gathered.new.self.wires) c.args.self.now.lanes.items
+    c.gather-wait.new.self.lanes.items c.hear_next-heard.new.self.lanes.items c.write_gathered.new.self.lanes.items c.gather-wait.ensures.bound c.gather-wait.ensures.lanes c.hear_next-heard.ensures.lanes c.write_gathered.ensures.bound c.write_gathered.ensures.numbers) c.write_gathered.ensures.gathering
+
+pub returns-else-is_err-clause-heard : goal.returns-else-is_err-clause-heard
+returns-else-is_err-clause-heard g c =
+    let bound = g.W.Wires.wires in
+    hears-goes g.W.Wires.trace g.W.Wires.wires g.W.Wires.faults c.args.wait c.hear_next-heard.result c.args.self.now c.hear_next-heard.new.self (search rules) (returns-else-is_err-clause-hears g c)
+    (keeps-on (bound c.args.self.now.wires) (bound c.gather-wait.new.self.wires) (bound c.hear_next-heard.new.self.wires) (bound c.hear_next-heard.new.self.wires) c.args.self.now.lanes.items
+    c.gather-wait.new.self.lanes.items c.hear_next-heard.new.self.lanes.items c.hear_next-heard.new.self.lanes.items c.gather-wait.ensures.bound c.gather-wait.ensures.lanes c.hear_next-heard.ensures.lanes refl refl)

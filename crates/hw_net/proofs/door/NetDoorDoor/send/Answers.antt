@@ -1,7 +1,10 @@
-use Rattle.std.proofs.Common.{rules, sym}
+use Rattle.std.proofs.Common.{rules, false, Err, refl, sym, ap, ◌∙◌}
 use Rattle.hw_net.specs.Turn.{Sends}
 use Rattle.hw_net.proofs.Findings.{none-full, full-there}
 use Rattle.hw_net.proofs.Places.{does-nothing, does-at}
+use Rattle.std.proofs.lemmas.Result.{err_from_is_err_and}
+use Rattle.hw_door.specs.declared.heard.Given.TheVariants as say
+use Rattle.hw_net.proofs.Goings.{send-goes, unsent}
 use Rattle.hw_net.proofs.door.NetDoorDoor.send.Goals as goal
 
 pub returns-in_default-clause-sent : goal.returns-in_default-clause-sent
@@ -21,3 +24,16 @@ pub returns-clause-answer : goal.returns-clause-answer
 returns-clause-answer g c =
     full-there c.args.lane (g.W.Wires.wires c.self.inside.wires) c.self.inside.lanes.items c.send.new.self.items c.in-Some.index c.in_ok-is_full.is_full c.self.invariant.0 c.send.ensures.lanes (search rules)
     c.in_ok-is_full.ensures.answer
+
+pub returns-in_default-clause-given : goal.returns-in_default-clause-given
+returns-in_default-clause-given g c =
+    send-goes g.W.Wires.trace g.W.Wires.wires g.W.Wires.faults c.args.lane c.args.bytes.now c.args.text false c.args.self.now c.args.self.now (returns-in_default-clause-sent g c) (returns-in_default-clause-answer g c) refl refl
+
+pub returns-in_err-is_full-clause-given : goal.returns-in_err-is_full-clause-given
+returns-in_err-is_full-clause-given g c =
+    let p = err_from_is_err_and c.from_residual.result c.from_residual.ensures.1 in
+    unsent g.W.Wires.trace g.W.Wires.wires g.W.Wires.faults (say.Bytes c.args.lane c.args.bytes.now c.args.text) c.from_residual.result c.args.self.now _ (p.1 ∙ ap Err p.2) (search rules) (search rules) (search rules) (search rules)
+
+pub returns-clause-given : goal.returns-clause-given
+returns-clause-given g c =
+    send-goes g.W.Wires.trace g.W.Wires.wires g.W.Wires.faults c.args.lane c.args.bytes.now c.args.text c.in_ok-is_full.is_full c.args.self.now _ (returns-clause-sent g c) (returns-clause-answer g c) (search rules) (search rules)
