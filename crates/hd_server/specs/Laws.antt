@@ -24,6 +24,7 @@ use Rattle.hd_calls.specs.Peers.{PeerEvent, Runs, Settings, steps, codec, is_shu
 use Rattle.hd_calls.specs.Rules.{MayTurn}
 use Rattle.hw_door.specs.declared.heard.Event.{Event}
 use Rattle.hw_door.specs.declared.heard.Heard.{Heard}
+use Rattle.hw_door.specs.DoorCalls.{DoorCall, full_in, given_in}
 use Rattle.hd_server.specs.Numbers.{most_frame, most_polled}
 use Rattle.hd_server.specs.Lives.{ConnectionEvent, Expired, AreInOrder, is_made, last_moment, life_of, live, overdue, poll_of, socket_of, standing}
 use Rattle.hd_server.specs.Texts.{token_of}
@@ -41,7 +42,7 @@ use Rattle.hd_server.specs.Doings.{moment as moment_heard}
 use Rattle.hd_server.specs.Plans.{Setup, allowed_at, bare_reply, makes_token, expiring, expiries, questions, plan}
 use Rattle.hd_server.specs.Serves.{LendsUpTo, IsFree, IsTurn, Serves, given_as, ticking, flushing_on, all_flushing}
 use Rattle.hd_server.specs.Parts.{Each, IsOfAny, IsExpiry, IsQuestion, IsPlanned, IsTick, IsFlush}
-use Rattle.hd_server.specs.Serving.{ServesOn}
+use Rattle.hd_server.specs.Serving.{ServeEnd, ServesOn, is_cut}
 use Rattle.hw_door.specs.declared.heard.Given.{Given}
 
 -- ---- sockets that name a token
@@ -285,8 +286,9 @@ pub record HasServed {Job : Type 0} (hub : Hub Job) (s : Setup) (cut : Bool) (h 
   pub all_seen : rest ≡ [] → seen after ≡ seen h ++ full
 
 abbrev pub ServedIsServes : Type 0 → Type 0
-ServedIsServes Job = (hub : Hub Job) (s : Setup) (cut : Bool) (h : List ServerEvent) (before es : List Heard) (waits : List ℕ) (given : List Given) (full : List Bool)
-    → Serves hub s before h → ServesOn hub s cut (λ after. Unit {0}) (λ after. Unit {0}) h es waits given full → HasServed hub s cut h before es given full
+ServedIsServes Job = (hub : Hub Job) (s : Setup) (end : ServeEnd) (h : List ServerEvent) (before es : List Heard) (calls : List DoorCall)
+    → Serves hub s before h → ServesOn hub s end (λ after. Unit {0}) (λ after. Unit {0}) h es calls
+    → HasServed hub s (is_cut end) h before es (given_in calls) (full_in calls)
 
 -- ---- what a server notes
 
